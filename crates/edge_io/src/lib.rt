@@ -1,0 +1,15 @@
+//! The edge of the program: where it reads files and where it writes its text.
+//!
+//! A `Shelf` gives the bytes of named files, and a `Sink` takes bytes. Each counts its faults, so
+//! that a caller's failure of reading or writing is one that the outside caused. `MemoryShelf` and
+//! `MemorySink` are exact, and `HostShelf` and `HostSink` stand before the host's files and its
+//! standard output. `write_whole` writes all of a text.
+#![tactic(auto)]
+
+mod memory;
+mod shelf;
+mod sink;
+
+pub use memory::OutOfMemory;
+pub use shelf::{FILE_LIMIT, ReadFail, Shelf};
+pub use sink::{Sink, WriteFail};
