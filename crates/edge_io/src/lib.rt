@@ -9,7 +9,9 @@
 mod memory;
 mod shelf;
 mod sink;
+mod whole;
 
 pub use memory::OutOfMemory;
 pub use shelf::{FILE_LIMIT, ReadFail, Shelf};
 pub use sink::{Sink, WriteFail};
+pub use whole::write_whole;
