@@ -1,0 +1,116 @@
+-- The faults of an image: the first sentence that holds, in this order, with its place.
+use Rattle.std.specs.Prelude.{ℕ, zero, suc, ◌+◌, ◌*◌, ◌%◌, ◌==◌, nat_eq, nat_lt, nat_le, Bool, true, false, not, ◌&&◌, ◌||◌, List, [], ◌∷◌, length, take, drop, Option, None, Some, if◌then◌else◌, sum_by, codes}
+use Rattle.std.specs.List.{list_all, starts_with}
+use Rattle.boot_image.specs.declared.fault.ImageFault.{ImageFault}
+use Rattle.boot_image.specs.declared.fault.ImageWhy.{ImageWhy}
+use Rattle.boot_image.specs.declared.fault.ImageWhy.TheVariants.{Short, Magic, Pages, Quantum, Envs, Slots, SlotOwner, Name, Kind, Stack, Base, Empty, Trailing, TooMany, TooBig, NotBuilt}
+use Rattle.boot_image.specs.ImageValue.{ProgramValue, ImageValue, name_text, guaranteed_mappings, pages_in, quantum_in, environments_in, slots_in, slot_bytes, first_header, name_in, base_in, stack_in, kind_in, length_in, body_end, bodies_end, headers, image_of}
+
+abbrev pub fault : ImageWhy → ℕ → Option ImageFault
+fault why place = Some (record { place = place; why = why })
+
+-- the first of two faults
+infixr 4 ◌or_else◌
+abbrev pub ◌or_else◌ : Option ImageFault → Option ImageFault → Option ImageFault
+None or_else later = later
+(Some first) or_else later = Some first
+
+-- the first fault of the things in a list
+abbrev pub first_fault : {X : Type 0} → (X → Option ImageFault) → List X → Option ImageFault
+first_fault fault_of [] = None
+first_fault fault_of (x ∷ xs) = fault_of x or_else first_fault fault_of xs
+
+-- whether a number lies between two limits, or is one of them
+abbrev pub is_within : ℕ → ℕ → ℕ → Bool
+is_within least most number = nat_le least number && nat_le number most
+
+-- whether the file begins with AEG1
+abbrev pub has_magic : List ℕ → Bool
+has_magic file = starts_with nat_eq file (codes "AEG1")
+
+-- The header. One environment and one slot are what this stage has.
+unfoldable pub header_fault : List ℕ → Option ImageFault
+header_fault file =
+    if nat_lt (length file) 16 then fault Short (length file) else
+    if not (has_magic file) then fault Magic 0 else
+    if not (is_within 16 1024 (pages_in file)) then fault Pages 4 else
+    if not (is_within 16 65536 (quantum_in file)) then fault Quantum 8 else
+    if not (is_within 1 16 (environments_in file)) then fault Envs 12 else
+    if not (environments_in file == 1) then fault NotBuilt 12 else
+    if not (is_within 1 64 (slots_in file)) then fault Slots 14 else
+    if not (slots_in file == 1) then fault NotBuilt 14 else
+    None
+
+-- A slot's byte: an environment, or 255 for a slot that nobody owns, which this stage doesn't have.
+abbrev pub slot_fault : ℕ → ℕ → ℕ → Option ImageFault
+slot_fault environments place byte =
+    if not (byte == 255) && nat_le environments byte then fault SlotOwner place else
+    if byte == 255 then fault NotBuilt place else
+    None
+
+-- the slot bytes, of which the first stands at this place
+abbrev pub owners_fault : ℕ → ℕ → List ℕ → Option ImageFault
+owners_fault environments place [] = None
+owners_fault environments place (byte ∷ bytes) =
+    slot_fault environments place byte or_else owners_fault environments (place + 1) bytes
+
+unfoldable pub slots_fault : List ℕ → Option ImageFault
+slots_fault file =
+    if nat_lt (length file) (16 + slots_in file) then fault Short (length file) else
+    owners_fault (environments_in file) 16 (slot_bytes file)
+
+-- a to z, 0 to 9, and the underscore
+abbrev pub is_name_byte : ℕ → Bool
+is_name_byte byte = is_within 97 122 byte || is_within 48 57 byte || (byte == 95)
+
+-- one to eight of these, and then zeros
+unfoldable pub is_name : List ℕ → Bool
+is_name name =
+    nat_lt 0 (length (name_text name)) && list_all is_name_byte (name_text name)
+    && list_all (λ byte. byte == 0) (drop (length (name_text name)) name)
+
+-- the address of a page that isn't the first two, from which so many bytes stay below the context of
+-- the stack
+abbrev pub is_base : ℕ → ℕ → Bool
+is_base base bytes = (base % 4096 == 0) && nat_le 0x2000 base && nat_le (base + bytes) 0x7FF00000
+
+-- The program with this header. Kind 0 is what this stage has.
+unfoldable pub program_fault : List ℕ → ℕ → Option ImageFault
+program_fault file header =
+    if nat_lt (length file) (header + 28) then fault Short (length file) else
+    if not (is_name (name_in file header)) then fault Name header else
+    if nat_lt 1 (kind_in file header) then fault Kind header else
+    if kind_in file header == 1 then fault NotBuilt header else
+    if nat_lt 16 (stack_in file header) then fault Stack header else
+    if not (is_base (base_in file header) (length_in file header)) then fault Base header else
+    if length_in file header == 0 then fault Empty header else
+    if nat_lt (length file) (body_end file header) then fault Short (length file) else
+    None
+
+-- The bytes after the last body.
+unfoldable pub trailing_fault : List ℕ → Option ImageFault
+trailing_fault file =
+    let end = bodies_end (environments_in file) file (first_header file) in
+    if nat_lt end (length file) then fault Trailing end else None
+
+-- The mappings of each environment, of which the first one's header stands at this place.
+abbrev pub mappings_fault : ℕ → List ProgramValue → Option ImageFault
+mappings_fault header [] = None
+mappings_fault header (program ∷ programs) =
+    (if nat_lt 256 (guaranteed_mappings program) then fault TooMany header else None)
+    or_else mappings_fault (header + 28 + length program.bytes) programs
+
+-- All of them together.
+abbrev pub pages_fault : ImageValue → Option ImageFault
+pages_fault image =
+    if nat_lt image.pages (sum_by guaranteed_mappings image.programs) then fault TooBig 4 else None
+
+-- The first fault of the file.
+unfoldable pub image_fault : List ℕ → Option ImageFault
+image_fault file =
+    header_fault file
+    or_else slots_fault file
+    or_else first_fault (program_fault file) (headers file)
+    or_else trailing_fault file
+    or_else mappings_fault (first_header file) (image_of file).programs
+    or_else pages_fault (image_of file)

@@ -1,0 +1,116 @@
+-- What an image's bytes mean.
+use Rattle.std.specs.Prelude.{ℕ, zero, suc, ◌+◌, ◌-◌, ◌/◌, ◌==◌, List, [], ◌∷◌, length, take, drop, map, Option, None, Some, if◌then◌else◌}
+use Rattle.std.specs.List.{before_first}
+use Rattle.boot_image.specs.Numbers.{half_at, word_at}
+
+-- a program: its name of eight bytes, the address of its first byte, pages of stack, a bit for each
+-- environment from which it accepts transfers, and its body
+pub record ProgramValue : Type 0 where
+  pub name : List ℕ
+  pub base : ℕ
+  pub stack : ℕ
+  pub accept : ℕ
+  pub bytes : List ℕ
+
+-- an image: counts of pages and of a slice's ticks, the owner of each slot, and a program for each
+-- environment
+pub record ImageValue : Type 0 where
+  pub pages : ℕ
+  pub quantum : ℕ
+  pub slots : List (Option ℕ)
+  pub programs : List ProgramValue
+
+-- a name without the zeros after it
+abbrev pub name_text : List ℕ → List ℕ
+name_text name = before_first (λ byte. byte == 0) name
+
+-- the pages that a body of so many bytes fills
+abbrev pub pages_of_length : ℕ → ℕ
+pages_of_length bytes = (bytes + 4095) / 4096
+
+-- the pages of a program's body
+abbrev pub body_pages : ProgramValue → ℕ
+body_pages program = pages_of_length (length program.bytes)
+
+-- the pages that an environment has from its boot on: the context page, the body's and the stack's
+abbrev pub guaranteed_mappings : ProgramValue → ℕ
+guaranteed_mappings program = 1 + body_pages program + program.stack
+
+-- The file's header: the magic of four bytes, and four numbers.
+abbrev pub pages_in : List ℕ → ℕ
+pages_in file = word_at file 4
+
+abbrev pub quantum_in : List ℕ → ℕ
+quantum_in file = word_at file 8
+
+abbrev pub environments_in : List ℕ → ℕ
+environments_in file = half_at file 12
+
+abbrev pub slots_in : List ℕ → ℕ
+slots_in file = half_at file 14
+
+-- After it a byte for each slot: its owner, or 255 for none.
+abbrev pub slot_bytes : List ℕ → List ℕ
+slot_bytes file = take (slots_in file) (drop 16 file)
+
+abbrev pub owner_of : ℕ → Option ℕ
+owner_of byte = if byte == 255 then None else Some byte
+
+-- After these the programs, each a header of 28 bytes and the body.
+abbrev pub first_header : List ℕ → ℕ
+first_header file = 16 + slots_in file
+
+abbrev pub name_in : List ℕ → ℕ → List ℕ
+name_in file header = take 8 (drop header file)
+
+abbrev pub base_in : List ℕ → ℕ → ℕ
+base_in file header = word_at file (header + 8)
+
+abbrev pub stack_in : List ℕ → ℕ → ℕ
+stack_in file header = word_at file (header + 12)
+
+abbrev pub accept_in : List ℕ → ℕ → ℕ
+accept_in file header = word_at file (header + 16)
+
+abbrev pub kind_in : List ℕ → ℕ → ℕ
+kind_in file header = word_at file (header + 20)
+
+abbrev pub length_in : List ℕ → ℕ → ℕ
+length_in file header = word_at file (header + 24)
+
+-- where the body of the program with this header ends
+abbrev pub body_end : List ℕ → ℕ → ℕ
+body_end file header = header + 28 + length_in file header
+
+-- the headers of so many programs, of which the first stands at this place
+abbrev pub headers_from : ℕ → List ℕ → ℕ → List ℕ
+headers_from zero file header = []
+headers_from (suc count) file header = header ∷ headers_from count file (body_end file header)
+
+-- where the last of their bodies ends
+abbrev pub bodies_end : ℕ → List ℕ → ℕ → ℕ
+bodies_end zero file header = header
+bodies_end (suc count) file header = bodies_end count file (body_end file header)
+
+-- the headers of the file
+abbrev pub headers : List ℕ → List ℕ
+headers file = headers_from (environments_in file) file (first_header file)
+
+-- the program with this header
+unfoldable pub program_at : List ℕ → ℕ → ProgramValue
+program_at file header = record {
+  name = name_in file header;
+  base = base_in file header;
+  stack = stack_in file header;
+  accept = accept_in file header;
+  bytes = take (length_in file header) (drop (header + 28) file);
+}
+
+-- The image of the file's bytes. It is meant where image_fault finds nothing.
+unfoldable pub image_of : List ℕ → ImageValue
+image_of file = record {
+  pages = pages_in file;
+  quantum = quantum_in file;
+  slots = map owner_of (slot_bytes file);
+  programs = map (program_at file) (headers file);
+}

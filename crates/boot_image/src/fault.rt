@@ -1,0 +1,117 @@
+//! Why a file is refused, and where.
+ghost use Rattle.std.specs.Prelude.{◌≡◌, ◌<◌, ◌^◌};
+ghost use Rattle.boot_image.specs.Names.{image_why_text, text_why_text};
+
+/// Which rule of an image is broken. `docs/FORMATS.md`, "Image", has the rules in the order in which
+/// they are tested.
+#[derive(Clone, Copy, Debug, PartialEq, Eq)]
+pub enum ImageWhy {
+    /// The header, the slot bytes, a program's header or its body pass the file's end.
+    Short,
+    /// The file doesn't begin with `AEG1`.
+    Magic,
+    /// The number of pages isn't from 16 to 1,024.
+    Pages,
+    /// The quantum isn't from 16 to 65,536 ticks.
+    Quantum,
+    /// The number of environments isn't from 1 to 16.
+    Envs,
+    /// The number of slots isn't from 1 to 64.
+    Slots,
+    /// A slot byte is neither 255 nor the number of an environment.
+    SlotOwner,
+    /// A program's name isn't one to eight of `a` to `z`, `0` to `9` and `_`, and then zeros.
+    Name,
+    /// A program's kind is above 1.
+    Kind,
+    /// A program asks for more than 16 stack pages.
+    Stack,
+    /// A flat program's base isn't the address of a page at or above 0x2000, or the body passes
+    /// 0x7FF00000.
+    Base,
+    /// A flat program has no byte.
+    Empty,
+    /// Bytes follow the last body.
+    Trailing,
+    /// An environment needs more than 256 guaranteed mappings.
+    TooMany,
+    /// The environments together need more pages than there are.
+    TooBig,
+    /// The image is in order so far, and asks for what this stage doesn't have.
+    NotBuilt,
+}
+
+/// The first broken rule of an image, and the byte of the file where it is broken.
+#[derive(Clone, Copy, Debug, PartialEq, Eq)]
+pub struct ImageFault {
+    /// A byte's place in the file, counted from 0.
+    pub place: u32,
+    /// The rule.
+    pub why: ImageWhy,
+}
+
+/// Which rule of a text is broken.
+#[derive(Clone, Copy, Debug, PartialEq, Eq)]
+pub enum TextWhy {
+    /// The line asks for what this stage doesn't have.
+    NotBuilt,
+}
+
+/// The first broken rule of a text, and its line.
+#[derive(Clone, Copy, Debug, PartialEq, Eq)]
+pub struct TextFault {
+    /// The line's number, counted from 1.
+    pub line: u32,
+    /// The rule.
+    pub why: TextWhy,
+}
+
+impl ImageFault {
+    /// The fault of this rule at this place.
+    pub(crate) fn at(why: ImageWhy, place: usize) -> ImageFault
+        requires { place < 2 ^ 32 }
+        ensures { result ≡ record { place = place; why = why } }
+    {
+        ImageFault {
+            place: place as u32,
+            why,
+        }
+    }
+}
+
+impl ImageWhy {
+    /// The name that is printed.
+    pub fn name(&self) -> &'static str
+        ensures { result.now ≡ image_why_text self.now }
+    {
+        match self {
+            ImageWhy::Short => "Short",
+            ImageWhy::Magic => "Magic",
+            ImageWhy::Pages => "Pages",
+            ImageWhy::Quantum => "Quantum",
+            ImageWhy::Envs => "Envs",
+            ImageWhy::Slots => "Slots",
+            ImageWhy::SlotOwner => "SlotOwner",
+            ImageWhy::Name => "Name",
+            ImageWhy::Kind => "Kind",
+            ImageWhy::Stack => "Stack",
+            ImageWhy::Base => "Base",
+            ImageWhy::Empty => "Empty",
+            ImageWhy::Trailing => "Trailing",
+            ImageWhy::TooMany => "TooMany",
+            ImageWhy::TooBig => "TooBig",
+            ImageWhy::NotBuilt => "NotBuilt",
+        }
+    }
+}
+
+impl TextWhy {
+    /// The name that is printed.
+    pub fn name(&self) -> &'static str
+        ensures { result.now ≡ text_why_text self.now }
+    {
+        match self {
+            TextWhy::NotBuilt => "NotBuilt",
+        }
+    }
+}

@@ -1,0 +1,17 @@
+//! The files of a boot: the image with its programs, and the schedule of events.
+//!
+//! A file that breaks a rule is refused with the first rule that it breaks, in the order of
+//! `docs/FORMATS.md`, and with the place where it does. Of an accepted image the programs' bytes are
+//! lent from the file, and each number is within the limits, so that the layers above test nothing
+//! again.
+#![tactic(auto)]
+
+mod fault;
+mod header;
+mod image;
+mod numbers;
+mod schedule;
+
+pub use fault::{ImageFault, ImageWhy, TextFault, TextWhy};
+pub use image::{Image, Program};
+pub use schedule::check_schedule;
