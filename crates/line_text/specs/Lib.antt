@@ -1,0 +1,4 @@
+pub mod LineView
+pub mod Lines
+pub mod Number
+pub mod Text

@@ -1,0 +1,37 @@
+-- The lines of a text.
+use Rattle.std.specs.Prelude.{ℕ, ◌+◌, List, [], ◌∷◌, ◌==◌, ◌&&◌, if◌then◌else◌, length}
+
+-- a line: its number from 1, the place of its first byte in the text, and its bytes without its end
+pub record LineValue : Type 0 where
+  pub number : ℕ
+  pub start : ℕ
+  pub text : List ℕ
+
+-- a byte at the front of the first piece
+abbrev pub with_front : ℕ → List (List ℕ) → List (List ℕ)
+with_front b [] = (b ∷ []) ∷ []
+with_front b (piece ∷ pieces) = (b ∷ piece) ∷ pieces
+
+-- a text cut directly after each of its line feeds: a line feed ends its line, and each other byte
+-- stands before what follows it
+abbrev pub pieces_of : List ℕ → List (List ℕ)
+pieces_of [] = []
+pieces_of (b ∷ bs) = if b == 10 then (10 ∷ []) ∷ pieces_of bs else with_front b (pieces_of bs)
+
+-- a piece without its end, which is a line feed, or a carriage return and directly after it a line feed
+abbrev pub without_end : List ℕ → List ℕ
+without_end [] = []
+without_end (b ∷ []) = if b == 10 then [] else b ∷ []
+without_end (b ∷ c ∷ []) = if b == 13 && c == 10 then [] else b ∷ without_end (c ∷ [])
+without_end (b ∷ c ∷ d ∷ bs) = b ∷ without_end (c ∷ d ∷ bs)
+
+-- the pieces as lines, where the first has this number and this place
+abbrev pub lines_from : ℕ → ℕ → List (List ℕ) → List LineValue
+lines_from number start [] = []
+lines_from number start (piece ∷ pieces) =
+    record { number = number; start = start; text = without_end piece }
+    ∷ lines_from (number + 1) (start + length piece) pieces
+
+-- the lines of a text
+abbrev pub lines_of : List ℕ → List LineValue
+lines_of text = lines_from 1 0 (pieces_of text)

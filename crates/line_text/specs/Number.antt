@@ -1,0 +1,17 @@
+-- Numbers as they are read in texts.
+use Rattle.std.specs.Prelude.{ℕ, ◌+◌, ◌^◌, Bool, List, [], ◌∷◌, Option, Some, None, nat_lt, nat_le, nat_eq, ◌&&◌, if◌then◌else◌, length, drop, codes}
+use Rattle.std.specs.List.{list_all, starts_with}
+use Rattle.std.specs.Str.{bytes_eq}
+use Rattle.std.specs.Char.{is_digit}
+use Rattle.std.specs.Str.Parse.{digits_value}
+
+-- the number that digits of a base spell, where they are one to so many, and it is below 2 ^ 32
+abbrev pub digits_number : ℕ → ℕ → List ℕ → Option ℕ
+digits_number base most word =
+    if nat_le 1 (length word) && nat_le (length word) most && list_all (λ c. is_digit c base) word && nat_lt (digits_value base word) (2 ^ 32)
+    then Some (digits_value base word) else None
+
+-- the number that a word spells: one to eight hexadecimal digits after `0x`, or one to ten decimal digits
+unfoldable pub number_of : List ℕ → Option ℕ
+number_of word =
+    if starts_with nat_eq word (codes "0x") then digits_number 16 8 (drop 2 word) else digits_number 10 10 word

@@ -1,0 +1,107 @@
+//! The lines of a text, each with its number and its place.
+ghost use Rattle.std.specs.Prelude.{◌≡◌, ◌+◌, ◌^◌, ◌<◌, ◌≤◌, ◌∷◌, length, take, drop};
+ghost use Rattle.line_text.specs.Lines.{lines_of, pieces_of, without_end};
+
+use std::marker::Model;
+
+/// The length that every text is below, in bytes.
+pub const TEXT_LIMIT: usize = 1 << 27;
+
+const LINE_FEED: u8 = b'\n';
+
+const CARRIAGE_RETURN: u8 = b'\r';
+
+/// A line of a text.
+#[derive(Clone, Copy)]
+pub struct Line<'a> {
+    /// Its number, from 1.
+    pub number: u32,
+    /// The place of its first byte in the whole text.
+    pub start: u32,
+    /// Its bytes, without the line feed that ends it and a carriage return directly before that.
+    pub text: &'a [u8],
+}
+
+/// The lines of a text that are left.
+#[derive(Drop)]
+pub struct Lines<'a> {
+    rest: &'a [u8],
+    number: u32,
+    start: u32,
+}
+
+impl<'a> Model for Lines<'a> {
+    ghost use Rattle.std.specs.Prelude.{◌+◌, ◌<◌, ◌≤◌, ◌^◌, List, length};
+    ghost use Rattle.line_text.specs.Lines.{LineValue, lines_from, pieces_of};
+
+    ghost Value = { List LineValue };
+
+    ghost view = { λ l. lines_from l.number l.start (pieces_of l.rest.now) };
+
+    ghost invariant = { λ l. (l.number ≤ l.start + 1) × (l.start + length l.rest.now < 2 ^ 27) };
+}
+
+/// The lines of a text in order, numbered from 1. A line feed ends a line; what follows the last one is
+/// a line where it isn't empty.
+pub fn cut(text: &[u8]) -> Lines<'_>
+    requires { length text.now < 2 ^ 27 }
+    ensures { result ≡ lines_of text.now }
+{
+    Lines {
+        rest: text,
+        number: 1,
+        start: 0,
+    }
+}
+
+impl<'a> Iterator for Lines<'a> {
+    ghost use Rattle.std.specs.Iterator.{item_count, YieldsFirstBy};
+    ghost use Rattle.line_text.specs.LineView.{line_value};
+
+    type Item = Line<'a>;
+
+    ghost next_gives = { YieldsFirstBy line_value (λ lines. lines) };
+
+    ghost remaining = { item_count (λ lines. lines) };
+
+    fn next(&mut self) -> Option<Line<'a>> {
+        if self.rest.is_empty() {
+            return None;
+        }
+        let length = piece_length(self.rest);
+        let (piece, rest) = self.rest.split_at(length);
+        let line = Line {
+            number: self.number,
+            start: self.start,
+            text: without_end(piece),
+        };
+        self.rest = rest;
+        self.number += 1;
+        self.start += length as u32;
+        Some(line)
+    }
+}
+
+/// The length of a text's first line with its line feed, where it has one.
+fn piece_length(text: &[u8]) -> usize
+    requires { 0 < length text.now }
+    ensures some { 0 < result }
+    ensures within { result ≤ length text.now }
+    ensures cut { pieces_of text.now ≡ take result text.now ∷ pieces_of (drop result text.now) }
+{
+    match text.iter().position(|b| *b == LINE_FEED) {
+        Some(place) => place + 1,
+        None => text.len(),
+    }
+}
+
+/// A line without its end.
+fn without_end(piece: &[u8]) -> &[u8]
+    ensures { result.now ≡ without_end piece.now }
+{
+    match piece {
+        [line @ .., CARRIAGE_RETURN, LINE_FEED] => line,
+        [line @ .., LINE_FEED] => line,
+        line => line,
+    }
+}

@@ -1,0 +1,95 @@
+//! What is written into texts: numbers and quoted bytes. Each push appends its text whole, or answers
+//! that memory ran out and leaves the list as it was.
+ghost use Rattle.std.specs.Prelude.{◌≡◌, ◌+◌, ◌*◌, ◌^◌, ◌<◌, ◌≤◌, ◌++◌, length, take, OnOk, OnErr};
+ghost use Rattle.line_text.specs.Text.{dec_text, hex_text, hex_digit, quoted_byte, quoted_text};
+
+use edge_io::OutOfMemory;
+use itoa::Buffer;
+
+/// The most hexadecimal digits that `push_hex` writes.
+const MAX_HEX_DIGITS: usize = 8;
+
+/// Appends a number in decimal, without leading zeros.
+#[tactic(auto, unfolding(crate::specs::Text::dec_text))]
+pub fn push_dec(out: &mut Vec<u8>, n: u64) -> Result<(), OutOfMemory>
+    ensures ok { OnOk result (out.new.items ≡ out.old.items ++ dec_text n) }
+    ensures err { OnErr result (out.new.items ≡ out.old.items) }
+{
+    let mut buffer = Buffer::new();
+    out.extend_from_slice(buffer.format(n).as_bytes())?;
+    Ok(())
+}
+
+/// Appends this many low hexadecimal digits of a number, in lower case and with leading zeros.
+pub fn push_hex(out: &mut Vec<u8>, n: u32, digits: u8) -> Result<(), OutOfMemory>
+    requires { (1 ≤ digits) × (digits ≤ 8) }
+    ensures ok { OnOk result (out.new.items ≡ out.old.items ++ hex_text digits n) }
+    ensures err { OnErr result (out.new.items ≡ out.old.items) }
+{
+    let mut text = [0; MAX_HEX_DIGITS];
+    let mut rest = n;
+    let mut place = MAX_HEX_DIGITS;
+    for _ in 0..digits {
+        place -= 1;
+        text[place] = hex_glyph(rest % 16);
+        rest /= 16;
+    }
+    out.extend_from_slice(&text[place..])?;
+    Ok(())
+}
+
+/// Appends bytes as they stand between quotation marks: from the space to `~` as they are, but `\"` and
+/// `\\`; a line feed as `\n`; and each other byte as `\x` and two digits.
+pub fn push_quoted(out: &mut Vec<u8>, bytes: &[u8]) -> Result<(), OutOfMemory>
+    ensures ok { OnOk result (out.new.items ≡ out.old.items ++ quoted_text bytes.now) }
+    ensures err { OnErr result (out.new.items ≡ out.old.items) }
+{
+    let before = out.len();
+    let pushed = push_each_quoted(out, bytes);
+    if pushed.is_err() {
+        out.truncate(before);
+    }
+    pushed
+}
+
+/// The glyph of a hexadecimal digit.
+fn hex_glyph(digit: u32) -> u8
+    requires { digit < 16 }
+    ensures { result ≡ hex_digit digit }
+{
+    if digit < 10 {
+        b'0' + digit as u8
+    } else {
+        b'a' + (digit as u8 - 10)
+    }
+}
+
+/// Appends bytes as they stand between quotation marks, as far as memory reaches.
+fn push_each_quoted(out: &mut Vec<u8>, bytes: &[u8]) -> Result<(), OutOfMemory>
+    ensures ok { OnOk result (out.new.items ≡ out.old.items ++ quoted_text bytes.now) }
+    ensures err { OnErr result (take (length out.old.items) out.new.items ≡ out.old.items) }
+{
+    for byte in bytes {
+        push_quoted_byte(out, *byte)?;
+    }
+    Ok(())
+}
+
+/// Appends a byte as it stands between quotation marks.
+fn push_quoted_byte(out: &mut Vec<u8>, byte: u8) -> Result<(), OutOfMemory>
+    ensures ok { OnOk result (out.new.items ≡ out.old.items ++ quoted_byte byte) }
+    ensures err { OnErr result (out.new.items ≡ out.old.items) }
+{
+    match byte {
+        b'"' => out.extend_from_slice(b"\\\"")?,
+        b'\\' => out.extend_from_slice(b"\\\\")?,
+        b'\n' => out.extend_from_slice(b"\\n")?,
+        b' '..=b'~' => out.push(byte)?,
+        _ => {
+            let high = hex_glyph(u32::from(byte / 16));
+            let low = hex_glyph(u32::from(byte % 16));
+            out.extend_from_slice(&[b'\\', b'x', high, low])?;
+        }
+    }
+    Ok(())
+}
