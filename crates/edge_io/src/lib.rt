@@ -7,11 +7,13 @@
 #![tactic(auto)]
 
 mod memory;
+mod memory_shelf;
 mod shelf;
 mod sink;
 mod whole;
 
 pub use memory::OutOfMemory;
+pub use memory_shelf::MemoryShelf;
 pub use shelf::{FILE_LIMIT, ReadFail, Shelf};
 pub use sink::{Sink, WriteFail};
 pub use whole::write_whole;
