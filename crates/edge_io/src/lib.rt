@@ -8,12 +8,14 @@
 
 mod memory;
 mod memory_shelf;
+mod memory_sink;
 mod shelf;
 mod sink;
 mod whole;
 
 pub use memory::OutOfMemory;
 pub use memory_shelf::MemoryShelf;
+pub use memory_sink::MemorySink;
 pub use shelf::{FILE_LIMIT, ReadFail, Shelf};
 pub use sink::{Sink, WriteFail};
 pub use whole::write_whole;
