@@ -1,4 +1,4 @@
-use Rattle.std.specs.Prelude.{◌≡◌, ℕ, ◌+◌, ◌-◌, ◌==◌, ◌||◌, ◌≤◌, List, [], Bool, length, nat_le, min}
+use Rattle.std.specs.Prelude.{◌≡◌, ℕ, ◌+◌, ◌==◌, ◌||◌, ◌≤◌, List, [], Bool, length, nat_le, min}
 use Rattle.std.specs.List.{list_any}
 
 -- the write of this number fails: the number is one of those that fail, or no room is left

@@ -6,6 +6,7 @@
 //! standard output. `write_whole` writes all of a text.
 #![tactic(auto)]
 
+mod host;
 mod memory;
 mod memory_shelf;
 mod memory_sink;
@@ -13,6 +14,7 @@ mod shelf;
 mod sink;
 mod whole;
 
+pub use host::{HostShelf, HostSink};
 pub use memory::OutOfMemory;
 pub use memory_shelf::MemoryShelf;
 pub use memory_sink::MemorySink;

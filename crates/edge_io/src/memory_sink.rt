@@ -30,7 +30,12 @@ pub struct MemorySink {
 
 impl MemorySink {
     /// An empty sink, with the memory for all of its room.
-    pub fn new(alloc: Global, room: usize, most: usize, fails: Vec<u64>) -> Result<MemorySink, OutOfMemory>
+    pub fn new(
+        alloc: Global,
+        room: usize,
+        most: usize,
+        fails: Vec<u64>,
+    ) -> Result<MemorySink, OutOfMemory>
         requires { 1 ≤ most }
 
         ensures empty { IfOk result (λ sink. sink.bytes.items ≡ []) }
