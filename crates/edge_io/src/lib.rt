@@ -6,12 +6,18 @@
 //! standard output. `write_whole` writes all of a text.
 #![tactic(auto)]
 
+mod host;
 mod memory;
+mod memory_shelf;
+mod memory_sink;
 mod shelf;
 mod sink;
 mod whole;
 
+pub use host::{HostShelf, HostSink};
 pub use memory::OutOfMemory;
+pub use memory_shelf::MemoryShelf;
+pub use memory_sink::MemorySink;
 pub use shelf::{FILE_LIMIT, ReadFail, Shelf};
 pub use sink::{Sink, WriteFail};
 pub use whole::write_whole;

@@ -8,7 +8,7 @@ loop-done-preserved g c = record {
   appended = Appends-rest _ _ _ c.args.bytes.now _ _ c.loop-done.invariant.appended c.in_ok-done.ensures.appended;
   no_fault = cc (c.in_ok-done.ensures.no_fault);
   sure = λ takes.
-    let rest : length c.args.bytes.now - c.loop-done.done - c.in_ok-done.field-0 ≡ length c.args.bytes.now - (c.loop-done.done + c.in_ok-done.field-0) = omega arith in
-    let P : ℕ → Type 0 = g.K.Sink.Takes c.write.new.self in
-    subst P rest (c.in_ok-done.ensures.sure_of_rest _ (c.loop-done.invariant.sure takes));
+      let rest : length c.args.bytes.now - c.loop-done.done - c.in_ok-done.field-0 ≡ length c.args.bytes.now - (c.loop-done.done + c.in_ok-done.field-0) = omega arith in
+      let P : ℕ → Type 0 = g.K.Sink.Takes c.write.new.self in
+      subst P rest (c.in_ok-done.ensures.sure_of_rest _ (c.loop-done.invariant.sure takes));
 }

@@ -1,0 +1,99 @@
+ghost use Rattle.std.specs.Prelude.{◌≡◌, ◌+◌, ◌-◌, ◌^◌, ◌≤◌, Some, None, IfOk, length, min, option_map};
+ghost use Rattle.std.specs.Option.{option_copied};
+ghost use Rattle.std.specs.String.{string_bytes};
+ghost use Rattle.edge_io.specs.Faults.{Rose};
+ghost use Rattle.edge_io.specs.Files.{IsSureOf, file_named, found};
+ghost use Rattle.edge_io.specs.declared.shelf.TheConstants.{FILE_LIMIT};
+ghost use Rattle.edge_io.specs.Reads.{Tells, OnFailed, UnlessFailed};
+
+use crate::shelf::{FILE_LIMIT, ReadFail, Shelf};
+use std::alloc::Global;
+
+/// Files in memory. Of two files with one name the first counts. Each read has a number, counted
+/// from 0, and fails where its number is in `fails`, where the name isn't there, or where its file
+/// has more than `FILE_LIMIT` bytes.
+#[derive(Drop)]
+pub struct MemoryShelf {
+    /// Names and bytes.
+    pub files: Vec<(String, Vec<u8>)>,
+    /// The numbers of the reads that fail.
+    pub fails: Vec<u64>,
+    /// How many reads there were, whatever they answered. It stays at `u64::MAX`.
+    pub calls: u64,
+    /// How many reads failed. It stays at `u64::MAX`.
+    pub faults: u64,
+    /// The name of the read that failed last.
+    pub failed: Option<String>,
+}
+
+// The bytes of the first file of this name.
+fn file_named<'a>(files: &'a [(String, Vec<u8>)], name: &str) -> Option<&'a [u8]>
+    ensures { option_copied result ≡ file_named files.now name.now }
+{
+    files
+        .iter()
+        .find(|file| file.0.as_str() == name)
+        .map(|file| file.1.as_slice())
+}
+
+impl MemoryShelf {
+    // The bytes that the read of this number finds.
+    fn found(&self, call: u64, name: &str) -> Option<&[u8]>
+        ensures { option_copied result ≡ found self.now.files.items self.now.fails.items call name.now }
+    {
+        if self.fails.contains(&call) {
+            return None;
+        }
+        let bytes = file_named(&self.files, name)?;
+        if bytes.len() <= FILE_LIMIT {
+            Some(bytes)
+        } else {
+            None
+        }
+    }
+}
+
+impl Shelf for MemoryShelf {
+    ghost told = { λ s. Some (file_named s.files.items) };
+
+    ghost faults = { λ s. s.faults };
+
+    ghost failed = { λ s. option_map (λ name. string_bytes name) s.failed };
+
+    ghost Serves = { λ s name. IsSureOf s.files.items s.fails.items name };
+
+    /// Fails exactly where the number of the read is in `fails`, where the name isn't there, or
+    /// where its file is too long, if memory is found.
+    fn read(&mut self, alloc: Global, name: &str) -> Result<Vec<u8>, ReadFail>
+        ensures bytes { IfOk result (λ v. found self.old.files.items self.old.fails.items self.old.calls name.now ≡ Some v.items) }
+        ensures fails { OnFailed result (found self.old.files.items self.old.fails.items self.old.calls name.now ≡ None) }
+
+        ensures call_counted { self.new.calls ≡ min (self.old.calls + 1) (2 ^ 64 - 1) }
+        ensures failed_counted { OnFailed result (self.new.faults ≡ min (self.old.faults + 1) (2 ^ 64 - 1)) }
+        ensures failed_named { OnFailed result (option_map (λ title. string_bytes title) self.new.failed ≡ Some name.now) }
+        ensures else_count { UnlessFailed result (self.new.faults ≡ self.old.faults) }
+        ensures else_name { UnlessFailed result (self.new.failed ≡ self.old.failed) }
+
+        ensures same_files { self.new.files ≡ self.old.files }
+        ensures same_fails { self.new.fails ≡ self.old.fails }
+
+        // What every shelf ensures.
+        ensures told { IfOk result (λ v. Tells (Some (file_named self.old.files.items)) name.now v.items) }
+        ensures within_limit { IfOk result (λ v. length v.items ≤ FILE_LIMIT) }
+        ensures rose { OnFailed result (Rose self.old.faults self.new.faults) }
+        ensures never_falls { self.old.faults ≤ self.new.faults }
+        ensures served { OnFailed result (¬ IsSureOf self.old.files.items self.old.fails.items name.now) }
+    {
+        let call = self.calls;
+        self.calls = call.saturating_add(1);
+        let title = String::from_str(alloc, name)?;
+        match self.found(call, name) {
+            Some(bytes) => Ok(Vec::from_slice(alloc, bytes)?),
+            None => {
+                self.faults = self.faults.saturating_add(1);
+                self.failed = Some(title);
+                Err(ReadFail::Failed)
+            }
+        }
+    }
+}
