@@ -1,4 +1,4 @@
-use Rattle.std.proofs.Common.{◌∙◌, sym, ap}
+use Rattle.std.proofs.Common.{◌∙◌, sym}
 use Rattle.line_text.proofs.PieceLemmas.{pieces_at, pieces_end}
 use Rattle.line_text.proofs.lines.piece_length.Goals as goal
 
