@@ -1,5 +1,6 @@
 -- The lines of a text.
-use Rattle.std.specs.Prelude.{ℕ, ◌+◌, List, [], ◌∷◌, ◌==◌, ◌&&◌, if◌then◌else◌, length}
+use Rattle.std.specs.Prelude.{ℕ, ◌+◌, ◌-◌, List, [], ◌∷◌, nat_eq, ◌==◌, if◌then◌else◌, length, take, codes}
+use Rattle.std.specs.List.{ends_with}
 
 -- a line: its number from 1, the place of its first byte in the text, and its bytes without its end
 pub record LineValue : Type 0 where
@@ -16,14 +17,14 @@ with_front b (piece ∷ pieces) = (b ∷ piece) ∷ pieces
 -- stands before what follows it
 abbrev pub pieces_of : List ℕ → List (List ℕ)
 pieces_of [] = []
-pieces_of (b ∷ bs) = if b == 10 then (10 ∷ []) ∷ pieces_of bs else with_front b (pieces_of bs)
+pieces_of (b ∷ bs) = if b == 10 then (b ∷ []) ∷ pieces_of bs else with_front b (pieces_of bs)
 
--- a piece without its end, which is a line feed, or a carriage return and directly after it a line feed
+-- a piece without its end: a line feed, and a carriage return directly before it
 abbrev pub without_end : List ℕ → List ℕ
-without_end [] = []
-without_end (b ∷ []) = if b == 10 then [] else b ∷ []
-without_end (b ∷ c ∷ []) = if b == 13 && c == 10 then [] else b ∷ without_end (c ∷ [])
-without_end (b ∷ c ∷ d ∷ bs) = b ∷ without_end (c ∷ d ∷ bs)
+without_end piece =
+    if ends_with nat_eq piece (codes "\r\n") then take (length piece - 2) piece else
+    if ends_with nat_eq piece (codes "\n") then take (length piece - 1) piece else
+    piece
 
 -- the pieces as lines, where the first has this number and this place
 abbrev pub lines_from : ℕ → ℕ → List (List ℕ) → List LineValue

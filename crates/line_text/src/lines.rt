@@ -1,5 +1,6 @@
 //! The lines of a text, each with its number and its place.
-ghost use Rattle.std.specs.Prelude.{◌≡◌, ◌+◌, ◌^◌, ◌<◌, ◌≤◌, ◌∷◌, length, take, drop};
+ghost use Rattle.std.specs.Prelude.{◌≡◌, ◌+◌, ◌^◌, ◌<◌, ◌≤◌, ◌∷◌, ◌==◌, length, take, drop};
+ghost use Rattle.std.specs.List.{position};
 ghost use Rattle.line_text.specs.Lines.{lines_of, pieces_of, without_end};
 
 use std::marker::Model;
@@ -8,8 +9,6 @@ use std::marker::Model;
 pub const TEXT_LIMIT: usize = 1 << 27;
 
 const LINE_FEED: u8 = b'\n';
-
-const CARRIAGE_RETURN: u8 = b'\r';
 
 /// A line of a text.
 #[derive(Clone, Copy)]
@@ -89,19 +88,28 @@ fn piece_length(text: &[u8]) -> usize
     ensures within { result ≤ length text.now }
     ensures cut { pieces_of text.now ≡ take result text.now ∷ pieces_of (drop result text.now) }
 {
-    match text.iter().position(|b| *b == LINE_FEED) {
+    match line_feed(text) {
         Some(place) => place + 1,
         None => text.len(),
     }
+}
+
+/// The place of the first line feed.
+fn line_feed(text: &[u8]) -> Option<usize>
+    ensures { result ≡ position (λ b. b == LINE_FEED) text.now }
+{
+    text.iter().position(|b| *b == LINE_FEED)
 }
 
 /// A line without its end.
 fn without_end(piece: &[u8]) -> &[u8]
     ensures { result.now ≡ without_end piece.now }
 {
-    match piece {
-        [line @ .., CARRIAGE_RETURN, LINE_FEED] => line,
-        [line @ .., LINE_FEED] => line,
-        line => line,
+    if piece.ends_with(b"\r\n") {
+        &piece[..piece.len() - 2]
+    } else if piece.ends_with(b"\n") {
+        &piece[..piece.len() - 1]
+    } else {
+        piece
     }
 }

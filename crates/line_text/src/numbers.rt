@@ -10,12 +10,13 @@ const HEX_DIGITS: usize = 8;
 
 /// The number that a word spells, below 2^32: one to ten decimal digits, or `0x` and one to eight
 /// hexadecimal digits of either case. None for every other word.
+#[tactic(auto, unfolding(crate::specs::Number::number_of))]
 pub fn number(word: &[u8]) -> Option<u32>
     ensures { result ≡ number_of word.now }
 {
-    match word {
-        [b'0', b'x', digits @ ..] => spelled(digits, 16, HEX_DIGITS),
-        digits => spelled(digits, 10, DECIMAL_DIGITS),
+    match word.strip_prefix(b"0x") {
+        Some(digits) => spelled(digits, 16, HEX_DIGITS),
+        None => spelled(word, 10, DECIMAL_DIGITS),
     }
 }
 

@@ -65,6 +65,7 @@ fn hex_glyph(digit: u32) -> u8
 }
 
 /// Appends bytes as they stand between quotation marks, as far as memory reaches.
+#[tactic(auto, unfolding(crate::specs::Text::quoted_text))]
 fn push_each_quoted(out: &mut Vec<u8>, bytes: &[u8]) -> Result<(), OutOfMemory>
     ensures ok { OnOk result (out.new.items ≡ out.old.items ++ quoted_text bytes.now) }
     ensures err { OnErr result (take (length out.old.items) out.new.items ≡ out.old.items) }
@@ -76,6 +77,7 @@ fn push_each_quoted(out: &mut Vec<u8>, bytes: &[u8]) -> Result<(), OutOfMemory>
 }
 
 /// Appends a byte as it stands between quotation marks.
+#[tactic(auto, unfolding(crate::specs::Text::hex_text))]
 fn push_quoted_byte(out: &mut Vec<u8>, byte: u8) -> Result<(), OutOfMemory>
     ensures ok { OnOk result (out.new.items ≡ out.old.items ++ quoted_byte byte) }
     ensures err { OnErr result (out.new.items ≡ out.old.items) }
