@@ -20,14 +20,13 @@ find_row key [] other = other
 find_row key (r ∷ rows) other = if key == r.key then (if r.is_clear then r.insn else other) else find_row key rows other
 
 -- opcode 0, by function
-unfoldable pub special_of : ℕ → Insn
-special_of w =
+abbrev pub special_rows : ℕ → List Row
+special_rows w =
     let rs = rs_of w in
     let rt = rt_of w in
     let rd = rd_of w in
     let sh = sh_of w in
-    find_row (function_of w)
-    (row 0 (rs == 0) (Sll rd rt sh)
+    row 0 (rs == 0) (Sll rd rt sh)
     ∷ row 2 (rs == 0) (Srl rd rt sh)
     ∷ row 3 (rs == 0) (Sra rd rt sh)
     ∷ row 4 (sh == 0) (Sllv rd rt rs)
@@ -55,51 +54,54 @@ special_of w =
     ∷ row 39 (sh == 0) (Nor rd rs rt)
     ∷ row 42 (sh == 0) (Slt rd rs rt)
     ∷ row 43 (sh == 0) (Sltu rd rs rt)
-    ∷ [])
-    (Reserved w)
+    ∷ []
+
+unfoldable pub special_of : ℕ → Insn
+special_of w = find_row (function_of w) (special_rows w) (Reserved w)
 
 -- opcode 1, by the field rt
-unfoldable pub regimm_of : ℕ → Insn
-regimm_of w =
+abbrev pub regimm_rows : ℕ → List Row
+regimm_rows w =
     let rs = rs_of w in
     let imm = imm_of w in
-    find_row (rt_of w)
-    (row 0 true (Bltz rs imm)
+    row 0 true (Bltz rs imm)
     ∷ row 1 true (Bgez rs imm)
     ∷ row 16 true (Bltzal rs imm)
     ∷ row 17 true (Bgezal rs imm)
-    ∷ [])
-    (Reserved w)
+    ∷ []
+
+unfoldable pub regimm_of : ℕ → Insn
+regimm_of w = find_row (rt_of w) (regimm_rows w) (Reserved w)
 
 -- opcode 16 and rs 16, by bits 20:0
+abbrev pub system_operation_rows : List Row
+system_operation_rows = row 1 true Tlbr ∷ row 2 true Tlbwi ∷ row 6 true Tlbwr ∷ row 8 true Tlbp ∷ row 16 true Rfe ∷ []
+
 unfoldable pub system_operation_of : ℕ → Insn
-system_operation_of w =
-    find_row (w % 2 ^ 21)
-    (row 1 true Tlbr ∷ row 2 true Tlbwi ∷ row 6 true Tlbwr ∷ row 8 true Tlbp ∷ row 16 true Rfe ∷ [])
-    (Reserved w)
+system_operation_of w = find_row (w % 2 ^ 21) system_operation_rows (Reserved w)
 
 -- opcode 16, by the field rs
-unfoldable pub system_of : ℕ → Insn
-system_of w =
-    find_row (rs_of w)
-    (row 0 (w % 2 ^ 11 == 0) (Mfc0 (rt_of w) (rd_of w))
+abbrev pub system_rows : ℕ → List Row
+system_rows w =
+    row 0 (w % 2 ^ 11 == 0) (Mfc0 (rt_of w) (rd_of w))
     ∷ row 4 (w % 2 ^ 11 == 0) (Mtc0 (rt_of w) (rd_of w))
     ∷ row 16 true (system_operation_of w)
-    ∷ [])
-    (Reserved w)
+    ∷ []
 
--- the instruction that a word spells, by its opcode
-unfoldable pub insn_of : ℕ → Insn
-insn_of w =
-    let op = opcode_of w in
+unfoldable pub system_of : ℕ → Insn
+system_of w = find_row (rs_of w) (system_rows w) (Reserved w)
+
+-- all words, by opcode
+abbrev pub opcode_rows : ℕ → List Row
+opcode_rows w =
     let rs = rs_of w in
     let rt = rt_of w in
     let imm = imm_of w in
-    find_row op
-    (row 0 true (special_of w)
+    let target = target_of w in
+    row 0 true (special_of w)
     ∷ row 1 true (regimm_of w)
-    ∷ row 2 true (J (target_of w))
-    ∷ row 3 true (Jal (target_of w))
+    ∷ row 2 true (J target)
+    ∷ row 3 true (Jal target)
     ∷ row 4 true (Beq rs rt imm)
     ∷ row 5 true (Bne rs rt imm)
     ∷ row 6 (rt == 0) (Blez rs imm)
@@ -125,5 +127,12 @@ insn_of w =
     ∷ row 43 true (Sw rt imm rs)
     ∷ row 42 true (Swl rt imm rs)
     ∷ row 46 true (Swr rt imm rs)
-    ∷ [])
-    (if is_coprocessor op then Cop op (target_of w) else Reserved w)
+    ∷ []
+
+-- what a word of an opcode without a row is
+abbrev pub coprocessor_of : ℕ → Insn
+coprocessor_of w = if is_coprocessor (opcode_of w) then Cop (opcode_of w) (target_of w) else Reserved w
+
+-- the instruction that a word spells
+unfoldable pub insn_of : ℕ → Insn
+insn_of w = find_row (opcode_of w) (opcode_rows w) (coprocessor_of w)

@@ -1,4 +1,5 @@
 ghost use Rattle.std.specs.Prelude.{◌≡◌};
+ghost use Rattle.mips_isa.specs.Encoding.{Spells};
 ghost use Rattle.mips_isa.specs.Decoding.{insn_of, regimm_of, special_of, system_of, system_operation_of};
 
 use crate::fields::{code, function, imm, opcode, rd, rs, rt, sh, target};
@@ -138,6 +139,7 @@ fn instruction(word: u32) -> Insn
 
 /// The instruction that a word spells.
 pub fn decode(word: u32) -> Insn
+    ensures spells { Spells word result }
     ensures value { result ≡ insn_of word }
 {
     instruction(word)
