@@ -41,7 +41,15 @@ abbrev pub write_of : Access → Option Write
 write_of (Load spot) = None
 write_of (Store spot value) = Some (record { address = place_of spot; bytes = low_bytes spot.width value })
 
--- the load or store of the instruction, if it has one
+-- SWL: the n + 1 high bytes of the register, up to the address, which is the n-th byte of its word
+abbrev pub left_store : ℕ → ℕ → Access
+left_store address value = Store (below address (address % 4 + 1)) (value / 2 ^ (24 - 8 * (address % 4)))
+
+-- SWR: the 4 - n low bytes of the register, from the address on
+abbrev pub right_store : ℕ → ℕ → Access
+right_store address value = Store (at address (4 - address % 4)) value
+
+-- The load or store of the instruction, if it has one.
 unfoldable pub access : Insn → Cpu → Option Access
 access (Lb rt imm rs) c = Some (Load (at (address_of c rs imm) 1))
 access (Lh rt imm rs) c = Some (Load (at (address_of c rs imm) 2))
@@ -52,11 +60,17 @@ access (Lhu rt imm rs) c = Some (Load (at (address_of c rs imm) 2))
 access (Lwr rt imm rs) c = Some (Load (below (address_of c rs imm) 4))
 access (Sb rt imm rs) c = Some (Store (at (address_of c rs imm) 1) (reg c rt))
 access (Sh rt imm rs) c = Some (Store (at (address_of c rs imm) 2) (reg c rt))
-access (Swl rt imm rs) c =
-    let n = address_of c rs imm % 4 in
-    Some (Store (below (address_of c rs imm) (n + 1)) (reg c rt / 2 ^ (24 - 8 * n)))
+access (Swl rt imm rs) c = Some (left_store (address_of c rs imm) (reg c rt))
 access (Sw rt imm rs) c = Some (Store (at (address_of c rs imm) 4) (reg c rt))
-access (Swr rt imm rs) c =
-    let n = address_of c rs imm % 4 in
-    Some (Store (at (address_of c rs imm) (4 - n)) (reg c rt))
+access (Swr rt imm rs) c = Some (right_store (address_of c rs imm) (reg c rt))
 access _ c = None
+
+-- a spot has bytes, and where it is aligned they lie in one word
+pub record IsSpot (spot : Spot) : Type 0 where
+  pub some : 0 < spot.width
+  pub within : is_aligned spot ≡ true → place_of spot % 4 + spot.width ≤ 4
+
+-- a load is of 1, 2 or 4 bytes, and a store of 1 to 4
+abbrev pub IsSized : Access → Type 0
+IsSized (Load spot) = IsSpot spot × (spot.width ≢ 3)
+IsSized (Store spot value) = IsSpot spot

@@ -8,6 +8,8 @@ use Rattle.mips_isa.specs.Word.{sign16_of, merged_left, merged_right}
 use Rattle.mips_exec.specs.declared.registers.Cpu.{Cpu}
 use Rattle.mips_exec.specs.declared.exception.Exc.{Exc}
 use Rattle.mips_exec.specs.declared.exception.ExcCode.TheVariants.{Sys, Bp, Ri, Ov}
+use Rattle.mips_exec.specs.declared.exception.Outcome.{Outcome}
+use Rattle.mips_exec.specs.declared.exception.Outcome.TheVariants as outcomes
 use Rattle.mips_exec.specs.Word.{signed, fits_signed, is_negative, shifted_with_sign, sign_extended, flag}
 use Rattle.mips_exec.specs.Cpu.{reg, with_reg, with_hi_lo, advanced, jumped, branched, jump_target, address_of}
 use Rattle.mips_exec.specs.Exception.{plain, unusable}
@@ -54,6 +56,18 @@ branches cpu taken imm = Completes (branched cpu taken imm)
 -- `$31` takes the address after the delay slot, whether the branch is taken or not
 abbrev pub branches_and_links : Cpu → Bool → ℕ → Execution
 branches_and_links cpu taken imm = Completes (with_reg (branched cpu taken imm) 31 (cpu.pc + 8))
+
+-- the registers that the instruction leaves
+abbrev pub registers_after : Cpu → Execution → Cpu
+registers_after cpu (Completes new) = new
+registers_after cpu Calls = cpu
+registers_after cpu (Raises exc) = cpu
+
+-- how it is reported
+abbrev pub report_of : Execution → Outcome
+report_of (Completes new) = outcomes.Retired
+report_of Calls = outcomes.Call
+report_of (Raises exc) = outcomes.Trap exc
 
 -- What the instruction does, where `x` is what its load was answered.
 unfoldable pub effect : Insn → Cpu → ℕ → Execution

@@ -109,6 +109,11 @@ outcome_of (Retired new write) = outcomes.Retired
 outcome_of Called = outcomes.Call
 outcome_of (Trapped exc) = outcomes.Trap exc
 
+-- what an access wrote that was answered so
+abbrev pub write_if : Access → Result ℕ Exc → Option Write
+write_if a (Ok x) = write_of a
+write_if a (Err exc) = None
+
 -- what the step writes
 abbrev pub write_after : Step → Option Write
 write_after (Retired new write) = write

@@ -1,5 +1,5 @@
 ghost use Rattle.std.specs.Prelude.{◌≡◌};
-ghost use Rattle.mips_exec.specs.Exception.{number_of, cause_word_of};
+ghost use Rattle.mips_exec.specs.Exception.{at_address, cause_word_of, number_of, plain, unusable};
 
 /// Why the processor stops a program, by the numbers that the Cause register shows (0 to 12).
 #[derive(Clone, Copy)]
@@ -63,6 +63,29 @@ pub struct Exc {
     pub bad: u32,
     /// The coprocessor that may not be used; 0 for other codes.
     pub unit: u8,
+}
+
+impl Exc {
+    /// An exception that has no address.
+    pub(crate) fn plain(code: ExcCode) -> Self
+        ensures { result ≡ plain code }
+    {
+        Exc { code, bad: 0, unit: 0 }
+    }
+
+    /// A coprocessor that may not be used.
+    pub(crate) fn unusable(unit: u8) -> Self
+        ensures { result ≡ unusable unit }
+    {
+        Exc { code: ExcCode::Cpu, bad: 0, unit }
+    }
+
+    /// The same exception at an address.
+    pub(crate) fn at(self, address: u32) -> Self
+        ensures { result ≡ at_address self address }
+    {
+        Exc { bad: address, ..self }
+    }
 }
 
 /// How a step ended.

@@ -4,6 +4,7 @@
 #![tactic(auto)]
 
 mod exception;
+mod execute;
 mod memory;
 mod reach;
 mod registers;
