@@ -1,0 +1,15 @@
+//! One step of the processor in user mode: what each instruction does to the registers and asks of
+//! memory. `step_user` is proved to be the definition of the instruction table (`docs/MACHINE.md`) over
+//! any memory that a `Bus` answers for.
+#![tactic(auto)]
+
+mod exception;
+mod execute;
+mod memory;
+mod reach;
+mod registers;
+
+pub use exception::{Exc, ExcCode, Outcome, cause_word};
+pub use memory::Bus;
+pub use reach::{Access, Spot};
+pub use registers::{Cpu, restart};

@@ -1,0 +1,62 @@
+ghost use Rattle.std.specs.Prelude.{◌≡◌};
+ghost use Rattle.mips_exec.specs.Cpu.{address_of, reg, restart_of, with_reg};
+
+use mips_isa::sign16;
+
+/// The registers of the processor (`docs/MACHINE.md`, "Registers").
+#[derive(Clone, Copy)]
+pub struct Cpu {
+    /// `$0` to `$31`. `$0` reads 0, whatever stands here.
+    pub regs: [u32; 32],
+    /// The high word of a product, or a remainder.
+    pub hi: u32,
+    /// The low word of a product, or a quotient.
+    pub lo: u32,
+    /// The address of the instruction to run.
+    pub pc: u32,
+    /// The address of the instruction after it.
+    pub next: u32,
+    /// `pc` is the delay slot of a branch or jump.
+    pub slot: bool,
+}
+
+impl Cpu {
+    /// What register `n` reads.
+    pub(crate) fn reg(&self, n: u8) -> u32
+        ensures { result ≡ reg self.now n }
+    {
+        if 0 < n && n < 32 {
+            self.regs[usize::from(n)]
+        } else {
+            0
+        }
+    }
+
+    /// Writes register `n`; register 0 stays.
+    pub(crate) fn set_reg(&mut self, n: u8, value: u32)
+        ensures { self.new ≡ with_reg self.old n value }
+    {
+        if 0 < n && n < 32 {
+            self.regs[usize::from(n)] = value;
+        }
+    }
+
+    /// The address of a load or store: a base register plus the signed `imm`, modulo 2^32.
+    pub(crate) fn address(&self, base: u8, imm: u16) -> u32
+        ensures { result ≡ address_of self.now base imm }
+    {
+        self.reg(base).wrapping_add(sign16(imm))
+    }
+}
+
+/// The address at which a stopped program goes on: that of the branch where `pc` is its delay slot,
+/// modulo 2^32, else `pc`.
+pub fn restart(cpu: &Cpu) -> u32
+    ensures { result ≡ restart_of cpu.now }
+{
+    if cpu.slot {
+        cpu.pc.wrapping_sub(4)
+    } else {
+        cpu.pc
+    }
+}
