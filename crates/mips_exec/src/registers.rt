@@ -21,8 +21,8 @@ pub struct Cpu {
 }
 
 impl Cpu {
-    /// What register `n` reads.
-    pub(crate) fn reg(&self, n: u8) -> u32
+    /// What register `n` reads, 0 from 32 on.
+    pub fn reg(&self, n: u8) -> u32
         ensures { result ≡ reg self.now n }
     {
         if 0 < n && n < 32 {
@@ -32,8 +32,8 @@ impl Cpu {
         }
     }
 
-    /// Writes register `n`; register 0 stays.
-    pub(crate) fn set_reg(&mut self, n: u8, value: u32)
+    /// Writes register `n`, below 32; register 0 stays.
+    pub fn set_reg(&mut self, n: u8, value: u32)
         ensures { self.new ≡ with_reg self.old n value }
     {
         if 0 < n && n < 32 {

@@ -1,0 +1,82 @@
+-- The world that an image boots.
+use Rattle.std.specs.Prelude.{ℕ, zero, suc, ◌+◌, ◌-◌, ◌*◌, ◌/◌, List, [], ◌∷◌, ◌++◌, length, take, drop, replicate, Bool, true, ◌==◌, nat_lt, if◌then◌else◌, Option, Some, None, slice_get}
+use Rattle.std.specs.Option.{option_flatten, option_map}
+use Rattle.boot_image.specs.ImageValue.{ImageValue, ProgramValue, body_pages}
+use Rattle.kernel_journal.specs.declared.row.Row.{Row}
+use Rattle.kernel_journal.specs.declared.row.Row.TheVariants as row
+use Rattle.world_model.specs.Book.{Book, Hold}
+use Rattle.world_model.specs.declared.page.KeptPage.{KeptPage}
+use Rattle.world_model.specs.Solo.{Solo, absent}
+use Rattle.world_model.specs.Item.{Item, Boot, absorb_all}
+use Rattle.world_model.specs.World.{World}
+
+abbrev pub zero_page : List ℕ
+zero_page = replicate 4096 0
+
+-- a guaranteed page that may be stored to
+abbrev pub open_page : ℕ → List ℕ → KeptPage
+open_page vpn bytes = record { vpn = vpn; writable = true; bytes = bytes }
+
+-- f 0, f 1 and so on, so many
+abbrev pub listed : {A : Type 0} → (ℕ → A) → ℕ → List A
+listed f zero = []
+listed f (suc n) = listed f n ++ f n ∷ []
+
+-- the bytes from a place on that a page has room for, and zeros behind them
+abbrev pub page_from : List ℕ → ℕ → List ℕ
+page_from bytes at = let given = take 4096 (drop at bytes) in given ++ replicate (4096 - length given) 0
+
+-- a flat program's pages, from its base on
+abbrev pub program_page : ProgramValue → ℕ → KeptPage
+program_page p i = open_page (p.base / 4096 + i) (page_from p.bytes (4096 * i))
+
+-- the stack's pages end below 0x7FFF0000
+abbrev pub stack_page : ProgramValue → ℕ → KeptPage
+stack_page p i = open_page (0x7FFF0 - p.stack + i) zero_page
+
+-- the context page at page number 1, then the program's pages, then those of its stack
+abbrev pub kept_of : ProgramValue → List KeptPage
+kept_of p = open_page 1 zero_page ∷ listed (program_page p) (body_pages p) ++ listed (stack_page p) p.stack
+
+-- what is given to an environment at boot: its record, where the image has one
+abbrev pub record_items : ℕ → Option ProgramValue → List Item
+record_items e None = []
+record_items e (Some p) = Boot e p.name p.base (kept_of p) ∷ []
+
+abbrev pub boot_items : ImageValue → ℕ → List Item
+boot_items image e = record_items e (slice_get image.programs e)
+
+abbrev pub own_hold : ℕ → Hold
+own_hold e = record { owner = e; holder = e }
+
+-- at boot an owner holds its slot
+abbrev pub boot_slot : ImageValue → ℕ → Option Hold
+boot_slot image k = option_map own_hold (option_flatten (slice_get image.slots k))
+
+abbrev pub own_row : ℕ → Option Hold → List Row
+own_row k None = []
+own_row k (Some hold) = row.Own 0 k (Some hold.owner) (Some hold.holder) ∷ []
+
+-- a row for each slot below k that has an owner
+abbrev pub own_rows : ImageValue → ℕ → List Row
+own_rows image zero = []
+own_rows image (suc k) = own_rows image k ++ own_row k (boot_slot image k)
+
+abbrev pub boot_book : ImageValue → Book
+boot_book image = record {
+  slot_count = length image.slots;
+  slots = boot_slot image;
+  quantum = image.quantum;
+  cursor = length image.slots - 1;
+  runner = None;
+  left = 0;
+  time = 0;
+}
+
+abbrev pub boot_world : ImageValue → World
+boot_world image = record {
+  book = boot_book image;
+  count = length image.programs;
+  solos = λ e. absorb_all (absent e) (boot_items image e);
+  rows = own_rows image (length image.slots);
+}

@@ -1,0 +1,31 @@
+-- The answer codes of kernel calls and their numbers.
+use Rattle.std.specs.Prelude.{ℕ, Bool, ◌==◌}
+use Rattle.world_model.specs.declared.code.Code.{Code}
+use Rattle.world_model.specs.declared.code.Code.TheVariants as code
+
+abbrev pub code_number : Code → ℕ
+code_number code.Ok = 0
+code_number code.NoPage = 1
+code_number code.Taken = 2
+code_number code.NoneFree = 3
+code_number code.NotOwner = 4
+code_number code.NoRight = 5
+code_number code.BadVpn = 6
+code_number code.Guaranteed = 7
+code_number code.NoEnv = 8
+code_number code.NotAccepted = 9
+code_number code.NoSlice = 10
+code_number code.SlotTaken = 11
+code_number code.NotHolder = 12
+code_number code.BadFilter = 13
+code_number code.Overlap = 14
+code_number code.NoFilter = 15
+code_number code.BadHandler = 16
+code_number code.LineTaken = 17
+code_number code.ConsoleFull = 18
+code_number code.Full = 19
+code_number code.BadCall = 20
+code_number code.BadPointer = 21
+
+abbrev pub is_ok_code : Code → Bool
+is_ok_code code = code_number code == 0

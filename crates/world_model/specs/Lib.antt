@@ -1,0 +1,12 @@
+pub mod Code
+pub mod Page
+pub mod Solo
+pub mod Step
+pub mod Item
+pub mod Book
+pub mod World
+pub mod Call
+pub mod Tick
+pub mod Boot
+pub mod Run
+pub mod Report

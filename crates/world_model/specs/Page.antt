@@ -1,0 +1,68 @@
+-- What an access answers, given where each page number leads.
+use Rattle.std.specs.Prelude.{ℕ, ◌+◌, ◌/◌, ◌%◌, List, ◌++◌, length, take, drop, Bool, true, false, not, ◌&&◌, nat_le, if◌then◌else◌, Option, Some, None, Result, Ok, Err}
+use Rattle.byteorder.specs.Endian.{little_number}
+use Rattle.mips_exec.specs.declared.exception.Exc.{Exc}
+use Rattle.mips_exec.specs.declared.exception.ExcCode.{ExcCode}
+use Rattle.mips_exec.specs.declared.exception.ExcCode.TheVariants as code
+use Rattle.mips_exec.specs.Step.{Answers}
+use Rattle.world_model.specs.declared.page.Purpose.{Purpose}
+use Rattle.world_model.specs.declared.page.Purpose.TheVariants.{Fetch, Load, Store}
+
+-- where a page number leads: the bytes of the page, and whether they may be stored to
+pub record Mapped : Type 0 where
+  pub writable : Bool
+  pub bytes : List ℕ
+
+-- what an address outside user space raises
+abbrev pub address_error : Purpose → ExcCode
+address_error Fetch = code.Adel
+address_error Load = code.Adel
+address_error Store = code.Ades
+
+-- what a page number that leads nowhere raises
+abbrev pub miss : Purpose → ExcCode
+miss Fetch = code.Tlbl
+miss Load = code.Tlbl
+miss Store = code.Tlbs
+
+abbrev pub raised : ExcCode → ℕ → Exc
+raised c address = record { code = c; bad = address; unit = 0 }
+
+abbrev pub is_store : Purpose → Bool
+is_store Fetch = false
+is_store Load = false
+is_store Store = true
+
+-- a mapping serves an access, unless it is read-only and the access a store
+abbrev pub served : Purpose → ℕ → Option Mapped → Result Mapped Exc
+served purpose address None = Err (raised (miss purpose) address)
+served purpose address (Some m) = if is_store purpose && not m.writable then Err (raised code.Mod address) else Ok m
+
+-- where an access goes: user addresses lie below 0x80000000, and the page number is the address over 4,096
+abbrev pub reach : (ℕ → Option Mapped) → Purpose → ℕ → Result Mapped Exc
+reach look purpose address = if nat_le 0x80000000 address then Err (raised (address_error purpose) address) else served purpose address (look (address / 4096))
+
+-- the bytes of a page from an address on
+abbrev pub bytes_from : ℕ → Mapped → List ℕ
+bytes_from address m = drop (address % 4096) m.bytes
+
+-- what is answered where an access is served; an exception is handed on
+abbrev pub if_served : {A : Type 0} → (Mapped → A) → Result Mapped Exc → Result A Exc
+if_served f (Ok m) = Ok (f m)
+if_served f (Err exc) = Err exc
+
+-- what a load or a fetch is answered: the number in so many bytes, the lowest first
+abbrev pub read_answer : Purpose → (ℕ → Option Mapped) → ℕ → ℕ → Result ℕ Exc
+read_answer purpose look address width = if_served (λ m. little_number width (bytes_from address m)) (reach look purpose address)
+
+-- what the machine is answered where page numbers lead so
+abbrev pub answers_by : (ℕ → Option Mapped) → Answers
+answers_by look = record {
+  fetch = λ address. read_answer Fetch look address 4;
+  load = λ address width. read_answer Load look address width;
+  store = λ address width. if_served (λ m. tt) (reach look Store address);
+}
+
+-- a page after bytes were put at a place
+abbrev pub with_bytes : List ℕ → ℕ → List ℕ → List ℕ
+with_bytes page at new = take at page ++ new ++ drop (at + length new) page

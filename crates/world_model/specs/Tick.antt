@@ -1,0 +1,104 @@
+-- The tick: the turn, the runner's step with its call or death, and the timer.
+use Rattle.std.specs.Prelude.{ℕ, zero, suc, ◌+◌, ◌-◌, List, [], ◌∷◌, ◌++◌, Bool, true, false, ◌==◌, nat_le, if◌then◌else◌, Option, Some, None}
+use Rattle.kernel_journal.specs.declared.row.Row.{Row}
+use Rattle.kernel_journal.specs.declared.row.Row.TheVariants as row
+use Rattle.mips_exec.specs.Cpu.{reg}
+use Rattle.world_model.specs.declared.code.Code.{Code}
+use Rattle.world_model.specs.declared.code.Code.TheVariants as code
+use Rattle.world_model.specs.Book.{Book, Hold, Turn, next_turn, is_idle_book, is_owned_by, slot_after_death}
+use Rattle.world_model.specs.Solo.{Solo}
+use Rattle.world_model.specs.Step.{Act, Nothing, Calls, Dies, step_alone, act_of}
+use Rattle.world_model.specs.Call.{put_call, put_refusal}
+use Rattle.world_model.specs.Item.{Item, Step, Start, Answer}
+use Rattle.world_model.specs.World.{World, Reply, only, no_items, after, run_phases, phase_items}
+
+abbrev pub no_change : World → Reply
+no_change w = record { book = w.book; items = no_items; rows = [] }
+
+-- The turn: where nobody runs, the next holder starts with a full quantum.
+abbrev pub take_turn : World → Option Turn → Reply
+take_turn w None = no_change w
+take_turn w (Some t) = record {
+  book = record w.book { cursor = t.slot; runner = Some t.holder; left = w.book.quantum };
+  items = only t.holder (Start ∷ []);
+  rows = row.Run w.book.time t.slot t.holder ∷ [];
+}
+
+abbrev pub turn_when : World → Option ℕ → Reply
+turn_when w (Some e) = no_change w
+turn_when w None = take_turn w (next_turn w.book)
+
+abbrev pub turn : World → Reply
+turn w = turn_when w w.book.runner
+
+-- The answer of a kernel call changes nothing but the caller.
+abbrev pub answer : World → ℕ → Code → ℕ → Reply
+answer w e code value = record { book = w.book; items = only e (Answer code value ∷ []); rows = [] }
+
+-- put: bytes for the console, whose number is the value
+abbrev pub put_when : World → ℕ → Option Code → Reply
+put_when w e None = answer w e code.Ok (reg (w.solos e).cpu 5)
+put_when w e (Some refusal) = answer w e refusal 0
+
+abbrev pub put : World → ℕ → Reply
+put w e = put_when w e (put_refusal (w.solos e))
+
+-- the reply to a kernel call by its number
+abbrev pub reply_to : World → ℕ → ℕ → Reply
+reply_to w e number = if number == put_call then put w e else answer w e code.BadCall 0
+
+-- the rows of the slots below k that a death empties, by rising slot
+abbrev pub emptied_rows : ℕ → Book → ℕ → List Row
+emptied_rows e b zero = []
+emptied_rows e b (suc k) = emptied_rows e b k ++ (if is_owned_by e (b.slots k) then row.Own b.time k None None ∷ [] else [])
+
+-- the runner's death: its slots are empty, and the rest of its slice is dropped
+abbrev pub death : World → ℕ → Reply
+death w e = record {
+  book = record w.book { slots = λ k. slot_after_death e (w.book.slots k); runner = None };
+  items = no_items;
+  rows = row.Dead w.book.time w.book.cursor e ∷ emptied_rows e w.book w.book.slot_count;
+}
+
+abbrev pub act : World → ℕ → Act → Reply
+act w e Nothing = no_change w
+act w e (Calls number) = reply_to w e number
+act w e Dies = death w e
+
+-- the runner absorbs its step, and then what its act brings
+abbrev pub with_step : ℕ → Reply → Reply
+with_step e r = record r { items = λ i. only e (Step ∷ []) i ++ r.items i }
+
+abbrev pub step_when : World → Option ℕ → Reply
+step_when w None = no_change w
+step_when w (Some e) = with_step e (act w e (act_of (w.solos e).cpu (step_alone (w.solos e))))
+
+abbrev pub step : World → Reply
+step w = step_when w w.book.runner
+
+-- The timer: the ticks left of a runner's slice fall by one, and at none it is stopped. Time rises by one.
+abbrev pub count_down : World → ℕ → ℕ → Reply
+count_down w e zero = record {
+  book = record w.book { runner = None; left = 0; time = w.book.time + 1 };
+  items = no_items;
+  rows = row.Stop w.book.time w.book.cursor e ∷ [];
+}
+count_down w e (suc left) = record { book = record w.book { left = suc left; time = w.book.time + 1 }; items = no_items; rows = [] }
+
+abbrev pub timer_when : World → Option ℕ → Reply
+timer_when w None = record { book = record w.book { time = w.book.time + 1 }; items = no_items; rows = [] }
+timer_when w (Some e) = count_down w e (w.book.left - 1)
+
+abbrev pub timer : World → Reply
+timer w = timer_when w w.book.runner
+
+-- a tick in its order
+abbrev pub phases : List (World → Reply)
+phases = turn ∷ step ∷ timer ∷ []
+
+abbrev pub tick_step : World → World
+tick_step w = run_phases w phases
+
+-- what an environment is given in a tick
+abbrev pub tick_items : World → ℕ → List Item
+tick_items w e = phase_items w phases e

@@ -1,0 +1,39 @@
+-- The world: one book, a lonely machine for each environment, and the ledger.
+use Rattle.std.specs.Prelude.{ℕ, List, [], ◌∷◌, ◌++◌, ◌==◌, if◌then◌else◌}
+use Rattle.kernel_journal.specs.declared.row.Row.{Row}
+use Rattle.world_model.specs.Book.{Book, is_idle_book}
+use Rattle.world_model.specs.Solo.{Solo}
+use Rattle.world_model.specs.Item.{Item, absorb_all}
+
+-- environments are numbered below count; from there on each Solo is that of an absent environment
+pub record World : Type 0 where
+  pub book : Book
+  pub count : ℕ
+  pub solos : ℕ → Solo
+  pub rows : List Row
+
+-- what a phase of a tick gives: a new book, items for each environment, and rows of the ledger
+pub record Reply : Type 0 where
+  pub book : Book
+  pub items : ℕ → List Item
+  pub rows : List Row
+
+-- these items go to one environment alone
+abbrev pub only : ℕ → List Item → ℕ → List Item
+only e items i = if i == e then items else []
+
+abbrev pub no_items : ℕ → List Item
+no_items i = []
+
+-- the world once each environment has absorbed its items
+abbrev pub after : World → Reply → World
+after w r = record { book = r.book; count = w.count; solos = λ i. absorb_all (w.solos i) (r.items i); rows = w.rows ++ r.rows }
+
+abbrev pub run_phases : World → List (World → Reply) → World
+run_phases w [] = w
+run_phases w (phase ∷ phases) = run_phases (after w (phase w)) phases
+
+-- all that an environment is given in the phases, in order
+abbrev pub phase_items : World → List (World → Reply) → ℕ → List Item
+phase_items w [] e = []
+phase_items w (phase ∷ phases) e = (phase w).items e ++ phase_items (after w (phase w)) phases e

@@ -1,0 +1,39 @@
+ghost use Rattle.std.specs.Prelude.{◌≡◌};
+
+/// The answer code of a kernel call, which the caller finds in register 2 (`docs/KERNEL.md`).
+#[derive(Clone, Copy)]
+pub enum Code {
+    Ok,
+    NoPage,
+    Taken,
+    NoneFree,
+    NotOwner,
+    NoRight,
+    BadVpn,
+    Guaranteed,
+    NoEnv,
+    NotAccepted,
+    NoSlice,
+    SlotTaken,
+    NotHolder,
+    BadFilter,
+    Overlap,
+    NoFilter,
+    BadHandler,
+    LineTaken,
+    ConsoleFull,
+    Full,
+    BadCall,
+    BadPointer,
+}
+
+impl Code {
+    ghost use Rattle.world_model.specs.Code.{code_number};
+
+    /// Its number, 0 to 21.
+    pub fn number(self) -> u32
+        ensures { result ≡ code_number self }
+    {
+        self as u32
+    }
+}

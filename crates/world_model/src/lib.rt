@@ -1,0 +1,14 @@
+//! The model of Aegis: each environment as a lonely flat machine, one book of plain lists, and the
+//! items that join them. The definitions stand in `specs/`, a file for each idea (`docs/MODEL.md`).
+#![tactic(auto)]
+
+mod code;
+mod laws;
+mod life;
+mod page;
+
+pub use code::Code;
+pub use laws::law_fold;
+pub use life::Cause;
+pub use life::Life;
+pub use page::{KeptPage, Purpose};
