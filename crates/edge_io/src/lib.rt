@@ -12,6 +12,8 @@ mod memory_shelf;
 mod memory_sink;
 mod shelf;
 mod sink;
+#[cfg(test)]
+mod tests;
 mod whole;
 
 pub use host::{HostShelf, HostSink};
