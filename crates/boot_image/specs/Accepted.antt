@@ -1,5 +1,5 @@
 -- What holds of each image that has no fault.
-use Rattle.std.specs.Prelude.{◌≡◌, ◌≤◌, ◌<◌, ◌+◌, ◌%◌, ℕ, List, [], ◌∷◌, length, Option, Some, IsTrue, sum_by}
+use Rattle.std.specs.Prelude.{◌≡◌, ◌≤◌, ◌<◌, ◌+◌, ◌%◌, [], ◌∷◌, length, Some, IsTrue, sum_by}
 use Rattle.std.specs.List.{AllByRecursion}
 use Rattle.boot_image.specs.ImageValue.{ImageValue, ProgramValue, guaranteed_mappings}
 use Rattle.boot_image.specs.ImageFaults.{is_name}

@@ -1,5 +1,5 @@
 -- What an image's bytes mean.
-use Rattle.std.specs.Prelude.{ℕ, zero, suc, ◌+◌, ◌-◌, ◌/◌, ◌==◌, List, [], ◌∷◌, length, take, drop, map, Option, None, Some, if◌then◌else◌}
+use Rattle.std.specs.Prelude.{ℕ, zero, suc, ◌+◌, ◌/◌, ◌==◌, List, [], ◌∷◌, length, take, drop, map, Option, None, Some, if◌then◌else◌}
 use Rattle.std.specs.List.{before_first}
 use Rattle.boot_image.specs.Numbers.{half_at, word_at}
 

@@ -1,5 +1,5 @@
 -- What a reader's answer shows.
-use Rattle.std.specs.Prelude.{◌≡◌, ℕ, ◌+◌, List, map, Option, None, Some, Result, Ok, Err, length}
+use Rattle.std.specs.Prelude.{◌≡◌, map, Option, None, Some, Result, Ok, Err}
 use Rattle.boot_image.specs.declared.fault.ImageFault.{ImageFault}
 use Rattle.boot_image.specs.declared.image.Image.{Image}
 use Rattle.boot_image.specs.declared.image.Program.{Program}

@@ -1,7 +1,7 @@
 //! The header of an image and its slot bytes.
-ghost use Rattle.std.specs.Prelude.{◌≡◌, ◌+◌, ◌<◌, ◌≤◌, ◌^◌, IfOk, length, map};
+ghost use Rattle.std.specs.Prelude.{◌≡◌, ◌+◌, ◌<◌, ◌≤◌, ◌^◌, IfOk, OnOk, length, map};
 ghost use Rattle.boot_image.specs.ImageValue.{pages_in, quantum_in, environments_in, slots_in, owner_of, slot_bytes};
-ghost use Rattle.boot_image.specs.ImageFaults.{is_within, header_fault, slots_fault, owners_fault};
+ghost use Rattle.boot_image.specs.ImageFaults.{is_within, header_fault, slots_fault, slot_fault, owners_fault};
 ghost use Rattle.boot_image.specs.Seen.{Answers};
 ghost use Rattle.boot_image.specs.Parts.{header_of, header_seen};
 
@@ -14,7 +14,7 @@ const MAGIC: &[u8; 4] = b"AEG1";
 /// The bytes of the header, after which the slot bytes stand.
 pub(crate) const HEADER_SIZE: usize = 16;
 /// Where the header's numbers stand.
-const PAGES_AT: usize = 4;
+pub(crate) const PAGES_AT: usize = 4;
 
 const QUANTUM_AT: usize = 8;
 
@@ -25,6 +25,7 @@ const SLOTS_AT: usize = 14;
 const NOBODY: u8 = 255;
 
 /// The header's numbers, each within its limits.
+#[derive(Drop)]
 pub(crate) struct Header {
     pub(crate) pages: u32,
     pub(crate) quantum: u32,
@@ -42,7 +43,9 @@ fn is_within(least: u32, most: u32, number: u32) -> bool
 #[tactic(auto, unfolding(crate::specs::ImageFaults::header_fault))]
 pub(crate) fn read_header(file: &[u8]) -> Result<Header, ImageFault>
     requires { length file.now < 2 ^ 27 }
-    ensures { Answers header_seen result (header_fault file.now) (header_of file.now) }
+    ensures answer { Answers header_seen result (header_fault file.now) (header_of file.now) }
+    ensures whole { OnOk result (16 ≤ length file.now) }
+    ensures limits { IfOk result (λ header. (header.environments ≤ 16) × (header.slots ≤ 64)) }
 {
     if file.len() < HEADER_SIZE {
         return Err(ImageFault::at(ImageWhy::Short, file.len()));
@@ -78,4 +81,51 @@ pub(crate) fn read_header(file: &[u8]) -> Result<Header, ImageFault>
         environments,
         slots,
     })
+}
+
+/// The owner of each slot of a file with this header.
+#[tactic(auto, unfolding(crate::specs::ImageFaults::slots_fault))]
+pub(crate) fn read_slots(
+    file: &[u8],
+    header: &Header,
+) -> Result<ArrayVec<Option<u8>, 64>, ImageFault>
+    requires small { length file.now < 2 ^ 27 }
+    requires long { 16 ≤ length file.now }
+    requires environments { header.now.environments ≡ environments_in file.now }
+    requires slots { header.now.slots ≡ slots_in file.now }
+    requires room { header.now.slots ≤ 64 }
+    ensures answer { Answers (λ slots. slots.items) result (slots_fault file.now) (map owner_of (slot_bytes file.now)) }
+    ensures long { IfOk result (λ slots. 16 + slots_in file.now ≤ length file.now) }
+{
+    let end = HEADER_SIZE + header.slots as usize;
+    if file.len() < end {
+        return Err(ImageFault::at(ImageWhy::Short, file.len()));
+    }
+    read_owners(&file[HEADER_SIZE..end], header.environments)
+}
+
+/// The owners that these slot bytes name, the first of which stands after the header.
+fn read_owners(bytes: &[u8], environments: u16) -> Result<ArrayVec<Option<u8>, 64>, ImageFault>
+    requires { length bytes.now ≤ 64 }
+    ensures { Answers (λ slots. slots.items) result (owners_fault environments 16 bytes.now) (map owner_of bytes.now) }
+{
+    let mut owners = ArrayVec::new();
+    for (i, byte) in bytes.iter().enumerate() {
+        owners.push(read_owner(*byte, environments, HEADER_SIZE + i)?);
+    }
+    Ok(owners)
+}
+
+/// The owner that the slot byte at `place` names.
+fn read_owner(byte: u8, environments: u16, place: usize) -> Result<Option<u8>, ImageFault>
+    requires { place < 2 ^ 32 }
+    ensures { Answers (λ owner. owner) result (slot_fault environments place byte) (owner_of byte) }
+{
+    if byte != NOBODY && u16::from(byte) >= environments {
+        return Err(ImageFault::at(ImageWhy::SlotOwner, place));
+    }
+    if byte == NOBODY {
+        return Err(ImageFault::at(ImageWhy::NotBuilt, place));
+    }
+    Ok(Some(byte))
 }

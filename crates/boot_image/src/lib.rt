@@ -9,9 +9,14 @@
 mod fault;
 mod header;
 mod image;
+mod law;
 mod numbers;
+mod program;
+mod reading;
 mod schedule;
 
 pub use fault::{ImageFault, ImageWhy, TextFault, TextWhy};
 pub use image::{Image, Program};
+pub use law::law_accepted;
+pub use reading::read_image;
 pub use schedule::check_schedule;

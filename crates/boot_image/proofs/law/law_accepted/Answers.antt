@@ -1,0 +1,5 @@
+use Rattle.boot_image.proofs.Acceptance.{accepted}
+use Rattle.boot_image.proofs.law.law_accepted.Goals as goal
+
+pub returns : goal.returns
+returns c = accepted
