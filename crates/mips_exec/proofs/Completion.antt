@@ -7,13 +7,13 @@ use Rattle.mips_isa.specs.declared.insn.Insn.TheVariants.{Lb, Lh, Lwl, Lw, Lbu, 
 use Rattle.mips_exec.specs.declared.registers.Cpu.{Cpu}
 use Rattle.mips_exec.specs.declared.reach.Access.{Access}
 use Rattle.mips_exec.specs.Access.{access, write_of, Write}
-use Rattle.mips_exec.specs.Effect.{effect, Execution, Completes, Calls, Raises}
+use Rattle.mips_exec.specs.Effect.{effect, Change, Calls, Raises}
 use Rattle.mips_exec.specs.Step.{Answers, answered, ended, step_of, view_of, write_after, Wrote}
 
-abbrev completes : Execution → Bool
-completes (Completes new) = true
+abbrev completes : Change → Bool
 completes Calls = false
 completes (Raises exc) = false
+completes _ = true
 
 completes-effect : (i : Insn) (c : Cpu) (x : ℕ) (a : Access) → access i c ≡ Some a → completes (effect i c x) ≡ true
 unfolding access effect
@@ -31,14 +31,14 @@ completes-effect (Sw rt imm rs) c x a e = refl
 completes-effect (Swr rt imm rs) c x a e = refl
 completes-effect _ c x a e = cc
 
-write_after-completed : (e : Execution) (w : Option Write) → completes e ≡ true → write_after (ended e w) ≡ w
-write_after-completed (Completes new) w h = refl
-write_after-completed Calls w h = cc
-write_after-completed (Raises exc) w h = cc
+write_after-completed : (c : Cpu) (e : Change) (w : Option Write) → completes e ≡ true → write_after (ended c e w) ≡ w
+write_after-completed c Calls w h = cc
+write_after-completed c (Raises exc) w h = cc
+write_after-completed c _ w h = refl
 
 -- what it writes, it writes
-pub write_after-ended : (i : Insn) (c : Cpu) (x : ℕ) (a : Access) → access i c ≡ Some a → write_after (ended (effect i c x) (write_of a)) ≡ write_of a
-write_after-ended i c x a e = write_after-completed (effect i c x) (write_of a) (completes-effect i c x a e)
+pub write_after-ended : (i : Insn) (c : Cpu) (x : ℕ) (a : Access) → access i c ≡ Some a → write_after (ended c (effect i c x) (write_of a)) ≡ write_of a
+write_after-ended i c x a e = write_after-completed c (effect i c x) (write_of a) (completes-effect i c x a e)
 
 -- what was written since a state was also written since an earlier one after which nothing was stored
 pub Wrote-since : {S : Type 0} (Kept : S → S → Type 0) (Stored : S → ℕ → List ℕ → S → Type 0) (a b c : S) (w : Option Write)
@@ -51,7 +51,7 @@ Wrote-since Kept Stored a b c (Some write) trans on kept h = on a b c write.addr
 -- a step whose load or store is answered
 pub step_of-accessed : (answers : Answers) (c : Cpu) (word : ℕ) (a : Access) (x : ℕ)
     → c.pc % 4 ≡ 0 → answers.fetch c.pc ≡ Ok word → access (insn_of word) c ≡ Some a → answered answers a ≡ Ok x
-    → step_of c (view_of answers c) ≡ ended (effect (insn_of word) c x) (write_of a)
+    → step_of c (view_of answers c) ≡ ended c (effect (insn_of word) c x) (write_of a)
 step_of-accessed answers c word a x on_word at_pc named gave = grind arith
 
 -- it writes what the access writes
