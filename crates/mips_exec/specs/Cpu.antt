@@ -25,10 +25,9 @@ advanced cpu = record cpu { pc = cpu.next; next = word_of (cpu.next + 4); slot =
 abbrev pub jumped : Cpu → ℕ → Cpu
 jumped cpu target = record cpu { pc = cpu.next; next = word_of target; slot = true }
 
--- on to the delay slot, and from there to pc + 4 + 4 * imm where the branch is taken, with the sign of imm
-abbrev pub branched : Cpu → Bool → ℕ → Cpu
-branched cpu taken imm =
-    jumped cpu (if taken then cpu.pc + 4 + 4 * sign16_of imm else cpu.next + 4)
+-- after a branch's delay slot: pc + 4 + 4 * imm, with the sign of imm, where the branch is taken
+abbrev pub branch_target : Cpu → Bool → ℕ → ℕ
+branch_target cpu taken imm = if taken then cpu.pc + 4 + 4 * sign16_of imm else cpu.next + 4
 
 -- the address that a jump's 26 bits name in the 2^28 bytes of the delay slot
 abbrev pub jump_target : Cpu → ℕ → ℕ

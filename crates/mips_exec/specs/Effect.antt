@@ -8,127 +8,116 @@ use Rattle.mips_isa.specs.Word.{sign16_of, merged_left, merged_right}
 use Rattle.mips_exec.specs.declared.registers.Cpu.{Cpu}
 use Rattle.mips_exec.specs.declared.exception.Exc.{Exc}
 use Rattle.mips_exec.specs.declared.exception.ExcCode.TheVariants.{Sys, Bp, Ri, Ov}
-use Rattle.mips_exec.specs.declared.exception.Outcome.{Outcome}
-use Rattle.mips_exec.specs.declared.exception.Outcome.TheVariants as outcomes
 use Rattle.mips_exec.specs.Word.{signed, fits_signed, is_negative, shifted_with_sign, sign_extended, flag}
-use Rattle.mips_exec.specs.Cpu.{reg, with_reg, with_hi_lo, advanced, jumped, branched, jump_target, address_of}
+use Rattle.mips_exec.specs.Cpu.{reg, with_reg, with_hi_lo, advanced, jumped, branch_target, jump_target, address_of}
 use Rattle.mips_exec.specs.Exception.{plain, unusable}
 
--- how an instruction ends: with these registers, as a call of the kernel, or in an exception
-pub data Execution : Type 0 where
-  Completes : Cpu → Execution
-  Calls : Execution
-  Raises : Exc → Execution
+-- What an instruction does.
+pub data Change : Type 0 where
+  -- register n takes the value, and the program goes on
+  Puts : ℕ → ℕ → Change
+  -- HI and LO take the values, and it goes on
+  PutsHiLo : ℕ → ℕ → Change
+  -- it goes on
+  Passes : Change
+  -- it goes on to the delay slot, and from there to the target
+  Jumps : ℕ → Change
+  -- the same, and register n takes the address after the delay slot
+  JumpsAndLinks : ℕ → ℕ → Change
+  -- the kernel is called
+  Calls : Change
+  -- an exception stops the program
+  Raises : Exc → Change
 
--- register n takes the value, and the program moves on
-abbrev pub computes : Cpu → ℕ → ℕ → Execution
-computes cpu n value = Completes (advanced (with_reg cpu n value))
-
--- the same for HI and LO
-abbrev pub computes_hi_lo : Cpu → ℕ → ℕ → Execution
-computes_hi_lo cpu high low = Completes (advanced (with_hi_lo cpu high low))
+-- the registers that it leaves: a call and an exception leave them as they are
+abbrev pub changed : Cpu → Change → Cpu
+changed cpu (Puts n value) = advanced (with_reg cpu n value)
+changed cpu (PutsHiLo high low) = advanced (with_hi_lo cpu high low)
+changed cpu Passes = advanced cpu
+changed cpu (Jumps target) = jumped cpu target
+changed cpu (JumpsAndLinks n target) = with_reg (jumped cpu target) n (cpu.pc + 8)
+changed cpu Calls = cpu
+changed cpu (Raises exc) = cpu
 
 -- the signed sum or difference z, if it fits
-abbrev pub computes_fitting : Cpu → ℕ → ℤ → Execution
-computes_fitting cpu n z =
-    if fits_signed z then computes cpu n (cast_unsigned w32 z) else Raises (plain Ov)
+abbrev pub puts_fitting : ℕ → ℤ → Change
+puts_fitting n z = if fits_signed z then Puts n (cast_unsigned w32 z) else Raises (plain Ov)
 
 -- HI and LO take the two words of 64 bits
-abbrev pub multiplies : Cpu → ℕ → Execution
-multiplies cpu product = computes_hi_lo cpu (product / 2 ^ 32) product
+abbrev pub puts_product : ℕ → Change
+puts_product product = PutsHiLo (product / 2 ^ 32) product
 
 -- LO takes the quotient toward 0, and HI the remainder with the dividend's sign
-abbrev pub divides_signed : Cpu → ℕ → ℕ → Execution
-divides_signed cpu a b =
-    if b == 0 then computes_hi_lo cpu a (2 ^ 32 - 1)
-    else computes_hi_lo cpu (cast_unsigned w32 (int_rem (signed a) (signed b)))
+abbrev pub divides_signed : ℕ → ℕ → Change
+divides_signed a b =
+    if b == 0 then PutsHiLo a (2 ^ 32 - 1)
+    else PutsHiLo (cast_unsigned w32 (int_rem (signed a) (signed b)))
     (cast_unsigned w32 (int_div (signed a) (signed b)))
 
 -- the same of words without sign
-abbrev pub divides : Cpu → ℕ → ℕ → Execution
-divides cpu a b =
-    if b == 0 then computes_hi_lo cpu a (2 ^ 32 - 1) else computes_hi_lo cpu (a % b) (a / b)
-
--- a branch, taken where the test holds
-abbrev pub branches : Cpu → Bool → ℕ → Execution
-branches cpu taken imm = Completes (branched cpu taken imm)
-
--- `$31` takes the address after the delay slot, whether the branch is taken or not
-abbrev pub branches_and_links : Cpu → Bool → ℕ → Execution
-branches_and_links cpu taken imm = Completes (with_reg (branched cpu taken imm) 31 (cpu.pc + 8))
-
--- the registers that the instruction leaves
-abbrev pub registers_after : Cpu → Execution → Cpu
-registers_after cpu (Completes new) = new
-registers_after cpu Calls = cpu
-registers_after cpu (Raises exc) = cpu
-
--- how it is reported
-abbrev pub report_of : Execution → Outcome
-report_of (Completes new) = outcomes.Retired
-report_of Calls = outcomes.Call
-report_of (Raises exc) = outcomes.Trap exc
+abbrev pub divides : ℕ → ℕ → Change
+divides a b = if b == 0 then PutsHiLo a (2 ^ 32 - 1) else PutsHiLo (a % b) (a / b)
 
 -- What the instruction does, where `x` is what its load was answered.
-unfoldable pub effect : Insn → Cpu → ℕ → Execution
-effect (Sll rd rt sh) c x = computes c rd (reg c rt * 2 ^ (sh % 32))
-effect (Srl rd rt sh) c x = computes c rd (reg c rt / 2 ^ (sh % 32))
-effect (Sra rd rt sh) c x = computes c rd (shifted_with_sign (reg c rt) (sh % 32))
-effect (Sllv rd rt rs) c x = computes c rd (reg c rt * 2 ^ (reg c rs % 32))
-effect (Srlv rd rt rs) c x = computes c rd (reg c rt / 2 ^ (reg c rs % 32))
-effect (Srav rd rt rs) c x = computes c rd (shifted_with_sign (reg c rt) (reg c rs % 32))
-effect (Jr rs) c x = Completes (jumped c (reg c rs))
-effect (Jalr rd rs) c x = Completes (with_reg (jumped c (reg c rs)) rd (c.pc + 8))
+unfoldable pub effect : Insn → Cpu → ℕ → Change
+effect (Sll rd rt sh) c x = Puts rd (reg c rt * 2 ^ (sh % 32))
+effect (Srl rd rt sh) c x = Puts rd (reg c rt / 2 ^ (sh % 32))
+effect (Sra rd rt sh) c x = Puts rd (shifted_with_sign (reg c rt) (sh % 32))
+effect (Sllv rd rt rs) c x = Puts rd (reg c rt * 2 ^ (reg c rs % 32))
+effect (Srlv rd rt rs) c x = Puts rd (reg c rt / 2 ^ (reg c rs % 32))
+effect (Srav rd rt rs) c x = Puts rd (shifted_with_sign (reg c rt) (reg c rs % 32))
+effect (Jr rs) c x = Jumps (reg c rs)
+effect (Jalr rd rs) c x = JumpsAndLinks rd (reg c rs)
 effect (Syscall code) c x = if c.slot then Raises (plain Sys) else Calls
 effect (Break code) c x = Raises (plain Bp)
-effect (Mfhi rd) c x = computes c rd c.hi
-effect (Mthi rs) c x = computes_hi_lo c (reg c rs) c.lo
-effect (Mflo rd) c x = computes c rd c.lo
-effect (Mtlo rs) c x = computes_hi_lo c c.hi (reg c rs)
-effect (Mult rs rt) c x = multiplies c (cast_unsigned w64 (signed (reg c rs) *ℤ signed (reg c rt)))
-effect (Multu rs rt) c x = multiplies c (reg c rs * reg c rt)
-effect (Div rs rt) c x = divides_signed c (reg c rs) (reg c rt)
-effect (Divu rs rt) c x = divides c (reg c rs) (reg c rt)
-effect (Add rd rs rt) c x = computes_fitting c rd (signed (reg c rs) +ℤ signed (reg c rt))
-effect (Addu rd rs rt) c x = computes c rd (reg c rs + reg c rt)
-effect (Sub rd rs rt) c x = computes_fitting c rd (signed (reg c rs) -ℤ signed (reg c rt))
-effect (Subu rd rs rt) c x = computes c rd (reg c rs + (2 ^ 32 - reg c rt))
-effect (And rd rs rt) c x = computes c rd (bit_and (reg c rs) (reg c rt))
-effect (Or rd rs rt) c x = computes c rd (bit_or (reg c rs) (reg c rt))
-effect (Xor rd rs rt) c x = computes c rd (bit_xor (reg c rs) (reg c rt))
-effect (Nor rd rs rt) c x = computes c rd (2 ^ 32 - 1 - bit_or (reg c rs) (reg c rt))
-effect (Slt rd rs rt) c x = computes c rd (flag (int_lt (signed (reg c rs)) (signed (reg c rt))))
-effect (Sltu rd rs rt) c x = computes c rd (flag (nat_lt (reg c rs) (reg c rt)))
-effect (Bltz rs imm) c x = branches c (is_negative (reg c rs)) imm
-effect (Bgez rs imm) c x = branches c (not (is_negative (reg c rs))) imm
-effect (Bltzal rs imm) c x = branches_and_links c (is_negative (reg c rs)) imm
-effect (Bgezal rs imm) c x = branches_and_links c (not (is_negative (reg c rs))) imm
-effect (J target) c x = Completes (jumped c (jump_target c target))
-effect (Jal target) c x = Completes (with_reg (jumped c (jump_target c target)) 31 (c.pc + 8))
-effect (Beq rs rt imm) c x = branches c (reg c rs == reg c rt) imm
-effect (Bne rs rt imm) c x = branches c (not (reg c rs == reg c rt)) imm
-effect (Blez rs imm) c x = branches c (is_negative (reg c rs) || reg c rs == 0) imm
-effect (Bgtz rs imm) c x = branches c (not (is_negative (reg c rs) || reg c rs == 0)) imm
-effect (Addi rt rs imm) c x = computes_fitting c rt (signed (reg c rs) +ℤ signed (sign16_of imm))
-effect (Addiu rt rs imm) c x = computes c rt (reg c rs + sign16_of imm)
-effect (Slti rt rs imm) c x = computes c rt (flag (int_lt (signed (reg c rs)) (signed (sign16_of imm))))
-effect (Sltiu rt rs imm) c x = computes c rt (flag (nat_lt (reg c rs) (sign16_of imm)))
-effect (Andi rt rs imm) c x = computes c rt (bit_and (reg c rs) imm)
-effect (Ori rt rs imm) c x = computes c rt (bit_or (reg c rs) imm)
-effect (Xori rt rs imm) c x = computes c rt (bit_xor (reg c rs) imm)
-effect (Lui rt imm) c x = computes c rt (imm * 2 ^ 16)
-effect (Lb rt imm rs) c x = computes c rt (sign_extended 8 x)
-effect (Lh rt imm rs) c x = computes c rt (sign_extended 16 x)
-effect (Lwl rt imm rs) c x = computes c rt (merged_left x (reg c rt) (address_of c rs imm % 4))
-effect (Lw rt imm rs) c x = computes c rt x
-effect (Lbu rt imm rs) c x = computes c rt x
-effect (Lhu rt imm rs) c x = computes c rt x
-effect (Lwr rt imm rs) c x = computes c rt (merged_right x (reg c rt) (address_of c rs imm % 4))
-effect (Sb rt imm rs) c x = Completes (advanced c)
-effect (Sh rt imm rs) c x = Completes (advanced c)
-effect (Swl rt imm rs) c x = Completes (advanced c)
-effect (Sw rt imm rs) c x = Completes (advanced c)
-effect (Swr rt imm rs) c x = Completes (advanced c)
+effect (Mfhi rd) c x = Puts rd c.hi
+effect (Mthi rs) c x = PutsHiLo (reg c rs) c.lo
+effect (Mflo rd) c x = Puts rd c.lo
+effect (Mtlo rs) c x = PutsHiLo c.hi (reg c rs)
+effect (Mult rs rt) c x = puts_product (cast_unsigned w64 (signed (reg c rs) *ℤ signed (reg c rt)))
+effect (Multu rs rt) c x = puts_product (reg c rs * reg c rt)
+effect (Div rs rt) c x = divides_signed (reg c rs) (reg c rt)
+effect (Divu rs rt) c x = divides (reg c rs) (reg c rt)
+effect (Add rd rs rt) c x = puts_fitting rd (signed (reg c rs) +ℤ signed (reg c rt))
+effect (Addu rd rs rt) c x = Puts rd (reg c rs + reg c rt)
+effect (Sub rd rs rt) c x = puts_fitting rd (signed (reg c rs) -ℤ signed (reg c rt))
+effect (Subu rd rs rt) c x = Puts rd (reg c rs + (2 ^ 32 - reg c rt))
+effect (And rd rs rt) c x = Puts rd (bit_and (reg c rs) (reg c rt))
+effect (Or rd rs rt) c x = Puts rd (bit_or (reg c rs) (reg c rt))
+effect (Xor rd rs rt) c x = Puts rd (bit_xor (reg c rs) (reg c rt))
+effect (Nor rd rs rt) c x = Puts rd (2 ^ 32 - 1 - bit_or (reg c rs) (reg c rt))
+effect (Slt rd rs rt) c x = Puts rd (flag (int_lt (signed (reg c rs)) (signed (reg c rt))))
+effect (Sltu rd rs rt) c x = Puts rd (flag (nat_lt (reg c rs) (reg c rt)))
+effect (Bltz rs imm) c x = Jumps (branch_target c (is_negative (reg c rs)) imm)
+effect (Bgez rs imm) c x = Jumps (branch_target c (not (is_negative (reg c rs))) imm)
+effect (Bltzal rs imm) c x = JumpsAndLinks 31 (branch_target c (is_negative (reg c rs)) imm)
+effect (Bgezal rs imm) c x = JumpsAndLinks 31 (branch_target c (not (is_negative (reg c rs))) imm)
+effect (J target) c x = Jumps (jump_target c target)
+effect (Jal target) c x = JumpsAndLinks 31 (jump_target c target)
+effect (Beq rs rt imm) c x = Jumps (branch_target c (reg c rs == reg c rt) imm)
+effect (Bne rs rt imm) c x = Jumps (branch_target c (not (reg c rs == reg c rt)) imm)
+effect (Blez rs imm) c x = Jumps (branch_target c (is_negative (reg c rs) || reg c rs == 0) imm)
+effect (Bgtz rs imm) c x = Jumps (branch_target c (not (is_negative (reg c rs) || reg c rs == 0)) imm)
+effect (Addi rt rs imm) c x = puts_fitting rt (signed (reg c rs) +ℤ signed (sign16_of imm))
+effect (Addiu rt rs imm) c x = Puts rt (reg c rs + sign16_of imm)
+effect (Slti rt rs imm) c x = Puts rt (flag (int_lt (signed (reg c rs)) (signed (sign16_of imm))))
+effect (Sltiu rt rs imm) c x = Puts rt (flag (nat_lt (reg c rs) (sign16_of imm)))
+effect (Andi rt rs imm) c x = Puts rt (bit_and (reg c rs) imm)
+effect (Ori rt rs imm) c x = Puts rt (bit_or (reg c rs) imm)
+effect (Xori rt rs imm) c x = Puts rt (bit_xor (reg c rs) imm)
+effect (Lui rt imm) c x = Puts rt (imm * 2 ^ 16)
+effect (Lb rt imm rs) c x = Puts rt (sign_extended 8 x)
+effect (Lh rt imm rs) c x = Puts rt (sign_extended 16 x)
+effect (Lwl rt imm rs) c x = Puts rt (merged_left x (reg c rt) (address_of c rs imm % 4))
+effect (Lw rt imm rs) c x = Puts rt x
+effect (Lbu rt imm rs) c x = Puts rt x
+effect (Lhu rt imm rs) c x = Puts rt x
+effect (Lwr rt imm rs) c x = Puts rt (merged_right x (reg c rt) (address_of c rs imm % 4))
+effect (Sb rt imm rs) c x = Passes
+effect (Sh rt imm rs) c x = Passes
+effect (Swl rt imm rs) c x = Passes
+effect (Sw rt imm rs) c x = Passes
+effect (Swr rt imm rs) c x = Passes
 effect (Mfc0 rt rd) c x = Raises (unusable 0)
 effect (Mtc0 rt rd) c x = Raises (unusable 0)
 effect Tlbr c x = Raises (unusable 0)

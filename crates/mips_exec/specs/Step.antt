@@ -12,7 +12,7 @@ use Rattle.mips_exec.specs.declared.exception.Outcome.{Outcome}
 use Rattle.mips_exec.specs.declared.exception.Outcome.TheVariants as outcomes
 use Rattle.mips_exec.specs.Exception.{plain, at_address}
 use Rattle.mips_exec.specs.Access.{access, Write, write_of, place_of, is_aligned}
-use Rattle.mips_exec.specs.Effect.{Execution, Completes, Calls, Raises, effect}
+use Rattle.mips_exec.specs.Effect.{Change, Calls, Raises, changed, effect}
 
 -- ---- what is asked of memory, and its answers
 
@@ -66,11 +66,11 @@ pub data Step : Type 0 where
   Called : Step
   Trapped : Exc → Step
 
--- an instruction that writes this, if it completes
-abbrev pub ended : Execution → Option Write → Step
-ended (Completes cpu) write = Retired cpu write
-ended Calls write = Called
-ended (Raises exc) write = Trapped exc
+-- an instruction that does this, and writes this where it retires
+abbrev pub ended : Cpu → Change → Option Write → Step
+ended cpu Calls write = Called
+ended cpu (Raises exc) write = Trapped exc
+ended cpu change write = Retired (changed cpu change) write
 
 -- the address that the instruction names
 abbrev pub named_by : Access → ℕ
@@ -79,11 +79,11 @@ named_by (Store spot value) = spot.address
 
 -- the instruction, after its load or store was answered: a refused one traps with the address it names
 abbrev pub accessed : Insn → Cpu → Access → Result ℕ Exc → Step
-accessed insn cpu a (Ok x) = ended (effect insn cpu x) (write_of a)
+accessed insn cpu a (Ok x) = ended cpu (effect insn cpu x) (write_of a)
 accessed insn cpu a (Err exc) = Trapped (at_address exc (named_by a))
 
 abbrev pub executed : Insn → Cpu → Option Access → Result ℕ Exc → Step
-executed insn cpu None answer = ended (effect insn cpu 0) None
+executed insn cpu None answer = ended cpu (effect insn cpu 0) None
 executed insn cpu (Some a) answer = accessed insn cpu a answer
 
 -- the fetched word: a refused fetch traps with pc
@@ -108,6 +108,12 @@ abbrev pub outcome_of : Step → Outcome
 outcome_of (Retired new write) = outcomes.Retired
 outcome_of Called = outcomes.Call
 outcome_of (Trapped exc) = outcomes.Trap exc
+
+-- the same of an instruction
+abbrev pub report_of : Change → Outcome
+report_of Calls = outcomes.Call
+report_of (Raises exc) = outcomes.Trap exc
+report_of change = outcomes.Retired
 
 -- what an access wrote that was answered so
 abbrev pub write_if : Access → Result ℕ Exc → Option Write

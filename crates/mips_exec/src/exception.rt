@@ -70,21 +70,32 @@ impl Exc {
     pub(crate) fn plain(code: ExcCode) -> Self
         ensures { result ≡ plain code }
     {
-        Exc { code, bad: 0, unit: 0 }
+        Exc {
+            code,
+            bad: 0,
+            unit: 0,
+        }
     }
 
     /// A coprocessor that may not be used.
     pub(crate) fn unusable(unit: u8) -> Self
         ensures { result ≡ unusable unit }
     {
-        Exc { code: ExcCode::Cpu, bad: 0, unit }
+        Exc {
+            code: ExcCode::Cpu,
+            bad: 0,
+            unit,
+        }
     }
 
     /// The same exception at an address.
     pub(crate) fn at(self, address: u32) -> Self
         ensures { result ≡ at_address self address }
     {
-        Exc { bad: address, ..self }
+        Exc {
+            bad: address,
+            ..self
+        }
     }
 }
 

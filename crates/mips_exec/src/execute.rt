@@ -1,12 +1,13 @@
 ghost use Rattle.std.specs.Prelude.{◌≡◌, ◌+◌, ◌<◌, ◌+ℤ◌, ◌-ℤ◌, ◌*ℤ◌, not, ◌||◌, ◌==◌};
 ghost use Rattle.std.specs.Int.{cast_unsigned, w64};
 ghost use Rattle.mips_exec.specs.Word.{is_negative, shifted_with_sign, sign_extended, signed, word_of};
-ghost use Rattle.mips_exec.specs.Cpu.{advanced, branched, jump_target, jumped, with_hi_lo, with_reg};
-ghost use Rattle.mips_exec.specs.Effect.{branches, branches_and_links, computes, computes_fitting, computes_hi_lo, divides, divides_signed, effect, multiplies, registers_after, report_of};
+ghost use Rattle.mips_exec.specs.Cpu.{branch_target, jump_target};
+ghost use Rattle.mips_exec.specs.Effect.{changed, divides, divides_signed, effect, puts_fitting, puts_product, Jumps, JumpsAndLinks, Passes, Puts, PutsHiLo};
+ghost use Rattle.mips_exec.specs.Step.{report_of};
 
 use crate::exception::{Exc, ExcCode, Outcome};
 use crate::registers::Cpu;
-use mips_isa::{merge_left, merge_right, sign16, Insn};
+use mips_isa::{Insn, merge_left, merge_right, sign16};
 
 /// The register that calls link through.
 const RETURN_ADDRESS: u8 = 31;
@@ -33,21 +34,33 @@ fn shift_with_sign(word: u32, by: u32) -> u32
     requires { by < 32 }
     ensures { result ≡ shifted_with_sign word by }
 {
-    if is_negative(word) { !(!word >> by) } else { word >> by }
+    if is_negative(word) {
+        !(!word >> by)
+    } else {
+        word >> by
+    }
 }
 
 /// A byte with copies of its sign up to bit 31.
 fn extend_byte(byte: u32) -> u32
     ensures { result ≡ word_of (sign_extended 8 byte) }
 {
-    if byte < 0x80 { byte } else { byte.wrapping_add(0xffff_ff00) }
+    if byte < 0x80 {
+        byte
+    } else {
+        byte.wrapping_add(0xffff_ff00)
+    }
 }
 
 /// A half word with copies of its sign up to bit 31.
 fn extend_half(half: u32) -> u32
     ensures { result ≡ word_of (sign_extended 16 half) }
 {
-    if half < 0x8000 { half } else { half.wrapping_add(0xffff_0000) }
+    if half < 0x8000 {
+        half
+    } else {
+        half.wrapping_add(0xffff_0000)
+    }
 }
 
 /// The 64 bits of the signed product.
@@ -60,7 +73,7 @@ fn signed_product(a: u32, b: u32) -> u64
 impl Cpu {
     /// Goes on to the next instruction.
     fn advance(&mut self) -> Outcome
-        ensures cpu { self.new ≡ advanced self.old }
+        ensures cpu { self.new ≡ changed self.old Passes }
         ensures outcome { result ≡ Outcome.Retired }
     {
         self.pc = self.next;
@@ -71,7 +84,7 @@ impl Cpu {
 
     /// Goes on to the delay slot, and from there to the target.
     fn jump(&mut self, target: u32) -> Outcome
-        ensures cpu { self.new ≡ jumped self.old target }
+        ensures cpu { self.new ≡ changed self.old (Jumps target) }
         ensures outcome { result ≡ Outcome.Retired }
     {
         self.pc = self.next;
@@ -82,7 +95,7 @@ impl Cpu {
 
     /// Register `n` takes the value.
     fn compute(&mut self, n: u8, value: u32) -> Outcome
-        ensures cpu { self.new ≡ advanced (with_reg self.old n value) }
+        ensures cpu { self.new ≡ changed self.old (Puts n value) }
         ensures outcome { result ≡ Outcome.Retired }
     {
         self.set_reg(n, value);
@@ -91,7 +104,7 @@ impl Cpu {
 
     /// HI and LO take the values.
     fn compute_hi_lo(&mut self, high: u32, low: u32) -> Outcome
-        ensures cpu { self.new ≡ advanced (with_hi_lo self.old high low) }
+        ensures cpu { self.new ≡ changed self.old (PutsHiLo high low) }
         ensures outcome { result ≡ Outcome.Retired }
     {
         self.hi = high;
@@ -101,8 +114,8 @@ impl Cpu {
 
     /// Register `n` takes the signed sum, if it fits.
     fn add(&mut self, n: u8, a: u32, b: u32) -> Outcome
-        ensures cpu { self.new ≡ registers_after self.old (computes_fitting self.old n (signed a +ℤ signed b)) }
-        ensures outcome { result ≡ report_of (computes_fitting self.old n (signed a +ℤ signed b)) }
+        ensures cpu { self.new ≡ changed self.old (puts_fitting n (signed a +ℤ signed b)) }
+        ensures outcome { result ≡ report_of (puts_fitting n (signed a +ℤ signed b)) }
     {
         match a.cast_signed().checked_add(b.cast_signed()) {
             Some(sum) => self.compute(n, sum.cast_unsigned()),
@@ -112,8 +125,8 @@ impl Cpu {
 
     /// Register `n` takes the signed difference, if it fits.
     fn subtract(&mut self, n: u8, a: u32, b: u32) -> Outcome
-        ensures cpu { self.new ≡ registers_after self.old (computes_fitting self.old n (signed a -ℤ signed b)) }
-        ensures outcome { result ≡ report_of (computes_fitting self.old n (signed a -ℤ signed b)) }
+        ensures cpu { self.new ≡ changed self.old (puts_fitting n (signed a -ℤ signed b)) }
+        ensures outcome { result ≡ report_of (puts_fitting n (signed a -ℤ signed b)) }
     {
         match a.cast_signed().checked_sub(b.cast_signed()) {
             Some(difference) => self.compute(n, difference.cast_unsigned()),
@@ -123,7 +136,7 @@ impl Cpu {
 
     /// HI and LO take the two words of the product.
     fn multiply(&mut self, product: u64) -> Outcome
-        ensures cpu { self.new ≡ registers_after self.old (multiplies self.old product) }
+        ensures cpu { self.new ≡ changed self.old (puts_product product) }
         ensures outcome { result ≡ Outcome.Retired }
     {
         self.compute_hi_lo((product >> 32) as u32, (product & 0xffff_ffff) as u32)
@@ -131,8 +144,8 @@ impl Cpu {
 
     /// LO takes the signed quotient and HI the remainder.
     fn divide_signed(&mut self, a: u32, b: u32) -> Outcome
-        ensures cpu { self.new ≡ registers_after self.old (divides_signed self.old a b) }
-        ensures outcome { result ≡ report_of (divides_signed self.old a b) }
+        ensures cpu { self.new ≡ changed self.old (divides_signed a b) }
+        ensures outcome { result ≡ report_of (divides_signed a b) }
     {
         if b == 0 {
             return self.compute_hi_lo(a, u32::MAX);
@@ -145,19 +158,25 @@ impl Cpu {
 
     /// LO takes the quotient without sign and HI the remainder.
     fn divide(&mut self, a: u32, b: u32) -> Outcome
-        ensures cpu { self.new ≡ registers_after self.old (divides self.old a b) }
-        ensures outcome { result ≡ report_of (divides self.old a b) }
+        ensures cpu { self.new ≡ changed self.old (divides a b) }
+        ensures outcome { result ≡ report_of (divides a b) }
     {
-        if b == 0 { self.compute_hi_lo(a, u32::MAX) } else { self.compute_hi_lo(a % b, a / b) }
+        if b == 0 {
+            self.compute_hi_lo(a, u32::MAX)
+        } else {
+            self.compute_hi_lo(a % b, a / b)
+        }
     }
 
     /// Branches where `taken`.
     fn branch(&mut self, taken: bool, imm: u16) -> Outcome
-        ensures cpu { self.new ≡ branched self.old taken imm }
+        ensures cpu { self.new ≡ changed self.old (Jumps (branch_target self.old taken imm)) }
         ensures outcome { result ≡ Outcome.Retired }
     {
         let target = if taken {
-            self.pc.wrapping_add(4).wrapping_add(sign16(imm).wrapping_mul(4))
+            self.pc
+                .wrapping_add(4)
+                .wrapping_add(sign16(imm).wrapping_mul(4))
         } else {
             self.next.wrapping_add(4)
         };
@@ -166,7 +185,7 @@ impl Cpu {
 
     /// Branches where `taken`, and links in either case.
     fn branch_and_link(&mut self, taken: bool, imm: u16) -> Outcome
-        ensures cpu { self.new ≡ registers_after self.old (branches_and_links self.old taken imm) }
+        ensures cpu { self.new ≡ changed self.old (JumpsAndLinks 31 (branch_target self.old taken imm)) }
         ensures outcome { result ≡ Outcome.Retired }
     {
         let back = self.pc.wrapping_add(8);
@@ -177,7 +196,7 @@ impl Cpu {
 
     /// Jumps, and links through register `n`.
     fn jump_and_link(&mut self, n: u8, target: u32) -> Outcome
-        ensures cpu { self.new ≡ with_reg (jumped self.old target) n (self.old.pc + 8) }
+        ensures cpu { self.new ≡ changed self.old (JumpsAndLinks n target) }
         ensures outcome { result ≡ Outcome.Retired }
     {
         let back = self.pc.wrapping_add(8);
@@ -198,16 +217,22 @@ impl Cpu {
     /// leave the registers.
     #[tactic(auto, unfolding(crate::specs::Effect::effect))]
     pub(crate) fn execute(&mut self, insn: Insn, loaded: u32) -> Outcome
-        ensures cpu { self.new ≡ registers_after self.old (effect insn self.old loaded) }
+        ensures cpu { self.new ≡ changed self.old (effect insn self.old loaded) }
         ensures outcome { result ≡ report_of (effect insn self.old loaded) }
     {
         match insn {
             Insn::Sll { rd, rt, sh } => self.compute(rd, self.reg(rt) << (sh % 32)),
             Insn::Srl { rd, rt, sh } => self.compute(rd, self.reg(rt) >> (sh % 32)),
-            Insn::Sra { rd, rt, sh } => self.compute(rd, shift_with_sign(self.reg(rt), u32::from(sh % 32))),
+            Insn::Sra { rd, rt, sh } => self.compute(
+                rd,
+                shift_with_sign(self.reg(rt), u32::from(sh % 32)),
+            ),
             Insn::Sllv { rd, rt, rs } => self.compute(rd, self.reg(rt) << (self.reg(rs) % 32)),
             Insn::Srlv { rd, rt, rs } => self.compute(rd, self.reg(rt) >> (self.reg(rs) % 32)),
-            Insn::Srav { rd, rt, rs } => self.compute(rd, shift_with_sign(self.reg(rt), self.reg(rs) % 32)),
+            Insn::Srav { rd, rt, rs } => self.compute(
+                rd,
+                shift_with_sign(self.reg(rt), self.reg(rs) % 32),
+            ),
             Insn::Jr { rs } => self.jump(self.reg(rs)),
             Insn::Jalr { rd, rs } => self.jump_and_link(rd, self.reg(rs)),
             Insn::Syscall { .. } => {
@@ -223,7 +248,9 @@ impl Cpu {
             Insn::Mflo { rd } => self.compute(rd, self.lo),
             Insn::Mtlo { rs } => self.compute_hi_lo(self.hi, self.reg(rs)),
             Insn::Mult { rs, rt } => self.multiply(signed_product(self.reg(rs), self.reg(rt))),
-            Insn::Multu { rs, rt } => self.multiply(u64::from(self.reg(rs)) * u64::from(self.reg(rt))),
+            Insn::Multu { rs, rt } => self.multiply(
+                u64::from(self.reg(rs)) * u64::from(self.reg(rt)),
+            ),
             Insn::Div { rs, rt } => self.divide_signed(self.reg(rs), self.reg(rt)),
             Insn::Divu { rs, rt } => self.divide(self.reg(rs), self.reg(rt)),
             Insn::Add { rd, rs, rt } => self.add(rd, self.reg(rs), self.reg(rt)),
@@ -235,7 +262,10 @@ impl Cpu {
             Insn::Xor { rd, rs, rt } => self.compute(rd, self.reg(rs) ^ self.reg(rt)),
             Insn::Nor { rd, rs, rt } => self.compute(rd, !(self.reg(rs) | self.reg(rt))),
             Insn::Slt { rd, rs, rt } => {
-                self.compute(rd, u32::from(self.reg(rs).cast_signed() < self.reg(rt).cast_signed()))
+                self.compute(
+                    rd,
+                    u32::from(self.reg(rs).cast_signed() < self.reg(rt).cast_signed()),
+                )
             }
             Insn::Sltu { rd, rs, rt } => self.compute(rd, u32::from(self.reg(rs) < self.reg(rt))),
             Insn::Bltz { rs, imm } => self.branch(is_negative(self.reg(rs)), imm),
@@ -251,7 +281,10 @@ impl Cpu {
             Insn::Addi { rt, rs, imm } => self.add(rt, self.reg(rs), sign16(imm)),
             Insn::Addiu { rt, rs, imm } => self.compute(rt, self.reg(rs).wrapping_add(sign16(imm))),
             Insn::Slti { rt, rs, imm } => {
-                self.compute(rt, u32::from(self.reg(rs).cast_signed() < sign16(imm).cast_signed()))
+                self.compute(
+                    rt,
+                    u32::from(self.reg(rs).cast_signed() < sign16(imm).cast_signed()),
+                )
             }
             Insn::Sltiu { rt, rs, imm } => self.compute(rt, u32::from(self.reg(rs) < sign16(imm))),
             Insn::Andi { rt, rs, imm } => self.compute(rt, self.reg(rs) & u32::from(imm)),
@@ -261,15 +294,25 @@ impl Cpu {
             Insn::Lb { rt, .. } => self.compute(rt, extend_byte(loaded)),
             Insn::Lh { rt, .. } => self.compute(rt, extend_half(loaded)),
             Insn::Lwl { rt, imm, rs } => {
-                self.compute(rt, merge_left(loaded, self.reg(rt), self.address(rs, imm) % 4))
+                self.compute(
+                    rt,
+                    merge_left(loaded, self.reg(rt), self.address(rs, imm) % 4),
+                )
             }
-            Insn::Lw { rt, .. } | Insn::Lbu { rt, .. } | Insn::Lhu { rt, .. } => self.compute(rt, loaded),
+            Insn::Lw { rt, .. } | Insn::Lbu { rt, .. } | Insn::Lhu { rt, .. } => self.compute(
+                rt, loaded,
+            ),
             Insn::Lwr { rt, imm, rs } => {
-                self.compute(rt, merge_right(loaded, self.reg(rt), self.address(rs, imm) % 4))
+                self.compute(
+                    rt,
+                    merge_right(loaded, self.reg(rt), self.address(rs, imm) % 4),
+                )
             }
-            Insn::Sb { .. } | Insn::Sh { .. } | Insn::Swl { .. } | Insn::Sw { .. } | Insn::Swr { .. } => {
-                self.advance()
-            }
+            Insn::Sb { .. }
+            | Insn::Sh { .. }
+            | Insn::Swl { .. }
+            | Insn::Sw { .. }
+            | Insn::Swr { .. } => { self.advance() }
             Insn::Mfc0 { .. }
             | Insn::Mtc0 { .. }
             | Insn::Tlbr

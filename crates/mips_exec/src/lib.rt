@@ -8,8 +8,10 @@ mod execute;
 mod memory;
 mod reach;
 mod registers;
+mod step;
 
 pub use exception::{Exc, ExcCode, Outcome, cause_word};
 pub use memory::Bus;
 pub use reach::{Access, Spot};
 pub use registers::{Cpu, restart};
+pub use step::step_user;

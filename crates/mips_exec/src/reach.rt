@@ -24,21 +24,33 @@ impl Spot {
     fn at(address: u32, width: u8) -> Self
         ensures { result ≡ at address width }
     {
-        Spot { address, down: false, width }
+        Spot {
+            address,
+            down: false,
+            width,
+        }
     }
 
     /// So many bytes from the beginning of the aligned word that has the address.
     fn below(address: u32, width: u8) -> Self
         ensures { result ≡ below address width }
     {
-        Spot { address, down: true, width }
+        Spot {
+            address,
+            down: true,
+            width,
+        }
     }
 
     /// Where the bytes begin.
     fn place(self) -> u32
         ensures { result ≡ place_of self }
     {
-        if self.down { self.address / 4 * 4 } else { self.address }
+        if self.down {
+            self.address / 4 * 4
+        } else {
+            self.address
+        }
     }
 
     /// Two bytes begin at a multiple of 2, and four at a multiple of 4.
@@ -88,13 +100,31 @@ impl Access {
         ensures sized { ForSome result IsSized }
     {
         let found = match insn {
-            Insn::Lb { imm, rs, .. } | Insn::Lbu { imm, rs, .. } => Access::Load(Spot::at(cpu.address(rs, imm), 1)),
-            Insn::Lh { imm, rs, .. } | Insn::Lhu { imm, rs, .. } => Access::Load(Spot::at(cpu.address(rs, imm), 2)),
+            Insn::Lb { imm, rs, .. } | Insn::Lbu { imm, rs, .. } => Access::Load(Spot::at(
+                cpu.address(rs, imm),
+                1,
+            )),
+            Insn::Lh { imm, rs, .. } | Insn::Lhu { imm, rs, .. } => Access::Load(Spot::at(
+                cpu.address(rs, imm),
+                2,
+            )),
             Insn::Lw { imm, rs, .. } => Access::Load(Spot::at(cpu.address(rs, imm), 4)),
-            Insn::Lwl { imm, rs, .. } | Insn::Lwr { imm, rs, .. } => Access::Load(Spot::below(cpu.address(rs, imm), 4)),
-            Insn::Sb { rt, imm, rs } => Access::Store(Spot::at(cpu.address(rs, imm), 1), cpu.reg(rt)),
-            Insn::Sh { rt, imm, rs } => Access::Store(Spot::at(cpu.address(rs, imm), 2), cpu.reg(rt)),
-            Insn::Sw { rt, imm, rs } => Access::Store(Spot::at(cpu.address(rs, imm), 4), cpu.reg(rt)),
+            Insn::Lwl { imm, rs, .. } | Insn::Lwr { imm, rs, .. } => Access::Load(Spot::below(
+                cpu.address(rs, imm),
+                4,
+            )),
+            Insn::Sb { rt, imm, rs } => Access::Store(
+                Spot::at(cpu.address(rs, imm), 1),
+                cpu.reg(rt),
+            ),
+            Insn::Sh { rt, imm, rs } => Access::Store(
+                Spot::at(cpu.address(rs, imm), 2),
+                cpu.reg(rt),
+            ),
+            Insn::Sw { rt, imm, rs } => Access::Store(
+                Spot::at(cpu.address(rs, imm), 4),
+                cpu.reg(rt),
+            ),
             Insn::Swl { rt, imm, rs } => Access::store_left(cpu.address(rs, imm), cpu.reg(rt)),
             Insn::Swr { rt, imm, rs } => Access::store_right(cpu.address(rs, imm), cpu.reg(rt)),
             _ => return None,

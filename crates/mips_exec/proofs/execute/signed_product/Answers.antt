@@ -17,16 +17,16 @@ product_fits a b h k =
 pub returns : goal.returns
 returns c =
     let fit : FitsSigned w64 (signed c.args.a *ℤ signed c.args.b) =
-      product_fits c.args.a c.args.b c.ranges.a.fits c.ranges.b.fits in
+    product_fits c.args.a c.args.b c.ranges.a.fits c.ranges.b.fits in
     let read_a : FitsSigned w32 c.cast_signed.result = search rules in
     let read_b : FitsSigned w32 c.cast_signed-2.result = search rules in
     let wide_a : FitsSigned w64 c.from.result = search rules in
     let wide_b : FitsSigned w64 c.from-2.result = search rules in
     let a : cast_signed w64 (cast_unsigned w64 c.from.result) ≡ signed c.args.a =
-      to_z-of_z w64 c.from.result wide_a ∙ c.from.ensures ∙ to_z-of_z w32 c.cast_signed.result read_a ∙ c.cast_signed.ensures in
+    to_z-of_z w64 c.from.result wide_a ∙ c.from.ensures ∙ to_z-of_z w32 c.cast_signed.result read_a ∙ c.cast_signed.ensures in
     let b : cast_signed w64 (cast_unsigned w64 c.from-2.result) ≡ signed c.args.b =
-      to_z-of_z w64 c.from-2.result wide_b ∙ c.from-2.ensures ∙ to_z-of_z w32 c.cast_signed-2.result read_b ∙ c.cast_signed-2.ensures in
+    to_z-of_z w64 c.from-2.result wide_b ∙ c.from-2.ensures ∙ to_z-of_z w32 c.cast_signed-2.result read_b ∙ c.cast_signed-2.ensures in
     let product : cast_signed w64 (cast_unsigned w64 c.from.result) *ℤ cast_signed w64 (cast_unsigned w64 c.from-2.result) ≡ signed c.args.a *ℤ signed c.args.b = cc in
     c.cast_unsigned.ensures
-      ∙ ap (λ (z : ℤ). cast_unsigned w64 (cast_signed w64 (cast_unsigned w64 z))) product
-      ∙ ap (cast_unsigned w64) (to_z-of_z w64 (signed c.args.a *ℤ signed c.args.b) fit)
+    ∙ ap (λ (z : ℤ). cast_unsigned w64 (cast_signed w64 (cast_unsigned w64 z))) product
+    ∙ ap (cast_unsigned w64) (to_z-of_z w64 (signed c.args.a *ℤ signed c.args.b) fit)

@@ -1,0 +1,32 @@
+ghost use Rattle.std.specs.Prelude.{◌≡◌};
+ghost use Rattle.mips_exec.specs.Step.{cpu_after, outcome_of, step_of, view_of, write_after, Wrote};
+
+use crate::exception::{Exc, ExcCode, Outcome};
+use crate::memory::Bus;
+use crate::reach::Access;
+use crate::registers::Cpu;
+use mips_isa::decode;
+
+/// One step of a user program (`docs/MACHINE.md`, "Effect"): the fetch, then the encoding, then the
+/// execution. A call of the kernel and an exception leave the registers and memory.
+pub fn step_user<B: Bus>(cpu: &mut Cpu, bus: &mut B) -> Outcome
+    ensures cpu { cpu.new ≡ cpu_after cpu.old (step_of cpu.old (view_of (B.answers bus.old) cpu.old)) }
+    ensures outcome { result ≡ outcome_of (step_of cpu.old (view_of (B.answers bus.old) cpu.old)) }
+    ensures memory { Wrote B.Kept B.Stored bus.old (write_after (step_of cpu.old (view_of (B.answers bus.old) cpu.old))) bus.new }
+{
+    if cpu.pc % 4 != 0 {
+        return Outcome::Trap(Exc::plain(ExcCode::Adel).at(cpu.pc));
+    }
+    let word = match bus.fetch(cpu.pc) {
+        Ok(word) => word,
+        Err(exc) => return Outcome::Trap(exc.at(cpu.pc)),
+    };
+    let insn = decode(word);
+    match Access::of(insn, cpu) {
+        None => cpu.execute(insn, 0),
+        Some(access) => match access.perform(bus) {
+            Ok(loaded) => cpu.execute(insn, loaded),
+            Err(exc) => Outcome::Trap(exc.at(access.address())),
+        },
+    }
+}
