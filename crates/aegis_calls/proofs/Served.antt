@@ -1,12 +1,14 @@
 -- What a place gives is what the access is answered.
-use Rattle.std.proofs.Common.{◌≡◌, ℕ, ◌%◌, List, [], drop, false, Result, Ok, Err, sym, ap, ◌∙◌}
+use Rattle.std.proofs.Common.{◌≡◌, ℕ, ◌%◌, ◌/◌, ◌+◌, ◌<◌, ◌≤◌, refl, take, Option, Some, List, [], drop, false, Result, Ok, Err, sym, ap, ◌∙◌}
 use Rattle.std.specs.Prelude.{slice_index_or}
+use Rattle.std.proofs.lemmas.Bool.{lt-ltb, le-leb}
 use Rattle.byteorder.specs.Endian.{little_number}
 use Rattle.mips_exec.specs.declared.exception.Exc.{Exc}
 use Rattle.world_model.specs.declared.page.KeptPage.{KeptPage}
 use Rattle.world_model.specs.declared.page.Purpose.{Purpose}
 use Rattle.world_model.specs.Page.{Mapped, reach, read_answer, if_served, bytes_from}
-use Rattle.world_model.specs.Solo.{sight, mapped}
+use Rattle.world_model.specs.Solo.{sight, mapped, kept_at}
+use Rattle.world_model.specs.Call.{good_range}
 
 -- any page will do where a list is read within its length
 pub no_page : KeptPage
@@ -22,3 +24,8 @@ read_is kept purpose va width page bytes reached is =
 
 pub write_is : {A : Type 0} (a : A) (kept : List KeptPage) (purpose : Purpose) (va : ℕ) (page : KeptPage) → reach (sight kept) purpose va ≡ Ok (mapped page) → answer a ≡ if_served (λ m. a) (reach (sight kept) purpose va)
 write_is a kept purpose va page reached = sym (ap (if_served (λ (m : Mapped). a)) reached)
+
+-- what lies in one page that is there is a good range
+pub range_is : (kept : List KeptPage) (address size : ℕ) (page : KeptPage) (bytes : List ℕ) → address < 0x80000000 → address % 4096 + size ≤ 4096 → kept_at kept (address / 4096) ≡ Some page → bytes ≡ drop (address % 4096) page.bytes → Some (take size bytes) ≡ good_range kept address size
+range_is kept address size page bytes user within there is =
+    rw (lt-ltb address 0x80000000 user, le-leb (address % 4096 + size) 4096 within, there, is) refl

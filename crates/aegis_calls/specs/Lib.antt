@@ -1,2 +1,5 @@
 pub mod Rising
 pub mod Memory
+pub mod Shown
+pub mod Showing
+pub mod Doing

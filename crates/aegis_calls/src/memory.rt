@@ -14,6 +14,9 @@ use crate::search::place_in;
 /// The bytes of a page.
 pub const PAGE_SIZE: usize = 4096;
 
+/// The same as an address.
+const PAGE_BYTES: u32 = 4096;
+
 /// The first address that isn't a user's.
 pub const USER_END: u32 = 0x8000_0000;
 
@@ -79,6 +82,8 @@ fn raised(code: ExcCode, address: u32) -> Exc
 impl Memory {
     ghost use Rattle.aegis_calls.specs.Memory.{IsPlace, Located};
     ghost use Rattle.world_model.specs.Solo.{sight, kept_at, kept_after};
+    ghost use Rattle.world_model.specs.Call.{good_range};
+    ghost use Rattle.std.specs.Option.{option_map};
 
     /// A memory without pages.
     pub fn new(alloc: Global) -> Self
@@ -137,6 +142,17 @@ impl Memory {
         let page = &self.pages[place];
         let bytes = &page.bytes[..];
         &bytes[va as usize % PAGE_SIZE..]
+    }
+
+    /// The bytes of a good range: it lies in one page that is there.
+    pub(crate) fn range(&self, address: u32, size: u32) -> Option<&[u8]>
+        ensures { option_map (λ r. r.now) result ≡ good_range self.now address size }
+    {
+        if address >= USER_END || size > PAGE_BYTES - address % PAGE_BYTES {
+            return None;
+        }
+        let place = self.place_of(address / PAGE_BYTES)?;
+        Some(&self.bytes_from(place, address)[..size as usize])
     }
 
     /// Puts bytes into the page at a place, where its address says.

@@ -1,5 +1,5 @@
 -- What an environment is given from outside, and what it makes of it.
-use Rattle.std.specs.Prelude.{ℕ, ◌+◌, ◌%◌, ◌^◌, List, [], ◌∷◌, ◌++◌, Bool, true, false, ◌==◌, if◌then◌else◌, unwrap_or, fold}
+use Rattle.std.specs.Prelude.{ℕ, ◌+◌, ◌%◌, ◌^◌, List, [], ◌∷◌, ◌++◌, Bool, true, false, if◌then◌else◌, Option, Some, None, unwrap_or, fold}
 use Rattle.mips_exec.specs.declared.registers.Cpu.{Cpu}
 use Rattle.mips_exec.specs.Cpu.{reg, with_reg, restart_of}
 use Rattle.world_model.specs.declared.life.Life.TheVariants.{Live}
@@ -7,8 +7,10 @@ use Rattle.world_model.specs.declared.code.Code.{Code}
 use Rattle.world_model.specs.Code.{code_number, is_ok_code}
 use Rattle.world_model.specs.declared.page.KeptPage.{KeptPage}
 use Rattle.world_model.specs.Solo.{Solo, blank_cpu, is_dead}
-use Rattle.world_model.specs.Step.{step_alone, stepped, call_number}
-use Rattle.world_model.specs.Call.{put_call, put_bytes}
+use Rattle.world_model.specs.declared.call.Call.{Call}
+use Rattle.world_model.specs.declared.call.Call.TheVariants as call
+use Rattle.world_model.specs.Step.{step_alone, stepped}
+use Rattle.world_model.specs.Call.{call_number, call_named, put_bytes}
 
 pub data Item : Type 0 where
   -- its record in the image: number, name, entry and guaranteed pages
@@ -38,9 +40,14 @@ booted number name entry kept = record {
 abbrev pub rest : Cpu → Cpu
 rest cpu = record cpu { pc = restart_of cpu; next = word_after (restart_of cpu); slot = false }
 
+abbrev pub own_part_of : Solo → Option Call → Solo
+own_part_of s None = s
+own_part_of s (Some call.Put) = record s { console = s.console ++ unwrap_or (put_bytes s.cpu s.kept) [] }
+own_part_of s (Some call.Exit) = s
+
 -- what an accepted call does to its caller
 abbrev pub own_part : Solo → Solo
-own_part s = if call_number s.cpu == put_call then record s { console = s.console ++ unwrap_or (put_bytes s) [] } else s
+own_part s = own_part_of s (call_named (call_number s.cpu))
 
 -- register 2 has the answer's code and register 3 its value, and the machine goes on behind the call
 abbrev pub answered_cpu : Code → ℕ → Cpu → Cpu

@@ -1,5 +1,5 @@
 -- The tick: the turn, the runner's step with its call or death, and the timer.
-use Rattle.std.specs.Prelude.{ℕ, zero, suc, ◌+◌, ◌-◌, List, [], ◌∷◌, ◌++◌, Bool, true, false, ◌==◌, nat_le, if◌then◌else◌, Option, Some, None}
+use Rattle.std.specs.Prelude.{ℕ, zero, suc, ◌+◌, ◌-◌, List, [], ◌∷◌, ◌++◌, length, ◌==◌, if◌then◌else◌, Option, Some, None}
 use Rattle.kernel_journal.specs.declared.row.Row.{Row}
 use Rattle.kernel_journal.specs.declared.row.Row.TheVariants as row
 use Rattle.mips_exec.specs.Cpu.{reg}
@@ -8,7 +8,9 @@ use Rattle.world_model.specs.declared.code.Code.TheVariants as code
 use Rattle.world_model.specs.Book.{Book, Hold, Turn, next_turn, is_idle_book, is_owned_by, slot_after_death}
 use Rattle.world_model.specs.Solo.{Solo}
 use Rattle.world_model.specs.Step.{Act, Nothing, Calls, Dies, step_alone, act_of}
-use Rattle.world_model.specs.Call.{put_call, put_refusal}
+use Rattle.world_model.specs.declared.call.Call.{Call}
+use Rattle.world_model.specs.declared.call.Call.TheVariants as call
+use Rattle.world_model.specs.Call.{put_refusal}
 use Rattle.world_model.specs.Item.{Item, Step, Start, Answer}
 use Rattle.world_model.specs.World.{World, Reply, only, no_items, after, run_phases, phase_items}
 
@@ -41,11 +43,7 @@ put_when w e None = answer w e code.Ok (reg (w.solos e).cpu 5)
 put_when w e (Some refusal) = answer w e refusal 0
 
 abbrev pub put : World → ℕ → Reply
-put w e = put_when w e (put_refusal (w.solos e))
-
--- the reply to a kernel call by its number
-abbrev pub reply_to : World → ℕ → ℕ → Reply
-reply_to w e number = if number == put_call then put w e else answer w e code.BadCall 0
+put w e = let s = w.solos e in put_when w e (put_refusal s.cpu s.kept (length s.console))
 
 -- the rows of the slots below k that a death empties, by rising slot
 abbrev pub emptied_rows : ℕ → Book → ℕ → List Row
@@ -55,14 +53,20 @@ emptied_rows e b (suc k) = emptied_rows e b k ++ (if is_owned_by e (b.slots k) t
 -- the runner's death: its slots are empty, and the rest of its slice is dropped
 abbrev pub death : World → ℕ → Reply
 death w e = record {
-  book = record w.book { slots = λ k. slot_after_death e (w.book.slots k); runner = None };
+  book = record w.book { slots = λ k. slot_after_death e (w.book.slots k); runner = None; left = 0 };
   items = no_items;
   rows = row.Dead w.book.time w.book.cursor e ∷ emptied_rows e w.book w.book.slot_count;
 }
 
+-- the reply to a kernel call; a number that names none is answered so
+abbrev pub reply_to : World → ℕ → Option Call → Reply
+reply_to w e None = answer w e code.BadCall 0
+reply_to w e (Some call.Put) = put w e
+reply_to w e (Some call.Exit) = death w e
+
 abbrev pub act : World → ℕ → Act → Reply
 act w e Nothing = no_change w
-act w e (Calls number) = reply_to w e number
+act w e (Calls call) = reply_to w e call
 act w e Dies = death w e
 
 -- the runner absorbs its step, and then what its act brings
@@ -77,13 +81,18 @@ abbrev pub step : World → Reply
 step w = step_when w w.book.runner
 
 -- The timer: the ticks left of a runner's slice fall by one, and at none it is stopped. Time rises by one.
-abbrev pub count_down : World → ℕ → ℕ → Reply
-count_down w e zero = record {
+abbrev pub stop : World → ℕ → Reply
+stop w e = record {
   book = record w.book { runner = None; left = 0; time = w.book.time + 1 };
   items = no_items;
   rows = row.Stop w.book.time w.book.cursor e ∷ [];
 }
-count_down w e (suc left) = record { book = record w.book { left = suc left; time = w.book.time + 1 }; items = no_items; rows = [] }
+
+abbrev pub go_on : World → ℕ → Reply
+go_on w left = record { book = record w.book { left = left; time = w.book.time + 1 }; items = no_items; rows = [] }
+
+abbrev pub count_down : World → ℕ → ℕ → Reply
+count_down w e left = if left == 0 then stop w e else go_on w left
 
 abbrev pub timer_when : World → Option ℕ → Reply
 timer_when w None = record { book = record w.book { time = w.book.time + 1 }; items = no_items; rows = [] }

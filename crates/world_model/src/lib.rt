@@ -2,11 +2,13 @@
 //! items that join them. The definitions stand in `specs/`, a file for each idea (`docs/MODEL.md`).
 #![tactic(auto)]
 
+mod call;
 mod code;
 mod laws;
 mod life;
 mod page;
 
+pub use call::Call;
 pub use code::Code;
 pub use laws::law_fold;
 pub use life::Cause;

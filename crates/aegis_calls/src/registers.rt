@@ -1,0 +1,51 @@
+//! What the kernel does to an environment's registers.
+ghost use Rattle.std.specs.Prelude.{◌≡◌};
+ghost use Rattle.world_model.specs.Item.{rest as rested, answered_cpu};
+ghost use Rattle.world_model.specs.Solo.{blank_cpu as blank};
+
+use mips_exec::{Cpu, restart};
+use world_model::Code;
+
+/// The register of a call's number and of an answer's code.
+pub(crate) const CODE_REGISTER: u8 = 2;
+
+/// The register of an answer's value.
+const VALUE_REGISTER: u8 = 3;
+
+/// The registers of a call's first two arguments.
+pub(crate) const FIRST_ARGUMENT: u8 = 4;
+pub(crate) const SECOND_ARGUMENT: u8 = 5;
+
+/// The registers of a machine in which nothing has run.
+pub(crate) fn blank_cpu() -> Cpu
+    ensures { result ≡ blank }
+{
+    Cpu {
+        regs: [0; 32],
+        hi: 0,
+        lo: 0,
+        pc: 0,
+        next: 0,
+        slot: false,
+    }
+}
+
+/// A stopped machine runs again from its restart address.
+pub(crate) fn rest(cpu: &mut Cpu)
+    ensures { cpu.new ≡ rested cpu.old }
+{
+    let address = restart(cpu);
+    cpu.pc = address;
+    cpu.next = address.wrapping_add(4);
+    cpu.slot = false;
+}
+
+/// A call's caller finds the answer, and goes on behind the call.
+pub(crate) fn answer(cpu: &mut Cpu, code: Code, value: u32)
+    ensures { cpu.new ≡ answered_cpu code value cpu.old }
+{
+    cpu.set_reg(CODE_REGISTER, code.number());
+    cpu.set_reg(VALUE_REGISTER, value);
+    cpu.pc = cpu.pc.wrapping_add(4);
+    cpu.next = cpu.next.wrapping_add(4);
+}
