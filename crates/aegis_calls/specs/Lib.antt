@@ -3,3 +3,4 @@ pub mod Memory
 pub mod Shown
 pub mod Showing
 pub mod Doing
+pub mod Loading

@@ -1,5 +1,5 @@
 -- An environment's memory: its guaranteed pages by rising page number.
-use Rattle.std.specs.Prelude.{◌≡◌, ℕ, ◌/◌, ◌<◌, List, length, map, slice_set, Option, Some, None, Result, Ok, Err, MatchOption, MatchResult, slice_index_or}
+use Rattle.std.specs.Prelude.{◌≡◌, ℕ, ◌/◌, ◌<◌, ◌-◌, ◌++◌, slice_index, replicate, List, length, map, slice_set, Option, Some, None, Result, Ok, Err, MatchOption, MatchResult, slice_index_or}
 use Rattle.mips_exec.specs.declared.exception.Exc.{Exc}
 use Rattle.mips_exec.specs.Access.{Write}
 use Rattle.world_model.specs.declared.page.KeptPage.{KeptPage}
@@ -21,3 +21,11 @@ pub record IsPlace (kept : List KeptPage) (vpn i : ℕ) : Type 0 where
 abbrev pub Located : List KeptPage → ℕ → Result Mapped Exc → Result ℕ Exc → Type 0
 Located kept vpn reached (Ok i) = IsPlace kept vpn i × ((d : KeptPage) → reached ≡ Ok (mapped (slice_index_or kept i d)))
 Located kept vpn reached (Err exc) = reached ≡ Err exc
+
+-- every page is seen below this page number
+abbrev pub IsBelow : List KeptPage → ℕ → Type 0
+IsBelow kept vpn = (k : ℕ) → k < length (numbers kept) → slice_index (numbers kept) k < vpn
+
+-- a page that may be stored to, with these bytes and zeros behind them
+abbrev pub padded : List ℕ → List ℕ
+padded bytes = bytes ++ replicate (4096 - length bytes) 0

@@ -5,6 +5,7 @@
 mod board;
 mod bus;
 mod console;
+mod load;
 mod memory;
 mod parts;
 mod readers;

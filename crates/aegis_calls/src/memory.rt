@@ -1,6 +1,7 @@
 ghost use Rattle.std.specs.Prelude.{◌≡◌, ◌<◌, ◌≤◌, ◌+◌, ◌-◌, ◌%◌, ◌/◌, ℕ, List, [], ◌∷◌, ◌++◌, length, map, replicate, take, drop, OnOk, OnErr, MatchOption, IfSome, IfNone, Some, None, slice_index, ◌≢◌};
 ghost use Rattle.std.specs.Prelude.{slice_index_or, slice_set};
 ghost use Rattle.world_model.specs.declared.page.KeptPage.{KeptPage};
+ghost use Rattle.aegis_calls.specs.Memory.{padded};
 ghost use Rattle.world_model.specs.Page.{with_bytes, address_error as address_error_of, miss as miss_of, reach, raised as raised_at, is_store as is_store_of};
 
 use edge_io::OutOfMemory;
@@ -79,10 +80,29 @@ fn raised(code: ExcCode, address: u32) -> Exc
     }
 }
 
+/// A page with these bytes and zeros behind them.
+fn padded_page(bytes: &[u8]) -> [u8; PAGE_SIZE]
+    requires { length bytes.now ≤ 4096 }
+    ensures { result ≡ padded bytes.now }
+{
+    let mut page = [0; PAGE_SIZE];
+    put_front(&mut page, bytes);
+    page
+}
+
+/// Puts bytes over the first ones of a page.
+fn put_front(page: &mut [u8], bytes: &[u8])
+    requires { length bytes.now ≤ length page.old }
+    ensures { page.new ≡ bytes.now ++ drop (length bytes.now) page.old }
+{
+    page[..bytes.len()].copy_from_slice(bytes);
+}
+
 impl Memory {
-    ghost use Rattle.aegis_calls.specs.Memory.{IsPlace, Located};
+    ghost use Rattle.aegis_calls.specs.Memory.{IsPlace, Located, IsBelow, padded};
     ghost use Rattle.world_model.specs.Solo.{sight, kept_at, kept_after};
     ghost use Rattle.world_model.specs.Call.{good_range};
+    ghost use Rattle.world_model.specs.Boot.{open_page};
     ghost use Rattle.std.specs.Option.{option_map};
 
     /// A memory without pages.
@@ -93,6 +113,26 @@ impl Memory {
             pages: Vec::new(alloc),
             numbers: Vec::new(alloc),
         }
+    }
+
+    /// Adds a page that may be stored to, above all that are there, with these bytes and zeros behind
+    /// them. An `Err` changes nothing.
+    pub(crate) fn push(&mut self, vpn: u32, bytes: &[u8]) -> Result<(), OutOfMemory>
+        requires above { IsBelow self.old vpn }
+        requires fits { length bytes.now ≤ 4096 }
+        ensures ok { OnOk result (self.new ≡ self.old ++ open_page vpn (padded bytes.now) ∷ []) }
+        ensures below { OnOk result (IsBelow self.new (vpn + 1)) }
+        ensures err { OnErr result (self.new ≡ self.old) }
+    {
+        let page = KeptPage {
+            vpn,
+            writable: true,
+            bytes: padded_page(bytes),
+        };
+        self.numbers.reserve(1)?;
+        self.pages.push(page)?;
+        self.numbers.push(vpn).unwrap();
+        Ok(())
     }
 
     /// All pages go.
