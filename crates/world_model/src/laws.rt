@@ -4,5 +4,4 @@ ghost use Rattle.world_model.specs.Run.{IsFoldOfFeed};
 /// environment, its registers, pages and console are the fold of its feed.
 pub fn law_fold()
     ensures { IsFoldOfFeed }
-{
-}
+{}

@@ -11,6 +11,5 @@ mod page;
 pub use call::Call;
 pub use code::Code;
 pub use laws::law_fold;
-pub use life::Cause;
-pub use life::Life;
+pub use life::{Cause, Life};
 pub use page::{KeptPage, Purpose};

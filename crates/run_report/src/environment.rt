@@ -1,0 +1,154 @@
+//! What a report shows of an environment.
+ghost use Rattle.std.specs.Prelude.{◌≡◌, ◌++◌, ◌<◌, ◌==◌, OnOk, IfOk, position};
+ghost use Rattle.std.specs.List.{flat_map};
+ghost use Rattle.boot_image.specs.ImageValue.{name_text};
+ghost use Rattle.aegis_calls.specs.Showing.{world_of};
+ghost use Rattle.world_model.specs.Report.{spaced, life_words, exception_text, env_line, out_line, excess_line, living_lines, env_text};
+
+use crate::page::push_keep_lines;
+use crate::processor::{push_cpu_line, push_regs_line, shown_cpu};
+use crate::words::{end_line, push_number, push_quotation, push_text, push_word};
+use aegis_calls::Board;
+use edge_io::OutOfMemory;
+use mips_exec::ExcCode;
+use std::alloc::Global;
+use world_model::{Cause, Life};
+
+/// What an environment without handlers has of excess: it never runs past its slice.
+const NO_EXCESS: u32 = 0;
+
+/// The lines that a report has of an environment, below `envs()` of the board
+/// (`docs/FORMATS.md`, "Report").
+pub fn env_lines(alloc: Global, board: &Board, env: u8) -> Result<Vec<u8>, OutOfMemory>
+    requires { env < (world_of board.now).count }
+    ensures { IfOk result (λ v. v.items ≡ env_text (world_of board.now) env) }
+{
+    let mut out = Vec::new(alloc);
+    push_env(&mut out, board, env)?;
+    Ok(out)
+}
+
+/// Appends the lines of an environment.
+#[tactic(auto, unfolding(world_model::specs::Report::env_text))]
+pub(crate) fn push_env(out: &mut Vec<u8>, board: &Board, env: u8) -> Result<(), OutOfMemory>
+    requires { env < (world_of board.now).count }
+    ensures { OnOk result (out.new.items ≡ out.old.items ++ env_text (world_of board.now) env) }
+{
+    push_env_line(out, board, env)?;
+    push_out_line(out, board, env)?;
+    match board.life(env) {
+        Life::Live => push_living_lines(out, board, env),
+        Life::Dead(_) => Ok(()),
+    }
+}
+
+/// Appends the line of an environment's name and life.
+#[tactic(auto, unfolding(world_model::specs::Report::env_line))]
+fn push_env_line(out: &mut Vec<u8>, board: &Board, env: u8) -> Result<(), OutOfMemory>
+    requires { env < (world_of board.now).count }
+    ensures { OnOk result (out.new.items ≡ out.old.items ++ env_line env ((world_of board.now).solos env)) }
+{
+    push_text(out, b"env")?;
+    push_number(out, u64::from(env))?;
+    push_word(out, name_text(&board.name(env)))?;
+    push_life(out, board.life(env))?;
+    end_line(out)
+}
+
+/// Where the first zero of a name stands, if it has one.
+fn first_zero(name: &[u8]) -> Option<usize>
+    ensures { result ≡ position (λ byte. byte == 0) name.now }
+{
+    name.iter().position(|byte| *byte == 0)
+}
+
+/// A name without the zeros after it.
+fn name_text(name: &[u8]) -> &[u8]
+    ensures { result.now ≡ name_text name.now }
+{
+    let length = match first_zero(name) {
+        Some(place) => place,
+        None => name.len(),
+    };
+    name.split_at(length).0
+}
+
+/// Appends how an environment lives, or why it died.
+fn push_life(out: &mut Vec<u8>, life: Life) -> Result<(), OutOfMemory>
+    ensures { OnOk result (out.new.items ≡ out.old.items ++ flat_map spaced (life_words life)) }
+{
+    match life {
+        Life::Live => push_word(out, b"live"),
+        Life::Dead(Cause::Exit(code)) => {
+            push_word(out, b"exit")?;
+            push_number(out, u64::from(code))
+        }
+        Life::Dead(Cause::Trapped(code)) => {
+            push_word(out, b"dead")?;
+            push_word(out, exception_text(code))
+        }
+        Life::Dead(Cause::Excess) => {
+            push_word(out, b"dead")?;
+            push_word(out, b"excess")
+        }
+    }
+}
+
+/// The name of an exception.
+fn exception_text(code: ExcCode) -> &'static [u8]
+    ensures { result.now ≡ exception_text code }
+{
+    match code {
+        ExcCode::Int => b"int",
+        ExcCode::Mod => b"mod",
+        ExcCode::Tlbl => b"tlbl",
+        ExcCode::Tlbs => b"tlbs",
+        ExcCode::Adel => b"adel",
+        ExcCode::Ades => b"ades",
+        ExcCode::Ibe => b"ibe",
+        ExcCode::Dbe => b"dbe",
+        ExcCode::Sys => b"sys",
+        ExcCode::Bp => b"bp",
+        ExcCode::Ri => b"ri",
+        ExcCode::Cpu => b"cpu",
+        ExcCode::Ov => b"ov",
+    }
+}
+
+/// Appends the line of an environment's console.
+#[tactic(auto, unfolding(world_model::specs::Report::out_line))]
+fn push_out_line(out: &mut Vec<u8>, board: &Board, env: u8) -> Result<(), OutOfMemory>
+    requires { env < (world_of board.now).count }
+    ensures { OnOk result (out.new.items ≡ out.old.items ++ out_line env ((world_of board.now).solos env)) }
+{
+    let console = board.console(env);
+    push_text(out, b"out")?;
+    push_number(out, u64::from(env))?;
+    push_number(out, console.len() as u64)?;
+    push_quotation(out, console)?;
+    end_line(out)
+}
+
+/// Appends the line of an environment's excess.
+#[tactic(auto, unfolding(world_model::specs::Report::excess_line))]
+fn push_excess_line(out: &mut Vec<u8>, env: u8, excess: u32) -> Result<(), OutOfMemory>
+    ensures { OnOk result (out.new.items ≡ out.old.items ++ excess_line env excess) }
+{
+    push_text(out, b"excess")?;
+    push_number(out, u64::from(env))?;
+    push_number(out, u64::from(excess))?;
+    end_line(out)
+}
+
+/// Appends what is shown of an environment while it lives.
+#[tactic(auto, unfolding(world_model::specs::Report::living_lines))]
+fn push_living_lines(out: &mut Vec<u8>, board: &Board, env: u8) -> Result<(), OutOfMemory>
+    requires { env < (world_of board.now).count }
+    ensures { OnOk result (out.new.items ≡ out.old.items ++ living_lines (world_of board.now) env) }
+{
+    let cpu = shown_cpu(board, env);
+    push_cpu_line(out, env, &cpu)?;
+    push_regs_line(out, env, &cpu)?;
+    push_excess_line(out, env, NO_EXCESS)?;
+    push_keep_lines(out, env, board.kept_pages(env))
+}

@@ -1,0 +1,50 @@
+//! The guaranteed pages that a report shows, each by the fingerprint of its bytes.
+ghost use Rattle.std.specs.Prelude.{◌≡◌, ◌++◌, OnOk};
+ghost use Rattle.world_model.specs.Report.{fingerprint, keep_line, keep_lines};
+
+use crate::words::{end_line, push_digits, push_number, push_text, push_word};
+use edge_io::OutOfMemory;
+use sha2::{Digest, Sha256};
+use world_model::KeptPage;
+
+/// The hexadecimal digits of a page number.
+const PAGE_NUMBER_DIGITS: u8 = 5;
+
+/// The characters of a fingerprint: two for each byte of a digest.
+const FINGERPRINT_SIZE: usize = 64;
+
+/// A page's fingerprint: SHA-256 of its bytes in hexadecimal digits.
+fn fingerprint(bytes: &[u8]) -> [u8; FINGERPRINT_SIZE]
+    ensures { result ≡ fingerprint bytes.now }
+{
+    let digest = Sha256::digest(bytes);
+    let mut text = [0; FINGERPRINT_SIZE];
+    hex::encode_to_slice(digest, &mut text).unwrap();
+    text
+}
+
+/// Appends the line of a page.
+#[tactic(auto, unfolding(world_model::specs::Report::keep_line))]
+fn push_keep_line(out: &mut Vec<u8>, env: u8, page: &KeptPage) -> Result<(), OutOfMemory>
+    ensures { OnOk result (out.new.items ≡ out.old.items ++ keep_line env page.now) }
+{
+    push_text(out, b"keep")?;
+    push_number(out, u64::from(env))?;
+    push_digits(out, page.vpn, PAGE_NUMBER_DIGITS)?;
+    push_word(out, &fingerprint(&page.bytes))?;
+    end_line(out)
+}
+
+/// Appends the lines of an environment's pages.
+pub(crate) fn push_keep_lines(
+    out: &mut Vec<u8>,
+    env: u8,
+    pages: &[KeptPage],
+) -> Result<(), OutOfMemory>
+    ensures { OnOk result (out.new.items ≡ out.old.items ++ keep_lines env pages.now) }
+{
+    for page in pages {
+        push_keep_line(out, env, page)?;
+    }
+    Ok(())
+}

@@ -1,0 +1,88 @@
+//! The registers that a report shows of a living environment.
+ghost use Rattle.std.specs.Prelude.{◌≡◌, ◌++◌, ◌<◌, OnOk};
+ghost use Rattle.std.specs.List.{flat_map};
+ghost use Rattle.aegis_calls.specs.Showing.{world_of};
+ghost use Rattle.world_model.specs.Item.{rest};
+ghost use Rattle.world_model.specs.Boot.{listed};
+ghost use Rattle.world_model.specs.Report.{spaced, shown_cpu, cpu_line, word_text, register_text, regs_line};
+
+use crate::words::{end_line, push_digits, push_flag, push_number, push_text};
+use aegis_calls::Board;
+use edge_io::OutOfMemory;
+use mips_exec::{Cpu, restart};
+
+/// The hexadecimal digits of a word.
+const WORD_DIGITS: u8 = 8;
+
+/// The registers behind register 0.
+const SHOWN_REGISTERS: u8 = 31;
+
+/// The registers of a stopped environment: it runs again from its restart address.
+fn rested(cpu: Cpu) -> Cpu
+    ensures { result ≡ rest cpu }
+{
+    let address = restart(&cpu);
+    Cpu {
+        pc: address,
+        next: address.wrapping_add(4),
+        slot: false,
+        ..cpu
+    }
+}
+
+/// The registers that are shown of an environment: the runner's as they stand, and a stopped one's at
+/// rest.
+#[tactic(auto, unfolding(world_model::specs::Report::shown_cpu))]
+pub(crate) fn shown_cpu(board: &Board, env: u8) -> Cpu
+    requires { env < (world_of board.now).count }
+    ensures { result ≡ shown_cpu (world_of board.now) env }
+{
+    let cpu = board.cpu(env);
+    match board.runner() {
+        Some(runner) if runner == env => cpu,
+        _ => rested(cpu),
+    }
+}
+
+/// Appends the line of the program counters, the slot flag, HI and LO.
+#[tactic(auto, unfolding(world_model::specs::Report::cpu_line))]
+pub(crate) fn push_cpu_line(out: &mut Vec<u8>, env: u8, cpu: &Cpu) -> Result<(), OutOfMemory>
+    ensures { OnOk result (out.new.items ≡ out.old.items ++ cpu_line env cpu.now) }
+{
+    push_text(out, b"cpu")?;
+    push_number(out, u64::from(env))?;
+    push_pair(out, cpu.pc, cpu.next)?;
+    push_flag(out, cpu.slot)?;
+    push_pair(out, cpu.hi, cpu.lo)?;
+    end_line(out)
+}
+
+/// Appends two words of the processor, eight digits each.
+fn push_pair(out: &mut Vec<u8>, first: u32, second: u32) -> Result<(), OutOfMemory>
+    ensures { OnOk result (out.new.items ≡ out.old.items ++ spaced (word_text first) ++ spaced (word_text second)) }
+{
+    push_digits(out, first, WORD_DIGITS)?;
+    push_digits(out, second, WORD_DIGITS)
+}
+
+/// Appends the line of registers 1 to 31.
+#[tactic(auto, unfolding(world_model::specs::Report::regs_line))]
+pub(crate) fn push_regs_line(out: &mut Vec<u8>, env: u8, cpu: &Cpu) -> Result<(), OutOfMemory>
+    ensures { OnOk result (out.new.items ≡ out.old.items ++ regs_line env cpu.now) }
+{
+    push_text(out, b"regs")?;
+    push_number(out, u64::from(env))?;
+    push_registers(out, cpu)?;
+    end_line(out)
+}
+
+/// Appends registers 1 to 31, a word each.
+#[tactic(auto, using(std::proofs::lemmas::Grind::common_steps, crate::proofs::Registers::words_more))]
+fn push_registers(out: &mut Vec<u8>, cpu: &Cpu) -> Result<(), OutOfMemory>
+    ensures { OnOk result (out.new.items ≡ out.old.items ++ flat_map spaced (listed (register_text cpu.now) 31)) }
+{
+    for behind in 0..SHOWN_REGISTERS {
+        push_digits(out, cpu.reg(behind + 1), WORD_DIGITS)?;
+    }
+    Ok(())
+}

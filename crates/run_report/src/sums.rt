@@ -1,0 +1,72 @@
+//! The last lines of a report but one: how often each environment had a turn, forfeited one, or ran a
+//! quantum of excess.
+ghost use Rattle.std.specs.Prelude.{◌≡◌, ◌++◌, count_by, OnOk};
+ghost use Rattle.world_model.specs.Report.{is_run_of, is_pay_of, is_over_of, sum_line};
+
+use crate::words::{end_line, push_number, push_text};
+use edge_io::OutOfMemory;
+use kernel_journal::Row;
+
+/// Whether a row is a turn of the environment.
+fn is_run_of(row: &Row, env: u8) -> bool
+    ensures { result ≡ is_run_of env row.now }
+{
+    match row {
+        Row::Run { env: who, .. } => *who == env,
+        _ => false,
+    }
+}
+
+/// Whether a row is a turn that the environment forfeited.
+fn is_pay_of(row: &Row, env: u8) -> bool
+    ensures { result ≡ is_pay_of env row.now }
+{
+    match row {
+        Row::Pay { env: who, .. } => *who == env,
+        _ => false,
+    }
+}
+
+/// Whether a row is a quantum of the environment's excess.
+fn is_over_of(row: &Row, env: u8) -> bool
+    ensures { result ≡ is_over_of env row.now }
+{
+    match row {
+        Row::Over { env: who, .. } => *who == env,
+        _ => false,
+    }
+}
+
+/// How many turns the environment had.
+fn runs_of(rows: &[Row], env: u8) -> usize
+    ensures { result ≡ count_by (is_run_of env) rows.now }
+{
+    rows.iter().filter(|row| is_run_of(row, env)).count()
+}
+
+/// How many turns the environment forfeited.
+fn pays_of(rows: &[Row], env: u8) -> usize
+    ensures { result ≡ count_by (is_pay_of env) rows.now }
+{
+    rows.iter().filter(|row| is_pay_of(row, env)).count()
+}
+
+/// How many quanta of excess the environment ran.
+fn overs_of(rows: &[Row], env: u8) -> usize
+    ensures { result ≡ count_by (is_over_of env) rows.now }
+{
+    rows.iter().filter(|row| is_over_of(row, env)).count()
+}
+
+/// Appends the line of an environment's sums.
+#[tactic(auto, unfolding(world_model::specs::Report::sum_line))]
+pub(crate) fn push_sum_line(out: &mut Vec<u8>, rows: &[Row], env: u8) -> Result<(), OutOfMemory>
+    ensures { OnOk result (out.new.items ≡ out.old.items ++ sum_line rows.now env) }
+{
+    push_text(out, b"sum")?;
+    push_number(out, u64::from(env))?;
+    push_number(out, runs_of(rows, env) as u64)?;
+    push_number(out, pays_of(rows, env) as u64)?;
+    push_number(out, overs_of(rows, env) as u64)?;
+    end_line(out)
+}

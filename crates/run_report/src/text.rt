@@ -1,0 +1,69 @@
+//! The whole report.
+ghost use Rattle.std.specs.Prelude.{◌≡◌, ◌++◌, OnOk, IfOk};
+ghost use Rattle.aegis_calls.specs.Showing.{world_of};
+ghost use Rattle.world_model.specs.Report.{env_text, sum_line, for_each_env, end_text, end_line as end_line_of, report_text};
+
+use crate::environment::push_env;
+use crate::ledger::push_rows;
+use crate::sums::push_sum_line;
+use crate::words::{end_line, push_number, push_text, push_word};
+use aegis_calls::Board;
+use edge_io::OutOfMemory;
+use kernel_journal::RunEnd;
+use std::alloc::Global;
+
+/// The report of a board whose run ended in this way (`docs/FORMATS.md`, "Report").
+#[tactic(auto, unfolding(world_model::specs::Report::report_text))]
+pub fn report(alloc: Global, board: &Board, end: RunEnd) -> Result<Vec<u8>, OutOfMemory>
+    ensures { IfOk result (λ v. v.items ≡ report_text (world_of board.now) end) }
+{
+    let mut out = Vec::new(alloc);
+    push_text(&mut out, b"aegis run\n")?;
+    push_end_line(&mut out, board, end)?;
+    push_envs(&mut out, board)?;
+    push_rows(&mut out, board.journal())?;
+    push_sums(&mut out, board)?;
+    push_text(&mut out, b"done\n")?;
+    Ok(out)
+}
+
+/// Appends the line of how the run ended, and when.
+#[tactic(auto, unfolding(world_model::specs::Report::end_line))]
+fn push_end_line(out: &mut Vec<u8>, board: &Board, end: RunEnd) -> Result<(), OutOfMemory>
+    ensures { OnOk result (out.new.items ≡ out.old.items ++ end_line_of (world_of board.now) end) }
+{
+    push_text(out, b"end")?;
+    push_word(out, end_text(end))?;
+    push_number(out, u64::from(board.time()))?;
+    end_line(out)
+}
+
+/// The name of how a run ended.
+fn end_text(end: RunEnd) -> &'static [u8]
+    ensures { result.now ≡ end_text end }
+{
+    match end {
+        RunEnd::Limit => b"limit",
+        RunEnd::Idle => b"idle",
+    }
+}
+
+/// Appends the lines of each environment.
+fn push_envs(out: &mut Vec<u8>, board: &Board) -> Result<(), OutOfMemory>
+    ensures { OnOk result (out.new.items ≡ out.old.items ++ for_each_env (env_text (world_of board.now)) (world_of board.now).count) }
+{
+    for env in 0..board.envs() {
+        push_env(out, board, env)?;
+    }
+    Ok(())
+}
+
+/// Appends the sums of each environment.
+fn push_sums(out: &mut Vec<u8>, board: &Board) -> Result<(), OutOfMemory>
+    ensures { OnOk result (out.new.items ≡ out.old.items ++ for_each_env (sum_line (world_of board.now).rows) (world_of board.now).count) }
+{
+    for env in 0..board.envs() {
+        push_sum_line(out, board.journal(), env)?;
+    }
+    Ok(())
+}

@@ -1,0 +1,86 @@
+//! The words of a line. A line begins with a word of its own, each word after it stands behind a
+//! space, and a line feed ends it.
+ghost use Rattle.std.specs.Prelude.{◌≡◌, ◌++◌, ◌∷◌, [], ◌≤◌, OnOk};
+ghost use Rattle.line_text.specs.Text.{dec_text, hex_text, quoted_text};
+ghost use Rattle.world_model.specs.Report.{spaced, or_dash, flag_text, quotation};
+
+use edge_io::OutOfMemory;
+use line_text::{push_dec, push_hex, push_quoted};
+
+/// Appends bytes as they are.
+pub(crate) fn push_text(out: &mut Vec<u8>, text: &[u8]) -> Result<(), OutOfMemory>
+    ensures { OnOk result (out.new.items ≡ out.old.items ++ text.now) }
+{
+    out.extend_from_slice(text)?;
+    Ok(())
+}
+
+/// Ends a line.
+pub(crate) fn end_line(out: &mut Vec<u8>) -> Result<(), OutOfMemory>
+    ensures { OnOk result (out.new.items ≡ out.old.items ++ 10 ∷ []) }
+{
+    out.push(b'\n')?;
+    Ok(())
+}
+
+/// Appends a word.
+pub(crate) fn push_word(out: &mut Vec<u8>, word: &[u8]) -> Result<(), OutOfMemory>
+    ensures { OnOk result (out.new.items ≡ out.old.items ++ spaced word.now) }
+{
+    out.push(b' ')?;
+    out.extend_from_slice(word)?;
+    Ok(())
+}
+
+/// Appends a number in decimal as a word.
+pub(crate) fn push_number(out: &mut Vec<u8>, n: u64) -> Result<(), OutOfMemory>
+    ensures { OnOk result (out.new.items ≡ out.old.items ++ spaced (dec_text n)) }
+{
+    out.push(b' ')?;
+    push_dec(out, n)
+}
+
+/// Appends so many hexadecimal digits of a number as a word.
+pub(crate) fn push_digits(out: &mut Vec<u8>, n: u32, digits: u8) -> Result<(), OutOfMemory>
+    requires { (1 ≤ digits) × (digits ≤ 8) }
+    ensures { OnOk result (out.new.items ≡ out.old.items ++ spaced (hex_text digits n)) }
+{
+    out.push(b' ')?;
+    push_hex(out, n, digits)
+}
+
+/// Appends a number in decimal as a word, or a dash where there is none.
+pub(crate) fn push_number_or_dash(out: &mut Vec<u8>, n: Option<u32>) -> Result<(), OutOfMemory>
+    ensures { OnOk result (out.new.items ≡ out.old.items ++ spaced (or_dash n)) }
+{
+    match n {
+        Some(n) => push_number(out, u64::from(n)),
+        None => push_word(out, b"-"),
+    }
+}
+
+/// Appends an environment's number as a word, or a dash where there is none.
+pub(crate) fn push_env_or_dash(out: &mut Vec<u8>, env: Option<u8>) -> Result<(), OutOfMemory>
+    ensures { OnOk result (out.new.items ≡ out.old.items ++ spaced (or_dash env)) }
+{
+    match env {
+        Some(env) => push_number(out, u64::from(env)),
+        None => push_word(out, b"-"),
+    }
+}
+
+/// Appends 1 or 0 as a word.
+pub(crate) fn push_flag(out: &mut Vec<u8>, flag: bool) -> Result<(), OutOfMemory>
+    ensures { OnOk result (out.new.items ≡ out.old.items ++ spaced (flag_text flag)) }
+{
+    push_word(out, if flag { b"1" } else { b"0" })
+}
+
+/// Appends bytes between quotation marks as a word.
+pub(crate) fn push_quotation(out: &mut Vec<u8>, bytes: &[u8]) -> Result<(), OutOfMemory>
+    ensures { OnOk result (out.new.items ≡ out.old.items ++ spaced (quotation bytes.now)) }
+{
+    push_text(out, b" \"")?;
+    push_quoted(out, bytes)?;
+    push_text(out, b"\"")
+}
