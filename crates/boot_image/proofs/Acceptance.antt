@@ -85,6 +85,7 @@ program_fits file header program few =
     = simp (length-take, length-drop) (omega (arith, program.whole)) in
     record {
       name = program.name;
+      name_length = simp (length-take, length-drop) (omega (arith, program.whole));
       aligned = grind (arith, program.base);
       above = grind (arith, program.base);
       below = grind (arith, program.base, size);
