@@ -11,19 +11,9 @@ use Rattle.boot_image.specs.ImageFaults.{◌or_else◌, is_within, is_name, is_b
 use Rattle.boot_image.specs.Accepted.{IsFitting, IsAccepted}
 
 -- neither of two things has a fault
-neither : (a b : Option ImageFault) → (a or_else b) ≡ None → (a ≡ None) × (b ≡ None)
+pub neither : (a b : Option ImageFault) → (a or_else b) ≡ None → (a ≡ None) × (b ≡ None)
 neither None b none = (refl, none)
 neither (Some fault) b none = absurd cc
-
--- a sentence that doesn't hold, and those after it
-passed : (test : Bool) (found : ImageFault) (later : Option ImageFault) → cond test (Some found) later ≡ None → (test ≡ false) × (later ≡ None)
-passed false found later none = (refl, none)
-passed true found later none = absurd cc
-
-within : (least most number : ℕ) → not (is_within least most number) ≡ false → (least ≤ number) × (number ≤ most)
-within least most number test =
-    let parts = and_parts (leb least number) (leb number most) (not-false _ test) in
-    (leb-true least number parts.0, leb-true number most parts.1)
 
 record Header (file : List ℕ) : Type 0 where
   pub pages_least : 16 ≤ pages_in file

@@ -4,6 +4,7 @@ ghost use Rattle.boot_image.specs.ImageValue.{image_of};
 ghost use Rattle.boot_image.specs.ImageFaults.{image_fault};
 ghost use Rattle.boot_image.specs.Seen.{Answers, image_seen};
 ghost use Rattle.boot_image.specs.Accepted.{IsAccepted};
+ghost use Rattle.boot_image.specs.Spelling.{image_text};
 
 use crate::fault::{ImageFault, ImageWhy};
 use crate::header::{HEADER_SIZE, read_header, read_slots};
@@ -17,6 +18,7 @@ pub fn read_image(file: &[u8]) -> Result<Image<'_>, ImageFault>
     ensures ok { IfOk result (λ image. (image_fault file.now ≡ None) × (image_seen image ≡ image_of file.now)) }
     ensures err { IfErr result (λ fault. image_fault file.now ≡ Some fault) }
     ensures accepted { IfOk result (λ image. IsAccepted (image_seen image)) }
+    ensures spelled { IfOk result (λ image. file.now ≡ image_text (image_seen image)) }
 {
     read(file)
 }

@@ -1,5 +1,10 @@
+use Rattle.std.proofs.Common.{arith}
 use Rattle.boot_image.proofs.Acceptance.{read_is_accepted}
+use Rattle.boot_image.proofs.Spelled.{read_is_spelled}
 use Rattle.boot_image.proofs.reading.read_image.Goals as goal
 
 pub returns-clause-accepted : goal.returns-clause-accepted
 returns-clause-accepted c = read_is_accepted c.args.file.now c.read.result c.read.ensures
+
+pub returns-clause-spelled : goal.returns-clause-spelled
+returns-clause-spelled c = read_is_spelled c.args.file.now c.read.result (λ i. omega (arith, c.type_inv.file i)) c.read.ensures
