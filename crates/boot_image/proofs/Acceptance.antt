@@ -1,13 +1,12 @@
 -- An image without a fault is within its limits.
-use Rattle.std.proofs.Common.{◌≡◌, ◌≤◌, ◌<◌, ℕ, ◌+◌, Bool, true, false, cond, not, leb, List, [], ◌∷◌, Option, None, Some, map, length, take, drop, refl, ap, sym, arith, subst}
+use Rattle.std.proofs.Common.{◌≡◌, ◌≤◌, ◌<◌, ℕ, ◌+◌, true, List, [], ◌∷◌, Option, None, Some, map, length, take, drop, refl, ap, sym, arith, subst}
 use Rattle.std.specs.Prelude.{sum_by, IfOk, Result, Ok, Err}
 use Rattle.boot_image.specs.declared.image.Image.{Image}
 use Rattle.boot_image.specs.Seen.{Answers, image_seen}
-use Rattle.std.proofs.lemmas.Bool.{leb-true, not-false, and_parts}
 use Rattle.std.proofs.lemmas.List.{length-take, length-drop}
 use Rattle.boot_image.specs.declared.fault.ImageFault.{ImageFault}
 use Rattle.boot_image.specs.ImageValue.{ProgramValue, ImageValue, pages_in, quantum_in, environments_in, slots_in, slot_bytes, owner_of, first_header, name_in, base_in, stack_in, length_in, body_end, headers, program_at, image_of, guaranteed_mappings}
-use Rattle.boot_image.specs.ImageFaults.{◌or_else◌, is_within, is_name, is_base, header_fault, slot_fault, owners_fault, slots_fault, program_fault, first_fault, mappings_fault, pages_fault, image_fault}
+use Rattle.boot_image.specs.ImageFaults.{◌or_else◌, is_name, is_base, header_fault, slot_fault, owners_fault, slots_fault, program_fault, first_fault, mappings_fault, pages_fault, image_fault}
 use Rattle.boot_image.specs.Accepted.{IsFitting, IsAccepted}
 
 -- neither of two things has a fault

@@ -1,19 +1,19 @@
 -- A file without a fault is the spelling of its image.
-use Rattle.std.proofs.Common.{◌≡◌, ◌≤◌, ◌<◌, ℕ, zero, suc, ◌+◌, List, [], ◌∷◌, ◌++◌, Option, None, Some, map, length, take, drop, true, inl, inr, get_or, refl, ap, sym, ◌∙◌, append_assoc, arith, subst}
+use Rattle.std.proofs.Common.{◌≡◌, ◌≤◌, ◌<◌, ℕ, zero, suc, ◌+◌, List, [], ◌∷◌, ◌++◌, None, map, length, take, drop, true, inl, inr, get_or, refl, ap, sym, ◌∙◌, append_assoc, arith, subst}
 use Rattle.std.specs.Prelude.{codes, Result, Ok, Err, IfOk}
 use Rattle.boot_image.specs.declared.fault.ImageFault.{ImageFault}
 use Rattle.boot_image.specs.declared.image.Image.{Image}
 use Rattle.boot_image.specs.Seen.{Answers, image_seen}
 use Rattle.std.specs.List.{flat_map}
 use Rattle.std.specs.Int.{w16, w32, to_le_bytes}
-use Rattle.std.proofs.lemmas.Bool.{cases_lt, cases_eq}
+use Rattle.std.proofs.lemmas.Bool.{cases_lt}
 use Rattle.std.proofs.lemmas.List.{length-take, length-drop, length-map, take-append-drop, drop-drop, get_or-drop, get_or-take, get_or_past, append-nil, nil_from_length}
 use Rattle.std.proofs.lemmas.List.Concat.{flat_map-cons}
 use Rattle.std.proofs.lemmas.Nat.{le_bytes_2, le_bytes_4}
 use lib.Pointwise.{bytes_decides}
 use Rattle.boot_image.specs.Numbers.{half_at, word_at}
-use Rattle.boot_image.specs.ImageValue.{ProgramValue, ImageValue, slots_in, slot_bytes, owner_of, environments_in, first_header, body_end, bodies_end, headers_from, headers, program_at, image_of, kind_in, length_in}
-use Rattle.boot_image.specs.ImageFaults.{◌or_else◌, has_magic, header_fault, slots_fault, owners_fault, program_fault, first_fault, trailing_fault, image_fault}
+use Rattle.boot_image.specs.ImageValue.{ImageValue, slots_in, slot_bytes, owner_of, environments_in, first_header, body_end, bodies_end, headers_from, headers, program_at, image_of, kind_in, length_in}
+use Rattle.boot_image.specs.ImageFaults.{has_magic, header_fault, slots_fault, program_fault, first_fault, trailing_fault, image_fault}
 use Rattle.boot_image.specs.Spelling.{slot_byte, program_text, image_text}
 use Rattle.boot_image.proofs.Acceptance.{neither}
 
@@ -50,7 +50,7 @@ unfolding Stands word_at
 word_stands file i j fits ends within =
     let four : length (take 4 (drop i file)) ≡ 4 = simp (length-take, length-drop) (omega arith) in
     let same : to_le_bytes w32 (word_at file i) ≡ take 4 (drop i file)
-      = le_bytes_4 (take 4 (drop i file)) (word_at file i) four (IsBytes-take 4 (drop i file) (IsBytes-drop i file fits)) refl in
+    = le_bytes_4 (take 4 (drop i file)) (word_at file i) four (IsBytes-take 4 (drop i file) (IsBytes-drop i file fits)) refl in
     subst (λ (text : List ℕ). Stands file i text j) (sym same) (bytes_stand file i 4 j ends)
 
 half_stands : (file : List ℕ) (i j : ℕ) → IsBytes file → i + 2 ≡ j → j ≤ length file → Stands file i (to_le_bytes w16 (half_at file i)) j
@@ -58,7 +58,7 @@ unfolding Stands half_at
 half_stands file i j fits ends within =
     let two : length (take 2 (drop i file)) ≡ 2 = simp (length-take, length-drop) (omega arith) in
     let same : to_le_bytes w16 (half_at file i) ≡ take 2 (drop i file)
-      = le_bytes_2 (take 2 (drop i file)) (half_at file i) two (IsBytes-take 2 (drop i file) (IsBytes-drop i file fits)) refl in
+    = le_bytes_2 (take 2 (drop i file)) (half_at file i) two (IsBytes-take 2 (drop i file) (IsBytes-drop i file fits)) refl in
     subst (λ (text : List ℕ). Stands file i text j) (sym same) (bytes_stand file i 2 j ends)
 
 -- the owners are the slot bytes again
@@ -81,15 +81,15 @@ unfolding program_at
 program_stands file header fits none =
     let passes = program_passes file header none in
     let size : length (take (length_in file header) (drop (header + 28) file)) ≡ length_in file header
-      = simp (length-take, length-drop) (omega (arith, passes.whole)) in
+    = simp (length-take, length-drop) (omega (arith, passes.whole)) in
     let name = bytes_stand file header 8 (header + 8) refl in
     let base = word_stands file (header + 8) (header + 12) fits (omega arith) (omega (arith, passes.whole)) in
     let stack = word_stands file (header + 12) (header + 16) fits (omega arith) (omega (arith, passes.whole)) in
     let accept = word_stands file (header + 16) (header + 20) fits (omega arith) (omega (arith, passes.whole)) in
     let kind = subst (λ (n : ℕ). Stands file (header + 20) (to_le_bytes w32 n) (header + 24)) passes.kind
-      (word_stands file (header + 20) (header + 24) fits (omega arith) (omega (arith, passes.whole))) in
+    (word_stands file (header + 20) (header + 24) fits (omega arith) (omega (arith, passes.whole))) in
     let count = subst (λ (n : ℕ). Stands file (header + 24) (to_le_bytes w32 n) (header + 28)) (sym size)
-      (word_stands file (header + 24) (header + 28) fits (omega arith) (omega (arith, passes.whole))) in
+    (word_stands file (header + 24) (header + 28) fits (omega arith) (omega (arith, passes.whole))) in
     let body = bytes_stand file (header + 28) (length_in file header) (body_end file header) refl in
     let with_base = stands_then file header _ (header + 8) _ (header + 12) name base in
     let with_stack = stands_then file header _ (header + 12) _ (header + 16) with_base stack in
@@ -152,9 +152,9 @@ spelled file fits none =
     let end = bodies_end (environments_in file) file (first_header file) in
     let slots_whole = slots_pass file slots_none in
     let programs_count : length (map (program_at file) (headers file)) ≡ environments_in file
-      = length-map (headers file) (program_at file) ∙ length-headers_from (environments_in file) file (first_header file) in
+    = length-map (headers file) (program_at file) ∙ length-headers_from (environments_in file) file (first_header file) in
     let slots_count : length (map owner_of (slot_bytes file)) ≡ slots_in file
-      = length-map (slot_bytes file) owner_of ∙ simp (length-take, length-drop) (omega arith) in
+    = length-map (slot_bytes file) owner_of ∙ simp (length-take, length-drop) (omega arith) in
     let magic = magic_stands file header.magic in
     let pages = word_stands file 4 8 fits refl (omega (arith, header.whole)) in
     let quantum = word_stands file 8 12 fits refl (omega (arith, header.whole)) in
