@@ -6,6 +6,8 @@ mod encoder;
 mod fields;
 mod insn;
 mod laws;
+#[cfg(test)]
+mod tests;
 mod words;
 
 pub use decoder::decode;
