@@ -137,7 +137,8 @@ fn instruction(word: u32) -> Insn
     }
 }
 
-/// The instruction that a word spells.
+/// The instruction that a word spells: one for every word, `Reserved` where the table has no other
+/// (`docs/MACHINE.md`, "Encoding").
 pub fn decode(word: u32) -> Insn
     ensures spells { Spells word result }
     ensures value { result ≡ insn_of word }
