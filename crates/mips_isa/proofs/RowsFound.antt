@@ -24,7 +24,7 @@ by_clear P false hit other on_hit on_other = on_other
 by_key : (P : Insn → Type 0) (key k : ℕ) (hit rest : Insn) → (key ≡ k → P hit) → P rest → P (if key == k then hit else rest)
 by_key P key k hit rest on_hit on_rest =
     elim (eqb_tells key k) [
-        inl (test, is) ↦ rw test (on_hit is)
+      | inl (test, is) ↦ rw test (on_hit is)
       | inr (test, is) ↦ rw test on_rest
     ]
 
@@ -96,47 +96,109 @@ module _ (w function : ℕ) (op_is : opcode_of w ≡ 0) (function_is : function_
 special_of-found : (w : ℕ) → opcode_of w ≡ 0 → IsFound w (special_of w)
 unfolding special_of
 special_of-found w op_is =
-    find_row-All (IsFound w) (function_of w) (special_rows w) (Reserved w)
-    ( λ is clear. inl (without_rs w 0 op_is is clear)
-    ,     ( λ is clear. inl (without_rs w 2 op_is is clear)
-    ,     ( λ is clear. inl (without_rs w 3 op_is is clear)
-    ,     ( λ is clear. inl (without_sh w 4 op_is is clear)
-    ,     ( λ is clear. inl (without_sh w 6 op_is is clear)
-    ,     ( λ is clear. inl (without_sh w 7 op_is is clear)
-    ,     ( λ is clear. inl (without_rt_rd_sh w 8 op_is is clear)
-    ,     ( λ is clear. inl (without_rt_sh w 9 op_is is clear)
-    ,     ( λ is clear. inl (IsCoded-whole w 12 op_is is)
-    ,     ( λ is clear. inl (IsCoded-whole w 13 op_is is)
-    ,     ( λ is clear. inl (without_rs_rt_sh w 16 op_is is clear)
-    ,     ( λ is clear. inl (without_rs_rt_sh w 18 op_is is clear)
-    ,     ( λ is clear. inl (without_rt_rd_sh w 17 op_is is clear)
-    ,     ( λ is clear. inl (without_rt_rd_sh w 19 op_is is clear)
-    ,     ( λ is clear. inl (without_rd_sh w 24 op_is is clear)
-    ,     ( λ is clear. inl (without_rd_sh w 25 op_is is clear)
-    ,     ( λ is clear. inl (without_rd_sh w 26 op_is is clear)
-    ,     ( λ is clear. inl (without_rd_sh w 27 op_is is clear)
-    ,     ( λ is clear. inl (without_sh w 32 op_is is clear)
-    ,     ( λ is clear. inl (without_sh w 34 op_is is clear)
-    ,     ( λ is clear. inl (without_sh w 33 op_is is clear)
-    ,     ( λ is clear. inl (without_sh w 35 op_is is clear)
-    ,     ( λ is clear. inl (without_sh w 36 op_is is clear)
-    ,     ( λ is clear. inl (without_sh w 37 op_is is clear)
-    ,     ( λ is clear. inl (without_sh w 38 op_is is clear)
-    ,     ( λ is clear. inl (without_sh w 39 op_is is clear)
-    ,     ( λ is clear. inl (without_sh w 42 op_is is clear)
-    ,     ( λ is clear. inl (without_sh w 43 op_is is clear)
-    , tt ) ) ) ) ) ) ) ) ) ) ) ) ) ) ) ) ) ) ) ) ) ) ) ) ) ) ) )
+    find_row-All (IsFound w) (function_of w) (special_rows w) (Reserved w) (
+      λ is clear. inl (without_rs w 0 op_is is clear),
+      (
+        λ is clear. inl (without_rs w 2 op_is is clear),
+        (
+          λ is clear. inl (without_rs w 3 op_is is clear),
+          (
+            λ is clear. inl (without_sh w 4 op_is is clear),
+            (
+              λ is clear. inl (without_sh w 6 op_is is clear),
+              (
+                λ is clear. inl (without_sh w 7 op_is is clear),
+                (
+                  λ is clear. inl (without_rt_rd_sh w 8 op_is is clear),
+                  (
+                    λ is clear. inl (without_rt_sh w 9 op_is is clear),
+                    (
+                      λ is clear. inl (IsCoded-whole w 12 op_is is),
+                      (
+                        λ is clear. inl (IsCoded-whole w 13 op_is is),
+                        (
+                          λ is clear. inl (without_rs_rt_sh w 16 op_is is clear),
+                          (
+                            λ is clear. inl (without_rs_rt_sh w 18 op_is is clear),
+                            (
+                              λ is clear. inl (without_rt_rd_sh w 17 op_is is clear),
+                              (
+                                λ is clear. inl (without_rt_rd_sh w 19 op_is is clear),
+                                (
+                                  λ is clear. inl (without_rd_sh w 24 op_is is clear),
+                                  (
+                                    λ is clear. inl (without_rd_sh w 25 op_is is clear),
+                                    (
+                                      λ is clear. inl (without_rd_sh w 26 op_is is clear),
+                                      (
+                                        λ is clear. inl (without_rd_sh w 27 op_is is clear),
+                                        (
+                                          λ is clear. inl (without_sh w 32 op_is is clear),
+                                          (
+                                            λ is clear. inl (without_sh w 34 op_is is clear),
+                                            (
+                                              λ is clear. inl (without_sh w 33 op_is is clear),
+                                              (
+                                                λ is clear. inl (without_sh w 35 op_is is clear),
+                                                (
+                                                  λ is clear. inl (without_sh w 36 op_is is clear),
+                                                  (
+                                                    λ is clear. inl (without_sh w 37 op_is is clear),
+                                                    (
+                                                      λ is clear. inl (without_sh w 38 op_is is clear),
+                                                      (
+                                                        λ is clear. inl (without_sh w 39 op_is is clear),
+                                                        (
+                                                          λ is clear. inl (without_sh w 42 op_is is clear),
+                                                          (
+                                                            λ is clear. inl (without_sh w 43 op_is is clear),
+                                                            tt,
+                                                          ),
+                                                        ),
+                                                      ),
+                                                    ),
+                                                  ),
+                                                ),
+                                              ),
+                                            ),
+                                          ),
+                                        ),
+                                      ),
+                                    ),
+                                  ),
+                                ),
+                              ),
+                            ),
+                          ),
+                        ),
+                      ),
+                    ),
+                  ),
+                ),
+              ),
+            ),
+          ),
+        ),
+      ),
+    )
     (inr refl)
 
 regimm_of-found : (w : ℕ) → opcode_of w ≡ 1 → IsFound w (regimm_of w)
 unfolding regimm_of
 regimm_of-found w op_is =
-    find_row-All (IsFound w) (rt_of w) (regimm_rows w) (Reserved w)
-    ( λ is clear. inl (rw is at (IsIType-whole w 1 op_is))
-    ,     ( λ is clear. inl (rw is at (IsIType-whole w 1 op_is))
-    ,     ( λ is clear. inl (rw is at (IsIType-whole w 1 op_is))
-    ,     ( λ is clear. inl (rw is at (IsIType-whole w 1 op_is))
-    , tt ) ) ) )
+    find_row-All (IsFound w) (rt_of w) (regimm_rows w) (Reserved w) (
+      λ is clear. inl (rw is at (IsIType-whole w 1 op_is)),
+      (
+        λ is clear. inl (rw is at (IsIType-whole w 1 op_is)),
+        (
+          λ is clear. inl (rw is at (IsIType-whole w 1 op_is)),
+          (
+            λ is clear. inl (rw is at (IsIType-whole w 1 op_is)),
+            tt,
+          ),
+        ),
+      ),
+    )
     (inr refl)
 
 IsRType-operation : (w operation : ℕ) → opcode_of w ≡ 16 → rs_of w ≡ 16 → operation < 2 ^ 6 → w % 2 ^ 21 ≡ operation → IsRType w 16 16 0 0 0 operation
@@ -151,13 +213,22 @@ IsRType-operation w operation op_is rs_is below is = record {
 system_operation_of-found : (w : ℕ) → opcode_of w ≡ 16 → rs_of w ≡ 16 → IsFound w (system_operation_of w)
 unfolding system_operation_of
 system_operation_of-found w op_is rs_is =
-    find_row-All (IsFound w) (w % 2 ^ 21) system_operation_rows (Reserved w)
-    ( λ is clear. inl (IsRType-operation w 1 op_is rs_is (lit< tt) is)
-    ,     ( λ is clear. inl (IsRType-operation w 2 op_is rs_is (lit< tt) is)
-    ,     ( λ is clear. inl (IsRType-operation w 6 op_is rs_is (lit< tt) is)
-    ,     ( λ is clear. inl (IsRType-operation w 8 op_is rs_is (lit< tt) is)
-    ,     ( λ is clear. inl (IsRType-operation w 16 op_is rs_is (lit< tt) is)
-    , tt ) ) ) ) )
+    find_row-All (IsFound w) (w % 2 ^ 21) system_operation_rows (Reserved w) (
+      λ is clear. inl (IsRType-operation w 1 op_is rs_is (lit< tt) is),
+      (
+        λ is clear. inl (IsRType-operation w 2 op_is rs_is (lit< tt) is),
+        (
+          λ is clear. inl (IsRType-operation w 6 op_is rs_is (lit< tt) is),
+          (
+            λ is clear. inl (IsRType-operation w 8 op_is rs_is (lit< tt) is),
+            (
+              λ is clear. inl (IsRType-operation w 16 op_is rs_is (lit< tt) is),
+              tt,
+            ),
+          ),
+        ),
+      ),
+    )
     (inr refl)
 
 IsRType-move : (w form : ℕ) → opcode_of w ≡ 16 → rs_of w ≡ form → IsTrue (w % 2 ^ 11 == 0) → IsRType w 16 form (rt_of w) (rd_of w) 0 0
@@ -174,11 +245,16 @@ IsRType-move w form op_is rs_is clear =
 system_of-found : (w : ℕ) → opcode_of w ≡ 16 → IsFound w (system_of w)
 unfolding system_of
 system_of-found w op_is =
-    find_row-All (IsFound w) (rs_of w) (system_rows w) (Reserved w)
-    ( λ is clear. inl (IsRType-move w 0 op_is is clear)
-    ,     ( λ is clear. inl (IsRType-move w 4 op_is is clear)
-    ,     ( λ is clear. system_operation_of-found w op_is is
-    , tt ) ) )
+    find_row-All (IsFound w) (rs_of w) (system_rows w) (Reserved w) (
+      λ is clear. inl (IsRType-move w 0 op_is is clear),
+      (
+        λ is clear. inl (IsRType-move w 4 op_is is clear),
+        (
+          λ is clear. system_operation_of-found w op_is is,
+          tt,
+        ),
+      ),
+    )
     (inr refl)
 
 coprocessor_of-found : (w : ℕ) → IsFound w (coprocessor_of w)
@@ -190,35 +266,92 @@ coprocessor_of-found w =
 pub insn_of-found : (w : ℕ) → IsFound w (insn_of w)
 unfolding insn_of
 insn_of-found w =
-    find_row-All (IsFound w) (opcode_of w) (opcode_rows w) (coprocessor_of w)
-    ( λ is clear. special_of-found w is
-    ,     ( λ is clear. regimm_of-found w is
-    ,     ( λ is clear. inl (IsJType-whole w 2 is)
-    ,     ( λ is clear. inl (IsJType-whole w 3 is)
-    ,     ( λ is clear. inl (IsIType-whole w 4 is)
-    ,     ( λ is clear. inl (IsIType-whole w 5 is)
-    ,     ( λ is clear. inl (rw (eqb-true _ _ clear) at (IsIType-whole w 6 is))
-    ,     ( λ is clear. inl (rw (eqb-true _ _ clear) at (IsIType-whole w 7 is))
-    ,     ( λ is clear. inl (IsIType-whole w 8 is)
-    ,     ( λ is clear. inl (IsIType-whole w 9 is)
-    ,     ( λ is clear. inl (IsIType-whole w 10 is)
-    ,     ( λ is clear. inl (IsIType-whole w 11 is)
-    ,     ( λ is clear. inl (IsIType-whole w 12 is)
-    ,     ( λ is clear. inl (IsIType-whole w 13 is)
-    ,     ( λ is clear. inl (IsIType-whole w 14 is)
-    ,     ( λ is clear. inl (rw (eqb-true _ _ clear) at (IsIType-whole w 15 is))
-    ,     ( λ is clear. system_of-found w is
-    ,     ( λ is clear. inl (IsIType-whole w 32 is)
-    ,     ( λ is clear. inl (IsIType-whole w 33 is)
-    ,     ( λ is clear. inl (IsIType-whole w 36 is)
-    ,     ( λ is clear. inl (IsIType-whole w 37 is)
-    ,     ( λ is clear. inl (IsIType-whole w 35 is)
-    ,     ( λ is clear. inl (IsIType-whole w 34 is)
-    ,     ( λ is clear. inl (IsIType-whole w 38 is)
-    ,     ( λ is clear. inl (IsIType-whole w 40 is)
-    ,     ( λ is clear. inl (IsIType-whole w 41 is)
-    ,     ( λ is clear. inl (IsIType-whole w 43 is)
-    ,     ( λ is clear. inl (IsIType-whole w 42 is)
-    ,     ( λ is clear. inl (IsIType-whole w 46 is)
-    , tt ) ) ) ) ) ) ) ) ) ) ) ) ) ) ) ) ) ) ) ) ) ) ) ) ) ) ) ) )
+    find_row-All (IsFound w) (opcode_of w) (opcode_rows w) (coprocessor_of w) (
+      λ is clear. special_of-found w is,
+      (
+        λ is clear. regimm_of-found w is,
+        (
+          λ is clear. inl (IsJType-whole w 2 is),
+          (
+            λ is clear. inl (IsJType-whole w 3 is),
+            (
+              λ is clear. inl (IsIType-whole w 4 is),
+              (
+                λ is clear. inl (IsIType-whole w 5 is),
+                (
+                  λ is clear. inl (rw (eqb-true _ _ clear) at (IsIType-whole w 6 is)),
+                  (
+                    λ is clear. inl (rw (eqb-true _ _ clear) at (IsIType-whole w 7 is)),
+                    (
+                      λ is clear. inl (IsIType-whole w 8 is),
+                      (
+                        λ is clear. inl (IsIType-whole w 9 is),
+                        (
+                          λ is clear. inl (IsIType-whole w 10 is),
+                          (
+                            λ is clear. inl (IsIType-whole w 11 is),
+                            (
+                              λ is clear. inl (IsIType-whole w 12 is),
+                              (
+                                λ is clear. inl (IsIType-whole w 13 is),
+                                (
+                                  λ is clear. inl (IsIType-whole w 14 is),
+                                  (
+                                    λ is clear. inl (rw (eqb-true _ _ clear) at (IsIType-whole w 15 is)),
+                                    (
+                                      λ is clear. system_of-found w is,
+                                      (
+                                        λ is clear. inl (IsIType-whole w 32 is),
+                                        (
+                                          λ is clear. inl (IsIType-whole w 33 is),
+                                          (
+                                            λ is clear. inl (IsIType-whole w 36 is),
+                                            (
+                                              λ is clear. inl (IsIType-whole w 37 is),
+                                              (
+                                                λ is clear. inl (IsIType-whole w 35 is),
+                                                (
+                                                  λ is clear. inl (IsIType-whole w 34 is),
+                                                  (
+                                                    λ is clear. inl (IsIType-whole w 38 is),
+                                                    (
+                                                      λ is clear. inl (IsIType-whole w 40 is),
+                                                      (
+                                                        λ is clear. inl (IsIType-whole w 41 is),
+                                                        (
+                                                          λ is clear. inl (IsIType-whole w 43 is),
+                                                          (
+                                                            λ is clear. inl (IsIType-whole w 42 is),
+                                                            (
+                                                              λ is clear. inl (IsIType-whole w 46 is),
+                                                              tt,
+                                                            ),
+                                                          ),
+                                                        ),
+                                                      ),
+                                                    ),
+                                                  ),
+                                                ),
+                                              ),
+                                            ),
+                                          ),
+                                        ),
+                                      ),
+                                    ),
+                                  ),
+                                ),
+                              ),
+                            ),
+                          ),
+                        ),
+                      ),
+                    ),
+                  ),
+                ),
+              ),
+            ),
+          ),
+        ),
+      ),
+    )
     (coprocessor_of-found w)

@@ -71,21 +71,21 @@ insn_of-coprocessor : (w op : ℕ) → IsTrue (is_coprocessor op) → opcode_of 
 unfolding insn_of
 insn_of-coprocessor w op is at =
     elim (coprocessor_range op is) [
-        inl (above, below) ↦ elim (one_of_three op 17 above below) [
-            inl e ↦ rw (at, e)
-          | inr (inl e) ↦ rw (at, e)
-          | inr (inr e) ↦ rw (at, e)
-        ]
+      | inl (above, below) ↦ elim (one_of_three op 17 above below) [
+        | inl e ↦ rw (at, e)
+        | inr (inl e) ↦ rw (at, e)
+        | inr (inr e) ↦ rw (at, e)
+      ]
       | inr (inl (above, below)) ↦ elim (one_of_three op 49 above below) [
-            inl e ↦ rw (at, e)
-          | inr (inl e) ↦ rw (at, e)
-          | inr (inr e) ↦ rw (at, e)
-        ]
+        | inl e ↦ rw (at, e)
+        | inr (inl e) ↦ rw (at, e)
+        | inr (inr e) ↦ rw (at, e)
+      ]
       | inr (inr (above, below)) ↦ elim (one_of_three op 57 above below) [
-            inl e ↦ rw (at, e)
-          | inr (inl e) ↦ rw (at, e)
-          | inr (inr e) ↦ rw (at, e)
-        ]
+        | inl e ↦ rw (at, e)
+        | inr (inl e) ↦ rw (at, e)
+        | inr (inr e) ↦ rw (at, e)
+      ]
     ]
 
 pub insn_of-row : (w : ℕ) (insn : Insn) → IsRow w insn → insn_of w ≡ insn

@@ -32,11 +32,11 @@ row_spelled w _ spells = inl spells
 pub insn_of-spelled : (w : ℕ) (insn : Insn) → Spells w insn → insn ≡ insn_of w
 insn_of-spelled w insn spells =
     elim (row_spelled w insn spells) [
-        inl has ↦ sym (insn_of-row w insn has)
+      | inl has ↦ sym (insn_of-row w insn has)
       | inr (is, none) ↦ elim (insn_of-found w) [
-            inl has ↦ absurd (none (insn_of w) has)
-          | inr read ↦ is ∙ sym read
-        ]
+        | inl has ↦ absurd (none (insn_of w) has)
+        | inr read ↦ is ∙ sym read
+      ]
     ]
 
 pub one_word : (v w : ℕ) (insn : Insn) → Spells v insn → Spells w insn → v ≡ w
