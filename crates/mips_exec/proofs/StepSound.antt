@@ -1,14 +1,14 @@
 -- Words stay words, and what a step writes is a write.
-use Rattle.std.proofs.Common.{◌≡◌, ◌≢◌, ℕ, Option, Some, None, refl, Bool, true, false, List, [], ◌∷◌, Ok, Err, Result, ◌%◌, ◌<◌, ◌≤◌, ◌+◌, ◌-◌, ◌*◌, ◌/◌, ◌^◌, arith, ◌∙◌, length, take, ◌==◌, if◌then◌else◌}
+use Rattle.std.proofs.Common.{◌≡◌, ℕ, Option, Some, None, refl, Bool, true, false, [], ◌∷◌, Ok, Err, Result, ◌%◌, ◌<◌, ◌≤◌, ◌+◌, ◌*◌, ◌/◌, ◌^◌, arith, ◌∙◌, length, ◌==◌, if◌then◌else◌}
 use Rattle.std.specs.Prelude.{IfSome, slice_set, get_or, zero, suc}
 use Rattle.std.specs.List.{All}
 use Rattle.std.specs.Int.{w32, to_le_bytes}
 use Rattle.std.proofs.lemmas.List.{length-set, length-take-le}
 use Rattle.std.proofs.lemmas.List.Elements.{All-set, All-take}
-use mathlib.Core.Path.{ap, subst, sym}
+use mathlib.Core.Path.{ap, subst}
 use Rattle.mips_isa.specs.Decoding.{insn_of}
 use Rattle.mips_isa.specs.declared.insn.Insn.{Insn}
-use Rattle.mips_isa.specs.declared.insn.Insn.TheVariants.{Sb, Sh, Swl, Sw, Swr, Lb, Lh, Lwl, Lw, Lbu, Lhu, Lwr}
+use Rattle.mips_isa.specs.declared.insn.Insn.TheVariants.{Sb, Sh, Swl, Sw, Swr}
 use Rattle.mips_exec.specs.declared.registers.Cpu.{Cpu}
 use Rattle.mips_exec.specs.declared.exception.Exc.{Exc}
 use Rattle.mips_exec.specs.declared.reach.Spot.{Spot}
@@ -20,8 +20,8 @@ use Rattle.mips_exec.specs.declared.exception.ExcCode.TheVariants.{Ades}
 use Rattle.mips_exec.specs.Exception.{plain}
 use Rattle.mips_exec.specs.Word.{word_of}
 use Rattle.mips_exec.specs.Effect.{effect, changed, Change, Puts, PutsHiLo, Passes, Jumps, JumpsAndLinks, Calls, Raises}
-use Rattle.mips_exec.specs.Step.{Answers, Step, answered, answered_if, access_after, without_value, fetched, ended, executed, decoded, step_of, view_of, write_after, cpu_after}
-use Rattle.mips_exec.specs.Kept.{HasWords, IsWrite, IsSound, StepsAreSound}
+use Rattle.mips_exec.specs.Step.{Answers, answered, answered_if, access_after, without_value, fetched, ended, executed, decoded, write_after, cpu_after}
+use Rattle.mips_exec.specs.Kept.{HasWords, IsWrite, StepsAreSound}
 
 -- ---- words
 
