@@ -9,6 +9,7 @@ ghost use Rattle.mips_exec.specs.declared.exception.ExcCode.TheVariants.{Adel, A
 
 use super::*;
 use crate::exception::cause_word;
+use crate::laws::steps_are_sound;
 use crate::registers::restart;
 
 /// The address of the page.
@@ -520,6 +521,9 @@ fn follows_pc_next_and_slot(rt: HostRuntime) {
         },
     );
     assert!(rt; cpu.pc == 0xffff_fffc && cpu.next == 0);
+
+    // What holds of each step has no value to test.
+    steps_are_sound();
 
     // A fetch outside the user's half, and one where nothing is mapped.
     let (_, _, outcome) = ran(
