@@ -1,0 +1,6 @@
+pub mod Bytes
+pub mod Expression
+pub mod Form
+pub mod Seen
+pub mod Why
+pub mod Words

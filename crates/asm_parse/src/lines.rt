@@ -1,0 +1,133 @@
+//! The statements of a source.
+ghost use Rattle.std.specs.Prelude.{◌≡◌, ◌+◌, ◌^◌, ◌<◌, ◌≤◌, length, IfOk, IfSome};
+ghost use Rattle.std.specs.Option.{option_copied};
+ghost use Rattle.line_text.specs.LineView.{line_value};
+ghost use Rattle.asm_parse.specs.Form.{body_named, body_of, due_of, label_of, after_label, parsed, statement_of, Gives};
+ghost use Rattle.asm_parse.specs.Seen.{piece_seen};
+
+use crate::bytes::is_text_byte;
+use crate::fault::{AsmFault, AsmWhy};
+use crate::marks::mark_place;
+use crate::operands::operands;
+use crate::piece::Piece;
+use crate::syntax::{Args, AsmBody, AsmLine, Name};
+use crate::words::{begins_name, name_length};
+use line_text::{Line, cut};
+use std::alloc::{AllocError, Global};
+
+/// The statements of a source in the order of its lines, one for each line that has a statement. A fault
+/// is `Syntax` at the first line of another form, or that memory ran out. The form is described in
+/// `docs/ASSEMBLER.md`.
+pub fn parse(alloc: Global, source: &[u8]) -> Result<Vec<AsmLine>, AsmFault>
+    requires { length source.now < 2 ^ 27 }
+    ensures { Gives (λ lines. lines.items) result (parsed source.now) }
+{
+    let mut statements = Vec::new(alloc);
+    for line in cut(source) {
+        if let Some(statement) = parse_line(alloc, &line)? {
+            statements.push(statement)?;
+        }
+    }
+    Ok(statements)
+}
+
+/// The statement of a line, where it has one. A fault is `Syntax` where the line has another form, or
+/// that memory ran out.
+#[tactic(auto, unfolding(crate::specs::Form::line_of))]
+pub fn parse_line(alloc: Global, line: &Line<'_>) -> Result<Option<AsmLine>, AsmFault>
+    requires { line.now.start + length line.now.text.now < 2 ^ 32 }
+    ensures { Gives (λ statement. statement) result (due_of (line_value line.now)) }
+{
+    let syntax = AsmFault::At {
+        line: line.number,
+        why: AsmWhy::Syntax,
+    };
+    if !line.text.iter().all(|byte| is_text_byte(*byte)) {
+        return Err(syntax);
+    }
+    let code = &line.text[..mark_place(line.text, b'#')];
+    let piece = Piece {
+        start: line.start,
+        bytes: code,
+    }
+    .trimmed();
+    if piece.bytes.is_empty() {
+        return Ok(None);
+    }
+    match statement(alloc, line.number, piece)? {
+        Some(statement) => Ok(Some(statement)),
+        None => Err(syntax),
+    }
+}
+
+/// The label and the operation of a line.
+#[tactic(auto, unfolding(crate::specs::Form::statement_of))]
+fn statement(
+    alloc: Global,
+    number: u32,
+    piece: Piece<'_>,
+) -> Result<Option<AsmLine>, AllocError>
+    ensures { IfOk result (λ line. line ≡ statement_of number (piece_seen piece.entry)) }
+{
+    let (label, rest) = match label(piece.bytes) {
+        Some(name) => (
+            Some(Name::new(alloc, name)?),
+            piece.skip(name.len() + 1).after_blanks(),
+        ),
+        None => (None, piece),
+    };
+    match body(alloc, rest)? {
+        Some(body) => Ok(Some(AsmLine {
+            line: number,
+            start: piece.start,
+            end: piece.end(),
+            label,
+            body,
+        })),
+        None => Ok(None),
+    }
+}
+
+/// A name with a colon directly behind it.
+#[tactic(auto, unfolding(crate::specs::Form::label_of))]
+fn label(bytes: &[u8]) -> Option<&[u8]>
+    ensures value { option_copied result ≡ label_of bytes.now }
+    ensures within { IfSome result (λ name. length name.now < length bytes.now) }
+{
+    let (name, rest) = bytes.split_at(name_length(bytes));
+    if begins_name(name) && rest.starts_with(b":") {
+        Some(name)
+    } else {
+        None
+    }
+}
+
+/// What follows a label: nothing, or a name and operands.
+#[tactic(auto, unfolding(crate::specs::Form::body_of))]
+fn body(alloc: Global, piece: Piece<'_>) -> Result<Option<AsmBody>, AllocError>
+    ensures { IfOk result (λ body. body ≡ body_of (piece_seen piece.entry)) }
+{
+    if piece.bytes.is_empty() {
+        return Ok(Some(AsmBody::Nothing));
+    }
+    let length = name_length(piece.bytes);
+    let name = &piece.bytes[..length];
+    if !begins_name(name) {
+        return Ok(None);
+    }
+    match operands(alloc, piece.skip(length))? {
+        Some(args) => Ok(Some(named(Name::new(alloc, name)?, args))),
+        None => Ok(None),
+    }
+}
+
+/// An operation by its name.
+fn named(name: Name, args: Args) -> AsmBody
+    ensures { result ≡ body_named name args }
+{
+    if name.bytes().starts_with(b".") {
+        AsmBody::Directive { name, args }
+    } else {
+        AsmBody::Op { name, args }
+    }
+}
