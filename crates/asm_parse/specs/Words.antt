@@ -28,16 +28,17 @@ escaped c =
     if c == byte "\\" || c == byte "\"" then Some c else
     None
 
--- what stands behind the opening mark of a quoted text, as the bytes that it means: the closing mark is its end
-abbrev pub unquoted_rest : List ℕ → Option (List ℕ)
-unquoted_rest [] = None
-unquoted_rest (b ∷ []) = if b == byte "\"" then Some [] else None
-unquoted_rest (b ∷ c ∷ bs) =
-    if b == byte "\"" then None else
-    if b == byte "\\" then option_and_then (λ e. option_map (λ text. e ∷ text) (unquoted_rest bs)) (escaped c) else
-    option_map (λ text. b ∷ text) (unquoted_rest (c ∷ bs))
+-- what stands behind the opening mark of a quoted text, or behind a backslash in one, as the bytes that
+-- it means: the closing mark is its end
+abbrev pub unquoted_from : Bool → List ℕ → Option (List ℕ)
+unquoted_from escape [] = None
+unquoted_from false (b ∷ bs) =
+    if b == byte "\"" then (if length bs == 0 then Some [] else None) else
+    if b == byte "\\" then unquoted_from true bs else
+    option_map (λ text. b ∷ text) (unquoted_from false bs)
+unquoted_from true (b ∷ bs) = option_and_then (λ e. option_map (λ text. e ∷ text) (unquoted_from false bs)) (escaped b)
 
 -- the bytes that a quoted text means
 abbrev pub unquoted : List ℕ → Option (List ℕ)
 unquoted [] = None
-unquoted (b ∷ bs) = if b == byte "\"" then unquoted_rest bs else None
+unquoted (b ∷ bs) = if b == byte "\"" then unquoted_from false bs else None

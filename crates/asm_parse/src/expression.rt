@@ -1,5 +1,6 @@
 //! Expressions, read without recursion.
-ghost use Rattle.std.specs.Prelude.{◌≡◌, ◌+◌, ◌*◌, ◌/◌, ◌^◌, ◌<◌, ◌≤◌, length, take};
+ghost use Rattle.std.specs.Prelude.{◌≡◌, ◌+◌, ◌*◌, ◌/◌, ◌^◌, ◌<◌, ◌≤◌, ◌==◌, length, take};
+ghost use Rattle.std.specs.List.{list_all};
 ghost use Rattle.std.specs.Option.{option_map, option_copied};
 ghost use Rattle.asm_parse.specs.Seen.{expression_seen, inner_seen};
 ghost use Rattle.asm_parse.specs.Expression.{begins_opening, expression_of, inner_of, named, number_of, numeral_of, openings_of, without_closings};
@@ -77,11 +78,18 @@ fn without_closings(bytes: &[u8], depth: usize) -> Option<&[u8]>
         return None;
     }
     let (inside, closings) = bytes.split_at(bytes.len() - depth);
-    if closings.iter().all(|byte| *byte == b')') {
+    if are_closings(closings) {
         Some(inside)
     } else {
         None
     }
+}
+
+/// Whether each byte is a closing bracket.
+fn are_closings(bytes: &[u8]) -> bool
+    ensures { result ≡ list_all (λ b. b == 41) bytes.now }
+{
+    bytes.iter().all(|byte| *byte == b')')
 }
 
 /// What stands inside the brackets.

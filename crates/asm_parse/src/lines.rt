@@ -2,8 +2,11 @@
 ghost use Rattle.std.specs.Prelude.{◌≡◌, ◌+◌, ◌^◌, ◌<◌, ◌≤◌, length, IfOk, IfSome};
 ghost use Rattle.std.specs.Option.{option_copied};
 ghost use Rattle.line_text.specs.LineView.{line_value};
-ghost use Rattle.asm_parse.specs.Form.{body_named, body_of, due_of, label_of, after_label, parsed, statement_of, Gives};
+ghost use Rattle.asm_parse.specs.Form.{body_named, body_of, due_of, label_of, after_label, before_mark, parsed, said, statement_of, Gives};
+ghost use Rattle.asm_parse.specs.Bytes.{is_text_byte};
+ghost use Rattle.asm_parse.specs.declared.quoting.Quoting.TheVariants.{Outside};
 ghost use Rattle.asm_parse.specs.Seen.{piece_seen};
+ghost use Rattle.std.specs.List.{list_all};
 
 use crate::bytes::is_text_byte;
 use crate::fault::{AsmFault, AsmWhy};
@@ -42,15 +45,10 @@ pub fn parse_line(alloc: Global, line: &Line<'_>) -> Result<Option<AsmLine>, Asm
         line: line.number,
         why: AsmWhy::Syntax,
     };
-    if !line.text.iter().all(|byte| is_text_byte(*byte)) {
+    if !is_text(line.text) {
         return Err(syntax);
     }
-    let code = &line.text[..mark_place(line.text, b'#')];
-    let piece = Piece {
-        start: line.start,
-        bytes: code,
-    }
-    .trimmed();
+    let piece = said(line);
     if piece.bytes.is_empty() {
         return Ok(None);
     }
@@ -58,6 +56,32 @@ pub fn parse_line(alloc: Global, line: &Line<'_>) -> Result<Option<AsmLine>, Asm
         Some(statement) => Ok(Some(statement)),
         None => Err(syntax),
     }
+}
+
+/// Whether each byte may stand in a text.
+fn is_text(bytes: &[u8]) -> bool
+    ensures { result ≡ list_all is_text_byte bytes.now }
+{
+    bytes.iter().all(|byte| is_text_byte(*byte))
+}
+
+/// What a line has before its comment, without the blanks around it.
+fn said<'a>(line: &Line<'a>) -> Piece<'a>
+    requires { line.now.start + length line.now.text.now < 2 ^ 32 }
+    ensures { piece_seen result ≡ said (line_value line.now) }
+{
+    Piece {
+        start: line.start,
+        bytes: before_comment(line.text),
+    }
+    .trimmed()
+}
+
+/// What stands before the first `#` outside quoted texts.
+fn before_comment(bytes: &[u8]) -> &[u8]
+    ensures { result.now ≡ before_mark 35 Outside bytes.now }
+{
+    &bytes[..mark_place(bytes, b'#')]
 }
 
 /// The label and the operation of a line.

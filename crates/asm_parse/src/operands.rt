@@ -1,5 +1,6 @@
 //! Operands.
-ghost use Rattle.std.specs.Prelude.{◌≡◌, ◌+◌, ◌^◌, ◌<◌, ◌≤◌, length, IfOk};
+ghost use Rattle.std.specs.Prelude.{◌≡◌, ◌+◌, ◌^◌, ◌<◌, ◌≤◌, ◌==◌, length, IfOk};
+ghost use Rattle.std.specs.List.{position_or_len};
 ghost use Rattle.std.specs.Option.{option_map};
 ghost use Rattle.asm_parse.specs.Form.{arg_of, based_of, kind_of, operands_of};
 ghost use Rattle.asm_parse.specs.Seen.{based_seen, piece_seen};
@@ -26,15 +27,31 @@ pub struct Based<'a> {
 pub fn read_based(bytes: &[u8]) -> Option<Based<'_>>
     ensures { option_map based_seen result ≡ based_of bytes.now }
 {
-    let dollar = bytes.iter().position(|byte| *byte == b'$')?;
-    let (front, back) = bytes.split_at(dollar);
-    let offset = front.strip_suffix(b"(")?;
-    let register = back.strip_suffix(b")")?;
+    let (front, back) = bytes.split_at(dollar_place(bytes));
+    if !front.ends_with(b"(") || !back.ends_with(b")") {
+        return None;
+    }
+    let offset = &front[..front.len() - 1];
+    let register = &back[..back.len() - 1];
     if is_register(register) && (offset.is_empty() || read_expression(offset).is_some()) {
         Some(Based { offset, register })
     } else {
         None
     }
+}
+
+/// The place of the first `$`, or the length where there is none.
+#[tactic(auto, using(std::proofs::lemmas::List::Sums::position_or_len_is))]
+fn dollar_place(bytes: &[u8]) -> usize
+    ensures place { result ≡ position_or_len (λ b. b == 36) bytes.now }
+    ensures within { result ≤ length bytes.now }
+{
+    for (place, byte) in bytes.iter().enumerate() {
+        if *byte == b'$' {
+            return place;
+        }
+    }
+    bytes.len()
 }
 
 /// The operands behind a name, if they have the form: none, or a blank and then operands with a comma

@@ -1,8 +1,8 @@
 //! Names, registers and quoted texts.
-ghost use Rattle.std.specs.Prelude.{◌≡◌, ◌≤◌, length, is_some};
-ghost use Rattle.std.specs.List.{prefix_len};
-ghost use Rattle.asm_parse.specs.Bytes.{is_name_byte};
-ghost use Rattle.asm_parse.specs.Words.{begins_name, is_register, unquoted, unquoted_rest, escaped};
+ghost use Rattle.std.specs.Prelude.{◌≡◌, ◌≤◌, ◌||◌, false, length, is_some};
+ghost use Rattle.std.specs.List.{list_all, prefix_len};
+ghost use Rattle.asm_parse.specs.Bytes.{is_decimal, is_letter, is_name_byte};
+ghost use Rattle.asm_parse.specs.Words.{begins_name, is_register, unquoted, unquoted_from, escaped};
 
 use crate::bytes::{is_decimal, is_letter, is_name_byte, is_name_start};
 
@@ -34,35 +34,47 @@ pub(crate) fn begins_name(bytes: &[u8]) -> bool
 pub(crate) fn is_register(bytes: &[u8]) -> bool
     ensures { result ≡ is_register bytes.now }
 {
-    match bytes {
-        [b'$', name @ ..] => !name.is_empty() && name.iter().all(|byte| is_letter(*byte) || is_decimal(*byte)),
-        _ => false,
+    match bytes.split_first() {
+        Some((first, name)) => *first == b'$' && !name.is_empty() && are_letters_or_digits(name),
+        None => false,
     }
+}
+
+/// Whether each byte is a letter or a digit.
+fn are_letters_or_digits(bytes: &[u8]) -> bool
+    ensures { result ≡ list_all (λ b. is_letter b || is_decimal b) bytes.now }
+{
+    bytes.iter().all(|byte| is_letter(*byte) || is_decimal(*byte))
 }
 
 /// Whether bytes are a quoted text whole.
 pub(crate) fn is_quoted(bytes: &[u8]) -> bool
     ensures { result ≡ is_some (unquoted bytes.now) }
 {
-    match bytes {
-        [b'"', rest @ ..] => is_closed(rest),
-        _ => false,
+    match bytes.split_first() {
+        Some((first, rest)) => *first == b'"' && is_closed(rest),
+        None => false,
     }
 }
 
 /// Whether bytes go on as a quoted text does behind its opening mark, and end with its closing mark.
 fn is_closed(bytes: &[u8]) -> bool
-    ensures { result ≡ is_some (unquoted_rest bytes.now) }
+    ensures { result ≡ is_some (unquoted_from false bytes.now) }
 {
-    let mut rest = bytes;
-    loop {
-        match rest {
-            [b'"'] => return true,
-            [b'\\', escape, more @ ..] if is_escape(*escape) => rest = more,
-            [b'"' | b'\\', ..] | [] => return false,
-            [_, more @ ..] => rest = more,
+    let mut escape = false;
+    for (place, byte) in bytes.iter().enumerate() {
+        if escape {
+            if !is_escape(*byte) {
+                return false;
+            }
+            escape = false;
+        } else if *byte == b'"' {
+            return place + 1 == bytes.len();
+        } else {
+            escape = *byte == b'\\';
         }
     }
+    false
 }
 
 /// Whether a backslash may stand before it.

@@ -1,0 +1,27 @@
+-- The openings at the front of bytes, one after another.
+use Rattle.std.proofs.Common.{◌≡◌, ℕ, ◌+◌, ◌≤◌, List, [], ◌∷◌, ◌++◌, true, false, length, take, drop, refl, sym, ◌∙◌, arith, append_assoc}
+use Rattle.std.proofs.Math.Seq.{take-add}
+use Rattle.asm_parse.specs.Expression.{begins_opening, openings_of}
+
+opening_more : (bs : List ℕ) → 3 ≤ length bs → begins_opening bs ≡ true → openings_of bs ≡ take 3 bs ++ openings_of (drop 3 bs)
+opening_more [] long is = absurd (omega arith)
+opening_more (a ∷ []) long is = absurd (omega arith)
+opening_more (a ∷ b ∷ []) long is = absurd (omega arith)
+opening_more (a ∷ b ∷ c ∷ bs) long is = rw is refl
+
+opening_none : (bs : List ℕ) → begins_opening bs ≡ false → openings_of bs ≡ []
+opening_none [] is = refl
+opening_none (a ∷ []) is = refl
+opening_none (a ∷ b ∷ []) is = refl
+opening_none (a ∷ b ∷ c ∷ bs) is = rw is refl
+
+-- one more opening behind those that stand at the front
+pub openings_step : (bs rest : List ℕ) (n : ℕ) → rest ≡ drop n bs → 3 ≤ length rest → begins_opening rest ≡ true →
+    openings_of bs ≡ take n bs ++ openings_of rest → openings_of bs ≡ take (n + 3) bs ++ openings_of (drop (n + 3) bs)
+openings_step bs rest n at long is so_far =
+    so_far ∙ rw (opening_more rest long is, take-add n 3 bs, drop-drop 3 n bs, at, append_assoc) refl
+
+-- no more of them
+pub openings_end : (bs rest : List ℕ) (n : ℕ) → begins_opening rest ≡ false → openings_of bs ≡ take n bs ++ openings_of rest →
+    take n bs ≡ openings_of bs
+openings_end bs rest n is so_far = sym (so_far ∙ rw (opening_none rest is, append-nil) refl)
