@@ -1,1 +1,5 @@
+pub mod ArgLemmas
+pub mod MarkLemmas
+pub mod NumeralLemmas
 pub mod OpeningLemmas
+pub mod StatementLemmas

@@ -94,13 +94,17 @@ arg_of p =
     let operand = trimmed p in
     option_map (λ kind. record { kind = kind; start = operand.start; end = operand.start + length operand.bytes }) (kind_of operand.bytes)
 
--- operands with a comma between each two, where the first stands at a place
+-- an operand from each part, where the first part stands at a place and a comma stands behind each but the last
 abbrev pub args_of : ℕ → List (List ℕ) → Option (List Arg)
 args_of start [] = Some []
 args_of start (part ∷ parts) =
     option_and_then
-        (λ arg. option_map (λ args. arg ∷ args) (args_of (start + length part + 1) parts))
+        (λ arg. option_map (λ args. arg ∷ args) (args_of (start + (length part + 1)) parts))
         (arg_of (record { start = start; bytes = part }))
+
+-- the operands that a piece is, with a comma between each two
+abbrev pub args_at : Piece → Option (List Arg)
+args_at p = args_of p.start (parts_at (byte ",") Outside p.bytes)
 
 -- an operation by its name: a directive where the name begins with a point
 abbrev pub body_named : List ℕ → List Arg → AsmBody
@@ -111,7 +115,7 @@ unfoldable pub operands_of : Piece → Option (List Arg)
 operands_of p =
     if length p.bytes == 0 then Some [] else
     if prefix_len is_blank p.bytes == 0 then None else
-    args_of p.start (parts_at (byte ",") Outside p.bytes)
+    args_at p
 
 -- what follows the label: nothing, or a name and operands
 unfoldable pub body_of : Piece → Option AsmBody

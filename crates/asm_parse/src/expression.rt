@@ -1,5 +1,5 @@
 //! Expressions, read without recursion.
-ghost use Rattle.std.specs.Prelude.{◌≡◌, ◌+◌, ◌*◌, ◌/◌, ◌^◌, ◌<◌, ◌≤◌, ◌==◌, length, take};
+ghost use Rattle.std.specs.Prelude.{◌≡◌, ◌+◌, ◌*◌, ◌/◌, ◌^◌, ◌<◌, ◌≤◌, ◌==◌, length, take, IsTrue};
 ghost use Rattle.std.specs.List.{list_all};
 ghost use Rattle.std.specs.Option.{option_map, option_copied};
 ghost use Rattle.asm_parse.specs.Seen.{expression_seen, inner_seen};
@@ -65,7 +65,8 @@ fn openings_length(bytes: &[u8]) -> usize
 
 /// Whether bytes begin with `hi(` or `lo(`.
 fn begins_opening(bytes: &[u8]) -> bool
-    ensures { result ≡ begins_opening bytes.now }
+    ensures value { result ≡ begins_opening bytes.now }
+    ensures long { IsTrue result → 3 ≤ length bytes.now }
 {
     bytes.starts_with(b"hi(") || bytes.starts_with(b"lo(")
 }

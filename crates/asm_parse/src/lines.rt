@@ -79,7 +79,8 @@ fn said<'a>(line: &Line<'a>) -> Piece<'a>
 
 /// What stands before the first `#` outside quoted texts.
 fn before_comment(bytes: &[u8]) -> &[u8]
-    ensures { result.now ≡ before_mark 35 Outside bytes.now }
+    ensures value { result.now ≡ before_mark 35 Outside bytes.now }
+    ensures within { length result.now ≤ length bytes.now }
 {
     &bytes[..mark_place(bytes, b'#')]
 }

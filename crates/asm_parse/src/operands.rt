@@ -2,7 +2,7 @@
 ghost use Rattle.std.specs.Prelude.{◌≡◌, ◌+◌, ◌^◌, ◌<◌, ◌≤◌, ◌==◌, length, IfOk};
 ghost use Rattle.std.specs.List.{position_or_len};
 ghost use Rattle.std.specs.Option.{option_map};
-ghost use Rattle.asm_parse.specs.Form.{arg_of, based_of, kind_of, operands_of};
+ghost use Rattle.asm_parse.specs.Form.{arg_of, args_at, based_of, kind_of, operands_of};
 ghost use Rattle.asm_parse.specs.Seen.{based_seen, piece_seen};
 
 use crate::blanks::blanks_before;
@@ -60,13 +60,20 @@ fn dollar_place(bytes: &[u8]) -> usize
 pub(crate) fn operands(alloc: Global, piece: Piece<'_>) -> Result<Option<Args>, AllocError>
     ensures { IfOk result (λ args. args ≡ operands_of (piece_seen piece.entry)) }
 {
-    let mut args = Args::new(alloc);
     if piece.bytes.is_empty() {
-        return Ok(Some(args));
+        return Ok(Some(Args::new(alloc)));
     }
     if blanks_before(piece.bytes) == 0 {
         return Ok(None);
     }
+    operand_list(alloc, piece)
+}
+
+/// Operands with a comma between each two, if each has a form.
+fn operand_list(alloc: Global, piece: Piece<'_>) -> Result<Option<Args>, AllocError>
+    ensures { IfOk result (λ args. args ≡ args_at (piece_seen piece.entry)) }
+{
+    let mut args = Args::new(alloc);
     let mut rest = piece;
     loop {
         let place = mark_place(rest.bytes, b',');
