@@ -34,8 +34,8 @@ pub args_none : (p : Piece) (place : ℕ) (all : Option (List Arg)) (args : List
     arg_of (front place p) ≡ None → before_others args (args_at p) ≡ all → None ≡ all
 args_none p place all args at none so_far =
     elim (cases_lt place (length p.bytes)) [
-      inl within ↦ rw (parts_on p place at within, none) at so_far
-    | inr end ↦ rw (parts_here p place at end, none) at so_far
+      | inl within ↦ rw (parts_on p place at within, none) at so_far
+      | inr end ↦ rw (parts_here p place at end, none) at so_far
     ]
 
 -- where it is the last operand

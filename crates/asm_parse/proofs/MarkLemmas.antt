@@ -1,5 +1,5 @@
 -- Marks outside quoted texts: the bytes before the first, and the parts between them.
-use Rattle.std.proofs.Common.{◌≡◌, ℕ, suc, ◌+◌, ◌<◌, ◌≤◌, List, [], ◌∷◌, Bool, true, false, length, take, drop, refl, ap, arith}
+use Rattle.std.proofs.Common.{◌≡◌, ℕ, suc, ◌+◌, ◌<◌, ◌≤◌, List, [], ◌∷◌, Bool, true, false, length, take, drop, refl, arith}
 use Rattle.std.specs.Prelude.{◌==◌, ◌&&◌}
 use Rattle.asm_parse.specs.declared.quoting.Quoting.{Quoting}
 use Rattle.asm_parse.specs.declared.quoting.Quoting.TheVariants.{Outside}
@@ -25,7 +25,7 @@ parts_more mark q [] within = absurd (omega arith)
 parts_more mark q (b ∷ bs) within = by_byte (parts_more mark (behind q b) bs) (is_mark mark q b) refl within
   where
     by_byte : (length (before_mark mark (behind q b) bs) < length bs →
-            parts_at mark (behind q b) bs ≡ before_mark mark (behind q b) bs ∷ parts_at mark Outside (drop (length (before_mark mark (behind q b) bs) + 1) bs)) →
+        parts_at mark (behind q b) bs ≡ before_mark mark (behind q b) bs ∷ parts_at mark Outside (drop (length (before_mark mark (behind q b) bs) + 1) bs)) →
         (v : Bool) → is_mark mark q b ≡ v → length (before_mark mark q (b ∷ bs)) < length (b ∷ bs) →
         parts_at mark q (b ∷ bs) ≡ before_mark mark q (b ∷ bs) ∷ parts_at mark Outside (drop (length (before_mark mark q (b ∷ bs)) + 1) (b ∷ bs))
     by_byte after true is within = rw is refl

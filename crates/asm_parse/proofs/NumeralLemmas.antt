@@ -1,5 +1,5 @@
 -- Numerals, one digit more at a time.
-use Rattle.std.proofs.Common.{◌≡◌, ℕ, ◌+◌, ◌*◌, ◌^◌, ◌<◌, ◌≤◌, List, ◌++◌, Option, Some, None, true, false, map, length, take, drop, get_or, refl, ap, sym, ◌∙◌, arith}
+use Rattle.std.proofs.Common.{◌≡◌, ℕ, ◌+◌, ◌*◌, ◌^◌, ◌<◌, ◌≤◌, List, ◌++◌, None, true, map, length, take, drop, get_or, refl, ap, sym, ◌∙◌, arith}
 use Rattle.std.proofs.lemmas.Bool.{lt-leb}
 use Rattle.std.proofs.Math.Bool.{and-false}
 use Rattle.std.proofs.Math.Nat.{mul-le-mul_left}
@@ -26,8 +26,8 @@ front_le base i ds some =
     let first = map digit_value (take i ds) in
     let last = map digit_value (drop i ds) in
     let whole : digits_value base ds ≡ number_from_digits_after base (number_from_digits base first) last =
-        ap (digits_value base) (sym (take-append-drop i ds)) ∙ digits_value_is base (take i ds ++ drop i ds)
-            ∙ ap (number_from_digits base) (map-append digit_value (take i ds) (drop i ds)) ∙ number_after_append base 0 first last in
+    ap (digits_value base) (sym (take-append-drop i ds)) ∙ digits_value_is base (take i ds ++ drop i ds)
+    ∙ ap (number_from_digits base) (map-append digit_value (take i ds) (drop i ds)) ∙ number_after_append base 0 first last in
     let front : digits_value base (take i ds) ≡ number_from_digits base first = digits_value_is base (take i ds) in
     let rises : number_from_digits base first ≤ number_from_digits_after base (number_from_digits base first) last = number_after_ge base (number_from_digits base first) last some in
     rw (whole, front) rises

@@ -1,5 +1,5 @@
 -- The statements of a source, one line after another.
-use Rattle.std.proofs.Common.{◌≡◌, List, [], ◌∷◌, ◌++◌, Option, Some, None, Result, Ok, Err, refl, ap, sym, ◌∙◌, append_assoc}
+use Rattle.std.proofs.Common.{◌≡◌, List, [], ◌++◌, Result, Ok, Err, refl}
 use Rattle.asm_parse.specs.declared.syntax.AsmLine.{AsmLine}
 use Rattle.asm_parse.specs.declared.fault.AsmFault.{AsmFault}
 
@@ -7,3 +7,7 @@ use Rattle.asm_parse.specs.declared.fault.AsmFault.{AsmFault}
 abbrev pub before_rest : List AsmLine → Result (List AsmLine) AsmFault → Result (List AsmLine) AsmFault
 before_rest statements (Ok more) = Ok (statements ++ more)
 before_rest statements (Err fault) = Err fault
+
+pub before_rest_none : (rest : Result (List AsmLine) AsmFault) → before_rest [] rest ≡ rest
+before_rest_none (Ok more) = refl
+before_rest_none (Err fault) = refl

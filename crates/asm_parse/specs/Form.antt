@@ -76,7 +76,7 @@ based_of bs =
     let offset = take (length front - 1) front in
     let register = take (length back - 1) back in
     if ends_with nat_eq front (codes "(") && ends_with nat_eq back (codes ")") && is_register register
-        && (length offset == 0 || is_some (expression_of offset))
+    && (length offset == 0 || is_some (expression_of offset))
     then Some (offset, register) else None
 
 -- the form of an operand
@@ -99,8 +99,8 @@ abbrev pub args_of : ℕ → List (List ℕ) → Option (List Arg)
 args_of start [] = Some []
 args_of start (part ∷ parts) =
     option_and_then
-        (λ arg. option_map (λ args. arg ∷ args) (args_of (start + (length part + 1)) parts))
-        (arg_of (record { start = start; bytes = part }))
+    (λ arg. option_map (λ args. arg ∷ args) (args_of (start + (length part + 1)) parts))
+    (arg_of (record { start = start; bytes = part }))
 
 -- the operands that a piece is, with a comma between each two
 abbrev pub args_at : Piece → Option (List Arg)
@@ -141,8 +141,8 @@ unfoldable pub statement_of : ℕ → Piece → Option AsmLine
 statement_of number p =
     let label = label_of p.bytes in
     option_map
-        (λ body. record { line = number; start = p.start; end = p.start + length p.bytes; label = label; body = body })
-        (body_of (after_label label p))
+    (λ body. record { line = number; start = p.start; end = p.start + length p.bytes; label = label; body = body })
+    (body_of (after_label label p))
 
 -- what a line has before its comment, without the blanks around it
 abbrev pub said : LineValue → Piece

@@ -21,6 +21,7 @@ use std::alloc::{AllocError, Global};
 /// The statements of a source in the order of its lines, one for each line that has a statement. A fault
 /// is `Syntax` at the first line of another form, or that memory ran out. The form is described in
 /// `docs/ASSEMBLER.md`.
+#[tactic(auto, unfolding(crate::specs::Form::parsed))]
 pub fn parse(alloc: Global, source: &[u8]) -> Result<Vec<AsmLine>, AsmFault>
     requires { length source.now < 2 ^ 27 }
     ensures { Gives (λ lines. lines.items) result (parsed source.now) }
@@ -87,11 +88,7 @@ fn before_comment(bytes: &[u8]) -> &[u8]
 
 /// The label and the operation of a line.
 #[tactic(auto, unfolding(crate::specs::Form::statement_of))]
-fn statement(
-    alloc: Global,
-    number: u32,
-    piece: Piece<'_>,
-) -> Result<Option<AsmLine>, AllocError>
+fn statement(alloc: Global, number: u32, piece: Piece<'_>) -> Result<Option<AsmLine>, AllocError>
     ensures { IfOk result (λ line. line ≡ statement_of number (piece_seen piece.entry)) }
 {
     let (label, rest) = match label(piece.bytes) {

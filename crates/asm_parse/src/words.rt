@@ -44,7 +44,9 @@ pub(crate) fn is_register(bytes: &[u8]) -> bool
 fn are_letters_or_digits(bytes: &[u8]) -> bool
     ensures { result ≡ list_all (λ b. is_letter b || is_decimal b) bytes.now }
 {
-    bytes.iter().all(|byte| is_letter(*byte) || is_decimal(*byte))
+    bytes
+        .iter()
+        .all(|byte| is_letter(*byte) || is_decimal(*byte))
 }
 
 /// Whether bytes are a quoted text whole.

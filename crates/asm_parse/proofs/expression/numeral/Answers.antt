@@ -1,7 +1,7 @@
 use Rattle.std.proofs.Common.{arith, lt-ltb, sym, ◌≡◌, ◌+◌, ◌*◌, take}
 use Rattle.std.proofs.lemmas.Int.Digits.{digits_value_more}
 use Rattle.std.specs.Str.Parse.{digits_value}
-use Rattle.asm_parse.proofs.NumeralLemmas.{all_digits_more, product_fits, too_large}
+use Rattle.asm_parse.proofs.NumeralLemmas.{all_digits_more, too_large}
 use Rattle.asm_parse.proofs.expression.numeral.Goals as goal
 
 pub returns-then-next-from : goal.returns-then-next-from
