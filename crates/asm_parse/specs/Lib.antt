@@ -2,5 +2,6 @@ pub mod Bytes
 pub mod Expression
 pub mod Form
 pub mod Seen
+pub mod Span
 pub mod Why
 pub mod Words

@@ -1,12 +1,14 @@
 //! The statements of a source.
-ghost use Rattle.std.specs.Prelude.{◌≡◌, ◌+◌, ◌^◌, ◌<◌, ◌≤◌, length, IfOk, IfSome};
+ghost use Rattle.std.specs.Prelude.{◌≡◌, ℕ, ◌+◌, ◌^◌, ◌<◌, ◌≤◌, List, length, IfOk, IfSome};
 ghost use Rattle.std.specs.Option.{option_copied};
 ghost use Rattle.line_text.specs.LineView.{line_value};
 ghost use Rattle.asm_parse.specs.Form.{body_named, body_of, due_of, label_of, after_label, before_mark, parsed, said, statement_of, Gives};
 ghost use Rattle.asm_parse.specs.Bytes.{is_text_byte};
 ghost use Rattle.asm_parse.specs.declared.quoting.Quoting.TheVariants.{Outside};
 ghost use Rattle.asm_parse.specs.Seen.{piece_seen};
-ghost use Rattle.std.specs.List.{list_all};
+ghost use Rattle.std.specs.List.{AllByRecursion, list_all};
+ghost use Rattle.line_text.specs.Lines.{IsPlaced, lines_of};
+ghost use Rattle.asm_parse.specs.Span.{IsCut};
 
 use crate::bytes::is_text_byte;
 use crate::fault::{AsmFault, AsmWhy};
@@ -21,14 +23,26 @@ use std::alloc::{AllocError, Global};
 /// The statements of a source in the order of its lines, one for each line that has a statement. A fault
 /// is `Syntax` at the first line of another form, or that memory ran out. The form is described in
 /// `docs/ASSEMBLER.md`.
-#[tactic(auto, unfolding(crate::specs::Form::parsed))]
 pub fn parse(alloc: Global, source: &[u8]) -> Result<Vec<AsmLine>, AsmFault>
     requires { length source.now < 2 ^ 27 }
-    ensures { Gives (λ lines. lines.items) result (parsed source.now) }
+    // The statements, or the first line of another form.
+    ensures said { Gives (λ lines. lines.items) result (parsed source.now) }
+    // Each span cuts its statement or its operand out of the source.
+    ensures spans { IfOk result (λ lines. AllByRecursion (IsCut source.now) lines.items) }
+{
+    statements(alloc, source)
+}
+
+/// The statements of a source.
+#[tactic(auto, unfolding(crate::specs::Form::parsed))]
+fn statements(alloc: Global, source: &[u8]) -> Result<Vec<AsmLine>, AsmFault>
+    requires { length source.now < 2 ^ 27 }
+    ensures said { Gives (λ lines. lines.items) result (parsed source.now) }
+    ensures placed { AllByRecursion (IsPlaced source.now) (lines_of source.now) }
 {
     let mut statements = Vec::new(alloc);
     for line in cut(source) {
-        if let Some(statement) = parse_line(alloc, &line)? {
+        if let Some(statement) = statement_in(alloc, &line)? {
             statements.push(statement)?;
         }
     }
@@ -37,10 +51,21 @@ pub fn parse(alloc: Global, source: &[u8]) -> Result<Vec<AsmLine>, AsmFault>
 
 /// The statement of a line, where it has one. A fault is `Syntax` where the line has another form, or
 /// that memory ran out.
-#[tactic(auto, unfolding(crate::specs::Form::line_of))]
 pub fn parse_line(alloc: Global, line: &Line<'_>) -> Result<Option<AsmLine>, AsmFault>
     requires { line.now.start + length line.now.text.now < 2 ^ 32 }
-    ensures { Gives (λ statement. statement) result (due_of (line_value line.now)) }
+    // The statement, if there is one, or that the line has another form.
+    ensures said { Gives (λ said. said) result (due_of (line_value line.now)) }
+    // In a source that has this line, each span cuts its statement or its operand out of it.
+    ensures spans { (source : List ℕ) → IsPlaced source (line_value line.now) → IfOk result (λ said. IfSome said (IsCut source)) }
+{
+    statement_in(alloc, line)
+}
+
+/// The statement of a line.
+#[tactic(auto, unfolding(crate::specs::Form::line_of))]
+fn statement_in(alloc: Global, line: &Line<'_>) -> Result<Option<AsmLine>, AsmFault>
+    requires { line.now.start + length line.now.text.now < 2 ^ 32 }
+    ensures { Gives (λ said. said) result (due_of (line_value line.now)) }
 {
     let syntax = AsmFault::At {
         line: line.number,
