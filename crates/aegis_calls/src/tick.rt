@@ -1,5 +1,5 @@
 //! The parts of a tick, on the world that the board shows.
-ghost use Rattle.std.specs.Prelude.{◌≡◌, ◌+◌, ◌<◌, ◌≤◌, IsSome};
+ghost use Rattle.std.specs.Prelude.{◌≡◌, ◌+◌, ◌<◌, ◌≤◌, IsSome, false};
 ghost use Rattle.world_model.specs.Book.{is_idle_book};
 ghost use Rattle.world_model.specs.World.{after};
 ghost use Rattle.world_model.specs.Tick.{turn as turn_phase, step as step_phase, timer as timer_phase};
@@ -31,6 +31,8 @@ impl Board {
     pub fn turn(&mut self)
         requires room { TURN_ROWS ≤ self.old.ledger.spare }
         ensures world { world_of self.new ≡ after (world_of self.old) (turn_phase (world_of self.old)) }
+        ensures runs { is_idle_book (world_of self.old).book ≡ false → IsSome (world_of self.new).book.runner }
+        ensures time { self.new.time ≡ self.old.time }
         ensures room { self.old.ledger.spare ≤ self.new.ledger.spare + TURN_ROWS }
     {
         self.take_turn();
@@ -41,6 +43,7 @@ impl Board {
         requires runs { IsSome (world_of self.old).book.runner }
         requires room { STEP_ROWS ≤ self.old.ledger.spare }
         ensures world { world_of self.new ≡ after (world_of self.old) (step_phase (world_of self.old)) }
+        ensures time { self.new.time ≡ self.old.time }
         ensures room { self.old.ledger.spare ≤ self.new.ledger.spare + STEP_ROWS }
     {
         self.run_step();
@@ -52,6 +55,7 @@ impl Board {
         requires time { self.old.time < TIME_LIMIT }
         requires room { STEP_ROWS ≤ self.old.ledger.spare }
         ensures world { world_of self.new ≡ after (world_of self.old) (timer_phase (world_of self.old)) }
+        ensures time { self.new.time ≡ self.old.time + 1 }
         ensures room { self.old.ledger.spare ≤ self.new.ledger.spare + STEP_ROWS }
     {
         self.count();

@@ -1,29 +1,18 @@
 -- An image without a fault is within its limits.
-use Rattle.std.proofs.Common.{◌≡◌, ◌≤◌, ◌<◌, ℕ, ◌+◌, Bool, true, false, cond, not, leb, List, [], ◌∷◌, Option, None, Some, map, length, take, drop, refl, ap, sym, arith, subst}
+use Rattle.std.proofs.Common.{◌≡◌, ◌≤◌, ◌<◌, ℕ, ◌+◌, true, List, [], ◌∷◌, Option, None, Some, map, length, take, drop, refl, ap, sym, arith, subst}
 use Rattle.std.specs.Prelude.{sum_by, IfOk, Result, Ok, Err}
 use Rattle.boot_image.specs.declared.image.Image.{Image}
 use Rattle.boot_image.specs.Seen.{Answers, image_seen}
-use Rattle.std.proofs.lemmas.Bool.{leb-true, not-false, and_parts}
 use Rattle.std.proofs.lemmas.List.{length-take, length-drop}
 use Rattle.boot_image.specs.declared.fault.ImageFault.{ImageFault}
 use Rattle.boot_image.specs.ImageValue.{ProgramValue, ImageValue, pages_in, quantum_in, environments_in, slots_in, slot_bytes, owner_of, first_header, name_in, base_in, stack_in, length_in, body_end, headers, program_at, image_of, guaranteed_mappings}
-use Rattle.boot_image.specs.ImageFaults.{◌or_else◌, is_within, is_name, is_base, header_fault, slot_fault, owners_fault, slots_fault, program_fault, first_fault, mappings_fault, pages_fault, image_fault}
+use Rattle.boot_image.specs.ImageFaults.{◌or_else◌, is_name, is_base, header_fault, slot_fault, owners_fault, slots_fault, program_fault, first_fault, mappings_fault, pages_fault, image_fault}
 use Rattle.boot_image.specs.Accepted.{IsFitting, IsAccepted}
 
 -- neither of two things has a fault
-neither : (a b : Option ImageFault) → (a or_else b) ≡ None → (a ≡ None) × (b ≡ None)
+pub neither : (a b : Option ImageFault) → (a or_else b) ≡ None → (a ≡ None) × (b ≡ None)
 neither None b none = (refl, none)
 neither (Some fault) b none = absurd cc
-
--- a sentence that doesn't hold, and those after it
-passed : (test : Bool) (found : ImageFault) (later : Option ImageFault) → cond test (Some found) later ≡ None → (test ≡ false) × (later ≡ None)
-passed false found later none = (refl, none)
-passed true found later none = absurd cc
-
-within : (least most number : ℕ) → not (is_within least most number) ≡ false → (least ≤ number) × (number ≤ most)
-within least most number test =
-    let parts = and_parts (leb least number) (leb number most) (not-false _ test) in
-    (leb-true least number parts.0, leb-true number most parts.1)
 
 record Header (file : List ℕ) : Type 0 where
   pub pages_least : 16 ≤ pages_in file
@@ -85,6 +74,7 @@ program_fits file header program few =
     = simp (length-take, length-drop) (omega (arith, program.whole)) in
     record {
       name = program.name;
+      name_length = simp (length-take, length-drop) (omega (arith, program.whole));
       aligned = grind (arith, program.base);
       above = grind (arith, program.base);
       below = grind (arith, program.base, size);

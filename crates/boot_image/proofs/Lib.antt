@@ -1,2 +1,4 @@
 pub mod Programs
 pub mod Acceptance
+pub mod Spelled
+pub mod Read

@@ -7,6 +7,7 @@ use Rattle.boot_image.specs.ImageFaults.{is_name}
 -- a program within its limits
 pub record IsFitting (program : ProgramValue) : Type 0 where
   pub name : IsTrue (is_name program.name)
+  pub name_length : length program.name ≡ 8
   pub aligned : program.base % 4096 ≡ 0
   pub above : 0x2000 ≤ program.base
   pub below : program.base + length program.bytes ≤ 0x7FF00000

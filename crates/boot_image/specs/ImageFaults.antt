@@ -69,8 +69,7 @@ is_name name =
     nat_lt 0 (length (name_text name)) && list_all is_name_byte (name_text name)
     && list_all (λ byte. byte == 0) (drop (length (name_text name)) name)
 
--- the address of a page that isn't the first two, from which so many bytes stay below the context of
--- the stack
+-- the address of a page behind the first two, from which so many bytes end below the stack
 abbrev pub is_base : ℕ → ℕ → Bool
 is_base base bytes = (base % 4096 == 0) && nat_le 0x2000 base && nat_le (base + bytes) 0x7FF00000
 

@@ -6,3 +6,4 @@ pub mod Accepted
 pub mod ScheduleFaults
 pub mod Seen
 pub mod Parts
+pub mod Spelling

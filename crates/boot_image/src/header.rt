@@ -6,6 +6,9 @@ ghost use Rattle.boot_image.specs.Seen.{Answers};
 ghost use Rattle.boot_image.specs.Parts.{header_of, header_seen};
 
 use crate::fault::{ImageFault, ImageWhy};
+use crate::limits::{
+    LEAST_PAGES, LEAST_QUANTUM, MOST_ENVIRONMENTS, MOST_PAGES, MOST_QUANTUM, MOST_SLOTS,
+};
 use crate::numbers::{half_at, word_at};
 use arrayvec::ArrayVec;
 
@@ -13,13 +16,13 @@ use arrayvec::ArrayVec;
 const MAGIC: &[u8; 4] = b"AEG1";
 /// The bytes of the header, after which the slot bytes stand.
 pub(crate) const HEADER_SIZE: usize = 16;
-/// Where the header's numbers stand.
+/// Where the pages stand.
 pub(crate) const PAGES_AT: usize = 4;
-
+/// Where the quantum stands.
 const QUANTUM_AT: usize = 8;
-
+/// Where the number of environments stands.
 const ENVIRONMENTS_AT: usize = 12;
-
+/// Where the number of slots stands.
 const SLOTS_AT: usize = 14;
 /// The slot byte of a slot that nobody owns.
 const NOBODY: u8 = 255;
@@ -54,22 +57,22 @@ pub(crate) fn read_header(file: &[u8]) -> Result<Header, ImageFault>
         return Err(ImageFault::at(ImageWhy::Magic, 0));
     }
     let pages = word_at(file, PAGES_AT);
-    if !is_within(16, 1024, pages) {
+    if !is_within(LEAST_PAGES, MOST_PAGES, pages) {
         return Err(ImageFault::at(ImageWhy::Pages, PAGES_AT));
     }
     let quantum = word_at(file, QUANTUM_AT);
-    if !is_within(16, 65_536, quantum) {
+    if !is_within(LEAST_QUANTUM, MOST_QUANTUM, quantum) {
         return Err(ImageFault::at(ImageWhy::Quantum, QUANTUM_AT));
     }
     let environments = half_at(file, ENVIRONMENTS_AT);
-    if !is_within(1, 16, environments.into()) {
+    if !is_within(1, MOST_ENVIRONMENTS, environments.into()) {
         return Err(ImageFault::at(ImageWhy::Envs, ENVIRONMENTS_AT));
     }
     if environments != 1 {
         return Err(ImageFault::at(ImageWhy::NotBuilt, ENVIRONMENTS_AT));
     }
     let slots = half_at(file, SLOTS_AT);
-    if !is_within(1, 64, slots.into()) {
+    if !is_within(1, MOST_SLOTS, slots.into()) {
         return Err(ImageFault::at(ImageWhy::Slots, SLOTS_AT));
     }
     if slots != 1 {

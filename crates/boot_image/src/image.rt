@@ -1,4 +1,6 @@
 //! What an image holds.
+ghost use Rattle.std.specs.Prelude.{◌≡◌, [], replicate};
+
 use arrayvec::ArrayVec;
 
 /// An image of a boot. `docs/FORMATS.md`, "Image", has its limits.
@@ -30,6 +32,10 @@ pub struct Program<'a> {
 }
 
 impl Default for Program<'_> {
+    ghost use Rattle.boot_image.specs.Seen.{program_seen};
+
+    ghost is_default = { λ program. program_seen program ≡ record { name = replicate 8 0; base = 0; stack = 0; accept = 0; bytes = [] } };
+
     fn default() -> Self {
         Program {
             name: [0; 8],

@@ -10,6 +10,7 @@ mod fault;
 mod header;
 mod image;
 mod law;
+mod limits;
 mod numbers;
 mod program;
 mod reading;
@@ -20,3 +21,6 @@ pub use image::{Image, Program};
 pub use law::law_accepted;
 pub use reading::read_image;
 pub use schedule::check_schedule;
+
+#[cfg(test)]
+mod tests;

@@ -10,33 +10,26 @@ ghost use Rattle.boot_image.specs.Seen.{Answers, program_seen};
 use crate::fault::{ImageFault, ImageWhy};
 use crate::header::PAGES_AT;
 use crate::image::Program;
+use crate::limits::{BODY_LIMIT, LEAST_BASE, MOST_MAPPINGS, MOST_STACK_PAGES};
 use crate::numbers::{name_at, word_at};
 use arrayvec::ArrayVec;
 
 /// The bytes of a program's header.
 pub(crate) const HEADER_SIZE: usize = 28;
-/// Where the header's fields stand behind the name.
+/// Where the base stands in it.
 const BASE_AT: usize = 8;
-
+/// Where the stack pages stand in it.
 const STACK_AT: usize = 12;
-
+/// Where the accept mask stands in it.
 const ACCEPT_AT: usize = 16;
-
+/// Where the kind stands in it.
 const KIND_AT: usize = 20;
-
+/// Where the body's length stands in it.
 const LENGTH_AT: usize = 24;
-/// The kind of an ELF program, after which no kind comes.
+/// The kind of an ELF program, the last kind.
 const ELF: u32 = 1;
-/// The most stack pages, and the most guaranteed mappings, of an environment.
-const STACK_LIMIT: u32 = 16;
-
-const MAPPINGS_LIMIT: u64 = 256;
-
+/// The bytes of a page.
 const PAGE_SIZE: u32 = 4096;
-/// The first address at which a body may stand, and the end of the last.
-const BASE_LEAST: u32 = 0x2000;
-
-const BODY_LIMIT: u64 = 0x7FF0_0000;
 
 /// The program whose header stands at `header`.
 #[tactic(auto, unfolding(crate::specs::ImageFaults::program_fault, crate::specs::ImageValue::program_at))]
@@ -63,7 +56,7 @@ fn read_program(file: &[u8], header: usize) -> Result<Program<'_>, ImageFault>
         return Err(ImageFault::at(ImageWhy::NotBuilt, header));
     }
     let stack = word_at(file, header + STACK_AT);
-    if stack > STACK_LIMIT {
+    if stack > MOST_STACK_PAGES {
         return Err(ImageFault::at(ImageWhy::Stack, header));
     }
     let base = word_at(file, header + BASE_AT);
@@ -92,7 +85,7 @@ fn is_base(base: u32, length: u32) -> bool
     ensures { result ≡ is_base base length }
 {
     base.is_multiple_of(PAGE_SIZE)
-        && base >= BASE_LEAST
+        && base >= LEAST_BASE
         && u64::from(base) + u64::from(length) <= BODY_LIMIT
 }
 
@@ -187,7 +180,7 @@ pub(crate) fn check_room(
     let mut needed = 0;
     for program in programs {
         let mappings = guaranteed_mappings(program);
-        if mappings > MAPPINGS_LIMIT {
+        if mappings > MOST_MAPPINGS {
             return Err(ImageFault::at(ImageWhy::TooMany, header));
         }
         needed += mappings;

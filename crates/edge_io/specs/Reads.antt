@@ -1,4 +1,6 @@
-use Rattle.std.specs.Prelude.{◌≡◌, ℕ, List, Option, Some, None, Result, Ok, Err, ⊤}
+use Rattle.std.specs.Prelude.{◌≡◌, ℕ, List, Option, Some, None, Result, Ok, Err, ⊤, String, option_map}
+use Rattle.std.specs.Global.{Global}
+use Rattle.std.specs.String.{string_bytes}
 use Rattle.edge_io.specs.declared.shelf.ReadFail.{ReadFail}
 use Rattle.edge_io.specs.declared.shelf.ReadFail.TheVariants.{Failed, OutOfMemory}
 
@@ -18,3 +20,7 @@ abbrev pub UnlessFailed : {T : Type 0} → Result T ReadFail → Type 0 → Type
 UnlessFailed (Ok v) P = P
 UnlessFailed (Err Failed) P = ⊤
 UnlessFailed (Err OutOfMemory) P = P
+
+-- the bytes of a name, if there is one
+abbrev pub name_bytes : Option (String Global) → Option (List ℕ)
+name_bytes name = option_map (λ text. string_bytes text) name

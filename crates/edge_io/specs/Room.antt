@@ -1,14 +1,19 @@
-use Rattle.std.specs.Prelude.{◌≡◌, ℕ, ◌+◌, ◌==◌, ◌||◌, ◌≤◌, List, [], Bool, length, nat_le, min}
+use Rattle.std.specs.Prelude.{◌≡◌, ℕ, ◌+◌, ◌-◌, ◌==◌, ◌||◌, ◌≤◌, [], Bool, length, min}
 use Rattle.std.specs.List.{list_any}
+use Rattle.edge_io.specs.declared.memory_sink.MemorySink.{MemorySink}
 
--- the write of this number fails: the number is one of those that fail, or no room is left
-abbrev pub is_refused : List ℕ → ℕ → ℕ → Bool
-is_refused fails call left = list_any (λ n. n == call) fails || nat_le left 0
+-- for how many bytes more there is room
+abbrev pub room_left : MemorySink → ℕ
+room_left sink = sink.room - length sink.bytes.items
 
--- so many bytes are taken of a piece: as many as one call takes, and as there is room for
-abbrev pub taken_of : ℕ → ℕ → ℕ → ℕ
-taken_of piece most left = min piece (min most left)
+-- the next write fails: its number is one of those that fail, or no room is left
+abbrev pub is_refused : MemorySink → Bool
+is_refused sink = list_any (λ n. n == sink.calls) sink.fails.items || (room_left sink == 0)
 
--- no write has to fail, and there is room for so many more bytes
-abbrev pub HasRoomFor : List ℕ → List ℕ → ℕ → ℕ → Type 0
-HasRoomFor fails bytes room more = (fails ≡ []) × (length bytes + more ≤ room)
+-- how many bytes of a piece of this length are taken: as many as one write takes and as there is room for
+abbrev pub taken_of : MemorySink → ℕ → ℕ
+taken_of sink piece = min piece (min sink.most (room_left sink))
+
+-- no write has to fail, and there is room for so many bytes more
+abbrev pub HasRoomFor : MemorySink → ℕ → Type 0
+HasRoomFor sink more = (sink.fails.items ≡ []) × (length sink.bytes.items + more ≤ sink.room)

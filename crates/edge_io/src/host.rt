@@ -1,5 +1,5 @@
-ghost use Rattle.std.specs.Prelude.{◌≡◌, ◌<◌, ◌≤◌, None, IfOk, IfSome, length, option_map};
-ghost use Rattle.std.specs.String.{string_bytes};
+ghost use Rattle.std.specs.Prelude.{◌≡◌, ◌<◌, ◌≤◌, None, IfOk, IfSome, length};
+ghost use Rattle.edge_io.specs.Reads.{name_bytes};
 
 use crate::shelf::{FILE_LIMIT, ReadFail, Shelf};
 use crate::sink::{Sink, WriteFail};
@@ -88,7 +88,7 @@ impl<R: Files> Shelf for HostShelf<R> {
 
     ghost faults = { λ s. s.faults };
 
-    ghost failed = { λ s. option_map (λ name. string_bytes name) s.failed };
+    ghost failed = { λ s. name_bytes s.failed };
 
     // Nothing is sure of the host.
     ghost Serves = { λ _ _. ⊥ };

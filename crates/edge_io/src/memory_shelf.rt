@@ -1,10 +1,8 @@
-ghost use Rattle.std.specs.Prelude.{◌≡◌, ◌+◌, ◌-◌, ◌^◌, ◌≤◌, Some, None, IfOk, length, min, option_map};
+ghost use Rattle.std.specs.Prelude.{◌≡◌, ◌≤◌, Some, None, IfOk, length};
 ghost use Rattle.std.specs.Option.{option_copied};
-ghost use Rattle.std.specs.String.{string_bytes};
-ghost use Rattle.edge_io.specs.Faults.{Rose};
-ghost use Rattle.edge_io.specs.Files.{IsSureOf, file_named, found};
-ghost use Rattle.edge_io.specs.declared.shelf.TheConstants.{FILE_LIMIT};
-ghost use Rattle.edge_io.specs.Reads.{Tells, OnFailed, UnlessFailed};
+ghost use Rattle.edge_io.specs.Faults.{Rose, one_more};
+ghost use Rattle.edge_io.specs.Files.{IsSureOf, file_named, found, found_at};
+ghost use Rattle.edge_io.specs.Reads.{Tells, OnFailed, UnlessFailed, name_bytes};
 
 use crate::shelf::{FILE_LIMIT, ReadFail, Shelf};
 use std::alloc::Global;
@@ -39,7 +37,7 @@ fn file_named<'a>(files: &'a [(String, Vec<u8>)], name: &str) -> Option<&'a [u8]
 impl MemoryShelf {
     // The bytes that the read of this number finds.
     fn found(&self, call: u64, name: &str) -> Option<&[u8]>
-        ensures { option_copied result ≡ found self.now.files.items self.now.fails.items call name.now }
+        ensures { option_copied result ≡ found_at self.now.files.items self.now.fails.items call name.now }
     {
         if self.fails.contains(&call) {
             return None;
@@ -58,19 +56,19 @@ impl Shelf for MemoryShelf {
 
     ghost faults = { λ s. s.faults };
 
-    ghost failed = { λ s. option_map (λ name. string_bytes name) s.failed };
+    ghost failed = { λ s. name_bytes s.failed };
 
-    ghost Serves = { λ s name. IsSureOf s.files.items s.fails.items name };
+    ghost Serves = { IsSureOf };
 
     /// Fails exactly where the number of the read is in `fails`, where the name isn't there, or
     /// where its file is too long, if memory is found.
     fn read(&mut self, alloc: Global, name: &str) -> Result<Vec<u8>, ReadFail>
-        ensures bytes { IfOk result (λ v. found self.old.files.items self.old.fails.items self.old.calls name.now ≡ Some v.items) }
-        ensures fails { OnFailed result (found self.old.files.items self.old.fails.items self.old.calls name.now ≡ None) }
+        ensures bytes { IfOk result (λ v. found self.old name.now ≡ Some v.items) }
+        ensures fails { OnFailed result (found self.old name.now ≡ None) }
 
-        ensures call_counted { self.new.calls ≡ min (self.old.calls + 1) (2 ^ 64 - 1) }
-        ensures failed_counted { OnFailed result (self.new.faults ≡ min (self.old.faults + 1) (2 ^ 64 - 1)) }
-        ensures failed_named { OnFailed result (option_map (λ title. string_bytes title) self.new.failed ≡ Some name.now) }
+        ensures call_counted { self.new.calls ≡ one_more self.old.calls }
+        ensures failed_counted { OnFailed result (self.new.faults ≡ one_more self.old.faults) }
+        ensures failed_named { OnFailed result (name_bytes self.new.failed ≡ Some name.now) }
         ensures else_count { UnlessFailed result (self.new.faults ≡ self.old.faults) }
         ensures else_name { UnlessFailed result (self.new.failed ≡ self.old.failed) }
 
@@ -82,7 +80,7 @@ impl Shelf for MemoryShelf {
         ensures within_limit { IfOk result (λ v. length v.items ≤ FILE_LIMIT) }
         ensures rose { OnFailed result (Rose self.old.faults self.new.faults) }
         ensures never_falls { self.old.faults ≤ self.new.faults }
-        ensures served { OnFailed result (¬ IsSureOf self.old.files.items self.old.fails.items name.now) }
+        ensures served { OnFailed result (¬ IsSureOf self.old name.now) }
     {
         let call = self.calls;
         self.calls = call.saturating_add(1);

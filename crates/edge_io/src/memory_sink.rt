@@ -1,7 +1,4 @@
-ghost use Rattle.std.specs.Prelude.{◌≡◌, ℕ, ◌+◌, ◌-◌, ◌^◌, ◌<◌, ◌≤◌, ◌++◌, [], true, false, Some, IsOk, IfOk, OnOk, OnErr, length, take, min, vec_len, vec_capacity};
-ghost use Rattle.edge_io.specs.Faults.{Rose};
-ghost use Rattle.edge_io.specs.Room.{HasRoomFor, is_refused, taken_of};
-ghost use Rattle.edge_io.specs.Written.{Appends};
+ghost use Rattle.std.specs.Prelude.{◌≡◌, ◌≤◌, [], IfOk, vec_len, vec_capacity};
 
 use crate::memory::OutOfMemory;
 use crate::sink::{Sink, WriteFail};
@@ -58,23 +55,28 @@ impl MemorySink {
 }
 
 impl Sink for MemorySink {
+    ghost use Rattle.std.specs.Prelude.{◌≡◌, ℕ, ◌-◌, ◌<◌, ◌≤◌, ◌++◌, true, false, Some, IsOk, IfOk, OnOk, OnErr, length, take};
+    ghost use Rattle.edge_io.specs.Faults.{Rose, one_more};
+    ghost use Rattle.edge_io.specs.Room.{HasRoomFor, is_refused, taken_of};
+    ghost use Rattle.edge_io.specs.Written.{Appends};
+
     ghost written = { λ s. Some s.bytes.items };
 
     ghost faults = { λ s. s.faults };
 
-    ghost Takes = { λ s more. HasRoomFor s.fails.items s.bytes.items s.room more };
+    ghost Takes = { HasRoomFor };
 
     /// Fails exactly where the number of the write is in `fails` or no room is left.
     fn write(&mut self, piece: &[u8]) -> Result<usize, WriteFail>
         requires { 0 < length piece.now }
 
-        ensures takes { IfOk result (λ n. n ≡ taken_of (length piece.now) self.old.most (self.old.room - length self.old.bytes.items)) }
+        ensures takes { IfOk result (λ n. n ≡ taken_of self.old (length piece.now)) }
         ensures written { IfOk result (λ n. self.new.bytes.items ≡ self.old.bytes.items ++ take n piece.now) }
-        ensures accepts { OnOk result (is_refused self.old.fails.items self.old.calls (self.old.room - length self.old.bytes.items) ≡ false) }
-        ensures refuses { OnErr result (is_refused self.old.fails.items self.old.calls (self.old.room - length self.old.bytes.items) ≡ true) }
+        ensures accepts { OnOk result (is_refused self.old ≡ false) }
+        ensures refuses { OnErr result (is_refused self.old ≡ true) }
 
-        ensures call_counted { self.new.calls ≡ min (self.old.calls + 1) (2 ^ 64 - 1) }
-        ensures refusal_counted { OnErr result (self.new.faults ≡ min (self.old.faults + 1) (2 ^ 64 - 1)) }
+        ensures call_counted { self.new.calls ≡ one_more self.old.calls }
+        ensures refusal_counted { OnErr result (self.new.faults ≡ one_more self.old.faults) }
         ensures refused_nothing { OnErr result (self.new.bytes.items ≡ self.old.bytes.items) }
         ensures same_fails { self.new.fails ≡ self.old.fails }
         ensures same_room { self.new.room ≡ self.old.room }
@@ -83,12 +85,14 @@ impl Sink for MemorySink {
         // What every sink ensures.
         ensures some_taken { IfOk result (λ n. 0 < n) }
         ensures within_piece { IfOk result (λ n. n ≤ length piece.now) }
-        ensures appended { IfOk result (λ n. Appends (Some self.old.bytes.items) (Some self.new.bytes.items) (take n piece.now)) }
+        ensures appended { IfOk result (λ n.
+            Appends (Some self.old.bytes.items) (Some self.new.bytes.items) (take n piece.now)) }
         ensures no_fault { OnOk result (self.new.faults ≡ self.old.faults) }
         ensures rose { OnErr result (Rose self.old.faults self.new.faults) }
         ensures never_falls { self.old.faults ≤ self.new.faults }
-        ensures sure { (k : ℕ) → HasRoomFor self.old.fails.items self.old.bytes.items self.old.room k → length piece.now ≤ k → IsOk result }
-        ensures sure_of_rest { IfOk result (λ n. (k : ℕ) → HasRoomFor self.old.fails.items self.old.bytes.items self.old.room k → HasRoomFor self.new.fails.items self.new.bytes.items self.new.room (k - n)) }
+        ensures sure { (k : ℕ) → HasRoomFor self.old k → length piece.now ≤ k → IsOk result }
+        ensures sure_of_rest { IfOk result (λ n.
+            (k : ℕ) → HasRoomFor self.old k → HasRoomFor self.new (k - n)) }
     {
         let call = self.calls;
         self.calls = call.saturating_add(1);

@@ -26,7 +26,8 @@ pub trait Sink {
 
         ensures some_taken { IfOk result (λ n. 0 < n) }
         ensures within_piece { IfOk result (λ n. n ≤ length piece.now) }
-        ensures appended { IfOk result (λ n. Appends (written self.old) (written self.new) (take n piece.now)) }
+        ensures appended { IfOk result (λ n.
+            Appends (written self.old) (written self.new) (take n piece.now)) }
         ensures no_fault { OnOk result (faults self.new ≡ faults self.old) }
 
         // A failure is counted, and nothing of the piece was appended.
@@ -35,5 +36,6 @@ pub trait Sink {
         ensures never_falls { faults self.old ≤ faults self.new }
 
         ensures sure { (k : ℕ) → Takes self.old k → length piece.now ≤ k → IsOk result }
-        ensures sure_of_rest { IfOk result (λ n. (k : ℕ) → Takes self.old k → Takes self.new (k - n)) };
+        ensures sure_of_rest { IfOk result (λ n.
+            (k : ℕ) → Takes self.old k → Takes self.new (k - n)) };
 }

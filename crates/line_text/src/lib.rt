@@ -8,5 +8,5 @@ mod numbers;
 mod print;
 
 pub use lines::{Line, Lines, TEXT_LIMIT, cut};
-pub use numbers::number;
+pub use numbers::{decimal, number};
 pub use print::{push_dec, push_hex, push_quoted};

@@ -1,7 +1,7 @@
 //! The lines of a text, each with its number and its place.
 ghost use Rattle.std.specs.Prelude.{◌≡◌, ◌+◌, ◌^◌, ◌<◌, ◌≤◌, ◌∷◌, ◌==◌, length, take, drop};
-ghost use Rattle.std.specs.List.{position};
-ghost use Rattle.line_text.specs.Lines.{lines_of, pieces_of, without_end};
+ghost use Rattle.std.specs.List.{AllByRecursion, position};
+ghost use Rattle.line_text.specs.Lines.{IsPlaced, lines_of, pieces_of, without_end};
 
 use std::marker::Model;
 
@@ -44,7 +44,8 @@ impl<'a> Model for Lines<'a> {
 /// a line where it isn't empty.
 pub fn cut(text: &[u8]) -> Lines<'_>
     requires { length text.now < 2 ^ 27 }
-    ensures { result ≡ lines_of text.now }
+    ensures lines { result ≡ lines_of text.now }
+    ensures placed { AllByRecursion (IsPlaced text.now) result }
 {
     Lines {
         rest: text,

@@ -20,6 +20,13 @@ pub fn number(word: &[u8]) -> Option<u32>
     }
 }
 
+/// The number, below 2^32, that one to ten decimal digits spell. None for every other word.
+pub fn decimal(word: &[u8]) -> Option<u32>
+    ensures { result ≡ digits_number 10 10 word.now }
+{
+    spelled(word, 10, DECIMAL_DIGITS)
+}
+
 /// The number that digits of a base spell.
 fn spelled(digits: &[u8], base: u32, most: usize) -> Option<u32>
     requires base { (2 ≤ base) × (base ≤ 16) }

@@ -1,5 +1,5 @@
 -- An instruction that loads or stores completes, whatever it is answered.
-use Rattle.std.proofs.Common.{◌≡◌, ℕ, Option, Some, None, refl, Bool, true, false, List, Ok, Err, ◌%◌, arith, ◌∙◌}
+use Rattle.std.proofs.Common.{◌≡◌, ℕ, Option, Some, None, refl, Bool, true, false, List, Ok, ◌%◌, arith, ◌∙◌}
 use mathlib.Core.Path.{ap}
 use Rattle.mips_isa.specs.Decoding.{insn_of}
 use Rattle.mips_isa.specs.declared.insn.Insn.{Insn}

@@ -1,5 +1,5 @@
 -- The one load or store of an instruction.
-use Rattle.std.specs.Prelude.{◌≡◌, ◌≢◌, ℕ, ◌+◌, ◌-◌, ◌*◌, ◌/◌, ◌%◌, ◌^◌, ◌<◌, ◌≤◌, Bool, true, false, ◌==◌, if◌then◌else◌, Option, Some, None, List, take, IsTrue}
+use Rattle.std.specs.Prelude.{◌≡◌, ◌≢◌, ℕ, ◌+◌, ◌-◌, ◌*◌, ◌/◌, ◌%◌, ◌^◌, ◌<◌, ◌≤◌, Bool, true, false, ◌==◌, if◌then◌else◌, Option, Some, None, List, take}
 use Rattle.std.specs.Int.{w32, to_le_bytes}
 use Rattle.mips_isa.specs.declared.insn.Insn.{Insn}
 use Rattle.mips_isa.specs.declared.insn.Insn.TheVariants.{Lb, Lh, Lwl, Lw, Lbu, Lhu, Lwr, Sb, Sh, Swl, Sw, Swr}
@@ -53,15 +53,15 @@ right_store address value = Store (at address (4 - address % 4)) value
 unfoldable pub access : Insn → Cpu → Option Access
 access (Lb rt imm rs) c = Some (Load (at (address_of c rs imm) 1))
 access (Lh rt imm rs) c = Some (Load (at (address_of c rs imm) 2))
-access (Lwl rt imm rs) c = Some (Load (below (address_of c rs imm) 4))
-access (Lw rt imm rs) c = Some (Load (at (address_of c rs imm) 4))
 access (Lbu rt imm rs) c = Some (Load (at (address_of c rs imm) 1))
 access (Lhu rt imm rs) c = Some (Load (at (address_of c rs imm) 2))
+access (Lw rt imm rs) c = Some (Load (at (address_of c rs imm) 4))
+access (Lwl rt imm rs) c = Some (Load (below (address_of c rs imm) 4))
 access (Lwr rt imm rs) c = Some (Load (below (address_of c rs imm) 4))
 access (Sb rt imm rs) c = Some (Store (at (address_of c rs imm) 1) (reg c rt))
 access (Sh rt imm rs) c = Some (Store (at (address_of c rs imm) 2) (reg c rt))
-access (Swl rt imm rs) c = Some (left_store (address_of c rs imm) (reg c rt))
 access (Sw rt imm rs) c = Some (Store (at (address_of c rs imm) 4) (reg c rt))
+access (Swl rt imm rs) c = Some (left_store (address_of c rs imm) (reg c rt))
 access (Swr rt imm rs) c = Some (right_store (address_of c rs imm) (reg c rt))
 access _ c = None
 

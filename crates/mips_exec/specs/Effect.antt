@@ -1,6 +1,6 @@
 -- What each instruction does to the registers, a line for each row of the table of docs/MACHINE.md, in
 -- its order. Sums of values and of addresses count modulo 2^32.
-use Rattle.std.specs.Prelude.{ℕ, ◌+◌, ◌-◌, ◌*◌, ◌/◌, ◌%◌, ◌^◌, Bool, not, ◌&&◌, ◌||◌, ◌==◌, if◌then◌else◌, ℤ, ◌+ℤ◌, ◌-ℤ◌, ◌*ℤ◌, int_lt, int_div, int_rem, nat_lt, bit_and, bit_or, bit_xor}
+use Rattle.std.specs.Prelude.{ℕ, ◌+◌, ◌-◌, ◌*◌, ◌/◌, ◌%◌, ◌^◌, not, ◌||◌, ◌==◌, if◌then◌else◌, ℤ, ◌+ℤ◌, ◌-ℤ◌, ◌*ℤ◌, int_lt, int_div, int_rem, nat_lt, bit_and, bit_or, bit_xor}
 use Rattle.std.specs.Int.{w32, w64, cast_unsigned}
 use Rattle.mips_isa.specs.declared.insn.Insn.{Insn}
 use Rattle.mips_isa.specs.declared.insn.Insn.TheVariants.{Sll, Srl, Sra, Sllv, Srlv, Srav, Jr, Jalr, Syscall, Break, Mfhi, Mthi, Mflo, Mtlo, Mult, Multu, Div, Divu, Add, Addu, Sub, Subu, And, Or, Xor, Nor, Slt, Sltu, Bltz, Bgez, Bltzal, Bgezal, J, Jal, Beq, Bne, Blez, Bgtz, Addi, Addiu, Slti, Sltiu, Andi, Ori, Xori, Lui, Lb, Lh, Lwl, Lw, Lbu, Lhu, Lwr, Sb, Sh, Swl, Sw, Swr, Mfc0, Mtc0, Tlbr, Tlbwi, Tlbwr, Tlbp, Rfe, Cop, Reserved}
@@ -71,16 +71,16 @@ effect (Jalr rd rs) c x = JumpsAndLinks rd (reg c rs)
 effect (Syscall code) c x = if c.slot then Raises (plain Sys) else Calls
 effect (Break code) c x = Raises (plain Bp)
 effect (Mfhi rd) c x = Puts rd c.hi
-effect (Mthi rs) c x = PutsHiLo (reg c rs) c.lo
 effect (Mflo rd) c x = Puts rd c.lo
+effect (Mthi rs) c x = PutsHiLo (reg c rs) c.lo
 effect (Mtlo rs) c x = PutsHiLo c.hi (reg c rs)
 effect (Mult rs rt) c x = puts_product (cast_unsigned w64 (signed (reg c rs) *ℤ signed (reg c rt)))
 effect (Multu rs rt) c x = puts_product (reg c rs * reg c rt)
 effect (Div rs rt) c x = divides_signed (reg c rs) (reg c rt)
 effect (Divu rs rt) c x = divides (reg c rs) (reg c rt)
 effect (Add rd rs rt) c x = puts_fitting rd (signed (reg c rs) +ℤ signed (reg c rt))
-effect (Addu rd rs rt) c x = Puts rd (reg c rs + reg c rt)
 effect (Sub rd rs rt) c x = puts_fitting rd (signed (reg c rs) -ℤ signed (reg c rt))
+effect (Addu rd rs rt) c x = Puts rd (reg c rs + reg c rt)
 effect (Subu rd rs rt) c x = Puts rd (reg c rs + (2 ^ 32 - reg c rt))
 effect (And rd rs rt) c x = Puts rd (bit_and (reg c rs) (reg c rt))
 effect (Or rd rs rt) c x = Puts rd (bit_or (reg c rs) (reg c rt))
@@ -108,15 +108,15 @@ effect (Xori rt rs imm) c x = Puts rt (bit_xor (reg c rs) imm)
 effect (Lui rt imm) c x = Puts rt (imm * 2 ^ 16)
 effect (Lb rt imm rs) c x = Puts rt (sign_extended 8 x)
 effect (Lh rt imm rs) c x = Puts rt (sign_extended 16 x)
-effect (Lwl rt imm rs) c x = Puts rt (merged_left x (reg c rt) (address_of c rs imm % 4))
-effect (Lw rt imm rs) c x = Puts rt x
 effect (Lbu rt imm rs) c x = Puts rt x
 effect (Lhu rt imm rs) c x = Puts rt x
+effect (Lw rt imm rs) c x = Puts rt x
+effect (Lwl rt imm rs) c x = Puts rt (merged_left x (reg c rt) (address_of c rs imm % 4))
 effect (Lwr rt imm rs) c x = Puts rt (merged_right x (reg c rt) (address_of c rs imm % 4))
 effect (Sb rt imm rs) c x = Passes
 effect (Sh rt imm rs) c x = Passes
-effect (Swl rt imm rs) c x = Passes
 effect (Sw rt imm rs) c x = Passes
+effect (Swl rt imm rs) c x = Passes
 effect (Swr rt imm rs) c x = Passes
 effect (Mfc0 rt rd) c x = Raises (unusable 0)
 effect (Mtc0 rt rd) c x = Raises (unusable 0)

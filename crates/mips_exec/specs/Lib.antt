@@ -2,5 +2,6 @@ pub mod Access
 pub mod Cpu
 pub mod Effect
 pub mod Exception
+pub mod Kept
 pub mod Step
 pub mod Word

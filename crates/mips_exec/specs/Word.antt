@@ -1,6 +1,6 @@
 -- Words of 32 bits as whole numbers, read with a sign and without.
-use Rattle.std.specs.Prelude.{ℕ, ◌+◌, ◌-◌, ◌*◌, ◌/◌, ◌%◌, ◌^◌, Bool, ◌&&◌, ℤ, pos, negsuc, int_lt, int_le, nat_lt, nat_le, if◌then◌else◌}
-use Rattle.std.specs.Int.{w32, w64, cast_signed}
+use Rattle.std.specs.Prelude.{ℕ, ◌+◌, ◌-◌, ◌/◌, ◌%◌, ◌^◌, Bool, ◌&&◌, ℤ, pos, negsuc, int_lt, int_le, nat_lt, nat_le, if◌then◌else◌}
+use Rattle.std.specs.Int.{w32, cast_signed}
 
 -- the low 32 bits of a number
 abbrev pub word_of : ℕ → ℕ

@@ -244,8 +244,8 @@ impl Cpu {
             }
             Insn::Break { .. } => Outcome::Trap(Exc::plain(ExcCode::Bp)),
             Insn::Mfhi { rd } => self.compute(rd, self.hi),
-            Insn::Mthi { rs } => self.compute_hi_lo(self.reg(rs), self.lo),
             Insn::Mflo { rd } => self.compute(rd, self.lo),
+            Insn::Mthi { rs } => self.compute_hi_lo(self.reg(rs), self.lo),
             Insn::Mtlo { rs } => self.compute_hi_lo(self.hi, self.reg(rs)),
             Insn::Mult { rs, rt } => self.multiply(signed_product(self.reg(rs), self.reg(rt))),
             Insn::Multu { rs, rt } => self.multiply(
@@ -254,8 +254,8 @@ impl Cpu {
             Insn::Div { rs, rt } => self.divide_signed(self.reg(rs), self.reg(rt)),
             Insn::Divu { rs, rt } => self.divide(self.reg(rs), self.reg(rt)),
             Insn::Add { rd, rs, rt } => self.add(rd, self.reg(rs), self.reg(rt)),
-            Insn::Addu { rd, rs, rt } => self.compute(rd, self.reg(rs).wrapping_add(self.reg(rt))),
             Insn::Sub { rd, rs, rt } => self.subtract(rd, self.reg(rs), self.reg(rt)),
+            Insn::Addu { rd, rs, rt } => self.compute(rd, self.reg(rs).wrapping_add(self.reg(rt))),
             Insn::Subu { rd, rs, rt } => self.compute(rd, self.reg(rs).wrapping_sub(self.reg(rt))),
             Insn::And { rd, rs, rt } => self.compute(rd, self.reg(rs) & self.reg(rt)),
             Insn::Or { rd, rs, rt } => self.compute(rd, self.reg(rs) | self.reg(rt)),
@@ -293,15 +293,15 @@ impl Cpu {
             Insn::Lui { rt, imm } => self.compute(rt, u32::from(imm) << 16),
             Insn::Lb { rt, .. } => self.compute(rt, extend_byte(loaded)),
             Insn::Lh { rt, .. } => self.compute(rt, extend_half(loaded)),
+            Insn::Lw { rt, .. } | Insn::Lbu { rt, .. } | Insn::Lhu { rt, .. } => self.compute(
+                rt, loaded,
+            ),
             Insn::Lwl { rt, imm, rs } => {
                 self.compute(
                     rt,
                     merge_left(loaded, self.reg(rt), self.address(rs, imm) % 4),
                 )
             }
-            Insn::Lw { rt, .. } | Insn::Lbu { rt, .. } | Insn::Lhu { rt, .. } => self.compute(
-                rt, loaded,
-            ),
             Insn::Lwr { rt, imm, rs } => {
                 self.compute(
                     rt,

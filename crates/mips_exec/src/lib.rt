@@ -5,12 +5,14 @@
 
 mod exception;
 mod execute;
+mod laws;
 mod memory;
 mod reach;
 mod registers;
 mod step;
 
 pub use exception::{Exc, ExcCode, Outcome, cause_word};
+pub use laws::steps_are_sound;
 pub use memory::Bus;
 pub use reach::{Access, Spot};
 pub use registers::{Cpu, restart};

@@ -30,3 +30,6 @@ pub fn step_user<B: Bus>(cpu: &mut Cpu, bus: &mut B) -> Outcome
         },
     }
 }
+
+#[cfg(test)]
+mod tests;

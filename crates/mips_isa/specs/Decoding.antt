@@ -11,8 +11,9 @@ pub record Row : Type 0 where
   pub is_clear : Bool
   pub insn : Insn
 
-abbrev pub row : ℕ → Bool → Insn → Row
-row key is_clear insn = record { key = key; is_clear = is_clear; insn = insn }
+-- such a row, written on one line
+abbrev pub entry : ℕ → Bool → Insn → Row
+entry key is_clear insn = record { key = key; is_clear = is_clear; insn = insn }
 
 -- the instruction of the row with this key, if its unused fields are 0, else the other one
 abbrev pub find_row : ℕ → List Row → Insn → Insn
@@ -26,34 +27,34 @@ special_rows w =
     let rt = rt_of w in
     let rd = rd_of w in
     let sh = sh_of w in
-    row 0 (rs == 0) (Sll rd rt sh)
-    ∷ row 2 (rs == 0) (Srl rd rt sh)
-    ∷ row 3 (rs == 0) (Sra rd rt sh)
-    ∷ row 4 (sh == 0) (Sllv rd rt rs)
-    ∷ row 6 (sh == 0) (Srlv rd rt rs)
-    ∷ row 7 (sh == 0) (Srav rd rt rs)
-    ∷ row 8 (rt == 0 && rd == 0 && sh == 0) (Jr rs)
-    ∷ row 9 (rt == 0 && sh == 0) (Jalr rd rs)
-    ∷ row 12 true (Syscall (code_of w))
-    ∷ row 13 true (Break (code_of w))
-    ∷ row 16 (rs == 0 && rt == 0 && sh == 0) (Mfhi rd)
-    ∷ row 18 (rs == 0 && rt == 0 && sh == 0) (Mflo rd)
-    ∷ row 17 (rt == 0 && rd == 0 && sh == 0) (Mthi rs)
-    ∷ row 19 (rt == 0 && rd == 0 && sh == 0) (Mtlo rs)
-    ∷ row 24 (rd == 0 && sh == 0) (Mult rs rt)
-    ∷ row 25 (rd == 0 && sh == 0) (Multu rs rt)
-    ∷ row 26 (rd == 0 && sh == 0) (Div rs rt)
-    ∷ row 27 (rd == 0 && sh == 0) (Divu rs rt)
-    ∷ row 32 (sh == 0) (Add rd rs rt)
-    ∷ row 34 (sh == 0) (Sub rd rs rt)
-    ∷ row 33 (sh == 0) (Addu rd rs rt)
-    ∷ row 35 (sh == 0) (Subu rd rs rt)
-    ∷ row 36 (sh == 0) (And rd rs rt)
-    ∷ row 37 (sh == 0) (Or rd rs rt)
-    ∷ row 38 (sh == 0) (Xor rd rs rt)
-    ∷ row 39 (sh == 0) (Nor rd rs rt)
-    ∷ row 42 (sh == 0) (Slt rd rs rt)
-    ∷ row 43 (sh == 0) (Sltu rd rs rt)
+    entry 0 (rs == 0) (Sll rd rt sh)
+    ∷ entry 2 (rs == 0) (Srl rd rt sh)
+    ∷ entry 3 (rs == 0) (Sra rd rt sh)
+    ∷ entry 4 (sh == 0) (Sllv rd rt rs)
+    ∷ entry 6 (sh == 0) (Srlv rd rt rs)
+    ∷ entry 7 (sh == 0) (Srav rd rt rs)
+    ∷ entry 8 (rt == 0 && rd == 0 && sh == 0) (Jr rs)
+    ∷ entry 9 (rt == 0 && sh == 0) (Jalr rd rs)
+    ∷ entry 12 true (Syscall (code_of w))
+    ∷ entry 13 true (Break (code_of w))
+    ∷ entry 16 (rs == 0 && rt == 0 && sh == 0) (Mfhi rd)
+    ∷ entry 18 (rs == 0 && rt == 0 && sh == 0) (Mflo rd)
+    ∷ entry 17 (rt == 0 && rd == 0 && sh == 0) (Mthi rs)
+    ∷ entry 19 (rt == 0 && rd == 0 && sh == 0) (Mtlo rs)
+    ∷ entry 24 (rd == 0 && sh == 0) (Mult rs rt)
+    ∷ entry 25 (rd == 0 && sh == 0) (Multu rs rt)
+    ∷ entry 26 (rd == 0 && sh == 0) (Div rs rt)
+    ∷ entry 27 (rd == 0 && sh == 0) (Divu rs rt)
+    ∷ entry 32 (sh == 0) (Add rd rs rt)
+    ∷ entry 34 (sh == 0) (Sub rd rs rt)
+    ∷ entry 33 (sh == 0) (Addu rd rs rt)
+    ∷ entry 35 (sh == 0) (Subu rd rs rt)
+    ∷ entry 36 (sh == 0) (And rd rs rt)
+    ∷ entry 37 (sh == 0) (Or rd rs rt)
+    ∷ entry 38 (sh == 0) (Xor rd rs rt)
+    ∷ entry 39 (sh == 0) (Nor rd rs rt)
+    ∷ entry 42 (sh == 0) (Slt rd rs rt)
+    ∷ entry 43 (sh == 0) (Sltu rd rs rt)
     ∷ []
 
 unfoldable pub special_of : ℕ → Insn
@@ -64,10 +65,10 @@ abbrev pub regimm_rows : ℕ → List Row
 regimm_rows w =
     let rs = rs_of w in
     let imm = imm_of w in
-    row 0 true (Bltz rs imm)
-    ∷ row 1 true (Bgez rs imm)
-    ∷ row 16 true (Bltzal rs imm)
-    ∷ row 17 true (Bgezal rs imm)
+    entry 0 true (Bltz rs imm)
+    ∷ entry 1 true (Bgez rs imm)
+    ∷ entry 16 true (Bltzal rs imm)
+    ∷ entry 17 true (Bgezal rs imm)
     ∷ []
 
 unfoldable pub regimm_of : ℕ → Insn
@@ -75,7 +76,7 @@ regimm_of w = find_row (rt_of w) (regimm_rows w) (Reserved w)
 
 -- opcode 16 and rs 16, by bits 20:0
 abbrev pub system_operation_rows : List Row
-system_operation_rows = row 1 true Tlbr ∷ row 2 true Tlbwi ∷ row 6 true Tlbwr ∷ row 8 true Tlbp ∷ row 16 true Rfe ∷ []
+system_operation_rows = entry 1 true Tlbr ∷ entry 2 true Tlbwi ∷ entry 6 true Tlbwr ∷ entry 8 true Tlbp ∷ entry 16 true Rfe ∷ []
 
 unfoldable pub system_operation_of : ℕ → Insn
 system_operation_of w = find_row (w % 2 ^ 21) system_operation_rows (Reserved w)
@@ -83,9 +84,9 @@ system_operation_of w = find_row (w % 2 ^ 21) system_operation_rows (Reserved w)
 -- opcode 16, by the field rs
 abbrev pub system_rows : ℕ → List Row
 system_rows w =
-    row 0 (w % 2 ^ 11 == 0) (Mfc0 (rt_of w) (rd_of w))
-    ∷ row 4 (w % 2 ^ 11 == 0) (Mtc0 (rt_of w) (rd_of w))
-    ∷ row 16 true (system_operation_of w)
+    entry 0 (w % 2 ^ 11 == 0) (Mfc0 (rt_of w) (rd_of w))
+    ∷ entry 4 (w % 2 ^ 11 == 0) (Mtc0 (rt_of w) (rd_of w))
+    ∷ entry 16 true (system_operation_of w)
     ∷ []
 
 unfoldable pub system_of : ℕ → Insn
@@ -98,35 +99,35 @@ opcode_rows w =
     let rt = rt_of w in
     let imm = imm_of w in
     let target = target_of w in
-    row 0 true (special_of w)
-    ∷ row 1 true (regimm_of w)
-    ∷ row 2 true (J target)
-    ∷ row 3 true (Jal target)
-    ∷ row 4 true (Beq rs rt imm)
-    ∷ row 5 true (Bne rs rt imm)
-    ∷ row 6 (rt == 0) (Blez rs imm)
-    ∷ row 7 (rt == 0) (Bgtz rs imm)
-    ∷ row 8 true (Addi rt rs imm)
-    ∷ row 9 true (Addiu rt rs imm)
-    ∷ row 10 true (Slti rt rs imm)
-    ∷ row 11 true (Sltiu rt rs imm)
-    ∷ row 12 true (Andi rt rs imm)
-    ∷ row 13 true (Ori rt rs imm)
-    ∷ row 14 true (Xori rt rs imm)
-    ∷ row 15 (rs == 0) (Lui rt imm)
-    ∷ row 16 true (system_of w)
-    ∷ row 32 true (Lb rt imm rs)
-    ∷ row 33 true (Lh rt imm rs)
-    ∷ row 36 true (Lbu rt imm rs)
-    ∷ row 37 true (Lhu rt imm rs)
-    ∷ row 35 true (Lw rt imm rs)
-    ∷ row 34 true (Lwl rt imm rs)
-    ∷ row 38 true (Lwr rt imm rs)
-    ∷ row 40 true (Sb rt imm rs)
-    ∷ row 41 true (Sh rt imm rs)
-    ∷ row 43 true (Sw rt imm rs)
-    ∷ row 42 true (Swl rt imm rs)
-    ∷ row 46 true (Swr rt imm rs)
+    entry 0 true (special_of w)
+    ∷ entry 1 true (regimm_of w)
+    ∷ entry 2 true (J target)
+    ∷ entry 3 true (Jal target)
+    ∷ entry 4 true (Beq rs rt imm)
+    ∷ entry 5 true (Bne rs rt imm)
+    ∷ entry 6 (rt == 0) (Blez rs imm)
+    ∷ entry 7 (rt == 0) (Bgtz rs imm)
+    ∷ entry 8 true (Addi rt rs imm)
+    ∷ entry 9 true (Addiu rt rs imm)
+    ∷ entry 10 true (Slti rt rs imm)
+    ∷ entry 11 true (Sltiu rt rs imm)
+    ∷ entry 12 true (Andi rt rs imm)
+    ∷ entry 13 true (Ori rt rs imm)
+    ∷ entry 14 true (Xori rt rs imm)
+    ∷ entry 15 (rs == 0) (Lui rt imm)
+    ∷ entry 16 true (system_of w)
+    ∷ entry 32 true (Lb rt imm rs)
+    ∷ entry 33 true (Lh rt imm rs)
+    ∷ entry 36 true (Lbu rt imm rs)
+    ∷ entry 37 true (Lhu rt imm rs)
+    ∷ entry 35 true (Lw rt imm rs)
+    ∷ entry 34 true (Lwl rt imm rs)
+    ∷ entry 38 true (Lwr rt imm rs)
+    ∷ entry 40 true (Sb rt imm rs)
+    ∷ entry 41 true (Sh rt imm rs)
+    ∷ entry 43 true (Sw rt imm rs)
+    ∷ entry 42 true (Swl rt imm rs)
+    ∷ entry 46 true (Swr rt imm rs)
     ∷ []
 
 -- what a word of an opcode without a row is

@@ -1,3 +1,4 @@
+-- The fields of a 32-bit word, by the bits that they take: docs/MACHINE.md, "Encoding".
 use Rattle.std.specs.Prelude.{ℕ, ◌/◌, ◌%◌, ◌^◌}
 
 -- bits 31:26

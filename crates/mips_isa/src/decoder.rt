@@ -2,7 +2,9 @@ ghost use Rattle.std.specs.Prelude.{◌≡◌};
 ghost use Rattle.mips_isa.specs.Encoding.{Spells};
 ghost use Rattle.mips_isa.specs.Decoding.{insn_of, regimm_of, special_of, system_of, system_operation_of};
 
-use crate::fields::{code, function, imm, opcode, rd, rs, rt, sh, target};
+use crate::fields::{
+    COP0, COP0_OPERATION, REGIMM, SPECIAL, code, function, imm, opcode, rd, rs, rt, sh, target,
+};
 use crate::insn::Insn;
 
 /// The instruction of a word of opcode 0, by its function.
@@ -84,7 +86,7 @@ fn system(word: u32) -> Insn
     match rs(word) {
         0 if rest == 0 => Insn::Mfc0 { rt, rd },
         4 if rest == 0 => Insn::Mtc0 { rt, rd },
-        16 => system_operation(word),
+        COP0_OPERATION => system_operation(word),
         _ => Insn::Reserved(word),
     }
 }
@@ -96,8 +98,8 @@ fn instruction(word: u32) -> Insn
 {
     let (op, rs, rt, imm) = (opcode(word), rs(word), rt(word), imm(word));
     match op {
-        0 => special(word),
-        1 => regimm(word),
+        SPECIAL => special(word),
+        REGIMM => regimm(word),
         2 => Insn::J {
             target: target(word),
         },
@@ -116,7 +118,7 @@ fn instruction(word: u32) -> Insn
         13 => Insn::Ori { rt, rs, imm },
         14 => Insn::Xori { rt, rs, imm },
         15 if rs == 0 => Insn::Lui { rt, imm },
-        16 => system(word),
+        COP0 => system(word),
         17..=19 | 49..=51 | 57..=59 => Insn::Cop {
             op,
             rest: target(word),
@@ -137,7 +139,8 @@ fn instruction(word: u32) -> Insn
     }
 }
 
-/// The instruction that a word spells.
+/// The instruction that a word spells: one for every word, `Reserved` where the table has no other
+/// (`docs/MACHINE.md`, "Encoding").
 pub fn decode(word: u32) -> Insn
     ensures spells { Spells word result }
     ensures value { result ≡ insn_of word }

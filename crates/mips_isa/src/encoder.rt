@@ -3,6 +3,7 @@ ghost use Rattle.mips_isa.specs.Decoding.{insn_of};
 ghost use Rattle.mips_isa.specs.Encoding.{IsCoded, IsIType, IsJType, IsRType, IsRow, Spells, is_coprocessor};
 
 use crate::decoder::decode;
+use crate::fields::{COP0, COP0_OPERATION, REGIMM, SPECIAL};
 use crate::insn::Insn;
 
 /// Register numbers and shift amounts are below this.
@@ -78,7 +79,7 @@ fn system_operation(function: u8) -> u32
     requires { function < 2 ^ 6 }
     ensures { IsRType result 16 16 0 0 0 function }
 {
-    (16 << 26) + (16 << 21) + u32::from(function)
+    (u32::from(COP0) << 26) + (u32::from(COP0_OPERATION) << 21) + u32::from(function)
 }
 
 /// The word of a coprocessor's opcode and 26 bits, if each is in its range.
@@ -109,38 +110,38 @@ fn word_of(insn: &Insn) -> Option<u32>
     ensures out_of_range { IfNone result ((word : ℕ) → ¬ Spells word insn.now) }
 {
     match *insn {
-        Insn::Sll { rd, rt, sh } => r_type(0, 0, rt, rd, sh, 0),
-        Insn::Srl { rd, rt, sh } => r_type(0, 0, rt, rd, sh, 2),
-        Insn::Sra { rd, rt, sh } => r_type(0, 0, rt, rd, sh, 3),
-        Insn::Sllv { rd, rt, rs } => r_type(0, rs, rt, rd, 0, 4),
-        Insn::Srlv { rd, rt, rs } => r_type(0, rs, rt, rd, 0, 6),
-        Insn::Srav { rd, rt, rs } => r_type(0, rs, rt, rd, 0, 7),
-        Insn::Jr { rs } => r_type(0, rs, 0, 0, 0, 8),
-        Insn::Jalr { rd, rs } => r_type(0, rs, 0, rd, 0, 9),
+        Insn::Sll { rd, rt, sh } => r_type(SPECIAL, 0, rt, rd, sh, 0),
+        Insn::Srl { rd, rt, sh } => r_type(SPECIAL, 0, rt, rd, sh, 2),
+        Insn::Sra { rd, rt, sh } => r_type(SPECIAL, 0, rt, rd, sh, 3),
+        Insn::Sllv { rd, rt, rs } => r_type(SPECIAL, rs, rt, rd, 0, 4),
+        Insn::Srlv { rd, rt, rs } => r_type(SPECIAL, rs, rt, rd, 0, 6),
+        Insn::Srav { rd, rt, rs } => r_type(SPECIAL, rs, rt, rd, 0, 7),
+        Insn::Jr { rs } => r_type(SPECIAL, rs, 0, 0, 0, 8),
+        Insn::Jalr { rd, rs } => r_type(SPECIAL, rs, 0, rd, 0, 9),
         Insn::Syscall { code } => coded(code, 12),
         Insn::Break { code } => coded(code, 13),
-        Insn::Mfhi { rd } => r_type(0, 0, 0, rd, 0, 16),
-        Insn::Mthi { rs } => r_type(0, rs, 0, 0, 0, 17),
-        Insn::Mflo { rd } => r_type(0, 0, 0, rd, 0, 18),
-        Insn::Mtlo { rs } => r_type(0, rs, 0, 0, 0, 19),
-        Insn::Mult { rs, rt } => r_type(0, rs, rt, 0, 0, 24),
-        Insn::Multu { rs, rt } => r_type(0, rs, rt, 0, 0, 25),
-        Insn::Div { rs, rt } => r_type(0, rs, rt, 0, 0, 26),
-        Insn::Divu { rs, rt } => r_type(0, rs, rt, 0, 0, 27),
-        Insn::Add { rd, rs, rt } => r_type(0, rs, rt, rd, 0, 32),
-        Insn::Addu { rd, rs, rt } => r_type(0, rs, rt, rd, 0, 33),
-        Insn::Sub { rd, rs, rt } => r_type(0, rs, rt, rd, 0, 34),
-        Insn::Subu { rd, rs, rt } => r_type(0, rs, rt, rd, 0, 35),
-        Insn::And { rd, rs, rt } => r_type(0, rs, rt, rd, 0, 36),
-        Insn::Or { rd, rs, rt } => r_type(0, rs, rt, rd, 0, 37),
-        Insn::Xor { rd, rs, rt } => r_type(0, rs, rt, rd, 0, 38),
-        Insn::Nor { rd, rs, rt } => r_type(0, rs, rt, rd, 0, 39),
-        Insn::Slt { rd, rs, rt } => r_type(0, rs, rt, rd, 0, 42),
-        Insn::Sltu { rd, rs, rt } => r_type(0, rs, rt, rd, 0, 43),
-        Insn::Bltz { rs, imm } => i_type(1, rs, 0, imm),
-        Insn::Bgez { rs, imm } => i_type(1, rs, 1, imm),
-        Insn::Bltzal { rs, imm } => i_type(1, rs, 16, imm),
-        Insn::Bgezal { rs, imm } => i_type(1, rs, 17, imm),
+        Insn::Mfhi { rd } => r_type(SPECIAL, 0, 0, rd, 0, 16),
+        Insn::Mthi { rs } => r_type(SPECIAL, rs, 0, 0, 0, 17),
+        Insn::Mflo { rd } => r_type(SPECIAL, 0, 0, rd, 0, 18),
+        Insn::Mtlo { rs } => r_type(SPECIAL, rs, 0, 0, 0, 19),
+        Insn::Mult { rs, rt } => r_type(SPECIAL, rs, rt, 0, 0, 24),
+        Insn::Multu { rs, rt } => r_type(SPECIAL, rs, rt, 0, 0, 25),
+        Insn::Div { rs, rt } => r_type(SPECIAL, rs, rt, 0, 0, 26),
+        Insn::Divu { rs, rt } => r_type(SPECIAL, rs, rt, 0, 0, 27),
+        Insn::Add { rd, rs, rt } => r_type(SPECIAL, rs, rt, rd, 0, 32),
+        Insn::Addu { rd, rs, rt } => r_type(SPECIAL, rs, rt, rd, 0, 33),
+        Insn::Sub { rd, rs, rt } => r_type(SPECIAL, rs, rt, rd, 0, 34),
+        Insn::Subu { rd, rs, rt } => r_type(SPECIAL, rs, rt, rd, 0, 35),
+        Insn::And { rd, rs, rt } => r_type(SPECIAL, rs, rt, rd, 0, 36),
+        Insn::Or { rd, rs, rt } => r_type(SPECIAL, rs, rt, rd, 0, 37),
+        Insn::Xor { rd, rs, rt } => r_type(SPECIAL, rs, rt, rd, 0, 38),
+        Insn::Nor { rd, rs, rt } => r_type(SPECIAL, rs, rt, rd, 0, 39),
+        Insn::Slt { rd, rs, rt } => r_type(SPECIAL, rs, rt, rd, 0, 42),
+        Insn::Sltu { rd, rs, rt } => r_type(SPECIAL, rs, rt, rd, 0, 43),
+        Insn::Bltz { rs, imm } => i_type(REGIMM, rs, 0, imm),
+        Insn::Bgez { rs, imm } => i_type(REGIMM, rs, 1, imm),
+        Insn::Bltzal { rs, imm } => i_type(REGIMM, rs, 16, imm),
+        Insn::Bgezal { rs, imm } => i_type(REGIMM, rs, 17, imm),
         Insn::J { target } => j_type(2, target),
         Insn::Jal { target } => j_type(3, target),
         Insn::Beq { rs, rt, imm } => i_type(4, rs, rt, imm),
@@ -167,8 +168,8 @@ fn word_of(insn: &Insn) -> Option<u32>
         Insn::Swl { rt, imm, rs } => i_type(42, rs, rt, imm),
         Insn::Sw { rt, imm, rs } => i_type(43, rs, rt, imm),
         Insn::Swr { rt, imm, rs } => i_type(46, rs, rt, imm),
-        Insn::Mfc0 { rt, rd } => r_type(16, 0, rt, rd, 0, 0),
-        Insn::Mtc0 { rt, rd } => r_type(16, 4, rt, rd, 0, 0),
+        Insn::Mfc0 { rt, rd } => r_type(COP0, 0, rt, rd, 0, 0),
+        Insn::Mtc0 { rt, rd } => r_type(COP0, 4, rt, rd, 0, 0),
         Insn::Tlbr => Some(system_operation(1)),
         Insn::Tlbwi => Some(system_operation(2)),
         Insn::Tlbwr => Some(system_operation(6)),

@@ -1,6 +1,18 @@
 ghost use Rattle.std.specs.Prelude.{◌≡◌};
 ghost use Rattle.mips_isa.specs.Fields.{code_of, function_of, imm_of, opcode_of, rd_of, rs_of, rt_of, sh_of, target_of};
 
+/// The opcode whose words are told apart by their function.
+pub(crate) const SPECIAL: u8 = 0;
+
+/// The opcode whose words are told apart by their field `rt`.
+pub(crate) const REGIMM: u8 = 1;
+
+/// The opcode of coprocessor 0, whose words are told apart by their field `rs`.
+pub(crate) const COP0: u8 = 16;
+
+/// The field `rs` of the operations of coprocessor 0 without operands, told apart by bits 20:0.
+pub(crate) const COP0_OPERATION: u8 = 16;
+
 /// Bits 31:26.
 pub(crate) fn opcode(word: u32) -> u8
     ensures { result ≡ opcode_of word }

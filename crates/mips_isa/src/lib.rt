@@ -1,4 +1,10 @@
-//! The user and coprocessor 0 instructions of MIPS I: what each word spells.
+//! The user and coprocessor 0 instructions of MIPS I: what each word spells (`docs/MACHINE.md`,
+//! "Encoding").
+//!
+//! Every word below 2^32 spells exactly one instruction, and no two words spell the same one. `decode`
+//! answers the instruction of a word and `encode` the word of an instruction, each with the table of
+//! the encoding as its contract; they undo each other. Beside them stand the formulas by which words
+//! are sign-extended, merged and cut into bytes.
 #![tactic(auto)]
 
 mod decoder;
@@ -6,6 +12,8 @@ mod encoder;
 mod fields;
 mod insn;
 mod laws;
+#[cfg(test)]
+mod tests;
 mod words;
 
 pub use decoder::decode;

@@ -4,7 +4,8 @@ ghost use Rattle.mips_isa.specs.Word.{merged_left, merged_right, sign16_of, stor
 
 use byteorder::{ByteOrder, LittleEndian};
 
-/// A half word as a word with its sign: bits 31:16 are copies of bit 15.
+/// A half word as a word with its sign: bits 31:16 are copies of bit 15 (`docs/MACHINE.md`, "Halves and
+/// merges").
 pub fn sign16(half: u16) -> u32
     ensures { result ≡ sign16_of half }
 {
@@ -16,7 +17,8 @@ pub fn sign16(half: u16) -> u32
     }
 }
 
-/// The register after LWL of `word` at place `n` in it, where it was `value`.
+/// The register after LWL, where it was `value`: the `n + 1` low bytes of the word in memory
+/// become its high bytes (`docs/MACHINE.md`, "Halves and merges").
 pub fn merge_left(word: u32, value: u32, n: u32) -> u32
     requires { n < 4 }
     ensures { result ≡ merged_left word value n }
@@ -29,7 +31,8 @@ pub fn merge_left(word: u32, value: u32, n: u32) -> u32
     }
 }
 
-/// The register after LWR of `word` at place `n` in it, where it was `value`.
+/// The register after LWR, where it was `value`: the `4 - n` high bytes of the word in memory
+/// become its low bytes (`docs/MACHINE.md`, "Halves and merges").
 pub fn merge_right(word: u32, value: u32, n: u32) -> u32
     requires { n < 4 }
     ensures { result ≡ merged_right word value n }
@@ -42,7 +45,8 @@ pub fn merge_right(word: u32, value: u32, n: u32) -> u32
     }
 }
 
-/// The word in memory after SWL of the register `value` at place `n` in it, where it was `word`.
+/// The word in memory after SWL, where it was `word`: the `n + 1` high bytes of the register
+/// become its low bytes (`docs/MACHINE.md`, "Halves and merges").
 pub fn store_left(word: u32, value: u32, n: u32) -> u32
     requires { n < 4 }
     ensures { result ≡ stored_left word value n }
@@ -55,7 +59,8 @@ pub fn store_left(word: u32, value: u32, n: u32) -> u32
     }
 }
 
-/// The word in memory after SWR of the register `value` at place `n` in it, where it was `word`.
+/// The word in memory after SWR, where it was `word`: the `4 - n` low bytes of the register
+/// become its high bytes (`docs/MACHINE.md`, "Halves and merges").
 pub fn store_right(word: u32, value: u32, n: u32) -> u32
     requires { n < 4 }
     ensures { result ≡ stored_right word value n }

@@ -1,7 +1,7 @@
-use Rattle.std.proofs.Common.{rules, arith, ◌≡◌, ◌+◌, ◌<◌, ◌*ℤ◌, ℕ, ◌≤◌, ◌^◌, w32, FitsSigned, ℤ, ◌∙◌}
+use Rattle.std.proofs.Common.{rules, arith, ◌≡◌, ◌<◌, ◌*ℤ◌, ℕ, ◌≤◌, ◌^◌, w32, FitsSigned, ℤ, ◌∙◌}
 use Rattle.std.specs.Int.{cast_unsigned, cast_signed, w64}
 use Rattle.std.specs.Prelude.{unsigned_abs}
-use Rattle.std.proofs.lemmas.Int.{ints, to_z-of_z, fits_signed_mul}
+use Rattle.std.proofs.lemmas.Int.{to_z-of_z, fits_signed_mul}
 use mathlib.Core.Path.{ap}
 use Rattle.mips_exec.specs.Word.{signed}
 use Rattle.mips_exec.proofs.execute.signed_product.Goals as goal

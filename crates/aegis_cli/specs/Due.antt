@@ -1,0 +1,39 @@
+-- What is to be written, given the contents of the files that the words name.
+use Rattle.std.specs.Prelude.{ℕ, List, [], ◌∷◌, ◌++◌, Option, Some, None, codes}
+use Rattle.boot_image.specs.declared.fault.ImageFault.{ImageFault}
+use Rattle.boot_image.specs.declared.fault.TextFault.{TextFault}
+use Rattle.boot_image.specs.ImageFaults.{image_fault}
+use Rattle.boot_image.specs.ImageValue.{ImageValue, image_of}
+use Rattle.boot_image.specs.Names.{image_why_text, text_why_text}
+use Rattle.boot_image.specs.ScheduleFaults.{schedule_fault}
+use Rattle.line_text.specs.Text.{dec_text}
+use Rattle.world_model.specs.Report.{report_text}
+use Rattle.world_model.specs.Run.{world_after, end_of_run}
+use Rattle.aegis_cli.specs.Words.{Form, Run}
+
+-- a refusal, or the whole output
+pub data Due : Type 0 where
+  Refusal : (text : List ℕ) → Due
+  Whole : (text : List ℕ) → Due
+
+abbrev pub usage_text : List ℕ
+usage_text = codes "aegis: usage" ++ 10 ∷ []
+
+-- which file, what is wrong with it, and where
+unfoldable pub refusal_text : List ℕ → List ℕ → ℕ → List ℕ
+refusal_text name why place = codes "aegis: " ++ name ++ codes ": " ++ why ++ codes " " ++ dec_text place ++ 10 ∷ []
+
+-- the report of an image's world after so many ticks
+unfoldable pub report_after : ImageValue → ℕ → List ℕ
+report_after image ticks = let w = world_after image ticks in report_text w (end_of_run w ticks)
+
+-- the first file with a fault is refused, in the order of the words
+abbrev pub run_due : (image_name schedule_name : List ℕ) → ℕ → List ℕ → Option ImageFault → Option TextFault → Due
+run_due image_name schedule_name ticks image (Some fault) schedule = Refusal (refusal_text image_name (image_why_text fault.why) fault.place)
+run_due image_name schedule_name ticks image None (Some fault) = Refusal (refusal_text schedule_name (text_why_text fault.why) fault.line)
+run_due image_name schedule_name ticks image None None = Whole (report_after (image_of image) ticks)
+
+-- what is due for a form, given the contents of its files; it has as many as names
+abbrev pub due_of : Form → List (List ℕ) → Due
+due_of (Run image_name schedule_name ticks) (image ∷ schedule ∷ []) = run_due image_name schedule_name ticks image (image_fault image) (schedule_fault schedule)
+due_of form _ = Refusal []

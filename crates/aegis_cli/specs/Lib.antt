@@ -1,0 +1,6 @@
+pub mod Exit
+pub mod Words
+pub mod Due
+pub mod Outcome
+pub mod Work
+pub mod Stopping

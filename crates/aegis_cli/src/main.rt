@@ -1,0 +1,36 @@
+//! The program: the top call, over any shelf of files and any sink, and `main`, which calls it once
+//! with the host's.
+#![tactic(auto)]
+
+mod status;
+mod top;
+mod words;
+mod work;
+
+use edge_io::{HostShelf, HostSink, OutOfMemory};
+use std::env;
+use std::io::ErrorKind;
+use std::process::ExitCode;
+use std::rt::Env;
+
+use status::Status;
+use top::aegis;
+
+/// The words after the program's name; none where one of them isn't text.
+fn words(rt: &(impl Env + AllocGlobal)) -> Result<Vec<String>, OutOfMemory> {
+    match env::args(rt) {
+        Ok(args) => Ok(args.skip(1).collect(rt.alloc())?),
+        Err(e) if e.kind() == ErrorKind::OutOfMemory => Err(OutOfMemory),
+        Err(_) => Ok(Vec::new(rt.alloc())),
+    }
+}
+
+fn main(rt: HostRuntime) -> ExitCode {
+    let Ok(words) = words(&rt) else {
+        return ExitCode::from(Status::OutOfMemory.code());
+    };
+    let mut shelf = HostShelf::new(&rt);
+    let mut out = HostSink::new(&rt);
+    let status = aegis(rt.alloc(), &words, &mut shelf, &mut out);
+    ExitCode::from(status.code())
+}

@@ -1,0 +1,57 @@
+//! The top call.
+ghost use Rattle.std.specs.Prelude.{◌≡◌, ◌≢◌, ◌≤◌, ◌<◌, ℕ, List, [], ◌∷◌, Option, Some, None, IfSome, IfNone, length, map, string_bytes};
+ghost use Rattle.aegis_cli.specs.Words.{form_of, names_of, Run};
+ghost use Rattle.aegis_cli.specs.Due.{usage_text};
+ghost use Rattle.aegis_cli.specs.Outcome.{Outcome, Finished};
+
+use edge_io::{Shelf, Sink, write_whole};
+use std::alloc::Global;
+
+use crate::status::Status;
+use crate::words::parse;
+use crate::work::{Stop, perform_run};
+
+/// What is written where the words are none of the forms.
+const USAGE: &[u8] = b"aegis: usage\n";
+
+/// Writes a text, and answers the intended status unless a write fails.
+fn finish<K: Sink>(out: &mut K, text: &[u8], status: Status) -> Status
+    ensures finished { Finished status text.now (K.written out.old) (K.written out.new) (K.faults out.old) (K.faults out.new) result }
+    ensures sure { K.Takes out.old (length text.now) → result ≡ status }
+{
+    match write_whole(out, text) {
+        Ok(()) => status,
+        Err(_) => Status::WriteFault,
+    }
+}
+
+/// Does what the words ask, over a shelf of files and a sink for the output (`docs/PROGRAM.md`). All
+/// files that the words name are read first, in their order; then they are checked in this order;
+/// then the work is done, and last the whole output is written.
+pub fn aegis<S: Shelf, K: Sink>(
+    alloc: Global,
+    words: &[String],
+    shelf: &mut S,
+    out: &mut K,
+) -> Status
+    // Words that are no form are answered so, no file is read, and no memory is wanted.
+    ensures no_form_reads_nothing { IfNone (form_of (map string_bytes words.now)) (shelf.new ≡ shelf.old) }
+    ensures no_form { IfNone (form_of (map string_bytes words.now)) (Finished Status.Usage usage_text (K.written out.old) (K.written out.new) (K.faults out.old) (K.faults out.new) result) }
+
+    // What holds for words of a form, by the status.
+    ensures form { IfSome (form_of (map string_bytes words.now)) (λ form. Outcome form (record {
+        told = S.told shelf.old;
+        read_faults_before = S.faults shelf.old; read_faults_after = S.faults shelf.new; failed = S.failed shelf.new;
+        written_before = K.written out.old; written_after = K.written out.new;
+        write_faults_before = K.faults out.old; write_faults_after = K.faults out.new;
+      }) result) }
+{
+    let Some(words) = parse(words) else {
+        return finish(out, USAGE, Status::Usage);
+    };
+    match perform_run(alloc, words, shelf) {
+        Ok(answer) => finish(out, &answer.text, answer.status),
+        Err(Stop::ReadFault) => Status::ReadFault,
+        Err(Stop::OutOfMemory) => Status::OutOfMemory,
+    }
+}

@@ -1,0 +1,146 @@
+//! The work of a form, which touches the shelf alone.
+ghost use Rattle.std.specs.Prelude.{◌≡◌, ◌≤◌, ◌<◌, ◌^◌, ◌++◌, [], ◌∷◌, IfOk, IfErr, OnOk, OnErr, length};
+ghost use Rattle.aegis_cli.specs.Words.{Form, Run};
+ghost use Rattle.aegis_cli.specs.Due.{due_of, refusal_text, report_after as report_text_after};
+ghost use Rattle.aegis_cli.specs.Work.{Settles, Performed, Stopped};
+ghost use Rattle.boot_image.specs.Accepted.{IsAccepted};
+ghost use Rattle.boot_image.specs.Seen.{image_seen};
+
+use aegis_tick::{boot, run};
+use boot_image::{Image, check_schedule, read_image};
+use edge_io::{OutOfMemory, ReadFail, Shelf};
+use line_text::push_dec;
+use run_report::report;
+use std::alloc::Global;
+
+use crate::status::Status;
+use crate::words::{RunWords, TICK_LIMIT};
+
+/// What is to be written, and the status once it is.
+#[derive(Drop)]
+pub struct Answer {
+    pub text: Vec<u8>,
+    pub status: Status,
+}
+
+/// Why there is nothing to write.
+#[derive(Clone, Copy, Debug, PartialEq, Eq)]
+pub enum Stop {
+    /// A file couldn't be read.
+    ReadFault,
+    /// No memory was found.
+    OutOfMemory,
+}
+
+impl From<ReadFail> for Stop {
+    ghost use Rattle.std.specs.Prelude.{◌≡◌};
+    ghost use Rattle.aegis_cli.specs.Stopping.{stop_of};
+
+    ghost from_gives = { λ e s. s ≡ stop_of e };
+
+    fn from(e: ReadFail) -> Stop {
+        match e {
+            ReadFail::Failed => Stop::ReadFault,
+            ReadFail::OutOfMemory => Stop::OutOfMemory,
+        }
+    }
+}
+
+impl From<OutOfMemory> for Stop {
+    ghost use Rattle.std.specs.Prelude.{◌≡◌};
+    ghost use Rattle.aegis_cli.specs.declared.work.Stop.TheVariants as stop;
+
+    ghost from_gives = { λ e s. s ≡ stop.OutOfMemory };
+
+    fn from(_e: OutOfMemory) -> Stop {
+        Stop::OutOfMemory
+    }
+}
+
+/// Appends a text. An `Err` changes nothing.
+fn push(out: &mut Vec<u8>, text: &[u8]) -> Result<(), OutOfMemory>
+    ensures ok { OnOk result (out.new.items ≡ out.old.items ++ text.now) }
+    ensures err { OnErr result (out.new.items ≡ out.old.items) }
+{
+    out.extend_from_slice(text)?;
+    Ok(())
+}
+
+/// Which file is refused, why, and where.
+#[tactic(auto, unfolding(crate::specs::Due::refusal_text))]
+fn refusal(alloc: Global, name: &str, why: &str, place: u32) -> Result<Vec<u8>, OutOfMemory>
+    ensures { IfOk result (λ text. text.items ≡ refusal_text name.now why.now place) }
+{
+    let mut text = Vec::new(alloc);
+    push(&mut text, b"aegis: ")?;
+    push(&mut text, name.as_bytes())?;
+    push(&mut text, b": ")?;
+    push(&mut text, why.as_bytes())?;
+    push(&mut text, b" ")?;
+    push_dec(&mut text, u64::from(place))?;
+    push(&mut text, b"\n")?;
+    Ok(text)
+}
+
+/// The report of a run of so many ticks.
+#[tactic(auto, unfolding(crate::specs::Due::report_after))]
+fn report_after(alloc: Global, image: &Image<'_>, ticks: u32) -> Result<Vec<u8>, OutOfMemory>
+    requires accepted { IsAccepted (image_seen image.now) }
+    requires limit { ticks ≤ TICK_LIMIT }
+    ensures { IfOk result (λ text. text.items ≡ report_text_after (image_seen image.now) ticks) }
+{
+    let mut board = boot(alloc, image)?;
+    let end = run(&mut board, ticks)?;
+    report(alloc, &board, end)
+}
+
+/// What is due for a run of these files: the first fault, or the report.
+fn due_run(
+    alloc: Global,
+    words: RunWords<'_>,
+    image: &[u8],
+    schedule: &[u8],
+) -> Result<Answer, OutOfMemory>
+    requires limit { words.ticks ≤ TICK_LIMIT }
+    requires image { length image.now < 2 ^ 27 }
+    ensures { IfOk result (Settles (due_of (Run words.image.now words.schedule.now words.ticks) (image.now ∷ schedule.now ∷ []))) }
+{
+    let image = match read_image(image) {
+        Ok(image) => image,
+        Err(fault) => {
+            let text = refusal(alloc, words.image, fault.why.name(), fault.place)?;
+            return Ok(Answer {
+                text,
+                status: Status::Refused,
+            });
+        }
+    };
+    if let Err(fault) = check_schedule(schedule) {
+        let text = refusal(alloc, words.schedule, fault.why.name(), fault.line)?;
+        return Ok(Answer {
+            text,
+            status: Status::Refused,
+        });
+    }
+    let text = report_after(alloc, &image, words.ticks)?;
+    Ok(Answer {
+        text,
+        status: Status::Done,
+    })
+}
+
+/// Reads the files of a run, and does its work.
+pub fn perform_run<S: Shelf>(
+    alloc: Global,
+    words: RunWords<'_>,
+    shelf: &mut S,
+) -> Result<Answer, Stop>
+    requires { words.ticks ≤ TICK_LIMIT }
+    ensures ok { IfOk result (Performed (Run words.image.now words.schedule.now words.ticks) (S.told shelf.old) (S.faults shelf.old) (S.faults shelf.new)) }
+    ensures err { IfErr result (Stopped (Run words.image.now words.schedule.now words.ticks) (S.faults shelf.old) (S.faults shelf.new) (S.failed shelf.new)) }
+    ensures sure { S.Serves shelf.old words.image.now → S.Serves shelf.old words.schedule.now → IfErr result (λ s. s ≡ Stop.OutOfMemory) }
+{
+    let image = shelf.read(alloc, words.image)?;
+    let schedule = shelf.read(alloc, words.schedule)?;
+    Ok(due_run(alloc, words, &image, &schedule)?)
+}

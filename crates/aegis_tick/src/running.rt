@@ -1,0 +1,74 @@
+ghost use Rattle.std.specs.Prelude.{◌≡◌, ◌≤◌, ◌<◌, ◌+◌, ◌*◌, ℕ, false, IfOk, IsOk, OnOk, OnErr};
+ghost use Rattle.aegis_calls.specs.Showing.{world_of};
+ghost use Rattle.world_model.specs.Book.{is_idle_book};
+ghost use Rattle.world_model.specs.Run.{run_on, end_of_run};
+ghost use Rattle.world_model.specs.Tick.{tick_step};
+
+use aegis_calls::{Board, TIME_LIMIT};
+use edge_io::OutOfMemory;
+use kernel_journal::RunEnd;
+
+/// The most rows of the ledger that a tick may write.
+pub const TICK_ROWS: u32 = 2048;
+
+/// Takes memory for so many rows of the ledger more, where it isn't there yet. After Ok that many are
+/// spare, and all else is as before; after a refusal the board is as before.
+pub fn make_room(board: &mut Board, rows: u32) -> Result<(), OutOfMemory>
+    ensures room { OnOk result (rows ≤ board.new.ledger.spare) }
+    ensures world { world_of board.new ≡ world_of board.old }
+    ensures there { rows ≤ board.old.ledger.spare → IsOk result × (board.new ≡ board.old) }
+    ensures refused { OnErr result (board.new ≡ board.old) }
+{
+    board.make_room(rows)
+}
+
+/// One tick: the turn, the runner's step, and the timer. It takes no memory.
+pub fn tick(board: &mut Board)
+    requires busy { is_idle_book (world_of board.old).book ≡ false }
+    requires time { board.old.time < TIME_LIMIT }
+    requires room { TICK_ROWS ≤ board.old.ledger.spare }
+    ensures world { world_of board.new ≡ tick_step (world_of board.old) }
+    ensures time { board.new.time ≡ board.old.time + 1 }
+    ensures room { board.old.ledger.spare ≤ board.new.ledger.spare + TICK_ROWS }
+{
+    board.turn();
+    board.step();
+    board.timer();
+}
+
+/// So many ticks, or fewer where the board is idle before.
+fn run_ticks(board: &mut Board, ticks: u32) -> Result<(), OutOfMemory>
+    requires fresh { board.old.time ≡ 0 }
+    requires limit { ticks ≤ TIME_LIMIT }
+    ensures world { OnOk result (world_of board.new ≡ run_on (world_of board.old) ticks) }
+    ensures whole { OnErr result ((t : ℕ) × (t < ticks) × (world_of board.new ≡ run_on (world_of board.old) t)) }
+    ensures sure { TICK_ROWS * ticks ≤ board.old.ledger.spare → IsOk result }
+{
+    for done in 0..ticks {
+        if board.idle() {
+            return Ok(());
+        }
+        make_room(board, TICK_ROWS)?;
+        tick(board);
+    }
+    Ok(())
+}
+
+/// Runs a freshly booted board for so many ticks. It ends at the limit exactly where the time reached
+/// it, else because the board is idle. After a refusal the board is that of a whole number of ticks.
+/// Where `TICK_ROWS` rows are spare for each tick it takes no memory and isn't refused.
+pub fn run(board: &mut Board, ticks: u32) -> Result<RunEnd, OutOfMemory>
+    requires fresh { board.old.time ≡ 0 }
+    requires limit { ticks ≤ TIME_LIMIT }
+    ensures world { OnOk result (world_of board.new ≡ run_on (world_of board.old) ticks) }
+    ensures end { IfOk result (λ end. end ≡ end_of_run (world_of board.new) ticks) }
+    ensures whole { OnErr result ((t : ℕ) × (t < ticks) × (world_of board.new ≡ run_on (world_of board.old) t)) }
+    ensures sure { TICK_ROWS * ticks ≤ board.old.ledger.spare → IsOk result }
+{
+    run_ticks(board, ticks)?;
+    if board.time() == ticks {
+        Ok(RunEnd::Limit)
+    } else {
+        Ok(RunEnd::Idle)
+    }
+}

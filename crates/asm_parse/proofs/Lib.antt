@@ -1,0 +1,7 @@
+pub mod ArgLemmas
+pub mod MarkLemmas
+pub mod NumeralLemmas
+pub mod OpeningLemmas
+pub mod PartLemmas
+pub mod SpanLemmas
+pub mod StatementLemmas

@@ -1,0 +1,164 @@
+-- The statements of a source, one line after another.
+use Rattle.std.proofs.Common.{◌≡◌, ℕ, zero, suc, ◌+◌, ◌<◌, ◌≤◌, List, [], ◌∷◌, ◌++◌, Bool, true, false, cond, Option, Some, None, Result, Ok, Err, length, take, drop, refl, ap, sym, ◌∙◌, subst, arith, append_assoc, length-take, length-drop}
+use Rattle.std.proofs.lemmas.Option.{none-some, same_Some, cond_some}
+use Rattle.std.proofs.Math.Bool.{and-false}
+use Rattle.std.specs.Prelude.{not, ◌==◌, ◌&&◌, nat_eq, codes, IfOk, IfSome}
+use Rattle.std.specs.List.{AllByRecursion, list_all, prefix_len, starts_with, take_while, slice_range}
+use Rattle.std.specs.Option.{option_map, ok_or}
+use Rattle.line_text.specs.Lines.{LineValue, IsPlaced, lines_of}
+use Rattle.asm_parse.specs.declared.syntax.Arg.{Arg}
+use Rattle.asm_parse.specs.declared.syntax.AsmBody.{AsmBody}
+use Rattle.asm_parse.specs.declared.syntax.AsmBody.TheVariants.{Nothing, Op, Directive}
+use Rattle.asm_parse.specs.declared.syntax.AsmLine.{AsmLine}
+use Rattle.asm_parse.specs.Bytes.{is_name_byte, is_text_byte}
+use Rattle.asm_parse.specs.Words.{begins_name}
+use Rattle.asm_parse.specs.Form.{Piece, skip, after_blanks, before_mark, joined, said, after_label, label_of, body_named, body_of, operands_of, statement_of, line_of, due_of, statements_of, parsed, Gives}
+use Rattle.asm_parse.specs.Span.{IsCut, IsCutArg, args_in}
+use Rattle.asm_parse.proofs.PartLemmas.{IsPart, part_span, part_within, part_front, part_skip, part_after_blanks, part_trimmed, part_itself, part_line}
+use Rattle.asm_parse.proofs.SpanLemmas.{operands_cut}
+use Rattle.asm_parse.specs.declared.fault.AsmFault.{AsmFault}
+use Rattle.asm_parse.specs.declared.fault.AsmFault.TheVariants.{At}
+use Rattle.asm_parse.specs.declared.fault.AsmWhy.TheVariants.{Syntax}
+use Rattle.asm_parse.specs.declared.quoting.Quoting.TheVariants.{Outside}
+use Rattle.asm_parse.proofs.MarkLemmas.{before_mark_front}
+
+same_Ok : (xs ys : List AsmLine) → ◌≡◌ {A = Result (List AsmLine) AsmFault} (Ok xs) (Ok ys) → xs ≡ ys
+same_Ok xs ys is = cc
+
+ok_some : (o : Option (Option AsmLine)) (fault : AsmFault) (x : Option AsmLine) → ok_or o fault ≡ Ok x → o ≡ Some x
+ok_some None fault x is = absurd cc
+ok_some (Some y) fault x is = ap Some cc
+
+not_zero : (n : ℕ) → (n == 0) ≡ false → 0 < n
+not_zero zero is = absurd cc
+not_zero (suc n) is = omega arith
+
+-- statements before those of the lines to come
+abbrev pub before_rest : List AsmLine → Result (List AsmLine) AsmFault → Result (List AsmLine) AsmFault
+before_rest statements (Ok more) = Ok (statements ++ more)
+before_rest statements (Err fault) = Err fault
+
+pub before_rest_none : (rest : Result (List AsmLine) AsmFault) → before_rest [] rest ≡ rest
+before_rest_none (Ok more) = refl
+before_rest_none (Err fault) = refl
+
+name_short : (bs : List ℕ) → length (take_while is_name_byte bs) ≤ length bs
+name_short bs = omega (arith, length-take (prefix_len is_name_byte bs) bs)
+
+-- the operands that a body has lie in its part
+args_named : (name : List ℕ) (args : List Arg) → args_in (body_named name args) ≡ args
+args_named name args = by_point (starts_with nat_eq name (codes "."))
+  where
+    by_point : (v : Bool) → args_in (cond v (Directive name args) (Op name args)) ≡ args
+    by_point true = refl
+    by_point false = refl
+
+body_cut : (source : List ℕ) (low high : ℕ) (p : Piece) (body : AsmBody) → IsPart source low high p → body_of p ≡ Some body →
+    AllByRecursion (IsCutArg source low high) (args_in body)
+unfolding body_of
+body_cut source low high p body part is =
+    by_tests (length p.bytes == 0) (begins_name name) (operands_of (skip (length name) p)) refl is
+  where
+    name : List ℕ
+    name = take_while is_name_byte p.bytes
+    by_tests : (v w : Bool) (o : Option (List Arg)) → operands_of (skip (length name) p) ≡ o →
+        cond v (Some Nothing) (cond w (option_map (λ args. body_named name args) o) None) ≡ Some body → AllByRecursion (IsCutArg source low high) (args_in body)
+    by_tests true w o at is = subst (λ (b : AsmBody). AllByRecursion (IsCutArg source low high) (args_in b)) (same_Some _ _ is) tt
+    by_tests false false o at is = absurd (none-some body is)
+    by_tests false true None at is = absurd (none-some body is)
+    by_tests false true (Some args) at is =
+        subst (λ (b : AsmBody). AllByRecursion (IsCutArg source low high) (args_in b)) (same_Some _ _ is)
+            (subst (AllByRecursion (IsCutArg source low high)) (sym (args_named name args))
+                (operands_cut source low high (skip (length name) p) args (part_skip source low high (length name) p (name_short p.bytes) part) at))
+
+-- a label and its colon stand in the bytes
+label_short : (bs name : List ℕ) → label_of bs ≡ Some name → length name + 1 ≤ length bs
+unfolding label_of
+label_short bs name is =
+    by_rest (begins_name front) (drop (length front) bs) refl is
+  where
+    front : List ℕ
+    front = take_while is_name_byte bs
+    by_rest : (v : Bool) (rest : List ℕ) → drop (length front) bs ≡ rest → cond (v && starts_with nat_eq rest (codes ":")) (Some front) None ≡ Some name →
+        length name + 1 ≤ length bs
+    by_rest v [] at is = absurd (none-some name (rw (and-false v) at is))
+    by_rest v (b ∷ rest) at is =
+        let same = (cond_some (v && starts_with nat_eq (b ∷ rest) (codes ":")) front name is).1 in
+        omega (arith, ap length at, length-drop (length front) bs, ap length same)
+
+label_part : (source : List ℕ) (low high : ℕ) (p : Piece) (label : Option (List ℕ)) → label_of p.bytes ≡ label → IsPart source low high p →
+    IsPart source low high (after_label label p)
+label_part source low high p None at part = part
+label_part source low high p (Some name) at part =
+    part_after_blanks source low high _ (part_skip source low high (length name + 1) p (label_short p.bytes name at) part)
+
+-- the spans of a statement
+statement_cut : (source : List ℕ) (low high number : ℕ) (p : Piece) (statement : AsmLine) → IsPart source low high p → 0 < length p.bytes →
+    statement_of number p ≡ Some statement → IsCut source statement
+unfolding statement_of
+statement_cut source low high number p statement part some is = by_body (body_of (after_label (label_of p.bytes) p)) refl is
+  where
+    by_body : (o : Option AsmBody) → body_of (after_label (label_of p.bytes) p) ≡ o →
+        option_map (λ body. record { line = number; start = p.start; end = p.start + length p.bytes; label = label_of p.bytes; body = body }) o ≡ Some statement →
+        IsCut source statement
+    by_body None at is = absurd (none-some statement is)
+    by_body (Some body) at is =
+        let here = part_itself source low high p part in
+        subst (IsCut source) (same_Some _ _ is) (record {
+          some = omega arith;
+          to = part_within source low high p part;
+          form = ap (λ (bs : List ℕ). statement_of number (record { start = p.start; bytes = bs })) (part_span source low high p part)
+              ∙ ap (option_map (λ (b : AsmBody). record { line = number; start = p.start; end = p.start + length p.bytes; label = label_of p.bytes; body = b })) at;
+          args = body_cut source p.start (p.start + length p.bytes) (after_label (label_of p.bytes) p) body
+              (label_part source p.start (p.start + length p.bytes) p (label_of p.bytes) refl here) at;
+        })
+
+-- what a line says stands in the source
+said_part : (source : List ℕ) (line : LineValue) → IsPlaced source line → IsPart source 0 (length source) (said line)
+said_part source line placed =
+    let P : List ℕ → Type 0 = λ bs. IsPart source 0 (length source) (record { start = line.start; bytes = bs }) in
+    part_trimmed source 0 (length source) _
+        (subst P (before_mark_front 35 Outside line.text) (part_front source 0 (length source) (length (before_mark 35 Outside line.text)) _ (part_line source line placed)))
+
+-- the spans of a line's statement
+line_cut : (source : List ℕ) (line : LineValue) (statement : AsmLine) → IsPlaced source line → line_of line ≡ Some (Some statement) → IsCut source statement
+unfolding line_of
+line_cut source line statement placed is =
+    by_tests (not (list_all is_text_byte line.text)) (length (said line).bytes == 0) refl (statement_of line.number (said line)) refl is
+  where
+    by_tests : (v w : Bool) → (length (said line).bytes == 0) ≡ w → (o : Option AsmLine) → statement_of line.number (said line) ≡ o →
+        cond v None (cond w (Some None) (option_map (λ statement. Some statement) o)) ≡ Some (Some statement) → IsCut source statement
+    by_tests true w some o at is = absurd (none-some (Some statement) is)
+    by_tests false true some o at is = absurd (none-some statement (same_Some _ _ is))
+    by_tests false false some None at is = absurd (none-some (Some statement) is)
+    by_tests false false some (Some found) at is =
+        subst (IsCut source) (same_Some _ _ (same_Some _ _ is))
+            (statement_cut source 0 (length source) line.number (said line) found (said_part source line placed) (not_zero (length (said line).bytes) some) at)
+
+statements_cut : (source : List ℕ) (lines : List LineValue) (statements : List AsmLine) → AllByRecursion (IsPlaced source) lines →
+    statements_of lines ≡ Ok statements → AllByRecursion (IsCut source) statements
+statements_cut source [] statements placed is = subst (AllByRecursion (IsCut source)) (same_Ok _ _ is) tt
+statements_cut source (line ∷ lines) statements placed is =
+    by_line (line_of line) refl (statements_of lines) (λ more at. statements_cut source lines more placed.1 at) is
+  where
+    by_line : (o : Option (Option AsmLine)) → line_of line ≡ o → (rest : Result (List AsmLine) AsmFault) →
+        ((more : List AsmLine) → rest ≡ Ok more → AllByRecursion (IsCut source) more) →
+        joined (ok_or o (At line.number Syntax)) rest ≡ Ok statements → AllByRecursion (IsCut source) statements
+    by_line None at rest later is = absurd cc
+    by_line (Some one) at (Err fault) later is = absurd cc
+    by_line (Some None) at (Ok more) later is = subst (AllByRecursion (IsCut source)) (same_Ok _ _ is) (later more refl)
+    by_line (Some (Some one)) at (Ok more) later is =
+        subst (AllByRecursion (IsCut source)) (same_Ok _ _ is) (line_cut source line one placed.0 at, later more refl)
+
+-- the spans of what is answered
+pub parsed_cut : {X : Type 0} (view : X → List AsmLine) (source : List ℕ) (r : Result X AsmFault) → AllByRecursion (IsPlaced source) (lines_of source) →
+    Gives view r (parsed source) → IfOk r (λ x. AllByRecursion (IsCut source) (view x))
+unfolding parsed
+parsed_cut view source (Ok x) placed is = statements_cut source (lines_of source) (view x) placed is
+parsed_cut view source (Err fault) placed is = tt
+
+pub line_said_cut : (source : List ℕ) (line : LineValue) (r : Result (Option AsmLine) AsmFault) → Gives (λ said. said) r (due_of line) → IsPlaced source line →
+    IfOk r (λ said. IfSome said (IsCut source))
+line_said_cut source line (Err fault) is placed = tt
+line_said_cut source line (Ok None) is placed = tt
+line_said_cut source line (Ok (Some statement)) is placed = line_cut source line statement placed (ok_some (line_of line) (At line.number Syntax) (Some statement) is)

@@ -1,0 +1,15 @@
+use Rattle.std.proofs.Common.{◌≡◌}
+use Rattle.std.specs.List.{AllByRecursion}
+use Rattle.line_text.specs.Lines.{IsPlaced}
+use Rattle.asm_parse.specs.Form.{statements_of, parsed}
+use Rattle.asm_parse.proofs.StatementLemmas.{before_rest}
+use Rattle.asm_parse.proofs.lines.statements.Given as goal
+
+-- the statements so far and those to come are all of them
+abbrev pub invariant-loop-line : goal.invariant-loop-line
+invariant-loop-line l = record {
+  can : (goal.iterator-loop-line).can_next l.line-iterator;
+  finite : (goal.iterator-loop-line).is_finite l.line-iterator;
+  placed : AllByRecursion (IsPlaced l.source) l.line-iterator;
+  told : before_rest l.statements.items (statements_of l.line-iterator) ≡ parsed l.source;
+}

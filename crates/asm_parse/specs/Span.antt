@@ -1,0 +1,28 @@
+-- What the spans of a statement cut out of the source.
+use Rattle.std.specs.Prelude.{◌≡◌, ℕ, ◌<◌, ◌≤◌, List, [], Some, length, slice_range}
+use Rattle.std.specs.List.{AllByRecursion}
+use Rattle.asm_parse.specs.declared.syntax.Arg.{Arg}
+use Rattle.asm_parse.specs.declared.syntax.AsmBody.{AsmBody}
+use Rattle.asm_parse.specs.declared.syntax.AsmBody.TheVariants.{Nothing, Op, Directive}
+use Rattle.asm_parse.specs.declared.syntax.AsmLine.{AsmLine}
+use Rattle.asm_parse.specs.Form.{kind_of, statement_of}
+
+-- an operand's span lies between two places, and cuts out bytes of the operand's form
+pub record IsCutArg (source : List ℕ) (start end : ℕ) (arg : Arg) : Type 0 where
+  pub from : start ≤ arg.start
+  pub some : arg.start < arg.end
+  pub to : arg.end ≤ end
+  pub form : kind_of (slice_range source arg.start arg.end) ≡ Some arg.kind
+
+-- the operands of a body
+abbrev pub args_in : AsmBody → List Arg
+args_in Nothing = []
+args_in (Op name args) = args
+args_in (Directive name args) = args
+
+-- a statement's span cuts out bytes that say the statement, and its operands lie inside
+pub record IsCut (source : List ℕ) (statement : AsmLine) : Type 0 where
+  pub some : statement.start < statement.end
+  pub to : statement.end ≤ length source
+  pub form : statement_of statement.line (record { start = statement.start; bytes = slice_range source statement.start statement.end }) ≡ Some statement
+  pub args : AllByRecursion (IsCutArg source statement.start statement.end) (args_in statement.body)

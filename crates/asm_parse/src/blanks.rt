@@ -1,0 +1,33 @@
+//! Blanks at the ends of bytes.
+ghost use Rattle.std.specs.Prelude.{◌≡◌, ◌≤◌, length};
+ghost use Rattle.std.specs.List.{prefix_len, suffix_len};
+ghost use Rattle.asm_parse.specs.Bytes.{is_blank};
+
+use crate::bytes::is_blank;
+
+/// How many blanks stand at the front.
+#[tactic(auto, using(std::proofs::lemmas::List::Sums::prefix_len_is))]
+pub(crate) fn blanks_before(bytes: &[u8]) -> usize
+    ensures count { result ≡ prefix_len is_blank bytes.now }
+    ensures within { result ≤ length bytes.now }
+{
+    for (place, byte) in bytes.iter().enumerate() {
+        if !is_blank(*byte) {
+            return place;
+        }
+    }
+    bytes.len()
+}
+
+/// How many blanks stand at the end.
+#[tactic(auto, using(std::proofs::lemmas::List::Sums::suffix_len_is))]
+pub(crate) fn blanks_behind(bytes: &[u8]) -> usize
+    ensures count { result ≡ suffix_len is_blank bytes.now }
+    ensures within { result ≤ length bytes.now }
+{
+    let mut left = bytes.len();
+    while left > 0 && is_blank(bytes[left - 1]) {
+        left -= 1;
+    }
+    bytes.len() - left
+}

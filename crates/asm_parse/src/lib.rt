@@ -1,0 +1,22 @@
+//! The assembler's syntax: which statement each line of a source has, and where its parts stand. What a
+//! label, an operation, an operand, an expression and a comment are is defined on the bytes, apart from
+//! the parser; the parser gives exactly the lines of that definition, or the first line of another form.
+#![tactic(auto)]
+
+mod blanks;
+mod bytes;
+mod expression;
+mod fault;
+mod lines;
+mod marks;
+mod operands;
+mod piece;
+mod quoting;
+mod syntax;
+mod words;
+
+pub use expression::{Expression, Inner, read_expression};
+pub use fault::{AsmFault, AsmWhy};
+pub use lines::{parse, parse_line};
+pub use operands::{Based, read_based};
+pub use syntax::{Arg, ArgKind, Args, AsmBody, AsmLine, Name};

@@ -1,0 +1,180 @@
+//! The statements of a source.
+ghost use Rattle.std.specs.Prelude.{◌≡◌, ℕ, ◌+◌, ◌^◌, ◌<◌, ◌≤◌, List, length, IfOk, IfSome};
+ghost use Rattle.std.specs.Option.{option_copied};
+ghost use Rattle.line_text.specs.LineView.{line_value};
+ghost use Rattle.asm_parse.specs.Form.{body_named, body_of, due_of, label_of, after_label, before_mark, parsed, said, statement_of, Gives};
+ghost use Rattle.asm_parse.specs.Bytes.{is_text_byte};
+ghost use Rattle.asm_parse.specs.declared.quoting.Quoting.TheVariants.{Outside};
+ghost use Rattle.asm_parse.specs.Seen.{piece_seen};
+ghost use Rattle.std.specs.List.{AllByRecursion, list_all};
+ghost use Rattle.line_text.specs.Lines.{IsPlaced, lines_of};
+ghost use Rattle.asm_parse.specs.Span.{IsCut};
+
+use crate::bytes::is_text_byte;
+use crate::fault::{AsmFault, AsmWhy};
+use crate::marks::mark_place;
+use crate::operands::operands;
+use crate::piece::Piece;
+use crate::syntax::{Args, AsmBody, AsmLine, Name};
+use crate::words::{begins_name, name_length};
+use line_text::{Line, cut};
+use std::alloc::{AllocError, Global};
+
+/// The statements of a source in the order of its lines, one for each line that has a statement. A fault
+/// is `Syntax` at the first line of another form, or that memory ran out. The form is described in
+/// `docs/ASSEMBLER.md`.
+pub fn parse(alloc: Global, source: &[u8]) -> Result<Vec<AsmLine>, AsmFault>
+    requires { length source.now < 2 ^ 27 }
+    // The statements, or the first line of another form.
+    ensures said { Gives (λ lines. lines.items) result (parsed source.now) }
+    // Each span cuts its statement or its operand out of the source.
+    ensures spans { IfOk result (λ lines. AllByRecursion (IsCut source.now) lines.items) }
+{
+    statements(alloc, source)
+}
+
+/// The statements of a source.
+#[tactic(auto, unfolding(crate::specs::Form::parsed))]
+fn statements(alloc: Global, source: &[u8]) -> Result<Vec<AsmLine>, AsmFault>
+    requires { length source.now < 2 ^ 27 }
+    ensures said { Gives (λ lines. lines.items) result (parsed source.now) }
+    ensures placed { AllByRecursion (IsPlaced source.now) (lines_of source.now) }
+{
+    let mut statements = Vec::new(alloc);
+    for line in cut(source) {
+        if let Some(statement) = statement_in(alloc, &line)? {
+            statements.push(statement)?;
+        }
+    }
+    Ok(statements)
+}
+
+/// The statement of a line, where it has one. A fault is `Syntax` where the line has another form, or
+/// that memory ran out.
+pub fn parse_line(alloc: Global, line: &Line<'_>) -> Result<Option<AsmLine>, AsmFault>
+    requires { line.now.start + length line.now.text.now < 2 ^ 32 }
+    // The statement, if there is one, or that the line has another form.
+    ensures said { Gives (λ said. said) result (due_of (line_value line.now)) }
+    // In a source that has this line, each span cuts its statement or its operand out of it.
+    ensures spans { (source : List ℕ) → IsPlaced source (line_value line.now) → IfOk result (λ said. IfSome said (IsCut source)) }
+{
+    statement_in(alloc, line)
+}
+
+/// The statement of a line.
+#[tactic(auto, unfolding(crate::specs::Form::line_of))]
+fn statement_in(alloc: Global, line: &Line<'_>) -> Result<Option<AsmLine>, AsmFault>
+    requires { line.now.start + length line.now.text.now < 2 ^ 32 }
+    ensures { Gives (λ said. said) result (due_of (line_value line.now)) }
+{
+    let syntax = AsmFault::At {
+        line: line.number,
+        why: AsmWhy::Syntax,
+    };
+    if !is_text(line.text) {
+        return Err(syntax);
+    }
+    let piece = said(line);
+    if piece.bytes.is_empty() {
+        return Ok(None);
+    }
+    match statement(alloc, line.number, piece)? {
+        Some(statement) => Ok(Some(statement)),
+        None => Err(syntax),
+    }
+}
+
+/// Whether each byte may stand in a text.
+fn is_text(bytes: &[u8]) -> bool
+    ensures { result ≡ list_all is_text_byte bytes.now }
+{
+    bytes.iter().all(|byte| is_text_byte(*byte))
+}
+
+/// What a line has before its comment, without the blanks around it.
+fn said<'a>(line: &Line<'a>) -> Piece<'a>
+    requires { line.now.start + length line.now.text.now < 2 ^ 32 }
+    ensures { piece_seen result ≡ said (line_value line.now) }
+{
+    Piece {
+        start: line.start,
+        bytes: before_comment(line.text),
+    }
+    .trimmed()
+}
+
+/// What stands before the first `#` outside quoted texts.
+fn before_comment(bytes: &[u8]) -> &[u8]
+    ensures value { result.now ≡ before_mark 35 Outside bytes.now }
+    ensures within { length result.now ≤ length bytes.now }
+{
+    &bytes[..mark_place(bytes, b'#')]
+}
+
+/// The label and the operation of a line.
+#[tactic(auto, unfolding(crate::specs::Form::statement_of))]
+fn statement(alloc: Global, number: u32, piece: Piece<'_>) -> Result<Option<AsmLine>, AllocError>
+    ensures { IfOk result (λ line. line ≡ statement_of number (piece_seen piece.entry)) }
+{
+    let (label, rest) = match label(piece.bytes) {
+        Some(name) => (
+            Some(Name::new(alloc, name)?),
+            piece.skip(name.len() + 1).after_blanks(),
+        ),
+        None => (None, piece),
+    };
+    match body(alloc, rest)? {
+        Some(body) => Ok(Some(AsmLine {
+            line: number,
+            start: piece.start,
+            end: piece.end(),
+            label,
+            body,
+        })),
+        None => Ok(None),
+    }
+}
+
+/// A name with a colon directly behind it.
+#[tactic(auto, unfolding(crate::specs::Form::label_of))]
+fn label(bytes: &[u8]) -> Option<&[u8]>
+    ensures value { option_copied result ≡ label_of bytes.now }
+    ensures within { IfSome result (λ name. length name.now < length bytes.now) }
+{
+    let (name, rest) = bytes.split_at(name_length(bytes));
+    if begins_name(name) && rest.starts_with(b":") {
+        Some(name)
+    } else {
+        None
+    }
+}
+
+/// What follows a label: nothing, or a name and operands.
+#[tactic(auto, unfolding(crate::specs::Form::body_of))]
+fn body(alloc: Global, piece: Piece<'_>) -> Result<Option<AsmBody>, AllocError>
+    ensures { IfOk result (λ body. body ≡ body_of (piece_seen piece.entry)) }
+{
+    if piece.bytes.is_empty() {
+        return Ok(Some(AsmBody::Nothing));
+    }
+    let length = name_length(piece.bytes);
+    let name = &piece.bytes[..length];
+    if !begins_name(name) {
+        return Ok(None);
+    }
+    match operands(alloc, piece.skip(length))? {
+        Some(args) => Ok(Some(named(Name::new(alloc, name)?, args))),
+        None => Ok(None),
+    }
+}
+
+/// An operation by its name.
+fn named(name: Name, args: Args) -> AsmBody
+    ensures { result ≡ body_named name args }
+{
+    if name.bytes().starts_with(b".") {
+        AsmBody::Directive { name, args }
+    } else {
+        AsmBody::Op { name, args }
+    }
+}
