@@ -29,10 +29,10 @@ module _ (source : List ℕ) (low high : ℕ) where
   part_span p part =
       let long : p.start + length p.bytes - p.start ≡ length p.bytes = omega arith in
       ap (λ n. take n (drop p.start source)) long
-          ∙ ap (λ xs. take (length p.bytes) (drop p.start xs)) part.whole
-          ∙ ap (λ n. take (length p.bytes) (drop n (part.before ++ (p.bytes ++ part.after)))) (sym part.place)
-          ∙ ap (take (length p.bytes)) (drop-append_seam part.before (p.bytes ++ part.after))
-          ∙ take-append_seam p.bytes part.after
+      ∙ ap (λ xs. take (length p.bytes) (drop p.start xs)) part.whole
+      ∙ ap (λ n. take (length p.bytes) (drop n (part.before ++ (p.bytes ++ part.after)))) (sym part.place)
+      ∙ ap (take (length p.bytes)) (drop-append_seam part.before (p.bytes ++ part.after))
+      ∙ take-append_seam p.bytes part.after
 
   pub part_front : (n : ℕ) (p : Piece) → IsPart source low high p → IsPart source low high (front n p)
   part_front n p part = record {

@@ -73,12 +73,12 @@ args_of_cut : (source : List ℕ) (low high start : ℕ) (parts : List (List ℕ
 args_of_cut source low high start [] args part is = subst (AllByRecursion (IsCutArg source low high)) (same_Some _ _ is) tt
 args_of_cut source low high start (one ∷ []) args part is =
     args_step (IsCutArg source low high) _ _ args is (λ arg said. arg_cut source low high _ arg part said)
-        (λ more said. subst (AllByRecursion (IsCutArg source low high)) (same_Some _ _ said) tt)
+    (λ more said. subst (AllByRecursion (IsCutArg source low high)) (same_Some _ _ said) tt)
 args_of_cut source low high start (one ∷ two ∷ parts) args part is =
     args_step (IsCutArg source low high) _ _ args is
-        (λ arg said. arg_cut source low high _ arg (part_first source low high start one (join_with_byte 44 (two ∷ parts)) part) said)
-        (λ more said. args_of_cut source low high (start + (length one + 1)) (two ∷ parts) more
-            (part_later source low high start one (join_with_byte 44 (two ∷ parts)) part) said)
+    (λ arg said. arg_cut source low high _ arg (part_first source low high start one (join_with_byte 44 (two ∷ parts)) part) said)
+    (λ more said. args_of_cut source low high (start + (length one + 1)) (two ∷ parts) more
+    (part_later source low high start one (join_with_byte 44 (two ∷ parts)) part) said)
 
 -- the parts with their commas are the bytes
 join_first : (b : ℕ) (parts : List (List ℕ)) → join_with_byte 44 (onto_first b parts) ≡ b ∷ join_with_byte 44 parts

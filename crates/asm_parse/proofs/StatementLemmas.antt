@@ -61,6 +61,7 @@ body_cut source low high p body part is =
   where
     name : List ℕ
     name = take_while is_name_byte p.bytes
+
     by_tests : (v w : Bool) (o : Option (List Arg)) → operands_of (skip (length name) p) ≡ o →
         cond v (Some Nothing) (cond w (option_map (λ args. body_named name args) o) None) ≡ Some body → AllByRecursion (IsCutArg source low high) (args_in body)
     by_tests true w o at is = subst (λ (b : AsmBody). AllByRecursion (IsCutArg source low high) (args_in b)) (same_Some _ _ is) tt
@@ -68,8 +69,8 @@ body_cut source low high p body part is =
     by_tests false true None at is = absurd (none-some body is)
     by_tests false true (Some args) at is =
         subst (λ (b : AsmBody). AllByRecursion (IsCutArg source low high) (args_in b)) (same_Some _ _ is)
-            (subst (AllByRecursion (IsCutArg source low high)) (sym (args_named name args))
-                (operands_cut source low high (skip (length name) p) args (part_skip source low high (length name) p (name_short p.bytes) part) at))
+        (subst (AllByRecursion (IsCutArg source low high)) (sym (args_named name args))
+        (operands_cut source low high (skip (length name) p) args (part_skip source low high (length name) p (name_short p.bytes) part) at))
 
 -- a label and its colon stand in the bytes
 label_short : (bs name : List ℕ) → label_of bs ≡ Some name → length name + 1 ≤ length bs
@@ -79,6 +80,7 @@ label_short bs name is =
   where
     front : List ℕ
     front = take_while is_name_byte bs
+
     by_rest : (v : Bool) (rest : List ℕ) → drop (length front) bs ≡ rest → cond (v && starts_with nat_eq rest (codes ":")) (Some front) None ≡ Some name →
         length name + 1 ≤ length bs
     by_rest v [] at is = absurd (none-some name (rw (and-false v) at is))
@@ -118,7 +120,7 @@ said_part : (source : List ℕ) (line : LineValue) → IsPlaced source line → 
 said_part source line placed =
     let P : List ℕ → Type 0 = λ bs. IsPart source 0 (length source) (record { start = line.start; bytes = bs }) in
     part_trimmed source 0 (length source) _
-        (subst P (before_mark_front 35 Outside line.text) (part_front source 0 (length source) (length (before_mark 35 Outside line.text)) _ (part_line source line placed)))
+    (subst P (before_mark_front 35 Outside line.text) (part_front source 0 (length source) (length (before_mark 35 Outside line.text)) _ (part_line source line placed)))
 
 -- the spans of a line's statement
 line_cut : (source : List ℕ) (line : LineValue) (statement : AsmLine) → IsPlaced source line → line_of line ≡ Some (Some statement) → IsCut source statement
@@ -133,7 +135,7 @@ line_cut source line statement placed is =
     by_tests false false some None at is = absurd (none-some (Some statement) is)
     by_tests false false some (Some found) at is =
         subst (IsCut source) (same_Some _ _ (same_Some _ _ is))
-            (statement_cut source 0 (length source) line.number (said line) found (said_part source line placed) (not_zero (length (said line).bytes) some) at)
+        (statement_cut source 0 (length source) line.number (said line) found (said_part source line placed) (not_zero (length (said line).bytes) some) at)
 
 statements_cut : (source : List ℕ) (lines : List LineValue) (statements : List AsmLine) → AllByRecursion (IsPlaced source) lines →
     statements_of lines ≡ Ok statements → AllByRecursion (IsCut source) statements

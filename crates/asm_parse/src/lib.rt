@@ -20,3 +20,6 @@ pub use fault::{AsmFault, AsmWhy};
 pub use lines::{parse, parse_line};
 pub use operands::{Based, read_based};
 pub use syntax::{Arg, ArgKind, Args, AsmBody, AsmLine, Name};
+
+#[cfg(test)]
+mod tests;

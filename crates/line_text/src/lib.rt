@@ -10,3 +10,6 @@ mod print;
 pub use lines::{Line, Lines, TEXT_LIMIT, cut};
 pub use numbers::number;
 pub use print::{push_dec, push_hex, push_quoted};
+
+#[cfg(test)]
+mod tests;
