@@ -1,18 +1,18 @@
 -- The spans of what is said.
-use Rattle.std.proofs.Common.{◌≡◌, ℕ, suc, ◌+◌, ◌<◌, ◌≤◌, List, [], ◌∷◌, ◌++◌, Bool, true, false, Option, Some, None, cond, length, take, drop, refl, ap, sym, ◌∙◌, subst, arith, length-append}
+use Rattle.std.proofs.Common.{◌≡◌, ℕ, ◌+◌, ◌<◌, List, [], ◌∷◌, ◌++◌, Bool, true, false, Option, Some, None, cond, length, refl, ap, sym, ◌∙◌, subst, arith, length-append}
 use Rattle.std.proofs.Math.Seq.{take-append_seam, drop-append-add}
 use Rattle.std.proofs.lemmas.Bool.{eqb-true}
 use Rattle.std.specs.Prelude.{◌==◌, ◌&&◌}
 use Rattle.asm_parse.specs.Bytes.{is_blank}
 use Rattle.std.proofs.lemmas.Option.{none-some, same_Some}
-use Rattle.std.specs.List.{AllByRecursion, join_with_byte, onto_first, prefix_len, slice_range}
+use Rattle.std.specs.List.{AllByRecursion, join_with_byte, onto_first, prefix_len}
 use Rattle.std.specs.Option.{option_map, option_and_then}
 use Rattle.asm_parse.specs.declared.quoting.Quoting.{Quoting}
 use Rattle.asm_parse.specs.declared.quoting.Quoting.TheVariants.{Outside}
 use Rattle.asm_parse.specs.declared.syntax.Arg.{Arg}
 use Rattle.asm_parse.specs.declared.syntax.ArgKind.{ArgKind}
 use Rattle.asm_parse.specs.Expression.{expression_of, inner_of, number_of}
-use Rattle.asm_parse.specs.Form.{Piece, front, skip, trimmed, parts_at, args_at, args_of, arg_of, kind_of, based_of, operands_of, behind, is_outside}
+use Rattle.asm_parse.specs.Form.{Piece, trimmed, parts_at, args_at, args_of, arg_of, kind_of, based_of, operands_of, behind, is_outside}
 use Rattle.asm_parse.specs.Span.{IsCutArg}
 use Rattle.asm_parse.proofs.MarkLemmas.{is_mark}
 use Rattle.asm_parse.proofs.PartLemmas.{IsPart, part_span, part_front, part_skip, part_trimmed}

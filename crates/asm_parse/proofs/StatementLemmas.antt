@@ -1,9 +1,9 @@
 -- The statements of a source, one line after another.
-use Rattle.std.proofs.Common.{◌≡◌, ℕ, zero, suc, ◌+◌, ◌<◌, ◌≤◌, List, [], ◌∷◌, ◌++◌, Bool, true, false, cond, Option, Some, None, Result, Ok, Err, length, take, drop, refl, ap, sym, ◌∙◌, subst, arith, append_assoc, length-take, length-drop}
+use Rattle.std.proofs.Common.{◌≡◌, ℕ, zero, suc, ◌+◌, ◌<◌, ◌≤◌, List, [], ◌∷◌, ◌++◌, Bool, true, false, cond, Option, Some, None, Result, Ok, Err, length, drop, refl, ap, sym, ◌∙◌, subst, arith, length-take, length-drop}
 use Rattle.std.proofs.lemmas.Option.{none-some, same_Some, cond_some}
 use Rattle.std.proofs.Math.Bool.{and-false}
 use Rattle.std.specs.Prelude.{not, ◌==◌, ◌&&◌, nat_eq, codes, IfOk, IfSome}
-use Rattle.std.specs.List.{AllByRecursion, list_all, prefix_len, starts_with, take_while, slice_range}
+use Rattle.std.specs.List.{AllByRecursion, list_all, prefix_len, starts_with, take_while}
 use Rattle.std.specs.Option.{option_map, ok_or}
 use Rattle.line_text.specs.Lines.{LineValue, IsPlaced, lines_of}
 use Rattle.asm_parse.specs.declared.syntax.Arg.{Arg}
@@ -12,7 +12,7 @@ use Rattle.asm_parse.specs.declared.syntax.AsmBody.TheVariants.{Nothing, Op, Dir
 use Rattle.asm_parse.specs.declared.syntax.AsmLine.{AsmLine}
 use Rattle.asm_parse.specs.Bytes.{is_name_byte, is_text_byte}
 use Rattle.asm_parse.specs.Words.{begins_name}
-use Rattle.asm_parse.specs.Form.{Piece, skip, after_blanks, before_mark, joined, said, after_label, label_of, body_named, body_of, operands_of, statement_of, line_of, due_of, statements_of, parsed, Gives}
+use Rattle.asm_parse.specs.Form.{Piece, skip, before_mark, joined, said, after_label, label_of, body_named, body_of, operands_of, statement_of, line_of, due_of, statements_of, parsed, Gives}
 use Rattle.asm_parse.specs.Span.{IsCut, IsCutArg, args_in}
 use Rattle.asm_parse.proofs.PartLemmas.{IsPart, part_span, part_within, part_front, part_skip, part_after_blanks, part_trimmed, part_itself, part_line}
 use Rattle.asm_parse.proofs.SpanLemmas.{operands_cut}
