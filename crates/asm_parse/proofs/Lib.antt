@@ -1,4 +1,5 @@
 pub mod ArgLemmas
+pub mod BareLemmas
 pub mod MarkLemmas
 pub mod NumeralLemmas
 pub mod OpeningLemmas

@@ -11,14 +11,16 @@ fn cuts_lines_at_their_places(rt: HostRuntime) -> Result<(), Fail> {
         (4, 8, b""),
         (5, 10, b"last\r"),
     ];
-    let mut count = 0;
-    for (line, (number, start, bytes)) in cut(text).zip(expected) {
+    let mut lines = cut(text);
+    for (number, start, bytes) in expected {
+        let Some(line) = lines.next() else {
+            return Err(Fail::from("too few lines"));
+        };
         assert_eq!(rt; line.number, number);
         assert_eq!(rt; line.start, start);
         assert_eq!(rt; line.text, bytes);
-        count += 1;
     }
-    assert_eq!(rt; count, 5);
+    assert!(rt; lines.next().is_none());
     assert!(rt; cut(b"").next().is_none());
     Ok(())
 }
