@@ -40,14 +40,14 @@ blanks_back bs =
     let bound : kept ≤ length (take kept bs) = omega (arith, long) in
     let all : length (take kept bs) - kept ≡ 0 = omega (arith, long) in
     suffix_len_is is_blank (take kept bs) kept 0 bound (λ k low high. absurd (omega (arith, long)))
-        (λ some.
-            let last : kept - 1 < kept = omega arith in
-            let place : length bs - 1 - blanks ≡ kept - 1 = omega arith in
-            let within : blanks < length bs = omega arith in
-            let more : prefix_len is_blank (reverse bs) < length (reverse bs) = omega (arith, length-reverse bs) in
-            ap is_blank (get_or-take kept bs (kept - 1) 0 last ∙ ap (λ n. get_or bs n 0) (sym place) ∙ sym (get_or-reverse bs blanks 0 within))
-                ∙ prefix_len_stops is_blank (reverse bs) 0 more)
-        ∙ all
+    (λ some.
+    let last : kept - 1 < kept = omega arith in
+    let place : length bs - 1 - blanks ≡ kept - 1 = omega arith in
+    let within : blanks < length bs = omega arith in
+    let more : prefix_len is_blank (reverse bs) < length (reverse bs) = omega (arith, length-reverse bs) in
+    ap is_blank (get_or-take kept bs (kept - 1) 0 last ∙ ap (λ n. get_or bs n 0) (sym place) ∙ sym (get_or-reverse bs blanks 0 within))
+    ∙ prefix_len_stops is_blank (reverse bs) 0 more)
+    ∙ all
 
 pub front_bare : (k : ℕ) (bs : List ℕ) → prefix_len is_blank (take k (drop (prefix_len is_blank bs) bs)) ≡ 0
 front_bare k bs = blanks_front k (drop (prefix_len is_blank bs) bs) (blanks_gone bs)
