@@ -1,4 +1,6 @@
 pub mod ArgLemmas
+pub mod BareLemmas
+pub mod EncloseLemmas
 pub mod MarkLemmas
 pub mod NumeralLemmas
 pub mod OpeningLemmas

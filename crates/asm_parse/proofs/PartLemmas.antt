@@ -1,12 +1,12 @@
 -- Pieces that stand in the source.
-use Rattle.std.proofs.Common.{◌≡◌, ℕ, ◌+◌, ◌-◌, ◌≤◌, List, ◌++◌, length, take, drop, refl, ap, sym, ◌∙◌, arith, append_assoc, length-append, length-take, length-drop, length-take-le}
+use Rattle.std.proofs.Common.{◌≡◌, ℕ, ◌+◌, ◌-◌, ◌≤◌, List, ◌++◌, length, take, drop, ap, sym, ◌∙◌, arith, append_assoc, length-append, length-take, length-drop, length-take-le}
 use Rattle.std.proofs.Math.Seq.{drop-append_seam, take-append_seam}
 use Rattle.std.proofs.lemmas.List.{take-append-drop}
 use Rattle.std.proofs.lemmas.List.Sums.{prefix_len-le-length}
 use Rattle.std.specs.List.{prefix_len, suffix_len, slice_range}
 use Rattle.line_text.specs.Lines.{LineValue, IsPlaced}
 use Rattle.asm_parse.specs.Bytes.{is_blank}
-use Rattle.asm_parse.specs.Form.{Piece, front, skip, after_blanks, before_blanks, trimmed}
+use Rattle.asm_parse.specs.Form.{Piece, front, skip, after_blanks, trimmed}
 
 -- a piece stands in a source between two places
 pub record IsPart (source : List ℕ) (low high : ℕ) (p : Piece) : Type 0 where
@@ -29,10 +29,10 @@ module _ (source : List ℕ) (low high : ℕ) where
   part_span p part =
       let long : p.start + length p.bytes - p.start ≡ length p.bytes = omega arith in
       ap (λ n. take n (drop p.start source)) long
-          ∙ ap (λ xs. take (length p.bytes) (drop p.start xs)) part.whole
-          ∙ ap (λ n. take (length p.bytes) (drop n (part.before ++ (p.bytes ++ part.after)))) (sym part.place)
-          ∙ ap (take (length p.bytes)) (drop-append_seam part.before (p.bytes ++ part.after))
-          ∙ take-append_seam p.bytes part.after
+      ∙ ap (λ xs. take (length p.bytes) (drop p.start xs)) part.whole
+      ∙ ap (λ n. take (length p.bytes) (drop n (part.before ++ (p.bytes ++ part.after)))) (sym part.place)
+      ∙ ap (take (length p.bytes)) (drop-append_seam part.before (p.bytes ++ part.after))
+      ∙ take-append_seam p.bytes part.after
 
   pub part_front : (n : ℕ) (p : Piece) → IsPart source low high p → IsPart source low high (front n p)
   part_front n p part = record {

@@ -1,18 +1,18 @@
 -- The spans of what is said.
-use Rattle.std.proofs.Common.{◌≡◌, ℕ, suc, ◌+◌, ◌<◌, ◌≤◌, List, [], ◌∷◌, ◌++◌, Bool, true, false, Option, Some, None, cond, length, take, drop, refl, ap, sym, ◌∙◌, subst, arith, length-append}
+use Rattle.std.proofs.Common.{◌≡◌, ℕ, ◌+◌, ◌<◌, List, [], ◌∷◌, ◌++◌, Bool, true, false, Option, Some, None, cond, length, refl, ap, sym, ◌∙◌, subst, arith, length-append}
 use Rattle.std.proofs.Math.Seq.{take-append_seam, drop-append-add}
 use Rattle.std.proofs.lemmas.Bool.{eqb-true}
 use Rattle.std.specs.Prelude.{◌==◌, ◌&&◌}
 use Rattle.asm_parse.specs.Bytes.{is_blank}
 use Rattle.std.proofs.lemmas.Option.{none-some, same_Some}
-use Rattle.std.specs.List.{AllByRecursion, join_with_byte, onto_first, prefix_len, slice_range}
+use Rattle.std.specs.List.{AllByRecursion, join_with_byte, onto_first, prefix_len}
 use Rattle.std.specs.Option.{option_map, option_and_then}
 use Rattle.asm_parse.specs.declared.quoting.Quoting.{Quoting}
 use Rattle.asm_parse.specs.declared.quoting.Quoting.TheVariants.{Outside}
 use Rattle.asm_parse.specs.declared.syntax.Arg.{Arg}
 use Rattle.asm_parse.specs.declared.syntax.ArgKind.{ArgKind}
 use Rattle.asm_parse.specs.Expression.{expression_of, inner_of, number_of}
-use Rattle.asm_parse.specs.Form.{Piece, front, skip, trimmed, parts_at, args_at, args_of, arg_of, kind_of, based_of, operands_of, behind, is_outside}
+use Rattle.asm_parse.specs.Form.{Piece, trimmed, parts_at, args_at, args_of, arg_of, kind_of, based_of, operands_of, behind, is_outside}
 use Rattle.asm_parse.specs.Span.{IsCutArg}
 use Rattle.asm_parse.proofs.MarkLemmas.{is_mark}
 use Rattle.asm_parse.proofs.PartLemmas.{IsPart, part_span, part_front, part_skip, part_trimmed}
@@ -73,12 +73,12 @@ args_of_cut : (source : List ℕ) (low high start : ℕ) (parts : List (List ℕ
 args_of_cut source low high start [] args part is = subst (AllByRecursion (IsCutArg source low high)) (same_Some _ _ is) tt
 args_of_cut source low high start (one ∷ []) args part is =
     args_step (IsCutArg source low high) _ _ args is (λ arg said. arg_cut source low high _ arg part said)
-        (λ more said. subst (AllByRecursion (IsCutArg source low high)) (same_Some _ _ said) tt)
+    (λ more said. subst (AllByRecursion (IsCutArg source low high)) (same_Some _ _ said) tt)
 args_of_cut source low high start (one ∷ two ∷ parts) args part is =
     args_step (IsCutArg source low high) _ _ args is
-        (λ arg said. arg_cut source low high _ arg (part_first source low high start one (join_with_byte 44 (two ∷ parts)) part) said)
-        (λ more said. args_of_cut source low high (start + (length one + 1)) (two ∷ parts) more
-            (part_later source low high start one (join_with_byte 44 (two ∷ parts)) part) said)
+    (λ arg said. arg_cut source low high _ arg (part_first source low high start one (join_with_byte 44 (two ∷ parts)) part) said)
+    (λ more said. args_of_cut source low high (start + (length one + 1)) (two ∷ parts) more
+    (part_later source low high start one (join_with_byte 44 (two ∷ parts)) part) said)
 
 -- the parts with their commas are the bytes
 join_first : (b : ℕ) (parts : List (List ℕ)) → join_with_byte 44 (onto_first b parts) ≡ b ∷ join_with_byte 44 parts

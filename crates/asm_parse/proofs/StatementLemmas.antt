@@ -1,25 +1,26 @@
 -- The statements of a source, one line after another.
-use Rattle.std.proofs.Common.{◌≡◌, ℕ, zero, suc, ◌+◌, ◌<◌, ◌≤◌, List, [], ◌∷◌, ◌++◌, Bool, true, false, cond, Option, Some, None, Result, Ok, Err, length, take, drop, refl, ap, sym, ◌∙◌, subst, arith, append_assoc, length-take, length-drop}
+use Rattle.std.proofs.Common.{◌≡◌, ℕ, zero, suc, ◌+◌, ◌-◌, ◌<◌, ◌≤◌, List, [], ◌∷◌, ◌++◌, Bool, true, false, cond, Option, Some, None, Result, Ok, Err, length, drop, refl, ap, sym, ◌∙◌, subst, arith, length-take, length-drop}
 use Rattle.std.proofs.lemmas.Option.{none-some, same_Some, cond_some}
 use Rattle.std.proofs.Math.Bool.{and-false}
 use Rattle.std.specs.Prelude.{not, ◌==◌, ◌&&◌, nat_eq, codes, IfOk, IfSome}
-use Rattle.std.specs.List.{AllByRecursion, list_all, prefix_len, starts_with, take_while, slice_range}
+use Rattle.std.specs.List.{AllByRecursion, list_all, prefix_len, starts_with, suffix_len, take_while}
 use Rattle.std.specs.Option.{option_map, ok_or}
 use Rattle.line_text.specs.Lines.{LineValue, IsPlaced, lines_of}
 use Rattle.asm_parse.specs.declared.syntax.Arg.{Arg}
 use Rattle.asm_parse.specs.declared.syntax.AsmBody.{AsmBody}
 use Rattle.asm_parse.specs.declared.syntax.AsmBody.TheVariants.{Nothing, Op, Directive}
 use Rattle.asm_parse.specs.declared.syntax.AsmLine.{AsmLine}
-use Rattle.asm_parse.specs.Bytes.{is_name_byte, is_text_byte}
+use Rattle.asm_parse.specs.Bytes.{is_blank, is_name_byte, is_text_byte}
 use Rattle.asm_parse.specs.Words.{begins_name}
-use Rattle.asm_parse.specs.Form.{Piece, skip, after_blanks, before_mark, joined, said, after_label, label_of, body_named, body_of, operands_of, statement_of, line_of, due_of, statements_of, parsed, Gives}
-use Rattle.asm_parse.specs.Span.{IsCut, IsCutArg, args_in}
+use Rattle.asm_parse.specs.Form.{Piece, skip, before_mark, joined, said, after_label, label_of, body_named, body_of, operands_of, statement_of, line_of, due_of, statements_of, parsed, Gives}
+use Rattle.asm_parse.specs.Span.{IsBare, IsCut, IsCutArg, args_in}
 use Rattle.asm_parse.proofs.PartLemmas.{IsPart, part_span, part_within, part_front, part_skip, part_after_blanks, part_trimmed, part_itself, part_line}
 use Rattle.asm_parse.proofs.SpanLemmas.{operands_cut}
 use Rattle.asm_parse.specs.declared.fault.AsmFault.{AsmFault}
 use Rattle.asm_parse.specs.declared.fault.AsmFault.TheVariants.{At}
 use Rattle.asm_parse.specs.declared.fault.AsmWhy.TheVariants.{Syntax}
 use Rattle.asm_parse.specs.declared.quoting.Quoting.TheVariants.{Outside}
+use Rattle.asm_parse.proofs.BareLemmas.{blanks_back, front_bare, comment_gone}
 use Rattle.asm_parse.proofs.MarkLemmas.{before_mark_front}
 
 same_Ok : (xs ys : List AsmLine) → ◌≡◌ {A = Result (List AsmLine) AsmFault} (Ok xs) (Ok ys) → xs ≡ ys
@@ -61,6 +62,7 @@ body_cut source low high p body part is =
   where
     name : List ℕ
     name = take_while is_name_byte p.bytes
+
     by_tests : (v w : Bool) (o : Option (List Arg)) → operands_of (skip (length name) p) ≡ o →
         cond v (Some Nothing) (cond w (option_map (λ args. body_named name args) o) None) ≡ Some body → AllByRecursion (IsCutArg source low high) (args_in body)
     by_tests true w o at is = subst (λ (b : AsmBody). AllByRecursion (IsCutArg source low high) (args_in b)) (same_Some _ _ is) tt
@@ -68,8 +70,8 @@ body_cut source low high p body part is =
     by_tests false true None at is = absurd (none-some body is)
     by_tests false true (Some args) at is =
         subst (λ (b : AsmBody). AllByRecursion (IsCutArg source low high) (args_in b)) (same_Some _ _ is)
-            (subst (AllByRecursion (IsCutArg source low high)) (sym (args_named name args))
-                (operands_cut source low high (skip (length name) p) args (part_skip source low high (length name) p (name_short p.bytes) part) at))
+        (subst (AllByRecursion (IsCutArg source low high)) (sym (args_named name args))
+        (operands_cut source low high (skip (length name) p) args (part_skip source low high (length name) p (name_short p.bytes) part) at))
 
 -- a label and its colon stand in the bytes
 label_short : (bs name : List ℕ) → label_of bs ≡ Some name → length name + 1 ≤ length bs
@@ -79,6 +81,7 @@ label_short bs name is =
   where
     front : List ℕ
     front = take_while is_name_byte bs
+
     by_rest : (v : Bool) (rest : List ℕ) → drop (length front) bs ≡ rest → cond (v && starts_with nat_eq rest (codes ":")) (Some front) None ≡ Some name →
         length name + 1 ≤ length bs
     by_rest v [] at is = absurd (none-some name (rw (and-false v) at is))
@@ -93,10 +96,10 @@ label_part source low high p (Some name) at part =
     part_after_blanks source low high _ (part_skip source low high (length name + 1) p (label_short p.bytes name at) part)
 
 -- the spans of a statement
-statement_cut : (source : List ℕ) (low high number : ℕ) (p : Piece) (statement : AsmLine) → IsPart source low high p → 0 < length p.bytes →
+statement_cut : (source : List ℕ) (low high number : ℕ) (p : Piece) (statement : AsmLine) → IsPart source low high p → 0 < length p.bytes → IsBare p.bytes →
     statement_of number p ≡ Some statement → IsCut source statement
 unfolding statement_of
-statement_cut source low high number p statement part some is = by_body (body_of (after_label (label_of p.bytes) p)) refl is
+statement_cut source low high number p statement part some bare is = by_body (body_of (after_label (label_of p.bytes) p)) refl is
   where
     by_body : (o : Option AsmBody) → body_of (after_label (label_of p.bytes) p) ≡ o →
         option_map (λ body. record { line = number; start = p.start; end = p.start + length p.bytes; label = label_of p.bytes; body = body }) o ≡ Some statement →
@@ -107,6 +110,7 @@ statement_cut source low high number p statement part some is = by_body (body_of
         subst (IsCut source) (same_Some _ _ is) (record {
           some = omega arith;
           to = part_within source low high p part;
+          bare = subst IsBare (sym (part_span source low high p part)) bare;
           form = ap (λ (bs : List ℕ). statement_of number (record { start = p.start; bytes = bs })) (part_span source low high p part)
               ∙ ap (option_map (λ (b : AsmBody). record { line = number; start = p.start; end = p.start + length p.bytes; label = label_of p.bytes; body = b })) at;
           args = body_cut source p.start (p.start + length p.bytes) (after_label (label_of p.bytes) p) body
@@ -118,7 +122,17 @@ said_part : (source : List ℕ) (line : LineValue) → IsPlaced source line → 
 said_part source line placed =
     let P : List ℕ → Type 0 = λ bs. IsPart source 0 (length source) (record { start = line.start; bytes = bs }) in
     part_trimmed source 0 (length source) _
-        (subst P (before_mark_front 35 Outside line.text) (part_front source 0 (length source) (length (before_mark 35 Outside line.text)) _ (part_line source line placed)))
+    (subst P (before_mark_front 35 Outside line.text) (part_front source 0 (length source) (length (before_mark 35 Outside line.text)) _ (part_line source line placed)))
+
+said_bare : (line : LineValue) → IsBare (said line).bytes
+said_bare line =
+    let code = before_mark 35 Outside line.text in
+    let rest = drop (prefix_len is_blank code) code in
+    record {
+      front = front_bare (length rest - suffix_len is_blank rest) code;
+      back = blanks_back rest;
+      no_comment = comment_gone (length rest - suffix_len is_blank rest) line.text;
+    }
 
 -- the spans of a line's statement
 line_cut : (source : List ℕ) (line : LineValue) (statement : AsmLine) → IsPlaced source line → line_of line ≡ Some (Some statement) → IsCut source statement
@@ -133,7 +147,7 @@ line_cut source line statement placed is =
     by_tests false false some None at is = absurd (none-some (Some statement) is)
     by_tests false false some (Some found) at is =
         subst (IsCut source) (same_Some _ _ (same_Some _ _ is))
-            (statement_cut source 0 (length source) line.number (said line) found (said_part source line placed) (not_zero (length (said line).bytes) some) at)
+        (statement_cut source 0 (length source) line.number (said line) found (said_part source line placed) (not_zero (length (said line).bytes) some) (said_bare line) at)
 
 statements_cut : (source : List ℕ) (lines : List LineValue) (statements : List AsmLine) → AllByRecursion (IsPlaced source) lines →
     statements_of lines ≡ Ok statements → AllByRecursion (IsCut source) statements

@@ -1,5 +1,5 @@
 -- Expressions: numbers, names, a name and a number, and the halves of these.
-use Rattle.std.specs.Prelude.{ℕ, ◌-◌, ◌/◌, ◌%◌, ◌^◌, Bool, List, [], ◌∷◌, Option, Some, None, nat_lt, nat_le, nat_eq, ◌==◌, ◌&&◌, ◌||◌, if◌then◌else◌, length, take, drop, codes}
+use Rattle.std.specs.Prelude.{ℕ, ◌-◌, ◌/◌, ◌%◌, ◌^◌, Bool, List, [], ◌∷◌, ◌++◌, Option, Some, None, nat_lt, nat_le, nat_eq, ◌==◌, ◌&&◌, ◌||◌, if◌then◌else◌, length, take, drop, codes}
 use Rattle.std.specs.Char.{is_digit}
 use Rattle.std.specs.List.{list_all, starts_with, take_while}
 use Rattle.std.specs.Option.{option_map, option_and_then}
@@ -73,3 +73,7 @@ expression_of bs =
     option_and_then
     (λ inside. option_map (λ inner. record { openings = openings; inner = inner }) (inner_of inside))
     (without_closings (length openings / 3) (drop (length openings) bs))
+
+-- an expression behind one more opening
+abbrev pub enclosed : List ℕ → Option ExpressionValue → Option ExpressionValue
+enclosed opening expression = option_map (λ e. record { openings = opening ++ e.openings; inner = e.inner }) expression

@@ -3,16 +3,12 @@ use Rattle.std.specs.Prelude.{ℕ, Bool, true, false, List, [], ◌∷◌, Optio
 use Rattle.std.specs.List.{list_all}
 use Rattle.std.specs.Option.{option_map, option_and_then}
 use Rattle.std.specs.Str.{byte}
-use Rattle.asm_parse.specs.Bytes.{is_name_start, is_name_byte, is_letter, is_decimal}
+use Rattle.asm_parse.specs.Bytes.{is_name_start, is_letter, is_decimal}
 
--- whether bytes begin as a name does
+-- whether bytes begin as a name does: with a letter, `_` or `.`
 abbrev pub begins_name : List ℕ → Bool
 begins_name [] = false
 begins_name (b ∷ bs) = is_name_start b
-
--- a name: a letter, `_` or `.`, and then these or digits
-abbrev pub is_name : List ℕ → Bool
-is_name bs = begins_name bs && list_all is_name_byte bs
 
 -- a register: `$` with letters or digits
 abbrev pub is_register : List ℕ → Bool

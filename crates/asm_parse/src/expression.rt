@@ -1,6 +1,7 @@
 //! Expressions, read without recursion.
 ghost use Rattle.std.specs.Prelude.{◌≡◌, ◌+◌, ◌*◌, ◌/◌, ◌^◌, ◌<◌, ◌≤◌, ◌==◌, length, take, IsTrue};
 ghost use Rattle.std.specs.List.{list_all};
+ghost use Rattle.std.specs.Str.{byte};
 ghost use Rattle.std.specs.Option.{option_map, option_copied};
 ghost use Rattle.asm_parse.specs.Seen.{expression_seen, inner_seen};
 ghost use Rattle.asm_parse.specs.Expression.{begins_opening, expression_of, inner_of, named, number_of, numeral_of, openings_of, without_closings};
@@ -88,7 +89,7 @@ fn without_closings(bytes: &[u8], depth: usize) -> Option<&[u8]>
 
 /// Whether each byte is a closing bracket.
 fn are_closings(bytes: &[u8]) -> bool
-    ensures { result ≡ list_all (λ b. b == 41) bytes.now }
+    ensures { result ≡ list_all (λ b. b == byte ")") bytes.now }
 {
     bytes.iter().all(|byte| *byte == b')')
 }

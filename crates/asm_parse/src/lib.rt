@@ -7,6 +7,7 @@ mod blanks;
 mod bytes;
 mod expression;
 mod fault;
+mod laws;
 mod lines;
 mod marks;
 mod operands;
@@ -17,6 +18,10 @@ mod words;
 
 pub use expression::{Expression, Inner, read_expression};
 pub use fault::{AsmFault, AsmWhy};
+pub use laws::{encloses_high, encloses_low};
 pub use lines::{parse, parse_line};
 pub use operands::{Based, read_based};
 pub use syntax::{Arg, ArgKind, Args, AsmBody, AsmLine, Name};
+
+#[cfg(test)]
+mod tests;

@@ -7,6 +7,7 @@ ghost use Rattle.asm_parse.specs.Bytes.{is_text_byte};
 ghost use Rattle.asm_parse.specs.declared.quoting.Quoting.TheVariants.{Outside};
 ghost use Rattle.asm_parse.specs.Seen.{piece_seen};
 ghost use Rattle.std.specs.List.{AllByRecursion, list_all};
+ghost use Rattle.std.specs.Str.{byte};
 ghost use Rattle.line_text.specs.Lines.{IsPlaced, lines_of};
 ghost use Rattle.asm_parse.specs.Span.{IsCut};
 
@@ -105,7 +106,7 @@ fn said<'a>(line: &Line<'a>) -> Piece<'a>
 
 /// What stands before the first `#` outside quoted texts.
 fn before_comment(bytes: &[u8]) -> &[u8]
-    ensures value { result.now ≡ before_mark 35 Outside bytes.now }
+    ensures value { result.now ≡ before_mark (byte "#") Outside bytes.now }
     ensures within { length result.now ≤ length bytes.now }
 {
     &bytes[..mark_place(bytes, b'#')]

@@ -1,6 +1,7 @@
 //! Operands.
 ghost use Rattle.std.specs.Prelude.{◌≡◌, ◌+◌, ◌^◌, ◌<◌, ◌≤◌, ◌==◌, length, IfOk};
 ghost use Rattle.std.specs.List.{position_or_len};
+ghost use Rattle.std.specs.Str.{byte};
 ghost use Rattle.std.specs.Option.{option_map};
 ghost use Rattle.asm_parse.specs.Form.{arg_of, args_at, based_of, kind_of, operands_of};
 ghost use Rattle.asm_parse.specs.Seen.{based_seen, piece_seen};
@@ -43,7 +44,7 @@ pub fn read_based(bytes: &[u8]) -> Option<Based<'_>>
 /// The place of the first `$`, or the length where there is none.
 #[tactic(auto, using(std::proofs::lemmas::List::Sums::position_or_len_is))]
 fn dollar_place(bytes: &[u8]) -> usize
-    ensures place { result ≡ position_or_len (λ b. b == 36) bytes.now }
+    ensures place { result ≡ position_or_len (λ b. b == byte "$") bytes.now }
     ensures within { result ≤ length bytes.now }
 {
     for (place, byte) in bytes.iter().enumerate() {

@@ -30,7 +30,7 @@ front_chosen false xs a b other front = front
 without_end_front : (piece : List ℕ) → IsFrontOf piece (without_end piece)
 without_end_front piece =
     front_chosen _ piece _ _ (front_take (length piece - 2) piece)
-        (front_chosen _ piece _ _ (front_take (length piece - 1) piece) (front_whole piece))
+    (front_chosen _ piece _ _ (front_take (length piece - 1) piece) (front_whole piece))
 
 concat_first : (b : ℕ) (pieces : List (List ℕ)) → concat (onto_first b pieces) ≡ b ∷ concat pieces
 concat_first b [] = refl
@@ -54,9 +54,10 @@ placed_first front piece rest number = record {
 placed_from : (text front : List ℕ) (number : ℕ) (pieces : List (List ℕ)) → text ≡ front ++ concat pieces →
     AllByRecursion (IsPlaced text) (lines_from number (length front) pieces)
 placed_from text front number [] is = tt
-placed_from text front number (piece ∷ pieces) is =
-    (rw is (placed_first front piece (concat pieces) number),
-     rw (← length-append front piece) (placed_from text (front ++ piece) (number + 1) pieces (is ∙ sym (append_assoc front piece (concat pieces)))))
+placed_from text front number (piece ∷ pieces) is = (
+  rw is (placed_first front piece (concat pieces) number),
+  rw (← length-append front piece) (placed_from text (front ++ piece) (number + 1) pieces (is ∙ sym (append_assoc front piece (concat pieces)))),
+)
 
 pub lines_placed : (text : List ℕ) → AllByRecursion (IsPlaced text) (lines_of text)
 lines_placed text = placed_from text [] 1 (pieces_of text) (sym (whole_text text))

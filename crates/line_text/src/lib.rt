@@ -7,6 +7,9 @@ mod lines;
 mod numbers;
 mod print;
 
-pub use lines::{Line, Lines, TEXT_LIMIT, cut};
+pub use lines::{Line, Lines, cut};
 pub use numbers::{decimal, number};
 pub use print::{push_dec, push_hex, push_quoted};
+
+#[cfg(test)]
+mod tests;

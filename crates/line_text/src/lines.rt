@@ -5,9 +5,6 @@ ghost use Rattle.line_text.specs.Lines.{IsPlaced, lines_of, pieces_of, without_e
 
 use std::marker::Model;
 
-/// The length that every text is below, in bytes.
-pub const TEXT_LIMIT: usize = 1 << 27;
-
 const LINE_FEED: u8 = b'\n';
 
 /// A line of a text.
