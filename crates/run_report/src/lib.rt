@@ -10,6 +10,8 @@ mod ledger;
 mod page;
 mod processor;
 mod sums;
+#[cfg(test)]
+mod tests;
 mod text;
 mod words;
 
