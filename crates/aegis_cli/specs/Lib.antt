@@ -4,3 +4,4 @@ pub mod Due
 pub mod Outcome
 pub mod Work
 pub mod Stopping
+pub mod Headline

@@ -17,7 +17,7 @@ use status::Status;
 use top::aegis;
 
 /// The words after the program's name; none where one of them isn't text.
-fn words(rt: &(impl Env + AllocGlobal)) -> Result<Vec<String>, OutOfMemory> {
+fn arguments(rt: &(impl Env + AllocGlobal)) -> Result<Vec<String>, OutOfMemory> {
     match env::args(rt) {
         Ok(args) => Ok(args.skip(1).collect(rt.alloc())?),
         Err(e) if e.kind() == ErrorKind::OutOfMemory => Err(OutOfMemory),
@@ -26,7 +26,7 @@ fn words(rt: &(impl Env + AllocGlobal)) -> Result<Vec<String>, OutOfMemory> {
 }
 
 fn main(rt: HostRuntime) -> ExitCode {
-    let Ok(words) = words(&rt) else {
+    let Ok(words) = arguments(&rt) else {
         return ExitCode::from(Status::OutOfMemory.code());
     };
     let mut shelf = HostShelf::new(&rt);

@@ -3,6 +3,8 @@ ghost use Rattle.std.specs.Prelude.{◌≡◌, ◌≢◌, ◌≤◌, ◌<◌, �
 ghost use Rattle.aegis_cli.specs.Words.{form_of, names_of, Run};
 ghost use Rattle.aegis_cli.specs.Due.{usage_text};
 ghost use Rattle.aegis_cli.specs.Outcome.{Outcome, Finished};
+ghost use Rattle.aegis_cli.specs.Headline.{IsHeadline, IsComplete};
+ghost use Rattle.std.specs.List.{AllByRecursion};
 
 use edge_io::{Shelf, Sink, write_whole};
 use std::alloc::Global;
@@ -25,26 +27,22 @@ fn finish<K: Sink>(out: &mut K, text: &[u8], status: Status) -> Status
     }
 }
 
-/// Does what the words ask, over a shelf of files and a sink for the output (`docs/PROGRAM.md`). All
-/// files that the words name are read first, in their order; then they are checked in this order;
-/// then the work is done, and last the whole output is written.
-pub fn aegis<S: Shelf, K: Sink>(
+/// Does what the words ask, and says by its status how it ended.
+fn respond<S: Shelf, K: Sink>(
     alloc: Global,
     words: &[String],
     shelf: &mut S,
     out: &mut K,
 ) -> Status
-    // Words that are no form are answered so, no file is read, and no memory is wanted.
-    ensures no_form_reads_nothing { IfNone (form_of (map string_bytes words.now)) (shelf.new ≡ shelf.old) }
+    ensures unread { IfNone (form_of (map string_bytes words.now)) (shelf.new ≡ shelf.old) }
     ensures no_form { IfNone (form_of (map string_bytes words.now)) (Finished Status.Usage usage_text (K.written out.old) (K.written out.new) (K.faults out.old) (K.faults out.new) result) }
-
-    // What holds for words of a form, by the status.
     ensures form { IfSome (form_of (map string_bytes words.now)) (λ form. Outcome form (record {
         told = S.told shelf.old;
         read_faults_before = S.faults shelf.old; read_faults_after = S.faults shelf.new; failed = S.failed shelf.new;
         written_before = K.written out.old; written_after = K.written out.new;
         write_faults_before = K.faults out.old; write_faults_after = K.faults out.new;
       }) result) }
+    ensures served { IfSome (form_of (map string_bytes words.now)) (λ form. AllByRecursion (S.Serves shelf.old) (names_of form) → result ≢ Status.ReadFault) }
 {
     let Some(words) = parse(words) else {
         return finish(out, USAGE, Status::Usage);
@@ -54,4 +52,45 @@ pub fn aegis<S: Shelf, K: Sink>(
         Err(Stop::ReadFault) => Status::ReadFault,
         Err(Stop::OutOfMemory) => Status::OutOfMemory,
     }
+}
+
+/// Does what the words ask, over a shelf of files and a sink for the output (`docs/PROGRAM.md`). All
+/// files that the words name are read first, in their order; then they are checked in this order;
+/// then the work is done, and last the whole output is written.
+pub fn aegis<S: Shelf, K: Sink>(
+    alloc: Global,
+    words: &[String],
+    shelf: &mut S,
+    out: &mut K,
+) -> Status
+    // The headline: what run writes is the report of the world.
+    ensures headline { IsHeadline (form_of (map string_bytes words.now)) (record {
+        told = S.told shelf.old;
+        read_faults_before = S.faults shelf.old; read_faults_after = S.faults shelf.new; failed = S.failed shelf.new;
+        written_before = K.written out.old; written_after = K.written out.new;
+        write_faults_before = K.faults out.old; write_faults_after = K.faults out.new;
+      }) result }
+    ensures complete { IsComplete (form_of (map string_bytes words.now)) (record {
+        told = S.told shelf.old;
+        read_faults_before = S.faults shelf.old; read_faults_after = S.faults shelf.new; failed = S.failed shelf.new;
+        written_before = K.written out.old; written_after = K.written out.new;
+        write_faults_before = K.faults out.old; write_faults_after = K.faults out.new;
+      }) result }
+
+    // Words that are no form are answered so, no file is read, and no memory is wanted.
+    ensures unread { IfNone (form_of (map string_bytes words.now)) (shelf.new ≡ shelf.old) }
+    ensures no_form { IfNone (form_of (map string_bytes words.now)) (Finished Status.Usage usage_text (K.written out.old) (K.written out.new) (K.faults out.old) (K.faults out.new) result) }
+
+    // What holds for words of a form, by the status; no other status comes.
+    ensures form { IfSome (form_of (map string_bytes words.now)) (λ form. Outcome form (record {
+        told = S.told shelf.old;
+        read_faults_before = S.faults shelf.old; read_faults_after = S.faults shelf.new; failed = S.failed shelf.new;
+        written_before = K.written out.old; written_after = K.written out.new;
+        write_faults_before = K.faults out.old; write_faults_after = K.faults out.new;
+      }) result) }
+
+    // A shelf that is sure to serve the names gives no fault of reading.
+    ensures served { IfSome (form_of (map string_bytes words.now)) (λ form. AllByRecursion (S.Serves shelf.old) (names_of form) → result ≢ Status.ReadFault) }
+{
+    respond(alloc, words, shelf, out)
 }

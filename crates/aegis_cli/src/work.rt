@@ -103,7 +103,7 @@ fn due_run(
 ) -> Result<Answer, OutOfMemory>
     requires limit { words.ticks ≤ TICK_LIMIT }
     requires image { length image.now < 2 ^ 27 }
-    ensures { IfOk result (Settles (due_of (Run words.image.now words.schedule.now words.ticks) (image.now ∷ schedule.now ∷ []))) }
+    ensures { IfOk result (Settles (due_of (Run words.entry.image.now words.entry.schedule.now words.entry.ticks) (image.now ∷ schedule.now ∷ []))) }
 {
     let image = match read_image(image) {
         Ok(image) => image,
@@ -136,9 +136,9 @@ pub fn perform_run<S: Shelf>(
     shelf: &mut S,
 ) -> Result<Answer, Stop>
     requires { words.ticks ≤ TICK_LIMIT }
-    ensures ok { IfOk result (Performed (Run words.image.now words.schedule.now words.ticks) (S.told shelf.old) (S.faults shelf.old) (S.faults shelf.new)) }
-    ensures err { IfErr result (Stopped (Run words.image.now words.schedule.now words.ticks) (S.faults shelf.old) (S.faults shelf.new) (S.failed shelf.new)) }
-    ensures sure { S.Serves shelf.old words.image.now → S.Serves shelf.old words.schedule.now → IfErr result (λ s. s ≡ Stop.OutOfMemory) }
+    ensures ok { IfOk result (Performed (Run words.entry.image.now words.entry.schedule.now words.entry.ticks) (S.told shelf.old) (S.faults shelf.old) (S.faults shelf.new)) }
+    ensures err { IfErr result (Stopped (Run words.entry.image.now words.entry.schedule.now words.entry.ticks) (S.faults shelf.old) (S.faults shelf.new) (S.failed shelf.new)) }
+    ensures sure { S.Serves shelf.old words.entry.image.now → S.Serves shelf.old words.entry.schedule.now → IfErr result (λ s. s ≡ Stop.OutOfMemory) }
 {
     let image = shelf.read(alloc, words.image)?;
     let schedule = shelf.read(alloc, words.schedule)?;

@@ -1,0 +1,68 @@
+-- From what holds by the status to what is written where no fault is met.
+use Rattle.std.proofs.Common.{◌≡◌, ℕ, List, [], ◌∷◌, Option, Some, None, inl, inr, sym, ◌∙◌, ap, refl, subst, IfSome}
+use Rattle.std.specs.Prelude.{◌⊎◌}
+use Rattle.boot_image.specs.ImageFaults.{image_fault}
+use Rattle.boot_image.specs.ImageValue.{image_of}
+use Rattle.boot_image.specs.ScheduleFaults.{schedule_fault}
+use Rattle.edge_io.specs.Written.{Appends}
+use Rattle.aegis_cli.specs.declared.status.Status.{Status}
+use Rattle.aegis_cli.specs.declared.status.Status.TheVariants as status
+use Rattle.aegis_cli.specs.Words.{Form, Run, names_of}
+use Rattle.aegis_cli.specs.Due.{Due, Refusal, Whole, due_of, run_due, report_after}
+use Rattle.aegis_cli.specs.Outcome.{Edges, AreRead, Outcome, Wrote}
+use Rattle.aegis_cli.specs.Headline.{NoFault, Ends, AreTold, IsComplete, IsHeadline}
+
+-- what is read of told files is what is told
+same_contents : (files : List ℕ → Option (List ℕ)) (names xs ys : List (List ℕ)) → AreRead (Some files) names xs → AreRead (Some files) names ys → xs ≡ ys
+same_contents files [] [] [] a b = refl
+same_contents files [] (x ∷ xs) ys a b = absurd a
+same_contents files [] [] (y ∷ ys) a b = absurd b
+same_contents files (n ∷ names) [] ys a b = absurd a
+same_contents files (n ∷ names) (x ∷ xs) [] a b = absurd b
+same_contents files (n ∷ names) (x ∷ xs) (y ∷ ys) a b =
+    let heads : Some x ≡ Some y = sym a.0 ∙ b.0 in
+    let tails = same_contents files names xs ys a.1 b.1 in
+    cc
+
+told_contents : (told : Option (List ℕ → Option (List ℕ))) (names xs ys : List (List ℕ)) → AreTold told names xs → AreRead told names ys → xs ≡ ys
+told_contents None names xs ys a b = absurd a
+told_contents (Some files) names xs ys a b = same_contents files names xs ys a b
+
+-- what was written whole is what was due
+wrote_whole : (form : Form) (e : Edges) (due : Due) (w : Wrote form e Whole) → due ≡ Whole w.text → Ends due e status.Done
+wrote_whole form e (Whole text) w same =
+    let is : text ≡ w.text = cc in
+    inl (refl, subst (Appends e.written_before e.written_after) (sym is) w.appended)
+wrote_whole form e (Refusal text) w same = cc
+
+wrote_refusal : (form : Form) (e : Edges) (due : Due) (w : Wrote form e Refusal) → due ≡ Refusal w.text → Ends due e status.Refused
+wrote_refusal form e (Refusal text) w same =
+    let is : text ≡ w.text = cc in
+    inl (refl, subst (Appends e.written_before e.written_after) (sym is) w.appended)
+wrote_refusal form e (Whole text) w same = cc
+
+wanting : (e : Edges) (due : Due) → e.written_after ≡ e.written_before → Ends due e status.OutOfMemory
+wanting e (Whole text) nothing = inr (refl, nothing)
+wanting e (Refusal text) nothing = inr (refl, nothing)
+
+ends : (form : Form) (contents : List (List ℕ)) (e : Edges) (result : Status) → Outcome form e result → AreTold e.told (names_of form) contents → NoFault e → Ends (due_of form contents) e result
+ends form contents e status.Done w told calm = wrote_whole form e (due_of form contents) w (ap (due_of form) (told_contents e.told (names_of form) contents w.contents told w.read) ∙ w.is_due)
+ends form contents e status.Found w told calm = absurd w
+ends form contents e status.Usage w told calm = absurd w
+ends form contents e status.Refused w told calm = wrote_refusal form e (due_of form contents) w (ap (due_of form) (told_contents e.told (names_of form) contents w.contents told w.read) ∙ w.is_due)
+ends form contents e status.ReadFault w told calm = absurd (calm.read w.rose)
+ends form contents e status.WriteFault w told calm = absurd (calm.write w.rose)
+ends form contents e status.OutOfMemory w told calm = wanting e (due_of form contents) w.nothing
+
+pub is_complete : (words : Option Form) (e : Edges) (result : Status) → IfSome words (λ form. Outcome form e result) → IsComplete words e result
+is_complete None e result outcome form contents is told calm = cc
+is_complete (Some found) e result outcome form contents is told calm =
+    let same : found ≡ form = cc in
+    ends form contents e result (subst (λ (f : Form). Outcome f e result) same outcome) told calm
+
+-- the headline is completeness for an image and a schedule without fault
+pub is_headline : (words : Option Form) (e : Edges) (result : Status) → IfSome words (λ form. Outcome form e result) → IsHeadline words e result
+is_headline words e result outcome image_name schedule_name ticks files image schedule is told image_is schedule_is image_ok schedule_ok calm =
+    let due : run_due image_name schedule_name ticks image (image_fault image) (schedule_fault schedule) ≡ Whole (report_after (image_of image) ticks) = rw (image_ok, schedule_ok) refl in
+    let read : AreTold e.told (image_name ∷ schedule_name ∷ []) (image ∷ schedule ∷ []) = subst (λ (t : Option (List ℕ → Option (List ℕ))). AreTold t (image_name ∷ schedule_name ∷ []) (image ∷ schedule ∷ [])) (sym told) (image_is, (schedule_is, tt)) in
+    subst (λ (d : Due). Ends d e result) due (is_complete words e result outcome (Run image_name schedule_name ticks) (image ∷ schedule ∷ []) is read calm)
