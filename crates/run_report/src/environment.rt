@@ -18,7 +18,7 @@ use world_model::{Cause, Life};
 const NO_EXCESS: u32 = 0;
 
 /// The lines that a report has of an environment, below `envs()` of the board
-/// (`docs/FORMATS.md`, "Report").
+/// (`docs/PROGRAM.md`, "The report").
 pub fn env_lines(alloc: Global, board: &Board, env: u8) -> Result<Vec<u8>, OutOfMemory>
     requires { env < (world_of board.now).count }
     ensures { IfOk result (λ v. v.items ≡ env_text (world_of board.now) env) }

@@ -12,7 +12,7 @@ use edge_io::OutOfMemory;
 use kernel_journal::RunEnd;
 use std::alloc::Global;
 
-/// The report of a board whose run ended in this way (`docs/FORMATS.md`, "Report").
+/// The report of a board whose run ended in this way (`docs/PROGRAM.md`, "The report").
 #[tactic(auto, unfolding(world_model::specs::Report::report_text))]
 pub fn report(alloc: Global, board: &Board, end: RunEnd) -> Result<Vec<u8>, OutOfMemory>
     ensures { IfOk result (λ v. v.items ≡ report_text (world_of board.now) end) }

@@ -1,0 +1,52 @@
+ghost use Rattle.boot_image.specs.Accepted.{IsFitting};
+ghost use Rattle.boot_image.specs.Seen.{program_seen};
+
+use super::*;
+use aegis_calls::Board;
+use boot_image::Program;
+use kernel_journal::RunEnd;
+use std::alloc::Global;
+use std::test::Fail;
+
+/// A program that prints `hi` and exits with 7.
+const HI: &[u8] =
+    b"\x20\x20\x04\x34\x02\x00\x05\x34\x01\x00\x02\x34\x0c\x00\x00\x00\x07\x00\x04\x34\x02\x00\x02\x34\x0c\x00\x00\x00\x00\x00\x00\x00hi";
+
+/// What stands of it before its first tick. The fingerprints are those that `sha256sum` gives of 4,096
+/// zeros, and of the program with zeros up to 4,096 bytes.
+const BEFORE_THE_FIRST_TICK: &[u8] = b"aegis run\n\
+    end limit 0\n\
+    env 0 hi live\n\
+    out 0 0 \"\"\n\
+    cpu 0 00002000 00002004 0 00000000 00000000\n\
+    regs 0 \
+    00000000 00000000 00000000 00000000 00000000 00000000 00000000 \
+    00000000 00000000 00000000 00000000 00000000 00000000 00000000 00000000 \
+    00000000 00000000 00000000 00000000 00000000 00000000 00000000 00000000 \
+    00000000 00000000 00000000 00000000 00000000 7ffefff0 00000000 00000000\n\
+    excess 0 0\n\
+    keep 0 00001 ad7facb2586fc6e966c004d7d1d16b024f5805ff7cb47c7a85dabd8b48892ca7\n\
+    keep 0 00002 dfe1a80dd2ecff7b780ceae1f194ef922fe1261185621c0b7ff4a2e485aee93c\n\
+    own 0 0 0 0\n\
+    sum 0 0 0 0\n\
+    done\n";
+
+fn hi() -> Program<'static>
+    ensures { IsFitting (program_seen result) }
+{
+    Program {
+        name: *b"hi\0\0\0\0\0\0",
+        base: 0x2000,
+        stack: 0,
+        accept: 0,
+        bytes: HI,
+    }
+}
+
+#[test]
+fn a_program_that_has_not_run_is_shown_at_its_entry(rt: HostRuntime) -> Result<(), Fail> {
+    let board = Board::load(rt.alloc(), 16, &hi()).expect(&rt, "memory");
+    let text = report(rt.alloc(), &board, RunEnd::Limit).expect(&rt, "memory");
+    assert_eq!(rt; text.as_slice(), BEFORE_THE_FIRST_TICK);
+    Ok(())
+}
