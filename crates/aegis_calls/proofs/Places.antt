@@ -1,11 +1,10 @@
 -- A page number leads to at most one page of a memory whose page numbers rise.
-use Rattle.std.proofs.Common.{◌≡◌, ◌≢◌, ℕ, zero, suc, ◌+◌, ◌/◌, ◌<◌, List, [], ◌∷◌, length, map, Option, Some, None, refl, sym, ◌∙◌, ap, arith, true, false, cond}
+use Rattle.std.proofs.Common.{◌≡◌, ◌≢◌, ℕ, zero, suc, ◌/◌, ◌<◌, List, [], ◌∷◌, length, Some, None, refl, sym, ◌∙◌, ap, arith, true, false}
 use Rattle.std.specs.Prelude.{◌==◌, if◌then◌else◌, slice_index, slice_index_or, slice_set}
 use Rattle.std.proofs.lemmas.Bool.{ne_eqb, eq-eqb}
 use Rattle.mips_exec.specs.Access.{Write}
 use Rattle.world_model.specs.declared.page.KeptPage.{KeptPage}
 use Rattle.world_model.specs.Solo.{kept_at, kept_after, page_after, stored_page}
-use Rattle.world_model.specs.Page.{with_bytes}
 use Rattle.aegis_calls.specs.Memory.{numbers, IsPlace}
 use Rattle.aegis_calls.specs.Rising.{IsRising}
 

@@ -1,6 +1,5 @@
 -- What a place gives is what the access is answered.
-use Rattle.std.proofs.Common.{◌≡◌, ℕ, ◌%◌, ◌/◌, ◌+◌, ◌<◌, ◌≤◌, refl, take, Option, Some, List, [], drop, false, Result, Ok, Err, sym, ap, ◌∙◌}
-use Rattle.std.specs.Prelude.{slice_index_or}
+use Rattle.std.proofs.Common.{◌≡◌, ℕ, ◌%◌, ◌/◌, ◌+◌, ◌<◌, ◌≤◌, refl, take, Some, List, [], drop, false, Result, Ok, sym, ap, ◌∙◌}
 use Rattle.std.proofs.lemmas.Bool.{lt-ltb, le-leb}
 use Rattle.byteorder.specs.Endian.{little_number}
 use Rattle.mips_exec.specs.declared.exception.Exc.{Exc}

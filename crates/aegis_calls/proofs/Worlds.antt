@@ -1,34 +1,30 @@
 -- What a part of a tick does to what a board shows is what the model's part does to its world.
 use Rattle.std.proofs.Common.{◌≡◌, ℕ, zero, suc, ◌+◌, ◌-◌, List, [], ◌∷◌, ◌++◌, length, Bool, true, false, Option, Some, None, refl, sym, ◌∙◌, ap, append_assoc}
-use Rattle.std.specs.Prelude.{◌==◌, if◌then◌else◌, IsSome, nat_lt, is_none, unwrap_or}
+use Rattle.std.specs.Prelude.{◌==◌, if◌then◌else◌, IsSome, nat_lt, is_none}
 use Rattle.kernel_journal.specs.Ledger.{with_row}
 use Rattle.kernel_journal.specs.declared.row.Row.TheVariants as row
 use Rattle.std.proofs.Math.Dec.{eqb-suc-zero}
-use Rattle.mips_exec.specs.declared.registers.Cpu.{Cpu}
 use Rattle.mips_exec.specs.Step.{Step, Retired, Called, Trapped}
-use Rattle.mips_exec.specs.Access.{Write}
-use Rattle.mips_exec.specs.declared.exception.Exc.{Exc}
 use Rattle.world_model.specs.declared.call.Call.{Call}
 use Rattle.world_model.specs.declared.call.Call.TheVariants as call
 use Rattle.world_model.specs.declared.code.Code.{Code}
 use Rattle.world_model.specs.declared.code.Code.TheVariants as code
-use Rattle.world_model.specs.Code.{is_ok_code}
 use Rattle.world_model.specs.declared.life.Cause.{Cause}
 use Rattle.world_model.specs.declared.life.Cause.TheVariants as cause
 use Rattle.world_model.specs.Solo.{Solo, absent, dead}
 use Rattle.world_model.specs.Book.{slot_after_death}
 use Rattle.world_model.specs.Boot.{own_hold}
-use Rattle.world_model.specs.Step.{Act, Nothing, Calls, Dies, act_of, step_alone, stepped, called}
+use Rattle.world_model.specs.Step.{Act, Nothing, Calls, Dies, act_of, stepped, called}
 use Rattle.world_model.specs.Item.{Item, Step as AStep, Start, Answer, absorb_all, own_part_of, answered_cpu}
-use Rattle.world_model.specs.World.{World, Reply, after, only, no_items}
-use Rattle.world_model.specs.Tick.{turn, step, timer, stop, go_on, act, reply_to, put_when, death, no_change}
+use Rattle.world_model.specs.World.{World, after, only, no_items}
+use Rattle.world_model.specs.Tick.{turn, step, timer, stop, go_on, act, reply_to, put_when, death}
 use Rattle.world_model.specs.Call.{call_named, call_number, put_refusal, put_bytes, console_limit}
 use Rattle.mips_exec.specs.Cpu.{reg}
 use Rattle.aegis_calls.specs.declared.state.State.{State}
 use Rattle.aegis_calls.specs.declared.state.State.TheVariants.{Waiting, Running, Gone}
 use Rattle.aegis_calls.specs.Shown.{Shown}
-use Rattle.aegis_calls.specs.Showing.{world_of, book_of, solo_of, one_solo, one_slot, runner_of}
-use Rattle.aegis_calls.specs.Doing.{turned, turned_by, started, step_seen, came_to, called_by, counted, counted_by, killed, answered, put_by, kept_by}
+use Rattle.aegis_calls.specs.Showing.{world_of, solo_of, one_solo, one_slot, runner_of}
+use Rattle.aegis_calls.specs.Doing.{turned, turned_by, started, step_seen, came_to, called_by, counted, counted_by, killed, put_by}
 
 -- the board in another state
 abbrev pub in_state : Shown → State → Shown

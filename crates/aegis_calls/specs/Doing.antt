@@ -1,9 +1,7 @@
 -- What the parts of a board's tick do to what it shows.
-use Rattle.std.specs.Prelude.{ℕ, ◌+◌, ◌-◌, ◌<◌, ◌≤◌, List, [], ◌++◌, length, ◌==◌, if◌then◌else◌, Option, Some, None, unwrap_or, IsTrue}
-use Rattle.kernel_journal.specs.Ledger.{Ledger, with_row}
-use Rattle.kernel_journal.specs.declared.row.Row.{Row}
+use Rattle.std.specs.Prelude.{ℕ, ◌+◌, ◌-◌, List, [], ◌++◌, length, ◌==◌, if◌then◌else◌, Option, Some, None, unwrap_or}
+use Rattle.kernel_journal.specs.Ledger.{with_row}
 use Rattle.kernel_journal.specs.declared.row.Row.TheVariants as row
-use Rattle.mips_exec.specs.declared.registers.Cpu.{Cpu}
 use Rattle.mips_exec.specs.Access.{Write}
 use Rattle.mips_exec.specs.Step.{Step, Retired, Called, Trapped, step_of, view_of, cpu_after, write_after}
 use Rattle.world_model.specs.declared.call.Call.{Call}

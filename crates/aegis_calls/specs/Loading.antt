@@ -1,5 +1,5 @@
 -- The board of a program that hasn't run.
-use Rattle.std.specs.Prelude.{◌≡◌, ℕ, List, [], ◌∷◌, Option, Some}
+use Rattle.std.specs.Prelude.{◌≡◌, ℕ, [], ◌∷◌, Some}
 use Rattle.boot_image.specs.ImageValue.{ImageValue, ProgramValue}
 use Rattle.kernel_journal.specs.declared.row.Row.TheVariants as row
 use Rattle.world_model.specs.Boot.{kept_of, boot_world}

@@ -1,11 +1,10 @@
 -- An environment's memory: its guaranteed pages by rising page number.
-use Rattle.std.specs.Prelude.{◌≡◌, ℕ, ◌/◌, ◌<◌, ◌-◌, ◌++◌, slice_index, replicate, List, length, map, slice_set, Option, Some, None, Result, Ok, Err, MatchOption, MatchResult, slice_index_or}
+use Rattle.std.specs.Prelude.{◌≡◌, ℕ, ◌/◌, ◌<◌, ◌-◌, ◌++◌, slice_index, replicate, List, length, map, slice_set, Some, Result, Ok, Err, slice_index_or}
 use Rattle.mips_exec.specs.declared.exception.Exc.{Exc}
 use Rattle.mips_exec.specs.Access.{Write}
 use Rattle.world_model.specs.declared.page.KeptPage.{KeptPage}
 use Rattle.world_model.specs.Page.{Mapped}
 use Rattle.world_model.specs.Solo.{kept_at, kept_after, stored_page, mapped}
-use Rattle.aegis_calls.specs.Rising.{IsRising}
 
 -- the page numbers
 abbrev pub numbers : List KeptPage → List ℕ

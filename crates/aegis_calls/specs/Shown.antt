@@ -1,5 +1,5 @@
 -- What a board shows: its parts as plain data.
-use Rattle.std.specs.Prelude.{ℕ, List, ◌-◌}
+use Rattle.std.specs.Prelude.{ℕ, List}
 use Rattle.kernel_journal.specs.Ledger.{Ledger}
 use Rattle.mips_exec.specs.declared.registers.Cpu.{Cpu}
 use Rattle.world_model.specs.declared.page.KeptPage.{KeptPage}

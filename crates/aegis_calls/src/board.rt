@@ -1,12 +1,11 @@
 //! The board and what it shows.
 
-use kernel_journal::Journal;
-use mips_exec::Cpu;
-use std::marker::Model;
-
 use crate::console::Console;
 use crate::memory::Memory;
 use crate::state::State;
+use kernel_journal::Journal;
+use mips_exec::Cpu;
+use std::marker::Model;
 
 /// The machine, the environment on it, and the kernel's books.
 #[derive(Drop)]

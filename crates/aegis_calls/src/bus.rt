@@ -2,11 +2,10 @@
 ghost use Rattle.std.specs.Prelude.{◌≡◌, ◌≢◌, ◌+◌, ◌%◌, ◌<◌, ◌≤◌, ℕ, List, OnOk, OnErr, length};
 ghost use Rattle.byteorder.specs.Endian.{little_number};
 
+use crate::memory::Memory;
 use byteorder::{ByteOrder, LittleEndian};
 use mips_exec::{Bus, Exc};
 use world_model::Purpose;
-
-use crate::memory::Memory;
 
 impl Bus for Memory {
     ghost use Rattle.std.specs.Prelude.{◌≡◌, ℕ, List};

@@ -8,17 +8,16 @@ ghost use Rattle.world_model.specs.Boot.{listed, open_page, zero_page, kept_of, 
 ghost use Rattle.world_model.specs.Item.{booted};
 ghost use Rattle.aegis_calls.specs.Memory.{IsBelow};
 
-use boot_image::Program;
-use edge_io::OutOfMemory;
-use kernel_journal::{Journal, Row};
-use mips_exec::Cpu;
-use std::alloc::Global;
-
 use crate::board::Board;
 use crate::console::Console;
 use crate::memory::{Memory, PAGE_SIZE};
 use crate::registers::blank_cpu;
 use crate::state::State;
+use boot_image::Program;
+use edge_io::OutOfMemory;
+use kernel_journal::{Journal, Row};
+use mips_exec::Cpu;
+use std::alloc::Global;
 
 /// The page number of the context page.
 const CONTEXT_PAGE: u32 = 1;
@@ -28,6 +27,7 @@ const STACK_END: u32 = 0x7fff0;
 
 /// What the stack pointer is at boot, and its register.
 const STACK_TOP: u32 = 0x7ffe_fff0;
+
 const STACK_POINTER: u8 = 29;
 
 /// The first bytes, so many at most.

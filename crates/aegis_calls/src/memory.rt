@@ -4,13 +4,12 @@ ghost use Rattle.world_model.specs.declared.page.KeptPage.{KeptPage};
 ghost use Rattle.aegis_calls.specs.Memory.{padded};
 ghost use Rattle.world_model.specs.Page.{with_bytes, address_error as address_error_of, miss as miss_of, reach, raised as raised_at, is_store as is_store_of};
 
+use crate::search::place_in;
 use edge_io::OutOfMemory;
 use mips_exec::{Exc, ExcCode};
 use std::alloc::Global;
 use std::marker::Model;
 use world_model::{KeptPage, Purpose};
-
-use crate::search::place_in;
 
 /// The bytes of a page.
 pub const PAGE_SIZE: usize = 4096;

@@ -4,17 +4,17 @@ ghost use Rattle.std.specs.Option.{option_map};
 ghost use Rattle.mips_exec.specs.Step.{outcome_of};
 ghost use Rattle.world_model.specs.Call.{put_bytes as put_bytes_of, put_refusal as put_refusal_of};
 
-use kernel_journal::Row;
-use mips_exec::{Outcome, step_user};
-use world_model::{Call, Cause, Code};
-
 use crate::board::Board;
 use crate::console::CONSOLE_LIMIT;
 use crate::registers::{CODE_REGISTER, FIRST_ARGUMENT, SECOND_ARGUMENT, answer, blank_cpu, rest};
 use crate::state::State;
+use kernel_journal::Row;
+use mips_exec::{Outcome, step_user};
+use world_model::{Call, Cause, Code};
 
 /// The one slot, and the number of the one environment.
 const SLOT: u32 = 0;
+
 const ENV: u8 = 0;
 
 impl Board {

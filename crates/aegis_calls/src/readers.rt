@@ -2,13 +2,12 @@
 //! them, from 0 on.
 ghost use Rattle.std.specs.Prelude.{◌≡◌, ◌<◌, ◌≤◌, OnOk, OnErr, IsOk};
 
+use crate::board::Board;
+use crate::state::State;
 use edge_io::OutOfMemory;
 use kernel_journal::Row;
 use mips_exec::Cpu;
 use world_model::{KeptPage, Life};
-
-use crate::board::Board;
-use crate::state::State;
 
 impl Board {
     ghost use Rattle.aegis_calls.specs.Showing.{world_of};

@@ -14,6 +14,7 @@ const VALUE_REGISTER: u8 = 3;
 
 /// The registers of a call's first two arguments.
 pub(crate) const FIRST_ARGUMENT: u8 = 4;
+
 pub(crate) const SECOND_ARGUMENT: u8 = 5;
 
 /// The registers of a machine in which nothing has run.

@@ -1,5 +1,5 @@
 -- The context page, the program's pages and those of its stack, in this order.
-use Rattle.std.proofs.Common.{◌≡◌, ℕ, ◌+◌, ◌-◌, ◌*◌, ◌/◌, List, [], ◌∷◌, ◌++◌, length, ap, ◌∙◌}
+use Rattle.std.proofs.Common.{◌+◌, ◌-◌, ◌*◌, ◌/◌, List, [], ◌∷◌, ◌++◌, length, ap, ◌∙◌}
 use Rattle.boot_image.specs.ImageValue.{pages_of_length}
 use Rattle.world_model.specs.declared.page.KeptPage.{KeptPage}
 use Rattle.world_model.specs.Boot.{listed, open_page, page_from, zero_page}

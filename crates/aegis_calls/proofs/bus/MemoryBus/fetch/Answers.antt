@@ -1,5 +1,5 @@
 -- The bytes at the place are what the access is answered.
-use Rattle.std.proofs.Common.{◌≡◌, ap, ◌∙◌}
+use Rattle.std.proofs.Common.{ap, ◌∙◌}
 use Rattle.std.specs.Prelude.{slice_index_or}
 use Rattle.world_model.specs.declared.page.Purpose.TheVariants.{Fetch}
 use Rattle.aegis_calls.proofs.Served.{answer, no_page, read_is}

@@ -1,5 +1,5 @@
 -- The search finds the one place, or there is none.
-use Rattle.std.proofs.Common.{◌≡◌, ℕ, ◌≢◌, ◌<◌, List, length, Option, Some, None, MatchOption, IfSome, IfNone, rules, ap, ◌∙◌, subst}
+use Rattle.std.proofs.Common.{◌≡◌, ℕ, ◌≢◌, ◌<◌, List, length, Option, Some, None, MatchOption, IfSome, IfNone, ap, ◌∙◌, subst}
 use Rattle.std.specs.Prelude.{slice_index}
 use Rattle.world_model.specs.declared.page.KeptPage.{KeptPage}
 use Rattle.world_model.specs.Solo.{kept_at}

@@ -1,5 +1,5 @@
 -- What is written at the place is the store, and the page numbers stay.
-use Rattle.std.proofs.Common.{◌≡◌, ℕ, ◌/◌, ◌%◌, List, false, [], refl, sym, ◌∙◌, ap}
+use Rattle.std.proofs.Common.{◌≡◌, ℕ, ◌/◌, List, false, [], refl, sym, ◌∙◌, ap}
 use Rattle.std.specs.Prelude.{slice_index_or, slice_set}
 use Rattle.mips_exec.specs.Access.{Write}
 use Rattle.world_model.specs.declared.page.KeptPage.{KeptPage}
