@@ -1,5 +1,5 @@
 -- From what holds by the status to what is written where no fault is met.
-use Rattle.std.proofs.Common.{◌≡◌, ℕ, List, [], ◌∷◌, Option, Some, None, inl, inr, sym, ◌∙◌, ap, refl, subst, IfSome}
+use Rattle.std.proofs.Common.{◌≡◌, ◌≢◌, length, ℕ, List, [], ◌∷◌, Option, Some, None, inl, inr, sym, ◌∙◌, ap, refl, subst, IfSome}
 use Rattle.std.specs.Prelude.{◌⊎◌}
 use Rattle.boot_image.specs.ImageFaults.{image_fault}
 use Rattle.boot_image.specs.ImageValue.{image_of}
@@ -9,8 +9,10 @@ use Rattle.aegis_cli.specs.declared.status.Status.{Status}
 use Rattle.aegis_cli.specs.declared.status.Status.TheVariants as status
 use Rattle.aegis_cli.specs.Words.{Form, Run, names_of}
 use Rattle.aegis_cli.specs.Due.{Due, Refusal, Whole, due_of, run_due, report_after}
-use Rattle.aegis_cli.specs.Outcome.{Edges, AreRead, Outcome, Wrote}
-use Rattle.aegis_cli.specs.Headline.{NoFault, Ends, AreTold, IsComplete, IsHeadline}
+use Rattle.aegis_cli.specs.Outcome.{Edges, AreRead, Outcome, Wrote, text_of}
+use Rattle.aegis_cli.specs.Headline.{NoFault, Ends, AreTold, IsComplete, IsHeadline, IsTaken}
+use Rattle.aegis_cli.specs.declared.work.Answer.{Answer}
+use Rattle.aegis_cli.specs.Work.{Settles, Performed}
 
 -- what is read of told files is what is told
 same_contents : (files : List ℕ → Option (List ℕ)) (names xs ys : List (List ℕ)) → AreRead (Some files) names xs → AreRead (Some files) names ys → xs ≡ ys
@@ -24,7 +26,7 @@ same_contents files (n ∷ names) (x ∷ xs) (y ∷ ys) a b =
     let tails = same_contents files names xs ys a.1 b.1 in
     cc
 
-told_contents : (told : Option (List ℕ → Option (List ℕ))) (names xs ys : List (List ℕ)) → AreTold told names xs → AreRead told names ys → xs ≡ ys
+pub told_contents : (told : Option (List ℕ → Option (List ℕ))) (names xs ys : List (List ℕ)) → AreTold told names xs → AreRead told names ys → xs ≡ ys
 told_contents None names xs ys a b = absurd a
 told_contents (Some files) names xs ys a b = same_contents files names xs ys a b
 
@@ -66,3 +68,17 @@ is_headline words e result outcome image_name schedule_name ticks files image sc
     let due : run_due image_name schedule_name ticks image (image_fault image) (schedule_fault schedule) ≡ Whole (report_after (image_of image) ticks) = rw (image_ok, schedule_ok) refl in
     let read : AreTold e.told (image_name ∷ schedule_name ∷ []) (image ∷ schedule ∷ []) = subst (λ (t : Option (List ℕ → Option (List ℕ))). AreTold t (image_name ∷ schedule_name ∷ []) (image ∷ schedule ∷ [])) (sym told) (image_is, (schedule_is, tt)) in
     subst (λ (d : Due). Ends d e result) due (is_complete words e result outcome (Run image_name schedule_name ticks) (image ∷ schedule ∷ []) is read calm)
+
+-- an answer that is due has the due text, and never the status of a fault
+settled : (due : Due) (a : Answer) → Settles due a → (text_of due ≡ a.text.items) × (a.status ≢ status.WriteFault)
+settled (Refusal text) a is = (sym is.1, λ w. cc)
+settled (Whole text) a is = (sym is.1, λ w. cc)
+
+-- a sink that takes the due text gives no fault
+pub is_taken : (form : Form) (told : Option (List ℕ → Option (List ℕ))) (takes : ℕ → Type 0) (before after : ℕ) (a : Answer) (text : List ℕ) (result : Status) → Performed form told before after a → text ≡ a.text.items → (takes (length text) → result ≡ a.status) → IsTaken form told takes result
+is_taken form told takes before after a text result p same sure contents are due =
+    let equal = told_contents told (names_of form) contents p.contents are p.read in
+    let s = settled (due_of form p.contents) a p.settles in
+    let long : length (text_of (due_of form contents)) ≡ length text =
+        ap (λ (cs : List (List ℕ)). length (text_of (due_of form cs))) equal ∙ ap length (s.0 ∙ sym same) in
+    λ w. s.1 (sym (sure (subst takes long due)) ∙ w)

@@ -35,6 +35,11 @@ abbrev pub AreTold : Option (List ℕ → Option (List ℕ)) → List (List ℕ)
 AreTold None names contents = ⊥
 AreTold (Some files) names contents = AreRead (Some files) names contents
 
+-- Where the shelf tells the contents, a sink that is sure to take so many bytes as are due gives no fault.
+abbrev pub IsTaken : Form → Option (List ℕ → Option (List ℕ)) → (ℕ → Type 0) → Status → Type 0
+IsTaken form told takes result =
+    (contents : List (List ℕ)) → AreTold told (names_of form) contents → takes (length (text_of (due_of form contents))) → result ≢ status.WriteFault
+
 -- Where no fault is met, what is due for the told contents is written whole, or memory was wanting.
 abbrev pub IsComplete : Option Form → Edges → Status → Type 0
 IsComplete words e result =

@@ -3,7 +3,7 @@ ghost use Rattle.std.specs.Prelude.{◌≡◌, ◌≢◌, ◌≤◌, ◌<◌, �
 ghost use Rattle.aegis_cli.specs.Words.{form_of, names_of, Run};
 ghost use Rattle.aegis_cli.specs.Due.{usage_text};
 ghost use Rattle.aegis_cli.specs.Outcome.{Outcome, Finished};
-ghost use Rattle.aegis_cli.specs.Headline.{IsHeadline, IsComplete};
+ghost use Rattle.aegis_cli.specs.Headline.{IsHeadline, IsComplete, IsTaken};
 ghost use Rattle.std.specs.List.{AllByRecursion};
 
 use edge_io::{Shelf, Sink, write_whole};
@@ -43,6 +43,7 @@ fn respond<S: Shelf, K: Sink>(
         write_faults_before = K.faults out.old; write_faults_after = K.faults out.new;
       }) result) }
     ensures served { IfSome (form_of (map string_bytes words.now)) (λ form. AllByRecursion (S.Serves shelf.old) (names_of form) → result ≢ Status.ReadFault) }
+    ensures taken { IfSome (form_of (map string_bytes words.now)) (λ form. IsTaken form (S.told shelf.old) (K.Takes out.old) result) }
 {
     let Some(words) = parse(words) else {
         return finish(out, USAGE, Status::Usage);
@@ -91,6 +92,9 @@ pub fn aegis<S: Shelf, K: Sink>(
 
     // A shelf that is sure to serve the names gives no fault of reading.
     ensures served { IfSome (form_of (map string_bytes words.now)) (λ form. AllByRecursion (S.Serves shelf.old) (names_of form) → result ≢ Status.ReadFault) }
+
+    // A sink that is sure to take what is due gives no fault of writing.
+    ensures taken { IfSome (form_of (map string_bytes words.now)) (λ form. IsTaken form (S.told shelf.old) (K.Takes out.old) result) }
 {
     respond(alloc, words, shelf, out)
 }
