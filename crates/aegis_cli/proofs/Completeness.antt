@@ -80,5 +80,5 @@ is_taken form told takes before after a text result p same sure contents are due
     let equal = told_contents told (names_of form) contents p.contents are p.read in
     let s = settled (due_of form p.contents) a p.settles in
     let long : length (text_of (due_of form contents)) ≡ length text =
-        ap (λ (cs : List (List ℕ)). length (text_of (due_of form cs))) equal ∙ ap length (s.0 ∙ sym same) in
+    ap (λ (cs : List (List ℕ)). length (text_of (due_of form cs))) equal ∙ ap length (s.0 ∙ sym same) in
     λ w. s.1 (sym (sure (subst takes long due)) ∙ w)

@@ -6,12 +6,11 @@ ghost use Rattle.aegis_cli.specs.Outcome.{Outcome, Finished};
 ghost use Rattle.aegis_cli.specs.Headline.{IsHeadline, IsComplete, IsTaken};
 ghost use Rattle.std.specs.List.{AllByRecursion};
 
-use edge_io::{Shelf, Sink, write_whole};
-use std::alloc::Global;
-
 use crate::status::Status;
 use crate::words::parse;
 use crate::work::{Stop, perform_run};
+use edge_io::{Shelf, Sink, write_whole};
+use std::alloc::Global;
 
 /// What is written where the words are none of the forms.
 const USAGE: &[u8] = b"aegis: usage\n";
@@ -28,20 +27,19 @@ fn finish<K: Sink>(out: &mut K, text: &[u8], status: Status) -> Status
 }
 
 /// Does what the words ask, and says by its status how it ended.
-fn respond<S: Shelf, K: Sink>(
-    alloc: Global,
-    words: &[String],
-    shelf: &mut S,
-    out: &mut K,
-) -> Status
+fn respond<S: Shelf, K: Sink>(alloc: Global, words: &[String], shelf: &mut S, out: &mut K) -> Status
     ensures unread { IfNone (form_of (map string_bytes words.now)) (shelf.new ≡ shelf.old) }
     ensures no_form { IfNone (form_of (map string_bytes words.now)) (Finished Status.Usage usage_text (K.written out.old) (K.written out.new) (K.faults out.old) (K.faults out.new) result) }
     ensures form { IfSome (form_of (map string_bytes words.now)) (λ form. Outcome form (record {
-        told = S.told shelf.old;
-        read_faults_before = S.faults shelf.old; read_faults_after = S.faults shelf.new; failed = S.failed shelf.new;
-        written_before = K.written out.old; written_after = K.written out.new;
-        write_faults_before = K.faults out.old; write_faults_after = K.faults out.new;
-      }) result) }
+      told = S.told shelf.old;
+      read_faults_before = S.faults shelf.old;
+      read_faults_after = S.faults shelf.new;
+      failed = S.failed shelf.new;
+      written_before = K.written out.old;
+      written_after = K.written out.new;
+      write_faults_before = K.faults out.old;
+      write_faults_after = K.faults out.new;
+    }) result) }
     ensures served { IfSome (form_of (map string_bytes words.now)) (λ form. AllByRecursion (S.Serves shelf.old) (names_of form) → result ≢ Status.ReadFault) }
     ensures taken { IfSome (form_of (map string_bytes words.now)) (λ form. IsTaken form (S.told shelf.old) (K.Takes out.old) result) }
 {
@@ -66,17 +64,25 @@ pub fn aegis<S: Shelf, K: Sink>(
 ) -> Status
     // The headline: what run writes is the report of the world.
     ensures headline { IsHeadline (form_of (map string_bytes words.now)) (record {
-        told = S.told shelf.old;
-        read_faults_before = S.faults shelf.old; read_faults_after = S.faults shelf.new; failed = S.failed shelf.new;
-        written_before = K.written out.old; written_after = K.written out.new;
-        write_faults_before = K.faults out.old; write_faults_after = K.faults out.new;
-      }) result }
+      told = S.told shelf.old;
+      read_faults_before = S.faults shelf.old;
+      read_faults_after = S.faults shelf.new;
+      failed = S.failed shelf.new;
+      written_before = K.written out.old;
+      written_after = K.written out.new;
+      write_faults_before = K.faults out.old;
+      write_faults_after = K.faults out.new;
+    }) result }
     ensures complete { IsComplete (form_of (map string_bytes words.now)) (record {
-        told = S.told shelf.old;
-        read_faults_before = S.faults shelf.old; read_faults_after = S.faults shelf.new; failed = S.failed shelf.new;
-        written_before = K.written out.old; written_after = K.written out.new;
-        write_faults_before = K.faults out.old; write_faults_after = K.faults out.new;
-      }) result }
+      told = S.told shelf.old;
+      read_faults_before = S.faults shelf.old;
+      read_faults_after = S.faults shelf.new;
+      failed = S.failed shelf.new;
+      written_before = K.written out.old;
+      written_after = K.written out.new;
+      write_faults_before = K.faults out.old;
+      write_faults_after = K.faults out.new;
+    }) result }
 
     // Words that are no form are answered so, no file is read, and no memory is wanted.
     ensures unread { IfNone (form_of (map string_bytes words.now)) (shelf.new ≡ shelf.old) }
@@ -84,11 +90,15 @@ pub fn aegis<S: Shelf, K: Sink>(
 
     // What holds for words of a form, by the status; no other status comes.
     ensures form { IfSome (form_of (map string_bytes words.now)) (λ form. Outcome form (record {
-        told = S.told shelf.old;
-        read_faults_before = S.faults shelf.old; read_faults_after = S.faults shelf.new; failed = S.failed shelf.new;
-        written_before = K.written out.old; written_after = K.written out.new;
-        write_faults_before = K.faults out.old; write_faults_after = K.faults out.new;
-      }) result) }
+      told = S.told shelf.old;
+      read_faults_before = S.faults shelf.old;
+      read_faults_after = S.faults shelf.new;
+      failed = S.failed shelf.new;
+      written_before = K.written out.old;
+      written_after = K.written out.new;
+      write_faults_before = K.faults out.old;
+      write_faults_after = K.faults out.new;
+    }) result) }
 
     // A shelf that is sure to serve the names gives no fault of reading.
     ensures served { IfSome (form_of (map string_bytes words.now)) (λ form. AllByRecursion (S.Serves shelf.old) (names_of form) → result ≢ Status.ReadFault) }

@@ -6,15 +6,14 @@ ghost use Rattle.aegis_cli.specs.Work.{Settles, Performed, Stopped};
 ghost use Rattle.boot_image.specs.Accepted.{IsAccepted};
 ghost use Rattle.boot_image.specs.Seen.{image_seen};
 
+use crate::status::Status;
+use crate::words::{RunWords, TICK_LIMIT};
 use aegis_tick::{boot, run};
 use boot_image::{Image, check_schedule, read_image};
 use edge_io::{OutOfMemory, ReadFail, Shelf};
 use line_text::push_dec;
 use run_report::report;
 use std::alloc::Global;
-
-use crate::status::Status;
-use crate::words::{RunWords, TICK_LIMIT};
 
 /// What is to be written, and the status once it is.
 #[derive(Drop)]

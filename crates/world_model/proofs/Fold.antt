@@ -1,7 +1,6 @@
 -- Each environment is the fold of its feed.
 use Rattle.std.proofs.Common.{◌≡◌, ℕ, zero, suc, List, [], ◌∷◌, ◌++◌, Bool, true, false, refl, sym, ◌∙◌, ap}
 use Rattle.std.specs.Prelude.{if◌then◌else◌}
-use Rattle.std.specs.List.{fold}
 use Rattle.std.proofs.lemmas.List.Sums.{fold-append}
 use Rattle.boot_image.specs.ImageValue.{ImageValue}
 use Rattle.world_model.specs.Book.{is_idle_book}
@@ -9,8 +8,7 @@ use Rattle.world_model.specs.Solo.{Solo, absent}
 use Rattle.world_model.specs.Item.{Item, absorb, absorb_all}
 use Rattle.world_model.specs.World.{World, Reply, after, run_phases, phase_items}
 use Rattle.world_model.specs.Tick.{tick_step, tick_items, phases}
-use Rattle.world_model.specs.Boot.{boot_world, boot_items}
-use Rattle.world_model.specs.Run.{next_world, next_items, run_on, world_after, feed, IsFoldOfFeed}
+use Rattle.world_model.specs.Run.{next_items, world_after, feed, IsFoldOfFeed}
 
 -- what is absorbed in two parts is absorbed in one
 absorb-append : (s : Solo) (xs ys : List Item) → absorb_all s (xs ++ ys) ≡ absorb_all (absorb_all s xs) ys

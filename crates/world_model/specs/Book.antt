@@ -1,5 +1,5 @@
 -- The kernel's one book, and the vector of slices in it.
-use Rattle.std.specs.Prelude.{ℕ, zero, suc, ◌+◌, ◌%◌, List, Bool, true, false, ◌==◌, not, ◌&&◌, if◌then◌else◌, Option, Some, None, is_none}
+use Rattle.std.specs.Prelude.{ℕ, zero, suc, ◌+◌, ◌%◌, Bool, false, ◌==◌, ◌&&◌, if◌then◌else◌, Option, Some, None, is_none}
 
 -- whose a slot is, and who runs in it
 pub record Hold : Type 0 where

@@ -1,12 +1,12 @@
 -- The world that an image boots.
-use Rattle.std.specs.Prelude.{ℕ, zero, suc, ◌+◌, ◌-◌, ◌*◌, ◌/◌, List, [], ◌∷◌, ◌++◌, length, take, drop, replicate, Bool, true, ◌==◌, nat_lt, if◌then◌else◌, Option, Some, None, slice_get}
+use Rattle.std.specs.Prelude.{ℕ, zero, suc, ◌+◌, ◌-◌, ◌*◌, ◌/◌, List, [], ◌∷◌, ◌++◌, length, take, drop, replicate, true, Option, Some, None, slice_get}
 use Rattle.std.specs.Option.{option_flatten, option_map}
 use Rattle.boot_image.specs.ImageValue.{ImageValue, ProgramValue, body_pages}
 use Rattle.kernel_journal.specs.declared.row.Row.{Row}
 use Rattle.kernel_journal.specs.declared.row.Row.TheVariants as row
 use Rattle.world_model.specs.Book.{Book, Hold}
 use Rattle.world_model.specs.declared.page.KeptPage.{KeptPage}
-use Rattle.world_model.specs.Solo.{Solo, absent}
+use Rattle.world_model.specs.Solo.{absent}
 use Rattle.world_model.specs.Item.{Item, Boot, absorb_all}
 use Rattle.world_model.specs.World.{World}
 

@@ -1,5 +1,5 @@
 -- Kernel calls: their names, and what put finds in its caller.
-use Rattle.std.specs.Prelude.{ℕ, ◌+◌, ◌/◌, ◌%◌, List, [], length, take, drop, ◌==◌, ◌&&◌, nat_le, nat_lt, if◌then◌else◌, Option, Some, None, is_none}
+use Rattle.std.specs.Prelude.{ℕ, ◌+◌, ◌/◌, ◌%◌, List, [], take, drop, ◌==◌, ◌&&◌, nat_le, nat_lt, if◌then◌else◌, Option, Some, None, is_none}
 use Rattle.std.specs.Option.{option_map}
 use Rattle.mips_exec.specs.declared.registers.Cpu.{Cpu}
 use Rattle.mips_exec.specs.Cpu.{reg}

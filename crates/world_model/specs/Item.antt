@@ -1,7 +1,7 @@
 -- What an environment is given from outside, and what it makes of it.
-use Rattle.std.specs.Prelude.{ℕ, ◌+◌, ◌%◌, ◌^◌, List, [], ◌∷◌, ◌++◌, Bool, true, false, if◌then◌else◌, Option, Some, None, unwrap_or, fold}
+use Rattle.std.specs.Prelude.{ℕ, ◌+◌, ◌%◌, ◌^◌, List, [], ◌++◌, false, if◌then◌else◌, Option, Some, None, unwrap_or, fold}
 use Rattle.mips_exec.specs.declared.registers.Cpu.{Cpu}
-use Rattle.mips_exec.specs.Cpu.{reg, with_reg, restart_of}
+use Rattle.mips_exec.specs.Cpu.{with_reg, restart_of}
 use Rattle.world_model.specs.declared.life.Life.TheVariants.{Live}
 use Rattle.world_model.specs.declared.code.Code.{Code}
 use Rattle.world_model.specs.Code.{code_number, is_ok_code}

@@ -1,10 +1,10 @@
 -- Whole runs: the world after so many ticks, and what each environment was given.
-use Rattle.std.specs.Prelude.{ℕ, zero, suc, List, [], ◌++◌, Bool, ◌==◌, if◌then◌else◌, ◌≡◌}
+use Rattle.std.specs.Prelude.{ℕ, zero, suc, List, [], ◌++◌, ◌==◌, if◌then◌else◌, ◌≡◌}
 use Rattle.boot_image.specs.ImageValue.{ImageValue}
 use Rattle.kernel_journal.specs.declared.row.RunEnd.{RunEnd}
 use Rattle.kernel_journal.specs.declared.row.RunEnd.TheVariants as end
 use Rattle.world_model.specs.Book.{is_idle_book}
-use Rattle.world_model.specs.Solo.{Solo, absent}
+use Rattle.world_model.specs.Solo.{absent}
 use Rattle.world_model.specs.Item.{Item, absorb_all}
 use Rattle.world_model.specs.World.{World}
 use Rattle.world_model.specs.Tick.{tick_step, tick_items}

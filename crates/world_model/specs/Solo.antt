@@ -1,5 +1,5 @@
 -- One environment alone: a lonely flat machine.
-use Rattle.std.specs.Prelude.{ℕ, ◌+◌, ◌/◌, ◌%◌, List, [], ◌∷◌, ◌++◌, length, find, map, Bool, true, false, ◌==◌, if◌then◌else◌, Option, Some, None, replicate}
+use Rattle.std.specs.Prelude.{ℕ, ◌/◌, ◌%◌, List, [], find, map, Bool, true, false, ◌==◌, if◌then◌else◌, Option, replicate}
 use Rattle.std.specs.Option.{option_map}
 use Rattle.mips_exec.specs.declared.registers.Cpu.{Cpu}
 use Rattle.mips_exec.specs.Access.{Write}

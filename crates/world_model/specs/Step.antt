@@ -1,7 +1,6 @@
 -- What an environment does alone in one step.
-use Rattle.std.specs.Prelude.{ℕ, List, Bool, true, false, ◌==◌, if◌then◌else◌, Option, Some, None}
+use Rattle.std.specs.Prelude.{Option, Some, None}
 use Rattle.mips_exec.specs.declared.registers.Cpu.{Cpu}
-use Rattle.mips_exec.specs.declared.exception.Exc.{Exc}
 use Rattle.mips_exec.specs.Cpu.{reg}
 use Rattle.mips_exec.specs.Step.{Step, Retired, Called, Trapped, step_of, view_of}
 use Rattle.world_model.specs.declared.call.Call.{Call}

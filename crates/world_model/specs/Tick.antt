@@ -5,14 +5,13 @@ use Rattle.kernel_journal.specs.declared.row.Row.TheVariants as row
 use Rattle.mips_exec.specs.Cpu.{reg}
 use Rattle.world_model.specs.declared.code.Code.{Code}
 use Rattle.world_model.specs.declared.code.Code.TheVariants as code
-use Rattle.world_model.specs.Book.{Book, Hold, Turn, next_turn, is_idle_book, is_owned_by, slot_after_death}
-use Rattle.world_model.specs.Solo.{Solo}
+use Rattle.world_model.specs.Book.{Book, Turn, next_turn, is_owned_by, slot_after_death}
 use Rattle.world_model.specs.Step.{Act, Nothing, Calls, Dies, step_alone, act_of}
 use Rattle.world_model.specs.declared.call.Call.{Call}
 use Rattle.world_model.specs.declared.call.Call.TheVariants as call
 use Rattle.world_model.specs.Call.{put_refusal}
 use Rattle.world_model.specs.Item.{Item, Step, Start, Answer}
-use Rattle.world_model.specs.World.{World, Reply, only, no_items, after, run_phases, phase_items}
+use Rattle.world_model.specs.World.{World, Reply, only, no_items, run_phases, phase_items}
 
 abbrev pub no_change : World → Reply
 no_change w = record { book = w.book; items = no_items; rows = [] }

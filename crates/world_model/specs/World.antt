@@ -1,7 +1,7 @@
 -- The world: one book, a lonely machine for each environment, and the ledger.
 use Rattle.std.specs.Prelude.{ℕ, List, [], ◌∷◌, ◌++◌, ◌==◌, if◌then◌else◌}
 use Rattle.kernel_journal.specs.declared.row.Row.{Row}
-use Rattle.world_model.specs.Book.{Book, is_idle_book}
+use Rattle.world_model.specs.Book.{Book}
 use Rattle.world_model.specs.Solo.{Solo}
 use Rattle.world_model.specs.Item.{Item, absorb_all}
 

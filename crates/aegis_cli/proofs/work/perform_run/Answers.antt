@@ -12,7 +12,8 @@ returns-clause-ok g c =
       contents = c.deref.result.now ∷ c.deref-2.result.now ∷ [];
       read = (
         subst (Tells told c.args.words.image.now) (sym c.deref.ensures.value) c.in_ok-image.ensures.bytes,
-        (subst (Tells told c.args.words.schedule.now) (sym c.deref-2.ensures.value) schedule, tt));
+        (subst (Tells told c.args.words.schedule.now) (sym c.deref-2.ensures.value) schedule, tt),
+      );
       settles = c.in_ok-due_run.ensures;
       no_fault = c.in_ok-schedule.ensures.else_count ∙ c.in_ok-image.ensures.else_count;
     }
