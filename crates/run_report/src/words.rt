@@ -1,7 +1,7 @@
 //! The words of a line. A line begins with a word of its own, each word after it stands behind a
 //! space, and a line feed ends it.
 ghost use Rattle.std.specs.Prelude.{◌≡◌, ◌++◌, ◌∷◌, [], ◌≤◌, OnOk};
-ghost use Rattle.line_text.specs.Text.{dec_text, hex_text, quoted_text};
+ghost use Rattle.line_text.specs.Text.{dec_text, hex_text};
 ghost use Rattle.world_model.specs.Report.{spaced, or_dash, flag_text, quotation};
 
 use edge_io::OutOfMemory;
