@@ -3,17 +3,18 @@
 #![tactic(auto)]
 
 mod status;
+#[cfg(test)]
+mod tests;
 mod top;
 mod words;
 mod work;
 
 use edge_io::{HostShelf, HostSink, OutOfMemory};
+use status::Status;
 use std::env;
 use std::io::ErrorKind;
 use std::process::ExitCode;
 use std::rt::Env;
-
-use status::Status;
 use top::aegis;
 
 /// The words after the program's name; none where one of them isn't text.
