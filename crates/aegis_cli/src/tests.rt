@@ -1,0 +1,478 @@
+mod programs;
+
+use super::*;
+use edge_io::{MemoryShelf, MemorySink};
+use std::alloc::{AllocError, Global};
+use std::test::Fail;
+
+/// A program of 34 bytes at 0x2000, named `hi`, with the one slot of a machine of 16 pages and a
+/// quantum of 16. It puts its last two bytes on the console, and exits with 7.
+const HI: [u8; 79] = [
+    // The header: magic, pages, quantum, environments, slots. Then the owner of the slot.
+    0x41, 0x45, 0x47, 0x31, 0x10, 0, 0, 0, 0x10, 0, 0, 0, 1, 0, 1, 0, 0,
+    // The program's header, at 17: name, base, stack, accept, kind, length.
+    0x68, 0x69, 0, 0, 0, 0, 0, 0, 0, 0x20, 0, 0, 0, 0, 0, 0, 0, 0, 0, 0, 0, 0, 0, 0, 0x22, 0, 0, 0,
+    // The body, at 45.
+    0x20, 0x20, 0x04, 0x34, 0x02, 0, 0x05, 0x34, 0x01, 0, 0x02, 0x34, 0x0C, 0, 0, 0, 0x07, 0, 0x04,
+    0x34, 0x02, 0, 0x02, 0x34, 0x0C, 0, 0, 0, 0, 0, 0, 0, 0x68, 0x69,
+];
+
+/// More than any text of these tests has.
+const ROOM: usize = 1_048_576;
+
+fn shelf_of(
+    alloc: Global,
+    files: &[(&str, &[u8])],
+    fails: &[u64],
+) -> Result<MemoryShelf, AllocError> {
+    let mut held = Vec::new(alloc);
+    for (name, bytes) in files {
+        held.push((String::from_str(alloc, name)?, bytes.to_vec(alloc)?))?;
+    }
+    Ok(MemoryShelf {
+        files: held,
+        fails: fails.to_vec(alloc)?,
+        calls: 0,
+        faults: 0,
+        failed: None,
+    })
+}
+
+fn strings(alloc: Global, words: &[&str]) -> Result<Vec<String>, AllocError> {
+    let mut owned = Vec::new(alloc);
+    for word in words {
+        owned.push(String::from_str(alloc, word)?)?;
+    }
+    Ok(owned)
+}
+
+/// The status of a call where nothing fails, the bytes that it writes, and how many files it reads.
+fn called(
+    alloc: Global,
+    words: &[&str],
+    files: &[(&str, &[u8])],
+) -> Result<(Status, Vec<u8>, u64), Fail> {
+    let words = strings(alloc, words)?;
+    let mut shelf = shelf_of(alloc, files, &[])?;
+    let mut out = MemorySink::new(alloc, ROOM, ROOM, Vec::new(alloc))?;
+    let status = aegis(alloc, &words, &mut shelf, &mut out);
+    Ok((status, out.bytes, shelf.calls))
+}
+
+/// A file with these bytes from `place` on.
+fn changed(mut file: [u8; 79], place: usize, bytes: &[u8]) -> [u8; 79] {
+    for (to, from) in file.iter_mut().skip(place).zip(bytes) {
+        *to = *from;
+    }
+    file
+}
+
+/// The report of a run of seven ticks, which ends so.
+fn hi_report(alloc: Global, end: &str) -> Result<String, AllocError> {
+    format!(in alloc;
+        "\
+aegis run
+end {end} 7
+env 0 hi exit 7
+out 0 2 \"hi\"
+own 0 0 0 0
+run 0 0 0
+dead 6 0 0
+own 6 0 - -
+sum 0 1 0 0
+done
+"
+    )
+}
+
+/// The limit is reached where the time is TICKS, also on a board that is idle by then.
+#[test]
+fn prints_hi_and_exits_with_7(rt: HostRuntime) -> Result<(), Fail> {
+    let files: [(&str, &[u8]); 2] = [("hi.img", &HI), ("none.sch", b"")];
+    for (ticks, end) in [
+        ("100", "idle"),
+        ("8", "idle"),
+        ("7", "limit"),
+        ("0000000100", "idle"),
+        ("4194304", "idle"),
+    ] {
+        let text = hi_report(rt.alloc(), end)?;
+        assert_eq!(rt;
+            called(rt.alloc(), &["run", "hi.img", "none.sch", ticks], &files)?,
+            (Status::Done, text.into_bytes(), 2),
+            "{ticks}"
+        );
+    }
+    Ok(())
+}
+
+/// The fingerprints are those of 4,096 zeros, and of the 34 bytes and 4,062 zeros.
+const LIVING: &str = "\
+aegis run
+end limit 0
+env 0 hi live
+out 0 0 \"\"
+cpu 0 00002000 00002004 0 00000000 00000000
+regs 0 00000000 00000000 00000000 00000000 00000000 00000000 00000000 00000000 00000000 00000000 \
+00000000 00000000 00000000 00000000 00000000 00000000 00000000 00000000 00000000 00000000 \
+00000000 00000000 00000000 00000000 00000000 00000000 00000000 00000000 7ffefff0 00000000 00000000
+excess 0 0
+keep 0 00001 ad7facb2586fc6e966c004d7d1d16b024f5805ff7cb47c7a85dabd8b48892ca7
+keep 0 00002 dfe1a80dd2ecff7b780ceae1f194ef922fe1261185621c0b7ff4a2e485aee93c
+own 0 0 0 0
+sum 0 0 0 0
+done
+";
+
+#[test]
+fn shows_a_living_environment_at_tick_0(rt: HostRuntime) -> Result<(), Fail> {
+    let files: [(&str, &[u8]); 2] = [("hi.img", &HI), ("none.sch", b"")];
+    let answer = called(rt.alloc(), &["run", "hi.img", "none.sch", "0"], &files)?;
+    assert_eq!(rt;
+        answer,
+        (Status::Done, LIVING.as_bytes().to_vec(rt.alloc())?, 2)
+    );
+    Ok(())
+}
+
+#[test]
+fn words_of_no_form_are_answered_with_usage_and_read_no_file(rt: HostRuntime) -> Result<(), Fail> {
+    let files: [(&str, &[u8]); 3] = [("hi.img", &HI), ("none.sch", b""), ("a", &HI)];
+    let cases: [&[&str]; 18] = [
+        &[],
+        &["run"],
+        &["run", "a", "b"],
+        &["run", "hi.img", "none.sch"],
+        &["run", "hi.img", "none.sch", "1", "1"],
+        &["run", "hi.img", "none.sch", ""],
+        &["run", "hi.img", "none.sch", "4194305"],
+        &["run", "hi.img", "none.sch", "4294967297"],
+        &["run", "hi.img", "none.sch", "00000000001"],
+        &["run", "hi.img", "none.sch", "+1"],
+        &["run", "hi.img", "none.sch", "-1"],
+        &["run", "hi.img", "none.sch", "1 "],
+        &["run", "hi.img", "none.sch", "0x10"],
+        &["Run", "hi.img", "none.sch", "1"],
+        &["runs", "hi.img", "none.sch", "1"],
+        &["", "hi.img", "none.sch", "1"],
+        &["--help"],
+        &["--version"],
+    ];
+    for words in cases {
+        assert_eq!(rt;
+            called(rt.alloc(), words, &files)?,
+            (Status::Usage, b"aegis: usage\n".to_vec(rt.alloc())?, 0),
+            "{words:?}"
+        );
+    }
+    Ok(())
+}
+
+/// What a run of these files answers. Both are read, whatever is wrong with them.
+fn checked(alloc: Global, image: &[u8], schedule: &[u8]) -> Result<(Status, Vec<u8>, u64), Fail> {
+    called(
+        alloc,
+        &["run", "a.img", "a.sch", "0"],
+        &[("a.img", image), ("a.sch", schedule)],
+    )
+}
+
+#[test]
+fn names_the_first_file_with_a_fault_and_its_place(rt: HostRuntime) -> Result<(), Fail> {
+    for length in 0..HI.len() {
+        let text = format!(in rt.alloc(); "aegis: a.img: Short {length}\n")?;
+        assert_eq!(rt;
+            checked(rt.alloc(), &HI[..length], b"")?,
+            (Status::Refused, text.into_bytes(), 2)
+        );
+    }
+
+    let mut longer = HI.to_vec(rt.alloc())?;
+    longer.push(0)?;
+    let cases: [(&[u8], &[u8], Status, &str); 26] = [
+        // Fields at their limits: pages, quantum, accept.
+        (&changed(HI, 4, &[0, 4]), b"", Status::Done, LIVING),
+        (&changed(HI, 8, &[0, 0, 1]), b"", Status::Done, LIVING),
+        (
+            &changed(HI, 33, &[255, 255, 255, 255]),
+            b"",
+            Status::Done,
+            LIVING,
+        ),
+        (&longer, b"", Status::Refused, "aegis: a.img: Trailing 79\n"),
+        (
+            &changed(HI, 3, b"2"),
+            b"",
+            Status::Refused,
+            "aegis: a.img: Magic 0\n",
+        ),
+        (
+            &changed(HI, 4, &[15]),
+            b"",
+            Status::Refused,
+            "aegis: a.img: Pages 4\n",
+        ),
+        (
+            &changed(HI, 4, &[1, 4]),
+            b"",
+            Status::Refused,
+            "aegis: a.img: Pages 4\n",
+        ),
+        (
+            &changed(HI, 8, &[15]),
+            b"",
+            Status::Refused,
+            "aegis: a.img: Quantum 8\n",
+        ),
+        (
+            &changed(HI, 8, &[1, 0, 1]),
+            b"",
+            Status::Refused,
+            "aegis: a.img: Quantum 8\n",
+        ),
+        (
+            &changed(HI, 12, &[0]),
+            b"",
+            Status::Refused,
+            "aegis: a.img: Envs 12\n",
+        ),
+        (
+            &changed(HI, 12, &[2]),
+            b"",
+            Status::Refused,
+            "aegis: a.img: NotBuilt 12\n",
+        ),
+        (
+            &changed(HI, 12, &[17]),
+            b"",
+            Status::Refused,
+            "aegis: a.img: Envs 12\n",
+        ),
+        (
+            &changed(HI, 14, &[0]),
+            b"",
+            Status::Refused,
+            "aegis: a.img: Slots 14\n",
+        ),
+        (
+            &changed(HI, 14, &[64]),
+            b"",
+            Status::Refused,
+            "aegis: a.img: NotBuilt 14\n",
+        ),
+        (
+            &changed(HI, 14, &[65]),
+            b"",
+            Status::Refused,
+            "aegis: a.img: Slots 14\n",
+        ),
+        (
+            &changed(HI, 16, &[1]),
+            b"",
+            Status::Refused,
+            "aegis: a.img: SlotOwner 16\n",
+        ),
+        (
+            &changed(HI, 16, &[255]),
+            b"",
+            Status::Refused,
+            "aegis: a.img: NotBuilt 16\n",
+        ),
+        (
+            &changed(HI, 17, b"H"),
+            b"",
+            Status::Refused,
+            "aegis: a.img: Name 17\n",
+        ),
+        (
+            &changed(HI, 26, &[0x10]),
+            b"",
+            Status::Refused,
+            "aegis: a.img: Base 17\n",
+        ),
+        (
+            &changed(HI, 29, &[15]),
+            b"",
+            Status::Refused,
+            "aegis: a.img: TooBig 4\n",
+        ),
+        (
+            &changed(HI, 29, &[17]),
+            b"",
+            Status::Refused,
+            "aegis: a.img: Stack 17\n",
+        ),
+        (
+            &changed(HI, 37, &[2]),
+            b"",
+            Status::Refused,
+            "aegis: a.img: Kind 17\n",
+        ),
+        (
+            &changed(HI, 41, &[0]),
+            b"",
+            Status::Refused,
+            "aegis: a.img: Empty 17\n",
+        ),
+        (
+            &changed(HI, 41, &[33]),
+            b"",
+            Status::Refused,
+            "aegis: a.img: Trailing 78\n",
+        ),
+        (&HI, b"\n", Status::Refused, "aegis: a.sch: NotBuilt 1\n"),
+        (
+            &changed(HI, 3, b"2"),
+            b"\n",
+            Status::Refused,
+            "aegis: a.img: Magic 0\n",
+        ),
+    ];
+    for (image, schedule, status, text) in cases {
+        assert_eq!(rt;
+            checked(rt.alloc(), image, schedule)?,
+            (status, text.as_bytes().to_vec(rt.alloc())?, 2),
+            "{text}"
+        );
+    }
+    Ok(())
+}
+
+/// What fails at the edges of a run of `hi.img`, and how it ends.
+#[derive(Clone, Copy)]
+struct Failing<'a> {
+    image: &'a str,
+    schedule: &'a str,
+    /// The number of the read that fails, counted from 0.
+    read: u64,
+    /// The number of the write that fails.
+    write: u64,
+    /// How many bytes the output takes in all, and at once.
+    room: usize,
+    most: usize,
+}
+
+/// The number of no call that these tests make.
+const NONE: u64 = u64::MAX;
+
+/// The shelf and the sink of files that are all there, with room for the report.
+const WELL: Failing<'_> = Failing {
+    image: "hi.img",
+    schedule: "none.sch",
+    read: NONE,
+    write: NONE,
+    room: ROOM,
+    most: ROOM,
+};
+
+/// How a run with these faults ends: its status, what it wrote, and the name of the read that failed.
+fn ended(alloc: Global, case: &Failing<'_>) -> Result<(Status, Vec<u8>, String), Fail> {
+    let words = strings(alloc, &["run", case.image, case.schedule, "100"])?;
+    let files: [(&str, &[u8]); 2] = [("hi.img", &HI), ("none.sch", b"")];
+    let mut shelf = shelf_of(alloc, &files, &[case.read])?;
+    let fails = [case.write].to_vec(alloc)?;
+    let mut out = MemorySink::new(alloc, case.room, case.most.max(1), fails)?;
+    let status = aegis(alloc, &words, &mut shelf, &mut out);
+    let failed = shelf.failed.unwrap_or(String::new(alloc));
+    Ok((status, out.bytes, failed))
+}
+
+#[test]
+fn a_fault_of_an_edge_ends_the_run_and_leaves_a_first_part(rt: HostRuntime) -> Result<(), Fail> {
+    let report = hi_report(rt.alloc(), "idle")?;
+    assert_eq!(rt; report.len(), 112);
+    let (all, most) = (report.as_bytes(), &report.as_bytes()[..111]);
+    let cases: [(Failing<'_>, Status, &[u8], &str); 12] = [
+        (WELL, Status::Done, all, ""),
+        (
+            Failing { read: 0, ..WELL },
+            Status::ReadFault,
+            b"",
+            "hi.img",
+        ),
+        (
+            Failing { read: 1, ..WELL },
+            Status::ReadFault,
+            b"",
+            "none.sch",
+        ),
+        (
+            Failing {
+                image: "no.img",
+                ..WELL
+            },
+            Status::ReadFault,
+            b"",
+            "no.img",
+        ),
+        (
+            Failing {
+                schedule: "no.sch",
+                ..WELL
+            },
+            Status::ReadFault,
+            b"",
+            "no.sch",
+        ),
+        (
+            Failing {
+                image: "no.img",
+                schedule: "no.sch",
+                ..WELL
+            },
+            Status::ReadFault,
+            b"",
+            "no.img",
+        ),
+        (
+            Failing {
+                most: 3,
+                write: 1,
+                ..WELL
+            },
+            Status::WriteFault,
+            b"aeg",
+            "",
+        ),
+        (Failing { write: 0, ..WELL }, Status::WriteFault, b"", ""),
+        (Failing { room: 0, ..WELL }, Status::WriteFault, b"", ""),
+        (
+            Failing { room: 10, ..WELL },
+            Status::WriteFault,
+            b"aegis run\n",
+            "",
+        ),
+        (
+            Failing {
+                room: 111,
+                most: 3,
+                ..WELL
+            },
+            Status::WriteFault,
+            most,
+            "",
+        ),
+        (
+            Failing {
+                room: 112,
+                most: 3,
+                ..WELL
+            },
+            Status::Done,
+            all,
+            "",
+        ),
+    ];
+    for (case, status, written, failed) in cases {
+        assert_eq!(rt;
+            ended(rt.alloc(), &case)?,
+            (
+                status,
+                written.to_vec(rt.alloc())?,
+                String::from_str(rt.alloc(), failed)?
+            ),
+            "{status:?} {failed}"
+        );
+    }
+    Ok(())
+}
