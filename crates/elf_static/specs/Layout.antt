@@ -28,25 +28,33 @@ file_length parts = bytes_start parts + bodies_length parts
 unfoldable pub identification : List ℕ
 identification = 0x7F ∷ 69 ∷ 76 ∷ 70 ∷ 1 ∷ 1 ∷ 1 ∷ replicate 9 0
 
--- The file header: its type, machine and version; the entry, and where the program headers and the
--- section headers stand; flags; and how long this header is, how long a program header is, how many
--- there are, and the same of section headers with the number of the one that has their names.
+-- the file header
 unfoldable pub file_header : ObjectValue → List ℕ
 file_header object =
     identification
+    -- type and machine
     ++ halves (2 ∷ 8 ∷ [])
+    -- version, entry, places of the program headers and of the section headers, flags
     ++ words (1 ∷ object.entry ∷ 52 ∷ 0 ∷ 0 ∷ [])
+    -- bytes of this header; bytes and number of the program headers; these of the section headers, and
+    -- the one of their names
     ++ halves (52 ∷ 32 ∷ length object.parts ∷ 0 ∷ 0 ∷ 0 ∷ [])
 
 -- 4 for reading, with 2 for writing or 1 for executing
 abbrev pub flags : Bool → ℕ
 flags writable = if writable then 4 + 2 else 4 + 1
 
--- The header of a part whose bytes stand at this offset: loadable; the offset; the virtual address and
--- the physical one; the size in the file and in memory; flags; and the alignment.
+-- the header of a part whose bytes stand at this offset
 unfoldable pub program_header : ℕ → PartValue → List ℕ
 program_header offset part =
-    words (1 ∷ offset ∷ part.vaddr ∷ part.vaddr ∷ length part.bytes ∷ length part.bytes ∷ flags part.writable ∷ 1 ∷ [])
+    -- type and offset
+    words (1 ∷ offset ∷ [])
+    -- virtual and physical address
+    ++ words (part.vaddr ∷ part.vaddr ∷ [])
+    -- sizes in the file and in memory
+    ++ words (length part.bytes ∷ length part.bytes ∷ [])
+    -- flags and alignment
+    ++ words (flags part.writable ∷ 1 ∷ [])
 
 -- the headers of parts whose bytes follow one another from this offset on
 abbrev pub program_headers : ℕ → List PartValue → List ℕ

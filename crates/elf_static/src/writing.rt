@@ -9,9 +9,9 @@ use edge_io::OutOfMemory;
 use std::alloc::Global;
 
 /// The bytes of a file header.
-const FILE_HEADER_SIZE: usize = 52;
+const FILE_HEADER_SIZE: u16 = 52;
 /// The bytes of a program header.
-const PROGRAM_HEADER_SIZE: usize = 32;
+const PROGRAM_HEADER_SIZE: u16 = 32;
 
 /// `0x7F` and `ELF`; 32 bits, the lowest byte first, version 1; and nine zeros.
 const IDENTIFICATION: [u8; 16] = [0x7F, b'E', b'L', b'F', 1, 1, 1, 0, 0, 0, 0, 0, 0, 0, 0, 0];
@@ -64,21 +64,24 @@ fn bytes_start(parts: &[Part]) -> u32
     requires { length parts.now ≤ 64 }
     ensures { result ≡ bytes_start (parts_seen parts.now) }
 {
-    (FILE_HEADER_SIZE + PROGRAM_HEADER_SIZE * parts.len()) as u32
+    FILE_HEADER_SIZE as u32 + PROGRAM_HEADER_SIZE as u32 * parts.len() as u32
 }
 
+/// The file header.
 #[tactic(auto, unfolding(crate::specs::Layout::file_header, crate::specs::Layout::identification))]
 fn push_file_header(file: &mut Vec<u8>, object: &Object) -> Result<(), OutOfMemory>
     requires { length object.now.parts.items ≤ 64 }
     ensures { OnOk result (file.new.items ≡ file.old.items ++ file_header (object_seen object.now)) }
 {
-    let start = FILE_HEADER_SIZE as u32;
+    let headers_start = FILE_HEADER_SIZE as u32;
     let count = object.parts.len() as u16;
     file.extend_from_slice(&IDENTIFICATION)?;
     push_halves(file, &[EXECUTABLE, MIPS])?;
-    push_words(file, &[VERSION, object.entry, start, 0, 0])?;
-    let program_header_size = PROGRAM_HEADER_SIZE as u16;
-    push_halves(file, &[start as u16, program_header_size, count, 0, 0, 0])?;
+    push_words(file, &[VERSION, object.entry, headers_start, 0, 0])?;
+    push_halves(
+        file,
+        &[FILE_HEADER_SIZE, PROGRAM_HEADER_SIZE, count, 0, 0, 0],
+    )?;
     Ok(())
 }
 
@@ -109,12 +112,11 @@ fn push_program_header(file: &mut Vec<u8>, offset: u32, part: &Part) -> Result<(
     } else {
         READ_EXECUTE
     };
-    push_words(
-        file,
-        &[
-            LOADABLE, offset, part.vaddr, part.vaddr, size, size, flags, UNALIGNED,
-        ],
-    )
+    push_words(file, &[LOADABLE, offset])?;
+    push_words(file, &[part.vaddr, part.vaddr])?;
+    push_words(file, &[size, size])?;
+    push_words(file, &[flags, UNALIGNED])?;
+    Ok(())
 }
 
 /// The bytes of all parts.
