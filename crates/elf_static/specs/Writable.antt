@@ -22,7 +22,8 @@ NoTwoMeet [] = Unit {0}
 NoTwoMeet (part ∷ parts) = AllByRecursion (AreApart part) parts × NoTwoMeet parts
 
 -- The program has one to 64 parts, which lie in the range of programs and don't meet; its entry is a
--- word of one of them; and its file is below 2 ^ 27 bytes. A part without bytes may have any address.
+-- multiple of 4 and the address of a byte of one of them; and its file is below 2 ^ 27 bytes. A part
+-- without bytes may have any address.
 pub record IsWritable (object : ObjectValue) : Type 0 where
   pub fewest : 1 ≤ length object.parts
   pub most : length object.parts ≤ 64
