@@ -1,0 +1,4 @@
+pub mod ObjectValue
+pub mod Seen
+pub mod Layout
+pub mod Writable

@@ -1,0 +1,152 @@
+//! An ELF file, written in one pass into a buffer of its length.
+ghost use Rattle.std.specs.Prelude.{◌≡◌, ◌+◌, ◌^◌, ◌<◌, ◌≤◌, ◌++◌, length, vec_len, OnOk, IfOk};
+ghost use Rattle.elf_static.specs.Layout.{halves, words, file_header, program_header, program_headers, bodies, bytes_start, file_length, elf_text};
+ghost use Rattle.elf_static.specs.Seen.{part_seen, parts_seen, object_seen};
+ghost use Rattle.elf_static.specs.Writable.{IsWritable};
+
+use crate::object::{Object, Part};
+use edge_io::OutOfMemory;
+use std::alloc::Global;
+
+/// The bytes of a file header.
+const FILE_HEADER_SIZE: u16 = 52;
+/// The bytes of a program header.
+const PROGRAM_HEADER_SIZE: u16 = 32;
+
+/// `0x7F` and `ELF`; 32 bits, the lowest byte first, version 1; and nine zeros.
+const IDENTIFICATION: [u8; 16] = [0x7F, b'E', b'L', b'F', 1, 1, 1, 0, 0, 0, 0, 0, 0, 0, 0, 0];
+/// The type of a file that is executable.
+const EXECUTABLE: u16 = 2;
+/// The machine MIPS.
+const MIPS: u16 = 8;
+/// The version of the format.
+const VERSION: u32 = 1;
+
+/// The type of a header whose part is loaded.
+const LOADABLE: u32 = 1;
+/// The flags of a part from which may be read, and into which may be written.
+const READ_WRITE: u32 = 6;
+/// The flags of a part from which may be read, and whose instructions may be executed.
+const READ_EXECUTE: u32 = 5;
+/// The alignment of a part that may stand anywhere.
+const UNALIGNED: u32 = 1;
+
+/// The ELF file of a program of one to 64 parts, as `docs/FORMATS.md`, "ELF files that Aegis writes",
+/// lays it out. The error is that memory ran out.
+#[tactic(auto, unfolding(crate::specs::Layout::elf_text))]
+pub fn write(alloc: Global, object: &Object) -> Result<Vec<u8>, OutOfMemory>
+    requires { IsWritable (object_seen object.now) }
+    ensures layout { IfOk result (λ file. file.items ≡ elf_text (object_seen object.now)) }
+    ensures size { IfOk result (λ file. vec_len file ≡ file_length (parts_seen object.now.parts.items)) }
+{
+    let mut file = Vec::with_capacity(alloc, file_length(&object.parts))?;
+    push_file_header(&mut file, object)?;
+    push_program_headers(&mut file, &object.parts)?;
+    push_bodies(&mut file, &object.parts)?;
+    Ok(file)
+}
+
+/// How many bytes the file of these parts has.
+fn file_length(parts: &[Part]) -> usize
+    requires count { length parts.now ≤ 64 }
+    requires room { file_length (parts_seen parts.now) < 2 ^ 27 }
+    ensures { result ≡ file_length (parts_seen parts.now) }
+{
+    let mut length = bytes_start(parts) as usize;
+    for part in parts {
+        length += part.bytes.len();
+    }
+    length
+}
+
+/// Where the parts' bytes begin.
+fn bytes_start(parts: &[Part]) -> u32
+    requires { length parts.now ≤ 64 }
+    ensures { result ≡ bytes_start (parts_seen parts.now) }
+{
+    FILE_HEADER_SIZE as u32 + PROGRAM_HEADER_SIZE as u32 * parts.len() as u32
+}
+
+/// The file header.
+#[tactic(auto, unfolding(crate::specs::Layout::file_header, crate::specs::Layout::identification))]
+fn push_file_header(file: &mut Vec<u8>, object: &Object) -> Result<(), OutOfMemory>
+    requires { length object.now.parts.items ≤ 64 }
+    ensures { OnOk result (file.new.items ≡ file.old.items ++ file_header (object_seen object.now)) }
+{
+    let headers_start = FILE_HEADER_SIZE as u32;
+    let count = object.parts.len() as u16;
+    file.extend_from_slice(&IDENTIFICATION)?;
+    push_halves(file, &[EXECUTABLE, MIPS])?;
+    push_words(file, &[VERSION, object.entry, headers_start, 0, 0])?;
+    push_halves(
+        file,
+        &[FILE_HEADER_SIZE, PROGRAM_HEADER_SIZE, count, 0, 0, 0],
+    )?;
+    Ok(())
+}
+
+/// The headers of all parts, whose bytes follow the last of them.
+#[tactic(auto, using(crate::proofs::Rest::bodies_length_left, crate::proofs::Rest::program_headers_left))]
+fn push_program_headers(file: &mut Vec<u8>, parts: &[Part]) -> Result<(), OutOfMemory>
+    requires count { length parts.now ≤ 64 }
+    requires room { file_length (parts_seen parts.now) < 2 ^ 27 }
+    ensures { OnOk result (file.new.items ≡ file.old.items ++ program_headers (bytes_start (parts_seen parts.now)) (parts_seen parts.now)) }
+{
+    let mut offset = bytes_start(parts);
+    for part in parts {
+        push_program_header(file, offset, part)?;
+        offset += part.bytes.len() as u32;
+    }
+    Ok(())
+}
+
+/// The header of a part whose bytes stand at an offset of the file.
+#[tactic(auto, unfolding(crate::specs::Layout::program_header))]
+fn push_program_header(file: &mut Vec<u8>, offset: u32, part: &Part) -> Result<(), OutOfMemory>
+    requires { length part.now.bytes.items < 2 ^ 32 }
+    ensures { OnOk result (file.new.items ≡ file.old.items ++ program_header offset (part_seen part.now)) }
+{
+    let size = part.bytes.len() as u32;
+    let flags = if part.writable {
+        READ_WRITE
+    } else {
+        READ_EXECUTE
+    };
+    push_words(file, &[LOADABLE, offset])?;
+    push_words(file, &[part.vaddr, part.vaddr])?;
+    push_words(file, &[size, size])?;
+    push_words(file, &[flags, UNALIGNED])?;
+    Ok(())
+}
+
+/// The bytes of all parts.
+fn push_bodies(file: &mut Vec<u8>, parts: &[Part]) -> Result<(), OutOfMemory>
+    ensures { OnOk result (file.new.items ≡ file.old.items ++ bodies (parts_seen parts.now)) }
+{
+    for part in parts {
+        file.extend_from_slice(&part.bytes)?;
+    }
+    Ok(())
+}
+
+/// Numbers of two bytes each, the lowest byte first.
+#[tactic(auto, unfolding(crate::specs::Layout::halves))]
+fn push_halves(file: &mut Vec<u8>, numbers: &[u16]) -> Result<(), OutOfMemory>
+    ensures { OnOk result (file.new.items ≡ file.old.items ++ halves numbers.now) }
+{
+    for number in numbers {
+        file.extend_from_slice(&number.to_le_bytes())?;
+    }
+    Ok(())
+}
+
+/// Numbers of four bytes each, the lowest byte first.
+#[tactic(auto, unfolding(crate::specs::Layout::words))]
+fn push_words(file: &mut Vec<u8>, numbers: &[u32]) -> Result<(), OutOfMemory>
+    ensures { OnOk result (file.new.items ≡ file.old.items ++ words numbers.now) }
+{
+    for number in numbers {
+        file.extend_from_slice(&number.to_le_bytes())?;
+    }
+    Ok(())
+}
