@@ -1,5 +1,5 @@
 -- Whole runs of the model.
-use Rattle.std.proofs.Common.{◌≡◌, ℕ, zero, suc, ◌+◌, Bool, true, false, refl, sym, ◌∙◌, ap, add-zero, add-suc, add-one}
+use Rattle.std.proofs.Common.{◌≡◌, ℕ, zero, suc, ◌+◌, true, false, refl, ◌∙◌, ap, add-zero, add-suc, add-one}
 use Rattle.world_model.specs.Book.{is_idle_book}
 use Rattle.world_model.specs.World.{World}
 use Rattle.world_model.specs.Tick.{tick_step}

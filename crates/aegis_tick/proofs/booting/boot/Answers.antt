@@ -1,5 +1,5 @@
 -- The one program is the first.
-use Rattle.std.proofs.Common.{◌≡◌, ℕ, List, [], ◌∷◌, length, map, Option, Some, Result, Ok, Err, IfOk, get_or, refl, sym, ◌∙◌, ap}
+use Rattle.std.proofs.Common.{◌≡◌, ℕ, List, [], ◌∷◌, length, map, Some, Result, Ok, Err, IfOk, get_or, refl}
 use Rattle.edge_io.specs.declared.memory.OutOfMemory.{OutOfMemory}
 use Rattle.boot_image.specs.ImageValue.{ImageValue, ProgramValue}
 use Rattle.boot_image.specs.declared.image.Program.{Program}

@@ -1,5 +1,5 @@
 -- Each turn of the loop is a tick of the model, until it is idle.
-use Rattle.std.proofs.Common.{◌≡◌, ◌+◌, ◌-◌, ◌≤◌, ℕ, Bool, true, false, sym, ◌∙◌, ap, arith}
+use Rattle.std.proofs.Common.{◌≡◌, ◌+◌, ◌-◌, ℕ, sym, ◌∙◌, ap, arith}
 use Rattle.aegis_calls.specs.Shown.{Shown}
 use Rattle.aegis_calls.specs.Showing.{world_of}
 use Rattle.world_model.specs.Book.{is_idle_book}
