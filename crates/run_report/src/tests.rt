@@ -5,18 +5,18 @@ use super::*;
 use aegis_calls::Board;
 use boot_image::Program;
 use kernel_journal::RunEnd;
-use std::alloc::Global;
 use std::test::Fail;
 
 /// A program that prints `hi` and exits with 7.
 const HI: &[u8] =
     b"\x20\x20\x04\x34\x02\x00\x05\x34\x01\x00\x02\x34\x0c\x00\x00\x00\x07\x00\x04\x34\x02\x00\x02\x34\x0c\x00\x00\x00\x00\x00\x00\x00hi";
 
-/// What stands of it before its first tick. The fingerprints are those that `sha256sum` gives of 4,096
-/// zeros, and of the program with zeros up to 4,096 bytes.
-const BEFORE_THE_FIRST_TICK: &[u8] = b"aegis run\n\
-    end limit 0\n\
-    env 0 hi live\n\
+/// The report of it before its first tick: what stands ahead of the environment's lines, these lines,
+/// and what stands behind them. The fingerprints are those that `sha256sum` gives of 4,096 zeros, and
+/// of the program with zeros up to 4,096 bytes.
+const HEAD: &[u8] = b"aegis run\nend limit 0\n";
+
+const SHOWN: &[u8] = b"env 0 hi live\n\
     out 0 0 \"\"\n\
     cpu 0 00002000 00002004 0 00000000 00000000\n\
     regs 0 \
@@ -26,10 +26,9 @@ const BEFORE_THE_FIRST_TICK: &[u8] = b"aegis run\n\
     00000000 00000000 00000000 00000000 00000000 7ffefff0 00000000 00000000\n\
     excess 0 0\n\
     keep 0 00001 ad7facb2586fc6e966c004d7d1d16b024f5805ff7cb47c7a85dabd8b48892ca7\n\
-    keep 0 00002 dfe1a80dd2ecff7b780ceae1f194ef922fe1261185621c0b7ff4a2e485aee93c\n\
-    own 0 0 0 0\n\
-    sum 0 0 0 0\n\
-    done\n";
+    keep 0 00002 dfe1a80dd2ecff7b780ceae1f194ef922fe1261185621c0b7ff4a2e485aee93c\n";
+
+const TAIL: &[u8] = b"own 0 0 0 0\nsum 0 0 0 0\ndone\n";
 
 fn hi() -> Program<'static>
     ensures { IsFitting (program_seen result) }
@@ -47,6 +46,11 @@ fn hi() -> Program<'static>
 fn a_program_that_has_not_run_is_shown_at_its_entry(rt: HostRuntime) -> Result<(), Fail> {
     let board = Board::load(rt.alloc(), 16, &hi()).expect(&rt, "memory");
     let text = report(rt.alloc(), &board, RunEnd::Limit).expect(&rt, "memory");
-    assert_eq!(rt; text.as_slice(), BEFORE_THE_FIRST_TICK);
+    let lines = env_lines(rt.alloc(), &board, 0).expect(&rt, "memory");
+    assert_eq!(rt; lines.as_slice(), SHOWN);
+    let mut expected = Vec::from_slice(rt.alloc(), HEAD)?;
+    expected.extend_from_slice(SHOWN)?;
+    expected.extend_from_slice(TAIL)?;
+    assert_eq!(rt; text.as_slice(), expected.as_slice());
     Ok(())
 }
