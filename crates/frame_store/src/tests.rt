@@ -4,7 +4,7 @@ use std::test::Fail;
 #[test]
 fn a_word_stands_lowest_byte_first_in_its_page_alone(rt: HostRuntime) -> Result<(), Fail> {
     let Ok(mut frames) = Frames::new(rt.alloc(), 16) else {
-        return Ok(());
+        return Err(Fail::from("no memory"));
     };
     frames.set_word(2, 4092, 0x1234_5678);
     frames.copy_page(2, 15);
