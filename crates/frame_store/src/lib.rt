@@ -1,0 +1,11 @@
+//! Physical memory: a number of pages of 4,096 bytes, each of its own.
+//!
+//! `Frames` is seen as the list of its pages. Each call that writes says what becomes of one page,
+//! and that all others stay as they are. Words stand in a page with their lowest byte first.
+#![tactic(auto)]
+
+mod frames;
+#[cfg(test)]
+mod tests;
+
+pub use frames::{Frames, PAGE_SIZE};
