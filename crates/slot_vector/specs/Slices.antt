@@ -1,5 +1,5 @@
 -- The vector of slots, its turns and its timer.
-use Rattle.std.specs.Prelude.{ℕ, zero, suc, ◌+◌, ◌-◌, ◌%◌, ◌<◌, Bool, true, false, ◌==◌, ◌&&◌, if◌then◌else◌, Option, Some, None, is_none, List, length, map, slice_get}
+use Rattle.std.specs.Prelude.{ℕ, zero, suc, ◌+◌, ◌-◌, ◌%◌, ◌<◌, ◌^◌, Bool, true, false, ◌==◌, ◌&&◌, ◌||◌, if◌then◌else◌, Option, Some, None, is_none, List, [], ◌∷◌, length, map, slice_get}
 use Rattle.slot_vector.specs.declared.hold.Hold.{Hold}
 use Rattle.slot_vector.specs.declared.hold.Turn.{Turn}
 use Rattle.slot_vector.specs.declared.hold.Turn.TheVariants as turn
@@ -81,3 +81,34 @@ is_idle_turn (turn.Run slot e) = false
 -- nobody runs and no slot has a holder
 abbrev pub is_idle : Slices → Bool
 is_idle v = is_none v.runner && is_idle_turn (next_turn v)
+
+-- a slot once the environment is gone: what it owned is empty, and what it held for another goes back to its owner
+abbrev pub released : ℕ → Option Hold → Option Hold
+released e None = None
+released e (Some hold) = if hold.owner == e then None else if hold.holder == e then Some (record { owner = hold.owner; holder = hold.owner }) else Some hold
+
+-- the slots that change then are those that the environment owns or holds
+abbrev pub is_its_own : ℕ → Option Hold → Bool
+is_its_own e None = false
+is_its_own e (Some hold) = hold.owner == e || hold.holder == e
+
+-- the bit of the slot of this number, where it changes
+abbrev pub changed_bit : ℕ → ℕ → Option Hold → ℕ
+changed_bit e place slot = if is_its_own e slot then 2 ^ place else 0
+
+-- a bit for each slot that changes, of those from this number on
+abbrev pub changed_bits : ℕ → ℕ → List (Option Hold) → ℕ
+changed_bits e place [] = 0
+changed_bits e place (slot ∷ rest) = changed_bit e place slot + changed_bits e (place + 1) rest
+
+abbrev pub is_runner : ℕ → Option ℕ → Bool
+is_runner e None = false
+is_runner e (Some runner) = runner == e
+
+-- the turn of the environment ends, if it runs
+abbrev pub without_turn_of : ℕ → Slices → Slices
+without_turn_of e v = if is_runner e v.runner then turn_ended v else v
+
+-- the vector once the environment is gone
+abbrev pub without_env : ℕ → Slices → Slices
+without_env e v = without_turn_of e (record v { slots = map (released e) v.slots })

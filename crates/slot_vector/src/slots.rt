@@ -1,5 +1,5 @@
-ghost use Rattle.std.specs.Prelude.{◌≡◌, ◌<◌, ◌≤◌, IsSome, IfSome, IsNone, length, map, All};
-ghost use Rattle.slot_vector.specs.Slices.{first_slices, own_hold, hold_at, owner_in, holder_in, first_held, IsTurnWithin, next_turn, with_turn, turn_ended, timer_answer, timer_counted, is_idle};
+ghost use Rattle.std.specs.Prelude.{◌≡◌, ◌<◌, ◌≤◌, ◌^◌, IsSome, IfSome, IsNone, length, map, All};
+ghost use Rattle.slot_vector.specs.Slices.{first_slices, own_hold, hold_at, owner_in, holder_in, first_held, IsTurnWithin, next_turn, with_turn, turn_ended, timer_answer, timer_counted, is_idle, released, changed_bit, changed_bits, without_env};
 
 use crate::hold::{Hold, Timer, Turn};
 use arrayvec::ArrayVec;
@@ -86,6 +86,66 @@ fn own_holds(owners: &[Option<u8>]) -> ArrayVec<Option<Hold>, 64>
     slots
 }
 
+/// The bit of the slot of this number, where the environment owns or holds it.
+fn changed_bit(slot: Option<Hold>, env: u8, place: usize) -> u64
+    requires { place < 64 }
+    ensures bit { result ≡ changed_bit env place slot }
+    ensures within { result ≤ 2 ^ place }
+{
+    match slot {
+        Some(hold) => {
+            if hold.owner == env || hold.holder == env {
+                1 << place
+            } else {
+                0
+            }
+        }
+        None => 0,
+    }
+}
+
+/// A bit for each slot that the environment owns or holds.
+fn changed_bits(slots: &[Option<Hold>], env: u8) -> u64
+    requires { length slots.now ≤ MOST_SLOTS }
+    ensures { result ≡ changed_bits env 0 slots.now }
+{
+    let mut bits = 0;
+    for (i, slot) in slots.iter().enumerate() {
+        bits += changed_bit(*slot, env, i);
+    }
+    bits
+}
+
+/// The slot once the environment is gone.
+fn released(slot: Option<Hold>, env: u8) -> Option<Hold>
+    ensures { result ≡ released env slot }
+{
+    match slot {
+        Some(hold) => {
+            if hold.owner == env {
+                None
+            } else if hold.holder == env {
+                Some(Hold {
+                    owner: hold.owner,
+                    holder: hold.owner,
+                })
+            } else {
+                Some(hold)
+            }
+        }
+        None => None,
+    }
+}
+
+/// Empties each slot that the environment owns, and gives back each that it holds for another.
+fn release(slots: &mut [Option<Hold>], env: u8)
+    ensures { slots.new ≡ map (released env) slots.old }
+{
+    for slot in slots.iter_mut() {
+        *slot = released(*slot, env);
+    }
+}
+
 impl Slots {
     /// A vector with these owners, each holding its slots itself. The cursor is at the last slot,
     /// so that the first turn is the first held slot's. The quantum is in ticks.
@@ -142,6 +202,21 @@ impl Slots {
     {
         self.runner = None;
         self.left = 0;
+    }
+
+    /// The environment is gone: each slot that it owned is empty, each that it held for another goes
+    /// back to its owner, and its turn ends, if it runs. The result has a bit for each slot that
+    /// changed, the lowest for slot 0.
+    pub fn release_env(&mut self, env: u8) -> u64
+        ensures bits { result ≡ changed_bits env 0 self.old.slots }
+        ensures after { self.new ≡ without_env env self.old }
+    {
+        let bits = changed_bits(self.slots.as_slice(), env);
+        release(self.slots.as_mut_slice(), env);
+        if self.runner == Some(env) {
+            self.give_up();
+        }
+        bits
     }
 
     /// The environment that owns the slot; none where it is empty, or past the last.
