@@ -14,5 +14,7 @@ fn the_turn_goes_around_past_empty_slots(rt: HostRuntime) -> Result<(), Fail> {
     assert_eq!(rt; slots.owner(1), Some(3));
     assert_eq!(rt; slots.holder(2), None);
     assert!(rt; !slots.idle());
+    assert_eq!(rt; slots.release_env(3), 0b10);
+    assert_eq!(rt; slots.runner(), None);
     Ok(())
 }
