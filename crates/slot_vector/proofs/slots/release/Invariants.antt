@@ -1,0 +1,7 @@
+use Rattle.std.proofs.Common.{◌≡◌, ◌++◌, map, take, drop}
+use Rattle.slot_vector.specs.Slices.{released}
+use Rattle.slot_vector.proofs.slots.release.Given as goal
+
+-- The slots so far are released already, and those that are left are to be.
+abbrev pub invariant-loop-slot : goal.invariant-loop-slot
+invariant-loop-slot l = take l.slot-index l.slots ++ map (released l.env) (drop l.slot-index l.slots) ≡ map (released l.env) l.initial.slots
