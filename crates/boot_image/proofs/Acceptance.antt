@@ -1,13 +1,17 @@
 -- An image without a fault is within its limits.
-use Rattle.std.proofs.Common.{◌≡◌, ◌≤◌, ◌<◌, ℕ, ◌+◌, true, List, [], ◌∷◌, Option, None, Some, map, length, take, drop, refl, ap, sym, arith, subst}
-use Rattle.std.specs.Prelude.{sum_by, IfOk, Result, Ok, Err}
+use Rattle.std.proofs.Common.{◌≡◌, ◌≤◌, ◌<◌, ℕ, zero, suc, ◌+◌, true, List, [], ◌∷◌, Option, None, Some, map, length, inl, inr, refl, ap, sym, ◌∙◌, arith, subst}
+use Rattle.std.specs.Prelude.{sum_by, IfOk, Result, Ok, Err, nat_lt, if◌then◌else◌}
+use Rattle.std.specs.List.{AllByRecursion}
 use Rattle.boot_image.specs.declared.image.Image.{Image}
 use Rattle.boot_image.specs.Seen.{Answers, image_seen}
-use Rattle.std.proofs.lemmas.List.{length-take, length-drop}
+use Rattle.std.proofs.lemmas.Bool.{cases_eq}
+use Rattle.std.proofs.lemmas.List.{length-take, length-drop, length-map}
 use Rattle.boot_image.specs.declared.fault.ImageFault.{ImageFault}
-use Rattle.boot_image.specs.ImageValue.{ProgramValue, ImageValue, pages_in, quantum_in, environments_in, slots_in, slot_bytes, owner_of, first_header, name_in, base_in, stack_in, length_in, body_end, headers, program_at, image_of, guaranteed_mappings}
-use Rattle.boot_image.specs.ImageFaults.{◌or_else◌, is_name, is_base, header_fault, slot_fault, owners_fault, slots_fault, program_fault, first_fault, mappings_fault, pages_fault, image_fault}
-use Rattle.boot_image.specs.Accepted.{IsFitting, IsAccepted}
+use Rattle.boot_image.specs.ImageValue.{ProgramValue, ImageValue, pages_in, quantum_in, environments_in, slots_in, slot_bytes, owner_of, first_header, name_in, base_in, stack_in, length_in, body_end, headers_from, headers, program_at, image_of, guaranteed_mappings}
+use Rattle.boot_image.specs.ImageFaults.{fault, ◌or_else◌, is_name, is_base, header_fault, slot_fault, owners_fault, slots_fault, program_fault, first_fault, mappings_fault, pages_fault, image_fault}
+use Rattle.boot_image.specs.declared.fault.ImageWhy.TheVariants.{TooMany}
+use Rattle.boot_image.specs.Accepted.{IsFitting, IsOwnerBelow, IsAccepted}
+use Rattle.boot_image.proofs.Programs.{length-headers_from}
 
 -- neither of two things has a fault
 pub neither : (a b : Option ImageFault) → (a or_else b) ≡ None → (a ≡ None) × (b ≡ None)
@@ -19,8 +23,10 @@ record Header (file : List ℕ) : Type 0 where
   pub pages_most : pages_in file ≤ 1024
   pub quantum_least : 16 ≤ quantum_in file
   pub quantum_most : quantum_in file ≤ 65536
-  pub environments : environments_in file ≡ 1
-  pub slots : slots_in file ≡ 1
+  pub environments_least : 1 ≤ environments_in file
+  pub environments_most : environments_in file ≤ 16
+  pub slots_least : 1 ≤ slots_in file
+  pub slots_most : slots_in file ≤ 64
 
 header_passes : (file : List ℕ) → header_fault file ≡ None → Header file
 unfolding header_fault
@@ -29,26 +35,43 @@ header_passes file none = record {
   pages_most = grind arith;
   quantum_least = grind arith;
   quantum_most = grind arith;
-  environments = grind arith;
-  slots = grind arith;
+  environments_least = grind arith;
+  environments_most = grind arith;
+  slots_least = grind arith;
+  slots_most = grind arith;
 }
 
--- the one slot's byte names environment 0
-one_owner : (byte : ℕ) → slot_fault 1 16 byte ≡ None → owner_of byte ≡ Some 0
-one_owner byte none = grind (arith)
+-- a slot byte without a fault names an environment, or nobody
+owner_below : (environments place byte : ℕ) → slot_fault environments place byte ≡ None → IsOwnerBelow environments (owner_of byte)
+owner_below environments place byte none =
+    elim (cases_eq byte 255) [
+      | inl empty ↦ rw empty tt
+      | inr full ↦ grind (arith, full)
+    ]
 
--- so does the list of it
-one_slot : (bytes : List ℕ) → 1 ≤ length bytes → owners_fault 1 16 (take 1 bytes) ≡ None → map owner_of (take 1 bytes) ≡ Some 0 ∷ []
-one_slot [] long none = absurd (omega arith)
-one_slot (byte ∷ bytes) long none = ap (λ (owner : Option ℕ). owner ∷ []) (one_owner byte (neither (slot_fault 1 16 byte) None none).0)
+owners_below : (environments place : ℕ) (bytes : List ℕ) → owners_fault environments place bytes ≡ None → AllByRecursion (IsOwnerBelow environments) (map owner_of bytes)
+owners_below environments place [] none = tt
+owners_below environments place (byte ∷ bytes) none =
+    let parts = neither (slot_fault environments place byte) (owners_fault environments (place + 1) bytes) none in
+    (owner_below environments place byte parts.0, owners_below environments (place + 1) bytes parts.1)
 
-slots_pass : (file : List ℕ) → environments_in file ≡ 1 → slots_in file ≡ 1 → slots_fault file ≡ None → map owner_of (slot_bytes file) ≡ Some 0 ∷ []
+record Slots (file : List ℕ) : Type 0 where
+  pub whole : 16 + slots_in file ≤ length file
+  pub owners : owners_fault (environments_in file) 16 (slot_bytes file) ≡ None
+
+slots_pass : (file : List ℕ) → slots_fault file ≡ None → Slots file
 unfolding slots_fault
-slots_pass file environments slots none =
-    let whole : 16 + slots_in file ≤ length file = grind arith in
-    let owners : owners_fault (environments_in file) 16 (slot_bytes file) ≡ None = grind arith in
-    let one : owners_fault 1 16 (take 1 (drop 16 file)) ≡ None = rw (environments, slots) at owners in
-    rw slots (one_slot (drop 16 file) (omega (arith, length-drop 16 file)) one)
+slots_pass file none = record { whole = grind arith; owners = grind arith }
+
+-- the slots are as many as the header says
+pub count_of_slots : (file : List ℕ) → slots_fault file ≡ None → length (map owner_of (slot_bytes file)) ≡ slots_in file
+count_of_slots file none =
+    let slots = slots_pass file none in
+    length-map (slot_bytes file) owner_of ∙ simp (length-take, length-drop) (omega (arith, slots.whole))
+
+-- so are the programs
+pub count_of_programs : (file : List ℕ) → length (map (program_at file) (headers file)) ≡ environments_in file
+count_of_programs file = length-map (headers file) (program_at file) ∙ length-headers_from (environments_in file) file (first_header file)
 
 record Program (file : List ℕ) (header : ℕ) : Type 0 where
   pub name : is_name (name_in file header) ≡ true
@@ -67,24 +90,42 @@ program_passes file header none = record {
   whole = grind arith;
 }
 
+-- a program's body has as many bytes as its header says
+body_size : (file : List ℕ) (header : ℕ) → Program file header → length (program_at file header).bytes ≡ length_in file header
+unfolding program_at
+body_size file header program = simp (length-take, length-drop) (omega (arith, program.whole))
+
 program_fits : (file : List ℕ) (header : ℕ) → Program file header → guaranteed_mappings (program_at file header) ≤ 256 → IsFitting (program_at file header)
 unfolding program_at
 program_fits file header program few =
-    let size : length (take (length_in file header) (drop (header + 28) file)) ≡ length_in file header
-    = simp (length-take, length-drop) (omega (arith, program.whole)) in
+    let size = body_size file header program in
     record {
       name = program.name;
       name_length = simp (length-take, length-drop) (omega (arith, program.whole));
       aligned = grind (arith, program.base);
       above = grind (arith, program.base);
       below = grind (arith, program.base, size);
-      filled = omega (arith, program.filled);
+      filled = omega (arith, program.filled, size);
       stack = program.stack;
       mappings = few;
     }
 
-few_mappings : (program : ProgramValue) (header : ℕ) → mappings_fault header (program ∷ []) ≡ None → guaranteed_mappings program ≤ 256
+few_mappings : (program : ProgramValue) (header : ℕ) → (if nat_lt 256 (guaranteed_mappings program) then fault TooMany header else None) ≡ None → guaranteed_mappings program ≤ 256
 few_mappings program header none = grind arith
+
+programs_fit : (count : ℕ) (file : List ℕ) (header : ℕ) → first_fault (program_fault file) (headers_from count file header) ≡ None
+    → mappings_fault header (map (program_at file) (headers_from count file header)) ≡ None → AllByRecursion IsFitting (map (program_at file) (headers_from count file header))
+programs_fit zero file header none mappings = tt
+programs_fit (suc count) file header none mappings =
+    let program = program_at file header in
+    let next = body_end file header in
+    let later = map (program_at file) (headers_from count file next) in
+    let faults = neither (program_fault file header) (first_fault (program_fault file) (headers_from count file next)) none in
+    let room = neither (if nat_lt 256 (guaranteed_mappings program) then fault TooMany header else None) (mappings_fault (header + 28 + length program.bytes) later) mappings in
+    let passes = program_passes file header faults.0 in
+    let ends : header + 28 + length program.bytes ≡ next = ap (λ (size : ℕ). header + 28 + size) (body_size file header passes) in
+    let later_room : mappings_fault next later ≡ None = subst (λ (place : ℕ). mappings_fault place later ≡ None) ends room.1 in
+    (program_fits file header passes (few_mappings program header room.0), programs_fit count file next faults.1 later_room)
 
 fitting_pages : (image : ImageValue) → pages_fault image ≡ None → sum_by guaranteed_mappings image.programs ≤ image.pages
 fitting_pages image none = grind arith
@@ -98,19 +139,21 @@ accepted file none =
     let mappings_none : mappings_fault (first_header file) (map (program_at file) (headers file)) ≡ None = grind arith in
     let pages_none : pages_fault (image_of file) ≡ None = grind arith in
     let header = header_passes file header_none in
-    let place : ℕ = first_header file in
-    let one : headers file ≡ place ∷ [] = rw header.environments refl in
-    let program_none : program_fault file place ≡ None = (neither (program_fault file place) None (rw one at programs_none)).0 in
-    let few : guaranteed_mappings (program_at file place) ≤ 256 = few_mappings (program_at file place) place (rw one at mappings_none) in
-    let program = program_fits file place (program_passes file place program_none) few in
+    let slots = slots_pass file slots_none in
+    let programs_count = count_of_programs file in
+    let slots_count = count_of_slots file slots_none in
     record {
       pages_least = header.pages_least;
       pages_most = header.pages_most;
       quantum_least = header.quantum_least;
       quantum_most = header.quantum_most;
-      slots = slots_pass file header.environments header.slots slots_none;
-      one_program = rw one refl;
-      programs = rw one (program, tt);
+      slots_least = omega (arith, header.slots_least);
+      slots_most = omega (arith, header.slots_most);
+      owners = subst (λ (count : ℕ). AllByRecursion (IsOwnerBelow count) (map owner_of (slot_bytes file))) (sym programs_count)
+          (owners_below (environments_in file) 16 (slot_bytes file) slots.owners);
+      programs_least = omega (arith, header.environments_least);
+      programs_most = omega (arith, header.environments_most);
+      programs = programs_fit (environments_in file) file (first_header file) programs_none mappings_none;
       room = fitting_pages (image_of file) pages_none;
     }
 

@@ -1,5 +1,5 @@
 -- Programs one after another, as the loops take them.
-use Rattle.std.proofs.Common.{◌≡◌, ◌≤◌, ℕ, suc, ◌+◌, ◌-◌, ◌<◌, List, [], ◌∷◌, ◌++◌, Option, None, map, length, drop, get_or, refl, ap, sym, ◌∙◌, append_assoc, arith, add-one}
+use Rattle.std.proofs.Common.{◌≡◌, ◌≤◌, ℕ, zero, suc, ◌+◌, ◌-◌, ◌<◌, List, [], ◌∷◌, ◌++◌, Option, None, map, length, drop, get_or, refl, ap, sym, ◌∙◌, append_assoc, arith, add-one}
 use Rattle.std.proofs.Math.Seq.{drop-cons}
 use Rattle.boot_image.specs.declared.fault.ImageFault.{ImageFault}
 use Rattle.boot_image.specs.declared.image.Program.{Program}
@@ -7,6 +7,11 @@ use Rattle.boot_image.specs.ImageValue.{ProgramValue, program_at, body_end, head
 use Rattle.boot_image.specs.ImageFaults.{◌or_else◌, program_fault, first_fault}
 use Rattle.boot_image.specs.Parts.{values_end}
 use Rattle.boot_image.specs.Seen.{program_seen}
+
+-- so many programs have so many headers
+pub length-headers_from : (count : ℕ) (file : List ℕ) (header : ℕ) → length (headers_from count file header) ≡ count
+length-headers_from zero file header = refl
+length-headers_from (suc count) file header = ap suc (length-headers_from count file (body_end file header))
 
 -- a place doesn't fall
 pub values_end_least : (header : ℕ) (programs : List ProgramValue) → header ≤ values_end header programs

@@ -1,19 +1,19 @@
 -- The spelling of an image within its limits has no fault, and is read as that image.
-use Rattle.std.proofs.Common.{◌≡◌, ◌≤◌, ◌<◌, ◌^◌, ℕ, ◌+◌, true, List, [], ◌∷◌, ◌++◌, Option, None, map, length, take, drop, refl, ap, sym, ◌∙◌, append_assoc, arith}
-use Rattle.std.specs.Prelude.{codes, Result, Ok, Err, IsOkAnd}
+use Rattle.std.proofs.Common.{◌≡◌, ◌≤◌, ◌<◌, ◌^◌, ℕ, ◌+◌, true, false, List, [], ◌∷◌, ◌++◌, Option, None, Some, map, length, take, drop, refl, ap, sym, ◌∙◌, append_assoc, arith}
+use Rattle.std.specs.Prelude.{codes, nat_lt, Result, Ok, Err, IsOkAnd}
 use Rattle.boot_image.specs.declared.image.Image.{Image}
 use Rattle.boot_image.specs.Seen.{Answers, image_seen}
 use Rattle.std.specs.List.{flat_map, AllByRecursion}
 use Rattle.std.specs.Int.{w16, w32, to_le_bytes, from_le_bytes}
-use Rattle.std.proofs.lemmas.List.{length-drop, length-append, take_at, drop_at, drop-drop, append-nil}
+use Rattle.std.proofs.lemmas.List.{length-drop, length-append, length-map, take_at, drop_at, drop-drop, append-nil}
 use Rattle.std.proofs.lemmas.List.Concat.{flat_map-cons}
 use Rattle.std.proofs.lemmas.Nat.{from_le_bytes-to_le_bytes_2, from_le_bytes-to_le_bytes_4}
 use lib.Pointwise.{bytes_decides}
 use Rattle.boot_image.specs.declared.fault.ImageFault.{ImageFault}
 use Rattle.boot_image.specs.Numbers.{half_at, word_at}
 use Rattle.boot_image.specs.ImageValue.{ProgramValue, ImageValue, pages_in, quantum_in, environments_in, slots_in, slot_bytes, owner_of, first_header, name_in, base_in, stack_in, accept_in, kind_in, length_in, body_end, bodies_end, headers_from, headers, program_at, image_of, guaranteed_mappings}
-use Rattle.boot_image.specs.ImageFaults.{◌or_else◌, has_magic, is_name, is_base, header_fault, slots_fault, owners_fault, program_fault, first_fault, trailing_fault, mappings_fault, pages_fault, image_fault}
-use Rattle.boot_image.specs.Accepted.{IsFitting, IsAccepted}
+use Rattle.boot_image.specs.ImageFaults.{◌or_else◌, is_within, has_magic, is_name, is_base, header_fault, slot_fault, slots_fault, owners_fault, program_fault, first_fault, trailing_fault, mappings_fault, pages_fault, image_fault}
+use Rattle.boot_image.specs.Accepted.{IsFitting, IsOwnerBelow, IsAccepted}
 use Rattle.boot_image.specs.Spelling.{slot_byte, program_text, image_text, HasMask}
 
 -- what stands behind a text
@@ -138,15 +138,37 @@ mappings_fit (program ∷ programs) header fitting =
     let later : mappings_fault (header + 28 + length program.bytes) programs ≡ None = mappings_fit programs (header + 28 + length program.bytes) fitting.1 in
     grind (arith, few, later)
 
+-- the owners that a slot byte names are no others
+owner_again : (count : ℕ) (owner : Option ℕ) → count ≤ 16 → IsOwnerBelow count owner → owner_of (slot_byte owner) ≡ owner
+owner_again count None few below = refl
+owner_again count (Some e) few below = let least : e < 255 = omega (arith, below) in grind (arith, least)
+
+owners_again : (count : ℕ) (owners : List (Option ℕ)) → count ≤ 16 → AllByRecursion (IsOwnerBelow count) owners → map owner_of (map slot_byte owners) ≡ owners
+owners_again count [] few below = refl
+owners_again count (owner ∷ owners) few below =
+    let one = owner_again count owner few below.0 in
+    let others = owners_again count owners few below.1 in
+    λ i. one i ∷ others i
+
+owner_passes : (count place : ℕ) (owner : Option ℕ) → IsOwnerBelow count owner → slot_fault count place (slot_byte owner) ≡ None
+owner_passes count place None below = refl
+owner_passes count place (Some e) below = grind (arith, below)
+
+owners_pass : (count place : ℕ) (owners : List (Option ℕ)) → AllByRecursion (IsOwnerBelow count) owners → owners_fault count place (map slot_byte owners) ≡ None
+owners_pass count place [] below = refl
+owners_pass count place (owner ∷ owners) below =
+    ap (λ (f : Option ImageFault). f or_else owners_fault count (place + 1) (map slot_byte owners)) (owner_passes count place owner below.0)
+    ∙ owners_pass count (place + 1) owners below.1
+
 record Header (file : List ℕ) (image : ImageValue) : Type 0 where
   pub magic : has_magic file ≡ true
   pub pages : pages_in file ≡ image.pages
   pub quantum : quantum_in file ≡ image.quantum
-  pub environments : environments_in file ≡ 1
-  pub slots : slots_in file ≡ 1
-  pub whole : 17 ≤ length file
-  pub bytes : slot_bytes file ≡ 0 ∷ []
-  pub programs : drop 17 file ≡ flat_map program_text image.programs ++ []
+  pub environments : environments_in file ≡ length image.programs
+  pub slots : slots_in file ≡ length image.slots
+  pub whole : 16 + slots_in file ≤ length file
+  pub bytes : slot_bytes file ≡ map slot_byte image.slots
+  pub programs : drop (first_header file) file ≡ flat_map program_text image.programs ++ []
 
 header_read : (file : List ℕ) (image : ImageValue) → IsAccepted image → file ≡ image_text image → Header file image
 header_read file image accepted is =
@@ -163,42 +185,44 @@ header_read file image accepted is =
     let from_environments = e ++ from_slots in
     let from_quantum = q ++ from_environments in
     let from_pages = p ++ from_quantum in
-    let one_owner : owners ≡ 0 ∷ [] = ap (map slot_byte) accepted.slots in
-    let one_byte : length owners ≡ 1 = ap length one_owner in
-    let one_slot : length image.slots ≡ 1 = ap length accepted.slots in
+    let count : length owners ≡ length image.slots = length-map image.slots slot_byte in
     let at0 : drop 0 file ≡ magic ++ from_pages = is ∙ sym (append-nil (image_text image)) ∙ regroup magic p q e s owners programs [] in
     let at4 : drop 4 file ≡ from_pages = behind file 0 magic from_pages 4 at0 refl in
     let at8 : drop 8 file ≡ from_quantum = behind file 4 p from_quantum 8 at4 refl in
     let at12 : drop 12 file ≡ from_environments = behind file 8 q from_environments 12 at8 refl in
     let at14 : drop 14 file ≡ from_slots = behind file 12 e from_slots 14 at12 refl in
     let at16 : drop 16 file ≡ from_owners = behind file 14 s from_owners 16 at14 refl in
-    let slots : slots_in file ≡ 1 = half_read file 14 (length image.slots) from_owners at14 (omega arith) ∙ one_slot in
+    let slots : slots_in file ≡ length image.slots = half_read file 14 (length image.slots) from_owners at14 (omega (arith, accepted.slots_most)) in
     record {
       magic = (bytes_decides magic (take 4 file)).1 (sym (bytes_read file 0 magic from_pages 4 at0 refl));
       pages = word_read file 4 image.pages from_quantum at4 (omega (arith, accepted.pages_most));
       quantum = word_read file 8 image.quantum from_environments at8 (omega (arith, accepted.quantum_most));
-      environments = half_read file 12 (length image.programs) from_slots at12 (omega (arith, accepted.one_program)) ∙ accepted.one_program;
+      environments = half_read file 12 (length image.programs) from_slots at12 (omega (arith, accepted.programs_most));
       slots = slots;
-      whole = omega (arith, long file 16 owners from_programs at16 (omega arith));
-      bytes = bytes_read file 16 owners from_programs (slots_in file) at16 (one_byte ∙ sym slots) ∙ one_owner;
-      programs = behind file 16 owners from_programs 17 at16 (omega arith);
+      whole = omega (arith, long file 16 owners from_programs at16 (omega (arith, accepted.slots_least)));
+      bytes = bytes_read file 16 owners from_programs (slots_in file) at16 (count ∙ sym slots);
+      programs = behind file 16 owners from_programs (first_header file) at16 (omega arith);
     }
+
+within : (least most number : ℕ) → least ≤ number → number ≤ most → is_within least most number ≡ true
+within least most number above below = grind (arith, above, below)
 
 header_passes : (file : List ℕ) (image : ImageValue) → IsAccepted image → Header file image → header_fault file ≡ None
 unfolding header_fault
 header_passes file image accepted header =
-    let pages_least : 16 ≤ pages_in file = omega (arith, header.pages, accepted.pages_least) in
-    let pages_most : pages_in file ≤ 1024 = omega (arith, header.pages, accepted.pages_most) in
-    let quantum_least : 16 ≤ quantum_in file = omega (arith, header.quantum, accepted.quantum_least) in
-    let quantum_most : quantum_in file ≤ 65536 = omega (arith, header.quantum, accepted.quantum_most) in
-    grind (arith, header.magic, header.environments, header.slots, header.whole)
+    let whole : nat_lt (length file) 16 ≡ false = grind (arith, header.whole) in
+    let pages : is_within 16 1024 (pages_in file) ≡ true = ap (is_within 16 1024) header.pages ∙ within 16 1024 image.pages accepted.pages_least accepted.pages_most in
+    let quantum : is_within 16 65536 (quantum_in file) ≡ true = ap (is_within 16 65536) header.quantum ∙ within 16 65536 image.quantum accepted.quantum_least accepted.quantum_most in
+    let environments : is_within 1 16 (environments_in file) ≡ true
+    = ap (is_within 1 16) header.environments ∙ within 1 16 (length image.programs) accepted.programs_least accepted.programs_most in
+    let slots : is_within 1 64 (slots_in file) ≡ true = ap (is_within 1 64) header.slots ∙ within 1 64 (length image.slots) accepted.slots_least accepted.slots_most in
+    rw (whole, header.magic, pages, quantum, environments, slots) refl
 
-slots_pass : (file : List ℕ) (image : ImageValue) → Header file image → slots_fault file ≡ None
+slots_pass : (file : List ℕ) (image : ImageValue) → IsAccepted image → Header file image → slots_fault file ≡ None
 unfolding slots_fault
-slots_pass file image header =
-    let owners : owners_fault (environments_in file) 16 (slot_bytes file) ≡ None = rw (header.environments, header.bytes) refl in
-    let long : 16 + slots_in file ≤ length file = omega (arith, header.slots, header.whole) in
-    grind (arith, owners)
+slots_pass file image accepted header =
+    let owners : owners_fault (environments_in file) 16 (slot_bytes file) ≡ None = rw (header.environments, header.bytes) (owners_pass (length image.programs) 16 image.slots accepted.owners) in
+    grind (arith, owners, header.whole)
 
 nothing_trails : (file : List ℕ) → drop (bodies_end (environments_in file) file (first_header file)) file ≡ [] → trailing_fault file ≡ None
 unfolding trailing_fault
@@ -220,17 +244,17 @@ pub read_again : (file : List ℕ) (image : ImageValue) → IsAccepted image →
 unfolding image_fault image_of
 read_again file image accepted masks is =
     let header = header_read file image accepted is in
-    let programs = programs_read image.programs file 17 [] accepted.programs masks header.programs in
-    let count : environments_in file ≡ length image.programs = header.environments ∙ sym accepted.one_program in
-    let faults : first_fault (program_fault file) (headers file) ≡ None = rw (count, header.slots) programs.faults in
-    let values : map (program_at file) (headers file) ≡ image.programs = rw (count, header.slots) programs.values in
-    let after : drop (bodies_end (environments_in file) file (first_header file)) file ≡ [] = rw (count, header.slots) programs.after in
-    let slots : map owner_of (slot_bytes file) ≡ image.slots = ap (map owner_of) header.bytes ∙ sym accepted.slots in
+    let programs = programs_read image.programs file (first_header file) [] accepted.programs masks header.programs in
+    let faults : first_fault (program_fault file) (headers file) ≡ None = rw header.environments programs.faults in
+    let values : map (program_at file) (headers file) ≡ image.programs = rw header.environments programs.values in
+    let after : drop (bodies_end (environments_in file) file (first_header file)) file ≡ [] = rw header.environments programs.after in
+    let slots : map owner_of (slot_bytes file) ≡ image.slots
+    = ap (map owner_of) header.bytes ∙ owners_again (length image.programs) image.slots accepted.programs_most accepted.owners in
     let value : image_of file ≡ image = λ i. record { pages = header.pages i; quantum = header.quantum i; slots = slots i; programs = values i } in
     let mappings : mappings_fault (first_header file) (map (program_at file) (headers file)) ≡ None
     = ap (mappings_fault (first_header file)) values ∙ mappings_fit image.programs (first_header file) accepted.programs in
     let pages : pages_fault (image_of file) ≡ None = ap pages_fault value ∙ pages_fit image accepted in
-    (none_of_six _ _ _ _ _ _ (header_passes file image accepted header) (slots_pass file image header) faults (nothing_trails file after) mappings pages, value)
+    (none_of_six _ _ _ _ _ _ (header_passes file image accepted header) (slots_pass file image accepted header) faults (nothing_trails file after) mappings pages, value)
 
 pub is_read_again : (file : List ℕ) (answer : Result Image ImageFault) (image : ImageValue) → IsAccepted image → AllByRecursion HasMask image.programs → file ≡ image_text image
     → Answers image_seen answer (image_fault file) (image_of file) → IsOkAnd answer (λ found. image_seen found ≡ image)

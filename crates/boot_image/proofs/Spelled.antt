@@ -7,7 +7,7 @@ use Rattle.boot_image.specs.Seen.{Answers, image_seen}
 use Rattle.std.specs.List.{flat_map}
 use Rattle.std.specs.Int.{w16, w32, to_le_bytes}
 use Rattle.std.proofs.lemmas.Bool.{cases_lt}
-use Rattle.std.proofs.lemmas.List.{length-take, length-drop, length-map, take-append-drop, drop-drop, get_or-drop, get_or-take, get_or_past, append-nil, nil_from_length}
+use Rattle.std.proofs.lemmas.List.{length-take, length-drop, take-append-drop, drop-drop, get_or-drop, get_or-take, get_or_past, append-nil, nil_from_length}
 use Rattle.std.proofs.lemmas.List.Concat.{flat_map-cons}
 use Rattle.std.proofs.lemmas.Nat.{le_bytes_2, le_bytes_4}
 use lib.Pointwise.{bytes_decides}
@@ -15,7 +15,7 @@ use Rattle.boot_image.specs.Numbers.{half_at, word_at}
 use Rattle.boot_image.specs.ImageValue.{ImageValue, slots_in, slot_bytes, owner_of, environments_in, first_header, body_end, bodies_end, headers_from, headers, program_at, image_of, kind_in, length_in}
 use Rattle.boot_image.specs.ImageFaults.{has_magic, header_fault, slots_fault, program_fault, first_fault, trailing_fault, image_fault}
 use Rattle.boot_image.specs.Spelling.{slot_byte, program_text, image_text}
-use Rattle.boot_image.proofs.Acceptance.{neither}
+use Rattle.boot_image.proofs.Acceptance.{neither, count_of_programs, count_of_slots}
 
 abbrev pub IsBytes : List ℕ → Type 0
 IsBytes bytes = (i : ℕ) → get_or bytes i 0 < 256
@@ -109,10 +109,6 @@ programs_stand (suc count) file header fits none =
     let others = programs_stand count file later fits parts.1 in
     rw flat_map-cons (stands_then file header _ later _ (bodies_end count file later) first others)
 
-length-headers_from : (count : ℕ) (file : List ℕ) (header : ℕ) → length (headers_from count file header) ≡ count
-length-headers_from zero file header = refl
-length-headers_from (suc count) file header = ap suc (length-headers_from count file (body_end file header))
-
 magic_stands : (file : List ℕ) → has_magic file ≡ true → Stands file 0 (codes "AEG1") 4
 magic_stands file magic =
     let same : codes "AEG1" ≡ take 4 file = (bytes_decides (codes "AEG1") (take 4 file)).0 magic in
@@ -133,10 +129,6 @@ header_passes : (file : List ℕ) → header_fault file ≡ None → Header file
 unfolding header_fault
 header_passes file none = record { magic = grind arith; whole = grind arith }
 
-slots_pass : (file : List ℕ) → slots_fault file ≡ None → 16 + slots_in file ≤ length file
-unfolding slots_fault
-slots_pass file none = grind arith
-
 nothing_trails : (file : List ℕ) → trailing_fault file ≡ None → length file ≤ bodies_end (environments_in file) file (first_header file)
 unfolding trailing_fault
 nothing_trails file none = grind arith
@@ -150,11 +142,8 @@ spelled file fits none =
     let trailing_none : trailing_fault file ≡ None = grind arith in
     let header = header_passes file header_none in
     let end = bodies_end (environments_in file) file (first_header file) in
-    let slots_whole = slots_pass file slots_none in
-    let programs_count : length (map (program_at file) (headers file)) ≡ environments_in file
-    = length-map (headers file) (program_at file) ∙ length-headers_from (environments_in file) file (first_header file) in
-    let slots_count : length (map owner_of (slot_bytes file)) ≡ slots_in file
-    = length-map (slot_bytes file) owner_of ∙ simp (length-take, length-drop) (omega arith) in
+    let programs_count = count_of_programs file in
+    let slots_count = count_of_slots file slots_none in
     let magic = magic_stands file header.magic in
     let pages = word_stands file 4 8 fits refl (omega (arith, header.whole)) in
     let quantum = word_stands file 8 12 fits refl (omega (arith, header.whole)) in

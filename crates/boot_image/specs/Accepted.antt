@@ -1,5 +1,5 @@
 -- What holds of each image that has no fault.
-use Rattle.std.specs.Prelude.{◌≡◌, ◌≤◌, ◌<◌, ◌+◌, ◌%◌, [], ◌∷◌, length, Some, IsTrue, sum_by}
+use Rattle.std.specs.Prelude.{ℕ, ◌≡◌, ◌≤◌, ◌<◌, ◌+◌, ◌%◌, length, Option, IfSome, IsTrue, sum_by}
 use Rattle.std.specs.List.{AllByRecursion}
 use Rattle.boot_image.specs.ImageValue.{ImageValue, ProgramValue, guaranteed_mappings}
 use Rattle.boot_image.specs.ImageFaults.{is_name}
@@ -15,13 +15,20 @@ pub record IsFitting (program : ProgramValue) : Type 0 where
   pub stack : program.stack ≤ 16
   pub mappings : guaranteed_mappings program ≤ 256
 
--- an image within its limits, with the one environment and the one slot of this stage
+-- a slot's owner, where it has one, is one of so many environments
+abbrev pub IsOwnerBelow : ℕ → Option ℕ → Type 0
+IsOwnerBelow count owner = IfSome owner (λ e. e < count)
+
+-- an image within its limits
 pub record IsAccepted (image : ImageValue) : Type 0 where
   pub pages_least : 16 ≤ image.pages
   pub pages_most : image.pages ≤ 1024
   pub quantum_least : 16 ≤ image.quantum
   pub quantum_most : image.quantum ≤ 65536
-  pub slots : image.slots ≡ Some 0 ∷ []
-  pub one_program : length image.programs ≡ 1
+  pub slots_least : 1 ≤ length image.slots
+  pub slots_most : length image.slots ≤ 64
+  pub owners : AllByRecursion (IsOwnerBelow (length image.programs)) image.slots
+  pub programs_least : 1 ≤ length image.programs
+  pub programs_most : length image.programs ≤ 16
   pub programs : AllByRecursion IsFitting image.programs
   pub room : sum_by guaranteed_mappings image.programs ≤ image.pages

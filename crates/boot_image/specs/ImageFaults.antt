@@ -28,7 +28,7 @@ is_within least most number = nat_le least number && nat_le number most
 abbrev pub has_magic : List ℕ → Bool
 has_magic file = starts_with nat_eq file (codes "AEG1")
 
--- The header. One environment and one slot are what this stage has.
+-- The header: the magic, and four numbers within their limits.
 unfoldable pub header_fault : List ℕ → Option ImageFault
 header_fault file =
     if nat_lt (length file) 16 then fault Short (length file) else
@@ -36,17 +36,13 @@ header_fault file =
     if not (is_within 16 1024 (pages_in file)) then fault Pages 4 else
     if not (is_within 16 65536 (quantum_in file)) then fault Quantum 8 else
     if not (is_within 1 16 (environments_in file)) then fault Envs 12 else
-    if not (environments_in file == 1) then fault NotBuilt 12 else
     if not (is_within 1 64 (slots_in file)) then fault Slots 14 else
-    if not (slots_in file == 1) then fault NotBuilt 14 else
     None
 
--- A slot's byte: an environment, or 255 for a slot that nobody owns, which this stage doesn't have.
+-- A slot's byte: one of so many environments, or 255 for an empty slot, which nobody owns.
 abbrev pub slot_fault : ℕ → ℕ → ℕ → Option ImageFault
 slot_fault environments place byte =
-    if not (byte == 255) && nat_le environments byte then fault SlotOwner place else
-    if byte == 255 then fault NotBuilt place else
-    None
+    if not (byte == 255) && nat_le environments byte then fault SlotOwner place else None
 
 -- the slot bytes, of which the first stands at this place
 abbrev pub owners_fault : ℕ → ℕ → List ℕ → Option ImageFault

@@ -37,7 +37,7 @@ pub enum ImageWhy {
     TooMany,
     /// The environments together need more pages than there are.
     TooBig,
-    /// The image is in order so far, and asks for what this stage doesn't have.
+    /// The image is in order so far, and the program's body is an ELF file, which isn't read yet.
     NotBuilt,
 }
 

@@ -24,7 +24,7 @@ const QUANTUM_AT: usize = 8;
 const ENVIRONMENTS_AT: usize = 12;
 /// Where the number of slots stands.
 const SLOTS_AT: usize = 14;
-/// The slot byte of a slot that nobody owns.
+/// The slot byte of an empty slot, which nobody owns.
 const NOBODY: u8 = 255;
 
 /// The header's numbers, each within its limits.
@@ -68,15 +68,9 @@ pub(crate) fn read_header(file: &[u8]) -> Result<Header, ImageFault>
     if !is_within(1, MOST_ENVIRONMENTS, environments.into()) {
         return Err(ImageFault::at(ImageWhy::Envs, ENVIRONMENTS_AT));
     }
-    if environments != 1 {
-        return Err(ImageFault::at(ImageWhy::NotBuilt, ENVIRONMENTS_AT));
-    }
     let slots = half_at(file, SLOTS_AT);
     if !is_within(1, MOST_SLOTS, slots.into()) {
         return Err(ImageFault::at(ImageWhy::Slots, SLOTS_AT));
-    }
-    if slots != 1 {
-        return Err(ImageFault::at(ImageWhy::NotBuilt, SLOTS_AT));
     }
     Ok(Header {
         pages,
@@ -119,16 +113,16 @@ fn read_owners(bytes: &[u8], environments: u16) -> Result<ArrayVec<Option<u8>, 6
     Ok(owners)
 }
 
-/// The owner that the slot byte at `place` names.
+/// The owner that the slot byte at `place` names, if any.
 fn read_owner(byte: u8, environments: u16, place: usize) -> Result<Option<u8>, ImageFault>
     requires { place < 2 ^ 32 }
     ensures { Answers (λ owner. owner) result (slot_fault environments place byte) (owner_of byte) }
 {
-    if byte != NOBODY && u16::from(byte) >= environments {
-        return Err(ImageFault::at(ImageWhy::SlotOwner, place));
-    }
     if byte == NOBODY {
-        return Err(ImageFault::at(ImageWhy::NotBuilt, place));
+        return Ok(None);
+    }
+    if u16::from(byte) >= environments {
+        return Err(ImageFault::at(ImageWhy::SlotOwner, place));
     }
     Ok(Some(byte))
 }

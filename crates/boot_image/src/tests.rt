@@ -15,6 +15,18 @@ const HI: [u8; 79] = [
     0x34, 0x02, 0, 0x02, 0x34, 0x0C, 0, 0, 0, 0, 0, 0, 0, 0x68, 0x69,
 ];
 
+/// Two programs of one and of three bytes, of a machine of 16 pages with three slots: the first is
+/// environment 1's, the second is empty, and the third is environment 0's.
+const TWO: [u8; 79] = [
+    // The header, and the slot bytes.
+    0x41, 0x45, 0x47, 0x31, 0x10, 0, 0, 0, 0x11, 0, 0, 0, 2, 0, 3, 0, 1, 255, 0,
+    // The first program's header, at 19, and its body, at 47.
+    0x61, 0, 0, 0, 0, 0, 0, 0, 0, 0x20, 0, 0, 1, 0, 0, 0, 2, 0, 0, 0, 0, 0, 0, 0, 1, 0, 0, 0, 0xAA,
+    // The second program's header, at 48, and its body, at 76.
+    0x62, 0, 0, 0, 0, 0, 0, 0, 0, 0x30, 0, 0, 0, 0, 0, 0, 1, 0, 0, 0, 0, 0, 0, 0, 3, 0, 0, 0, 0xBB,
+    0xCC, 0xDD,
+];
+
 /// The file with these bytes from `place` on.
 fn changed(mut file: [u8; 79], place: usize, bytes: &[u8]) -> [u8; 79] {
     for (to, from) in file.iter_mut().skip(place).zip(bytes) {
@@ -55,6 +67,48 @@ fn reads_an_image_of_one_program(rt: HostRuntime) -> Result<(), Fail> {
 }
 
 #[test]
+fn reads_an_image_of_two_programs_and_an_empty_slot(rt: HostRuntime) -> Result<(), Fail> {
+    let image = read_image(&TWO).ok().ok_or("the image is in order")?;
+    assert_eq!(rt; image.slots.as_slice(), [Some(1), None, Some(0)].as_slice());
+    assert_eq!(rt; image.programs.len(), 2);
+    let programs: [(u8, u32, u32, u32, &[u8]); 2] = [
+        (b'a', 0x2000, 1, 2, &TWO[47..48]),
+        (b'b', 0x3000, 0, 1, &TWO[76..]),
+    ];
+    for (program, (letter, base, stack, accept, bytes)) in image
+        .programs
+        .as_slice()
+        .iter()
+        .zip(programs)
+    {
+        assert_eq!(rt; program.name, [letter, 0, 0, 0, 0, 0, 0, 0]);
+        assert_eq!(rt;
+            (program.base, program.stack, program.accept),
+            (base, stack, accept)
+        );
+        assert_eq!(rt; program.bytes, bytes);
+    }
+    Ok(())
+}
+
+#[test]
+fn names_the_fault_of_a_later_slot_or_program(rt: HostRuntime) {
+    let cases: [(usize, u8, &str, u32); 8] = [
+        (12, 1, "SlotOwner", 16),
+        (12, 3, "Short", 79),
+        (14, 2, "Name", 18),
+        (17, 2, "SlotOwner", 17),
+        (18, 255, "ok", 0),
+        (48, b'B', "Name", 48),
+        (60, 11, "ok", 0),
+        (60, 12, "TooBig", 4),
+    ];
+    for (place, byte, why, at) in cases {
+        assert_eq!(rt; answer(&changed(TWO, place, &[byte])), (why, at), "{place}");
+    }
+}
+
+#[test]
 fn names_the_first_fault_of_an_image(rt: HostRuntime) -> Result<(), Fail> {
     for length in 0..HI.len() {
         assert_eq!(rt; answer(&HI[..length]), ("Short", length as u32));
@@ -76,16 +130,16 @@ fn names_the_first_fault_of_an_image(rt: HostRuntime) -> Result<(), Fail> {
         (8, &[1, 0, 1, 0], "Quantum", 8),
         (4, &[15, 0, 0, 0, 15], "Pages", 4),
         (12, &[0, 0], "Envs", 12),
-        (12, &[2, 0], "NotBuilt", 12),
-        (12, &[16, 0], "NotBuilt", 12),
+        (12, &[2, 0], "Short", 79),
+        (12, &[16, 0], "Short", 79),
         (12, &[17, 0], "Envs", 12),
         (14, &[0, 0], "Slots", 14),
-        (14, &[2, 0], "NotBuilt", 14),
-        (14, &[64, 0], "NotBuilt", 14),
+        (14, &[2, 0], "SlotOwner", 17),
+        (14, &[64, 0], "Short", 79),
         (14, &[65, 0], "Slots", 14),
         (16, &[1], "SlotOwner", 16),
         (16, &[254], "SlotOwner", 16),
-        (16, &[255], "NotBuilt", 16),
+        (16, &[255], "ok", 0),
         (17, b"H", "Name", 17),
         (17, b"\0\0", "Name", 17),
         (17, b"azAZ", "Name", 17),
