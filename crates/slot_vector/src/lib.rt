@@ -6,9 +6,11 @@
 #![tactic(auto)]
 
 mod hold;
+mod law;
 mod slots;
 #[cfg(test)]
 mod tests;
 
 pub use hold::{Hold, Timer, Turn};
+pub use law::law_next_turn;
 pub use slots::{LONGEST_QUANTUM, MOST_SLOTS, SHORTEST_QUANTUM, Slots};

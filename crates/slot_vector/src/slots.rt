@@ -14,7 +14,7 @@ pub const SHORTEST_QUANTUM: u32 = 16;
 /// The longest quantum, in ticks.
 pub const LONGEST_QUANTUM: u32 = 65_536;
 
-/// The vector of slots with the runner and the ticks left of its slice.
+/// The vector of slots with the runner and the ticks left of its slice, at least one while it runs.
 #[derive(Drop)]
 pub struct Slots {
     slots: ArrayVec<Option<Hold>, 64>,
@@ -25,14 +25,14 @@ pub struct Slots {
 }
 
 impl Model for Slots {
-    ghost use Rattle.std.specs.Prelude.{◌<◌, ◌≤◌, length};
+    ghost use Rattle.std.specs.Prelude.{◌<◌, ◌≤◌, IsSome, length};
     ghost use Rattle.slot_vector.specs.Slices.{Slices};
 
     ghost Value = { Slices };
 
     ghost view = { λ s. record { slots = s.slots.items; quantum = s.quantum; cursor = s.cursor; runner = s.runner; left = s.left } };
 
-    ghost invariant = { λ s. (s.cursor < length s.slots.items) × (length s.slots.items ≤ 64) };
+    ghost invariant = { λ s. (s.cursor < length s.slots.items) × (length s.slots.items ≤ 64) × (0 < s.quantum) × (IsSome s.runner → 0 < s.left) };
 }
 
 /// The hold of the slot at this place; past the last there is none.
@@ -184,7 +184,6 @@ impl Slots {
     /// A tick of the runner's slice is over: the ticks left fall by one, and at none the turn ends.
     pub fn timer(&mut self) -> Timer
         requires runs { IsSome self.old.runner }
-        requires left { 0 < self.old.left }
         ensures answer { result ≡ timer_answer self.old }
         ensures after { self.new ≡ timer_counted self.old }
     {

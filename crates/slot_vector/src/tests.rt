@@ -3,6 +3,7 @@ use std::test::Fail;
 
 #[test]
 fn the_turn_goes_around_past_empty_slots(rt: HostRuntime) -> Result<(), Fail> {
+    law_next_turn();
     let mut slots = Slots::new(16, &[None, Some(3), None, Some(5)]);
     assert_eq!(rt; slots.slot(), 3);
     assert_eq!(rt; slots.next_turn(), Turn::Run { slot: 1, env: 3 });
