@@ -1,5 +1,5 @@
 -- The kernel's one book, and the vector of slices in it.
-use Rattle.std.specs.Prelude.{ℕ, zero, suc, ◌+◌, ◌%◌, Bool, false, ◌==◌, ◌&&◌, if◌then◌else◌, Option, Some, None, is_none}
+use Rattle.std.specs.Prelude.{ℕ, zero, suc, ◌+◌, ◌%◌, Bool, false, ◌==◌, ◌&&◌, ◌||◌, if◌then◌else◌, Option, Some, None, is_none}
 
 -- whose a slot is, and who runs in it
 pub record Hold : Type 0 where
@@ -38,10 +38,16 @@ next_turn b = first_held b.slots b.slot_count b.cursor b.slot_count
 abbrev pub is_idle_book : Book → Bool
 is_idle_book b = is_none b.runner && is_none (next_turn b)
 
-abbrev pub is_owned_by : ℕ → Option Hold → Bool
-is_owned_by e None = false
-is_owned_by e (Some hold) = hold.owner == e
+-- a slot that its owner holds
+abbrev pub own_hold : ℕ → Hold
+own_hold e = record { owner = e; holder = e }
 
--- a slot after a death: what the dead one owned is empty
+-- a slot after a death: what the dead one owned is empty, and what it held for another is its owner's again
 abbrev pub slot_after_death : ℕ → Option Hold → Option Hold
-slot_after_death e slot = if is_owned_by e slot then None else slot
+slot_after_death e None = None
+slot_after_death e (Some hold) = if hold.owner == e then None else (if hold.holder == e then Some (own_hold hold.owner) else Some hold)
+
+-- a death changes the slots that the dead one owns or holds
+abbrev pub is_changed_by_death : ℕ → Option Hold → Bool
+is_changed_by_death e None = false
+is_changed_by_death e (Some hold) = hold.owner == e || hold.holder == e

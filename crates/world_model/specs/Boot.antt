@@ -3,12 +3,12 @@ use Rattle.std.specs.Prelude.{ℕ, zero, suc, ◌+◌, ◌-◌, ◌*◌, ◌/◌
 use Rattle.std.specs.Option.{option_flatten, option_map}
 use Rattle.boot_image.specs.ImageValue.{ImageValue, ProgramValue, body_pages}
 use Rattle.kernel_journal.specs.declared.row.Row.{Row}
-use Rattle.kernel_journal.specs.declared.row.Row.TheVariants as row
-use Rattle.world_model.specs.Book.{Book, Hold}
-use Rattle.world_model.specs.declared.page.KeptPage.{KeptPage}
+use Rattle.world_model.specs.Tick.{slot_row}
+use Rattle.world_model.specs.Book.{Book, Hold, own_hold}
+use Rattle.world_model.specs.Page.{KeptPage}
 use Rattle.world_model.specs.Solo.{absent}
 use Rattle.world_model.specs.Item.{Item, Boot, absorb_all}
-use Rattle.world_model.specs.World.{World}
+use Rattle.world_model.specs.World.{World, only}
 
 abbrev pub zero_page : List ℕ
 zero_page = replicate 4096 0
@@ -46,37 +46,38 @@ record_items e (Some p) = Boot e p.name p.base (kept_of p) ∷ []
 abbrev pub boot_items : ImageValue → ℕ → List Item
 boot_items image e = record_items e (slice_get image.programs e)
 
-abbrev pub own_hold : ℕ → Hold
-own_hold e = record { owner = e; holder = e }
-
 -- at boot an owner holds its slot
-abbrev pub boot_slot : ImageValue → ℕ → Option Hold
-boot_slot image k = option_map own_hold (option_flatten (slice_get image.slots k))
+abbrev pub boot_slot : List (Option ℕ) → ℕ → Option Hold
+boot_slot owners k = option_map own_hold (option_flatten (slice_get owners k))
 
+-- an empty slot has no row
 abbrev pub own_row : ℕ → Option Hold → List Row
 own_row k None = []
-own_row k (Some hold) = row.Own 0 k (Some hold.owner) (Some hold.holder) ∷ []
+own_row k (Some hold) = slot_row 0 k (Some hold) ∷ []
 
 -- a row for each slot below k that has an owner
-abbrev pub own_rows : ImageValue → ℕ → List Row
-own_rows image zero = []
-own_rows image (suc k) = own_rows image k ++ own_row k (boot_slot image k)
+abbrev pub own_rows : List (Option ℕ) → ℕ → List Row
+own_rows owners zero = []
+own_rows owners (suc k) = own_rows owners k ++ own_row k (boot_slot owners k)
 
-abbrev pub boot_book : ImageValue → Book
-boot_book image = record {
-  slot_count = length image.slots;
-  slots = boot_slot image;
-  quantum = image.quantum;
-  cursor = length image.slots - 1;
+abbrev pub boot_book : ℕ → List (Option ℕ) → Book
+boot_book quantum owners = record {
+  slot_count = length owners;
+  slots = boot_slot owners;
+  quantum = quantum;
+  cursor = length owners - 1;
   runner = None;
   left = 0;
   time = 0;
 }
 
+-- the world of a board on which no program stands yet
+abbrev pub bare_world : ℕ → List (Option ℕ) → World
+bare_world quantum owners = record { book = boot_book quantum owners; count = 0; solos = absent; rows = own_rows owners (length owners) }
+
 abbrev pub boot_world : ImageValue → World
-boot_world image = record {
-  book = boot_book image;
-  count = length image.programs;
-  solos = λ e. absorb_all (absent e) (boot_items image e);
-  rows = own_rows image (length image.slots);
-}
+boot_world image = record (bare_world image.quantum image.slots) { count = length image.programs; solos = λ e. absorb_all (absent e) (boot_items image e) }
+
+-- the world with the next environment on it, which is given its record
+abbrev pub added : World → ProgramValue → World
+added w p = record w { count = w.count + 1; solos = λ e. absorb_all (w.solos e) (only w.count (record_items w.count (Some p)) e) }

@@ -7,33 +7,41 @@ use Rattle.world_model.specs.declared.call.Call.{Call}
 use Rattle.world_model.specs.declared.call.Call.TheVariants as call
 use Rattle.world_model.specs.declared.code.Code.{Code}
 use Rattle.world_model.specs.declared.code.Code.TheVariants as code
-use Rattle.world_model.specs.declared.page.KeptPage.{KeptPage}
-use Rattle.world_model.specs.Solo.{kept_at}
+use Rattle.world_model.specs.Page.{Mapped}
 
 -- register 2 has the number of a call, and registers 4 to 8 its arguments
 abbrev pub call_number : Cpu → ℕ
 call_number cpu = reg cpu 2
 
 abbrev pub call_named : ℕ → Option Call
-call_named number = if number == 1 then Some call.Put else (if number == 2 then Some call.Exit else None)
+call_named number =
+    if number == 0 then Some call.Yield else
+    if number == 1 then Some call.Put else
+    if number == 2 then Some call.Exit else
+    if number == 20 then Some call.OwnNumber else
+    if number == 21 then Some call.Clock else None
+
+-- the argument of a yield that names no environment
+abbrev pub any : ℕ
+any = 0xFFFFFFFF
 
 -- a console holds so many bytes at most
 abbrev pub console_limit : ℕ
 console_limit = 65536
 
--- the bytes of a range, where it is good: it lies in one page that a mapping covers, below 0x80000000
-abbrev pub good_range : List KeptPage → ℕ → ℕ → Option (List ℕ)
-good_range kept address size =
+-- the bytes of a range, where it is good: it lies in one page, below 0x80000000, and its page number leads somewhere
+abbrev pub good_range : (ℕ → Option Mapped) → ℕ → ℕ → Option (List ℕ)
+good_range look address size =
     if nat_lt address 0x80000000 && nat_le (address % 4096 + size) 4096
-    then option_map (λ p. take size (drop (address % 4096) p.bytes)) (kept_at kept (address / 4096))
+    then option_map (λ m. take size (drop (address % 4096) m.bytes)) (look (address / 4096))
     else None
 
 -- the bytes that a put names: none need no range
-abbrev pub put_bytes : Cpu → List KeptPage → Option (List ℕ)
-put_bytes cpu kept = if reg cpu 5 == 0 then Some [] else good_range kept (reg cpu 4) (reg cpu 5)
+abbrev pub put_bytes : Cpu → (ℕ → Option Mapped) → Option (List ℕ)
+put_bytes cpu look = if reg cpu 5 == 0 then Some [] else good_range look (reg cpu 4) (reg cpu 5)
 
 -- why a put is refused, in the order of testing, by a caller whose console has so many bytes
-abbrev pub put_refusal : Cpu → List KeptPage → ℕ → Option Code
-put_refusal cpu kept held =
-    if is_none (put_bytes cpu kept) then Some code.BadPointer
+abbrev pub put_refusal : Cpu → (ℕ → Option Mapped) → ℕ → Option Code
+put_refusal cpu look held =
+    if is_none (put_bytes cpu look) then Some code.BadPointer
     else (if nat_lt console_limit (held + reg cpu 5) then Some code.ConsoleFull else None)

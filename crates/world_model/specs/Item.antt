@@ -5,8 +5,8 @@ use Rattle.mips_exec.specs.Cpu.{with_reg, restart_of}
 use Rattle.world_model.specs.declared.life.Life.TheVariants.{Live}
 use Rattle.world_model.specs.declared.code.Code.{Code}
 use Rattle.world_model.specs.Code.{code_number, is_ok_code}
-use Rattle.world_model.specs.declared.page.KeptPage.{KeptPage}
-use Rattle.world_model.specs.Solo.{Solo, blank_cpu, is_dead}
+use Rattle.world_model.specs.Page.{KeptPage}
+use Rattle.world_model.specs.Solo.{Solo, blank_cpu, is_dead, sight}
 use Rattle.world_model.specs.declared.call.Call.{Call}
 use Rattle.world_model.specs.declared.call.Call.TheVariants as call
 use Rattle.world_model.specs.Step.{step_alone, stepped}
@@ -42,8 +42,11 @@ rest cpu = record cpu { pc = restart_of cpu; next = word_after (restart_of cpu);
 
 abbrev pub own_part_of : Solo → Option Call → Solo
 own_part_of s None = s
-own_part_of s (Some call.Put) = record s { console = s.console ++ unwrap_or (put_bytes s.cpu s.kept) [] }
+own_part_of s (Some call.Yield) = s
+own_part_of s (Some call.Put) = record s { console = s.console ++ unwrap_or (put_bytes s.cpu (sight s.kept)) [] }
 own_part_of s (Some call.Exit) = s
+own_part_of s (Some call.OwnNumber) = s
+own_part_of s (Some call.Clock) = s
 
 -- what an accepted call does to its caller
 abbrev pub own_part : Solo → Solo

@@ -8,6 +8,12 @@ use Rattle.mips_exec.specs.Step.{Answers}
 use Rattle.world_model.specs.declared.page.Purpose.{Purpose}
 use Rattle.world_model.specs.declared.page.Purpose.TheVariants.{Fetch, Load, Store}
 
+-- a guaranteed page: its page number, whether it may be stored to, and its bytes
+pub record KeptPage : Type 0 where
+  pub vpn : ℕ
+  pub writable : Bool
+  pub bytes : List ℕ
+
 -- where a page number leads: the bytes of the page, and whether they may be stored to
 pub record Mapped : Type 0 where
   pub writable : Bool

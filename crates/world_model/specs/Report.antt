@@ -16,7 +16,7 @@ use Rattle.mips_exec.specs.Cpu.{reg}
 use Rattle.world_model.specs.declared.life.Life.{Life}
 use Rattle.world_model.specs.declared.life.Life.TheVariants.{Live, Dead}
 use Rattle.world_model.specs.declared.life.Cause.TheVariants as cause
-use Rattle.world_model.specs.declared.page.KeptPage.{KeptPage}
+use Rattle.world_model.specs.Page.{KeptPage}
 use Rattle.world_model.specs.Solo.{Solo}
 use Rattle.world_model.specs.Item.{rest}
 use Rattle.world_model.specs.World.{World}

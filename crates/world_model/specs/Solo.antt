@@ -6,8 +6,7 @@ use Rattle.mips_exec.specs.Access.{Write}
 use Rattle.world_model.specs.declared.life.Life.{Life}
 use Rattle.world_model.specs.declared.life.Life.TheVariants.{Live, Dead}
 use Rattle.world_model.specs.declared.life.Cause.{Cause}
-use Rattle.world_model.specs.declared.page.KeptPage.{KeptPage}
-use Rattle.world_model.specs.Page.{Mapped, with_bytes}
+use Rattle.world_model.specs.Page.{KeptPage, Mapped, with_bytes}
 
 -- number, name, life, registers, guaranteed pages by rising page number, and console
 pub record Solo : Type 0 where

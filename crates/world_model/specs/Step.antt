@@ -28,7 +28,10 @@ act_of cpu (Trapped e) = Dies
 -- a kernel call leaves its caller as it is until it is answered; exit is its death
 abbrev pub called : Solo → Option Call → Solo
 called s None = s
+called s (Some call.Yield) = s
 called s (Some call.Put) = s
+called s (Some call.OwnNumber) = s
+called s (Some call.Clock) = s
 called s (Some call.Exit) = dead (cause.Exit (reg s.cpu 4)) s
 
 -- the environment after a step: a trap is its death

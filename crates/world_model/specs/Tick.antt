@@ -1,15 +1,16 @@
 -- The tick: the turn, the runner's step with its call or death, and the timer.
-use Rattle.std.specs.Prelude.{ℕ, zero, suc, ◌+◌, ◌-◌, List, [], ◌∷◌, ◌++◌, length, ◌==◌, if◌then◌else◌, Option, Some, None}
+use Rattle.std.specs.Prelude.{ℕ, zero, suc, ◌+◌, ◌-◌, List, [], ◌∷◌, ◌++◌, length, Bool, true, false, ◌==◌, if◌then◌else◌, Option, Some, None}
 use Rattle.kernel_journal.specs.declared.row.Row.{Row}
 use Rattle.kernel_journal.specs.declared.row.Row.TheVariants as row
 use Rattle.mips_exec.specs.Cpu.{reg}
 use Rattle.world_model.specs.declared.code.Code.{Code}
 use Rattle.world_model.specs.declared.code.Code.TheVariants as code
-use Rattle.world_model.specs.Book.{Book, Turn, next_turn, is_owned_by, slot_after_death}
+use Rattle.world_model.specs.Book.{Book, Hold, Turn, next_turn, is_changed_by_death, slot_after_death}
 use Rattle.world_model.specs.Step.{Act, Nothing, Calls, Dies, step_alone, act_of}
 use Rattle.world_model.specs.declared.call.Call.{Call}
 use Rattle.world_model.specs.declared.call.Call.TheVariants as call
-use Rattle.world_model.specs.Call.{put_refusal}
+use Rattle.world_model.specs.Solo.{sight}
+use Rattle.world_model.specs.Call.{put_refusal, any}
 use Rattle.world_model.specs.Item.{Item, Step, Start, Answer}
 use Rattle.world_model.specs.World.{World, Reply, only, no_items, run_phases, phase_items}
 
@@ -42,26 +43,46 @@ put_when w e None = answer w e code.Ok (reg (w.solos e).cpu 5)
 put_when w e (Some refusal) = answer w e refusal 0
 
 abbrev pub put : World → ℕ → Reply
-put w e = let s = w.solos e in put_when w e (put_refusal s.cpu s.kept (length s.console))
+put w e = let s = w.solos e in put_when w e (put_refusal s.cpu (sight s.kept) (length s.console))
 
--- the rows of the slots below k that a death empties, by rising slot
-abbrev pub emptied_rows : ℕ → Book → ℕ → List Row
-emptied_rows e b zero = []
-emptied_rows e b (suc k) = emptied_rows e b k ++ (if is_owned_by e (b.slots k) then row.Own b.time k None None ∷ [] else [])
+-- yield: without a target the caller is stopped, and the rest of its slice is dropped; there is no yield to a target
+abbrev pub yield_when : World → ℕ → Bool → Reply
+yield_when w e false = answer w e code.BadCall 0
+yield_when w e true = record {
+  book = record w.book { runner = None; left = 0 };
+  items = only e (Answer code.Ok 0 ∷ []);
+  rows = row.Stop w.book.time w.book.cursor e ∷ [];
+}
+
+abbrev pub yield : World → ℕ → Reply
+yield w e = yield_when w e (reg (w.solos e).cpu 4 == any)
+
+-- the row of a slot that has changed
+abbrev pub slot_row : ℕ → ℕ → Option Hold → Row
+slot_row t k None = row.Own t k None None
+slot_row t k (Some hold) = row.Own t k (Some hold.owner) (Some hold.holder)
+
+-- the rows of the slots below k that a death changes, by rising slot
+abbrev pub changed_rows : ℕ → Book → ℕ → List Row
+changed_rows e b zero = []
+changed_rows e b (suc k) = changed_rows e b k ++ (if is_changed_by_death e (b.slots k) then slot_row b.time k (slot_after_death e (b.slots k)) ∷ [] else [])
 
 -- the runner's death: its slots are empty, and the rest of its slice is dropped
 abbrev pub death : World → ℕ → Reply
 death w e = record {
   book = record w.book { slots = λ k. slot_after_death e (w.book.slots k); runner = None; left = 0 };
   items = no_items;
-  rows = row.Dead w.book.time w.book.cursor e ∷ emptied_rows e w.book w.book.slot_count;
+  rows = row.Dead w.book.time w.book.cursor e ∷ changed_rows e w.book w.book.slot_count;
 }
 
 -- the reply to a kernel call; a number that names none is answered so
 abbrev pub reply_to : World → ℕ → Option Call → Reply
 reply_to w e None = answer w e code.BadCall 0
+reply_to w e (Some call.Yield) = yield w e
 reply_to w e (Some call.Put) = put w e
 reply_to w e (Some call.Exit) = death w e
+reply_to w e (Some call.OwnNumber) = answer w e code.Ok (w.solos e).number
+reply_to w e (Some call.Clock) = answer w e code.Ok w.book.time
 
 abbrev pub act : World → ℕ → Act → Reply
 act w e Nothing = no_change w

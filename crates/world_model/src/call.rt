@@ -3,10 +3,16 @@ ghost use Rattle.std.specs.Prelude.{◌≡◌};
 /// A kernel call, named by its number in register 2 (`docs/KERNEL.md`).
 #[derive(Clone, Copy)]
 pub enum Call {
+    /// Gives up the rest of the slice.
+    Yield,
     /// Appends bytes to the console.
     Put,
     /// Ends the environment.
     Exit,
+    /// Answers the caller's own number.
+    OwnNumber,
+    /// Answers the time, in ticks since the boot.
+    Clock,
 }
 
 impl Call {
@@ -17,8 +23,11 @@ impl Call {
         ensures { result ≡ call_named number }
     {
         match number {
+            0 => Some(Call::Yield),
             1 => Some(Call::Put),
             2 => Some(Call::Exit),
+            20 => Some(Call::OwnNumber),
+            21 => Some(Call::Clock),
             _ => None,
         }
     }

@@ -12,4 +12,4 @@ pub use call::Call;
 pub use code::Code;
 pub use laws::law_fold;
 pub use life::{Cause, Life};
-pub use page::{KeptPage, Purpose};
+pub use page::Purpose;
