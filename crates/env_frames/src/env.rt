@@ -1,0 +1,130 @@
+ghost use Rattle.std.specs.Prelude.{◌≡◌, ◌<◌, ◌≤◌, ◌+◌, [], ◌∷◌, ◌++◌, length, true};
+ghost use Rattle.env_frames.specs.Frame.{IsAbove, IsRising, blank_cpu as blank, mapping_at, numbers, rested};
+
+use crate::mapping::Mapping;
+use crate::search::place_in;
+use arrayvec::ArrayVec;
+use mips_exec::{Cpu, restart};
+use std::marker::Model;
+
+/// The most guaranteed mappings that an environment has.
+pub const MOST_MAPPINGS: usize = 256;
+
+/// The page number at which each environment sees its context page.
+const CONTEXT_PAGE: u32 = 1;
+
+/// What the kernel keeps of an environment: its registers while it doesn't run, and its guaranteed
+/// mappings by rising page number, at most 256.
+#[derive(Drop)]
+pub struct Env {
+    cpu: Cpu,
+    mappings: ArrayVec<Mapping, 256>,
+}
+
+impl Model for Env {
+    ghost use Rattle.std.specs.Prelude.{◌≤◌, length};
+    ghost use Rattle.env_frames.specs.Frame.{EnvValue, IsRising, numbers};
+
+    ghost Value = { EnvValue };
+
+    ghost view = { λ e. record { cpu = e.cpu; mappings = e.mappings.items } };
+
+    ghost invariant = { λ e. IsRising (numbers e.mappings.items) };
+}
+
+/// The registers of a machine in which nothing has run.
+fn blank_cpu() -> Cpu
+    ensures { result ≡ blank }
+{
+    Cpu {
+        regs: [0; 32],
+        hi: 0,
+        lo: 0,
+        pc: 0,
+        next: 0,
+        slot: false,
+    }
+}
+
+impl Env {
+    /// An environment with these registers that sees one page, which it may store to, at page number
+    /// 1: its context page.
+    pub fn new(cpu: Cpu, page: u32) -> Env
+        ensures { result ≡ record { cpu = cpu; mappings = record { vpn = 1; page = page; writable = true } ∷ [] } }
+    {
+        let mut mappings = ArrayVec::new();
+        mappings.push(Mapping {
+            vpn: CONTEXT_PAGE,
+            page,
+            writable: true,
+        });
+        Env { cpu, mappings }
+    }
+
+    /// Guarantees a mapping, at a page number above all that are guaranteed.
+    pub fn guarantee(&mut self, vpn: u32, page: u32, writable: bool)
+        requires room { length self.old.mappings < 256 }
+        requires above { IsAbove self.old.mappings vpn }
+        ensures mapping { self.new ≡ record self.old { mappings = self.old.mappings ++ record { vpn = vpn; page = page; writable = writable } ∷ [] } }
+        ensures above { IsAbove self.new.mappings (vpn + 1) }
+    {
+        self.mappings.push(Mapping {
+            vpn,
+            page,
+            writable,
+        });
+    }
+
+    /// The guaranteed mapping at a page number, if there is one.
+    pub fn guaranteed(&self, vpn: u32) -> Option<Mapping>
+        ensures value { result ≡ mapping_at self.now.mappings vpn }
+    {
+        let mappings = self.mappings();
+        let place = place_in(mappings, vpn)?;
+        Some(mappings[place])
+    }
+
+    /// The guaranteed mappings by rising page number, at most 256.
+    pub fn mappings(&self) -> &[Mapping]
+        ensures value { result.now ≡ self.now.mappings }
+        ensures rising { IsRising (numbers self.now.mappings) }
+        ensures count { length result.now ≤ 256 }
+    {
+        self.mappings.as_slice()
+    }
+
+    /// Keeps the registers as they stand.
+    pub fn keep(&mut self, cpu: &Cpu)
+        ensures { self.new ≡ record self.old { cpu = cpu.now } }
+    {
+        self.cpu = *cpu;
+    }
+
+    /// The registers as they were kept.
+    pub fn kept(&self) -> Cpu
+        ensures { result ≡ self.now.cpu }
+    {
+        self.cpu
+    }
+
+    /// The registers with which the environment goes on: at its restart address, out of a delay slot.
+    pub fn restore(&self) -> Cpu
+        ensures { result ≡ rested self.now.cpu }
+    {
+        let address = restart(&self.cpu);
+        Cpu {
+            pc: address,
+            next: address.wrapping_add(4),
+            slot: false,
+            ..self.cpu
+        }
+    }
+
+    /// The environment is dead: nothing of it is kept, and all its registers are 0.
+    pub fn clear(&mut self)
+        ensures { self.new ≡ record { cpu = blank; mappings = [] } }
+    {
+        self.cpu = blank_cpu();
+        self.mappings.clear();
+    }
+}
