@@ -1,0 +1,94 @@
+//! The mapping that an access goes through, or what the access raises.
+ghost use Rattle.std.specs.Prelude.{◌≡◌, ◌+◌, ◌/◌, ◌%◌, ◌<◌, length, drop, None, MatchOption};
+ghost use Rattle.frame_store.specs.Pages.{page_at};
+ghost use Rattle.world_model.specs.Page.{address_error as address_error_of, miss as miss_of, reach, raised as raised_at, is_store as is_store_of};
+ghost use Rattle.guest_memory.specs.Look.{look};
+ghost use Rattle.guest_memory.specs.Place.{LeadsThrough, Located};
+
+use env_frames::{Env, Mapping};
+use frame_store::{Frames, PAGE_SIZE};
+use mips_exec::{Exc, ExcCode};
+use world_model::Purpose;
+
+/// The bytes of a page, as a difference of addresses.
+pub(crate) const PAGE_BYTES: u32 = PAGE_SIZE as u32;
+
+/// The first address that isn't a user's.
+pub(crate) const USER_END: u32 = 0x8000_0000;
+
+/// What an address outside user space raises.
+fn address_error(purpose: Purpose) -> ExcCode
+    ensures { result ≡ address_error_of purpose }
+{
+    match purpose {
+        Purpose::Fetch | Purpose::Load => ExcCode::Adel,
+        Purpose::Store => ExcCode::Ades,
+    }
+}
+
+/// What a page number that leads nowhere raises.
+fn miss(purpose: Purpose) -> ExcCode
+    ensures { result ≡ miss_of purpose }
+{
+    match purpose {
+        Purpose::Fetch | Purpose::Load => ExcCode::Tlbl,
+        Purpose::Store => ExcCode::Tlbs,
+    }
+}
+
+fn is_store(purpose: Purpose) -> bool
+    ensures { result ≡ is_store_of purpose }
+{
+    match purpose {
+        Purpose::Fetch | Purpose::Load => false,
+        Purpose::Store => true,
+    }
+}
+
+fn raised(code: ExcCode, address: u32) -> Exc
+    ensures { result ≡ raised_at code address }
+{
+    Exc {
+        code,
+        bad: address,
+        unit: 0,
+    }
+}
+
+/// The mapping of a page number, where physical memory has its page.
+pub(crate) fn mapping_of(frames: &Frames, env: &Env, vpn: u32) -> Option<Mapping>
+    ensures { MatchOption result (look frames.now env.now.mappings vpn ≡ None) (LeadsThrough frames.now env.now.mappings vpn) }
+{
+    let mapping = env.guaranteed(vpn)?;
+    if mapping.page < frames.pages() {
+        Some(mapping)
+    } else {
+        None
+    }
+}
+
+/// The mapping that serves an access, or what the access raises.
+pub(crate) fn locate(frames: &Frames, env: &Env, purpose: Purpose, va: u32) -> Result<Mapping, Exc>
+    ensures { Located frames.now env.now.mappings (va / 4096) (reach (look frames.now env.now.mappings) purpose va) result }
+{
+    if va >= USER_END {
+        return Err(raised(address_error(purpose), va));
+    }
+    let Some(mapping) = mapping_of(frames, env, va / PAGE_BYTES) else {
+        return Err(raised(miss(purpose), va));
+    };
+    if is_store(purpose) && !mapping.writable {
+        return Err(raised(ExcCode::Mod, va));
+    }
+    Ok(mapping)
+}
+
+/// The bytes of a page of physical memory from an address on.
+pub(crate) fn bytes_from(frames: &Frames, page: u32, va: u32) -> &[u8]
+    requires { page < length frames.now }
+    ensures bytes { result.now ≡ drop (va % 4096) (page_at frames.now page) }
+    ensures rest { length result.now + va % 4096 ≡ 4096 }
+{
+    let bytes = frames.page(page);
+    &bytes[(va % PAGE_BYTES) as usize..]
+}
