@@ -1,3 +1,13 @@
-pub mod Places
-pub mod Served
-pub mod Worlds
+pub mod Lists
+pub mod Pages
+pub mod Parts
+pub mod Slices
+pub mod Seen
+pub mod Sound
+pub mod Turning
+pub mod Stepping
+pub mod Giving
+pub mod Coming
+pub mod Room
+pub mod Putting
+pub mod Building

@@ -1,6 +1,5 @@
-pub mod Rising
-pub mod Memory
 pub mod Shown
 pub mod Showing
+pub mod Sound
 pub mod Doing
 pub mod Loading

@@ -1,24 +1,26 @@
--- The board of a program that hasn't run.
-use Rattle.std.specs.Prelude.{◌≡◌, ℕ, [], ◌∷◌, Some}
-use Rattle.boot_image.specs.ImageValue.{ImageValue, ProgramValue}
-use Rattle.kernel_journal.specs.declared.row.Row.TheVariants as row
-use Rattle.world_model.specs.Boot.{kept_of, boot_world}
-use Rattle.world_model.specs.Item.{booted}
-use Rattle.aegis_calls.specs.declared.state.State.TheVariants.{Waiting}
+-- An environment whose pages are being given to it, one after another.
+use Rattle.std.specs.Prelude.{◌≡◌, ◌≤◌, ◌<◌, ◌+◌, ◌-◌, ◌++◌, ℕ, List, length, replicate, Some, slice_get}
+use Rattle.frame_store.specs.Pages.{page_at, zero_page}
+use Rattle.env_frames.specs.declared.mapping.Mapping.{Mapping}
 use Rattle.aegis_calls.specs.Shown.{Shown}
-use Rattle.aegis_calls.specs.Showing.{world_of}
 
--- the board with this program and quantum, part by part
-pub record IsLoaded (quantum : ℕ) (p : ProgramValue) (b : Shown) : Type 0 where
-  pub name : b.name ≡ p.name
-  pub state : b.state ≡ Waiting
-  pub cpu : b.cpu ≡ (booted 0 p.name p.base (kept_of p)).cpu
-  pub kept : b.kept ≡ kept_of p
-  pub console : b.console ≡ []
-  pub quantum_is : b.quantum ≡ quantum
+-- its mappings lead to the pages from this one on, in order, and all pages after them are zero
+pub record IsLoading (first : ℕ) (frames : List (List ℕ)) (mappings : List Mapping) : Type 0 where
+  pub fresh : (n : ℕ) → first + length mappings ≤ n → n < length frames → page_at frames n ≡ zero_page
+  pub placed : (k : ℕ) (m : Mapping) → slice_get mappings k ≡ Some m → m.page ≡ first + k
+
+-- the pages below this one stayed as they were, and none came or went
+pub record IsKeptBelow (first : ℕ) (old new : List (List ℕ)) : Type 0 where
+  pub size : length new ≡ length old
+  pub lower : (n : ℕ) → n < first → page_at new n ≡ page_at old n
+
+-- bytes with zeros behind them, a whole page
+abbrev pub padded : List ℕ → List ℕ
+padded bytes = bytes ++ replicate (4096 - length bytes) 0
+
+-- a board on which no program stands yet, with so many pages, and room for so many environments
+pub record IsBare (pages envs : ℕ) (b : Shown) : Type 0 where
+  pub pages_are : length b.frames ≡ pages
+  pub taken : b.taken ≡ 0
+  pub spare : b.roster.spare ≡ envs
   pub time : b.time ≡ 0
-  pub rows : b.ledger.rows ≡ row.Own 0 0 (Some 0) (Some 0) ∷ []
-
--- the board shows the world of the image with this program, this quantum and one slot, which is its own
-abbrev pub ShowsBoot : ℕ → ProgramValue → Shown → Type 0
-ShowsBoot quantum p b = (image : ImageValue) → image.quantum ≡ quantum → image.slots ≡ Some 0 ∷ [] → image.programs ≡ p ∷ [] → world_of b ≡ boot_world image

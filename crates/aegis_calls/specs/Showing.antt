@@ -1,59 +1,69 @@
 -- The world that a board shows.
-use Rattle.std.specs.Prelude.{ℕ, zero, suc, Option, Some, None}
-use Rattle.world_model.specs.declared.life.Life.{Life}
-use Rattle.world_model.specs.declared.life.Life.TheVariants as life
+use Rattle.std.specs.Prelude.{ℕ, Bool, false, ◌==◌, if◌then◌else◌, List, map, length, Option, Some, None, slice_get}
+use Rattle.std.specs.Option.{option_map}
+use Rattle.mips_exec.specs.declared.registers.Cpu.{Cpu}
+use Rattle.frame_store.specs.Pages.{page_at}
+use Rattle.env_frames.specs.declared.mapping.Mapping.{Mapping}
+use Rattle.slot_vector.specs.declared.hold.Hold as slot
+use Rattle.slot_vector.specs.Slices.{hold_at}
+use Rattle.world_model.specs.Page.{KeptPage}
 use Rattle.world_model.specs.Book.{Book, Hold}
-use Rattle.world_model.specs.Boot.{own_hold}
 use Rattle.world_model.specs.Solo.{Solo, absent}
 use Rattle.world_model.specs.World.{World}
-use Rattle.aegis_calls.specs.declared.state.State.{State}
-use Rattle.aegis_calls.specs.declared.state.State.TheVariants.{Waiting, Running, Gone}
-use Rattle.aegis_calls.specs.Shown.{Shown}
+use Rattle.aegis_calls.specs.declared.readers.PageView.{PageView}
+use Rattle.aegis_calls.specs.declared.roster.Environment.{Environment}
+use Rattle.aegis_calls.specs.Shown.{Shown, console_of}
 
-abbrev pub life_of : State → Life
-life_of Waiting = life.Live
-life_of (Running left) = life.Live
-life_of (Gone cause) = life.Dead cause
+-- a mapping with the bytes of its page
+abbrev pub page_seen : List (List ℕ) → Mapping → KeptPage
+page_seen frames m = record { vpn = m.vpn; writable = m.writable; bytes = page_at frames m.page }
 
--- the one slot: it belongs to the environment while that lives
-abbrev pub hold_of : State → Option Hold
-hold_of Waiting = Some (own_hold 0)
-hold_of (Running left) = Some (own_hold 0)
-hold_of (Gone cause) = None
+abbrev pub pages_seen : List (List ℕ) → List Mapping → List KeptPage
+pages_seen frames mappings = map (page_seen frames) mappings
 
-abbrev pub runner_of : State → Option ℕ
-runner_of Waiting = None
-runner_of (Running left) = Some 0
-runner_of (Gone cause) = None
+abbrev pub is_named : ℕ → Option ℕ → Bool
+is_named e None = false
+is_named e (Some runner) = runner == e
 
-abbrev pub left_of : State → ℕ
-left_of Waiting = 0
-left_of (Running left) = left
-left_of (Gone cause) = 0
+-- the runner's registers are the machine's, and each other's are those that are kept
+abbrev pub cpu_seen : Shown → ℕ → Cpu → Cpu
+cpu_seen b e kept = if is_named e b.slots.runner then b.cpu else kept
 
--- one slot and none after it
-abbrev pub one_slot : Option Hold → ℕ → Option Hold
-one_slot hold zero = hold
-one_slot hold (suc k) = None
+abbrev pub solo_seen : Shown → ℕ → Environment → Solo
+solo_seen b e x = record {
+  number = e;
+  name = x.name;
+  life = x.life;
+  cpu = cpu_seen b e x.env.cpu;
+  kept = pages_seen b.frames x.env.mappings;
+  console = console_of b.consoles e;
+}
 
--- one environment and none after it
-abbrev pub one_solo : Solo → ℕ → Solo
-one_solo s zero = s
-one_solo s (suc e) = absent (suc e)
+abbrev pub solo_or_absent : Shown → ℕ → Option Environment → Solo
+solo_or_absent b e None = absent e
+solo_or_absent b e (Some x) = solo_seen b e x
 
-abbrev pub solo_of : Shown → Solo
-solo_of b = record { number = 0; name = b.name; life = life_of b.state; cpu = b.cpu; kept = b.kept; console = b.console }
+-- an environment of the board, or one that it hasn't got
+abbrev pub solo_of : Shown → ℕ → Solo
+solo_of b e = solo_or_absent b e (slice_get b.roster.list e)
+
+abbrev pub hold_seen : slot.Hold → Hold
+hold_seen h = record { owner = h.owner; holder = h.holder }
 
 abbrev pub book_of : Shown → Book
 book_of b = record {
-  slot_count = 1;
-  slots = one_slot (hold_of b.state);
-  quantum = b.quantum;
-  cursor = 0;
-  runner = runner_of b.state;
-  left = left_of b.state;
+  slot_count = length b.slots.slots;
+  slots = λ k. option_map hold_seen (hold_at b.slots.slots k);
+  quantum = b.slots.quantum;
+  cursor = b.slots.cursor;
+  runner = b.slots.runner;
+  left = b.slots.left;
   time = b.time;
 }
 
 abbrev pub world_of : Shown → World
-world_of b = record { book = book_of b; count = 1; solos = one_solo (solo_of b); rows = b.ledger.rows }
+world_of b = record { book = book_of b; count = length b.roster.list; solos = solo_of b; rows = b.ledger.rows }
+
+-- a page that is lent
+abbrev pub view_seen : PageView → KeptPage
+view_seen v = record { vpn = v.vpn; writable = v.writable; bytes = v.bytes.now }

@@ -1,17 +1,55 @@
 -- What a board shows: its parts as plain data.
-use Rattle.std.specs.Prelude.{ℕ, List}
+use Rattle.std.specs.Prelude.{ℕ, zero, suc, List, [], ◌∷◌, Option, Some, None, unwrap_or, slice_get}
 use Rattle.kernel_journal.specs.Ledger.{Ledger}
 use Rattle.mips_exec.specs.declared.registers.Cpu.{Cpu}
-use Rattle.world_model.specs.declared.page.KeptPage.{KeptPage}
-use Rattle.aegis_calls.specs.declared.state.State.{State}
+use Rattle.slot_vector.specs.Slices.{Slices}
+use Rattle.env_frames.specs.declared.mapping.Mapping.{Mapping}
+use Rattle.env_frames.specs.Frame.{blank_cpu}
+use Rattle.aegis_calls.specs.declared.roster.Environment.{Environment}
 
--- the environment's name, its state, its registers, pages and console, and the board's quantum, time and ledger
+-- the environments so far, and how many more there is room for
+pub record Environments : Type 0 where
+  pub list : List Environment
+  pub spare : ℕ
+
+-- The pages of physical memory, of which so many are given out; the vector of slots; the registers of
+-- the machine; the environments; what each wrote to its console; the time; and the ledger.
 pub record Shown : Type 0 where
-  pub name : List ℕ
-  pub state : State
+  pub frames : List (List ℕ)
+  pub taken : ℕ
+  pub slots : Slices
   pub cpu : Cpu
-  pub kept : List KeptPage
-  pub console : List ℕ
-  pub quantum : ℕ
+  pub roster : Environments
+  pub consoles : List (List ℕ)
   pub time : ℕ
   pub ledger : Ledger
+
+abbrev pub mappings_in : Option Environment → List Mapping
+mappings_in None = []
+mappings_in (Some x) = x.env.mappings
+
+-- the guaranteed mappings of an environment
+abbrev pub mappings_of : List Environment → ℕ → List Mapping
+mappings_of list e = mappings_in (slice_get list e)
+
+abbrev pub registers_in : Option Environment → Cpu
+registers_in None = blank_cpu
+registers_in (Some x) = x.env.cpu
+
+-- the registers that are kept of an environment
+abbrev pub registers_of : List Environment → ℕ → Cpu
+registers_of list e = registers_in (slice_get list e)
+
+-- what an environment wrote
+abbrev pub console_of : List (List ℕ) → ℕ → List ℕ
+console_of consoles e = unwrap_or (slice_get consoles e) []
+
+-- a list with the element at one place changed
+abbrev pub changed : {A : Type 0} → (A → A) → List A → ℕ → List A
+changed f [] e = []
+changed f (x ∷ xs) zero = f x ∷ xs
+changed f (x ∷ xs) (suc e) = x ∷ changed f xs e
+
+-- other environments in a roster
+abbrev pub with_list : Environments → List Environment → Environments
+with_list r list = record r { list = list }

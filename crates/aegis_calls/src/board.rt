@@ -1,29 +1,33 @@
 //! The board and what it shows.
 
-use crate::console::Console;
-use crate::memory::Memory;
-use crate::state::State;
+use crate::console::Consoles;
+use crate::roster::Roster;
+use frame_store::Frames;
 use kernel_journal::Journal;
 use mips_exec::Cpu;
+use slot_vector::Slots;
 use std::marker::Model;
 
-/// The machine, the environment on it, and the kernel's books.
+/// The machine, the environments on it, and the kernel's books.
 #[derive(Drop)]
 pub struct Board {
-    pub(crate) name: [u8; 8],
-    pub(crate) state: State,
+    pub(crate) frames: Frames,
+    pub(crate) taken: u32,
+    pub(crate) slots: Slots,
     pub(crate) cpu: Cpu,
-    pub(crate) memory: Memory,
-    pub(crate) console: Console,
-    pub(crate) quantum: u32,
+    pub(crate) roster: Roster,
+    pub(crate) consoles: Consoles,
     pub(crate) time: u32,
     pub(crate) journal: Journal,
 }
 
 impl Model for Board {
     ghost use Rattle.aegis_calls.specs.Shown.{Shown};
+    ghost use Rattle.aegis_calls.specs.Sound.{IsSound};
 
     ghost Value = { Shown };
 
-    ghost view = { λ b. record { name = b.name; state = b.state; cpu = b.cpu; kept = b.memory; console = b.console; quantum = b.quantum; time = b.time; ledger = b.journal } };
+    ghost view = { λ b. record { frames = b.frames; taken = b.taken; slots = b.slots; cpu = b.cpu; roster = b.roster; consoles = b.consoles; time = b.time; ledger = b.journal } };
+
+    ghost invariant = { λ b. IsSound (record { frames = b.frames; taken = b.taken; slots = b.slots; cpu = b.cpu; roster = b.roster; consoles = b.consoles; time = b.time; ledger = b.journal }) };
 }

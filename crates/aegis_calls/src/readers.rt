@@ -1,13 +1,23 @@
 //! What the layers above read of a board. Environments are named by number; a board has `envs()` of
 //! them, from 0 on.
-ghost use Rattle.std.specs.Prelude.{◌≡◌, ◌<◌, ◌≤◌, OnOk, OnErr, IsOk};
+ghost use Rattle.std.specs.Prelude.{◌≡◌, ◌<◌, ◌≤◌, OnOk, OnErr, IsOk, length, slice_get};
+ghost use Rattle.std.specs.Option.{option_map};
+ghost use Rattle.aegis_calls.specs.Showing.{view_seen, page_seen};
 
 use crate::board::Board;
-use crate::state::State;
 use edge_io::OutOfMemory;
+use env_frames::Mapping;
 use kernel_journal::Row;
 use mips_exec::Cpu;
-use world_model::{KeptPage, Life};
+use world_model::Life;
+
+/// A guaranteed page: its page number, whether it may be stored to, and its 4,096 bytes.
+#[derive(Clone, Copy)]
+pub struct PageView<'a> {
+    pub vpn: u32,
+    pub writable: bool,
+    pub bytes: &'a [u8],
+}
 
 impl Board {
     ghost use Rattle.aegis_calls.specs.Showing.{world_of};
@@ -16,7 +26,7 @@ impl Board {
     pub fn envs(&self) -> u8
         ensures { result ≡ (world_of self.now).count }
     {
-        1
+        self.roster.len() as u8
     }
 
     /// Ticks since the boot.
@@ -27,56 +37,78 @@ impl Board {
     }
 
     /// The eight bytes of an environment's name.
-    pub fn name(&self, _env: u8) -> [u8; 8]
-        requires { _env < (world_of self.now).count }
-        ensures { result ≡ ((world_of self.now).solos _env).name }
+    pub fn name(&self, env: u8) -> [u8; 8]
+        requires { env < (world_of self.now).count }
+        ensures { result ≡ ((world_of self.now).solos env).name }
     {
-        self.name
+        self.roster.at(env).name
     }
 
     /// Whether an environment lives, or why it died.
-    pub fn life(&self, _env: u8) -> Life
-        requires { _env < (world_of self.now).count }
-        ensures { result ≡ ((world_of self.now).solos _env).life }
+    pub fn life(&self, env: u8) -> Life
+        requires { env < (world_of self.now).count }
+        ensures { result ≡ ((world_of self.now).solos env).life }
     {
-        match self.state {
-            State::Waiting | State::Running(_) => Life::Live,
-            State::Gone(cause) => Life::Dead(cause),
+        self.roster.at(env).life
+    }
+
+    /// An environment's registers as they stand: the machine's, if it runs, and else those that are kept.
+    pub fn cpu(&self, env: u8) -> Cpu
+        requires { env < (world_of self.now).count }
+        ensures { result ≡ ((world_of self.now).solos env).cpu }
+    {
+        if self.slots.runner() == Some(env) {
+            self.cpu
+        } else {
+            self.roster.at(env).env.kept()
         }
     }
 
-    /// An environment's registers as they stand.
-    pub fn cpu(&self, _env: u8) -> Cpu
-        requires { _env < (world_of self.now).count }
-        ensures { result ≡ ((world_of self.now).solos _env).cpu }
-    {
-        self.cpu
-    }
-
     /// What an environment wrote to its console.
-    pub fn console(&self, _env: u8) -> &[u8]
-        requires { _env < (world_of self.now).count }
-        ensures { result.now ≡ ((world_of self.now).solos _env).console }
+    pub fn console(&self, env: u8) -> &[u8]
+        requires { env < (world_of self.now).count }
+        ensures { result.now ≡ ((world_of self.now).solos env).console }
     {
-        self.console.bytes()
+        self.consoles.at(env).bytes()
     }
 
-    /// An environment's guaranteed pages, by rising page number.
-    pub fn kept_pages(&self, _env: u8) -> &[KeptPage]
-        requires { _env < (world_of self.now).count }
-        ensures { result.now ≡ ((world_of self.now).solos _env).kept }
+    /// How many guaranteed pages an environment has, at most 256.
+    pub fn kept_count(&self, env: u8) -> usize
+        requires { env < (world_of self.now).count }
+        ensures { result ≡ length ((world_of self.now).solos env).kept }
     {
-        self.memory.pages()
+        self.roster.frame(env).mappings().len()
+    }
+
+    /// The guaranteed page at this place of an environment's, by rising page number; none past the last.
+    pub fn kept_page(&self, env: u8, place: usize) -> Option<PageView<'_>>
+        requires { env < (world_of self.now).count }
+        ensures { option_map view_seen result ≡ slice_get ((world_of self.now).solos env).kept place }
+    {
+        let mappings = self.roster.frame(env).mappings();
+        if place >= mappings.len() {
+            return None;
+        }
+        Some(self.page_through(mappings[place]))
+    }
+
+    /// The page that a mapping leads to.
+    fn page_through(&self, mapping: Mapping) -> PageView<'_>
+        requires { mapping.page < length self.now.frames }
+        ensures { view_seen result ≡ page_seen self.now.frames mapping }
+    {
+        PageView {
+            vpn: mapping.vpn,
+            writable: mapping.writable,
+            bytes: self.frames.page(mapping.page),
+        }
     }
 
     /// Who runs, if anybody does.
     pub fn runner(&self) -> Option<u8>
         ensures { result ≡ (world_of self.now).book.runner }
     {
-        match self.state {
-            State::Running(_) => Some(0),
-            State::Waiting | State::Gone(_) => None,
-        }
+        self.slots.runner()
     }
 
     /// The rows of the ledger.
@@ -90,6 +122,7 @@ impl Board {
     pub fn make_room(&mut self, rows: u32) -> Result<(), OutOfMemory>
         ensures room { OnOk result (rows ≤ self.new.ledger.spare) }
         ensures world { world_of self.new ≡ world_of self.old }
+        ensures whole { self.new.roster ≡ self.old.roster }
         ensures there { rows ≤ self.old.ledger.spare → IsOk result × (self.new ≡ self.old) }
         ensures refused { OnErr result (self.new ≡ self.old) }
     {

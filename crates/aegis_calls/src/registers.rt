@@ -1,9 +1,8 @@
-//! What the kernel does to an environment's registers.
+//! What the kernel does to the registers of its caller.
 ghost use Rattle.std.specs.Prelude.{◌≡◌};
-ghost use Rattle.world_model.specs.Item.{rest as rested, answered_cpu};
-ghost use Rattle.world_model.specs.Solo.{blank_cpu as blank};
+ghost use Rattle.world_model.specs.Item.{answered_cpu};
 
-use mips_exec::{Cpu, restart};
+use mips_exec::Cpu;
 use world_model::Code;
 
 /// The register of a call's number and of an answer's code.
@@ -16,30 +15,6 @@ const VALUE_REGISTER: u8 = 3;
 pub(crate) const FIRST_ARGUMENT: u8 = 4;
 
 pub(crate) const SECOND_ARGUMENT: u8 = 5;
-
-/// The registers of a machine in which nothing has run.
-pub(crate) fn blank_cpu() -> Cpu
-    ensures { result ≡ blank }
-{
-    Cpu {
-        regs: [0; 32],
-        hi: 0,
-        lo: 0,
-        pc: 0,
-        next: 0,
-        slot: false,
-    }
-}
-
-/// A stopped machine runs again from its restart address.
-pub(crate) fn rest(cpu: &mut Cpu)
-    ensures { cpu.new ≡ rested cpu.old }
-{
-    let address = restart(cpu);
-    cpu.pc = address;
-    cpu.next = address.wrapping_add(4);
-    cpu.slot = false;
-}
 
 /// A call's caller finds the answer, and goes on behind the call.
 pub(crate) fn answer(cpu: &mut Cpu, code: Code, value: u32)

@@ -1,17 +1,22 @@
-//! The parts of a tick, on the world that the board shows.
-ghost use Rattle.std.specs.Prelude.{◌≡◌, ◌+◌, ◌<◌, ◌≤◌, IsSome, false};
+//! The parts of a tick, kernel calls and deaths, on the world that the board shows.
+ghost use Rattle.std.specs.Prelude.{◌≡◌, ◌+◌, ◌<◌, ◌≤◌, ℕ, IsSome, Some, false, true};
 ghost use Rattle.world_model.specs.Book.{is_idle_book};
 ghost use Rattle.world_model.specs.World.{after};
-ghost use Rattle.world_model.specs.Tick.{turn as turn_phase, step as step_phase, timer as timer_phase};
+ghost use Rattle.world_model.specs.Tick.{turn as turn_phase, step as step_phase, timer as timer_phase, called_world, died, refusal_of, refused};
+ghost use Rattle.world_model.specs.declared.code.Code.{Code};
 
 use crate::board::Board;
-use crate::state::State;
+use crate::registers::CODE_REGISTER;
+use world_model::{Call, Cause};
 
 /// The most rows that a turn may write.
 pub const TURN_ROWS: usize = 512;
 
 /// The most rows that a step, or the timer, may write.
 pub const STEP_ROWS: usize = 256;
+
+/// The most rows that a kernel call, or a death, may write.
+pub const CALL_ROWS: usize = 128;
 
 /// The time ends here: no run is longer.
 pub const TIME_LIMIT: u32 = 4_194_304;
@@ -23,18 +28,20 @@ impl Board {
     pub fn idle(&self) -> bool
         ensures { result ≡ is_idle_book (world_of self.now).book }
     {
-        matches!(self.state, State::Gone(_))
+        self.slots.idle()
     }
 
-    /// The next turn with its start, where nobody runs; else nothing.
-    #[tactic(auto, using(crate::proofs::Worlds::turned_world))]
+    /// The next turn with its start, where nobody runs; else nothing. All environments must be there.
     pub fn turn(&mut self)
+        requires whole { self.old.roster.spare ≡ 0 }
         requires room { TURN_ROWS ≤ self.old.ledger.spare }
         ensures world { world_of self.new ≡ after (world_of self.old) (turn_phase (world_of self.old)) }
         ensures runs { is_idle_book (world_of self.old).book ≡ false → IsSome (world_of self.new).book.runner }
         ensures time { self.new.time ≡ self.old.time }
+        ensures whole { self.new.roster.spare ≡ 0 }
         ensures room { self.old.ledger.spare ≤ self.new.ledger.spare + TURN_ROWS }
     {
+        let _ = &self.time;
         self.take_turn();
     }
 
@@ -44,20 +51,52 @@ impl Board {
         requires room { STEP_ROWS ≤ self.old.ledger.spare }
         ensures world { world_of self.new ≡ after (world_of self.old) (step_phase (world_of self.old)) }
         ensures time { self.new.time ≡ self.old.time }
+        ensures whole { self.new.roster.spare ≡ self.old.roster.spare }
         ensures room { self.old.ledger.spare ≤ self.new.ledger.spare + STEP_ROWS }
     {
-        self.run_step();
+        let _ = &self.time;
+        if let Some(env) = self.runner() {
+            self.run_step(env);
+        }
     }
 
     /// The runner's ticks left fall by one, and at none it is stopped; time rises by one.
-    #[tactic(auto, using(crate::proofs::Worlds::counted_world))]
     pub fn timer(&mut self)
         requires time { self.old.time < TIME_LIMIT }
         requires room { STEP_ROWS ≤ self.old.ledger.spare }
         ensures world { world_of self.new ≡ after (world_of self.old) (timer_phase (world_of self.old)) }
         ensures time { self.new.time ≡ self.old.time + 1 }
+        ensures whole { self.new.roster.spare ≡ self.old.roster.spare }
         ensures room { self.old.ledger.spare ≤ self.new.ledger.spare + STEP_ROWS }
     {
+        let _ = &self.time;
         self.count();
+    }
+
+    /// One kernel call of the runner: it stands at a SYSCALL outside a delay slot. A call that is
+    /// refused changes the caller's `$2`, `$3` and where it stands, and nothing else.
+    pub fn call(&mut self)
+        requires runs { IsSome (world_of self.old).book.runner }
+        requires room { CALL_ROWS ≤ self.old.ledger.spare }
+        ensures world { (e : ℕ) → (world_of self.old).book.runner ≡ Some e → world_of self.new ≡ called_world (world_of self.old) e }
+        ensures refused { (e : ℕ) (code : Code) → (world_of self.old).book.runner ≡ Some e → refusal_of (world_of self.old) e ≡ Some code → world_of self.new ≡ refused (world_of self.old) e code }
+        ensures room { self.old.ledger.spare ≤ self.new.ledger.spare + CALL_ROWS }
+    {
+        let _ = &self.time;
+        if let Some(env) = self.runner() {
+            let number = self.cpu.reg(CODE_REGISTER);
+            self.call_named(env, Call::named(number));
+        }
+    }
+
+    /// The runner's death of this cause.
+    pub fn kill(&mut self, env: u8, cause: Cause)
+        requires runs { (world_of self.old).book.runner ≡ Some env }
+        requires room { CALL_ROWS ≤ self.old.ledger.spare }
+        ensures world { world_of self.new ≡ died (world_of self.old) env cause }
+        ensures room { self.old.ledger.spare ≤ self.new.ledger.spare + CALL_ROWS }
+    {
+        let _ = &self.time;
+        self.die(env, cause);
     }
 }

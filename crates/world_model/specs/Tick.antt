@@ -9,10 +9,12 @@ use Rattle.world_model.specs.Book.{Book, Hold, Turn, next_turn, is_changed_by_de
 use Rattle.world_model.specs.Step.{Act, Nothing, Calls, Dies, step_alone, act_of}
 use Rattle.world_model.specs.declared.call.Call.{Call}
 use Rattle.world_model.specs.declared.call.Call.TheVariants as call
-use Rattle.world_model.specs.Solo.{sight}
-use Rattle.world_model.specs.Call.{put_refusal, any}
-use Rattle.world_model.specs.Item.{Item, Step, Start, Answer}
-use Rattle.world_model.specs.World.{World, Reply, only, no_items, run_phases, phase_items}
+use Rattle.world_model.specs.Solo.{Solo, sight, dead}
+use Rattle.world_model.specs.Call.{call_named, call_number, put_refusal, any}
+use Rattle.world_model.specs.declared.life.Cause.{Cause}
+use Rattle.world_model.specs.declared.life.Cause.TheVariants as cause
+use Rattle.world_model.specs.Item.{Item, Step, Start, Answer, answered_cpu}
+use Rattle.world_model.specs.World.{World, Reply, only, no_items, after, run_phases, phase_items}
 
 abbrev pub no_change : World → Reply
 no_change w = record { book = w.book; items = no_items; rows = [] }
@@ -131,3 +133,40 @@ tick_step w = run_phases w phases
 -- what an environment is given in a tick
 abbrev pub tick_items : World → ℕ → List Item
 tick_items w e = phase_items w phases e
+
+-- Apart from a tick. The world after the runner's death of this cause
+abbrev pub died : World → ℕ → Cause → World
+died w e cause = record {
+  book = (death w e).book;
+  count = w.count;
+  solos = λ i. if i == e then dead cause (w.solos e) else w.solos i;
+  rows = w.rows ++ (death w e).rows;
+}
+
+-- the world after a kernel call of the runner: it dies, or absorbs the answer
+abbrev pub called_when : World → ℕ → Option Call → World
+called_when w e None = after w (reply_to w e None)
+called_when w e (Some call.Yield) = after w (reply_to w e (Some call.Yield))
+called_when w e (Some call.Put) = after w (reply_to w e (Some call.Put))
+called_when w e (Some call.Exit) = died w e (cause.Exit (reg (w.solos e).cpu 4))
+called_when w e (Some call.OwnNumber) = after w (reply_to w e (Some call.OwnNumber))
+called_when w e (Some call.Clock) = after w (reply_to w e (Some call.Clock))
+
+abbrev pub called_world : World → ℕ → World
+called_world w e = called_when w e (call_named (call_number (w.solos e).cpu))
+
+-- why the runner's call is refused
+abbrev pub refusal_when : Solo → Option Call → Option Code
+refusal_when s None = Some code.BadCall
+refusal_when s (Some call.Yield) = if reg s.cpu 4 == any then None else Some code.BadCall
+refusal_when s (Some call.Put) = put_refusal s.cpu (sight s.kept) (length s.console)
+refusal_when s (Some call.Exit) = None
+refusal_when s (Some call.OwnNumber) = None
+refusal_when s (Some call.Clock) = None
+
+abbrev pub refusal_of : World → ℕ → Option Code
+refusal_of w e = refusal_when (w.solos e) (call_named (call_number (w.solos e).cpu))
+
+-- A refused call changes the caller's registers 2 and 3 and where it stands, and nothing else.
+abbrev pub refused : World → ℕ → Code → World
+refused w e code = record w { solos = λ i. if i == e then record (w.solos e) { cpu = answered_cpu code 0 (w.solos e).cpu } else w.solos i }

@@ -1,8 +1,17 @@
--- What the step does to what is shown is the model's step.
-use Rattle.std.proofs.Common.{ap, ◌∙◌}
+-- The step is the model's.
+use Rattle.std.proofs.Common.{sym, ap, ◌∙◌, subst, arith}
+use Rattle.aegis_calls.specs.Shown.{Shown}
 use Rattle.aegis_calls.specs.Showing.{world_of}
-use Rattle.aegis_calls.proofs.Worlds.{stepped_world}
+use Rattle.aegis_calls.specs.Sound.{IsSound}
+use Rattle.aegis_calls.specs.Doing.{step_seen}
+use Rattle.aegis_calls.proofs.Stepping.{stepped_world}
+use Rattle.aegis_calls.proofs.Room.{came_room}
 use Rattle.aegis_calls.proofs.board.Board.step.Goals as goal
 
-pub returns-clause-world : goal.returns-clause-world
-returns-clause-world c = ap world_of c.run_step.ensures ∙ stepped_world c.args.self.now c.requires.runs
+pub returns-in-Some-clause-world : goal.returns-in-Some-clause-world
+returns-in-Some-clause-world c = ap world_of c.run_step.ensures ∙ stepped_world c.args.self.now c.in-Some.env (subst IsSound c.self.view_is c.self.invariant) (sym c.runner.ensures ∙ c.in-Some.is)
+
+pub returns-in-Some-clause-room : goal.returns-in-Some-clause-room
+returns-in-Some-clause-room c =
+    let room = came_room c.args.self.now c.in-Some.env (step_seen c.args.self.now c.in-Some.env) (subst IsSound c.self.view_is c.self.invariant) in
+    omega (arith, room, ap (λ (b : Shown). b.ledger.spare) c.run_step.ensures)

@@ -1,0 +1,101 @@
+-- What a store does to the pages that environments see.
+use Rattle.std.proofs.Common.{◌≡◌, ◌≢◌, ℕ, zero, suc, ◌/◌, ◌%◌, ◌<◌, List, [], ◌∷◌, length, Bool, true, false, Some, None, refl, sym, ◌∙◌, ap, arith, get_or-set_same, get_or-set_other}
+use Rattle.std.specs.Prelude.{◌==◌, if◌then◌else◌, slice_get, slice_index}
+use Rattle.std.specs.Option.{option_map}
+use Rattle.std.proofs.lemmas.Bool.{eqb-true, eqb-false}
+use Rattle.mips_exec.specs.Access.{Write}
+use Rattle.frame_store.specs.Pages.{page_at, after_put}
+use Rattle.env_frames.specs.declared.mapping.Mapping.{Mapping}
+use Rattle.env_frames.specs.Frame.{mapping_at, numbers, IsRising}
+use Rattle.guest_memory.specs.Look.{look, look_through}
+use Rattle.world_model.specs.Page.{with_bytes}
+use Rattle.world_model.specs.Solo.{kept_at, sight, mapped, kept_after, stored_page}
+use Rattle.aegis_calls.specs.Showing.{page_seen, pages_seen}
+
+-- each mapping leads to a page that physical memory has
+abbrev pub AreInside : List (List ℕ) → List Mapping → Type 0
+AreInside frames ms = (a : ℕ) (m : Mapping) → slice_get ms a ≡ Some m → m.page < length frames
+
+-- a page within physical memory
+pub page_there : (frames : List (List ℕ)) (n : ℕ) → n < length frames → slice_get frames n ≡ Some (page_at frames n)
+page_there [] n within = absurd (omega arith)
+page_there (x ∷ frames) zero within = refl
+page_there (x ∷ frames) (suc n) within = page_there frames n (omega arith)
+
+-- where a page number leads is what the environment sees there
+pub seen_look : (frames : List (List ℕ)) (ms : List Mapping) (v : ℕ) → AreInside frames ms → look frames ms v ≡ sight (pages_seen frames ms) v
+seen_look frames [] v inside = refl
+seen_look frames (m ∷ ms) v inside =
+    elim (m.vpn == v) as (λ here. look_through frames (if here then Some m else mapping_at ms v) ≡ option_map mapped (if here then Some (page_seen frames m) else kept_at (pages_seen frames ms) v)) [
+      | true ↦ rw (page_there frames m.page (inside 0 m refl)) refl
+      | false ↦ seen_look frames ms v (λ a n. inside (suc a) n)
+    ]
+
+-- Which pages a store changes: the one that its page number leads to, and no other.
+pub record IsStruck (v p : ℕ) (m : Mapping) : Type 0 where
+  pub here : m.vpn ≡ v → m.page ≡ p
+  pub elsewhere : m.vpn ≢ v → m.page ≢ p
+
+module _ (frames : List (List ℕ)) (w : Write) (p : ℕ) (within : p < length frames) where
+  head_by : (m : Mapping) (test : Bool) → (m.vpn == w.address / 4096) ≡ test → IsStruck (w.address / 4096) p m → page_seen (after_put frames p (w.address % 4096) w.bytes) m ≡ (if test then stored_page w (page_seen frames m) else page_seen frames m)
+  head_by m true is struck =
+      let to = struck.here (eqb-true m.vpn (w.address / 4096) is) in
+      ap (λ (bytes : List ℕ). record { vpn = m.vpn; writable = m.writable; bytes = bytes })
+      (ap (λ (n : ℕ). page_at (after_put frames p (w.address % 4096) w.bytes) n) to
+      ∙ get_or-set_same frames p (with_bytes (page_at frames p) (w.address % 4096) w.bytes) [] within
+      ∙ ap (λ (n : ℕ). with_bytes (page_at frames n) (w.address % 4096) w.bytes) (sym to))
+  head_by m false is struck =
+      let other = struck.elsewhere (eqb-false m.vpn (w.address / 4096) is) in
+      ap (λ (bytes : List ℕ). record { vpn = m.vpn; writable = m.writable; bytes = bytes })
+      (get_or-set_other frames p m.page (with_bytes (page_at frames p) (w.address % 4096) w.bytes) [] other)
+
+  pub stored_own : (ms : List Mapping) → ((a : ℕ) (m : Mapping) → slice_get ms a ≡ Some m → IsStruck (w.address / 4096) p m) → pages_seen (after_put frames p (w.address % 4096) w.bytes) ms ≡ kept_after w (pages_seen frames ms)
+  stored_own [] struck = refl
+  stored_own (m ∷ ms) struck =
+      let head = head_by m (m.vpn == w.address / 4096) refl (struck 0 m refl) in
+      let tail = stored_own ms (λ a n. struck (suc a) n) in
+      cc
+
+  pub stored_else : (ms : List Mapping) → ((a : ℕ) (m : Mapping) → slice_get ms a ≡ Some m → m.page ≢ p) → pages_seen (after_put frames p (w.address % 4096) w.bytes) ms ≡ pages_seen frames ms
+  stored_else [] other = refl
+  stored_else (m ∷ ms) other =
+      let head : page_seen (after_put frames p (w.address % 4096) w.bytes) m ≡ page_seen frames m =
+      ap (λ (bytes : List ℕ). record { vpn = m.vpn; writable = m.writable; bytes = bytes })
+      (get_or-set_other frames p m.page (with_bytes (page_at frames p) (w.address % 4096) w.bytes) [] (other 0 m refl)) in
+      let tail = stored_else ms (λ a n. other (suc a) n) in
+      cc
+
+-- a store to a page number that leads nowhere changes nothing
+pub unstored : (frames : List (List ℕ)) (w : Write) (ms : List Mapping) → mapping_at ms (w.address / 4096) ≡ None → kept_after w (pages_seen frames ms) ≡ pages_seen frames ms
+unstored frames w [] none = refl
+unstored frames w (m ∷ ms) none = by_test (m.vpn == w.address / 4096) refl none (λ found. unstored frames w ms found)
+  where
+    by_test : (test : Bool) → (m.vpn == w.address / 4096) ≡ test → (if test then Some m else mapping_at ms (w.address / 4096)) ≡ None → (mapping_at ms (w.address / 4096) ≡ None → kept_after w (pages_seen frames ms) ≡ pages_seen frames ms) → kept_after w (pages_seen frames (m ∷ ms)) ≡ pages_seen frames (m ∷ ms)
+    by_test true is found tail = cc
+    by_test false is found tail = rw is (ap (λ ps. page_seen frames m ∷ ps) (tail found))
+
+-- the place of the mapping that a page number has
+pub record IsAt (ms : List Mapping) (v k : ℕ) (m : Mapping) : Type 0 where
+  pub place : slice_get ms k ≡ Some m
+  pub number : m.vpn ≡ v
+
+pub placed : (ms : List Mapping) (v : ℕ) (m : Mapping) → mapping_at ms v ≡ Some m → (k : ℕ) × IsAt ms v k m
+placed [] v m is = cc
+placed (n ∷ ms) v m is = by_test (n.vpn == v) refl is (λ found. placed ms v m found)
+  where
+    by_test : (test : Bool) → (n.vpn == v) ≡ test → (if test then Some n else mapping_at ms v) ≡ Some m → (mapping_at ms v ≡ Some m → (k : ℕ) × IsAt ms v k m) → (k : ℕ) × IsAt (n ∷ ms) v k m
+    by_test true here found further = let same : n ≡ m = cc in (0, record { place = ap Some same; number = ap (λ (x : Mapping). x.vpn) (sym same) ∙ eqb-true n.vpn v here })
+    by_test false differs found further = let there = further found in (suc there.0, record { place = there.1.place; number = there.1.number })
+
+-- the page number of a mapping at a place
+pub number_at : (ms : List Mapping) (a : ℕ) (m : Mapping) → slice_get ms a ≡ Some m → (a < length (numbers ms)) × (slice_index (numbers ms) a ≡ m.vpn)
+number_at [] a m is = cc
+number_at (n ∷ ms) zero m is = let same : n ≡ m = cc in (omega arith, ap (λ (x : Mapping). x.vpn) same)
+number_at (n ∷ ms) (suc a) m is = let there = number_at ms a m is in (omega (arith, there.0), there.1)
+
+-- where page numbers rise, a page number has one place
+pub one_place : (ms : List Mapping) (a b : ℕ) (m n : Mapping) → IsRising (numbers ms) → slice_get ms a ≡ Some m → slice_get ms b ≡ Some n → m.vpn ≡ n.vpn → a ≡ b
+one_place ms a b m n rising at_a at_b same =
+    let there = number_at ms a m at_a in
+    let other = number_at ms b n at_b in
+    grind (arith, rising a b, rising b a, there.0, there.1, other.0, other.1)

@@ -1,0 +1,227 @@
+-- What holds of a board goes on holding.
+use Rattle.std.proofs.Common.{◌≡◌, ◌≢◌, ℕ, zero, suc, ◌+◌, ◌-◌, ◌%◌, ◌/◌, ◌<◌, List, [], ◌∷◌, length, map, Bool, true, false, Option, Some, None, IfSome, ◌⊎◌, inl, inr, refl, sym, ◌∙◌, ap, subst, arith, get_or-set_other, length-set}
+use Rattle.std.specs.Prelude.{◌==◌, if◌then◌else◌, slice_get}
+use Rattle.std.proofs.lemmas.Bool.{eq-eqb, eqb-false}
+use Rattle.mips_exec.specs.declared.registers.Cpu.{Cpu}
+use Rattle.mips_exec.specs.Access.{Write}
+use Rattle.frame_store.specs.Pages.{page_at, after_put, with_bytes}
+use Rattle.env_frames.specs.declared.mapping.Mapping.{Mapping}
+use Rattle.env_frames.specs.Frame.{mapping_at, numbers, IsRising}
+use Rattle.guest_memory.specs.Look.{frames_after, written_through}
+use Rattle.slot_vector.specs.declared.hold.Hold as held
+use Rattle.slot_vector.specs.declared.hold.Turn as slice
+use Rattle.slot_vector.specs.declared.hold.Turn.TheVariants as turn
+use Rattle.slot_vector.specs.Slices.{Slices, hold_at, first_held, next_turn, run_or, with_turn, turn_ended, timer_counted, released, without_env}
+use Rattle.world_model.specs.declared.life.Life.TheVariants.{Live}
+use Rattle.world_model.specs.declared.life.Cause.{Cause}
+use Rattle.aegis_calls.specs.declared.roster.Environment.{Environment}
+use Rattle.aegis_calls.specs.Shown.{Environments, mappings_of, changed, with_list}
+use Rattle.aegis_calls.specs.Sound.{IsAlive, IsLive, IsUndead, IsManned, AreConsoles, IsParted}
+use Rattle.aegis_calls.specs.Doing.{with_registers, buried}
+use Rattle.aegis_calls.proofs.Lists.{changed_else, length-changed}
+use Rattle.aegis_calls.proofs.Pages.{placed}
+
+-- whoever will live lives, once all are there
+undead_alive : (list : List Environment) (e : ℕ) → e < length list → IfSome (slice_get list e) (λ x. x.life ≡ Live) → IsAlive (slice_get list e)
+undead_alive [] e within live = absurd (omega arith)
+undead_alive (x ∷ list) zero within live = live
+undead_alive (x ∷ list) (suc e) within live = undead_alive list e (omega arith) live
+
+undead_live : (r : Environments) (e : ℕ) → r.spare ≡ 0 → IsUndead r e → IsLive r.list e
+undead_live r e whole undead = let within : e < length r.list = omega (arith, undead.0, whole) in (within, undead_alive r.list e within undead.1)
+
+-- the holder of a turn is a holder of the slots
+module _ (r : Environments) (slots : List (Option held.Hold)) (whole : r.spare ≡ 0) (holds : (k : ℕ) → IfSome (hold_at slots k) (λ h. IsUndead r h.owner × IsUndead r h.holder)) (slot e : ℕ) where
+  by_hold : (at : ℕ) (hold : Option held.Hold) (later : slice.Turn) → IfSome hold (λ h. IsUndead r h.owner × IsUndead r h.holder) → (later ≡ turn.Run slot e → IsLive r.list e) → run_or at hold later ≡ turn.Run slot e → IsLive r.list e
+  by_hold at None later held further is = further is
+  by_hold at (Some h) later held further is =
+      let same : h.holder ≡ e = cc in
+      subst (IsLive r.list) same (undead_live r h.holder whole held.1)
+
+  first_live : (place tries : ℕ) → first_held slots place tries ≡ turn.Run slot e → IsLive r.list e
+  first_live place zero is = cc
+  first_live place (suc tries) is =
+      let at = (place + 1) % length slots in
+      by_hold at (hold_at slots at) (first_held slots at tries) (holds at) (λ further. first_live at tries further) is
+
+pub turn_live : (v : Slices) (r : Environments) (slot e : ℕ) → IsManned v r → r.spare ≡ 0 → next_turn v ≡ turn.Run slot e → IsLive r.list e
+turn_live v r slot e manned whole is = first_live r v.slots whole manned.holds slot e v.cursor (length v.slots) is
+
+pub turn_manned : (v : Slices) (r : Environments) (slot e : ℕ) → IsManned v r → r.spare ≡ 0 → next_turn v ≡ turn.Run slot e → IsManned (with_turn v (turn.Run slot e)) r
+turn_manned v r slot e manned whole is = record {
+  quantum = manned.quantum;
+  left = λ some. manned.quantum;
+  runner = turn_live v r slot e manned whole is;
+  holds = manned.holds;
+  count = manned.count;
+}
+
+-- numbers that neither live nor die by the change of one record
+module _ (r : Environments) (f : Environment → Environment) (e : ℕ) where
+  changed_undead : (i : ℕ) → i ≢ e → IsUndead r i → IsUndead (with_list r (changed f r.list e)) i
+  changed_undead i ne undead = (omega (arith, undead.0, length-changed f r.list e), rw (changed_else f r.list e i ne) undead.1)
+
+-- keeping registers leaves everybody's life
+kept_alive : (cpu : Cpu) (list : List Environment) (e i : ℕ) → IfSome (slice_get list i) (λ x. x.life ≡ Live) → IfSome (slice_get (changed (with_registers cpu) list e) i) (λ x. x.life ≡ Live)
+kept_alive cpu [] e i live = live
+kept_alive cpu (x ∷ list) zero zero live = live
+kept_alive cpu (x ∷ list) zero (suc i) live = live
+kept_alive cpu (x ∷ list) (suc e) zero live = live
+kept_alive cpu (x ∷ list) (suc e) (suc i) live = kept_alive cpu list e i live
+
+kept_undead : (cpu : Cpu) (r : Environments) (e i : ℕ) → IsUndead r i → IsUndead (with_list r (changed (with_registers cpu) r.list e)) i
+kept_undead cpu r e i undead = (omega (arith, undead.0, length-changed (with_registers cpu) r.list e), kept_alive cpu r.list e i undead.1)
+
+pub if_both : {A : Type 0} {P Q : A → Type 0} (x : Option A) → ((a : A) → x ≡ Some a → P a → Q a) → IfSome x P → IfSome x Q
+if_both None f holds = holds
+if_both (Some a) f holds = f a refl holds
+
+kept_live : (cpu : Cpu) (list : List Environment) (e i : ℕ) → IsAlive (slice_get list i) → IsAlive (slice_get (changed (with_registers cpu) list e) i)
+kept_live cpu [] e i live = live
+kept_live cpu (x ∷ list) zero zero live = live
+kept_live cpu (x ∷ list) zero (suc i) live = live
+kept_live cpu (x ∷ list) (suc e) zero live = live
+kept_live cpu (x ∷ list) (suc e) (suc i) live = kept_live cpu list e i live
+
+pub keep_manned : (cpu : Cpu) (v : Slices) (r : Environments) (e : ℕ) → IsManned v r → IsManned v (with_list r (changed (with_registers cpu) r.list e))
+keep_manned cpu v r e manned = record {
+  quantum = manned.quantum;
+  left = manned.left;
+  runner = if_both v.runner (λ i is live. (omega (arith, live.0, length-changed (with_registers cpu) r.list e), kept_live cpu r.list e i live.1)) manned.runner;
+  holds = λ k. if_both (hold_at v.slots k) (λ h is undead. (kept_undead cpu r e h.owner undead.0, kept_undead cpu r e h.holder undead.1)) (manned.holds k);
+  count = manned.count;
+}
+
+-- the turn ends
+pub end_manned : (v : Slices) (r : Environments) → IsManned v r → IsManned (turn_ended v) r
+end_manned v r manned = record { quantum = manned.quantum; left = λ some. absurd (cc); runner = tt; holds = manned.holds; count = manned.count }
+
+-- a runner is one of the environments
+pub runner_within : (v : Slices) (r : Environments) (e : ℕ) → IsManned v r → v.runner ≡ Some e → e < length r.list
+runner_within v r e manned runs = let live : IsLive r.list e = subst (λ o. IfSome o (IsLive r.list)) runs manned.runner in live.0
+
+-- the timer
+pub go_on_manned : (v : Slices) (r : Environments) → IsManned v r → IsManned (timer_counted v) r
+go_on_manned v r manned = by_left (v.left == 1) refl
+  where
+    by_left : (last : Bool) → (v.left == 1) ≡ last → IsManned (if last then turn_ended v else record v { left = v.left - 1 }) r
+    by_left true last = record { quantum = manned.quantum; left = λ some. absurd (cc); runner = tt; holds = manned.holds; count = manned.count }
+    by_left false last = record {
+      quantum = manned.quantum;
+      left = λ some. let there = manned.left some in let more = eqb-false v.left 1 last in omega (arith, there, more);
+      runner = manned.runner;
+      holds = manned.holds;
+      count = manned.count;
+    }
+
+-- a death
+module _ (v : Slices) (r : Environments) (e : ℕ) (cause : Cause) (manned : IsManned v r) where
+  gone : Environments
+  gone = with_list r (changed (buried cause) r.list e)
+
+  released_undead : (hold : Option held.Hold) → IfSome hold (λ h. IsUndead r h.owner × IsUndead r h.holder) → IfSome (released e hold) (λ h. IsUndead (with_list r (changed (buried cause) r.list e)) h.owner × IsUndead (with_list r (changed (buried cause) r.list e)) h.holder)
+  released_undead None undead = undead
+  released_undead (Some h) undead = by_owner (h.owner == e) refl
+    where
+      by_holder : (holds : Bool) → (h.holder == e) ≡ holds → h.owner ≢ e → IfSome (if holds then Some (record { owner = h.owner; holder = h.owner }) else Some h) (λ h. IsUndead (with_list r (changed (buried cause) r.list e)) h.owner × IsUndead (with_list r (changed (buried cause) r.list e)) h.holder)
+      by_holder true is other = (changed_undead r (buried cause) e h.owner other undead.0, changed_undead r (buried cause) e h.owner other undead.0)
+      by_holder false is other = (changed_undead r (buried cause) e h.owner other undead.0, changed_undead r (buried cause) e h.holder (eqb-false h.holder e is) undead.1)
+
+      by_owner : (owns : Bool) → (h.owner == e) ≡ owns → IfSome (if owns then None else (if h.holder == e then Some (record { owner = h.owner; holder = h.owner }) else Some h)) (λ h. IsUndead (with_list r (changed (buried cause) r.list e)) h.owner × IsUndead (with_list r (changed (buried cause) r.list e)) h.holder)
+      by_owner true is = tt
+      by_owner false is = by_holder (h.holder == e) refl (eqb-false h.owner e is)
+
+  hold_at-released : (slots : List (Option held.Hold)) (k : ℕ) → hold_at (map (released e) slots) k ≡ released e (hold_at slots k)
+  hold_at-released [] k = refl
+  hold_at-released (hold ∷ slots) zero = refl
+  hold_at-released (hold ∷ slots) (suc k) = hold_at-released slots k
+
+  length-released : (slots : List (Option held.Hold)) → length (map (released e) slots) ≡ length slots
+  length-released [] = refl
+  length-released (hold ∷ slots) = ap suc (length-released slots)
+
+  pub death_manned : v.runner ≡ Some e → IsManned (without_env e v) (with_list r (changed (buried cause) r.list e))
+  death_manned runs = rw (runs, eq-eqb e e refl) (record {
+    quantum = manned.quantum;
+    left = λ some. absurd (cc);
+    runner = tt;
+    holds = λ k. rw (hold_at-released v.slots k) (released_undead (hold_at v.slots k) (manned.holds k));
+    count = omega (arith, length-released v.slots, manned.count);
+  })
+
+-- the consoles
+pub same_consoles : (consoles : List (List ℕ)) (r : Environments) (list : List Environment) → AreConsoles consoles r → length list ≡ length r.list → AreConsoles consoles (with_list r list)
+same_consoles consoles r list are same = record { most = omega (arith, same, are.most); count = are.count ∙ ap (λ n. n + r.spare) (sym same); unwritten = λ e past. are.unwritten e (omega (arith, same)) }
+
+pub put_consoles : (f : List ℕ → List ℕ) (consoles : List (List ℕ)) (r : Environments) (e : ℕ) → e < length r.list → AreConsoles consoles r → AreConsoles (changed f consoles e) r
+put_consoles f consoles r e within are = record {
+  most = are.most;
+  count = length-changed f consoles e ∙ are.count;
+  unwritten = λ i past. rw (changed_else f consoles e i (λ same. omega (arith, same, within, past))) (are.unwritten i past);
+}
+
+-- Physical memory.
+pub sub_parted : (frames : List (List ℕ)) (taken : ℕ) (list new : List Environment) → IsParted frames taken list → ((i : ℕ) → (mappings_of new i ≡ mappings_of list i) ⊎ (mappings_of new i ≡ [])) → IsParted frames taken new
+sub_parted frames taken list new parted sub = record {
+  within = parted.within;
+  most = parted.most;
+  fresh = parted.fresh;
+  inside = λ i a m at. parted.inside i a m (back i a m at);
+  apart = λ i j a b m n at_a at_b same. parted.apart i j a b m n (back i a m at_a) (back j b n at_b) same;
+  rising = λ i. rise i (sub i);
+}
+  where
+    back : (i a : ℕ) (m : Mapping) → slice_get (mappings_of new i) a ≡ Some m → slice_get (mappings_of list i) a ≡ Some m
+    back i a m at = by_sub (sub i)
+      where
+        by_sub : (mappings_of new i ≡ mappings_of list i) ⊎ (mappings_of new i ≡ []) → slice_get (mappings_of list i) a ≡ Some m
+        by_sub (inl same) = ap (λ ms. slice_get ms a) (sym same) ∙ at
+        by_sub (inr none) = let gone : None ≡ Some m = ap (λ ms. slice_get ms a) (sym none) ∙ at in cc
+
+    rise : (i : ℕ) → (mappings_of new i ≡ mappings_of list i) ⊎ (mappings_of new i ≡ []) → IsRising (numbers (mappings_of new i))
+    rise i (inl same) = rw same (parted.rising i)
+    rise i (inr none) = rw none (λ a b before within. absurd (omega arith))
+
+kept_mappings : (cpu : Cpu) (list : List Environment) (e i : ℕ) → mappings_of (changed (with_registers cpu) list e) i ≡ mappings_of list i
+kept_mappings cpu [] e i = refl
+kept_mappings cpu (x ∷ list) zero zero = refl
+kept_mappings cpu (x ∷ list) zero (suc i) = refl
+kept_mappings cpu (x ∷ list) (suc e) zero = refl
+kept_mappings cpu (x ∷ list) (suc e) (suc i) = kept_mappings cpu list e i
+
+pub keep_parted : (cpu : Cpu) (frames : List (List ℕ)) (taken : ℕ) (list : List Environment) (e : ℕ) → IsParted frames taken list → IsParted frames taken (changed (with_registers cpu) list e)
+keep_parted cpu frames taken list e parted = sub_parted frames taken list _ parted (λ i. inl (kept_mappings cpu list e i))
+
+lost_mappings : (cause : Cause) (list : List Environment) (e i : ℕ) → (mappings_of (changed (buried cause) list e) i ≡ mappings_of list i) ⊎ (mappings_of (changed (buried cause) list e) i ≡ [])
+lost_mappings cause [] e i = inl refl
+lost_mappings cause (x ∷ list) zero zero = inr refl
+lost_mappings cause (x ∷ list) zero (suc i) = inl refl
+lost_mappings cause (x ∷ list) (suc e) zero = inl refl
+lost_mappings cause (x ∷ list) (suc e) (suc i) = lost_mappings cause list e i
+
+pub death_parted : (cause : Cause) (frames : List (List ℕ)) (taken : ℕ) (list : List Environment) (e : ℕ) → IsParted frames taken list → IsParted frames taken (changed (buried cause) list e)
+death_parted cause frames taken list e parted = sub_parted frames taken list _ parted (λ i. lost_mappings cause list e i)
+
+-- a store leaves the pages that nobody has
+module _ (frames : List (List ℕ)) (taken : ℕ) (list : List Environment) (e : ℕ) (parted : IsParted frames taken list) where
+  put_parted : (n offset : ℕ) (bytes : List ℕ) → n < taken → IsParted (after_put frames n offset bytes) taken list
+  put_parted n offset bytes given =
+      let size = length-set frames n (with_bytes (page_at frames n) offset bytes) in
+      record {
+        within = omega (arith, size, parted.within);
+        most = omega (arith, size, parted.most);
+        fresh = λ k past within. get_or-set_other frames n k (with_bytes (page_at frames n) offset bytes) [] (λ same. omega (arith, same, past, given)) ∙ parted.fresh k past (omega (arith, size, within));
+        inside = parted.inside;
+        apart = parted.apart;
+        rising = parted.rising;
+      }
+
+  pub store_parted : (w : Option Write) → IsParted (frames_after frames (mappings_of list e) w) taken list
+  store_parted None = parted
+  store_parted (Some w) = by_mapping (mapping_at (mappings_of list e) (w.address / 4096)) refl
+    where
+      by_mapping : (y : Option Mapping) → mapping_at (mappings_of list e) (w.address / 4096) ≡ y → IsParted (written_through frames w y) taken list
+      by_mapping None is = parted
+      by_mapping (Some m) is =
+          let there = placed (mappings_of list e) (w.address / 4096) m is in
+          put_parted m.page (w.address % 4096) w.bytes (parted.inside e there.0 m there.1.place)

@@ -1,0 +1,10 @@
+-- The slots once the timer counted.
+use Rattle.aegis_calls.proofs.Sound.{go_on_manned}
+use Rattle.aegis_calls.proofs.board.Board.count_down.Goals as goal
+
+pub invariant_of-self : goal.invariant_of-self
+invariant_of-self c = record {
+  book = rw c.timer.ensures.after (go_on_manned c.self.inside.slots c.self.inside.roster c.self.invariant.book);
+  consoles = c.self.invariant.consoles;
+  memory = c.self.invariant.memory;
+}

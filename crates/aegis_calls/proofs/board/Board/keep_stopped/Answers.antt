@@ -1,0 +1,14 @@
+-- Kept registers change nobody's life or pages.
+use Rattle.aegis_calls.specs.Doing.{with_registers}
+use Rattle.aegis_calls.proofs.Lists.{length-changed}
+use Rattle.aegis_calls.proofs.Sound.{keep_manned, same_consoles, keep_parted}
+use Rattle.aegis_calls.proofs.board.Board.keep_stopped.Goals as goal
+
+pub invariant_of-self : goal.invariant_of-self
+invariant_of-self c =
+    let b = c.self.inside in
+    record {
+      book = rw c.keep.ensures (keep_manned b.cpu b.slots b.roster c.args.env c.self.invariant.book);
+      consoles = rw c.keep.ensures (same_consoles b.consoles b.roster _ c.self.invariant.consoles (length-changed (with_registers b.cpu) b.roster.list c.args.env));
+      memory = rw c.keep.ensures (keep_parted b.cpu b.frames b.taken b.roster.list c.args.env c.self.invariant.memory);
+    }

@@ -1,0 +1,9 @@
+-- The timer is the model's.
+use Rattle.std.proofs.Common.{ap, ◌∙◌, subst}
+use Rattle.aegis_calls.specs.Showing.{world_of}
+use Rattle.aegis_calls.specs.Sound.{IsSound}
+use Rattle.aegis_calls.proofs.Turning.{counted_world}
+use Rattle.aegis_calls.proofs.board.Board.timer.Goals as goal
+
+pub returns-clause-world : goal.returns-clause-world
+returns-clause-world c = ap world_of c.count.ensures ∙ counted_world c.args.self.now (subst IsSound c.self.view_is c.self.invariant)

@@ -1,0 +1,268 @@
+//! The board before it runs: without programs, and with one more.
+ghost use Rattle.std.specs.Prelude.{◌≡◌, ◌≤◌, ◌<◌, ◌+◌, ◌-◌, ◌*◌, ◌/◌, ◌^◌, ◌++◌, ℕ, IfOk, IfSome, All, length, take, drop, [], ◌∷◌, Some};
+ghost use Rattle.boot_image.specs.Accepted.{IsFitting};
+ghost use Rattle.boot_image.specs.ImageValue.{pages_of_length, guaranteed_mappings};
+ghost use Rattle.boot_image.specs.Seen.{program_seen};
+ghost use Rattle.env_frames.specs.Frame.{IsAbove, IsRising, numbers};
+ghost use Rattle.frame_store.specs.Pages.{page_at, zero_page as zeros};
+ghost use Rattle.world_model.specs.Boot.{listed, open_page, zero_page, kept_of, page_from, own_row, own_rows, bare_world, added};
+ghost use Rattle.world_model.specs.Book.{own_hold};
+ghost use Rattle.std.specs.Option.{option_map};
+ghost use Rattle.world_model.specs.Item.{booted};
+ghost use Rattle.world_model.specs.Solo.{blank_cpu as blank};
+ghost use Rattle.aegis_calls.specs.Loading.{IsLoading, IsKeptBelow, padded};
+ghost use Rattle.aegis_calls.specs.Showing.{pages_seen, world_of};
+ghost use Rattle.aegis_calls.specs.Doing.{with_rows};
+
+use crate::board::Board;
+use crate::console::Consoles;
+use crate::roster::{Environment, Roster};
+use boot_image::Program;
+use edge_io::OutOfMemory;
+use env_frames::Env;
+use frame_store::{Frames, PAGE_SIZE};
+use kernel_journal::{Journal, Row};
+use mips_exec::Cpu;
+use slot_vector::Slots;
+use std::alloc::Global;
+use world_model::Life;
+
+/// The page number above the stack.
+const STACK_END: u32 = 0x7fff0;
+
+/// What the stack pointer is at boot, and its register.
+const STACK_TOP: u32 = 0x7ffe_fff0;
+
+const STACK_POINTER: u8 = 29;
+
+/// The registers of a machine in which nothing has run.
+fn blank_cpu() -> Cpu
+    ensures { result ≡ blank }
+{
+    Cpu {
+        regs: [0; 32],
+        hi: 0,
+        lo: 0,
+        pc: 0,
+        next: 0,
+        slot: false,
+    }
+}
+
+/// The registers at boot: all are 0 but the stack pointer, and the machine stands at the entry.
+fn boot_cpu(entry: u32) -> Cpu
+    ensures { result ≡ (booted 0 [] entry []).cpu }
+{
+    let mut cpu = blank_cpu();
+    cpu.set_reg(STACK_POINTER, STACK_TOP);
+    cpu.pc = entry;
+    cpu.next = entry.wrapping_add(4);
+    cpu
+}
+
+/// The first bytes, so many at most.
+fn front(bytes: &[u8], most: usize) -> &[u8]
+    ensures part { result.now ≡ take most bytes.now }
+    ensures fits { length result.now ≤ most }
+{
+    if bytes.len() > most {
+        &bytes[..most]
+    } else {
+        bytes
+    }
+}
+
+/// The bytes from a place on, as many as a page has.
+fn page_part(bytes: &[u8], start: usize) -> &[u8]
+    requires { start ≤ length bytes.now }
+    ensures part { result.now ≡ take 4096 (drop start bytes.now) }
+    ensures fits { length result.now ≤ 4096 }
+{
+    front(&bytes[start..], PAGE_SIZE)
+}
+
+/// Gives an environment the next page, of those from the first one on, at a page number above all that
+/// it sees, with these bytes and zeros behind them.
+fn give_page(frames: &mut Frames, env: &mut Env, first: u32, vpn: u32, bytes: &[u8])
+    requires loading { IsLoading first frames.old env.old.mappings }
+    requires there { first + length env.old.mappings < length frames.old }
+    requires most { length frames.old ≤ 4096 }
+    requires fits { length bytes.now ≤ 4096 }
+    requires count { length env.old.mappings < 256 }
+    requires above { IsAbove env.old.mappings vpn }
+    ensures loading { IsLoading first frames.new env.new.mappings }
+    ensures below { IsKeptBelow first frames.old frames.new }
+    ensures pages { pages_seen frames.new env.new.mappings ≡ pages_seen frames.old env.old.mappings ++ open_page vpn (padded bytes.now) ∷ [] }
+    ensures above { IsAbove env.new.mappings (vpn + 1) }
+    ensures count { length env.new.mappings ≡ length env.old.mappings + 1 }
+    ensures cpu { env.new.cpu ≡ env.old.cpu }
+{
+    let page = first + env.mappings().len() as u32;
+    frames.put(page, 0, bytes);
+    env.guarantee(vpn, page, true);
+}
+
+/// Gives an environment the pages of a program's body, from a page number on.
+fn give_body(frames: &mut Frames, env: &mut Env, first: u32, vpn: u32, bytes: &[u8])
+    requires loading { IsLoading first frames.old env.old.mappings }
+    requires there { first + length env.old.mappings + pages_of_length (length bytes.now) ≤ length frames.old }
+    requires most { length frames.old ≤ 4096 }
+    requires count { length env.old.mappings + pages_of_length (length bytes.now) ≤ 256 }
+    requires above { IsAbove env.old.mappings vpn }
+    requires numbers { vpn + pages_of_length (length bytes.now) ≤ 0x80000 }
+    ensures loading { IsLoading first frames.new env.new.mappings }
+    ensures below { IsKeptBelow first frames.old frames.new }
+    ensures pages { pages_seen frames.new env.new.mappings ≡ pages_seen frames.old env.old.mappings ++ listed (λ i. open_page (vpn + i) (page_from bytes.now (4096 * i))) (pages_of_length (length bytes.now)) }
+    ensures above { IsAbove env.new.mappings (vpn + pages_of_length (length bytes.now)) }
+    ensures count { length env.new.mappings ≡ length env.old.mappings + pages_of_length (length bytes.now) }
+    ensures cpu { env.new.cpu ≡ env.old.cpu }
+{
+    let pages = bytes.len().div_ceil(PAGE_SIZE);
+    for i in 0..pages {
+        give_page(
+            frames,
+            env,
+            first,
+            vpn + i as u32,
+            page_part(bytes, i * PAGE_SIZE),
+        );
+    }
+}
+
+/// Gives an environment so many pages of zeros, from a page number on.
+fn give_zeros(frames: &mut Frames, env: &mut Env, first: u32, vpn: u32, pages: u32)
+    requires loading { IsLoading first frames.old env.old.mappings }
+    requires there { first + length env.old.mappings + pages ≤ length frames.old }
+    requires most { length frames.old ≤ 4096 }
+    requires count { length env.old.mappings + pages ≤ 256 }
+    requires above { IsAbove env.old.mappings vpn }
+    requires numbers { vpn + pages ≤ 0x80000 }
+    ensures loading { IsLoading first frames.new env.new.mappings }
+    ensures below { IsKeptBelow first frames.old frames.new }
+    ensures pages { pages_seen frames.new env.new.mappings ≡ pages_seen frames.old env.old.mappings ++ listed (λ i. open_page (vpn + i) zero_page) pages }
+    ensures count { length env.new.mappings ≡ length env.old.mappings + pages }
+    ensures cpu { env.new.cpu ≡ env.old.cpu }
+{
+    for i in 0..pages {
+        give_page(frames, env, first, vpn + i, &[]);
+    }
+}
+
+/// The frame of a program's environment, to which the pages from the first one on are given: the context
+/// page, those of its body and those of its stack.
+fn load(frames: &mut Frames, first: u32, program: &Program<'_>) -> Env
+    requires fits { IsFitting (program_seen program.now) }
+    requires there { first + guaranteed_mappings (program_seen program.now) ≤ length frames.old }
+    requires most { length frames.old ≤ 4096 }
+    requires fresh { (n : ℕ) → first ≤ n → n < length frames.old → page_at frames.old n ≡ zeros }
+    ensures cpu { result.cpu ≡ (booted 0 [] program.now.base []).cpu }
+    ensures pages { pages_seen frames.new result.mappings ≡ kept_of (program_seen program.now) }
+    ensures loading { IsLoading first frames.new result.mappings }
+    ensures below { IsKeptBelow first frames.old frames.new }
+    ensures count { length result.mappings ≡ guaranteed_mappings (program_seen program.now) }
+    ensures rising { IsRising (numbers result.mappings) }
+{
+    let mut env = Env::new(boot_cpu(program.base), first);
+    give_body(frames, &mut env, first, program.base / 4096, program.bytes);
+    give_zeros(
+        frames,
+        &mut env,
+        first,
+        STACK_END - program.stack,
+        program.stack,
+    );
+    let _ = env.mappings();
+    env
+}
+
+/// Writes the row of a slot, where it has an owner.
+fn push_owner(journal: &mut Journal, slot: u32, owner: Option<u8>)
+    requires { 0 < journal.old.spare }
+    ensures rows { journal.new ≡ with_rows journal.old (own_row slot (option_map own_hold owner)) }
+    ensures room { journal.old.spare ≤ journal.new.spare + 1 }
+{
+    if owner.is_some() {
+        journal.push(Row::Own {
+            time: 0,
+            slot,
+            owner,
+            holder: owner,
+        });
+    }
+}
+
+/// Writes a row for each slot that has an owner.
+fn push_owners(journal: &mut Journal, slots: &[Option<u8>])
+    requires room { length slots.now ≤ journal.old.spare }
+    requires count { length slots.now ≤ 64 }
+    ensures { journal.new ≡ with_rows journal.old (own_rows slots.now (length slots.now)) }
+{
+    for (slot, owner) in slots.iter().enumerate() {
+        push_owner(journal, slot as u32, *owner);
+    }
+}
+
+/// The ledger at boot.
+fn boot_journal(alloc: Global, slots: &[Option<u8>]) -> Result<Journal, OutOfMemory>
+    requires { length slots.now ≤ 64 }
+    ensures { IfOk result (λ j. j.rows ≡ own_rows slots.now (length slots.now)) }
+{
+    let mut journal = Journal::new(alloc);
+    journal.room(slots.len() as u32)?;
+    push_owners(&mut journal, slots);
+    Ok(journal)
+}
+
+impl Board {
+    ghost use Rattle.aegis_calls.specs.Loading.{IsBare};
+
+    /// A board without programs, with so many pages of memory, a quantum in ticks, the owner of each slot,
+    /// and room for so many environments (`docs/KERNEL.md`, "Boot"). It takes the memory for all that the
+    /// environments may need, so that neither `add` nor the parts of a tick take any.
+    pub fn build(
+        alloc: Global,
+        pages: u32,
+        quantum: u32,
+        slots: &[Option<u8>],
+        envs: u8,
+    ) -> Result<Board, OutOfMemory>
+        requires pages { 16 ≤ pages × pages ≤ 1024 }
+        requires quantum { 16 ≤ quantum × quantum ≤ 65536 }
+        requires slots { 1 ≤ length slots.now × length slots.now ≤ 64 }
+        requires envs { envs ≤ 16 }
+        requires owners { All (λ owner. IfSome owner (λ e. e < envs)) slots.now }
+        ensures world { IfOk result (λ b. world_of b ≡ bare_world quantum slots.now) }
+        ensures bare { IfOk result (IsBare pages envs) }
+    {
+        Ok(Board {
+            frames: Frames::new(alloc, pages)?,
+            taken: 0,
+            slots: Slots::new(quantum, slots),
+            cpu: blank_cpu(),
+            roster: Roster::new(alloc, envs)?,
+            consoles: Consoles::new(alloc, envs)?,
+            time: 0,
+            journal: boot_journal(alloc, slots)?,
+        })
+    }
+
+    /// Makes the next environment, which has a program's pages and stands at its entry. It needs room for
+    /// it, and as many pages as it has.
+    pub fn add(&mut self, program: &Program<'_>)
+        requires fits { IsFitting (program_seen program.now) }
+        requires room { 0 < self.old.roster.spare }
+        requires pages { self.old.taken + guaranteed_mappings (program_seen program.now) ≤ length self.old.frames }
+        ensures world { world_of self.new ≡ added (world_of self.old) (program_seen program.now) }
+        ensures taken { self.new.taken ≡ self.old.taken + guaranteed_mappings (program_seen program.now) }
+        ensures spare { self.new.roster.spare ≡ self.old.roster.spare - 1 }
+        ensures pages { length self.new.frames ≡ length self.old.frames }
+    {
+        let env = load(&mut self.frames, self.taken, program);
+        self.taken += env.mappings().len() as u32;
+        self.roster.push(Environment {
+            name: program.name,
+            life: Life::Live,
+            env,
+        });
+    }
+}

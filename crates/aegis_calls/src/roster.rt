@@ -1,0 +1,118 @@
+//! The environments of a board.
+ghost use Rattle.std.specs.Prelude.{◌≡◌, ◌<◌, ◌≤◌, ◌-◌, [], ◌∷◌, ◌++◌, length, slice_get, Some, IfOk};
+ghost use Rattle.aegis_calls.specs.Shown.{changed, mappings_of, registers_of, with_list};
+ghost use Rattle.aegis_calls.specs.Doing.{with_registers, buried};
+
+use edge_io::OutOfMemory;
+use env_frames::Env;
+use mips_exec::Cpu;
+use std::alloc::Global;
+use std::marker::Model;
+use world_model::{Cause, Life};
+
+/// An environment: its name, whether it lives, and its frame.
+#[derive(Drop)]
+pub struct Environment {
+    pub(crate) name: [u8; 8],
+    pub(crate) life: Life,
+    pub(crate) env: Env,
+}
+
+/// The environments by number. The memory for all is taken when the roster is made.
+#[derive(Drop)]
+pub struct Roster {
+    list: Vec<Environment>,
+    spare: usize,
+}
+
+impl Model for Roster {
+    ghost use Rattle.std.specs.Prelude.{◌+◌, ◌≤◌, vec_len, vec_capacity};
+    ghost use Rattle.aegis_calls.specs.Shown.{Environments};
+
+    ghost Value = { Environments };
+
+    ghost view = { λ r. record { list = r.list.items; spare = r.spare } };
+
+    ghost invariant = { λ r. vec_len r.list + r.spare ≤ vec_capacity r.list };
+}
+
+impl Roster {
+    /// A roster with room for so many environments.
+    pub(crate) fn new(alloc: Global, envs: u8) -> Result<Roster, OutOfMemory>
+        ensures { IfOk result (λ r. r ≡ record { list = []; spare = envs }) }
+    {
+        let list = Vec::with_capacity(alloc, usize::from(envs))?;
+        Ok(Roster {
+            list,
+            spare: usize::from(envs),
+        })
+    }
+
+    /// How many environments there are.
+    pub(crate) fn len(&self) -> usize
+        ensures { result ≡ length self.now.list }
+    {
+        self.list.len()
+    }
+
+    /// The environment of this number.
+    pub(crate) fn at(&self, env: u8) -> &Environment
+        requires { env < length self.now.list }
+        ensures { slice_get self.now.list env ≡ Some result.now }
+    {
+        &self.list[usize::from(env)]
+    }
+
+    /// The frame of the environment of this number.
+    pub(crate) fn frame(&self, env: u8) -> &Env
+        requires { env < length self.now.list }
+        ensures mappings { result.now.mappings ≡ mappings_of self.now.list env }
+        ensures registers { result.now.cpu ≡ registers_of self.now.list env }
+    {
+        &self.at(env).env
+    }
+
+    /// Adds the next environment, for which there must be room.
+    pub(crate) fn push(&mut self, environment: Environment)
+        requires { 0 < self.old.spare }
+        ensures { self.new ≡ record { list = self.old.list ++ environment ∷ []; spare = self.old.spare - 1 } }
+    {
+        self.list.push(environment).unwrap();
+        self.spare -= 1;
+    }
+
+    /// Keeps the registers of the environment of this number.
+    pub(crate) fn keep(&mut self, env: u8, cpu: &Cpu)
+        requires { env < length self.old.list }
+        ensures { self.new ≡ with_list self.old (changed (with_registers cpu.now) self.old.list env) }
+    {
+        keep_in(&mut self.list, usize::from(env), cpu);
+    }
+
+    /// The environment of this number dies: its registers and its mappings go.
+    pub(crate) fn bury(&mut self, env: u8, cause: Cause)
+        requires { env < length self.old.list }
+        ensures { self.new ≡ with_list self.old (changed (buried cause) self.old.list env) }
+    {
+        bury_in(&mut self.list, usize::from(env), cause);
+    }
+}
+
+/// Keeps the registers of the environment at a place.
+fn keep_in(list: &mut [Environment], place: usize, cpu: &Cpu)
+    requires { place < length list.old }
+    ensures { list.new ≡ changed (with_registers cpu.now) list.old place }
+{
+    let environment = &mut list[place];
+    environment.env.keep(cpu);
+}
+
+/// The environment at a place dies.
+fn bury_in(list: &mut [Environment], place: usize, cause: Cause)
+    requires { place < length list.old }
+    ensures { list.new ≡ changed (buried cause) list.old place }
+{
+    let environment = &mut list[place];
+    environment.life = Life::Dead(cause);
+    environment.env.clear();
+}
