@@ -150,5 +150,5 @@ fn push_living_lines(out: &mut Vec<u8>, board: &Board, env: u8) -> Result<(), Ou
     push_cpu_line(out, env, &cpu)?;
     push_regs_line(out, env, &cpu)?;
     push_excess_line(out, env, NO_EXCESS)?;
-    push_keep_lines(out, env, board.kept_pages(env))
+    push_keep_lines(out, board, env)
 }

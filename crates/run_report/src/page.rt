@@ -1,11 +1,12 @@
 //! The guaranteed pages that a report shows, each by the fingerprint of its bytes.
-ghost use Rattle.std.specs.Prelude.{◌≡◌, ◌++◌, OnOk};
+ghost use Rattle.std.specs.Prelude.{◌≡◌, ◌++◌, ◌<◌, OnOk};
+ghost use Rattle.aegis_calls.specs.Showing.{world_of, view_seen};
 ghost use Rattle.world_model.specs.Report.{fingerprint, keep_line, keep_lines};
 
 use crate::words::{end_line, push_digits, push_number, push_text, push_word};
+use aegis_calls::{Board, PageView};
 use edge_io::OutOfMemory;
 use sha2::{Digest, Sha256};
-use world_model::KeptPage;
 
 /// The hexadecimal digits of a page number.
 const PAGE_NUMBER_DIGITS: u8 = 5;
@@ -25,26 +26,25 @@ fn fingerprint(bytes: &[u8]) -> [u8; FINGERPRINT_SIZE]
 
 /// Appends the line of a page.
 #[tactic(auto, unfolding(world_model::specs::Report::keep_line))]
-fn push_keep_line(out: &mut Vec<u8>, env: u8, page: &KeptPage) -> Result<(), OutOfMemory>
-    ensures { OnOk result (out.new.items ≡ out.old.items ++ keep_line env page.now) }
+fn push_keep_line(out: &mut Vec<u8>, env: u8, page: PageView<'_>) -> Result<(), OutOfMemory>
+    ensures { OnOk result (out.new.items ≡ out.old.items ++ keep_line env (view_seen page.entry)) }
 {
     push_text(out, b"keep")?;
     push_number(out, u64::from(env))?;
     push_digits(out, page.vpn, PAGE_NUMBER_DIGITS)?;
-    push_word(out, &fingerprint(&page.bytes))?;
+    push_word(out, &fingerprint(page.bytes))?;
     end_line(out)
 }
 
 /// Appends the lines of an environment's pages.
-pub(crate) fn push_keep_lines(
-    out: &mut Vec<u8>,
-    env: u8,
-    pages: &[KeptPage],
-) -> Result<(), OutOfMemory>
-    ensures { OnOk result (out.new.items ≡ out.old.items ++ keep_lines env pages.now) }
+pub(crate) fn push_keep_lines(out: &mut Vec<u8>, board: &Board, env: u8) -> Result<(), OutOfMemory>
+    requires { env < (world_of board.now).count }
+    ensures { OnOk result (out.new.items ≡ out.old.items ++ keep_lines env ((world_of board.now).solos env).kept) }
 {
-    for page in pages {
-        push_keep_line(out, env, page)?;
+    for place in 0..board.kept_count(env) {
+        if let Some(page) = board.kept_page(env, place) {
+            push_keep_line(out, env, page)?;
+        }
     }
     Ok(())
 }

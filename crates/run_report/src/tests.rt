@@ -1,10 +1,15 @@
+ghost use Rattle.std.specs.Prelude.{◌≡◌, ◌<◌, IfOk};
+ghost use Rattle.aegis_calls.specs.Showing.{world_of};
 ghost use Rattle.boot_image.specs.Accepted.{IsFitting};
+ghost use Rattle.boot_image.specs.ImageValue.{guaranteed_mappings};
 ghost use Rattle.boot_image.specs.Seen.{program_seen};
 
 use super::*;
 use aegis_calls::Board;
 use boot_image::Program;
+use edge_io::OutOfMemory;
 use kernel_journal::RunEnd;
+use std::alloc::Global;
 use std::test::Fail;
 
 /// A program that prints `hi` and exits with 7.
@@ -31,7 +36,8 @@ const SHOWN: &[u8] = b"env 0 hi live\n\
 const TAIL: &[u8] = b"own 0 0 0 0\nsum 0 0 0 0\ndone\n";
 
 fn hi() -> Program<'static>
-    ensures { IsFitting (program_seen result) }
+    ensures fits { IsFitting (program_seen result) }
+    ensures pages { guaranteed_mappings (program_seen result) ≡ 2 }
 {
     Program {
         name: *b"hi\0\0\0\0\0\0",
@@ -42,9 +48,18 @@ fn hi() -> Program<'static>
     }
 }
 
+/// A board of 16 pages with the program in its one slot.
+fn board(alloc: Global) -> Result<Board, OutOfMemory>
+    ensures { IfOk result (λ b. 0 < (world_of b).count) }
+{
+    let mut board = Board::build(alloc, 16, 16, &[Some(0)], 1)?;
+    board.add(&hi());
+    Ok(board)
+}
+
 #[test]
 fn a_program_that_has_not_run_is_shown_at_its_entry(rt: HostRuntime) -> Result<(), Fail> {
-    let board = Board::load(rt.alloc(), 16, &hi()).expect(&rt, "memory");
+    let board = board(rt.alloc()).expect(&rt, "memory");
     let text = report(rt.alloc(), &board, RunEnd::Limit).expect(&rt, "memory");
     let lines = env_lines(rt.alloc(), &board, 0).expect(&rt, "memory");
     assert_eq!(rt; lines.as_slice(), SHOWN);

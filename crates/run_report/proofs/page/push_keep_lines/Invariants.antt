@@ -1,6 +1,7 @@
 use Rattle.std.proofs.Common.{◌≡◌, ◌++◌, take}
+use Rattle.aegis_calls.specs.Showing.{world_of}
 use Rattle.world_model.specs.Report.{keep_lines}
 use Rattle.run_report.proofs.page.push_keep_lines.Given as goal
 
-abbrev pub invariant-loop-page : goal.invariant-loop-page
-invariant-loop-page l = l.out.items ≡ l.fn.out.items ++ keep_lines l.env (take l.page-index l.pages)
+abbrev pub invariant-loop-place : goal.invariant-loop-place
+invariant-loop-place l = l.out.items ≡ l.fn.out.items ++ keep_lines l.env (take l.place ((world_of l.board).solos l.env).kept)
