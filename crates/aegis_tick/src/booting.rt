@@ -1,18 +1,39 @@
-ghost use Rattle.std.specs.Prelude.{◌≡◌, IfOk};
+ghost use Rattle.std.specs.Prelude.{◌≡◌, ◌≤◌, ◌+◌, IfOk, map, fold, length, sum_by};
+ghost use Rattle.std.specs.List.{AllByRecursion};
 ghost use Rattle.aegis_calls.specs.Showing.{world_of};
-ghost use Rattle.boot_image.specs.Accepted.{IsAccepted};
-ghost use Rattle.boot_image.specs.Seen.{image_seen};
-ghost use Rattle.world_model.specs.Boot.{boot_world};
+ghost use Rattle.boot_image.specs.Accepted.{IsAccepted, IsFitting};
+ghost use Rattle.boot_image.specs.ImageValue.{guaranteed_mappings};
+ghost use Rattle.boot_image.specs.Seen.{image_seen, program_seen};
+ghost use Rattle.world_model.specs.Boot.{added, boot_world};
 
 use aegis_calls::Board;
-use boot_image::Image;
+use boot_image::{Image, Program};
 use edge_io::OutOfMemory;
 use std::alloc::Global;
 
-/// The board that an accepted image boots (`docs/KERNEL.md`).
+/// Makes an environment for each program, in their order, on a board that has room for just so many.
+fn add_all(board: &mut Board, programs: &[Program<'_>])
+    requires fits { AllByRecursion IsFitting (map program_seen programs.now) }
+    requires room { board.old.roster.spare ≡ length programs.now }
+    requires pages { board.old.taken + sum_by guaranteed_mappings (map program_seen programs.now) ≤ length board.old.frames }
+    ensures world { world_of board.new ≡ fold added (world_of board.old) (map program_seen programs.now) }
+    ensures whole { board.new.roster.spare ≡ 0 }
+{
+    for program in programs {
+        board.add(program);
+    }
+}
+
+/// The board that an accepted image boots, with all of its environments (`docs/KERNEL.md`, "Boot").
 pub fn boot(alloc: Global, image: &Image<'_>) -> Result<Board, OutOfMemory>
     requires { IsAccepted (image_seen image.now) }
-    ensures { IfOk result (λ b. world_of b ≡ boot_world (image_seen image.now)) }
+    ensures world { IfOk result (λ b. world_of b ≡ boot_world (image_seen image.now)) }
+    ensures whole { IfOk result (λ b. b.roster.spare ≡ 0) }
 {
-    Board::load(alloc, image.quantum, &image.programs.as_slice()[0])
+    let slots = image.slots.as_slice();
+    let programs = image.programs.as_slice();
+    let envs = programs.len() as u8;
+    let mut board = Board::build(alloc, image.pages, image.quantum, slots, envs)?;
+    add_all(&mut board, programs);
+    Ok(board)
 }

@@ -16,6 +16,7 @@ pub const TICK_ROWS: u32 = 2048;
 pub fn make_room(board: &mut Board, rows: u32) -> Result<(), OutOfMemory>
     ensures room { OnOk result (rows ≤ board.new.ledger.spare) }
     ensures world { world_of board.new ≡ world_of board.old }
+    ensures whole { board.new.roster ≡ board.old.roster }
     ensures there { rows ≤ board.old.ledger.spare → IsOk result × (board.new ≡ board.old) }
     ensures refused { OnErr result (board.new ≡ board.old) }
 {
@@ -24,11 +25,13 @@ pub fn make_room(board: &mut Board, rows: u32) -> Result<(), OutOfMemory>
 
 /// One tick: the turn, the runner's step, and the timer. It takes no memory.
 pub fn tick(board: &mut Board)
+    requires whole { board.old.roster.spare ≡ 0 }
     requires busy { is_idle_book (world_of board.old).book ≡ false }
     requires time { board.old.time < TIME_LIMIT }
     requires room { TICK_ROWS ≤ board.old.ledger.spare }
     ensures world { world_of board.new ≡ tick_step (world_of board.old) }
     ensures time { board.new.time ≡ board.old.time + 1 }
+    ensures whole { board.new.roster.spare ≡ 0 }
     ensures room { board.old.ledger.spare ≤ board.new.ledger.spare + TICK_ROWS }
 {
     board.turn();
@@ -38,6 +41,7 @@ pub fn tick(board: &mut Board)
 
 /// So many ticks, or fewer where the board is idle before.
 fn run_ticks(board: &mut Board, ticks: u32) -> Result<(), OutOfMemory>
+    requires whole { board.old.roster.spare ≡ 0 }
     requires fresh { board.old.time ≡ 0 }
     requires limit { ticks ≤ TIME_LIMIT }
     ensures world { OnOk result (world_of board.new ≡ run_on (world_of board.old) ticks) }
@@ -58,6 +62,7 @@ fn run_ticks(board: &mut Board, ticks: u32) -> Result<(), OutOfMemory>
 /// it, else because the board is idle. After a refusal the board is that of a whole number of ticks.
 /// Where `TICK_ROWS` rows are spare for each tick it takes no memory and isn't refused.
 pub fn run(board: &mut Board, ticks: u32) -> Result<RunEnd, OutOfMemory>
+    requires whole { board.old.roster.spare ≡ 0 }
     requires fresh { board.old.time ≡ 0 }
     requires limit { ticks ≤ TIME_LIMIT }
     ensures world { OnOk result (world_of board.new ≡ run_on (world_of board.old) ticks) }

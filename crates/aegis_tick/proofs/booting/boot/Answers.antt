@@ -1,26 +1,20 @@
--- The one program is the first.
-use Rattle.std.proofs.Common.{◌≡◌, ℕ, List, [], ◌∷◌, length, map, Some, Result, Ok, Err, IfOk, get_or, refl}
-use Rattle.edge_io.specs.declared.memory.OutOfMemory.{OutOfMemory}
-use Rattle.boot_image.specs.ImageValue.{ImageValue, ProgramValue}
+-- All programs of the image, added to the bare world, give its boot.
+use Rattle.std.proofs.Common.{ℕ, List, Option, map, ap, ◌∙◌}
+use Rattle.std.specs.Prelude.{fold}
 use Rattle.boot_image.specs.declared.image.Program.{Program}
-use Rattle.boot_image.specs.Seen.{program_seen, image_seen}
-use Rattle.world_model.specs.Boot.{boot_world}
-use Rattle.aegis_calls.specs.Shown.{Shown}
-use Rattle.aegis_calls.specs.Showing.{world_of}
-use Rattle.aegis_calls.specs.Loading.{ShowsBoot}
+use Rattle.boot_image.specs.Seen.{image_seen, program_seen}
+use Rattle.world_model.specs.World.{World}
+use Rattle.world_model.specs.Boot.{bare_world, added}
+use Rattle.aegis_tick.proofs.Booted.{added_boot}
 use Rattle.aegis_tick.proofs.booting.boot.Goals as goal
 
-shows : (image : ImageValue) (quantum : ℕ) (p : ProgramValue) (r : Result Shown OutOfMemory) → IfOk r (ShowsBoot quantum p) → image.quantum ≡ quantum → image.slots ≡ Some 0 ∷ [] → image.programs ≡ p ∷ [] → IfOk r (λ b. world_of b ≡ boot_world image)
-shows image quantum p (Ok b) loaded same slots programs = loaded image same slots programs
-shows image quantum p (Err e) loaded same slots programs = tt
-
--- a list of one program is that program
-single : (ps qs : List Program) (d : Program) → qs ≡ ps → length (map program_seen ps) ≡ 1 → map program_seen ps ≡ program_seen (get_or qs 0 d) ∷ []
-single [] qs d same one = cc
-single (p ∷ []) qs d same one = rw same refl
-single (p ∷ q ∷ ps) qs d same one = cc
-
-pub returns : goal.returns
-returns c =
-    shows (image_seen c.args.image.now) c.args.image.now.quantum _ c.load.result c.load.ensures refl c.requires.slots
-    (single c.args.image.now.programs.items c.as_slice.result.now _ c.as_slice.ensures.value c.requires.one_program)
+pub returns-clause-world : goal.returns-clause-world
+returns-clause-world c =
+    let image = c.args.image.now in
+    let slots = c.as_slice-slots.result.now in
+    let programs = c.as_slice-programs.result.now in
+    c.add_all.ensures.world
+    ∙ ap (λ (w : World). fold added w (map program_seen programs)) c.in_ok-board.ensures.world
+    ∙ ap (λ (owners : List (Option ℕ)). fold added (bare_world image.quantum owners) (map program_seen programs)) c.as_slice-slots.ensures.value
+    ∙ ap (λ (ps : List Program). fold added (bare_world image.quantum image.slots.items) (map program_seen ps)) c.as_slice-programs.ensures.value
+    ∙ added_boot (image_seen image)

@@ -1,6 +1,6 @@
 -- Each turn of the loop is a tick of the model, until it is idle.
 use Rattle.std.proofs.Common.{◌≡◌, ◌+◌, ◌-◌, ℕ, sym, ◌∙◌, ap, arith}
-use Rattle.aegis_calls.specs.Shown.{Shown}
+use Rattle.aegis_calls.specs.Shown.{Shown, Environments}
 use Rattle.aegis_calls.specs.Showing.{world_of}
 use Rattle.world_model.specs.Book.{is_idle_book}
 use Rattle.world_model.specs.World.{World}
@@ -20,6 +20,9 @@ pub tick-requires-clause-busy : goal.tick-requires-clause-busy
 tick-requires-clause-busy c =
     ap (λ (v : World). is_idle_book v.book) c.in_ok-make_room.ensures.world ∙ sym c.idle.ensures ∙ c.if-idle.false
 
+pub tick-requires-clause-whole : goal.tick-requires-clause-whole
+tick-requires-clause-whole c = ap (λ (r : Environments). r.spare) c.in_ok-make_room.ensures.whole ∙ c.loop-done.invariant.whole
+
 pub loop-done-preserved : goal.loop-done-preserved
 loop-done-preserved c =
     let w = world_of c.args.board.now in
@@ -27,6 +30,7 @@ loop-done-preserved c =
     let busy = ap (λ (v : World). is_idle_book v.book) (sym c.loop-done.invariant.world) ∙ sym c.idle.ensures ∙ c.if-idle.false in
     record {
       world = c.tick.ensures.world ∙ ap tick_step same ∙ sym (goes_on w c.loop-done.done busy);
+      whole = c.tick.ensures.whole;
       time = c.tick.ensures.time ∙ ap (λ (v : World). v.book.time + 1) c.in_ok-make_room.ensures.world ∙ ap (λ (n : ℕ). n + 1) c.loop-done.invariant.time;
       room = λ enough.
           let spare = c.loop-done.invariant.room enough in

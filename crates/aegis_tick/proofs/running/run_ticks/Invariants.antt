@@ -7,6 +7,7 @@ use Rattle.aegis_tick.proofs.running.run_ticks.Given as goal
 abbrev pub invariant-loop-done : goal.invariant-loop-done
 invariant-loop-done l = record {
   world : world_of l.board ≡ run_on (world_of l.fn.board) l.done;
+  whole : l.board.roster.spare ≡ 0;
   time : l.board.time ≡ l.done;
   room : 2048 * l.ticks ≤ l.fn.board.ledger.spare → 2048 * (l.ticks - l.done) ≤ l.board.ledger.spare;
 }
