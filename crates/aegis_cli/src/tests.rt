@@ -1,4 +1,5 @@
 mod programs;
+mod several;
 
 use super::*;
 use edge_io::{MemoryShelf, MemorySink};
@@ -106,10 +107,9 @@ fn prints_hi_and_exits_with_7(rt: HostRuntime) -> Result<(), Fail> {
     Ok(())
 }
 
-/// The fingerprints are those of 4,096 zeros, and of the 34 bytes and 4,062 zeros.
-const LIVING: &str = "\
-aegis run
-end limit 0
+/// What is shown of it before its first tick. The fingerprints are those of 4,096 zeros, and of the 34
+/// bytes and 4,062 zeros.
+const SHOWN: &str = "\
 env 0 hi live
 out 0 0 \"\"
 cpu 0 00002000 00002004 0 00000000 00000000
@@ -119,19 +119,31 @@ regs 0 00000000 00000000 00000000 00000000 00000000 00000000 00000000 00000000 0
 excess 0 0
 keep 0 00001 ad7facb2586fc6e966c004d7d1d16b024f5805ff7cb47c7a85dabd8b48892ca7
 keep 0 00002 dfe1a80dd2ecff7b780ceae1f194ef922fe1261185621c0b7ff4a2e485aee93c
-own 0 0 0 0
-sum 0 0 0 0
-done
 ";
 
+/// The report of a board on which nothing has run, with this end and these rows.
+fn living(alloc: Global, end: &str, rows: &str) -> Result<Vec<u8>, AllocError> {
+    let text = format!(in alloc; "aegis run\nend {end} 0\n{SHOWN}{rows}sum 0 0 0 0\ndone\n")?;
+    Ok(text.into_bytes())
+}
+
+/// The last image has a slot that nobody owns, so the board is idle.
 #[test]
-fn shows_a_living_environment_at_tick_0(rt: HostRuntime) -> Result<(), Fail> {
-    let files: [(&str, &[u8]); 2] = [("hi.img", &HI), ("none.sch", b"")];
-    let answer = called(rt.alloc(), &["run", "hi.img", "none.sch", "0"], &files)?;
-    assert_eq!(rt;
-        answer,
-        (Status::Done, LIVING.as_bytes().to_vec(rt.alloc())?, 2)
-    );
+fn shows_a_living_environment_at_time_0(rt: HostRuntime) -> Result<(), Fail> {
+    let unowned = changed(HI, 16, &[255]);
+    let cases: [(&[u8; 79], &str, &str, &str); 3] = [
+        (&HI, "0", "limit", "own 0 0 0 0\n"),
+        (&unowned, "0", "limit", ""),
+        (&unowned, "100", "idle", ""),
+    ];
+    for (image, ticks, end, rows) in cases {
+        let files: [(&str, &[u8]); 2] = [("hi.img", image), ("none.sch", b"")];
+        assert_eq!(rt;
+            called(rt.alloc(), &["run", "hi.img", "none.sch", ticks], &files)?,
+            (Status::Done, living(rt.alloc(), end, rows)?, 2),
+            "{end} {ticks}"
+        );
+    }
     Ok(())
 }
 
@@ -178,7 +190,25 @@ fn checked(alloc: Global, image: &[u8], schedule: &[u8]) -> Result<(Status, Vec<
 }
 
 #[test]
-fn names_the_first_file_with_a_fault_and_its_place(rt: HostRuntime) -> Result<(), Fail> {
+fn takes_fields_at_their_limits(rt: HostRuntime) -> Result<(), Fail> {
+    // Pages, quantum, and the environments from which transfers are accepted.
+    let cases: [(usize, &[u8]); 3] = [(4, &[0, 4]), (8, &[0, 0, 1]), (33, &[255, 255, 255, 255])];
+    for (place, bytes) in cases {
+        assert_eq!(rt;
+            checked(rt.alloc(), &changed(HI, place, bytes), b"")?,
+            (
+                Status::Done,
+                living(rt.alloc(), "limit", "own 0 0 0 0\n")?,
+                2
+            ),
+            "{place}"
+        );
+    }
+    Ok(())
+}
+
+#[test]
+fn names_the_length_of_an_image_that_ends_early(rt: HostRuntime) -> Result<(), Fail> {
     for length in 0..HI.len() {
         let text = format!(in rt.alloc(); "aegis: a.img: Short {length}\n")?;
         assert_eq!(rt;
@@ -186,152 +216,57 @@ fn names_the_first_file_with_a_fault_and_its_place(rt: HostRuntime) -> Result<()
             (Status::Refused, text.into_bytes(), 2)
         );
     }
+    Ok(())
+}
 
+#[test]
+fn names_the_fault_of_an_image_and_its_place(rt: HostRuntime) -> Result<(), Fail> {
+    let cases: [(usize, &[u8], &str); 20] = [
+        (3, b"2", "Magic 0"),
+        (4, &[15], "Pages 4"),
+        (4, &[1, 4], "Pages 4"),
+        (8, &[15], "Quantum 8"),
+        (8, &[1, 0, 1], "Quantum 8"),
+        (12, &[0], "Envs 12"),
+        (12, &[2], "Short 79"),
+        (12, &[17], "Envs 12"),
+        (14, &[0], "Slots 14"),
+        (14, &[64], "Short 79"),
+        (14, &[65], "Slots 14"),
+        (16, &[1], "SlotOwner 16"),
+        (17, b"H", "Name 17"),
+        (26, &[0x10], "Base 17"),
+        (29, &[15], "TooBig 4"),
+        (29, &[17], "Stack 17"),
+        (37, &[1], "NotBuilt 17"),
+        (37, &[2], "Kind 17"),
+        (41, &[0], "Empty 17"),
+        (41, &[33], "Trailing 78"),
+    ];
+    for (place, bytes, fault) in cases {
+        let text = format!(in rt.alloc(); "aegis: a.img: {fault}\n")?;
+        assert_eq!(rt;
+            checked(rt.alloc(), &changed(HI, place, bytes), b"")?,
+            (Status::Refused, text.into_bytes(), 2),
+            "{fault}"
+        );
+    }
+    Ok(())
+}
+
+#[test]
+fn names_the_first_file_with_a_fault(rt: HostRuntime) -> Result<(), Fail> {
     let mut longer = HI.to_vec(rt.alloc())?;
     longer.push(0)?;
-    let cases: [(&[u8], &[u8], Status, &str); 26] = [
-        // Fields at their limits: pages, quantum, accept.
-        (&changed(HI, 4, &[0, 4]), b"", Status::Done, LIVING),
-        (&changed(HI, 8, &[0, 0, 1]), b"", Status::Done, LIVING),
-        (
-            &changed(HI, 33, &[255, 255, 255, 255]),
-            b"",
-            Status::Done,
-            LIVING,
-        ),
-        (&longer, b"", Status::Refused, "aegis: a.img: Trailing 79\n"),
-        (
-            &changed(HI, 3, b"2"),
-            b"",
-            Status::Refused,
-            "aegis: a.img: Magic 0\n",
-        ),
-        (
-            &changed(HI, 4, &[15]),
-            b"",
-            Status::Refused,
-            "aegis: a.img: Pages 4\n",
-        ),
-        (
-            &changed(HI, 4, &[1, 4]),
-            b"",
-            Status::Refused,
-            "aegis: a.img: Pages 4\n",
-        ),
-        (
-            &changed(HI, 8, &[15]),
-            b"",
-            Status::Refused,
-            "aegis: a.img: Quantum 8\n",
-        ),
-        (
-            &changed(HI, 8, &[1, 0, 1]),
-            b"",
-            Status::Refused,
-            "aegis: a.img: Quantum 8\n",
-        ),
-        (
-            &changed(HI, 12, &[0]),
-            b"",
-            Status::Refused,
-            "aegis: a.img: Envs 12\n",
-        ),
-        (
-            &changed(HI, 12, &[2]),
-            b"",
-            Status::Refused,
-            "aegis: a.img: NotBuilt 12\n",
-        ),
-        (
-            &changed(HI, 12, &[17]),
-            b"",
-            Status::Refused,
-            "aegis: a.img: Envs 12\n",
-        ),
-        (
-            &changed(HI, 14, &[0]),
-            b"",
-            Status::Refused,
-            "aegis: a.img: Slots 14\n",
-        ),
-        (
-            &changed(HI, 14, &[64]),
-            b"",
-            Status::Refused,
-            "aegis: a.img: NotBuilt 14\n",
-        ),
-        (
-            &changed(HI, 14, &[65]),
-            b"",
-            Status::Refused,
-            "aegis: a.img: Slots 14\n",
-        ),
-        (
-            &changed(HI, 16, &[1]),
-            b"",
-            Status::Refused,
-            "aegis: a.img: SlotOwner 16\n",
-        ),
-        (
-            &changed(HI, 16, &[255]),
-            b"",
-            Status::Refused,
-            "aegis: a.img: NotBuilt 16\n",
-        ),
-        (
-            &changed(HI, 17, b"H"),
-            b"",
-            Status::Refused,
-            "aegis: a.img: Name 17\n",
-        ),
-        (
-            &changed(HI, 26, &[0x10]),
-            b"",
-            Status::Refused,
-            "aegis: a.img: Base 17\n",
-        ),
-        (
-            &changed(HI, 29, &[15]),
-            b"",
-            Status::Refused,
-            "aegis: a.img: TooBig 4\n",
-        ),
-        (
-            &changed(HI, 29, &[17]),
-            b"",
-            Status::Refused,
-            "aegis: a.img: Stack 17\n",
-        ),
-        (
-            &changed(HI, 37, &[2]),
-            b"",
-            Status::Refused,
-            "aegis: a.img: Kind 17\n",
-        ),
-        (
-            &changed(HI, 41, &[0]),
-            b"",
-            Status::Refused,
-            "aegis: a.img: Empty 17\n",
-        ),
-        (
-            &changed(HI, 41, &[33]),
-            b"",
-            Status::Refused,
-            "aegis: a.img: Trailing 78\n",
-        ),
-        (&HI, b"\n", Status::Refused, "aegis: a.sch: NotBuilt 1\n"),
-        (
-            &changed(HI, 3, b"2"),
-            b"\n",
-            Status::Refused,
-            "aegis: a.img: Magic 0\n",
-        ),
+    let cases: [(&[u8], &[u8], &str); 3] = [
+        (&longer, b"", "aegis: a.img: Trailing 79\n"),
+        (&HI, b"\n", "aegis: a.sch: NotBuilt 1\n"),
+        (&changed(HI, 3, b"2"), b"\n", "aegis: a.img: Magic 0\n"),
     ];
-    for (image, schedule, status, text) in cases {
+    for (image, schedule, text) in cases {
         assert_eq!(rt;
             checked(rt.alloc(), image, schedule)?,
-            (status, text.as_bytes().to_vec(rt.alloc())?, 2),
+            (Status::Refused, text.as_bytes().to_vec(rt.alloc())?, 2),
             "{text}"
         );
     }
@@ -378,101 +313,68 @@ fn ended(alloc: Global, case: &Failing<'_>) -> Result<(Status, Vec<u8>, String),
 }
 
 #[test]
-fn a_fault_of_an_edge_ends_the_run_and_leaves_a_first_part(rt: HostRuntime) -> Result<(), Fail> {
+fn a_fault_of_reading_ends_the_run(rt: HostRuntime) -> Result<(), Fail> {
+    let gone = Failing {
+        image: "no.img",
+        ..WELL
+    };
+    let lost = Failing {
+        schedule: "no.sch",
+        ..WELL
+    };
+    let cases: [(Failing<'_>, &str); 5] = [
+        (Failing { read: 0, ..WELL }, "hi.img"),
+        (Failing { read: 1, ..WELL }, "none.sch"),
+        (gone, "no.img"),
+        (lost, "no.sch"),
+        (
+            Failing {
+                image: "no.img",
+                ..lost
+            },
+            "no.img",
+        ),
+    ];
+    for (case, failed) in cases {
+        assert_eq!(rt;
+            ended(rt.alloc(), &case)?,
+            (
+                Status::ReadFault,
+                Vec::new(rt.alloc()),
+                String::from_str(rt.alloc(), failed)?
+            ),
+            "{failed}"
+        );
+    }
+    Ok(())
+}
+
+#[test]
+fn a_fault_of_writing_leaves_a_first_part(rt: HostRuntime) -> Result<(), Fail> {
     let report = hi_report(rt.alloc(), "idle")?;
     let all = report.as_bytes();
     assert_eq!(rt; all.len(), 112);
     let (_, most) = all.split_last().ok_or("the report is empty")?;
-    let cases: [(Failing<'_>, Status, &[u8], &str); 12] = [
-        (WELL, Status::Done, all, ""),
-        (
-            Failing { read: 0, ..WELL },
-            Status::ReadFault,
-            b"",
-            "hi.img",
-        ),
-        (
-            Failing { read: 1, ..WELL },
-            Status::ReadFault,
-            b"",
-            "none.sch",
-        ),
-        (
-            Failing {
-                image: "no.img",
-                ..WELL
-            },
-            Status::ReadFault,
-            b"",
-            "no.img",
-        ),
-        (
-            Failing {
-                schedule: "no.sch",
-                ..WELL
-            },
-            Status::ReadFault,
-            b"",
-            "no.sch",
-        ),
-        (
-            Failing {
-                image: "no.img",
-                schedule: "no.sch",
-                ..WELL
-            },
-            Status::ReadFault,
-            b"",
-            "no.img",
-        ),
-        (
-            Failing {
-                most: 3,
-                write: 1,
-                ..WELL
-            },
-            Status::WriteFault,
-            b"aeg",
-            "",
-        ),
-        (Failing { write: 0, ..WELL }, Status::WriteFault, b"", ""),
-        (Failing { room: 0, ..WELL }, Status::WriteFault, b"", ""),
+    let slow = Failing { most: 3, ..WELL };
+    let cases: [(Failing<'_>, Status, &[u8]); 7] = [
+        (WELL, Status::Done, all),
+        (Failing { write: 1, ..slow }, Status::WriteFault, b"aeg"),
+        (Failing { write: 0, ..WELL }, Status::WriteFault, b""),
+        (Failing { room: 0, ..WELL }, Status::WriteFault, b""),
         (
             Failing { room: 10, ..WELL },
             Status::WriteFault,
             b"aegis run\n",
-            "",
         ),
-        (
-            Failing {
-                room: 111,
-                most: 3,
-                ..WELL
-            },
-            Status::WriteFault,
-            most,
-            "",
-        ),
-        (
-            Failing {
-                room: 112,
-                most: 3,
-                ..WELL
-            },
-            Status::Done,
-            all,
-            "",
-        ),
+        (Failing { room: 111, ..slow }, Status::WriteFault, most),
+        (Failing { room: 112, ..slow }, Status::Done, all),
     ];
-    for (case, status, written, failed) in cases {
+    for (case, status, written) in cases {
         assert_eq!(rt;
             ended(rt.alloc(), &case)?,
-            (
-                status,
-                written.to_vec(rt.alloc())?,
-                String::from_str(rt.alloc(), failed)?
-            ),
-            "{status:?} {failed}"
+            (status, written.to_vec(rt.alloc())?, String::new(rt.alloc())),
+            "{status:?} {}",
+            written.len()
         );
     }
     Ok(())

@@ -2,7 +2,7 @@ use super::{Status, called};
 use std::alloc::{AllocError, Global};
 use std::test::Fail;
 
-fn push_words(file: &mut Vec<u8>, words: &[u32]) -> Result<(), AllocError> {
+pub(super) fn push_words(file: &mut Vec<u8>, words: &[u32]) -> Result<(), AllocError> {
     for word in words {
         file.extend_from_slice(&word.to_le_bytes())?;
     }
@@ -25,7 +25,7 @@ fn image(alloc: Global, quantum: u32, stack: u32, words: &[u32]) -> Result<Vec<u
 }
 
 /// A run of this image for so many ticks: its status and its output, with the count of reads.
-fn run(alloc: Global, image: &[u8], ticks: u32) -> Result<(Status, Vec<u8>, u64), Fail> {
+pub(super) fn run(alloc: Global, image: &[u8], ticks: u32) -> Result<(Status, Vec<u8>, u64), Fail> {
     let ticks = format!(in alloc; "{ticks}")?;
     let files: [(&str, &[u8]); 2] = [("a.img", image), ("a.sch", b"")];
     called(alloc, &["run", "a.img", "a.sch", &ticks], &files)
@@ -97,125 +97,105 @@ fn names_the_cause_of_each_death(rt: HostRuntime) -> Result<(), Fail> {
     Ok(())
 }
 
-/// Each program leaves with its call's code, or with its value where this is said.
+/// move $4,$2 and move $4,$3: the answer's code, or its value, is the code of the exit.
+const CODE: u32 = 0x0040_2025;
+
+const VALUE: u32 = 0x0060_2025;
+
+/// An image of a program that makes the call of these words and exits with its code or value, `leave`.
+/// The words of `rest` stand behind it, from 0x2000 and four bytes for each word before.
+fn calling(alloc: Global, call: &[u32], leave: u32, rest: &[u32]) -> Result<Vec<u8>, Fail> {
+    let mut words = call.to_vec(alloc)?;
+    // syscall; move; ori $2,$0,2; syscall
+    words.extend_from_slice(&[0xc, leave, 0x3402_0002, 0xc])?;
+    words.extend_from_slice(rest)?;
+    image(alloc, 128, 0, &words)
+}
+
 #[test]
-fn answers_kernel_calls_by_code_and_value(rt: HostRuntime) -> Result<(), Fail> {
-    let full = format!(in rt.alloc(); "65536 \"{}\"", "\\x00".repeat(rt.alloc(), 65_536)?)?;
-    let cases: [(&[u32], &str, &str, u32); 12] = [
-        // put of the byte at 0x2fff, the last of its page
+fn answers_put_by_code_and_value(rt: HostRuntime) -> Result<(), Fail> {
+    // ori $2,$0,1; ori $4,$0,ADDRESS; ori $5,$0,LENGTH
+    let cases: [([u32; 3], u32, &str, &str); 6] = [
+        // the byte at 0x2fff, the last of its page
         (
-            &[
-                0x3402_0001,
-                0x3404_2fff,
-                0x3405_0001,
-                0xc,
-                0x0040_2025,
-                0x3402_0002,
-                0xc,
-            ],
+            [0x3402_0001, 0x3404_2fff, 0x3405_0001],
+            CODE,
             "exit 0",
             r#"1 "\x00""#,
-            6,
         ),
-        // put of two bytes at 0x2fff: the second is of no page
+        // two bytes at 0x2fff: the second is of no page
         (
-            &[
-                0x3402_0001,
-                0x3404_2fff,
-                0x3405_0002,
-                0xc,
-                0x0040_2025,
-                0x3402_0002,
-                0xc,
-            ],
+            [0x3402_0001, 0x3404_2fff, 0x3405_0002],
+            CODE,
             "exit 21",
             r#"0 """#,
-            6,
         ),
-        // put of one byte at 0, where no page is
+        // one byte at 0, where no page is
         (
-            &[
-                0x3402_0001,
-                0x3404_0000,
-                0x3405_0001,
-                0xc,
-                0x0040_2025,
-                0x3402_0002,
-                0xc,
-            ],
+            [0x3402_0001, 0x3404_0000, 0x3405_0001],
+            CODE,
             "exit 21",
             r#"0 """#,
-            6,
         ),
-        // put of no byte at 0
+        // no byte at 0
         (
-            &[
-                0x3402_0001,
-                0x3404_0000,
-                0x3405_0000,
-                0xc,
-                0x0040_2025,
-                0x3402_0002,
-                0xc,
-            ],
+            [0x3402_0001, 0x3404_0000, 0x3405_0000],
+            CODE,
             "exit 0",
             r#"0 """#,
-            6,
         ),
-        // put of three bytes of the context page; the value
+        // three bytes of the context page
         (
-            &[
-                0x3402_0001,
-                0x3404_1000,
-                0x3405_0003,
-                0xc,
-                0x0060_2025,
-                0x3402_0002,
-                0xc,
-            ],
+            [0x3402_0001, 0x3404_1000, 0x3405_0003],
+            VALUE,
             "exit 3",
             r#"3 "\x00\x00\x00""#,
-            6,
         ),
-        // put of the two words behind the code; the value
+        // the two words behind the program
         (
-            &[
-                0x3402_0001,
-                0x3404_201c,
-                0x3405_0008,
-                0xc,
-                0x0060_2025,
-                0x3402_0002,
-                0xc,
-                0x0a5c_2241,
-                0xff7f_7e20,
-            ],
+            [0x3402_0001, 0x3404_201c, 0x3405_0008],
+            VALUE,
             "exit 8",
             r#"8 "A\"\\\n ~\x7f\xff""#,
-            6,
         ),
+    ];
+    for (call, leave, life, out) in cases {
+        let image = calling(rt.alloc(), &call, leave, &[0x0a5c_2241, 0xff7f_7e20])?;
+        assert_eq!(rt;
+            run(rt.alloc(), &image, 200)?,
+            (Status::Done, dead(rt.alloc(), life, out, 6)?, 2),
+            "{call:?}"
+        );
+    }
+    Ok(())
+}
+
+#[test]
+fn answers_what_is_no_call_with_20(rt: HostRuntime) -> Result<(), Fail> {
+    let cases: [(&[u32], u32, &str, u32); 3] = [
         // call 3
-        (
-            &[0x3402_0003, 0xc, 0x0040_2025, 0x3402_0002, 0xc],
-            "exit 20",
-            r#"0 """#,
-            4,
-        ),
-        // call 0
-        (
-            &[0xc, 0x0040_2025, 0x3402_0002, 0xc],
-            "exit 20",
-            r#"0 """#,
-            3,
-        ),
+        (&[0x3402_0003], CODE, "exit 20", 4),
+        // call 0 with 0 in $4: a yield to environment 0
+        (&[], CODE, "exit 20", 3),
         // call 3 with 9 in $3; the value
-        (
-            &[0x3403_0009, 0x3402_0003, 0xc, 0x0060_2025, 0x3402_0002, 0xc],
-            "exit 0",
-            r#"0 """#,
-            5,
-        ),
-        // exit with -1
+        (&[0x3403_0009, 0x3402_0003], VALUE, "exit 0", 5),
+    ];
+    for (call, leave, life, tick) in cases {
+        let image = calling(rt.alloc(), call, leave, &[])?;
+        assert_eq!(rt;
+            run(rt.alloc(), &image, 200)?,
+            (Status::Done, dead(rt.alloc(), life, r#"0 """#, tick)?, 2),
+            "{call:?}"
+        );
+    }
+    Ok(())
+}
+
+#[test]
+fn exits_and_fills_the_console(rt: HostRuntime) -> Result<(), Fail> {
+    let full = format!(in rt.alloc(); "65536 \"{}\"", "\\x00".repeat(rt.alloc(), 65_536)?)?;
+    let cases: [(&[u32], &str, &str, u32); 3] = [
+        // addiu $4,$0,-1; ori $2,$0,2; syscall
         (
             &[0x2404_ffff, 0x3402_0002, 0xc],
             "exit 4294967295",
@@ -224,23 +204,8 @@ fn answers_kernel_calls_by_code_and_value(rt: HostRuntime) -> Result<(), Fail> {
         ),
         // exit by syscall 5, whose code isn't read
         (&[0x3402_0002, 0x0000_014c], "exit 0", r#"0 """#, 1),
-        // put of the context page until it is refused: the console is full after sixteen
-        (
-            &[
-                0x3404_1000,
-                0x3405_1000,
-                0x3402_0001,
-                0xc,
-                0x1040_fffd,
-                0,
-                0x0040_2025,
-                0x3402_0002,
-                0xc,
-            ],
-            "exit 18",
-            &full,
-            72,
-        ),
+        // put of the context page until it is refused, after sixteen: the code
+        (&FILLING, "exit 18", &full, 72),
     ];
     for (words, life, out, tick) in cases {
         let image = image(rt.alloc(), 128, 0, words)?;
@@ -253,8 +218,22 @@ fn answers_kernel_calls_by_code_and_value(rt: HostRuntime) -> Result<(), Fail> {
     Ok(())
 }
 
+/// ori $4,$0,0x1000; ori $5,$0,0x1000; ori $2,$0,1; syscall; beq $2,$0,0x2008; nop; move $4,$2;
+/// ori $2,$0,2; syscall
+const FILLING: [u32; 9] = [
+    0x3404_1000,
+    0x3405_1000,
+    0x3402_0001,
+    0xc,
+    0x1040_fffd,
+    0,
+    0x0040_2025,
+    0x3402_0002,
+    0xc,
+];
+
 /// The fingerprint of 4,096 zeros: the context page.
-const ZEROS: &str = "ad7facb2586fc6e966c004d7d1d16b024f5805ff7cb47c7a85dabd8b48892ca7";
+pub(super) const ZEROS: &str = "ad7facb2586fc6e966c004d7d1d16b024f5805ff7cb47c7a85dabd8b48892ca7";
 
 /// A program that lives at the end of its run, and what is shown of it.
 #[derive(Clone, Copy)]
@@ -364,8 +343,14 @@ const REFUSED: [u32; 4] = [0x3402_0001, 0x3403_0009, 0x3405_0001, 0xc];
 
 const REFUSED_PAGE: &str = "e969102bdeac17807d1e5c4d427dab76510dedce0b0c8d61f5944e06410d2ab2";
 
+/// What a run of each shows.
+fn lived(alloc: Global, case: &Living<'_>) -> Result<(Status, Vec<u8>, u64), Fail> {
+    let image = image(alloc, case.quantum, case.stack, case.words)?;
+    run(alloc, &image, case.ticks)
+}
+
 #[test]
-fn shows_what_lives_at_the_limit(rt: HostRuntime) -> Result<(), Fail> {
+fn shows_a_loop_across_its_slices(rt: HostRuntime) -> Result<(), Fail> {
     let cases = [
         // A third of the ticks count. The slice ends once, between two instructions.
         Living {
@@ -392,57 +377,75 @@ fn shows_what_lives_at_the_limit(rt: HostRuntime) -> Result<(), Fail> {
             rows: "run 0 0 0\nstop 15 0 0\nrun 16 0 0\nstop 31 0 0\nrun 32 0 0\nstop 47 0 0\nrun 48 0 0\nstop 63 0 0\n",
             starts: 4,
         },
-        // A stopped environment is shown as it will go on: at the branch.
-        Living {
-            words: &BRANCHING,
-            quantum: 16,
-            stack: 0,
-            ticks: 16,
-            triple: "0000203c 00002040 0",
-            registers: &[(31, 0x2044)],
-            kept: &[("00002", BRANCHING_PAGE)],
-            rows: "run 0 0 0\nstop 15 0 0\n",
-            starts: 1,
-        },
-        // The branch has run again, and the runner is shown as it stands: in the delay slot.
-        Living {
-            words: &BRANCHING,
-            quantum: 16,
-            stack: 0,
-            ticks: 17,
-            triple: "00002040 00002044 1",
-            registers: &[(31, 0x2044)],
-            kept: &[("00002", BRANCHING_PAGE)],
-            rows: "run 0 0 0\nstop 15 0 0\nrun 16 0 0\n",
-            starts: 2,
-        },
-        Living {
-            words: &STACKING,
-            quantum: 16,
-            stack: 1,
-            ticks: 5,
-            triple: "00002014 00002018 0",
-            registers: &[(8, 0x1234_9a78), (9, 0xffff_ff9a), (10, 0x1234_9a78)],
-            kept: &[("00002", STACKING_PAGE), ("7ffef", STACK_PAGE)],
-            rows: "run 0 0 0\n",
-            starts: 1,
-        },
-        Living {
-            words: &REFUSED,
-            quantum: 16,
-            stack: 0,
-            ticks: 4,
-            triple: "00002010 00002014 0",
-            registers: &[(2, 21), (3, 0), (5, 1)],
-            kept: &[("00002", REFUSED_PAGE)],
-            rows: "run 0 0 0\n",
-            starts: 1,
-        },
     ];
     for case in &cases {
-        let image = image(rt.alloc(), case.quantum, case.stack, case.words)?;
         assert_eq!(rt;
-            run(rt.alloc(), &image, case.ticks)?,
+            lived(rt.alloc(), case)?,
+            (Status::Done, shown(rt.alloc(), case)?, 2),
+            "{} ticks",
+            case.ticks
+        );
+    }
+    Ok(())
+}
+
+#[test]
+fn shows_a_branch_whose_delay_slot_was_due(rt: HostRuntime) -> Result<(), Fail> {
+    let stopped = Living {
+        words: &BRANCHING,
+        quantum: 16,
+        stack: 0,
+        ticks: 16,
+        triple: "0000203c 00002040 0",
+        registers: &[(31, 0x2044)],
+        kept: &[("00002", BRANCHING_PAGE)],
+        rows: "run 0 0 0\nstop 15 0 0\n",
+        starts: 1,
+    };
+    // The branch has run again, and the runner is shown as it stands: in the delay slot.
+    let running = Living {
+        ticks: 17,
+        triple: "00002040 00002044 1",
+        rows: "run 0 0 0\nstop 15 0 0\nrun 16 0 0\n",
+        starts: 2,
+        ..stopped
+    };
+    for case in &[stopped, running] {
+        assert_eq!(rt;
+            lived(rt.alloc(), case)?,
+            (Status::Done, shown(rt.alloc(), case)?, 2),
+            "{} ticks",
+            case.ticks
+        );
+    }
+    Ok(())
+}
+
+#[test]
+fn shows_the_stack_and_a_refused_call(rt: HostRuntime) -> Result<(), Fail> {
+    let stacking = Living {
+        words: &STACKING,
+        quantum: 16,
+        stack: 1,
+        ticks: 5,
+        triple: "00002014 00002018 0",
+        registers: &[(8, 0x1234_9a78), (9, 0xffff_ff9a), (10, 0x1234_9a78)],
+        kept: &[("00002", STACKING_PAGE), ("7ffef", STACK_PAGE)],
+        rows: "run 0 0 0\n",
+        starts: 1,
+    };
+    let refused = Living {
+        words: &REFUSED,
+        stack: 0,
+        ticks: 4,
+        triple: "00002010 00002014 0",
+        registers: &[(2, 21), (3, 0), (5, 1)],
+        kept: &[("00002", REFUSED_PAGE)],
+        ..stacking
+    };
+    for case in &[stacking, refused] {
+        assert_eq!(rt;
+            lived(rt.alloc(), case)?,
             (Status::Done, shown(rt.alloc(), case)?, 2),
             "{} ticks",
             case.ticks

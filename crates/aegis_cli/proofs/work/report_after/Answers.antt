@@ -15,6 +15,6 @@ unfolding report_after
 returns c =
     let ticks = c.args.ticks in
     let w = world_after (image_seen c.args.image.now) ticks in
-    let world : world_of c.run.new.board ≡ w = c.in_ok-end.ensures.world ∙ ap (λ (v : World). run_on v ticks) c.in_ok-board.ensures in
+    let world : world_of c.run.new.board ≡ w = c.in_ok-end.ensures.world ∙ ap (λ (v : World). run_on v ticks) c.in_ok-board.ensures.world in
     let end : c.in_ok-end.end ≡ end_of_run w ticks = c.in_ok-end.ensures.end ∙ ap (λ (v : World). end_of_run v ticks) world in
     same_text (λ v. v.items) c.report.result _ _ c.report.ensures (ap (λ (v : World). report_text v c.in_ok-end.end) world ∙ ap (report_text w) end)
