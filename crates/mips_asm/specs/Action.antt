@@ -1,0 +1,161 @@
+-- What a statement asks for.
+use Rattle.std.specs.Prelude.{ℕ, Bool, List, [], ◌∷◌, ◌++◌, ◌≡◌, Option, Some, None, Result, Ok, Err, replicate, codes}
+use Rattle.std.specs.Map.{lookup}
+use Rattle.std.specs.Option.{ok_or}
+use Rattle.std.specs.Str.{bytes_eq}
+use Rattle.asm_parse.specs.Expression.{ExpressionValue, InnerValue, Number, Name, Sum}
+use Rattle.asm_parse.specs.Words.{unquoted}
+use Rattle.asm_parse.specs.declared.fault.AsmWhy.{AsmWhy}
+use Rattle.asm_parse.specs.declared.fault.AsmWhy.TheVariants.{Syntax, UnknownName}
+use Rattle.asm_parse.specs.declared.fault.AsmFault.{AsmFault}
+use Rattle.asm_parse.specs.declared.fault.AsmFault.TheVariants.{At}
+use Rattle.asm_parse.specs.declared.syntax.Arg.{Arg}
+use Rattle.asm_parse.specs.declared.syntax.AsmBody.{AsmBody}
+use Rattle.asm_parse.specs.declared.syntax.AsmBody.TheVariants as bodies
+use Rattle.mips_asm.specs.declared.directive.Directive.{Directive}
+use Rattle.mips_asm.specs.declared.directive.Directive.TheVariants as directives
+use Rattle.mips_asm.specs.declared.number.NumberSize.TheVariants.{Byte, Half, Word}
+use Rattle.mips_asm.specs.declared.section.Section.{Section}
+use Rattle.mips_asm.specs.declared.section.Section.TheVariants.{Text, Data}
+use Rattle.mips_asm.specs.Content.{Content, Instruction, Numbers, Given}
+use Rattle.mips_asm.specs.Draft.{draft_of, nothing_in, value_in}
+use Rattle.mips_asm.specs.Operand.{Operand, Register, Value, Based, Quoted, operands_at}
+use Rattle.mips_asm.specs.Operation.{Shape, special_rows, immediate_rows, memory_rows, system_rows, further_rows}
+use Rattle.mips_asm.specs.Outcome.{◌>>=◌, in_line}
+
+pub data Action : Type 0 where
+  -- put a content at the place
+  Put : Content → Action
+  -- put zeros up to a multiple of this power of 2
+  Align : ℕ → Action
+  -- go on in a section
+  Enter : Section → Action
+  -- give a name the value of an expression
+  Define : List ℕ → ExpressionValue → Action
+
+-- the instructions by name
+abbrev pub instructions : List (List ℕ × Shape)
+instructions = special_rows ++ immediate_rows ++ memory_rows ++ system_rows ++ further_rows
+
+unfoldable pub shape_of : List ℕ → Option Shape
+shape_of name = lookup (bytes_eq name) instructions
+
+-- the directives by name
+abbrev pub directive_rows : List (List ℕ × Directive)
+directive_rows =
+    (codes ".text", directives.Enter Text)
+    ∷ (codes ".data", directives.Enter Data)
+    ∷ (codes ".word", directives.Numbers Word)
+    ∷ (codes ".half", directives.Numbers Half)
+    ∷ (codes ".byte", directives.Numbers Byte)
+    ∷ (codes ".ascii", directives.Ascii)
+    ∷ (codes ".asciiz", directives.Asciiz)
+    ∷ (codes ".space", directives.Space)
+    ∷ (codes ".align", directives.Align)
+    ∷ (codes ".equ", directives.Equ)
+    ∷ []
+
+unfoldable pub directive_of : List ℕ → Option Directive
+directive_of name = lookup (bytes_eq name) directive_rows
+
+-- instructions stand in the text
+abbrev pub in_text : Section → Result (Unit {0}) AsmWhy
+in_text Text = Ok tt
+in_text Data = Err Syntax
+
+-- each operand an expression
+abbrev pub values_in : List Operand → Result (List ExpressionValue) AsmWhy
+values_in [] = Ok []
+values_in (Value e ∷ operands) = do
+  es ← values_in operands
+  Ok (e ∷ es)
+values_in _ = Err Syntax
+
+-- one expression or more
+abbrev pub some_values_in : List Operand → Result (List ExpressionValue) AsmWhy
+some_values_in [] = Err Syntax
+some_values_in (a ∷ rest) = values_in (a ∷ rest)
+
+-- a quoted text
+abbrev pub quoted_in : List Operand → Result (List ℕ) AsmWhy
+quoted_in (Quoted text ∷ []) = Ok text
+quoted_in _ = Err Syntax
+
+-- the bytes that a quoted text means
+abbrev pub text_in : List Operand → Result (List ℕ) AsmWhy
+text_in operands = do
+  text ← quoted_in operands
+  ok_or (unquoted text) Syntax
+
+-- a number without openings
+abbrev pub number_alone : List ℕ → InnerValue → Result ℕ AsmWhy
+number_alone [] (Number n) = Ok n
+number_alone _ _ = Err Syntax
+
+-- an expression that is written as a number
+abbrev pub written_number : ExpressionValue → Result ℕ AsmWhy
+written_number e = number_alone e.openings e.inner
+
+abbrev pub number_in : List Operand → Result ℕ AsmWhy
+number_in operands = do
+  e ← value_in operands
+  written_number e
+
+-- a name without openings
+abbrev pub name_alone : List ℕ → InnerValue → Result (List ℕ) AsmWhy
+name_alone [] (Name name) = Ok name
+name_alone _ _ = Err Syntax
+
+-- an expression that is written as a name
+abbrev pub written_name : ExpressionValue → Result (List ℕ) AsmWhy
+written_name e = name_alone e.openings e.inner
+
+-- a name and an expression
+abbrev pub definition_in : List Operand → Result (List ℕ × ExpressionValue) AsmWhy
+definition_in (Value name ∷ Value e ∷ []) = do
+  name ← written_name name
+  Ok (name, e)
+definition_in _ = Err Syntax
+
+-- what a directive with these operands asks for
+unfoldable pub directed : Directive → List Operand → Result Action AsmWhy
+directed (directives.Enter section) operands = do
+  none ← nothing_in operands
+  Ok (Enter section)
+directed (directives.Numbers size) operands = do
+  es ← some_values_in operands
+  Ok (Put (Numbers size es))
+directed directives.Ascii operands = do
+  bs ← text_in operands
+  Ok (Put (Given bs))
+directed directives.Asciiz operands = do
+  bs ← text_in operands
+  Ok (Put (Given (bs ++ 0 ∷ [])))
+directed directives.Space operands = do
+  n ← number_in operands
+  Ok (Put (Given (replicate n 0)))
+directed directives.Align operands = do
+  n ← number_in operands
+  Ok (Align n)
+directed directives.Equ operands = do
+  definition ← definition_in operands
+  Ok (Define definition.0 definition.1)
+
+-- the operands that spans cut out of the source, in a line
+abbrev pub line_operands : List ℕ → ℕ → List Arg → Result (List Operand) AsmFault
+line_operands source line args = ok_or (operands_at source args) (At line Syntax)
+
+-- what an operation in a section asks for, in a line of the source: a name that isn't known stands before operands
+-- that it can't take, and these before a register that there isn't
+unfoldable pub action_of : List ℕ → ℕ → Section → AsmBody → Result Action AsmFault
+action_of source line section bodies.Nothing = Ok (Put (Given []))
+action_of source line section (bodies.Op name args) = do
+  shape ← in_line line (ok_or (shape_of name) UnknownName)
+  text ← in_line line (in_text section)
+  operands ← line_operands source line args
+  draft ← in_line line (draft_of shape operands)
+  Ok (Put (Instruction draft))
+action_of source line section (bodies.Directive name args) = do
+  directive ← in_line line (ok_or (directive_of name) UnknownName)
+  operands ← line_operands source line args
+  in_line line (directed directive operands)

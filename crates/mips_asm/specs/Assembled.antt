@@ -1,0 +1,34 @@
+-- What a source assembles to: the first fault, or a program.
+use Rattle.std.specs.Prelude.{◌≡◌, ℕ, Bool, true, false, List, [], ◌∷◌, ◌++◌, Result, Ok, Err, ◌==◌, if◌then◌else◌, length}
+use Rattle.std.specs.Option.{unwrap_or}
+use Rattle.asm_parse.specs.declared.fault.AsmFault.{AsmFault}
+use Rattle.asm_parse.specs.declared.fault.AsmFault.TheVariants.{At, OutOfMemory}
+use Rattle.asm_parse.specs.declared.fault.AsmWhy.TheVariants.{Empty}
+use Rattle.elf_static.specs.ObjectValue.{ObjectValue, PartValue}
+use Rattle.mips_asm.specs.declared.section.Section.TheVariants.{Text, Data}
+use Rattle.mips_asm.specs.Layout.{Layout, base_of, laid}
+use Rattle.mips_asm.specs.Outcome.{◌>>=◌}
+use Rattle.mips_asm.specs.Second.{Sections, filled}
+
+-- the text, which may not be written, and the data where there is any
+abbrev pub parts_of : Sections → List PartValue
+parts_of sections =
+    (record { vaddr = base_of Text; bytes = sections.text; writable = false })
+    ∷ (if length sections.data_bytes == 0 then [] else (record { vaddr = base_of Data; bytes = sections.data_bytes; writable = true }) ∷ [])
+
+-- the program, which begins at the label `start`, or at the text's first byte where there is none
+abbrev pub program_of : Layout → Sections → ObjectValue
+program_of layout sections = record { entry = unwrap_or layout.start (base_of Text); parts = parts_of sections }
+
+-- The first fault of the first pass; that there is no text; the first fault of the second pass; or the program.
+unfoldable pub assembled : List ℕ → Result ObjectValue AsmFault
+assembled source = do
+  layout ← laid source
+  if layout.text == 0 then Err (At 1 Empty) else do
+  sections ← filled layout
+  Ok (program_of layout sections)
+
+-- an answer that is a fault is the one that is due, unless memory ran out
+abbrev pub IsDue : Result ObjectValue AsmFault → AsmFault → Type 0
+IsDue due OutOfMemory = Unit {0}
+IsDue due (At line why) = due ≡ Err (At line why)

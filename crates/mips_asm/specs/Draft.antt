@@ -1,0 +1,127 @@
+-- Instructions as they are read: with their registers, and an expression in place of a field.
+use Rattle.std.specs.Prelude.{ℕ, ◌/◌, ◌%◌, ◌^◌, List, [], ◌∷◌, Option, Some, None, Result, Ok, Err}
+use Rattle.std.specs.Option.{ok_or}
+use Rattle.asm_parse.specs.Expression.{ExpressionValue, Number}
+use Rattle.asm_parse.specs.declared.fault.AsmWhy.{AsmWhy}
+use Rattle.asm_parse.specs.declared.fault.AsmWhy.TheVariants.{Syntax, UnknownName, Undefined}
+use Rattle.mips_isa.specs.declared.insn.Insn.{Insn}
+use Rattle.mips_isa.specs.declared.insn.Insn.TheVariants.{Lui, Ori}
+use Rattle.mips_asm.specs.Operand.{Operand, Register, Value, Based, Quoted}
+use Rattle.mips_asm.specs.Operation.{Shape, Alone, One, Two, Three, Field0, Field1, Field2, Coded, Memory, Load}
+use Rattle.mips_asm.specs.Outcome.{◌>>=◌}
+use Rattle.mips_asm.specs.Value.{Field, Code, Signed, Names, field_of, value_of}
+
+pub data Draft : Type 0 where
+  -- an instruction without an expression
+  Fixed : Insn → Draft
+  -- an instruction of a field, and the expression that gives the field
+  Filled : Field → (ℕ → Insn) → ExpressionValue → Draft
+  -- LUI of the high half and ORI of the low half of an expression, into a register
+  Halves : ℕ → ExpressionValue → Draft
+
+-- a register that there is
+abbrev pub known : Option ℕ → Result ℕ AsmWhy
+known register = ok_or register UnknownName
+
+-- The operands of each form. Operands of another number or form are Syntax, before a register that there isn't.
+
+abbrev pub nothing_in : List Operand → Result (Unit {0}) AsmWhy
+nothing_in [] = Ok tt
+nothing_in (a ∷ rest) = Err Syntax
+
+abbrev pub register_in : List Operand → Result ℕ AsmWhy
+register_in (Register a ∷ []) = known a
+register_in _ = Err Syntax
+
+abbrev pub two_registers_in : List Operand → Result (ℕ × ℕ) AsmWhy
+two_registers_in (Register a ∷ Register b ∷ []) = do
+  a ← known a
+  b ← known b
+  Ok (a, b)
+two_registers_in _ = Err Syntax
+
+abbrev pub three_registers_in : List Operand → Result (ℕ × ℕ × ℕ) AsmWhy
+three_registers_in (Register a ∷ Register b ∷ Register c ∷ []) = do
+  a ← known a
+  b ← known b
+  c ← known c
+  Ok (a, b, c)
+three_registers_in _ = Err Syntax
+
+abbrev pub value_in : List Operand → Result ExpressionValue AsmWhy
+value_in (Value e ∷ []) = Ok e
+value_in _ = Err Syntax
+
+abbrev pub register_and_value_in : List Operand → Result (ℕ × ExpressionValue) AsmWhy
+register_and_value_in (Register a ∷ Value e ∷ []) = do
+  a ← known a
+  Ok (a, e)
+register_and_value_in _ = Err Syntax
+
+abbrev pub two_registers_and_value_in : List Operand → Result (ℕ × ℕ × ExpressionValue) AsmWhy
+two_registers_and_value_in (Register a ∷ Register b ∷ Value e ∷ []) = do
+  a ← known a
+  b ← known b
+  Ok (a, b, e)
+two_registers_and_value_in _ = Err Syntax
+
+-- the register, the one in brackets, and the offset
+abbrev pub based_in : List Operand → Result (ℕ × ℕ × ExpressionValue) AsmWhy
+based_in (Register a ∷ Based e b ∷ []) = do
+  a ← known a
+  b ← known b
+  Ok (a, b, e)
+based_in _ = Err Syntax
+
+-- an expression, or 0 where there is none
+abbrev pub code_in : List Operand → Result ExpressionValue AsmWhy
+code_in [] = Ok (record { openings = []; inner = Number 0 })
+code_in (a ∷ rest) = value_in (a ∷ rest)
+
+-- an instruction of a shape, with these operands
+unfoldable pub draft_of : Shape → List Operand → Result Draft AsmWhy
+draft_of (Alone insn) operands = do
+  none ← nothing_in operands
+  Ok (Fixed insn)
+draft_of (One insn) operands = do
+  a ← register_in operands
+  Ok (Fixed (insn a))
+draft_of (Two insn) operands = do
+  r ← two_registers_in operands
+  Ok (Fixed (insn r.0 r.1))
+draft_of (Three insn) operands = do
+  r ← three_registers_in operands
+  Ok (Fixed (insn r.0 r.1 r.2))
+draft_of (Field0 field insn) operands = do
+  e ← value_in operands
+  Ok (Filled field insn e)
+draft_of (Field1 field insn) operands = do
+  r ← register_and_value_in operands
+  Ok (Filled field (insn r.0) r.1)
+draft_of (Field2 field insn) operands = do
+  r ← two_registers_and_value_in operands
+  Ok (Filled field (insn r.0 r.1) r.2)
+draft_of (Coded insn) operands = do
+  e ← code_in operands
+  Ok (Filled Code insn e)
+draft_of (Memory insn) operands = do
+  r ← based_in operands
+  Ok (Filled Signed (λ imm. insn r.0 imm r.1) r.2)
+draft_of Load operands = do
+  r ← register_and_value_in operands
+  Ok (Halves r.0 r.1)
+
+-- the value of an expression whose name has one
+abbrev pub defined : Names → ExpressionValue → Result ℕ AsmWhy
+defined names e = ok_or (value_of names e) Undefined
+
+-- the instructions that a draft at a place makes
+unfoldable pub insns_of : Names → ℕ → Draft → Result (List Insn) AsmWhy
+insns_of names place (Fixed insn) = Ok (insn ∷ [])
+insns_of names place (Filled field insn e) = do
+  v ← defined names e
+  n ← field_of field place v
+  Ok (insn n ∷ [])
+insns_of names place (Halves rt e) = do
+  v ← defined names e
+  Ok (Lui rt (v / 2 ^ 16) ∷ Ori rt rt (v % 2 ^ 16) ∷ [])

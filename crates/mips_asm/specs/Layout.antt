@@ -1,0 +1,158 @@
+-- The first pass: where each statement stands, and the values of the names.
+use Rattle.std.specs.Prelude.{ℕ, ◌+◌, ◌-◌, ◌*◌, ◌%◌, ◌^◌, Bool, true, false, List, [], ◌∷◌, ◌++◌, Option, Some, None, Result, Ok, Err, nat_le, ◌==◌, if◌then◌else◌, replicate, codes}
+use Rattle.std.specs.Option.{option_or, is_some}
+use Rattle.std.specs.Str.{bytes_eq}
+use Rattle.asm_parse.specs.Expression.{ExpressionValue}
+use Rattle.asm_parse.specs.Form.{due_of}
+use Rattle.asm_parse.specs.declared.fault.AsmFault.{AsmFault}
+use Rattle.asm_parse.specs.declared.fault.AsmWhy.{AsmWhy}
+use Rattle.asm_parse.specs.declared.fault.AsmWhy.TheVariants.{Redefined, OutOfRange, Unaligned}
+use Rattle.asm_parse.specs.declared.syntax.AsmLine.{AsmLine}
+use Rattle.line_text.specs.Lines.{LineValue, lines_of}
+use Rattle.mips_asm.specs.declared.section.Section.{Section}
+use Rattle.mips_asm.specs.declared.section.Section.TheVariants.{Text, Data}
+use Rattle.mips_asm.specs.Action.{Action, Put, Align, Enter, Define, action_of}
+use Rattle.mips_asm.specs.Content.{Content, Given, alignment, content_length}
+use Rattle.mips_asm.specs.Draft.{defined}
+use Rattle.mips_asm.specs.Outcome.{◌>>=◌, fault, in_line}
+use Rattle.mips_asm.specs.Value.{Names, value_of_name}
+
+-- what a statement puts, and where
+pub record Placed : Type 0 where
+  pub line : ℕ
+  pub section : Section
+  -- the address of the statement
+  pub place : ℕ
+  -- whether its label is `start`
+  pub is_start : Bool
+  pub content : Content
+
+-- how far the first pass has come
+pub record Layout : Type 0 where
+  -- the section to which statements are added
+  pub section : Section
+  -- how many bytes the sections have
+  pub text : ℕ
+  pub data_bytes : ℕ
+  -- the labels and the names of `.equ`
+  pub names : Names
+  -- the address of the label `start`
+  pub start : Option ℕ
+  -- the statements in order
+  pub placed : List Placed
+
+-- before the first line
+abbrev pub nothing_placed : Layout
+nothing_placed = record { section = Text; text = 0; data_bytes = 0; names = []; start = None; placed = [] }
+
+-- the most bytes that a section may have
+abbrev pub section_limit : ℕ
+section_limit = 1048576
+
+-- the address of a section's first byte
+abbrev pub base_of : Section → ℕ
+base_of Text = 0x00400000
+base_of Data = 0x10000000
+
+-- how many bytes a section has
+abbrev pub used_by : Section → Layout → ℕ
+used_by Text layout = layout.text
+used_by Data layout = layout.data_bytes
+
+-- the address at which the next statement stands
+abbrev pub place_of : Layout → ℕ
+place_of layout = base_of layout.section + used_by layout.section layout
+
+-- so many bytes more in the section
+abbrev pub grown_by : Section → ℕ → Layout → Layout
+grown_by Text n layout = record layout { text = layout.text + n }
+grown_by Data n layout = record layout { data_bytes = layout.data_bytes + n }
+
+-- a name that has no value yet gets one
+abbrev pub named : ℕ → List ℕ → ℕ → Layout → Result Layout AsmFault
+named line name value layout =
+    if is_some (value_of_name name layout.names) then fault line Redefined
+    else Ok (record layout { names = layout.names ++ (name, value) ∷ [] })
+
+-- whether a label is `start`
+abbrev pub is_start : Option (List ℕ) → Bool
+is_start None = false
+is_start (Some name) = bytes_eq name (codes "start")
+
+-- the label `start` gets an address
+abbrev pub started : Bool → ℕ → Layout → Layout
+started true place layout = record layout { start = Some place }
+started false place layout = layout
+
+-- a label gets the address of its statement
+abbrev pub labelled : ℕ → Option (List ℕ) → Layout → Result Layout AsmFault
+labelled line None layout = Ok layout
+labelled line (Some name) layout = do
+  after ← named line name (place_of layout) layout
+  Ok (started (is_start (Some name)) (place_of layout) after)
+
+-- a content at its place
+abbrev pub appended : ℕ → Bool → Content → Layout → Layout
+appended line starts content layout =
+    grown_by layout.section (content_length content) (record layout {
+      placed = layout.placed ++ (record { line = line; section = layout.section; place = place_of layout; is_start = starts; content = content }) ∷ []
+    })
+
+-- a content, where its place is aligned and the section has room
+abbrev pub put : ℕ → Bool → Content → Layout → Result Layout AsmFault
+put line starts content layout =
+    if place_of layout % alignment content == 0 then (
+      if nat_le (content_length content) (section_limit - used_by layout.section layout)
+      then Ok (appended line starts content layout) else fault line OutOfRange
+    ) else fault line Unaligned
+
+-- how many bytes it takes from a place to a multiple of a number
+abbrev pub padding : ℕ → ℕ → ℕ
+padding place multiple = (multiple - place % multiple) % multiple
+
+-- zeros up to a multiple of a power of 2, at most 2 ^ 12
+abbrev pub padded : ℕ → Bool → ℕ → Layout → Result Layout AsmFault
+padded line starts n layout =
+    if nat_le n 12 then put line starts (Given (replicate (padding (place_of layout) (2 ^ n)) 0)) layout else fault line OutOfRange
+
+-- a name of `.equ`, whose expression has a value already
+abbrev pub equated : ℕ → List ℕ → ExpressionValue → Layout → Result Layout AsmFault
+equated line name e layout =
+    if is_some (value_of_name name layout.names) then fault line Redefined else do
+    value ← in_line line (defined layout.names e)
+    named line name value layout
+
+-- what an action does
+unfoldable pub acted : ℕ → Bool → Action → Layout → Result Layout AsmFault
+acted line starts (Put content) layout = put line starts content layout
+acted line starts (Align n) layout = padded line starts n layout
+acted line starts (Enter section) layout = do
+  after ← put line starts (Given []) layout
+  Ok (record after { section = section })
+acted line starts (Define name e) layout = do
+  after ← equated line name e layout
+  put line starts (Given []) after
+
+-- a statement: its operation is read, its label gets a value, and then it acts
+unfoldable pub stated : List ℕ → AsmLine → Layout → Result Layout AsmFault
+stated source statement layout = do
+  action ← action_of source statement.line layout.section statement.body
+  after ← labelled statement.line statement.label layout
+  acted statement.line (is_start statement.label) action after
+
+-- a line's statement, where it has one
+abbrev pub added : List ℕ → Option AsmLine → Layout → Result Layout AsmFault
+added source None layout = Ok layout
+added source (Some statement) layout = stated source statement layout
+
+-- lines in order, up to the first fault
+abbrev pub laid_from : List ℕ → Layout → List LineValue → Result Layout AsmFault
+laid_from source layout [] = Ok layout
+laid_from source layout (line ∷ lines) = do
+  said ← due_of line
+  after ← added source said layout
+  laid_from source after lines
+
+-- the first pass over a source
+unfoldable pub laid : List ℕ → Result Layout AsmFault
+laid source = laid_from source nothing_placed (lines_of source)

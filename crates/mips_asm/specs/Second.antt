@@ -1,0 +1,80 @@
+-- The second pass: the bytes of the sections.
+use Rattle.std.specs.Prelude.{ℕ, ◌+◌, ◌-◌, ◌%◌, Bool, List, [], ◌∷◌, ◌++◌, Option, Some, None, Result, Ok, Err, nat_lt, nat_le, ◌==◌, ◌&&◌, not, if◌then◌else◌}
+use Rattle.asm_parse.specs.declared.fault.AsmFault.{AsmFault}
+use Rattle.asm_parse.specs.declared.fault.AsmFault.TheVariants.{At, OutOfMemory}
+use Rattle.asm_parse.specs.declared.fault.AsmWhy.{AsmWhy}
+use Rattle.asm_parse.specs.declared.fault.AsmWhy.TheVariants.{OutOfRange, Unaligned}
+use Rattle.mips_asm.specs.declared.section.Section.{Section}
+use Rattle.mips_asm.specs.declared.section.Section.TheVariants.{Text, Data}
+use Rattle.mips_asm.specs.Content.{bytes_of}
+use Rattle.mips_asm.specs.Layout.{Layout, Placed, base_of}
+use Rattle.mips_asm.specs.Outcome.{◌>>=◌, fault}
+use Rattle.mips_asm.specs.Value.{Names}
+
+-- the bytes of the sections
+pub record Sections : Type 0 where
+  pub text : List ℕ
+  pub data_bytes : List ℕ
+
+abbrev pub extended : Section → List ℕ → Sections → Sections
+extended Text bs sections = record sections { text = sections.text ++ bs }
+extended Data bs sections = record sections { data_bytes = sections.data_bytes ++ bs }
+
+-- whether an address is that of a byte of a text of so many bytes
+abbrev pub is_in_text : ℕ → ℕ → Bool
+is_in_text size address = nat_le (base_of Text) address && nat_lt address (base_of Text + size)
+
+-- what is wrong with the label `start` at a place
+abbrev pub start_fault : ℕ → ℕ → Option AsmWhy
+start_fault size place =
+    if not (place % 4 == 0) then Some Unaligned else
+    if not (is_in_text size place) then Some OutOfRange else
+    None
+
+-- of two causes in a line, the second of which is `start`'s: Undefined, then Unaligned, then OutOfRange
+abbrev pub earlier : AsmWhy → AsmWhy → AsmWhy
+earlier OutOfRange other = other
+earlier why other = why
+
+-- of a fault in a line, and a cause that is `start`'s
+abbrev pub earlier_fault : AsmFault → AsmWhy → AsmFault
+earlier_fault (At line why) other = At line (earlier why other)
+earlier_fault OutOfMemory other = OutOfMemory
+
+-- an answer in a line, where nothing is wrong with `start`
+abbrev pub unless_start : {A : Type 0} → ℕ → Option AsmWhy → Result A AsmFault → Result A AsmFault
+unless_start line None answer = answer
+unless_start line (Some why) (Ok x) = fault line why
+unless_start line (Some why) (Err other) = Err (earlier_fault other why)
+
+-- what is wrong with `start`, where it is the label of a statement
+abbrev pub start_fault_of : ℕ → Placed → Option AsmWhy
+start_fault_of size placed = if placed.is_start then start_fault size placed.place else None
+
+-- the bytes of a statement, in a text of so many bytes
+unfoldable pub emitted : Names → ℕ → Placed → Result (List ℕ) AsmFault
+emitted names size placed =
+    unless_start placed.line (start_fault_of size placed) (bytes_of placed.line names placed.place placed.content)
+
+-- the sections with the bytes of a statement more
+abbrev pub widened : Names → ℕ → Sections → Placed → Result Sections AsmFault
+widened names size sections placed = do
+  bytes ← emitted names size placed
+  Ok (extended placed.section bytes sections)
+
+-- statements in order, up to the first fault
+abbrev pub filled_from : Names → ℕ → Sections → List Placed → Result Sections AsmFault
+filled_from names size sections [] = Ok sections
+filled_from names size sections (placed ∷ rest) = do
+  after ← widened names size sections placed
+  filled_from names size after rest
+
+-- bytes, and behind them those of an answer
+abbrev pub onto : List ℕ → Result (List ℕ) AsmFault → Result (List ℕ) AsmFault
+onto front bytes = do
+  bs ← bytes
+  Ok (front ++ bs)
+
+-- the second pass over what the first has placed
+unfoldable pub filled : Layout → Result Sections AsmFault
+filled layout = filled_from layout.names layout.text (record { text = []; data_bytes = [] }) layout.placed

@@ -1,0 +1,235 @@
+//! What statements ask for.
+ghost use Rattle.std.specs.Prelude.{◌≡◌, IfOk};
+ghost use Rattle.std.specs.List.{AllByRecursion};
+ghost use Rattle.std.specs.Option.{option_map};
+ghost use Rattle.asm_parse.specs.Form.{Gives};
+ghost use Rattle.asm_parse.specs.Span.{args_in};
+ghost use Rattle.asm_parse.specs.Seen.{expression_seen};
+ghost use Rattle.mips_asm.specs.Action.{action_of, definition_in, directed, in_text, line_operands, number_in, quoted_in, some_values_in, text_in, values_in, written_name, written_number};
+ghost use Rattle.mips_asm.specs.Outcome.{in_line, ok_seen};
+ghost use Rattle.mips_asm.specs.Seen.{action_seen, expressions_seen, operands_seen};
+ghost use Rattle.mips_asm.specs.Within.{IsWithin};
+
+use crate::content::Content;
+use crate::directive::Directive;
+use crate::draft::{Draft, nothing, value};
+use crate::fault::in_line;
+use crate::operand::{Operand, operands};
+use crate::operation::Operation;
+use crate::section::Section;
+use crate::text::unquoted;
+use asm_parse::{Arg, AsmBody, AsmFault, AsmWhy, Expression, Inner};
+use std::alloc::Global;
+
+/// What a statement asks for.
+#[derive(Drop)]
+pub(crate) enum Action<'a> {
+    /// To put a content at the place.
+    Put(Content<'a>),
+    /// To put zeros up to a multiple of this power of 2.
+    Align(u32),
+    /// To go on in a section.
+    Enter(Section),
+    /// To give a name the value of an expression.
+    Define(&'a [u8], Expression<'a>),
+}
+
+/// What an operation in a section asks for, in a line of the source. The fault is Syntax or UnknownName,
+/// or that memory ran out.
+#[tactic(auto, unfolding(crate::specs::Action::action_of))]
+pub(crate) fn read_action<'a>(
+    alloc: Global,
+    source: &'a [u8],
+    line: u32,
+    section: Section,
+    body: &AsmBody,
+) -> Result<Action<'a>, AsmFault>
+    requires { AllByRecursion (IsWithin source.now) (args_in body.now) }
+    ensures { Gives action_seen result (action_of source.now line section body.now) }
+{
+    match body {
+        AsmBody::Nothing => Ok(Action::Put(Content::Zeros(0))),
+        AsmBody::Op { name, args } => {
+            let known = Operation::named(name.bytes()).ok_or(AsmWhy::UnknownName);
+            let operation = in_line(line, known)?;
+            in_line(line, in_text(section))?;
+            let operands = operands_in(alloc, source, line, args.list())?;
+            let draft = in_line(line, Draft::new(operation, &operands))?;
+            Ok(Action::Put(Content::Instruction(draft)))
+        }
+        AsmBody::Directive { name, args } => {
+            let known = Directive::named(name.bytes()).ok_or(AsmWhy::UnknownName);
+            let directive = in_line(line, known)?;
+            let operands = operands_in(alloc, source, line, args.list())?;
+            directed(alloc, line, directive, &operands)
+        }
+    }
+}
+
+/// Instructions stand in the text.
+fn in_text(section: Section) -> Result<(), AsmWhy>
+    ensures { ok_seen (λ _. tt) result ≡ in_text section }
+{
+    match section {
+        Section::Text => Ok(()),
+        Section::Data => Err(AsmWhy::Syntax),
+    }
+}
+
+/// The operands that spans cut out of the source, in a line.
+fn operands_in<'a>(
+    alloc: Global,
+    source: &'a [u8],
+    line: u32,
+    args: &[Arg],
+) -> Result<Vec<Operand<'a>>, AsmFault>
+    requires { AllByRecursion (IsWithin source.now) args.now }
+    ensures { Gives (λ v. operands_seen v.items) result (line_operands source.now line args.now) }
+{
+    match operands(alloc, source, args)? {
+        Some(operands) => Ok(operands),
+        None => Err(AsmFault::At {
+            line,
+            why: AsmWhy::Syntax,
+        }),
+    }
+}
+
+/// What a directive with these operands asks for, in a line.
+#[tactic(auto, unfolding(crate::specs::Action::directed))]
+fn directed<'a>(
+    alloc: Global,
+    line: u32,
+    directive: Directive,
+    operands: &[Operand<'a>],
+) -> Result<Action<'a>, AsmFault>
+    ensures { Gives action_seen result (in_line line (directed directive (operands_seen operands.now))) }
+{
+    match directive {
+        Directive::Enter(section) => {
+            in_line(line, nothing(operands))?;
+            Ok(Action::Enter(section))
+        }
+        Directive::Numbers(size) => {
+            let expressions = some_values(alloc, line, operands)?;
+            Ok(Action::Put(Content::Numbers(size, expressions)))
+        }
+        Directive::Ascii => Ok(Action::Put(Content::Bytes(text(alloc, line, operands)?))),
+        Directive::Asciiz => {
+            let mut bytes = text(alloc, line, operands)?;
+            bytes.push(0)?;
+            Ok(Action::Put(Content::Bytes(bytes)))
+        }
+        Directive::Space => {
+            let count = in_line(line, number(operands))?;
+            Ok(Action::Put(Content::Zeros(count)))
+        }
+        Directive::Align => Ok(Action::Align(in_line(line, number(operands))?)),
+        Directive::Equ => {
+            let (name, value) = in_line(line, definition(operands))?;
+            Ok(Action::Define(name, value))
+        }
+    }
+}
+
+/// One expression or more, in a line.
+fn some_values<'a>(
+    alloc: Global,
+    line: u32,
+    operands: &[Operand<'a>],
+) -> Result<Vec<Expression<'a>>, AsmFault>
+    ensures { Gives (λ v. expressions_seen v.items) result (in_line line (some_values_in (operands_seen operands.now))) }
+{
+    let syntax = AsmFault::At {
+        line,
+        why: AsmWhy::Syntax,
+    };
+    if operands.is_empty() {
+        return Err(syntax);
+    }
+    values(alloc, line, operands)
+}
+
+/// Each operand an expression, in a line.
+fn values<'a>(
+    alloc: Global,
+    line: u32,
+    operands: &[Operand<'a>],
+) -> Result<Vec<Expression<'a>>, AsmFault>
+    ensures { Gives (λ v. expressions_seen v.items) result (in_line line (values_in (operands_seen operands.now))) }
+{
+    let mut values = Vec::with_capacity(alloc, operands.len())?;
+    for operand in operands {
+        match operand {
+            Operand::Value(value) => values.push(*value)?,
+            _ => {
+                return Err(AsmFault::At {
+                    line,
+                    why: AsmWhy::Syntax,
+                });
+            }
+        }
+    }
+    Ok(values)
+}
+
+/// The bytes that a quoted text means, in a line.
+fn text(alloc: Global, line: u32, operands: &[Operand<'_>]) -> Result<Vec<u8>, AsmFault>
+    ensures { Gives (λ v. v.items) result (in_line line (text_in (operands_seen operands.now))) }
+{
+    let quoted = in_line(line, quoted(operands))?;
+    match unquoted(alloc, quoted)? {
+        Some(bytes) => Ok(bytes),
+        None => Err(AsmFault::At {
+            line,
+            why: AsmWhy::Syntax,
+        }),
+    }
+}
+
+/// A quoted text as it is written.
+fn quoted<'a>(operands: &[Operand<'a>]) -> Result<&'a [u8], AsmWhy>
+    ensures { ok_seen (λ text. text.now) result ≡ quoted_in (operands_seen operands.now) }
+{
+    match operands {
+        [Operand::Quoted(text)] => Ok(*text),
+        _ => Err(AsmWhy::Syntax),
+    }
+}
+
+/// An expression that is written as a number.
+fn number(operands: &[Operand<'_>]) -> Result<u32, AsmWhy>
+    ensures { result ≡ number_in (operands_seen operands.now) }
+{
+    written_number(value(operands)?)
+}
+
+/// The number that an expression is written as.
+fn written_number(expression: Expression<'_>) -> Result<u32, AsmWhy>
+    ensures { result ≡ written_number (expression_seen expression.entry) }
+{
+    match expression.inner {
+        Inner::Number(number) if expression.openings.is_empty() => Ok(number),
+        _ => Err(AsmWhy::Syntax),
+    }
+}
+
+/// The name that an expression is written as.
+fn written_name(expression: Expression<'_>) -> Result<&[u8], AsmWhy>
+    ensures { ok_seen (λ name. name.now) result ≡ written_name (expression_seen expression.entry) }
+{
+    match expression.inner {
+        Inner::Name(name) if expression.openings.is_empty() => Ok(name),
+        _ => Err(AsmWhy::Syntax),
+    }
+}
+
+/// A name and an expression.
+fn definition<'a>(operands: &[Operand<'a>]) -> Result<(&'a [u8], Expression<'a>), AsmWhy>
+    ensures { ok_seen (λ d. (d.0.now, expression_seen d.1)) result ≡ definition_in (operands_seen operands.now) }
+{
+    match operands {
+        [Operand::Value(name), Operand::Value(value)] => Ok((written_name(*name)?, *value)),
+        _ => Err(AsmWhy::Syntax),
+    }
+}

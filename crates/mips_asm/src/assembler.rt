@@ -1,0 +1,93 @@
+//! From a source to a program.
+ghost use Rattle.std.specs.Prelude.{◌≡◌, ◌<◌, ◌^◌, length, IfOk, IfErr, Ok};
+ghost use Rattle.asm_parse.specs.Form.{Gives};
+ghost use Rattle.elf_static.specs.Seen.{object_seen};
+ghost use Rattle.elf_static.specs.Writable.{IsWritable};
+ghost use Rattle.mips_asm.specs.Assembled.{IsDue, assembled, parts_of, program_of};
+ghost use Rattle.mips_asm.specs.Layout.{laid};
+ghost use Rattle.mips_asm.specs.Seen.{layout_seen, sections_seen};
+
+use crate::layout::Layout;
+use crate::second::Sections;
+use crate::section::Section;
+use asm_parse::{AsmFault, AsmWhy, parse_line};
+use elf_static::{Object, Part};
+use line_text::cut;
+use std::alloc::{AllocError, Global};
+
+/// The line of the fault that a source has no byte of text.
+const EMPTY_LINE: u32 = 1;
+
+/// The program of a source in the language of `docs/ASSEMBLER.md`, or the first fault: of the first pass
+/// in the order of the lines, that there is no byte of text, or of the second pass in the order of the
+/// lines.
+pub fn assemble(alloc: Global, source: &[u8]) -> Result<Object, AsmFault>
+    requires { length source.now < 2 ^ 27 }
+    // The program is the one that the source means.
+    ensures value { IfOk result (λ object. assembled source.now ≡ Ok (object_seen object)) }
+    // The fault is the one that the source has.
+    ensures fault { IfErr result (IsDue (assembled source.now)) }
+    // The program can be written as an ELF file.
+    ensures writable { IfOk result (λ object. IsWritable (object_seen object)) }
+{
+    assembly(alloc, source)
+}
+
+/// The program of a source.
+#[tactic(auto, unfolding(crate::specs::Assembled::assembled))]
+fn assembly(alloc: Global, source: &[u8]) -> Result<Object, AsmFault>
+    requires { length source.now < 2 ^ 27 }
+    ensures { Gives object_seen result (assembled source.now) }
+{
+    let layout = laid(alloc, source)?;
+    if layout.text == 0 {
+        return Err(AsmFault::At {
+            line: EMPTY_LINE,
+            why: AsmWhy::Empty,
+        });
+    }
+    let sections = Sections::of(alloc, &layout)?;
+    Ok(program(alloc, &layout, sections)?)
+}
+
+/// What the lines of a source place.
+#[tactic(auto, unfolding(crate::specs::Layout::laid))]
+fn laid<'a>(alloc: Global, source: &'a [u8]) -> Result<Layout<'a>, AsmFault>
+    requires { length source.now < 2 ^ 27 }
+    ensures { Gives layout_seen result (laid source.now) }
+{
+    let mut layout = Layout::new(alloc);
+    for line in cut(source) {
+        if let Some(statement) = parse_line(alloc, &line)? {
+            layout.add(alloc, source, &statement)?;
+        }
+    }
+    Ok(layout)
+}
+
+/// The program of sections.
+fn program(
+    alloc: Global,
+    layout: &Layout<'_>,
+    sections: Sections,
+) -> Result<Object, AllocError>
+    ensures { IfOk result (λ object. object_seen object ≡ program_of (layout_seen layout.now) (sections_seen sections)) }
+{
+    let text = Part {
+        vaddr: Section::Text.base(),
+        bytes: sections.text,
+        writable: false,
+    };
+    let data_part = Part {
+        vaddr: Section::Data.base(),
+        bytes: sections.data_bytes,
+        writable: true,
+    };
+    let mut parts = Vec::new(alloc);
+    parts.push(text)?;
+    if !data_part.bytes.is_empty() {
+        parts.push(data_part)?;
+    }
+    let entry = layout.start.unwrap_or(Section::Text.base());
+    Ok(Object { entry, parts })
+}

@@ -1,0 +1,52 @@
+//! Directives.
+ghost use Rattle.std.specs.Prelude.{◌≡◌};
+
+use crate::number::NumberSize;
+use crate::section::Section;
+use crate::table::{Row, find};
+
+/// An operation that is no instruction.
+#[derive(Clone, Copy)]
+pub(crate) enum Directive {
+    /// `.text` and `.data`: go on in a section.
+    Enter(Section),
+    /// `.word`, `.half` and `.byte`: put numbers.
+    Numbers(NumberSize),
+    /// `.ascii`: put the bytes of a text.
+    Ascii,
+    /// `.asciiz`: put the bytes of a text and a zero.
+    Asciiz,
+    /// `.space`: put zeros.
+    Space,
+    /// `.align`: put zeros up to a multiple of a power of 2.
+    Align,
+    /// `.equ`: give a name a value.
+    Equ,
+}
+
+/// The directives by name.
+const DIRECTIVES: [Row<Directive>; 10] = [
+    Row { name: b".text", meaning: Directive::Enter(Section::Text) },
+    Row { name: b".data", meaning: Directive::Enter(Section::Data) },
+    Row { name: b".word", meaning: Directive::Numbers(NumberSize::Word) },
+    Row { name: b".half", meaning: Directive::Numbers(NumberSize::Half) },
+    Row { name: b".byte", meaning: Directive::Numbers(NumberSize::Byte) },
+    Row { name: b".ascii", meaning: Directive::Ascii },
+    Row { name: b".asciiz", meaning: Directive::Asciiz },
+    Row { name: b".space", meaning: Directive::Space },
+    Row { name: b".align", meaning: Directive::Align },
+    Row { name: b".equ", meaning: Directive::Equ },
+];
+
+impl Directive {
+    ghost use Rattle.std.specs.Prelude.{◌≡◌};
+    ghost use Rattle.mips_asm.specs.Action.{directive_of};
+
+    /// The directive of a name, if it has one.
+    #[tactic(auto, unfolding(crate::specs::Action::directive_of))]
+    pub(crate) fn named(name: &[u8]) -> Option<Directive>
+        ensures { result ≡ directive_of name.now }
+    {
+        find(&DIRECTIVES, name)
+    }
+}

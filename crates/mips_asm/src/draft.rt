@@ -1,0 +1,224 @@
+//! Instructions as they are read.
+ghost use Rattle.std.specs.Prelude.{◌≡◌};
+ghost use Rattle.std.specs.Option.{option_map};
+ghost use Rattle.mips_asm.specs.Outcome.{ok_seen};
+ghost use Rattle.asm_parse.specs.Seen.{expression_seen};
+ghost use Rattle.mips_asm.specs.Draft.{based_in, code_in, known, nothing_in, register_and_value_in, register_in, three_registers_in, two_registers_and_value_in, two_registers_in, value_in};
+ghost use Rattle.mips_asm.specs.Seen.{number_seen, operands_seen};
+
+use crate::groups::{
+    Access, Alone, BranchOne, BranchTwo, LongJump, One, Shift, SignedImmediate, Three, Trap, Two,
+    UnsignedImmediate,
+};
+use crate::operand::{Operand, zero};
+use crate::operation::Operation;
+use crate::register::Register;
+use asm_parse::{AsmWhy, Expression};
+
+/// An operation with its registers, and the expressions that aren't values yet.
+#[derive(Clone, Copy)]
+pub(crate) enum Draft<'a> {
+    Alone(Alone),
+    One(One, Register),
+    Two(Two, Register, Register),
+    Three(Three, Register, Register, Register),
+    Shift(Shift, Register, Register, Expression<'a>),
+    Signed(SignedImmediate, Register, Register, Expression<'a>),
+    Unsigned(UnsignedImmediate, Register, Register, Expression<'a>),
+    Upper(Register, Expression<'a>),
+    BranchTwo(BranchTwo, Register, Register, Expression<'a>),
+    BranchOne(BranchOne, Register, Expression<'a>),
+    Branch(Expression<'a>),
+    Jump(LongJump, Expression<'a>),
+    Trap(Trap, Expression<'a>),
+    Access(Access, Register, Register, Expression<'a>),
+    Load(Register, Expression<'a>),
+}
+
+impl<'a> Draft<'a> {
+    ghost use Rattle.std.specs.Prelude.{◌≡◌};
+    ghost use Rattle.mips_asm.specs.Outcome.{ok_seen};
+    ghost use Rattle.mips_asm.specs.Content.{draft_length};
+    ghost use Rattle.mips_asm.specs.Draft.{draft_of};
+    ghost use Rattle.mips_asm.specs.Seen.{draft_seen, operands_seen, shape_seen};
+
+    /// How many bytes its instructions take.
+    pub(crate) fn length(&self) -> u32
+        ensures value { result ≡ draft_length (draft_seen self.now) }
+        ensures some { 0 < result }
+    {
+        match self {
+            Draft::Load(_, _) => 8,
+            _ => 4,
+        }
+    }
+
+    /// The operation with these operands. The fault is Syntax or UnknownName.
+    #[tactic(auto, unfolding(crate::specs::Draft::draft_of))]
+    pub(crate) fn new(operation: Operation, operands: &[Operand<'a>]) -> Result<Draft<'a>, AsmWhy>
+        ensures { ok_seen draft_seen result ≡ draft_of (shape_seen operation) (operands_seen operands.now) }
+    {
+        match operation {
+            Operation::Alone(op) => {
+                nothing(operands)?;
+                Ok(Draft::Alone(op))
+            }
+            Operation::One(op) => Ok(Draft::One(op, register(operands)?)),
+            Operation::Two(op) => {
+                let (a, b) = two_registers(operands)?;
+                Ok(Draft::Two(op, a, b))
+            }
+            Operation::Three(op) => {
+                let (a, b, c) = three_registers(operands)?;
+                Ok(Draft::Three(op, a, b, c))
+            }
+            Operation::Shift(op) => {
+                let (rd, rt, amount) = two_registers_and_value(operands)?;
+                Ok(Draft::Shift(op, rd, rt, amount))
+            }
+            Operation::Signed(op) => {
+                let (rt, rs, half) = two_registers_and_value(operands)?;
+                Ok(Draft::Signed(op, rt, rs, half))
+            }
+            Operation::Unsigned(op) => {
+                let (rt, rs, half) = two_registers_and_value(operands)?;
+                Ok(Draft::Unsigned(op, rt, rs, half))
+            }
+            Operation::Upper => {
+                let (rt, half) = register_and_value(operands)?;
+                Ok(Draft::Upper(rt, half))
+            }
+            Operation::BranchTwo(op) => {
+                let (rs, rt, address) = two_registers_and_value(operands)?;
+                Ok(Draft::BranchTwo(op, rs, rt, address))
+            }
+            Operation::BranchOne(op) => {
+                let (rs, address) = register_and_value(operands)?;
+                Ok(Draft::BranchOne(op, rs, address))
+            }
+            Operation::Branch => Ok(Draft::Branch(value(operands)?)),
+            Operation::Jump(op) => Ok(Draft::Jump(op, value(operands)?)),
+            Operation::Trap(op) => Ok(Draft::Trap(op, code(operands)?)),
+            Operation::Access(op) => {
+                let (rt, rs, offset) = based(operands)?;
+                Ok(Draft::Access(op, rt, rs, offset))
+            }
+            Operation::Load => {
+                let (rt, value) = register_and_value(operands)?;
+                Ok(Draft::Load(rt, value))
+            }
+        }
+    }
+}
+
+/// A register that there is.
+fn known(register: Option<Register>) -> Result<Register, AsmWhy>
+    ensures { ok_seen number_seen result ≡ known (option_map number_seen register) }
+{
+    register.ok_or(AsmWhy::UnknownName)
+}
+
+/// No operands.
+pub(crate) fn nothing(operands: &[Operand<'_>]) -> Result<(), AsmWhy>
+    ensures { ok_seen (λ _. tt) result ≡ nothing_in (operands_seen operands.now) }
+{
+    match operands {
+        [] => Ok(()),
+        _ => Err(AsmWhy::Syntax),
+    }
+}
+
+/// One register.
+fn register(operands: &[Operand<'_>]) -> Result<Register, AsmWhy>
+    ensures { ok_seen number_seen result ≡ register_in (operands_seen operands.now) }
+{
+    match operands {
+        [Operand::Register(a)] => known(*a),
+        _ => Err(AsmWhy::Syntax),
+    }
+}
+
+/// Two registers.
+fn two_registers(operands: &[Operand<'_>]) -> Result<(Register, Register), AsmWhy>
+    ensures { ok_seen (λ r. (number_seen r.0, number_seen r.1)) result ≡ two_registers_in (operands_seen operands.now) }
+{
+    match operands {
+        [Operand::Register(a), Operand::Register(b)] => Ok((known(*a)?, known(*b)?)),
+        _ => Err(AsmWhy::Syntax),
+    }
+}
+
+/// Three registers.
+fn three_registers(operands: &[Operand<'_>]) -> Result<(Register, Register, Register), AsmWhy>
+    ensures { ok_seen (λ r. (number_seen r.0, number_seen r.1, number_seen r.2)) result ≡ three_registers_in (operands_seen operands.now) }
+{
+    match operands {
+        [
+            Operand::Register(a),
+            Operand::Register(b),
+            Operand::Register(c),
+        ] => Ok((known(*a)?, known(*b)?, known(*c)?)),
+        _ => Err(AsmWhy::Syntax),
+    }
+}
+
+/// An expression.
+pub(crate) fn value<'a>(operands: &[Operand<'a>]) -> Result<Expression<'a>, AsmWhy>
+    ensures { ok_seen expression_seen result ≡ value_in (operands_seen operands.now) }
+{
+    match operands {
+        [Operand::Value(value)] => Ok(*value),
+        _ => Err(AsmWhy::Syntax),
+    }
+}
+
+/// A register and an expression.
+fn register_and_value<'a>(
+    operands: &[Operand<'a>],
+) -> Result<(Register, Expression<'a>), AsmWhy>
+    ensures { ok_seen (λ r. (number_seen r.0, expression_seen r.1)) result ≡ register_and_value_in (operands_seen operands.now) }
+{
+    match operands {
+        [Operand::Register(a), Operand::Value(value)] => Ok((known(*a)?, *value)),
+        _ => Err(AsmWhy::Syntax),
+    }
+}
+
+/// Two registers and an expression.
+fn two_registers_and_value<'a>(
+    operands: &[Operand<'a>],
+) -> Result<(Register, Register, Expression<'a>), AsmWhy>
+    ensures { ok_seen (λ r. (number_seen r.0, number_seen r.1, expression_seen r.2)) result ≡ two_registers_and_value_in (operands_seen operands.now) }
+{
+    match operands {
+        [
+            Operand::Register(a),
+            Operand::Register(b),
+            Operand::Value(value),
+        ] => Ok((known(*a)?, known(*b)?, *value)),
+        _ => Err(AsmWhy::Syntax),
+    }
+}
+
+/// A register, the register in brackets, and the offset before them.
+fn based<'a>(
+    operands: &[Operand<'a>],
+) -> Result<(Register, Register, Expression<'a>), AsmWhy>
+    ensures { ok_seen (λ r. (number_seen r.0, number_seen r.1, expression_seen r.2)) result ≡ based_in (operands_seen operands.now) }
+{
+    match operands {
+        [Operand::Register(a), Operand::Based(offset, b)] => Ok((known(*a)?, known(*b)?, *offset)),
+        _ => Err(AsmWhy::Syntax),
+    }
+}
+
+/// An expression, or 0 where there is none.
+fn code<'a>(operands: &[Operand<'a>]) -> Result<Expression<'a>, AsmWhy>
+    ensures { ok_seen expression_seen result ≡ code_in (operands_seen operands.now) }
+{
+    if operands.is_empty() {
+        Ok(zero())
+    } else {
+        value(operands)
+    }
+}

@@ -1,0 +1,182 @@
+//! The bytes of statements.
+ghost use Rattle.std.specs.Prelude.{◌≡◌, ◌+◌, ◌<◌, ◌^◌, ◌++◌, OnOk, replicate};
+ghost use Rattle.asm_parse.specs.Form.{Gives};
+ghost use Rattle.std.specs.List.{flat_map};
+ghost use Rattle.mips_asm.specs.Content.{bytes_of, number_bytes, numbers_bytes, values_of};
+ghost use Rattle.mips_asm.specs.Outcome.{in_line};
+ghost use Rattle.mips_asm.specs.Second.{earlier, earlier_fault, emitted, onto, start_fault, start_fault_of, unless_start};
+ghost use Rattle.mips_asm.specs.Seen.{content_seen, expressions_seen, placed_seen};
+
+use crate::content::Content;
+use crate::fault::in_line;
+use crate::insns::{draft_insns, push_insns};
+use crate::layout::Placed;
+use crate::names::Names;
+use crate::number::NumberSize;
+use crate::section::Section;
+use crate::value::defined;
+use asm_parse::{AsmFault, AsmWhy, Expression};
+use std::alloc::{AllocError, Global};
+
+/// Puts the bytes of a statement at the end, in a text of so many bytes. The fault is Undefined,
+/// Unaligned or OutOfRange, or that memory ran out.
+#[tactic(auto, unfolding(crate::specs::Second::emitted))]
+pub(crate) fn emit(
+    out: &mut Vec<u8>,
+    alloc: Global,
+    names: &Names,
+    size: u32,
+    placed: &Placed<'_>,
+) -> Result<(), AsmFault>
+    ensures { Gives (λ _. out.new.items) result (onto out.old.items (emitted names.now size (placed_seen placed.now))) }
+{
+    let start = start_fault_of(size, placed);
+    let pushed = push_content(out, alloc, names, placed);
+    unless_start(placed.line, start, pushed)
+}
+
+/// An answer in a line, where nothing is wrong with `start`.
+fn unless_start(
+    line: u32,
+    start: Option<AsmWhy>,
+    answer: Result<(), AsmFault>,
+) -> Result<(), AsmFault>
+    ensures { result ≡ unless_start line start answer }
+{
+    match start {
+        None => answer,
+        Some(why) => match answer {
+            Ok(()) => Err(AsmFault::At { line, why }),
+            Err(fault) => Err(earlier_fault(fault, why)),
+        },
+    }
+}
+
+/// Of a fault in a line, and a cause that is `start`'s, the earlier one.
+fn earlier_fault(fault: AsmFault, other: AsmWhy) -> AsmFault
+    ensures { result ≡ earlier_fault fault other }
+{
+    match fault {
+        AsmFault::At { line, why } => AsmFault::At {
+            line,
+            why: earlier(why, other),
+        },
+        AsmFault::OutOfMemory => AsmFault::OutOfMemory,
+    }
+}
+
+/// Of two causes in a line, the second of which is `start`'s, the earlier one.
+fn earlier(why: AsmWhy, other: AsmWhy) -> AsmWhy
+    ensures { result ≡ earlier why other }
+{
+    match why {
+        AsmWhy::OutOfRange => other,
+        _ => why,
+    }
+}
+
+/// What is wrong with `start`, where it is the label of a statement.
+fn start_fault_of(size: u32, placed: &Placed<'_>) -> Option<AsmWhy>
+    ensures { result ≡ start_fault_of size (placed_seen placed.now) }
+{
+    if placed.is_start {
+        start_fault(size, placed.place)
+    } else {
+        None
+    }
+}
+
+/// What is wrong with `start` at a place, in a text of so many bytes.
+fn start_fault(size: u32, place: u32) -> Option<AsmWhy>
+    ensures { result ≡ start_fault size place }
+{
+    let base = Section::Text.base();
+    if place % 4 != 0 {
+        Some(AsmWhy::Unaligned)
+    } else if place < base || place - base >= size {
+        Some(AsmWhy::OutOfRange)
+    } else {
+        None
+    }
+}
+
+/// Puts the bytes of a statement's content at the end.
+#[tactic(auto, unfolding(crate::specs::Content::bytes_of))]
+fn push_content(
+    out: &mut Vec<u8>,
+    alloc: Global,
+    names: &Names,
+    placed: &Placed<'_>,
+) -> Result<(), AsmFault>
+    ensures { Gives (λ _. out.new.items) result (onto out.old.items (bytes_of placed.now.line names.now placed.now.place (content_seen placed.now.content))) }
+{
+    let line = placed.line;
+    match &placed.content {
+        Content::Instruction(draft) => {
+            let insns = in_line(line, draft_insns(*draft, names, placed.place))?;
+            push_insns(out, insns)?;
+        }
+        Content::Numbers(size, numbers) => {
+            let values = values(alloc, line, names, numbers)?;
+            push_numbers(out, line, *size, &values)?;
+        }
+        Content::Bytes(bytes) => out.extend_from_slice(bytes)?,
+        Content::Zeros(count) => push_zeros(out, *count)?,
+    }
+    Ok(())
+}
+
+/// The values of expressions, in a line. The fault is Undefined.
+fn values(
+    alloc: Global,
+    line: u32,
+    names: &Names,
+    expressions: &[Expression<'_>],
+) -> Result<Vec<u32>, AsmFault>
+    ensures { Gives (λ v. v.items) result (in_line line (values_of names.now (expressions_seen expressions.now))) }
+{
+    let mut values = Vec::with_capacity(alloc, expressions.len())?;
+    for expression in expressions {
+        values.push(in_line(line, defined(names, *expression))?)?;
+    }
+    Ok(values)
+}
+
+/// Puts numbers at the end, in a line. The fault is OutOfRange.
+fn push_numbers(
+    out: &mut Vec<u8>,
+    line: u32,
+    size: NumberSize,
+    values: &[u32],
+) -> Result<(), AsmFault>
+    ensures { Gives (λ _. out.new.items) result (onto out.old.items (in_line line (numbers_bytes size values.now))) }
+{
+    if !values.iter().all(|value| size.fits(*value)) {
+        return Err(AsmFault::At {
+            line,
+            why: AsmWhy::OutOfRange,
+        });
+    }
+    push_all(out, size, values)?;
+    Ok(())
+}
+
+/// Puts numbers at the end.
+fn push_all(out: &mut Vec<u8>, size: NumberSize, values: &[u32]) -> Result<(), AllocError>
+    ensures { OnOk result (out.new.items ≡ out.old.items ++ flat_map (number_bytes size) values.now) }
+{
+    for value in values {
+        size.push(out, *value)?;
+    }
+    Ok(())
+}
+
+/// Puts so many zeros at the end.
+fn push_zeros(out: &mut Vec<u8>, count: u32) -> Result<(), AllocError>
+    ensures { OnOk result (out.new.items ≡ out.old.items ++ replicate count 0) }
+{
+    for _ in 0..count {
+        out.push(0)?;
+    }
+    Ok(())
+}

@@ -1,0 +1,35 @@
+//! The assembler: what a source in the language of `docs/ASSEMBLER.md` assembles to.
+//!
+//! `assemble` answers exactly what the definition of the language says: the first fault of two passes,
+//! or the program, which can be written as an ELF file.
+#![tactic(auto)]
+
+mod action;
+mod assembler;
+mod content;
+mod decimal;
+mod directive;
+mod draft;
+mod emission;
+mod fault;
+mod groups;
+mod insns;
+mod layout;
+mod names;
+mod number;
+mod operand;
+mod operation;
+mod padding;
+mod register;
+mod room;
+mod second;
+mod section;
+mod start;
+mod table;
+mod text;
+mod value;
+
+pub use assembler::assemble;
+
+#[cfg(test)]
+mod tests;

@@ -1,0 +1,24 @@
+//! Tables of names.
+ghost use Rattle.std.specs.Prelude.{◌≡◌};
+ghost use Rattle.std.specs.Map.{lookup};
+ghost use Rattle.std.specs.Str.{bytes_eq};
+ghost use Rattle.mips_asm.specs.Seen.{rows_seen};
+
+/// A name and what it means.
+#[derive(Clone, Copy)]
+pub(crate) struct Row<T: Copy> {
+    pub(crate) name: &'static [u8],
+    pub(crate) meaning: T,
+}
+
+/// What a name means, by the first row that has it.
+pub(crate) fn find<T: Copy>(rows: &[Row<T>], name: &[u8]) -> Option<T>
+    ensures { result ≡ lookup (bytes_eq name.now) (rows_seen rows.now) }
+{
+    for row in rows {
+        if name == row.name {
+            return Some(row.meaning);
+        }
+    }
+    None
+}

@@ -1,0 +1,164 @@
+//! Values, and the fields that they give.
+ghost use Rattle.std.specs.Prelude.{◌≡◌, ◌<◌, ◌^◌, ◌+◌, IfOk};
+ghost use Rattle.asm_parse.specs.Seen.{expression_seen};
+ghost use Rattle.mips_asm.specs.Outcome.{◌>>=◌};
+ghost use Rattle.mips_asm.specs.Draft.{defined};
+ghost use Rattle.mips_asm.specs.Value.{Amount, Branch, Code, Jump, Signed, Unsigned, distance, field_of, half_of, halves_of, lies, value_of};
+
+use crate::names::Names;
+use asm_parse::{AsmWhy, Expression, Inner};
+
+/// Whether a value is equal to a number from `-low` to `high`, modulo 2^32.
+pub(crate) fn lies(low: u32, high: u32, value: u32) -> bool
+    ensures { result ≡ lies low high value }
+{
+    value <= high || u64::from(value) + u64::from(low) >= 1 << 32
+}
+
+/// The value of an expression, where its name has one.
+#[tactic(auto, unfolding(crate::specs::Value::value_of))]
+fn value(names: &Names, expression: Expression<'_>) -> Option<u32>
+    ensures { result ≡ value_of names.now (expression_seen expression.entry) }
+{
+    let value = match expression.inner {
+        Inner::Number(number) => number,
+        Inner::Name(name) => names.value(name)?,
+        Inner::Sum { name, number } => names.value(name)?.wrapping_add(number),
+    };
+    Some(halves(expression.openings, value))
+}
+
+/// The half of a value that openings take, the outermost of which comes first.
+fn halves(openings: &[u8], value: u32) -> u32
+    ensures { result ≡ halves_of openings.now value }
+{
+    let mut half = value;
+    let mut left = openings.len();
+    while left > 0 {
+        left -= 1;
+        half = half_of(openings[left], half);
+    }
+    half
+}
+
+/// The half that the first letter of an opening takes.
+fn half_of(letter: u8, value: u32) -> u32
+    ensures { result ≡ half_of letter value }
+{
+    match letter {
+        b'h' => value >> 16,
+        b'l' => value & 0xffff,
+        _ => value,
+    }
+}
+
+/// The value of an expression. The fault is Undefined.
+pub(crate) fn defined(names: &Names, expression: Expression<'_>) -> Result<u32, AsmWhy>
+    ensures { result ≡ defined names.now (expression_seen expression.entry) }
+{
+    value(names, expression).ok_or(AsmWhy::Undefined)
+}
+
+/// A shift amount.
+pub(crate) fn amount(names: &Names, expression: Expression<'_>) -> Result<u8, AsmWhy>
+    ensures value { result ≡ (defined names.now (expression_seen expression.entry) >>= λ v. field_of Amount 0 v) }
+    ensures within { IfOk result (λ n. n < 32) }
+{
+    let value = defined(names, expression)?;
+    if lies(0, 31, value) {
+        Ok(value as u8)
+    } else {
+        Err(AsmWhy::OutOfRange)
+    }
+}
+
+/// A half that is extended with its sign.
+pub(crate) fn signed(names: &Names, expression: Expression<'_>) -> Result<u16, AsmWhy>
+    ensures { result ≡ (defined names.now (expression_seen expression.entry) >>= λ v. field_of Signed 0 v) }
+{
+    let value = defined(names, expression)?;
+    if lies(32768, 32767, value) {
+        Ok((value & 0xffff) as u16)
+    } else {
+        Err(AsmWhy::OutOfRange)
+    }
+}
+
+/// A half that is extended with zeros.
+pub(crate) fn unsigned(names: &Names, expression: Expression<'_>) -> Result<u16, AsmWhy>
+    ensures { result ≡ (defined names.now (expression_seen expression.entry) >>= λ v. field_of Unsigned 0 v) }
+{
+    let value = defined(names, expression)?;
+    if lies(0, 65535, value) {
+        Ok(value as u16)
+    } else {
+        Err(AsmWhy::OutOfRange)
+    }
+}
+
+/// The most that a code can be.
+const LAST_CODE: u32 = (1 << 20) - 1;
+
+/// The code of a trap.
+pub(crate) fn code(names: &Names, expression: Expression<'_>) -> Result<u32, AsmWhy>
+    ensures value { result ≡ (defined names.now (expression_seen expression.entry) >>= λ v. field_of Code 0 v) }
+    ensures within { IfOk result (λ n. n < 2 ^ 20) }
+{
+    let value = defined(names, expression)?;
+    if lies(0, LAST_CODE, value) {
+        Ok(value)
+    } else {
+        Err(AsmWhy::OutOfRange)
+    }
+}
+
+/// How far a branch reaches back, in bytes.
+const BRANCH_BACK: u32 = 1 << 17;
+
+/// How far a branch reaches on, in bytes.
+const BRANCH_ON: u32 = BRANCH_BACK - 4;
+
+/// How many words a branch at a place goes on from the word after it, modulo 2^16.
+pub(crate) fn branch(names: &Names, place: u32, expression: Expression<'_>) -> Result<u16, AsmWhy>
+    requires { place + 4 < 2 ^ 32 }
+    ensures { result ≡ (defined names.now (expression_seen expression.entry) >>= λ v. field_of Branch place v) }
+{
+    let target = defined(names, expression)?;
+    if target % 4 != 0 {
+        return Err(AsmWhy::Unaligned);
+    }
+    let distance = distance(place, target);
+    if lies(BRANCH_BACK, BRANCH_ON, distance) {
+        Ok((distance / 4 % (1 << 16)) as u16)
+    } else {
+        Err(AsmWhy::OutOfRange)
+    }
+}
+
+/// How far an address lies behind the word after a place, modulo 2^32.
+fn distance(place: u32, address: u32) -> u32
+    requires { place + 4 < 2 ^ 32 }
+    ensures { result ≡ distance place address }
+{
+    address.wrapping_sub(place + 4)
+}
+
+/// How many bytes a jump may reach.
+const JUMP_REGION: u32 = 1 << 28;
+
+/// The target of a jump at a place.
+pub(crate) fn jump(names: &Names, place: u32, expression: Expression<'_>) -> Result<u32, AsmWhy>
+    requires { place + 4 < 2 ^ 32 }
+    ensures value { result ≡ (defined names.now (expression_seen expression.entry) >>= λ v. field_of Jump place v) }
+    ensures within { IfOk result (λ n. n < 2 ^ 26) }
+{
+    let target = defined(names, expression)?;
+    if target % 4 != 0 {
+        return Err(AsmWhy::Unaligned);
+    }
+    if target / JUMP_REGION == (place + 4) / JUMP_REGION {
+        Ok(target % JUMP_REGION / 4)
+    } else {
+        Err(AsmWhy::OutOfRange)
+    }
+}
