@@ -115,13 +115,22 @@ draft_of Load operands = do
 abbrev pub defined : Names → ExpressionValue → Result ℕ AsmWhy
 defined names e = ok_or (value_of names e) Undefined
 
+-- the field of an expression, in an instruction at a place
+abbrev pub field_in : Names → Field → ℕ → ExpressionValue → Result ℕ AsmWhy
+field_in names field place e = do
+  v ← defined names e
+  field_of field place v
+
+-- LUI of the high half and ORI of the low half of an expression
+abbrev pub halves_in : Names → ℕ → ExpressionValue → Result (List Insn) AsmWhy
+halves_in names rt e = do
+  v ← defined names e
+  Ok (Lui rt (v / 2 ^ 16) ∷ Ori rt rt (v % 2 ^ 16) ∷ [])
+
 -- the instructions that a draft at a place makes
 unfoldable pub insns_of : Names → ℕ → Draft → Result (List Insn) AsmWhy
 insns_of names place (Fixed insn) = Ok (insn ∷ [])
 insns_of names place (Filled field insn e) = do
-  v ← defined names e
-  n ← field_of field place v
+  n ← field_in names field place e
   Ok (insn n ∷ [])
-insns_of names place (Halves rt e) = do
-  v ← defined names e
-  Ok (Lui rt (v / 2 ^ 16) ∷ Ori rt rt (v % 2 ^ 16) ∷ [])
+insns_of names place (Halves rt e) = halves_in names rt e

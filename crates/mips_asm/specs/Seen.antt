@@ -173,8 +173,11 @@ shape_seen (operation.Trap op) = shapes.Coded (trap_insn op)
 shape_seen (operation.Access op) = shapes.Memory (access_insn op)
 shape_seen operation.Load = shapes.Load
 
-abbrev pub shape_row_seen : Row Operation → List ℕ × shapes.Shape
-shape_row_seen row = (row.name.now, shape_seen row.meaning)
+abbrev pub shape_row_seen : List ℕ × Operation → List ℕ × shapes.Shape
+shape_row_seen row = (row.0, shape_seen row.1)
+
+abbrev pub shape_rows_seen : List (Row Operation) → List (List ℕ × shapes.Shape)
+shape_rows_seen rows = map shape_row_seen (rows_seen rows)
 
 abbrev pub operand_seen : Operand → operands.Operand
 operand_seen (operand.Register r) = operands.Register (option_map number_seen r)

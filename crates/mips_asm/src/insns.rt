@@ -1,12 +1,12 @@
 //! The instructions of drafts.
-ghost use Rattle.std.specs.Prelude.{◌≡◌, ◌+◌, ◌/◌, ◌%◌, ◌<◌, ◌^◌, ◌++◌, ◌∷◌, [], IfOk, OnOk};
+ghost use Rattle.std.specs.Prelude.{◌≡◌, ◌+◌, ◌<◌, ◌^◌, ◌++◌, IfOk, OnOk};
 ghost use Rattle.std.specs.List.{AllByRecursion};
 ghost use Rattle.std.specs.Int.{to_le_bytes, w32};
 ghost use Rattle.mips_isa.specs.Encoding.{Spells};
 ghost use Rattle.asm_parse.specs.Seen.{expression_seen};
 ghost use Rattle.mips_asm.specs.Content.{insns_bytes};
-ghost use Rattle.mips_asm.specs.Draft.{defined, insns_of};
-ghost use Rattle.mips_asm.specs.Outcome.{◌>>=◌, ok_seen};
+ghost use Rattle.mips_asm.specs.Draft.{halves_in, insns_of};
+ghost use Rattle.mips_asm.specs.Outcome.{ok_seen};
 ghost use Rattle.mips_asm.specs.Seen.{draft_seen, insns_seen};
 ghost use Rattle.mips_asm.specs.Word.{IsSpelled, word_of};
 
@@ -96,7 +96,7 @@ fn branch_always(imm: u16) -> Insn
 
 /// LUI of the high half and ORI of the low half of an expression.
 fn load(rt: Register, names: &Names, expression: Expression<'_>) -> Result<Insns, AsmWhy>
-    ensures value { ok_seen insns_seen result ≡ (defined names.now (expression_seen expression.entry) >>= λ v. Ok (Insn.Lui rt.number (v / 2 ^ 16) ∷ Insn.Ori rt.number rt.number (v % 2 ^ 16) ∷ [])) }
+    ensures value { ok_seen insns_seen result ≡ halves_in names.now rt.number (expression_seen expression.entry) }
     ensures spelled { IfOk result (λ insns. AllByRecursion IsSpelled (insns_seen insns)) }
 {
     let value = defined(names, expression)?;

@@ -46,9 +46,7 @@ impl Names {
         ensures { OnOk result (self.new ≡ self.old ++ (name.now, value) ∷ []) }
     {
         let name = Vec::from_slice(alloc, name)?;
-        match self.values.insert(name, value) {
-            Ok(_) => Ok(()),
-            Err(_) => Err(AllocError),
-        }
+        self.values.insert(name, value)?;
+        Ok(())
     }
 }

@@ -1,5 +1,9 @@
 //! Operations, and their names.
 ghost use Rattle.std.specs.Prelude.{◌≡◌};
+ghost use Rattle.std.specs.Map.{lookup};
+ghost use Rattle.std.specs.Option.{option_map};
+ghost use Rattle.std.specs.Str.{bytes_eq};
+ghost use Rattle.mips_asm.specs.Seen.{shape_rows_seen, shape_seen};
 
 use crate::groups::{
     Access, Alone, BranchOne, BranchTwo, LongJump, One, Shift, SignedImmediate, Three, Trap, Two,
@@ -123,9 +127,17 @@ impl Operation {
     ghost use Rattle.mips_asm.specs.Seen.{shape_seen};
 
     /// The operation of a name, if it has one.
+    #[tactic(auto, unfolding(crate::specs::Action::shape_of))]
     pub(crate) fn named(name: &[u8]) -> Option<Operation>
         ensures { option_map shape_seen result ≡ shape_of name.now }
     {
-        find(&OPERATIONS, name)
+        find_operation(&OPERATIONS, name)
     }
+}
+
+/// What a name means, by the first row that has it.
+fn find_operation(rows: &[Row<Operation>], name: &[u8]) -> Option<Operation>
+    ensures { option_map shape_seen result ≡ lookup (bytes_eq name.now) (shape_rows_seen rows.now) }
+{
+    find(rows, name)
 }

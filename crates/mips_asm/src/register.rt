@@ -1,5 +1,6 @@
 //! Registers.
-ghost use Rattle.std.specs.Prelude.{◌<◌};
+ghost use Rattle.std.specs.Prelude.{◌≡◌, ◌<◌, IfSome, drop};
+ghost use Rattle.mips_asm.specs.Register.{number_of_register};
 
 use crate::decimal::decimal;
 use crate::table::{Row, find};
@@ -51,30 +52,36 @@ const NAMES: [Row<u8>; 32] = [
 ];
 
 impl Register {
-    ghost use Rattle.std.specs.Prelude.{◌≡◌, ◌<◌, ◌≤◌, IfSome, drop};
+    ghost use Rattle.std.specs.Prelude.{◌≡◌};
     ghost use Rattle.std.specs.Option.{option_map};
-    ghost use Rattle.mips_asm.specs.Register.{number_of_register, register_of};
+    ghost use Rattle.mips_asm.specs.Register.{register_of};
     ghost use Rattle.mips_asm.specs.Seen.{number_seen};
 
     /// The register of a `$` and a number or a name, if there is one.
     pub(crate) fn read(bytes: &[u8]) -> Option<Register>
         ensures { option_map number_seen result ≡ register_of bytes.now }
     {
-        match bytes {
-            [_, name @ ..] => {
-                let number = register_number(name)?;
-                Some(Register { number })
-            }
-            [] => {
-                let number = register_number(bytes)?;
-                Some(Register { number })
-            }
-        }
+        let number = register_number(without_first(bytes))?;
+        Some(Register { number })
+    }
+}
+
+/// Bytes without the first of them.
+fn without_first(bytes: &[u8]) -> &[u8]
+    ensures { result.now ≡ drop 1 bytes.now }
+{
+    match bytes {
+        [_, rest @ ..] => rest,
+        [] => bytes,
     }
 }
 
 /// The number of a register, by a number or a name.
-fn register_number(name: &[u8]) -> Option<u8> {
+#[tactic(auto, unfolding(crate::specs::Register::number_of_register))]
+fn register_number(name: &[u8]) -> Option<u8>
+    ensures value { result ≡ number_of_register name.now }
+    ensures within { IfSome result (λ n. n < 32) }
+{
     match decimal(name, REGISTER_COUNT - 1) {
         Some(number) => Some(number),
         None => find(&NAMES, name),

@@ -1,9 +1,8 @@
 //! Values, and the fields that they give.
 ghost use Rattle.std.specs.Prelude.{◌≡◌, ◌<◌, ◌^◌, ◌+◌, IfOk};
 ghost use Rattle.asm_parse.specs.Seen.{expression_seen};
-ghost use Rattle.mips_asm.specs.Outcome.{◌>>=◌};
-ghost use Rattle.mips_asm.specs.Draft.{defined};
-ghost use Rattle.mips_asm.specs.Value.{Amount, Branch, Code, Jump, Signed, Unsigned, distance, field_of, half_of, halves_of, lies, value_of};
+ghost use Rattle.mips_asm.specs.Draft.{defined, field_in};
+ghost use Rattle.mips_asm.specs.Value.{Amount, Branch, Code, Jump, Signed, Unsigned, distance, half_of, halves_of, lies, value_of};
 
 use crate::names::Names;
 use asm_parse::{AsmWhy, Expression, Inner};
@@ -61,7 +60,7 @@ pub(crate) fn defined(names: &Names, expression: Expression<'_>) -> Result<u32, 
 
 /// A shift amount.
 pub(crate) fn amount(names: &Names, expression: Expression<'_>) -> Result<u8, AsmWhy>
-    ensures value { result ≡ (defined names.now (expression_seen expression.entry) >>= λ v. field_of Amount 0 v) }
+    ensures value { result ≡ field_in names.now Amount 0 (expression_seen expression.entry) }
     ensures within { IfOk result (λ n. n < 32) }
 {
     let value = defined(names, expression)?;
@@ -74,7 +73,7 @@ pub(crate) fn amount(names: &Names, expression: Expression<'_>) -> Result<u8, As
 
 /// A half that is extended with its sign.
 pub(crate) fn signed(names: &Names, expression: Expression<'_>) -> Result<u16, AsmWhy>
-    ensures { result ≡ (defined names.now (expression_seen expression.entry) >>= λ v. field_of Signed 0 v) }
+    ensures { result ≡ field_in names.now Signed 0 (expression_seen expression.entry) }
 {
     let value = defined(names, expression)?;
     if lies(32768, 32767, value) {
@@ -86,7 +85,7 @@ pub(crate) fn signed(names: &Names, expression: Expression<'_>) -> Result<u16, A
 
 /// A half that is extended with zeros.
 pub(crate) fn unsigned(names: &Names, expression: Expression<'_>) -> Result<u16, AsmWhy>
-    ensures { result ≡ (defined names.now (expression_seen expression.entry) >>= λ v. field_of Unsigned 0 v) }
+    ensures { result ≡ field_in names.now Unsigned 0 (expression_seen expression.entry) }
 {
     let value = defined(names, expression)?;
     if lies(0, 65535, value) {
@@ -101,7 +100,7 @@ const LAST_CODE: u32 = (1 << 20) - 1;
 
 /// The code of a trap.
 pub(crate) fn code(names: &Names, expression: Expression<'_>) -> Result<u32, AsmWhy>
-    ensures value { result ≡ (defined names.now (expression_seen expression.entry) >>= λ v. field_of Code 0 v) }
+    ensures value { result ≡ field_in names.now Code 0 (expression_seen expression.entry) }
     ensures within { IfOk result (λ n. n < 2 ^ 20) }
 {
     let value = defined(names, expression)?;
@@ -121,7 +120,7 @@ const BRANCH_ON: u32 = BRANCH_BACK - 4;
 /// How many words a branch at a place goes on from the word after it, modulo 2^16.
 pub(crate) fn branch(names: &Names, place: u32, expression: Expression<'_>) -> Result<u16, AsmWhy>
     requires { place + 4 < 2 ^ 32 }
-    ensures { result ≡ (defined names.now (expression_seen expression.entry) >>= λ v. field_of Branch place v) }
+    ensures { result ≡ field_in names.now Branch place (expression_seen expression.entry) }
 {
     let target = defined(names, expression)?;
     if target % 4 != 0 {
@@ -149,7 +148,7 @@ const JUMP_REGION: u32 = 1 << 28;
 /// The target of a jump at a place.
 pub(crate) fn jump(names: &Names, place: u32, expression: Expression<'_>) -> Result<u32, AsmWhy>
     requires { place + 4 < 2 ^ 32 }
-    ensures value { result ≡ (defined names.now (expression_seen expression.entry) >>= λ v. field_of Jump place v) }
+    ensures value { result ≡ field_in names.now Jump place (expression_seen expression.entry) }
     ensures within { IfOk result (λ n. n < 2 ^ 26) }
 {
     let target = defined(names, expression)?;

@@ -1,0 +1,22 @@
+use Rattle.std.proofs.Common.{arith, lt-ltb, sym, ◌≡◌, ◌+◌, ◌*◌, take}
+use Rattle.std.proofs.lemmas.Int.Digits.{digits_value_more}
+use Rattle.std.specs.Str.Parse.{digits_value}
+use Rattle.asm_parse.proofs.NumeralLemmas.{all_digits_more, too_large}
+use Rattle.mips_asm.proofs.decimal.decimal.Goals as goal
+
+pub returns-then-next-from-clause-value : goal.returns-then-next-from-clause-value
+returns-then-next-from-clause-value c =
+    let more = digits_value_more 10 c.args.digits.now c.loop-byte.byte-index c.loop-byte-test.true in
+    let digit = c.in_ok-digit.ensures.value in
+    let total : c.loop-byte.value * 10 + c.in_ok-digit.digit ≡ digits_value 10 (take (c.loop-byte.byte-index + 1) c.args.digits.now) = cc in
+    let over = rw (c.from-in-loop-byte.ensures, c.from-in-loop-byte-2.ensures) at c.if-next-from.true in
+    sym (too_large 10 c.args.most (c.loop-byte.byte-index + 1) c.args.digits.now (omega arith) (rw (← total) over))
+
+pub loop-byte-preserved : goal.loop-byte-preserved
+loop-byte-preserved c =
+    let digit = c.in_ok-digit.ensures.value in
+    record {
+      value = let more = digits_value_more 10 c.args.digits.now c.loop-byte.byte-index c.loop-byte-test.true in cc;
+      digits = all_digits_more 10 c.args.digits.now c.loop-byte.byte-index c.loop-byte-test.true c.loop-byte.invariant.digits (rw (← c.from.ensures) (lt-ltb _ _ digit.0));
+      small = omega arith;
+    }
