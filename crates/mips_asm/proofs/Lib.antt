@@ -1,2 +1,4 @@
+pub mod OperandLemmas
 pub mod NameLemmas
 pub mod TableLemmas
+pub mod WordLemmas

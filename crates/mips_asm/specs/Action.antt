@@ -18,8 +18,8 @@ use Rattle.mips_asm.specs.declared.number.NumberSize.TheVariants.{Byte, Half, Wo
 use Rattle.mips_asm.specs.declared.section.Section.{Section}
 use Rattle.mips_asm.specs.declared.section.Section.TheVariants.{Text, Data}
 use Rattle.mips_asm.specs.Content.{Content, Instruction, Numbers, Given}
-use Rattle.mips_asm.specs.Draft.{draft_of, nothing_in, value_in}
-use Rattle.mips_asm.specs.Operand.{Operand, Register, Value, Based, Quoted, operands_at}
+use Rattle.mips_asm.specs.Draft.{draft_of, nothing_in, quoted_form, value_form, value_in}
+use Rattle.mips_asm.specs.Operand.{Operand, operands_at}
 use Rattle.mips_asm.specs.Operation.{Shape, special_rows, immediate_rows, memory_rows, system_rows, further_rows}
 use Rattle.mips_asm.specs.Outcome.{◌>>=◌, in_line}
 
@@ -66,10 +66,10 @@ in_text Data = Err Syntax
 -- each operand an expression
 abbrev pub values_in : List Operand → Result (List ExpressionValue) AsmWhy
 values_in [] = Ok []
-values_in (Value e ∷ operands) = do
-  es ← values_in operands
+values_in (a ∷ rest) = do
+  e ← value_form a
+  es ← values_in rest
   Ok (e ∷ es)
-values_in _ = Err Syntax
 
 -- one expression or more
 abbrev pub some_values_in : List Operand → Result (List ExpressionValue) AsmWhy
@@ -78,7 +78,7 @@ some_values_in (a ∷ rest) = values_in (a ∷ rest)
 
 -- a quoted text
 abbrev pub quoted_in : List Operand → Result (List ℕ) AsmWhy
-quoted_in (Quoted text ∷ []) = Ok text
+quoted_in (a ∷ []) = quoted_form a
 quoted_in _ = Err Syntax
 
 -- the bytes that a quoted text means
@@ -112,8 +112,10 @@ written_name e = name_alone e.openings e.inner
 
 -- a name and an expression
 abbrev pub definition_in : List Operand → Result (List ℕ × ExpressionValue) AsmWhy
-definition_in (Value name ∷ Value e ∷ []) = do
-  name ← written_name name
+definition_in (a ∷ b ∷ []) = do
+  a ← value_form a
+  e ← value_form b
+  name ← written_name a
   Ok (name, e)
 definition_in _ = Err Syntax
 

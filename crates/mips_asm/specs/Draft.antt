@@ -23,25 +23,50 @@ pub data Draft : Type 0 where
 abbrev pub known : Option ℕ → Result ℕ AsmWhy
 known register = ok_or register UnknownName
 
--- The operands of each form. Operands of another number or form are Syntax, before a register that there isn't.
+-- Operands by their forms: another one is Syntax.
+
+abbrev pub register_form : Operand → Result (Option ℕ) AsmWhy
+register_form (Register r) = Ok r
+register_form _ = Err Syntax
+
+abbrev pub value_form : Operand → Result ExpressionValue AsmWhy
+value_form (Value e) = Ok e
+value_form _ = Err Syntax
+
+abbrev pub based_form : Operand → Result (ExpressionValue × Option ℕ) AsmWhy
+based_form (Based e r) = Ok (e, r)
+based_form _ = Err Syntax
+
+abbrev pub quoted_form : Operand → Result (List ℕ) AsmWhy
+quoted_form (Quoted text) = Ok text
+quoted_form _ = Err Syntax
+
+-- Operands of each operation. Their number and forms are tested before their registers.
 
 abbrev pub nothing_in : List Operand → Result (Unit {0}) AsmWhy
 nothing_in [] = Ok tt
-nothing_in (a ∷ rest) = Err Syntax
+nothing_in _ = Err Syntax
 
 abbrev pub register_in : List Operand → Result ℕ AsmWhy
-register_in (Register a ∷ []) = known a
+register_in (a ∷ []) = do
+  a ← register_form a
+  known a
 register_in _ = Err Syntax
 
 abbrev pub two_registers_in : List Operand → Result (ℕ × ℕ) AsmWhy
-two_registers_in (Register a ∷ Register b ∷ []) = do
+two_registers_in (a ∷ b ∷ []) = do
+  a ← register_form a
+  b ← register_form b
   a ← known a
   b ← known b
   Ok (a, b)
 two_registers_in _ = Err Syntax
 
 abbrev pub three_registers_in : List Operand → Result (ℕ × ℕ × ℕ) AsmWhy
-three_registers_in (Register a ∷ Register b ∷ Register c ∷ []) = do
+three_registers_in (a ∷ b ∷ c ∷ []) = do
+  a ← register_form a
+  b ← register_form b
+  c ← register_form c
   a ← known a
   b ← known b
   c ← known c
@@ -49,17 +74,22 @@ three_registers_in (Register a ∷ Register b ∷ Register c ∷ []) = do
 three_registers_in _ = Err Syntax
 
 abbrev pub value_in : List Operand → Result ExpressionValue AsmWhy
-value_in (Value e ∷ []) = Ok e
+value_in (a ∷ []) = value_form a
 value_in _ = Err Syntax
 
 abbrev pub register_and_value_in : List Operand → Result (ℕ × ExpressionValue) AsmWhy
-register_and_value_in (Register a ∷ Value e ∷ []) = do
+register_and_value_in (a ∷ b ∷ []) = do
+  a ← register_form a
+  e ← value_form b
   a ← known a
   Ok (a, e)
 register_and_value_in _ = Err Syntax
 
 abbrev pub two_registers_and_value_in : List Operand → Result (ℕ × ℕ × ExpressionValue) AsmWhy
-two_registers_and_value_in (Register a ∷ Register b ∷ Value e ∷ []) = do
+two_registers_and_value_in (a ∷ b ∷ c ∷ []) = do
+  a ← register_form a
+  b ← register_form b
+  e ← value_form c
   a ← known a
   b ← known b
   Ok (a, b, e)
@@ -67,10 +97,12 @@ two_registers_and_value_in _ = Err Syntax
 
 -- the register, the one in brackets, and the offset
 abbrev pub based_in : List Operand → Result (ℕ × ℕ × ExpressionValue) AsmWhy
-based_in (Register a ∷ Based e b ∷ []) = do
+based_in (a ∷ b ∷ []) = do
+  a ← register_form a
+  parts ← based_form b
   a ← known a
-  b ← known b
-  Ok (a, b, e)
+  b ← known parts.1
+  Ok (a, b, parts.0)
 based_in _ = Err Syntax
 
 -- an expression, or 0 where there is none

@@ -160,15 +160,7 @@ fn values<'a>(
 {
     let mut values = Vec::with_capacity(alloc, operands.len())?;
     for operand in operands {
-        match operand {
-            Operand::Value(value) => values.push(*value)?,
-            _ => {
-                return Err(AsmFault::At {
-                    line,
-                    why: AsmWhy::Syntax,
-                });
-            }
-        }
+        values.push(in_line(line, operand.value())?)?;
     }
     Ok(values)
 }
@@ -191,10 +183,10 @@ fn text(alloc: Global, line: u32, operands: &[Operand<'_>]) -> Result<Vec<u8>, A
 fn quoted<'a>(operands: &[Operand<'a>]) -> Result<&'a [u8], AsmWhy>
     ensures { ok_seen (λ text. text.now) result ≡ quoted_in (operands_seen operands.now) }
 {
-    match operands {
-        [Operand::Quoted(text)] => Ok(*text),
-        _ => Err(AsmWhy::Syntax),
-    }
+    let [a] = operands else {
+        return Err(AsmWhy::Syntax);
+    };
+    a.quoted()
 }
 
 /// An expression that is written as a number.
@@ -228,8 +220,9 @@ fn written_name(expression: Expression<'_>) -> Result<&[u8], AsmWhy>
 fn definition<'a>(operands: &[Operand<'a>]) -> Result<(&'a [u8], Expression<'a>), AsmWhy>
     ensures { ok_seen (λ d. (d.0.now, expression_seen d.1)) result ≡ definition_in (operands_seen operands.now) }
 {
-    match operands {
-        [Operand::Value(name), Operand::Value(value)] => Ok((written_name(*name)?, *value)),
-        _ => Err(AsmWhy::Syntax),
-    }
+    let [a, b] = operands else {
+        return Err(AsmWhy::Syntax);
+    };
+    let (name, value) = (a.value()?, b.value()?);
+    Ok((written_name(name)?, value))
 }

@@ -36,7 +36,7 @@ pub(crate) enum Draft<'a> {
 }
 
 impl<'a> Draft<'a> {
-    ghost use Rattle.std.specs.Prelude.{◌≡◌};
+    ghost use Rattle.std.specs.Prelude.{◌≡◌, ◌<◌};
     ghost use Rattle.mips_asm.specs.Outcome.{ok_seen};
     ghost use Rattle.mips_asm.specs.Content.{draft_length};
     ghost use Rattle.mips_asm.specs.Draft.{draft_of};
@@ -132,44 +132,42 @@ pub(crate) fn nothing(operands: &[Operand<'_>]) -> Result<(), AsmWhy>
 fn register(operands: &[Operand<'_>]) -> Result<Register, AsmWhy>
     ensures { ok_seen number_seen result ≡ register_in (operands_seen operands.now) }
 {
-    match operands {
-        [Operand::Register(a)] => known(*a),
-        _ => Err(AsmWhy::Syntax),
-    }
+    let [a] = operands else {
+        return Err(AsmWhy::Syntax);
+    };
+    known(a.register()?)
 }
 
 /// Two registers.
 fn two_registers(operands: &[Operand<'_>]) -> Result<(Register, Register), AsmWhy>
     ensures { ok_seen (λ r. (number_seen r.0, number_seen r.1)) result ≡ two_registers_in (operands_seen operands.now) }
 {
-    match operands {
-        [Operand::Register(a), Operand::Register(b)] => Ok((known(*a)?, known(*b)?)),
-        _ => Err(AsmWhy::Syntax),
-    }
+    let [a, b] = operands else {
+        return Err(AsmWhy::Syntax);
+    };
+    let (a, b) = (a.register()?, b.register()?);
+    Ok((known(a)?, known(b)?))
 }
 
 /// Three registers.
 fn three_registers(operands: &[Operand<'_>]) -> Result<(Register, Register, Register), AsmWhy>
     ensures { ok_seen (λ r. (number_seen r.0, number_seen r.1, number_seen r.2)) result ≡ three_registers_in (operands_seen operands.now) }
 {
-    match operands {
-        [
-            Operand::Register(a),
-            Operand::Register(b),
-            Operand::Register(c),
-        ] => Ok((known(*a)?, known(*b)?, known(*c)?)),
-        _ => Err(AsmWhy::Syntax),
-    }
+    let [a, b, c] = operands else {
+        return Err(AsmWhy::Syntax);
+    };
+    let (a, b, c) = (a.register()?, b.register()?, c.register()?);
+    Ok((known(a)?, known(b)?, known(c)?))
 }
 
 /// An expression.
 pub(crate) fn value<'a>(operands: &[Operand<'a>]) -> Result<Expression<'a>, AsmWhy>
     ensures { ok_seen expression_seen result ≡ value_in (operands_seen operands.now) }
 {
-    match operands {
-        [Operand::Value(value)] => Ok(*value),
-        _ => Err(AsmWhy::Syntax),
-    }
+    let [a] = operands else {
+        return Err(AsmWhy::Syntax);
+    };
+    a.value()
 }
 
 /// A register and an expression.
@@ -178,10 +176,11 @@ fn register_and_value<'a>(
 ) -> Result<(Register, Expression<'a>), AsmWhy>
     ensures { ok_seen (λ r. (number_seen r.0, expression_seen r.1)) result ≡ register_and_value_in (operands_seen operands.now) }
 {
-    match operands {
-        [Operand::Register(a), Operand::Value(value)] => Ok((known(*a)?, *value)),
-        _ => Err(AsmWhy::Syntax),
-    }
+    let [a, b] = operands else {
+        return Err(AsmWhy::Syntax);
+    };
+    let (a, value) = (a.register()?, b.value()?);
+    Ok((known(a)?, value))
 }
 
 /// Two registers and an expression.
@@ -190,14 +189,11 @@ fn two_registers_and_value<'a>(
 ) -> Result<(Register, Register, Expression<'a>), AsmWhy>
     ensures { ok_seen (λ r. (number_seen r.0, number_seen r.1, expression_seen r.2)) result ≡ two_registers_and_value_in (operands_seen operands.now) }
 {
-    match operands {
-        [
-            Operand::Register(a),
-            Operand::Register(b),
-            Operand::Value(value),
-        ] => Ok((known(*a)?, known(*b)?, *value)),
-        _ => Err(AsmWhy::Syntax),
-    }
+    let [a, b, c] = operands else {
+        return Err(AsmWhy::Syntax);
+    };
+    let (a, b, value) = (a.register()?, b.register()?, c.value()?);
+    Ok((known(a)?, known(b)?, value))
 }
 
 /// A register, the register in brackets, and the offset before them.
@@ -206,10 +202,11 @@ fn based<'a>(
 ) -> Result<(Register, Register, Expression<'a>), AsmWhy>
     ensures { ok_seen (λ r. (number_seen r.0, number_seen r.1, expression_seen r.2)) result ≡ based_in (operands_seen operands.now) }
 {
-    match operands {
-        [Operand::Register(a), Operand::Based(offset, b)] => Ok((known(*a)?, known(*b)?, *offset)),
-        _ => Err(AsmWhy::Syntax),
-    }
+    let [a, b] = operands else {
+        return Err(AsmWhy::Syntax);
+    };
+    let (a, (offset, b)) = (a.register()?, b.based()?);
+    Ok((known(a)?, known(b)?, offset))
 }
 
 /// An expression, or 0 where there is none.

@@ -9,7 +9,7 @@ ghost use Rattle.asm_parse.specs.Seen.{expression_seen};
 ghost use Rattle.asm_parse.specs.Expression.{Number};
 
 use crate::register::Register;
-use asm_parse::{Arg, ArgKind, Expression, Inner, read_based, read_expression};
+use asm_parse::{Arg, ArgKind, AsmWhy, Expression, Inner, read_based, read_expression};
 use std::alloc::{AllocError, Global};
 
 /// An operand of an operation. A register is none where there is no register of that name.
@@ -23,6 +23,55 @@ pub(crate) enum Operand<'a> {
     Based(Expression<'a>, Option<Register>),
     /// A quoted text as it is written.
     Quoted(&'a [u8]),
+}
+
+impl<'a> Operand<'a> {
+    ghost use Rattle.std.specs.Prelude.{◌≡◌};
+    ghost use Rattle.std.specs.Option.{option_map};
+    ghost use Rattle.asm_parse.specs.Seen.{expression_seen};
+    ghost use Rattle.mips_asm.specs.Draft.{based_form, quoted_form, register_form, value_form};
+    ghost use Rattle.mips_asm.specs.Outcome.{ok_seen};
+    ghost use Rattle.mips_asm.specs.Seen.{number_seen, operand_seen};
+
+    /// The register that it is, or Syntax.
+    pub(crate) fn register(self) -> Result<Option<Register>, AsmWhy>
+        ensures { ok_seen (option_map number_seen) result ≡ register_form (operand_seen self.entry) }
+    {
+        match self {
+            Operand::Register(register) => Ok(register),
+            _ => Err(AsmWhy::Syntax),
+        }
+    }
+
+    /// The expression that it is, or Syntax.
+    pub(crate) fn value(self) -> Result<Expression<'a>, AsmWhy>
+        ensures { ok_seen expression_seen result ≡ value_form (operand_seen self.entry) }
+    {
+        match self {
+            Operand::Value(value) => Ok(value),
+            _ => Err(AsmWhy::Syntax),
+        }
+    }
+
+    /// The offset and the register in brackets that it is, or Syntax.
+    pub(crate) fn based(self) -> Result<(Expression<'a>, Option<Register>), AsmWhy>
+        ensures { ok_seen (λ parts. (expression_seen parts.0, option_map number_seen parts.1)) result ≡ based_form (operand_seen self.entry) }
+    {
+        match self {
+            Operand::Based(offset, register) => Ok((offset, register)),
+            _ => Err(AsmWhy::Syntax),
+        }
+    }
+
+    /// The quoted text that it is, or Syntax.
+    pub(crate) fn quoted(self) -> Result<&'a [u8], AsmWhy>
+        ensures { ok_seen (λ text. text.now) result ≡ quoted_form (operand_seen self.entry) }
+    {
+        match self {
+            Operand::Quoted(text) => Ok(text),
+            _ => Err(AsmWhy::Syntax),
+        }
+    }
 }
 
 /// The expression 0.

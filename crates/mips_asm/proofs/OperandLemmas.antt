@@ -1,0 +1,15 @@
+-- Operands, one after another.
+use Rattle.std.proofs.Common.{◌≡◌, ℕ, ◌+◌, ◌<◌, List, [], ◌∷◌, ◌++◌, Option, Some, None, length, drop, get_or, map, refl, ap, sym, ◌∙◌, add-one, drop-cons, suc, append_assoc}
+use Rattle.std.specs.List.{AllByRecursion}
+use Rattle.std.specs.Option.{option_map, option_and_then}
+use Rattle.asm_parse.specs.declared.syntax.Arg.{Arg}
+use Rattle.mips_asm.specs.Operand.{Operand, operand_at, operands_at}
+
+-- items before those of an answer
+abbrev pub behind : {A : Type 0} → List A → Option (List A) → Option (List A)
+behind front rest = option_map (λ xs. front ++ xs) rest
+
+-- an item of a list, and what is behind it
+pub drop_item : {A : Type 0} (xs : List A) (i : ℕ) (x : A) → i < length xs → x ≡ get_or xs i x → drop i xs ≡ x ∷ drop (i + 1) xs
+drop_item xs i x within is = rw (add-one, drop-cons xs i x within) (ap (λ y. y ∷ drop (suc i) xs) (sym is))
+
