@@ -1,3 +1,4 @@
+pub mod EmissionLemmas
 pub mod OperandLemmas
 pub mod NameLemmas
 pub mod TableLemmas

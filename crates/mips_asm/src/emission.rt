@@ -1,7 +1,8 @@
 //! The bytes of statements.
 ghost use Rattle.std.specs.Prelude.{◌≡◌, ◌+◌, ◌<◌, ◌^◌, ◌++◌, OnOk, replicate};
 ghost use Rattle.asm_parse.specs.Form.{Gives};
-ghost use Rattle.std.specs.List.{flat_map};
+ghost use Rattle.std.specs.List.{flat_map, list_all};
+ghost use Rattle.mips_asm.specs.Value.{number_fits};
 ghost use Rattle.mips_asm.specs.Content.{bytes_of, number_bytes, numbers_bytes, values_of};
 ghost use Rattle.mips_asm.specs.Outcome.{in_line};
 ghost use Rattle.mips_asm.specs.Second.{earlier, earlier_fault, emitted, onto, start_fault, start_fault_of, unless_start};
@@ -151,7 +152,7 @@ fn push_numbers(
 ) -> Result<(), AsmFault>
     ensures { Gives (λ _. out.new.items) result (onto out.old.items (in_line line (numbers_bytes size values.now))) }
 {
-    if !values.iter().all(|value| size.fits(*value)) {
+    if !all_fit(size, values) {
         return Err(AsmFault::At {
             line,
             why: AsmWhy::OutOfRange,
@@ -159,6 +160,13 @@ fn push_numbers(
     }
     push_all(out, size, values)?;
     Ok(())
+}
+
+/// Whether each value lies in the range of such numbers.
+fn all_fit(size: NumberSize, values: &[u32]) -> bool
+    ensures { result ≡ list_all (number_fits size) values.now }
+{
+    values.iter().all(|value| size.fits(*value))
 }
 
 /// Puts numbers at the end.

@@ -1,0 +1,9 @@
+use Rattle.std.proofs.Common.{◌≡◌, drop}
+use Rattle.mips_asm.specs.Action.{values_in}
+use Rattle.mips_asm.specs.Seen.{expressions_seen, operands_seen}
+use Rattle.mips_asm.proofs.OperandLemmas.{before}
+use Rattle.mips_asm.proofs.action.values.Given as goal
+
+-- the expressions so far and those to come are all of them
+abbrev pub invariant-loop-operand : goal.invariant-loop-operand
+invariant-loop-operand l = before (expressions_seen l.values.items) (values_in (operands_seen (drop l.operand-index l.operands))) ≡ values_in (operands_seen l.operands)
