@@ -234,7 +234,7 @@ impl<'a> Layout<'a> {
         content: Content<'a>,
         length: u32,
     ) -> Result<(), AsmFault>
-        requires length { length ≡ content_length (content_seen content.entry) }
+        requires length { length ≡ content_length (content_seen content) }
         requires room { used_by self.old.section (layout_seen self.old) + length ≤ 1048576 }
         ensures { Gives (λ _. layout_seen self.new) result (Ok (appended line is_start (content_seen content.entry) (layout_seen self.old))) }
     {
