@@ -1,5 +1,10 @@
 pub mod EmissionLemmas
 pub mod OperandLemmas
 pub mod NameLemmas
+pub mod FilledLemmas
+pub mod LaidLemmas
+pub mod OutcomeLemmas
+pub mod SpanLemmas
 pub mod TableLemmas
 pub mod WordLemmas
+pub mod WritableLemmas

@@ -54,10 +54,14 @@ abbrev pub base_of : Section → ℕ
 base_of Text = 0x00400000
 base_of Data = 0x10000000
 
+-- of the length of the text and that of the data, that of a section
+abbrev pub length_of : Section → ℕ → ℕ → ℕ
+length_of Text text data_bytes = text
+length_of Data text data_bytes = data_bytes
+
 -- how many bytes a section has
 abbrev pub used_by : Section → Layout → ℕ
-used_by Text layout = layout.text
-used_by Data layout = layout.data_bytes
+used_by section layout = length_of section layout.text layout.data_bytes
 
 -- the address at which the next statement stands
 abbrev pub place_of : Layout → ℕ

@@ -1,0 +1,151 @@
+-- What holds of the sections that the second pass makes.
+use Rattle.std.proofs.Common.{◌≡◌, ℕ, ◌+◌, ◌*◌, ◌/◌, ◌%◌, ◌^◌, ◌<◌, ◌≤◌, Bool, true, false, ◌⊎◌, inl, inr, List, [], ◌∷◌, ◌++◌, Option, Some, None, Result, Ok, Err, length, refl, ap, sym, subst, ◌∙◌, arith, length-append, suc, cond, mul-suc}
+use Rattle.std.specs.List.{flat_map, list_all}
+use Rattle.asm_parse.specs.Expression.{ExpressionValue}
+use Rattle.asm_parse.specs.declared.fault.AsmFault.{AsmFault}
+use Rattle.asm_parse.specs.declared.fault.AsmWhy.{AsmWhy}
+use Rattle.asm_parse.specs.declared.fault.AsmWhy.TheVariants.{OutOfRange}
+use Rattle.mips_isa.specs.declared.insn.Insn.{Insn}
+use Rattle.mips_isa.specs.declared.insn.Insn.TheVariants.{Lui, Ori}
+use Rattle.mips_asm.specs.declared.number.NumberSize.{NumberSize}
+use Rattle.mips_asm.specs.declared.number.NumberSize.TheVariants.{Byte, Half, Word}
+use Rattle.mips_asm.specs.declared.section.Section.{Section}
+use Rattle.mips_asm.specs.declared.section.Section.TheVariants.{Text, Data}
+use Rattle.mips_asm.specs.Content.{Content, Instruction, Numbers, Given, bytes_of, content_length, draft_length, insns_bytes, number_bytes, numbers_bytes, values_of}
+use Rattle.mips_asm.specs.Draft.{Draft, Fixed, Filled, Halves, defined, field_in, halves_in, insns_of}
+use Rattle.mips_asm.specs.Layout.{Layout, Placed}
+use Rattle.mips_asm.specs.Outcome.{◌>>=◌, in_line}
+use Rattle.mips_asm.specs.Second.{Sections, emitted, extended, filled, filled_from, start_fault, start_fault_of, unless_start, widened}
+use Rattle.mips_asm.specs.Value.{Field, Names, number_fits, number_length}
+use Rattle.mips_asm.proofs.LaidLemmas.{HasStart, length_in, total}
+use Rattle.mips_asm.proofs.OutcomeLemmas.{bind_ok, chosen_ok, ok_is}
+
+in_line_ok : {A : Type 0} (line : ℕ) (r : Result A AsmWhy) (x : A) → in_line line r ≡ Ok x → r ≡ Ok x
+in_line_ok line (Ok y) x h = ap Ok (ok_is y x h)
+in_line_ok line (Err e) x h = cc
+
+-- the lengths of what is put
+
+insns_length : (names : Names) (place : ℕ) (draft : Draft) (insns : List Insn) → insns_of names place draft ≡ Ok insns → length (insns_bytes insns) ≡ draft_length draft
+unfolding insns_of
+insns_length names place (Fixed insn) insns h = ap (λ is. length (insns_bytes is)) (sym (ok_is _ insns h))
+insns_length names place (Filled field insn e) insns h =
+    let next : ℕ → Result (List Insn) AsmWhy = λ n. Ok (insn n ∷ []) in
+    let step = bind_ok (field_in names field place e) next insns h in
+    ap (λ is. length (insns_bytes is)) (sym (ok_is _ insns step.2))
+insns_length names place (Halves rt e) insns h =
+    let next : ℕ → Result (List Insn) AsmWhy = λ v. Ok (Lui rt (v / 2 ^ 16) ∷ Ori rt rt (v % 2 ^ 16) ∷ []) in
+    let step = bind_ok (defined names e) next insns h in
+    ap (λ is. length (insns_bytes is)) (sym (ok_is _ insns step.2))
+
+values_length : (names : Names) (es : List ExpressionValue) (vs : List ℕ) → values_of names es ≡ Ok vs → length vs ≡ length es
+values_length names [] vs h = ap length (sym (ok_is [] vs h))
+values_length names (e ∷ es) vs h =
+    let last : ℕ → List ℕ → Result (List ℕ) AsmWhy = λ v rest. Ok (v ∷ rest) in
+    let next : ℕ → Result (List ℕ) AsmWhy = λ v. values_of names es >>= last v in
+    let first = bind_ok (defined names e) next vs h in
+    let others = bind_ok (values_of names es) (last first.0) vs first.2 in
+    ap length (sym (ok_is (first.0 ∷ others.0) vs others.2)) ∙ ap (λ n. suc n) (values_length names es others.0 others.1)
+
+one_length : (size : NumberSize) (v : ℕ) → length (number_bytes size v) ≡ number_length size
+one_length Byte v = refl
+one_length Half v = refl
+one_length Word v = refl
+
+all_length : (size : NumberSize) (vs : List ℕ) → length (flat_map (number_bytes size) vs) ≡ number_length size * length vs
+all_length size [] = omega arith
+all_length size (v ∷ vs) =
+    let first = one_length size v in
+    let others = all_length size vs in
+    length-append (number_bytes size v) (flat_map (number_bytes size) vs) ∙ more (number_length size) _ _ (length vs) first others
+  where
+    more : (each front rest n : ℕ) → front ≡ each → rest ≡ each * n → front + rest ≡ each * suc n
+    more each front rest n f r = omega (arith, mul-suc each n)
+
+numbers_length : (size : NumberSize) (vs bs : List ℕ) → numbers_bytes size vs ≡ Ok bs → length bs ≡ number_length size * length vs
+numbers_length size vs bs h =
+    let fits = chosen_ok (list_all (number_fits size) vs) (Ok (flat_map (number_bytes size) vs)) OutOfRange bs h in
+    ap length (sym (ok_is _ bs fits.1)) ∙ all_length size vs
+
+bytes_length : (line : ℕ) (names : Names) (place : ℕ) (content : Content) (bs : List ℕ) → bytes_of line names place content ≡ Ok bs → length bs ≡ content_length content
+unfolding bytes_of
+bytes_length line names place (Instruction draft) bs h =
+    let next : List Insn → Result (List ℕ) AsmFault = λ insns. Ok (insns_bytes insns) in
+    let step = bind_ok (in_line line (insns_of names place draft)) next bs h in
+    ap length (sym (ok_is _ bs step.2)) ∙ insns_length names place draft step.0 (in_line_ok line (insns_of names place draft) step.0 step.1)
+bytes_length line names place (Numbers size es) bs h =
+    let next : List ℕ → Result (List ℕ) AsmFault = λ vs. in_line line (numbers_bytes size vs) in
+    let step = bind_ok (in_line line (values_of names es)) next bs h in
+    numbers_length size step.0 bs (in_line_ok line (numbers_bytes size step.0) bs step.2)
+    ∙ ap (λ n. number_length size * n) (values_length names es step.0 (in_line_ok line (values_of names es) step.0 step.1))
+bytes_length line names place (Given given) bs h = ap length (sym (ok_is given bs h))
+
+unless_ok : {A : Type 0} (line : ℕ) (start : Option AsmWhy) (r : Result A AsmFault) (x : A) → unless_start line start r ≡ Ok x → (start ≡ None) × (r ≡ Ok x)
+unless_ok line None r x h = (refl, h)
+unless_ok line (Some why) (Ok y) x h = cc
+unless_ok line (Some why) (Err e) x h = cc
+
+-- nothing is wrong with `start`, where it is the label of one of the statements
+abbrev pub StartIsGood : ℕ → List Placed → Type 0
+StartIsGood size [] = Unit {0}
+StartIsGood size (p ∷ ps) = (start_fault_of size p ≡ None) × StartIsGood size ps
+
+pub record IsFilled (size : ℕ) (placed : List Placed) (before after : Sections) : Type 0 where
+  pub text_is : length after.text ≡ length before.text + total Text placed
+  pub data_is : length after.data_bytes ≡ length before.data_bytes + total Data placed
+  pub start_is : StartIsGood size placed
+
+-- bytes more in a section
+extended_text : (section : Section) (bs : List ℕ) (before : Sections) → length (extended section bs before).text ≡ length before.text + length_in Text section (length bs)
+extended_text Text bs before = length-append before.text bs
+extended_text Data bs before = omega arith
+
+extended_data : (section : Section) (bs : List ℕ) (before : Sections) → length (extended section bs before).data_bytes ≡ length before.data_bytes + length_in Data section (length bs)
+extended_data Text bs before = omega arith
+extended_data Data bs before = length-append before.data_bytes bs
+
+pub record IsWidened (size : ℕ) (p : Placed) (before after : Sections) : Type 0 where
+  pub text_is : length after.text ≡ length before.text + length_in Text p.section (content_length p.content)
+  pub data_is : length after.data_bytes ≡ length before.data_bytes + length_in Data p.section (content_length p.content)
+  pub start_is : start_fault_of size p ≡ None
+
+widened_is : (names : Names) (size : ℕ) (before after : Sections) (p : Placed) → widened names size before p ≡ Ok after → IsWidened size p before after
+unfolding emitted
+widened_is names size before after p h =
+    let next : List ℕ → Result Sections AsmFault = λ bs. Ok (extended p.section bs before) in
+    let step = bind_ok (emitted names size p) next after h in
+    let parts = unless_ok p.line (start_fault_of size p) (bytes_of p.line names p.place p.content) step.0 step.1 in
+    let long = bytes_length p.line names p.place p.content step.0 parts.1 in
+    let same = ok_is (extended p.section step.0 before) after step.2 in
+    record {
+      text_is = sym (ap (λ s. length s.text) same) ∙ extended_text p.section step.0 before ∙ ap (λ n. length before.text + length_in Text p.section n) long;
+      data_is = sym (ap (λ s. length s.data_bytes) same) ∙ extended_data p.section step.0 before ∙ ap (λ n. length before.data_bytes + length_in Data p.section n) long;
+      start_is = parts.0;
+    }
+
+filled_from_is : (names : Names) (size : ℕ) (before after : Sections) (placed : List Placed) → filled_from names size before placed ≡ Ok after → IsFilled size placed before after
+filled_from_is names size before after [] h =
+    let same = ok_is before after h in
+    record { text_is = (let t = ap (λ s. length s.text) same in omega arith); data_is = (let d = ap (λ s. length s.data_bytes) same in omega arith); start_is = tt }
+filled_from_is names size before after (p ∷ ps) h =
+    let last : Sections → Result Sections AsmFault = λ s. filled_from names size s ps in
+    let step = bind_ok (widened names size before p) last after h in
+    let wide = widened_is names size before step.0 p step.1 in
+    let rest = filled_from_is names size step.0 after ps step.2 in
+    record {
+      text_is = (let r = rest.text_is in let w = wide.text_is in omega arith);
+      data_is = (let r = rest.data_is in let w = wide.data_is in omega arith);
+      start_is = (wide.start_is, rest.start_is);
+    }
+
+-- the sections of the second pass
+pub filled_is : (layout : Layout) (sections : Sections) → filled layout ≡ Ok sections → IsFilled layout.text layout.placed (record { text = []; data_bytes = [] }) sections
+unfolding filled
+filled_is layout sections h = filled_from_is layout.names layout.text (record { text = []; data_bytes = [] }) sections layout.placed h
+
+-- where `start` stands, nothing is wrong with it
+pub start_good : (size place : ℕ) (placed : List Placed) → StartIsGood size placed → HasStart place placed → start_fault size place ≡ None
+start_good size place [] good has = absurd has
+start_good size place (p ∷ ps) good (inl here) =
+    sym (ap (start_fault size) here.1) ∙ sym (ap (λ b. cond b (start_fault size p.place) None) here.0) ∙ good.0
+start_good size place (p ∷ ps) good (inr later) = start_good size place ps good.1 later

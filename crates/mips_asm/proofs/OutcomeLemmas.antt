@@ -1,0 +1,21 @@
+-- What a chain of steps that succeeds has passed.
+use Rattle.std.proofs.Common.{◌≡◌, Bool, true, false, ◌⊎◌, inl, inr, Result, Ok, Err, refl, cond}
+use Rattle.mips_asm.specs.Outcome.{◌>>=◌}
+
+-- both steps of a chain
+pub bind_ok : {A B E : Type 0} (r : Result A E) (f : A → Result B E) (y : B) → (r >>= f) ≡ Ok y → (x : A) × (r ≡ Ok x) × (f x ≡ Ok y)
+bind_ok (Ok x) f y h = (x, refl, h)
+bind_ok (Err e) f y h = cc
+
+-- a test before a step
+pub chosen_ok : {A E : Type 0} (b : Bool) (r : Result A E) (e : E) (y : A) → cond b r (Err e) ≡ Ok y → (b ≡ true) × (r ≡ Ok y)
+chosen_ok true r e y h = (refl, h)
+chosen_ok false r e y h = cc
+
+-- and one before a fault
+pub other_ok : {A E : Type 0} (b : Bool) (r : Result A E) (e : E) (y : A) → cond b (Err e) r ≡ Ok y → (b ≡ false) × (r ≡ Ok y)
+other_ok true r e y h = cc
+other_ok false r e y h = (refl, h)
+
+pub ok_is : {A E : Type 0} (x y : A) → ◌≡◌ {A = Result A E} (Ok x) (Ok y) → x ≡ y
+ok_is x y h = cc

@@ -1,0 +1,15 @@
+use Rattle.std.proofs.Common.{◌≡◌}
+use Rattle.std.specs.List.{AllByRecursion}
+use Rattle.line_text.specs.Lines.{IsPlaced, lines_of}
+use Rattle.mips_asm.specs.Layout.{laid_from, nothing_placed}
+use Rattle.mips_asm.specs.Seen.{layout_seen}
+use Rattle.mips_asm.proofs.assembler.laid.Given as goal
+
+-- what is placed so far, with the lines to come, is what all lines place
+abbrev pub invariant-loop-line : goal.invariant-loop-line
+invariant-loop-line l = record {
+  can : (goal.iterator-loop-line).can_next l.line-iterator;
+  finite : (goal.iterator-loop-line).is_finite l.line-iterator;
+  placed : AllByRecursion (IsPlaced l.source) l.line-iterator;
+  told : laid_from l.source (layout_seen l.layout) l.line-iterator ≡ laid_from l.source nothing_placed (lines_of l.source);
+}
