@@ -81,11 +81,25 @@ appended_put : (line : ℕ) (starts : Bool) (content : Content) (section : Secti
     content_length content ≤ 1048576 - used_by section before → IsPut starts before (appended line starts content before)
 appended_put line starts content Text text data_bytes names start placed fits = record {
   statement = record { line = line; section = Text; place = 0x00400000 + text; is_start = starts; content = content };
-  where_it_is = refl; place_is = refl; starts_is = refl; fits = fits; placed_is = refl; text_is = refl; data_is = omega arith; start_is = refl;
+  where_it_is = refl;
+  place_is = refl;
+  starts_is = refl;
+  fits = fits;
+  placed_is = refl;
+  text_is = refl;
+  data_is = omega arith;
+  start_is = refl;
 }
 appended_put line starts content Data text data_bytes names start placed fits = record {
   statement = record { line = line; section = Data; place = 0x10000000 + data_bytes; is_start = starts; content = content };
-  where_it_is = refl; place_is = refl; starts_is = refl; fits = fits; placed_is = refl; text_is = omega arith; data_is = refl; start_is = refl;
+  where_it_is = refl;
+  place_is = refl;
+  starts_is = refl;
+  fits = fits;
+  placed_is = refl;
+  text_is = omega arith;
+  data_is = refl;
+  start_is = refl;
 }
 
 put_is : (line : ℕ) (starts : Bool) (content : Content) (before after : Layout) → put line starts content before ≡ Ok after → IsPut starts before after
@@ -120,8 +134,15 @@ acted_is line starts (Enter section) before after h =
     let step = bind_ok (put line starts (Given []) before) next after h in
     let p = put_is line starts (Given []) before step.0 step.1 in
     let entered : IsPut starts before (enter step.0) = record {
-      statement = p.statement; where_it_is = p.where_it_is; place_is = p.place_is; starts_is = p.starts_is; fits = p.fits;
-      placed_is = p.placed_is; text_is = p.text_is; data_is = p.data_is; start_is = p.start_is;
+      statement = p.statement;
+      where_it_is = p.where_it_is;
+      place_is = p.place_is;
+      starts_is = p.starts_is;
+      fits = p.fits;
+      placed_is = p.placed_is;
+      text_is = p.text_is;
+      data_is = p.data_is;
+      start_is = p.start_is;
     } in
     subst (IsPut starts before) (ok_is (enter step.0) after step.2) entered
 acted_is line starts (Define name e) before after h =
@@ -129,8 +150,15 @@ acted_is line starts (Define name e) before after h =
     let new = equated_is line name e before step.0 step.1 in
     let p = put_is line starts (Given []) (record before { names = new.0 }) after (subst (λ l. put line starts (Given []) l ≡ Ok after) new.1 step.2) in
     record {
-      statement = p.statement; where_it_is = p.where_it_is; place_is = p.place_is; starts_is = p.starts_is; fits = p.fits;
-      placed_is = p.placed_is; text_is = p.text_is; data_is = p.data_is; start_is = p.start_is;
+      statement = p.statement;
+      where_it_is = p.where_it_is;
+      place_is = p.place_is;
+      starts_is = p.starts_is;
+      fits = p.fits;
+      placed_is = p.placed_is;
+      text_is = p.text_is;
+      data_is = p.data_is;
+      start_is = p.start_is;
     }
 
 -- a label gives a name, and `start` its place

@@ -16,16 +16,16 @@ drop_item : {T : Type 0} (rows : List (Row T)) (i : ℕ) (row : Row T) → i < l
 drop_item rows i row within is = rw (add-one, drop-cons rows i row within) (ap (λ r. r ∷ drop (suc i) rows) (sym is))
 
 pub said_here : {T : Type 0} (name : List ℕ) (rows : List (Row T)) (i : ℕ) (row : Row T) → i < length rows → row ≡ get_or rows i row →
-    bytes_eq name row.name.now ≡ true → said_from name rows i ≡ Some row.meaning
+    bytes_eq name row.0.now ≡ true → said_from name rows i ≡ Some row.1
 said_here name rows i row within is same =
     ap (λ rs. lookup (bytes_eq name) (rows_seen rs)) (drop_item rows i row within is)
-    ∙ ap (λ b. cond b (Some row.meaning) (said_from name rows (i + 1))) same
+    ∙ ap (λ b. cond b (Some row.1) (said_from name rows (i + 1))) same
 
 pub said_later : {T : Type 0} (name : List ℕ) (rows : List (Row T)) (i : ℕ) (row : Row T) → i < length rows → row ≡ get_or rows i row →
-    bytes_eq name row.name.now ≡ false → said_from name rows i ≡ said_from name rows (i + 1)
+    bytes_eq name row.0.now ≡ false → said_from name rows i ≡ said_from name rows (i + 1)
 said_later name rows i row within is other =
     ap (λ rs. lookup (bytes_eq name) (rows_seen rs)) (drop_item rows i row within is)
-    ∙ ap (λ b. cond b (Some row.meaning) (said_from name rows (i + 1))) other
+    ∙ ap (λ b. cond b (Some row.1) (said_from name rows (i + 1))) other
 
 map_cond : {A B : Type 0} (view : A → B) (b : Bool) (x : A) (rest : Option A) → option_map view (cond b (Some x) rest) ≡ cond b (Some (view x)) (option_map view rest)
 map_cond view true x rest = refl

@@ -95,7 +95,7 @@ assembled_writable source object h =
     let text_fits : length sections.text ≤ 1048576 = (let a = known.text_fits in omega arith) in
     let data_fits : length sections.data_bytes ≤ 1048576 = (let a = known.data_fits in omega arith) in
     let entry : IsEntry (length sections.text) (unwrap_or layout.start 0x00400000) =
-        subst (λ n. IsEntry n (unwrap_or layout.start 0x00400000)) (sym text_is) (entry_of layout.text layout.start layout.placed (positive layout.text some.0) fill.start_is known.start_is) in
+    subst (λ n. IsEntry n (unwrap_or layout.start 0x00400000)) (sym text_is) (entry_of layout.text layout.start layout.placed (positive layout.text some.0) fill.start_is known.start_is) in
     subst IsWritable (ok_is (program_of layout sections) object second.2)
     (writable (length sections.data_bytes == 0) (unwrap_or layout.start 0x00400000) sections.text sections.data_bytes text_fits data_fits entry)
 

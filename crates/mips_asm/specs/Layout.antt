@@ -99,15 +99,15 @@ labelled line (Some name) layout = do
 abbrev pub appended : ℕ → Bool → Content → Layout → Layout
 appended line starts content layout =
     grown_by layout.section (content_length content) (record layout {
-      placed = layout.placed ++ (record { line = line; section = layout.section; place = place_of layout; is_start = starts; content = content }) ∷ []
+      placed = layout.placed ++ (record { line = line; section = layout.section; place = place_of layout; is_start = starts; content = content }) ∷ [];
     })
 
 -- a content, where its place is aligned and the section has room
 abbrev pub put : ℕ → Bool → Content → Layout → Result Layout AsmFault
 put line starts content layout =
     if place_of layout % alignment content == 0 then (
-      if nat_le (content_length content) (section_limit - used_by layout.section layout)
-      then Ok (appended line starts content layout) else fault line OutOfRange
+    if nat_le (content_length content) (section_limit - used_by layout.section layout)
+    then Ok (appended line starts content layout) else fault line OutOfRange
     ) else fault line Unaligned
 
 -- how many bytes it takes from a place to a multiple of a number
@@ -123,8 +123,8 @@ padded line starts n layout =
 abbrev pub equated : ℕ → List ℕ → ExpressionValue → Layout → Result Layout AsmFault
 equated line name e layout =
     if is_some (value_of_name name layout.names) then fault line Redefined else do
-    value ← in_line line (defined layout.names e)
-    named line name value layout
+      value ← in_line line (defined layout.names e)
+      named line name value layout
 
 -- what an action does
 unfoldable pub acted : ℕ → Bool → Action → Layout → Result Layout AsmFault

@@ -5,7 +5,6 @@ use Rattle.asm_parse.specs.declared.fault.AsmFault.TheVariants.{At}
 use Rattle.asm_parse.specs.declared.fault.AsmWhy.{AsmWhy}
 
 infixl 10 ◌>>=◌
-
 -- a step, and then one that goes on from its answer
 abbrev pub ◌>>=◌ : {A B E : Type 0} → Result A E → (A → Result B E) → Result B E
 (Ok x) >>= f = f x

@@ -28,6 +28,8 @@ use Rattle.mips_asm.specs.declared.groups.Two.{Two}
 use Rattle.mips_asm.specs.declared.groups.Two.TheVariants as two
 use Rattle.mips_asm.specs.declared.groups.Three.{Three}
 use Rattle.mips_asm.specs.declared.groups.Three.TheVariants as three
+use Rattle.mips_asm.specs.declared.groups.VariableShift.{VariableShift}
+use Rattle.mips_asm.specs.declared.groups.VariableShift.TheVariants as variable
 use Rattle.mips_asm.specs.declared.groups.Shift.{Shift}
 use Rattle.mips_asm.specs.declared.groups.Shift.TheVariants as shift
 use Rattle.mips_asm.specs.declared.groups.SignedImmediate.{SignedImmediate}
@@ -56,7 +58,7 @@ use Rattle.mips_asm.specs.declared.second.Sections.{Sections}
 use Rattle.mips_asm.specs.declared.table.Row.{Row}
 
 abbrev pub row_seen : {T : Type 0} → Row T → List ℕ × T
-row_seen row = (row.name.now, row.meaning)
+row_seen row = (row.0.now, row.1)
 
 abbrev pub rows_seen : {T : Type 0} → List (Row T) → List (List ℕ × T)
 rows_seen rows = map row_seen rows
@@ -91,10 +93,12 @@ two_insn two.Mfc0 = i.Mfc0
 two_insn two.Mtc0 = i.Mtc0
 two_insn two.Move = λ rd rs. i.Addu rd rs 0
 
+abbrev pub variable_shift_insn : VariableShift → ℕ → ℕ → ℕ → Insn
+variable_shift_insn variable.Sllv = i.Sllv
+variable_shift_insn variable.Srlv = i.Srlv
+variable_shift_insn variable.Srav = i.Srav
+
 abbrev pub three_insn : Three → ℕ → ℕ → ℕ → Insn
-three_insn three.Sllv = i.Sllv
-three_insn three.Srlv = i.Srlv
-three_insn three.Srav = i.Srav
 three_insn three.Add = i.Add
 three_insn three.Addu = i.Addu
 three_insn three.Sub = i.Sub
@@ -161,6 +165,7 @@ shape_seen (operation.Alone op) = shapes.Alone (alone_insn op)
 shape_seen (operation.One op) = shapes.One (one_insn op)
 shape_seen (operation.Two op) = shapes.Two (two_insn op)
 shape_seen (operation.Three op) = shapes.Three (three_insn op)
+shape_seen (operation.VariableShift op) = shapes.Three (variable_shift_insn op)
 shape_seen (operation.Shift op) = shapes.Field2 Amount (shift_insn op)
 shape_seen (operation.Signed op) = shapes.Field2 Signed (signed_insn op)
 shape_seen (operation.Unsigned op) = shapes.Field2 Unsigned (unsigned_insn op)
@@ -193,6 +198,7 @@ draft_seen (draft.Alone op) = drafts.Fixed (alone_insn op)
 draft_seen (draft.One op a) = drafts.Fixed (one_insn op a.number)
 draft_seen (draft.Two op a b) = drafts.Fixed (two_insn op a.number b.number)
 draft_seen (draft.Three op a b c) = drafts.Fixed (three_insn op a.number b.number c.number)
+draft_seen (draft.VariableShift op a b c) = drafts.Fixed (variable_shift_insn op a.number b.number c.number)
 draft_seen (draft.Shift op a b e) = drafts.Filled Amount (shift_insn op a.number b.number) (expression_seen e)
 draft_seen (draft.Signed op a b e) = drafts.Filled Signed (signed_insn op a.number b.number) (expression_seen e)
 draft_seen (draft.Unsigned op a b e) = drafts.Filled Unsigned (unsigned_insn op a.number b.number) (expression_seen e)

@@ -66,11 +66,7 @@ fn laid<'a>(alloc: Global, source: &'a [u8]) -> Result<Layout<'a>, AsmFault>
 }
 
 /// The program of sections.
-fn program(
-    alloc: Global,
-    layout: &Layout<'_>,
-    sections: Sections,
-) -> Result<Object, AllocError>
+fn program(alloc: Global, layout: &Layout<'_>, sections: Sections) -> Result<Object, AllocError>
     ensures { IfOk result (λ object. object_seen object ≡ program_of (layout_seen layout.now) (sections_seen sections)) }
 {
     let text = Part {

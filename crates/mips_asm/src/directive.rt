@@ -26,16 +26,16 @@ pub(crate) enum Directive {
 
 /// The directives by name.
 const DIRECTIVES: [Row<Directive>; 10] = [
-    Row { name: b".text", meaning: Directive::Enter(Section::Text) },
-    Row { name: b".data", meaning: Directive::Enter(Section::Data) },
-    Row { name: b".word", meaning: Directive::Numbers(NumberSize::Word) },
-    Row { name: b".half", meaning: Directive::Numbers(NumberSize::Half) },
-    Row { name: b".byte", meaning: Directive::Numbers(NumberSize::Byte) },
-    Row { name: b".ascii", meaning: Directive::Ascii },
-    Row { name: b".asciiz", meaning: Directive::Asciiz },
-    Row { name: b".space", meaning: Directive::Space },
-    Row { name: b".align", meaning: Directive::Align },
-    Row { name: b".equ", meaning: Directive::Equ },
+    Row(b".text", Directive::Enter(Section::Text)),
+    Row(b".data", Directive::Enter(Section::Data)),
+    Row(b".word", Directive::Numbers(NumberSize::Word)),
+    Row(b".half", Directive::Numbers(NumberSize::Half)),
+    Row(b".byte", Directive::Numbers(NumberSize::Byte)),
+    Row(b".ascii", Directive::Ascii),
+    Row(b".asciiz", Directive::Asciiz),
+    Row(b".space", Directive::Space),
+    Row(b".align", Directive::Align),
+    Row(b".equ", Directive::Equ),
 ];
 
 impl Directive {

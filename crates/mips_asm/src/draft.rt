@@ -8,7 +8,7 @@ ghost use Rattle.mips_asm.specs.Seen.{number_seen, operands_seen};
 
 use crate::groups::{
     Access, Alone, BranchOne, BranchTwo, LongJump, One, Shift, SignedImmediate, Three, Trap, Two,
-    UnsignedImmediate,
+    UnsignedImmediate, VariableShift,
 };
 use crate::operand::{Operand, zero};
 use crate::operation::Operation;
@@ -22,6 +22,7 @@ pub(crate) enum Draft<'a> {
     One(One, Register),
     Two(Two, Register, Register),
     Three(Three, Register, Register, Register),
+    VariableShift(VariableShift, Register, Register, Register),
     Shift(Shift, Register, Register, Expression<'a>),
     Signed(SignedImmediate, Register, Register, Expression<'a>),
     Unsigned(UnsignedImmediate, Register, Register, Expression<'a>),
@@ -71,6 +72,10 @@ impl<'a> Draft<'a> {
             Operation::Three(op) => {
                 let (a, b, c) = three_registers(operands)?;
                 Ok(Draft::Three(op, a, b, c))
+            }
+            Operation::VariableShift(op) => {
+                let (rd, rt, rs) = three_registers(operands)?;
+                Ok(Draft::VariableShift(op, rd, rt, rs))
             }
             Operation::Shift(op) => {
                 let (rd, rt, amount) = two_registers_and_value(operands)?;
@@ -171,9 +176,7 @@ pub(crate) fn value<'a>(operands: &[Operand<'a>]) -> Result<Expression<'a>, AsmW
 }
 
 /// A register and an expression.
-fn register_and_value<'a>(
-    operands: &[Operand<'a>],
-) -> Result<(Register, Expression<'a>), AsmWhy>
+fn register_and_value<'a>(operands: &[Operand<'a>]) -> Result<(Register, Expression<'a>), AsmWhy>
     ensures { ok_seen (λ r. (number_seen r.0, expression_seen r.1)) result ≡ register_and_value_in (operands_seen operands.now) }
 {
     let [a, b] = operands else {
@@ -197,9 +200,7 @@ fn two_registers_and_value<'a>(
 }
 
 /// A register, the register in brackets, and the offset before them.
-fn based<'a>(
-    operands: &[Operand<'a>],
-) -> Result<(Register, Register, Expression<'a>), AsmWhy>
+fn based<'a>(operands: &[Operand<'a>]) -> Result<(Register, Register, Expression<'a>), AsmWhy>
     ensures { ok_seen (λ r. (number_seen r.0, number_seen r.1, expression_seen r.2)) result ≡ based_in (operands_seen operands.now) }
 {
     let [a, b] = operands else {

@@ -1,5 +1,4 @@
 //! Instructions in groups, by the operands that they take.
-ghost use Rattle.std.specs.Prelude.{◌≡◌};
 
 use crate::register::Register;
 use mips_isa::Insn;
@@ -16,19 +15,22 @@ pub(crate) enum Alone {
 }
 
 impl Alone {
-    ghost use Rattle.std.specs.Prelude.{◌≡◌, ◌<◌, ◌^◌};
-    ghost use Rattle.mips_isa.specs.Encoding.{Spells};
+    ghost use Rattle.std.specs.Prelude.{◌≡◌};
     ghost use Rattle.mips_asm.specs.Seen.{alone_insn};
-    ghost use Rattle.mips_asm.specs.Word.{word_of};
+    ghost use Rattle.mips_asm.specs.Word.{IsSpelled};
 
     /// The instruction with these operands.
     #[tactic(auto, unfolding(crate::specs::Word::word_of))]
     pub(crate) fn insn(self) -> Insn
-        ensures value { result ≡ alone_insn self  }
-        ensures spelled { Spells (word_of result) result }
+        ensures value { result ≡ alone_insn self }
+        ensures spelled { IsSpelled result }
     {
         match self {
-            Alone::Nop => Insn::Sll { rd: 0, rt: 0, sh: 0 },
+            Alone::Nop => Insn::Sll {
+                rd: 0,
+                rt: 0,
+                sh: 0,
+            },
             Alone::Tlbr => Insn::Tlbr,
             Alone::Tlbwi => Insn::Tlbwi,
             Alone::Tlbwr => Insn::Tlbwr,
@@ -49,23 +51,23 @@ pub(crate) enum One {
 }
 
 impl One {
-    ghost use Rattle.std.specs.Prelude.{◌≡◌, ◌<◌, ◌^◌};
-    ghost use Rattle.mips_isa.specs.Encoding.{Spells};
+    ghost use Rattle.std.specs.Prelude.{◌≡◌};
     ghost use Rattle.mips_asm.specs.Seen.{one_insn};
-    ghost use Rattle.mips_asm.specs.Word.{word_of};
+    ghost use Rattle.mips_asm.specs.Word.{IsSpelled};
 
     /// The instruction with these operands.
     #[tactic(auto, unfolding(crate::specs::Word::word_of))]
     pub(crate) fn insn(self, a: Register) -> Insn
         ensures value { result ≡ one_insn self a.number }
-        ensures spelled { Spells (word_of result) result }
+        ensures spelled { IsSpelled result }
     {
+        let a = a.number;
         match self {
-            One::Jr => Insn::Jr { rs: a.number },
-            One::Mfhi => Insn::Mfhi { rd: a.number },
-            One::Mflo => Insn::Mflo { rd: a.number },
-            One::Mthi => Insn::Mthi { rs: a.number },
-            One::Mtlo => Insn::Mtlo { rs: a.number },
+            One::Jr => Insn::Jr { rs: a },
+            One::Mfhi => Insn::Mfhi { rd: a },
+            One::Mflo => Insn::Mflo { rd: a },
+            One::Mthi => Insn::Mthi { rs: a },
+            One::Mtlo => Insn::Mtlo { rs: a },
         }
     }
 }
@@ -84,36 +86,37 @@ pub(crate) enum Two {
 }
 
 impl Two {
-    ghost use Rattle.std.specs.Prelude.{◌≡◌, ◌<◌, ◌^◌};
-    ghost use Rattle.mips_isa.specs.Encoding.{Spells};
+    ghost use Rattle.std.specs.Prelude.{◌≡◌};
     ghost use Rattle.mips_asm.specs.Seen.{two_insn};
-    ghost use Rattle.mips_asm.specs.Word.{word_of};
+    ghost use Rattle.mips_asm.specs.Word.{IsSpelled};
 
     /// The instruction with these operands.
     #[tactic(auto, unfolding(crate::specs::Word::word_of))]
     pub(crate) fn insn(self, a: Register, b: Register) -> Insn
         ensures value { result ≡ two_insn self a.number b.number }
-        ensures spelled { Spells (word_of result) result }
+        ensures spelled { IsSpelled result }
     {
+        let (a, b) = (a.number, b.number);
         match self {
-            Two::Jalr => Insn::Jalr { rd: a.number, rs: b.number },
-            Two::Mult => Insn::Mult { rs: a.number, rt: b.number },
-            Two::Multu => Insn::Multu { rs: a.number, rt: b.number },
-            Two::Div => Insn::Div { rs: a.number, rt: b.number },
-            Two::Divu => Insn::Divu { rs: a.number, rt: b.number },
-            Two::Mfc0 => Insn::Mfc0 { rt: a.number, rd: b.number },
-            Two::Mtc0 => Insn::Mtc0 { rt: a.number, rd: b.number },
-            Two::Move => Insn::Addu { rd: a.number, rs: b.number, rt: 0 },
+            Two::Jalr => Insn::Jalr { rd: a, rs: b },
+            Two::Mult => Insn::Mult { rs: a, rt: b },
+            Two::Multu => Insn::Multu { rs: a, rt: b },
+            Two::Div => Insn::Div { rs: a, rt: b },
+            Two::Divu => Insn::Divu { rs: a, rt: b },
+            Two::Mfc0 => Insn::Mfc0 { rt: a, rd: b },
+            Two::Mtc0 => Insn::Mtc0 { rt: a, rd: b },
+            Two::Move => Insn::Addu {
+                rd: a,
+                rs: b,
+                rt: 0,
+            },
         }
     }
 }
 
-/// Instructions of three registers.
+/// Instructions of a destination and two sources.
 #[derive(Clone, Copy)]
 pub(crate) enum Three {
-    Sllv,
-    Srlv,
-    Srav,
     Add,
     Addu,
     Sub,
@@ -127,31 +130,56 @@ pub(crate) enum Three {
 }
 
 impl Three {
-    ghost use Rattle.std.specs.Prelude.{◌≡◌, ◌<◌, ◌^◌};
-    ghost use Rattle.mips_isa.specs.Encoding.{Spells};
+    ghost use Rattle.std.specs.Prelude.{◌≡◌};
     ghost use Rattle.mips_asm.specs.Seen.{three_insn};
-    ghost use Rattle.mips_asm.specs.Word.{word_of};
+    ghost use Rattle.mips_asm.specs.Word.{IsSpelled};
 
     /// The instruction with these operands.
     #[tactic(auto, unfolding(crate::specs::Word::word_of))]
-    pub(crate) fn insn(self, a: Register, b: Register, c: Register) -> Insn
-        ensures value { result ≡ three_insn self a.number b.number c.number }
-        ensures spelled { Spells (word_of result) result }
+    pub(crate) fn insn(self, rd: Register, rs: Register, rt: Register) -> Insn
+        ensures value { result ≡ three_insn self rd.number rs.number rt.number }
+        ensures spelled { IsSpelled result }
     {
+        let (rd, rs, rt) = (rd.number, rs.number, rt.number);
         match self {
-            Three::Sllv => Insn::Sllv { rd: a.number, rt: b.number, rs: c.number },
-            Three::Srlv => Insn::Srlv { rd: a.number, rt: b.number, rs: c.number },
-            Three::Srav => Insn::Srav { rd: a.number, rt: b.number, rs: c.number },
-            Three::Add => Insn::Add { rd: a.number, rs: b.number, rt: c.number },
-            Three::Addu => Insn::Addu { rd: a.number, rs: b.number, rt: c.number },
-            Three::Sub => Insn::Sub { rd: a.number, rs: b.number, rt: c.number },
-            Three::Subu => Insn::Subu { rd: a.number, rs: b.number, rt: c.number },
-            Three::And => Insn::And { rd: a.number, rs: b.number, rt: c.number },
-            Three::Or => Insn::Or { rd: a.number, rs: b.number, rt: c.number },
-            Three::Xor => Insn::Xor { rd: a.number, rs: b.number, rt: c.number },
-            Three::Nor => Insn::Nor { rd: a.number, rs: b.number, rt: c.number },
-            Three::Slt => Insn::Slt { rd: a.number, rs: b.number, rt: c.number },
-            Three::Sltu => Insn::Sltu { rd: a.number, rs: b.number, rt: c.number },
+            Three::Add => Insn::Add { rd, rs, rt },
+            Three::Addu => Insn::Addu { rd, rs, rt },
+            Three::Sub => Insn::Sub { rd, rs, rt },
+            Three::Subu => Insn::Subu { rd, rs, rt },
+            Three::And => Insn::And { rd, rs, rt },
+            Three::Or => Insn::Or { rd, rs, rt },
+            Three::Xor => Insn::Xor { rd, rs, rt },
+            Three::Nor => Insn::Nor { rd, rs, rt },
+            Three::Slt => Insn::Slt { rd, rs, rt },
+            Three::Sltu => Insn::Sltu { rd, rs, rt },
+        }
+    }
+}
+
+/// Shifts by a register.
+#[derive(Clone, Copy)]
+pub(crate) enum VariableShift {
+    Sllv,
+    Srlv,
+    Srav,
+}
+
+impl VariableShift {
+    ghost use Rattle.std.specs.Prelude.{◌≡◌};
+    ghost use Rattle.mips_asm.specs.Seen.{variable_shift_insn};
+    ghost use Rattle.mips_asm.specs.Word.{IsSpelled};
+
+    /// The instruction with these operands.
+    #[tactic(auto, unfolding(crate::specs::Word::word_of))]
+    pub(crate) fn insn(self, rd: Register, rt: Register, rs: Register) -> Insn
+        ensures value { result ≡ variable_shift_insn self rd.number rt.number rs.number }
+        ensures spelled { IsSpelled result }
+    {
+        let (rd, rt, rs) = (rd.number, rt.number, rs.number);
+        match self {
+            VariableShift::Sllv => Insn::Sllv { rd, rt, rs },
+            VariableShift::Srlv => Insn::Srlv { rd, rt, rs },
+            VariableShift::Srav => Insn::Srav { rd, rt, rs },
         }
     }
 }
@@ -166,21 +194,21 @@ pub(crate) enum Shift {
 
 impl Shift {
     ghost use Rattle.std.specs.Prelude.{◌≡◌, ◌<◌, ◌^◌};
-    ghost use Rattle.mips_isa.specs.Encoding.{Spells};
     ghost use Rattle.mips_asm.specs.Seen.{shift_insn};
-    ghost use Rattle.mips_asm.specs.Word.{word_of};
+    ghost use Rattle.mips_asm.specs.Word.{IsSpelled};
 
     /// The instruction with these operands.
     #[tactic(auto, unfolding(crate::specs::Word::word_of))]
     pub(crate) fn insn(self, rd: Register, rt: Register, sh: u8) -> Insn
         requires { sh < 2 ^ 5 }
         ensures value { result ≡ shift_insn self rd.number rt.number sh }
-        ensures spelled { Spells (word_of result) result }
+        ensures spelled { IsSpelled result }
     {
+        let (rd, rt) = (rd.number, rt.number);
         match self {
-            Shift::Sll => Insn::Sll { rd: rd.number, rt: rt.number, sh },
-            Shift::Srl => Insn::Srl { rd: rd.number, rt: rt.number, sh },
-            Shift::Sra => Insn::Sra { rd: rd.number, rt: rt.number, sh },
+            Shift::Sll => Insn::Sll { rd, rt, sh },
+            Shift::Srl => Insn::Srl { rd, rt, sh },
+            Shift::Sra => Insn::Sra { rd, rt, sh },
         }
     }
 }
@@ -195,22 +223,22 @@ pub(crate) enum SignedImmediate {
 }
 
 impl SignedImmediate {
-    ghost use Rattle.std.specs.Prelude.{◌≡◌, ◌<◌, ◌^◌};
-    ghost use Rattle.mips_isa.specs.Encoding.{Spells};
+    ghost use Rattle.std.specs.Prelude.{◌≡◌};
     ghost use Rattle.mips_asm.specs.Seen.{signed_insn};
-    ghost use Rattle.mips_asm.specs.Word.{word_of};
+    ghost use Rattle.mips_asm.specs.Word.{IsSpelled};
 
     /// The instruction with these operands.
     #[tactic(auto, unfolding(crate::specs::Word::word_of))]
     pub(crate) fn insn(self, rt: Register, rs: Register, imm: u16) -> Insn
         ensures value { result ≡ signed_insn self rt.number rs.number imm }
-        ensures spelled { Spells (word_of result) result }
+        ensures spelled { IsSpelled result }
     {
+        let (rt, rs) = (rt.number, rs.number);
         match self {
-            SignedImmediate::Addi => Insn::Addi { rt: rt.number, rs: rs.number, imm },
-            SignedImmediate::Addiu => Insn::Addiu { rt: rt.number, rs: rs.number, imm },
-            SignedImmediate::Slti => Insn::Slti { rt: rt.number, rs: rs.number, imm },
-            SignedImmediate::Sltiu => Insn::Sltiu { rt: rt.number, rs: rs.number, imm },
+            SignedImmediate::Addi => Insn::Addi { rt, rs, imm },
+            SignedImmediate::Addiu => Insn::Addiu { rt, rs, imm },
+            SignedImmediate::Slti => Insn::Slti { rt, rs, imm },
+            SignedImmediate::Sltiu => Insn::Sltiu { rt, rs, imm },
         }
     }
 }
@@ -224,21 +252,21 @@ pub(crate) enum UnsignedImmediate {
 }
 
 impl UnsignedImmediate {
-    ghost use Rattle.std.specs.Prelude.{◌≡◌, ◌<◌, ◌^◌};
-    ghost use Rattle.mips_isa.specs.Encoding.{Spells};
+    ghost use Rattle.std.specs.Prelude.{◌≡◌};
     ghost use Rattle.mips_asm.specs.Seen.{unsigned_insn};
-    ghost use Rattle.mips_asm.specs.Word.{word_of};
+    ghost use Rattle.mips_asm.specs.Word.{IsSpelled};
 
     /// The instruction with these operands.
     #[tactic(auto, unfolding(crate::specs::Word::word_of))]
     pub(crate) fn insn(self, rt: Register, rs: Register, imm: u16) -> Insn
         ensures value { result ≡ unsigned_insn self rt.number rs.number imm }
-        ensures spelled { Spells (word_of result) result }
+        ensures spelled { IsSpelled result }
     {
+        let (rt, rs) = (rt.number, rs.number);
         match self {
-            UnsignedImmediate::Andi => Insn::Andi { rt: rt.number, rs: rs.number, imm },
-            UnsignedImmediate::Ori => Insn::Ori { rt: rt.number, rs: rs.number, imm },
-            UnsignedImmediate::Xori => Insn::Xori { rt: rt.number, rs: rs.number, imm },
+            UnsignedImmediate::Andi => Insn::Andi { rt, rs, imm },
+            UnsignedImmediate::Ori => Insn::Ori { rt, rs, imm },
+            UnsignedImmediate::Xori => Insn::Xori { rt, rs, imm },
         }
     }
 }
@@ -251,20 +279,20 @@ pub(crate) enum BranchTwo {
 }
 
 impl BranchTwo {
-    ghost use Rattle.std.specs.Prelude.{◌≡◌, ◌<◌, ◌^◌};
-    ghost use Rattle.mips_isa.specs.Encoding.{Spells};
+    ghost use Rattle.std.specs.Prelude.{◌≡◌};
     ghost use Rattle.mips_asm.specs.Seen.{branch2_insn};
-    ghost use Rattle.mips_asm.specs.Word.{word_of};
+    ghost use Rattle.mips_asm.specs.Word.{IsSpelled};
 
     /// The instruction with these operands.
     #[tactic(auto, unfolding(crate::specs::Word::word_of))]
     pub(crate) fn insn(self, rs: Register, rt: Register, imm: u16) -> Insn
         ensures value { result ≡ branch2_insn self rs.number rt.number imm }
-        ensures spelled { Spells (word_of result) result }
+        ensures spelled { IsSpelled result }
     {
+        let (rs, rt) = (rs.number, rt.number);
         match self {
-            BranchTwo::Beq => Insn::Beq { rs: rs.number, rt: rt.number, imm },
-            BranchTwo::Bne => Insn::Bne { rs: rs.number, rt: rt.number, imm },
+            BranchTwo::Beq => Insn::Beq { rs, rt, imm },
+            BranchTwo::Bne => Insn::Bne { rs, rt, imm },
         }
     }
 }
@@ -281,24 +309,24 @@ pub(crate) enum BranchOne {
 }
 
 impl BranchOne {
-    ghost use Rattle.std.specs.Prelude.{◌≡◌, ◌<◌, ◌^◌};
-    ghost use Rattle.mips_isa.specs.Encoding.{Spells};
+    ghost use Rattle.std.specs.Prelude.{◌≡◌};
     ghost use Rattle.mips_asm.specs.Seen.{branch1_insn};
-    ghost use Rattle.mips_asm.specs.Word.{word_of};
+    ghost use Rattle.mips_asm.specs.Word.{IsSpelled};
 
     /// The instruction with these operands.
     #[tactic(auto, unfolding(crate::specs::Word::word_of))]
     pub(crate) fn insn(self, rs: Register, imm: u16) -> Insn
         ensures value { result ≡ branch1_insn self rs.number imm }
-        ensures spelled { Spells (word_of result) result }
+        ensures spelled { IsSpelled result }
     {
+        let rs = rs.number;
         match self {
-            BranchOne::Bltz => Insn::Bltz { rs: rs.number, imm },
-            BranchOne::Bgez => Insn::Bgez { rs: rs.number, imm },
-            BranchOne::Bltzal => Insn::Bltzal { rs: rs.number, imm },
-            BranchOne::Bgezal => Insn::Bgezal { rs: rs.number, imm },
-            BranchOne::Blez => Insn::Blez { rs: rs.number, imm },
-            BranchOne::Bgtz => Insn::Bgtz { rs: rs.number, imm },
+            BranchOne::Bltz => Insn::Bltz { rs, imm },
+            BranchOne::Bgez => Insn::Bgez { rs, imm },
+            BranchOne::Bltzal => Insn::Bltzal { rs, imm },
+            BranchOne::Bgezal => Insn::Bgezal { rs, imm },
+            BranchOne::Blez => Insn::Blez { rs, imm },
+            BranchOne::Bgtz => Insn::Bgtz { rs, imm },
         }
     }
 }
@@ -312,16 +340,15 @@ pub(crate) enum LongJump {
 
 impl LongJump {
     ghost use Rattle.std.specs.Prelude.{◌≡◌, ◌<◌, ◌^◌};
-    ghost use Rattle.mips_isa.specs.Encoding.{Spells};
     ghost use Rattle.mips_asm.specs.Seen.{jump_insn};
-    ghost use Rattle.mips_asm.specs.Word.{word_of};
+    ghost use Rattle.mips_asm.specs.Word.{IsSpelled};
 
     /// The instruction with these operands.
     #[tactic(auto, unfolding(crate::specs::Word::word_of))]
     pub(crate) fn insn(self, target: u32) -> Insn
         requires { target < 2 ^ 26 }
         ensures value { result ≡ jump_insn self target }
-        ensures spelled { Spells (word_of result) result }
+        ensures spelled { IsSpelled result }
     {
         match self {
             LongJump::J => Insn::J { target },
@@ -339,16 +366,15 @@ pub(crate) enum Trap {
 
 impl Trap {
     ghost use Rattle.std.specs.Prelude.{◌≡◌, ◌<◌, ◌^◌};
-    ghost use Rattle.mips_isa.specs.Encoding.{Spells};
     ghost use Rattle.mips_asm.specs.Seen.{trap_insn};
-    ghost use Rattle.mips_asm.specs.Word.{word_of};
+    ghost use Rattle.mips_asm.specs.Word.{IsSpelled};
 
     /// The instruction with these operands.
     #[tactic(auto, unfolding(crate::specs::Word::word_of))]
     pub(crate) fn insn(self, code: u32) -> Insn
         requires { code < 2 ^ 20 }
         ensures value { result ≡ trap_insn self code }
-        ensures spelled { Spells (word_of result) result }
+        ensures spelled { IsSpelled result }
     {
         match self {
             Trap::Syscall => Insn::Syscall { code },
@@ -375,30 +401,30 @@ pub(crate) enum Access {
 }
 
 impl Access {
-    ghost use Rattle.std.specs.Prelude.{◌≡◌, ◌<◌, ◌^◌};
-    ghost use Rattle.mips_isa.specs.Encoding.{Spells};
+    ghost use Rattle.std.specs.Prelude.{◌≡◌};
     ghost use Rattle.mips_asm.specs.Seen.{access_insn};
-    ghost use Rattle.mips_asm.specs.Word.{word_of};
+    ghost use Rattle.mips_asm.specs.Word.{IsSpelled};
 
     /// The instruction with these operands.
     #[tactic(auto, unfolding(crate::specs::Word::word_of))]
     pub(crate) fn insn(self, rt: Register, rs: Register, imm: u16) -> Insn
         ensures value { result ≡ access_insn self rt.number imm rs.number }
-        ensures spelled { Spells (word_of result) result }
+        ensures spelled { IsSpelled result }
     {
+        let (rt, rs) = (rt.number, rs.number);
         match self {
-            Access::Lb => Insn::Lb { rt: rt.number, imm, rs: rs.number },
-            Access::Lh => Insn::Lh { rt: rt.number, imm, rs: rs.number },
-            Access::Lwl => Insn::Lwl { rt: rt.number, imm, rs: rs.number },
-            Access::Lw => Insn::Lw { rt: rt.number, imm, rs: rs.number },
-            Access::Lbu => Insn::Lbu { rt: rt.number, imm, rs: rs.number },
-            Access::Lhu => Insn::Lhu { rt: rt.number, imm, rs: rs.number },
-            Access::Lwr => Insn::Lwr { rt: rt.number, imm, rs: rs.number },
-            Access::Sb => Insn::Sb { rt: rt.number, imm, rs: rs.number },
-            Access::Sh => Insn::Sh { rt: rt.number, imm, rs: rs.number },
-            Access::Swl => Insn::Swl { rt: rt.number, imm, rs: rs.number },
-            Access::Sw => Insn::Sw { rt: rt.number, imm, rs: rs.number },
-            Access::Swr => Insn::Swr { rt: rt.number, imm, rs: rs.number },
+            Access::Lb => Insn::Lb { rt, imm, rs },
+            Access::Lh => Insn::Lh { rt, imm, rs },
+            Access::Lwl => Insn::Lwl { rt, imm, rs },
+            Access::Lw => Insn::Lw { rt, imm, rs },
+            Access::Lbu => Insn::Lbu { rt, imm, rs },
+            Access::Lhu => Insn::Lhu { rt, imm, rs },
+            Access::Lwr => Insn::Lwr { rt, imm, rs },
+            Access::Sb => Insn::Sb { rt, imm, rs },
+            Access::Sh => Insn::Sh { rt, imm, rs },
+            Access::Swl => Insn::Swl { rt, imm, rs },
+            Access::Sw => Insn::Sw { rt, imm, rs },
+            Access::Swr => Insn::Swr { rt, imm, rs },
         }
     }
 }

@@ -49,6 +49,7 @@ pub(crate) fn draft_insns(draft: Draft<'_>, names: &Names, place: u32) -> Result
         Draft::One(op, a) => Ok(one(op.insn(a))),
         Draft::Two(op, a, b) => Ok(one(op.insn(a, b))),
         Draft::Three(op, a, b, c) => Ok(one(op.insn(a, b, c))),
+        Draft::VariableShift(op, rd, rt, rs) => Ok(one(op.insn(rd, rt, rs))),
         Draft::Shift(op, rd, rt, e) => Ok(one(op.insn(rd, rt, amount(names, e)?))),
         Draft::Signed(op, rt, rs, e) => Ok(one(op.insn(rt, rs, signed(names, e)?))),
         Draft::Unsigned(op, rt, rs, e) => Ok(one(op.insn(rt, rs, unsigned(names, e)?))),

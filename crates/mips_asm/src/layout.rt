@@ -128,13 +128,7 @@ impl<'a> Layout<'a> {
     }
 
     /// Gives a name its value, where it has none yet.
-    fn name(
-        &mut self,
-        alloc: Global,
-        line: u32,
-        name: &[u8],
-        value: u32,
-    ) -> Result<(), AsmFault>
+    fn name(&mut self, alloc: Global, line: u32, name: &[u8], value: u32) -> Result<(), AsmFault>
         ensures { Gives (λ _. layout_seen self.new) result (named line name.now value (layout_seen self.old)) }
     {
         if self.names.value(name).is_some() {
@@ -192,19 +186,19 @@ impl<'a> Layout<'a> {
         &mut self,
         alloc: Global,
         line: u32,
-        name: &[u8],
+        constant: &[u8],
         expression: Expression<'_>,
     ) -> Result<(), AsmFault>
-        ensures { Gives (λ _. layout_seen self.new) result (equated line name.now (expression_seen expression.entry) (layout_seen self.old)) }
+        ensures { Gives (λ _. layout_seen self.new) result (equated line constant.now (expression_seen expression.entry) (layout_seen self.old)) }
     {
-        if self.names.value(name).is_some() {
+        if self.names.value(constant).is_some() {
             return Err(AsmFault::At {
                 line,
                 why: AsmWhy::Redefined,
             });
         }
         let value = in_line(line, defined(&self.names, expression))?;
-        self.name(alloc, line, name, value)
+        self.name(alloc, line, constant, value)
     }
 
     /// Puts a content at the place, where it is aligned and the section has room.

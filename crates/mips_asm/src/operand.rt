@@ -113,10 +113,7 @@ fn read_operand(kind: ArgKind, bytes: &[u8]) -> Option<Operand<'_>>
         ArgKind::Value => Some(Operand::Value(read_expression(bytes)?)),
         ArgKind::Based => {
             let parts = read_based(bytes)?;
-            Some(Operand::Based(
-                offset(parts.offset)?,
-                Register::read(parts.register),
-            ))
+            Some(Operand::Based(offset(parts.offset)?, Register::read(parts.register)))
         }
         ArgKind::Quoted => Some(Operand::Quoted(bytes)),
     }

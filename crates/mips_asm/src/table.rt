@@ -4,20 +4,17 @@ ghost use Rattle.std.specs.Map.{lookup};
 ghost use Rattle.std.specs.Str.{bytes_eq};
 ghost use Rattle.mips_asm.specs.Seen.{rows_seen};
 
-/// A name and what it means.
+/// A name, and what it means.
 #[derive(Clone, Copy)]
-pub(crate) struct Row<T: Copy> {
-    pub(crate) name: &'static [u8],
-    pub(crate) meaning: T,
-}
+pub(crate) struct Row<T: Copy>(pub(crate) &'static [u8], pub(crate) T);
 
 /// What a name means, by the first row that has it.
 pub(crate) fn find<T: Copy>(rows: &[Row<T>], name: &[u8]) -> Option<T>
     ensures { result ≡ lookup (bytes_eq name.now) (rows_seen rows.now) }
 {
     for row in rows {
-        if name == row.name {
-            return Some(row.meaning);
+        if name == row.0 {
+            return Some(row.1);
         }
     }
     None
