@@ -1,10 +1,10 @@
 -- What stands after a statement's bytes are put, or a fault.
-use Rattle.std.proofs.Common.{◌≡◌, ℕ, List, ◌++◌, Option, Some, None, Result, Ok, Err, refl, ap, sym, subst}
+use Rattle.std.proofs.Common.{◌≡◌, ℕ, List, Option, Some, None, Result, Ok, Err, refl, ap, sym, subst}
 use Rattle.asm_parse.specs.Form.{Gives}
 use Rattle.asm_parse.specs.declared.fault.AsmFault.{AsmFault}
 use Rattle.asm_parse.specs.declared.fault.AsmFault.TheVariants.{At, OutOfMemory}
 use Rattle.asm_parse.specs.declared.fault.AsmWhy.{AsmWhy}
-use Rattle.mips_asm.specs.Second.{earlier, earlier_fault, onto, unless_start}
+use Rattle.mips_asm.specs.Second.{earlier_fault, onto, unless_start}
 
 -- what is put, or a fault, is due also where something is wrong with `start`
 pub start_gives : (line : ℕ) (start : Option AsmWhy) (pushed : Result (Unit {0}) AsmFault) (old new : List ℕ) (due : Result (List ℕ) AsmFault) →

@@ -1,5 +1,5 @@
 -- What holds of the sections that the second pass makes.
-use Rattle.std.proofs.Common.{◌≡◌, ℕ, ◌+◌, ◌*◌, ◌/◌, ◌%◌, ◌^◌, ◌<◌, ◌≤◌, Bool, true, false, ◌⊎◌, inl, inr, List, [], ◌∷◌, ◌++◌, Option, Some, None, Result, Ok, Err, length, refl, ap, sym, subst, ◌∙◌, arith, length-append, suc, cond, mul-suc}
+use Rattle.std.proofs.Common.{◌≡◌, ℕ, ◌+◌, ◌*◌, ◌/◌, ◌%◌, ◌^◌, inl, inr, List, [], ◌∷◌, Option, Some, None, Result, Ok, Err, length, refl, ap, sym, ◌∙◌, arith, length-append, suc, cond, mul-suc}
 use Rattle.std.specs.List.{flat_map, list_all}
 use Rattle.asm_parse.specs.Expression.{ExpressionValue}
 use Rattle.asm_parse.specs.declared.fault.AsmFault.{AsmFault}
@@ -12,11 +12,11 @@ use Rattle.mips_asm.specs.declared.number.NumberSize.TheVariants.{Byte, Half, Wo
 use Rattle.mips_asm.specs.declared.section.Section.{Section}
 use Rattle.mips_asm.specs.declared.section.Section.TheVariants.{Text, Data}
 use Rattle.mips_asm.specs.Content.{Content, Instruction, Numbers, Given, bytes_of, content_length, draft_length, insns_bytes, number_bytes, numbers_bytes, values_of}
-use Rattle.mips_asm.specs.Draft.{Draft, Fixed, Filled, Halves, defined, field_in, halves_in, insns_of}
+use Rattle.mips_asm.specs.Draft.{Draft, Fixed, Filled, Halves, defined, field_in, insns_of}
 use Rattle.mips_asm.specs.Layout.{Layout, Placed}
 use Rattle.mips_asm.specs.Outcome.{◌>>=◌, in_line}
 use Rattle.mips_asm.specs.Second.{Sections, emitted, extended, filled, filled_from, start_fault, start_fault_of, unless_start, widened}
-use Rattle.mips_asm.specs.Value.{Field, Names, number_fits, number_length}
+use Rattle.mips_asm.specs.Value.{Names, number_fits, number_length}
 use Rattle.mips_asm.proofs.LaidLemmas.{HasStart, length_in, total}
 use Rattle.mips_asm.proofs.OutcomeLemmas.{bind_ok, chosen_ok, ok_is}
 

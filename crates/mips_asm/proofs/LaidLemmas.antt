@@ -1,5 +1,5 @@
 -- What holds of each layout that the first pass makes.
-use Rattle.std.proofs.Common.{◌≡◌, ℕ, ◌+◌, ◌-◌, ◌%◌, ◌≤◌, Bool, true, false, ◌⊎◌, inl, inr, List, [], ◌∷◌, ◌++◌, Option, Some, None, Result, Ok, Err, nat_le, replicate, ◌^◌, refl, ap, sym, subst, ◌∙◌, arith, lit≤}
+use Rattle.std.proofs.Common.{◌≡◌, ℕ, ◌+◌, ◌-◌, ◌≤◌, Bool, true, false, ◌⊎◌, inl, inr, List, [], ◌∷◌, ◌++◌, Option, Some, None, Result, Ok, nat_le, replicate, ◌^◌, refl, ap, sym, subst, ◌∙◌, arith, lit≤}
 use Rattle.std.proofs.lemmas.Bool.{leb-true}
 use Rattle.std.specs.Option.{is_some}
 use Rattle.asm_parse.specs.Expression.{ExpressionValue}
@@ -15,7 +15,7 @@ use Rattle.mips_asm.specs.declared.section.Section.{Section}
 use Rattle.mips_asm.specs.declared.section.Section.TheVariants.{Text, Data}
 use Rattle.mips_asm.specs.Action.{Action, Put, Align, Enter, Define, action_of}
 use Rattle.mips_asm.specs.Content.{Content, Given, content_length}
-use Rattle.mips_asm.specs.Layout.{Layout, Placed, acted, added, appended, equated, is_start, labelled, laid, laid_from, named, nothing_placed, padding, place_of, put, section_limit, started, stated, used_by}
+use Rattle.mips_asm.specs.Layout.{Layout, Placed, acted, added, appended, equated, is_start, labelled, laid, laid_from, named, nothing_placed, padding, place_of, put, started, stated, used_by}
 use Rattle.mips_asm.specs.Value.{Names, value_of_name}
 use Rattle.mips_asm.proofs.OutcomeLemmas.{bind_ok, chosen_ok, ok_is, other_ok}
 

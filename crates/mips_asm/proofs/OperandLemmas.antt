@@ -1,9 +1,6 @@
 -- Operands, one after another.
-use Rattle.std.proofs.Common.{◌≡◌, ℕ, ◌+◌, ◌<◌, List, [], ◌∷◌, ◌++◌, Option, Some, None, Result, Ok, Err, length, drop, get_or, map, refl, ap, sym, ◌∙◌, add-one, drop-cons, suc, append_assoc}
-use Rattle.std.specs.List.{AllByRecursion}
-use Rattle.std.specs.Option.{option_map, option_and_then}
-use Rattle.asm_parse.specs.declared.syntax.Arg.{Arg}
-use Rattle.mips_asm.specs.Operand.{Operand, operand_at, operands_at}
+use Rattle.std.proofs.Common.{◌≡◌, ℕ, ◌+◌, ◌<◌, List, ◌∷◌, ◌++◌, Option, Result, Ok, Err, length, drop, get_or, ap, sym, add-one, drop-cons, suc}
+use Rattle.std.specs.Option.{option_map}
 
 -- items before those of an answer
 abbrev pub behind : {A : Type 0} → List A → Option (List A) → Option (List A)

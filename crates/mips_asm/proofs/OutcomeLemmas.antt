@@ -1,5 +1,5 @@
 -- What a chain of steps that succeeds has passed.
-use Rattle.std.proofs.Common.{◌≡◌, Bool, true, false, ◌⊎◌, inl, inr, Result, Ok, Err, refl, cond}
+use Rattle.std.proofs.Common.{◌≡◌, Bool, true, false, Result, Ok, Err, refl, cond}
 use Rattle.mips_asm.specs.Outcome.{◌>>=◌}
 
 -- both steps of a chain

@@ -1,5 +1,5 @@
 -- Spans that lie in the source.
-use Rattle.std.proofs.Common.{◌≡◌, ◌≤◌, ℕ, List, [], ◌∷◌, length, arith}
+use Rattle.std.proofs.Common.{◌≤◌, ℕ, List, [], ◌∷◌, length, arith}
 use Rattle.std.specs.List.{AllByRecursion}
 use Rattle.asm_parse.specs.Span.{IsCut, IsCutArg, args_in}
 use Rattle.asm_parse.specs.declared.syntax.Arg.{Arg}

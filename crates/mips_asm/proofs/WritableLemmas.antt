@@ -1,5 +1,5 @@
 -- What is assembled can be written as an ELF file.
-use Rattle.std.proofs.Common.{◌≡◌, ℕ, ◌+◌, ◌%◌, ◌<◌, ◌≤◌, Bool, true, false, not, List, [], ◌∷◌, Option, Some, None, Result, Ok, Err, ◌==◌, ◌&&◌, nat_le, nat_lt, if◌then◌else◌, length, refl, ap, sym, subst, ◌∙◌, arith, lit<, lit≤, IfOk}
+use Rattle.std.proofs.Common.{◌≡◌, ℕ, ◌+◌, ◌%◌, ◌<◌, ◌≤◌, Bool, true, false, not, List, [], ◌∷◌, Option, Some, None, Result, Ok, Err, ◌==◌, ◌&&◌, nat_le, nat_lt, if◌then◌else◌, length, refl, sym, subst, arith, lit<, lit≤, IfOk}
 use Rattle.std.proofs.lemmas.Bool.{eqb-true, eqb-false, leb-true, ltb-true}
 use Rattle.std.specs.Option.{unwrap_or}
 use Rattle.asm_parse.specs.Form.{Gives}
@@ -9,13 +9,13 @@ use Rattle.asm_parse.specs.declared.fault.AsmWhy.{AsmWhy}
 use Rattle.asm_parse.specs.declared.fault.AsmWhy.TheVariants.{Empty, OutOfRange, Unaligned}
 use Rattle.elf_static.specs.ObjectValue.{ObjectValue, PartValue}
 use Rattle.elf_static.specs.Writable.{IsWritable}
-use Rattle.mips_asm.specs.Assembled.{assembled, parts_of, program_of}
+use Rattle.mips_asm.specs.Assembled.{assembled, program_of}
 use Rattle.mips_asm.specs.Layout.{Layout, Placed, laid}
 use Rattle.mips_asm.specs.Outcome.{◌>>=◌, fault}
 use Rattle.mips_asm.specs.Second.{Sections, filled, is_in_text, start_fault}
-use Rattle.mips_asm.proofs.FilledLemmas.{IsFilled, StartIsGood, filled_is, start_good}
+use Rattle.mips_asm.proofs.FilledLemmas.{StartIsGood, filled_is, start_good}
 use Rattle.mips_asm.proofs.LaidLemmas.{IsLaid, StartIn, laid_laid}
-use Rattle.mips_asm.proofs.OutcomeLemmas.{bind_ok, chosen_ok, ok_is, other_ok}
+use Rattle.mips_asm.proofs.OutcomeLemmas.{bind_ok, ok_is, other_ok}
 
 text_part : List ℕ → PartValue
 text_part bs = record { vaddr = 0x00400000; bytes = bs; writable = false }

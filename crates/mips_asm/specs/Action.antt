@@ -1,9 +1,9 @@
 -- What a statement asks for.
-use Rattle.std.specs.Prelude.{ℕ, Bool, List, [], ◌∷◌, ◌++◌, ◌≡◌, Option, Some, None, Result, Ok, Err, replicate, codes}
+use Rattle.std.specs.Prelude.{ℕ, List, [], ◌∷◌, ◌++◌, Option, Result, Ok, Err, replicate, codes}
 use Rattle.std.specs.Map.{lookup}
 use Rattle.std.specs.Option.{ok_or}
 use Rattle.std.specs.Str.{bytes_eq}
-use Rattle.asm_parse.specs.Expression.{ExpressionValue, InnerValue, Number, Name, Sum}
+use Rattle.asm_parse.specs.Expression.{ExpressionValue, InnerValue, Number, Name}
 use Rattle.asm_parse.specs.Words.{unquoted}
 use Rattle.asm_parse.specs.declared.fault.AsmWhy.{AsmWhy}
 use Rattle.asm_parse.specs.declared.fault.AsmWhy.TheVariants.{Syntax, UnknownName}

@@ -1,5 +1,5 @@
 -- What a source assembles to: the first fault, or a program.
-use Rattle.std.specs.Prelude.{◌≡◌, ℕ, Bool, true, false, List, [], ◌∷◌, ◌++◌, Result, Ok, Err, ◌==◌, if◌then◌else◌, length}
+use Rattle.std.specs.Prelude.{◌≡◌, ℕ, true, false, List, [], ◌∷◌, Result, Ok, Err, ◌==◌, if◌then◌else◌, length}
 use Rattle.std.specs.Option.{unwrap_or}
 use Rattle.asm_parse.specs.declared.fault.AsmFault.{AsmFault}
 use Rattle.asm_parse.specs.declared.fault.AsmFault.TheVariants.{At, OutOfMemory}

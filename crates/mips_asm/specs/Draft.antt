@@ -1,5 +1,5 @@
 -- Instructions as they are read: with their registers, and an expression in place of a field.
-use Rattle.std.specs.Prelude.{ℕ, ◌/◌, ◌%◌, ◌^◌, List, [], ◌∷◌, Option, Some, None, Result, Ok, Err}
+use Rattle.std.specs.Prelude.{ℕ, ◌/◌, ◌%◌, ◌^◌, List, [], ◌∷◌, Option, Result, Ok, Err}
 use Rattle.std.specs.Option.{ok_or}
 use Rattle.asm_parse.specs.Expression.{ExpressionValue, Number}
 use Rattle.asm_parse.specs.declared.fault.AsmWhy.{AsmWhy}

@@ -1,5 +1,5 @@
 -- Operands, by their forms.
-use Rattle.std.specs.Prelude.{ℕ, List, [], ◌∷◌, Option, Some, None, ◌==◌, if◌then◌else◌, length, slice_range}
+use Rattle.std.specs.Prelude.{ℕ, List, [], ◌∷◌, Option, Some, ◌==◌, if◌then◌else◌, length, slice_range}
 use Rattle.std.specs.Option.{option_map, option_and_then}
 use Rattle.asm_parse.specs.Expression.{ExpressionValue, Number, expression_of}
 use Rattle.asm_parse.specs.Form.{based_of}

@@ -1,5 +1,5 @@
 -- Steps that may fail.
-use Rattle.std.specs.Prelude.{ℕ, Option, Some, None, Result, Ok, Err}
+use Rattle.std.specs.Prelude.{ℕ, Result, Ok, Err}
 use Rattle.asm_parse.specs.declared.fault.AsmFault.{AsmFault}
 use Rattle.asm_parse.specs.declared.fault.AsmFault.TheVariants.{At}
 use Rattle.asm_parse.specs.declared.fault.AsmWhy.{AsmWhy}
