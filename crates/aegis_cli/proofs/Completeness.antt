@@ -4,13 +4,16 @@ use Rattle.std.specs.Prelude.{◌⊎◌}
 use Rattle.boot_image.specs.ImageFaults.{image_fault}
 use Rattle.boot_image.specs.ImageValue.{image_of}
 use Rattle.boot_image.specs.ScheduleFaults.{schedule_fault}
-use Rattle.edge_io.specs.Written.{Appends}
+use Rattle.edge_io.specs.Written.{Appends, AppendsPrefix}
+use Rattle.elf_static.specs.ObjectValue.{ObjectValue}
+use Rattle.elf_static.specs.Layout.{elf_text}
+use Rattle.mips_asm.specs.Assembled.{assembled}
 use Rattle.aegis_cli.specs.declared.status.Status.{Status}
 use Rattle.aegis_cli.specs.declared.status.Status.TheVariants as status
-use Rattle.aegis_cli.specs.Words.{Form, Run, names_of}
-use Rattle.aegis_cli.specs.Due.{Due, Refusal, Whole, due_of, run_due, report_after}
-use Rattle.aegis_cli.specs.Outcome.{Edges, AreRead, Outcome, Wrote, text_of}
-use Rattle.aegis_cli.specs.Headline.{NoFault, Ends, AreTold, IsComplete, IsHeadline, IsTaken}
+use Rattle.aegis_cli.specs.Words.{Form, Run, Asm, names_of}
+use Rattle.aegis_cli.specs.Due.{Due, Refusal, Whole, due_of, run_due, asm_due, report_after}
+use Rattle.aegis_cli.specs.Outcome.{Edges, AreRead, Outcome, Finished, Wrote, text_of}
+use Rattle.aegis_cli.specs.Headline.{NoFault, Ends, AreTold, IsComplete, IsHeadline, IsAssembler, IsTaken}
 use Rattle.aegis_cli.specs.declared.work.Answer.{Answer}
 use Rattle.aegis_cli.specs.Work.{Settles, Performed}
 
@@ -82,3 +85,20 @@ is_taken form told takes before after a text result p same sure contents are due
     let long : length (text_of (due_of form contents)) ≡ length text =
     ap (λ (cs : List (List ℕ)). length (text_of (due_of form cs))) equal ∙ ap length (s.0 ∙ sym same) in
     λ w. s.1 (sym (sure (subst takes long due)) ∙ w)
+
+-- for a source without fault it says that the file is written
+pub is_assembler : (words : Option Form) (e : Edges) (result : Status) → IfSome words (λ form. Outcome form e result) → IsAssembler words e result
+is_assembler words e result outcome name files source object is told source_is object_is calm =
+    let due : asm_due name (assembled source) ≡ Whole (elf_text object) = ap (asm_due name) object_is in
+    let read : AreTold e.told (name ∷ []) (source ∷ []) = subst (λ (t : Option (List ℕ → Option (List ℕ))). AreTold t (name ∷ []) (source ∷ [])) (sym told) (source_is, tt) in
+    subst (λ (d : Due). Ends d e result) due (is_complete words e result outcome (Asm name) (source ∷ []) is read calm)
+
+-- an answer that was due, and then written, is an outcome
+pub is_outcome : (form : Form) (e : Edges) (a : Answer) (text : List ℕ) (result : Status) → Performed form e.told e.read_faults_before e.read_faults_after a → text ≡ a.text.items → Finished a.status text e.written_before e.written_after e.write_faults_before e.write_faults_after result → Outcome form e result
+is_outcome form e a text result p same finished = by_due (due_of form p.contents) refl p.settles finished
+  where
+    by_due : (d : Due) → due_of form p.contents ≡ d → Settles d a → Finished a.status text e.written_before e.written_after e.write_faults_before e.write_faults_after result → Outcome form e result
+    by_due (Whole t) is s (inl w) = subst (Outcome form e) (sym (w.0 ∙ s.0)) (record { contents = p.contents; read = p.read; text = t; is_due = is; appended = subst (Appends e.written_before e.written_after) (same ∙ s.1) w.1; no_read_fault = p.no_fault; no_write_fault = w.2 })
+    by_due (Whole t) is s (inr w) = subst (Outcome form e) (sym w.0) (record { contents = p.contents; read = p.read; appended = subst (AppendsPrefix e.written_before e.written_after) (same ∙ s.1 ∙ sym (ap text_of is)) w.1; no_read_fault = p.no_fault; rose = w.2 })
+    by_due (Refusal t) is s (inl w) = subst (Outcome form e) (sym (w.0 ∙ s.0)) (record { contents = p.contents; read = p.read; text = t; is_due = is; appended = subst (Appends e.written_before e.written_after) (same ∙ s.1) w.1; no_read_fault = p.no_fault; no_write_fault = w.2 })
+    by_due (Refusal t) is s (inr w) = subst (Outcome form e) (sym w.0) (record { contents = p.contents; read = p.read; appended = subst (AppendsPrefix e.written_before e.written_after) (same ∙ s.1 ∙ sym (ap text_of is)) w.1; no_read_fault = p.no_fault; rose = w.2 })

@@ -1,5 +1,11 @@
 -- What is to be written, given the contents of the files that the words name.
-use Rattle.std.specs.Prelude.{ℕ, List, [], ◌∷◌, ◌++◌, Option, Some, None, codes}
+use Rattle.std.specs.Prelude.{ℕ, List, [], ◌∷◌, ◌++◌, Option, Some, None, Result, Ok, Err, codes}
+use Rattle.asm_parse.specs.Why.{why_text}
+use Rattle.asm_parse.specs.declared.fault.AsmFault.{AsmFault}
+use Rattle.asm_parse.specs.declared.fault.AsmFault.TheVariants.{At, OutOfMemory as NoMemory}
+use Rattle.elf_static.specs.ObjectValue.{ObjectValue}
+use Rattle.elf_static.specs.Layout.{elf_text}
+use Rattle.mips_asm.specs.Assembled.{assembled}
 use Rattle.boot_image.specs.declared.fault.ImageFault.{ImageFault}
 use Rattle.boot_image.specs.declared.fault.TextFault.{TextFault}
 use Rattle.boot_image.specs.ImageFaults.{image_fault}
@@ -9,7 +15,7 @@ use Rattle.boot_image.specs.ScheduleFaults.{schedule_fault}
 use Rattle.line_text.specs.Text.{dec_text}
 use Rattle.world_model.specs.Report.{report_text}
 use Rattle.world_model.specs.Run.{world_after, end_of_run}
-use Rattle.aegis_cli.specs.Words.{Form, Run}
+use Rattle.aegis_cli.specs.Words.{Form, Run, Asm}
 
 -- a refusal, or the whole output
 pub data Due : Type 0 where
@@ -33,7 +39,14 @@ run_due image_name schedule_name ticks image (Some fault) schedule = Refusal (re
 run_due image_name schedule_name ticks image None (Some fault) = Refusal (refusal_text schedule_name (text_why_text fault.why) fault.line)
 run_due image_name schedule_name ticks image None None = Whole (report_after (image_of image) ticks)
 
+-- a source with a fault is refused, and another is the ELF file of what it assembles to
+abbrev pub asm_due : List ℕ → Result ObjectValue AsmFault → Due
+asm_due name (Ok object) = Whole (elf_text object)
+asm_due name (Err (At line why)) = Refusal (refusal_text name (why_text why) line)
+asm_due name (Err NoMemory) = Refusal []
+
 -- what is due for a form, given the contents of its files; it has as many as names
 abbrev pub due_of : Form → List (List ℕ) → Due
 due_of (Run image_name schedule_name ticks) (image ∷ schedule ∷ []) = run_due image_name schedule_name ticks image (image_fault image) (schedule_fault schedule)
+due_of (Asm name) (source ∷ []) = asm_due name (assembled source)
 due_of form _ = Refusal []

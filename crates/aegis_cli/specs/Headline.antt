@@ -1,5 +1,8 @@
 -- What a call of the program promises where its shelf tells its files.
-use Rattle.std.specs.Prelude.{◌≡◌, ◌≢◌, ◌⊎◌, ℕ, List, [], ◌∷◌, Option, Some, None, length}
+use Rattle.std.specs.Prelude.{◌≡◌, ◌≢◌, ◌⊎◌, ℕ, List, [], ◌∷◌, Option, Some, None, Ok, length}
+use Rattle.elf_static.specs.ObjectValue.{ObjectValue}
+use Rattle.elf_static.specs.Layout.{elf_text}
+use Rattle.mips_asm.specs.Assembled.{assembled}
 use Rattle.std.specs.List.{AllByRecursion}
 use Rattle.boot_image.specs.ImageFaults.{image_fault}
 use Rattle.boot_image.specs.ImageValue.{image_of}
@@ -8,7 +11,7 @@ use Rattle.edge_io.specs.Faults.{Rose}
 use Rattle.edge_io.specs.Written.{Appends}
 use Rattle.aegis_cli.specs.declared.status.Status.{Status}
 use Rattle.aegis_cli.specs.declared.status.Status.TheVariants as status
-use Rattle.aegis_cli.specs.Words.{Form, Run, names_of}
+use Rattle.aegis_cli.specs.Words.{Form, Run, Asm, names_of}
 use Rattle.aegis_cli.specs.Due.{Due, Refusal, Whole, due_of, report_after}
 use Rattle.aegis_cli.specs.Outcome.{Edges, AreRead, text_of}
 
@@ -54,3 +57,11 @@ IsHeadline words e result =
     files image_name ≡ Some image → files schedule_name ≡ Some schedule →
     image_fault image ≡ None → schedule_fault schedule ≡ None → NoFault e →
     IsWritten status.Done (report_after (image_of image) ticks) e result ⊎ IsWanting e result
+
+-- For every source without fault, where no fault is met, the bytes that asm writes are the ELF file of what
+-- the source assembles to, or memory was wanting.
+abbrev pub IsAssembler : Option Form → Edges → Status → Type 0
+IsAssembler words e result =
+    (name : List ℕ) (files : List ℕ → Option (List ℕ)) (source : List ℕ) (object : ObjectValue) →
+    words ≡ Some (Asm name) → e.told ≡ Some files → files name ≡ Some source → assembled source ≡ Ok object → NoFault e →
+    IsWritten status.Done (elf_text object) e result ⊎ IsWanting e result

@@ -1,5 +1,6 @@
 pub mod Exit
 pub mod Words
+pub mod Asked
 pub mod Due
 pub mod Outcome
 pub mod Work

@@ -3,9 +3,11 @@ use Rattle.std.specs.Prelude.{ℕ, List, [], ◌∷◌, Option, Some, None, nat_
 use Rattle.std.specs.Str.{bytes_eq}
 use Rattle.line_text.specs.Number.{digits_number}
 
--- run IMAGE SCHEDULE TICKS
 pub data Form : Type 0 where
+  -- run IMAGE SCHEDULE TICKS
   Run : (image schedule : List ℕ) (ticks : ℕ) → Form
+  -- asm SOURCE
+  Asm : (source : List ℕ) → Form
 
 -- a number within a limit
 abbrev pub within : ℕ → Option ℕ → Option ℕ
@@ -24,8 +26,10 @@ run_form image schedule (Some ticks) = Some (Run image schedule ticks)
 abbrev pub form_of : List (List ℕ) → Option Form
 form_of (command ∷ image ∷ schedule ∷ ticks ∷ []) =
     if bytes_eq command (codes "run") then run_form image schedule (ticks_of ticks) else None
+form_of (command ∷ source ∷ []) = if bytes_eq command (codes "asm") then Some (Asm source) else None
 form_of _ = None
 
 -- the files that a form names, in the order in which they are read
 abbrev pub names_of : Form → List (List ℕ)
 names_of (Run image schedule ticks) = image ∷ schedule ∷ []
+names_of (Asm source) = source ∷ []

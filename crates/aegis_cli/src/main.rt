@@ -2,6 +2,8 @@
 //! with the host's.
 #![tactic(auto)]
 
+mod assembling;
+mod reporting;
 mod status;
 #[cfg(test)]
 mod tests;

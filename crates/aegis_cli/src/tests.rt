@@ -1,3 +1,4 @@
+mod assembler;
 mod programs;
 mod several;
 

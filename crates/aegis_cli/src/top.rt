@@ -1,14 +1,14 @@
 //! The top call.
 ghost use Rattle.std.specs.Prelude.{◌≡◌, ◌≢◌, ◌≤◌, ◌<◌, ℕ, List, [], ◌∷◌, Option, Some, None, IfSome, IfNone, length, map, string_bytes};
-ghost use Rattle.aegis_cli.specs.Words.{form_of, names_of, Run};
+ghost use Rattle.aegis_cli.specs.Words.{form_of, names_of};
 ghost use Rattle.aegis_cli.specs.Due.{usage_text};
 ghost use Rattle.aegis_cli.specs.Outcome.{Outcome, Finished};
-ghost use Rattle.aegis_cli.specs.Headline.{IsHeadline, IsComplete, IsTaken};
+ghost use Rattle.aegis_cli.specs.Headline.{IsHeadline, IsComplete, IsAssembler, IsTaken};
 ghost use Rattle.std.specs.List.{AllByRecursion};
 
 use crate::status::Status;
 use crate::words::parse;
-use crate::work::{Stop, perform_run};
+use crate::work::{Stop, perform};
 use edge_io::{Shelf, Sink, write_whole};
 use std::alloc::Global;
 
@@ -46,7 +46,7 @@ fn respond<S: Shelf, K: Sink>(alloc: Global, words: &[String], shelf: &mut S, ou
     let Some(words) = parse(words) else {
         return finish(out, USAGE, Status::Usage);
     };
-    match perform_run(alloc, words, shelf) {
+    match perform(alloc, words, shelf) {
         Ok(answer) => finish(out, &answer.text, answer.status),
         Err(Stop::ReadFault) => Status::ReadFault,
         Err(Stop::OutOfMemory) => Status::OutOfMemory,
@@ -74,6 +74,18 @@ pub fn aegis<S: Shelf, K: Sink>(
       write_faults_after = K.faults out.new;
     }) result }
     ensures complete { IsComplete (form_of (map string_bytes words.now)) (record {
+      told = S.told shelf.old;
+      read_faults_before = S.faults shelf.old;
+      read_faults_after = S.faults shelf.new;
+      failed = S.failed shelf.new;
+      written_before = K.written out.old;
+      written_after = K.written out.new;
+      write_faults_before = K.faults out.old;
+      write_faults_after = K.faults out.new;
+    }) result }
+
+    // What asm writes is the ELF file of what its source assembles to.
+    ensures assembles { IsAssembler (form_of (map string_bytes words.now)) (record {
       told = S.told shelf.old;
       read_faults_before = S.faults shelf.old;
       read_faults_after = S.faults shelf.new;

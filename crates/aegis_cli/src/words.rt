@@ -1,7 +1,8 @@
 //! The words of the command line.
 ghost use Rattle.std.specs.Prelude.{◌≡◌, ◌≤◌, map, string_bytes, Option, IfSome};
 ghost use Rattle.std.specs.Option.{option_map};
-ghost use Rattle.aegis_cli.specs.Words.{Form, Run, form_of, ticks_of};
+ghost use Rattle.aegis_cli.specs.Words.{form_of, ticks_of};
+ghost use Rattle.aegis_cli.specs.Asked.{form_seen, IsWithin};
 
 use line_text::decimal;
 
@@ -17,6 +18,15 @@ pub struct RunWords<'a> {
     pub ticks: u32,
 }
 
+/// What the words ask for.
+#[derive(Clone, Copy)]
+pub enum Words<'a> {
+    /// `run IMAGE SCHEDULE TICKS`.
+    Run(RunWords<'a>),
+    /// `asm SOURCE`: the name of a source.
+    Asm(&'a str),
+}
+
 /// A number of ticks.
 fn ticks(word: &str) -> Option<u32>
     ensures { result ≡ ticks_of word.now }
@@ -25,20 +35,20 @@ fn ticks(word: &str) -> Option<u32>
 }
 
 /// The form that the words are, if they are one.
-pub fn parse(words: &[String]) -> Option<RunWords<'_>>
-    ensures form { option_map (λ w. Run w.image.now w.schedule.now w.ticks) result ≡ form_of (map string_bytes words.now) }
-    ensures limit { IfSome result (λ w. w.ticks ≤ TICK_LIMIT) }
+pub fn parse(words: &[String]) -> Option<Words<'_>>
+    ensures form { option_map form_seen result ≡ form_of (map string_bytes words.now) }
+    ensures limit { IfSome result IsWithin }
 {
-    let [command, image, schedule, number] = words else {
-        return None;
-    };
-    if command.as_str() != "run" {
-        return None;
+    match words {
+        [command, image, schedule, number] if command.as_str() == "run" => {
+            let ticks = ticks(number.as_str())?;
+            Some(Words::Run(RunWords {
+                image: image.as_str(),
+                schedule: schedule.as_str(),
+                ticks,
+            }))
+        }
+        [command, source] if command.as_str() == "asm" => Some(Words::Asm(source.as_str())),
+        _ => None,
     }
-    let ticks = ticks(number.as_str())?;
-    Some(RunWords {
-        image: image.as_str(),
-        schedule: schedule.as_str(),
-        ticks,
-    })
 }

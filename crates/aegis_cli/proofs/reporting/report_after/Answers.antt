@@ -8,7 +8,7 @@ use Rattle.aegis_calls.specs.Showing.{world_of}
 use Rattle.kernel_journal.specs.declared.row.RunEnd.{RunEnd}
 use Rattle.aegis_cli.specs.Due.{report_after}
 use Rattle.aegis_cli.proofs.Texts.{same_text}
-use Rattle.aegis_cli.proofs.work.report_after.Goals as goal
+use Rattle.aegis_cli.proofs.reporting.report_after.Goals as goal
 
 pub returns : goal.returns
 unfolding report_after

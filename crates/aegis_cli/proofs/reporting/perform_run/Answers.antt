@@ -2,7 +2,7 @@
 use Rattle.std.proofs.Common.{◌≡◌, ℕ, List, [], ◌∷◌, Option, sym, ◌∙◌, subst}
 use Rattle.edge_io.specs.Reads.{Tells}
 use Rattle.aegis_cli.specs.Work.{Performed}
-use Rattle.aegis_cli.proofs.work.perform_run.Goals as goal
+use Rattle.aegis_cli.proofs.reporting.perform_run.Goals as goal
 
 pub returns-clause-ok : goal.returns-clause-ok
 returns-clause-ok g c =
