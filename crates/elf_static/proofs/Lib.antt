@@ -1,2 +1,4 @@
 pub mod Rest
 pub mod Sizes
+pub mod HeaderSteps
+pub mod Acceptance

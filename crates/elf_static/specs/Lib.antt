@@ -2,3 +2,10 @@ pub mod ObjectValue
 pub mod Seen
 pub mod Layout
 pub mod Writable
+pub mod Numbers
+pub mod ElfValue
+pub mod ElfFaults
+pub mod ElfNames
+pub mod ElfSeen
+pub mod AcceptedElf
+pub mod ElfParts

@@ -1,0 +1,109 @@
+//! The file header.
+ghost use Rattle.std.specs.Prelude.{◌+◌, ◌*◌, ◌<◌, ◌≤◌, ◌^◌, IfOk, OnOk, length};
+ghost use Rattle.elf_static.specs.ElfFaults.{kind_fault, place_fault};
+ghost use Rattle.elf_static.specs.ElfSeen.{Answers};
+ghost use Rattle.elf_static.specs.ElfParts.{table_of, table_seen};
+
+use crate::fault::{ElfFault, ElfWhy};
+use crate::numbers::{half_at, word_at};
+
+/// What an ELF file begins with.
+const MAGIC: &[u8; 4] = b"\x7FELF";
+/// The bytes of the file header.
+const FILE_HEADER_SIZE: usize = 52;
+/// The bytes of a program header.
+pub(crate) const PROGRAM_HEADER_SIZE: usize = 32;
+/// The most program headers.
+const MOST_HEADERS: u16 = 64;
+
+/// Where the class stands, and that of 32 bits.
+const CLASS_AT: usize = 4;
+
+const BITS_32: u8 = 1;
+/// Where the order of bytes stands, and that with the lowest byte first.
+const ORDER_AT: usize = 5;
+
+const LOWEST_FIRST: u8 = 1;
+/// Where the type stands, and that of an executable file.
+const KIND_AT: usize = 16;
+
+const EXECUTABLE: u16 = 2;
+/// Where the machine stands, and that of MIPS.
+const MACHINE_AT: usize = 18;
+
+const MIPS: u16 = 8;
+/// Where the entry stands.
+pub(crate) const ENTRY_AT: usize = 24;
+/// Where the place of the program headers stands.
+const FIRST_AT: usize = 28;
+/// Where the flags stand, whose bits from this one on are the instruction set, and that of MIPS I.
+const FLAGS_AT: usize = 36;
+
+const ARCH_SHIFT: u32 = 28;
+
+const MIPS_I: u32 = 0;
+/// Where the size of a program header stands.
+const SIZE_AT: usize = 42;
+/// Where the number of program headers stands.
+const COUNT_AT: usize = 44;
+
+/// Where the program headers stand, and how many there are.
+#[derive(Clone, Copy)]
+pub(crate) struct Table {
+    pub(crate) first: u32,
+    pub(crate) count: u16,
+}
+
+/// Whether the file is an executable one for the machine.
+#[tactic(auto, unfolding(crate::specs::ElfFaults::kind_fault))]
+pub(crate) fn check_kind(file: &[u8]) -> Result<(), ElfFault>
+    requires { length file.now < 2 ^ 27 }
+    ensures answer { Answers (λ x. x) result (kind_fault file.now) tt }
+    ensures whole { OnOk result (52 ≤ length file.now) }
+{
+    if file.len() < FILE_HEADER_SIZE {
+        return Err(ElfFault::at(ElfWhy::Short, file.len()));
+    }
+    if !file.starts_with(MAGIC) {
+        return Err(ElfFault::at(ElfWhy::NotElf, 0));
+    }
+    if file[CLASS_AT] != BITS_32 {
+        return Err(ElfFault::at(ElfWhy::WrongClass, CLASS_AT));
+    }
+    if file[ORDER_AT] != LOWEST_FIRST {
+        return Err(ElfFault::at(ElfWhy::WrongOrder, ORDER_AT));
+    }
+    if half_at(file, KIND_AT) != EXECUTABLE {
+        return Err(ElfFault::at(ElfWhy::WrongKind, KIND_AT));
+    }
+    if half_at(file, MACHINE_AT) != MIPS {
+        return Err(ElfFault::at(ElfWhy::WrongMachine, MACHINE_AT));
+    }
+    if word_at(file, FLAGS_AT) >> ARCH_SHIFT != MIPS_I {
+        return Err(ElfFault::at(ElfWhy::WrongArch, FLAGS_AT));
+    }
+    Ok(())
+}
+
+/// The table of program headers of a file whose file header is whole.
+#[tactic(auto, unfolding(crate::specs::ElfFaults::place_fault))]
+pub(crate) fn read_table(file: &[u8]) -> Result<Table, ElfFault>
+    requires small { length file.now < 2 ^ 27 }
+    requires whole { 52 ≤ length file.now }
+    ensures answer { Answers table_seen result (place_fault file.now) (table_of file.now) }
+    ensures most { IfOk result (λ table. table.count ≤ 64) }
+    ensures within { IfOk result (λ table. table.first + 32 * table.count ≤ length file.now) }
+{
+    if usize::from(half_at(file, SIZE_AT)) != PROGRAM_HEADER_SIZE {
+        return Err(ElfFault::at(ElfWhy::BadHeaders, SIZE_AT));
+    }
+    let count = half_at(file, COUNT_AT);
+    if count == 0 || count > MOST_HEADERS {
+        return Err(ElfFault::at(ElfWhy::BadHeaders, COUNT_AT));
+    }
+    let first = word_at(file, FIRST_AT);
+    if file.len() < first as usize + PROGRAM_HEADER_SIZE * usize::from(count) {
+        return Err(ElfFault::at(ElfWhy::BadHeaders, FIRST_AT));
+    }
+    Ok(Table { first, count })
+}

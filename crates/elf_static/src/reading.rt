@@ -1,0 +1,39 @@
+//! The reader of ELF files, in the order of the faults.
+ghost use Rattle.std.specs.Prelude.{◌≡◌, ◌<◌, ◌^◌, Some, None, IfOk, IfErr, length};
+ghost use Rattle.elf_static.specs.ElfValue.{elf_of};
+ghost use Rattle.elf_static.specs.ElfFaults.{elf_fault};
+ghost use Rattle.elf_static.specs.ElfSeen.{Answers, elf_seen};
+ghost use Rattle.elf_static.specs.AcceptedElf.{IsAcceptedElf};
+
+use crate::elf::Elf;
+use crate::fault::{ElfFault, ElfWhy};
+use crate::header::{ENTRY_AT, check_kind, read_table};
+use crate::numbers::word_at;
+use crate::segments::{is_entry, read_segments};
+
+/// Reads an ELF file, or answers its first fault. `docs/FORMATS.md`, "ELF files that Aegis reads", has
+/// what is read and the faults in their order. The segments' bytes are lent from the file.
+pub fn read(file: &[u8]) -> Result<Elf<'_>, ElfFault>
+    requires { length file.now < 2 ^ 27 }
+    ensures ok { IfOk result (λ elf. (elf_fault file.now ≡ None) × (elf_seen elf ≡ elf_of file.now)) }
+    ensures err { IfErr result (λ fault. elf_fault file.now ≡ Some fault) }
+    ensures accepted { IfOk result (λ elf. IsAcceptedElf (elf_seen elf)) }
+{
+    read_elf(file)
+}
+
+/// The program of the file, or the first fault.
+#[tactic(auto, unfolding(crate::specs::ElfFaults::elf_fault, crate::specs::ElfFaults::entry_fault, crate::specs::ElfValue::elf_of))]
+fn read_elf(file: &[u8]) -> Result<Elf<'_>, ElfFault>
+    requires { length file.now < 2 ^ 27 }
+    ensures { Answers elf_seen result (elf_fault file.now) (elf_of file.now) }
+{
+    check_kind(file)?;
+    let table = read_table(file)?;
+    let segments = read_segments(file, table)?;
+    let entry = word_at(file, ENTRY_AT);
+    if !is_entry(entry, &segments) {
+        return Err(ElfFault::at(ElfWhy::BadEntry, ENTRY_AT));
+    }
+    Ok(Elf { entry, segments })
+}
