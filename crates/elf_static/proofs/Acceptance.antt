@@ -1,14 +1,13 @@
 -- A program of a file without a fault is within its limits.
 use Rattle.std.proofs.Common.{◌≡◌, ◌≤◌, ◌<◌, ◌%◌, ℕ, zero, suc, ◌+◌, Bool, true, false, List, [], ◌∷◌, ◌++◌, Option, None, Some, map, length, refl, sym, arith, subst}
-use Rattle.std.specs.Prelude.{IfOk, Result, Ok, Err, ◌||◌, if◌then◌else◌}
+use Rattle.std.specs.Prelude.{IfOk, Result, Ok, Err, ◌||◌, ◌&&◌, ◌==◌, if◌then◌else◌}
 use Rattle.std.specs.List.{AllByRecursion, list_any, filter}
 use Rattle.std.proofs.lemmas.List.{append-nil, length-take}
 use Rattle.std.proofs.lemmas.List.Folds.{Any-from_list_any}
-use Rattle.elf_static.specs.declared.elf.Elf.{Elf}
 use Rattle.elf_static.specs.declared.fault.ElfFault.{ElfFault}
-use Rattle.elf_static.specs.ElfValue.{SegmentValue, ElfValue, first_header, header_count_in, headers_from, headers, is_kept, memsz_in, filesz_in, segment_at, segments_of, elf_of}
+use Rattle.elf_static.specs.ElfValue.{SegmentValue, ElfValue, entry_in, first_header, header_count_in, headers_from, headers, is_kept, memsz_in, filesz_in, segment_at, segments_of, elf_of}
 use Rattle.elf_static.specs.ElfFaults.{◌or_else◌, meets, is_in_range, is_covered, header_fault, headers_fault, place_fault, entry_fault, elf_fault}
-use Rattle.elf_static.specs.ElfSeen.{Answers, elf_seen}
+use Rattle.elf_static.specs.Answers.{Answers}
 use Rattle.elf_static.specs.AcceptedElf.{Holds, IsSegment, AreDisjoint, NoOverlap, IsAcceptedElf}
 
 -- neither of two things has a fault
@@ -113,16 +112,35 @@ few_headers : (file : List ℕ) → place_fault file ≡ None → header_count_i
 unfolding place_fault
 few_headers file none = grind arith
 
-record Entry (elf : ElfValue) : Type 0 where
-  pub aligned : elf.entry % 4 ≡ 0
-  pub entered : list_any (is_covered elf.entry) elf.segments ≡ true
+record Entry (entry : ℕ) (segments : List SegmentValue) : Type 0 where
+  pub aligned : entry % 4 ≡ 0
+  pub entered : list_any (is_covered entry) segments ≡ true
 
-entry_passes : (elf : ElfValue) → entry_fault elf ≡ None → Entry elf
+is_passed : (entry : ℕ) (segments : List SegmentValue) → ((entry % 4 == 0) && list_any (is_covered entry) segments) ≡ true → Entry entry segments
+is_passed entry segments passed = record { aligned = grind (arith, passed); entered = grind (arith, passed) }
+
+entry_passes : (elf : ElfValue) → entry_fault elf ≡ None → ((elf.entry % 4 == 0) && list_any (is_covered elf.entry) elf.segments) ≡ true
 unfolding entry_fault
-entry_passes elf none = record { aligned = grind arith; entered = grind arith }
+entry_passes elf none = grind arith
 
 holds : (address : ℕ) (segment : SegmentValue) → is_covered address segment ≡ true → Holds segment address
 holds address segment covered = (grind (arith, covered), grind (arith, covered))
+
+-- the segments of at most 64 headers without a fault, and an entry in one of them
+pub parts_accepted : (file : List ℕ) (count first entry : ℕ) → count ≤ 64 → headers_fault file [] (headers_from count first) ≡ None
+    → ((entry % 4 == 0) && list_any (is_covered entry) (segments_of file (headers_from count first))) ≡ true
+    → IsAcceptedElf (record { entry = entry; segments = segments_of file (headers_from count first) })
+parts_accepted file count first entry few none enters =
+    let segments = all_pass file (headers_from count first) [] none in
+    let passed = is_passed entry (segments_of file (headers_from count first)) enters in
+    let found = Any-from_list_any (is_covered entry) (segments_of file (headers_from count first)) passed.entered in
+    record {
+      most = omega (arith, few, count_of_segments count file first);
+      segments = segments.fit;
+      apart = segments.apart;
+      aligned = passed.aligned;
+      entered = (found.0, found.1, found.2, found.3, holds entry found.1 found.4);
+    }
 
 pub accepted : (file : List ℕ) → elf_fault file ≡ None → IsAcceptedElf (elf_of file)
 unfolding elf_fault elf_of
@@ -130,18 +148,9 @@ accepted file none =
     let place_none : place_fault file ≡ None = grind arith in
     let headers_none : headers_fault file [] (headers file) ≡ None = grind arith in
     let entry_none : entry_fault (elf_of file) ≡ None = grind arith in
-    let segments = all_pass file (headers file) [] headers_none in
-    let entry = entry_passes (elf_of file) entry_none in
-    let found = Any-from_list_any (is_covered (elf_of file).entry) (elf_of file).segments entry.entered in
-    record {
-      most = omega (arith, few_headers file place_none, count_of_segments (header_count_in file) file (first_header file));
-      segments = segments.fit;
-      apart = segments.apart;
-      aligned = entry.aligned;
-      entered = (found.0, found.1, found.2, found.3, holds (elf_of file).entry found.1 found.4);
-    }
+    parts_accepted file (header_count_in file) (first_header file) (entry_in file) (few_headers file place_none) headers_none (entry_passes (elf_of file) entry_none)
 
 -- what the reader answers is within the limits
-pub read_is_accepted : (file : List ℕ) (answer : Result Elf ElfFault) → Answers elf_seen answer (elf_fault file) (elf_of file) → IfOk answer (λ elf. IsAcceptedElf (elf_seen elf))
+pub read_is_accepted : (file : List ℕ) (answer : Result ElfValue ElfFault) → Answers (λ elf. elf) answer (elf_fault file) (elf_of file) → IfOk answer IsAcceptedElf
 read_is_accepted file (Ok elf) answers = subst IsAcceptedElf (sym answers.1) (accepted file answers.0)
 read_is_accepted file (Err fault) answers = tt

@@ -3,12 +3,12 @@ use Rattle.std.proofs.Common.{◌≡◌, ℕ, suc, ◌+◌, ◌-◌, ◌<◌, Bo
 use Rattle.std.specs.Prelude.{option_to_list, if◌then◌else◌, ◌||◌}
 use Rattle.std.specs.List.{list_any, filter}
 use Rattle.std.proofs.lemmas.List.{map_push, append-nil}
-use Rattle.elf_static.specs.declared.elf.Segment.{Segment}
+use Rattle.elf_static.specs.declared.segment.Segment.{Segment}
 use Rattle.elf_static.specs.declared.fault.ElfFault.{ElfFault}
 use Rattle.elf_static.specs.ElfValue.{SegmentValue, headers_from, is_kept, segment_at, segments_of}
 use Rattle.elf_static.specs.ElfFaults.{◌or_else◌, header_fault, headers_fault}
 use Rattle.elf_static.specs.ElfParts.{kept_at, kept_seen}
-use Rattle.elf_static.specs.ElfSeen.{segment_seen, segments_seen}
+use Rattle.elf_static.specs.SegmentSeen.{segment_seen, segments_seen}
 
 -- a test of what is seen of some segment
 pub list_any_seen : (test : SegmentValue → Bool) (segments : List Segment)

@@ -1,9 +1,9 @@
 -- The parts of a file, as the reader takes them one after another.
 use Rattle.std.specs.Prelude.{ℕ, List, Option, None, Some, option_map, if◌then◌else◌}
-use Rattle.elf_static.specs.declared.elf.Segment.{Segment}
+use Rattle.elf_static.specs.declared.segment.Segment.{Segment}
 use Rattle.elf_static.specs.declared.header.Table.{Table}
 use Rattle.elf_static.specs.ElfValue.{SegmentValue, first_header, header_count_in, is_kept, segment_at}
-use Rattle.elf_static.specs.ElfSeen.{segment_seen}
+use Rattle.elf_static.specs.SegmentSeen.{segment_seen}
 
 -- where the program headers stand, and how many there are
 pub record TableValue : Type 0 where

@@ -6,6 +6,7 @@ pub mod Numbers
 pub mod ElfValue
 pub mod ElfFaults
 pub mod ElfNames
-pub mod ElfSeen
+pub mod SegmentSeen
+pub mod Answers
 pub mod AcceptedElf
 pub mod ElfParts

@@ -1,9 +1,10 @@
 //! What an ELF file holds.
-ghost use Rattle.std.specs.Prelude.{◌≡◌, ◌+◌};
-
+use crate::segment::Segment;
 use arrayvec::ArrayVec;
+use std::marker::Model;
 
-/// A program of an ELF file. `docs/FORMATS.md`, "ELF files that Aegis reads", has its limits.
+/// A program of an ELF file. `docs/FORMATS.md`, "ELF files that Aegis reads", has its limits, which hold
+/// of every value of this type.
 #[derive(Drop)]
 pub struct Elf<'a> {
     /// The address of the first instruction, a multiple of 4 and the address of a byte of a segment.
@@ -12,40 +13,14 @@ pub struct Elf<'a> {
     pub segments: ArrayVec<Segment<'a>, 64>,
 }
 
-/// A part of a program's memory.
-#[derive(Clone, Copy)]
-pub struct Segment<'a> {
-    /// The address of the first byte, at or above 0x2000.
-    pub vaddr: u32,
-    /// The first bytes, lent from the file. All further ones are zeros.
-    pub bytes: &'a [u8],
-    /// How many bytes there are in memory, at least one. They end at or below 0x7FF00000.
-    pub memsz: u32,
-    /// Whether stores into the segment are allowed.
-    pub writable: bool,
-}
+impl<'a> Model for Elf<'a> {
+    ghost use Rattle.elf_static.specs.SegmentSeen.{segments_seen};
+    ghost use Rattle.elf_static.specs.ElfValue.{ElfValue};
+    ghost use Rattle.elf_static.specs.AcceptedElf.{IsAcceptedElf};
 
-impl Segment<'_> {
-    /// The address behind the last byte.
-    pub(crate) fn end(&self) -> u64
-        ensures { result ≡ self.now.vaddr + self.now.memsz }
-    {
-        u64::from(self.vaddr) + u64::from(self.memsz)
-    }
-}
+    ghost Value = { ElfValue };
 
-impl Default for Segment<'_> {
-    ghost use Rattle.std.specs.Prelude.{[], false};
-    ghost use Rattle.elf_static.specs.ElfSeen.{segment_seen};
+    ghost view = { λ elf. record { entry = elf.entry; segments = segments_seen elf.segments.items } };
 
-    ghost is_default = { λ segment. segment_seen segment ≡ record { vaddr = 0; bytes = []; memsz = 0; writable = false } };
-
-    fn default() -> Self {
-        Segment {
-            vaddr: 0,
-            bytes: &[],
-            memsz: 0,
-            writable: false,
-        }
-    }
+    ghost invariant = { λ elf. IsAcceptedElf (record { entry = elf.entry; segments = segments_seen elf.segments.items }) };
 }

@@ -1,7 +1,7 @@
 //! The file header.
 ghost use Rattle.std.specs.Prelude.{◌+◌, ◌*◌, ◌<◌, ◌≤◌, ◌^◌, IfOk, OnOk, length};
 ghost use Rattle.elf_static.specs.ElfFaults.{kind_fault, place_fault};
-ghost use Rattle.elf_static.specs.ElfSeen.{Answers};
+ghost use Rattle.elf_static.specs.Answers.{Answers};
 ghost use Rattle.elf_static.specs.ElfParts.{table_of, table_seen};
 
 use crate::fault::{ElfFault, ElfWhy};

@@ -15,13 +15,15 @@ mod header;
 mod numbers;
 mod object;
 mod reading;
+mod segment;
 mod segments;
 mod writing;
 
-pub use elf::{Elf, Segment};
+pub use elf::Elf;
 pub use fault::{ElfFault, ElfWhy};
 pub use object::{Object, Part};
 pub use reading::read;
+pub use segment::Segment;
 pub use writing::write;
 
 #[cfg(test)]

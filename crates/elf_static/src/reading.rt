@@ -2,7 +2,7 @@
 ghost use Rattle.std.specs.Prelude.{◌≡◌, ◌<◌, ◌^◌, Some, None, IfOk, IfErr, length};
 ghost use Rattle.elf_static.specs.ElfValue.{elf_of};
 ghost use Rattle.elf_static.specs.ElfFaults.{elf_fault};
-ghost use Rattle.elf_static.specs.ElfSeen.{Answers, elf_seen};
+ghost use Rattle.elf_static.specs.Answers.{Answers};
 ghost use Rattle.elf_static.specs.AcceptedElf.{IsAcceptedElf};
 
 use crate::elf::Elf;
@@ -15,9 +15,9 @@ use crate::segments::{is_entry, read_segments};
 /// what is read and the faults in their order. The segments' bytes are lent from the file.
 pub fn read(file: &[u8]) -> Result<Elf<'_>, ElfFault>
     requires { length file.now < 2 ^ 27 }
-    ensures ok { IfOk result (λ elf. (elf_fault file.now ≡ None) × (elf_seen elf ≡ elf_of file.now)) }
+    ensures ok { IfOk result (λ elf. (elf_fault file.now ≡ None) × (elf ≡ elf_of file.now)) }
     ensures err { IfErr result (λ fault. elf_fault file.now ≡ Some fault) }
-    ensures accepted { IfOk result (λ elf. IsAcceptedElf (elf_seen elf)) }
+    ensures accepted { IfOk result (λ elf. IsAcceptedElf elf) }
 {
     read_elf(file)
 }
@@ -26,7 +26,7 @@ pub fn read(file: &[u8]) -> Result<Elf<'_>, ElfFault>
 #[tactic(auto, unfolding(crate::specs::ElfFaults::elf_fault, crate::specs::ElfFaults::entry_fault, crate::specs::ElfValue::elf_of))]
 fn read_elf(file: &[u8]) -> Result<Elf<'_>, ElfFault>
     requires { length file.now < 2 ^ 27 }
-    ensures { Answers elf_seen result (elf_fault file.now) (elf_of file.now) }
+    ensures { Answers (λ elf. elf) result (elf_fault file.now) (elf_of file.now) }
 {
     check_kind(file)?;
     let table = read_table(file)?;

@@ -1,9 +1,9 @@
 use Rattle.std.proofs.Common.{◌∙◌, rules, tests}
 use Rattle.std.proofs.lemmas.Iterator.{YieldsList-from_slice}
 use Rattle.std.proofs.lemmas.Iterator.Search.{any_from_yields_List}
-use Rattle.elf_static.specs.declared.elf.Segment.{Segment}
+use Rattle.elf_static.specs.declared.segment.Segment.{Segment}
 use Rattle.elf_static.specs.ElfFaults.{is_covered}
-use Rattle.elf_static.specs.ElfSeen.{segment_seen}
+use Rattle.elf_static.specs.SegmentSeen.{segment_seen}
 use Rattle.elf_static.proofs.HeaderSteps.{list_any_seen}
 use Rattle.elf_static.proofs.segments.is_in_any.Goals as goal
 

@@ -3,7 +3,7 @@ use Rattle.std.specs.Prelude.{option_to_list}
 use Rattle.std.proofs.lemmas.List.{append-nil}
 use Rattle.elf_static.specs.ElfValue.{SegmentValue, headers_from, segments_of}
 use Rattle.elf_static.specs.ElfFaults.{header_fault, headers_fault}
-use Rattle.elf_static.specs.ElfSeen.{segments_seen}
+use Rattle.elf_static.specs.SegmentSeen.{segments_seen}
 use Rattle.elf_static.proofs.HeaderSteps.{fault_step, list_step, seen_later}
 use Rattle.elf_static.proofs.segments.read_segments.Goals as goal
 use Rattle.elf_static.proofs.segments.read_segments.Goals.{in-Some, in_default}

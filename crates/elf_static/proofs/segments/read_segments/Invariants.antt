@@ -1,7 +1,7 @@
 use Rattle.std.proofs.Common.{◌≡◌, ◌≤◌, ◌+◌, ◌*◌, ◌-◌, ◌++◌, [], length}
 use Rattle.elf_static.specs.ElfValue.{headers_from, segments_of}
 use Rattle.elf_static.specs.ElfFaults.{headers_fault}
-use Rattle.elf_static.specs.ElfSeen.{segments_seen}
+use Rattle.elf_static.specs.SegmentSeen.{segments_seen}
 use Rattle.elf_static.proofs.segments.read_segments.Given as goal
 
 -- The segments so far and those of the headers that are left are all of the file's, and the rest has the
