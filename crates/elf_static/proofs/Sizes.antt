@@ -4,15 +4,15 @@ use Rattle.std.proofs.lemmas.List.Concat.{length-flat_map}
 use Rattle.elf_static.specs.ObjectValue.{ObjectValue, PartValue}
 use Rattle.elf_static.specs.Layout.{halves, words, identification, file_header, program_header, program_headers, bodies, bytes_start, file_length, elf_text}
 
-file_header_size : (object : ObjectValue) → length (file_header object) ≡ 52
+pub file_header_size : (object : ObjectValue) → length (file_header object) ≡ 52
 unfolding file_header halves words identification
 file_header_size object = refl
 
-program_header_size : (offset : ℕ) (part : PartValue) → length (program_header offset part) ≡ 32
+pub program_header_size : (offset : ℕ) (part : PartValue) → length (program_header offset part) ≡ 32
 unfolding program_header words
 program_header_size offset part = refl
 
-program_headers_size : (offset : ℕ) (parts : List PartValue) → length (program_headers offset parts) ≡ 32 * length parts
+pub program_headers_size : (offset : ℕ) (parts : List PartValue) → length (program_headers offset parts) ≡ 32 * length parts
 program_headers_size offset [] = refl
 program_headers_size offset (part ∷ parts) =
     omega (

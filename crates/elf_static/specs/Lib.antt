@@ -10,3 +10,4 @@ pub mod SegmentSeen
 pub mod Answers
 pub mod AcceptedElf
 pub mod ElfParts
+pub mod Loaded

@@ -12,6 +12,7 @@
 mod elf;
 mod fault;
 mod header;
+mod law;
 mod numbers;
 mod object;
 mod reading;
@@ -21,6 +22,7 @@ mod writing;
 
 pub use elf::Elf;
 pub use fault::{ElfFault, ElfWhy};
+pub use law::law_reads_what_is_written;
 pub use object::{Object, Part};
 pub use reading::read;
 pub use segment::Segment;
