@@ -8,7 +8,7 @@ use Rattle.elf_static.specs.declared.fault.ElfFault.{ElfFault}
 use Rattle.elf_static.specs.ElfValue.{SegmentValue, ElfValue, entry_in, first_header, header_count_in, headers_from, headers, is_kept, memsz_in, filesz_in, segment_at, segments_of, elf_of}
 use Rattle.elf_static.specs.ElfFaults.{◌or_else◌, meets, is_in_range, is_covered, header_fault, headers_fault, place_fault, entry_fault, elf_fault}
 use Rattle.elf_static.specs.Answers.{Answers}
-use Rattle.elf_static.specs.AcceptedElf.{Holds, IsSegment, AreDisjoint, NoOverlap, IsAcceptedElf}
+use Rattle.elf_static.specs.AcceptedElf.{Covers, IsSegment, AreApart, NoTwoMeet, IsAcceptedElf}
 
 -- neither of two things has a fault
 pub neither : (a b : Option ElfFault) → (a or_else b) ≡ None → (a ≡ None) × (b ≡ None)
@@ -20,10 +20,10 @@ neither_passes false b none = (refl, none)
 neither_passes true b none = absurd cc
 
 -- a segment without a fault lies apart from each earlier one
-apart : (segment other : SegmentValue) → meets segment other ≡ false → AreDisjoint other segment
+apart : (segment other : SegmentValue) → meets segment other ≡ false → AreApart other segment
 apart segment other none address in_other in_segment = grind (arith, none, in_other, in_segment)
 
-apart_from_all : (segment : SegmentValue) (earlier : List SegmentValue) → list_any (meets segment) earlier ≡ false → AllByRecursion (λ other. AreDisjoint other segment) earlier
+apart_from_all : (segment : SegmentValue) (earlier : List SegmentValue) → list_any (meets segment) earlier ≡ false → AllByRecursion (λ other. AreApart other segment) earlier
 apart_from_all segment [] none = tt
 apart_from_all segment (other ∷ earlier) none =
     let parts = neither_passes (meets segment other) (list_any (meets segment) earlier) none in
@@ -31,7 +31,7 @@ apart_from_all segment (other ∷ earlier) none =
 
 record Passes (segment : SegmentValue) (earlier : List SegmentValue) : Type 0 where
   pub fits : IsSegment segment
-  pub apart : AllByRecursion (λ other. AreDisjoint other segment) earlier
+  pub apart : AllByRecursion (λ other. AreApart other segment) earlier
 
 record Header (file : List ℕ) (earlier : List SegmentValue) (header : ℕ) : Type 0 where
   pub filled : 0 < memsz_in file header
@@ -61,19 +61,19 @@ passes file earlier header none kept =
 -- segments behind earlier ones
 record AllPass (earlier segments : List SegmentValue) : Type 0 where
   pub fit : AllByRecursion IsSegment segments
-  pub apart : NoOverlap segments
-  pub behind : AllByRecursion (λ segment. AllByRecursion (λ other. AreDisjoint other segment) earlier) segments
+  pub apart : NoTwoMeet segments
+  pub behind : AllByRecursion (λ segment. AllByRecursion (λ other. AreApart other segment) earlier) segments
 
-first_of : (first segment : SegmentValue) (earlier : List SegmentValue) → AllByRecursion (λ other. AreDisjoint other segment) (earlier ++ first ∷ [])
-    → AllByRecursion (λ other. AreDisjoint other segment) earlier × AreDisjoint first segment
+first_of : (first segment : SegmentValue) (earlier : List SegmentValue) → AllByRecursion (λ other. AreApart other segment) (earlier ++ first ∷ [])
+    → AllByRecursion (λ other. AreApart other segment) earlier × AreApart first segment
 first_of first segment [] all = (tt, all.0)
 first_of first segment (other ∷ earlier) all =
     let others = first_of first segment earlier all.1 in
     ((all.0, others.0), others.1)
 
 firsts_of : (first : SegmentValue) (earlier segments : List SegmentValue)
-    → AllByRecursion (λ segment. AllByRecursion (λ other. AreDisjoint other segment) (earlier ++ first ∷ [])) segments
-    → AllByRecursion (λ segment. AllByRecursion (λ other. AreDisjoint other segment) earlier) segments × AllByRecursion (AreDisjoint first) segments
+    → AllByRecursion (λ segment. AllByRecursion (λ other. AreApart other segment) (earlier ++ first ∷ [])) segments
+    → AllByRecursion (λ segment. AllByRecursion (λ other. AreApart other segment) earlier) segments × AllByRecursion (AreApart first) segments
 firsts_of first earlier [] all = (tt, tt)
 firsts_of first earlier (segment ∷ segments) all =
     let one = first_of first segment earlier all.0 in
@@ -123,8 +123,8 @@ entry_passes : (elf : ElfValue) → entry_fault elf ≡ None → ((elf.entry % 4
 unfolding entry_fault
 entry_passes elf none = grind arith
 
-holds : (address : ℕ) (segment : SegmentValue) → is_covered address segment ≡ true → Holds segment address
-holds address segment covered = (grind (arith, covered), grind (arith, covered))
+covers : (address : ℕ) (segment : SegmentValue) → is_covered address segment ≡ true → Covers segment address
+covers address segment covered = (grind (arith, covered), grind (arith, covered))
 
 -- the segments of at most 64 headers without a fault, and an entry in one of them
 pub parts_accepted : (file : List ℕ) (count first entry : ℕ) → count ≤ 64 → headers_fault file [] (headers_from count first) ≡ None
@@ -139,7 +139,7 @@ parts_accepted file count first entry few none enters =
       segments = segments.fit;
       apart = segments.apart;
       aligned = passed.aligned;
-      entered = (found.0, found.1, found.2, found.3, holds entry found.1 found.4);
+      entered = (found.0, found.1, found.2, found.3, covers entry found.1 found.4);
     }
 
 pub accepted : (file : List ℕ) → elf_fault file ≡ None → IsAcceptedElf (elf_of file)

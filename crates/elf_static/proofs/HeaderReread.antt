@@ -1,17 +1,17 @@
 -- A program header that was written is read as its part.
 use Rattle.std.proofs.Common.{◌≡◌, ◌≤◌, ◌<◌, ◌^◌, ◌/◌, ◌%◌, ℕ, ◌+◌, ◌-◌, Bool, true, false, List, [], ◌∷◌, ◌++◌, None, map, length, take, drop, inl, inr, refl, ap, sym, ◌∙◌, arith}
-use Rattle.std.specs.Prelude.{◌||◌, not, ◌==◌, if◌then◌else◌}
+use Rattle.std.specs.Prelude.{◌==◌, if◌then◌else◌}
 use Rattle.std.specs.List.{list_any, filter}
 use Rattle.std.proofs.lemmas.Bool.{cases_eq}
-use Rattle.std.proofs.lemmas.List.{length-drop, length-append, take_at, drop_at, drop-drop}
+use Rattle.std.proofs.lemmas.List.{take_at, drop_at, drop-drop}
 use Rattle.byteorder.specs.Endian.{little_number}
 use Rattle.byteorder.specs.Numbers.{little_number-reads_back}
 use Rattle.elf_static.specs.Numbers.{word_at}
 use Rattle.elf_static.specs.ObjectValue.{PartValue}
 use Rattle.elf_static.specs.Layout.{words, flags, program_header}
 use Rattle.elf_static.specs.Writable.{IsInRange}
-use Rattle.elf_static.specs.ElfValue.{SegmentValue, type_in, offset_in, vaddr_in, filesz_in, memsz_in, is_writable_in, is_loaded, is_kept, segment_at, segments_of}
-use Rattle.elf_static.specs.ElfFaults.{is_dynamic, is_in_range, meets, header_fault}
+use Rattle.elf_static.specs.ElfValue.{SegmentValue, type_in, offset_in, vaddr_in, filesz_in, memsz_in, is_writable_in, is_kept, segment_at, segments_of}
+use Rattle.elf_static.specs.ElfFaults.{is_in_range, meets, header_fault}
 use Rattle.elf_static.specs.Loaded.{has_bytes, segment_of}
 
 -- what stands behind a text

@@ -1,7 +1,7 @@
 -- A written file has no fault, and is read as what was written.
-use Rattle.std.proofs.Common.{◌≡◌, ◌≢◌, ◌≤◌, ◌<◌, ◌^◌, ◌%◌, ℕ, zero, suc, ◌+◌, ◌*◌, Bool, true, false, List, [], ◌∷◌, ◌++◌, Option, None, map, length, drop, get_or, inl, inr, refl, ap, sym, ◌∙◌, append_assoc, arith, subst}
-use Rattle.std.specs.Prelude.{◌||◌, ◌&&◌, not, ◌==◌, max, min, if◌then◌else◌, sum_by}
-use Rattle.std.specs.List.{AllByRecursion, Any, list_any, filter, flat_map}
+use Rattle.std.proofs.Common.{◌≡◌, ◌≤◌, ◌<◌, ◌^◌, ℕ, zero, suc, ◌+◌, Bool, true, false, List, [], ◌∷◌, ◌++◌, Option, None, map, length, drop, get_or, inl, inr, refl, ap, sym, ◌∙◌, append_assoc, arith, subst}
+use Rattle.std.specs.Prelude.{◌||◌, max, min, if◌then◌else◌}
+use Rattle.std.specs.List.{AllByRecursion, list_any, filter}
 use Rattle.std.proofs.lemmas.Bool.{cases_lt}
 use Rattle.std.proofs.lemmas.List.{append-nil, drop_at, length-append}
 use Rattle.std.proofs.lemmas.List.Concat.{flat_map-cons}
@@ -10,9 +10,9 @@ use Rattle.std.proofs.lemmas.List.Sums.{sum_by-cons}
 use Rattle.elf_static.specs.declared.fault.ElfFault.{ElfFault}
 use Rattle.elf_static.specs.ObjectValue.{ObjectValue, PartValue}
 use Rattle.elf_static.specs.Writable.{Covers, IsInRange, AreApart, NoTwoMeet, IsWritable}
-use Rattle.elf_static.specs.Layout.{bytes_start, bodies_length, file_length, file_header, program_header, program_headers, bodies, elf_text}
+use Rattle.elf_static.specs.Layout.{bytes_start, bodies_length, file_header, program_header, program_headers, bodies, elf_text}
 use Rattle.elf_static.specs.ElfValue.{SegmentValue, first_header, header_count_in, headers_from, segments_of, elf_of}
-use Rattle.elf_static.specs.ElfFaults.{◌or_else◌, meets, is_covered, header_fault, headers_fault, entry_fault, elf_fault}
+use Rattle.elf_static.specs.ElfFaults.{◌or_else◌, meets, is_covered, headers_fault, entry_fault, elf_fault}
 use Rattle.elf_static.specs.Loaded.{has_bytes, segment_of, loaded}
 use Rattle.elf_static.proofs.HeaderSteps.{segments_of_cons}
 use Rattle.elf_static.proofs.HeaderReread.{behind, header_reads}

@@ -4,8 +4,8 @@ use Rattle.std.specs.List.{AllByRecursion, Any}
 use Rattle.elf_static.specs.ElfValue.{SegmentValue, ElfValue}
 
 -- the address is that of a byte of the segment
-abbrev pub Holds : SegmentValue → ℕ → Type 0
-Holds segment address = (segment.vaddr ≤ address) × (address < segment.vaddr + segment.memsz)
+abbrev pub Covers : SegmentValue → ℕ → Type 0
+Covers segment address = (segment.vaddr ≤ address) × (address < segment.vaddr + segment.memsz)
 
 -- a segment within its limits
 pub record IsSegment (segment : SegmentValue) : Type 0 where
@@ -15,18 +15,18 @@ pub record IsSegment (segment : SegmentValue) : Type 0 where
   pub below : segment.vaddr + segment.memsz ≤ 0x7FF00000
 
 -- no address is that of a byte of both
-abbrev pub AreDisjoint : SegmentValue → SegmentValue → Type 0
-AreDisjoint segment other = (address : ℕ) → Holds segment address → Holds other address → ⊥
+abbrev pub AreApart : SegmentValue → SegmentValue → Type 0
+AreApart segment other = (address : ℕ) → Covers segment address → Covers other address → ⊥
 
 -- no two of the segments meet
-abbrev pub NoOverlap : List SegmentValue → Type 0
-NoOverlap [] = Unit {0}
-NoOverlap (segment ∷ segments) = AllByRecursion (AreDisjoint segment) segments × NoOverlap segments
+abbrev pub NoTwoMeet : List SegmentValue → Type 0
+NoTwoMeet [] = Unit {0}
+NoTwoMeet (segment ∷ segments) = AllByRecursion (AreApart segment) segments × NoTwoMeet segments
 
 -- a program within its limits
 pub record IsAcceptedElf (elf : ElfValue) : Type 0 where
   pub most : length elf.segments ≤ 64
   pub segments : AllByRecursion IsSegment elf.segments
-  pub apart : NoOverlap elf.segments
+  pub apart : NoTwoMeet elf.segments
   pub aligned : elf.entry % 4 ≡ 0
-  pub entered : Any (λ segment. Holds segment elf.entry) elf.segments
+  pub entered : Any (λ segment. Covers segment elf.entry) elf.segments

@@ -1,5 +1,5 @@
 -- What a written program is read as.
-use Rattle.std.specs.Prelude.{Bool, not, ◌==◌, List, map, length}
+use Rattle.std.specs.Prelude.{Bool, not, ◌==◌, map, length}
 use Rattle.std.specs.List.{filter}
 use Rattle.elf_static.specs.ObjectValue.{PartValue, ObjectValue}
 use Rattle.elf_static.specs.ElfValue.{SegmentValue, ElfValue}

@@ -16,31 +16,31 @@ pub(crate) const PROGRAM_HEADER_SIZE: usize = 32;
 /// The most program headers.
 const MOST_HEADERS: u16 = 64;
 
-/// Where the class stands, and that of 32 bits.
+/// Where the class stands.
 const CLASS_AT: usize = 4;
-
+/// The class of 32 bits.
 const BITS_32: u8 = 1;
-/// Where the order of bytes stands, and that with the lowest byte first.
+/// Where the order of the bytes of a number stands.
 const ORDER_AT: usize = 5;
-
+/// The order in which the lowest byte is first.
 const LOWEST_FIRST: u8 = 1;
-/// Where the type stands, and that of an executable file.
+/// Where the file's type stands.
 const KIND_AT: usize = 16;
-
+/// The type of a file that is executable.
 const EXECUTABLE: u16 = 2;
-/// Where the machine stands, and that of MIPS.
+/// Where the machine stands.
 const MACHINE_AT: usize = 18;
-
+/// The machine MIPS.
 const MIPS: u16 = 8;
 /// Where the entry stands.
 pub(crate) const ENTRY_AT: usize = 24;
 /// Where the place of the program headers stands.
 const FIRST_AT: usize = 28;
-/// Where the flags stand, whose bits from this one on are the instruction set, and that of MIPS I.
+/// Where the flags stand.
 const FLAGS_AT: usize = 36;
-
+/// The lowest bit of the instruction set in the flags, which goes up to the highest one.
 const ARCH_SHIFT: u32 = 28;
-
+/// The instruction set MIPS I.
 const MIPS_I: u32 = 0;
 /// Where the size of a program header stands.
 const SIZE_AT: usize = 42;

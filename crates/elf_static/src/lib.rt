@@ -22,7 +22,7 @@ mod writing;
 
 pub use elf::Elf;
 pub use fault::{ElfFault, ElfWhy};
-pub use law::law_reads_what_is_written;
+pub use law::{law_accepted_elf, law_reads_what_is_written};
 pub use object::{Object, Part};
 pub use reading::read;
 pub use segment::Segment;

@@ -7,10 +7,10 @@ ghost use Rattle.elf_static.specs.Answers.{Answers};
 ghost use Rattle.elf_static.specs.SegmentSeen.{segment_seen, segments_seen};
 ghost use Rattle.elf_static.specs.ElfParts.{kept_at, kept_seen};
 
-use crate::segment::Segment;
 use crate::fault::{ElfFault, ElfWhy};
 use crate::header::{PROGRAM_HEADER_SIZE, Table};
 use crate::numbers::word_at;
+use crate::segment::Segment;
 use arrayvec::ArrayVec;
 
 /// Where the offset of the segment's bytes stands in its header, behind the type.
