@@ -1,0 +1,100 @@
+#!/usr/bin/env python3
+"""Makes a boot image from a manifest: `cases/pack.py MANIFEST IMAGE`.
+
+A manifest is a text of these lines, in this order; `#` begins a comment:
+
+    pages N
+    quantum N
+    slots X ..                              an environment's number for each slot, or - for an empty one
+    env NAME flat BASE STACK ACCEPT FILE    once for each environment
+
+FILE stands beside the manifest and has the program's bytes. A FILE that ends in .bin and isn't there is made of what
+has its name: of a source .s by `aegis asm` (the bytes of its parts, one behind the other), or of hexadecimal digits
+in .hex. Whether the image has no fault is left to `aegis run`. The image's layout is in docs/FORMATS.md.
+"""
+import os
+import struct
+import subprocess
+import sys
+
+
+class Refused(Exception):
+    """A manifest or a source that makes no image."""
+
+
+def lines_of(path):
+    """The words of each line that isn't empty, with the line's number."""
+    with open(path, encoding="ascii") as file:
+        for number, line in enumerate(file, 1):
+            if words := line.split("#")[0].split():
+                yield number, words
+
+
+def bytes_of_elf(elf):
+    """What the program headers of an ELF file load, in order, without what lies between in memory."""
+    place, count = struct.unpack_from("<I", elf, 28)[0], struct.unpack_from("<H", elf, 44)[0]
+    parts = (struct.unpack_from("<IIIII", elf, place + 32 * number) for number in range(count))
+    return b"".join(elf[offset : offset + size] for kind, offset, _, _, size in parts if kind == 1)
+
+
+def assembled(aegis, source):
+    ran = subprocess.run([aegis, "asm", source], stdout=subprocess.PIPE)
+    if ran.returncode:
+        raise Refused(ran.stdout.decode(errors="replace").strip() or f"asm {source} ended with {ran.returncode}")
+    return bytes_of_elf(ran.stdout)
+
+
+def body(aegis, path):
+    """The bytes of a program's file."""
+    stem, ending = os.path.splitext(path)
+    if ending == ".bin" and not os.path.exists(path):
+        if os.path.exists(f"{stem}.s"):
+            return assembled(aegis, f"{stem}.s")
+        if os.path.exists(f"{stem}.hex"):
+            return bytes.fromhex("".join("".join(words) for _, words in lines_of(f"{stem}.hex")))
+    with open(path, "rb") as file:
+        return file.read()
+
+
+def packed(aegis, manifest):
+    """The bytes of the manifest's image."""
+    folder, fields, programs = os.path.dirname(manifest), {}, []
+    for number, words in lines_of(manifest):
+        wanted = ("pages", "quantum", "slots", "env")[min(len(fields), 3)]
+        try:
+            if words[0] != wanted:
+                raise ValueError
+            if wanted == "env":
+                name, kind, base, stack, accept, file = words[1:]
+                if kind != "flat":
+                    raise ValueError
+                code = body(aegis, os.path.join(folder, file))
+                numbers = [int(base, 0), int(stack, 0), int(accept, 0), 0, len(code)]
+                programs.append(struct.pack("<8s5I", name.encode(), *numbers) + code)
+            elif wanted == "slots":
+                fields[wanted] = bytes(255 if word == "-" else int(word, 0) for word in words[1:])
+            else:
+                fields[wanted] = int(*words[1:], 0)
+        except (ValueError, TypeError, struct.error):
+            raise Refused(f"{manifest}: line {number} isn't of the form of a manifest's '{wanted}' line") from None
+    if not programs:
+        raise Refused(f"{manifest}: it ends too early")
+    slots = fields["slots"]
+    head = struct.pack("<4sIIHH", b"AEG1", fields["pages"], fields["quantum"], len(programs), len(slots))
+    return head + slots + b"".join(programs)
+
+
+def main():
+    if len(sys.argv) != 3:
+        sys.exit("usage: cases/pack.py MANIFEST IMAGE")
+    aegis = os.environ.get("AEGIS") or os.path.join(os.path.dirname(os.path.abspath(__file__)), "..", "aegis")
+    try:
+        image = packed(aegis, sys.argv[1])
+        with open(sys.argv[2], "wb") as file:
+            file.write(image)
+    except (Refused, OSError) as why:
+        sys.exit(f"pack.py: {why}")
+
+
+if __name__ == "__main__":
+    main()
