@@ -1,0 +1,2 @@
+start: addiu $2,$0,2
+       syscall
