@@ -1,7 +1,6 @@
 -- An environment's frame: the registers that are kept of it, and where its page numbers lead.
-use Rattle.std.specs.Prelude.{ℕ, ◌+◌, ◌%◌, ◌^◌, ◌<◌, List, length, map, find, replicate, slice_index, false, ◌==◌, Option}
+use Rattle.std.specs.Prelude.{ℕ, ◌<◌, List, length, map, find, slice_index, ◌==◌, Option}
 use Rattle.mips_exec.specs.declared.registers.Cpu.{Cpu}
-use Rattle.mips_exec.specs.Cpu.{restart_of}
 use Rattle.env_frames.specs.declared.mapping.Mapping.{Mapping}
 
 -- the kept registers, and the guaranteed mappings by rising page number
@@ -24,11 +23,3 @@ IsRising xs = (i j : ℕ) → i < j → j < length xs → slice_index xs i < sli
 -- the page number is above that of each mapping
 abbrev pub IsAbove : List Mapping → ℕ → Type 0
 IsAbove mappings vpn = (k : ℕ) → k < length (numbers mappings) → slice_index (numbers mappings) k < vpn
-
--- a stopped machine runs again from its restart address, so a branch whose slot was due runs again
-abbrev pub rested : Cpu → Cpu
-rested cpu = record cpu { pc = restart_of cpu; next = (restart_of cpu + 4) % 2 ^ 32; slot = false }
-
--- the registers of a machine in which nothing has run
-abbrev pub blank_cpu : Cpu
-blank_cpu = record { regs = replicate 32 0; hi = 0; lo = 0; pc = 0; next = 0; slot = false }

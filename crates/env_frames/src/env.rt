@@ -1,14 +1,14 @@
 ghost use Rattle.std.specs.Prelude.{◌≡◌, ◌<◌, ◌≤◌, ◌+◌, [], ◌∷◌, ◌++◌, length, true};
-ghost use Rattle.env_frames.specs.Frame.{IsAbove, IsRising, blank_cpu as blank, mapping_at, numbers, rested};
+ghost use Rattle.aegis_limits.specs.Limits.{most_mappings};
+ghost use Rattle.mips_exec.specs.Cpu.{blank_cpu, rested};
+ghost use Rattle.env_frames.specs.Frame.{IsAbove, IsRising, mapping_at, numbers};
 
 use crate::mapping::Mapping;
 use crate::search::place_in;
+use aegis_limits::MOST_MAPPINGS;
 use arrayvec::ArrayVec;
-use mips_exec::{Cpu, restart};
+use mips_exec::Cpu;
 use std::marker::Model;
-
-/// The most guaranteed mappings that an environment has.
-pub const MOST_MAPPINGS: usize = 256;
 
 /// The page number at which each environment sees its context page.
 const CONTEXT_PAGE: u32 = 1;
@@ -18,7 +18,7 @@ const CONTEXT_PAGE: u32 = 1;
 #[derive(Drop)]
 pub struct Env {
     cpu: Cpu,
-    mappings: ArrayVec<Mapping, 256>,
+    mappings: ArrayVec<Mapping, MOST_MAPPINGS>,
 }
 
 impl Model for Env {
@@ -30,20 +30,6 @@ impl Model for Env {
     ghost view = { λ e. record { cpu = e.cpu; mappings = e.mappings.items } };
 
     ghost invariant = { λ e. IsRising (numbers e.mappings.items) };
-}
-
-/// The registers of a machine in which nothing has run.
-fn blank_cpu() -> Cpu
-    ensures { result ≡ blank }
-{
-    Cpu {
-        regs: [0; 32],
-        hi: 0,
-        lo: 0,
-        pc: 0,
-        next: 0,
-        slot: false,
-    }
 }
 
 impl Env {
@@ -63,7 +49,7 @@ impl Env {
 
     /// Guarantees a mapping, at a page number above all that are guaranteed.
     pub fn guarantee(&mut self, vpn: u32, page: u32, writable: bool)
-        requires room { length self.old.mappings < 256 }
+        requires room { length self.old.mappings < most_mappings }
         requires above { IsAbove self.old.mappings vpn }
         ensures mapping { self.new ≡ record self.old { mappings = self.old.mappings ++ record { vpn = vpn; page = page; writable = writable } ∷ [] } }
         ensures above { IsAbove self.new.mappings (vpn + 1) }
@@ -88,7 +74,7 @@ impl Env {
     pub fn mappings(&self) -> &[Mapping]
         ensures value { result.now ≡ self.now.mappings }
         ensures rising { IsRising (numbers self.now.mappings) }
-        ensures count { length result.now ≤ 256 }
+        ensures count { length result.now ≤ most_mappings }
     {
         self.mappings.as_slice()
     }
@@ -111,20 +97,14 @@ impl Env {
     pub fn restore(&self) -> Cpu
         ensures { result ≡ rested self.now.cpu }
     {
-        let address = restart(&self.cpu);
-        Cpu {
-            pc: address,
-            next: address.wrapping_add(4),
-            slot: false,
-            ..self.cpu
-        }
+        self.cpu.rested()
     }
 
     /// The environment is dead: nothing of it is kept, and all its registers are 0.
     pub fn clear(&mut self)
-        ensures { self.new ≡ record { cpu = blank; mappings = [] } }
+        ensures { self.new ≡ record { cpu = blank_cpu; mappings = [] } }
     {
-        self.cpu = blank_cpu();
+        self.cpu = Cpu::blank();
         self.mappings.clear();
     }
 }

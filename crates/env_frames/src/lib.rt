@@ -10,5 +10,5 @@ mod search;
 #[cfg(test)]
 mod tests;
 
-pub use env::{Env, MOST_MAPPINGS};
+pub use env::Env;
 pub use mapping::Mapping;

@@ -1,10 +1,18 @@
--- Physical memory as a list of pages of 4,096 bytes each.
+-- Physical memory as a list of pages.
 use Rattle.std.specs.Prelude.{ℕ, ◌+◌, List, [], ◌++◌, length, take, drop, replicate, slice_index_or, slice_set}
+use Rattle.aegis_limits.specs.Limits.{page_size}
 use Rattle.byteorder.specs.Endian.{little_number, little_bytes}
+
+-- how many pages there may be
+abbrev pub least_frames : ℕ
+least_frames = 16
+
+abbrev pub most_frames : ℕ
+most_frames = 4096
 
 -- a page of zeros
 abbrev pub zero_page : List ℕ
-zero_page = replicate 4096 0
+zero_page = replicate page_size 0
 
 -- so many pages of zeros
 abbrev pub zeroed : ℕ → List (List ℕ)

@@ -1,13 +1,12 @@
 ghost use Rattle.std.specs.Prelude.{◌≡◌, ◌<◌, ◌≤◌, ◌+◌, ◌%◌, length, IfOk};
-ghost use Rattle.frame_store.specs.Pages.{zero_page, zeroed, page_at, with_page, after_put, word_at, word_bytes};
+ghost use Rattle.aegis_limits.specs.Limits.{page_size};
+ghost use Rattle.frame_store.specs.Pages.{least_frames, most_frames, zero_page, zeroed, page_at, with_page, after_put, word_at, word_bytes};
 
+use aegis_limits::PAGE_SIZE;
 use byteorder::{ByteOrder, LittleEndian};
 use edge_io::OutOfMemory;
 use std::alloc::Global;
 use std::marker::Model;
-
-/// The bytes of a page.
-pub const PAGE_SIZE: usize = 4096;
 
 /// The pages of physical memory, from 16 to 4,096 of them, numbered from 0.
 #[derive(Drop)]
@@ -17,19 +16,20 @@ pub struct Frames {
 
 impl Model for Frames {
     ghost use Rattle.std.specs.Prelude.{◌≤◌, ℕ, List, length};
+    ghost use Rattle.frame_store.specs.Pages.{least_frames, most_frames};
 
     ghost Value = { List (List ℕ) };
 
     ghost view = { λ f. f.pages.items };
 
-    ghost invariant = { λ f. (16 ≤ length f.pages.items) × (length f.pages.items ≤ 4096) };
+    ghost invariant = { λ f. (least_frames ≤ length f.pages.items) × (length f.pages.items ≤ most_frames) };
 }
 
 impl Frames {
     /// So many pages of zeros, from 16 to 4,096. An `Err` says that there is no memory for them.
     pub fn new(alloc: Global, pages: u32) -> Result<Frames, OutOfMemory>
-        requires enough { 16 ≤ pages }
-        requires within { pages ≤ 4096 }
+        requires enough { least_frames ≤ pages }
+        requires within { pages ≤ most_frames }
         ensures { IfOk result (λ f. f ≡ zeroed pages) }
     {
         let mut zeroed = Vec::with_capacity(alloc, pages as usize)?;
@@ -42,8 +42,8 @@ impl Frames {
     /// How many pages there are, from 16 to 4,096.
     pub fn pages(&self) -> u32
         ensures count { result ≡ length self.now }
-        ensures least { 16 ≤ result }
-        ensures most { result ≤ 4096 }
+        ensures least { least_frames ≤ result }
+        ensures most { result ≤ most_frames }
     {
         self.pages.len() as u32
     }
@@ -52,7 +52,7 @@ impl Frames {
     pub fn page(&self, n: u32) -> &[u8]
         requires { n < length self.now }
         ensures bytes { result.now ≡ page_at self.now n }
-        ensures size { length result.now ≡ 4096 }
+        ensures size { length result.now ≡ page_size }
     {
         let page = &self.pages[n as usize];
         &page[..]
@@ -78,7 +78,7 @@ impl Frames {
     /// Puts bytes into a page from an offset on. They end within the page.
     pub fn put(&mut self, n: u32, offset: u32, bytes: &[u8])
         requires there { n < length self.old }
-        requires within { offset + length bytes.now ≤ 4096 }
+        requires within { offset + length bytes.now ≤ page_size }
         ensures { self.new ≡ after_put self.old n offset bytes.now }
     {
         let offset = offset as usize;
@@ -89,7 +89,7 @@ impl Frames {
     /// The word at an offset in bytes, a multiple of 4 below 4,096: its lowest byte stands first.
     pub fn word(&self, n: u32, offset: u32) -> u32
         requires there { n < length self.now }
-        requires within { offset < 4096 }
+        requires within { offset < page_size }
         requires aligned { offset % 4 ≡ 0 }
         ensures { result ≡ word_at (page_at self.now n) offset }
     {
@@ -99,7 +99,7 @@ impl Frames {
     /// Puts a word at an offset in bytes, a multiple of 4 below 4,096, its lowest byte first.
     pub fn set_word(&mut self, n: u32, offset: u32, value: u32)
         requires there { n < length self.old }
-        requires within { offset < 4096 }
+        requires within { offset < page_size }
         requires aligned { offset % 4 ≡ 0 }
         ensures { self.new ≡ after_put self.old n offset (word_bytes value) }
     {

@@ -8,4 +8,4 @@ mod frames;
 #[cfg(test)]
 mod tests;
 
-pub use frames::{Frames, PAGE_SIZE};
+pub use frames::Frames;

@@ -1,5 +1,5 @@
 -- The registers of the processor, and how an instruction moves on.
-use Rattle.std.specs.Prelude.{ℕ, ◌+◌, ◌-◌, ◌*◌, ◌/◌, ◌%◌, ◌^◌, Bool, true, false, if◌then◌else◌, ◌==◌, slice_index, slice_set}
+use Rattle.std.specs.Prelude.{ℕ, ◌+◌, ◌-◌, ◌*◌, ◌/◌, ◌%◌, ◌^◌, Bool, true, false, if◌then◌else◌, ◌==◌, replicate, slice_index, slice_set}
 use Rattle.mips_isa.specs.Word.{sign16_of}
 use Rattle.mips_exec.specs.declared.registers.Cpu.{Cpu}
 use Rattle.mips_exec.specs.Word.{word_of}
@@ -40,3 +40,11 @@ address_of cpu base imm = word_of (reg cpu base + sign16_of imm)
 -- where a stopped program goes on: at the branch where pc is its delay slot
 abbrev pub restart_of : Cpu → ℕ
 restart_of cpu = if cpu.slot then word_of (cpu.pc + (2 ^ 32 - 4)) else cpu.pc
+
+-- a stopped machine runs again from its restart address, so a branch whose slot was due runs again
+abbrev pub rested : Cpu → Cpu
+rested cpu = record cpu { pc = restart_of cpu; next = word_of (restart_of cpu + 4); slot = false }
+
+-- the registers of a machine in which nothing has run
+abbrev pub blank_cpu : Cpu
+blank_cpu = record { regs = replicate 32 0; hi = 0; lo = 0; pc = 0; next = 0; slot = false }

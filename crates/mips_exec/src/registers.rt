@@ -1,5 +1,5 @@
 ghost use Rattle.std.specs.Prelude.{◌≡◌};
-ghost use Rattle.mips_exec.specs.Cpu.{address_of, reg, restart_of, with_reg};
+ghost use Rattle.mips_exec.specs.Cpu.{address_of, blank_cpu, reg, rested, restart_of, with_reg};
 
 use mips_isa::sign16;
 
@@ -21,6 +21,33 @@ pub struct Cpu {
 }
 
 impl Cpu {
+    /// The registers of a machine in which nothing has run: all are 0.
+    pub fn blank() -> Cpu
+        ensures { result ≡ blank_cpu }
+    {
+        Cpu {
+            regs: [0; 32],
+            hi: 0,
+            lo: 0,
+            pc: 0,
+            next: 0,
+            slot: false,
+        }
+    }
+
+    /// The registers with which a stopped program goes on: at its restart address, out of a delay slot.
+    pub fn rested(&self) -> Cpu
+        ensures { result ≡ rested self.now }
+    {
+        let address = restart(self);
+        Cpu {
+            pc: address,
+            next: address.wrapping_add(4),
+            slot: false,
+            ..*self
+        }
+    }
+
     /// What register `n` reads, 0 from 32 on.
     pub fn reg(&self, n: u8) -> u32
         ensures { result ≡ reg self.now n }

@@ -1,0 +1,42 @@
+-- The limits of the machine and of the kernel.
+use Rattle.std.specs.Prelude.{ℕ}
+
+-- the bytes of a page
+abbrev pub page_size : ℕ
+page_size = 4096
+
+-- the pages of physical memory
+abbrev pub least_pages : ℕ
+least_pages = 16
+
+abbrev pub most_pages : ℕ
+most_pages = 1024
+
+-- the ticks of a quantum
+abbrev pub least_quantum : ℕ
+least_quantum = 16
+
+abbrev pub most_quantum : ℕ
+most_quantum = 65536
+
+-- environments are numbered from 0, at most so many
+abbrev pub most_environments : ℕ
+most_environments = 16
+
+abbrev pub most_slots : ℕ
+most_slots = 64
+
+-- the guaranteed mappings of an environment, its context page among them
+abbrev pub most_mappings : ℕ
+most_mappings = 256
+
+abbrev pub most_stack_pages : ℕ
+most_stack_pages = 16
+
+-- the bytes of a console
+abbrev pub console_size : ℕ
+console_size = 65536
+
+-- the ticks of a run
+abbrev pub most_ticks : ℕ
+most_ticks = 4194304

@@ -1,0 +1,55 @@
+//! The limits of the machine and of the kernel (`docs/FORMATS.md`, "Limits"). Each stands once as its number, in
+//! `specs/Limits.antt`, by which the contracts speak; the constants here are for code, and `constants_are_the_limits`
+//! says that they are those numbers.
+#![tactic(auto)]
+
+ghost use Rattle.std.specs.Prelude.{◌≡◌};
+ghost use Rattle.aegis_limits.specs.Limits.{page_size, least_pages, most_pages, least_quantum, most_quantum, most_environments, most_slots, most_mappings, most_stack_pages, console_size, most_ticks};
+
+/// The bytes of a page.
+pub const PAGE_SIZE: usize = 4096;
+
+/// The fewest pages of physical memory that a board has.
+pub const LEAST_PAGES: u32 = 16;
+
+/// The most pages of physical memory that a board has.
+pub const MOST_PAGES: u32 = 1024;
+
+/// The shortest quantum, in ticks.
+pub const LEAST_QUANTUM: u32 = 16;
+
+/// The longest quantum, in ticks.
+pub const MOST_QUANTUM: u32 = 65_536;
+
+/// The most environments on a board.
+pub const MOST_ENVIRONMENTS: usize = 16;
+
+/// The most slots of a vector of slots.
+pub const MOST_SLOTS: usize = 64;
+
+/// The most guaranteed mappings of an environment, its context page among them.
+pub const MOST_MAPPINGS: usize = 256;
+
+/// The most pages of an environment's stack.
+pub const MOST_STACK_PAGES: u32 = 16;
+
+/// The bytes that a console holds at most.
+pub const CONSOLE_SIZE: usize = 65_536;
+
+/// The most ticks of a run: time ends here.
+pub const MOST_TICKS: u32 = 4_194_304;
+
+/// Law: the constants are the limits.
+pub fn constants_are_the_limits()
+    ensures page { PAGE_SIZE ≡ page_size }
+    ensures pages_least { LEAST_PAGES ≡ least_pages }
+    ensures pages_most { MOST_PAGES ≡ most_pages }
+    ensures quantum_least { LEAST_QUANTUM ≡ least_quantum }
+    ensures quantum_most { MOST_QUANTUM ≡ most_quantum }
+    ensures environments { MOST_ENVIRONMENTS ≡ most_environments }
+    ensures slots { MOST_SLOTS ≡ most_slots }
+    ensures mappings { MOST_MAPPINGS ≡ most_mappings }
+    ensures stack { MOST_STACK_PAGES ≡ most_stack_pages }
+    ensures console { CONSOLE_SIZE ≡ console_size }
+    ensures ticks { MOST_TICKS ≡ most_ticks }
+{}
