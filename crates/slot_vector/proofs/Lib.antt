@@ -1,3 +1,3 @@
-pub mod Around
-pub mod NextTurn
-pub mod Release
+mod Around
+mod Mask
+mod Release

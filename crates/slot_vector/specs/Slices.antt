@@ -1,114 +1,76 @@
--- The vector of slots, its turns and its timer.
-use Rattle.std.specs.Prelude.{ℕ, zero, suc, ◌+◌, ◌-◌, ◌%◌, ◌<◌, ◌^◌, Bool, true, false, ◌==◌, ◌&&◌, ◌||◌, if◌then◌else◌, Option, Some, None, is_none, List, [], ◌∷◌, length, map, slice_get}
-use Rattle.slot_vector.specs.declared.hold.Hold.{Hold}
-use Rattle.slot_vector.specs.declared.hold.Turn.{Turn}
-use Rattle.slot_vector.specs.declared.hold.Turn.TheVariants as turn
-use Rattle.slot_vector.specs.declared.hold.Timer.{Timer}
-use Rattle.slot_vector.specs.declared.hold.Timer.TheVariants as timer
+-- The vector of slots as a list, its turns and its timer; what each slot and turn is stands in the model's book.
+use Rattle.std.specs.Prelude.{ℕ, ◌+◌, ◌-◌, ◌*◌, ◌≤◌, Bool, true, false, ◌==◌, ◌&&◌, if◌then◌else◌, Option, Some, None, is_none, List, [], ◌∷◌, length, map, slice_get}
+use Rattle.std.specs.Option.{option_flatten, option_map}
+use Rattle.world_model.specs.declared.slot.Hold.{Hold}
+use Rattle.world_model.specs.declared.slot.Runner.{Runner}
+use Rattle.world_model.specs.declared.slot.Turn.{Turn}
+use Rattle.world_model.specs.Book.{first_turn, own_hold, released, has_part, is_runner}
+use Rattle.slot_vector.specs.declared.timer.Timer.{Timer}
+use Rattle.slot_vector.specs.declared.timer.Timer.TheVariants as timer
 
--- the slots in their order, none where a slot is empty; the runner, if one runs, runs in the cursor's slot for so many ticks more
+-- the slots in their order, none where a slot is empty; a runner, if one runs, runs in the cursor's slot
 pub record Slices : Type 0 where
   pub slots : List (Option Hold)
   pub quantum : ℕ
   pub cursor : ℕ
-  pub runner : Option ℕ
-  pub left : ℕ
-
--- at the start an owner holds its slot itself
-abbrev pub own_hold : Option ℕ → Option Hold
-own_hold None = None
-own_hold (Some e) = Some (record { owner = e; holder = e })
-
--- the vector before its first turn, which is the first held slot's
-abbrev pub first_slices : ℕ → List (Option ℕ) → Slices
-first_slices quantum owners = record { slots = map own_hold owners; quantum = quantum; cursor = length owners - 1; runner = None; left = 0 }
-
-abbrev pub hold_or_none : Option (Option Hold) → Option Hold
-hold_or_none None = None
-hold_or_none (Some hold) = hold
+  pub runner : Option Runner
 
 -- the hold of the slot of this number; past the last there is none
 abbrev pub hold_at : List (Option Hold) → ℕ → Option Hold
-hold_at slots place = hold_or_none (slice_get slots place)
+hold_at slots k = option_flatten (slice_get slots k)
 
-abbrev pub owner_in : Option Hold → Option ℕ
-owner_in None = None
-owner_in (Some hold) = Some hold.owner
+-- the vector before its first turn, which is the first held slot's: each owner holds its slot itself
+abbrev pub first_slices : ℕ → List (Option ℕ) → Slices
+first_slices quantum owners = record { slots = map (option_map own_hold) owners; quantum = quantum; cursor = length owners - 1; runner = None }
 
-abbrev pub holder_in : Option Hold → Option ℕ
-holder_in None = None
-holder_in (Some hold) = Some hold.holder
+-- whose turn is next
+abbrev pub next_turn : Slices → Option Turn
+next_turn v = first_turn (hold_at v.slots) (length v.slots) v.cursor (length v.slots)
 
-abbrev pub run_or : ℕ → Option Hold → Turn → Turn
-run_or slot None later = later
-run_or slot (Some hold) later = turn.Run slot hold.holder
-
--- of so many slots after a place, in circular order, the first that has a holder
-abbrev pub first_held : List (Option Hold) → ℕ → ℕ → Turn
-first_held slots place zero = turn.Idle
-first_held slots place (suc tries) = run_or ((place + 1) % length slots) (hold_at slots ((place + 1) % length slots)) (first_held slots ((place + 1) % length slots) tries)
-
--- who runs next: the holder of the next held slot after the cursor, all around
-abbrev pub next_turn : Slices → Turn
-next_turn v = first_held v.slots v.cursor (length v.slots)
-
--- a turn that begins is in one of so many slots
-abbrev pub IsTurnWithin : ℕ → Turn → Type 0
-IsTurnWithin count turn.Idle = Unit {0}
-IsTurnWithin count (turn.Run slot e) = slot < count
-
--- the vector once this turn began
-abbrev pub with_turn : Slices → Turn → Slices
-with_turn v turn.Idle = v
-with_turn v (turn.Run slot e) = record v { cursor = slot; runner = Some e; left = v.quantum }
+-- the vector once this turn began, with a full quantum
+abbrev pub with_turn : Slices → Option Turn → Slices
+with_turn v None = v
+with_turn v (Some t) = record v { cursor = t.slot; runner = Some (record { env = t.env; left = v.quantum }) }
 
 -- the vector once the turn ended
 abbrev pub turn_ended : Slices → Slices
-turn_ended v = record v { runner = None; left = 0 }
+turn_ended v = record v { runner = None }
 
--- the timer stops the runner after the last tick of its slice
-abbrev pub timer_answer : Slices → Timer
-timer_answer v = if v.left == 1 then timer.Stop else timer.Nothing
+-- a runner after a tick of its slice: none after the last
+abbrev pub counted : Runner → Option Runner
+counted r = if r.left == 1 then None else Some (record r { left = r.left - 1 })
+
+abbrev pub counted_in : Option Runner → Option Runner
+counted_in None = None
+counted_in (Some r) = counted r
 
 -- the vector once the timer counted
 abbrev pub timer_counted : Slices → Slices
-timer_counted v = if v.left == 1 then turn_ended v else (record v { left = v.left - 1 })
+timer_counted v = record v { runner = counted_in v.runner }
 
-abbrev pub is_idle_turn : Turn → Bool
-is_idle_turn turn.Idle = true
-is_idle_turn (turn.Run slot e) = false
+-- the timer stops the runner after the last tick of its slice
+abbrev pub timer_answer : Option Runner → Timer
+timer_answer None = timer.Nothing
+timer_answer (Some r) = if r.left == 1 then timer.Stop else timer.Nothing
+
+-- a runner has ticks left
+abbrev pub HasTicks : Option Runner → Type 0
+HasTicks None = Unit {0}
+HasTicks (Some r) = 1 ≤ r.left
 
 -- nobody runs and no slot has a holder
 abbrev pub is_idle : Slices → Bool
-is_idle v = is_none v.runner && is_idle_turn (next_turn v)
+is_idle v = is_none v.runner && is_none (next_turn v)
 
--- a slot once the environment is gone: what it owned is empty, and what it held for another goes back to its owner
-abbrev pub released : ℕ → Option Hold → Option Hold
-released e None = None
-released e (Some hold) = if hold.owner == e then None else if hold.holder == e then Some (record { owner = hold.owner; holder = hold.owner }) else Some hold
+abbrev pub bit : Bool → ℕ
+bit false = 0
+bit true = 1
 
--- the slots that change then are those that the environment owns or holds
-abbrev pub is_its_own : ℕ → Option Hold → Bool
-is_its_own e None = false
-is_its_own e (Some hold) = hold.owner == e || hold.holder == e
+-- a bit for each slot that changes once an environment is gone, the lowest for the first
+abbrev pub mask_of : ℕ → List (Option Hold) → ℕ
+mask_of e [] = 0
+mask_of e (slot ∷ slots) = bit (has_part e slot) + 2 * mask_of e slots
 
--- the bit of the slot of this number, where it changes
-abbrev pub changed_bit : ℕ → ℕ → Option Hold → ℕ
-changed_bit e place slot = if is_its_own e slot then 2 ^ place else 0
-
--- a bit for each slot that changes, of those from this number on
-abbrev pub changed_bits : ℕ → ℕ → List (Option Hold) → ℕ
-changed_bits e place [] = 0
-changed_bits e place (slot ∷ rest) = changed_bit e place slot + changed_bits e (place + 1) rest
-
-abbrev pub is_runner : ℕ → Option ℕ → Bool
-is_runner e None = false
-is_runner e (Some runner) = runner == e
-
--- the turn of the environment ends, if it runs
-abbrev pub without_turn_of : ℕ → Slices → Slices
-without_turn_of e v = if is_runner e v.runner then turn_ended v else v
-
--- the vector once the environment is gone
+-- the vector once an environment is gone: its turn ends, if it runs
 abbrev pub without_env : ℕ → Slices → Slices
-without_env e v = without_turn_of e (record v { slots = map (released e) v.slots })
+without_env e v = record v { slots = map (released e) v.slots; runner = if is_runner e v.runner then None else v.runner }

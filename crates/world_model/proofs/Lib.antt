@@ -1,1 +1,2 @@
-pub mod Fold
+mod Fold
+mod NextTurn

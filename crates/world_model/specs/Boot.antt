@@ -1,17 +1,17 @@
 -- The world that an image boots.
 use Rattle.std.specs.Prelude.{ℕ, zero, suc, ◌+◌, ◌-◌, ◌*◌, ◌/◌, List, [], ◌∷◌, ◌++◌, length, take, drop, replicate, true, Option, Some, None, slice_get}
 use Rattle.std.specs.Option.{option_flatten, option_map}
+use Rattle.aegis_limits.specs.Limits.{page_size}
+use Rattle.frame_store.specs.Pages.{zero_page}
 use Rattle.boot_image.specs.ImageValue.{ImageValue, ProgramValue, body_pages}
 use Rattle.kernel_journal.specs.declared.row.Row.{Row}
-use Rattle.world_model.specs.Tick.{slot_row}
-use Rattle.world_model.specs.Book.{Book, Hold, own_hold}
+use Rattle.world_model.specs.declared.slot.Hold.{Hold}
+use Rattle.world_model.specs.Verdict.{slot_row}
+use Rattle.world_model.specs.Book.{Book, own_hold}
 use Rattle.world_model.specs.Page.{KeptPage}
 use Rattle.world_model.specs.Solo.{absent}
 use Rattle.world_model.specs.Item.{Item, Boot, absorb_all}
 use Rattle.world_model.specs.World.{World, only}
-
-abbrev pub zero_page : List ℕ
-zero_page = replicate 4096 0
 
 -- a guaranteed page that may be stored to
 abbrev pub open_page : ℕ → List ℕ → KeptPage
@@ -24,11 +24,11 @@ listed f (suc n) = listed f n ++ f n ∷ []
 
 -- the bytes from a place on that a page has room for, and zeros behind them
 abbrev pub page_from : List ℕ → ℕ → List ℕ
-page_from bytes at = let given = take 4096 (drop at bytes) in given ++ replicate (4096 - length given) 0
+page_from bytes at = let given = take page_size (drop at bytes) in given ++ replicate (page_size - length given) 0
 
 -- a flat program's pages, from its base on
 abbrev pub program_page : ProgramValue → ℕ → KeptPage
-program_page p i = open_page (p.base / 4096 + i) (page_from p.bytes (4096 * i))
+program_page p i = open_page (p.base / page_size + i) (page_from p.bytes (page_size * i))
 
 -- the stack's pages end below 0x7FFF0000
 abbrev pub stack_page : ProgramValue → ℕ → KeptPage
@@ -67,7 +67,6 @@ boot_book quantum owners = record {
   quantum = quantum;
   cursor = length owners - 1;
   runner = None;
-  left = 0;
   time = 0;
 }
 

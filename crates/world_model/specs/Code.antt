@@ -1,5 +1,5 @@
 -- The answer codes of kernel calls and their numbers.
-use Rattle.std.specs.Prelude.{ℕ, Bool, ◌==◌}
+use Rattle.std.specs.Prelude.{ℕ}
 use Rattle.world_model.specs.declared.code.Code.{Code}
 use Rattle.world_model.specs.declared.code.Code.TheVariants as code
 
@@ -26,6 +26,3 @@ code_number code.ConsoleFull = 18
 code_number code.Full = 19
 code_number code.BadCall = 20
 code_number code.BadPointer = 21
-
-abbrev pub is_ok_code : Code → Bool
-is_ok_code code = code_number code == 0

@@ -1,11 +1,13 @@
 pub mod Code
 pub mod Page
 pub mod Solo
+pub mod Call
 pub mod Step
 pub mod Item
 pub mod Book
+pub mod NextTurn
 pub mod World
-pub mod Call
+pub mod Verdict
 pub mod Tick
 pub mod Boot
 pub mod Run

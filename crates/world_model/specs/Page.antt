@@ -1,5 +1,6 @@
 -- What an access answers, given where each page number leads.
-use Rattle.std.specs.Prelude.{ℕ, ◌+◌, ◌/◌, ◌%◌, List, ◌++◌, length, take, drop, Bool, true, false, not, ◌&&◌, nat_le, if◌then◌else◌, Option, Some, None, Result, Ok, Err}
+use Rattle.std.specs.Prelude.{ℕ, ◌/◌, ◌%◌, List, drop, Bool, true, false, not, ◌&&◌, nat_le, if◌then◌else◌, Option, Some, None, Result, Ok, Err}
+use Rattle.aegis_limits.specs.Limits.{page_size}
 use Rattle.byteorder.specs.Endian.{little_number}
 use Rattle.mips_exec.specs.declared.exception.Exc.{Exc}
 use Rattle.mips_exec.specs.declared.exception.ExcCode.{ExcCode}
@@ -44,13 +45,17 @@ abbrev pub served : Purpose → ℕ → Option Mapped → Result Mapped Exc
 served purpose address None = Err (raised (miss purpose) address)
 served purpose address (Some m) = if is_store purpose && not m.writable then Err (raised code.Mod address) else Ok m
 
--- where an access goes: user addresses lie below 0x80000000, and the page number is the address over 4,096
+-- user addresses lie below this one
+abbrev pub user_end : ℕ
+user_end = 0x80000000
+
+-- where an access goes: the page number is the address over the size of a page
 abbrev pub reach : (ℕ → Option Mapped) → Purpose → ℕ → Result Mapped Exc
-reach look purpose address = if nat_le 0x80000000 address then Err (raised (address_error purpose) address) else served purpose address (look (address / 4096))
+reach look purpose address = if nat_le user_end address then Err (raised (address_error purpose) address) else served purpose address (look (address / page_size))
 
 -- the bytes of a page from an address on
 abbrev pub bytes_from : ℕ → Mapped → List ℕ
-bytes_from address m = drop (address % 4096) m.bytes
+bytes_from address m = drop (address % page_size) m.bytes
 
 -- what is answered where an access is served; an exception is handed on
 abbrev pub if_served : {A : Type 0} → (Mapped → A) → Result Mapped Exc → Result A Exc
@@ -68,7 +73,3 @@ answers_by look = record {
   load = λ address width. read_answer Load look address width;
   store = λ address width. if_served (λ m. tt) (reach look Store address);
 }
-
--- a page after bytes were put at a place
-abbrev pub with_bytes : List ℕ → ℕ → List ℕ → List ℕ
-with_bytes page at new = take at page ++ new ++ drop (at + length new) page

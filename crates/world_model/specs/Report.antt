@@ -12,13 +12,13 @@ use Rattle.kernel_journal.specs.declared.row.RunEnd.TheVariants as end
 use Rattle.mips_exec.specs.declared.registers.Cpu.{Cpu}
 use Rattle.mips_exec.specs.declared.exception.ExcCode.{ExcCode}
 use Rattle.mips_exec.specs.declared.exception.ExcCode.TheVariants as exc
-use Rattle.mips_exec.specs.Cpu.{reg}
+use Rattle.mips_exec.specs.Cpu.{reg, rested}
 use Rattle.world_model.specs.declared.life.Life.{Life}
 use Rattle.world_model.specs.declared.life.Life.TheVariants.{Live, Dead}
 use Rattle.world_model.specs.declared.life.Cause.TheVariants as cause
 use Rattle.world_model.specs.Page.{KeptPage}
 use Rattle.world_model.specs.Solo.{Solo}
-use Rattle.world_model.specs.Item.{rest}
+use Rattle.world_model.specs.Book.{is_runner}
 use Rattle.world_model.specs.World.{World}
 use Rattle.world_model.specs.Boot.{listed}
 
@@ -31,6 +31,15 @@ abbrev pub line : List (List ℕ) → List ℕ
 line [] = 10 ∷ []
 line (word ∷ words) = word ++ flat_map spaced words ++ 10 ∷ []
 
+-- a number in decimal, or a dash where there is none
+abbrev pub or_dash : Option ℕ → List ℕ
+or_dash None = codes "-"
+or_dash (Some n) = dec_text n
+
+-- a line of a name and numbers
+unfoldable pub numbers_line : List ℕ → List (Option ℕ) → List ℕ
+numbers_line name numbers = name ++ flat_map (λ n. spaced (or_dash n)) numbers ++ 10 ∷ []
+
 -- eight hexadecimal digits
 abbrev pub word_text : ℕ → List ℕ
 word_text n = hex_text 8 n
@@ -39,12 +48,7 @@ abbrev pub flag_text : Bool → List ℕ
 flag_text true = codes "1"
 flag_text false = codes "0"
 
--- a number, or a dash where there is none
-abbrev pub or_dash : Option ℕ → List ℕ
-or_dash None = codes "-"
-or_dash (Some n) = dec_text n
-
--- the exceptions that can be a cause of death
+-- an exception's name
 abbrev pub exception_text : ExcCode → List ℕ
 exception_text exc.Int = codes "int"
 exception_text exc.Mod = codes "mod"
@@ -93,8 +97,8 @@ regs_line e cpu = line (codes "regs" ∷ dec_text e ∷ listed (register_text cp
 abbrev pub excess_of : World → ℕ → ℕ
 excess_of w e = 0
 
-unfoldable pub excess_line : ℕ → ℕ → List ℕ
-excess_line e excess = line (codes "excess" ∷ dec_text e ∷ dec_text excess ∷ [])
+abbrev pub excess_line : ℕ → ℕ → List ℕ
+excess_line e excess = numbers_line (codes "excess") (Some e ∷ Some excess ∷ [])
 
 -- a page's fingerprint: SHA-256 in 64 digits
 abbrev pub fingerprint : List ℕ → List ℕ
@@ -106,13 +110,9 @@ keep_line e p = line (codes "keep" ∷ dec_text e ∷ hex_text 5 p.vpn ∷ finge
 abbrev pub keep_lines : ℕ → List KeptPage → List ℕ
 keep_lines e kept = flat_map (keep_line e) kept
 
--- the registers that are shown: a stopped environment's at rest
-abbrev pub is_runner : Option ℕ → ℕ → Bool
-is_runner None e = false
-is_runner (Some runner) e = runner == e
-
+-- the registers that are shown: those of an environment that doesn't run at rest
 unfoldable pub shown_cpu : World → ℕ → Cpu
-shown_cpu w e = if is_runner w.book.runner e then (w.solos e).cpu else rest (w.solos e).cpu
+shown_cpu w e = if is_runner e w.book.runner then (w.solos e).cpu else rested (w.solos e).cpu
 
 -- what is shown of an environment while it lives
 unfoldable pub living_lines : World → ℕ → List ℕ
@@ -125,45 +125,21 @@ if_live (Dead cause) text = []
 unfoldable pub env_text : World → ℕ → List ℕ
 env_text w e = env_line e (w.solos e) ++ out_line e (w.solos e) ++ if_live (w.solos e).life (living_lines w e)
 
--- what befell an environment in a slot: the time, the slot and the environment
-unfoldable pub turn_line : List ℕ → ℕ → ℕ → ℕ → List ℕ
-turn_line name t slot e = line (name ∷ dec_text t ∷ dec_text slot ∷ dec_text e ∷ [])
-
--- what went from one environment to another in a slot: the time, the slot and the two environments
-unfoldable pub move_line : List ℕ → ℕ → ℕ → ℕ → ℕ → List ℕ
-move_line name t slot from to = line (name ∷ dec_text t ∷ dec_text slot ∷ dec_text from ∷ dec_text to ∷ [])
-
-unfoldable pub own_line : ℕ → ℕ → Option ℕ → Option ℕ → List ℕ
-own_line t slot owner holder = line (codes "own" ∷ dec_text t ∷ dec_text slot ∷ or_dash owner ∷ or_dash holder ∷ [])
-
-unfoldable pub over_line : ℕ → ℕ → ℕ → ℕ → List ℕ
-over_line t slot e excess = line (codes "over" ∷ dec_text t ∷ dec_text slot ∷ dec_text e ∷ dec_text excess ∷ [])
-
-unfoldable pub asked_line : ℕ → ℕ → ℕ → ℕ → List ℕ
-asked_line t e outstanding deadline = line (codes "asked" ∷ dec_text t ∷ dec_text e ∷ dec_text outstanding ∷ dec_text deadline ∷ [])
-
-unfoldable pub take_line : ℕ → ℕ → ℕ → Option ℕ → List ℕ
-take_line t e page backup = line (codes "take" ∷ dec_text t ∷ dec_text e ∷ dec_text page ∷ or_dash backup ∷ [])
-
--- a packet that nobody claimed: the time and its length
-unfoldable pub drop_line : ℕ → ℕ → List ℕ
-drop_line t size = line (codes "drop" ∷ dec_text t ∷ dec_text size ∷ [])
-
--- a row of the ledger
-unfoldable pub row_line : Row → List ℕ
-row_line (row.Own t slot owner holder) = own_line t slot owner holder
-row_line (row.Run t slot e) = turn_line (codes "run") t slot e
-row_line (row.Pay t slot e) = turn_line (codes "pay") t slot e
-row_line (row.Give t slot from to) = move_line (codes "give") t slot from to
-row_line (row.Async t slot from to) = move_line (codes "async") t slot from to
-row_line (row.Sync t slot from to) = move_line (codes "sync") t slot from to
-row_line (row.End t slot e) = turn_line (codes "end") t slot e
-row_line (row.Over t slot e excess) = over_line t slot e excess
-row_line (row.Stop t slot e) = turn_line (codes "stop") t slot e
-row_line (row.Dead t slot e) = turn_line (codes "dead") t slot e
-row_line (row.Asked t e outstanding deadline) = asked_line t e outstanding deadline
-row_line (row.Take t e page backup) = take_line t e page backup
-row_line (row.Unclaimed t size) = drop_line t size
+-- A row of the ledger: the time, and the row's numbers in their order.
+abbrev pub row_line : Row → List ℕ
+row_line (row.Own t slot owner holder) = numbers_line (codes "own") (Some t ∷ Some slot ∷ owner ∷ holder ∷ [])
+row_line (row.Run t slot e) = numbers_line (codes "run") (Some t ∷ Some slot ∷ Some e ∷ [])
+row_line (row.Pay t slot e) = numbers_line (codes "pay") (Some t ∷ Some slot ∷ Some e ∷ [])
+row_line (row.Give t slot from to) = numbers_line (codes "give") (Some t ∷ Some slot ∷ Some from ∷ Some to ∷ [])
+row_line (row.Async t slot from to) = numbers_line (codes "async") (Some t ∷ Some slot ∷ Some from ∷ Some to ∷ [])
+row_line (row.Sync t slot from to) = numbers_line (codes "sync") (Some t ∷ Some slot ∷ Some from ∷ Some to ∷ [])
+row_line (row.End t slot e) = numbers_line (codes "end") (Some t ∷ Some slot ∷ Some e ∷ [])
+row_line (row.Over t slot e excess) = numbers_line (codes "over") (Some t ∷ Some slot ∷ Some e ∷ Some excess ∷ [])
+row_line (row.Stop t slot e) = numbers_line (codes "stop") (Some t ∷ Some slot ∷ Some e ∷ [])
+row_line (row.Dead t slot e) = numbers_line (codes "dead") (Some t ∷ Some slot ∷ Some e ∷ [])
+row_line (row.Asked t e outstanding deadline) = numbers_line (codes "asked") (Some t ∷ Some e ∷ Some outstanding ∷ Some deadline ∷ [])
+row_line (row.Take t e page backup) = numbers_line (codes "take") (Some t ∷ Some e ∷ Some page ∷ backup ∷ [])
+row_line (row.Unclaimed t size) = numbers_line (codes "drop") (Some t ∷ Some size ∷ [])
 
 -- whether a row counts among an environment's turns, forfeits, or quanta of excess
 abbrev pub is_run_of : ℕ → Row → Bool
@@ -178,8 +154,8 @@ abbrev pub is_over_of : ℕ → Row → Bool
 is_over_of e (row.Over t slot who excess) = who == e
 is_over_of e _ = false
 
-unfoldable pub sum_line : List Row → ℕ → List ℕ
-sum_line rows e = line (codes "sum" ∷ dec_text e ∷ dec_text (count_by (is_run_of e) rows) ∷ dec_text (count_by (is_pay_of e) rows) ∷ dec_text (count_by (is_over_of e) rows) ∷ [])
+abbrev pub sum_line : List Row → ℕ → List ℕ
+sum_line rows e = numbers_line (codes "sum") (Some e ∷ Some (count_by (is_run_of e) rows) ∷ Some (count_by (is_pay_of e) rows) ∷ Some (count_by (is_over_of e) rows) ∷ [])
 
 -- the texts of environments 0, 1 and so on, so many
 abbrev pub for_each_env : (ℕ → List ℕ) → ℕ → List ℕ

@@ -18,12 +18,16 @@ pub record Reply : Type 0 where
   pub items : ℕ → List Item
   pub rows : List Row
 
--- these items go to one environment alone
-abbrev pub only : ℕ → List Item → ℕ → List Item
-only e items i = if i == e then items else []
+-- a table with another value at one number
+abbrev pub set_at : {A : Type 0} → ℕ → A → (ℕ → A) → ℕ → A
+set_at n x f i = if i == n then x else f i
 
 abbrev pub no_items : ℕ → List Item
 no_items i = []
+
+-- these items go to one environment alone
+abbrev pub only : ℕ → List Item → ℕ → List Item
+only e items = set_at e items no_items
 
 -- the world once each environment has absorbed its items
 abbrev pub after : World → Reply → World

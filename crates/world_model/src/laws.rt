@@ -1,7 +1,16 @@
+ghost use Rattle.std.specs.Prelude.{◌<◌};
+ghost use Rattle.world_model.specs.Book.{Book, next_turn};
+ghost use Rattle.world_model.specs.NextTurn.{IsNextTurn};
 ghost use Rattle.world_model.specs.Run.{IsFoldOfFeed};
 
 /// Each environment is what it makes alone of what it is given: for every image, number of ticks and
 /// environment, its registers, pages and console are the fold of its feed.
 pub fn law_fold()
     ensures { IsFoldOfFeed }
+{}
+
+/// The next turn is that of the first held slot after the cursor, all around, the cursor's own slot
+/// last. It is nobody's exactly where every slot is empty.
+pub fn law_next_turn()
+    ensures { (b : Book) → b.cursor < b.slot_count → IsNextTurn b (next_turn b) }
 {}

@@ -7,9 +7,11 @@ mod code;
 mod laws;
 mod life;
 mod page;
+mod slot;
 
 pub use call::Call;
 pub use code::Code;
-pub use laws::law_fold;
+pub use laws::{law_fold, law_next_turn};
 pub use life::{Cause, Life};
 pub use page::Purpose;
+pub use slot::{Hold, Runner, Turn};

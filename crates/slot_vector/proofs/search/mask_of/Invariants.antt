@@ -1,10 +1,14 @@
-use Rattle.std.proofs.Common.{◌≡◌, ◌<◌, ◌+◌, ◌^◌, drop}
-use Rattle.slot_vector.specs.Slices.{changed_bits}
-use Rattle.slot_vector.proofs.slots.changed_bits.Given as goal
+use Rattle.std.proofs.Common.{◌≡◌, ◌<◌, ◌≤◌, ◌+◌, ◌-◌, ◌^◌, drop, length}
+use Rattle.slot_vector.specs.Slices.{mask_of}
+use Rattle.slot_vector.proofs.search.mask_of.Given as goal
 
--- The bits so far, below the next slot's, and those of the slots that are left are all bits.
-abbrev pub invariant-loop-i : goal.invariant-loop-i
-invariant-loop-i l = record {
-  sum : l.bits + changed_bits l.env l.i (drop l.i l.slots) ≡ changed_bits l.env 0 l.slots;
-  low : l.bits < 2 ^ l.i;
+-- The mask so far is that of the slots from this one on.
+abbrev pub invariant-loop-left : goal.invariant-loop-left
+invariant-loop-left l = record {
+  within : l.left ≤ length l.slots;
+  so_far : l.mask ≡ mask_of l.env (drop l.left l.slots);
+  fits : l.mask < 2 ^ (length l.slots - l.left);
 }
+
+abbrev pub decreases-loop-left : goal.decreases-loop-left
+decreases-loop-left l = l.left

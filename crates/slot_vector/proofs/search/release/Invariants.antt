@@ -1,6 +1,6 @@
 use Rattle.std.proofs.Common.{◌≡◌, ◌++◌, map, take, drop}
-use Rattle.slot_vector.specs.Slices.{released}
-use Rattle.slot_vector.proofs.slots.release.Given as goal
+use Rattle.world_model.specs.Book.{released}
+use Rattle.slot_vector.proofs.search.release.Given as goal
 
 -- The slots so far are released already, and those that are left are to be.
 abbrev pub invariant-loop-slot : goal.invariant-loop-slot

@@ -1,0 +1,116 @@
+//! What is found in, and done to, the slots as a list.
+ghost use Rattle.std.specs.Prelude.{◌≡◌, ◌<◌, ◌≤◌, ◌^◌, IfSome, length, map};
+ghost use Rattle.std.specs.Option.{option_map};
+ghost use Rattle.aegis_limits.specs.Limits.{most_slots};
+ghost use Rattle.world_model.specs.Book.{first_turn, has_part, own_hold, released};
+ghost use Rattle.slot_vector.specs.Slices.{bit, hold_at, mask_of};
+
+use aegis_limits::MOST_SLOTS;
+use arrayvec::ArrayVec;
+use world_model::{Hold, Turn};
+
+/// The slots of a vector.
+pub(crate) type Row = ArrayVec<Option<Hold>, MOST_SLOTS>;
+
+/// The hold of the slot at this place; past the last there is none.
+pub(crate) fn hold_at(slots: &[Option<Hold>], place: usize) -> Option<Hold>
+    ensures { result ≡ hold_at slots.now place }
+{
+    match slots.get(place) {
+        Some(hold) => *hold,
+        None => None,
+    }
+}
+
+/// The turn in the first slot after the place, all around, that has a holder.
+pub(crate) fn first_turn(slots: &[Option<Hold>], place: usize) -> Option<Turn>
+    requires count { length slots.now ≤ most_slots }
+    requires within { place < length slots.now }
+    ensures turn { result ≡ first_turn (hold_at slots.now) (length slots.now) place (length slots.now) }
+    ensures within { IfSome result (λ t. t.slot < length slots.now) }
+{
+    let mut slot = place;
+    let mut tries = slots.len();
+    while tries > 0 {
+        slot = (slot + 1) % slots.len();
+        if let Some(hold) = hold_at(slots, slot) {
+            return Some(Turn {
+                slot: slot as u32,
+                env: hold.holder,
+            });
+        }
+        tries -= 1;
+    }
+    None
+}
+
+/// The slots at the start, each held by its owner.
+pub(crate) fn own_holds(owners: &[Option<u8>]) -> Row
+    requires { length owners.now ≤ most_slots }
+    ensures { result.items ≡ map (option_map own_hold) owners.now }
+{
+    let mut slots = ArrayVec::new();
+    for owner in owners {
+        slots.push(own_hold(*owner));
+    }
+    slots
+}
+
+/// A slot that its owner holds itself.
+fn own_hold(owner: Option<u8>) -> Option<Hold>
+    ensures { result ≡ option_map own_hold owner }
+{
+    let env = owner?;
+    Some(Hold {
+        owner: env,
+        holder: env,
+    })
+}
+
+/// 1 where the environment owns or holds the slot, else 0.
+fn part_bit(slot: Option<Hold>, env: u8) -> u64
+    ensures bit { result ≡ bit (has_part env slot) }
+    ensures most { result ≤ 1 }
+{
+    match slot {
+        Some(hold) if hold.owner == env || hold.holder == env => 1,
+        _ => 0,
+    }
+}
+
+/// A bit for each slot that the environment owns or holds, the lowest for the first.
+pub(crate) fn mask_of(slots: &[Option<Hold>], env: u8) -> u64
+    requires { length slots.now ≤ most_slots }
+    ensures { result ≡ mask_of env slots.now }
+{
+    let mut mask = 0;
+    let mut left = slots.len();
+    while left > 0 {
+        left -= 1;
+        mask = mask * 2 + part_bit(slots[left], env);
+    }
+    mask
+}
+
+/// The slot once the environment is gone.
+fn released(slot: Option<Hold>, env: u8) -> Option<Hold>
+    ensures { result ≡ released env slot }
+{
+    let hold = slot?;
+    if hold.owner == env {
+        return None;
+    }
+    if hold.holder == env {
+        return own_hold(Some(hold.owner));
+    }
+    slot
+}
+
+/// Empties each slot that the environment owns, and gives back each that it holds for another.
+pub(crate) fn release(slots: &mut [Option<Hold>], env: u8)
+    ensures { slots.new ≡ map (released env) slots.old }
+{
+    for slot in slots.iter_mut() {
+        *slot = released(*slot, env);
+    }
+}

@@ -1,0 +1,91 @@
+-- The kernel calls: for each, why it is refused and with which value, or what it brings.
+use Rattle.std.specs.Prelude.{ℕ, zero, suc, List, [], ◌∷◌, ◌++◌, length, Bool, true, false, ◌==◌, if◌then◌else◌, Option, Some, None}
+use Rattle.kernel_journal.specs.declared.row.Row.{Row}
+use Rattle.kernel_journal.specs.declared.row.Row.TheVariants as row
+use Rattle.mips_exec.specs.Cpu.{reg}
+use Rattle.world_model.specs.declared.call.Call.{Call}
+use Rattle.world_model.specs.declared.call.Call.TheVariants as call
+use Rattle.world_model.specs.declared.code.Code.{Code}
+use Rattle.world_model.specs.declared.code.Code.TheVariants as code
+use Rattle.world_model.specs.declared.slot.Hold.{Hold}
+use Rattle.world_model.specs.Book.{Book, released, has_part}
+use Rattle.world_model.specs.Call.{called, put_refusal, any}
+use Rattle.world_model.specs.Item.{Item, Granted, Refused}
+use Rattle.world_model.specs.Solo.{Solo, sight}
+use Rattle.world_model.specs.World.{World, Reply, only, no_items}
+
+-- a refusal with a code and a value, or what the call brings, its answer with it
+pub data Verdict : Type 0 where
+  Refuses : (code : Code) (value : ℕ) → Verdict
+  Grants : (reply : Reply) → Verdict
+
+-- a refusal is answered, and changes nothing but the caller
+abbrev pub refusal : World → ℕ → Code → ℕ → Reply
+refusal w e code value = record { book = w.book; items = only e (Refused code value ∷ []); rows = [] }
+
+-- so is a granted call that changes nothing but its caller
+abbrev pub grant : World → ℕ → ℕ → Reply
+grant w e value = record { book = w.book; items = only e (Granted value ∷ []); rows = [] }
+
+-- the row of a runner that is stopped
+abbrev pub stop_row : Book → ℕ → Row
+stop_row b e = row.Stop b.time b.cursor e
+
+-- yield: without a target the caller is stopped, and the rest of its slice is dropped; there is no yield to a target
+abbrev pub yield_if : World → ℕ → Bool → Verdict
+yield_if w e false = Refuses code.BadCall 0
+yield_if w e true = Grants (record { book = record w.book { runner = None }; items = only e (Granted 0 ∷ []); rows = stop_row w.book e ∷ [] })
+
+abbrev pub yield : World → ℕ → Verdict
+yield w e = yield_if w e (reg (w.solos e).cpu 4 == any)
+
+-- put: bytes for the console, whose number is the value
+abbrev pub put_if : World → ℕ → Option Code → Verdict
+put_if w e None = Grants (grant w e (reg (w.solos e).cpu 5))
+put_if w e (Some code) = Refuses code 0
+
+abbrev pub put : World → ℕ → Verdict
+put w e = let s = w.solos e in put_if w e (put_refusal s.cpu (sight s.kept) (length s.console))
+
+-- the row of a slot that has changed
+abbrev pub slot_row : ℕ → ℕ → Option Hold → Row
+slot_row t k None = row.Own t k None None
+slot_row t k (Some hold) = row.Own t k (Some hold.owner) (Some hold.holder)
+
+-- the row of a slot that an environment owns or holds, once it is gone
+abbrev pub released_row : ℕ → ℕ → ℕ → Option Hold → List Row
+released_row t e k hold = if has_part e hold then slot_row t k (released e hold) ∷ [] else []
+
+-- the rows of the slots below k that change once an environment is gone, by rising slot
+abbrev pub released_rows : ℕ → ℕ → (ℕ → Option Hold) → ℕ → List Row
+released_rows t e slots zero = []
+released_rows t e slots (suc k) = released_rows t e slots k ++ released_row t e k (slots k)
+
+-- the runner's death: its slots are empty, and the rest of its slice is dropped
+abbrev pub death : World → ℕ → Reply
+death w e = record {
+  book = record w.book { slots = λ k. released e (w.book.slots k); runner = None };
+  items = no_items;
+  rows = row.Dead w.book.time w.book.cursor e ∷ released_rows w.book.time e w.book.slots w.book.slot_count;
+}
+
+-- The verdict on each call; a number that names none is refused.
+abbrev pub verdict : World → ℕ → Option Call → Verdict
+verdict w e None = Refuses code.BadCall 0
+verdict w e (Some call.Yield) = yield w e
+verdict w e (Some call.Put) = put w e
+verdict w e (Some call.Exit) = Grants (death w e)
+verdict w e (Some call.OwnNumber) = Grants (grant w e (w.solos e).number)
+verdict w e (Some call.Clock) = Grants (grant w e w.book.time)
+
+-- the reply to a call
+abbrev pub reply_of : World → ℕ → Verdict → Reply
+reply_of w e (Refuses code value) = refusal w e code value
+reply_of w e (Grants reply) = reply
+
+abbrev pub reply_to : World → ℕ → Option Call → Reply
+reply_to w e call = reply_of w e (verdict w e call)
+
+-- the verdict on the call at which an environment stands
+abbrev pub verdict_now : World → ℕ → Verdict
+verdict_now w e = verdict w e (called (w.solos e).cpu)
