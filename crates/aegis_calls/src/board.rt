@@ -1,7 +1,6 @@
 //! The board and what it shows.
 
-use crate::console::Consoles;
-use crate::roster::Roster;
+use board_world::{Consoles, Roster};
 use frame_store::Frames;
 use kernel_journal::Journal;
 use mips_exec::Cpu;
@@ -22,8 +21,8 @@ pub struct Board {
 }
 
 impl Model for Board {
-    ghost use Rattle.aegis_calls.specs.Shown.{Shown};
-    ghost use Rattle.aegis_calls.specs.Sound.{IsSound};
+    ghost use Rattle.board_world.specs.Shown.{Shown};
+    ghost use Rattle.board_world.specs.Sound.{IsSound};
 
     ghost Value = { Shown };
 

@@ -4,28 +4,31 @@ ghost use Rattle.boot_image.specs.Accepted.{IsFitting};
 ghost use Rattle.boot_image.specs.ImageValue.{pages_of_length, guaranteed_mappings};
 ghost use Rattle.boot_image.specs.Seen.{program_seen};
 ghost use Rattle.env_frames.specs.Frame.{IsAbove, IsRising, numbers};
-ghost use Rattle.frame_store.specs.Pages.{page_at, zero_page as zeros};
-ghost use Rattle.world_model.specs.Boot.{listed, open_page, zero_page, kept_of, page_from, own_row, own_rows, bare_world, added};
+ghost use Rattle.aegis_limits.specs.Limits.{page_size, least_pages, most_pages, least_quantum, most_quantum, most_slots, most_environments, most_mappings};
+ghost use Rattle.frame_store.specs.Pages.{most_frames, zero_page};
+ghost use Rattle.world_model.specs.Boot.{listed, open_page, kept_of, page_from, own_row, own_rows, bare_world, added};
 ghost use Rattle.world_model.specs.Book.{own_hold};
 ghost use Rattle.std.specs.Option.{option_map};
-ghost use Rattle.world_model.specs.Item.{booted};
-ghost use Rattle.world_model.specs.Solo.{blank_cpu as blank};
-ghost use Rattle.aegis_calls.specs.Loading.{IsLoading, IsKeptBelow, padded};
-ghost use Rattle.aegis_calls.specs.Showing.{pages_seen, world_of};
-ghost use Rattle.aegis_calls.specs.Doing.{with_rows};
+ghost use Rattle.world_model.specs.Item.{boot_cpu as boot_registers};
+ghost use Rattle.board_world.specs.Loading.{IsLoading, IsKeptBelow, padded};
+ghost use Rattle.board_world.specs.Showing.{pages_seen, world_of};
+ghost use Rattle.board_world.specs.Doing.{with_rows};
 
 use crate::board::Board;
-use crate::console::Consoles;
-use crate::roster::{Environment, Roster};
+use aegis_limits::PAGE_SIZE;
+use board_world::{Consoles, Environment, Roster};
 use boot_image::Program;
 use edge_io::OutOfMemory;
 use env_frames::Env;
-use frame_store::{Frames, PAGE_SIZE};
+use frame_store::Frames;
 use kernel_journal::{Journal, Row};
 use mips_exec::Cpu;
 use slot_vector::Slots;
 use std::alloc::Global;
 use world_model::Life;
+
+/// The bytes of a page, as a difference of addresses.
+const PAGE_BYTES: u32 = PAGE_SIZE as u32;
 
 /// The page number above the stack.
 const STACK_END: u32 = 0x7fff0;
@@ -35,25 +38,11 @@ const STACK_TOP: u32 = 0x7ffe_fff0;
 
 const STACK_POINTER: u8 = 29;
 
-/// The registers of a machine in which nothing has run.
-fn blank_cpu() -> Cpu
-    ensures { result ≡ blank }
-{
-    Cpu {
-        regs: [0; 32],
-        hi: 0,
-        lo: 0,
-        pc: 0,
-        next: 0,
-        slot: false,
-    }
-}
-
 /// The registers at boot: all are 0 but the stack pointer, and the machine stands at the entry.
 fn boot_cpu(entry: u32) -> Cpu
-    ensures { result ≡ (booted 0 [] entry []).cpu }
+    ensures { result ≡ boot_registers entry }
 {
-    let mut cpu = blank_cpu();
+    let mut cpu = Cpu::blank();
     cpu.set_reg(STACK_POINTER, STACK_TOP);
     cpu.pc = entry;
     cpu.next = entry.wrapping_add(4);
@@ -75,8 +64,8 @@ fn front(bytes: &[u8], most: usize) -> &[u8]
 /// The bytes from a place on, as many as a page has.
 fn page_part(bytes: &[u8], start: usize) -> &[u8]
     requires { start ≤ length bytes.now }
-    ensures part { result.now ≡ take 4096 (drop start bytes.now) }
-    ensures fits { length result.now ≤ 4096 }
+    ensures part { result.now ≡ take page_size (drop start bytes.now) }
+    ensures fits { length result.now ≤ page_size }
 {
     front(&bytes[start..], PAGE_SIZE)
 }
@@ -84,13 +73,13 @@ fn page_part(bytes: &[u8], start: usize) -> &[u8]
 /// Gives an environment the next page, of those from the first one on, at a page number above all that
 /// it sees, with these bytes and zeros behind them.
 fn give_page(frames: &mut Frames, env: &mut Env, first: u32, vpn: u32, bytes: &[u8])
-    requires loading { IsLoading first frames.old env.old.mappings }
+    requires loading { IsLoading first env.old.mappings }
     requires there { first + length env.old.mappings < length frames.old }
-    requires most { length frames.old ≤ 4096 }
-    requires fits { length bytes.now ≤ 4096 }
-    requires count { length env.old.mappings < 256 }
+    requires most { length frames.old ≤ most_frames }
+    requires fits { length bytes.now ≤ page_size }
+    requires count { length env.old.mappings < most_mappings }
     requires above { IsAbove env.old.mappings vpn }
-    ensures loading { IsLoading first frames.new env.new.mappings }
+    ensures loading { IsLoading first env.new.mappings }
     ensures below { IsKeptBelow first frames.old frames.new }
     ensures pages { pages_seen frames.new env.new.mappings ≡ pages_seen frames.old env.old.mappings ++ open_page vpn (padded bytes.now) ∷ [] }
     ensures above { IsAbove env.new.mappings (vpn + 1) }
@@ -98,21 +87,22 @@ fn give_page(frames: &mut Frames, env: &mut Env, first: u32, vpn: u32, bytes: &[
     ensures cpu { env.new.cpu ≡ env.old.cpu }
 {
     let page = first + env.mappings().len() as u32;
+    frames.zero(page);
     frames.put(page, 0, bytes);
     env.guarantee(vpn, page, true);
 }
 
 /// Gives an environment the pages of a program's body, from a page number on.
 fn give_body(frames: &mut Frames, env: &mut Env, first: u32, vpn: u32, bytes: &[u8])
-    requires loading { IsLoading first frames.old env.old.mappings }
+    requires loading { IsLoading first env.old.mappings }
     requires there { first + length env.old.mappings + pages_of_length (length bytes.now) ≤ length frames.old }
-    requires most { length frames.old ≤ 4096 }
-    requires count { length env.old.mappings + pages_of_length (length bytes.now) ≤ 256 }
+    requires most { length frames.old ≤ most_frames }
+    requires count { length env.old.mappings + pages_of_length (length bytes.now) ≤ most_mappings }
     requires above { IsAbove env.old.mappings vpn }
     requires numbers { vpn + pages_of_length (length bytes.now) ≤ 0x80000 }
-    ensures loading { IsLoading first frames.new env.new.mappings }
+    ensures loading { IsLoading first env.new.mappings }
     ensures below { IsKeptBelow first frames.old frames.new }
-    ensures pages { pages_seen frames.new env.new.mappings ≡ pages_seen frames.old env.old.mappings ++ listed (λ i. open_page (vpn + i) (page_from bytes.now (4096 * i))) (pages_of_length (length bytes.now)) }
+    ensures pages { pages_seen frames.new env.new.mappings ≡ pages_seen frames.old env.old.mappings ++ listed (λ i. open_page (vpn + i) (page_from bytes.now (page_size * i))) (pages_of_length (length bytes.now)) }
     ensures above { IsAbove env.new.mappings (vpn + pages_of_length (length bytes.now)) }
     ensures count { length env.new.mappings ≡ length env.old.mappings + pages_of_length (length bytes.now) }
     ensures cpu { env.new.cpu ≡ env.old.cpu }
@@ -131,13 +121,13 @@ fn give_body(frames: &mut Frames, env: &mut Env, first: u32, vpn: u32, bytes: &[
 
 /// Gives an environment so many pages of zeros, from a page number on.
 fn give_zeros(frames: &mut Frames, env: &mut Env, first: u32, vpn: u32, pages: u32)
-    requires loading { IsLoading first frames.old env.old.mappings }
+    requires loading { IsLoading first env.old.mappings }
     requires there { first + length env.old.mappings + pages ≤ length frames.old }
-    requires most { length frames.old ≤ 4096 }
-    requires count { length env.old.mappings + pages ≤ 256 }
+    requires most { length frames.old ≤ most_frames }
+    requires count { length env.old.mappings + pages ≤ most_mappings }
     requires above { IsAbove env.old.mappings vpn }
     requires numbers { vpn + pages ≤ 0x80000 }
-    ensures loading { IsLoading first frames.new env.new.mappings }
+    ensures loading { IsLoading first env.new.mappings }
     ensures below { IsKeptBelow first frames.old frames.new }
     ensures pages { pages_seen frames.new env.new.mappings ≡ pages_seen frames.old env.old.mappings ++ listed (λ i. open_page (vpn + i) zero_page) pages }
     ensures count { length env.new.mappings ≡ length env.old.mappings + pages }
@@ -153,17 +143,23 @@ fn give_zeros(frames: &mut Frames, env: &mut Env, first: u32, vpn: u32, pages: u
 fn load(frames: &mut Frames, first: u32, program: &Program<'_>) -> Env
     requires fits { IsFitting (program_seen program.now) }
     requires there { first + guaranteed_mappings (program_seen program.now) ≤ length frames.old }
-    requires most { length frames.old ≤ 4096 }
-    requires fresh { (n : ℕ) → first ≤ n → n < length frames.old → page_at frames.old n ≡ zeros }
-    ensures cpu { result.cpu ≡ (booted 0 [] program.now.base []).cpu }
+    requires most { length frames.old ≤ most_frames }
+    ensures cpu { result.cpu ≡ boot_registers program.now.base }
     ensures pages { pages_seen frames.new result.mappings ≡ kept_of (program_seen program.now) }
-    ensures loading { IsLoading first frames.new result.mappings }
+    ensures loading { IsLoading first result.mappings }
     ensures below { IsKeptBelow first frames.old frames.new }
     ensures count { length result.mappings ≡ guaranteed_mappings (program_seen program.now) }
     ensures rising { IsRising (numbers result.mappings) }
 {
+    frames.zero(first);
     let mut env = Env::new(boot_cpu(program.base), first);
-    give_body(frames, &mut env, first, program.base / 4096, program.bytes);
+    give_body(
+        frames,
+        &mut env,
+        first,
+        program.base / PAGE_BYTES,
+        program.bytes,
+    );
     give_zeros(
         frames,
         &mut env,
@@ -194,7 +190,7 @@ fn push_owner(journal: &mut Journal, slot: u32, owner: Option<u8>)
 /// Writes a row for each slot that has an owner.
 fn push_owners(journal: &mut Journal, slots: &[Option<u8>])
     requires room { length slots.now ≤ journal.old.spare }
-    requires count { length slots.now ≤ 64 }
+    requires count { length slots.now ≤ most_slots }
     ensures { journal.new ≡ with_rows journal.old (own_rows slots.now (length slots.now)) }
 {
     for (slot, owner) in slots.iter().enumerate() {
@@ -204,7 +200,7 @@ fn push_owners(journal: &mut Journal, slots: &[Option<u8>])
 
 /// The ledger at boot.
 fn boot_journal(alloc: Global, slots: &[Option<u8>]) -> Result<Journal, OutOfMemory>
-    requires { length slots.now ≤ 64 }
+    requires { length slots.now ≤ most_slots }
     ensures { IfOk result (λ j. j.rows ≡ own_rows slots.now (length slots.now)) }
 {
     let mut journal = Journal::new(alloc);
@@ -214,7 +210,7 @@ fn boot_journal(alloc: Global, slots: &[Option<u8>]) -> Result<Journal, OutOfMem
 }
 
 impl Board {
-    ghost use Rattle.aegis_calls.specs.Loading.{IsBare};
+    ghost use Rattle.board_world.specs.Loading.{IsBare};
 
     /// A board without programs, with so many pages of memory, a quantum in ticks, the owner of each slot,
     /// and room for so many environments (`docs/KERNEL.md`, "Boot"). It takes the memory for all that the
@@ -226,10 +222,10 @@ impl Board {
         slots: &[Option<u8>],
         envs: u8,
     ) -> Result<Board, OutOfMemory>
-        requires pages { 16 ≤ pages × pages ≤ 1024 }
-        requires quantum { 16 ≤ quantum × quantum ≤ 65536 }
-        requires slots { 1 ≤ length slots.now × length slots.now ≤ 64 }
-        requires envs { envs ≤ 16 }
+        requires pages { least_pages ≤ pages × pages ≤ most_pages }
+        requires quantum { least_quantum ≤ quantum × quantum ≤ most_quantum }
+        requires slots { 1 ≤ length slots.now × length slots.now ≤ most_slots }
+        requires envs { envs ≤ most_environments }
         requires owners { All (λ owner. IfSome owner (λ e. e < envs)) slots.now }
         ensures world { IfOk result (λ b. world_of b ≡ bare_world quantum slots.now) }
         ensures bare { IfOk result (IsBare pages envs) }
@@ -238,7 +234,7 @@ impl Board {
             frames: Frames::new(alloc, pages)?,
             taken: 0,
             slots: Slots::new(quantum, slots),
-            cpu: blank_cpu(),
+            cpu: Cpu::blank(),
             roster: Roster::new(alloc, envs)?,
             consoles: Consoles::new(alloc, envs)?,
             time: 0,

@@ -1,66 +1,60 @@
 //! Deaths: what they do to the board's parts.
-ghost use Rattle.std.specs.Prelude.{◌≡◌, ◌≤◌, ◌<◌, ◌+◌, length, Some, Option};
-ghost use Rattle.std.specs.Option.{option_map};
-ghost use Rattle.slot_vector.specs.Slices.{hold_at, is_its_own, released};
-ghost use Rattle.aegis_calls.specs.Doing.{death_row, death_rows, with_rows};
+ghost use Rattle.std.specs.Prelude.{◌≡◌, ◌≤◌, ◌<◌, ◌+◌, length, Some};
+ghost use Rattle.kernel_journal.specs.Ledger.{with_row};
+ghost use Rattle.world_model.specs.Book.{running};
+ghost use Rattle.world_model.specs.Verdict.{slot_row};
+ghost use Rattle.slot_vector.specs.Slices.{hold_at};
+ghost use Rattle.board_world.specs.Doing.{mask_rows, with_rows};
 
 use crate::board::Board;
 use kernel_journal::{Journal, Row};
 use slot_vector::Slots;
 use world_model::Cause;
 
-/// Writes a row for each slot that an environment owns or holds: what it owned is empty, and what it
-/// held for another is its owner's again.
-fn push_changes(journal: &mut Journal, slots: &Slots, time: u32, env: u8)
-    requires { length slots.now.slots ≤ journal.old.spare }
-    ensures { journal.new ≡ with_rows journal.old (death_rows time env slots.now.slots (length slots.now.slots)) }
+/// Writes the row of a slot as it stands.
+fn push_slot(journal: &mut Journal, slots: &Slots, time: u32, slot: u32)
+    requires { 0 < journal.old.spare }
+    ensures { journal.new ≡ with_row journal.old (slot_row time slot (hold_at slots.now.slots slot)) }
 {
-    for slot in 0..slots.slots() {
-        push_change(journal, slots, time, env, slot);
-    }
+    journal.push(Row::Own {
+        time,
+        slot,
+        owner: slots.owner(slot),
+        holder: slots.holder(slot),
+    });
 }
 
-/// The row of one slot, where the death changes it.
-fn push_change(journal: &mut Journal, slots: &Slots, time: u32, env: u8, slot: u32)
-    requires { 0 < journal.old.spare }
-    ensures rows { journal.new ≡ with_rows journal.old (death_row time env slot (hold_at slots.now.slots slot)) }
-    ensures room { journal.old.spare ≤ journal.new.spare + 1 }
+/// Writes the row of each slot that a mask names, by rising slot; the lowest bit is that of slot 0.
+fn push_slots(journal: &mut Journal, slots: &Slots, time: u32, mask: u64)
+    requires { length slots.now.slots ≤ journal.old.spare }
+    ensures { journal.new ≡ with_rows journal.old (mask_rows time mask (hold_at slots.now.slots) (length slots.now.slots)) }
 {
-    let owner = slots.owner(slot);
-    if owner == Some(env) {
-        journal.push(Row::Own {
-            time,
-            slot,
-            owner: None,
-            holder: None,
-        });
-    } else if slots.holder(slot) == Some(env) {
-        journal.push(Row::Own {
-            time,
-            slot,
-            owner,
-            holder: owner,
-        });
+    let mut rest = mask;
+    for slot in 0..slots.slots() {
+        if rest % 2 == 1 {
+            push_slot(journal, slots, time, slot);
+        }
+        rest /= 2;
     }
 }
 
 impl Board {
-    ghost use Rattle.aegis_calls.specs.Doing.{killed};
+    ghost use Rattle.board_world.specs.Doing.{died};
 
     /// The runner dies: its pages are free, its slots are empty, and those that it held for others are
     /// theirs again.
     pub(crate) fn die(&mut self, env: u8, cause: Cause)
-        requires runs { self.old.slots.runner ≡ Some env }
+        requires runs { running self.old.slots.runner ≡ Some env }
         requires room { 64 < self.old.ledger.spare }
-        ensures { self.new ≡ killed self.old env cause }
+        ensures { self.new ≡ died self.old env cause }
     {
         self.journal.push(Row::Dead {
             time: self.time,
             slot: self.slots.slot(),
             env,
         });
-        push_changes(&mut self.journal, &self.slots, self.time, env);
-        self.slots.release_env(env);
-        self.roster.bury(env, cause);
+        let mask = self.slots.release_env(env);
+        push_slots(&mut self.journal, &self.slots, self.time, mask);
+        self.roster.die(env, cause);
     }
 }

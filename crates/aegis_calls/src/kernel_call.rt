@@ -1,24 +1,39 @@
 //! Kernel calls: what they do to the board's parts.
-ghost use Rattle.std.specs.Prelude.{◌≡◌, ◌+◌, ◌<◌, ◌≤◌, ◌++◌, [], None, Some, length, unwrap_or};
+ghost use Rattle.std.specs.Prelude.{◌≡◌, ◌<◌, None, Some, length};
 ghost use Rattle.std.specs.Option.{option_map};
-ghost use Rattle.world_model.specs.Call.{put_bytes as put_bytes_of, put_refusal as put_refusal_of};
-ghost use Rattle.aegis_calls.specs.Shown.{changed, console_of};
-ghost use Rattle.aegis_calls.specs.Doing.{look_of};
+ghost use Rattle.mips_exec.specs.Cpu.{reg};
+ghost use Rattle.guest_memory.specs.Look.{look};
+ghost use Rattle.env_frames.specs.Frame.{mapping_at};
+ghost use Rattle.world_model.specs.Book.{running};
+ghost use Rattle.world_model.specs.Call.{put_bytes as put_bytes_of};
 
 use crate::board::Board;
-use crate::console::CONSOLE_LIMIT;
 use crate::registers::{FIRST_ARGUMENT, SECOND_ARGUMENT, answer};
+use aegis_limits::CONSOLE_SIZE;
+use env_frames::Env;
+use frame_store::Frames;
 use guest_memory::guest_range;
+use mips_exec::Cpu;
 use world_model::{Call, Cause, Code};
 
 /// The argument of a yield that names no environment.
 const ANY: u32 = 0xffff_ffff;
 
+/// The bytes that a put of a caller with these registers names, if its range is good.
+fn put_bytes<'a>(cpu: &Cpu, frames: &'a Frames, frame: &Env) -> Option<&'a [u8]>
+    ensures { option_map (λ r. r.now) result ≡ put_bytes_of cpu.now (look frames.now (mapping_at frame.now.mappings)) }
+{
+    let size = cpu.reg(SECOND_ARGUMENT);
+    if size == 0 {
+        return Some(&[]);
+    }
+    guest_range(frames, frame, cpu.reg(FIRST_ARGUMENT), size)
+}
+
 impl Board {
-    ghost use Rattle.aegis_calls.specs.Doing.{answered, put_done, yield_by, called_by};
-    ghost use Rattle.mips_exec.specs.Cpu.{reg};
     ghost use Rattle.std.specs.Prelude.{◌==◌};
     ghost use Rattle.world_model.specs.Call.{any};
+    ghost use Rattle.board_world.specs.Doing.{answered, appended, put_if, refusal_of_put, served, yield_if};
 
     /// A call is answered.
     fn answer(&mut self, code: Code, value: u32)
@@ -27,72 +42,40 @@ impl Board {
         answer(&mut self.cpu, code, value);
     }
 
-    /// The bytes that a put names, if its range is good.
-    fn put_bytes(&self, env: u8) -> Option<&[u8]>
-        requires { self.now.slots.runner ≡ Some env }
-        ensures { option_map (λ r. r.now) result ≡ put_bytes_of self.now.cpu (look_of self.now env) }
+    /// Appends the bytes of a put to its caller's console, unless it is refused; the result says why.
+    fn append(&mut self, env: u8) -> Option<Code>
+        requires runs { running self.old.slots.runner ≡ Some env }
+        ensures refusal { result ≡ refusal_of_put self.old env }
+        ensures after { self.new ≡ appended self.old env result }
     {
-        let size = self.cpu.reg(SECOND_ARGUMENT);
-        if size == 0 {
-            return Some(&[]);
-        }
-        guest_range(
-            &self.frames,
-            self.roster.frame(env),
-            self.cpu.reg(FIRST_ARGUMENT),
-            size,
-        )
-    }
-
-    /// Why a put is refused.
-    fn put_refusal(&self, env: u8) -> Option<Code>
-        requires { self.now.slots.runner ≡ Some env }
-        ensures { result ≡ put_refusal_of self.now.cpu (look_of self.now env) (length (console_of self.now.consoles env)) }
-    {
-        if self.put_bytes(env).is_none() {
+        let Some(bytes) = put_bytes(&self.cpu, &self.frames, self.roster.frame(env)) else {
             return Some(Code::BadPointer);
-        }
+        };
         let size = self.cpu.reg(SECOND_ARGUMENT) as usize;
-        if self.consoles.at(env).len() + size > CONSOLE_LIMIT {
+        if self.consoles.at(env).len() + size > CONSOLE_SIZE {
             return Some(Code::ConsoleFull);
         }
+        self.consoles.put(env, bytes);
         None
-    }
-
-    /// Appends the bytes of a put that isn't refused.
-    fn append(&mut self, env: u8)
-        requires runs { self.old.slots.runner ≡ Some env }
-        requires accepted { put_refusal_of self.old.cpu (look_of self.old env) (length (console_of self.old.consoles env)) ≡ None }
-        ensures { self.new ≡ record self.old { consoles = changed (λ held. held ++ unwrap_or (put_bytes_of self.old.cpu (look_of self.old env)) []) self.old.consoles env } }
-    {
-        let size = self.cpu.reg(SECOND_ARGUMENT);
-        let address = self.cpu.reg(FIRST_ARGUMENT);
-        if size > 0 {
-            let frame = self.roster.frame(env);
-            if let Some(bytes) = guest_range(&self.frames, frame, address, size) {
-                self.consoles.put(env, bytes);
-            }
-        }
     }
 
     /// Appends to the console.
     fn put(&mut self, env: u8)
-        requires { self.old.slots.runner ≡ Some env }
-        ensures { self.new ≡ put_done self.old env }
+        requires { running self.old.slots.runner ≡ Some env }
+        ensures { self.new ≡ put_if self.old env (refusal_of_put self.old env) }
     {
-        if let Some(refusal) = self.put_refusal(env) {
+        if let Some(refusal) = self.append(env) {
             return self.answer(refusal, 0);
         }
-        self.append(env);
         let size = self.cpu.reg(SECOND_ARGUMENT);
         self.answer(Code::Ok, size);
     }
 
     /// The runner is stopped, where it names nobody to go on in its place.
     fn give_way(&mut self, env: u8)
-        requires runs { self.old.slots.runner ≡ Some env }
+        requires runs { running self.old.slots.runner ≡ Some env }
         requires room { 0 < self.old.ledger.spare }
-        ensures { self.new ≡ yield_by self.old env (reg self.old.cpu 4 == any) }
+        ensures { self.new ≡ yield_if self.old env (reg self.old.cpu 4 == any) }
     {
         if self.cpu.reg(FIRST_ARGUMENT) != ANY {
             return self.answer(Code::BadCall, 0);
@@ -102,10 +85,10 @@ impl Board {
     }
 
     /// A kernel call of the runner.
-    pub(crate) fn call_named(&mut self, env: u8, call: Option<Call>)
-        requires runs { self.old.slots.runner ≡ Some env }
+    pub(crate) fn serve(&mut self, env: u8, call: Option<Call>)
+        requires runs { running self.old.slots.runner ≡ Some env }
         requires room { 64 < self.old.ledger.spare }
-        ensures { self.new ≡ called_by self.old env call }
+        ensures { self.new ≡ served self.old env call }
     {
         match call {
             Some(Call::Yield) => self.give_way(env),

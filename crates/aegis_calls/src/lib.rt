@@ -1,20 +1,20 @@
 //! The board: the machine, the environments on it and the kernel's books, and the parts of a tick.
 //! What a board shows is a world of the model, and each part of a tick is that part of the model's.
+//!
+//! The methods in `phases`, `boot` and `readers` are for the layers above, and speak of that world; those in the other
+//! files change the board's parts, each by one equation.
 #![tactic(auto)]
 
-mod adding;
 mod board;
-mod calling;
-mod console;
-mod dying;
+mod boot;
+mod death;
+mod kernel_call;
+mod machine_step;
+mod phases;
 mod readers;
 mod registers;
-mod roster;
-mod running;
-mod tick;
+mod timer;
+mod turn;
 
 pub use board::Board;
-pub use console::{Console, Consoles};
-pub use readers::PageView;
-pub use roster::{Environment, Roster};
-pub use tick::{CALL_ROWS, STEP_ROWS, TIME_LIMIT, TURN_ROWS};
+pub use phases::{CALL_ROWS, STEP_ROWS, TURN_ROWS};

@@ -1,8 +1,10 @@
 //! The parts of a tick, kernel calls and deaths, on the world that the board shows.
 ghost use Rattle.std.specs.Prelude.{◌≡◌, ◌+◌, ◌<◌, ◌≤◌, ℕ, IsSome, Some, false, true};
-ghost use Rattle.world_model.specs.Book.{is_idle_book};
+ghost use Rattle.aegis_limits.specs.Limits.{most_ticks};
+ghost use Rattle.world_model.specs.Book.{is_idle_book, running};
+ghost use Rattle.world_model.specs.Verdict.{Refuses, verdict_now};
 ghost use Rattle.world_model.specs.World.{after};
-ghost use Rattle.world_model.specs.Tick.{turn as turn_phase, step as step_phase, timer as timer_phase, called_world, died, refusal_of, refused};
+ghost use Rattle.world_model.specs.Tick.{turn as turn_phase, step as step_phase, timer as timer_phase, called_world, died, refused_world};
 ghost use Rattle.world_model.specs.declared.code.Code.{Code};
 
 use crate::board::Board;
@@ -18,11 +20,8 @@ pub const STEP_ROWS: usize = 256;
 /// The most rows that a kernel call, or a death, may write.
 pub const CALL_ROWS: usize = 128;
 
-/// The time ends here: no run is longer.
-pub const TIME_LIMIT: u32 = 4_194_304;
-
 impl Board {
-    ghost use Rattle.aegis_calls.specs.Showing.{world_of};
+    ghost use Rattle.board_world.specs.Showing.{world_of};
 
     /// Nobody runs and no slot has a holder.
     pub fn idle(&self) -> bool
@@ -41,6 +40,7 @@ impl Board {
         ensures whole { self.new.roster.spare ≡ 0 }
         ensures room { self.old.ledger.spare ≤ self.new.ledger.spare + TURN_ROWS }
     {
+        // Reads a part, and with it that the board is sound, as below.
         let _ = &self.time;
         self.take_turn();
     }
@@ -62,7 +62,7 @@ impl Board {
 
     /// The runner's ticks left fall by one, and at none it is stopped; time rises by one.
     pub fn timer(&mut self)
-        requires time { self.old.time < TIME_LIMIT }
+        requires time { self.old.time < most_ticks }
         requires room { STEP_ROWS ≤ self.old.ledger.spare }
         ensures world { world_of self.new ≡ after (world_of self.old) (timer_phase (world_of self.old)) }
         ensures time { self.new.time ≡ self.old.time + 1 }
@@ -74,26 +74,31 @@ impl Board {
     }
 
     /// One kernel call of the runner: it stands at a SYSCALL outside a delay slot. A call that is
-    /// refused changes the caller's `$2`, `$3` and where it stands, and nothing else.
+    /// refused changes the caller's `$2`, `$3` and where it stands, and nothing else. All environments
+    /// stay added, so that a turn may follow.
     pub fn call(&mut self)
         requires runs { IsSome (world_of self.old).book.runner }
         requires room { CALL_ROWS ≤ self.old.ledger.spare }
-        ensures world { (e : ℕ) → (world_of self.old).book.runner ≡ Some e → world_of self.new ≡ called_world (world_of self.old) e }
-        ensures refused { (e : ℕ) (code : Code) → (world_of self.old).book.runner ≡ Some e → refusal_of (world_of self.old) e ≡ Some code → world_of self.new ≡ refused (world_of self.old) e code }
+        ensures world { (e : ℕ) → running (world_of self.old).book.runner ≡ Some e → world_of self.new ≡ called_world (world_of self.old) e }
+        ensures refused { (e : ℕ) (code : Code) (value : ℕ) → running (world_of self.old).book.runner ≡ Some e → verdict_now (world_of self.old) e ≡ Refuses code value → world_of self.new ≡ refused_world (world_of self.old) e code value }
+        ensures time { self.new.time ≡ self.old.time }
+        ensures whole { self.new.roster.spare ≡ self.old.roster.spare }
         ensures room { self.old.ledger.spare ≤ self.new.ledger.spare + CALL_ROWS }
     {
         let _ = &self.time;
         if let Some(env) = self.runner() {
             let number = self.cpu.reg(CODE_REGISTER);
-            self.call_named(env, Call::named(number));
+            self.serve(env, Call::named(number));
         }
     }
 
-    /// The runner's death of this cause.
+    /// The runner's death of this cause. All environments stay added, so that a turn may follow.
     pub fn kill(&mut self, env: u8, cause: Cause)
-        requires runs { (world_of self.old).book.runner ≡ Some env }
+        requires runs { running (world_of self.old).book.runner ≡ Some env }
         requires room { CALL_ROWS ≤ self.old.ledger.spare }
         ensures world { world_of self.new ≡ died (world_of self.old) env cause }
+        ensures time { self.new.time ≡ self.old.time }
+        ensures whole { self.new.roster.spare ≡ self.old.roster.spare }
         ensures room { self.old.ledger.spare ≤ self.new.ledger.spare + CALL_ROWS }
     {
         let _ = &self.time;

@@ -2,25 +2,20 @@
 //! them, from 0 on.
 ghost use Rattle.std.specs.Prelude.{◌≡◌, ◌<◌, ◌≤◌, OnOk, OnErr, IsOk, length, slice_get};
 ghost use Rattle.std.specs.Option.{option_map};
-ghost use Rattle.aegis_calls.specs.Showing.{view_seen, page_seen};
+ghost use Rattle.world_model.specs.Book.{running};
+ghost use Rattle.board_world.specs.Shown.{with_spare};
+ghost use Rattle.board_world.specs.Showing.{view_seen, page_seen};
 
 use crate::board::Board;
+use board_world::PageView;
 use edge_io::OutOfMemory;
 use env_frames::Mapping;
 use kernel_journal::Row;
 use mips_exec::Cpu;
 use world_model::Life;
 
-/// A guaranteed page: its page number, whether it may be stored to, and its 4,096 bytes.
-#[derive(Clone, Copy)]
-pub struct PageView<'a> {
-    pub vpn: u32,
-    pub writable: bool,
-    pub bytes: &'a [u8],
-}
-
 impl Board {
-    ghost use Rattle.aegis_calls.specs.Showing.{world_of};
+    ghost use Rattle.board_world.specs.Showing.{world_of};
 
     /// How many environments there are.
     pub fn envs(&self) -> u8
@@ -106,7 +101,7 @@ impl Board {
 
     /// Who runs, if anybody does.
     pub fn runner(&self) -> Option<u8>
-        ensures { result ≡ (world_of self.now).book.runner }
+        ensures { result ≡ running (world_of self.now).book.runner }
     {
         self.slots.runner()
     }
@@ -118,11 +113,12 @@ impl Board {
         self.journal.rows()
     }
 
-    /// Takes memory for so many rows of the ledger more, where it isn't there yet.
+    /// Takes memory for so many rows of the ledger more, where it isn't there yet. Nothing else changes, so
+    /// that whatever may follow may follow.
     pub fn make_room(&mut self, rows: u32) -> Result<(), OutOfMemory>
         ensures room { OnOk result (rows ≤ self.new.ledger.spare) }
+        ensures same { self.new ≡ with_spare self.old self.new.ledger.spare }
         ensures world { world_of self.new ≡ world_of self.old }
-        ensures whole { self.new.roster ≡ self.old.roster }
         ensures there { rows ≤ self.old.ledger.spare → IsOk result × (self.new ≡ self.old) }
         ensures refused { OnErr result (self.new ≡ self.old) }
     {

@@ -8,36 +8,39 @@ use Rattle.frame_store.specs.Pages.{zero_page, zeroed}
 use Rattle.env_frames.specs.declared.mapping.Mapping.{Mapping}
 use Rattle.env_frames.specs.Frame.{IsRising, numbers}
 use Rattle.slot_vector.specs.Slices as vector
+use Rattle.aegis_limits.specs.Limits.{least_quantum, most_quantum, most_slots, most_environments, most_pages}
 use Rattle.boot_image.specs.ImageValue.{ProgramValue}
 use Rattle.world_model.specs.declared.life.Life.TheVariants.{Live}
+use Rattle.world_model.specs.declared.slot.Runner.{Runner}
+use Rattle.world_model.specs.Book.{is_runner, own_hold}
 use Rattle.world_model.specs.Boot.{boot_slot, bare_world, added, kept_of, record_items}
 use Rattle.world_model.specs.Item.{Item, booted, absorb_all}
 use Rattle.world_model.specs.Solo.{absent}
 use Rattle.world_model.specs.World.{only}
-use Rattle.aegis_calls.specs.declared.roster.Environment.{Environment}
-use Rattle.aegis_calls.specs.Shown.{Shown, Environments, mappings_of, mappings_in, console_of}
-use Rattle.aegis_calls.specs.Showing.{world_of, solo_of, solo_or_absent, cpu_seen, is_named, hold_seen, pages_seen, page_seen}
-use Rattle.aegis_calls.specs.Sound.{IsSound, IsManned, AreConsoles, IsParted, IsLive, IsUndead}
-use Rattle.aegis_calls.specs.Loading.{IsLoading, IsKeptBelow}
-use Rattle.aegis_calls.proofs.Lists.{last_get, other_get, past_get, get_within}
-use Rattle.aegis_calls.proofs.Parts.{worlds, by_env, only_here, only_else}
-use Rattle.aegis_calls.proofs.Sound.{if_both}
-use Rattle.aegis_calls.proofs.Seen.{like_solo}
+use Rattle.board_world.specs.declared.roster.Environment.{Environment}
+use Rattle.board_world.specs.Shown.{Shown, Environments, mappings_of, mappings_in, console_of}
+use Rattle.board_world.specs.Showing.{world_of, solo_of, solo_or_absent, cpu_seen, pages_seen, page_seen}
+use Rattle.board_world.specs.Sound.{IsSound, IsManned, AreConsoles, IsParted, IsLive, IsUndead}
+use Rattle.board_world.specs.Loading.{IsLoading, IsKeptBelow}
+use Rattle.board_world.proofs.Lists.{last_get, other_get, past_get, get_within}
+use Rattle.board_world.proofs.Parts.{worlds, by_env, only_here, only_else}
+use Rattle.board_world.proofs.Sound.{if_both}
+use Rattle.board_world.proofs.Seen.{like_solo}
 
 -- the slots at boot: each owner is one of those that will be
-own_holds : (envs : ℕ) (owners : List (Option ℕ)) → All (λ owner. IfSome owner (λ e. e < envs)) owners → (k : ℕ) → IfSome (vector.hold_at (map vector.own_hold owners) k) (λ h. (h.owner < envs) × (h.holder < envs))
+own_holds : (envs : ℕ) (owners : List (Option ℕ)) → All (λ owner. IfSome owner (λ e. e < envs)) owners → (k : ℕ) → IfSome (vector.hold_at (map (option_map own_hold) owners) k) (λ h. (h.owner < envs) × (h.holder < envs))
 own_holds envs [] all k = tt
 own_holds envs (None ∷ owners) all zero = tt
 own_holds envs (Some e ∷ owners) all zero = (all 0 None (omega arith), all 0 None (omega arith))
 own_holds envs (o ∷ owners) all (suc k) = own_holds envs owners (λ i d within. all (suc i) d (omega arith)) k
 
-pub built_manned : (quantum envs : ℕ) (owners : List (Option ℕ)) → 16 ≤ quantum → length owners ≤ 64 → All (λ owner. IfSome owner (λ e. e < envs)) owners → IsManned (vector.first_slices quantum owners) (record { list = []; spare = envs })
+pub built_manned : (quantum envs : ℕ) (owners : List (Option ℕ)) → least_quantum ≤ quantum → length owners ≤ most_slots → All (λ owner. IfSome owner (λ e. e < envs)) owners → IsManned (vector.first_slices quantum owners) (record { list = []; spare = envs })
 built_manned quantum envs owners long few all = record {
   quantum = omega arith;
-  left = λ some. absurd (cc);
+  ticks = tt;
   runner = tt;
-  holds = λ k. if_both (vector.hold_at (map vector.own_hold owners) k) (λ h is both. ((omega (arith, both.0), tt), (omega (arith, both.1), tt))) (own_holds envs owners all k);
-  count = omega (arith, length-map owners vector.own_hold);
+  holds = λ k. if_both (vector.hold_at (map (option_map own_hold) owners) k) (λ h is both. ((omega (arith, both.0), tt), (omega (arith, both.1), tt))) (own_holds envs owners all k);
+  count = omega (arith, length-map owners (option_map own_hold));
 }
 
 empty_consoles : (envs e : ℕ) → console_of (replicate envs []) e ≡ []
@@ -45,22 +48,21 @@ empty_consoles zero e = refl
 empty_consoles (suc envs) zero = refl
 empty_consoles (suc envs) (suc e) = empty_consoles envs e
 
-pub built_consoles : (envs : ℕ) → envs ≤ 16 → AreConsoles (replicate envs []) (record { list = []; spare = envs })
+pub built_consoles : (envs : ℕ) → envs ≤ most_environments → AreConsoles (replicate envs []) (record { list = []; spare = envs })
 built_consoles envs few = record { most = omega arith; count = omega (arith, length-replicate {A = List ℕ} envs []); unwritten = λ e past. empty_consoles envs e }
 
-pub built_parted : (pages : ℕ) → pages ≤ 1024 → IsParted (zeroed pages) 0 []
+pub built_parted : (pages : ℕ) → pages ≤ most_pages → IsParted (zeroed pages) 0 []
 built_parted pages few =
     let size : length (zeroed pages) ≡ pages = length-replicate pages zero_page in
     record {
       within = omega arith;
       most = omega (arith, size);
-      fresh = λ n past within. get_or-replicate pages n zero_page [] (omega (arith, size, within));
       inside = λ i a m at. cc;
       apart = λ i j a b m n at_a at_b same. cc;
       rising = λ i a b before within. absurd (omega arith);
     }
 
-own_slots : (owners : List (Option ℕ)) (k : ℕ) → option_map hold_seen (vector.hold_at (map vector.own_hold owners) k) ≡ boot_slot owners k
+own_slots : (owners : List (Option ℕ)) (k : ℕ) → vector.hold_at (map (option_map own_hold) owners) k ≡ boot_slot owners k
 own_slots [] k = refl
 own_slots (None ∷ owners) zero = refl
 own_slots (Some e ∷ owners) zero = refl
@@ -69,15 +71,14 @@ own_slots (o ∷ owners) (suc k) = own_slots owners k
 -- what a board without programs shows
 pub built_world : (quantum : ℕ) (owners : List (Option ℕ)) (b : Shown) → b.slots ≡ vector.first_slices quantum owners → b.roster.list ≡ [] → b.time ≡ 0 → b.ledger.rows ≡ (bare_world quantum owners).rows → world_of b ≡ bare_world quantum owners
 built_world quantum owners b slots none start rows =
-    let count : length b.slots.slots ≡ length owners = ap (λ v. length v.slots) slots ∙ length-map owners vector.own_hold in
+    let count : length b.slots.slots ≡ length owners = ap (λ v. length v.slots) slots ∙ length-map owners (option_map own_hold) in
     worlds (world_of b) (bare_world quantum owners)
     (λ i. record {
       slot_count = count i;
-      slots = λ k. (ap (λ v. option_map hold_seen (vector.hold_at v.slots k)) slots ∙ own_slots owners k) i;
+      slots = λ k. (ap (λ v. vector.hold_at v.slots k) slots ∙ own_slots owners k) i;
       quantum = (slots i).quantum;
       cursor = (slots i).cursor;
       runner = (slots i).runner;
-      left = (slots i).left;
       time = start i;
     })
     (ap length none)
@@ -107,8 +108,8 @@ module _ (r : Environments) (x : Environment) (lives : x.life ≡ Live) (room : 
   pub added_manned : (v : vector.Slices) → IsManned v r → IsManned v (record { list = r.list ++ x ∷ []; spare = r.spare - 1 })
   added_manned v manned = record {
     quantum = manned.quantum;
-    left = manned.left;
-    runner = if_both v.runner (λ i is live. still_live i live) manned.runner;
+    ticks = manned.ticks;
+    runner = if_both v.runner (λ y is live. still_live y.env live) manned.runner;
     holds = λ k. if_both (vector.hold_at v.slots k) (λ h is both. (still_undead h.owner both.0, still_undead h.holder both.1)) (manned.holds k);
     count = manned.count;
   }
@@ -127,7 +128,7 @@ last_mappings list x = ap mappings_in (last_get list x)
 other_mappings : (list : List Environment) (x : Environment) (i : ℕ) → i ≢ length list → mappings_of (list ++ x ∷ []) i ≡ mappings_of list i
 other_mappings list x i ne = ap mappings_in (other_get list x i ne)
 
-module _ (frames new : List (List ℕ)) (taken : ℕ) (list : List Environment) (x : Environment) (parted : IsParted frames taken list) (loading : IsLoading taken new x.env.mappings) (below : IsKeptBelow taken frames new) (room : taken + length x.env.mappings ≤ length frames) (rising : IsRising (numbers x.env.mappings)) where
+module _ (frames new : List (List ℕ)) (taken : ℕ) (list : List Environment) (x : Environment) (parted : IsParted frames taken list) (loading : IsLoading taken x.env.mappings) (below : IsKeptBelow taken frames new) (room : taken + length x.env.mappings ≤ length frames) (rising : IsRising (numbers x.env.mappings)) where
   -- whose page a page is
   record IsNew (i a : ℕ) (m : Mapping) : Type 0 where
     its : i ≡ length list
@@ -154,7 +155,6 @@ module _ (frames new : List (List ℕ)) (taken : ℕ) (list : List Environment) 
   added_parted = record {
     within = omega (arith, below.size, room);
     most = omega (arith, below.size, parted.most);
-    fresh = λ n past within. loading.fresh n past within;
     inside = λ i a m at. ⊎_elim (λ new. omega (arith, new.page, new.within)) (λ old. omega (arith, old.page)) (whose i a m at);
     apart = λ i j a b m n at_a at_b same.
         ⊎_elim
@@ -185,12 +185,12 @@ module _ (b : Shown) (x : Environment) (frames : List (List ℕ)) (taken : ℕ) 
   its_items : List Item
   its_items = record_items (length b.roster.list) (Some p)
 
-  unrun : is_named (length b.roster.list) b.slots.runner ≡ false
+  unrun : is_runner (length b.roster.list) b.slots.runner ≡ false
   unrun = by_runner b.slots.runner sound.book.runner
     where
-      by_runner : (o : Option ℕ) → IfSome o (IsLive b.roster.list) → is_named (length b.roster.list) o ≡ false
+      by_runner : (o : Option Runner) → IfSome o (λ y. IsLive b.roster.list y.env) → is_runner (length b.roster.list) o ≡ false
       by_runner None live = refl
-      by_runner (Some e) live = ne_eqb e (length b.roster.list) (λ same. omega (arith, same, live.0))
+      by_runner (Some y) live = ne_eqb y.env (length b.roster.list) (λ same. omega (arith, same, live.0))
 
   added_here : solo_of (with_one b x frames taken) (length b.roster.list) ≡ absorb_all (solo_of b (length b.roster.list)) (only (length b.roster.list) (record_items (length b.roster.list) (Some p)) (length b.roster.list))
   added_here =

@@ -1,8 +1,9 @@
 -- A page that is given to an environment.
-use Rattle.std.proofs.Common.{◌≡◌, ◌≢◌, ℕ, zero, suc, ◌+◌, ◌-◌, ◌<◌, List, [], ◌∷◌, ◌++◌, length, take, drop, ◌*◌, replicate, true, Some, refl, sym, append_assoc, add-one, ◌∙◌, ap, arith, get_or-set_same, get_or-set_other}
+use Rattle.std.proofs.Common.{◌≡◌, ◌≢◌, ℕ, zero, suc, ◌+◌, ◌-◌, ◌<◌, List, [], ◌∷◌, ◌++◌, length, take, drop, ◌*◌, replicate, true, Some, refl, sym, append_assoc, add-one, ◌∙◌, ap, arith, get_or-set_same, get_or-set_other, length-set}
 use Rattle.std.specs.Prelude.{slice_get}
 use Rattle.std.proofs.lemmas.List.{drop-replicate}
-use Rattle.frame_store.specs.Pages.{page_at, after_put, with_bytes}
+use Rattle.aegis_limits.specs.Limits.{page_size}
+use Rattle.frame_store.specs.Pages.{page_at, with_page, after_put, with_bytes, zero_page}
 use Rattle.env_frames.specs.declared.mapping.Mapping.{Mapping}
 use Rattle.world_model.specs.Page.{KeptPage}
 use Rattle.world_model.specs.Boot.{listed, open_page, page_from}
@@ -14,18 +15,18 @@ use Rattle.kernel_journal.specs.Ledger.{Ledger}
 use Rattle.kernel_journal.specs.declared.row.Row.{Row}
 use Rattle.world_model.specs.Book.{own_hold}
 use Rattle.world_model.specs.Boot.{boot_slot, own_row, own_rows}
-use Rattle.aegis_calls.specs.Doing.{with_rows}
-use Rattle.aegis_calls.specs.Loading.{IsLoading, padded}
-use Rattle.aegis_calls.specs.Showing.{page_seen, pages_seen}
+use Rattle.board_world.specs.Doing.{with_rows}
+use Rattle.board_world.specs.Loading.{IsLoading, padded}
+use Rattle.board_world.specs.Showing.{page_seen, pages_seen}
 
 -- other pages stay
-other_pages : (frames : List (List ℕ)) (n offset : ℕ) (bytes : List ℕ) (ms : List Mapping) → ((a : ℕ) (m : Mapping) → slice_get ms a ≡ Some m → m.page ≢ n) → pages_seen (after_put frames n offset bytes) ms ≡ pages_seen frames ms
-other_pages frames n offset bytes [] other = refl
-other_pages frames n offset bytes (m ∷ ms) other =
-    let head : page_seen (after_put frames n offset bytes) m ≡ page_seen frames m =
+other_pages : (frames : List (List ℕ)) (n : ℕ) (bytes : List ℕ) (ms : List Mapping) → ((a : ℕ) (m : Mapping) → slice_get ms a ≡ Some m → m.page ≢ n) → pages_seen (with_page frames n bytes) ms ≡ pages_seen frames ms
+other_pages frames n bytes [] other = refl
+other_pages frames n bytes (m ∷ ms) other =
+    let head : page_seen (with_page frames n bytes) m ≡ page_seen frames m =
     ap (λ (page : List ℕ). record { vpn = m.vpn; writable = m.writable; bytes = page })
-    (get_or-set_other frames n m.page (with_bytes (page_at frames n) offset bytes) [] (other 0 m refl)) in
-    let tail = other_pages frames n offset bytes ms (λ a k. other (suc a) k) in
+    (get_or-set_other frames n m.page bytes [] (other 0 m refl)) in
+    let tail = other_pages frames n bytes ms (λ a k. other (suc a) k) in
     cc
 
 seen-append : (frames : List (List ℕ)) (ms : List Mapping) (m : Mapping) → pages_seen frames (ms ++ m ∷ []) ≡ pages_seen frames ms ++ page_seen frames m ∷ []
@@ -37,26 +38,31 @@ within-get [] a m is = cc
 within-get (n ∷ ms) zero m is = omega arith
 within-get (n ∷ ms) (suc a) m is = let there = within-get ms a m is in omega arith
 
--- bytes at the beginning of a page of zeros
-zeros_behind : (frames : List (List ℕ)) (n size : ℕ) (bytes : List ℕ) → page_at frames n ≡ replicate size 0 → bytes ++ drop (length bytes) (page_at frames n) ≡ bytes ++ replicate (size - length bytes) 0
-zeros_behind frames n size bytes zeros = ap (λ page. bytes ++ drop (length bytes) page) zeros ∙ ap (λ page. bytes ++ page) (drop-replicate (length bytes) size 0)
+-- bytes at the beginning of a page that was made zero
+zeros_behind : (size : ℕ) (bytes : List ℕ) → with_bytes (replicate size 0) 0 bytes ≡ bytes ++ replicate (size - length bytes) 0
+zeros_behind size bytes =
+    let none : 0 + length bytes ≡ length bytes = omega arith in
+    ap (λ (k : ℕ). bytes ++ drop k (replicate size 0)) none ∙ ap (λ page. bytes ++ page) (drop-replicate (length bytes) size 0)
 
-with_zero : (page bytes : List ℕ) → with_bytes page 0 bytes ≡ bytes ++ drop (length bytes) page
-with_zero page bytes = let none : 0 + length bytes ≡ length bytes = omega arith in ap (λ (k : ℕ). bytes ++ drop k page) none
-
-pub given_page : (frames : List (List ℕ)) (first vpn : ℕ) (bytes : List ℕ) (ms : List Mapping) → IsLoading first frames ms → first + length ms < length frames →
-    pages_seen (after_put frames (first + length ms) 0 bytes) (ms ++ record { vpn = vpn; page = first + length ms; writable = true } ∷ []) ≡ pages_seen frames ms ++ open_page vpn (padded bytes) ∷ []
+pub given_page : (frames : List (List ℕ)) (first vpn : ℕ) (bytes : List ℕ) (ms : List Mapping) → IsLoading first ms → first + length ms < length frames →
+    pages_seen (after_put (with_page frames (first + length ms) zero_page) (first + length ms) 0 bytes) (ms ++ record { vpn = vpn; page = first + length ms; writable = true } ∷ []) ≡ pages_seen frames ms ++ open_page vpn (padded bytes) ∷ []
 given_page frames first vpn bytes ms loading there =
     let n = first + length ms in
+    let zeroed = with_page frames n zero_page in
     let m : Mapping = record { vpn = vpn; page = n; writable = true } in
-    let old = other_pages frames n 0 bytes ms (λ a k at same. let place = loading.placed a k at in let within = within-get ms a k at in omega arith) in
-    let page : page_at (after_put frames n 0 bytes) n ≡ padded bytes =
-    get_or-set_same frames n (with_bytes (page_at frames n) 0 bytes) [] there
-    ∙ with_zero (page_at frames n) bytes
-    ∙ zeros_behind frames n 4096 bytes (loading.fresh n (omega arith) there) in
-    seen-append (after_put frames n 0 bytes) ms m
-    ∙ ap (λ ps. ps ++ page_seen (after_put frames n 0 bytes) m ∷ []) old
+    let elsewhere : (a : ℕ) (k : Mapping) → slice_get ms a ≡ Some k → k.page ≢ n = λ a k at same. let place = loading.placed a k at in let within = within-get ms a k at in omega arith in
+    let old = other_pages zeroed n (with_bytes (page_at zeroed n) 0 bytes) ms elsewhere ∙ other_pages frames n zero_page ms elsewhere in
+    let page : page_at (after_put zeroed n 0 bytes) n ≡ padded bytes =
+    get_or-set_same zeroed n (with_bytes (page_at zeroed n) 0 bytes) [] (omega (arith, length-set frames n zero_page, there))
+    ∙ ap (λ (p : List ℕ). with_bytes p 0 bytes) (get_or-set_same frames n zero_page [] there)
+    ∙ zeros_behind page_size bytes in
+    seen-append (after_put zeroed n 0 bytes) ms m
+    ∙ ap (λ ps. ps ++ page_seen (after_put zeroed n 0 bytes) m ∷ []) old
     ∙ ap (λ (bs : List ℕ). pages_seen frames ms ++ record { vpn = vpn; writable = true; bytes = bs } ∷ []) page
+
+-- a context page that was made zero
+pub context_page : (frames : List (List ℕ)) (first : ℕ) → first < length frames → pages_seen (with_page frames first zero_page) (record { vpn = 1; page = first; writable = true } ∷ []) ≡ open_page 1 zero_page ∷ []
+context_page frames first there = ap (λ (bytes : List ℕ). open_page 1 bytes ∷ []) (get_or-set_same frames first zero_page [] there)
 
 -- the pages so far and one more
 pub one_more : (old now next : List KeptPage) (f : ℕ → KeptPage) (i : ℕ) (page : KeptPage) → next ≡ now ++ page ∷ [] → now ≡ old ++ listed f i → page ≡ f i → next ≡ old ++ listed f (i + 1)
@@ -71,9 +77,9 @@ one_more old now next f i page longer so_far is =
     listed_more f i = rw add-one refl
 
 -- a part of a body as a page
-pub body_page : (vpn i : ℕ) (bytes part : List ℕ) → part ≡ take 4096 (drop (i * 4096) bytes) → open_page (vpn + i) (padded part) ≡ open_page (vpn + i) (page_from bytes (4096 * i))
+pub body_page : (vpn i : ℕ) (bytes part : List ℕ) → part ≡ take page_size (drop (i * page_size) bytes) → open_page (vpn + i) (padded part) ≡ open_page (vpn + i) (page_from bytes (page_size * i))
 body_page vpn i bytes part is =
-    let at : i * 4096 ≡ 4096 * i = omega arith in
+    let at : i * page_size ≡ page_size * i = omega arith in
     ap (λ (p : List ℕ). open_page (vpn + i) (padded p)) is
     ∙ ap (λ (n : ℕ). open_page (vpn + i) (page_from bytes n)) at
 

@@ -2,7 +2,7 @@
 use Rattle.std.proofs.Common.{◌≡◌, ◌≢◌, ℕ, zero, suc, ◌<◌, List, [], ◌∷◌, ◌++◌, length, Some, None, refl, ap, arith}
 use Rattle.std.specs.Prelude.{slice_get, slice_set, slice_index_or}
 use Rattle.std.specs.Option.{option_map}
-use Rattle.aegis_calls.specs.Shown.{changed}
+use Rattle.board_world.specs.Shown.{changed}
 
 pub changed_here : {A : Type 0} (f : A → A) (xs : List A) (e : ℕ) → slice_get (changed f xs e) e ≡ option_map f (slice_get xs e)
 changed_here f [] e = refl

@@ -1,16 +1,17 @@
 -- What a store does to the pages that environments see.
-use Rattle.std.proofs.Common.{◌≡◌, ◌≢◌, ℕ, zero, suc, ◌/◌, ◌%◌, ◌<◌, List, [], ◌∷◌, length, Bool, true, false, Some, None, refl, sym, ◌∙◌, ap, arith, get_or-set_same, get_or-set_other}
+use Rattle.std.proofs.Common.{◌≡◌, ◌≢◌, ℕ, zero, suc, ◌/◌, ◌%◌, ◌<◌, List, [], ◌∷◌, length, Bool, true, false, Option, Some, None, refl, sym, ◌∙◌, ap, arith, get_or-set_same, get_or-set_other}
 use Rattle.std.specs.Prelude.{◌==◌, if◌then◌else◌, slice_get, slice_index}
 use Rattle.std.specs.Option.{option_map}
 use Rattle.std.proofs.lemmas.Bool.{eqb-true, eqb-false}
 use Rattle.mips_exec.specs.Access.{Write}
-use Rattle.frame_store.specs.Pages.{page_at, after_put}
+use Rattle.aegis_limits.specs.Limits.{page_size}
+use Rattle.frame_store.specs.Pages.{page_at, after_put, with_bytes}
 use Rattle.env_frames.specs.declared.mapping.Mapping.{Mapping}
 use Rattle.env_frames.specs.Frame.{mapping_at, numbers, IsRising}
 use Rattle.guest_memory.specs.Look.{look, look_through}
-use Rattle.world_model.specs.Page.{with_bytes}
-use Rattle.world_model.specs.Solo.{kept_at, sight, mapped, kept_after, stored_page}
-use Rattle.aegis_calls.specs.Showing.{page_seen, pages_seen}
+use Rattle.world_model.specs.Page.{KeptPage, Mapped}
+use Rattle.world_model.specs.Solo.{Kept, Store, place_at, kept_at, bytes_in, sight, mapped, kept_after, stored_page}
+use Rattle.board_world.specs.Showing.{page_seen, pages_seen}
 
 -- each mapping leads to a page that physical memory has
 abbrev pub AreInside : List (List ℕ) → List Mapping → Type 0
@@ -22,14 +23,43 @@ page_there [] n within = absurd (omega arith)
 page_there (x ∷ frames) zero within = refl
 page_there (x ∷ frames) (suc n) within = page_there frames n (omega arith)
 
--- where a page number leads is what the environment sees there
-pub seen_look : (frames : List (List ℕ)) (ms : List Mapping) (v : ℕ) → AreInside frames ms → look frames ms v ≡ sight (pages_seen frames ms) v
-seen_look frames [] v inside = refl
-seen_look frames (m ∷ ms) v inside =
-    elim (m.vpn == v) as (λ here. look_through frames (if here then Some m else mapping_at ms v) ≡ option_map mapped (if here then Some (page_seen frames m) else kept_at (pages_seen frames ms) v)) [
-      | true ↦ rw (page_there frames m.page (inside 0 m refl)) refl
-      | false ↦ seen_look frames ms v (λ a n. inside (suc a) n)
+-- the page that an environment sees at a page number is that of its mapping
+pub seen_kept : (frames : List (List ℕ)) (ms : List Mapping) (v : ℕ) → kept_at (pages_seen frames ms) v ≡ option_map (page_seen frames) (mapping_at ms v)
+seen_kept frames [] v = refl
+seen_kept frames (m ∷ ms) v =
+    elim (m.vpn == v) as (λ here. (if here then Some (page_seen frames m) else kept_at (pages_seen frames ms) v) ≡ option_map (page_seen frames) (if here then Some m else mapping_at ms v)) [
+      | true ↦ refl
+      | false ↦ seen_kept frames ms v
     ]
+
+-- a page as it is seen through a mapping
+abbrev pub mapped_page : KeptPage → Mapped
+mapped_page p = record { writable = p.writable; bytes = p.bytes }
+
+-- what is seen at a page number is the page there
+sight_is : (kept : List KeptPage) (v : ℕ) → sight kept v ≡ option_map mapped_page (kept_at kept v)
+sight_is kept v = by_page (kept_at kept v) refl
+  where
+    by_page : (o : Option KeptPage) → kept_at kept v ≡ o → option_map (mapped kept) (option_map (place_at v) o) ≡ option_map mapped_page o
+    by_page None is = refl
+    by_page (Some p) is = ap (λ (y : Option KeptPage). Some (record { writable = p.writable; bytes = bytes_in y })) is
+
+-- each mapping that is found is one of the mappings
+found_inside : (frames : List (List ℕ)) (ms : List Mapping) (v : ℕ) → AreInside frames ms → look_through frames (mapping_at ms v) ≡ option_map mapped_page (option_map (page_seen frames) (mapping_at ms v))
+found_inside frames [] v inside = refl
+found_inside frames (m ∷ ms) v inside =
+    elim (m.vpn == v) as (λ here. look_through frames (if here then Some m else mapping_at ms v) ≡ option_map mapped_page (option_map (page_seen frames) (if here then Some m else mapping_at ms v))) [
+      | true ↦ rw (page_there frames m.page (inside 0 m refl)) refl
+      | false ↦ found_inside frames ms v (λ a n. inside (suc a) n)
+    ]
+
+-- where a page number leads is what the environment sees there
+pub seen_look : (frames : List (List ℕ)) (ms : List Mapping) (v : ℕ) → AreInside frames ms → look frames (mapping_at ms) v ≡ sight (pages_seen frames ms) v
+seen_look frames ms v inside = found_inside frames ms v inside ∙ ap (option_map mapped_page) (sym (seen_kept frames ms v)) ∙ sym (sight_is (pages_seen frames ms) v)
+
+-- the store of a write, at the page that its page number names
+abbrev pub its_store : Write → Store
+its_store w = record { key = Kept (w.address / page_size); offset = w.address % page_size; bytes = w.bytes }
 
 -- Which pages a store changes: the one that its page number leads to, and no other.
 pub record IsStruck (v p : ℕ) (m : Mapping) : Type 0 where
@@ -37,42 +67,33 @@ pub record IsStruck (v p : ℕ) (m : Mapping) : Type 0 where
   pub elsewhere : m.vpn ≢ v → m.page ≢ p
 
 module _ (frames : List (List ℕ)) (w : Write) (p : ℕ) (within : p < length frames) where
-  head_by : (m : Mapping) (test : Bool) → (m.vpn == w.address / 4096) ≡ test → IsStruck (w.address / 4096) p m → page_seen (after_put frames p (w.address % 4096) w.bytes) m ≡ (if test then stored_page w (page_seen frames m) else page_seen frames m)
+  head_by : (m : Mapping) (test : Bool) → (m.vpn == w.address / page_size) ≡ test → IsStruck (w.address / page_size) p m → page_seen (after_put frames p (w.address % page_size) w.bytes) m ≡ (if test then stored_page (its_store w) (page_seen frames m) else page_seen frames m)
   head_by m true is struck =
-      let to = struck.here (eqb-true m.vpn (w.address / 4096) is) in
+      let to = struck.here (eqb-true m.vpn (w.address / page_size) is) in
       ap (λ (bytes : List ℕ). record { vpn = m.vpn; writable = m.writable; bytes = bytes })
-      (ap (λ (n : ℕ). page_at (after_put frames p (w.address % 4096) w.bytes) n) to
-      ∙ get_or-set_same frames p (with_bytes (page_at frames p) (w.address % 4096) w.bytes) [] within
-      ∙ ap (λ (n : ℕ). with_bytes (page_at frames n) (w.address % 4096) w.bytes) (sym to))
+      (ap (λ (n : ℕ). page_at (after_put frames p (w.address % page_size) w.bytes) n) to
+      ∙ get_or-set_same frames p (with_bytes (page_at frames p) (w.address % page_size) w.bytes) [] within
+      ∙ ap (λ (n : ℕ). with_bytes (page_at frames n) (w.address % page_size) w.bytes) (sym to))
   head_by m false is struck =
-      let other = struck.elsewhere (eqb-false m.vpn (w.address / 4096) is) in
+      let other = struck.elsewhere (eqb-false m.vpn (w.address / page_size) is) in
       ap (λ (bytes : List ℕ). record { vpn = m.vpn; writable = m.writable; bytes = bytes })
-      (get_or-set_other frames p m.page (with_bytes (page_at frames p) (w.address % 4096) w.bytes) [] other)
+      (get_or-set_other frames p m.page (with_bytes (page_at frames p) (w.address % page_size) w.bytes) [] other)
 
-  pub stored_own : (ms : List Mapping) → ((a : ℕ) (m : Mapping) → slice_get ms a ≡ Some m → IsStruck (w.address / 4096) p m) → pages_seen (after_put frames p (w.address % 4096) w.bytes) ms ≡ kept_after w (pages_seen frames ms)
+  pub stored_own : (ms : List Mapping) → ((a : ℕ) (m : Mapping) → slice_get ms a ≡ Some m → IsStruck (w.address / page_size) p m) → pages_seen (after_put frames p (w.address % page_size) w.bytes) ms ≡ kept_after (pages_seen frames ms) (its_store w)
   stored_own [] struck = refl
   stored_own (m ∷ ms) struck =
-      let head = head_by m (m.vpn == w.address / 4096) refl (struck 0 m refl) in
+      let head = head_by m (m.vpn == w.address / page_size) refl (struck 0 m refl) in
       let tail = stored_own ms (λ a n. struck (suc a) n) in
       cc
 
-  pub stored_else : (ms : List Mapping) → ((a : ℕ) (m : Mapping) → slice_get ms a ≡ Some m → m.page ≢ p) → pages_seen (after_put frames p (w.address % 4096) w.bytes) ms ≡ pages_seen frames ms
+  pub stored_else : (ms : List Mapping) → ((a : ℕ) (m : Mapping) → slice_get ms a ≡ Some m → m.page ≢ p) → pages_seen (after_put frames p (w.address % page_size) w.bytes) ms ≡ pages_seen frames ms
   stored_else [] other = refl
   stored_else (m ∷ ms) other =
-      let head : page_seen (after_put frames p (w.address % 4096) w.bytes) m ≡ page_seen frames m =
+      let head : page_seen (after_put frames p (w.address % page_size) w.bytes) m ≡ page_seen frames m =
       ap (λ (bytes : List ℕ). record { vpn = m.vpn; writable = m.writable; bytes = bytes })
-      (get_or-set_other frames p m.page (with_bytes (page_at frames p) (w.address % 4096) w.bytes) [] (other 0 m refl)) in
+      (get_or-set_other frames p m.page (with_bytes (page_at frames p) (w.address % page_size) w.bytes) [] (other 0 m refl)) in
       let tail = stored_else ms (λ a n. other (suc a) n) in
       cc
-
--- a store to a page number that leads nowhere changes nothing
-pub unstored : (frames : List (List ℕ)) (w : Write) (ms : List Mapping) → mapping_at ms (w.address / 4096) ≡ None → kept_after w (pages_seen frames ms) ≡ pages_seen frames ms
-unstored frames w [] none = refl
-unstored frames w (m ∷ ms) none = by_test (m.vpn == w.address / 4096) refl none (λ found. unstored frames w ms found)
-  where
-    by_test : (test : Bool) → (m.vpn == w.address / 4096) ≡ test → (if test then Some m else mapping_at ms (w.address / 4096)) ≡ None → (mapping_at ms (w.address / 4096) ≡ None → kept_after w (pages_seen frames ms) ≡ pages_seen frames ms) → kept_after w (pages_seen frames (m ∷ ms)) ≡ pages_seen frames (m ∷ ms)
-    by_test true is found tail = cc
-    by_test false is found tail = rw is (ap (λ ps. page_seen frames m ∷ ps) (tail found))
 
 -- the place of the mapping that a page number has
 pub record IsAt (ms : List Mapping) (v k : ℕ) (m : Mapping) : Type 0 where

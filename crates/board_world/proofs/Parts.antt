@@ -2,9 +2,10 @@
 use Rattle.std.proofs.Common.{◌≡◌, ◌≢◌, ℕ, List, [], ◌∷◌, ◌++◌, Bool, true, false, refl, sym, ◌∙◌, ap}
 use Rattle.std.specs.Prelude.{◌==◌}
 use Rattle.std.proofs.lemmas.Bool.{ne_eqb, eq-eqb, eqb-true, eqb-false}
-use Rattle.world_model.specs.Item.{Item, Step, absorb_all}
-use Rattle.world_model.specs.World.{World, Reply, after, only}
-use Rattle.world_model.specs.Tick.{with_step}
+use Rattle.world_model.specs.Solo.{Solo}
+use Rattle.world_model.specs.Step.{Act, acted}
+use Rattle.world_model.specs.Item.{Item, absorb_all}
+use Rattle.world_model.specs.World.{World, only, set_at}
 
 pub append_nothing : {A : Type 0} (xs : List A) → xs ++ [] ≡ xs
 append_nothing [] = refl
@@ -21,27 +22,29 @@ by_env f g e here others i = by_test (i == e) refl
     by_test true is = let same = eqb-true i e is in ap f same ∙ here ∙ ap g (sym same)
     by_test false is = others i (eqb-false i e is)
 
+-- a table with another value at one number: there, and elsewhere
+pub set_here : {A : Type 0} (n : ℕ) (x : A) (f : ℕ → A) → set_at n x f n ≡ x
+set_here n x f = rw (eq-eqb n n refl) refl
+
+pub set_else : {A : Type 0} (n i : ℕ) (x : A) (f : ℕ → A) → i ≢ n → set_at n x f i ≡ f i
+set_else n i x f ne = rw (ne_eqb i n ne) refl
+
 pub only_here : (e : ℕ) (items : List Item) → only e items e ≡ items
-only_here e items = rw (eq-eqb e e refl) refl
+only_here e items = set_here e items (λ i. [])
 
 pub only_else : (e i : ℕ) (items : List Item) → i ≢ e → only e items i ≡ []
-only_else e i items ne = rw (ne_eqb i e ne) refl
+only_else e i items ne = set_else e i items (λ i. []) ne
 
--- a reply that has these items for one environment, and none for others
-pub record GoesTo (e : ℕ) (items : List Item) (r : Reply) : Type 0 where
-  pub here : r.items e ≡ items
-  pub others : (i : ℕ) → i ≢ e → r.items i ≡ []
+-- where something was given to one alone
+pub one_absorbed : (old new : ℕ → Solo) (e : ℕ) (its : List Item) → new e ≡ absorb_all (old e) its → ((i : ℕ) → i ≢ e → new i ≡ old i) → (i : ℕ) → new i ≡ absorb_all (old i) (only e its i)
+one_absorbed old new e its here others =
+    by_env new (λ i. absorb_all (old i) (only e its i)) e
+    (here ∙ ap (absorb_all (old e)) (sym (only_here e its)))
+    (λ i ne. others i ne ∙ ap (absorb_all (old i)) (sym (only_else e i its ne)))
 
--- the reply of a phase in which it makes its step too
-pub with_step_to : (e : ℕ) (items : List Item) (r : Reply) → GoesTo e items r → GoesTo e (Step ∷ items) (with_step e r)
-with_step_to e items r to = record {
-  here = ap (λ xs. xs ++ r.items e) (only_here e (Step ∷ [])) ∙ ap (λ xs. Step ∷ xs) to.here;
-  others = λ i ne. ap (λ xs. xs ++ r.items i) (only_else e i (Step ∷ []) ne) ∙ to.others i ne;
-}
-
--- the world after such a reply, part by part
-pub phase : (v w : World) (r : Reply) (e : ℕ) (items : List Item) → GoesTo e items r → v.book ≡ r.book → v.count ≡ w.count → v.rows ≡ w.rows ++ r.rows → v.solos e ≡ absorb_all (w.solos e) items → ((i : ℕ) → i ≢ e → v.solos i ≡ w.solos i) → v ≡ after w r
-phase v w r e items to book count rows here others =
-    worlds v (after w r) book count
-    (by_env v.solos (λ i. absorb_all (w.solos i) (r.items i)) e (here ∙ ap (absorb_all (w.solos e)) (sym to.here)) (λ i ne. others i ne ∙ ap (absorb_all (w.solos i)) (sym (to.others i ne))))
-    rows
+-- where one did something itself first
+pub one_acted : (old new : ℕ → Solo) (e : ℕ) (act : Act) (its : List Item) → new e ≡ absorb_all (acted act (old e)) its → ((i : ℕ) → i ≢ e → new i ≡ old i) → (i : ℕ) → new i ≡ absorb_all (set_at e (acted act (old e)) old i) (only e its i)
+one_acted old new e act its here others =
+    one_absorbed (set_at e (acted act (old e)) old) new e its
+    (here ∙ ap (λ s. absorb_all s its) (sym (set_here e (acted act (old e)) old)))
+    (λ i ne. others i ne ∙ sym (set_else e i (acted act (old e)) old ne))

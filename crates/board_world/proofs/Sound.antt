@@ -1,25 +1,26 @@
 -- What holds of a board goes on holding.
-use Rattle.std.proofs.Common.{◌≡◌, ◌≢◌, ℕ, zero, suc, ◌+◌, ◌-◌, ◌%◌, ◌/◌, ◌<◌, List, [], ◌∷◌, length, map, Bool, true, false, Option, Some, None, IfSome, ◌⊎◌, inl, inr, refl, sym, ◌∙◌, ap, subst, arith, get_or-set_other, length-set}
+use Rattle.std.proofs.Common.{◌≡◌, ◌≢◌, ℕ, zero, suc, ◌+◌, ◌-◌, ◌%◌, ◌/◌, ◌<◌, ◌≤◌, List, [], ◌∷◌, length, map, Bool, true, false, Option, Some, None, IfSome, ◌⊎◌, inl, inr, refl, sym, ◌∙◌, ap, subst, arith, length-set}
 use Rattle.std.specs.Prelude.{◌==◌, if◌then◌else◌, slice_get}
 use Rattle.std.proofs.lemmas.Bool.{eq-eqb, eqb-false}
 use Rattle.mips_exec.specs.declared.registers.Cpu.{Cpu}
 use Rattle.mips_exec.specs.Access.{Write}
+use Rattle.aegis_limits.specs.Limits.{page_size}
 use Rattle.frame_store.specs.Pages.{page_at, after_put, with_bytes}
 use Rattle.env_frames.specs.declared.mapping.Mapping.{Mapping}
 use Rattle.env_frames.specs.Frame.{mapping_at, numbers, IsRising}
 use Rattle.guest_memory.specs.Look.{frames_after, written_through}
-use Rattle.slot_vector.specs.declared.hold.Hold as held
-use Rattle.slot_vector.specs.declared.hold.Turn as slice
-use Rattle.slot_vector.specs.declared.hold.Turn.TheVariants as turn
-use Rattle.slot_vector.specs.Slices.{Slices, hold_at, first_held, next_turn, run_or, with_turn, turn_ended, timer_counted, released, without_env}
+use Rattle.slot_vector.specs.Slices.{Slices, HasTicks, hold_at, next_turn, with_turn, turn_ended, counted_in, timer_counted, without_env}
+use Rattle.world_model.specs.declared.slot.Hold.{Hold}
+use Rattle.world_model.specs.declared.slot.Runner.{Runner}
+use Rattle.world_model.specs.declared.slot.Turn.{Turn}
+use Rattle.world_model.specs.Book.{own_hold, first_turn, is_runner, released, running, turn_or}
 use Rattle.world_model.specs.declared.life.Life.TheVariants.{Live}
 use Rattle.world_model.specs.declared.life.Cause.{Cause}
-use Rattle.aegis_calls.specs.declared.roster.Environment.{Environment}
-use Rattle.aegis_calls.specs.Shown.{Environments, mappings_of, changed, with_list}
-use Rattle.aegis_calls.specs.Sound.{IsAlive, IsLive, IsUndead, IsManned, AreConsoles, IsParted}
-use Rattle.aegis_calls.specs.Doing.{with_registers, buried}
-use Rattle.aegis_calls.proofs.Lists.{changed_else, length-changed}
-use Rattle.aegis_calls.proofs.Pages.{placed}
+use Rattle.board_world.specs.declared.roster.Environment.{Environment}
+use Rattle.board_world.specs.Shown.{Environments, mappings_of, changed, with_list}
+use Rattle.board_world.specs.Sound.{IsAlive, IsLive, IsUndead, IsManned, AreConsoles, IsParted}
+use Rattle.board_world.specs.Doing.{with_registers, dead_frame}
+use Rattle.board_world.proofs.Lists.{changed_else, length-changed}
 
 -- whoever will live lives, once all are there
 undead_alive : (list : List Environment) (e : ℕ) → e < length list → IfSome (slice_get list e) (λ x. x.life ≡ Live) → IsAlive (slice_get list e)
@@ -31,27 +32,27 @@ undead_live : (r : Environments) (e : ℕ) → r.spare ≡ 0 → IsUndead r e �
 undead_live r e whole undead = let within : e < length r.list = omega (arith, undead.0, whole) in (within, undead_alive r.list e within undead.1)
 
 -- the holder of a turn is a holder of the slots
-module _ (r : Environments) (slots : List (Option held.Hold)) (whole : r.spare ≡ 0) (holds : (k : ℕ) → IfSome (hold_at slots k) (λ h. IsUndead r h.owner × IsUndead r h.holder)) (slot e : ℕ) where
-  by_hold : (at : ℕ) (hold : Option held.Hold) (later : slice.Turn) → IfSome hold (λ h. IsUndead r h.owner × IsUndead r h.holder) → (later ≡ turn.Run slot e → IsLive r.list e) → run_or at hold later ≡ turn.Run slot e → IsLive r.list e
+module _ (r : Environments) (slots : ℕ → Option Hold) (count : ℕ) (whole : r.spare ≡ 0) (holds : (k : ℕ) → IfSome (slots k) (λ h. IsUndead r h.owner × IsUndead r h.holder)) (t : Turn) where
+  by_hold : (at : ℕ) (hold : Option Hold) (later : Option Turn) → IfSome hold (λ h. IsUndead r h.owner × IsUndead r h.holder) → (later ≡ Some t → IsLive r.list t.env) → turn_or at hold later ≡ Some t → IsLive r.list t.env
   by_hold at None later held further is = further is
   by_hold at (Some h) later held further is =
-      let same : h.holder ≡ e = cc in
+      let same : h.holder ≡ t.env = cc in
       subst (IsLive r.list) same (undead_live r h.holder whole held.1)
 
-  first_live : (place tries : ℕ) → first_held slots place tries ≡ turn.Run slot e → IsLive r.list e
+  first_live : (place tries : ℕ) → first_turn slots count place tries ≡ Some t → IsLive r.list t.env
   first_live place zero is = cc
   first_live place (suc tries) is =
-      let at = (place + 1) % length slots in
-      by_hold at (hold_at slots at) (first_held slots at tries) (holds at) (λ further. first_live at tries further) is
+      let at = (place + 1) % count in
+      by_hold at (slots at) (first_turn slots count at tries) (holds at) (λ further. first_live at tries further) is
 
-pub turn_live : (v : Slices) (r : Environments) (slot e : ℕ) → IsManned v r → r.spare ≡ 0 → next_turn v ≡ turn.Run slot e → IsLive r.list e
-turn_live v r slot e manned whole is = first_live r v.slots whole manned.holds slot e v.cursor (length v.slots) is
+pub turn_live : (v : Slices) (r : Environments) (t : Turn) → IsManned v r → r.spare ≡ 0 → next_turn v ≡ Some t → IsLive r.list t.env
+turn_live v r t manned whole is = first_live r (hold_at v.slots) (length v.slots) whole manned.holds t v.cursor (length v.slots) is
 
-pub turn_manned : (v : Slices) (r : Environments) (slot e : ℕ) → IsManned v r → r.spare ≡ 0 → next_turn v ≡ turn.Run slot e → IsManned (with_turn v (turn.Run slot e)) r
-turn_manned v r slot e manned whole is = record {
+pub turn_manned : (v : Slices) (r : Environments) (t : Turn) → IsManned v r → r.spare ≡ 0 → next_turn v ≡ Some t → IsManned (with_turn v (Some t)) r
+turn_manned v r t manned whole is = record {
   quantum = manned.quantum;
-  left = λ some. manned.quantum;
-  runner = turn_live v r slot e manned whole is;
+  ticks = omega (arith, manned.quantum);
+  runner = turn_live v r t manned whole is;
   holds = manned.holds;
   count = manned.count;
 }
@@ -86,64 +87,72 @@ kept_live cpu (x ∷ list) (suc e) (suc i) live = kept_live cpu list e i live
 pub keep_manned : (cpu : Cpu) (v : Slices) (r : Environments) (e : ℕ) → IsManned v r → IsManned v (with_list r (changed (with_registers cpu) r.list e))
 keep_manned cpu v r e manned = record {
   quantum = manned.quantum;
-  left = manned.left;
-  runner = if_both v.runner (λ i is live. (omega (arith, live.0, length-changed (with_registers cpu) r.list e), kept_live cpu r.list e i live.1)) manned.runner;
+  ticks = manned.ticks;
+  runner = if_both v.runner (λ x is live. (omega (arith, live.0, length-changed (with_registers cpu) r.list e), kept_live cpu r.list e x.env live.1)) manned.runner;
   holds = λ k. if_both (hold_at v.slots k) (λ h is undead. (kept_undead cpu r e h.owner undead.0, kept_undead cpu r e h.holder undead.1)) (manned.holds k);
   count = manned.count;
 }
 
 -- the turn ends
 pub end_manned : (v : Slices) (r : Environments) → IsManned v r → IsManned (turn_ended v) r
-end_manned v r manned = record { quantum = manned.quantum; left = λ some. absurd (cc); runner = tt; holds = manned.holds; count = manned.count }
+end_manned v r manned = record { quantum = manned.quantum; ticks = tt; runner = tt; holds = manned.holds; count = manned.count }
 
 -- a runner is one of the environments
-pub runner_within : (v : Slices) (r : Environments) (e : ℕ) → IsManned v r → v.runner ≡ Some e → e < length r.list
-runner_within v r e manned runs = let live : IsLive r.list e = subst (λ o. IfSome o (IsLive r.list)) runs manned.runner in live.0
+pub runner_within : (v : Slices) (r : Environments) (e : ℕ) → IsManned v r → running v.runner ≡ Some e → e < length r.list
+runner_within v r e manned runs = by_runner v.runner manned.runner runs
+  where
+    by_runner : (o : Option Runner) → IfSome o (λ x. IsLive r.list x.env) → running o ≡ Some e → e < length r.list
+    by_runner None live is = cc
+    by_runner (Some x) live is = let same : x.env ≡ e = cc in omega (arith, same, live.0)
 
 -- the timer
 pub go_on_manned : (v : Slices) (r : Environments) → IsManned v r → IsManned (timer_counted v) r
-go_on_manned v r manned = by_left (v.left == 1) refl
+go_on_manned v r manned = by_runner v.runner manned.runner manned.ticks
   where
-    by_left : (last : Bool) → (v.left == 1) ≡ last → IsManned (if last then turn_ended v else record v { left = v.left - 1 }) r
-    by_left true last = record { quantum = manned.quantum; left = λ some. absurd (cc); runner = tt; holds = manned.holds; count = manned.count }
-    by_left false last = record {
+    by_left : (x : Runner) (last : Bool) → (x.left == 1) ≡ last → IsLive r.list x.env → 1 ≤ x.left → IsManned (record v { runner = if last then None else Some (record x { left = x.left - 1 }) }) r
+    by_left x true last live some = record { quantum = manned.quantum; ticks = tt; runner = tt; holds = manned.holds; count = manned.count }
+    by_left x false last live some = record {
       quantum = manned.quantum;
-      left = λ some. let there = manned.left some in let more = eqb-false v.left 1 last in omega (arith, there, more);
-      runner = manned.runner;
+      ticks = let more = eqb-false x.left 1 last in omega (arith, some, more);
+      runner = live;
       holds = manned.holds;
       count = manned.count;
     }
 
+    by_runner : (o : Option Runner) → IfSome o (λ x. IsLive r.list x.env) → HasTicks o → IsManned (record v { runner = counted_in o }) r
+    by_runner None live some = record { quantum = manned.quantum; ticks = tt; runner = tt; holds = manned.holds; count = manned.count }
+    by_runner (Some x) live some = by_left x (x.left == 1) refl live some
+
 -- a death
 module _ (v : Slices) (r : Environments) (e : ℕ) (cause : Cause) (manned : IsManned v r) where
   gone : Environments
-  gone = with_list r (changed (buried cause) r.list e)
+  gone = with_list r (changed (dead_frame cause) r.list e)
 
-  released_undead : (hold : Option held.Hold) → IfSome hold (λ h. IsUndead r h.owner × IsUndead r h.holder) → IfSome (released e hold) (λ h. IsUndead (with_list r (changed (buried cause) r.list e)) h.owner × IsUndead (with_list r (changed (buried cause) r.list e)) h.holder)
+  released_undead : (hold : Option Hold) → IfSome hold (λ h. IsUndead r h.owner × IsUndead r h.holder) → IfSome (released e hold) (λ h. IsUndead (with_list r (changed (dead_frame cause) r.list e)) h.owner × IsUndead (with_list r (changed (dead_frame cause) r.list e)) h.holder)
   released_undead None undead = undead
   released_undead (Some h) undead = by_owner (h.owner == e) refl
     where
-      by_holder : (holds : Bool) → (h.holder == e) ≡ holds → h.owner ≢ e → IfSome (if holds then Some (record { owner = h.owner; holder = h.owner }) else Some h) (λ h. IsUndead (with_list r (changed (buried cause) r.list e)) h.owner × IsUndead (with_list r (changed (buried cause) r.list e)) h.holder)
-      by_holder true is other = (changed_undead r (buried cause) e h.owner other undead.0, changed_undead r (buried cause) e h.owner other undead.0)
-      by_holder false is other = (changed_undead r (buried cause) e h.owner other undead.0, changed_undead r (buried cause) e h.holder (eqb-false h.holder e is) undead.1)
+      by_holder : (holds : Bool) → (h.holder == e) ≡ holds → h.owner ≢ e → IfSome (if holds then Some (own_hold h.owner) else Some h) (λ h. IsUndead (with_list r (changed (dead_frame cause) r.list e)) h.owner × IsUndead (with_list r (changed (dead_frame cause) r.list e)) h.holder)
+      by_holder true is other = (changed_undead r (dead_frame cause) e h.owner other undead.0, changed_undead r (dead_frame cause) e h.owner other undead.0)
+      by_holder false is other = (changed_undead r (dead_frame cause) e h.owner other undead.0, changed_undead r (dead_frame cause) e h.holder (eqb-false h.holder e is) undead.1)
 
-      by_owner : (owns : Bool) → (h.owner == e) ≡ owns → IfSome (if owns then None else (if h.holder == e then Some (record { owner = h.owner; holder = h.owner }) else Some h)) (λ h. IsUndead (with_list r (changed (buried cause) r.list e)) h.owner × IsUndead (with_list r (changed (buried cause) r.list e)) h.holder)
+      by_owner : (owns : Bool) → (h.owner == e) ≡ owns → IfSome (if owns then None else (if h.holder == e then Some (own_hold h.owner) else Some h)) (λ h. IsUndead (with_list r (changed (dead_frame cause) r.list e)) h.owner × IsUndead (with_list r (changed (dead_frame cause) r.list e)) h.holder)
       by_owner true is = tt
       by_owner false is = by_holder (h.holder == e) refl (eqb-false h.owner e is)
 
-  hold_at-released : (slots : List (Option held.Hold)) (k : ℕ) → hold_at (map (released e) slots) k ≡ released e (hold_at slots k)
+  hold_at-released : (slots : List (Option Hold)) (k : ℕ) → hold_at (map (released e) slots) k ≡ released e (hold_at slots k)
   hold_at-released [] k = refl
   hold_at-released (hold ∷ slots) zero = refl
   hold_at-released (hold ∷ slots) (suc k) = hold_at-released slots k
 
-  length-released : (slots : List (Option held.Hold)) → length (map (released e) slots) ≡ length slots
+  length-released : (slots : List (Option Hold)) → length (map (released e) slots) ≡ length slots
   length-released [] = refl
   length-released (hold ∷ slots) = ap suc (length-released slots)
 
-  pub death_manned : v.runner ≡ Some e → IsManned (without_env e v) (with_list r (changed (buried cause) r.list e))
-  death_manned runs = rw (runs, eq-eqb e e refl) (record {
+  pub death_manned : is_runner e v.runner ≡ true → IsManned (without_env e v) (with_list r (changed (dead_frame cause) r.list e))
+  death_manned runs = rw runs (record {
     quantum = manned.quantum;
-    left = λ some. absurd (cc);
+    ticks = tt;
     runner = tt;
     holds = λ k. rw (hold_at-released v.slots k) (released_undead (hold_at v.slots k) (manned.holds k));
     count = omega (arith, length-released v.slots, manned.count);
@@ -165,7 +174,6 @@ pub sub_parted : (frames : List (List ℕ)) (taken : ℕ) (list new : List Envir
 sub_parted frames taken list new parted sub = record {
   within = parted.within;
   most = parted.most;
-  fresh = parted.fresh;
   inside = λ i a m at. parted.inside i a m (back i a m at);
   apart = λ i j a b m n at_a at_b same. parted.apart i j a b m n (back i a m at_a) (back j b n at_b) same;
   rising = λ i. rise i (sub i);
@@ -192,36 +200,33 @@ kept_mappings cpu (x ∷ list) (suc e) (suc i) = kept_mappings cpu list e i
 pub keep_parted : (cpu : Cpu) (frames : List (List ℕ)) (taken : ℕ) (list : List Environment) (e : ℕ) → IsParted frames taken list → IsParted frames taken (changed (with_registers cpu) list e)
 keep_parted cpu frames taken list e parted = sub_parted frames taken list _ parted (λ i. inl (kept_mappings cpu list e i))
 
-lost_mappings : (cause : Cause) (list : List Environment) (e i : ℕ) → (mappings_of (changed (buried cause) list e) i ≡ mappings_of list i) ⊎ (mappings_of (changed (buried cause) list e) i ≡ [])
+lost_mappings : (cause : Cause) (list : List Environment) (e i : ℕ) → (mappings_of (changed (dead_frame cause) list e) i ≡ mappings_of list i) ⊎ (mappings_of (changed (dead_frame cause) list e) i ≡ [])
 lost_mappings cause [] e i = inl refl
 lost_mappings cause (x ∷ list) zero zero = inr refl
 lost_mappings cause (x ∷ list) zero (suc i) = inl refl
 lost_mappings cause (x ∷ list) (suc e) zero = inl refl
 lost_mappings cause (x ∷ list) (suc e) (suc i) = lost_mappings cause list e i
 
-pub death_parted : (cause : Cause) (frames : List (List ℕ)) (taken : ℕ) (list : List Environment) (e : ℕ) → IsParted frames taken list → IsParted frames taken (changed (buried cause) list e)
+pub death_parted : (cause : Cause) (frames : List (List ℕ)) (taken : ℕ) (list : List Environment) (e : ℕ) → IsParted frames taken list → IsParted frames taken (changed (dead_frame cause) list e)
 death_parted cause frames taken list e parted = sub_parted frames taken list _ parted (λ i. lost_mappings cause list e i)
 
 -- a store leaves the pages that nobody has
 module _ (frames : List (List ℕ)) (taken : ℕ) (list : List Environment) (e : ℕ) (parted : IsParted frames taken list) where
-  put_parted : (n offset : ℕ) (bytes : List ℕ) → n < taken → IsParted (after_put frames n offset bytes) taken list
-  put_parted n offset bytes given =
+  put_parted : (n offset : ℕ) (bytes : List ℕ) → IsParted (after_put frames n offset bytes) taken list
+  put_parted n offset bytes =
       let size = length-set frames n (with_bytes (page_at frames n) offset bytes) in
       record {
         within = omega (arith, size, parted.within);
         most = omega (arith, size, parted.most);
-        fresh = λ k past within. get_or-set_other frames n k (with_bytes (page_at frames n) offset bytes) [] (λ same. omega (arith, same, past, given)) ∙ parted.fresh k past (omega (arith, size, within));
         inside = parted.inside;
         apart = parted.apart;
         rising = parted.rising;
       }
 
-  pub store_parted : (w : Option Write) → IsParted (frames_after frames (mappings_of list e) w) taken list
+  pub store_parted : (w : Option Write) → IsParted (frames_after frames (mapping_at (mappings_of list e)) w) taken list
   store_parted None = parted
-  store_parted (Some w) = by_mapping (mapping_at (mappings_of list e) (w.address / 4096)) refl
+  store_parted (Some w) = by_mapping (mapping_at (mappings_of list e) (w.address / page_size)) refl
     where
-      by_mapping : (y : Option Mapping) → mapping_at (mappings_of list e) (w.address / 4096) ≡ y → IsParted (written_through frames w y) taken list
+      by_mapping : (y : Option Mapping) → mapping_at (mappings_of list e) (w.address / page_size) ≡ y → IsParted (written_through frames w y) taken list
       by_mapping None is = parted
-      by_mapping (Some m) is =
-          let there = placed (mappings_of list e) (w.address / 4096) m is in
-          put_parted m.page (w.address % 4096) w.bytes (parted.inside e there.0 m there.1.place)
+      by_mapping (Some m) is = put_parted m.page (w.address % page_size) w.bytes

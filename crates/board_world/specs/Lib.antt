@@ -3,3 +3,4 @@ pub mod Showing
 pub mod Sound
 pub mod Doing
 pub mod Loading
+pub mod Laws

@@ -1,12 +1,12 @@
 -- An environment whose pages are being given to it, one after another.
 use Rattle.std.specs.Prelude.{◌≡◌, ◌≤◌, ◌<◌, ◌+◌, ◌-◌, ◌++◌, ℕ, List, length, replicate, Some, slice_get}
-use Rattle.frame_store.specs.Pages.{page_at, zero_page}
+use Rattle.aegis_limits.specs.Limits.{page_size}
+use Rattle.frame_store.specs.Pages.{page_at}
 use Rattle.env_frames.specs.declared.mapping.Mapping.{Mapping}
-use Rattle.aegis_calls.specs.Shown.{Shown}
+use Rattle.board_world.specs.Shown.{Shown}
 
--- its mappings lead to the pages from this one on, in order, and all pages after them are zero
-pub record IsLoading (first : ℕ) (frames : List (List ℕ)) (mappings : List Mapping) : Type 0 where
-  pub fresh : (n : ℕ) → first + length mappings ≤ n → n < length frames → page_at frames n ≡ zero_page
+-- its mappings lead to the pages from this one on, in order
+pub record IsLoading (first : ℕ) (mappings : List Mapping) : Type 0 where
   pub placed : (k : ℕ) (m : Mapping) → slice_get mappings k ≡ Some m → m.page ≡ first + k
 
 -- the pages below this one stayed as they were, and none came or went
@@ -16,7 +16,7 @@ pub record IsKeptBelow (first : ℕ) (old new : List (List ℕ)) : Type 0 where
 
 -- bytes with zeros behind them, a whole page
 abbrev pub padded : List ℕ → List ℕ
-padded bytes = bytes ++ replicate (4096 - length bytes) 0
+padded bytes = bytes ++ replicate (page_size - length bytes) 0
 
 -- a board on which no program stands yet, with so many pages, and room for so many environments
 pub record IsBare (pages envs : ℕ) (b : Shown) : Type 0 where

@@ -1,18 +1,16 @@
 -- The world that a board shows.
-use Rattle.std.specs.Prelude.{ℕ, Bool, false, ◌==◌, if◌then◌else◌, List, map, length, Option, Some, None, slice_get}
-use Rattle.std.specs.Option.{option_map}
+use Rattle.std.specs.Prelude.{ℕ, if◌then◌else◌, List, map, length, Option, Some, None, slice_get}
 use Rattle.mips_exec.specs.declared.registers.Cpu.{Cpu}
 use Rattle.frame_store.specs.Pages.{page_at}
 use Rattle.env_frames.specs.declared.mapping.Mapping.{Mapping}
-use Rattle.slot_vector.specs.declared.hold.Hold as slot
 use Rattle.slot_vector.specs.Slices.{hold_at}
 use Rattle.world_model.specs.Page.{KeptPage}
-use Rattle.world_model.specs.Book.{Book, Hold}
+use Rattle.world_model.specs.Book.{Book, is_runner}
 use Rattle.world_model.specs.Solo.{Solo, absent}
 use Rattle.world_model.specs.World.{World}
-use Rattle.aegis_calls.specs.declared.readers.PageView.{PageView}
-use Rattle.aegis_calls.specs.declared.roster.Environment.{Environment}
-use Rattle.aegis_calls.specs.Shown.{Shown, console_of}
+use Rattle.board_world.specs.declared.view.PageView.{PageView}
+use Rattle.board_world.specs.declared.roster.Environment.{Environment}
+use Rattle.board_world.specs.Shown.{Shown, console_of}
 
 -- a mapping with the bytes of its page
 abbrev pub page_seen : List (List ℕ) → Mapping → KeptPage
@@ -21,13 +19,9 @@ page_seen frames m = record { vpn = m.vpn; writable = m.writable; bytes = page_a
 abbrev pub pages_seen : List (List ℕ) → List Mapping → List KeptPage
 pages_seen frames mappings = map (page_seen frames) mappings
 
-abbrev pub is_named : ℕ → Option ℕ → Bool
-is_named e None = false
-is_named e (Some runner) = runner == e
-
 -- the runner's registers are the machine's, and each other's are those that are kept
 abbrev pub cpu_seen : Shown → ℕ → Cpu → Cpu
-cpu_seen b e kept = if is_named e b.slots.runner then b.cpu else kept
+cpu_seen b e kept = if is_runner e b.slots.runner then b.cpu else kept
 
 abbrev pub solo_seen : Shown → ℕ → Environment → Solo
 solo_seen b e x = record {
@@ -47,17 +41,13 @@ solo_or_absent b e (Some x) = solo_seen b e x
 abbrev pub solo_of : Shown → ℕ → Solo
 solo_of b e = solo_or_absent b e (slice_get b.roster.list e)
 
-abbrev pub hold_seen : slot.Hold → Hold
-hold_seen h = record { owner = h.owner; holder = h.holder }
-
 abbrev pub book_of : Shown → Book
 book_of b = record {
   slot_count = length b.slots.slots;
-  slots = λ k. option_map hold_seen (hold_at b.slots.slots k);
+  slots = hold_at b.slots.slots;
   quantum = b.slots.quantum;
   cursor = b.slots.cursor;
   runner = b.slots.runner;
-  left = b.slots.left;
   time = b.time;
 }
 

@@ -2,10 +2,10 @@
 use Rattle.std.specs.Prelude.{ℕ, zero, suc, List, [], ◌∷◌, Option, Some, None, unwrap_or, slice_get}
 use Rattle.kernel_journal.specs.Ledger.{Ledger}
 use Rattle.mips_exec.specs.declared.registers.Cpu.{Cpu}
+use Rattle.mips_exec.specs.Cpu.{blank_cpu}
 use Rattle.slot_vector.specs.Slices.{Slices}
 use Rattle.env_frames.specs.declared.mapping.Mapping.{Mapping}
-use Rattle.env_frames.specs.Frame.{blank_cpu}
-use Rattle.aegis_calls.specs.declared.roster.Environment.{Environment}
+use Rattle.board_world.specs.declared.roster.Environment.{Environment}
 
 -- the environments so far, and how many more there is room for
 pub record Environments : Type 0 where
@@ -53,3 +53,7 @@ changed f (x ∷ xs) (suc e) = x ∷ changed f xs e
 -- other environments in a roster
 abbrev pub with_list : Environments → List Environment → Environments
 with_list r list = record r { list = list }
+
+-- a board with this room for rows of the ledger
+abbrev pub with_spare : Shown → ℕ → Shown
+with_spare b spare = record b { ledger = record b.ledger { spare = spare } }

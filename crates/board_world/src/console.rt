@@ -1,13 +1,12 @@
 //! What the environments wrote.
 ghost use Rattle.std.specs.Prelude.{◌≡◌, ◌+◌, ◌≤◌, ◌<◌, ℕ, List, [], ◌++◌, length, replicate, IfOk};
-ghost use Rattle.aegis_calls.specs.Shown.{changed, console_of};
+ghost use Rattle.aegis_limits.specs.Limits.{console_size};
+ghost use Rattle.board_world.specs.Shown.{changed, console_of};
 
+use aegis_limits::CONSOLE_SIZE;
 use edge_io::OutOfMemory;
 use std::alloc::Global;
 use std::marker::Model;
-
-/// The bytes that a console holds at most.
-pub const CONSOLE_LIMIT: usize = 65536;
 
 /// What an environment wrote. The memory for all that it may write is taken when it is made.
 #[derive(Drop)]
@@ -17,12 +16,13 @@ pub struct Console {
 
 impl Model for Console {
     ghost use Rattle.std.specs.Prelude.{ℕ, ◌≤◌, List, vec_len, vec_capacity};
+    ghost use Rattle.aegis_limits.specs.Limits.{console_size};
 
     ghost Value = { List ℕ };
 
     ghost view = { λ c. c.bytes.items };
 
-    ghost invariant = { λ c. (65536 ≤ vec_capacity c.bytes) × (vec_len c.bytes ≤ 65536) };
+    ghost invariant = { λ c. (console_size ≤ vec_capacity c.bytes) × (vec_len c.bytes ≤ console_size) };
 }
 
 impl Console {
@@ -30,14 +30,14 @@ impl Console {
     pub fn new(alloc: Global) -> Result<Console, OutOfMemory>
         ensures { IfOk result (λ c. c ≡ []) }
     {
-        let bytes = Vec::with_capacity(alloc, CONSOLE_LIMIT)?;
+        let bytes = Vec::with_capacity(alloc, CONSOLE_SIZE)?;
         Ok(Console { bytes })
     }
 
     /// How many bytes it holds.
     pub fn len(&self) -> usize
         ensures len { result ≡ length self.now }
-        ensures within { result ≤ CONSOLE_LIMIT }
+        ensures within { result ≤ console_size }
     {
         self.bytes.len()
     }
@@ -51,7 +51,7 @@ impl Console {
 
     /// Appends bytes, for which there must be room.
     pub fn put(&mut self, bytes: &[u8])
-        requires { length self.old + length bytes.now ≤ CONSOLE_LIMIT }
+        requires { length self.old + length bytes.now ≤ console_size }
         ensures { self.new ≡ self.old ++ bytes.now }
     {
         self.bytes.extend_from_slice(bytes).unwrap();
@@ -74,7 +74,7 @@ impl Model for Consoles {
 
 impl Consoles {
     /// So many empty consoles.
-    pub(crate) fn new(alloc: Global, envs: u8) -> Result<Consoles, OutOfMemory>
+    pub fn new(alloc: Global, envs: u8) -> Result<Consoles, OutOfMemory>
         ensures { IfOk result (λ c. c ≡ replicate envs []) }
     {
         let mut list = Vec::with_capacity(alloc, usize::from(envs))?;
@@ -85,7 +85,7 @@ impl Consoles {
     }
 
     /// The console of the environment of this number.
-    pub(crate) fn at(&self, env: u8) -> &Console
+    pub fn at(&self, env: u8) -> &Console
         requires { env < length self.now }
         ensures { result.now ≡ console_of self.now env }
     {
@@ -93,9 +93,9 @@ impl Consoles {
     }
 
     /// Appends bytes to an environment's console, for which there must be room.
-    pub(crate) fn put(&mut self, env: u8, bytes: &[u8])
+    pub fn put(&mut self, env: u8, bytes: &[u8])
         requires there { env < length self.old }
-        requires room { length (console_of self.old env) + length bytes.now ≤ CONSOLE_LIMIT }
+        requires room { length (console_of self.old env) + length bytes.now ≤ console_size }
         ensures { self.new ≡ changed (λ held. held ++ bytes.now) self.old env }
     {
         put_in(&mut self.list, usize::from(env), bytes);
@@ -105,7 +105,7 @@ impl Consoles {
 /// Appends bytes to the console at a place.
 fn put_in(list: &mut [Console], place: usize, bytes: &[u8])
     requires there { place < length list.old }
-    requires room { length (console_of list.old place) + length bytes.now ≤ CONSOLE_LIMIT }
+    requires room { length (console_of list.old place) + length bytes.now ≤ console_size }
     ensures { list.new ≡ changed (λ held. held ++ bytes.now) list.old place }
 {
     list[place].put(bytes);

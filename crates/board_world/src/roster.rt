@@ -1,7 +1,7 @@
 //! The environments of a board.
 ghost use Rattle.std.specs.Prelude.{◌≡◌, ◌<◌, ◌≤◌, ◌-◌, [], ◌∷◌, ◌++◌, length, slice_get, Some, IfOk};
-ghost use Rattle.aegis_calls.specs.Shown.{changed, mappings_of, registers_of, with_list};
-ghost use Rattle.aegis_calls.specs.Doing.{with_registers, buried};
+ghost use Rattle.board_world.specs.Shown.{changed, mappings_of, registers_of, with_list};
+ghost use Rattle.board_world.specs.Doing.{with_registers, dead_frame};
 
 use edge_io::OutOfMemory;
 use env_frames::Env;
@@ -13,9 +13,11 @@ use world_model::{Cause, Life};
 /// An environment: its name, whether it lives, and its frame.
 #[derive(Drop)]
 pub struct Environment {
-    pub(crate) name: [u8; 8],
-    pub(crate) life: Life,
-    pub(crate) env: Env,
+    /// One to eight characters, then zeros.
+    pub name: [u8; 8],
+    pub life: Life,
+    /// Its registers while it doesn't run, and its guaranteed mappings.
+    pub env: Env,
 }
 
 /// The environments by number. The memory for all is taken when the roster is made.
@@ -27,7 +29,7 @@ pub struct Roster {
 
 impl Model for Roster {
     ghost use Rattle.std.specs.Prelude.{◌+◌, ◌≤◌, vec_len, vec_capacity};
-    ghost use Rattle.aegis_calls.specs.Shown.{Environments};
+    ghost use Rattle.board_world.specs.Shown.{Environments};
 
     ghost Value = { Environments };
 
@@ -38,7 +40,7 @@ impl Model for Roster {
 
 impl Roster {
     /// A roster with room for so many environments.
-    pub(crate) fn new(alloc: Global, envs: u8) -> Result<Roster, OutOfMemory>
+    pub fn new(alloc: Global, envs: u8) -> Result<Roster, OutOfMemory>
         ensures { IfOk result (λ r. r ≡ record { list = []; spare = envs }) }
     {
         let list = Vec::with_capacity(alloc, usize::from(envs))?;
@@ -49,14 +51,14 @@ impl Roster {
     }
 
     /// How many environments there are.
-    pub(crate) fn len(&self) -> usize
+    pub fn len(&self) -> usize
         ensures { result ≡ length self.now.list }
     {
         self.list.len()
     }
 
     /// The environment of this number.
-    pub(crate) fn at(&self, env: u8) -> &Environment
+    pub fn at(&self, env: u8) -> &Environment
         requires { env < length self.now.list }
         ensures { slice_get self.now.list env ≡ Some result.now }
     {
@@ -64,7 +66,7 @@ impl Roster {
     }
 
     /// The frame of the environment of this number.
-    pub(crate) fn frame(&self, env: u8) -> &Env
+    pub fn frame(&self, env: u8) -> &Env
         requires { env < length self.now.list }
         ensures mappings { result.now.mappings ≡ mappings_of self.now.list env }
         ensures registers { result.now.cpu ≡ registers_of self.now.list env }
@@ -73,7 +75,7 @@ impl Roster {
     }
 
     /// Adds the next environment, for which there must be room.
-    pub(crate) fn push(&mut self, environment: Environment)
+    pub fn push(&mut self, environment: Environment)
         requires { 0 < self.old.spare }
         ensures { self.new ≡ record { list = self.old.list ++ environment ∷ []; spare = self.old.spare - 1 } }
     {
@@ -82,7 +84,7 @@ impl Roster {
     }
 
     /// Keeps the registers of the environment of this number.
-    pub(crate) fn keep(&mut self, env: u8, cpu: &Cpu)
+    pub fn keep(&mut self, env: u8, cpu: &Cpu)
         requires { env < length self.old.list }
         ensures { self.new ≡ with_list self.old (changed (with_registers cpu.now) self.old.list env) }
     {
@@ -90,11 +92,11 @@ impl Roster {
     }
 
     /// The environment of this number dies: its registers and its mappings go.
-    pub(crate) fn bury(&mut self, env: u8, cause: Cause)
+    pub fn die(&mut self, env: u8, cause: Cause)
         requires { env < length self.old.list }
-        ensures { self.new ≡ with_list self.old (changed (buried cause) self.old.list env) }
+        ensures { self.new ≡ with_list self.old (changed (dead_frame cause) self.old.list env) }
     {
-        bury_in(&mut self.list, usize::from(env), cause);
+        die_in(&mut self.list, usize::from(env), cause);
     }
 }
 
@@ -108,9 +110,9 @@ fn keep_in(list: &mut [Environment], place: usize, cpu: &Cpu)
 }
 
 /// The environment at a place dies.
-fn bury_in(list: &mut [Environment], place: usize, cause: Cause)
+fn die_in(list: &mut [Environment], place: usize, cause: Cause)
     requires { place < length list.old }
-    ensures { list.new ≡ changed (buried cause) list.old place }
+    ensures { list.new ≡ changed (dead_frame cause) list.old place }
 {
     let environment = &mut list[place];
     environment.life = Life::Dead(cause);

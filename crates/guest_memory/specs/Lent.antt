@@ -1,18 +1,18 @@
 -- Physical memory that is lent for an environment's accesses.
 use Rattle.std.specs.Prelude.{◌≡◌, ℕ, List, Some}
 use Rattle.mips_exec.specs.Step.{Answers}
-use Rattle.env_frames.specs.Frame.{EnvValue}
+use Rattle.env_frames.specs.Frame.{EnvValue, mapping_at}
 use Rattle.world_model.specs.Page.{answers_by}
 use Rattle.guest_memory.specs.declared.bus.GuestBus.{GuestBus}
 use Rattle.guest_memory.specs.Look.{look, frames_after}
 
 -- what an environment's accesses are answered
 abbrev pub answers_of : List (List ℕ) → EnvValue → Answers
-answers_of frames env = answers_by (look frames env.mappings)
+answers_of frames env = answers_by (look frames (mapping_at env.mappings))
 
 -- physical memory once an environment stored these bytes at an address
 abbrev pub stored : List (List ℕ) → EnvValue → ℕ → List ℕ → List (List ℕ)
-stored frames env address bytes = frames_after frames env.mappings (Some (record { address = address; bytes = bytes }))
+stored frames env address bytes = frames_after frames (mapping_at env.mappings) (Some (record { address = address; bytes = bytes }))
 
 -- it is the same memory that was lent, and nothing was stored
 pub record IsKept (old new : GuestBus) : Type 0 where

@@ -2,6 +2,7 @@
 ghost use Rattle.std.specs.Prelude.{◌≡◌, ◌≢◌, ◌+◌, ◌%◌, ◌<◌, ◌≤◌, ℕ, List, OnOk, OnErr, length};
 ghost use Rattle.byteorder.specs.Endian.{little_number};
 ghost use Rattle.mips_exec.specs.Step.{cpu_after, outcome_of, write_after};
+ghost use Rattle.env_frames.specs.Frame.{mapping_at};
 ghost use Rattle.guest_memory.specs.Look.{frames_after, guest_step};
 
 use crate::place::{PAGE_BYTES, bytes_from, locate};
@@ -72,9 +73,9 @@ fn number_at(bytes: &[u8], width: u8) -> u32
 /// One step of an environment: its fetch, load and store go through its guaranteed mappings. A page
 /// number that has none, or whose page physical memory hasn't got, is a miss.
 pub fn step_guest(cpu: &mut Cpu, frames: &mut Frames, env: &Env) -> Outcome
-    ensures cpu { cpu.new ≡ cpu_after cpu.old (guest_step frames.old env.now.mappings cpu.old) }
-    ensures outcome { result ≡ outcome_of (guest_step frames.old env.now.mappings cpu.old) }
-    ensures frames { frames.new ≡ frames_after frames.old env.now.mappings (write_after (guest_step frames.old env.now.mappings cpu.old)) }
+    ensures cpu { cpu.new ≡ cpu_after cpu.old (guest_step frames.old (mapping_at env.now.mappings) cpu.old) }
+    ensures outcome { result ≡ outcome_of (guest_step frames.old (mapping_at env.now.mappings) cpu.old) }
+    ensures frames { frames.new ≡ frames_after frames.old (mapping_at env.now.mappings) (write_after (guest_step frames.old (mapping_at env.now.mappings) cpu.old)) }
     ensures size { length frames.new ≡ length frames.old }
 {
     let mut bus = GuestBus { frames, env };

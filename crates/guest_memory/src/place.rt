@@ -2,11 +2,14 @@
 ghost use Rattle.std.specs.Prelude.{◌≡◌, ◌+◌, ◌/◌, ◌%◌, ◌<◌, length, drop, None, MatchOption};
 ghost use Rattle.frame_store.specs.Pages.{page_at};
 ghost use Rattle.world_model.specs.Page.{address_error as address_error_of, miss as miss_of, reach, raised as raised_at, is_store as is_store_of};
+ghost use Rattle.aegis_limits.specs.Limits.{page_size};
+ghost use Rattle.env_frames.specs.Frame.{mapping_at};
 ghost use Rattle.guest_memory.specs.Look.{look};
 ghost use Rattle.guest_memory.specs.Place.{LeadsThrough, Located};
 
+use aegis_limits::PAGE_SIZE;
 use env_frames::{Env, Mapping};
-use frame_store::{Frames, PAGE_SIZE};
+use frame_store::Frames;
 use mips_exec::{Exc, ExcCode};
 use world_model::Purpose;
 
@@ -57,7 +60,7 @@ fn raised(code: ExcCode, address: u32) -> Exc
 
 /// The mapping of a page number, where physical memory has its page.
 pub(crate) fn mapping_of(frames: &Frames, env: &Env, vpn: u32) -> Option<Mapping>
-    ensures { MatchOption result (look frames.now env.now.mappings vpn ≡ None) (LeadsThrough frames.now env.now.mappings vpn) }
+    ensures { MatchOption result (look frames.now (mapping_at env.now.mappings) vpn ≡ None) (LeadsThrough frames.now (mapping_at env.now.mappings) vpn) }
 {
     let mapping = env.guaranteed(vpn)?;
     if mapping.page < frames.pages() {
@@ -69,7 +72,7 @@ pub(crate) fn mapping_of(frames: &Frames, env: &Env, vpn: u32) -> Option<Mapping
 
 /// The mapping that serves an access, or what the access raises.
 pub(crate) fn locate(frames: &Frames, env: &Env, purpose: Purpose, va: u32) -> Result<Mapping, Exc>
-    ensures { Located frames.now env.now.mappings (va / 4096) (reach (look frames.now env.now.mappings) purpose va) result }
+    ensures { Located frames.now (mapping_at env.now.mappings) (va / page_size) (reach (look frames.now (mapping_at env.now.mappings)) purpose va) result }
 {
     if va >= USER_END {
         return Err(raised(address_error(purpose), va));
@@ -86,8 +89,8 @@ pub(crate) fn locate(frames: &Frames, env: &Env, purpose: Purpose, va: u32) -> R
 /// The bytes of a page of physical memory from an address on.
 pub(crate) fn bytes_from(frames: &Frames, page: u32, va: u32) -> &[u8]
     requires { page < length frames.now }
-    ensures bytes { result.now ≡ drop (va % 4096) (page_at frames.now page) }
-    ensures rest { length result.now + va % 4096 ≡ 4096 }
+    ensures bytes { result.now ≡ drop (va % page_size) (page_at frames.now page) }
+    ensures rest { length result.now + va % page_size ≡ page_size }
 {
     let bytes = frames.page(page);
     &bytes[(va % PAGE_BYTES) as usize..]

@@ -1,6 +1,7 @@
 ghost use Rattle.std.specs.Prelude.{◌≡◌};
 ghost use Rattle.std.specs.Option.{option_map};
 ghost use Rattle.world_model.specs.Call.{good_range};
+ghost use Rattle.env_frames.specs.Frame.{mapping_at};
 ghost use Rattle.guest_memory.specs.Look.{look};
 
 use crate::place::{PAGE_BYTES, USER_END, bytes_from, mapping_of};
@@ -10,7 +11,7 @@ use frame_store::Frames;
 /// The bytes of a good range: so many from an address on, in one page that the environment sees,
 /// below 0x80000000.
 pub fn guest_range<'a>(frames: &'a Frames, env: &Env, address: u32, size: u32) -> Option<&'a [u8]>
-    ensures { option_map (λ r. r.now) result ≡ good_range (look frames.now env.now.mappings) address size }
+    ensures { option_map (λ r. r.now) result ≡ good_range (look frames.now (mapping_at env.now.mappings)) address size }
 {
     if address >= USER_END || size > PAGE_BYTES - address % PAGE_BYTES {
         return None;

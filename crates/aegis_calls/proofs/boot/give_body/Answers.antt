@@ -1,14 +1,15 @@
 -- One page more.
 use Rattle.std.proofs.Common.{◌+◌, ◌*◌, ◌∙◌, arith}
+use Rattle.aegis_limits.specs.Limits.{page_size}
 use Rattle.world_model.specs.Boot.{open_page, page_from}
-use Rattle.aegis_calls.proofs.Giving.{one_more, body_page}
-use Rattle.aegis_calls.proofs.adding.give_body.Goals as goal
+use Rattle.board_world.proofs.Giving.{one_more, body_page}
+use Rattle.aegis_calls.proofs.boot.give_body.Goals as goal
 
 pub loop-i-preserved : goal.loop-i-preserved
 loop-i-preserved c = record {
   loading = c.give_page.ensures.loading;
   below = record { size = c.give_page.ensures.below.size ∙ c.loop-i.invariant.below.size; lower = λ n h. c.give_page.ensures.below.lower n h ∙ c.loop-i.invariant.below.lower n h };
-  pages = one_more _ _ _ (λ i. open_page (c.args.vpn + i) (page_from c.args.bytes.now (4096 * i))) c.loop-i.i _ c.give_page.ensures.pages c.loop-i.invariant.pages (body_page c.args.vpn c.loop-i.i c.args.bytes.now c.page_part.result.now c.page_part.ensures.part);
+  pages = one_more _ _ _ (λ i. open_page (c.args.vpn + i) (page_from c.args.bytes.now (page_size * i))) c.loop-i.i _ c.give_page.ensures.pages c.loop-i.invariant.pages (body_page c.args.vpn c.loop-i.i c.args.bytes.now c.page_part.result.now c.page_part.ensures.part);
   above = λ k h. omega (arith, c.give_page.ensures.above k h);
   count = omega (arith, c.give_page.ensures.count, c.loop-i.invariant.count);
   cpu = c.give_page.ensures.cpu ∙ c.loop-i.invariant.cpu;

@@ -1,8 +1,9 @@
 -- One page more.
 use Rattle.std.proofs.Common.{◌+◌, ◌∙◌, arith, refl}
-use Rattle.world_model.specs.Boot.{open_page, zero_page}
-use Rattle.aegis_calls.proofs.Giving.{one_more}
-use Rattle.aegis_calls.proofs.adding.give_zeros.Goals as goal
+use Rattle.world_model.specs.Boot.{open_page}
+use Rattle.frame_store.specs.Pages.{zero_page}
+use Rattle.board_world.proofs.Giving.{one_more}
+use Rattle.aegis_calls.proofs.boot.give_zeros.Goals as goal
 
 pub loop-i-preserved : goal.loop-i-preserved
 loop-i-preserved c = record {

@@ -5,9 +5,9 @@ use Rattle.std.specs.Option.{option_map}
 use Rattle.kernel_journal.specs.Ledger.{Ledger}
 use Rattle.world_model.specs.Book.{own_hold}
 use Rattle.world_model.specs.Boot.{own_row}
-use Rattle.aegis_calls.specs.Doing.{with_rows}
-use Rattle.aegis_calls.proofs.Giving.{more_owners}
-use Rattle.aegis_calls.proofs.adding.push_owners.Goals as goal
+use Rattle.board_world.specs.Doing.{with_rows}
+use Rattle.board_world.proofs.Giving.{more_owners}
+use Rattle.aegis_calls.proofs.boot.push_owners.Goals as goal
 
 pub loop-slot-preserved : goal.loop-slot-preserved
 loop-slot-preserved c =

@@ -1,8 +1,8 @@
 -- The rows so far, and room for the rest.
 use Rattle.std.proofs.Common.{◌≡◌, ◌≤◌, ◌+◌, length}
 use Rattle.world_model.specs.Boot.{own_rows}
-use Rattle.aegis_calls.specs.Doing.{with_rows}
-use Rattle.aegis_calls.proofs.adding.push_owners.Given as goal
+use Rattle.board_world.specs.Doing.{with_rows}
+use Rattle.aegis_calls.proofs.boot.push_owners.Given as goal
 
 abbrev pub invariant-loop-slot : goal.invariant-loop-slot
 invariant-loop-slot l = record {

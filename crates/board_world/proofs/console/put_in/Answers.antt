@@ -1,8 +1,8 @@
 -- The console at the place is the longer one.
 use Rattle.std.proofs.Common.{List, ℕ, ◌++◌, ap, ◌∙◌}
 use Rattle.std.specs.Prelude.{slice_set}
-use Rattle.aegis_calls.proofs.Lists.{changed_set}
-use Rattle.aegis_calls.proofs.console.put_in.Goals as goal
+use Rattle.board_world.proofs.Lists.{changed_set}
+use Rattle.board_world.proofs.console.put_in.Goals as goal
 
 pub returns : goal.returns
 returns c =

@@ -2,9 +2,9 @@
 use Rattle.std.proofs.Common.{ap, ◌∙◌}
 use Rattle.std.specs.Prelude.{slice_index_or, slice_set}
 use Rattle.env_frames.specs.Frame.{EnvValue}
-use Rattle.aegis_calls.specs.Doing.{with_registers}
-use Rattle.aegis_calls.proofs.Lists.{changed_set}
-use Rattle.aegis_calls.proofs.roster.keep_in.Goals as goal
+use Rattle.board_world.specs.Doing.{with_registers}
+use Rattle.board_world.proofs.Lists.{changed_set}
+use Rattle.board_world.proofs.roster.keep_in.Goals as goal
 
 pub returns : goal.returns
 returns c =

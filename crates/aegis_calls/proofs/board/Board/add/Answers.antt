@@ -3,10 +3,10 @@ use Rattle.std.proofs.Common.{refl, ap, ◌∙◌, ◌<◌, arith, length, ◌+�
 use Rattle.boot_image.specs.Seen.{program_seen}
 use Rattle.world_model.specs.declared.life.Life.TheVariants.{Live}
 use Rattle.world_model.specs.Boot.{added}
-use Rattle.aegis_calls.specs.declared.roster.Environment.{Environment}
-use Rattle.aegis_calls.specs.Shown.{Shown}
-use Rattle.aegis_calls.specs.Showing.{world_of}
-use Rattle.aegis_calls.proofs.Building.{added_manned, added_consoles, added_parted, added_world}
+use Rattle.board_world.specs.declared.roster.Environment.{Environment}
+use Rattle.board_world.specs.Shown.{Shown}
+use Rattle.board_world.specs.Showing.{world_of}
+use Rattle.board_world.proofs.Building.{added_manned, added_consoles, added_parted, added_world}
 use Rattle.aegis_calls.proofs.board.Board.add.Goals as goal
 
 pub invariant_of-self : goal.invariant_of-self

@@ -1,7 +1,7 @@
 -- A board without programs.
 use Rattle.std.proofs.Common.{refl, ap}
-use Rattle.aegis_calls.specs.Shown.{Shown, Environments}
-use Rattle.aegis_calls.proofs.Building.{built_manned, built_consoles, built_parted, built_world}
+use Rattle.board_world.specs.Shown.{Shown, Environments}
+use Rattle.board_world.proofs.Building.{built_manned, built_consoles, built_parted, built_world}
 use Rattle.aegis_calls.proofs.board.Board.build.Goals as goal
 
 pub invariant_of-result : goal.invariant_of-result
@@ -17,7 +17,7 @@ returns-clause-world c =
       frames = c.in_ok-new.field-0;
       taken = 0;
       slots = c.new-2.result;
-      cpu = c.blank_cpu.result;
+      cpu = c.blank.result;
       roster = c.in_ok-new-2.field-0;
       consoles = c.in_ok-new-3.field-0;
       time = 0;

@@ -2,13 +2,13 @@
 use Rattle.std.proofs.Common.{◌≡◌, ℕ, Some, sym, ap, ◌∙◌, subst, arith}
 use Rattle.mips_exec.specs.Cpu.{reg}
 use Rattle.world_model.specs.Call.{call_named}
+use Rattle.world_model.specs.Verdict.{verdict_now}
 use Rattle.world_model.specs.Tick as tick
-use Rattle.aegis_calls.specs.Shown.{Shown}
-use Rattle.aegis_calls.specs.Showing.{world_of}
-use Rattle.aegis_calls.specs.Sound.{IsSound}
-use Rattle.aegis_calls.specs.Doing.{called_by}
-use Rattle.aegis_calls.proofs.Stepping.{called_world, refused_world}
-use Rattle.aegis_calls.proofs.Room.{called_room}
+use Rattle.board_world.specs.Shown.{Shown}
+use Rattle.board_world.specs.Showing.{world_of}
+use Rattle.board_world.specs.Sound.{IsSound}
+use Rattle.board_world.specs.Doing.{served}
+use Rattle.board_world.proofs.Serving.{called_serves, called_world, refused_world}
 use Rattle.aegis_calls.proofs.board.Board.call.Goals as goal
 
 -- one runner is the runner
@@ -21,7 +21,7 @@ returns-in-Some-clause-world c =
     let e = c.in-Some.env in
     let runs = sym c.runner.ensures ∙ c.in-Some.is in
     let named = c.named.ensures ∙ ap call_named (c.reg-number.ensures ∙ ap (λ (s : Shown). reg s.cpu 2) c.self.view_is) in
-    λ i is. ap world_of (c.call_named.ensures ∙ ap (called_by b e) named) ∙ called_world b e (subst IsSound c.self.view_is c.self.invariant) runs ∙ ap (tick.called_world (world_of b)) (one e i (sym runs ∙ is))
+    λ i is. ap world_of (c.serve.ensures ∙ ap (served b e) named) ∙ called_world b e (subst IsSound c.self.view_is c.self.invariant) runs ∙ ap (tick.called_world (world_of b)) (one e i (sym runs ∙ is))
 
 pub returns-in-Some-clause-refused : goal.returns-in-Some-clause-refused
 returns-in-Some-clause-refused c =
@@ -29,13 +29,30 @@ returns-in-Some-clause-refused c =
     let e = c.in-Some.env in
     let runs = sym c.runner.ensures ∙ c.in-Some.is in
     let named = c.named.ensures ∙ ap call_named (c.reg-number.ensures ∙ ap (λ (s : Shown). reg s.cpu 2) c.self.view_is) in
-    λ i code is refused.
+    λ i code value is refused.
     let same = one e i (sym runs ∙ is) in
-    ap world_of (c.call_named.ensures ∙ ap (called_by b e) named)
-    ∙ refused_world b e code (subst IsSound c.self.view_is c.self.invariant) runs (ap (tick.refusal_of (world_of b)) same ∙ refused)
-    ∙ ap (λ n. tick.refused (world_of b) n code) same
+    ap world_of (c.serve.ensures ∙ ap (served b e) named)
+    ∙ refused_world b e code value (subst IsSound c.self.view_is c.self.invariant) runs (ap (verdict_now (world_of b)) same ∙ refused)
+    ∙ ap (λ n. tick.refused_world (world_of b) n code value) same
+
+pub returns-in-Some-clause-whole : goal.returns-in-Some-clause-whole
+returns-in-Some-clause-whole c =
+    let b = c.args.self.now in
+    let e = c.in-Some.env in
+    let named = c.named.ensures ∙ ap call_named (c.reg-number.ensures ∙ ap (λ (s : Shown). reg s.cpu 2) c.self.view_is) in
+    ap (λ (s : Shown). s.roster.spare) (c.serve.ensures ∙ ap (served b e) named) ∙ (called_serves b e (subst IsSound c.self.view_is c.self.invariant) (sym c.runner.ensures ∙ c.in-Some.is)).spare
+
+pub returns-in-Some-clause-time : goal.returns-in-Some-clause-time
+returns-in-Some-clause-time c =
+    let b = c.args.self.now in
+    let e = c.in-Some.env in
+    let named = c.named.ensures ∙ ap call_named (c.reg-number.ensures ∙ ap (λ (s : Shown). reg s.cpu 2) c.self.view_is) in
+    ap (λ (s : Shown). s.time) (c.serve.ensures ∙ ap (served b e) named) ∙ (called_serves b e (subst IsSound c.self.view_is c.self.invariant) (sym c.runner.ensures ∙ c.in-Some.is)).time
 
 pub returns-in-Some-clause-room : goal.returns-in-Some-clause-room
 returns-in-Some-clause-room c =
-    let room = called_room c.args.self.now c.in-Some.env c.named.result (subst IsSound c.self.view_is c.self.invariant) in
-    omega (arith, room, ap (λ (b : Shown). b.ledger.spare) c.call_named.ensures)
+    let b = c.args.self.now in
+    let e = c.in-Some.env in
+    let named = c.named.ensures ∙ ap call_named (c.reg-number.ensures ∙ ap (λ (s : Shown). reg s.cpu 2) c.self.view_is) in
+    let room = (called_serves b e (subst IsSound c.self.view_is c.self.invariant) (sym c.runner.ensures ∙ c.in-Some.is)).room in
+    omega (arith, room, ap (λ (s : Shown). s.ledger.spare) (c.serve.ensures ∙ ap (served b e) named))

@@ -1,5 +1,5 @@
 -- The slots once the timer counted.
-use Rattle.aegis_calls.proofs.Sound.{go_on_manned}
+use Rattle.board_world.proofs.Sound.{go_on_manned}
 use Rattle.aegis_calls.proofs.board.Board.count_down.Goals as goal
 
 pub invariant_of-self : goal.invariant_of-self

@@ -1,7 +1,7 @@
 -- Kept registers change nobody's life or pages.
-use Rattle.aegis_calls.specs.Doing.{with_registers}
-use Rattle.aegis_calls.proofs.Lists.{length-changed}
-use Rattle.aegis_calls.proofs.Sound.{keep_manned, same_consoles, keep_parted}
+use Rattle.board_world.specs.Doing.{with_registers}
+use Rattle.board_world.proofs.Lists.{length-changed}
+use Rattle.board_world.proofs.Sound.{keep_manned, same_consoles, keep_parted}
 use Rattle.aegis_calls.proofs.board.Board.keep_stopped.Goals as goal
 
 pub invariant_of-self : goal.invariant_of-self

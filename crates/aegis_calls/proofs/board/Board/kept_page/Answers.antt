@@ -3,7 +3,7 @@ use Rattle.std.proofs.Common.{sym, ap, ◌∙◌, arith, length, false}
 use Rattle.std.specs.Prelude.{List, slice_get, slice_index_or}
 use Rattle.std.proofs.lemmas.Option.{slice_get-get_or}
 use Rattle.env_frames.specs.declared.mapping.Mapping.{Mapping}
-use Rattle.aegis_calls.specs.Shown.{Shown}
+use Rattle.board_world.specs.Shown.{Shown}
 use Rattle.aegis_calls.proofs.board.Board.kept_page.Goals as goal
 
 abbrev pub no_mapping : Mapping

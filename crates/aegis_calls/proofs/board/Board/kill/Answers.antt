@@ -1,13 +1,13 @@
 -- A death is the model's.
 use Rattle.std.proofs.Common.{ap, ◌∙◌, subst}
-use Rattle.aegis_calls.specs.Showing.{world_of}
-use Rattle.aegis_calls.specs.Sound.{IsSound}
-use Rattle.aegis_calls.proofs.Stepping.{died_world}
-use Rattle.aegis_calls.proofs.Room.{killed_room}
+use Rattle.board_world.specs.Shown.{Shown}
+use Rattle.board_world.specs.Showing.{world_of}
+use Rattle.board_world.specs.Sound.{IsSound}
+use Rattle.board_world.proofs.Serving.{death_serves, died_world}
 use Rattle.aegis_calls.proofs.board.Board.kill.Goals as goal
 
 pub returns-clause-world : goal.returns-clause-world
 returns-clause-world c = ap world_of c.die.ensures ∙ died_world c.args.self.now c.args.env c.args.cause (subst IsSound c.self.view_is c.self.invariant) c.requires.runs
 
 pub returns-clause-room : goal.returns-clause-room
-returns-clause-room c = rw c.die.ensures (killed_room c.args.self.now c.args.env c.args.cause (subst IsSound c.self.view_is c.self.invariant))
+returns-clause-room c = rw c.die.ensures (death_serves c.args.self.now c.args.env c.args.cause (subst IsSound c.self.view_is c.self.invariant) c.requires.runs).room

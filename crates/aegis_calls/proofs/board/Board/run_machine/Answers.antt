@@ -1,5 +1,5 @@
 -- A store leaves physical memory parted.
-use Rattle.aegis_calls.proofs.Sound.{store_parted}
+use Rattle.board_world.proofs.Sound.{store_parted}
 use Rattle.aegis_calls.proofs.board.Board.run_machine.Goals as goal
 
 pub invariant_of-self : goal.invariant_of-self

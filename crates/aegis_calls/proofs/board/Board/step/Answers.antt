@@ -1,11 +1,10 @@
 -- The step is the model's.
 use Rattle.std.proofs.Common.{sym, ap, ◌∙◌, subst, arith}
-use Rattle.aegis_calls.specs.Shown.{Shown}
-use Rattle.aegis_calls.specs.Showing.{world_of}
-use Rattle.aegis_calls.specs.Sound.{IsSound}
-use Rattle.aegis_calls.specs.Doing.{step_seen}
-use Rattle.aegis_calls.proofs.Stepping.{stepped_world}
-use Rattle.aegis_calls.proofs.Room.{came_room}
+use Rattle.board_world.specs.Shown.{Shown}
+use Rattle.board_world.specs.Showing.{world_of}
+use Rattle.board_world.specs.Sound.{IsSound}
+use Rattle.board_world.specs.Doing.{step_seen}
+use Rattle.board_world.proofs.Stepping.{stepped_world, came_leaves}
 use Rattle.aegis_calls.proofs.board.Board.step.Goals as goal
 
 pub returns-in-Some-clause-world : goal.returns-in-Some-clause-world
@@ -13,5 +12,5 @@ returns-in-Some-clause-world c = ap world_of c.run_step.ensures ∙ stepped_worl
 
 pub returns-in-Some-clause-room : goal.returns-in-Some-clause-room
 returns-in-Some-clause-room c =
-    let room = came_room c.args.self.now c.in-Some.env (step_seen c.args.self.now c.in-Some.env) (subst IsSound c.self.view_is c.self.invariant) in
-    omega (arith, room, ap (λ (b : Shown). b.ledger.spare) c.run_step.ensures)
+    let leaves = came_leaves c.args.self.now c.in-Some.env (step_seen c.args.self.now c.in-Some.env) (subst IsSound c.self.view_is c.self.invariant) (sym c.runner.ensures ∙ c.in-Some.is) in
+    omega (arith, leaves.room, ap (λ (b : Shown). b.ledger.spare) c.run_step.ensures)

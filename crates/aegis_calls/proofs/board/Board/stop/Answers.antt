@@ -1,5 +1,5 @@
 -- The turn is over.
-use Rattle.aegis_calls.proofs.Sound.{end_manned}
+use Rattle.board_world.proofs.Sound.{end_manned}
 use Rattle.aegis_calls.proofs.board.Board.stop.Goals as goal
 
 pub invariant_of-self : goal.invariant_of-self

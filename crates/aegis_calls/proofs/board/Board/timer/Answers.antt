@@ -1,8 +1,8 @@
 -- The timer is the model's.
 use Rattle.std.proofs.Common.{ap, ◌∙◌, subst}
-use Rattle.aegis_calls.specs.Showing.{world_of}
-use Rattle.aegis_calls.specs.Sound.{IsSound}
-use Rattle.aegis_calls.proofs.Turning.{counted_world}
+use Rattle.board_world.specs.Showing.{world_of}
+use Rattle.board_world.specs.Sound.{IsSound}
+use Rattle.board_world.proofs.Turning.{counted_world}
 use Rattle.aegis_calls.proofs.board.Board.timer.Goals as goal
 
 pub returns-clause-world : goal.returns-clause-world

@@ -1,0 +1,5 @@
+use Rattle.board_world.proofs.Serving.{called_world}
+use Rattle.board_world.proofs.laws.law_call.Goals as goal
+
+pub returns : goal.returns
+returns c = called_world

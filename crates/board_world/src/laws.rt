@@ -1,0 +1,37 @@
+//! The laws of what a board shows: each part of a tick is that part of the model's.
+ghost use Rattle.board_world.specs.Laws.{CallIsCall, DeathIsDeath, IdleIsIdle, RefusalIsRefusal, StepIsStep, TimerIsTimer, TurnIsTurn};
+
+/// A board is idle exactly where its world is.
+pub fn law_idle()
+    ensures { IdleIsIdle }
+{}
+
+/// The turn of a sound board is the model's.
+pub fn law_turn()
+    ensures { TurnIsTurn }
+{}
+
+/// The runner's step, with its call or death, is the model's.
+pub fn law_step()
+    ensures { StepIsStep }
+{}
+
+/// The timer is the model's.
+pub fn law_timer()
+    ensures { TimerIsTimer }
+{}
+
+/// A kernel call apart from a tick is the model's.
+pub fn law_call()
+    ensures { CallIsCall }
+{}
+
+/// A refused call changes its caller's registers 2 and 3 and where it stands, and nothing else.
+pub fn law_refusal()
+    ensures { RefusalIsRefusal }
+{}
+
+/// A death apart from a tick is the model's.
+pub fn law_death()
+    ensures { DeathIsDeath }
+{}

@@ -1,0 +1,7 @@
+/// A guaranteed page: its page number, whether it may be stored to, and its 4,096 bytes.
+#[derive(Clone, Copy)]
+pub struct PageView<'a> {
+    pub vpn: u32,
+    pub writable: bool,
+    pub bytes: &'a [u8],
+}
