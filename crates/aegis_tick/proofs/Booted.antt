@@ -8,7 +8,7 @@ use Rattle.world_model.specs.Solo.{Solo, absent}
 use Rattle.world_model.specs.Item.{Item, absorb_all}
 use Rattle.world_model.specs.World.{World, only}
 use Rattle.world_model.specs.Boot.{record_items, bare_world, added, boot_world}
-use Rattle.aegis_calls.proofs.Lists.{last_get, other_get, past_get}
+use Rattle.board_world.proofs.Lists.{last_get, other_get, past_get}
 
 -- an environment of so many programs
 abbrev booted_solo : List ProgramValue → ℕ → Solo

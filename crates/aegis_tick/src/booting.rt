@@ -1,6 +1,6 @@
 ghost use Rattle.std.specs.Prelude.{◌≡◌, ◌≤◌, ◌+◌, IfOk, map, fold, length, sum_by};
 ghost use Rattle.std.specs.List.{AllByRecursion};
-ghost use Rattle.aegis_calls.specs.Showing.{world_of};
+ghost use Rattle.board_world.specs.Showing.{world_of};
 ghost use Rattle.boot_image.specs.Accepted.{IsAccepted, IsFitting};
 ghost use Rattle.boot_image.specs.ImageValue.{guaranteed_mappings};
 ghost use Rattle.boot_image.specs.Seen.{image_seen, program_seen};
@@ -18,6 +18,7 @@ fn add_all(board: &mut Board, programs: &[Program<'_>])
     requires pages { board.old.taken + sum_by guaranteed_mappings (map program_seen programs.now) ≤ length board.old.frames }
     ensures world { world_of board.new ≡ fold added (world_of board.old) (map program_seen programs.now) }
     ensures whole { board.new.roster.spare ≡ 0 }
+    ensures pages { length board.new.frames ≡ length board.old.frames }
 {
     for program in programs {
         board.add(program);
@@ -29,6 +30,7 @@ pub fn boot(alloc: Global, image: &Image<'_>) -> Result<Board, OutOfMemory>
     requires { IsAccepted (image_seen image.now) }
     ensures world { IfOk result (λ b. world_of b ≡ boot_world (image_seen image.now)) }
     ensures whole { IfOk result (λ b. b.roster.spare ≡ 0) }
+    ensures pages { IfOk result (λ b. length b.frames ≡ image.now.pages) }
 {
     let slots = image.slots.as_slice();
     let programs = image.programs.as_slice();

@@ -1,10 +1,12 @@
 ghost use Rattle.std.specs.Prelude.{◌≡◌, ◌≤◌, ◌<◌, ◌+◌, ◌*◌, ℕ, false, IfOk, IsOk, OnOk, OnErr};
-ghost use Rattle.aegis_calls.specs.Showing.{world_of};
+ghost use Rattle.aegis_limits.specs.Limits.{most_ticks};
+ghost use Rattle.board_world.specs.Shown.{with_spare};
+ghost use Rattle.board_world.specs.Showing.{world_of};
 ghost use Rattle.world_model.specs.Book.{is_idle_book};
 ghost use Rattle.world_model.specs.Run.{run_on, end_of_run};
 ghost use Rattle.world_model.specs.Tick.{tick_step};
 
-use aegis_calls::{Board, TIME_LIMIT};
+use aegis_calls::Board;
 use edge_io::OutOfMemory;
 use kernel_journal::RunEnd;
 
@@ -16,7 +18,7 @@ pub const TICK_ROWS: u32 = 2048;
 pub fn make_room(board: &mut Board, rows: u32) -> Result<(), OutOfMemory>
     ensures room { OnOk result (rows ≤ board.new.ledger.spare) }
     ensures world { world_of board.new ≡ world_of board.old }
-    ensures whole { board.new.roster ≡ board.old.roster }
+    ensures same { board.new ≡ with_spare board.old board.new.ledger.spare }
     ensures there { rows ≤ board.old.ledger.spare → IsOk result × (board.new ≡ board.old) }
     ensures refused { OnErr result (board.new ≡ board.old) }
 {
@@ -27,7 +29,7 @@ pub fn make_room(board: &mut Board, rows: u32) -> Result<(), OutOfMemory>
 pub fn tick(board: &mut Board)
     requires whole { board.old.roster.spare ≡ 0 }
     requires busy { is_idle_book (world_of board.old).book ≡ false }
-    requires time { board.old.time < TIME_LIMIT }
+    requires time { board.old.time < most_ticks }
     requires room { TICK_ROWS ≤ board.old.ledger.spare }
     ensures world { world_of board.new ≡ tick_step (world_of board.old) }
     ensures time { board.new.time ≡ board.old.time + 1 }
@@ -43,7 +45,7 @@ pub fn tick(board: &mut Board)
 fn run_ticks(board: &mut Board, ticks: u32) -> Result<(), OutOfMemory>
     requires whole { board.old.roster.spare ≡ 0 }
     requires fresh { board.old.time ≡ 0 }
-    requires limit { ticks ≤ TIME_LIMIT }
+    requires limit { ticks ≤ most_ticks }
     ensures world { OnOk result (world_of board.new ≡ run_on (world_of board.old) ticks) }
     ensures whole { OnErr result ((t : ℕ) × (t < ticks) × (world_of board.new ≡ run_on (world_of board.old) t)) }
     ensures sure { TICK_ROWS * ticks ≤ board.old.ledger.spare → IsOk result }
@@ -64,7 +66,7 @@ fn run_ticks(board: &mut Board, ticks: u32) -> Result<(), OutOfMemory>
 pub fn run(board: &mut Board, ticks: u32) -> Result<RunEnd, OutOfMemory>
     requires whole { board.old.roster.spare ≡ 0 }
     requires fresh { board.old.time ≡ 0 }
-    requires limit { ticks ≤ TIME_LIMIT }
+    requires limit { ticks ≤ most_ticks }
     ensures world { OnOk result (world_of board.new ≡ run_on (world_of board.old) ticks) }
     ensures end { IfOk result (λ end. end ≡ end_of_run (world_of board.new) ticks) }
     ensures whole { OnErr result ((t : ℕ) × (t < ticks) × (world_of board.new ≡ run_on (world_of board.old) t)) }

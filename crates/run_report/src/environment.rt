@@ -2,12 +2,14 @@
 ghost use Rattle.std.specs.Prelude.{◌≡◌, ◌++◌, ◌<◌, ◌==◌, OnOk, IfOk, position};
 ghost use Rattle.std.specs.List.{flat_map};
 ghost use Rattle.boot_image.specs.ImageValue.{name_text};
-ghost use Rattle.aegis_calls.specs.Showing.{world_of};
+ghost use Rattle.board_world.specs.Showing.{world_of};
 ghost use Rattle.world_model.specs.Report.{spaced, life_words, exception_text, env_line, out_line, excess_line, living_lines, env_text};
 
 use crate::page::push_keep_lines;
 use crate::processor::{push_cpu_line, push_regs_line, shown_cpu};
-use crate::words::{end_line, push_number, push_quotation, push_text, push_word};
+use crate::words::{
+    end_line, env, number, push_number, push_numbers_line, push_quotation, push_text, push_word,
+};
 use aegis_calls::Board;
 use edge_io::OutOfMemory;
 use mips_exec::ExcCode;
@@ -130,14 +132,10 @@ fn push_out_line(out: &mut Vec<u8>, board: &Board, env: u8) -> Result<(), OutOfM
 }
 
 /// Appends the line of an environment's excess.
-#[tactic(auto, unfolding(world_model::specs::Report::excess_line))]
-fn push_excess_line(out: &mut Vec<u8>, env: u8, excess: u32) -> Result<(), OutOfMemory>
-    ensures { OnOk result (out.new.items ≡ out.old.items ++ excess_line env excess) }
+fn push_excess_line(out: &mut Vec<u8>, who: u8, excess: u32) -> Result<(), OutOfMemory>
+    ensures { OnOk result (out.new.items ≡ out.old.items ++ excess_line who excess) }
 {
-    push_text(out, b"excess")?;
-    push_number(out, u64::from(env))?;
-    push_number(out, u64::from(excess))?;
-    end_line(out)
+    push_numbers_line(out, b"excess", &[env(who), number(excess)])
 }
 
 /// Appends what is shown of an environment while it lives.

@@ -1,10 +1,11 @@
 //! The guaranteed pages that a report shows, each by the fingerprint of its bytes.
 ghost use Rattle.std.specs.Prelude.{◌≡◌, ◌++◌, ◌<◌, OnOk};
-ghost use Rattle.aegis_calls.specs.Showing.{world_of, view_seen};
+ghost use Rattle.board_world.specs.Showing.{world_of, view_seen};
 ghost use Rattle.world_model.specs.Report.{fingerprint, keep_line, keep_lines};
 
 use crate::words::{end_line, push_digits, push_number, push_text, push_word};
-use aegis_calls::{Board, PageView};
+use aegis_calls::Board;
+use board_world::PageView;
 use edge_io::OutOfMemory;
 use sha2::{Digest, Sha256};
 

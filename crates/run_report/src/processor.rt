@@ -1,34 +1,20 @@
 //! The registers that a report shows of a living environment.
 ghost use Rattle.std.specs.Prelude.{◌≡◌, ◌++◌, ◌<◌, OnOk};
 ghost use Rattle.std.specs.List.{flat_map};
-ghost use Rattle.aegis_calls.specs.Showing.{world_of};
-ghost use Rattle.world_model.specs.Item.{rest};
+ghost use Rattle.board_world.specs.Showing.{world_of};
 ghost use Rattle.world_model.specs.Boot.{listed};
 ghost use Rattle.world_model.specs.Report.{spaced, shown_cpu, cpu_line, word_text, register_text, regs_line};
 
 use crate::words::{end_line, push_digits, push_flag, push_number, push_text};
 use aegis_calls::Board;
 use edge_io::OutOfMemory;
-use mips_exec::{Cpu, restart};
+use mips_exec::Cpu;
 
 /// The hexadecimal digits of a word.
 const WORD_DIGITS: u8 = 8;
 
 /// The registers behind register 0.
 const SHOWN_REGISTERS: u8 = 31;
-
-/// The registers of a stopped environment: it runs again from its restart address.
-fn rested(cpu: Cpu) -> Cpu
-    ensures { result ≡ rest cpu }
-{
-    let address = restart(&cpu);
-    Cpu {
-        pc: address,
-        next: address.wrapping_add(4),
-        slot: false,
-        ..cpu
-    }
-}
 
 /// The registers that are shown of an environment: the runner's as they stand, and a stopped one's at
 /// rest.
@@ -40,7 +26,7 @@ pub(crate) fn shown_cpu(board: &Board, env: u8) -> Cpu
     let cpu = board.cpu(env);
     match board.runner() {
         Some(runner) if runner == env => cpu,
-        _ => rested(cpu),
+        _ => cpu.rested(),
     }
 }
 

@@ -3,7 +3,7 @@
 ghost use Rattle.std.specs.Prelude.{◌≡◌, ◌++◌, count_by, OnOk};
 ghost use Rattle.world_model.specs.Report.{is_run_of, is_pay_of, is_over_of, sum_line};
 
-use crate::words::{end_line, push_number, push_text};
+use crate::words::{env, push_numbers_line};
 use edge_io::OutOfMemory;
 use kernel_journal::Row;
 
@@ -59,14 +59,15 @@ fn overs_of(rows: &[Row], env: u8) -> usize
 }
 
 /// Appends the line of an environment's sums.
-#[tactic(auto, unfolding(world_model::specs::Report::sum_line))]
-pub(crate) fn push_sum_line(out: &mut Vec<u8>, rows: &[Row], env: u8) -> Result<(), OutOfMemory>
-    ensures { OnOk result (out.new.items ≡ out.old.items ++ sum_line rows.now env) }
+pub(crate) fn push_sum_line(out: &mut Vec<u8>, rows: &[Row], who: u8) -> Result<(), OutOfMemory>
+    ensures { OnOk result (out.new.items ≡ out.old.items ++ sum_line rows.now who) }
 {
-    push_text(out, b"sum")?;
-    push_number(out, u64::from(env))?;
-    push_number(out, runs_of(rows, env) as u64)?;
-    push_number(out, pays_of(rows, env) as u64)?;
-    push_number(out, overs_of(rows, env) as u64)?;
-    end_line(out)
+    let runs = runs_of(rows, who) as u64;
+    let pays = pays_of(rows, who) as u64;
+    let overs = overs_of(rows, who) as u64;
+    push_numbers_line(
+        out,
+        b"sum",
+        &[env(who), Some(runs), Some(pays), Some(overs)],
+    )
 }

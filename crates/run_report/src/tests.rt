@@ -1,5 +1,5 @@
 ghost use Rattle.std.specs.Prelude.{◌≡◌, ◌<◌, IfOk};
-ghost use Rattle.aegis_calls.specs.Showing.{world_of};
+ghost use Rattle.board_world.specs.Showing.{world_of};
 ghost use Rattle.boot_image.specs.Accepted.{IsFitting};
 ghost use Rattle.boot_image.specs.ImageValue.{guaranteed_mappings};
 ghost use Rattle.boot_image.specs.Seen.{program_seen};

@@ -1,6 +1,6 @@
 //! The whole report.
 ghost use Rattle.std.specs.Prelude.{◌≡◌, ◌++◌, OnOk, IfOk};
-ghost use Rattle.aegis_calls.specs.Showing.{world_of};
+ghost use Rattle.board_world.specs.Showing.{world_of};
 ghost use Rattle.world_model.specs.Report.{env_text, sum_line, for_each_env, end_text, end_line as end_line_of, report_text};
 
 use crate::environment::push_env;

@@ -1,8 +1,9 @@
 //! The words of a line. A line begins with a word of its own, each word after it stands behind a
 //! space, and a line feed ends it.
-ghost use Rattle.std.specs.Prelude.{◌≡◌, ◌++◌, ◌∷◌, [], ◌≤◌, OnOk};
+ghost use Rattle.std.specs.Prelude.{◌≡◌, ◌++◌, ◌∷◌, [], ◌≤◌, OnOk, Some};
 ghost use Rattle.line_text.specs.Text.{dec_text, hex_text};
-ghost use Rattle.world_model.specs.Report.{spaced, or_dash, flag_text, quotation};
+ghost use Rattle.std.specs.List.{flat_map};
+ghost use Rattle.world_model.specs.Report.{spaced, or_dash, flag_text, numbers_line, quotation};
 
 use edge_io::OutOfMemory;
 use line_text::{push_dec, push_hex, push_quoted};
@@ -50,23 +51,67 @@ pub(crate) fn push_digits(out: &mut Vec<u8>, n: u32, digits: u8) -> Result<(), O
 }
 
 /// Appends a number in decimal as a word, or a dash where there is none.
-pub(crate) fn push_number_or_dash(out: &mut Vec<u8>, n: Option<u32>) -> Result<(), OutOfMemory>
+fn push_number_or_dash(out: &mut Vec<u8>, n: Option<u64>) -> Result<(), OutOfMemory>
     ensures { OnOk result (out.new.items ≡ out.old.items ++ spaced (or_dash n)) }
 {
     match n {
-        Some(n) => push_number(out, u64::from(n)),
+        Some(n) => push_number(out, n),
         None => push_word(out, b"-"),
     }
 }
 
-/// Appends an environment's number as a word, or a dash where there is none.
-pub(crate) fn push_env_or_dash(out: &mut Vec<u8>, env: Option<u8>) -> Result<(), OutOfMemory>
-    ensures { OnOk result (out.new.items ≡ out.old.items ++ spaced (or_dash env)) }
+/// Appends numbers in decimal as words, a dash where there is none.
+fn push_numbers(out: &mut Vec<u8>, numbers: &[Option<u64>]) -> Result<(), OutOfMemory>
+    ensures { OnOk result (out.new.items ≡ out.old.items ++ flat_map (λ n. spaced (or_dash n)) numbers.now) }
 {
-    match env {
-        Some(env) => push_number(out, u64::from(env)),
-        None => push_word(out, b"-"),
+    for n in numbers {
+        push_number_or_dash(out, *n)?;
     }
+    Ok(())
+}
+
+/// Appends a line of a name and numbers.
+#[tactic(auto, unfolding(world_model::specs::Report::numbers_line))]
+pub(crate) fn push_numbers_line(
+    out: &mut Vec<u8>,
+    name: &[u8],
+    numbers: &[Option<u64>],
+) -> Result<(), OutOfMemory>
+    ensures { OnOk result (out.new.items ≡ out.old.items ++ numbers_line name.now numbers.now) }
+{
+    push_text(out, name)?;
+    push_numbers(out, numbers)?;
+    end_line(out)
+}
+
+/// A number of a line.
+pub(crate) fn number(n: u32) -> Option<u64>
+    ensures { result ≡ Some n }
+{
+    Some(u64::from(n))
+}
+
+/// A number of a line, or none.
+pub(crate) fn number_or_none(n: Option<u32>) -> Option<u64>
+    ensures { result ≡ n }
+{
+    let n = n?;
+    number(n)
+}
+
+/// An environment's number in a line.
+pub(crate) fn env(env: u8) -> Option<u64>
+    ensures { result ≡ Some env }
+{
+    Some(u64::from(env))
+}
+
+/// An environment's number in a line, or none.
+pub(crate) fn env_or_none(who: Option<u8>) -> Option<u64>
+    ensures { result ≡ who }
+{
+    let who = who?;
+    env(who)
 }
 
 /// Appends 1 or 0 as a word.

@@ -4,7 +4,7 @@ use Rattle.boot_image.specs.Seen.{image_seen}
 use Rattle.world_model.specs.World.{World}
 use Rattle.world_model.specs.Run.{run_on, world_after, end_of_run}
 use Rattle.world_model.specs.Report.{report_text}
-use Rattle.aegis_calls.specs.Showing.{world_of}
+use Rattle.board_world.specs.Showing.{world_of}
 use Rattle.kernel_journal.specs.declared.row.RunEnd.{RunEnd}
 use Rattle.aegis_cli.specs.Due.{report_after}
 use Rattle.aegis_cli.proofs.Texts.{same_text}

@@ -1,7 +1,7 @@
 -- Each turn of the loop is a tick of the model, until it is idle.
 use Rattle.std.proofs.Common.{◌≡◌, ◌+◌, ◌-◌, ℕ, sym, ◌∙◌, ap, arith}
-use Rattle.aegis_calls.specs.Shown.{Shown, Environments}
-use Rattle.aegis_calls.specs.Showing.{world_of}
+use Rattle.board_world.specs.Shown.{Shown}
+use Rattle.board_world.specs.Showing.{world_of}
 use Rattle.world_model.specs.Book.{is_idle_book}
 use Rattle.world_model.specs.World.{World}
 use Rattle.world_model.specs.Run.{run_on}
@@ -21,7 +21,7 @@ tick-requires-clause-busy c =
     ap (λ (v : World). is_idle_book v.book) c.in_ok-make_room.ensures.world ∙ sym c.idle.ensures ∙ c.if-idle.false
 
 pub tick-requires-clause-whole : goal.tick-requires-clause-whole
-tick-requires-clause-whole c = ap (λ (r : Environments). r.spare) c.in_ok-make_room.ensures.whole ∙ c.loop-done.invariant.whole
+tick-requires-clause-whole c = ap (λ (b : Shown). b.roster.spare) c.in_ok-make_room.ensures.same ∙ c.loop-done.invariant.whole
 
 pub loop-done-preserved : goal.loop-done-preserved
 loop-done-preserved c =

@@ -1,6 +1,6 @@
 -- The world is that after the ticks so far.
 use Rattle.std.proofs.Common.{◌≡◌, ◌≤◌, ◌-◌, ◌*◌}
-use Rattle.aegis_calls.specs.Showing.{world_of}
+use Rattle.board_world.specs.Showing.{world_of}
 use Rattle.world_model.specs.Run.{run_on}
 use Rattle.aegis_tick.proofs.running.run_ticks.Given as goal
 

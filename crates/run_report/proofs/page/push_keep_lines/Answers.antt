@@ -1,7 +1,7 @@
 -- The page at each place below the count is there, and its line is one more.
 use Rattle.std.proofs.Common.{Vec, Global, ◌<◌, ◌++◌, ◌∙◌, ap, sym, ℕ, length, append_assoc, arith}
 use Rattle.std.specs.Option.{option_map}
-use Rattle.aegis_calls.specs.Showing.{world_of, view_seen}
+use Rattle.board_world.specs.Showing.{world_of, view_seen}
 use Rattle.world_model.specs.Report.{keep_line}
 use Rattle.run_report.proofs.Pages.{line_more, is_there}
 use Rattle.run_report.proofs.page.push_keep_lines.Goals as goal

@@ -1,5 +1,5 @@
 use Rattle.std.proofs.Common.{◌≡◌, ◌++◌, take}
-use Rattle.aegis_calls.specs.Showing.{world_of}
+use Rattle.board_world.specs.Showing.{world_of}
 use Rattle.world_model.specs.Report.{keep_lines}
 use Rattle.run_report.proofs.page.push_keep_lines.Given as goal
 

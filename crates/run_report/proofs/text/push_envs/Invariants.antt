@@ -1,5 +1,5 @@
 use Rattle.std.proofs.Common.{◌≡◌, ◌++◌}
-use Rattle.aegis_calls.specs.Showing.{world_of}
+use Rattle.board_world.specs.Showing.{world_of}
 use Rattle.world_model.specs.Report.{env_text, for_each_env}
 use Rattle.run_report.proofs.text.push_envs.Given as goal
 
