@@ -6,5 +6,4 @@ pub mod LaidLemmas
 pub mod OutcomeLemmas
 pub mod SpanLemmas
 pub mod TableLemmas
-pub mod WordLemmas
 pub mod WritableLemmas

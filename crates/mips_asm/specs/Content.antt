@@ -12,7 +12,7 @@ use Rattle.mips_asm.specs.declared.number.NumberSize.TheVariants.{Byte, Half, Wo
 use Rattle.mips_asm.specs.Draft.{Draft, Fixed, Filled, Halves, defined, insns_of}
 use Rattle.mips_asm.specs.Outcome.{◌>>=◌, in_line}
 use Rattle.mips_asm.specs.Value.{Names, number_length, number_fits}
-use Rattle.mips_asm.specs.Word.{word_of}
+use Rattle.mips_isa.specs.Encoding.{word_of}
 
 pub data Content : Type 0 where
   Instruction : Draft → Content

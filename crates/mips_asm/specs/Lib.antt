@@ -12,4 +12,3 @@ pub mod Second
 pub mod Seen
 pub mod Value
 pub mod Within
-pub mod Word

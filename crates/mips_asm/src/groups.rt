@@ -17,13 +17,13 @@ pub(crate) enum Alone {
 impl Alone {
     ghost use Rattle.std.specs.Prelude.{◌≡◌};
     ghost use Rattle.mips_asm.specs.Seen.{alone_insn};
-    ghost use Rattle.mips_asm.specs.Word.{IsSpelled};
+    ghost use Rattle.mips_isa.specs.Encoding.{IsEncodable};
 
     /// The instruction with these operands.
-    #[tactic(auto, unfolding(crate::specs::Word::word_of))]
+    #[tactic(auto, unfolding(mips_isa::specs::Encoding::form_of))]
     pub(crate) fn insn(self) -> Insn
         ensures value { result ≡ alone_insn self }
-        ensures spelled { IsSpelled result }
+        ensures encodable { IsEncodable result }
     {
         match self {
             Alone::Nop => Insn::Sll {
@@ -53,13 +53,13 @@ pub(crate) enum One {
 impl One {
     ghost use Rattle.std.specs.Prelude.{◌≡◌};
     ghost use Rattle.mips_asm.specs.Seen.{one_insn};
-    ghost use Rattle.mips_asm.specs.Word.{IsSpelled};
+    ghost use Rattle.mips_isa.specs.Encoding.{IsEncodable};
 
     /// The instruction with these operands.
-    #[tactic(auto, unfolding(crate::specs::Word::word_of))]
+    #[tactic(auto, unfolding(mips_isa::specs::Encoding::form_of))]
     pub(crate) fn insn(self, a: Register) -> Insn
         ensures value { result ≡ one_insn self a.number }
-        ensures spelled { IsSpelled result }
+        ensures encodable { IsEncodable result }
     {
         let a = a.number;
         match self {
@@ -88,13 +88,13 @@ pub(crate) enum Two {
 impl Two {
     ghost use Rattle.std.specs.Prelude.{◌≡◌};
     ghost use Rattle.mips_asm.specs.Seen.{two_insn};
-    ghost use Rattle.mips_asm.specs.Word.{IsSpelled};
+    ghost use Rattle.mips_isa.specs.Encoding.{IsEncodable};
 
     /// The instruction with these operands.
-    #[tactic(auto, unfolding(crate::specs::Word::word_of))]
+    #[tactic(auto, unfolding(mips_isa::specs::Encoding::form_of))]
     pub(crate) fn insn(self, a: Register, b: Register) -> Insn
         ensures value { result ≡ two_insn self a.number b.number }
-        ensures spelled { IsSpelled result }
+        ensures encodable { IsEncodable result }
     {
         let (a, b) = (a.number, b.number);
         match self {
@@ -132,13 +132,13 @@ pub(crate) enum Three {
 impl Three {
     ghost use Rattle.std.specs.Prelude.{◌≡◌};
     ghost use Rattle.mips_asm.specs.Seen.{three_insn};
-    ghost use Rattle.mips_asm.specs.Word.{IsSpelled};
+    ghost use Rattle.mips_isa.specs.Encoding.{IsEncodable};
 
     /// The instruction with these operands.
-    #[tactic(auto, unfolding(crate::specs::Word::word_of))]
+    #[tactic(auto, unfolding(mips_isa::specs::Encoding::form_of))]
     pub(crate) fn insn(self, rd: Register, rs: Register, rt: Register) -> Insn
         ensures value { result ≡ three_insn self rd.number rs.number rt.number }
-        ensures spelled { IsSpelled result }
+        ensures encodable { IsEncodable result }
     {
         let (rd, rs, rt) = (rd.number, rs.number, rt.number);
         match self {
@@ -167,13 +167,13 @@ pub(crate) enum VariableShift {
 impl VariableShift {
     ghost use Rattle.std.specs.Prelude.{◌≡◌};
     ghost use Rattle.mips_asm.specs.Seen.{variable_shift_insn};
-    ghost use Rattle.mips_asm.specs.Word.{IsSpelled};
+    ghost use Rattle.mips_isa.specs.Encoding.{IsEncodable};
 
     /// The instruction with these operands.
-    #[tactic(auto, unfolding(crate::specs::Word::word_of))]
+    #[tactic(auto, unfolding(mips_isa::specs::Encoding::form_of))]
     pub(crate) fn insn(self, rd: Register, rt: Register, rs: Register) -> Insn
         ensures value { result ≡ variable_shift_insn self rd.number rt.number rs.number }
-        ensures spelled { IsSpelled result }
+        ensures encodable { IsEncodable result }
     {
         let (rd, rt, rs) = (rd.number, rt.number, rs.number);
         match self {
@@ -195,14 +195,14 @@ pub(crate) enum Shift {
 impl Shift {
     ghost use Rattle.std.specs.Prelude.{◌≡◌, ◌<◌, ◌^◌};
     ghost use Rattle.mips_asm.specs.Seen.{shift_insn};
-    ghost use Rattle.mips_asm.specs.Word.{IsSpelled};
+    ghost use Rattle.mips_isa.specs.Encoding.{IsEncodable};
 
     /// The instruction with these operands.
-    #[tactic(auto, unfolding(crate::specs::Word::word_of))]
+    #[tactic(auto, unfolding(mips_isa::specs::Encoding::form_of))]
     pub(crate) fn insn(self, rd: Register, rt: Register, sh: u8) -> Insn
         requires { sh < 2 ^ 5 }
         ensures value { result ≡ shift_insn self rd.number rt.number sh }
-        ensures spelled { IsSpelled result }
+        ensures encodable { IsEncodable result }
     {
         let (rd, rt) = (rd.number, rt.number);
         match self {
@@ -225,13 +225,13 @@ pub(crate) enum SignedImmediate {
 impl SignedImmediate {
     ghost use Rattle.std.specs.Prelude.{◌≡◌};
     ghost use Rattle.mips_asm.specs.Seen.{signed_insn};
-    ghost use Rattle.mips_asm.specs.Word.{IsSpelled};
+    ghost use Rattle.mips_isa.specs.Encoding.{IsEncodable};
 
     /// The instruction with these operands.
-    #[tactic(auto, unfolding(crate::specs::Word::word_of))]
+    #[tactic(auto, unfolding(mips_isa::specs::Encoding::form_of))]
     pub(crate) fn insn(self, rt: Register, rs: Register, imm: u16) -> Insn
         ensures value { result ≡ signed_insn self rt.number rs.number imm }
-        ensures spelled { IsSpelled result }
+        ensures encodable { IsEncodable result }
     {
         let (rt, rs) = (rt.number, rs.number);
         match self {
@@ -254,13 +254,13 @@ pub(crate) enum UnsignedImmediate {
 impl UnsignedImmediate {
     ghost use Rattle.std.specs.Prelude.{◌≡◌};
     ghost use Rattle.mips_asm.specs.Seen.{unsigned_insn};
-    ghost use Rattle.mips_asm.specs.Word.{IsSpelled};
+    ghost use Rattle.mips_isa.specs.Encoding.{IsEncodable};
 
     /// The instruction with these operands.
-    #[tactic(auto, unfolding(crate::specs::Word::word_of))]
+    #[tactic(auto, unfolding(mips_isa::specs::Encoding::form_of))]
     pub(crate) fn insn(self, rt: Register, rs: Register, imm: u16) -> Insn
         ensures value { result ≡ unsigned_insn self rt.number rs.number imm }
-        ensures spelled { IsSpelled result }
+        ensures encodable { IsEncodable result }
     {
         let (rt, rs) = (rt.number, rs.number);
         match self {
@@ -281,13 +281,13 @@ pub(crate) enum BranchTwo {
 impl BranchTwo {
     ghost use Rattle.std.specs.Prelude.{◌≡◌};
     ghost use Rattle.mips_asm.specs.Seen.{branch2_insn};
-    ghost use Rattle.mips_asm.specs.Word.{IsSpelled};
+    ghost use Rattle.mips_isa.specs.Encoding.{IsEncodable};
 
     /// The instruction with these operands.
-    #[tactic(auto, unfolding(crate::specs::Word::word_of))]
+    #[tactic(auto, unfolding(mips_isa::specs::Encoding::form_of))]
     pub(crate) fn insn(self, rs: Register, rt: Register, imm: u16) -> Insn
         ensures value { result ≡ branch2_insn self rs.number rt.number imm }
-        ensures spelled { IsSpelled result }
+        ensures encodable { IsEncodable result }
     {
         let (rs, rt) = (rs.number, rt.number);
         match self {
@@ -311,13 +311,13 @@ pub(crate) enum BranchOne {
 impl BranchOne {
     ghost use Rattle.std.specs.Prelude.{◌≡◌};
     ghost use Rattle.mips_asm.specs.Seen.{branch1_insn};
-    ghost use Rattle.mips_asm.specs.Word.{IsSpelled};
+    ghost use Rattle.mips_isa.specs.Encoding.{IsEncodable};
 
     /// The instruction with these operands.
-    #[tactic(auto, unfolding(crate::specs::Word::word_of))]
+    #[tactic(auto, unfolding(mips_isa::specs::Encoding::form_of))]
     pub(crate) fn insn(self, rs: Register, imm: u16) -> Insn
         ensures value { result ≡ branch1_insn self rs.number imm }
-        ensures spelled { IsSpelled result }
+        ensures encodable { IsEncodable result }
     {
         let rs = rs.number;
         match self {
@@ -341,14 +341,14 @@ pub(crate) enum LongJump {
 impl LongJump {
     ghost use Rattle.std.specs.Prelude.{◌≡◌, ◌<◌, ◌^◌};
     ghost use Rattle.mips_asm.specs.Seen.{jump_insn};
-    ghost use Rattle.mips_asm.specs.Word.{IsSpelled};
+    ghost use Rattle.mips_isa.specs.Encoding.{IsEncodable};
 
     /// The instruction with these operands.
-    #[tactic(auto, unfolding(crate::specs::Word::word_of))]
+    #[tactic(auto, unfolding(mips_isa::specs::Encoding::form_of))]
     pub(crate) fn insn(self, target: u32) -> Insn
         requires { target < 2 ^ 26 }
         ensures value { result ≡ jump_insn self target }
-        ensures spelled { IsSpelled result }
+        ensures encodable { IsEncodable result }
     {
         match self {
             LongJump::J => Insn::J { target },
@@ -367,14 +367,14 @@ pub(crate) enum Trap {
 impl Trap {
     ghost use Rattle.std.specs.Prelude.{◌≡◌, ◌<◌, ◌^◌};
     ghost use Rattle.mips_asm.specs.Seen.{trap_insn};
-    ghost use Rattle.mips_asm.specs.Word.{IsSpelled};
+    ghost use Rattle.mips_isa.specs.Encoding.{IsEncodable};
 
     /// The instruction with these operands.
-    #[tactic(auto, unfolding(crate::specs::Word::word_of))]
+    #[tactic(auto, unfolding(mips_isa::specs::Encoding::form_of))]
     pub(crate) fn insn(self, code: u32) -> Insn
         requires { code < 2 ^ 20 }
         ensures value { result ≡ trap_insn self code }
-        ensures spelled { IsSpelled result }
+        ensures encodable { IsEncodable result }
     {
         match self {
             Trap::Syscall => Insn::Syscall { code },
@@ -403,13 +403,13 @@ pub(crate) enum Access {
 impl Access {
     ghost use Rattle.std.specs.Prelude.{◌≡◌};
     ghost use Rattle.mips_asm.specs.Seen.{access_insn};
-    ghost use Rattle.mips_asm.specs.Word.{IsSpelled};
+    ghost use Rattle.mips_isa.specs.Encoding.{IsEncodable};
 
     /// The instruction with these operands.
-    #[tactic(auto, unfolding(crate::specs::Word::word_of))]
+    #[tactic(auto, unfolding(mips_isa::specs::Encoding::form_of))]
     pub(crate) fn insn(self, rt: Register, rs: Register, imm: u16) -> Insn
         ensures value { result ≡ access_insn self rt.number imm rs.number }
-        ensures spelled { IsSpelled result }
+        ensures encodable { IsEncodable result }
     {
         let (rt, rs) = (rt.number, rs.number);
         match self {

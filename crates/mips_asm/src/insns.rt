@@ -2,13 +2,12 @@
 ghost use Rattle.std.specs.Prelude.{◌≡◌, ◌+◌, ◌<◌, ◌^◌, ◌++◌, IfOk, OnOk};
 ghost use Rattle.std.specs.List.{AllByRecursion};
 ghost use Rattle.std.specs.Int.{to_le_bytes, w32};
-ghost use Rattle.mips_isa.specs.Encoding.{Spells};
+ghost use Rattle.mips_isa.specs.Encoding.{IsEncodable, word_of};
 ghost use Rattle.asm_parse.specs.Seen.{expression_seen};
 ghost use Rattle.mips_asm.specs.Content.{insns_bytes};
 ghost use Rattle.mips_asm.specs.Draft.{halves_in, insns_of};
 ghost use Rattle.mips_asm.specs.Outcome.{ok_seen};
 ghost use Rattle.mips_asm.specs.Seen.{draft_seen, insns_seen};
-ghost use Rattle.mips_asm.specs.Word.{IsSpelled, word_of};
 
 use crate::draft::Draft;
 use crate::names::Names;
@@ -42,7 +41,7 @@ fn one(first: Insn) -> Insns
 pub(crate) fn draft_insns(draft: Draft<'_>, names: &Names, place: u32) -> Result<Insns, AsmWhy>
     requires { place + 4 < 2 ^ 32 }
     ensures value { ok_seen insns_seen result ≡ insns_of names.now place (draft_seen draft.entry) }
-    ensures spelled { IfOk result (λ insns. AllByRecursion IsSpelled (insns_seen insns)) }
+    ensures encodable { IfOk result (λ insns. AllByRecursion IsEncodable (insns_seen insns)) }
 {
     match draft {
         Draft::Alone(op) => Ok(one(op.insn())),
@@ -65,19 +64,19 @@ pub(crate) fn draft_insns(draft: Draft<'_>, names: &Names, place: u32) -> Result
 }
 
 /// LUI.
-#[tactic(auto, unfolding(crate::specs::Word::word_of))]
+#[tactic(auto, unfolding(mips_isa::specs::Encoding::form_of))]
 fn load_upper(rt: Register, imm: u16) -> Insn
     ensures value { result ≡ Insn.Lui rt.number imm }
-    ensures spelled { Spells (word_of result) result }
+    ensures encodable { IsEncodable result }
 {
     Insn::Lui { rt: rt.number, imm }
 }
 
 /// ORI of a register with itself.
-#[tactic(auto, unfolding(crate::specs::Word::word_of))]
+#[tactic(auto, unfolding(mips_isa::specs::Encoding::form_of))]
 fn or_half(rt: Register, imm: u16) -> Insn
     ensures value { result ≡ Insn.Ori rt.number rt.number imm }
-    ensures spelled { Spells (word_of result) result }
+    ensures encodable { IsEncodable result }
 {
     Insn::Ori {
         rt: rt.number,
@@ -87,10 +86,10 @@ fn or_half(rt: Register, imm: u16) -> Insn
 }
 
 /// BEQ of `$0` with itself.
-#[tactic(auto, unfolding(crate::specs::Word::word_of))]
+#[tactic(auto, unfolding(mips_isa::specs::Encoding::form_of))]
 fn branch_always(imm: u16) -> Insn
     ensures value { result ≡ Insn.Beq 0 0 imm }
-    ensures spelled { Spells (word_of result) result }
+    ensures encodable { IsEncodable result }
 {
     Insn::Beq { rs: 0, rt: 0, imm }
 }
@@ -98,7 +97,7 @@ fn branch_always(imm: u16) -> Insn
 /// LUI of the high half and ORI of the low half of an expression.
 fn load(rt: Register, names: &Names, expression: Expression<'_>) -> Result<Insns, AsmWhy>
     ensures value { ok_seen insns_seen result ≡ halves_in names.now rt.number (expression_seen expression.entry) }
-    ensures spelled { IfOk result (λ insns. AllByRecursion IsSpelled (insns_seen insns)) }
+    ensures encodable { IfOk result (λ insns. AllByRecursion IsEncodable (insns_seen insns)) }
 {
     let value = defined(names, expression)?;
     Ok(Insns {
@@ -109,7 +108,7 @@ fn load(rt: Register, names: &Names, expression: Expression<'_>) -> Result<Insns
 
 /// The word of an instruction that a word spells.
 fn word(insn: &Insn) -> u32
-    requires { IsSpelled insn.now }
+    requires { IsEncodable insn.now }
     ensures { result ≡ word_of insn.now }
 {
     match encode(insn) {
@@ -120,7 +119,7 @@ fn word(insn: &Insn) -> u32
 
 /// Puts an instruction at the end.
 fn push_insn(out: &mut Vec<u8>, insn: &Insn) -> Result<(), AllocError>
-    requires { IsSpelled insn.now }
+    requires { IsEncodable insn.now }
     ensures { OnOk result (out.new.items ≡ out.old.items ++ to_le_bytes w32 (word_of insn.now)) }
 {
     out.extend_from_slice(&word(insn).to_le_bytes())?;
@@ -129,7 +128,7 @@ fn push_insn(out: &mut Vec<u8>, insn: &Insn) -> Result<(), AllocError>
 
 /// Puts instructions at the end.
 pub(crate) fn push_insns(out: &mut Vec<u8>, insns: Insns) -> Result<(), AllocError>
-    requires { AllByRecursion IsSpelled (insns_seen insns) }
+    requires { AllByRecursion IsEncodable (insns_seen insns) }
     ensures { OnOk result (out.new.items ≡ out.old.items ++ insns_bytes (insns_seen insns)) }
 {
     push_insn(out, &insns.first)?;

@@ -14,7 +14,6 @@ mod emission;
 mod fault;
 mod groups;
 mod insns;
-mod laws;
 mod layout;
 mod names;
 mod number;
@@ -31,7 +30,6 @@ mod text;
 mod value;
 
 pub use assembler::assemble;
-pub use laws::only_word_spells;
 
 #[cfg(test)]
 mod tests;

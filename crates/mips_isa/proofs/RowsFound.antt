@@ -5,7 +5,7 @@ use Rattle.std.specs.Prelude.{IsTrue, ◌==◌, ◌&&◌, if◌then◌else◌}
 use Rattle.mips_isa.specs.declared.insn.Insn.{Insn}
 use Rattle.mips_isa.specs.declared.insn.Insn.TheVariants.{Cop, Reserved}
 use Rattle.mips_isa.specs.Fields.{opcode_of, rs_of, rt_of, rd_of, sh_of, function_of, code_of, imm_of, target_of}
-use Rattle.mips_isa.specs.Encoding.{IsRType, IsCoded, IsIType, IsJType, is_coprocessor, IsRow}
+use Rattle.mips_isa.specs.Encoding.{RegisterFits, CodedFits, ImmediateFits, JumpFits, form_of, register_word, coded_word, immediate_word, jump_word, is_coprocessor, IsRow}
 use Rattle.mips_isa.specs.Decoding.{Row, find_row, special_rows, special_of, regimm_rows, regimm_of, system_operation_rows, system_operation_of, system_rows, system_of, opcode_rows, coprocessor_of, insn_of}
 
 -- a row has w, or the instruction is the reserved word w
@@ -35,29 +35,47 @@ find_row-All P key (r ∷ rows) other all on_other =
     (λ is. by_clear P r.is_clear r.insn other (all.0 is) on_other)
     (find_row-All P key rows other all.1 on_other)
 
+-- w has a form whose fields fit
+abbrev IsRegister : (w op rs rt rd sh function : ℕ) → Type 0
+IsRegister w op rs rt rd sh function = RegisterFits op rs rt rd sh function × (w ≡ register_word op rs rt rd sh function)
+
+abbrev IsCoded : (w code function : ℕ) → Type 0
+IsCoded w code function = CodedFits code function × (w ≡ coded_word code function)
+
+abbrev IsImmediate : (w op rs rt imm : ℕ) → Type 0
+IsImmediate w op rs rt imm = ImmediateFits op rs rt imm × (w ≡ immediate_word op rs rt imm)
+
+abbrev IsJump : (w op target : ℕ) → Type 0
+IsJump w op target = JumpFits op target × (w ≡ jump_word op target)
+
 -- a word is the sum of its fields
-IsRType-whole : (w op function : ℕ) → opcode_of w ≡ op → function_of w ≡ function → IsRType w op (rs_of w) (rt_of w) (rd_of w) (sh_of w) function
-IsRType-whole w op function op_is function_is = record {
-  rs_fits = omega arith;
-  rt_fits = omega arith;
-  rd_fits = omega arith;
-  sh_fits = omega arith;
-  word = omega arith;
-}
+IsRegister-whole : (w function : ℕ) → opcode_of w ≡ 0 → function_of w ≡ function → IsRegister w 0 (rs_of w) (rt_of w) (rd_of w) (sh_of w) function
+IsRegister-whole w function op_is function_is = (
+  record {
+    op_fits = lit< tt;
+    rs_fits = omega arith;
+    rt_fits = omega arith;
+    rd_fits = omega arith;
+    sh_fits = omega arith;
+    function_fits = omega arith;
+  },
+  omega arith,
+)
 
-IsIType-whole : (w op : ℕ) → opcode_of w ≡ op → IsIType w op (rs_of w) (rt_of w) (imm_of w)
-IsIType-whole w op op_is = record {
-  rs_fits = omega arith;
-  rt_fits = omega arith;
-  imm_fits = omega arith;
-  word = omega arith;
-}
+IsImmediate-whole : (w op : ℕ) → op < 2 ^ 6 → opcode_of w ≡ op → IsImmediate w op (rs_of w) (rt_of w) (imm_of w)
+IsImmediate-whole w op below op_is = (
+  record { op_fits = below; rs_fits = omega arith; rt_fits = omega arith; imm_fits = omega arith },
+  omega arith,
+)
 
-IsJType-whole : (w op : ℕ) → opcode_of w ≡ op → IsJType w op (target_of w)
-IsJType-whole w op op_is = record { target_fits = omega arith; word = omega arith }
+IsJump-whole : (w op : ℕ) → op < 2 ^ 6 → opcode_of w ≡ op → IsJump w op (target_of w)
+IsJump-whole w op below op_is = (record { op_fits = below; target_fits = omega arith }, omega arith)
 
 IsCoded-whole : (w function : ℕ) → opcode_of w ≡ 0 → function_of w ≡ function → IsCoded w (code_of w) function
-IsCoded-whole w function op_is function_is = record { code_fits = omega arith; word = omega arith }
+IsCoded-whole w function op_is function_is = (
+  record { code_fits = omega arith; function_fits = omega arith },
+  omega arith,
+)
 
 both : (a b : Bool) → IsTrue (a && b) → IsTrue a × IsTrue b
 both true b is = (refl, is)
@@ -65,36 +83,36 @@ both false b is = cc
 
 -- words of opcode 0 by their unused fields
 module _ (w function : ℕ) (op_is : opcode_of w ≡ 0) (function_is : function_of w ≡ function) where
-  without_rs : IsTrue (rs_of w == 0) → IsRType w 0 0 (rt_of w) (rd_of w) (sh_of w) function
-  without_rs clear = rw (eqb-true _ _ clear) at (IsRType-whole w 0 function op_is function_is)
+  without_rs : IsTrue (rs_of w == 0) → IsRegister w 0 0 (rt_of w) (rd_of w) (sh_of w) function
+  without_rs clear = rw (eqb-true _ _ clear) at (IsRegister-whole w function op_is function_is)
 
-  without_sh : IsTrue (sh_of w == 0) → IsRType w 0 (rs_of w) (rt_of w) (rd_of w) 0 function
-  without_sh clear = rw (eqb-true _ _ clear) at (IsRType-whole w 0 function op_is function_is)
+  without_sh : IsTrue (sh_of w == 0) → IsRegister w 0 (rs_of w) (rt_of w) (rd_of w) 0 function
+  without_sh clear = rw (eqb-true _ _ clear) at (IsRegister-whole w function op_is function_is)
 
-  without_rd_sh : IsTrue (rd_of w == 0 && sh_of w == 0) → IsRType w 0 (rs_of w) (rt_of w) 0 0 function
+  without_rd_sh : IsTrue (rd_of w == 0 && sh_of w == 0) → IsRegister w 0 (rs_of w) (rt_of w) 0 0 function
   without_rd_sh clear =
       let parts = both _ _ clear in
       rw (eqb-true _ _ parts.0) at (without_sh parts.1)
 
-  without_rt_sh : IsTrue (rt_of w == 0 && sh_of w == 0) → IsRType w 0 (rs_of w) 0 (rd_of w) 0 function
+  without_rt_sh : IsTrue (rt_of w == 0 && sh_of w == 0) → IsRegister w 0 (rs_of w) 0 (rd_of w) 0 function
   without_rt_sh clear =
       let parts = both _ _ clear in
       rw (eqb-true _ _ parts.0) at (without_sh parts.1)
 
-  without_rt_rd_sh : IsTrue (rt_of w == 0 && rd_of w == 0 && sh_of w == 0) → IsRType w 0 (rs_of w) 0 0 0 function
+  without_rt_rd_sh : IsTrue (rt_of w == 0 && rd_of w == 0 && sh_of w == 0) → IsRegister w 0 (rs_of w) 0 0 0 function
   without_rt_rd_sh clear =
       let parts = both _ _ clear in
       let first = both _ _ parts.0 in
       rw (eqb-true (rt_of w) 0 first.0, eqb-true (rd_of w) 0 first.1) at (without_sh parts.1)
 
-  without_rs_rt_sh : IsTrue (rs_of w == 0 && rt_of w == 0 && sh_of w == 0) → IsRType w 0 0 0 (rd_of w) 0 function
+  without_rs_rt_sh : IsTrue (rs_of w == 0 && rt_of w == 0 && sh_of w == 0) → IsRegister w 0 0 0 (rd_of w) 0 function
   without_rs_rt_sh clear =
       let parts = both _ _ clear in
       let first = both _ _ parts.0 in
       rw (eqb-true (rs_of w) 0 first.0, eqb-true (rt_of w) 0 first.1) at (without_sh parts.1)
 
 special_of-found : (w : ℕ) → opcode_of w ≡ 0 → IsFound w (special_of w)
-unfolding special_of
+unfolding special_of form_of
 special_of-found w op_is =
     find_row-All (IsFound w) (function_of w) (special_rows w) (Reserved w) (
       λ is clear. inl (without_rs w 0 op_is is clear),
@@ -184,16 +202,16 @@ special_of-found w op_is =
     (inr refl)
 
 regimm_of-found : (w : ℕ) → opcode_of w ≡ 1 → IsFound w (regimm_of w)
-unfolding regimm_of
+unfolding regimm_of form_of
 regimm_of-found w op_is =
     find_row-All (IsFound w) (rt_of w) (regimm_rows w) (Reserved w) (
-      λ is clear. inl (rw is at (IsIType-whole w 1 op_is)),
+      λ is clear. inl (rw is at (IsImmediate-whole w 1 (lit< tt) op_is)),
       (
-        λ is clear. inl (rw is at (IsIType-whole w 1 op_is)),
+        λ is clear. inl (rw is at (IsImmediate-whole w 1 (lit< tt) op_is)),
         (
-          λ is clear. inl (rw is at (IsIType-whole w 1 op_is)),
+          λ is clear. inl (rw is at (IsImmediate-whole w 1 (lit< tt) op_is)),
           (
-            λ is clear. inl (rw is at (IsIType-whole w 1 op_is)),
+            λ is clear. inl (rw is at (IsImmediate-whole w 1 (lit< tt) op_is)),
             tt,
           ),
         ),
@@ -201,28 +219,32 @@ regimm_of-found w op_is =
     )
     (inr refl)
 
-IsRType-operation : (w operation : ℕ) → opcode_of w ≡ 16 → rs_of w ≡ 16 → operation < 2 ^ 6 → w % 2 ^ 21 ≡ operation → IsRType w 16 16 0 0 0 operation
-IsRType-operation w operation op_is rs_is below is = record {
-  rs_fits = lit< tt;
-  rt_fits = lit< tt;
-  rd_fits = lit< tt;
-  sh_fits = lit< tt;
-  word = omega arith;
-}
+IsRegister-operation : (w operation : ℕ) → opcode_of w ≡ 16 → rs_of w ≡ 16 → operation < 2 ^ 6 → w % 2 ^ 21 ≡ operation → IsRegister w 16 16 0 0 0 operation
+IsRegister-operation w operation op_is rs_is below is = (
+  record {
+    op_fits = lit< tt;
+    rs_fits = lit< tt;
+    rt_fits = lit< tt;
+    rd_fits = lit< tt;
+    sh_fits = lit< tt;
+    function_fits = below;
+  },
+  omega arith,
+)
 
 system_operation_of-found : (w : ℕ) → opcode_of w ≡ 16 → rs_of w ≡ 16 → IsFound w (system_operation_of w)
-unfolding system_operation_of
+unfolding system_operation_of form_of
 system_operation_of-found w op_is rs_is =
     find_row-All (IsFound w) (w % 2 ^ 21) system_operation_rows (Reserved w) (
-      λ is clear. inl (IsRType-operation w 1 op_is rs_is (lit< tt) is),
+      λ is clear. inl (IsRegister-operation w 1 op_is rs_is (lit< tt) is),
       (
-        λ is clear. inl (IsRType-operation w 2 op_is rs_is (lit< tt) is),
+        λ is clear. inl (IsRegister-operation w 2 op_is rs_is (lit< tt) is),
         (
-          λ is clear. inl (IsRType-operation w 6 op_is rs_is (lit< tt) is),
+          λ is clear. inl (IsRegister-operation w 6 op_is rs_is (lit< tt) is),
           (
-            λ is clear. inl (IsRType-operation w 8 op_is rs_is (lit< tt) is),
+            λ is clear. inl (IsRegister-operation w 8 op_is rs_is (lit< tt) is),
             (
-              λ is clear. inl (IsRType-operation w 16 op_is rs_is (lit< tt) is),
+              λ is clear. inl (IsRegister-operation w 16 op_is rs_is (lit< tt) is),
               tt,
             ),
           ),
@@ -231,24 +253,27 @@ system_operation_of-found w op_is rs_is =
     )
     (inr refl)
 
-IsRType-move : (w form : ℕ) → opcode_of w ≡ 16 → rs_of w ≡ form → IsTrue (w % 2 ^ 11 == 0) → IsRType w 16 form (rt_of w) (rd_of w) 0 0
-IsRType-move w form op_is rs_is clear =
-    let rest : w % 2 ^ 11 ≡ 0 = eqb-true _ _ clear in
-    record {
-      rs_fits = omega arith;
-      rt_fits = omega arith;
-      rd_fits = omega arith;
-      sh_fits = lit< tt;
-      word = omega arith;
-    }
+IsRegister-move : (w form : ℕ) → opcode_of w ≡ 16 → rs_of w ≡ form → IsTrue (w % 2 ^ 11 == 0) → IsRegister w 16 form (rt_of w) (rd_of w) 0 0
+IsRegister-move w form op_is rs_is clear =
+    let rest : w % 2 ^ 11 ≡ 0 = eqb-true _ _ clear in (
+      record {
+        op_fits = lit< tt;
+        rs_fits = omega arith;
+        rt_fits = omega arith;
+        rd_fits = omega arith;
+        sh_fits = lit< tt;
+        function_fits = lit< tt;
+      },
+      omega arith,
+    )
 
 system_of-found : (w : ℕ) → opcode_of w ≡ 16 → IsFound w (system_of w)
-unfolding system_of
+unfolding system_of form_of
 system_of-found w op_is =
     find_row-All (IsFound w) (rs_of w) (system_rows w) (Reserved w) (
-      λ is clear. inl (IsRType-move w 0 op_is is clear),
+      λ is clear. inl (IsRegister-move w 0 op_is is clear),
       (
-        λ is clear. inl (IsRType-move w 4 op_is is clear),
+        λ is clear. inl (IsRegister-move w 4 op_is is clear),
         (
           λ is clear. system_operation_of-found w op_is is,
           tt,
@@ -258,72 +283,73 @@ system_of-found w op_is =
     (inr refl)
 
 coprocessor_of-found : (w : ℕ) → IsFound w (coprocessor_of w)
+unfolding form_of
 coprocessor_of-found w =
     by_clear (IsFound w) (is_coprocessor (opcode_of w)) (Cop (opcode_of w) (target_of w)) (Reserved w)
-    (λ is. inl (is, IsJType-whole w (opcode_of w) refl))
+    (λ is. inl (record { is_opcode = is; rest_fits = omega arith }, omega arith))
     (inr refl)
 
 pub insn_of-found : (w : ℕ) → IsFound w (insn_of w)
-unfolding insn_of
+unfolding insn_of form_of
 insn_of-found w =
     find_row-All (IsFound w) (opcode_of w) (opcode_rows w) (coprocessor_of w) (
       λ is clear. special_of-found w is,
       (
         λ is clear. regimm_of-found w is,
         (
-          λ is clear. inl (IsJType-whole w 2 is),
+          λ is clear. inl (IsJump-whole w 2 (lit< tt) is),
           (
-            λ is clear. inl (IsJType-whole w 3 is),
+            λ is clear. inl (IsJump-whole w 3 (lit< tt) is),
             (
-              λ is clear. inl (IsIType-whole w 4 is),
+              λ is clear. inl (IsImmediate-whole w 4 (lit< tt) is),
               (
-                λ is clear. inl (IsIType-whole w 5 is),
+                λ is clear. inl (IsImmediate-whole w 5 (lit< tt) is),
                 (
-                  λ is clear. inl (rw (eqb-true _ _ clear) at (IsIType-whole w 6 is)),
+                  λ is clear. inl (rw (eqb-true _ _ clear) at (IsImmediate-whole w 6 (lit< tt) is)),
                   (
-                    λ is clear. inl (rw (eqb-true _ _ clear) at (IsIType-whole w 7 is)),
+                    λ is clear. inl (rw (eqb-true _ _ clear) at (IsImmediate-whole w 7 (lit< tt) is)),
                     (
-                      λ is clear. inl (IsIType-whole w 8 is),
+                      λ is clear. inl (IsImmediate-whole w 8 (lit< tt) is),
                       (
-                        λ is clear. inl (IsIType-whole w 9 is),
+                        λ is clear. inl (IsImmediate-whole w 9 (lit< tt) is),
                         (
-                          λ is clear. inl (IsIType-whole w 10 is),
+                          λ is clear. inl (IsImmediate-whole w 10 (lit< tt) is),
                           (
-                            λ is clear. inl (IsIType-whole w 11 is),
+                            λ is clear. inl (IsImmediate-whole w 11 (lit< tt) is),
                             (
-                              λ is clear. inl (IsIType-whole w 12 is),
+                              λ is clear. inl (IsImmediate-whole w 12 (lit< tt) is),
                               (
-                                λ is clear. inl (IsIType-whole w 13 is),
+                                λ is clear. inl (IsImmediate-whole w 13 (lit< tt) is),
                                 (
-                                  λ is clear. inl (IsIType-whole w 14 is),
+                                  λ is clear. inl (IsImmediate-whole w 14 (lit< tt) is),
                                   (
-                                    λ is clear. inl (rw (eqb-true _ _ clear) at (IsIType-whole w 15 is)),
+                                    λ is clear. inl (rw (eqb-true _ _ clear) at (IsImmediate-whole w 15 (lit< tt) is)),
                                     (
                                       λ is clear. system_of-found w is,
                                       (
-                                        λ is clear. inl (IsIType-whole w 32 is),
+                                        λ is clear. inl (IsImmediate-whole w 32 (lit< tt) is),
                                         (
-                                          λ is clear. inl (IsIType-whole w 33 is),
+                                          λ is clear. inl (IsImmediate-whole w 33 (lit< tt) is),
                                           (
-                                            λ is clear. inl (IsIType-whole w 36 is),
+                                            λ is clear. inl (IsImmediate-whole w 36 (lit< tt) is),
                                             (
-                                              λ is clear. inl (IsIType-whole w 37 is),
+                                              λ is clear. inl (IsImmediate-whole w 37 (lit< tt) is),
                                               (
-                                                λ is clear. inl (IsIType-whole w 35 is),
+                                                λ is clear. inl (IsImmediate-whole w 35 (lit< tt) is),
                                                 (
-                                                  λ is clear. inl (IsIType-whole w 34 is),
+                                                  λ is clear. inl (IsImmediate-whole w 34 (lit< tt) is),
                                                   (
-                                                    λ is clear. inl (IsIType-whole w 38 is),
+                                                    λ is clear. inl (IsImmediate-whole w 38 (lit< tt) is),
                                                     (
-                                                      λ is clear. inl (IsIType-whole w 40 is),
+                                                      λ is clear. inl (IsImmediate-whole w 40 (lit< tt) is),
                                                       (
-                                                        λ is clear. inl (IsIType-whole w 41 is),
+                                                        λ is clear. inl (IsImmediate-whole w 41 (lit< tt) is),
                                                         (
-                                                          λ is clear. inl (IsIType-whole w 43 is),
+                                                          λ is clear. inl (IsImmediate-whole w 43 (lit< tt) is),
                                                           (
-                                                            λ is clear. inl (IsIType-whole w 42 is),
+                                                            λ is clear. inl (IsImmediate-whole w 42 (lit< tt) is),
                                                             (
-                                                              λ is clear. inl (IsIType-whole w 46 is),
+                                                              λ is clear. inl (IsImmediate-whole w 46 (lit< tt) is),
                                                               tt,
                                                             ),
                                                           ),

@@ -1,7 +1,7 @@
-ghost use Rattle.std.specs.Prelude.{◌≡◌};
+ghost use Rattle.std.specs.Prelude.{◌≡◌, ℕ};
 ghost use Rattle.mips_isa.specs.declared.insn.Insn.{Insn};
 ghost use Rattle.mips_isa.specs.Decoding.{insn_of};
-ghost use Rattle.mips_isa.specs.Encoding.{Spells};
+ghost use Rattle.mips_isa.specs.Encoding.{IsEncodable, Spells, word_of};
 
 use crate::insn::Insn;
 
@@ -16,4 +16,11 @@ pub fn one_word_spells_each_instruction(first: u32, second: u32, insn: &Insn)
     requires first { Spells first insn.now }
     requires second { Spells second insn.now }
     ensures { first ≡ second }
+{}
+
+/// Law: the word of an instruction whose fields fit spells it, and no other word does.
+pub fn only_word_spells(insn: &Insn)
+    requires { IsEncodable insn.now }
+    ensures spells { Spells (word_of insn.now) insn.now }
+    ensures only { (word : ℕ) → Spells word insn.now → word ≡ word_of insn.now }
 {}

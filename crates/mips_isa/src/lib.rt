@@ -19,5 +19,7 @@ mod words;
 pub use decoder::decode;
 pub use encoder::encode;
 pub use insn::Insn;
-pub use laws::{each_word_spells_one_instruction, one_word_spells_each_instruction};
+pub use laws::{
+    each_word_spells_one_instruction, one_word_spells_each_instruction, only_word_spells,
+};
 pub use words::{le_bytes, le_word, merge_left, merge_right, sign16, store_left, store_right};

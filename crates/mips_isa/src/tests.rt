@@ -8,6 +8,13 @@ use crate::{
 use primary::PRIMARY;
 use special::SPECIAL;
 
+/// An instruction, the text that an assembler read, and the word that it made.
+struct Row {
+    text: &'static str,
+    word: u32,
+    insn: Insn,
+}
+
 /// Words that `mipsel-linux-gnu-objdump -m mips:3000` writes as `.word`: a field set that the form does
 /// not use, or no instruction of MIPS I.
 const UNKNOWN: [u32; 69] = [
@@ -82,85 +89,144 @@ const UNKNOWN: [u32; 69] = [
     0x40a0_0000, // cop0 rs 5
 ];
 
+/// An instruction that no word spells, and what is wrong with it.
+struct Wrong {
+    what: &'static str,
+    insn: Insn,
+}
+
 /// Instructions with a field one past its largest value, `Cop` of the opcodes of coprocessor 0, and
 /// `Reserved` words that spell another instruction.
-const OUT_OF_RANGE: [(&str, Insn); 14] = [
-    (
-        "sll sh",
-        Insn::Sll {
+const OUT_OF_RANGE: [Wrong; 14] = [
+    Wrong {
+        what: "sll sh",
+        insn: Insn::Sll {
             rd: 0,
             rt: 0,
             sh: 32,
         },
-    ),
-    (
-        "add rd",
-        Insn::Add {
+    },
+    Wrong {
+        what: "add rd",
+        insn: Insn::Add {
             rd: 32,
             rs: 0,
             rt: 0,
         },
-    ),
-    (
-        "add rs",
-        Insn::Add {
+    },
+    Wrong {
+        what: "add rs",
+        insn: Insn::Add {
             rd: 0,
             rs: 32,
             rt: 0,
         },
-    ),
-    (
-        "add rt",
-        Insn::Add {
+    },
+    Wrong {
+        what: "add rt",
+        insn: Insn::Add {
             rd: 0,
             rs: 0,
             rt: 32,
         },
-    ),
-    (
-        "addi rt",
-        Insn::Addi {
+    },
+    Wrong {
+        what: "addi rt",
+        insn: Insn::Addi {
             rt: 32,
             rs: 0,
             imm: 0,
         },
-    ),
-    (
-        "addi rs",
-        Insn::Addi {
+    },
+    Wrong {
+        what: "addi rs",
+        insn: Insn::Addi {
             rt: 0,
             rs: 32,
             imm: 0,
         },
-    ),
-    ("syscall code", Insn::Syscall { code: 0x10_0000 }),
-    ("j target", Insn::J { target: 0x400_0000 }),
-    ("mtc0 rd", Insn::Mtc0 { rt: 0, rd: 32 }),
-    (
-        "cop1 rest",
-        Insn::Cop {
+    },
+    Wrong {
+        what: "syscall code",
+        insn: Insn::Syscall { code: 0x10_0000 },
+    },
+    Wrong {
+        what: "j target",
+        insn: Insn::J { target: 0x400_0000 },
+    },
+    Wrong {
+        what: "mtc0 rd",
+        insn: Insn::Mtc0 { rt: 0, rd: 32 },
+    },
+    Wrong {
+        what: "cop1 rest",
+        insn: Insn::Cop {
             op: 17,
             rest: 0x400_0000,
         },
-    ),
-    ("cop0", Insn::Cop { op: 16, rest: 0 }),
-    ("lwc0", Insn::Cop { op: 48, rest: 0 }),
-    ("reserved sll", Insn::Reserved(0)),
-    ("reserved cop1", Insn::Reserved(0x4400_0000)),
+    },
+    Wrong {
+        what: "cop0",
+        insn: Insn::Cop { op: 16, rest: 0 },
+    },
+    Wrong {
+        what: "lwc0",
+        insn: Insn::Cop { op: 48, rest: 0 },
+    },
+    Wrong {
+        what: "reserved sll",
+        insn: Insn::Reserved(0),
+    },
+    Wrong {
+        what: "reserved cop1",
+        insn: Insn::Reserved(0x4400_0000),
+    },
 ];
 
-/// For the places 0 to 3: LWL and LWR of the word in memory into the register, then the word in
-/// memory after SWL and SWR, worked out by hand for the bytes 11 22 33 44 and the register aabbccdd.
-const MERGES: [(u32, u32, u32, u32, u32); 4] = [
-    (0, 0x11bb_ccdd, 0x4433_2211, 0x4433_22aa, 0xaabb_ccdd),
-    (1, 0x2211_ccdd, 0xaa44_3322, 0x4433_aabb, 0xbbcc_dd11),
-    (2, 0x3322_11dd, 0xaabb_4433, 0x44aa_bbcc, 0xccdd_2211),
-    (3, 0x4433_2211, 0xaabb_cc44, 0xaabb_ccdd, 0xdd33_2211),
+/// What LWL and LWR make of a register, and SWL and SWR of the word in memory, at a place in the word.
+struct Merge {
+    place: u32,
+    left: u32,
+    right: u32,
+    stored_left: u32,
+    stored_right: u32,
+}
+
+/// The four places, worked out by hand for the bytes 11 22 33 44 in memory and the register aabbccdd.
+const MERGES: [Merge; 4] = [
+    Merge {
+        place: 0,
+        left: 0x11bb_ccdd,
+        right: 0x4433_2211,
+        stored_left: 0x4433_22aa,
+        stored_right: 0xaabb_ccdd,
+    },
+    Merge {
+        place: 1,
+        left: 0x2211_ccdd,
+        right: 0xaa44_3322,
+        stored_left: 0x4433_aabb,
+        stored_right: 0xbbcc_dd11,
+    },
+    Merge {
+        place: 2,
+        left: 0x3322_11dd,
+        right: 0xaabb_4433,
+        stored_left: 0x44aa_bbcc,
+        stored_right: 0xccdd_2211,
+    },
+    Merge {
+        place: 3,
+        left: 0x4433_2211,
+        right: 0xaabb_cc44,
+        stored_left: 0xaabb_ccdd,
+        stored_right: 0xdd33_2211,
+    },
 ];
 
 #[test]
 fn encodes_and_decodes_what_an_assembler_makes(rt: HostRuntime) {
-    for (text, word, insn) in SPECIAL.iter().chain(PRIMARY.iter()) {
+    for Row { text, word, insn } in SPECIAL.iter().chain(PRIMARY.iter()) {
         assert_eq!(rt; encode(insn), Some(*word), "{text}");
         assert_eq!(rt; encode(&decode(*word)), Some(*word), "{text}");
     }
@@ -176,8 +242,8 @@ fn reserves_what_a_disassembler_does_not_know(rt: HostRuntime) {
 
 #[test]
 fn refuses_fields_out_of_range(rt: HostRuntime) {
-    for (name, insn) in OUT_OF_RANGE.iter() {
-        assert_eq!(rt; encode(insn), None, "{name}");
+    for Wrong { what, insn } in OUT_OF_RANGE.iter() {
+        assert_eq!(rt; encode(insn), None, "{what}");
     }
 }
 
@@ -185,18 +251,26 @@ fn refuses_fields_out_of_range(rt: HostRuntime) {
 fn merges_bytes_as_worked_out_by_hand(rt: HostRuntime) {
     let word = le_word([0x11, 0x22, 0x33, 0x44]);
     let value = 0xaabb_ccdd;
-    for (place, left, right, stored_left, stored_right) in MERGES.iter() {
-        let place = *place & 3;
-        assert_eq!(rt; merge_left(word, value, place), *left, "LWL at {place}");
-        assert_eq!(rt; merge_right(word, value, place), *right, "LWR at {place}");
+    for merge in MERGES.iter() {
+        let place = merge.place & 3;
+        assert_eq!(rt;
+            merge_left(word, value, place),
+            merge.left,
+            "LWL at {place}"
+        );
+        assert_eq!(rt;
+            merge_right(word, value, place),
+            merge.right,
+            "LWR at {place}"
+        );
         assert_eq!(rt;
             store_left(word, value, place),
-            *stored_left,
+            merge.stored_left,
             "SWL at {place}"
         );
         assert_eq!(rt;
             store_right(word, value, place),
-            *stored_right,
+            merge.stored_right,
             "SWR at {place}"
         );
     }
