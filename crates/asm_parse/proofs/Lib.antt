@@ -2,7 +2,6 @@ pub mod ArgLemmas
 pub mod BareLemmas
 pub mod EncloseLemmas
 pub mod MarkLemmas
-pub mod NumeralLemmas
 pub mod OpeningLemmas
 pub mod PartLemmas
 pub mod SpanLemmas

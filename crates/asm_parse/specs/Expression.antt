@@ -1,10 +1,9 @@
 -- Expressions: numbers, names, a name and a number, and the halves of these.
-use Rattle.std.specs.Prelude.{ℕ, ◌-◌, ◌/◌, ◌%◌, ◌^◌, Bool, List, [], ◌∷◌, ◌++◌, Option, Some, None, nat_lt, nat_le, nat_eq, ◌==◌, ◌&&◌, ◌||◌, if◌then◌else◌, length, take, drop, codes}
-use Rattle.std.specs.Char.{is_digit}
+use Rattle.std.specs.Prelude.{ℕ, ◌-◌, ◌/◌, ◌%◌, ◌^◌, Bool, List, [], ◌∷◌, ◌++◌, Option, Some, None, nat_le, nat_eq, ◌==◌, ◌&&◌, ◌||◌, if◌then◌else◌, length, take, drop, codes}
 use Rattle.std.specs.List.{list_all, starts_with, take_while}
 use Rattle.std.specs.Option.{option_map, option_and_then}
 use Rattle.std.specs.Str.{byte}
-use Rattle.std.specs.Str.Parse.{digits_value}
+use Rattle.line_text.specs.Number.{numeral_of}
 use Rattle.asm_parse.specs.Bytes.{is_name_byte}
 use Rattle.asm_parse.specs.Words.{begins_name}
 
@@ -22,12 +21,6 @@ pub record ExpressionValue : Type 0 where
 -- the number modulo 2 ^ 32 that is equal to minus this one
 abbrev pub negated : ℕ → ℕ
 negated n = (2 ^ 32 - n) % 2 ^ 32
-
--- what one or more digits of a base spell, where it is at most so much
-abbrev pub numeral_of : ℕ → ℕ → List ℕ → Option ℕ
-numeral_of base most ds =
-    if nat_lt 0 (length ds) && list_all (λ c. is_digit c base) ds && nat_le (digits_value base ds) most
-    then Some (digits_value base ds) else None
 
 -- a number from -2 ^ 31 to 2 ^ 32 - 1: decimal digits, with a minus sign or without, or `0x` and hexadecimal digits
 unfoldable pub number_of : List ℕ → Option ℕ

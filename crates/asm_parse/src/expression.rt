@@ -4,9 +4,10 @@ ghost use Rattle.std.specs.List.{list_all};
 ghost use Rattle.std.specs.Str.{byte};
 ghost use Rattle.std.specs.Option.{option_map, option_copied};
 ghost use Rattle.asm_parse.specs.Seen.{expression_seen, inner_seen};
-ghost use Rattle.asm_parse.specs.Expression.{begins_opening, expression_of, inner_of, named, number_of, numeral_of, openings_of, without_closings};
+ghost use Rattle.asm_parse.specs.Expression.{begins_opening, expression_of, inner_of, named, number_of, openings_of, without_closings};
 
 use crate::words::{begins_name, name_length};
+use line_text::numeral;
 
 /// An expression: its openings, and what stands inside the last of them.
 #[derive(Clone, Copy)]
@@ -129,24 +130,4 @@ fn number(bytes: &[u8]) -> Option<u32>
         return Some(numeral(digits, 10, MOST_NEGATIVE)?.wrapping_neg());
     }
     numeral(bytes, 10, u32::MAX)
-}
-
-/// What digits of a base spell, where it is at most so much.
-fn numeral(digits: &[u8], base: u32, most: u32) -> Option<u32>
-    requires { (2 ≤ base) × (base ≤ 16) }
-    ensures { result ≡ numeral_of base most digits.now }
-{
-    if digits.is_empty() {
-        return None;
-    }
-    let mut value: u32 = 0;
-    for byte in digits {
-        let digit = char::from(*byte).to_digit(base)?;
-        let next = u64::from(value) * u64::from(base) + u64::from(digit);
-        if next > u64::from(most) {
-            return None;
-        }
-        value = next as u32;
-    }
-    Some(value)
 }

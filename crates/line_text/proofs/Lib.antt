@@ -1,4 +1,4 @@
 pub mod HexLemmas
-pub mod NumberLemmas
+pub mod NumeralLemmas
 pub mod PieceLemmas
 pub mod PlaceLemmas

@@ -1,9 +1,9 @@
 -- Each line lies in the text where its place says.
-use Rattle.std.proofs.Common.{◌≡◌, ℕ, zero, suc, ◌+◌, ◌-◌, ◌≤◌, List, [], ◌∷◌, ◌++◌, Bool, true, false, cond, length, take, drop, refl, ap, sym, ◌∙◌, arith, append_assoc, length-append, length-take}
+use Rattle.std.proofs.Common.{◌≡◌, ℕ, zero, suc, ◌+◌, ◌-◌, ◌≤◌, List, [], ◌∷◌, ◌++◌, Bool, true, false, cond, length, take, refl, ap, sym, ◌∙◌, arith, append_assoc, length-append, length-take}
 use Rattle.std.proofs.Math.Seq.{take-length, drop-append_seam}
 use Rattle.std.proofs.lemmas.List.{take-append-le}
 use Rattle.std.specs.List.{AllByRecursion, concat, onto_first}
-use Rattle.line_text.specs.Lines.{LineValue, IsPlaced, pieces_of, lines_from, without_end, lines_of}
+use Rattle.line_text.specs.Lines.{IsPlaced, pieces_of, lines_from, without_end, lines_of}
 use Rattle.line_text.proofs.PieceLemmas.{is_feed}
 
 -- a list is the front of another

@@ -1,14 +1,18 @@
 -- Numbers as they are read in texts.
-use Rattle.std.specs.Prelude.{ℕ, ◌^◌, List, Option, Some, None, nat_lt, nat_le, nat_eq, ◌&&◌, if◌then◌else◌, length, drop, codes}
+use Rattle.std.specs.Prelude.{ℕ, ◌-◌, ◌^◌, List, Option, Some, None, nat_lt, nat_le, nat_eq, ◌&&◌, if◌then◌else◌, length, drop, codes}
 use Rattle.std.specs.List.{list_all, starts_with}
 use Rattle.std.specs.Char.{is_digit}
 use Rattle.std.specs.Str.Parse.{digits_value}
 
--- the number that digits of a base spell, where they are one to so many, and it is below 2 ^ 32
+-- what one or more digits of a base spell, where it is at most so much
+abbrev pub numeral_of : ℕ → ℕ → List ℕ → Option ℕ
+numeral_of base most ds =
+    if nat_lt 0 (length ds) && list_all (λ c. is_digit c base) ds && nat_le (digits_value base ds) most
+    then Some (digits_value base ds) else None
+
+-- what digits of a base spell, where they are one to so many, and it is below 2 ^ 32
 abbrev pub digits_number : ℕ → ℕ → List ℕ → Option ℕ
-digits_number base most word =
-    if nat_le 1 (length word) && nat_le (length word) most && list_all (λ c. is_digit c base) word && nat_lt (digits_value base word) (2 ^ 32)
-    then Some (digits_value base word) else None
+digits_number base count ds = if nat_le (length ds) count then numeral_of base (2 ^ 32 - 1) ds else None
 
 -- the number that a word spells: one to eight hexadecimal digits after `0x`, or one to ten decimal digits
 unfoldable pub number_of : List ℕ → Option ℕ

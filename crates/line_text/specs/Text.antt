@@ -1,5 +1,6 @@
 -- How numbers and bytes stand in what Aegis writes.
-use Rattle.std.specs.Prelude.{ℕ, Bool, zero, suc, ◌+◌, ◌/◌, ◌%◌, List, [], ◌∷◌, ◌++◌, nat_lt, nat_le, ◌==◌, ◌&&◌, if◌then◌else◌, codes}
+use Rattle.std.specs.Prelude.{ℕ, Bool, zero, suc, ◌/◌, ◌%◌, List, [], ◌∷◌, ◌++◌, nat_le, ◌==◌, ◌&&◌, if◌then◌else◌, codes}
+use Rattle.std.specs.Char.{digit_char}
 use Rattle.std.specs.Fmt.{decimal}
 use Rattle.std.specs.List.{flat_map}
 
@@ -7,14 +8,10 @@ use Rattle.std.specs.List.{flat_map}
 unfoldable pub dec_text : ℕ → List ℕ
 dec_text n = decimal n
 
--- a digit from 0 to 15: `0` to `9`, `a` to `f`
-abbrev pub hex_digit : ℕ → ℕ
-hex_digit d = if nat_lt d 10 then 48 + d else 87 + d
-
 -- so many low hexadecimal digits of a number, the highest first, leading zeros too
 unfoldable pub hex_text : ℕ → ℕ → List ℕ
 hex_text zero n = []
-hex_text (suc k) n = hex_text k (n / 16) ++ hex_digit (n % 16) ∷ []
+hex_text (suc k) n = hex_text k (n / 16) ++ digit_char (n % 16) ∷ []
 
 -- whether a byte is printed as it is: from the space to `~`
 abbrev pub is_printable : ℕ → Bool

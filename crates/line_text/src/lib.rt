@@ -8,7 +8,7 @@ mod numbers;
 mod print;
 
 pub use lines::{Line, Lines, cut};
-pub use numbers::{decimal, number};
+pub use numbers::{decimal, number, numeral};
 pub use print::{push_dec, push_hex, push_quoted};
 
 #[cfg(test)]

@@ -1,6 +1,6 @@
 //! The numbers that are read in texts.
-ghost use Rattle.std.specs.Prelude.{◌≡◌, ◌+◌, ◌*◌, ◌^◌, ◌<◌, ◌≤◌, length};
-ghost use Rattle.line_text.specs.Number.{digits_number, number_of};
+ghost use Rattle.std.specs.Prelude.{◌≡◌, ◌+◌, ◌*◌, ◌^◌, ◌<◌, ◌≤◌, length, IfSome};
+ghost use Rattle.line_text.specs.Number.{digits_number, number_of, numeral_of};
 
 /// The number of decimal digits that a number has at most.
 const DECIMAL_DIGITS: usize = 10;
@@ -15,8 +15,8 @@ pub fn number(word: &[u8]) -> Option<u32>
     ensures { result ≡ number_of word.now }
 {
     match word.strip_prefix(b"0x") {
-        Some(digits) => spelled(digits, 16, HEX_DIGITS),
-        None => spelled(word, 10, DECIMAL_DIGITS),
+        Some(digits) => short_numeral(digits, 16, HEX_DIGITS),
+        None => decimal(word),
     }
 }
 
@@ -24,22 +24,38 @@ pub fn number(word: &[u8]) -> Option<u32>
 pub fn decimal(word: &[u8]) -> Option<u32>
     ensures { result ≡ digits_number 10 10 word.now }
 {
-    spelled(word, 10, DECIMAL_DIGITS)
+    short_numeral(word, 10, DECIMAL_DIGITS)
 }
 
-/// The number that digits of a base spell.
-fn spelled(digits: &[u8], base: u32, most: usize) -> Option<u32>
-    requires base { (2 ≤ base) × (base ≤ 16) }
-    requires most { most ≤ 10 }
-    ensures { result ≡ digits_number base most digits.now }
+/// The number, below 2^32, that so many digits of a base spell at most.
+fn short_numeral(digits: &[u8], base: u32, count: usize) -> Option<u32>
+    requires { (2 ≤ base) × (base ≤ 16) }
+    ensures { result ≡ digits_number base count digits.now }
 {
-    if digits.is_empty() || digits.len() > most {
+    if digits.len() > count {
         return None;
     }
-    let mut value: u64 = 0;
+    numeral(digits, base, u32::MAX)
+}
+
+/// The number that one or more digits of a base spell, where it is at most so much. Any number of
+/// leading zeros may stand before it.
+pub fn numeral(digits: &[u8], base: u32, most: u32) -> Option<u32>
+    requires { (2 ≤ base) × (base ≤ 16) }
+    ensures value { result ≡ numeral_of base most digits.now }
+    ensures within { IfSome result (λ n. n ≤ most) }
+{
+    if digits.is_empty() {
+        return None;
+    }
+    let mut value: u32 = 0;
     for byte in digits {
         let digit = char::from(*byte).to_digit(base)?;
-        value = value * u64::from(base) + u64::from(digit);
+        let next = u64::from(value) * u64::from(base) + u64::from(digit);
+        if next > u64::from(most) {
+            return None;
+        }
+        value = next as u32;
     }
-    u32::try_from(value).ok()
+    Some(value)
 }

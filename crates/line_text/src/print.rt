@@ -1,7 +1,8 @@
 //! What is written into texts: numbers and quoted bytes. Each push appends its text whole, or answers
 //! that memory ran out and leaves the list as it was.
 ghost use Rattle.std.specs.Prelude.{◌≡◌, ◌+◌, ◌*◌, ◌^◌, ◌<◌, ◌≤◌, ◌++◌, length, take, OnOk, OnErr};
-ghost use Rattle.line_text.specs.Text.{dec_text, hex_text, hex_digit, quoted_byte, quoted_text};
+ghost use Rattle.std.specs.Char.{digit_char};
+ghost use Rattle.line_text.specs.Text.{dec_text, hex_text, quoted_byte, quoted_text};
 
 use edge_io::OutOfMemory;
 use itoa::Buffer;
@@ -55,7 +56,7 @@ pub fn push_quoted(out: &mut Vec<u8>, bytes: &[u8]) -> Result<(), OutOfMemory>
 /// The glyph of a hexadecimal digit.
 fn hex_glyph(digit: u32) -> u8
     requires { digit < 16 }
-    ensures { result ≡ hex_digit digit }
+    ensures { result ≡ digit_char digit }
 {
     if digit < 10 {
         b'0' + digit as u8

@@ -3,7 +3,7 @@ use Rattle.std.specs.Prelude.{ℕ, List, [], ◌∷◌, Option, drop, codes}
 use Rattle.std.specs.Map.{lookup}
 use Rattle.std.specs.Option.{option_or}
 use Rattle.std.specs.Str.{bytes_eq}
-use Rattle.asm_parse.specs.Expression.{numeral_of}
+use Rattle.line_text.specs.Number.{numeral_of}
 
 -- the names of the registers, with their numbers
 abbrev pub register_names : List (List ℕ × ℕ)

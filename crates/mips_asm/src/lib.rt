@@ -7,7 +7,6 @@
 mod action;
 mod assembler;
 mod content;
-mod decimal;
 mod directive;
 mod draft;
 mod emission;

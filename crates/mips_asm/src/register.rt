@@ -2,11 +2,11 @@
 ghost use Rattle.std.specs.Prelude.{◌≡◌, ◌<◌, IfSome, drop};
 ghost use Rattle.mips_asm.specs.Register.{number_of_register};
 
-use crate::decimal::decimal;
 use crate::table::{Row, find};
+use line_text::numeral;
 
 /// The number of registers.
-const REGISTER_COUNT: u8 = 32;
+const REGISTER_COUNT: u32 = 32;
 
 /// A register of the machine, or of coprocessor 0.
 #[derive(Clone, Copy)]
@@ -82,8 +82,8 @@ fn register_number(name: &[u8]) -> Option<u8>
     ensures value { result ≡ number_of_register name.now }
     ensures within { IfSome result (λ n. n < 32) }
 {
-    match decimal(name, REGISTER_COUNT - 1) {
-        Some(number) => Some(number),
+    match numeral(name, 10, REGISTER_COUNT - 1) {
+        Some(number) => Some(number as u8),
         None => find(&NAMES, name),
     }
 }

@@ -1,11 +1,11 @@
 use Rattle.std.proofs.Common.{arith, lt-ltb, sym, ◌≡◌, ◌+◌, ◌*◌, take}
 use Rattle.std.proofs.lemmas.Int.Digits.{digits_value_more}
 use Rattle.std.specs.Str.Parse.{digits_value}
-use Rattle.asm_parse.proofs.NumeralLemmas.{all_digits_more, too_large}
-use Rattle.asm_parse.proofs.expression.numeral.Goals as goal
+use Rattle.line_text.proofs.NumeralLemmas.{all_digits_more, too_large}
+use Rattle.line_text.proofs.numbers.numeral.Goals as goal
 
-pub returns-then-next-from : goal.returns-then-next-from
-returns-then-next-from c =
+pub returns-then-next-from-clause-value : goal.returns-then-next-from-clause-value
+returns-then-next-from-clause-value c =
     let more = digits_value_more c.args.base c.args.digits.now c.loop-byte.byte-index c.loop-byte-test.true in
     let digit = c.in_ok-digit.ensures.value in
     let total : c.loop-byte.value * c.args.base + c.in_ok-digit.digit ≡ digits_value c.args.base (take (c.loop-byte.byte-index + 1) c.args.digits.now) = cc in

@@ -10,7 +10,7 @@ use Rattle.std.specs.Char.{digit_value, is_digit}
 use Rattle.std.specs.Int.Digits.{number_from_digits, number_from_digits_after}
 use Rattle.std.specs.List.{list_all}
 use Rattle.std.specs.Str.Parse.{digits_value}
-use Rattle.asm_parse.specs.Expression.{numeral_of}
+use Rattle.line_text.specs.Number.{numeral_of}
 
 pub all_digits_more : (base : ℕ) (ds : List ℕ) (i : ℕ) → i < length ds → list_all (λ c. is_digit c base) (take i ds) ≡ true →
     is_digit (get_or ds i 0) base ≡ true → list_all (λ c. is_digit c base) (take (i + 1) ds) ≡ true
