@@ -1,9 +1,11 @@
-use Rattle.std.specs.Prelude.{◌≡◌, ℕ, ◌==◌, ◌≤◌, List, [], Option, Some, None, option_map, IsSomeAnd, String, Vec, length, nat_le, if◌then◌else◌}
+use Rattle.std.specs.Prelude.{◌≡◌, ◌⊎◌, ℕ, ◌==◌, ◌≤◌, List, [], Option, Some, None, option_map, IsSomeAnd, String, Vec, length, nat_le, if◌then◌else◌}
 use Rattle.std.specs.List.{find, list_any}
 use Rattle.std.specs.String.{string_bytes}
 use Rattle.std.specs.Str.{bytes_eq}
 use Rattle.std.specs.Global.{Global}
-use Rattle.edge_io.specs.declared.shelf.TheConstants.{FILE_LIMIT}
+use Rattle.edge_io.specs.Faults.{one_more}
+use Rattle.edge_io.specs.Limits.{file_limit}
+use Rattle.edge_io.specs.Reads.{name_bytes}
 use Rattle.edge_io.specs.declared.memory_shelf.MemoryShelf.{MemoryShelf}
 
 -- a file: its name and its bytes
@@ -18,7 +20,7 @@ file_named files name =
 -- the bytes, where they are no more than a file may have
 abbrev pub within_limit : Option (List ℕ) → Option (List ℕ)
 within_limit None = None
-within_limit (Some bytes) = if nat_le (length bytes) FILE_LIMIT then Some bytes else None
+within_limit (Some bytes) = if nat_le (length bytes) file_limit then Some bytes else None
 
 -- the bytes that the read of this number finds: none where the number is one of those that fail, where there
 -- is no such file, or where it is too long
@@ -34,4 +36,11 @@ found shelf name = found_at shelf.files.items shelf.fails.items shelf.calls name
 abbrev pub IsSureOf : MemoryShelf → List ℕ → Type 0
 IsSureOf shelf name =
     (shelf.fails.items ≡ [])
-    × IsSomeAnd (file_named shelf.files.items name) (λ bytes. length bytes ≤ FILE_LIMIT)
+    × IsSomeAnd (file_named shelf.files.items name) (λ bytes. length bytes ≤ file_limit)
+
+-- one read, of this name: a call more, over the same files, and no other name than this failed in it
+pub record WasAsked (before : MemoryShelf) (name : List ℕ) (after : MemoryShelf) : Type 0 where
+  pub counted : after.calls ≡ one_more before.calls
+  pub same_files : after.files ≡ before.files
+  pub same_fails : after.fails ≡ before.fails
+  pub failed : (after.failed ≡ before.failed) ⊎ (name_bytes after.failed ≡ Some name)

@@ -1,4 +1,4 @@
-use Rattle.std.specs.Prelude.{◌≡◌, ℕ, List, Option, Some, None, Result, Ok, Err, ⊤, String, option_map}
+use Rattle.std.specs.Prelude.{◌≡◌, ℕ, List, [], ◌∷◌, Option, Some, None, Result, Ok, Err, ⊤, IsSomeAnd, String, option_map}
 use Rattle.std.specs.Global.{Global}
 use Rattle.std.specs.String.{string_bytes}
 use Rattle.edge_io.specs.declared.shelf.ReadFail.{ReadFail}
@@ -8,6 +8,16 @@ use Rattle.edge_io.specs.declared.shelf.ReadFail.TheVariants.{Failed, OutOfMemor
 abbrev pub Tells : Option (List ℕ → Option (List ℕ)) → List ℕ → List ℕ → Type 0
 Tells None name bytes = ⊤
 Tells (Some files) name bytes = files name ≡ Some bytes
+
+-- a file that was opened at the name has its bytes left, where they are told
+abbrev pub IsFileOf : Option (List ℕ → Option (List ℕ)) → List ℕ → Option (List ℕ) → Type 0
+IsFileOf None name left = ⊤
+IsFileOf (Some files) name left = IsSomeAnd left (λ bytes. files name ≡ Some bytes)
+
+-- the reads that took a shelf from one state to another were of these names, one after another
+abbrev pub AreAsked : {S : Type 0} → (S → List ℕ → S → Type 0) → S → List (List ℕ) → S → Type 0
+AreAsked Asked before [] after = after ≡ before
+AreAsked {S} Asked before (name ∷ names) after = (between : S) × Asked before name between × AreAsked Asked between names after
 
 -- the fact holds where the read failed for another cause than want of memory
 abbrev pub OnFailed : {T : Type 0} → Result T ReadFail → Type 0 → Type 0

@@ -6,7 +6,9 @@
 //! standard output. `write_whole` writes all of a text.
 #![tactic(auto)]
 
-mod host;
+mod folder;
+mod host_shelf;
+mod host_sink;
 mod memory;
 mod memory_shelf;
 mod memory_sink;
@@ -16,7 +18,9 @@ mod sink;
 mod tests;
 mod whole;
 
-pub use host::{HostShelf, HostSink};
+pub use folder::{Folder, Opened};
+pub use host_shelf::HostShelf;
+pub use host_sink::HostSink;
 pub use memory::OutOfMemory;
 pub use memory_shelf::MemoryShelf;
 pub use memory_sink::MemorySink;

@@ -1,7 +1,8 @@
 ghost use Rattle.std.specs.Prelude.{◌≡◌, ◌≤◌, Some, None, IfOk, length};
 ghost use Rattle.std.specs.Option.{option_copied};
-ghost use Rattle.edge_io.specs.Faults.{Rose, one_more};
-ghost use Rattle.edge_io.specs.Files.{IsSureOf, file_named, found, found_at};
+ghost use Rattle.edge_io.specs.Faults.{one_more};
+ghost use Rattle.edge_io.specs.Files.{IsSureOf, WasAsked, file_named, found, found_at};
+ghost use Rattle.edge_io.specs.Limits.{file_limit};
 ghost use Rattle.edge_io.specs.Reads.{Tells, OnFailed, UnlessFailed, name_bytes};
 
 use crate::shelf::{FILE_LIMIT, ReadFail, Shelf};
@@ -54,6 +55,8 @@ impl MemoryShelf {
 impl Shelf for MemoryShelf {
     ghost told = { λ s. Some (file_named s.files.items) };
 
+    ghost Asked = { WasAsked };
+
     ghost faults = { λ s. s.faults };
 
     ghost failed = { λ s. name_bytes s.failed };
@@ -77,8 +80,8 @@ impl Shelf for MemoryShelf {
 
         // What every shelf ensures.
         ensures told { IfOk result (λ v. Tells (Some (file_named self.old.files.items)) name.now v.items) }
-        ensures within_limit { IfOk result (λ v. length v.items ≤ FILE_LIMIT) }
-        ensures rose { OnFailed result (Rose self.old.faults self.new.faults) }
+        ensures within_limit { IfOk result (λ v. length v.items ≤ file_limit) }
+        ensures asked { WasAsked self.old name.now self.new }
         ensures never_falls { self.old.faults ≤ self.new.faults }
         ensures served { OnFailed result (¬ IsSureOf self.old name.now) }
     {

@@ -56,7 +56,7 @@ impl MemorySink {
 
 impl Sink for MemorySink {
     ghost use Rattle.std.specs.Prelude.{◌≡◌, ℕ, ◌-◌, ◌<◌, ◌≤◌, ◌++◌, true, false, Some, IsOk, IfOk, OnOk, OnErr, length, take};
-    ghost use Rattle.edge_io.specs.Faults.{Rose, one_more};
+    ghost use Rattle.edge_io.specs.Faults.{one_more};
     ghost use Rattle.edge_io.specs.Room.{HasRoomFor, is_refused, taken_of};
     ghost use Rattle.edge_io.specs.Written.{Appends};
 
@@ -88,7 +88,6 @@ impl Sink for MemorySink {
         ensures appended { IfOk result (λ n.
             Appends (Some self.old.bytes.items) (Some self.new.bytes.items) (take n piece.now)) }
         ensures no_fault { OnOk result (self.new.faults ≡ self.old.faults) }
-        ensures rose { OnErr result (Rose self.old.faults self.new.faults) }
         ensures never_falls { self.old.faults ≤ self.new.faults }
         ensures sure { (k : ℕ) → HasRoomFor self.old k → length piece.now ≤ k → IsOk result }
         ensures sure_of_rest { IfOk result (λ n.

@@ -1,9 +1,15 @@
-ghost use Rattle.std.specs.Prelude.{◌≡◌, ℕ, ◌≤◌, List, Option, Some, IfOk, length};
-ghost use Rattle.edge_io.specs.Faults.{Rose};
+//! What files are read from.
+ghost use Rattle.std.specs.Prelude.{◌≡◌, ◌↔◌, ℕ, ◌≤◌, List, Option, Some, IfOk, length};
+ghost use Rattle.edge_io.specs.Faults.{one_more};
+ghost use Rattle.edge_io.specs.Limits.{file_limit};
 ghost use Rattle.edge_io.specs.Reads.{Tells, OnFailed, UnlessFailed};
+ghost use Rattle.std.specs.IoError.{error_kind};
+ghost use Rattle.std.specs.declared.io.ErrorKind.TheVariants as kind;
 ghost use Rattle.edge_io.specs.declared.shelf.ReadFail.TheVariants.{OutOfMemory};
 
 use std::alloc::{AllocError, AllocFailed, Global};
+use std::io;
+use std::io::ErrorKind;
 
 /// The most bytes that a file may have: 64 MiB.
 pub const FILE_LIMIT: usize = 67_108_864;
@@ -34,10 +40,25 @@ impl<T: Drop> From<AllocFailed<T>> for ReadFail {
     }
 }
 
+/// An error of reading, but for want of memory, is a failure.
+impl From<io::Error> for ReadFail {
+    ghost from_gives = { λ e fail. (fail ≡ OutOfMemory) ↔ (error_kind e ≡ kind.OutOfMemory) };
+
+    fn from(e: io::Error) -> ReadFail {
+        match e.kind() {
+            ErrorKind::OutOfMemory => ReadFail::OutOfMemory,
+            _ => ReadFail::Failed,
+        }
+    }
+}
+
 /// Files by name.
 pub trait Shelf {
     // The bytes of each name, where the shelf says what it holds. No call changes it.
     ghost told: { Self → Option (List ℕ → Option (List ℕ)) };
+
+    // One read, of this name, took the shelf from the one state to the other.
+    ghost Asked: { Self → List ℕ → Self → Type 0 };
 
     // How many reads failed. It stays at the counter's last value.
     ghost faults: { Self → ℕ };
@@ -53,10 +74,11 @@ pub trait Shelf {
     fn read(&mut self, alloc: Global, name: &str) -> Result<Vec<u8>, ReadFail>
         ensures same_files { told self.new ≡ told self.old }
         ensures bytes { IfOk result (λ v. Tells (told self.old) name.now v.items) }
-        ensures within_limit { IfOk result (λ v. length v.items ≤ FILE_LIMIT) }
+        ensures within_limit { IfOk result (λ v. length v.items ≤ file_limit) }
+        ensures asked { Asked self.old name.now self.new }
 
         // A failure is counted and named; any other answer leaves count and name.
-        ensures failed_counted { OnFailed result (Rose (faults self.old) (faults self.new)) }
+        ensures failed_counted { OnFailed result (faults self.new ≡ one_more (faults self.old)) }
         ensures failed_named { OnFailed result (failed self.new ≡ Some name.now) }
         ensures else_count { UnlessFailed result (faults self.new ≡ faults self.old) }
         ensures else_name { UnlessFailed result (failed self.new ≡ failed self.old) }

@@ -1,5 +1,5 @@
 ghost use Rattle.std.specs.Prelude.{◌≡◌, ℕ, ◌-◌, ◌<◌, ◌≤◌, List, Option, IsOk, IfOk, OnOk, OnErr, length, take};
-ghost use Rattle.edge_io.specs.Faults.{Rose};
+ghost use Rattle.edge_io.specs.Faults.{one_more};
 ghost use Rattle.edge_io.specs.Written.{Appends};
 
 /// Why a write took nothing.
@@ -31,7 +31,7 @@ pub trait Sink {
         ensures no_fault { OnOk result (faults self.new ≡ faults self.old) }
 
         // A failure is counted, and nothing of the piece was appended.
-        ensures failed_counted { OnErr result (Rose (faults self.old) (faults self.new)) }
+        ensures failed_counted { OnErr result (faults self.new ≡ one_more (faults self.old)) }
         ensures failed_nothing { OnErr result (written self.new ≡ written self.old) }
         ensures never_falls { faults self.old ≤ faults self.new }
 

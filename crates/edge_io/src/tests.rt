@@ -1,5 +1,7 @@
 use super::*;
 use std::alloc::Global;
+use std::io;
+use std::io::Read;
 use std::test::Fail;
 
 // One file twice by its name, as a caller reads it that knows of a shelf no more than its bound.
@@ -73,6 +75,67 @@ fn a_write_fails_by_its_number_and_leaves_a_prefix(rt: HostRuntime) -> Result<()
     Ok(())
 }
 
+const HELLO: [u8; 5] = *b"hello";
+
+/// A file that says hello, a byte at a time.
+#[derive(Drop)]
+struct Hello {
+    at: usize,
+    /// Where a read fails.
+    fails_at: usize,
+}
+
+impl Read for Hello {
+    fn read(&mut self, buf: &mut [u8]) -> io::Result<usize> {
+        if self.at == self.fails_at {
+            return Err(io::Error::from(io::ErrorKind::Other));
+        }
+        let (Some(byte), Some(to)) = (HELLO.get(self.at), buf.first_mut()) else {
+            return Ok(0);
+        };
+        *to = *byte;
+        self.at = self.at.saturating_add(1);
+        Ok(1)
+    }
+}
+
+/// A folder where each file says hello.
+#[derive(Drop)]
+struct Drawer {
+    forecast: usize,
+    fails_at: usize,
+}
+
+impl Folder for Drawer {
+    ghost use Rattle.std.specs.Prelude.{None};
+
+    type File = Hello;
+
+    ghost told = { λ _. None };
+
+    fn open(&self, _name: &str) -> Option<Opened<Hello>> {
+        let file = Hello {
+            at: 0,
+            fails_at: self.fails_at,
+        };
+        let forecast = self.forecast.min(FILE_LIMIT);
+        Some(Opened { file, forecast })
+    }
+}
+
+#[test]
+fn a_file_is_read_whole_or_not_at_all(rt: HostRuntime) -> Result<(), Fail> {
+    for (forecast, fails_at) in [(0usize, 6usize), (2, 6), (5, 6), (9, 6), (5, 5), (5, 1)] {
+        let mut shelf = HostShelf::new(Drawer { forecast, fails_at });
+        match shelf.read(rt.alloc(), "hello.txt") {
+            Ok(bytes) => assert_eq!(rt; (bytes.as_slice(), fails_at), (HELLO.as_slice(), 6)),
+            Err(fail) => assert_eq!(rt; (fail, fails_at < 6), (ReadFail::Failed, true)),
+        }
+        assert_eq!(rt; (shelf.calls, shelf.faults == 1), (1, fails_at < 6));
+    }
+    Ok(())
+}
+
 #[test]
 fn the_host_counts_what_it_can_not_read(rt: HostRuntime) -> Result<(), Fail> {
     let mut shelf = HostShelf::new(&rt);
@@ -88,7 +151,7 @@ fn the_host_counts_what_it_can_not_read(rt: HostRuntime) -> Result<(), Fail> {
         assert!(rt; matches!(shelf.read(rt.alloc(), name), Err(ReadFail::Failed)));
         assert_eq!(rt; shelf.faults, faults);
     }
-    let mut out = HostSink::new(&rt);
+    let mut out = HostSink::new(io::writer(&rt));
     assert!(rt; write_whole(&mut out, b"written\n").is_ok());
     assert_eq!(rt; out.faults, 0);
     Ok(())

@@ -1,16 +1,17 @@
 ghost use Rattle.std.specs.Prelude.{◌≡◌, ◌≤◌, IsOk, OnOk, OnErr, length};
-ghost use Rattle.edge_io.specs.Faults.{Rose};
-ghost use Rattle.edge_io.specs.Written.{Appends, AppendsPrefix};
+ghost use Rattle.edge_io.specs.Faults.{one_more};
+ghost use Rattle.edge_io.specs.Written.{Appends, AppendsPart};
 
 use crate::sink::{Sink, WriteFail};
 
-/// Writes all of the bytes, piece by piece. After a failure some first part of them was written.
+/// Writes all of the bytes, piece by piece, up to a failure. Then a first part of them was written,
+/// and not all.
 pub fn write_whole<K: Sink>(out: &mut K, bytes: &[u8]) -> Result<(), WriteFail>
     ensures all { OnOk result (Appends (K.written out.old) (K.written out.new) bytes.now) }
     ensures no_fault { OnOk result (K.faults out.new ≡ K.faults out.old) }
 
-    ensures failed_counted { OnErr result (Rose (K.faults out.old) (K.faults out.new)) }
-    ensures failed_prefix { OnErr result (AppendsPrefix (K.written out.old) (K.written out.new) bytes.now) }
+    ensures failed_counted { OnErr result (K.faults out.new ≡ one_more (K.faults out.old)) }
+    ensures failed_part { OnErr result (AppendsPart (K.written out.old) (K.written out.new) bytes.now) }
     ensures never_falls { K.faults out.old ≤ K.faults out.new }
 
     ensures sure { K.Takes out.old (length bytes.now) → IsOk result }

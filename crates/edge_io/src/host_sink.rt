@@ -1,0 +1,82 @@
+//! A writer as a sink, as the host's standard output.
+ghost use Rattle.std.specs.Prelude.{◌≡◌, ◌<◌, ◌≤◌, None, IfSome, IfNone, IfOk, length, take};
+ghost use Rattle.std.specs.Io.KnownBytes.{Appends as Adds, Keeps};
+
+use crate::sink::{Sink, WriteFail};
+use std::io::{ErrorKind, Write};
+
+/// A writer, one write after another. As a sink it tells nothing of what was written, since a writer
+/// that told nothing may begin to tell.
+#[derive(Drop)]
+pub struct HostSink<W: Write> {
+    /// Where it writes to.
+    pub out: W,
+    /// How many writes failed. It stays at `u64::MAX`.
+    pub faults: u64,
+}
+
+impl<W: Write> HostSink<W> {
+    /// A sink before this writer, with no fault so far.
+    pub fn new(out: W) -> HostSink<W>
+        ensures out { result.out ≡ out }
+        ensures no_faults { result.faults ≡ 0 }
+    {
+        HostSink { out, faults: 0 }
+    }
+}
+
+// Writes some of the piece, and tries again where a signal came first. Zero bytes are a failure.
+fn write_some<W: Write>(out: &mut W, piece: &[u8]) -> Option<usize>
+    ensures some_taken { IfSome result (λ n. 0 < n) }
+    ensures within_piece { IfSome result (λ n. n ≤ length piece.now) }
+    ensures appended { IfSome result (λ n. Adds (W.contents out.old) (W.contents out.new) (take n piece.now)) }
+    ensures failed_nothing { IfNone result (Keeps (W.contents out.old) (W.contents out.new)) }
+{
+    for _ in 0..u64::MAX {
+        match out.write(piece) {
+            Ok(0) => return None,
+            Ok(n) => return Some(n),
+            Err(e) if e.kind() == ErrorKind::Interrupted => {}
+            Err(_) => return None,
+        }
+    }
+    None
+}
+
+impl<W: Write> Sink for HostSink<W> {
+    ghost use Rattle.std.specs.Prelude.{◌≡◌, ℕ, ◌-◌, ◌<◌, ◌≤◌, None, IsOk, IfOk, OnOk, OnErr, length, take};
+    ghost use Rattle.std.specs.Io.KnownBytes.{WriteAppends};
+    ghost use Rattle.edge_io.specs.Faults.{one_more};
+    ghost use Rattle.edge_io.specs.Written.{Appends};
+
+    ghost written = { λ _. None };
+
+    ghost faults = { λ s. s.faults };
+
+    // Nothing is sure of the host.
+    ghost Takes = { λ _ _. ⊥ };
+
+    /// What the writer tells is that a first part of the piece was written, or nothing where it failed.
+    fn write(&mut self, piece: &[u8]) -> Result<usize, WriteFail>
+        requires { 0 < length piece.now }
+
+        ensures told { WriteAppends (W.contents self.old.out) (W.contents self.new.out) result piece.now }
+
+        // What every sink ensures.
+        ensures some_taken { IfOk result (λ n. 0 < n) }
+        ensures within_piece { IfOk result (λ n. n ≤ length piece.now) }
+        ensures appended { IfOk result (λ n. Appends None None (take n piece.now)) }
+        ensures no_fault { OnOk result (self.new.faults ≡ self.old.faults) }
+        ensures failed_counted { OnErr result (self.new.faults ≡ one_more self.old.faults) }
+        ensures never_falls { self.old.faults ≤ self.new.faults }
+        ensures sure { (k : ℕ) → ⊥ → length piece.now ≤ k → IsOk result }
+    {
+        match write_some(&mut self.out, piece) {
+            Some(n) => Ok(n),
+            None => {
+                self.faults = self.faults.saturating_add(1);
+                Err(WriteFail::Failed)
+            }
+        }
+    }
+}
