@@ -1,9 +1,10 @@
 //! The edge of the program: where it reads files and where it writes its text.
 //!
 //! A `Shelf` gives the bytes of named files, and a `Sink` takes bytes. Each counts its faults, so
-//! that a caller's failure of reading or writing is one that the outside caused. `MemoryShelf` and
-//! `MemorySink` are exact, and `HostShelf` and `HostSink` stand before the host's files and its
-//! standard output. `write_whole` writes all of a text.
+//! that a caller's failure of reading or writing is one that the outside caused, and of a shelf it
+//! is known which names were asked for, in which order. `MemoryShelf` and `MemorySink` are exact.
+//! `HostShelf` reads the files that a `Folder` opens, as the host does, and `HostSink` writes to a
+//! writer, as to the standard output. `write_whole` writes all of a text.
 #![tactic(auto)]
 
 mod folder;

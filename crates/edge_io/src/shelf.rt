@@ -57,7 +57,7 @@ pub trait Shelf {
     // The bytes of each name, where the shelf says what it holds. No call changes it.
     ghost told: { Self → Option (List ℕ → Option (List ℕ)) };
 
-    // One read, of this name, took the shelf from the one state to the other.
+    // One read, of this name, took the shelf from the first state to the second.
     ghost Asked: { Self → List ℕ → Self → Type 0 };
 
     // How many reads failed. It stays at the counter's last value.
