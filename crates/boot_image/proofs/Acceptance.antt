@@ -2,6 +2,9 @@
 use Rattle.std.proofs.Common.{◌≡◌, ◌≤◌, ◌<◌, ℕ, zero, suc, ◌+◌, true, List, [], ◌∷◌, Option, None, Some, map, length, inl, inr, refl, ap, sym, ◌∙◌, arith, subst}
 use Rattle.std.specs.Prelude.{sum_by, IfOk, Result, Ok, Err, nat_lt, if◌then◌else◌}
 use Rattle.std.specs.List.{AllByRecursion}
+use Rattle.aegis_limits.specs.Limits.{most_mappings, most_stack_pages}
+use Rattle.boot_image.specs.Numbers.{IsBytes}
+use Rattle.boot_image.proofs.Bytes.{word_small}
 use Rattle.boot_image.specs.declared.image.Image.{Image}
 use Rattle.boot_image.specs.Seen.{Answers, image_seen}
 use Rattle.std.proofs.lemmas.Bool.{cases_eq}
@@ -75,7 +78,7 @@ count_of_programs file = length-map (headers file) (program_at file) ∙ length-
 
 record Program (file : List ℕ) (header : ℕ) : Type 0 where
   pub name : is_name (name_in file header) ≡ true
-  pub stack : stack_in file header ≤ 16
+  pub stack : stack_in file header ≤ most_stack_pages
   pub base : is_base (base_in file header) (length_in file header) ≡ true
   pub filled : 0 < length_in file header
   pub whole : body_end file header ≤ length file
@@ -95,9 +98,9 @@ body_size : (file : List ℕ) (header : ℕ) → Program file header → length 
 unfolding program_at
 body_size file header program = simp (length-take, length-drop) (omega (arith, program.whole))
 
-program_fits : (file : List ℕ) (header : ℕ) → Program file header → guaranteed_mappings (program_at file header) ≤ 256 → IsFitting (program_at file header)
+program_fits : (file : List ℕ) (header : ℕ) → IsBytes file → Program file header → guaranteed_mappings (program_at file header) ≤ most_mappings → IsFitting (program_at file header)
 unfolding program_at
-program_fits file header program few =
+program_fits file header bytes program few =
     let size = body_size file header program in
     record {
       name = program.name;
@@ -107,32 +110,33 @@ program_fits file header program few =
       below = grind (arith, program.base, size);
       filled = omega (arith, program.filled, size);
       stack = program.stack;
+      accept = word_small file (header + 16) bytes (omega (arith, program.whole));
       mappings = few;
     }
 
-few_mappings : (program : ProgramValue) (header : ℕ) → (if nat_lt 256 (guaranteed_mappings program) then fault TooMany header else None) ≡ None → guaranteed_mappings program ≤ 256
+few_mappings : (program : ProgramValue) (header : ℕ) → (if nat_lt most_mappings (guaranteed_mappings program) then fault TooMany header else None) ≡ None → guaranteed_mappings program ≤ most_mappings
 few_mappings program header none = grind arith
 
-programs_fit : (count : ℕ) (file : List ℕ) (header : ℕ) → first_fault (program_fault file) (headers_from count file header) ≡ None
+programs_fit : (count : ℕ) (file : List ℕ) (header : ℕ) → IsBytes file → first_fault (program_fault file) (headers_from count file header) ≡ None
     → mappings_fault header (map (program_at file) (headers_from count file header)) ≡ None → AllByRecursion IsFitting (map (program_at file) (headers_from count file header))
-programs_fit zero file header none mappings = tt
-programs_fit (suc count) file header none mappings =
+programs_fit zero file header bytes none mappings = tt
+programs_fit (suc count) file header bytes none mappings =
     let program = program_at file header in
     let next = body_end file header in
     let later = map (program_at file) (headers_from count file next) in
     let faults = neither (program_fault file header) (first_fault (program_fault file) (headers_from count file next)) none in
-    let room = neither (if nat_lt 256 (guaranteed_mappings program) then fault TooMany header else None) (mappings_fault (header + 28 + length program.bytes) later) mappings in
+    let room = neither (if nat_lt most_mappings (guaranteed_mappings program) then fault TooMany header else None) (mappings_fault (header + 28 + length program.bytes) later) mappings in
     let passes = program_passes file header faults.0 in
     let ends : header + 28 + length program.bytes ≡ next = ap (λ (size : ℕ). header + 28 + size) (body_size file header passes) in
     let later_room : mappings_fault next later ≡ None = subst (λ (place : ℕ). mappings_fault place later ≡ None) ends room.1 in
-    (program_fits file header passes (few_mappings program header room.0), programs_fit count file next faults.1 later_room)
+    (program_fits file header bytes passes (few_mappings program header room.0), programs_fit count file next bytes faults.1 later_room)
 
 fitting_pages : (image : ImageValue) → pages_fault image ≡ None → sum_by guaranteed_mappings image.programs ≤ image.pages
 fitting_pages image none = grind arith
 
-pub accepted : (file : List ℕ) → image_fault file ≡ None → IsAccepted (image_of file)
+pub accepted : (file : List ℕ) → IsBytes file → image_fault file ≡ None → IsAccepted (image_of file)
 unfolding image_fault image_of
-accepted file none =
+accepted file bytes none =
     let header_none : header_fault file ≡ None = grind arith in
     let slots_none : slots_fault file ≡ None = grind arith in
     let programs_none : first_fault (program_fault file) (headers file) ≡ None = grind arith in
@@ -153,12 +157,12 @@ accepted file none =
           (owners_below (environments_in file) 16 (slot_bytes file) slots.owners);
       programs_least = omega (arith, header.environments_least);
       programs_most = omega (arith, header.environments_most);
-      programs = programs_fit (environments_in file) file (first_header file) programs_none mappings_none;
+      programs = programs_fit (environments_in file) file (first_header file) bytes programs_none mappings_none;
       room = fitting_pages (image_of file) pages_none;
     }
 
 -- what the reader answers is within the limits
-pub read_is_accepted : (file : List ℕ) (answer : Result Image ImageFault) → Answers image_seen answer (image_fault file) (image_of file)
+pub read_is_accepted : (file : List ℕ) (answer : Result Image ImageFault) → IsBytes file → Answers image_seen answer (image_fault file) (image_of file)
     → IfOk answer (λ image. IsAccepted (image_seen image))
-read_is_accepted file (Ok image) answers = subst IsAccepted (sym answers.1) (accepted file answers.0)
-read_is_accepted file (Err fault) answers = tt
+read_is_accepted file (Ok image) bytes answers = subst IsAccepted (sym answers.1) (accepted file bytes answers.0)
+read_is_accepted file (Err fault) bytes answers = tt

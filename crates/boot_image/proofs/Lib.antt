@@ -1,3 +1,4 @@
+mod Bytes
 pub mod Programs
 pub mod Acceptance
 pub mod Spelled

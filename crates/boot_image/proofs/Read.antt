@@ -14,7 +14,7 @@ use Rattle.boot_image.specs.Numbers.{half_at, word_at}
 use Rattle.boot_image.specs.ImageValue.{ProgramValue, ImageValue, pages_in, quantum_in, environments_in, slots_in, slot_bytes, owner_of, first_header, name_in, base_in, stack_in, accept_in, kind_in, length_in, body_end, bodies_end, headers_from, headers, program_at, image_of, guaranteed_mappings}
 use Rattle.boot_image.specs.ImageFaults.{◌or_else◌, is_within, has_magic, is_name, is_base, header_fault, slot_fault, slots_fault, owners_fault, program_fault, first_fault, trailing_fault, mappings_fault, pages_fault, image_fault}
 use Rattle.boot_image.specs.Accepted.{IsFitting, IsOwnerBelow, IsAccepted}
-use Rattle.boot_image.specs.Spelling.{slot_byte, program_text, image_text, HasMask}
+use Rattle.boot_image.specs.Spelling.{slot_byte, program_text, image_text}
 
 -- what stands behind a text
 behind : (file : List ℕ) (i : ℕ) (text rest : List ℕ) (j : ℕ) → drop i file ≡ text ++ rest → i + length text ≡ j → drop j file ≡ rest
@@ -57,9 +57,9 @@ record Reads (file : List ℕ) (header : ℕ) (program : ProgramValue) (rest : L
   pub whole : body_end file header ≤ length file
   pub after : drop (body_end file header) file ≡ rest
 
-program_read : (file : List ℕ) (header : ℕ) (program : ProgramValue) (rest : List ℕ) → IsFitting program → HasMask program
+program_read : (file : List ℕ) (header : ℕ) (program : ProgramValue) (rest : List ℕ) → IsFitting program
     → drop header file ≡ program_text program ++ rest → Reads file header program rest
-program_read file header program rest fitting mask stands =
+program_read file header program rest fitting stands =
     let b = to_le_bytes w32 program.base in
     let s = to_le_bytes w32 program.stack in
     let a = to_le_bytes w32 program.accept in
@@ -83,7 +83,7 @@ program_read file header program rest fitting mask stands =
       name = bytes_read file header program.name from_base 8 at0 fitting.name_length;
       base = word_read file (header + 8) program.base from_stack at1 (omega (arith, fitting.below));
       stack = word_read file (header + 12) program.stack from_accept at2 (omega (arith, fitting.stack));
-      accept = word_read file (header + 16) program.accept from_kind at3 mask;
+      accept = word_read file (header + 16) program.accept from_kind at3 fitting.accept;
       kind = word_read file (header + 20) 0 from_size at4 (omega arith);
       size = size;
       body = bytes_read file (header + 28) program.bytes rest (length_in file header) at6 (sym size);
@@ -114,17 +114,17 @@ record AllRead (file : List ℕ) (header : ℕ) (programs : List ProgramValue) (
   pub values : map (program_at file) (headers_from (length programs) file header) ≡ programs
   pub after : drop (bodies_end (length programs) file header) file ≡ rest
 
-programs_read : (programs : List ProgramValue) (file : List ℕ) (header : ℕ) (rest : List ℕ) → AllByRecursion IsFitting programs → AllByRecursion HasMask programs
+programs_read : (programs : List ProgramValue) (file : List ℕ) (header : ℕ) (rest : List ℕ) → AllByRecursion IsFitting programs
     → drop header file ≡ flat_map program_text programs ++ rest → AllRead file header programs rest
-programs_read [] file header rest fitting masks stands = record { faults = refl; values = refl; after = stands }
-programs_read (program ∷ programs) file header rest fitting masks stands =
+programs_read [] file header rest fitting stands = record { faults = refl; values = refl; after = stands }
+programs_read (program ∷ programs) file header rest fitting stands =
     let later = flat_map program_text programs ++ rest in
     let first : drop header file ≡ program_text program ++ later
     = stands ∙ ap (λ (text : List ℕ). text ++ rest) (flat_map-cons program_text program programs) ∙ append_assoc (program_text program) (flat_map program_text programs) rest in
-    let reads = program_read file header program later fitting.0 masks.0 first in
+    let reads = program_read file header program later fitting.0 first in
     let none = program_passes file header program later fitting.0 reads in
     let value = program_value file header program later reads in
-    let others = programs_read programs file (body_end file header) rest fitting.1 masks.1 reads.after in
+    let others = programs_read programs file (body_end file header) rest fitting.1 reads.after in
     record {
       faults = ap (λ (f : Option ImageFault). f or_else first_fault (program_fault file) (headers_from (length programs) file (body_end file header))) none ∙ others.faults;
       values = λ i. value i ∷ others.values i;
@@ -239,12 +239,12 @@ none_of_six : (a b c d e f : Option ImageFault) → a ≡ None → b ≡ None �
     → (a or_else b or_else c or_else d or_else e or_else f) ≡ None
 none_of_six a b c d e f p q r s t u = rw (p, q, r, s, t, u) refl
 
-pub read_again : (file : List ℕ) (image : ImageValue) → IsAccepted image → AllByRecursion HasMask image.programs → file ≡ image_text image
+pub read_again : (file : List ℕ) (image : ImageValue) → IsAccepted image → file ≡ image_text image
     → (image_fault file ≡ None) × (image_of file ≡ image)
 unfolding image_fault image_of
-read_again file image accepted masks is =
+read_again file image accepted is =
     let header = header_read file image accepted is in
-    let programs = programs_read image.programs file (first_header file) [] accepted.programs masks header.programs in
+    let programs = programs_read image.programs file (first_header file) [] accepted.programs header.programs in
     let faults : first_fault (program_fault file) (headers file) ≡ None = rw header.environments programs.faults in
     let values : map (program_at file) (headers file) ≡ image.programs = rw header.environments programs.values in
     let after : drop (bodies_end (environments_in file) file (first_header file)) file ≡ [] = rw header.environments programs.after in
@@ -256,7 +256,7 @@ read_again file image accepted masks is =
     let pages : pages_fault (image_of file) ≡ None = ap pages_fault value ∙ pages_fit image accepted in
     (none_of_six _ _ _ _ _ _ (header_passes file image accepted header) (slots_pass file image accepted header) faults (nothing_trails file after) mappings pages, value)
 
-pub is_read_again : (file : List ℕ) (answer : Result Image ImageFault) (image : ImageValue) → IsAccepted image → AllByRecursion HasMask image.programs → file ≡ image_text image
+pub is_read_again : (file : List ℕ) (answer : Result Image ImageFault) (image : ImageValue) → IsAccepted image → file ≡ image_text image
     → Answers image_seen answer (image_fault file) (image_of file) → IsOkAnd answer (λ found. image_seen found ≡ image)
-is_read_again file (Ok found) image accepted masks is answers = answers.1 ∙ (read_again file image accepted masks is).1
-is_read_again file (Err fault) image accepted masks is answers = let none = (read_again file image accepted masks is).0 in absurd cc
+is_read_again file (Ok found) image accepted is answers = answers.1 ∙ (read_again file image accepted is).1
+is_read_again file (Err fault) image accepted is answers = let none = (read_again file image accepted is).0 in absurd cc

@@ -11,24 +11,12 @@ use Rattle.std.proofs.lemmas.List.{length-take, length-drop, take-append-drop, d
 use Rattle.std.proofs.lemmas.List.Concat.{flat_map-cons}
 use Rattle.std.proofs.lemmas.Nat.{le_bytes_2, le_bytes_4}
 use lib.Pointwise.{bytes_decides}
-use Rattle.boot_image.specs.Numbers.{half_at, word_at}
+use Rattle.boot_image.specs.Numbers.{IsBytes, half_at, word_at}
+use Rattle.boot_image.proofs.Bytes.{IsBytes-drop, IsBytes-take}
 use Rattle.boot_image.specs.ImageValue.{ImageValue, slots_in, slot_bytes, owner_of, environments_in, first_header, body_end, bodies_end, headers_from, headers, program_at, image_of, kind_in, length_in}
 use Rattle.boot_image.specs.ImageFaults.{has_magic, header_fault, slots_fault, program_fault, first_fault, trailing_fault, image_fault}
 use Rattle.boot_image.specs.Spelling.{slot_byte, program_text, image_text}
 use Rattle.boot_image.proofs.Acceptance.{neither, count_of_programs, count_of_slots}
-
-abbrev pub IsBytes : List ℕ → Type 0
-IsBytes bytes = (i : ℕ) → get_or bytes i 0 < 256
-
-IsBytes-drop : (n : ℕ) (bytes : List ℕ) → IsBytes bytes → IsBytes (drop n bytes)
-IsBytes-drop n bytes fits i = rw get_or-drop (fits (n + i))
-
-IsBytes-take : (n : ℕ) (bytes : List ℕ) → IsBytes bytes → IsBytes (take n bytes)
-IsBytes-take n bytes fits i =
-    elim (cases_lt i n) [
-      | inl below ↦ rw (get_or-take n bytes i 0 below) (fits i)
-      | inr above ↦ rw (get_or_past (take n bytes) i 0 (omega (arith, length-take n bytes))) (omega arith)
-    ]
 
 -- From place i of the file up to place j stands this text.
 Stands : List ℕ → ℕ → List ℕ → ℕ → Type 0

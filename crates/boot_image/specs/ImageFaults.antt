@@ -1,6 +1,7 @@
 -- The faults of an image: the first sentence that holds, in this order, with its place.
 use Rattle.std.specs.Prelude.{ℕ, ◌+◌, ◌%◌, ◌==◌, nat_eq, nat_lt, nat_le, Bool, not, ◌&&◌, ◌||◌, List, [], ◌∷◌, length, drop, Option, None, Some, if◌then◌else◌, sum_by, codes}
 use Rattle.std.specs.List.{list_all, starts_with}
+use Rattle.aegis_limits.specs.Limits.{page_size, least_pages, most_pages, least_quantum, most_quantum, most_slots, most_environments, most_stack_pages, most_mappings}
 use Rattle.boot_image.specs.declared.fault.ImageFault.{ImageFault}
 use Rattle.boot_image.specs.declared.fault.ImageWhy.{ImageWhy}
 use Rattle.boot_image.specs.declared.fault.ImageWhy.TheVariants.{Short, Magic, Pages, Quantum, Envs, Slots, SlotOwner, Name, Kind, Stack, Base, Empty, Trailing, TooMany, TooBig, NotBuilt}
@@ -33,10 +34,10 @@ unfoldable pub header_fault : List ℕ → Option ImageFault
 header_fault file =
     if nat_lt (length file) 16 then fault Short (length file) else
     if not (has_magic file) then fault Magic 0 else
-    if not (is_within 16 1024 (pages_in file)) then fault Pages 4 else
-    if not (is_within 16 65536 (quantum_in file)) then fault Quantum 8 else
-    if not (is_within 1 16 (environments_in file)) then fault Envs 12 else
-    if not (is_within 1 64 (slots_in file)) then fault Slots 14 else
+    if not (is_within least_pages most_pages (pages_in file)) then fault Pages 4 else
+    if not (is_within least_quantum most_quantum (quantum_in file)) then fault Quantum 8 else
+    if not (is_within 1 most_environments (environments_in file)) then fault Envs 12 else
+    if not (is_within 1 most_slots (slots_in file)) then fault Slots 14 else
     None
 
 -- A slot's byte: one of so many environments, or 255 for an empty slot, which nobody owns.
@@ -67,7 +68,7 @@ is_name name =
 
 -- the address of a page behind the first two, from which so many bytes end below the stack
 abbrev pub is_base : ℕ → ℕ → Bool
-is_base base bytes = (base % 4096 == 0) && nat_le 0x2000 base && nat_le (base + bytes) 0x7FF00000
+is_base base bytes = (base % page_size == 0) && nat_le 0x2000 base && nat_le (base + bytes) 0x7FF00000
 
 -- The program with this header. Kind 0 is what this stage has.
 unfoldable pub program_fault : List ℕ → ℕ → Option ImageFault
@@ -76,7 +77,7 @@ program_fault file header =
     if not (is_name (name_in file header)) then fault Name header else
     if nat_lt 1 (kind_in file header) then fault Kind header else
     if kind_in file header == 1 then fault NotBuilt header else
-    if nat_lt 16 (stack_in file header) then fault Stack header else
+    if nat_lt most_stack_pages (stack_in file header) then fault Stack header else
     if not (is_base (base_in file header) (length_in file header)) then fault Base header else
     if length_in file header == 0 then fault Empty header else
     if nat_lt (length file) (body_end file header) then fault Short (length file) else
@@ -92,7 +93,7 @@ trailing_fault file =
 abbrev pub mappings_fault : ℕ → List ProgramValue → Option ImageFault
 mappings_fault header [] = None
 mappings_fault header (program ∷ programs) =
-    (if nat_lt 256 (guaranteed_mappings program) then fault TooMany header else None)
+    (if nat_lt most_mappings (guaranteed_mappings program) then fault TooMany header else None)
     or_else mappings_fault (header + 28 + length program.bytes) programs
 
 -- All of them together.

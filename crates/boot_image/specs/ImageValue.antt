@@ -1,6 +1,7 @@
 -- What an image's bytes mean.
-use Rattle.std.specs.Prelude.{ℕ, zero, suc, ◌+◌, ◌/◌, ◌==◌, List, [], ◌∷◌, length, take, drop, map, Option, None, Some, if◌then◌else◌}
+use Rattle.std.specs.Prelude.{ℕ, zero, suc, ◌+◌, ◌-◌, ◌/◌, ◌==◌, List, [], ◌∷◌, length, take, drop, map, Option, None, Some, if◌then◌else◌}
 use Rattle.std.specs.List.{before_first}
+use Rattle.aegis_limits.specs.Limits.{page_size}
 use Rattle.boot_image.specs.Numbers.{half_at, word_at}
 
 -- a program: its name of eight bytes, the address of its first byte, pages of stack, a bit for each
@@ -26,7 +27,7 @@ name_text name = before_first (λ byte. byte == 0) name
 
 -- the pages that a body of so many bytes fills
 abbrev pub pages_of_length : ℕ → ℕ
-pages_of_length bytes = (bytes + 4095) / 4096
+pages_of_length bytes = (bytes + (page_size - 1)) / page_size
 
 -- the pages of a program's body
 abbrev pub body_pages : ProgramValue → ℕ

@@ -1,5 +1,5 @@
 -- The one spelling of each image.
-use Rattle.std.specs.Prelude.{ℕ, ◌<◌, ◌^◌, List, ◌++◌, length, map, Option, None, Some, codes}
+use Rattle.std.specs.Prelude.{ℕ, List, ◌++◌, length, map, Option, None, Some, codes}
 use Rattle.std.specs.List.{flat_map}
 use Rattle.std.specs.Int.{w16, w32, to_le_bytes}
 use Rattle.boot_image.specs.ImageValue.{ProgramValue, ImageValue}
@@ -21,7 +21,3 @@ image_text image =
     codes "AEG1" ++ to_le_bytes w32 image.pages ++ to_le_bytes w32 image.quantum
     ++ to_le_bytes w16 (length image.programs) ++ to_le_bytes w16 (length image.slots)
     ++ map slot_byte image.slots ++ flat_map program_text image.programs
-
--- a mask of 32 bits
-abbrev pub HasMask : ProgramValue → Type 0
-HasMask program = program.accept < 2 ^ 32

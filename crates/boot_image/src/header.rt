@@ -1,11 +1,13 @@
 //! The header of an image and its slot bytes.
 ghost use Rattle.std.specs.Prelude.{◌≡◌, ◌+◌, ◌<◌, ◌≤◌, ◌^◌, IfOk, OnOk, length, map};
+ghost use Rattle.aegis_limits.specs.Limits.{most_environments, most_slots};
 ghost use Rattle.boot_image.specs.ImageValue.{pages_in, quantum_in, environments_in, slots_in, owner_of, slot_bytes};
 ghost use Rattle.boot_image.specs.ImageFaults.{is_within, header_fault, slots_fault, slot_fault, owners_fault};
 ghost use Rattle.boot_image.specs.Seen.{Answers};
 ghost use Rattle.boot_image.specs.Parts.{header_of, header_seen};
 
 use crate::fault::{ImageFault, ImageWhy};
+use crate::image::Owners;
 use crate::limits::{
     LEAST_PAGES, LEAST_QUANTUM, MOST_ENVIRONMENTS, MOST_PAGES, MOST_QUANTUM, MOST_SLOTS,
 };
@@ -48,7 +50,7 @@ pub(crate) fn read_header(file: &[u8]) -> Result<Header, ImageFault>
     requires { length file.now < 2 ^ 27 }
     ensures answer { Answers header_seen result (header_fault file.now) (header_of file.now) }
     ensures whole { OnOk result (16 ≤ length file.now) }
-    ensures limits { IfOk result (λ header. (header.environments ≤ 16) × (header.slots ≤ 64)) }
+    ensures limits { IfOk result (λ header. (header.environments ≤ most_environments) × (header.slots ≤ most_slots)) }
 {
     if file.len() < HEADER_SIZE {
         return Err(ImageFault::at(ImageWhy::Short, file.len()));
@@ -82,15 +84,12 @@ pub(crate) fn read_header(file: &[u8]) -> Result<Header, ImageFault>
 
 /// The owner of each slot of a file with this header.
 #[tactic(auto, unfolding(crate::specs::ImageFaults::slots_fault))]
-pub(crate) fn read_slots(
-    file: &[u8],
-    header: &Header,
-) -> Result<ArrayVec<Option<u8>, 64>, ImageFault>
+pub(crate) fn read_slots(file: &[u8], header: &Header) -> Result<Owners, ImageFault>
     requires small { length file.now < 2 ^ 27 }
     requires long { 16 ≤ length file.now }
     requires environments { header.now.environments ≡ environments_in file.now }
     requires slots { header.now.slots ≡ slots_in file.now }
-    requires room { header.now.slots ≤ 64 }
+    requires room { header.now.slots ≤ most_slots }
     ensures answer { Answers (λ slots. slots.items) result (slots_fault file.now) (map owner_of (slot_bytes file.now)) }
     ensures long { IfOk result (λ slots. 16 + slots_in file.now ≤ length file.now) }
 {
@@ -102,8 +101,8 @@ pub(crate) fn read_slots(
 }
 
 /// The owners that these slot bytes name, the first of which stands after the header.
-fn read_owners(bytes: &[u8], environments: u16) -> Result<ArrayVec<Option<u8>, 64>, ImageFault>
-    requires { length bytes.now ≤ 64 }
+fn read_owners(bytes: &[u8], environments: u16) -> Result<Owners, ImageFault>
+    requires { length bytes.now ≤ most_slots }
     ensures { Answers (λ slots. slots.items) result (owners_fault environments 16 bytes.now) (map owner_of bytes.now) }
 {
     let mut owners = ArrayVec::new();

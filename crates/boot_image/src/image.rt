@@ -1,7 +1,11 @@
 //! What an image holds.
 ghost use Rattle.std.specs.Prelude.{◌≡◌, [], replicate};
 
+use aegis_limits::{MOST_ENVIRONMENTS, MOST_SLOTS};
 use arrayvec::ArrayVec;
+
+/// The owner of each slot, where one has an owner.
+pub type Owners = ArrayVec<Option<u8>, MOST_SLOTS>;
 
 /// An image of a boot. `docs/FORMATS.md`, "Image", has its limits.
 #[derive(Drop)]
@@ -11,9 +15,9 @@ pub struct Image<'a> {
     /// How many ticks a slice has, 16 to 65,536.
     pub quantum: u32,
     /// The environment that owns each slot, where one does.
-    pub slots: ArrayVec<Option<u8>, 64>,
+    pub slots: Owners,
     /// One program for each environment, by its number.
-    pub programs: ArrayVec<Program<'a>, 16>,
+    pub programs: ArrayVec<Program<'a>, MOST_ENVIRONMENTS>,
 }
 
 /// A flat program: bytes that are mapped from a base on.

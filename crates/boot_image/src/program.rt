@@ -2,6 +2,7 @@
 ghost use Rattle.std.specs.Prelude.{◌≡◌, ◌+◌, ◌<◌, ◌≤◌, ◌^◌, IfOk, length, map};
 ghost use Rattle.std.specs.Prelude.{drop, ◌==◌, position};
 ghost use Rattle.std.specs.List.{list_all};
+ghost use Rattle.aegis_limits.specs.Limits.{most_environments};
 ghost use Rattle.boot_image.specs.ImageValue.{body_end, program_at, headers_from, name_text, guaranteed_mappings};
 ghost use Rattle.boot_image.specs.ImageFaults.{is_name, is_name_byte, is_base, program_fault, first_fault};
 ghost use Rattle.boot_image.specs.Parts.{programs_seen, programs_of, values_end, room_fault};
@@ -10,8 +11,9 @@ ghost use Rattle.boot_image.specs.Seen.{Answers, program_seen};
 use crate::fault::{ImageFault, ImageWhy};
 use crate::header::PAGES_AT;
 use crate::image::Program;
-use crate::limits::{BODY_LIMIT, LEAST_BASE, MOST_MAPPINGS, MOST_STACK_PAGES};
+use crate::limits::{BODY_LIMIT, LEAST_BASE, MOST_MAPPINGS, MOST_STACK_PAGES, PAGE_SIZE};
 use crate::numbers::{name_at, word_at};
+use aegis_limits::MOST_ENVIRONMENTS;
 use arrayvec::ArrayVec;
 
 /// The bytes of a program's header.
@@ -28,8 +30,6 @@ const KIND_AT: usize = 20;
 const LENGTH_AT: usize = 24;
 /// The kind of an ELF program, the last kind.
 const ELF: u32 = 1;
-/// The bytes of a page.
-const PAGE_SIZE: u32 = 4096;
 
 /// The program whose header stands at `header`.
 #[tactic(auto, unfolding(crate::specs::ImageFaults::program_fault, crate::specs::ImageValue::program_at))]
@@ -137,7 +137,7 @@ fn is_name_byte(byte: u8) -> bool
 /// The programs of a file, and where the last body ends.
 #[derive(Drop)]
 pub(crate) struct Programs<'a> {
-    pub(crate) list: ArrayVec<Program<'a>, 16>,
+    pub(crate) list: ArrayVec<Program<'a>, MOST_ENVIRONMENTS>,
     pub(crate) end: usize,
 }
 
@@ -149,11 +149,11 @@ pub(crate) fn read_programs(
 ) -> Result<Programs<'_>, ImageFault>
     requires small { length file.now < 2 ^ 27 }
     requires start { first ≤ length file.now }
-    requires count { count ≤ 16 }
+    requires count { count ≤ most_environments }
     ensures answer { Answers programs_seen result (first_fault (program_fault file.now) (headers_from count file.now first)) (programs_of count file.now first) }
     ensures whole { IfOk result (λ programs. programs.end ≤ length file.now) }
     ensures places { IfOk result (λ programs. values_end first (map program_seen programs.list.items) ≡ programs.end) }
-    ensures most { IfOk result (λ programs. length programs.list.items ≤ 16) }
+    ensures most { IfOk result (λ programs. length programs.list.items ≤ most_environments) }
 {
     let mut list = ArrayVec::new();
     let mut end = first;
@@ -172,7 +172,7 @@ pub(crate) fn check_room(
     first: usize,
     pages: u32,
 ) -> Result<(), ImageFault>
-    requires most { length programs.now ≤ 16 }
+    requires most { length programs.now ≤ most_environments }
     requires small { values_end first (map program_seen programs.now) < 2 ^ 27 }
     ensures { Answers (λ x. x) result (room_fault first (map program_seen programs.now) pages) tt }
 {

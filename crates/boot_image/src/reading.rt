@@ -1,11 +1,10 @@
 //! The reader of images, in the order of the faults.
 ghost use Rattle.std.specs.Prelude.{◌≡◌, IsOkAnd, ◌<◌, ◌^◌, Some, None, IfOk, IfErr, length};
-ghost use Rattle.std.specs.List.{AllByRecursion};
 ghost use Rattle.boot_image.specs.ImageValue.{ImageValue, image_of};
 ghost use Rattle.boot_image.specs.ImageFaults.{image_fault};
 ghost use Rattle.boot_image.specs.Seen.{Answers, image_seen};
 ghost use Rattle.boot_image.specs.Accepted.{IsAccepted};
-ghost use Rattle.boot_image.specs.Spelling.{image_text, HasMask};
+ghost use Rattle.boot_image.specs.Spelling.{image_text};
 
 use crate::fault::{ImageFault, ImageWhy};
 use crate::header::{HEADER_SIZE, read_header, read_slots};
@@ -21,8 +20,7 @@ pub fn read_image(file: &[u8]) -> Result<Image<'_>, ImageFault>
     ensures accepted { IfOk result (λ image. IsAccepted (image_seen image)) }
     // What is read is spelled by the file, and what is spelled so is read.
     ensures spelled { IfOk result (λ image. file.now ≡ image_text (image_seen image)) }
-    ensures only { (image : ImageValue) → IsAccepted image → AllByRecursion HasMask image.programs
-        → file.now ≡ image_text image → IsOkAnd result (λ found. image_seen found ≡ image) }
+    ensures only { (image : ImageValue) → IsAccepted image → file.now ≡ image_text image → IsOkAnd result (λ found. image_seen found ≡ image) }
 {
     read(file)
 }

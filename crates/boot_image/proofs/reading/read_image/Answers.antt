@@ -5,10 +5,10 @@ use Rattle.boot_image.proofs.Read.{is_read_again}
 use Rattle.boot_image.proofs.reading.read_image.Goals as goal
 
 pub returns-clause-accepted : goal.returns-clause-accepted
-returns-clause-accepted c = read_is_accepted c.args.file.now c.read.result c.read.ensures
+returns-clause-accepted c = read_is_accepted c.args.file.now c.read.result (λ i. omega (arith, c.type_inv.file i)) c.read.ensures
 
 pub returns-clause-spelled : goal.returns-clause-spelled
 returns-clause-spelled c = read_is_spelled c.args.file.now c.read.result (λ i. omega (arith, c.type_inv.file i)) c.read.ensures
 
 pub returns-clause-only : goal.returns-clause-only
-returns-clause-only c = λ image accepted masks is. is_read_again c.args.file.now c.read.result image accepted masks is c.read.ensures
+returns-clause-only c = λ image accepted is. is_read_again c.args.file.now c.read.result image accepted is c.read.ensures

@@ -12,5 +12,6 @@ returns-clause-fits c = record {
   below = lit≤ tt;
   filled = lit< tt;
   stack = lit≤ tt;
+  accept = lit< tt;
   mappings = lit≤ tt;
 }

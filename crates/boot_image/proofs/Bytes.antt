@@ -1,0 +1,28 @@
+-- Parts of a file are bytes, and a word of them is below 2^32.
+use Rattle.std.proofs.Common.{◌≡◌, ◌≤◌, ◌<◌, ◌^◌, ℕ, ◌+◌, List, [], ◌∷◌, length, take, drop, inl, inr, get_or, arith}
+use Rattle.std.specs.Int.{w32, from_le_bytes}
+use Rattle.std.proofs.lemmas.Bool.{cases_lt}
+use Rattle.std.proofs.lemmas.List.{length-take, length-drop, get_or-drop, get_or-take, get_or_past}
+use Rattle.boot_image.specs.Numbers.{IsBytes, word_at}
+
+pub IsBytes-drop : (n : ℕ) (bytes : List ℕ) → IsBytes bytes → IsBytes (drop n bytes)
+IsBytes-drop n bytes fits i = rw get_or-drop (fits (n + i))
+
+pub IsBytes-take : (n : ℕ) (bytes : List ℕ) → IsBytes bytes → IsBytes (take n bytes)
+IsBytes-take n bytes fits i =
+    elim (cases_lt i n) [
+      | inl below ↦ rw (get_or-take n bytes i 0 below) (fits i)
+      | inr above ↦ rw (get_or_past (take n bytes) i 0 (omega (arith, length-take n bytes))) (omega arith)
+    ]
+
+small_of : (xs : List ℕ) → length xs ≡ 4 → IsBytes xs → from_le_bytes w32 xs < 2 ^ 32
+small_of [] four bytes = absurd (omega (arith, four))
+small_of (a ∷ []) four bytes = absurd (omega (arith, four))
+small_of (a ∷ b ∷ []) four bytes = absurd (omega (arith, four))
+small_of (a ∷ b ∷ c ∷ []) four bytes = absurd (omega (arith, four))
+small_of (a ∷ b ∷ c ∷ d ∷ []) four bytes = omega (arith, bytes 0, bytes 1, bytes 2, bytes 3)
+small_of (a ∷ b ∷ c ∷ d ∷ e ∷ xs) four bytes = absurd (omega (arith, four))
+
+pub word_small : (file : List ℕ) (i : ℕ) → IsBytes file → i + 4 ≤ length file → word_at file i < 2 ^ 32
+unfolding word_at
+word_small file i bytes within = small_of (take 4 (drop i file)) (simp (length-take, length-drop) (omega arith)) (IsBytes-take 4 (drop i file) (IsBytes-drop i file bytes))
