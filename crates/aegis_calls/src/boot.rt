@@ -6,11 +6,11 @@ ghost use Rattle.boot_image.specs.Seen.{program_seen};
 ghost use Rattle.env_frames.specs.Frame.{IsAbove, IsRising, numbers};
 ghost use Rattle.aegis_limits.specs.Limits.{page_size, least_pages, most_pages, least_quantum, most_quantum, most_slots, most_environments, most_mappings};
 ghost use Rattle.frame_store.specs.Pages.{most_frames, zero_page};
-ghost use Rattle.world_model.specs.Boot.{listed, open_page, kept_of, page_from, own_row, own_rows, bare_world, added};
+ghost use Rattle.world_model.specs.Boot.{open_page, kept_of, own_row, own_rows, bare_world, added};
 ghost use Rattle.world_model.specs.Book.{own_hold};
 ghost use Rattle.std.specs.Option.{option_map};
 ghost use Rattle.world_model.specs.Item.{boot_cpu as boot_registers};
-ghost use Rattle.board_world.specs.Loading.{IsLoading, IsKeptBelow, padded};
+ghost use Rattle.board_world.specs.Loading.{IsLoading, IsKeptBelow, body_from, padded, zeros_from};
 ghost use Rattle.board_world.specs.Showing.{pages_seen, world_of};
 ghost use Rattle.board_world.specs.Doing.{with_rows};
 
@@ -102,7 +102,7 @@ fn give_body(frames: &mut Frames, env: &mut Env, first: u32, vpn: u32, bytes: &[
     requires numbers { vpn + pages_of_length (length bytes.now) ≤ 0x80000 }
     ensures loading { IsLoading first env.new.mappings }
     ensures below { IsKeptBelow first frames.old frames.new }
-    ensures pages { pages_seen frames.new env.new.mappings ≡ pages_seen frames.old env.old.mappings ++ listed (λ i. open_page (vpn + i) (page_from bytes.now (page_size * i))) (pages_of_length (length bytes.now)) }
+    ensures pages { pages_seen frames.new env.new.mappings ≡ pages_seen frames.old env.old.mappings ++ body_from vpn bytes.now (pages_of_length (length bytes.now)) }
     ensures above { IsAbove env.new.mappings (vpn + pages_of_length (length bytes.now)) }
     ensures count { length env.new.mappings ≡ length env.old.mappings + pages_of_length (length bytes.now) }
     ensures cpu { env.new.cpu ≡ env.old.cpu }
@@ -129,7 +129,7 @@ fn give_zeros(frames: &mut Frames, env: &mut Env, first: u32, vpn: u32, pages: u
     requires numbers { vpn + pages ≤ 0x80000 }
     ensures loading { IsLoading first env.new.mappings }
     ensures below { IsKeptBelow first frames.old frames.new }
-    ensures pages { pages_seen frames.new env.new.mappings ≡ pages_seen frames.old env.old.mappings ++ listed (λ i. open_page (vpn + i) zero_page) pages }
+    ensures pages { pages_seen frames.new env.new.mappings ≡ pages_seen frames.old env.old.mappings ++ zeros_from vpn pages }
     ensures count { length env.new.mappings ≡ length env.old.mappings + pages }
     ensures cpu { env.new.cpu ≡ env.old.cpu }
 {

@@ -1,11 +1,9 @@
 //! The parts of a tick, kernel calls and deaths, on the world that the board shows.
-ghost use Rattle.std.specs.Prelude.{◌≡◌, ◌+◌, ◌<◌, ◌≤◌, ℕ, IsSome, Some, false, true};
+ghost use Rattle.std.specs.Prelude.{◌≡◌, ◌+◌, ◌<◌, ◌≤◌, IsSome, Some, false};
 ghost use Rattle.aegis_limits.specs.Limits.{most_ticks};
 ghost use Rattle.world_model.specs.Book.{is_idle_book, running};
-ghost use Rattle.world_model.specs.Verdict.{Refuses, verdict_now};
 ghost use Rattle.world_model.specs.World.{after};
-ghost use Rattle.world_model.specs.Tick.{turn as turn_phase, step as step_phase, timer as timer_phase, called_world, died, refused_world};
-ghost use Rattle.world_model.specs.declared.code.Code.{Code};
+ghost use Rattle.world_model.specs.Tick.{turn as turn_phase, step as step_phase, timer as timer_phase, died, IsCalled, IsRefused};
 
 use crate::board::Board;
 use crate::registers::CODE_REGISTER;
@@ -79,8 +77,8 @@ impl Board {
     pub fn call(&mut self)
         requires runs { IsSome (world_of self.old).book.runner }
         requires room { CALL_ROWS ≤ self.old.ledger.spare }
-        ensures world { (e : ℕ) → running (world_of self.old).book.runner ≡ Some e → world_of self.new ≡ called_world (world_of self.old) e }
-        ensures refused { (e : ℕ) (code : Code) (value : ℕ) → running (world_of self.old).book.runner ≡ Some e → verdict_now (world_of self.old) e ≡ Refuses code value → world_of self.new ≡ refused_world (world_of self.old) e code value }
+        ensures world { IsCalled (world_of self.old) (world_of self.new) }
+        ensures refused { IsRefused (world_of self.old) (world_of self.new) }
         ensures time { self.new.time ≡ self.old.time }
         ensures whole { self.new.roster.spare ≡ self.old.roster.spare }
         ensures room { self.old.ledger.spare ≤ self.new.ledger.spare + CALL_ROWS }

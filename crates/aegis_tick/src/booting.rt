@@ -1,3 +1,4 @@
+//! The boot of an image: a board with all of its environments.
 ghost use Rattle.std.specs.Prelude.{◌≡◌, ◌≤◌, ◌+◌, IfOk, map, fold, length, sum_by};
 ghost use Rattle.std.specs.List.{AllByRecursion};
 ghost use Rattle.board_world.specs.Showing.{world_of};

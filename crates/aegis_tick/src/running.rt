@@ -1,3 +1,4 @@
+//! Ticks and whole runs of a board.
 ghost use Rattle.std.specs.Prelude.{◌≡◌, ◌≤◌, ◌<◌, ◌+◌, ◌*◌, ℕ, false, IfOk, IsOk, OnOk, OnErr};
 ghost use Rattle.aegis_limits.specs.Limits.{most_ticks};
 ghost use Rattle.board_world.specs.Shown.{with_spare};

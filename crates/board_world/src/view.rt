@@ -1,3 +1,4 @@
+//! A page that is lent to the layers above.
 /// A guaranteed page: its page number, whether it may be stored to, and its 4,096 bytes.
 #[derive(Clone, Copy)]
 pub struct PageView<'a> {

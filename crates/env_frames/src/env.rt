@@ -1,3 +1,4 @@
+//! An environment's frame.
 ghost use Rattle.std.specs.Prelude.{◌≡◌, ◌<◌, ◌≤◌, ◌+◌, [], ◌∷◌, ◌++◌, length, true};
 ghost use Rattle.aegis_limits.specs.Limits.{most_mappings};
 ghost use Rattle.mips_exec.specs.Cpu.{blank_cpu, rested};

@@ -1,3 +1,4 @@
+//! A guaranteed mapping.
 /// A guaranteed mapping: a page of physical memory that an environment sees.
 #[derive(Clone, Copy, Default)]
 pub struct Mapping {

@@ -1,3 +1,4 @@
+//! The search for the mapping of a page number.
 ghost use Rattle.std.specs.Prelude.{◌≡◌, ◌≢◌, ◌<◌, ℕ, length, slice_index, IfSome, IfNone};
 ghost use Rattle.env_frames.specs.Frame.{IsRising, numbers};
 

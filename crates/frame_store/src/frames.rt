@@ -1,3 +1,4 @@
+//! The pages of physical memory.
 ghost use Rattle.std.specs.Prelude.{◌≡◌, ◌<◌, ◌≤◌, ◌+◌, ◌%◌, length, IfOk};
 ghost use Rattle.aegis_limits.specs.Limits.{page_size};
 ghost use Rattle.frame_store.specs.Pages.{least_frames, most_frames, zero_page, zeroed, page_at, with_page, after_put, word_at, word_bytes};

@@ -1,3 +1,4 @@
+//! A range of an environment's memory that the kernel reads.
 ghost use Rattle.std.specs.Prelude.{◌≡◌};
 ghost use Rattle.std.specs.Option.{option_map};
 ghost use Rattle.world_model.specs.Call.{good_range};

@@ -1,3 +1,4 @@
+//! What the timer brings.
 /// What the timer brings at the end of a tick.
 #[derive(Clone, Copy, Debug, PartialEq, Eq)]
 pub enum Timer {

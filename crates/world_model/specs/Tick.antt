@@ -1,15 +1,15 @@
 -- The tick: the turn, the runner's step with its call or death, and the timer.
-use Rattle.std.specs.Prelude.{ℕ, ◌+◌, ◌-◌, List, [], ◌∷◌, ◌++◌, ◌==◌, if◌then◌else◌, Option, Some, None}
+use Rattle.std.specs.Prelude.{◌≡◌, ℕ, ◌+◌, ◌-◌, List, [], ◌∷◌, ◌++◌, ◌==◌, if◌then◌else◌, Option, Some, None}
 use Rattle.kernel_journal.specs.declared.row.Row.TheVariants as row
 use Rattle.world_model.specs.declared.code.Code.{Code}
 use Rattle.world_model.specs.declared.life.Cause.{Cause}
 use Rattle.world_model.specs.declared.slot.Runner.{Runner}
 use Rattle.world_model.specs.declared.slot.Turn.{Turn}
-use Rattle.world_model.specs.Book.{next_turn}
+use Rattle.world_model.specs.Book.{next_turn, running}
 use Rattle.world_model.specs.Call.{called}
 use Rattle.world_model.specs.Item.{Item, Step, Start, refused}
 use Rattle.world_model.specs.Step.{Act, Nothing, Stores, Calls, Dies, step_alone, act_of, acted, call_act}
-use Rattle.world_model.specs.Verdict.{reply_to, death, stop_row}
+use Rattle.world_model.specs.Verdict.{Refuses, reply_to, death, stop_row, verdict_now}
 use Rattle.world_model.specs.World.{World, Reply, set_at, only, no_items, after, run_phases, phase_items}
 
 abbrev pub no_change : World → Reply
@@ -92,3 +92,11 @@ called_world w e = let cpu = (w.solos e).cpu in served w e (call_act cpu (called
 -- the world in which an environment's call was refused, and nothing else happened
 abbrev pub refused_world : World → ℕ → Code → ℕ → World
 refused_world w e code value = record w { solos = set_at e (refused code value (w.solos e)) w.solos }
+
+-- The second world is the first after the kernel call at which its runner stands.
+abbrev pub IsCalled : World → World → Type 0
+IsCalled old new = (e : ℕ) → running old.book.runner ≡ Some e → new ≡ called_world old e
+
+-- Where the verdict on that call is a refusal, the second world is the first with exactly that answer, and nothing else.
+abbrev pub IsRefused : World → World → Type 0
+IsRefused old new = (e : ℕ) (code : Code) (value : ℕ) → running old.book.runner ≡ Some e → verdict_now old e ≡ Refuses code value → new ≡ refused_world old e code value

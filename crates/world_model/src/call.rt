@@ -1,3 +1,4 @@
+//! Kernel calls and their numbers.
 ghost use Rattle.std.specs.Prelude.{◌≡◌};
 
 /// A kernel call, named by its number in register 2 (`docs/KERNEL.md`).

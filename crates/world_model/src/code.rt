@@ -1,3 +1,4 @@
+//! The answer codes of kernel calls.
 ghost use Rattle.std.specs.Prelude.{◌≡◌};
 
 /// The answer code of a kernel call, which the caller finds in register 2 (`docs/KERNEL.md`).

@@ -1,3 +1,4 @@
+//! The laws of the model.
 ghost use Rattle.std.specs.Prelude.{◌<◌};
 ghost use Rattle.world_model.specs.Book.{Book, next_turn};
 ghost use Rattle.world_model.specs.NextTurn.{IsNextTurn};

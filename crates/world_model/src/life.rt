@@ -1,3 +1,4 @@
+//! Lives and causes of death.
 use mips_exec::ExcCode;
 
 /// Why an environment died (`docs/KERNEL.md`).

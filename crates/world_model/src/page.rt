@@ -1,3 +1,4 @@
+//! Why a page is accessed.
 /// Why an access is made.
 #[derive(Clone, Copy)]
 pub enum Purpose {

@@ -1,3 +1,4 @@
+//! Slots, runners and turns.
 /// Whose a slot is, and who runs in it.
 #[derive(Clone, Copy)]
 pub struct Hold {
