@@ -3,12 +3,12 @@ use Rattle.std.proofs.Common.{◌≡◌, ℕ, ◌+◌, ◌<◌, ◌≤◌, List,
 use Rattle.std.proofs.lemmas.Bool.{cases_lt}
 use Rattle.std.specs.Option.{option_map}
 use Rattle.asm_parse.specs.declared.quoting.Quoting.TheVariants.{Outside}
-use Rattle.asm_parse.specs.declared.syntax.Arg.{Arg}
+use Rattle.asm_parse.specs.Arg.{ArgValue}
 use Rattle.asm_parse.specs.Form.{Piece, front, skip, before_mark, parts_at, args_at, arg_of}
 use Rattle.asm_parse.proofs.MarkLemmas.{before_mark_front, parts_more, parts_last}
 
 -- operands that stand before others
-abbrev pub before_others : List Arg → Option (List Arg) → Option (List Arg)
+abbrev pub before_others : List ArgValue → Option (List ArgValue) → Option (List ArgValue)
 before_others args others = option_map (λ more. args ++ more) others
 
 -- what stands before the first comma is the first part
@@ -24,13 +24,13 @@ parts_on : (p : Piece) (place : ℕ) → place ≡ length (before_mark 44 Outsid
 parts_on p place at within = rw (at, before_mark_front 44 Outside p.bytes) (parts_more 44 Outside p.bytes (omega arith))
 
 -- an operand behind those that stand already, or before those that follow
-one_more : (args : List Arg) (arg : Arg) (others : Option (List Arg)) →
+one_more : (args : List ArgValue) (arg : ArgValue) (others : Option (List ArgValue)) →
     before_others (args ++ arg ∷ []) others ≡ before_others args (option_map (λ more. arg ∷ more) others)
 one_more args arg None = refl
 one_more args arg (Some more) = ap Some (append_assoc args (arg ∷ []) more)
 
 -- where it has another form
-pub args_none : (p : Piece) (place : ℕ) (all : Option (List Arg)) (args : List Arg) → place ≡ length (before_mark 44 Outside p.bytes) →
+pub args_none : (p : Piece) (place : ℕ) (all : Option (List ArgValue)) (args : List ArgValue) → place ≡ length (before_mark 44 Outside p.bytes) →
     arg_of (front place p) ≡ None → before_others args (args_at p) ≡ all → None ≡ all
 args_none p place all args at none so_far =
     elim (cases_lt place (length p.bytes)) [
@@ -39,12 +39,12 @@ args_none p place all args at none so_far =
     ]
 
 -- where it is the last operand
-pub args_last : (p : Piece) (place : ℕ) (all : Option (List Arg)) (args : List Arg) (arg : Arg) → place ≡ length (before_mark 44 Outside p.bytes) →
+pub args_last : (p : Piece) (place : ℕ) (all : Option (List ArgValue)) (args : List ArgValue) (arg : ArgValue) → place ≡ length (before_mark 44 Outside p.bytes) →
     place ≡ length p.bytes → arg_of (front place p) ≡ Some arg → before_others args (args_at p) ≡ all → Some (args ++ arg ∷ []) ≡ all
 args_last p place all args arg at end is so_far = rw (parts_here p place at (omega arith), is) at so_far
 
 -- where others follow it
-pub args_more : (p : Piece) (place : ℕ) (all : Option (List Arg)) (args : List Arg) (arg : Arg) → place ≡ length (before_mark 44 Outside p.bytes) →
+pub args_more : (p : Piece) (place : ℕ) (all : Option (List ArgValue)) (args : List ArgValue) (arg : ArgValue) → place ≡ length (before_mark 44 Outside p.bytes) →
     place < length p.bytes → arg_of (front place p) ≡ Some arg → before_others args (args_at p) ≡ all →
     before_others (args ++ arg ∷ []) (args_at (skip (place + 1) p)) ≡ all
 args_more p place all args arg at within is so_far =

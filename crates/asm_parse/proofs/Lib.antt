@@ -6,3 +6,4 @@ pub mod OpeningLemmas
 pub mod PartLemmas
 pub mod SpanLemmas
 pub mod StatementLemmas
+pub mod TableLemmas

@@ -9,40 +9,40 @@ use Rattle.std.specs.List.{AllByRecursion, join_with_byte, onto_first, prefix_le
 use Rattle.std.specs.Option.{option_map, option_and_then}
 use Rattle.asm_parse.specs.declared.quoting.Quoting.{Quoting}
 use Rattle.asm_parse.specs.declared.quoting.Quoting.TheVariants.{Outside}
-use Rattle.asm_parse.specs.declared.syntax.Arg.{Arg}
-use Rattle.asm_parse.specs.declared.syntax.ArgKind.{ArgKind}
+use Rattle.asm_parse.specs.Arg.{ArgValue}
+use Rattle.asm_parse.specs.Operand.{OperandValue, operand_of, based_of}
 use Rattle.asm_parse.specs.Expression.{expression_of, inner_of, number_of}
-use Rattle.asm_parse.specs.Form.{Piece, trimmed, parts_at, args_at, args_of, arg_of, kind_of, based_of, operands_of, behind, is_outside}
+use Rattle.asm_parse.specs.Form.{Piece, trimmed, parts_at, args_at, args_of, arg_of, operands_of, behind, is_outside}
 use Rattle.asm_parse.specs.Span.{IsCutArg}
 use Rattle.asm_parse.proofs.MarkLemmas.{is_mark}
 use Rattle.asm_parse.proofs.PartLemmas.{IsPart, part_span, part_front, part_skip, part_trimmed}
 
 -- nothing is no operand
-kind_none : kind_of [] ≡ None
-unfolding kind_of expression_of inner_of number_of based_of
-kind_none = refl
+operand_none : operand_of [] ≡ None
+unfolding operand_of expression_of inner_of number_of based_of
+operand_none = refl
 
-kind_some : (bs : List ℕ) (kind : ArgKind) → kind_of bs ≡ Some kind → 0 < length bs
-kind_some [] kind is = absurd (none-some kind (sym kind_none ∙ is))
-kind_some (b ∷ bs) kind is = omega arith
+operand_some : (bs : List ℕ) (operand : OperandValue) → operand_of bs ≡ Some operand → 0 < length bs
+operand_some [] operand is = absurd (none-some operand (sym operand_none ∙ is))
+operand_some (b ∷ bs) operand is = omega arith
 
 -- an operand in a part
-arg_cut : (source : List ℕ) (low high : ℕ) (p : Piece) (arg : Arg) → IsPart source low high p → arg_of p ≡ Some arg → IsCutArg source low high arg
+arg_cut : (source : List ℕ) (low high : ℕ) (p : Piece) (arg : ArgValue) → IsPart source low high p → arg_of p ≡ Some arg → IsCutArg source low high arg
 unfolding arg_of
-arg_cut source low high p arg part is = by_kind (kind_of (trimmed p).bytes) refl is
+arg_cut source low high p arg part is = by_operand (operand_of (trimmed p).bytes) refl is
   where
-    by_kind : (k : Option ArgKind) → kind_of (trimmed p).bytes ≡ k →
-        option_map (λ kind. record { kind = kind; start = (trimmed p).start; end = (trimmed p).start + length (trimmed p).bytes }) k ≡ Some arg →
+    by_operand : (o : Option OperandValue) → operand_of (trimmed p).bytes ≡ o →
+        option_map (λ operand. record { operand = operand; start = (trimmed p).start; end = (trimmed p).start + length (trimmed p).bytes }) o ≡ Some arg →
         IsCutArg source low high arg
-    by_kind None form is = absurd (none-some arg is)
-    by_kind (Some kind) form is =
+    by_operand None form is = absurd (none-some arg is)
+    by_operand (Some operand) form is =
         let inside = part_trimmed source low high p part in
-        let some = kind_some (trimmed p).bytes kind form in
+        let some = operand_some (trimmed p).bytes operand form in
         subst (IsCutArg source low high) (same_Some _ _ is) (record {
           from = inside.from;
           some = omega (arith, some);
           to = inside.to;
-          form = ap kind_of (part_span source low high (trimmed p) inside) ∙ form;
+          form = ap operand_of (part_span source low high (trimmed p) inside) ∙ form;
         })
 
 -- what stands before a comma in a part, and what stands behind it
@@ -59,15 +59,15 @@ part_later source low high start one rest part =
     subst P (drop-append-add one (44 ∷ rest) 1) (part_skip source low high (length one + 1) _ (omega (arith, length-append one (44 ∷ rest))) part)
 
 -- the first operand and the others
-args_step : (P : Arg → Type 0) (first : Option Arg) (others : Option (List Arg)) (args : List Arg) →
+args_step : (P : ArgValue → Type 0) (first : Option ArgValue) (others : Option (List ArgValue)) (args : List ArgValue) →
     option_and_then (λ arg. option_map (λ more. arg ∷ more) others) first ≡ Some args →
-    ((arg : Arg) → first ≡ Some arg → P arg) → ((more : List Arg) → others ≡ Some more → AllByRecursion P more) → AllByRecursion P args
+    ((arg : ArgValue) → first ≡ Some arg → P arg) → ((more : List ArgValue) → others ≡ Some more → AllByRecursion P more) → AllByRecursion P args
 args_step P None others args is one more = absurd (none-some args is)
 args_step P (Some arg) None args is one more = absurd (none-some args is)
 args_step P (Some arg) (Some rest) args is one more = subst (AllByRecursion P) (same_Some _ _ is) (one arg refl, more rest refl)
 
 -- the operands of parts with a comma between each two
-args_of_cut : (source : List ℕ) (low high start : ℕ) (parts : List (List ℕ)) (args : List Arg) →
+args_of_cut : (source : List ℕ) (low high start : ℕ) (parts : List (List ℕ)) (args : List ArgValue) →
     IsPart source low high (record { start = start; bytes = join_with_byte 44 parts }) → args_of start parts ≡ Some args →
     AllByRecursion (IsCutArg source low high) args
 args_of_cut source low high start [] args part is = subst (AllByRecursion (IsCutArg source low high)) (same_Some _ _ is) tt
@@ -119,13 +119,13 @@ joined_parts q (b ∷ bs) = by_byte (joined_parts Outside bs) (joined_parts (beh
     by_byte after_mark after false is = rw (is, join_first b (parts_at 44 (behind q b) bs), after) refl
 
 -- the operands of a part
-args_at_cut : (source : List ℕ) (low high : ℕ) (p : Piece) (args : List Arg) → IsPart source low high p → args_at p ≡ Some args →
+args_at_cut : (source : List ℕ) (low high : ℕ) (p : Piece) (args : List ArgValue) → IsPart source low high p → args_at p ≡ Some args →
     AllByRecursion (IsCutArg source low high) args
 args_at_cut source low high p args part is =
     let P : List ℕ → Type 0 = λ bs. IsPart source low high (record { start = p.start; bytes = bs }) in
     args_of_cut source low high p.start (parts_at 44 Outside p.bytes) args (subst P (sym (joined_parts Outside p.bytes)) part) is
 
-pub operands_cut : (source : List ℕ) (low high : ℕ) (p : Piece) (args : List Arg) → IsPart source low high p → operands_of p ≡ Some args →
+pub operands_cut : (source : List ℕ) (low high : ℕ) (p : Piece) (args : List ArgValue) → IsPart source low high p → operands_of p ≡ Some args →
     AllByRecursion (IsCutArg source low high) args
 unfolding operands_of
 operands_cut source low high p args part is = by_tests (length p.bytes == 0) (prefix_len is_blank p.bytes == 0) is

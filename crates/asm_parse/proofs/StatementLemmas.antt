@@ -6,7 +6,7 @@ use Rattle.std.specs.Prelude.{not, ◌==◌, ◌&&◌, nat_eq, codes, IfOk, IfSo
 use Rattle.std.specs.List.{AllByRecursion, list_all, prefix_len, starts_with, suffix_len, take_while}
 use Rattle.std.specs.Option.{option_map, ok_or}
 use Rattle.line_text.specs.Lines.{LineValue, IsPlaced, lines_of}
-use Rattle.asm_parse.specs.declared.syntax.Arg.{Arg}
+use Rattle.asm_parse.specs.Arg.{ArgValue}
 use Rattle.asm_parse.specs.declared.syntax.AsmBody.{AsmBody}
 use Rattle.asm_parse.specs.declared.syntax.AsmBody.TheVariants.{Nothing, Op, Directive}
 use Rattle.asm_parse.specs.declared.syntax.AsmLine.{AsmLine}
@@ -47,7 +47,7 @@ name_short : (bs : List ℕ) → length (take_while is_name_byte bs) ≤ length 
 name_short bs = omega (arith, length-take (prefix_len is_name_byte bs) bs)
 
 -- the operands that a body has lie in its part
-args_named : (name : List ℕ) (args : List Arg) → args_in (body_named name args) ≡ args
+args_named : (name : List ℕ) (args : List ArgValue) → args_in (body_named name args) ≡ args
 args_named name args = by_point (starts_with nat_eq name (codes "."))
   where
     by_point : (v : Bool) → args_in (cond v (Directive name args) (Op name args)) ≡ args
@@ -63,7 +63,7 @@ body_cut source low high p body part is =
     name : List ℕ
     name = take_while is_name_byte p.bytes
 
-    by_tests : (v w : Bool) (o : Option (List Arg)) → operands_of (skip (length name) p) ≡ o →
+    by_tests : (v w : Bool) (o : Option (List ArgValue)) → operands_of (skip (length name) p) ≡ o →
         cond v (Some Nothing) (cond w (option_map (λ args. body_named name args) o) None) ≡ Some body → AllByRecursion (IsCutArg source low high) (args_in body)
     by_tests true w o at is = subst (λ (b : AsmBody). AllByRecursion (IsCutArg source low high) (args_in b)) (same_Some _ _ is) tt
     by_tests false false o at is = absurd (none-some body is)

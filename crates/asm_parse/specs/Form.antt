@@ -1,12 +1,10 @@
 -- The form of a line: `[label:] [operation]`, with blanks around it and a comment behind it.
-use Rattle.std.specs.Prelude.{◌≡◌, ℕ, ◌+◌, ◌-◌, Bool, true, false, not, List, [], ◌∷◌, ◌++◌, Option, Some, None, Result, Ok, Err, ◌==◌, ◌&&◌, ◌||◌, if◌then◌else◌, length, take, drop, codes, nat_eq}
-use Rattle.std.specs.List.{list_all, starts_with, ends_with, take_while, prefix_len, suffix_len, position_or_len, onto_first}
-use Rattle.std.specs.Option.{option_map, option_and_then, option_to_list, is_some, ok_or}
+use Rattle.std.specs.Prelude.{◌≡◌, ℕ, ◌+◌, ◌-◌, Bool, true, false, not, List, [], ◌∷◌, ◌++◌, Option, Some, None, Result, Ok, Err, ◌==◌, ◌&&◌, if◌then◌else◌, length, take, drop, codes, nat_eq}
+use Rattle.std.specs.List.{list_all, starts_with, take_while, prefix_len, suffix_len, onto_first}
+use Rattle.std.specs.Option.{option_map, option_and_then, option_to_list, ok_or}
 use Rattle.std.specs.Str.{byte}
 use Rattle.line_text.specs.Lines.{LineValue, lines_of}
-use Rattle.asm_parse.specs.declared.syntax.Arg.{Arg}
-use Rattle.asm_parse.specs.declared.syntax.ArgKind.{ArgKind}
-use Rattle.asm_parse.specs.declared.syntax.ArgKind.TheVariants.{Reg, Value, Based, Quoted}
+use Rattle.asm_parse.specs.Arg.{ArgValue}
 use Rattle.asm_parse.specs.declared.syntax.AsmBody.{AsmBody}
 use Rattle.asm_parse.specs.declared.syntax.AsmBody.TheVariants.{Nothing, Op, Directive}
 use Rattle.asm_parse.specs.declared.syntax.AsmLine.{AsmLine}
@@ -16,8 +14,8 @@ use Rattle.asm_parse.specs.declared.fault.AsmWhy.TheVariants.{Syntax}
 use Rattle.asm_parse.specs.declared.quoting.Quoting.{Quoting}
 use Rattle.asm_parse.specs.declared.quoting.Quoting.TheVariants.{Outside, Inside, Escape}
 use Rattle.asm_parse.specs.Bytes.{is_text_byte, is_blank, is_name_byte}
-use Rattle.asm_parse.specs.Words.{begins_name, is_register, unquoted}
-use Rattle.asm_parse.specs.Expression.{expression_of}
+use Rattle.asm_parse.specs.Operand.{operand_of}
+use Rattle.asm_parse.specs.Words.{begins_name}
 
 -- bytes of the source, and the place where they stand
 pub record Piece : Type 0 where
@@ -67,35 +65,14 @@ before_mark mark q [] = []
 before_mark mark q (b ∷ bs) =
     if is_outside q && b == mark then [] else b ∷ before_mark mark (behind q b) bs
 
--- a register in brackets, and before it an expression or nothing: the bytes before the brackets and inside them
-unfoldable pub based_of : List ℕ → Option (List ℕ × List ℕ)
-based_of bs =
-    let dollar = position_or_len (λ b. b == byte "$") bs in
-    let front = take dollar bs in
-    let back = drop dollar bs in
-    let offset = take (length front - 1) front in
-    let register = take (length back - 1) back in
-    if ends_with nat_eq front (codes "(") && ends_with nat_eq back (codes ")") && is_register register
-    && (length offset == 0 || is_some (expression_of offset))
-    then Some (offset, register) else None
-
--- the form of an operand
-unfoldable pub kind_of : List ℕ → Option ArgKind
-kind_of bs =
-    if is_register bs then Some Reg else
-    if is_some (expression_of bs) then Some Value else
-    if is_some (based_of bs) then Some Based else
-    if is_some (unquoted bs) then Some Quoted else
-    None
-
 -- an operand, which blanks may stand around
-unfoldable pub arg_of : Piece → Option Arg
+unfoldable pub arg_of : Piece → Option ArgValue
 arg_of p =
-    let operand = trimmed p in
-    option_map (λ kind. record { kind = kind; start = operand.start; end = operand.start + length operand.bytes }) (kind_of operand.bytes)
+    let inner = trimmed p in
+    option_map (λ operand. record { operand = operand; start = inner.start; end = inner.start + length inner.bytes }) (operand_of inner.bytes)
 
 -- an operand from each part, where the first part stands at a place and a comma stands behind each but the last
-abbrev pub args_of : ℕ → List (List ℕ) → Option (List Arg)
+abbrev pub args_of : ℕ → List (List ℕ) → Option (List ArgValue)
 args_of start [] = Some []
 args_of start (part ∷ parts) =
     option_and_then
@@ -103,15 +80,15 @@ args_of start (part ∷ parts) =
     (arg_of (record { start = start; bytes = part }))
 
 -- the operands that a piece is, with a comma between each two
-abbrev pub args_at : Piece → Option (List Arg)
+abbrev pub args_at : Piece → Option (List ArgValue)
 args_at p = args_of p.start (parts_at (byte ",") Outside p.bytes)
 
 -- an operation by its name: a directive where the name begins with a point
-abbrev pub body_named : List ℕ → List Arg → AsmBody
+abbrev pub body_named : List ℕ → List ArgValue → AsmBody
 body_named name args = if starts_with nat_eq name (codes ".") then Directive name args else Op name args
 
 -- the operands behind a name: none, or a blank and then operands
-unfoldable pub operands_of : Piece → Option (List Arg)
+unfoldable pub operands_of : Piece → Option (List ArgValue)
 operands_of p =
     if length p.bytes == 0 then Some [] else
     if prefix_len is_blank p.bytes == 0 then None else

@@ -1,7 +1,12 @@
+pub mod Arg
 pub mod Bytes
 pub mod Expression
 pub mod Form
+pub mod Operand
+pub mod PieceSeen
+pub mod Register
 pub mod Seen
 pub mod Span
+pub mod Table
 pub mod Why
 pub mod Words

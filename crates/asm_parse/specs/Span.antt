@@ -2,23 +2,24 @@
 use Rattle.std.specs.Prelude.{◌≡◌, ℕ, ◌<◌, ◌≤◌, List, [], Some, length, slice_range}
 use Rattle.std.specs.List.{AllByRecursion, prefix_len, suffix_len}
 use Rattle.std.specs.Str.{byte}
-use Rattle.asm_parse.specs.declared.syntax.Arg.{Arg}
+use Rattle.asm_parse.specs.Arg.{ArgValue}
+use Rattle.asm_parse.specs.Operand.{operand_of}
 use Rattle.asm_parse.specs.declared.syntax.AsmBody.{AsmBody}
 use Rattle.asm_parse.specs.declared.syntax.AsmBody.TheVariants.{Nothing, Op, Directive}
 use Rattle.asm_parse.specs.declared.syntax.AsmLine.{AsmLine}
 use Rattle.asm_parse.specs.declared.quoting.Quoting.TheVariants.{Outside}
 use Rattle.asm_parse.specs.Bytes.{is_blank}
-use Rattle.asm_parse.specs.Form.{before_mark, kind_of, statement_of}
+use Rattle.asm_parse.specs.Form.{before_mark, statement_of}
 
--- an operand's span lies between two places, and cuts out bytes of the operand's form
-pub record IsCutArg (source : List ℕ) (start end : ℕ) (arg : Arg) : Type 0 where
+-- an operand's span lies between two places, and cuts out bytes that say the operand
+pub record IsCutArg (source : List ℕ) (start end : ℕ) (arg : ArgValue) : Type 0 where
   pub from : start ≤ arg.start
   pub some : arg.start < arg.end
   pub to : arg.end ≤ end
-  pub form : kind_of (slice_range source arg.start arg.end) ≡ Some arg.kind
+  pub form : operand_of (slice_range source arg.start arg.end) ≡ Some arg.operand
 
 -- the operands of a body
-abbrev pub args_in : AsmBody → List Arg
+abbrev pub args_in : AsmBody → List ArgValue
 args_in Nothing = []
 args_in (Op name args) = args
 args_in (Directive name args) = args

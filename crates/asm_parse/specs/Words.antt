@@ -1,9 +1,10 @@
 -- Names, registers and quoted texts.
 use Rattle.std.specs.Prelude.{ℕ, Bool, true, false, List, [], ◌∷◌, Option, Some, None, nat_lt, ◌==◌, ◌&&◌, ◌||◌, length, if◌then◌else◌}
+use Rattle.std.specs.Char.{is_ascii_alphanumeric}
 use Rattle.std.specs.List.{list_all}
 use Rattle.std.specs.Option.{option_map, option_and_then}
 use Rattle.std.specs.Str.{byte}
-use Rattle.asm_parse.specs.Bytes.{is_name_start, is_letter, is_decimal}
+use Rattle.asm_parse.specs.Bytes.{is_name_start}
 
 -- whether bytes begin as a name does: with a letter, `_` or `.`
 abbrev pub begins_name : List ℕ → Bool
@@ -13,7 +14,7 @@ begins_name (b ∷ bs) = is_name_start b
 -- a register: `$` with letters or digits
 abbrev pub is_register : List ℕ → Bool
 is_register [] = false
-is_register (b ∷ bs) = b == byte "$" && nat_lt 0 (length bs) && list_all (λ c. is_letter c || is_decimal c) bs
+is_register (b ∷ bs) = b == byte "$" && nat_lt 0 (length bs) && list_all is_ascii_alphanumeric bs
 
 -- the byte that an escape stands for: `\n`, `\t`, `\0`, `\\` and `\"`
 abbrev pub escaped : ℕ → Option ℕ

@@ -35,6 +35,14 @@ pub enum Inner<'a> {
     },
 }
 
+impl Expression<'static> {
+    /// The number 0.
+    pub const ZERO: Expression<'static> = Expression {
+        openings: b"",
+        inner: Inner::Number(0),
+    };
+}
+
 /// The bytes that an opening has: `hi(` or `lo(`.
 const OPENING_LENGTH: usize = 3;
 
@@ -43,7 +51,7 @@ const MOST_NEGATIVE: u32 = 1 << 31;
 
 /// The expression that bytes are, if they are one. Brackets may nest to any depth.
 #[tactic(auto, unfolding(crate::specs::Expression::expression_of))]
-pub fn read_expression(bytes: &[u8]) -> Option<Expression<'_>>
+pub(crate) fn read_expression(bytes: &[u8]) -> Option<Expression<'_>>
     ensures { option_map expression_seen result ≡ expression_of bytes.now }
 {
     let length = openings_length(bytes);

@@ -12,16 +12,20 @@ mod lines;
 mod marks;
 mod operands;
 mod piece;
+mod quoted;
 mod quoting;
+mod register;
 mod syntax;
+mod table;
 mod words;
 
-pub use expression::{Expression, Inner, read_expression};
+pub use expression::{Expression, Inner};
 pub use fault::{AsmFault, AsmWhy};
 pub use laws::{encloses_high, encloses_low};
 pub use lines::{parse, parse_line};
-pub use operands::{Based, read_based};
-pub use syntax::{Arg, ArgKind, Args, AsmBody, AsmLine, Name};
+pub use register::Register;
+pub use syntax::{Arg, Args, AsmBody, AsmLine, Name, Operand};
+pub use table::{Row, find};
 
 #[cfg(test)]
 mod tests;

@@ -5,7 +5,7 @@ ghost use Rattle.line_text.specs.LineView.{line_value};
 ghost use Rattle.asm_parse.specs.Form.{body_named, body_of, due_of, label_of, after_label, before_mark, parsed, said, statement_of, Gives};
 ghost use Rattle.asm_parse.specs.Bytes.{is_text_byte};
 ghost use Rattle.asm_parse.specs.declared.quoting.Quoting.TheVariants.{Outside};
-ghost use Rattle.asm_parse.specs.Seen.{piece_seen};
+ghost use Rattle.asm_parse.specs.PieceSeen.{piece_seen};
 ghost use Rattle.std.specs.List.{AllByRecursion, list_all};
 ghost use Rattle.std.specs.Str.{byte};
 ghost use Rattle.line_text.specs.Lines.{IsPlaced, lines_of};
@@ -24,7 +24,7 @@ use std::alloc::{AllocError, Global};
 /// The statements of a source in the order of its lines, one for each line that has a statement. A fault
 /// is `Syntax` at the first line of another form, or that memory ran out. The form is described in
 /// `docs/ASSEMBLER.md`.
-pub fn parse(alloc: Global, source: &[u8]) -> Result<Vec<AsmLine>, AsmFault>
+pub fn parse(alloc: Global, source: &[u8]) -> Result<Vec<AsmLine<'_>>, AsmFault>
     requires { length source.now < 2 ^ 27 }
     // The statements, or the first line of another form.
     ensures said { Gives (λ lines. lines.items) result (parsed source.now) }
@@ -36,7 +36,7 @@ pub fn parse(alloc: Global, source: &[u8]) -> Result<Vec<AsmLine>, AsmFault>
 
 /// The statements of a source.
 #[tactic(auto, unfolding(crate::specs::Form::parsed))]
-fn statements(alloc: Global, source: &[u8]) -> Result<Vec<AsmLine>, AsmFault>
+fn statements(alloc: Global, source: &[u8]) -> Result<Vec<AsmLine<'_>>, AsmFault>
     requires { length source.now < 2 ^ 27 }
     ensures said { Gives (λ lines. lines.items) result (parsed source.now) }
     ensures placed { AllByRecursion (IsPlaced source.now) (lines_of source.now) }
@@ -52,7 +52,7 @@ fn statements(alloc: Global, source: &[u8]) -> Result<Vec<AsmLine>, AsmFault>
 
 /// The statement of a line, where it has one. A fault is `Syntax` where the line has another form, or
 /// that memory ran out.
-pub fn parse_line(alloc: Global, line: &Line<'_>) -> Result<Option<AsmLine>, AsmFault>
+pub fn parse_line<'a>(alloc: Global, line: &Line<'a>) -> Result<Option<AsmLine<'a>>, AsmFault>
     requires { line.now.start + length line.now.text.now < 2 ^ 32 }
     // The statement, if there is one, or that the line has another form.
     ensures said { Gives (λ said. said) result (due_of (line_value line.now)) }
@@ -64,7 +64,7 @@ pub fn parse_line(alloc: Global, line: &Line<'_>) -> Result<Option<AsmLine>, Asm
 
 /// The statement of a line.
 #[tactic(auto, unfolding(crate::specs::Form::line_of))]
-fn statement_in(alloc: Global, line: &Line<'_>) -> Result<Option<AsmLine>, AsmFault>
+fn statement_in<'a>(alloc: Global, line: &Line<'a>) -> Result<Option<AsmLine<'a>>, AsmFault>
     requires { line.now.start + length line.now.text.now < 2 ^ 32 }
     ensures { Gives (λ said. said) result (due_of (line_value line.now)) }
 {
@@ -114,7 +114,11 @@ fn before_comment(bytes: &[u8]) -> &[u8]
 
 /// The label and the operation of a line.
 #[tactic(auto, unfolding(crate::specs::Form::statement_of))]
-fn statement(alloc: Global, number: u32, piece: Piece<'_>) -> Result<Option<AsmLine>, AllocError>
+fn statement(
+    alloc: Global,
+    number: u32,
+    piece: Piece<'_>,
+) -> Result<Option<AsmLine<'_>>, AllocError>
     ensures { IfOk result (λ line. line ≡ statement_of number (piece_seen piece.entry)) }
 {
     let (label, rest) = match label(piece.bytes) {
@@ -152,7 +156,7 @@ fn label(bytes: &[u8]) -> Option<&[u8]>
 
 /// What follows a label: nothing, or a name and operands.
 #[tactic(auto, unfolding(crate::specs::Form::body_of))]
-fn body(alloc: Global, piece: Piece<'_>) -> Result<Option<AsmBody>, AllocError>
+fn body(alloc: Global, piece: Piece<'_>) -> Result<Option<AsmBody<'_>>, AllocError>
     ensures { IfOk result (λ body. body ≡ body_of (piece_seen piece.entry)) }
 {
     if piece.bytes.is_empty() {
@@ -170,8 +174,8 @@ fn body(alloc: Global, piece: Piece<'_>) -> Result<Option<AsmBody>, AllocError>
 }
 
 /// An operation by its name.
-fn named(name: Name, args: Args) -> AsmBody
-    ensures { result ≡ body_named name args }
+fn named(name: Name, args: Args<'_>) -> AsmBody<'_>
+    ensures { result ≡ body_named name args.entry }
 {
     if name.bytes().starts_with(b".") {
         AsmBody::Directive { name, args }

@@ -3,30 +3,45 @@ ghost use Rattle.std.specs.Prelude.{◌≡◌, ◌+◌, ◌^◌, ◌<◌, ◌≤
 ghost use Rattle.std.specs.List.{position_or_len};
 ghost use Rattle.std.specs.Str.{byte};
 ghost use Rattle.std.specs.Option.{option_map};
-ghost use Rattle.asm_parse.specs.Form.{arg_of, args_at, based_of, kind_of, operands_of};
-ghost use Rattle.asm_parse.specs.Seen.{based_seen, piece_seen};
+ghost use Rattle.asm_parse.specs.Form.{arg_of, args_at, operands_of};
+ghost use Rattle.asm_parse.specs.Operand.{based_of, offset_of, operand_of};
+ghost use Rattle.asm_parse.specs.PieceSeen.{piece_seen};
+ghost use Rattle.asm_parse.specs.Seen.{arg_seen, expression_seen, operand_seen};
 
 use crate::blanks::blanks_before;
-use crate::expression::read_expression;
+use crate::expression::{Expression, read_expression};
 use crate::marks::mark_place;
 use crate::piece::Piece;
-use crate::syntax::{Arg, ArgKind, Args};
-use crate::words::{is_quoted, is_register};
+use crate::quoted::unquoted;
+use crate::register::Register;
+use crate::syntax::{Arg, Args, Operand};
+use crate::words::is_register;
 use std::alloc::{AllocError, Global};
 
-/// A register in brackets, and what stands before it.
-#[derive(Clone, Copy)]
-pub struct Based<'a> {
-    /// The expression before the brackets. Nothing may stand there.
-    pub offset: &'a [u8],
-    /// The register inside.
-    pub register: &'a [u8],
+/// The operand that bytes are, if they are one.
+#[tactic(auto, unfolding(crate::specs::Operand::operand_of))]
+fn read_operand(alloc: Global, bytes: &[u8]) -> Result<Option<Operand<'_>>, AllocError>
+    ensures { IfOk result (λ found. option_map operand_seen found ≡ operand_of bytes.now) }
+{
+    if is_register(bytes) {
+        return Ok(Some(Operand::Register(Register::read(bytes))));
+    }
+    if let Some(value) = read_expression(bytes) {
+        return Ok(Some(Operand::Value(value)));
+    }
+    if let Some(based) = read_based(bytes) {
+        return Ok(Some(based));
+    }
+    match unquoted(alloc, bytes)? {
+        Some(text) => Ok(Some(Operand::Quoted(text))),
+        None => Ok(None),
+    }
 }
 
-/// The parts of a register in brackets with an expression or nothing before it, if bytes are that.
-#[tactic(auto, unfolding(crate::specs::Form::based_of))]
-pub fn read_based(bytes: &[u8]) -> Option<Based<'_>>
-    ensures { option_map based_seen result ≡ based_of bytes.now }
+/// A register in brackets with an expression or nothing before it, if bytes are that.
+#[tactic(auto, unfolding(crate::specs::Operand::based_of))]
+fn read_based(bytes: &[u8]) -> Option<Operand<'_>>
+    ensures { option_map operand_seen result ≡ based_of bytes.now }
 {
     let (front, back) = bytes.split_at(dollar_place(bytes));
     if !front.ends_with(b"(") || !back.ends_with(b")") {
@@ -34,10 +49,20 @@ pub fn read_based(bytes: &[u8]) -> Option<Based<'_>>
     }
     let offset = &front[..front.len() - 1];
     let register = &back[..back.len() - 1];
-    if is_register(register) && (offset.is_empty() || read_expression(offset).is_some()) {
-        Some(Based { offset, register })
+    if !is_register(register) {
+        return None;
+    }
+    Some(Operand::Based(read_offset(offset)?, Register::read(register)))
+}
+
+/// The expression before brackets, which is 0 where nothing stands there.
+fn read_offset(bytes: &[u8]) -> Option<Expression<'_>>
+    ensures { option_map expression_seen result ≡ offset_of bytes.now }
+{
+    if bytes.is_empty() {
+        Some(Expression::ZERO)
     } else {
-        None
+        read_expression(bytes)
     }
 }
 
@@ -58,7 +83,7 @@ fn dollar_place(bytes: &[u8]) -> usize
 /// The operands behind a name, if they have the form: none, or a blank and then operands with a comma
 /// between each two.
 #[tactic(auto, unfolding(crate::specs::Form::operands_of))]
-pub(crate) fn operands(alloc: Global, piece: Piece<'_>) -> Result<Option<Args>, AllocError>
+pub(crate) fn operands(alloc: Global, piece: Piece<'_>) -> Result<Option<Args<'_>>, AllocError>
     ensures { IfOk result (λ args. args ≡ operands_of (piece_seen piece.entry)) }
 {
     if piece.bytes.is_empty() {
@@ -71,14 +96,14 @@ pub(crate) fn operands(alloc: Global, piece: Piece<'_>) -> Result<Option<Args>, 
 }
 
 /// Operands with a comma between each two, if each has a form.
-fn operand_list(alloc: Global, piece: Piece<'_>) -> Result<Option<Args>, AllocError>
+fn operand_list(alloc: Global, piece: Piece<'_>) -> Result<Option<Args<'_>>, AllocError>
     ensures { IfOk result (λ args. args ≡ args_at (piece_seen piece.entry)) }
 {
     let mut args = Args::new(alloc);
     let mut rest = piece;
     loop {
         let place = mark_place(rest.bytes, b',');
-        match operand(rest.front(place)) {
+        match arg(alloc, rest.front(place))? {
             Some(arg) => args.push(arg)?,
             None => return Ok(None),
         }
@@ -91,32 +116,16 @@ fn operand_list(alloc: Global, piece: Piece<'_>) -> Result<Option<Args>, AllocEr
 
 /// An operand, which blanks may stand around.
 #[tactic(auto, unfolding(crate::specs::Form::arg_of))]
-fn operand(piece: Piece<'_>) -> Option<Arg>
-    ensures { result ≡ arg_of (piece_seen piece.entry) }
+fn arg(alloc: Global, piece: Piece<'_>) -> Result<Option<Arg<'_>>, AllocError>
+    ensures { IfOk result (λ found. option_map arg_seen found ≡ arg_of (piece_seen piece.entry)) }
 {
-    let operand = piece.trimmed();
-    let kind = kind(operand.bytes)?;
-    Some(Arg {
-        kind,
-        start: operand.start,
-        end: operand.end(),
-    })
-}
-
-/// The form of an operand.
-#[tactic(auto, unfolding(crate::specs::Form::kind_of))]
-fn kind(bytes: &[u8]) -> Option<ArgKind>
-    ensures { result ≡ kind_of bytes.now }
-{
-    if is_register(bytes) {
-        Some(ArgKind::Reg)
-    } else if read_expression(bytes).is_some() {
-        Some(ArgKind::Value)
-    } else if read_based(bytes).is_some() {
-        Some(ArgKind::Based)
-    } else if is_quoted(bytes) {
-        Some(ArgKind::Quoted)
-    } else {
-        None
+    let inner = piece.trimmed();
+    match read_operand(alloc, inner.bytes)? {
+        Some(operand) => Ok(Some(Arg {
+            operand,
+            start: inner.start,
+            end: inner.end(),
+        })),
+        None => Ok(None),
     }
 }

@@ -14,7 +14,7 @@ pub(crate) struct Piece<'a> {
 impl<'a> Piece<'a> {
     ghost use Rattle.std.specs.Prelude.{◌≡◌, ◌+◌, ◌≤◌, length};
     ghost use Rattle.asm_parse.specs.Form.{after_blanks, before_blanks, front, skip, trimmed};
-    ghost use Rattle.asm_parse.specs.Seen.{piece_seen};
+    ghost use Rattle.asm_parse.specs.PieceSeen.{piece_seen};
 
     /// The place behind its last byte.
     pub(crate) fn end(self) -> u32

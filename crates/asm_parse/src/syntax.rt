@@ -1,12 +1,14 @@
 //! The lines of a source, as they are said.
-ghost use Rattle.std.specs.Prelude.{◌≡◌, ◌^◌, ◌<◌, ◌++◌, ◌∷◌, [], length, IfOk, OnOk, OnErr};
+ghost use Rattle.std.specs.Prelude.{◌≡◌, IfOk};
 
+use crate::expression::Expression;
+use crate::register::Register;
 use std::alloc::{AllocError, Global};
 use std::marker::Model;
 
 /// A line that has a statement: its label and its operation.
 #[derive(Drop)]
-pub struct AsmLine {
+pub struct AsmLine<'a> {
     /// The line's number, from 1.
     pub line: u32,
     /// The place of the statement's first byte in the source.
@@ -16,12 +18,12 @@ pub struct AsmLine {
     /// The name before the colon, where there is one.
     pub label: Option<Name>,
     /// What follows the label.
-    pub body: AsmBody,
+    pub body: AsmBody<'a>,
 }
 
 /// The operation of a line.
 #[derive(Drop)]
-pub enum AsmBody {
+pub enum AsmBody<'a> {
     /// The line has a label alone.
     Nothing,
     /// An instruction: a name that doesn't begin with a point.
@@ -29,39 +31,39 @@ pub enum AsmBody {
         /// Its name.
         name: Name,
         /// Its operands.
-        args: Args,
+        args: Args<'a>,
     },
     /// A directive: a name that begins with a point.
     Directive {
         /// Its name.
         name: Name,
         /// Its operands.
-        args: Args,
+        args: Args<'a>,
     },
 }
 
-/// An operand: its form, and where it stands in the source.
-#[derive(Clone, Copy)]
-pub struct Arg {
-    /// Its form.
-    pub kind: ArgKind,
+/// An operand, and where it stands in the source.
+#[derive(Drop)]
+pub struct Arg<'a> {
+    /// The operand.
+    pub operand: Operand<'a>,
     /// The place of its first byte in the source.
     pub start: u32,
     /// The place behind its last byte.
     pub end: u32,
 }
 
-/// The forms of an operand.
-#[derive(Clone, Copy, Debug, PartialEq, Eq)]
-pub enum ArgKind {
-    /// A register: `$` with letters or digits.
-    Reg,
+/// An operand. A register is none where there is no register of that name.
+#[derive(Drop)]
+pub enum Operand<'a> {
+    /// A register.
+    Register(Option<Register>),
     /// An expression.
-    Value,
-    /// An expression or nothing, and behind it a register in brackets.
-    Based,
-    /// A quoted text.
-    Quoted,
+    Value(Expression<'a>),
+    /// An offset, and a register in brackets.
+    Based(Expression<'a>, Option<Register>),
+    /// The bytes that a quoted text means.
+    Quoted(Vec<u8>),
 }
 
 /// A name. Contracts see it as the list of its bytes.
@@ -97,22 +99,26 @@ impl Name {
 
 /// The operands of an operation. Contracts see them as their list.
 #[derive(Drop)]
-pub struct Args {
-    list: Vec<Arg>,
+pub struct Args<'a> {
+    list: Vec<Arg<'a>>,
 }
 
-impl Model for Args {
-    ghost use Rattle.std.specs.Prelude.{List};
-    ghost use Rattle.asm_parse.specs.declared.syntax.Arg.{Arg};
+impl<'a> Model for Args<'a> {
+    ghost use Rattle.std.specs.Prelude.{List, map};
+    ghost use Rattle.asm_parse.specs.Arg.{ArgValue};
+    ghost use Rattle.asm_parse.specs.Seen.{arg_seen};
 
-    ghost Value = { List Arg };
+    ghost Value = { List ArgValue };
 
-    ghost view = { λ args. args.list.items };
+    ghost view = { λ args. map arg_seen args.list.items };
 }
 
-impl Args {
+impl<'a> Args<'a> {
+    ghost use Rattle.std.specs.Prelude.{◌≡◌, ◌++◌, ◌∷◌, [], map, OnOk, OnErr};
+    ghost use Rattle.asm_parse.specs.Seen.{arg_seen};
+
     /// No operands.
-    pub(crate) fn new(alloc: Global) -> Args
+    pub(crate) fn new(alloc: Global) -> Args<'a>
         ensures { result ≡ [] }
     {
         Args {
@@ -121,8 +127,8 @@ impl Args {
     }
 
     /// Adds an operand behind the others.
-    pub(crate) fn push(&mut self, arg: Arg) -> Result<(), AllocError>
-        ensures ok { OnOk result (self.new ≡ self.old ++ arg ∷ []) }
+    pub(crate) fn push(&mut self, arg: Arg<'a>) -> Result<(), AllocError>
+        ensures ok { OnOk result (self.new ≡ self.old ++ arg_seen arg.entry ∷ []) }
         ensures err { OnErr result (self.new ≡ self.old) }
     {
         self.list.push(arg)?;
@@ -130,8 +136,8 @@ impl Args {
     }
 
     /// The operands in order.
-    pub fn list(&self) -> &[Arg]
-        ensures { result.now ≡ self.now }
+    pub fn list(&self) -> &[Arg<'a>]
+        ensures { map arg_seen result.now ≡ self.now }
     {
         self.list.as_slice()
     }

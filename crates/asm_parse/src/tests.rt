@@ -96,26 +96,35 @@ fn names_the_parts_at_their_places(rt: HostRuntime) -> Result<(), Fail> {
 
 #[test]
 fn takes_operands_apart(rt: HostRuntime) -> Result<(), Fail> {
-    let offset: &[u8] = b"lo(hi(x-1))";
-    let register: &[u8] = b"$sp";
-    let Some(parts) = read_based(b"lo(hi(x-1))($sp)") else {
-        return Err(Fail::from("not based"));
+    let Ok(lines) = parse(rt.alloc(), b".x lo(hi(x-1))($sp),$99,\"\\t\"") else {
+        return Err(Fail::from("refused"));
     };
-    assert_eq!(rt; parts.offset, offset);
-    assert_eq!(rt; parts.register, register);
-    let Some(
+    let [line] = lines.as_slice() else {
+        return Err(Fail::from("not one line"));
+    };
+    let AsmBody::Directive { args, .. } = &line.body else {
+        return Err(Fail::from("no directive"));
+    };
+    let [based, register, text] = args.list() else {
+        return Err(Fail::from("not three operands"));
+    };
+    let Operand::Based(
         Expression {
             openings,
             inner: Inner::Sum { name, number },
         },
-    ) = read_expression(offset)
+        Some(stack),
+    ) = &based.operand
     else {
         return Err(Fail::from("no sum"));
     };
-    let halves: &[u8] = b"lo(hi(";
-    let x: &[u8] = b"x";
-    assert_eq!(rt; openings, halves);
-    assert_eq!(rt; name, x);
-    assert_eq!(rt; number, 0xffff_ffff);
+    assert_eq!(rt; *openings, b"lo(hi(".as_slice());
+    assert_eq!(rt; *name, b"x".as_slice());
+    assert_eq!(rt; (*number, stack.number), (0xffff_ffff, 29));
+    assert!(rt; matches!(register.operand, Operand::Register(None)));
+    let Operand::Quoted(text) = &text.operand else {
+        return Err(Fail::from("no text"));
+    };
+    assert_eq!(rt; text.as_slice(), b"\t".as_slice());
     Ok(())
 }

@@ -1,10 +1,11 @@
-//! Names, registers and quoted texts.
-ghost use Rattle.std.specs.Prelude.{◌≡◌, ◌≤◌, ◌||◌, false, length, is_some};
+//! Names and registers.
+ghost use Rattle.std.specs.Prelude.{◌≡◌, ◌≤◌, length};
 ghost use Rattle.std.specs.List.{list_all, prefix_len};
-ghost use Rattle.asm_parse.specs.Bytes.{is_decimal, is_letter, is_name_byte};
-ghost use Rattle.asm_parse.specs.Words.{begins_name, is_register, unquoted, unquoted_from, escaped};
+ghost use Rattle.std.specs.Char.{is_ascii_alphanumeric};
+ghost use Rattle.asm_parse.specs.Bytes.{is_name_byte};
+ghost use Rattle.asm_parse.specs.Words.{begins_name, is_register};
 
-use crate::bytes::{is_decimal, is_letter, is_name_byte, is_name_start};
+use crate::bytes::{is_name_byte, is_name_start};
 
 /// How many bytes of a name stand at the front.
 #[tactic(auto, using(std::proofs::lemmas::List::Sums::prefix_len_is))]
@@ -42,46 +43,7 @@ pub(crate) fn is_register(bytes: &[u8]) -> bool
 
 /// Whether each byte is a letter or a digit.
 fn are_letters_or_digits(bytes: &[u8]) -> bool
-    ensures { result ≡ list_all (λ b. is_letter b || is_decimal b) bytes.now }
+    ensures { result ≡ list_all is_ascii_alphanumeric bytes.now }
 {
-    bytes
-        .iter()
-        .all(|byte| is_letter(*byte) || is_decimal(*byte))
-}
-
-/// Whether bytes are a quoted text whole.
-pub(crate) fn is_quoted(bytes: &[u8]) -> bool
-    ensures { result ≡ is_some (unquoted bytes.now) }
-{
-    match bytes.split_first() {
-        Some((first, rest)) => *first == b'"' && is_closed(rest),
-        None => false,
-    }
-}
-
-/// Whether bytes go on as a quoted text does behind its opening mark, and end with its closing mark.
-fn is_closed(bytes: &[u8]) -> bool
-    ensures { result ≡ is_some (unquoted_from false bytes.now) }
-{
-    let mut escape = false;
-    for (place, byte) in bytes.iter().enumerate() {
-        if escape {
-            if !is_escape(*byte) {
-                return false;
-            }
-            escape = false;
-        } else if *byte == b'"' {
-            return place + 1 == bytes.len();
-        } else {
-            escape = *byte == b'\\';
-        }
-    }
-    false
-}
-
-/// Whether a backslash may stand before it.
-fn is_escape(byte: u8) -> bool
-    ensures { result ≡ is_some (escaped byte) }
-{
-    matches!(byte, b'n' | b't' | b'0' | b'\\' | b'"')
+    bytes.iter().all(|byte| byte.is_ascii_alphanumeric())
 }

@@ -202,34 +202,34 @@ put_laid false before after names known p = record {
   start_is = subst (λ o. StartIn o after.placed) (sym p.start_is) (subst (StartIn before.start) (sym p.placed_is) (StartIn-later before.start before.placed p.statement known.start_is));
 }
 
-stated_laid : (source : List ℕ) (statement : AsmLine) (before after : Layout) → stated source statement before ≡ Ok after → IsLaid before → IsLaid after
+stated_laid : (statement : AsmLine) (before after : Layout) → stated statement before ≡ Ok after → IsLaid before → IsLaid after
 unfolding stated
-stated_laid source statement before after h known =
+stated_laid statement before after h known =
     let line = statement.line in
     let starts : Bool = is_start statement.label in
     let last : Action → Layout → Result Layout AsmFault = λ action l. acted line starts action l in
     let next : Action → Result Layout AsmFault = λ action. labelled line statement.label before >>= last action in
-    let reads = bind_ok (action_of source line before.section statement.body) next after h in
+    let reads = bind_ok (action_of line before.section statement.body) next after h in
     let labels = bind_ok (labelled line statement.label before) (last reads.0) after reads.2 in
     let named = labelled_is line statement.label before labels.0 labels.1 in
     let acts : acted line starts reads.0 (started starts (place_of before) (record before { names = named.0 })) ≡ Ok after = subst (λ l. acted line starts reads.0 l ≡ Ok after) named.1 labels.2 in
     put_laid starts before after named.0 known (acted_is line starts reads.0 _ after acts)
 
-added_laid : (source : List ℕ) (said : Option AsmLine) (before after : Layout) → added source said before ≡ Ok after → IsLaid before → IsLaid after
-added_laid source None before after h known = subst IsLaid (ok_is before after h) known
-added_laid source (Some statement) before after h known = stated_laid source statement before after h known
+added_laid : (said : Option AsmLine) (before after : Layout) → added said before ≡ Ok after → IsLaid before → IsLaid after
+added_laid None before after h known = subst IsLaid (ok_is before after h) known
+added_laid (Some statement) before after h known = stated_laid statement before after h known
 
-laid_from_laid : (source : List ℕ) (before after : Layout) (lines : List LineValue) → laid_from source before lines ≡ Ok after → IsLaid before → IsLaid after
-laid_from_laid source before after [] h known = subst IsLaid (ok_is before after h) known
-laid_from_laid source before after (line ∷ lines) h known =
-    let last : Layout → Result Layout AsmFault = λ l. laid_from source l lines in
-    let next : Option AsmLine → Result Layout AsmFault = λ said. added source said before >>= last in
+laid_from_laid : (before after : Layout) (lines : List LineValue) → laid_from before lines ≡ Ok after → IsLaid before → IsLaid after
+laid_from_laid before after [] h known = subst IsLaid (ok_is before after h) known
+laid_from_laid before after (line ∷ lines) h known =
+    let last : Layout → Result Layout AsmFault = λ l. laid_from l lines in
+    let next : Option AsmLine → Result Layout AsmFault = λ said. added said before >>= last in
     let says = bind_ok (due_of line) next after h in
-    let adds = bind_ok (added source says.0 before) last after says.2 in
-    laid_from_laid source adds.0 after lines adds.2 (added_laid source says.0 before adds.0 adds.1 known)
+    let adds = bind_ok (added says.0 before) last after says.2 in
+    laid_from_laid adds.0 after lines adds.2 (added_laid says.0 before adds.0 adds.1 known)
 
 -- each layout of the first pass
 pub laid_laid : (source : List ℕ) (layout : Layout) → laid source ≡ Ok layout → IsLaid layout
 unfolding laid
 laid_laid source layout h =
-    laid_from_laid source nothing_placed layout (lines_of source) h (record { text_fits = lit≤ tt; data_fits = lit≤ tt; text_is = refl; data_is = refl; start_is = tt })
+    laid_from_laid nothing_placed layout (lines_of source) h (record { text_fits = lit≤ tt; data_fits = lit≤ tt; text_is = refl; data_is = refl; start_is = tt })

@@ -4,6 +4,5 @@ pub mod NameLemmas
 pub mod FilledLemmas
 pub mod LaidLemmas
 pub mod OutcomeLemmas
-pub mod SpanLemmas
 pub mod TableLemmas
 pub mod WritableLemmas

@@ -2,10 +2,6 @@
 use Rattle.std.proofs.Common.{◌≡◌, ℕ, ◌+◌, ◌<◌, List, ◌∷◌, ◌++◌, Option, Result, Ok, Err, length, drop, get_or, ap, sym, add-one, drop-cons, suc}
 use Rattle.std.specs.Option.{option_map}
 
--- items before those of an answer
-abbrev pub behind : {A : Type 0} → List A → Option (List A) → Option (List A)
-behind front rest = option_map (λ xs. front ++ xs) rest
-
 -- an item of a list, and what is behind it
 pub drop_item : {A : Type 0} (xs : List A) (i : ℕ) (x : A) → i < length xs → x ≡ get_or xs i x → drop i xs ≡ x ∷ drop (i + 1) xs
 drop_item xs i x within is = rw (add-one, drop-cons xs i x within) (ap (λ y. y ∷ drop (suc i) xs) (sym is))

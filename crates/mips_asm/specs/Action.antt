@@ -1,15 +1,14 @@
 -- What a statement asks for.
-use Rattle.std.specs.Prelude.{ℕ, List, [], ◌∷◌, ◌++◌, Option, Result, Ok, Err, replicate, codes}
+use Rattle.std.specs.Prelude.{ℕ, List, [], ◌∷◌, ◌++◌, Option, Result, Ok, Err, map, replicate, codes}
 use Rattle.std.specs.Map.{lookup}
 use Rattle.std.specs.Option.{ok_or}
 use Rattle.std.specs.Str.{bytes_eq}
 use Rattle.asm_parse.specs.Expression.{ExpressionValue, InnerValue, Number, Name}
-use Rattle.asm_parse.specs.Words.{unquoted}
 use Rattle.asm_parse.specs.declared.fault.AsmWhy.{AsmWhy}
 use Rattle.asm_parse.specs.declared.fault.AsmWhy.TheVariants.{Syntax, UnknownName}
 use Rattle.asm_parse.specs.declared.fault.AsmFault.{AsmFault}
-use Rattle.asm_parse.specs.declared.fault.AsmFault.TheVariants.{At}
-use Rattle.asm_parse.specs.declared.syntax.Arg.{Arg}
+use Rattle.asm_parse.specs.Arg.{ArgValue}
+use Rattle.asm_parse.specs.Operand.{OperandValue}
 use Rattle.asm_parse.specs.declared.syntax.AsmBody.{AsmBody}
 use Rattle.asm_parse.specs.declared.syntax.AsmBody.TheVariants as bodies
 use Rattle.mips_asm.specs.declared.directive.Directive.{Directive}
@@ -19,7 +18,6 @@ use Rattle.mips_asm.specs.declared.section.Section.{Section}
 use Rattle.mips_asm.specs.declared.section.Section.TheVariants.{Text, Data}
 use Rattle.mips_asm.specs.Content.{Content, Instruction, Numbers, Given}
 use Rattle.mips_asm.specs.Draft.{draft_of, nothing_in, quoted_form, value_form, value_in}
-use Rattle.mips_asm.specs.Operand.{Operand, operands_at}
 use Rattle.mips_asm.specs.Operation.{Shape, special_rows, immediate_rows, memory_rows, system_rows, further_rows}
 use Rattle.mips_asm.specs.Outcome.{◌>>=◌, in_line}
 
@@ -64,7 +62,7 @@ in_text Text = Ok tt
 in_text Data = Err Syntax
 
 -- each operand an expression
-abbrev pub values_in : List Operand → Result (List ExpressionValue) AsmWhy
+abbrev pub values_in : List OperandValue → Result (List ExpressionValue) AsmWhy
 values_in [] = Ok []
 values_in (a ∷ rest) = do
   e ← value_form a
@@ -72,20 +70,14 @@ values_in (a ∷ rest) = do
   Ok (e ∷ es)
 
 -- one expression or more
-abbrev pub some_values_in : List Operand → Result (List ExpressionValue) AsmWhy
+abbrev pub some_values_in : List OperandValue → Result (List ExpressionValue) AsmWhy
 some_values_in [] = Err Syntax
 some_values_in (a ∷ rest) = values_in (a ∷ rest)
 
--- a quoted text
-abbrev pub quoted_in : List Operand → Result (List ℕ) AsmWhy
+-- the bytes that a quoted text means
+abbrev pub quoted_in : List OperandValue → Result (List ℕ) AsmWhy
 quoted_in (a ∷ []) = quoted_form a
 quoted_in _ = Err Syntax
-
--- the bytes that a quoted text means
-abbrev pub text_in : List Operand → Result (List ℕ) AsmWhy
-text_in operands = do
-  text ← quoted_in operands
-  ok_or (unquoted text) Syntax
 
 -- a number without openings
 abbrev pub number_alone : List ℕ → InnerValue → Result ℕ AsmWhy
@@ -96,7 +88,7 @@ number_alone _ _ = Err Syntax
 abbrev pub written_number : ExpressionValue → Result ℕ AsmWhy
 written_number e = number_alone e.openings e.inner
 
-abbrev pub number_in : List Operand → Result ℕ AsmWhy
+abbrev pub number_in : List OperandValue → Result ℕ AsmWhy
 number_in operands = do
   e ← value_in operands
   written_number e
@@ -111,7 +103,7 @@ abbrev pub written_name : ExpressionValue → Result (List ℕ) AsmWhy
 written_name e = name_alone e.openings e.inner
 
 -- a name and an expression
-abbrev pub definition_in : List Operand → Result (List ℕ × ExpressionValue) AsmWhy
+abbrev pub definition_in : List OperandValue → Result (List ℕ × ExpressionValue) AsmWhy
 definition_in (a ∷ b ∷ []) = do
   a ← value_form a
   e ← value_form b
@@ -120,7 +112,7 @@ definition_in (a ∷ b ∷ []) = do
 definition_in _ = Err Syntax
 
 -- what a directive with these operands asks for
-unfoldable pub directed : Directive → List Operand → Result Action AsmWhy
+unfoldable pub directed : Directive → List OperandValue → Result Action AsmWhy
 directed (directives.Enter section) operands = do
   none ← nothing_in operands
   Ok (Enter section)
@@ -128,10 +120,10 @@ directed (directives.Numbers size) operands = do
   es ← some_values_in operands
   Ok (Put (Numbers size es))
 directed directives.Ascii operands = do
-  bs ← text_in operands
+  bs ← quoted_in operands
   Ok (Put (Given bs))
 directed directives.Asciiz operands = do
-  bs ← text_in operands
+  bs ← quoted_in operands
   Ok (Put (Given (bs ++ 0 ∷ [])))
 directed directives.Space operands = do
   n ← number_in operands
@@ -143,21 +135,19 @@ directed directives.Equ operands = do
   definition ← definition_in operands
   Ok (Define definition.0 definition.1)
 
--- the operands that spans cut out of the source, in a line
-abbrev pub line_operands : List ℕ → ℕ → List Arg → Result (List Operand) AsmFault
-line_operands source line args = ok_or (operands_at source args) (At line Syntax)
+-- operands without their places
+abbrev pub operands_in : List ArgValue → List OperandValue
+operands_in args = map (λ arg. arg.operand) args
 
--- what an operation in a section asks for, in a line of the source: a name that isn't known stands before operands
--- that it can't take, and these before a register that there isn't
-unfoldable pub action_of : List ℕ → ℕ → Section → AsmBody → Result Action AsmFault
-action_of source line section bodies.Nothing = Ok (Put (Given []))
-action_of source line section (bodies.Op name args) = do
+-- what an operation in a section asks for, in a line: a name that isn't known stands before operands that it can't
+-- take, and these before a register that there isn't
+unfoldable pub action_of : ℕ → Section → AsmBody → Result Action AsmFault
+action_of line section bodies.Nothing = Ok (Put (Given []))
+action_of line section (bodies.Op name args) = do
   shape ← in_line line (ok_or (shape_of name) UnknownName)
   text ← in_line line (in_text section)
-  operands ← line_operands source line args
-  draft ← in_line line (draft_of shape operands)
+  draft ← in_line line (draft_of shape (operands_in args))
   Ok (Put (Instruction draft))
-action_of source line section (bodies.Directive name args) = do
+action_of line section (bodies.Directive name args) = do
   directive ← in_line line (ok_or (directive_of name) UnknownName)
-  operands ← line_operands source line args
-  in_line line (directed directive operands)
+  in_line line (directed directive (operands_in args))

@@ -6,7 +6,7 @@ use Rattle.asm_parse.specs.declared.fault.AsmWhy.{AsmWhy}
 use Rattle.asm_parse.specs.declared.fault.AsmWhy.TheVariants.{Syntax, UnknownName, Undefined}
 use Rattle.mips_isa.specs.declared.insn.Insn.{Insn}
 use Rattle.mips_isa.specs.declared.insn.Insn.TheVariants.{Lui, Ori}
-use Rattle.mips_asm.specs.Operand.{Operand, Register, Value, Based, Quoted}
+use Rattle.asm_parse.specs.Operand.{OperandValue, Register, Value, Based, Quoted}
 use Rattle.mips_asm.specs.Operation.{Shape, Alone, One, Two, Three, Field0, Field1, Field2, Coded, Memory, Load}
 use Rattle.mips_asm.specs.Outcome.{◌>>=◌}
 use Rattle.mips_asm.specs.Value.{Field, Code, Signed, Names, field_of, value_of}
@@ -25,35 +25,35 @@ known register = ok_or register UnknownName
 
 -- Operands by their forms: another one is Syntax.
 
-abbrev pub register_form : Operand → Result (Option ℕ) AsmWhy
+abbrev pub register_form : OperandValue → Result (Option ℕ) AsmWhy
 register_form (Register r) = Ok r
 register_form _ = Err Syntax
 
-abbrev pub value_form : Operand → Result ExpressionValue AsmWhy
+abbrev pub value_form : OperandValue → Result ExpressionValue AsmWhy
 value_form (Value e) = Ok e
 value_form _ = Err Syntax
 
-abbrev pub based_form : Operand → Result (ExpressionValue × Option ℕ) AsmWhy
+abbrev pub based_form : OperandValue → Result (ExpressionValue × Option ℕ) AsmWhy
 based_form (Based e r) = Ok (e, r)
 based_form _ = Err Syntax
 
-abbrev pub quoted_form : Operand → Result (List ℕ) AsmWhy
+abbrev pub quoted_form : OperandValue → Result (List ℕ) AsmWhy
 quoted_form (Quoted text) = Ok text
 quoted_form _ = Err Syntax
 
 -- Operands of each operation. Their number and forms are tested before their registers.
 
-abbrev pub nothing_in : List Operand → Result (Unit {0}) AsmWhy
+abbrev pub nothing_in : List OperandValue → Result (Unit {0}) AsmWhy
 nothing_in [] = Ok tt
 nothing_in _ = Err Syntax
 
-abbrev pub register_in : List Operand → Result ℕ AsmWhy
+abbrev pub register_in : List OperandValue → Result ℕ AsmWhy
 register_in (a ∷ []) = do
   a ← register_form a
   known a
 register_in _ = Err Syntax
 
-abbrev pub two_registers_in : List Operand → Result (ℕ × ℕ) AsmWhy
+abbrev pub two_registers_in : List OperandValue → Result (ℕ × ℕ) AsmWhy
 two_registers_in (a ∷ b ∷ []) = do
   a ← register_form a
   b ← register_form b
@@ -62,7 +62,7 @@ two_registers_in (a ∷ b ∷ []) = do
   Ok (a, b)
 two_registers_in _ = Err Syntax
 
-abbrev pub three_registers_in : List Operand → Result (ℕ × ℕ × ℕ) AsmWhy
+abbrev pub three_registers_in : List OperandValue → Result (ℕ × ℕ × ℕ) AsmWhy
 three_registers_in (a ∷ b ∷ c ∷ []) = do
   a ← register_form a
   b ← register_form b
@@ -73,11 +73,11 @@ three_registers_in (a ∷ b ∷ c ∷ []) = do
   Ok (a, b, c)
 three_registers_in _ = Err Syntax
 
-abbrev pub value_in : List Operand → Result ExpressionValue AsmWhy
+abbrev pub value_in : List OperandValue → Result ExpressionValue AsmWhy
 value_in (a ∷ []) = value_form a
 value_in _ = Err Syntax
 
-abbrev pub register_and_value_in : List Operand → Result (ℕ × ExpressionValue) AsmWhy
+abbrev pub register_and_value_in : List OperandValue → Result (ℕ × ExpressionValue) AsmWhy
 register_and_value_in (a ∷ b ∷ []) = do
   a ← register_form a
   e ← value_form b
@@ -85,7 +85,7 @@ register_and_value_in (a ∷ b ∷ []) = do
   Ok (a, e)
 register_and_value_in _ = Err Syntax
 
-abbrev pub two_registers_and_value_in : List Operand → Result (ℕ × ℕ × ExpressionValue) AsmWhy
+abbrev pub two_registers_and_value_in : List OperandValue → Result (ℕ × ℕ × ExpressionValue) AsmWhy
 two_registers_and_value_in (a ∷ b ∷ c ∷ []) = do
   a ← register_form a
   b ← register_form b
@@ -96,7 +96,7 @@ two_registers_and_value_in (a ∷ b ∷ c ∷ []) = do
 two_registers_and_value_in _ = Err Syntax
 
 -- the register, the one in brackets, and the offset
-abbrev pub based_in : List Operand → Result (ℕ × ℕ × ExpressionValue) AsmWhy
+abbrev pub based_in : List OperandValue → Result (ℕ × ℕ × ExpressionValue) AsmWhy
 based_in (a ∷ b ∷ []) = do
   a ← register_form a
   parts ← based_form b
@@ -106,12 +106,12 @@ based_in (a ∷ b ∷ []) = do
 based_in _ = Err Syntax
 
 -- an expression, or 0 where there is none
-abbrev pub code_in : List Operand → Result ExpressionValue AsmWhy
+abbrev pub code_in : List OperandValue → Result ExpressionValue AsmWhy
 code_in [] = Ok (record { openings = []; inner = Number 0 })
 code_in (a ∷ rest) = value_in (a ∷ rest)
 
 -- an instruction of a shape, with these operands
-unfoldable pub draft_of : Shape → List Operand → Result Draft AsmWhy
+unfoldable pub draft_of : Shape → List OperandValue → Result Draft AsmWhy
 draft_of (Alone insn) operands = do
   none ← nothing_in operands
   Ok (Fixed insn)

@@ -137,25 +137,25 @@ acted line starts (Define name e) layout = do
   put line starts (Given []) after
 
 -- a statement: its operation is read, its label gets a value, and then it acts
-unfoldable pub stated : List ℕ → AsmLine → Layout → Result Layout AsmFault
-stated source statement layout = do
-  action ← action_of source statement.line layout.section statement.body
+unfoldable pub stated : AsmLine → Layout → Result Layout AsmFault
+stated statement layout = do
+  action ← action_of statement.line layout.section statement.body
   after ← labelled statement.line statement.label layout
   acted statement.line (is_start statement.label) action after
 
 -- a line's statement, where it has one
-abbrev pub added : List ℕ → Option AsmLine → Layout → Result Layout AsmFault
-added source None layout = Ok layout
-added source (Some statement) layout = stated source statement layout
+abbrev pub added : Option AsmLine → Layout → Result Layout AsmFault
+added None layout = Ok layout
+added (Some statement) layout = stated statement layout
 
 -- lines in order, up to the first fault
-abbrev pub laid_from : List ℕ → Layout → List LineValue → Result Layout AsmFault
-laid_from source layout [] = Ok layout
-laid_from source layout (line ∷ lines) = do
+abbrev pub laid_from : Layout → List LineValue → Result Layout AsmFault
+laid_from layout [] = Ok layout
+laid_from layout (line ∷ lines) = do
   said ← due_of line
-  after ← added source said layout
-  laid_from source after lines
+  after ← added said layout
+  laid_from after lines
 
 -- the first pass over a source
 unfoldable pub laid : List ℕ → Result Layout AsmFault
-laid source = laid_from source nothing_placed (lines_of source)
+laid source = laid_from nothing_placed (lines_of source)

@@ -3,12 +3,9 @@ pub mod Assembled
 pub mod Content
 pub mod Draft
 pub mod Layout
-pub mod Operand
 pub mod Operation
 pub mod Outcome
-pub mod Register
 pub mod Room
 pub mod Second
 pub mod Seen
 pub mod Value
-pub mod Within

@@ -1,16 +1,20 @@
 -- What the program holds, as plain data.
 use Rattle.std.specs.Prelude.{ℕ, List, ◌∷◌, map, replicate}
-use Rattle.std.specs.Option.{option_map, option_to_list}
+use Rattle.std.specs.Option.{option_to_list}
 use Rattle.asm_parse.specs.Expression.{ExpressionValue}
-use Rattle.asm_parse.specs.Seen.{expression_seen}
+use Rattle.asm_parse.specs.Operand.{OperandValue}
+use Rattle.asm_parse.specs.Seen.{arg_seen, expression_seen}
+use Rattle.asm_parse.specs.Table.{rows_seen}
+use Rattle.asm_parse.specs.declared.syntax.Arg.{Arg}
+use Rattle.asm_parse.specs.declared.table.Row.{Row}
 use Rattle.asm_parse.specs.declared.expression.Expression.{Expression}
 use Rattle.mips_isa.specs.declared.insn.Insn.{Insn}
 use Rattle.mips_isa.specs.declared.insn.Insn.TheVariants as i
 use Rattle.mips_asm.specs.Action as actions
+use Rattle.mips_asm.specs.Action.{operands_in}
 use Rattle.mips_asm.specs.Content as contents
 use Rattle.mips_asm.specs.Draft as drafts
 use Rattle.mips_asm.specs.Layout as layouts
-use Rattle.mips_asm.specs.Operand as operands
 use Rattle.mips_asm.specs.Operation as shapes
 use Rattle.mips_asm.specs.Second as seconds
 use Rattle.mips_asm.specs.Value.{Amount, Signed, Unsigned, Code, Branch, Jump}
@@ -49,22 +53,9 @@ use Rattle.mips_asm.specs.declared.groups.Access.TheVariants as access
 use Rattle.mips_asm.specs.declared.insns.Insns.{Insns}
 use Rattle.mips_asm.specs.declared.layout.Layout.{Layout}
 use Rattle.mips_asm.specs.declared.layout.Placed.{Placed}
-use Rattle.mips_asm.specs.declared.operand.Operand.{Operand}
-use Rattle.mips_asm.specs.declared.operand.Operand.TheVariants as operand
 use Rattle.mips_asm.specs.declared.operation.Operation.{Operation}
 use Rattle.mips_asm.specs.declared.operation.Operation.TheVariants as operation
-use Rattle.mips_asm.specs.declared.register.Register.{Register}
 use Rattle.mips_asm.specs.declared.second.Sections.{Sections}
-use Rattle.mips_asm.specs.declared.table.Row.{Row}
-
-abbrev pub row_seen : {T : Type 0} → Row T → List ℕ × T
-row_seen row = (row.0.now, row.1)
-
-abbrev pub rows_seen : {T : Type 0} → List (Row T) → List (List ℕ × T)
-rows_seen rows = map row_seen rows
-
-abbrev pub number_seen : Register → ℕ
-number_seen register = register.number
 
 -- the instructions of each group
 
@@ -184,14 +175,8 @@ shape_row_seen row = (row.0, shape_seen row.1)
 abbrev pub shape_rows_seen : List (Row Operation) → List (List ℕ × shapes.Shape)
 shape_rows_seen rows = map shape_row_seen (rows_seen rows)
 
-abbrev pub operand_seen : Operand → operands.Operand
-operand_seen (operand.Register r) = operands.Register (option_map number_seen r)
-operand_seen (operand.Value e) = operands.Value (expression_seen e)
-operand_seen (operand.Based e r) = operands.Based (expression_seen e) (option_map number_seen r)
-operand_seen (operand.Quoted text) = operands.Quoted text.now
-
-abbrev pub operands_seen : List Operand → List operands.Operand
-operands_seen xs = map operand_seen xs
+abbrev pub operands_seen : List Arg → List OperandValue
+operands_seen args = operands_in (map arg_seen args)
 
 abbrev pub draft_seen : Draft → drafts.Draft
 draft_seen (draft.Alone op) = drafts.Fixed (alone_insn op)

@@ -1,23 +1,18 @@
 //! What statements ask for.
-ghost use Rattle.std.specs.Prelude.{◌≡◌, IfOk};
-ghost use Rattle.std.specs.List.{AllByRecursion};
-ghost use Rattle.std.specs.Option.{option_map};
+ghost use Rattle.std.specs.Prelude.{◌≡◌};
 ghost use Rattle.asm_parse.specs.Form.{Gives};
-ghost use Rattle.asm_parse.specs.Span.{args_in};
 ghost use Rattle.asm_parse.specs.Seen.{expression_seen};
-ghost use Rattle.mips_asm.specs.Action.{action_of, definition_in, directed, in_text, line_operands, number_in, quoted_in, some_values_in, text_in, values_in, written_name, written_number};
+ghost use Rattle.mips_asm.specs.Action.{action_of, definition_in, directed, in_text, number_in, quoted_in, some_values_in, values_in, written_name, written_number};
 ghost use Rattle.mips_asm.specs.Outcome.{in_line, ok_seen};
 ghost use Rattle.mips_asm.specs.Seen.{action_seen, expressions_seen, operands_seen};
-ghost use Rattle.mips_asm.specs.Within.{IsWithin};
 
 use crate::content::Content;
 use crate::directive::Directive;
 use crate::draft::{Draft, nothing, value};
 use crate::fault::in_line;
-use crate::operand::{Operand, operands};
+use crate::operand::{as_quoted, as_value, operands};
 use crate::operation::Operation;
 use crate::section::Section;
-use crate::text::unquoted;
 use asm_parse::{Arg, AsmBody, AsmFault, AsmWhy, Expression, Inner};
 use std::alloc::Global;
 
@@ -34,18 +29,16 @@ pub(crate) enum Action<'a> {
     Define(&'a [u8], Expression<'a>),
 }
 
-/// What an operation in a section asks for, in a line of the source. The fault is Syntax or UnknownName,
+/// What an operation in a section asks for, in a line. The fault is Syntax or UnknownName,
 /// or that memory ran out.
 #[tactic(auto, unfolding(crate::specs::Action::action_of))]
 pub(crate) fn read_action<'a>(
     alloc: Global,
-    source: &'a [u8],
     line: u32,
     section: Section,
-    body: &AsmBody,
+    body: &AsmBody<'a>,
 ) -> Result<Action<'a>, AsmFault>
-    requires { AllByRecursion (IsWithin source.now) (args_in body.now) }
-    ensures { Gives action_seen result (action_of source.now line section body.now) }
+    ensures { Gives action_seen result (action_of line section body.now) }
 {
     match body {
         AsmBody::Nothing => Ok(Action::Put(Content::Zeros(0))),
@@ -53,15 +46,13 @@ pub(crate) fn read_action<'a>(
             let known = Operation::named(name.bytes()).ok_or(AsmWhy::UnknownName);
             let operation = in_line(line, known)?;
             in_line(line, in_text(section))?;
-            let operands = operands_in(alloc, source, line, args.list())?;
-            let draft = in_line(line, Draft::new(operation, &operands))?;
+            let draft = in_line(line, Draft::new(operation, operands(args)))?;
             Ok(Action::Put(Content::Instruction(draft)))
         }
         AsmBody::Directive { name, args } => {
             let known = Directive::named(name.bytes()).ok_or(AsmWhy::UnknownName);
             let directive = in_line(line, known)?;
-            let operands = operands_in(alloc, source, line, args.list())?;
-            directed(alloc, line, directive, &operands)
+            directed(alloc, line, directive, operands(args))
         }
     }
 }
@@ -76,32 +67,13 @@ fn in_text(section: Section) -> Result<(), AsmWhy>
     }
 }
 
-/// The operands that spans cut out of the source, in a line.
-fn operands_in<'a>(
-    alloc: Global,
-    source: &'a [u8],
-    line: u32,
-    args: &[Arg],
-) -> Result<Vec<Operand<'a>>, AsmFault>
-    requires { AllByRecursion (IsWithin source.now) args.now }
-    ensures { Gives (λ v. operands_seen v.items) result (line_operands source.now line args.now) }
-{
-    match operands(alloc, source, args)? {
-        Some(operands) => Ok(operands),
-        None => Err(AsmFault::At {
-            line,
-            why: AsmWhy::Syntax,
-        }),
-    }
-}
-
 /// What a directive with these operands asks for, in a line.
 #[tactic(auto, unfolding(crate::specs::Action::directed))]
 fn directed<'a>(
     alloc: Global,
     line: u32,
     directive: Directive,
-    operands: &[Operand<'a>],
+    operands: &[Arg<'a>],
 ) -> Result<Action<'a>, AsmFault>
     ensures { Gives action_seen result (in_line line (directed directive (operands_seen operands.now))) }
 {
@@ -136,7 +108,7 @@ fn directed<'a>(
 fn some_values<'a>(
     alloc: Global,
     line: u32,
-    operands: &[Operand<'a>],
+    operands: &[Arg<'a>],
 ) -> Result<Vec<Expression<'a>>, AsmFault>
     ensures { Gives (λ v. expressions_seen v.items) result (in_line line (some_values_in (operands_seen operands.now))) }
 {
@@ -154,43 +126,37 @@ fn some_values<'a>(
 fn values<'a>(
     alloc: Global,
     line: u32,
-    operands: &[Operand<'a>],
+    operands: &[Arg<'a>],
 ) -> Result<Vec<Expression<'a>>, AsmFault>
     ensures { Gives (λ v. expressions_seen v.items) result (in_line line (values_in (operands_seen operands.now))) }
 {
     let mut values = Vec::with_capacity(alloc, operands.len())?;
-    for operand in operands {
-        values.push(in_line(line, operand.value())?)?;
+    for arg in operands {
+        values.push(in_line(line, as_value(&arg.operand))?)?;
     }
     Ok(values)
 }
 
 /// The bytes that a quoted text means, in a line.
-fn text(alloc: Global, line: u32, operands: &[Operand<'_>]) -> Result<Vec<u8>, AsmFault>
-    ensures { Gives (λ v. v.items) result (in_line line (text_in (operands_seen operands.now))) }
+fn text(alloc: Global, line: u32, operands: &[Arg<'_>]) -> Result<Vec<u8>, AsmFault>
+    ensures { Gives (λ v. v.items) result (in_line line (quoted_in (operands_seen operands.now))) }
 {
-    let quoted = in_line(line, quoted(operands))?;
-    match unquoted(alloc, quoted)? {
-        Some(bytes) => Ok(bytes),
-        None => Err(AsmFault::At {
-            line,
-            why: AsmWhy::Syntax,
-        }),
-    }
+    let text = in_line(line, quoted(operands))?;
+    Ok(Vec::from_slice(alloc, text)?)
 }
 
-/// A quoted text as it is written.
-fn quoted<'a>(operands: &[Operand<'a>]) -> Result<&'a [u8], AsmWhy>
+/// The bytes that a quoted text means.
+fn quoted<'b>(operands: &'b [Arg<'_>]) -> Result<&'b [u8], AsmWhy>
     ensures { ok_seen (λ text. text.now) result ≡ quoted_in (operands_seen operands.now) }
 {
     let [a] = operands else {
         return Err(AsmWhy::Syntax);
     };
-    a.quoted()
+    as_quoted(&a.operand)
 }
 
 /// An expression that is written as a number.
-fn number(operands: &[Operand<'_>]) -> Result<u32, AsmWhy>
+fn number(operands: &[Arg<'_>]) -> Result<u32, AsmWhy>
     ensures { result ≡ number_in (operands_seen operands.now) }
 {
     written_number(value(operands)?)
@@ -217,12 +183,12 @@ fn written_name(expression: Expression<'_>) -> Result<&[u8], AsmWhy>
 }
 
 /// A name and an expression.
-fn definition<'a>(operands: &[Operand<'a>]) -> Result<(&'a [u8], Expression<'a>), AsmWhy>
+fn definition<'a>(operands: &[Arg<'a>]) -> Result<(&'a [u8], Expression<'a>), AsmWhy>
     ensures { ok_seen (λ d. (d.0.now, expression_seen d.1)) result ≡ definition_in (operands_seen operands.now) }
 {
     let [a, b] = operands else {
         return Err(AsmWhy::Syntax);
     };
-    let (name, value) = (a.value()?, b.value()?);
+    let (name, value) = (as_value(&a.operand)?, as_value(&b.operand)?);
     Ok((written_name(name)?, value))
 }

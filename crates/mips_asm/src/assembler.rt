@@ -51,7 +51,7 @@ fn assembly(alloc: Global, source: &[u8]) -> Result<Object, AsmFault>
 }
 
 /// What the lines of a source place.
-#[tactic(auto, using(crate::proofs::SpanLemmas::cut_within), unfolding(crate::specs::Layout::laid))]
+#[tactic(auto, unfolding(crate::specs::Layout::laid))]
 fn laid<'a>(alloc: Global, source: &'a [u8]) -> Result<Layout<'a>, AsmFault>
     requires { length source.now < 2 ^ 27 }
     ensures { Gives layout_seen result (laid source.now) }
@@ -59,7 +59,7 @@ fn laid<'a>(alloc: Global, source: &'a [u8]) -> Result<Layout<'a>, AsmFault>
     let mut layout = Layout::new(alloc);
     for line in cut(source) {
         if let Some(statement) = parse_line(alloc, &line)? {
-            layout.add(alloc, source, &statement)?;
+            layout.add(alloc, &statement)?;
         }
     }
     Ok(layout)

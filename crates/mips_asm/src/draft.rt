@@ -2,18 +2,17 @@
 ghost use Rattle.std.specs.Prelude.{◌≡◌};
 ghost use Rattle.std.specs.Option.{option_map};
 ghost use Rattle.mips_asm.specs.Outcome.{ok_seen};
-ghost use Rattle.asm_parse.specs.Seen.{expression_seen};
+ghost use Rattle.asm_parse.specs.Seen.{expression_seen, number_seen};
 ghost use Rattle.mips_asm.specs.Draft.{based_in, code_in, known, nothing_in, register_and_value_in, register_in, three_registers_in, two_registers_and_value_in, two_registers_in, value_in};
-ghost use Rattle.mips_asm.specs.Seen.{number_seen, operands_seen};
+ghost use Rattle.mips_asm.specs.Seen.{operands_seen};
 
 use crate::groups::{
     Access, Alone, BranchOne, BranchTwo, LongJump, One, Shift, SignedImmediate, Three, Trap, Two,
     UnsignedImmediate, VariableShift,
 };
-use crate::operand::{Operand, zero};
+use crate::operand::{as_based, as_register, as_value};
 use crate::operation::Operation;
-use crate::register::Register;
-use asm_parse::{AsmWhy, Expression};
+use asm_parse::{Arg, AsmWhy, Expression, Register};
 
 /// An operation with its registers, and the expressions that aren't values yet.
 #[derive(Clone, Copy)]
@@ -56,7 +55,7 @@ impl<'a> Draft<'a> {
 
     /// The operation with these operands. The fault is Syntax or UnknownName.
     #[tactic(auto, unfolding(crate::specs::Draft::draft_of))]
-    pub(crate) fn new(operation: Operation, operands: &[Operand<'a>]) -> Result<Draft<'a>, AsmWhy>
+    pub(crate) fn new(operation: Operation, operands: &[Arg<'a>]) -> Result<Draft<'a>, AsmWhy>
         ensures { ok_seen draft_seen result ≡ draft_of (shape_seen operation) (operands_seen operands.now) }
     {
         match operation {
@@ -124,7 +123,7 @@ fn known(register: Option<Register>) -> Result<Register, AsmWhy>
 }
 
 /// No operands.
-pub(crate) fn nothing(operands: &[Operand<'_>]) -> Result<(), AsmWhy>
+pub(crate) fn nothing(operands: &[Arg<'_>]) -> Result<(), AsmWhy>
     ensures { ok_seen (λ _. tt) result ≡ nothing_in (operands_seen operands.now) }
 {
     match operands {
@@ -134,88 +133,96 @@ pub(crate) fn nothing(operands: &[Operand<'_>]) -> Result<(), AsmWhy>
 }
 
 /// One register.
-fn register(operands: &[Operand<'_>]) -> Result<Register, AsmWhy>
+fn register(operands: &[Arg<'_>]) -> Result<Register, AsmWhy>
     ensures { ok_seen number_seen result ≡ register_in (operands_seen operands.now) }
 {
     let [a] = operands else {
         return Err(AsmWhy::Syntax);
     };
-    known(a.register()?)
+    known(as_register(&a.operand)?)
 }
 
 /// Two registers.
-fn two_registers(operands: &[Operand<'_>]) -> Result<(Register, Register), AsmWhy>
+fn two_registers(operands: &[Arg<'_>]) -> Result<(Register, Register), AsmWhy>
     ensures { ok_seen (λ r. (number_seen r.0, number_seen r.1)) result ≡ two_registers_in (operands_seen operands.now) }
 {
     let [a, b] = operands else {
         return Err(AsmWhy::Syntax);
     };
-    let (a, b) = (a.register()?, b.register()?);
+    let (a, b) = (as_register(&a.operand)?, as_register(&b.operand)?);
     Ok((known(a)?, known(b)?))
 }
 
 /// Three registers.
-fn three_registers(operands: &[Operand<'_>]) -> Result<(Register, Register, Register), AsmWhy>
+fn three_registers(operands: &[Arg<'_>]) -> Result<(Register, Register, Register), AsmWhy>
     ensures { ok_seen (λ r. (number_seen r.0, number_seen r.1, number_seen r.2)) result ≡ three_registers_in (operands_seen operands.now) }
 {
     let [a, b, c] = operands else {
         return Err(AsmWhy::Syntax);
     };
-    let (a, b, c) = (a.register()?, b.register()?, c.register()?);
+    let (a, b, c) = (
+        as_register(&a.operand)?,
+        as_register(&b.operand)?,
+        as_register(&c.operand)?,
+    );
     Ok((known(a)?, known(b)?, known(c)?))
 }
 
 /// An expression.
-pub(crate) fn value<'a>(operands: &[Operand<'a>]) -> Result<Expression<'a>, AsmWhy>
+pub(crate) fn value<'a>(operands: &[Arg<'a>]) -> Result<Expression<'a>, AsmWhy>
     ensures { ok_seen expression_seen result ≡ value_in (operands_seen operands.now) }
 {
     let [a] = operands else {
         return Err(AsmWhy::Syntax);
     };
-    a.value()
+    as_value(&a.operand)
 }
 
 /// A register and an expression.
-fn register_and_value<'a>(operands: &[Operand<'a>]) -> Result<(Register, Expression<'a>), AsmWhy>
+fn register_and_value<'a>(operands: &[Arg<'a>]) -> Result<(Register, Expression<'a>), AsmWhy>
     ensures { ok_seen (λ r. (number_seen r.0, expression_seen r.1)) result ≡ register_and_value_in (operands_seen operands.now) }
 {
     let [a, b] = operands else {
         return Err(AsmWhy::Syntax);
     };
-    let (a, value) = (a.register()?, b.value()?);
+    let (a, value) = (as_register(&a.operand)?, as_value(&b.operand)?);
     Ok((known(a)?, value))
 }
 
 /// Two registers and an expression.
 fn two_registers_and_value<'a>(
-    operands: &[Operand<'a>],
+    operands: &[Arg<'a>],
 ) -> Result<(Register, Register, Expression<'a>), AsmWhy>
     ensures { ok_seen (λ r. (number_seen r.0, number_seen r.1, expression_seen r.2)) result ≡ two_registers_and_value_in (operands_seen operands.now) }
 {
     let [a, b, c] = operands else {
         return Err(AsmWhy::Syntax);
     };
-    let (a, b, value) = (a.register()?, b.register()?, c.value()?);
+    let (a, b, value) = (
+        as_register(&a.operand)?,
+        as_register(&b.operand)?,
+        as_value(&c.operand)?,
+    );
     Ok((known(a)?, known(b)?, value))
 }
 
 /// A register, the register in brackets, and the offset before them.
-fn based<'a>(operands: &[Operand<'a>]) -> Result<(Register, Register, Expression<'a>), AsmWhy>
+fn based<'a>(operands: &[Arg<'a>]) -> Result<(Register, Register, Expression<'a>), AsmWhy>
     ensures { ok_seen (λ r. (number_seen r.0, number_seen r.1, expression_seen r.2)) result ≡ based_in (operands_seen operands.now) }
 {
     let [a, b] = operands else {
         return Err(AsmWhy::Syntax);
     };
-    let (a, (offset, b)) = (a.register()?, b.based()?);
+    let (a, (offset, b)) = (as_register(&a.operand)?, as_based(&b.operand)?);
     Ok((known(a)?, known(b)?, offset))
 }
 
 /// An expression, or 0 where there is none.
-fn code<'a>(operands: &[Operand<'a>]) -> Result<Expression<'a>, AsmWhy>
+fn code<'a>(operands: &[Arg<'a>]) -> Result<Expression<'a>, AsmWhy>
     ensures { ok_seen expression_seen result ≡ code_in (operands_seen operands.now) }
 {
     if operands.is_empty() {
-        Ok(zero())
+        Ok(Expression::ZERO)
     } else {
         value(operands)
     }

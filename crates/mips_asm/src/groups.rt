@@ -1,6 +1,6 @@
 //! Instructions in groups, by the operands that they take.
 
-use crate::register::Register;
+use asm_parse::Register;
 use mips_isa::Insn;
 
 /// Instructions without operands.

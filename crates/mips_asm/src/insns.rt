@@ -11,9 +11,8 @@ ghost use Rattle.mips_asm.specs.Seen.{draft_seen, insns_seen};
 
 use crate::draft::Draft;
 use crate::names::Names;
-use crate::register::Register;
 use crate::value::{amount, branch, code, defined, jump, signed, unsigned};
-use asm_parse::{AsmWhy, Expression};
+use asm_parse::{AsmWhy, Expression, Register};
 use mips_isa::{Insn, encode};
 use std::alloc::AllocError;
 

@@ -55,12 +55,10 @@ impl<'a> Layout<'a> {
     ghost use Rattle.std.specs.Option.{option_copied, option_map};
     ghost use Rattle.std.specs.List.{AllByRecursion};
     ghost use Rattle.asm_parse.specs.Form.{Gives};
-    ghost use Rattle.asm_parse.specs.Span.{args_in};
     ghost use Rattle.asm_parse.specs.Seen.{expression_seen};
     ghost use Rattle.mips_asm.specs.Layout.{acted, appended, equated, is_start, labelled, named, nothing_placed, padded, place_of, put, stated, used_by};
     ghost use Rattle.mips_asm.specs.Content.{content_length};
     ghost use Rattle.mips_asm.specs.Seen.{action_seen, content_seen, layout_seen, placed_seen};
-    ghost use Rattle.mips_asm.specs.Within.{IsWithin};
 
     /// No lines yet.
     pub(crate) fn new(alloc: Global) -> Layout<'a>
@@ -97,17 +95,11 @@ impl<'a> Layout<'a> {
 
     /// Adds a line's statement.
     #[tactic(auto, unfolding(crate::specs::Layout::stated))]
-    pub(crate) fn add(
-        &mut self,
-        alloc: Global,
-        source: &'a [u8],
-        statement: &AsmLine,
-    ) -> Result<(), AsmFault>
-        requires { AllByRecursion (IsWithin source.now) (args_in statement.now.body) }
-        ensures { Gives (λ _. layout_seen self.new) result (stated source.now statement.now (layout_seen self.old)) }
+    pub(crate) fn add(&mut self, alloc: Global, statement: &AsmLine<'a>) -> Result<(), AsmFault>
+        ensures { Gives (λ _. layout_seen self.new) result (stated statement.now (layout_seen self.old)) }
     {
         let line = statement.line;
-        let action = read_action(alloc, source, line, self.section, &statement.body)?;
+        let action = read_action(alloc, line, self.section, &statement.body)?;
         self.label(alloc, line, &statement.label)?;
         self.act(alloc, line, is_start(&statement.label), action)
     }

@@ -19,13 +19,10 @@ mod number;
 mod operand;
 mod operation;
 mod padding;
-mod register;
 mod room;
 mod second;
 mod section;
 mod start;
-mod table;
-mod text;
 mod value;
 
 pub use assembler::assemble;

@@ -9,7 +9,7 @@ use crate::groups::{
     Access, Alone, BranchOne, BranchTwo, LongJump, One, Shift, SignedImmediate, Three, Trap, Two,
     UnsignedImmediate, VariableShift,
 };
-use crate::table::{Row, find};
+use asm_parse::{Row, find};
 
 /// An operation that makes instructions.
 #[derive(Clone, Copy)]

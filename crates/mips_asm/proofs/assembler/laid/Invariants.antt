@@ -11,5 +11,5 @@ invariant-loop-line l = record {
   can : (goal.iterator-loop-line).can_next l.line-iterator;
   finite : (goal.iterator-loop-line).is_finite l.line-iterator;
   placed : AllByRecursion (IsPlaced l.source) l.line-iterator;
-  told : laid_from l.source (layout_seen l.layout) l.line-iterator ≡ laid_from l.source nothing_placed (lines_of l.source);
+  told : laid_from (layout_seen l.layout) l.line-iterator ≡ laid_from nothing_placed (lines_of l.source);
 }

@@ -1,7 +1,8 @@
 use Rattle.std.proofs.Common.{◌∙◌, ap}
 use Rattle.std.specs.Option.{option_map}
 use Rattle.std.specs.Str.{bytes_eq}
-use Rattle.mips_asm.specs.Seen.{rows_seen, shape_seen}
+use Rattle.asm_parse.specs.Table.{rows_seen}
+use Rattle.mips_asm.specs.Seen.{shape_seen}
 use Rattle.mips_asm.proofs.TableLemmas.{lookup_map}
 use Rattle.mips_asm.proofs.operation.find_operation.Goals as goal
 

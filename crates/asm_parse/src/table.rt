@@ -2,14 +2,14 @@
 ghost use Rattle.std.specs.Prelude.{◌≡◌};
 ghost use Rattle.std.specs.Map.{lookup};
 ghost use Rattle.std.specs.Str.{bytes_eq};
-ghost use Rattle.mips_asm.specs.Seen.{rows_seen};
+ghost use Rattle.asm_parse.specs.Table.{rows_seen};
 
 /// A name, and what it means.
 #[derive(Clone, Copy)]
-pub(crate) struct Row<T: Copy>(pub(crate) &'static [u8], pub(crate) T);
+pub struct Row<T: Copy>(pub &'static [u8], pub T);
 
 /// What a name means, by the first row that has it.
-pub(crate) fn find<T: Copy>(rows: &[Row<T>], name: &[u8]) -> Option<T>
+pub fn find<T: Copy>(rows: &[Row<T>], name: &[u8]) -> Option<T>
     ensures { result ≡ lookup (bytes_eq name.now) (rows_seen rows.now) }
 {
     for row in rows {

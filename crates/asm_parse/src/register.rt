@@ -1,6 +1,6 @@
 //! Registers.
 ghost use Rattle.std.specs.Prelude.{◌≡◌, ◌<◌, IfSome, drop};
-ghost use Rattle.mips_asm.specs.Register.{number_of_register};
+ghost use Rattle.asm_parse.specs.Register.{number_of_register};
 
 use crate::table::{Row, find};
 use line_text::numeral;
@@ -10,8 +10,9 @@ const REGISTER_COUNT: u32 = 32;
 
 /// A register of the machine, or of coprocessor 0.
 #[derive(Clone, Copy)]
-pub(crate) struct Register {
-    pub(crate) number: u8,
+pub struct Register {
+    /// Its number.
+    pub number: u8,
     ghost fits: { number < 32 },
 }
 
@@ -54,8 +55,8 @@ const NAMES: [Row<u8>; 32] = [
 impl Register {
     ghost use Rattle.std.specs.Prelude.{◌≡◌};
     ghost use Rattle.std.specs.Option.{option_map};
-    ghost use Rattle.mips_asm.specs.Register.{register_of};
-    ghost use Rattle.mips_asm.specs.Seen.{number_seen};
+    ghost use Rattle.asm_parse.specs.Register.{register_of};
+    ghost use Rattle.asm_parse.specs.Seen.{number_seen};
 
     /// The register of a `$` and a number or a name, if there is one.
     pub(crate) fn read(bytes: &[u8]) -> Option<Register>

@@ -1,6 +1,6 @@
 use Rattle.std.proofs.Common.{sym, ◌∙◌}
-use Rattle.mips_asm.proofs.TableLemmas.{said_here, said_later}
-use Rattle.mips_asm.proofs.table.find.Goals as goal
+use Rattle.asm_parse.proofs.TableLemmas.{said_here, said_later}
+use Rattle.asm_parse.proofs.table.find.Goals as goal
 
 pub returns-then-eq : goal.returns-then-eq
 returns-then-eq g c =

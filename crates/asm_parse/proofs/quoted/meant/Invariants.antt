@@ -1,7 +1,7 @@
 use Rattle.std.proofs.Common.{◌≡◌, ◌++◌, false, drop}
 use Rattle.std.specs.Option.{option_map}
 use Rattle.asm_parse.specs.Words.{unquoted_from}
-use Rattle.mips_asm.proofs.text.meant.Given as goal
+use Rattle.asm_parse.proofs.quoted.meant.Given as goal
 
 -- what is meant so far and what is to come are all of it
 abbrev pub invariant-loop-place : goal.invariant-loop-place
