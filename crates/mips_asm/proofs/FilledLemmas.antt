@@ -5,14 +5,14 @@ use Rattle.asm_parse.specs.Expression.{ExpressionValue}
 use Rattle.asm_parse.specs.declared.fault.AsmFault.{AsmFault}
 use Rattle.asm_parse.specs.declared.fault.AsmWhy.{AsmWhy}
 use Rattle.asm_parse.specs.declared.fault.AsmWhy.TheVariants.{OutOfRange}
-use Rattle.mips_isa.specs.declared.insn.Insn.{Insn}
+use Rattle.mips_isa.specs.Encoding.{word_of}
 use Rattle.mips_isa.specs.declared.insn.Insn.TheVariants.{Lui, Ori}
 use Rattle.mips_asm.specs.declared.number.NumberSize.{NumberSize}
 use Rattle.mips_asm.specs.declared.number.NumberSize.TheVariants.{Byte, Half, Word}
 use Rattle.mips_asm.specs.declared.section.Section.{Section}
 use Rattle.mips_asm.specs.declared.section.Section.TheVariants.{Text, Data}
-use Rattle.mips_asm.specs.Content.{Content, Instruction, Numbers, Given, bytes_of, content_length, draft_length, insns_bytes, number_bytes, numbers_bytes, values_of}
-use Rattle.mips_asm.specs.Draft.{Draft, Fixed, Filled, Halves, defined, field_in, insns_of}
+use Rattle.mips_asm.specs.Content.{Content, Instruction, Numbers, Given, bytes_of, content_length, draft_length, words_bytes, number_bytes, numbers_bytes, values_of}
+use Rattle.mips_asm.specs.Draft.{Draft, Fixed, Filled, Halves, defined, field_bits_in, words_of}
 use Rattle.mips_asm.specs.Layout.{Layout, Placed}
 use Rattle.mips_asm.specs.Outcome.{◌>>=◌, in_line}
 use Rattle.mips_asm.specs.Second.{Sections, emitted, extended, filled, filled_from, start_fault, start_fault_of, unless_start, widened}
@@ -26,17 +26,17 @@ in_line_ok line (Err e) x h = cc
 
 -- the lengths of what is put
 
-insns_length : (names : Names) (place : ℕ) (draft : Draft) (insns : List Insn) → insns_of names place draft ≡ Ok insns → length (insns_bytes insns) ≡ draft_length draft
-unfolding insns_of
-insns_length names place (Fixed insn) insns h = ap (λ is. length (insns_bytes is)) (sym (ok_is _ insns h))
-insns_length names place (Filled field insn e) insns h =
-    let next : ℕ → Result (List Insn) AsmWhy = λ n. Ok (insn n ∷ []) in
-    let step = bind_ok (field_in names field place e) next insns h in
-    ap (λ is. length (insns_bytes is)) (sym (ok_is _ insns step.2))
-insns_length names place (Halves rt e) insns h =
-    let next : ℕ → Result (List Insn) AsmWhy = λ v. Ok (Lui rt (v / 2 ^ 16) ∷ Ori rt rt (v % 2 ^ 16) ∷ []) in
-    let step = bind_ok (defined names e) next insns h in
-    ap (λ is. length (insns_bytes is)) (sym (ok_is _ insns step.2))
+words_length : (names : Names) (place : ℕ) (draft : Draft) (words : List ℕ) → words_of names place draft ≡ Ok words → length (words_bytes words) ≡ draft_length draft
+unfolding words_of
+words_length names place (Fixed w) words h = ap (λ ws. length (words_bytes ws)) (sym (ok_is _ words h))
+words_length names place (Filled field w e) words h =
+    let next : ℕ → Result (List ℕ) AsmWhy = λ bits. Ok ((w + bits) ∷ []) in
+    let step = bind_ok (field_bits_in names field place e) next words h in
+    ap (λ ws. length (words_bytes ws)) (sym (ok_is _ words step.2))
+words_length names place (Halves rt e) words h =
+    let next : ℕ → Result (List ℕ) AsmWhy = λ v. Ok (word_of (Lui rt (v / 2 ^ 16)) ∷ word_of (Ori rt rt (v % 2 ^ 16)) ∷ []) in
+    let step = bind_ok (defined names e) next words h in
+    ap (λ ws. length (words_bytes ws)) (sym (ok_is _ words step.2))
 
 values_length : (names : Names) (es : List ExpressionValue) (vs : List ℕ) → values_of names es ≡ Ok vs → length vs ≡ length es
 values_length names [] vs h = ap length (sym (ok_is [] vs h))
@@ -70,9 +70,9 @@ numbers_length size vs bs h =
 bytes_length : (line : ℕ) (names : Names) (place : ℕ) (content : Content) (bs : List ℕ) → bytes_of line names place content ≡ Ok bs → length bs ≡ content_length content
 unfolding bytes_of
 bytes_length line names place (Instruction draft) bs h =
-    let next : List Insn → Result (List ℕ) AsmFault = λ insns. Ok (insns_bytes insns) in
-    let step = bind_ok (in_line line (insns_of names place draft)) next bs h in
-    ap length (sym (ok_is _ bs step.2)) ∙ insns_length names place draft step.0 (in_line_ok line (insns_of names place draft) step.0 step.1)
+    let next : List ℕ → Result (List ℕ) AsmFault = λ words. Ok (words_bytes words) in
+    let step = bind_ok (in_line line (words_of names place draft)) next bs h in
+    ap length (sym (ok_is _ bs step.2)) ∙ words_length names place draft step.0 (in_line_ok line (words_of names place draft) step.0 step.1)
 bytes_length line names place (Numbers size es) bs h =
     let next : List ℕ → Result (List ℕ) AsmFault = λ vs. in_line line (numbers_bytes size vs) in
     let step = bind_ok (in_line line (values_of names es)) next bs h in

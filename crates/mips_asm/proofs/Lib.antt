@@ -4,5 +4,4 @@ pub mod NameLemmas
 pub mod FilledLemmas
 pub mod LaidLemmas
 pub mod OutcomeLemmas
-pub mod TableLemmas
 pub mod WritableLemmas

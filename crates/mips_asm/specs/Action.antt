@@ -18,7 +18,7 @@ use Rattle.mips_asm.specs.declared.section.Section.{Section}
 use Rattle.mips_asm.specs.declared.section.Section.TheVariants.{Text, Data}
 use Rattle.mips_asm.specs.Content.{Content, Instruction, Numbers, Given}
 use Rattle.mips_asm.specs.Draft.{draft_of, nothing_in, quoted_form, value_form, value_in}
-use Rattle.mips_asm.specs.Operation.{Shape, special_rows, immediate_rows, memory_rows, system_rows, further_rows}
+use Rattle.mips_text.specs.Texts.{text_of}
 use Rattle.mips_asm.specs.Outcome.{◌>>=◌, in_line}
 
 pub data Action : Type 0 where
@@ -30,13 +30,6 @@ pub data Action : Type 0 where
   Enter : Section → Action
   -- give a name the value of an expression
   Define : List ℕ → ExpressionValue → Action
-
--- the instructions by name
-abbrev pub instructions : List (List ℕ × Shape)
-instructions = special_rows ++ immediate_rows ++ memory_rows ++ system_rows ++ further_rows
-
-unfoldable pub shape_of : List ℕ → Option Shape
-shape_of name = lookup (bytes_eq name) instructions
 
 -- the directives by name
 abbrev pub directive_rows : List (List ℕ × Directive)
@@ -144,9 +137,9 @@ operands_in args = map (λ arg. arg.operand) args
 unfoldable pub action_of : ℕ → Section → AsmBody → Result Action AsmFault
 action_of line section bodies.Nothing = Ok (Put (Given []))
 action_of line section (bodies.Op name args) = do
-  shape ← in_line line (ok_or (shape_of name) UnknownName)
-  text ← in_line line (in_text section)
-  draft ← in_line line (draft_of shape (operands_in args))
+  text ← in_line line (ok_or (text_of name) UnknownName)
+  none ← in_line line (in_text section)
+  draft ← in_line line (draft_of text (operands_in args))
   Ok (Put (Instruction draft))
 action_of line section (bodies.Directive name args) = do
   directive ← in_line line (ok_or (directive_of name) UnknownName)

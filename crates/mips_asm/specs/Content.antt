@@ -6,13 +6,11 @@ use Rattle.asm_parse.specs.Expression.{ExpressionValue}
 use Rattle.asm_parse.specs.declared.fault.AsmFault.{AsmFault}
 use Rattle.asm_parse.specs.declared.fault.AsmWhy.{AsmWhy}
 use Rattle.asm_parse.specs.declared.fault.AsmWhy.TheVariants.{OutOfRange}
-use Rattle.mips_isa.specs.declared.insn.Insn.{Insn}
 use Rattle.mips_asm.specs.declared.number.NumberSize.{NumberSize}
 use Rattle.mips_asm.specs.declared.number.NumberSize.TheVariants.{Byte, Half, Word}
-use Rattle.mips_asm.specs.Draft.{Draft, Fixed, Filled, Halves, defined, insns_of}
+use Rattle.mips_asm.specs.Draft.{Draft, Fixed, Filled, Halves, defined, words_of}
 use Rattle.mips_asm.specs.Outcome.{◌>>=◌, in_line}
 use Rattle.mips_asm.specs.Value.{Names, number_length, number_fits}
-use Rattle.mips_isa.specs.Encoding.{word_of}
 
 pub data Content : Type 0 where
   Instruction : Draft → Content
@@ -22,8 +20,8 @@ pub data Content : Type 0 where
   Given : List ℕ → Content
 
 abbrev pub draft_length : Draft → ℕ
-draft_length (Fixed insn) = 4
-draft_length (Filled field insn e) = 4
+draft_length (Fixed w) = 4
+draft_length (Filled field w e) = 4
 draft_length (Halves rt e) = 8
 
 -- how many bytes it takes
@@ -56,15 +54,15 @@ number_bytes Word v = to_le_bytes w32 v
 abbrev pub numbers_bytes : NumberSize → List ℕ → Result (List ℕ) AsmWhy
 numbers_bytes size vs = if list_all (number_fits size) vs then Ok (flat_map (number_bytes size) vs) else Err OutOfRange
 
--- instructions in memory
-abbrev pub insns_bytes : List Insn → List ℕ
-insns_bytes insns = flat_map (λ insn. to_le_bytes w32 (word_of insn)) insns
+-- words in memory
+abbrev pub words_bytes : List ℕ → List ℕ
+words_bytes words = flat_map (λ word. to_le_bytes w32 word) words
 
 -- the bytes of a content at a place, in a line
 unfoldable pub bytes_of : ℕ → Names → ℕ → Content → Result (List ℕ) AsmFault
 bytes_of line names place (Instruction draft) = do
-  insns ← in_line line (insns_of names place draft)
-  Ok (insns_bytes insns)
+  words ← in_line line (words_of names place draft)
+  Ok (words_bytes words)
 bytes_of line names place (Numbers size es) = do
   vs ← in_line line (values_of names es)
   in_line line (numbers_bytes size vs)

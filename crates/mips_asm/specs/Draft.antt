@@ -1,21 +1,27 @@
--- Instructions as they are read: with their registers, and an expression in place of a field.
-use Rattle.std.specs.Prelude.{ℕ, ◌/◌, ◌%◌, ◌^◌, List, [], ◌∷◌, Option, Result, Ok, Err}
+-- Instructions as they are read: words with their registers, and an expression in place of a field.
+use Rattle.std.specs.Prelude.{ℕ, ◌+◌, ◌/◌, ◌%◌, ◌^◌, List, [], ◌∷◌, Option, Result, Ok, Err}
 use Rattle.std.specs.Option.{ok_or}
 use Rattle.asm_parse.specs.Expression.{ExpressionValue, Number}
 use Rattle.asm_parse.specs.declared.fault.AsmWhy.{AsmWhy}
 use Rattle.asm_parse.specs.declared.fault.AsmWhy.TheVariants.{Syntax, UnknownName, Undefined}
-use Rattle.mips_isa.specs.declared.insn.Insn.{Insn}
+use Rattle.mips_isa.specs.Encoding.{word_of}
 use Rattle.mips_isa.specs.declared.insn.Insn.TheVariants.{Lui, Ori}
 use Rattle.asm_parse.specs.Operand.{OperandValue, Register, Value, Based, Quoted}
-use Rattle.mips_asm.specs.Operation.{Shape, Alone, One, Two, Three, Field0, Field1, Field2, Coded, Memory, Load}
 use Rattle.mips_asm.specs.Outcome.{◌>>=◌}
-use Rattle.mips_asm.specs.Value.{Field, Code, Signed, Names, field_of, value_of}
+use Rattle.mips_text.specs.Texts.{field_word, slot_word}
+use Rattle.mips_text.specs.declared.shape.Field.{Field}
+use Rattle.mips_text.specs.declared.shape.Field.TheVariants.{Code, Signed}
+use Rattle.mips_text.specs.declared.shape.Shape.{Shape}
+use Rattle.mips_text.specs.declared.shape.Shape.TheVariants.{Alone, One, Two, Three, Field0, Field1, Field2, Coded, Memory, Load}
+use Rattle.mips_text.specs.declared.shape.Slot.TheVariants.{Rs, Rt}
+use Rattle.mips_text.specs.declared.text.Text.{Text}
+use Rattle.mips_asm.specs.Value.{Names, field_of, value_of}
 
 pub data Draft : Type 0 where
-  -- an instruction without an expression
-  Fixed : Insn → Draft
-  -- an instruction of a field, and the expression that gives the field
-  Filled : Field → (ℕ → Insn) → ExpressionValue → Draft
+  -- a whole word
+  Fixed : ℕ → Draft
+  -- a word without its field, and the expression that gives the field
+  Filled : Field → ℕ → ExpressionValue → Draft
   -- LUI of the high half and ORI of the low half of an expression, into a register
   Halves : ℕ → ExpressionValue → Draft
 
@@ -110,38 +116,42 @@ abbrev pub code_in : List OperandValue → Result ExpressionValue AsmWhy
 code_in [] = Ok (record { openings = []; inner = Number 0 })
 code_in (a ∷ rest) = value_in (a ∷ rest)
 
--- an instruction of a shape, with these operands
-unfoldable pub draft_of : Shape → List OperandValue → Result Draft AsmWhy
-draft_of (Alone insn) operands = do
+-- a word with operands of a shape
+unfoldable pub shaped : Shape → ℕ → List OperandValue → Result Draft AsmWhy
+shaped Alone w operands = do
   none ← nothing_in operands
-  Ok (Fixed insn)
-draft_of (One insn) operands = do
-  a ← register_in operands
-  Ok (Fixed (insn a))
-draft_of (Two insn) operands = do
+  Ok (Fixed w)
+shaped (One a) w operands = do
+  r ← register_in operands
+  Ok (Fixed (w + slot_word a r))
+shaped (Two a b) w operands = do
   r ← two_registers_in operands
-  Ok (Fixed (insn r.0 r.1))
-draft_of (Three insn) operands = do
+  Ok (Fixed (w + slot_word a r.0 + slot_word b r.1))
+shaped (Three a b c) w operands = do
   r ← three_registers_in operands
-  Ok (Fixed (insn r.0 r.1 r.2))
-draft_of (Field0 field insn) operands = do
+  Ok (Fixed (w + slot_word a r.0 + slot_word b r.1 + slot_word c r.2))
+shaped (Field0 field) w operands = do
   e ← value_in operands
-  Ok (Filled field insn e)
-draft_of (Field1 field insn) operands = do
+  Ok (Filled field w e)
+shaped (Field1 a field) w operands = do
   r ← register_and_value_in operands
-  Ok (Filled field (insn r.0) r.1)
-draft_of (Field2 field insn) operands = do
+  Ok (Filled field (w + slot_word a r.0) r.1)
+shaped (Field2 a b field) w operands = do
   r ← two_registers_and_value_in operands
-  Ok (Filled field (insn r.0 r.1) r.2)
-draft_of (Coded insn) operands = do
+  Ok (Filled field (w + slot_word a r.0 + slot_word b r.1) r.2)
+shaped Coded w operands = do
   e ← code_in operands
-  Ok (Filled Code insn e)
-draft_of (Memory insn) operands = do
+  Ok (Filled Code w e)
+shaped Memory w operands = do
   r ← based_in operands
-  Ok (Filled Signed (λ imm. insn r.0 imm r.1) r.2)
-draft_of Load operands = do
+  Ok (Filled Signed (w + slot_word Rt r.0 + slot_word Rs r.1) r.2)
+shaped Load w operands = do
   r ← register_and_value_in operands
   Ok (Halves r.0 r.1)
+
+-- an instruction of a text, with these operands
+abbrev pub draft_of : Text → List OperandValue → Result Draft AsmWhy
+draft_of text operands = shaped text.1 text.0 operands
 
 -- the value of an expression whose name has one
 abbrev pub defined : Names → ExpressionValue → Result ℕ AsmWhy
@@ -153,16 +163,22 @@ field_in names field place e = do
   v ← defined names e
   field_of field place v
 
+-- and its bits of the word
+abbrev pub field_bits_in : Names → Field → ℕ → ExpressionValue → Result ℕ AsmWhy
+field_bits_in names field place e = do
+  n ← field_in names field place e
+  Ok (field_word field n)
+
 -- LUI of the high half and ORI of the low half of an expression
-abbrev pub halves_in : Names → ℕ → ExpressionValue → Result (List Insn) AsmWhy
+abbrev pub halves_in : Names → ℕ → ExpressionValue → Result (List ℕ) AsmWhy
 halves_in names rt e = do
   v ← defined names e
-  Ok (Lui rt (v / 2 ^ 16) ∷ Ori rt rt (v % 2 ^ 16) ∷ [])
+  Ok (word_of (Lui rt (v / 2 ^ 16)) ∷ word_of (Ori rt rt (v % 2 ^ 16)) ∷ [])
 
--- the instructions that a draft at a place makes
-unfoldable pub insns_of : Names → ℕ → Draft → Result (List Insn) AsmWhy
-insns_of names place (Fixed insn) = Ok (insn ∷ [])
-insns_of names place (Filled field insn e) = do
-  n ← field_in names field place e
-  Ok (insn n ∷ [])
-insns_of names place (Halves rt e) = halves_in names rt e
+-- the words that a draft at a place makes
+unfoldable pub words_of : Names → ℕ → Draft → Result (List ℕ) AsmWhy
+words_of names place (Fixed w) = Ok (w ∷ [])
+words_of names place (Filled field w e) = do
+  bits ← field_bits_in names field place e
+  Ok ((w + bits) ∷ [])
+words_of names place (Halves rt e) = halves_in names rt e

@@ -3,7 +3,6 @@ pub mod Assembled
 pub mod Content
 pub mod Draft
 pub mod Layout
-pub mod Operation
 pub mod Outcome
 pub mod Room
 pub mod Second

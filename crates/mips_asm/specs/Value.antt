@@ -6,6 +6,8 @@ use Rattle.std.specs.Str.{byte, bytes_eq}
 use Rattle.asm_parse.specs.Expression.{ExpressionValue, InnerValue, Number, Name, Sum}
 use Rattle.asm_parse.specs.declared.fault.AsmWhy.{AsmWhy}
 use Rattle.asm_parse.specs.declared.fault.AsmWhy.TheVariants.{OutOfRange, Unaligned}
+use Rattle.mips_text.specs.declared.shape.Field.{Field}
+use Rattle.mips_text.specs.declared.shape.Field.TheVariants.{Amount, Signed, Unsigned, Code, Branch, Jump}
 use Rattle.mips_asm.specs.declared.number.NumberSize.{NumberSize}
 use Rattle.mips_asm.specs.declared.number.NumberSize.TheVariants.{Byte, Half, Word}
 
@@ -38,19 +40,6 @@ value_of names e = option_map (halves_of e.openings) (value_of_inner names e.inn
 -- whether a value is equal to a number from -low to high, modulo 2 ^ 32
 abbrev pub lies : ℕ → ℕ → ℕ → Bool
 lies low high v = nat_le v high || nat_le (2 ^ 32 - low) v
-
--- the fields of an instruction that an expression gives
-pub data Field : Type 0 where
-  -- a shift amount
-  Amount : Field
-  -- a half that is extended with its sign, and one that is extended with zeros
-  Signed : Field
-  Unsigned : Field
-  -- the code of SYSCALL and BREAK
-  Code : Field
-  -- where a branch and a jump go
-  Branch : Field
-  Jump : Field
 
 -- a value, where it passes a test
 abbrev pub ranged : Bool → ℕ → Result ℕ AsmWhy

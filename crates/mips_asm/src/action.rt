@@ -11,9 +11,9 @@ use crate::directive::Directive;
 use crate::draft::{Draft, nothing, value};
 use crate::fault::in_line;
 use crate::operand::{as_quoted, as_value, operands};
-use crate::operation::Operation;
 use crate::section::Section;
 use asm_parse::{Arg, AsmBody, AsmFault, AsmWhy, Expression, Inner};
+use mips_text::find_text;
 use std::alloc::Global;
 
 /// What a statement asks for.
@@ -43,10 +43,14 @@ pub(crate) fn read_action<'a>(
     match body {
         AsmBody::Nothing => Ok(Action::Put(Content::Zeros(0))),
         AsmBody::Op { name, args } => {
-            let known = Operation::named(name.bytes()).ok_or(AsmWhy::UnknownName);
-            let operation = in_line(line, known)?;
+            let Some(text) = find_text(name.bytes()) else {
+                return Err(AsmFault::At {
+                    line,
+                    why: AsmWhy::UnknownName,
+                });
+            };
             in_line(line, in_text(section))?;
-            let draft = in_line(line, Draft::new(operation, operands(args)))?;
+            let draft = in_line(line, Draft::new(text, operands(args)))?;
             Ok(Action::Put(Content::Instruction(draft)))
         }
         AsmBody::Directive { name, args } => {

@@ -6,33 +6,20 @@ ghost use Rattle.asm_parse.specs.Seen.{expression_seen, number_seen};
 ghost use Rattle.mips_asm.specs.Draft.{based_in, code_in, known, nothing_in, register_and_value_in, register_in, three_registers_in, two_registers_and_value_in, two_registers_in, value_in};
 ghost use Rattle.mips_asm.specs.Seen.{operands_seen};
 
-use crate::groups::{
-    Access, Alone, BranchOne, BranchTwo, LongJump, One, Shift, SignedImmediate, Three, Trap, Two,
-    UnsignedImmediate, VariableShift,
-};
 use crate::operand::{as_based, as_register, as_value};
-use crate::operation::Operation;
+use crate::word::{Word, with_one, with_three, with_two};
 use asm_parse::{Arg, AsmWhy, Expression, Register};
+use mips_text::{Field, Shape, Slot, Text};
 
-/// An operation with its registers, and the expressions that aren't values yet.
+/// An instruction with its registers, and the expression that isn't a value yet.
 #[derive(Clone, Copy)]
 pub(crate) enum Draft<'a> {
-    Alone(Alone),
-    One(One, Register),
-    Two(Two, Register, Register),
-    Three(Three, Register, Register, Register),
-    VariableShift(VariableShift, Register, Register, Register),
-    Shift(Shift, Register, Register, Expression<'a>),
-    Signed(SignedImmediate, Register, Register, Expression<'a>),
-    Unsigned(UnsignedImmediate, Register, Register, Expression<'a>),
-    Upper(Register, Expression<'a>),
-    BranchTwo(BranchTwo, Register, Register, Expression<'a>),
-    BranchOne(BranchOne, Register, Expression<'a>),
-    Branch(Expression<'a>),
-    Jump(LongJump, Expression<'a>),
-    Trap(Trap, Expression<'a>),
-    Access(Access, Register, Register, Expression<'a>),
-    Load(Register, Expression<'a>),
+    /// A whole word.
+    Fixed(Word),
+    /// A word without its field, and the expression that gives the field.
+    Filled(Field, Word, Expression<'a>),
+    /// LUI of the high half and ORI of the low half of an expression, into a register.
+    Halves(Register, Expression<'a>),
 }
 
 impl<'a> Draft<'a> {
@@ -40,7 +27,7 @@ impl<'a> Draft<'a> {
     ghost use Rattle.mips_asm.specs.Outcome.{ok_seen};
     ghost use Rattle.mips_asm.specs.Content.{draft_length};
     ghost use Rattle.mips_asm.specs.Draft.{draft_of};
-    ghost use Rattle.mips_asm.specs.Seen.{draft_seen, operands_seen, shape_seen};
+    ghost use Rattle.mips_asm.specs.Seen.{draft_seen, operands_seen};
 
     /// How many bytes its instructions take.
     pub(crate) fn length(&self) -> u32
@@ -48,68 +35,61 @@ impl<'a> Draft<'a> {
         ensures some { 0 < result }
     {
         match self {
-            Draft::Load(_, _) => 8,
+            Draft::Halves(_, _) => 8,
             _ => 4,
         }
     }
 
-    /// The operation with these operands. The fault is Syntax or UnknownName.
-    #[tactic(auto, unfolding(crate::specs::Draft::draft_of))]
-    pub(crate) fn new(operation: Operation, operands: &[Arg<'a>]) -> Result<Draft<'a>, AsmWhy>
-        ensures { ok_seen draft_seen result ≡ draft_of (shape_seen operation) (operands_seen operands.now) }
+    /// The instruction of a text with these operands. The fault is Syntax or UnknownName.
+    #[tactic(auto, unfolding(crate::specs::Draft::shaped))]
+    pub(crate) fn new(text: Text, operands: &[Arg<'a>]) -> Result<Draft<'a>, AsmWhy>
+        requires { text.0 < 0xc0000000 }
+        ensures { ok_seen draft_seen result ≡ draft_of text (operands_seen operands.now) }
     {
-        match operation {
-            Operation::Alone(op) => {
+        let word = text.0;
+        match text.1 {
+            Shape::Alone => {
                 nothing(operands)?;
-                Ok(Draft::Alone(op))
+                Ok(Draft::Fixed(Word { value: word }))
             }
-            Operation::One(op) => Ok(Draft::One(op, register(operands)?)),
-            Operation::Two(op) => {
+            Shape::One(slot) => {
+                let register = register(operands)?;
+                Ok(Draft::Fixed(with_one(word, slot, register)))
+            }
+            Shape::Two(first, second) => {
                 let (a, b) = two_registers(operands)?;
-                Ok(Draft::Two(op, a, b))
+                Ok(Draft::Fixed(with_two(word, first, a, second, b)))
             }
-            Operation::Three(op) => {
+            Shape::Three(first, second, third) => {
                 let (a, b, c) = three_registers(operands)?;
-                Ok(Draft::Three(op, a, b, c))
+                let registers = with_three(word, first, a, second, b, third, c);
+                Ok(Draft::Fixed(registers))
             }
-            Operation::VariableShift(op) => {
-                let (rd, rt, rs) = three_registers(operands)?;
-                Ok(Draft::VariableShift(op, rd, rt, rs))
+            Shape::Field0(field) => {
+                let value = value(operands)?;
+                Ok(Draft::Filled(field, Word { value: word }, value))
             }
-            Operation::Shift(op) => {
-                let (rd, rt, amount) = two_registers_and_value(operands)?;
-                Ok(Draft::Shift(op, rd, rt, amount))
+            Shape::Field1(slot, field) => {
+                let (a, value) = register_and_value(operands)?;
+                Ok(Draft::Filled(field, with_one(word, slot, a), value))
             }
-            Operation::Signed(op) => {
-                let (rt, rs, half) = two_registers_and_value(operands)?;
-                Ok(Draft::Signed(op, rt, rs, half))
+            Shape::Field2(first, second, field) => {
+                let (a, b, value) = two_registers_and_value(operands)?;
+                let registers = with_two(word, first, a, second, b);
+                Ok(Draft::Filled(field, registers, value))
             }
-            Operation::Unsigned(op) => {
-                let (rt, rs, half) = two_registers_and_value(operands)?;
-                Ok(Draft::Unsigned(op, rt, rs, half))
+            Shape::Coded => {
+                let code = code(operands)?;
+                Ok(Draft::Filled(Field::Code, Word { value: word }, code))
             }
-            Operation::Upper => {
-                let (rt, half) = register_and_value(operands)?;
-                Ok(Draft::Upper(rt, half))
+            Shape::Memory => {
+                let (a, b, offset) = based(operands)?;
+                let registers = with_two(word, Slot::Rt, a, Slot::Rs, b);
+                Ok(Draft::Filled(Field::Signed, registers, offset))
             }
-            Operation::BranchTwo(op) => {
-                let (rs, rt, address) = two_registers_and_value(operands)?;
-                Ok(Draft::BranchTwo(op, rs, rt, address))
-            }
-            Operation::BranchOne(op) => {
-                let (rs, address) = register_and_value(operands)?;
-                Ok(Draft::BranchOne(op, rs, address))
-            }
-            Operation::Branch => Ok(Draft::Branch(value(operands)?)),
-            Operation::Jump(op) => Ok(Draft::Jump(op, value(operands)?)),
-            Operation::Trap(op) => Ok(Draft::Trap(op, code(operands)?)),
-            Operation::Access(op) => {
-                let (rt, rs, offset) = based(operands)?;
-                Ok(Draft::Access(op, rt, rs, offset))
-            }
-            Operation::Load => {
-                let (rt, value) = register_and_value(operands)?;
-                Ok(Draft::Load(rt, value))
+            Shape::Load => {
+                let (a, value) = register_and_value(operands)?;
+                Ok(Draft::Halves(a, value))
             }
         }
     }

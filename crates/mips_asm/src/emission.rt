@@ -10,12 +10,12 @@ ghost use Rattle.mips_asm.specs.Seen.{content_seen, expressions_seen, placed_see
 
 use crate::content::Content;
 use crate::fault::in_line;
-use crate::insns::{draft_insns, push_insns};
 use crate::layout::Placed;
 use crate::names::Names;
 use crate::number::NumberSize;
 use crate::section::Section;
 use crate::value::defined;
+use crate::words::{draft_words, push_words};
 use asm_parse::{AsmFault, AsmWhy, Expression};
 use std::alloc::{AllocError, Global};
 
@@ -114,8 +114,8 @@ fn push_content(
     let line = placed.line;
     match &placed.content {
         Content::Instruction(draft) => {
-            let insns = in_line(line, draft_insns(*draft, names, placed.place))?;
-            push_insns(out, insns)?;
+            let words = in_line(line, draft_words(*draft, names, placed.place))?;
+            push_words(out, words)?;
         }
         Content::Numbers(size, numbers) => {
             let values = values(alloc, line, names, numbers)?;

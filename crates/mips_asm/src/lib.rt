@@ -11,19 +11,18 @@ mod directive;
 mod draft;
 mod emission;
 mod fault;
-mod groups;
-mod insns;
 mod layout;
 mod names;
 mod number;
 mod operand;
-mod operation;
 mod padding;
 mod room;
 mod second;
 mod section;
 mod start;
 mod value;
+mod word;
+mod words;
 
 pub use assembler::assemble;
 

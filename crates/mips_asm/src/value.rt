@@ -1,11 +1,13 @@
 //! Values, and the fields that they give.
 ghost use Rattle.std.specs.Prelude.{◌≡◌, ◌<◌, ◌^◌, ◌+◌, IfOk};
 ghost use Rattle.asm_parse.specs.Seen.{expression_seen};
-ghost use Rattle.mips_asm.specs.Draft.{defined, field_in};
-ghost use Rattle.mips_asm.specs.Value.{Amount, Branch, Code, Jump, Signed, Unsigned, distance, half_of, halves_of, lies, value_of};
+ghost use Rattle.mips_text.specs.declared.shape.Field.TheVariants.{Amount, Branch, Code, Jump, Signed, Unsigned};
+ghost use Rattle.mips_asm.specs.Draft.{defined, field_bits_in, field_in};
+ghost use Rattle.mips_asm.specs.Value.{distance, half_of, halves_of, lies, value_of};
 
 use crate::names::Names;
 use asm_parse::{AsmWhy, Expression, Inner};
+use mips_text::Field;
 
 /// Whether a value is equal to a number from `-low` to `high`, modulo 2^32.
 pub(crate) fn lies(low: u32, high: u32, value: u32) -> bool
@@ -58,8 +60,30 @@ pub(crate) fn defined(names: &Names, expression: Expression<'_>) -> Result<u32, 
     value(names, expression).ok_or(AsmWhy::Undefined)
 }
 
+/// The bits that the field of an expression fills, in an instruction at a place. The fault is Undefined,
+/// Unaligned or OutOfRange.
+pub(crate) fn field_bits(
+    names: &Names,
+    field: Field,
+    place: u32,
+    expression: Expression<'_>,
+) -> Result<u32, AsmWhy>
+    requires { place + 4 < 2 ^ 32 }
+    ensures value { result ≡ field_bits_in names.now field place (expression_seen expression.entry) }
+    ensures within { IfOk result (λ bits. bits < 2 ^ 26) }
+{
+    match field {
+        Field::Amount => Ok(u32::from(amount(names, expression)?) << 6),
+        Field::Signed => Ok(u32::from(signed(names, expression)?)),
+        Field::Unsigned => Ok(u32::from(unsigned(names, expression)?)),
+        Field::Code => Ok(code(names, expression)? << 6),
+        Field::Branch => Ok(u32::from(branch(names, place, expression)?)),
+        Field::Jump => jump(names, place, expression),
+    }
+}
+
 /// A shift amount.
-pub(crate) fn amount(names: &Names, expression: Expression<'_>) -> Result<u8, AsmWhy>
+fn amount(names: &Names, expression: Expression<'_>) -> Result<u8, AsmWhy>
     ensures value { result ≡ field_in names.now Amount 0 (expression_seen expression.entry) }
     ensures within { IfOk result (λ n. n < 32) }
 {
@@ -72,7 +96,7 @@ pub(crate) fn amount(names: &Names, expression: Expression<'_>) -> Result<u8, As
 }
 
 /// A half that is extended with its sign.
-pub(crate) fn signed(names: &Names, expression: Expression<'_>) -> Result<u16, AsmWhy>
+fn signed(names: &Names, expression: Expression<'_>) -> Result<u16, AsmWhy>
     ensures { result ≡ field_in names.now Signed 0 (expression_seen expression.entry) }
 {
     let value = defined(names, expression)?;
@@ -84,7 +108,7 @@ pub(crate) fn signed(names: &Names, expression: Expression<'_>) -> Result<u16, A
 }
 
 /// A half that is extended with zeros.
-pub(crate) fn unsigned(names: &Names, expression: Expression<'_>) -> Result<u16, AsmWhy>
+fn unsigned(names: &Names, expression: Expression<'_>) -> Result<u16, AsmWhy>
     ensures { result ≡ field_in names.now Unsigned 0 (expression_seen expression.entry) }
 {
     let value = defined(names, expression)?;
@@ -99,7 +123,7 @@ pub(crate) fn unsigned(names: &Names, expression: Expression<'_>) -> Result<u16,
 const LAST_CODE: u32 = (1 << 20) - 1;
 
 /// The code of a trap.
-pub(crate) fn code(names: &Names, expression: Expression<'_>) -> Result<u32, AsmWhy>
+fn code(names: &Names, expression: Expression<'_>) -> Result<u32, AsmWhy>
     ensures value { result ≡ field_in names.now Code 0 (expression_seen expression.entry) }
     ensures within { IfOk result (λ n. n < 2 ^ 20) }
 {
@@ -118,7 +142,7 @@ const BRANCH_BACK: u32 = 1 << 17;
 const BRANCH_ON: u32 = BRANCH_BACK - 4;
 
 /// How many words a branch at a place goes on from the word after it, modulo 2^16.
-pub(crate) fn branch(names: &Names, place: u32, expression: Expression<'_>) -> Result<u16, AsmWhy>
+fn branch(names: &Names, place: u32, expression: Expression<'_>) -> Result<u16, AsmWhy>
     requires { place + 4 < 2 ^ 32 }
     ensures { result ≡ field_in names.now Branch place (expression_seen expression.entry) }
 {
@@ -146,7 +170,7 @@ fn distance(place: u32, address: u32) -> u32
 const JUMP_REGION: u32 = 1 << 28;
 
 /// The target of a jump at a place.
-pub(crate) fn jump(names: &Names, place: u32, expression: Expression<'_>) -> Result<u32, AsmWhy>
+fn jump(names: &Names, place: u32, expression: Expression<'_>) -> Result<u32, AsmWhy>
     requires { place + 4 < 2 ^ 32 }
     ensures value { result ≡ field_in names.now Jump place (expression_seen expression.entry) }
     ensures within { IfOk result (λ n. n < 2 ^ 26) }

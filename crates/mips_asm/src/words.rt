@@ -1,0 +1,112 @@
+//! The words of drafts.
+ghost use Rattle.std.specs.Prelude.{◌≡◌, ◌+◌, ◌<◌, ◌^◌, ◌++◌, OnOk};
+ghost use Rattle.std.specs.Int.{to_le_bytes, w32};
+ghost use Rattle.mips_isa.specs.Encoding.{IsEncodable, word_of};
+ghost use Rattle.asm_parse.specs.Seen.{expression_seen};
+ghost use Rattle.mips_asm.specs.Content.{words_bytes};
+ghost use Rattle.mips_asm.specs.Draft.{halves_in, words_of};
+ghost use Rattle.mips_asm.specs.Outcome.{ok_seen};
+ghost use Rattle.mips_asm.specs.Seen.{draft_seen, words_seen};
+
+use crate::draft::Draft;
+use crate::names::Names;
+use crate::value::{defined, field_bits};
+use asm_parse::{AsmWhy, Expression, Register};
+use mips_isa::{Insn, encode};
+use std::alloc::AllocError;
+
+/// The words that a draft makes: one, or two.
+#[derive(Clone, Copy)]
+pub(crate) struct Words {
+    /// The first.
+    pub(crate) first: u32,
+    /// The second, where there are two.
+    pub(crate) second: Option<u32>,
+}
+
+/// One word.
+fn one(first: u32) -> Words
+    ensures { result ≡ record { first = first; second = None } }
+{
+    Words {
+        first,
+        second: None,
+    }
+}
+
+/// The words that a draft at a place makes. The fault is Undefined, Unaligned or OutOfRange.
+#[tactic(auto, unfolding(crate::specs::Draft::words_of))]
+pub(crate) fn draft_words(draft: Draft<'_>, names: &Names, place: u32) -> Result<Words, AsmWhy>
+    requires { place + 4 < 2 ^ 32 }
+    ensures { ok_seen words_seen result ≡ words_of names.now place (draft_seen draft.entry) }
+{
+    match draft {
+        Draft::Fixed(word) => Ok(one(word.value)),
+        Draft::Filled(field, word, e) => {
+            let bits = field_bits(names, field, place, e)?;
+            Ok(one(word.value + bits))
+        }
+        Draft::Halves(rt, e) => load(rt, names, e),
+    }
+}
+
+/// LUI of the high half and ORI of the low half of an expression.
+fn load(rt: Register, names: &Names, expression: Expression<'_>) -> Result<Words, AsmWhy>
+    ensures { ok_seen words_seen result ≡ halves_in names.now rt.number (expression_seen expression.entry) }
+{
+    let value = defined(names, expression)?;
+    Ok(Words {
+        first: load_upper(rt, (value / (1 << 16)) as u16),
+        second: Some(or_half(rt, (value % (1 << 16)) as u16)),
+    })
+}
+
+/// LUI.
+#[tactic(auto, unfolding(mips_isa::specs::Encoding::form_of))]
+fn load_upper(rt: Register, imm: u16) -> u32
+    ensures { result ≡ word_of (Insn.Lui rt.number imm) }
+{
+    encoded(&Insn::Lui { rt: rt.number, imm })
+}
+
+/// ORI of a register with itself.
+#[tactic(auto, unfolding(mips_isa::specs::Encoding::form_of))]
+fn or_half(rt: Register, imm: u16) -> u32
+    ensures { result ≡ word_of (Insn.Ori rt.number rt.number imm) }
+{
+    encoded(&Insn::Ori {
+        rt: rt.number,
+        rs: rt.number,
+        imm,
+    })
+}
+
+/// The word of an instruction whose fields fit.
+fn encoded(insn: &Insn) -> u32
+    requires { IsEncodable insn.now }
+    ensures { result ≡ word_of insn.now }
+{
+    match encode(insn) {
+        Some(word) => word,
+        None => unreachable!(),
+    }
+}
+
+/// Puts a word at the end, the lowest byte first.
+fn push_word(out: &mut Vec<u8>, word: u32) -> Result<(), AllocError>
+    ensures { OnOk result (out.new.items ≡ out.old.items ++ to_le_bytes w32 word) }
+{
+    out.extend_from_slice(&word.to_le_bytes())?;
+    Ok(())
+}
+
+/// Puts words at the end.
+pub(crate) fn push_words(out: &mut Vec<u8>, words: Words) -> Result<(), AllocError>
+    ensures { OnOk result (out.new.items ≡ out.old.items ++ words_bytes (words_seen words)) }
+{
+    push_word(out, words.first)?;
+    match words.second {
+        Some(second) => push_word(out, second),
+        None => Ok(()),
+    }
+}
