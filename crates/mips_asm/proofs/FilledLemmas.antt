@@ -18,11 +18,7 @@ use Rattle.mips_asm.specs.Outcome.{◌>>=◌, in_line}
 use Rattle.mips_asm.specs.Second.{Sections, emitted, extended, filled, filled_from, start_fault, start_fault_of, unless_start, widened}
 use Rattle.mips_asm.specs.Value.{Names, number_fits, number_length}
 use Rattle.mips_asm.proofs.LaidLemmas.{HasStart, length_in, total}
-use Rattle.mips_asm.proofs.OutcomeLemmas.{bind_ok, chosen_ok, ok_is}
-
-in_line_ok : {A : Type 0} (line : ℕ) (r : Result A AsmWhy) (x : A) → in_line line r ≡ Ok x → r ≡ Ok x
-in_line_ok line (Ok y) x h = ap Ok (ok_is y x h)
-in_line_ok line (Err e) x h = cc
+use Rattle.mips_asm.proofs.OutcomeLemmas.{bind_ok, chosen_ok, in_line_ok, ok_is}
 
 -- the lengths of what is put
 
@@ -67,23 +63,22 @@ numbers_length size vs bs h =
     let fits = chosen_ok (list_all (number_fits size) vs) (Ok (flat_map (number_bytes size) vs)) OutOfRange bs h in
     ap length (sym (ok_is _ bs fits.1)) ∙ all_length size vs
 
-bytes_length : (line : ℕ) (names : Names) (place : ℕ) (content : Content) (bs : List ℕ) → bytes_of line names place content ≡ Ok bs → length bs ≡ content_length content
+bytes_length : (names : Names) (place : ℕ) (content : Content) (bs : List ℕ) → bytes_of names place content ≡ Ok bs → length bs ≡ content_length content
 unfolding bytes_of
-bytes_length line names place (Instruction draft) bs h =
-    let next : List ℕ → Result (List ℕ) AsmFault = λ words. Ok (words_bytes words) in
-    let step = bind_ok (in_line line (words_of names place draft)) next bs h in
-    ap length (sym (ok_is _ bs step.2)) ∙ words_length names place draft step.0 (in_line_ok line (words_of names place draft) step.0 step.1)
-bytes_length line names place (Numbers size es) bs h =
-    let next : List ℕ → Result (List ℕ) AsmFault = λ vs. in_line line (numbers_bytes size vs) in
-    let step = bind_ok (in_line line (values_of names es)) next bs h in
-    numbers_length size step.0 bs (in_line_ok line (numbers_bytes size step.0) bs step.2)
-    ∙ ap (λ n. number_length size * n) (values_length names es step.0 (in_line_ok line (values_of names es) step.0 step.1))
-bytes_length line names place (Given given) bs h = ap length (sym (ok_is given bs h))
+bytes_length names place (Instruction draft) bs h =
+    let next : List ℕ → Result (List ℕ) AsmWhy = λ words. Ok (words_bytes words) in
+    let step = bind_ok (words_of names place draft) next bs h in
+    ap length (sym (ok_is _ bs step.2)) ∙ words_length names place draft step.0 step.1
+bytes_length names place (Numbers size es) bs h =
+    let next : List ℕ → Result (List ℕ) AsmWhy = λ vs. numbers_bytes size vs in
+    let step = bind_ok (values_of names es) next bs h in
+    numbers_length size step.0 bs step.2 ∙ ap (λ n. number_length size * n) (values_length names es step.0 step.1)
+bytes_length names place (Given given) bs h = ap length (sym (ok_is given bs h))
 
-unless_ok : {A : Type 0} (line : ℕ) (start : Option AsmWhy) (r : Result A AsmFault) (x : A) → unless_start line start r ≡ Ok x → (start ≡ None) × (r ≡ Ok x)
-unless_ok line None r x h = (refl, h)
-unless_ok line (Some why) (Ok y) x h = cc
-unless_ok line (Some why) (Err e) x h = cc
+unless_ok : {A : Type 0} (start : Option AsmWhy) (r : Result A AsmWhy) (x : A) → unless_start start r ≡ Ok x → (start ≡ None) × (r ≡ Ok x)
+unless_ok None r x h = (refl, h)
+unless_ok (Some why) (Ok y) x h = cc
+unless_ok (Some why) (Err e) x h = cc
 
 -- nothing is wrong with `start`, where it is the label of one of the statements
 abbrev pub StartIsGood : ℕ → List Placed → Type 0
@@ -113,9 +108,10 @@ widened_is : (names : Names) (size : ℕ) (before after : Sections) (p : Placed)
 unfolding emitted
 widened_is names size before after p h =
     let next : List ℕ → Result Sections AsmFault = λ bs. Ok (extended p.section bs before) in
-    let step = bind_ok (emitted names size p) next after h in
-    let parts = unless_ok p.line (start_fault_of size p) (bytes_of p.line names p.place p.content) step.0 step.1 in
-    let long = bytes_length p.line names p.place p.content step.0 parts.1 in
+    let step = bind_ok (in_line p.line (emitted names size p)) next after h in
+    let made = in_line_ok p.line (emitted names size p) step.0 step.1 in
+    let parts = unless_ok (start_fault_of size p) (bytes_of names p.place p.content) step.0 made in
+    let long = bytes_length names p.place p.content step.0 parts.1 in
     let same = ok_is (extended p.section step.0 before) after step.2 in
     record {
       text_is = sym (ap (λ s. length s.text) same) ∙ extended_text p.section step.0 before ∙ ap (λ n. length before.text + length_in Text p.section n) long;

@@ -4,10 +4,10 @@ use Rattle.std.proofs.lemmas.Bool.{leb-true}
 use Rattle.std.specs.Option.{is_some}
 use Rattle.asm_parse.specs.Expression.{ExpressionValue}
 use Rattle.asm_parse.specs.Form.{due_of}
-use Rattle.asm_parse.specs.declared.fault.AsmFault.TheVariants.{At}
+use Rattle.asm_parse.specs.declared.fault.AsmWhy.{AsmWhy}
 use Rattle.asm_parse.specs.declared.fault.AsmWhy.TheVariants.{OutOfRange, Redefined}
 use Rattle.mips_asm.specs.Draft.{defined}
-use Rattle.mips_asm.specs.Outcome.{◌>>=◌, in_line}
+use Rattle.mips_asm.specs.Outcome.{◌>>=◌}
 use Rattle.asm_parse.specs.declared.fault.AsmFault.{AsmFault}
 use Rattle.asm_parse.specs.declared.syntax.AsmLine.{AsmLine}
 use Rattle.line_text.specs.Lines.{LineValue, lines_of}
@@ -17,7 +17,7 @@ use Rattle.mips_asm.specs.Action.{Action, Put, Align, Enter, Define, action_of}
 use Rattle.mips_asm.specs.Content.{Content, Given, content_length}
 use Rattle.mips_asm.specs.Layout.{Layout, Placed, acted, added, appended, equated, is_start, labelled, laid, laid_from, named, nothing_placed, padding, place_of, put, started, stated, used_by}
 use Rattle.mips_asm.specs.Value.{Names, value_of_name}
-use Rattle.mips_asm.proofs.OutcomeLemmas.{bind_ok, chosen_ok, ok_is, other_ok}
+use Rattle.mips_asm.proofs.OutcomeLemmas.{bind_ok, chosen_ok, in_line_ok, ok_is, other_ok}
 
 -- a length, where a section is the other
 abbrev pub length_in : Section → Section → ℕ → ℕ
@@ -110,27 +110,27 @@ put_is line starts content before after h =
     (appended_put line starts content before.section before.text before.data_bytes before.names before.start before.placed (leb-true _ _ fits.0))
 
 -- a name changes nothing else
-named_is : (line : ℕ) (name : List ℕ) (value : ℕ) (before after : Layout) → named line name value before ≡ Ok after → (names : Names) × (after ≡ record before { names = names })
-named_is line name value before after h = let new = other_ok _ _ _ after h in (before.names ++ (name, value) ∷ [], sym (ok_is _ after new.1))
+named_is : (name : List ℕ) (value : ℕ) (before after : Layout) → named name value before ≡ Ok after → (names : Names) × (after ≡ record before { names = names })
+named_is name value before after h = let new = other_ok _ _ _ after h in (before.names ++ (name, value) ∷ [], sym (ok_is _ after new.1))
 
-equated_is : (line : ℕ) (name : List ℕ) (e : ExpressionValue) (before after : Layout) → equated line name e before ≡ Ok after → (names : Names) × (after ≡ record before { names = names })
-equated_is line name e before after h =
-    let value : Result ℕ AsmFault = in_line line (defined before.names e) in
-    let next : ℕ → Result Layout AsmFault = λ v. named line name v before in
-    let new = other_ok (is_some (value_of_name name before.names)) (value >>= next) (At line Redefined) after h in
+equated_is : (name : List ℕ) (e : ExpressionValue) (before after : Layout) → equated name e before ≡ Ok after → (names : Names) × (after ≡ record before { names = names })
+equated_is name e before after h =
+    let value : Result ℕ AsmWhy = defined before.names e in
+    let next : ℕ → Result Layout AsmWhy = λ v. named name v before in
+    let new = other_ok (is_some (value_of_name name before.names)) (value >>= next) Redefined after h in
     let step = bind_ok value next after new.1 in
-    named_is line name step.0 before after step.2
+    named_is name step.0 before after step.2
 
 pub acted_is : (line : ℕ) (starts : Bool) (action : Action) (before after : Layout) → acted line starts action before ≡ Ok after → IsPut starts before after
 unfolding acted
 acted_is line starts (Put content) before after h = put_is line starts content before after h
 acted_is line starts (Align n) before after h =
     let content : Content = Given (replicate (padding (place_of before) (2 ^ n)) 0) in
-    let small = chosen_ok (nat_le n 12) (put line starts content before) (At line OutOfRange) after h in
+    let small = chosen_ok (nat_le n 12) (put line starts content before) OutOfRange after h in
     put_is line starts content before after small.1
 acted_is line starts (Enter section) before after h =
     let enter : Layout → Layout = λ l. record l { section = section } in
-    let next : Layout → Result Layout AsmFault = λ l. Ok (enter l) in
+    let next : Layout → Result Layout AsmWhy = λ l. Ok (enter l) in
     let step = bind_ok (put line starts (Given []) before) next after h in
     let p = put_is line starts (Given []) before step.0 step.1 in
     let entered : IsPut starts before (enter step.0) = record {
@@ -147,7 +147,7 @@ acted_is line starts (Enter section) before after h =
     subst (IsPut starts before) (ok_is (enter step.0) after step.2) entered
 acted_is line starts (Define name e) before after h =
     let step = bind_ok _ _ after h in
-    let new = equated_is line name e before step.0 step.1 in
+    let new = equated_is name e before step.0 step.1 in
     let p = put_is line starts (Given []) (record before { names = new.0 }) after (subst (λ l. put line starts (Given []) l ≡ Ok after) new.1 step.2) in
     record {
       statement = p.statement;
@@ -162,13 +162,13 @@ acted_is line starts (Define name e) before after h =
     }
 
 -- a label gives a name, and `start` its place
-labelled_is : (line : ℕ) (label : Option (List ℕ)) (before after : Layout) → labelled line label before ≡ Ok after →
+labelled_is : (label : Option (List ℕ)) (before after : Layout) → labelled label before ≡ Ok after →
     (names : Names) × (after ≡ started (is_start label) (place_of before) (record before { names = names }))
-labelled_is line None before after h = (before.names, sym (ok_is before after h))
-labelled_is line (Some name) before after h =
-    let next : Layout → Result Layout AsmFault = λ l. Ok (started (is_start (Some name)) (place_of before) l) in
-    let step = bind_ok (named line name (place_of before) before) next after h in
-    let new = named_is line name (place_of before) before step.0 step.1 in
+labelled_is None before after h = (before.names, sym (ok_is before after h))
+labelled_is (Some name) before after h =
+    let next : Layout → Result Layout AsmWhy = λ l. Ok (started (is_start (Some name)) (place_of before) l) in
+    let step = bind_ok (named name (place_of before) before) next after h in
+    let new = named_is name (place_of before) before step.0 step.1 in
     (new.0, sym (ok_is _ after step.2) ∙ ap (started (is_start (Some name)) (place_of before)) new.1)
 
 -- what is laid stays so where a content is put
@@ -207,17 +207,18 @@ unfolding stated
 stated_laid statement before after h known =
     let line = statement.line in
     let starts : Bool = is_start statement.label in
-    let last : Action → Layout → Result Layout AsmFault = λ action l. acted line starts action l in
-    let next : Action → Result Layout AsmFault = λ action. labelled line statement.label before >>= last action in
-    let reads = bind_ok (action_of line before.section statement.body) next after h in
-    let labels = bind_ok (labelled line statement.label before) (last reads.0) after reads.2 in
-    let named = labelled_is line statement.label before labels.0 labels.1 in
+    let last : Action → Layout → Result Layout AsmWhy = λ action l. acted line starts action l in
+    let next : Action → Result Layout AsmWhy = λ action. labelled statement.label before >>= last action in
+    let reads = bind_ok (action_of before.section statement.body) next after h in
+    let labels = bind_ok (labelled statement.label before) (last reads.0) after reads.2 in
+    let named = labelled_is statement.label before labels.0 labels.1 in
     let acts : acted line starts reads.0 (started starts (place_of before) (record before { names = named.0 })) ≡ Ok after = subst (λ l. acted line starts reads.0 l ≡ Ok after) named.1 labels.2 in
     put_laid starts before after named.0 known (acted_is line starts reads.0 _ after acts)
 
 added_laid : (said : Option AsmLine) (before after : Layout) → added said before ≡ Ok after → IsLaid before → IsLaid after
 added_laid None before after h known = subst IsLaid (ok_is before after h) known
-added_laid (Some statement) before after h known = stated_laid statement before after h known
+added_laid (Some statement) before after h known =
+    stated_laid statement before after (in_line_ok statement.line (stated statement before) after h) known
 
 laid_from_laid : (before after : Layout) (lines : List LineValue) → laid_from before lines ≡ Ok after → IsLaid before → IsLaid after
 laid_from_laid before after [] h known = subst IsLaid (ok_is before after h) known

@@ -11,7 +11,7 @@ use Rattle.elf_static.specs.ObjectValue.{ObjectValue, PartValue}
 use Rattle.elf_static.specs.Writable.{IsWritable}
 use Rattle.mips_asm.specs.Assembled.{assembled, program_of}
 use Rattle.mips_asm.specs.Layout.{Layout, Placed, laid}
-use Rattle.mips_asm.specs.Outcome.{◌>>=◌, fault}
+use Rattle.mips_asm.specs.Outcome.{◌>>=◌}
 use Rattle.mips_asm.specs.Second.{Sections, filled, is_in_text, start_fault}
 use Rattle.mips_asm.proofs.FilledLemmas.{StartIsGood, filled_is, start_good}
 use Rattle.mips_asm.proofs.LaidLemmas.{IsLaid, StartIn, laid_laid}
@@ -82,7 +82,7 @@ unfolding assembled program text_part data_part
 assembled_writable source object h =
     let last : Layout → Sections → Result ObjectValue AsmFault = λ layout sections. Ok (program_of layout sections) in
     let whole : Layout → Result ObjectValue AsmFault = λ layout. filled layout >>= last layout in
-    let next : Layout → Result ObjectValue AsmFault = λ layout. if layout.text == 0 then fault 1 Empty else whole layout in
+    let next : Layout → Result ObjectValue AsmFault = λ layout. if layout.text == 0 then Err (At 1 Empty) else whole layout in
     let first = bind_ok (laid source) next object h in
     let layout : Layout = first.0 in
     let some = other_ok (layout.text == 0) (whole layout) (At 1 Empty) object first.2 in

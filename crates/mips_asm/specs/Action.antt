@@ -6,7 +6,6 @@ use Rattle.std.specs.Str.{bytes_eq}
 use Rattle.asm_parse.specs.Expression.{ExpressionValue, InnerValue, Number, Name}
 use Rattle.asm_parse.specs.declared.fault.AsmWhy.{AsmWhy}
 use Rattle.asm_parse.specs.declared.fault.AsmWhy.TheVariants.{Syntax, UnknownName}
-use Rattle.asm_parse.specs.declared.fault.AsmFault.{AsmFault}
 use Rattle.asm_parse.specs.Arg.{ArgValue}
 use Rattle.asm_parse.specs.Operand.{OperandValue}
 use Rattle.asm_parse.specs.declared.syntax.AsmBody.{AsmBody}
@@ -19,7 +18,7 @@ use Rattle.mips_asm.specs.declared.section.Section.TheVariants.{Text, Data}
 use Rattle.mips_asm.specs.Content.{Content, Instruction, Numbers, Given}
 use Rattle.mips_asm.specs.Draft.{draft_of, nothing_in, quoted_form, value_form, value_in}
 use Rattle.mips_text.specs.Texts.{text_of}
-use Rattle.mips_asm.specs.Outcome.{◌>>=◌, in_line}
+use Rattle.mips_asm.specs.Outcome.{◌>>=◌}
 
 pub data Action : Type 0 where
   -- put a content at the place
@@ -132,15 +131,15 @@ directed directives.Equ operands = do
 abbrev pub operands_in : List ArgValue → List OperandValue
 operands_in args = map (λ arg. arg.operand) args
 
--- what an operation in a section asks for, in a line: a name that isn't known stands before operands that it can't
--- take, and these before a register that there isn't
-unfoldable pub action_of : ℕ → Section → AsmBody → Result Action AsmFault
-action_of line section bodies.Nothing = Ok (Put (Given []))
-action_of line section (bodies.Op name args) = do
-  text ← in_line line (ok_or (text_of name) UnknownName)
-  none ← in_line line (in_text section)
-  draft ← in_line line (draft_of text (operands_in args))
+-- what an operation in a section asks for: a name that isn't known stands before operands that it can't take, and
+-- these before a register that there isn't
+unfoldable pub action_of : Section → AsmBody → Result Action AsmWhy
+action_of section bodies.Nothing = Ok (Put (Given []))
+action_of section (bodies.Op name args) = do
+  text ← ok_or (text_of name) UnknownName
+  none ← in_text section
+  draft ← draft_of text (operands_in args)
   Ok (Put (Instruction draft))
-action_of line section (bodies.Directive name args) = do
-  directive ← in_line line (ok_or (directive_of name) UnknownName)
-  in_line line (directed directive (operands_in args))
+action_of section (bodies.Directive name args) = do
+  directive ← ok_or (directive_of name) UnknownName
+  directed directive (operands_in args)

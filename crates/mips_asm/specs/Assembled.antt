@@ -7,7 +7,7 @@ use Rattle.asm_parse.specs.declared.fault.AsmWhy.TheVariants.{Empty}
 use Rattle.elf_static.specs.ObjectValue.{ObjectValue, PartValue}
 use Rattle.mips_asm.specs.declared.section.Section.TheVariants.{Text, Data}
 use Rattle.mips_asm.specs.Layout.{Layout, base_of, laid}
-use Rattle.mips_asm.specs.Outcome.{◌>>=◌, fault}
+use Rattle.mips_asm.specs.Outcome.{◌>>=◌}
 use Rattle.mips_asm.specs.Second.{Sections, filled}
 
 -- the text, which may not be written, and the data where there is any
@@ -24,7 +24,7 @@ program_of layout sections = record { entry = unwrap_or layout.start (base_of Te
 unfoldable pub assembled : List ℕ → Result ObjectValue AsmFault
 assembled source = do
   layout ← laid source
-  if layout.text == 0 then fault 1 Empty else do
+  if layout.text == 0 then Err (At 1 Empty) else do
     sections ← filled layout
     Ok (program_of layout sections)
 

@@ -3,13 +3,12 @@ use Rattle.std.specs.Prelude.{ℕ, ◌*◌, ◌%◌, ◌^◌, List, [], ◌∷�
 use Rattle.std.specs.List.{flat_map, list_all}
 use Rattle.std.specs.Int.{w32, to_le_bytes, w16}
 use Rattle.asm_parse.specs.Expression.{ExpressionValue}
-use Rattle.asm_parse.specs.declared.fault.AsmFault.{AsmFault}
 use Rattle.asm_parse.specs.declared.fault.AsmWhy.{AsmWhy}
 use Rattle.asm_parse.specs.declared.fault.AsmWhy.TheVariants.{OutOfRange}
 use Rattle.mips_asm.specs.declared.number.NumberSize.{NumberSize}
 use Rattle.mips_asm.specs.declared.number.NumberSize.TheVariants.{Byte, Half, Word}
 use Rattle.mips_asm.specs.Draft.{Draft, Fixed, Filled, Halves, defined, words_of}
-use Rattle.mips_asm.specs.Outcome.{◌>>=◌, in_line}
+use Rattle.mips_asm.specs.Outcome.{◌>>=◌}
 use Rattle.mips_asm.specs.Value.{Names, number_length, number_fits}
 
 pub data Content : Type 0 where
@@ -58,12 +57,12 @@ numbers_bytes size vs = if list_all (number_fits size) vs then Ok (flat_map (num
 abbrev pub words_bytes : List ℕ → List ℕ
 words_bytes words = flat_map (λ word. to_le_bytes w32 word) words
 
--- the bytes of a content at a place, in a line
-unfoldable pub bytes_of : ℕ → Names → ℕ → Content → Result (List ℕ) AsmFault
-bytes_of line names place (Instruction draft) = do
-  words ← in_line line (words_of names place draft)
+-- the bytes of a content at a place
+unfoldable pub bytes_of : Names → ℕ → Content → Result (List ℕ) AsmWhy
+bytes_of names place (Instruction draft) = do
+  words ← words_of names place draft
   Ok (words_bytes words)
-bytes_of line names place (Numbers size es) = do
-  vs ← in_line line (values_of names es)
-  in_line line (numbers_bytes size vs)
-bytes_of line names place (Given bs) = Ok bs
+bytes_of names place (Numbers size es) = do
+  vs ← values_of names es
+  numbers_bytes size vs
+bytes_of names place (Given bs) = Ok bs

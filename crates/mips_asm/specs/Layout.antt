@@ -1,10 +1,11 @@
 -- The first pass: where each statement stands, and the values of the names.
-use Rattle.std.specs.Prelude.{ℕ, ◌+◌, ◌-◌, ◌%◌, ◌^◌, Bool, true, false, List, [], ◌∷◌, ◌++◌, Option, Some, None, Result, Ok, nat_le, ◌==◌, if◌then◌else◌, replicate, codes}
+use Rattle.std.specs.Prelude.{ℕ, ◌+◌, ◌-◌, ◌%◌, ◌^◌, Bool, true, false, List, [], ◌∷◌, ◌++◌, Option, Some, None, Result, Ok, Err, nat_le, ◌==◌, if◌then◌else◌, replicate, codes}
 use Rattle.std.specs.Option.{is_some}
 use Rattle.std.specs.Str.{bytes_eq}
 use Rattle.asm_parse.specs.Expression.{ExpressionValue}
 use Rattle.asm_parse.specs.Form.{due_of}
 use Rattle.asm_parse.specs.declared.fault.AsmFault.{AsmFault}
+use Rattle.asm_parse.specs.declared.fault.AsmWhy.{AsmWhy}
 use Rattle.asm_parse.specs.declared.fault.AsmWhy.TheVariants.{Redefined, OutOfRange, Unaligned}
 use Rattle.asm_parse.specs.declared.syntax.AsmLine.{AsmLine}
 use Rattle.line_text.specs.Lines.{LineValue, lines_of}
@@ -13,7 +14,7 @@ use Rattle.mips_asm.specs.declared.section.Section.TheVariants.{Text, Data}
 use Rattle.mips_asm.specs.Action.{Action, Put, Align, Enter, Define, action_of}
 use Rattle.mips_asm.specs.Content.{Content, Given, alignment, content_length}
 use Rattle.mips_asm.specs.Draft.{defined}
-use Rattle.mips_asm.specs.Outcome.{◌>>=◌, fault, in_line}
+use Rattle.mips_asm.specs.Outcome.{◌>>=◌, in_line}
 use Rattle.mips_asm.specs.Value.{Names, value_of_name}
 
 -- what a statement puts, and where
@@ -72,9 +73,9 @@ grown_by Text n layout = record layout { text = layout.text + n }
 grown_by Data n layout = record layout { data_bytes = layout.data_bytes + n }
 
 -- a name that has no value yet gets one
-abbrev pub named : ℕ → List ℕ → ℕ → Layout → Result Layout AsmFault
-named line name value layout =
-    if is_some (value_of_name name layout.names) then fault line Redefined
+abbrev pub named : List ℕ → ℕ → Layout → Result Layout AsmWhy
+named name value layout =
+    if is_some (value_of_name name layout.names) then Err Redefined
     else Ok (record layout { names = layout.names ++ (name, value) ∷ [] })
 
 -- whether a label is `start`
@@ -88,10 +89,10 @@ started true place layout = record layout { start = Some place }
 started false place layout = layout
 
 -- a label gets the address of its statement
-abbrev pub labelled : ℕ → Option (List ℕ) → Layout → Result Layout AsmFault
-labelled line None layout = Ok layout
-labelled line (Some name) layout = do
-  after ← named line name (place_of layout) layout
+abbrev pub labelled : Option (List ℕ) → Layout → Result Layout AsmWhy
+labelled None layout = Ok layout
+labelled (Some name) layout = do
+  after ← named name (place_of layout) layout
   Ok (started (is_start (Some name)) (place_of layout) after)
 
 -- a content at its place
@@ -102,51 +103,51 @@ appended line starts content layout =
     })
 
 -- a content, where its place is aligned and the section has room
-abbrev pub put : ℕ → Bool → Content → Layout → Result Layout AsmFault
+abbrev pub put : ℕ → Bool → Content → Layout → Result Layout AsmWhy
 put line starts content layout =
     if place_of layout % alignment content == 0 then (
     if nat_le (content_length content) (section_limit - used_by layout.section layout)
-    then Ok (appended line starts content layout) else fault line OutOfRange
-    ) else fault line Unaligned
+    then Ok (appended line starts content layout) else Err OutOfRange
+    ) else Err Unaligned
 
 -- how many bytes it takes from a place to a multiple of a number
 abbrev pub padding : ℕ → ℕ → ℕ
 padding place multiple = (multiple - place % multiple) % multiple
 
 -- zeros up to a multiple of a power of 2, at most 2 ^ 12
-abbrev pub padded : ℕ → Bool → ℕ → Layout → Result Layout AsmFault
+abbrev pub padded : ℕ → Bool → ℕ → Layout → Result Layout AsmWhy
 padded line starts n layout =
-    if nat_le n 12 then put line starts (Given (replicate (padding (place_of layout) (2 ^ n)) 0)) layout else fault line OutOfRange
+    if nat_le n 12 then put line starts (Given (replicate (padding (place_of layout) (2 ^ n)) 0)) layout else Err OutOfRange
 
 -- a name of `.equ`, whose expression has a value already
-abbrev pub equated : ℕ → List ℕ → ExpressionValue → Layout → Result Layout AsmFault
-equated line name e layout =
-    if is_some (value_of_name name layout.names) then fault line Redefined else do
-      value ← in_line line (defined layout.names e)
-      named line name value layout
+abbrev pub equated : List ℕ → ExpressionValue → Layout → Result Layout AsmWhy
+equated name e layout =
+    if is_some (value_of_name name layout.names) then Err Redefined else do
+      value ← defined layout.names e
+      named name value layout
 
 -- what an action does
-unfoldable pub acted : ℕ → Bool → Action → Layout → Result Layout AsmFault
+unfoldable pub acted : ℕ → Bool → Action → Layout → Result Layout AsmWhy
 acted line starts (Put content) layout = put line starts content layout
 acted line starts (Align n) layout = padded line starts n layout
 acted line starts (Enter section) layout = do
   after ← put line starts (Given []) layout
   Ok (record after { section = section })
 acted line starts (Define name e) layout = do
-  after ← equated line name e layout
+  after ← equated name e layout
   put line starts (Given []) after
 
 -- a statement: its operation is read, its label gets a value, and then it acts
-unfoldable pub stated : AsmLine → Layout → Result Layout AsmFault
+unfoldable pub stated : AsmLine → Layout → Result Layout AsmWhy
 stated statement layout = do
-  action ← action_of statement.line layout.section statement.body
-  after ← labelled statement.line statement.label layout
+  action ← action_of layout.section statement.body
+  after ← labelled statement.label layout
   acted statement.line (is_start statement.label) action after
 
 -- a line's statement, where it has one
 abbrev pub added : Option AsmLine → Layout → Result Layout AsmFault
 added None layout = Ok layout
-added (Some statement) layout = stated statement layout
+added (Some statement) layout = in_line statement.line (stated statement layout)
 
 -- lines in order, up to the first fault
 abbrev pub laid_from : Layout → List LineValue → Result Layout AsmFault

@@ -1,14 +1,15 @@
 -- The second pass: the bytes of the sections.
 use Rattle.std.specs.Prelude.{ℕ, ◌+◌, ◌%◌, Bool, List, [], ◌∷◌, ◌++◌, Option, Some, None, Result, Ok, Err, nat_lt, nat_le, ◌==◌, ◌&&◌, not, if◌then◌else◌}
 use Rattle.asm_parse.specs.declared.fault.AsmFault.{AsmFault}
-use Rattle.asm_parse.specs.declared.fault.AsmFault.TheVariants.{At, OutOfMemory}
 use Rattle.asm_parse.specs.declared.fault.AsmWhy.{AsmWhy}
 use Rattle.asm_parse.specs.declared.fault.AsmWhy.TheVariants.{OutOfRange, Unaligned}
+use Rattle.mips_asm.specs.declared.cause.Cause.{Cause}
+use Rattle.mips_asm.specs.declared.cause.Cause.TheVariants as causes
 use Rattle.mips_asm.specs.declared.section.Section.{Section}
 use Rattle.mips_asm.specs.declared.section.Section.TheVariants.{Text, Data}
 use Rattle.mips_asm.specs.Content.{bytes_of}
 use Rattle.mips_asm.specs.Layout.{Layout, Placed, base_of}
-use Rattle.mips_asm.specs.Outcome.{◌>>=◌, fault}
+use Rattle.mips_asm.specs.Outcome.{◌>>=◌, in_line}
 use Rattle.mips_asm.specs.Value.{Names}
 
 -- the bytes of the sections
@@ -36,30 +37,32 @@ abbrev pub earlier : AsmWhy → AsmWhy → AsmWhy
 earlier OutOfRange other = other
 earlier why other = why
 
--- of a fault in a line, and a cause that is `start`'s
-abbrev pub earlier_fault : AsmFault → AsmWhy → AsmFault
-earlier_fault (At line why) other = At line (earlier why other)
-earlier_fault OutOfMemory other = OutOfMemory
+-- an answer, where nothing is wrong with `start`
+abbrev pub unless_start : {A : Type 0} → Option AsmWhy → Result A AsmWhy → Result A AsmWhy
+unless_start None answer = answer
+unless_start (Some why) (Ok x) = Err why
+unless_start (Some why) (Err other) = Err (earlier other why)
 
--- an answer in a line, where nothing is wrong with `start`
-abbrev pub unless_start : {A : Type 0} → ℕ → Option AsmWhy → Result A AsmFault → Result A AsmFault
-unless_start line None answer = answer
-unless_start line (Some why) (Ok x) = fault line why
-unless_start line (Some why) (Err other) = Err (earlier_fault other why)
+-- the same of the program's answer
+abbrev pub unless_start_cause : {A : Type 0} → Option AsmWhy → Result A Cause → Result A Cause
+unless_start_cause None answer = answer
+unless_start_cause (Some why) (Ok x) = Err (causes.Why why)
+unless_start_cause (Some why) (Err (causes.Why other)) = Err (causes.Why (earlier other why))
+unless_start_cause (Some why) (Err causes.OutOfMemory) = Err causes.OutOfMemory
 
 -- what is wrong with `start`, where it is the label of a statement
 abbrev pub start_fault_of : ℕ → Placed → Option AsmWhy
 start_fault_of size placed = if placed.is_start then start_fault size placed.place else None
 
 -- the bytes of a statement, in a text of so many bytes
-unfoldable pub emitted : Names → ℕ → Placed → Result (List ℕ) AsmFault
+unfoldable pub emitted : Names → ℕ → Placed → Result (List ℕ) AsmWhy
 emitted names size placed =
-    unless_start placed.line (start_fault_of size placed) (bytes_of placed.line names placed.place placed.content)
+    unless_start (start_fault_of size placed) (bytes_of names placed.place placed.content)
 
 -- the sections with the bytes of a statement more
 abbrev pub widened : Names → ℕ → Sections → Placed → Result Sections AsmFault
 widened names size sections placed = do
-  bytes ← emitted names size placed
+  bytes ← in_line placed.line (emitted names size placed)
   Ok (extended placed.section bytes sections)
 
 -- statements in order, up to the first fault
@@ -70,7 +73,7 @@ filled_from names size sections (placed ∷ rest) = do
   filled_from names size after rest
 
 -- bytes, and behind them those of an answer
-abbrev pub onto : List ℕ → Result (List ℕ) AsmFault → Result (List ℕ) AsmFault
+abbrev pub onto : List ℕ → Result (List ℕ) AsmWhy → Result (List ℕ) AsmWhy
 onto front bytes = do
   bs ← bytes
   Ok (front ++ bs)

@@ -1,18 +1,17 @@
 //! What statements ask for.
 ghost use Rattle.std.specs.Prelude.{◌≡◌};
-ghost use Rattle.asm_parse.specs.Form.{Gives};
 ghost use Rattle.asm_parse.specs.Seen.{expression_seen};
 ghost use Rattle.mips_asm.specs.Action.{action_of, definition_in, directed, in_text, number_in, quoted_in, some_values_in, values_in, written_name, written_number};
-ghost use Rattle.mips_asm.specs.Outcome.{in_line, ok_seen};
+ghost use Rattle.mips_asm.specs.Outcome.{Means, ok_seen};
 ghost use Rattle.mips_asm.specs.Seen.{action_seen, expressions_seen, operands_seen};
 
+use crate::cause::Cause;
 use crate::content::Content;
 use crate::directive::Directive;
 use crate::draft::{Draft, nothing, value};
-use crate::fault::in_line;
 use crate::operand::{as_quoted, as_value, operands};
 use crate::section::Section;
-use asm_parse::{Arg, AsmBody, AsmFault, AsmWhy, Expression, Inner};
+use asm_parse::{Arg, AsmBody, AsmWhy, Expression, Inner};
 use mips_text::find_text;
 use std::alloc::Global;
 
@@ -29,34 +28,29 @@ pub(crate) enum Action<'a> {
     Define(&'a [u8], Expression<'a>),
 }
 
-/// What an operation in a section asks for, in a line. The fault is Syntax or UnknownName,
+/// What an operation in a section asks for. The fault is Syntax or UnknownName,
 /// or that memory ran out.
 #[tactic(auto, unfolding(crate::specs::Action::action_of))]
 pub(crate) fn read_action<'a>(
     alloc: Global,
-    line: u32,
     section: Section,
     body: &AsmBody<'a>,
-) -> Result<Action<'a>, AsmFault>
-    ensures { Gives action_seen result (action_of line section body.now) }
+) -> Result<Action<'a>, Cause>
+    ensures { Means action_seen result (action_of section body.now) }
 {
     match body {
         AsmBody::Nothing => Ok(Action::Put(Content::Zeros(0))),
         AsmBody::Op { name, args } => {
             let Some(text) = find_text(name.bytes()) else {
-                return Err(AsmFault::At {
-                    line,
-                    why: AsmWhy::UnknownName,
-                });
+                return Err(Cause::Why(AsmWhy::UnknownName));
             };
-            in_line(line, in_text(section))?;
-            let draft = in_line(line, Draft::new(text, operands(args)))?;
+            in_text(section)?;
+            let draft = Draft::new(text, operands(args))?;
             Ok(Action::Put(Content::Instruction(draft)))
         }
         AsmBody::Directive { name, args } => {
-            let known = Directive::named(name.bytes()).ok_or(AsmWhy::UnknownName);
-            let directive = in_line(line, known)?;
-            directed(alloc, line, directive, operands(args))
+            let directive = Directive::named(name.bytes()).ok_or(AsmWhy::UnknownName)?;
+            directed(alloc, directive, operands(args))
         }
     }
 }
@@ -71,81 +65,68 @@ fn in_text(section: Section) -> Result<(), AsmWhy>
     }
 }
 
-/// What a directive with these operands asks for, in a line.
+/// What a directive with these operands asks for.
 #[tactic(auto, unfolding(crate::specs::Action::directed))]
 fn directed<'a>(
     alloc: Global,
-    line: u32,
     directive: Directive,
     operands: &[Arg<'a>],
-) -> Result<Action<'a>, AsmFault>
-    ensures { Gives action_seen result (in_line line (directed directive (operands_seen operands.now))) }
+) -> Result<Action<'a>, Cause>
+    ensures { Means action_seen result (directed directive (operands_seen operands.now)) }
 {
     match directive {
         Directive::Enter(section) => {
-            in_line(line, nothing(operands))?;
+            nothing(operands)?;
             Ok(Action::Enter(section))
         }
         Directive::Numbers(size) => {
-            let expressions = some_values(alloc, line, operands)?;
+            let expressions = some_values(alloc, operands)?;
             Ok(Action::Put(Content::Numbers(size, expressions)))
         }
-        Directive::Ascii => Ok(Action::Put(Content::Bytes(text(alloc, line, operands)?))),
+        Directive::Ascii => Ok(Action::Put(Content::Bytes(text(alloc, operands)?))),
         Directive::Asciiz => {
-            let mut bytes = text(alloc, line, operands)?;
+            let mut bytes = text(alloc, operands)?;
             bytes.push(0)?;
             Ok(Action::Put(Content::Bytes(bytes)))
         }
         Directive::Space => {
-            let count = in_line(line, number(operands))?;
+            let count = number(operands)?;
             Ok(Action::Put(Content::Zeros(count)))
         }
-        Directive::Align => Ok(Action::Align(in_line(line, number(operands))?)),
+        Directive::Align => Ok(Action::Align(number(operands)?)),
         Directive::Equ => {
-            let (name, value) = in_line(line, definition(operands))?;
+            let (name, value) = definition(operands)?;
             Ok(Action::Define(name, value))
         }
     }
 }
 
-/// One expression or more, in a line.
-fn some_values<'a>(
-    alloc: Global,
-    line: u32,
-    operands: &[Arg<'a>],
-) -> Result<Vec<Expression<'a>>, AsmFault>
-    ensures { Gives (λ v. expressions_seen v.items) result (in_line line (some_values_in (operands_seen operands.now))) }
+/// One expression or more.
+fn some_values<'a>(alloc: Global, operands: &[Arg<'a>]) -> Result<Vec<Expression<'a>>, Cause>
+    ensures { Means (λ v. expressions_seen v.items) result (some_values_in (operands_seen operands.now)) }
 {
-    let syntax = AsmFault::At {
-        line,
-        why: AsmWhy::Syntax,
-    };
     if operands.is_empty() {
-        return Err(syntax);
+        return Err(Cause::Why(AsmWhy::Syntax));
     }
-    values(alloc, line, operands)
+    values(alloc, operands)
 }
 
-/// Each operand an expression, in a line.
-fn values<'a>(
-    alloc: Global,
-    line: u32,
-    operands: &[Arg<'a>],
-) -> Result<Vec<Expression<'a>>, AsmFault>
-    ensures { Gives (λ v. expressions_seen v.items) result (in_line line (values_in (operands_seen operands.now))) }
+/// Each operand an expression.
+fn values<'a>(alloc: Global, operands: &[Arg<'a>]) -> Result<Vec<Expression<'a>>, Cause>
+    ensures { Means (λ v. expressions_seen v.items) result (values_in (operands_seen operands.now)) }
 {
     let mut values = Vec::with_capacity(alloc, operands.len())?;
     for arg in operands {
-        values.push(in_line(line, as_value(&arg.operand))?)?;
+        values.push(as_value(&arg.operand)?)?;
     }
     Ok(values)
 }
 
-/// The bytes that a quoted text means, in a line.
-fn text(alloc: Global, line: u32, operands: &[Arg<'_>]) -> Result<Vec<u8>, AsmFault>
-    ensures { Gives (λ v. v.items) result (in_line line (quoted_in (operands_seen operands.now))) }
+/// The bytes that a quoted text means.
+fn text(alloc: Global, operands: &[Arg<'_>]) -> Result<Vec<u8>, Cause>
+    ensures { Means (λ v. v.items) result (quoted_in (operands_seen operands.now)) }
 {
-    let text = in_line(line, quoted(operands))?;
+    let text = quoted(operands)?;
     Ok(Vec::from_slice(alloc, text)?)
 }
 

@@ -1,22 +1,21 @@
 //! The bytes of statements.
 ghost use Rattle.std.specs.Prelude.{◌≡◌, ◌+◌, ◌<◌, ◌^◌, ◌++◌, OnOk, replicate};
-ghost use Rattle.asm_parse.specs.Form.{Gives};
 ghost use Rattle.std.specs.List.{flat_map, list_all};
 ghost use Rattle.mips_asm.specs.Value.{number_fits};
 ghost use Rattle.mips_asm.specs.Content.{bytes_of, number_bytes, numbers_bytes, values_of};
-ghost use Rattle.mips_asm.specs.Outcome.{in_line};
-ghost use Rattle.mips_asm.specs.Second.{earlier, earlier_fault, emitted, onto, start_fault, start_fault_of, unless_start};
+ghost use Rattle.mips_asm.specs.Outcome.{Means};
+ghost use Rattle.mips_asm.specs.Second.{earlier, emitted, onto, start_fault, start_fault_of, unless_start_cause};
 ghost use Rattle.mips_asm.specs.Seen.{content_seen, expressions_seen, placed_seen};
 
+use crate::cause::Cause;
 use crate::content::Content;
-use crate::fault::in_line;
 use crate::layout::Placed;
 use crate::names::Names;
 use crate::number::NumberSize;
 use crate::section::Section;
 use crate::value::defined;
 use crate::words::{draft_words, push_words};
-use asm_parse::{AsmFault, AsmWhy, Expression};
+use asm_parse::{AsmWhy, Expression};
 use std::alloc::{AllocError, Global};
 
 /// Puts the bytes of a statement at the end, in a text of so many bytes. The fault is Undefined,
@@ -28,41 +27,25 @@ pub(crate) fn emit(
     names: &Names,
     size: u32,
     placed: &Placed<'_>,
-) -> Result<(), AsmFault>
-    ensures { Gives (λ _. out.new.items) result (onto out.old.items (emitted names.now size (placed_seen placed.now))) }
+) -> Result<(), Cause>
+    ensures { Means (λ _. out.new.items) result (onto out.old.items (emitted names.now size (placed_seen placed.now))) }
 {
     let start = start_fault_of(size, placed);
     let pushed = push_content(out, alloc, names, placed);
-    unless_start(placed.line, start, pushed)
+    unless_start(start, pushed)
 }
 
-/// An answer in a line, where nothing is wrong with `start`.
-fn unless_start(
-    line: u32,
-    start: Option<AsmWhy>,
-    answer: Result<(), AsmFault>,
-) -> Result<(), AsmFault>
-    ensures { result ≡ unless_start line start answer }
+/// An answer, where nothing is wrong with `start`.
+fn unless_start(start: Option<AsmWhy>, answer: Result<(), Cause>) -> Result<(), Cause>
+    ensures { result ≡ unless_start_cause start answer }
 {
-    match start {
-        None => answer,
-        Some(why) => match answer {
-            Ok(()) => Err(AsmFault::At { line, why }),
-            Err(fault) => Err(earlier_fault(fault, why)),
-        },
-    }
-}
-
-/// Of a fault in a line, and a cause that is `start`'s, the earlier one.
-fn earlier_fault(fault: AsmFault, other: AsmWhy) -> AsmFault
-    ensures { result ≡ earlier_fault fault other }
-{
-    match fault {
-        AsmFault::At { line, why } => AsmFault::At {
-            line,
-            why: earlier(why, other),
-        },
-        AsmFault::OutOfMemory => AsmFault::OutOfMemory,
+    let Some(why) = start else {
+        return answer;
+    };
+    match answer {
+        Ok(()) => Err(Cause::Why(why)),
+        Err(Cause::Why(other)) => Err(Cause::Why(earlier(other, why))),
+        Err(Cause::OutOfMemory) => Err(Cause::OutOfMemory),
     }
 }
 
@@ -108,18 +91,17 @@ fn push_content(
     alloc: Global,
     names: &Names,
     placed: &Placed<'_>,
-) -> Result<(), AsmFault>
-    ensures { Gives (λ _. out.new.items) result (onto out.old.items (bytes_of placed.now.line names.now placed.now.place (content_seen placed.now.content))) }
+) -> Result<(), Cause>
+    ensures { Means (λ _. out.new.items) result (onto out.old.items (bytes_of names.now placed.now.place (content_seen placed.now.content))) }
 {
-    let line = placed.line;
     match &placed.content {
         Content::Instruction(draft) => {
-            let words = in_line(line, draft_words(*draft, names, placed.place))?;
+            let words = draft_words(*draft, names, placed.place)?;
             push_words(out, words)?;
         }
         Content::Numbers(size, numbers) => {
-            let values = values(alloc, line, names, numbers)?;
-            push_numbers(out, line, *size, &values)?;
+            let values = values(alloc, names, numbers)?;
+            push_numbers(out, *size, &values)?;
         }
         Content::Bytes(bytes) => out.extend_from_slice(bytes)?,
         Content::Zeros(count) => push_zeros(out, *count)?,
@@ -127,36 +109,23 @@ fn push_content(
     Ok(())
 }
 
-/// The values of expressions, in a line. The fault is Undefined.
-fn values(
-    alloc: Global,
-    line: u32,
-    names: &Names,
-    expressions: &[Expression<'_>],
-) -> Result<Vec<u32>, AsmFault>
-    ensures { Gives (λ v. v.items) result (in_line line (values_of names.now (expressions_seen expressions.now))) }
+/// The values of expressions. The fault is Undefined.
+fn values(alloc: Global, names: &Names, expressions: &[Expression<'_>]) -> Result<Vec<u32>, Cause>
+    ensures { Means (λ v. v.items) result (values_of names.now (expressions_seen expressions.now)) }
 {
     let mut values = Vec::with_capacity(alloc, expressions.len())?;
     for expression in expressions {
-        values.push(in_line(line, defined(names, *expression))?)?;
+        values.push(defined(names, *expression)?)?;
     }
     Ok(values)
 }
 
-/// Puts numbers at the end, in a line. The fault is OutOfRange.
-fn push_numbers(
-    out: &mut Vec<u8>,
-    line: u32,
-    size: NumberSize,
-    values: &[u32],
-) -> Result<(), AsmFault>
-    ensures { Gives (λ _. out.new.items) result (onto out.old.items (in_line line (numbers_bytes size values.now))) }
+/// Puts numbers at the end. The fault is OutOfRange.
+fn push_numbers(out: &mut Vec<u8>, size: NumberSize, values: &[u32]) -> Result<(), Cause>
+    ensures { Means (λ _. out.new.items) result (onto out.old.items (numbers_bytes size values.now)) }
 {
     if !all_fit(size, values) {
-        return Err(AsmFault::At {
-            line,
-            why: AsmWhy::OutOfRange,
-        });
+        return Err(Cause::Why(AsmWhy::OutOfRange));
     }
     push_all(out, size, values)?;
     Ok(())

@@ -2,8 +2,9 @@
 ghost use Rattle.std.specs.Prelude.{◌≤◌, ◌<◌};
 
 use crate::action::{Action, read_action};
+use crate::cause::Cause;
 use crate::content::Content;
-use crate::fault::in_line;
+use crate::line::at_line;
 use crate::names::Names;
 use crate::padding::padding;
 use crate::section::{SECTION_LIMIT, Section};
@@ -58,6 +59,7 @@ impl<'a> Layout<'a> {
     ghost use Rattle.asm_parse.specs.Seen.{expression_seen};
     ghost use Rattle.mips_asm.specs.Layout.{acted, appended, equated, is_start, labelled, named, nothing_placed, padded, place_of, put, stated, used_by};
     ghost use Rattle.mips_asm.specs.Content.{content_length};
+    ghost use Rattle.mips_asm.specs.Outcome.{in_line, Means};
     ghost use Rattle.mips_asm.specs.Seen.{action_seen, content_seen, layout_seen, placed_seen};
 
     /// No lines yet.
@@ -94,25 +96,32 @@ impl<'a> Layout<'a> {
     }
 
     /// Adds a line's statement.
-    #[tactic(auto, unfolding(crate::specs::Layout::stated))]
     pub(crate) fn add(&mut self, alloc: Global, statement: &AsmLine<'a>) -> Result<(), AsmFault>
-        ensures { Gives (λ _. layout_seen self.new) result (stated statement.now (layout_seen self.old)) }
+        ensures { Gives (λ _. layout_seen self.new) result (in_line statement.now.line (stated statement.now (layout_seen self.old))) }
     {
-        let line = statement.line;
-        let action = read_action(alloc, line, self.section, &statement.body)?;
-        self.label(alloc, line, &statement.label)?;
-        self.act(alloc, line, is_start(&statement.label), action)
+        let stated = self.state(alloc, statement);
+        at_line(statement.line, stated)
+    }
+
+    /// Reads a statement's operation, gives its label a value, and does what it asks for.
+    #[tactic(auto, unfolding(crate::specs::Layout::stated))]
+    fn state(&mut self, alloc: Global, statement: &AsmLine<'a>) -> Result<(), Cause>
+        ensures { Means (λ _. layout_seen self.new) result (stated statement.now (layout_seen self.old)) }
+    {
+        let action = read_action(alloc, self.section, &statement.body)?;
+        self.label(alloc, &statement.label)?;
+        self.act(alloc, statement.line, is_start(&statement.label), action)
     }
 
     /// Gives a label the address of its statement.
-    fn label(&mut self, alloc: Global, line: u32, label: &Option<Name>) -> Result<(), AsmFault>
-        ensures { Gives (λ _. layout_seen self.new) result (labelled line label.now (layout_seen self.old)) }
+    fn label(&mut self, alloc: Global, label: &Option<Name>) -> Result<(), Cause>
+        ensures { Means (λ _. layout_seen self.new) result (labelled label.now (layout_seen self.old)) }
     {
         let Some(name) = label else {
             return Ok(());
         };
         let place = self.place();
-        self.name(alloc, line, name.bytes(), place)?;
+        self.name(alloc, name.bytes(), place)?;
         if is_start(label) {
             self.start = Some(place);
         }
@@ -120,14 +129,11 @@ impl<'a> Layout<'a> {
     }
 
     /// Gives a name its value, where it has none yet.
-    fn name(&mut self, alloc: Global, line: u32, name: &[u8], value: u32) -> Result<(), AsmFault>
-        ensures { Gives (λ _. layout_seen self.new) result (named line name.now value (layout_seen self.old)) }
+    fn name(&mut self, alloc: Global, name: &[u8], value: u32) -> Result<(), Cause>
+        ensures { Means (λ _. layout_seen self.new) result (named name.now value (layout_seen self.old)) }
     {
         if self.names.value(name).is_some() {
-            return Err(AsmFault::At {
-                line,
-                why: AsmWhy::Redefined,
-            });
+            return Err(Cause::Why(AsmWhy::Redefined));
         }
         self.names.add(alloc, name, value)?;
         Ok(())
@@ -141,8 +147,8 @@ impl<'a> Layout<'a> {
         line: u32,
         is_start: bool,
         action: Action<'a>,
-    ) -> Result<(), AsmFault>
-        ensures { Gives (λ _. layout_seen self.new) result (acted line is_start (action_seen action.entry) (layout_seen self.old)) }
+    ) -> Result<(), Cause>
+        ensures { Means (λ _. layout_seen self.new) result (acted line is_start (action_seen action.entry) (layout_seen self.old)) }
     {
         match action {
             Action::Put(content) => self.put(line, is_start, content),
@@ -153,21 +159,18 @@ impl<'a> Layout<'a> {
                 Ok(())
             }
             Action::Define(name, value) => {
-                self.equate(alloc, line, name, value)?;
+                self.equate(alloc, name, value)?;
                 self.put(line, is_start, Content::Zeros(0))
             }
         }
     }
 
     /// Puts zeros up to a multiple of a power of 2.
-    fn align(&mut self, line: u32, is_start: bool, power: u32) -> Result<(), AsmFault>
-        ensures { Gives (λ _. layout_seen self.new) result (padded line is_start power (layout_seen self.old)) }
+    fn align(&mut self, line: u32, is_start: bool, power: u32) -> Result<(), Cause>
+        ensures { Means (λ _. layout_seen self.new) result (padded line is_start power (layout_seen self.old)) }
     {
         if power > LARGEST_ALIGNMENT {
-            return Err(AsmFault::At {
-                line,
-                why: AsmWhy::OutOfRange,
-            });
+            return Err(Cause::Why(AsmWhy::OutOfRange));
         }
         let count = padding(self.place(), 1 << power);
         self.put(line, is_start, Content::Zeros(count))
@@ -177,38 +180,28 @@ impl<'a> Layout<'a> {
     fn equate(
         &mut self,
         alloc: Global,
-        line: u32,
         constant: &[u8],
         expression: Expression<'_>,
-    ) -> Result<(), AsmFault>
-        ensures { Gives (λ _. layout_seen self.new) result (equated line constant.now (expression_seen expression.entry) (layout_seen self.old)) }
+    ) -> Result<(), Cause>
+        ensures { Means (λ _. layout_seen self.new) result (equated constant.now (expression_seen expression.entry) (layout_seen self.old)) }
     {
         if self.names.value(constant).is_some() {
-            return Err(AsmFault::At {
-                line,
-                why: AsmWhy::Redefined,
-            });
+            return Err(Cause::Why(AsmWhy::Redefined));
         }
-        let value = in_line(line, defined(&self.names, expression))?;
-        self.name(alloc, line, constant, value)
+        let value = defined(&self.names, expression)?;
+        self.name(alloc, constant, value)
     }
 
     /// Puts a content at the place, where it is aligned and the section has room.
-    fn put(&mut self, line: u32, is_start: bool, content: Content<'a>) -> Result<(), AsmFault>
-        ensures { Gives (λ _. layout_seen self.new) result (put line is_start (content_seen content.entry) (layout_seen self.old)) }
+    fn put(&mut self, line: u32, is_start: bool, content: Content<'a>) -> Result<(), Cause>
+        ensures { Means (λ _. layout_seen self.new) result (put line is_start (content_seen content.entry) (layout_seen self.old)) }
     {
         if self.place() % content.alignment() != 0 {
-            return Err(AsmFault::At {
-                line,
-                why: AsmWhy::Unaligned,
-            });
+            return Err(Cause::Why(AsmWhy::Unaligned));
         }
         match content.length_within(SECTION_LIMIT - self.used()) {
             Some(length) => self.append(line, is_start, content, length),
-            None => Err(AsmFault::At {
-                line,
-                why: AsmWhy::OutOfRange,
-            }),
+            None => Err(Cause::Why(AsmWhy::OutOfRange)),
         }
     }
 
@@ -219,10 +212,10 @@ impl<'a> Layout<'a> {
         is_start: bool,
         content: Content<'a>,
         length: u32,
-    ) -> Result<(), AsmFault>
+    ) -> Result<(), Cause>
         requires length { length ≡ content_length (content_seen content) }
         requires room { used_by self.old.section (layout_seen self.old) + length ≤ 1048576 }
-        ensures { Gives (λ _. layout_seen self.new) result (Ok (appended line is_start (content_seen content.entry) (layout_seen self.old))) }
+        ensures { Means (λ _. layout_seen self.new) result (Ok (appended line is_start (content_seen content.entry) (layout_seen self.old))) }
     {
         let placed = Placed {
             line,

@@ -6,12 +6,13 @@
 
 mod action;
 mod assembler;
+mod cause;
 mod content;
 mod directive;
 mod draft;
 mod emission;
-mod fault;
 mod layout;
+mod line;
 mod names;
 mod number;
 mod operand;

@@ -2,6 +2,7 @@
 
 use crate::emission::emit;
 use crate::layout::{Layout, Placed};
+use crate::line::at_line;
 use crate::names::Names;
 use crate::section::Section;
 use asm_parse::AsmFault;
@@ -47,9 +48,10 @@ impl Sections {
     ) -> Result<(), AsmFault>
         ensures { Gives (λ _. sections_seen self.new) result (widened names.now size (sections_seen self.old) (placed_seen placed.now)) }
     {
-        match placed.section {
+        let emitted = match placed.section {
             Section::Text => emit(&mut self.text, alloc, names, size, placed),
             Section::Data => emit(&mut self.data_bytes, alloc, names, size, placed),
-        }
+        };
+        at_line(placed.line, emitted)
     }
 }
