@@ -2,7 +2,7 @@
 use Rattle.std.proofs.Common.{◌≡◌, ◌≤◌, ◌<◌, ◌^◌, ℕ, ◌+◌, ◌*◌, true, false, List, ◌++◌, None, length, drop, refl, arith}
 use Rattle.std.specs.Prelude.{◌||◌, ◌==◌, nat_lt}
 use Rattle.byteorder.specs.Numbers.{little_number-reads_back}
-use Rattle.elf_static.specs.Numbers.{half_at, word_at}
+use Rattle.byte_numbers.specs.Numbers.{half_at, word_at}
 use Rattle.elf_static.specs.ObjectValue.{ObjectValue}
 use Rattle.elf_static.specs.Layout.{halves, words, identification, file_header}
 use Rattle.elf_static.specs.ElfValue.{class_in, order_in, kind_in, machine_in, arch_in, entry_in, first_header, header_size_in, header_count_in}

@@ -6,7 +6,7 @@ use Rattle.std.proofs.lemmas.Bool.{cases_eq}
 use Rattle.std.proofs.lemmas.List.{take_at, drop_at, drop-drop}
 use Rattle.byteorder.specs.Endian.{little_number}
 use Rattle.byteorder.specs.Numbers.{little_number-reads_back}
-use Rattle.elf_static.specs.Numbers.{word_at}
+use Rattle.byte_numbers.specs.Numbers.{word_at}
 use Rattle.elf_static.specs.ObjectValue.{PartValue}
 use Rattle.elf_static.specs.Layout.{words, flags, program_header}
 use Rattle.elf_static.specs.Writable.{IsInRange}

@@ -1,7 +1,7 @@
 -- What an ELF file's bytes mean.
 use Rattle.std.specs.Prelude.{ℕ, zero, suc, ◌+◌, ◌/◌, ◌%◌, ◌^◌, ◌==◌, not, Bool, ◌&&◌, List, [], ◌∷◌, take, drop, map, slice_index}
 use Rattle.std.specs.List.{filter}
-use Rattle.elf_static.specs.Numbers.{half_at, word_at}
+use Rattle.byte_numbers.specs.Numbers.{half_at, word_at}
 
 -- a segment: the address of its first byte, what the file gives of its bytes, of which the others are
 -- zeros, how many there are in memory, and whether stores into it are allowed

@@ -2,7 +2,6 @@ pub mod ObjectValue
 pub mod Seen
 pub mod Layout
 pub mod Writable
-pub mod Numbers
 pub mod ElfValue
 pub mod ElfFaults
 pub mod ElfNames

@@ -5,7 +5,7 @@ ghost use Rattle.elf_static.specs.Answers.{Answers};
 ghost use Rattle.elf_static.specs.ElfParts.{table_of, table_seen};
 
 use crate::fault::{ElfFault, ElfWhy};
-use crate::numbers::{half_at, word_at};
+use byte_numbers::{half_at, word_at};
 
 /// What an ELF file begins with.
 const MAGIC: &[u8; 4] = b"\x7FELF";

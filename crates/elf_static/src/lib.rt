@@ -13,7 +13,6 @@ mod elf;
 mod fault;
 mod header;
 mod law;
-mod numbers;
 mod object;
 mod reading;
 mod segment;

@@ -8,8 +8,8 @@ ghost use Rattle.elf_static.specs.AcceptedElf.{IsAcceptedElf};
 use crate::elf::Elf;
 use crate::fault::{ElfFault, ElfWhy};
 use crate::header::{ENTRY_AT, check_kind, read_table};
-use crate::numbers::word_at;
 use crate::segments::{is_entry, read_segments};
+use byte_numbers::word_at;
 
 /// Reads an ELF file, or answers its first fault. `docs/FORMATS.md`, "ELF files that Aegis reads", has
 /// what is read and the faults in their order. The segments' bytes are lent from the file.

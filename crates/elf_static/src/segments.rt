@@ -9,9 +9,9 @@ ghost use Rattle.elf_static.specs.ElfParts.{kept_at, kept_seen};
 
 use crate::fault::{ElfFault, ElfWhy};
 use crate::header::{PROGRAM_HEADER_SIZE, Table};
-use crate::numbers::word_at;
 use crate::segment::Segment;
 use arrayvec::ArrayVec;
+use byte_numbers::word_at;
 
 /// Where the offset of the segment's bytes stands in its header, behind the type.
 const OFFSET_AT: usize = 4;

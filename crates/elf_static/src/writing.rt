@@ -5,6 +5,7 @@ ghost use Rattle.elf_static.specs.Seen.{part_seen, parts_seen, object_seen};
 ghost use Rattle.elf_static.specs.Writable.{IsWritable};
 
 use crate::object::{Object, Part};
+use byte_numbers::{push_half, push_word};
 use edge_io::OutOfMemory;
 use std::alloc::Global;
 
@@ -135,7 +136,7 @@ fn push_halves(file: &mut Vec<u8>, numbers: &[u16]) -> Result<(), OutOfMemory>
     ensures { OnOk result (file.new.items ≡ file.old.items ++ halves numbers.now) }
 {
     for number in numbers {
-        file.extend_from_slice(&number.to_le_bytes())?;
+        push_half(file, *number)?;
     }
     Ok(())
 }
@@ -146,7 +147,7 @@ fn push_words(file: &mut Vec<u8>, numbers: &[u32]) -> Result<(), OutOfMemory>
     ensures { OnOk result (file.new.items ≡ file.old.items ++ words numbers.now) }
 {
     for number in numbers {
-        file.extend_from_slice(&number.to_le_bytes())?;
+        push_word(file, *number)?;
     }
     Ok(())
 }
