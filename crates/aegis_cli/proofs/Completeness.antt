@@ -1,21 +1,23 @@
 -- From what holds by the status to what is written where no fault is met.
-use Rattle.std.proofs.Common.{◌≡◌, ◌≢◌, length, ℕ, List, [], ◌∷◌, Option, Some, None, inl, inr, sym, ◌∙◌, ap, refl, subst, IfSome}
+use Rattle.std.proofs.Common.{◌≡◌, ◌≢◌, ◌≤◌, length, ℕ, List, [], ◌∷◌, Option, Some, None, inl, inr, sym, ◌∙◌, ap, refl, subst, IfSome, rules}
 use Rattle.std.specs.Prelude.{◌⊎◌}
 use Rattle.boot_image.specs.ImageFaults.{image_fault}
 use Rattle.boot_image.specs.ImageValue.{image_of}
 use Rattle.boot_image.specs.ScheduleFaults.{schedule_fault}
-use Rattle.edge_io.specs.Written.{Appends, AppendsPrefix}
+use Rattle.edge_io.specs.Faults.{Rose, one_more}
 use Rattle.elf_static.specs.ObjectValue.{ObjectValue}
 use Rattle.elf_static.specs.Layout.{elf_text}
 use Rattle.mips_asm.specs.Assembled.{assembled}
 use Rattle.aegis_cli.specs.declared.status.Status.{Status}
 use Rattle.aegis_cli.specs.declared.status.Status.TheVariants as status
-use Rattle.aegis_cli.specs.Words.{Form, Run, Asm, names_of}
-use Rattle.aegis_cli.specs.Due.{Due, Refusal, Whole, due_of, run_due, asm_due, report_after}
-use Rattle.aegis_cli.specs.Outcome.{Edges, AreRead, Outcome, Finished, Wrote, text_of}
-use Rattle.aegis_cli.specs.Headline.{NoFault, Ends, AreTold, IsComplete, IsHeadline, IsAssembler, IsTaken}
 use Rattle.aegis_cli.specs.declared.work.Answer.{Answer}
-use Rattle.aegis_cli.specs.Work.{Settles, Performed}
+use Rattle.aegis_cli.specs.Edges.{ShelfEdge, SinkEdge}
+use Rattle.aegis_cli.specs.Words.{Form, Run, Asm}
+use Rattle.aegis_cli.specs.Files.{names_of, AreRead, AreTold}
+use Rattle.aegis_cli.specs.Due.{Due, Refusal, Whole, Found, due_of, run_due, asm_due, report_after, text_of, status_of}
+use Rattle.aegis_cli.specs.Outcome.{Decided, IsWhole, IsPart, Outcome, Finished}
+use Rattle.aegis_cli.specs.Headline.{NoFault, Ends, IsComplete, IsHeadline, IsAssembler, IsTaken}
+use Rattle.aegis_cli.specs.Work.{Performed}
 
 -- what is read of told files is what is told
 same_contents : (files : List ℕ → Option (List ℕ)) (names xs ys : List (List ℕ)) → AreRead (Some files) names xs → AreRead (Some files) names ys → xs ≡ ys
@@ -29,76 +31,80 @@ same_contents files (n ∷ names) (x ∷ xs) (y ∷ ys) a b =
     let tails = same_contents files names xs ys a.1 b.1 in
     cc
 
-pub told_contents : (told : Option (List ℕ → Option (List ℕ))) (names xs ys : List (List ℕ)) → AreTold told names xs → AreRead told names ys → xs ≡ ys
-told_contents None names xs ys a b = absurd a
-told_contents (Some files) names xs ys a b = same_contents files names xs ys a b
+-- so it is of a form's files
+told_contents : (form : Form) (told : Option (List ℕ → Option (List ℕ))) (xs ys : List (List ℕ)) → AreTold told (names_of form xs) xs → AreRead told (names_of form ys) ys → xs ≡ ys
+told_contents form None xs ys a b = absurd a
+told_contents (Run image schedule ticks) (Some files) xs ys a b = same_contents files (image ∷ schedule ∷ []) xs ys a b
+told_contents (Asm source) (Some files) xs ys a b = same_contents files (source ∷ []) xs ys a b
+
+-- what was decided is what is due for the told contents
+told_due : (form : Form) (s : ShelfEdge) (decided : Decided form s) (contents : List (List ℕ)) → AreTold s.told (names_of form contents) contents → due_of form contents ≡ Some decided.due
+told_due form s decided contents told = ap (due_of form) (told_contents form s.told contents decided.contents told decided.read.read) ∙ decided.is_due
+
+-- one more is a rise
+rose : (before after : ℕ) → after ≡ one_more before → Rose before after
+rose before after more = let P : ℕ → Type 0 = λ n. one_more before ≤ n in subst P (sym more) (search rules)
 
 -- what was written whole is what was due
-wrote_whole : (form : Form) (e : Edges) (due : Due) (w : Wrote form e Whole) → due ≡ Whole w.text → Ends due e status.Done
-wrote_whole form e (Whole text) w same =
-    let is : text ≡ w.text = cc in
-    inl (refl, subst (Appends e.written_before e.written_after) (sym is) w.appended)
-wrote_whole form e (Refusal text) w same = cc
+ends_written : (k : SinkEdge) (due : Option Due) (one : Due) (result : Status) → due ≡ Some one → status_of one ≡ result → IsWhole k (text_of one) → Ends due k result
+ends_written k due one result is settled whole = subst (λ (d : Option Due). Ends d k result) (sym is) (inl (sym settled, whole.appended))
 
-wrote_refusal : (form : Form) (e : Edges) (due : Due) (w : Wrote form e Refusal) → due ≡ Refusal w.text → Ends due e status.Refused
-wrote_refusal form e (Refusal text) w same =
-    let is : text ≡ w.text = cc in
-    inl (refl, subst (Appends e.written_before e.written_after) (sym is) w.appended)
-wrote_refusal form e (Whole text) w same = cc
+ends_wanting : (k : SinkEdge) (due : Option Due) → k.written_after ≡ k.written_before → Ends due k status.OutOfMemory
+ends_wanting k None nothing = (refl, nothing)
+ends_wanting k (Some due) nothing = inr (refl, nothing)
 
-wanting : (e : Edges) (due : Due) → e.written_after ≡ e.written_before → Ends due e status.OutOfMemory
-wanting e (Whole text) nothing = inr (refl, nothing)
-wanting e (Refusal text) nothing = inr (refl, nothing)
+ends : (form : Form) (contents : List (List ℕ)) (s : ShelfEdge) (k : SinkEdge) (result : Status) → Outcome form s k result → AreTold s.told (names_of form contents) contents → NoFault s k → Ends (due_of form contents) k result
+ends form contents s k status.Done w told calm = ends_written k (due_of form contents) w.0.due status.Done (told_due form s w.0 contents told) w.1 w.2
+ends form contents s k status.Found w told calm = ends_written k (due_of form contents) w.0.due status.Found (told_due form s w.0 contents told) w.1 w.2
+ends form contents s k status.Usage w told calm = absurd w
+ends form contents s k status.Refused w told calm = ends_written k (due_of form contents) w.0.due status.Refused (told_due form s w.0 contents told) w.1 w.2
+ends form contents s k status.ReadFault w told calm = absurd (calm.read (rose s.faults_before s.faults_after w.0.fault))
+ends form contents s k status.WriteFault w told calm = absurd (calm.write (rose k.faults_before k.faults_after w.1.fault))
+ends form contents s k status.OutOfMemory w told calm = ends_wanting k (due_of form contents) w.1.nothing
 
-ends : (form : Form) (contents : List (List ℕ)) (e : Edges) (result : Status) → Outcome form e result → AreTold e.told (names_of form) contents → NoFault e → Ends (due_of form contents) e result
-ends form contents e status.Done w told calm = wrote_whole form e (due_of form contents) w (ap (due_of form) (told_contents e.told (names_of form) contents w.contents told w.read) ∙ w.is_due)
-ends form contents e status.Found w told calm = absurd w
-ends form contents e status.Usage w told calm = absurd w
-ends form contents e status.Refused w told calm = wrote_refusal form e (due_of form contents) w (ap (due_of form) (told_contents e.told (names_of form) contents w.contents told w.read) ∙ w.is_due)
-ends form contents e status.ReadFault w told calm = absurd (calm.read w.rose)
-ends form contents e status.WriteFault w told calm = absurd (calm.write w.rose)
-ends form contents e status.OutOfMemory w told calm = wanting e (due_of form contents) w.nothing
-
-pub is_complete : (words : Option Form) (e : Edges) (result : Status) → IfSome words (λ form. Outcome form e result) → IsComplete words e result
-is_complete None e result outcome form contents is told calm = cc
-is_complete (Some found) e result outcome form contents is told calm =
+pub is_complete : (words : Option Form) (s : ShelfEdge) (k : SinkEdge) (result : Status) → IfSome words (λ form. Outcome form s k result) → IsComplete words s k result
+is_complete None s k result outcome form contents is told calm = cc
+is_complete (Some found) s k result outcome form contents is told calm =
     let same : found ≡ form = cc in
-    ends form contents e result (subst (λ (f : Form). Outcome f e result) same outcome) told calm
+    ends form contents s k result (subst (λ (f : Form). Outcome f s k result) same outcome) told calm
 
 -- the headline is completeness for an image and a schedule without fault
-pub is_headline : (words : Option Form) (e : Edges) (result : Status) → IfSome words (λ form. Outcome form e result) → IsHeadline words e result
-is_headline words e result outcome image_name schedule_name ticks files image schedule is told image_is schedule_is image_ok schedule_ok calm =
-    let due : run_due image_name schedule_name ticks image (image_fault image) (schedule_fault schedule) ≡ Whole (report_after (image_of image) ticks) = rw (image_ok, schedule_ok) refl in
-    let read : AreTold e.told (image_name ∷ schedule_name ∷ []) (image ∷ schedule ∷ []) = subst (λ (t : Option (List ℕ → Option (List ℕ))). AreTold t (image_name ∷ schedule_name ∷ []) (image ∷ schedule ∷ [])) (sym told) (image_is, (schedule_is, tt)) in
-    subst (λ (d : Due). Ends d e result) due (is_complete words e result outcome (Run image_name schedule_name ticks) (image ∷ schedule ∷ []) is read calm)
-
--- an answer that is due has the due text, and never the status of a fault
-settled : (due : Due) (a : Answer) → Settles due a → (text_of due ≡ a.text.items) × (a.status ≢ status.WriteFault)
-settled (Refusal text) a is = (sym is.1, λ w. cc)
-settled (Whole text) a is = (sym is.1, λ w. cc)
-
--- a sink that takes the due text gives no fault
-pub is_taken : (form : Form) (told : Option (List ℕ → Option (List ℕ))) (takes : ℕ → Type 0) (before after : ℕ) (a : Answer) (text : List ℕ) (result : Status) → Performed form told before after a → text ≡ a.text.items → (takes (length text) → result ≡ a.status) → IsTaken form told takes result
-is_taken form told takes before after a text result p same sure contents are due =
-    let equal = told_contents told (names_of form) contents p.contents are p.read in
-    let s = settled (due_of form p.contents) a p.settles in
-    let long : length (text_of (due_of form contents)) ≡ length text =
-    ap (λ (cs : List (List ℕ)). length (text_of (due_of form cs))) equal ∙ ap length (s.0 ∙ sym same) in
-    λ w. s.1 (sym (sure (subst takes long due)) ∙ w)
+pub is_headline : (words : Option Form) (s : ShelfEdge) (k : SinkEdge) (result : Status) → IfSome words (λ form. Outcome form s k result) → IsHeadline words s k result
+is_headline words s k result outcome image_name schedule_name ticks files image schedule is told image_is schedule_is image_ok schedule_ok calm =
+    let due : Some (run_due image_name schedule_name ticks image (image_fault image) (schedule_fault schedule)) ≡ Some (Whole (report_after (image_of image) ticks)) = rw (image_ok, schedule_ok) refl in
+    let read : AreTold s.told (image_name ∷ schedule_name ∷ []) (image ∷ schedule ∷ []) = subst (λ (t : Option (List ℕ → Option (List ℕ))). AreTold t (image_name ∷ schedule_name ∷ []) (image ∷ schedule ∷ [])) (sym told) (image_is, (schedule_is, tt)) in
+    subst (λ (d : Option Due). Ends d k result) due (is_complete words s k result outcome (Run image_name schedule_name ticks) (image ∷ schedule ∷ []) is read calm)
 
 -- for a source without fault it says that the file is written
-pub is_assembler : (words : Option Form) (e : Edges) (result : Status) → IfSome words (λ form. Outcome form e result) → IsAssembler words e result
-is_assembler words e result outcome name files source object is told source_is object_is calm =
-    let due : asm_due name (assembled source) ≡ Whole (elf_text object) = ap (asm_due name) object_is in
-    let read : AreTold e.told (name ∷ []) (source ∷ []) = subst (λ (t : Option (List ℕ → Option (List ℕ))). AreTold t (name ∷ []) (source ∷ [])) (sym told) (source_is, tt) in
-    subst (λ (d : Due). Ends d e result) due (is_complete words e result outcome (Asm name) (source ∷ []) is read calm)
+pub is_assembler : (words : Option Form) (s : ShelfEdge) (k : SinkEdge) (result : Status) → IfSome words (λ form. Outcome form s k result) → IsAssembler words s k result
+is_assembler words s k result outcome name files source object is told source_is object_is calm =
+    let due : asm_due name (assembled source) ≡ Some (Whole (elf_text object)) = ap (asm_due name) object_is in
+    let read : AreTold s.told (name ∷ []) (source ∷ []) = subst (λ (t : Option (List ℕ → Option (List ℕ))). AreTold t (name ∷ []) (source ∷ [])) (sym told) (source_is, tt) in
+    subst (λ (d : Option Due). Ends d k result) due (is_complete words s k result outcome (Asm name) (source ∷ []) is read calm)
+
+-- no due status is that of a fault of writing
+due_status : (due : Due) → status_of due ≢ status.WriteFault
+due_status (Refusal text) w = cc
+due_status (Whole text) w = cc
+due_status (Found text) w = cc
+
+-- a sink that takes the due text gives no fault
+pub is_taken : (form : Form) (s : ShelfEdge) (k : SinkEdge) (answer : Answer) (text : List ℕ) (result : Status) → Performed form s answer → text ≡ answer.text.items → (k.Takes (length text) → result ≡ answer.status) → IsTaken (Some form) s k result
+is_taken form s k answer text result p same sure contents due told is takes =
+    let decided = told_due form s p.0 contents told in
+    let one : due ≡ p.0.due = cc in
+    let long : length (text_of due) ≡ length text = ap (λ (d : Due). length (text_of d)) one ∙ ap length (sym (same ∙ p.1.text)) in
+    λ w. due_status p.0.due (sym (sure (subst k.Takes long takes) ∙ p.1.status) ∙ w)
+
+-- what was written whole is an outcome, by its status
+outcome_by : (form : Form) (s : ShelfEdge) (k : SinkEdge) (decided : Decided form s) (due : Due) → decided.due ≡ due → IsWhole k (text_of decided.due) → Outcome form s k (status_of due)
+outcome_by form s k decided (Refusal text) is whole = (decided, ap status_of is, whole)
+outcome_by form s k decided (Whole text) is whole = (decided, ap status_of is, whole)
+outcome_by form s k decided (Found text) is whole = (decided, ap status_of is, whole)
 
 -- an answer that was due, and then written, is an outcome
-pub is_outcome : (form : Form) (e : Edges) (a : Answer) (text : List ℕ) (result : Status) → Performed form e.told e.read_faults_before e.read_faults_after a → text ≡ a.text.items → Finished a.status text e.written_before e.written_after e.write_faults_before e.write_faults_after result → Outcome form e result
-is_outcome form e a text result p same finished = by_due (due_of form p.contents) refl p.settles finished
-  where
-    by_due : (d : Due) → due_of form p.contents ≡ d → Settles d a → Finished a.status text e.written_before e.written_after e.write_faults_before e.write_faults_after result → Outcome form e result
-    by_due (Whole t) is s (inl w) = subst (Outcome form e) (sym (w.0 ∙ s.0)) (record { contents = p.contents; read = p.read; text = t; is_due = is; appended = subst (Appends e.written_before e.written_after) (same ∙ s.1) w.1; no_read_fault = p.no_fault; no_write_fault = w.2 })
-    by_due (Whole t) is s (inr w) = subst (Outcome form e) (sym w.0) (record { contents = p.contents; read = p.read; appended = subst (AppendsPrefix e.written_before e.written_after) (same ∙ s.1 ∙ sym (ap text_of is)) w.1; no_read_fault = p.no_fault; rose = w.2 })
-    by_due (Refusal t) is s (inl w) = subst (Outcome form e) (sym (w.0 ∙ s.0)) (record { contents = p.contents; read = p.read; text = t; is_due = is; appended = subst (Appends e.written_before e.written_after) (same ∙ s.1) w.1; no_read_fault = p.no_fault; no_write_fault = w.2 })
-    by_due (Refusal t) is s (inr w) = subst (Outcome form e) (sym w.0) (record { contents = p.contents; read = p.read; appended = subst (AppendsPrefix e.written_before e.written_after) (same ∙ s.1 ∙ sym (ap text_of is)) w.1; no_read_fault = p.no_fault; rose = w.2 })
+pub is_outcome : (form : Form) (s : ShelfEdge) (k : SinkEdge) (answer : Answer) (text : List ℕ) (result : Status) → Performed form s answer → text ≡ answer.text.items → Finished answer.status text k result → Outcome form s k result
+is_outcome form s k answer text result p same (inl w) =
+    subst (Outcome form s k) (sym (w.0 ∙ p.1.status)) (outcome_by form s k p.0 p.0.due refl (subst (IsWhole k) (same ∙ p.1.text) w.1))
+is_outcome form s k answer text result p same (inr w) =
+    subst (Outcome form s k) (sym w.0) (p.0, subst (IsPart k) (same ∙ p.1.text) w.1)

@@ -1,2 +1,4 @@
 pub mod Texts
 pub mod Completeness
+pub mod Decisions
+pub mod Stops

@@ -1,15 +1,25 @@
 -- What the words ask for, as the code holds it.
-use Rattle.std.specs.Prelude.{◌≤◌}
+use Rattle.std.specs.Prelude.{◌≤◌, List, Option, String, map, string_bytes}
+use Rattle.std.specs.Global.{Global}
+use Rattle.aegis_cli.specs.declared.words.RunWords.{RunWords}
 use Rattle.aegis_cli.specs.declared.words.Words.{Words}
 use Rattle.aegis_cli.specs.declared.words.Words.TheVariants as words
-use Rattle.aegis_cli.specs.Words.{Form, Run, Asm}
+use Rattle.aegis_cli.specs.Words.{Form, Run, Asm, form_of, tick_limit}
 
--- the form of the words
+-- the form of the words after the program's name, if they are one
+abbrev pub form_of_words : List (String Global) → Option Form
+form_of_words words = form_of (map string_bytes words)
+
+-- the form of the words of a run
+abbrev pub run_seen : RunWords → Form
+run_seen w = Run w.image.now w.schedule.now w.ticks
+
+-- the form of the words that were taken apart
 abbrev pub form_seen : Words → Form
-form_seen (words.Run w) = Run w.image.now w.schedule.now w.ticks
+form_seen (words.Run w) = run_seen w
 form_seen (words.Asm source) = Asm source.now
 
--- a run has at most so many ticks
+-- a run has no more ticks than the limit
 abbrev pub IsWithin : Words → Type 0
-IsWithin (words.Run w) = w.ticks ≤ 4194304
+IsWithin (words.Run w) = w.ticks ≤ tick_limit
 IsWithin (words.Asm source) = Unit {0}

@@ -15,12 +15,27 @@ use Rattle.boot_image.specs.ScheduleFaults.{schedule_fault}
 use Rattle.line_text.specs.Text.{dec_text}
 use Rattle.world_model.specs.Report.{report_text}
 use Rattle.world_model.specs.Run.{world_after, end_of_run}
+use Rattle.aegis_cli.specs.declared.status.Status.{Status}
+use Rattle.aegis_cli.specs.declared.status.Status.TheVariants as status
 use Rattle.aegis_cli.specs.Words.{Form, Run, Asm}
 
--- a refusal, or the whole output
+-- what is due: a refusal, the output, or an output that says that something was found
 pub data Due : Type 0 where
   Refusal : (text : List ℕ) → Due
   Whole : (text : List ℕ) → Due
+  Found : (text : List ℕ) → Due
+
+-- the text that is to be written
+abbrev pub text_of : Due → List ℕ
+text_of (Refusal text) = text
+text_of (Whole text) = text
+text_of (Found text) = text
+
+-- the status once it is written
+abbrev pub status_of : Due → Status
+status_of (Refusal text) = status.Refused
+status_of (Whole text) = status.Done
+status_of (Found text) = status.Found
 
 abbrev pub usage_text : List ℕ
 usage_text = codes "aegis: usage" ++ 10 ∷ []
@@ -40,13 +55,13 @@ run_due image_name schedule_name ticks image None (Some fault) = Refusal (refusa
 run_due image_name schedule_name ticks image None None = Whole (report_after (image_of image) ticks)
 
 -- a source with a fault is refused, and another is the ELF file of what it assembles to
-abbrev pub asm_due : List ℕ → Result ObjectValue AsmFault → Due
-asm_due name (Ok object) = Whole (elf_text object)
-asm_due name (Err (At line why)) = Refusal (refusal_text name (why_text why) line)
-asm_due name (Err NoMemory) = Refusal []
+abbrev pub asm_due : List ℕ → Result ObjectValue AsmFault → Option Due
+asm_due name (Ok object) = Some (Whole (elf_text object))
+asm_due name (Err (At line why)) = Some (Refusal (refusal_text name (why_text why) line))
+asm_due name (Err NoMemory) = None
 
--- what is due for a form, given the contents of its files; it has as many as names
-abbrev pub due_of : Form → List (List ℕ) → Due
-due_of (Run image_name schedule_name ticks) (image ∷ schedule ∷ []) = run_due image_name schedule_name ticks image (image_fault image) (schedule_fault schedule)
+-- what is due for a form, given the contents of its files, if these are as many as names
+abbrev pub due_of : Form → List (List ℕ) → Option Due
+due_of (Run image_name schedule_name ticks) (image ∷ schedule ∷ []) = Some (run_due image_name schedule_name ticks image (image_fault image) (schedule_fault schedule))
 due_of (Asm name) (source ∷ []) = asm_due name (assembled source)
-due_of form _ = Refusal []
+due_of form _ = None

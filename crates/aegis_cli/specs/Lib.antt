@@ -1,6 +1,8 @@
 pub mod Exit
 pub mod Words
 pub mod Asked
+pub mod Edges
+pub mod Files
 pub mod Due
 pub mod Outcome
 pub mod Work

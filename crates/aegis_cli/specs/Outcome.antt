@@ -1,83 +1,51 @@
 -- How a call of the program ends, by its status.
-use Rattle.std.specs.Prelude.{◌≡◌, ◌⊎◌, ℕ, List, [], ◌∷◌, Option, Some, None, Result, Ok, Err, Contains, length}
-use Rattle.edge_io.specs.Faults.{Rose}
-use Rattle.edge_io.specs.Reads.{Tells}
-use Rattle.edge_io.specs.Written.{Appends, AppendsPrefix}
+use Rattle.std.specs.Prelude.{◌≡◌, ◌⊎◌, ℕ, List, Option, Some}
+use Rattle.edge_io.specs.Faults.{one_more}
+use Rattle.edge_io.specs.Written.{Appends, AppendsPart}
 use Rattle.aegis_cli.specs.declared.status.Status.{Status}
 use Rattle.aegis_cli.specs.declared.status.Status.TheVariants as status
-use Rattle.aegis_cli.specs.Words.{Form, names_of}
-use Rattle.aegis_cli.specs.Due.{Due, Refusal, Whole, due_of}
+use Rattle.aegis_cli.specs.Edges.{ShelfEdge, SinkEdge}
+use Rattle.aegis_cli.specs.Words.{Form}
+use Rattle.aegis_cli.specs.Files.{WereRead, FailedAt, CameFar}
+use Rattle.aegis_cli.specs.Due.{Due, due_of, text_of, status_of}
 
--- What a call meets at its two edges: what the shelf tells of its files, how many reads had failed
--- before and after, and which was the last that failed; what the sink tells was written before and
--- after, and how many writes had failed.
-pub record Edges : Type 0 where
-  pub told : Option (List ℕ → Option (List ℕ))
-  pub read_faults_before : ℕ
-  pub read_faults_after : ℕ
-  pub failed : Option (List ℕ)
-  pub written_before : Option (List ℕ)
-  pub written_after : Option (List ℕ)
-  pub write_faults_before : ℕ
-  pub write_faults_after : ℕ
-
--- the contents were read of these names, in order: those that the shelf tells, where it does
-abbrev pub AreRead : Option (List ℕ → Option (List ℕ)) → List (List ℕ) → List (List ℕ) → Type 0
-AreRead told [] [] = Unit {0}
-AreRead told [] (bytes ∷ contents) = ⊥
-AreRead told (name ∷ names) [] = ⊥
-AreRead told (name ∷ names) (bytes ∷ contents) = Tells told name bytes × AreRead told names contents
-
--- the text of what is due
-abbrev pub text_of : Due → List ℕ
-text_of (Refusal text) = text
-text_of (Whole text) = text
-
--- All files were read, and all of what is due was written.
-pub record Wrote (form : Form) (e : Edges) (due : List ℕ → Due) : Type 0 where
+-- All files were read, and this is due for what they hold.
+pub record Decided (form : Form) (s : ShelfEdge) : Type 0 where
   pub contents : List (List ℕ)
-  pub read : AreRead e.told (names_of form) contents
-  pub text : List ℕ
-  pub is_due : due_of form contents ≡ due text
-  pub appended : Appends e.written_before e.written_after text
-  pub no_read_fault : e.read_faults_after ≡ e.read_faults_before
-  pub no_write_fault : e.write_faults_after ≡ e.write_faults_before
+  pub read : WereRead form s contents
+  pub due : Due
+  pub is_due : due_of form contents ≡ Some due
 
--- The read of a file that the form names failed, and nothing was written.
-pub record FailedRead (form : Form) (e : Edges) : Type 0 where
-  pub name : List ℕ
-  pub is_due : Contains (names_of form) name
-  pub failed : e.failed ≡ Some name
-  pub rose : Rose e.read_faults_before e.read_faults_after
-  pub nothing : e.written_after ≡ e.written_before
-  pub no_write_fault : e.write_faults_after ≡ e.write_faults_before
+-- The text was written whole, and no write failed.
+pub record IsWhole (k : SinkEdge) (text : List ℕ) : Type 0 where
+  pub appended : Appends k.written_before k.written_after text
+  pub no_fault : k.faults_after ≡ k.faults_before
 
--- All files were read, a write failed, and some first part of what is due was written.
-pub record FailedWrite (form : Form) (e : Edges) : Type 0 where
-  pub contents : List (List ℕ)
-  pub read : AreRead e.told (names_of form) contents
-  pub appended : AppendsPrefix e.written_before e.written_after (text_of (due_of form contents))
-  pub no_read_fault : e.read_faults_after ≡ e.read_faults_before
-  pub rose : Rose e.write_faults_before e.write_faults_after
+-- One write failed, and before it a first part of the text was written, but not all.
+pub record IsPart (k : SinkEdge) (text : List ℕ) : Type 0 where
+  pub appended : AppendsPart k.written_before k.written_after text
+  pub fault : k.faults_after ≡ one_more k.faults_before
 
--- No memory was found, and nothing was written.
-pub record Wanted (e : Edges) : Type 0 where
-  pub nothing : e.written_after ≡ e.written_before
-  pub no_read_fault : e.read_faults_after ≡ e.read_faults_before
-  pub no_write_fault : e.write_faults_after ≡ e.write_faults_before
+-- Nothing was written, and no write failed.
+pub record IsUntouched (k : SinkEdge) : Type 0 where
+  pub nothing : k.written_after ≡ k.written_before
+  pub no_fault : k.faults_after ≡ k.faults_before
+
+-- What is due was written whole, with its status.
+abbrev pub Wrote : Form → ShelfEdge → SinkEdge → Status → Type 0
+Wrote form s k result = (decided : Decided form s) × (status_of decided.due ≡ result) × IsWhole k (text_of decided.due)
 
 -- What holds after a call with words of this form, by its status. No other status comes.
-abbrev pub Outcome : Form → Edges → Status → Type 0
-Outcome form e status.Done = Wrote form e Whole
-Outcome form e status.Found = ⊥
-Outcome form e status.Usage = ⊥
-Outcome form e status.Refused = Wrote form e Refusal
-Outcome form e status.ReadFault = FailedRead form e
-Outcome form e status.WriteFault = FailedWrite form e
-Outcome form e status.OutOfMemory = Wanted e
+abbrev pub Outcome : Form → ShelfEdge → SinkEdge → Status → Type 0
+Outcome form s k status.Done = Wrote form s k status.Done
+Outcome form s k status.Found = Wrote form s k status.Found
+Outcome form s k status.Usage = ⊥
+Outcome form s k status.Refused = Wrote form s k status.Refused
+Outcome form s k status.ReadFault = FailedAt form s × IsUntouched k
+Outcome form s k status.WriteFault = (decided : Decided form s) × IsPart k (text_of decided.due)
+Outcome form s k status.OutOfMemory = CameFar form s × IsUntouched k
 
--- A text was written with this status, or a write failed after some first part of it.
-abbrev pub Finished : Status → List ℕ → Option (List ℕ) → Option (List ℕ) → ℕ → ℕ → Status → Type 0
-Finished intended text written_before written_after faults_before faults_after result =
-    ((result ≡ intended) × Appends written_before written_after text × (faults_after ≡ faults_before))
-    ⊎ ((result ≡ status.WriteFault) × AppendsPrefix written_before written_after text × Rose faults_before faults_after)
+-- A text was written with this status, or a write failed after a first part of it.
+abbrev pub Finished : Status → List ℕ → SinkEdge → Status → Type 0
+Finished intended text k result =
+    ((result ≡ intended) × IsWhole k text) ⊎ ((result ≡ status.WriteFault) × IsPart k text)

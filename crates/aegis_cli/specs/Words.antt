@@ -9,27 +9,26 @@ pub data Form : Type 0 where
   -- asm SOURCE
   Asm : (source : List ℕ) → Form
 
+-- the most ticks of a run
+abbrev pub tick_limit : ℕ
+tick_limit = 4194304
+
 -- a number within a limit
 abbrev pub within : ℕ → Option ℕ → Option ℕ
 within limit None = None
 within limit (Some n) = if nat_le n limit then Some n else None
 
--- TICKS: one to ten decimal digits, and at most 4,194,304
+-- TICKS: one to ten decimal digits, and at most the limit
 abbrev pub ticks_of : List ℕ → Option ℕ
-ticks_of word = within 4194304 (digits_number 10 10 word)
+ticks_of word = within tick_limit (digits_number 10 10 word)
 
 abbrev pub run_form : List ℕ → List ℕ → Option ℕ → Option Form
 run_form image schedule None = None
 run_form image schedule (Some ticks) = Some (Run image schedule ticks)
 
--- the form of the words after the program's name, if they are one
+-- the form of these words, if they are one
 abbrev pub form_of : List (List ℕ) → Option Form
 form_of (command ∷ image ∷ schedule ∷ ticks ∷ []) =
     if bytes_eq command (codes "run") then run_form image schedule (ticks_of ticks) else None
 form_of (command ∷ source ∷ []) = if bytes_eq command (codes "asm") then Some (Asm source) else None
 form_of _ = None
-
--- the files that a form names, in the order in which they are read
-abbrev pub names_of : Form → List (List ℕ)
-names_of (Run image schedule ticks) = image ∷ schedule ∷ []
-names_of (Asm source) = source ∷ []

@@ -1,28 +1,28 @@
 -- What the work of a form gives, before anything is written.
-use Rattle.std.specs.Prelude.{◌≡◌, ℕ, List, Option, Some, Contains}
-use Rattle.edge_io.specs.Faults.{Rose}
-use Rattle.aegis_cli.specs.declared.status.Status.{Status}
-use Rattle.aegis_cli.specs.declared.status.Status.TheVariants as status
+use Rattle.std.specs.Prelude.{◌≡◌, Option, IsSomeAnd}
 use Rattle.aegis_cli.specs.declared.work.Answer.{Answer}
 use Rattle.aegis_cli.specs.declared.work.Stop.{Stop}
 use Rattle.aegis_cli.specs.declared.work.Stop.TheVariants as stop
-use Rattle.aegis_cli.specs.Words.{Form, names_of}
-use Rattle.aegis_cli.specs.Due.{Due, Refusal, Whole, due_of}
-use Rattle.aegis_cli.specs.Outcome.{AreRead}
+use Rattle.aegis_cli.specs.Edges.{ShelfEdge}
+use Rattle.aegis_cli.specs.Words.{Form}
+use Rattle.aegis_cli.specs.Files.{FailedAt, CameFar}
+use Rattle.aegis_cli.specs.Due.{Due, text_of, status_of}
+use Rattle.aegis_cli.specs.Outcome.{Decided}
 
 -- the answer is what is due, with its status
-abbrev pub Settles : Due → Answer → Type 0
-Settles (Refusal text) a = (a.status ≡ status.Refused) × (a.text.items ≡ text)
-Settles (Whole text) a = (a.status ≡ status.Done) × (a.text.items ≡ text)
+pub record Settles (due : Due) (answer : Answer) : Type 0 where
+  pub text : answer.text.items ≡ text_of due
+  pub status : answer.status ≡ status_of due
 
--- All files were read, no read failed, and the answer is what is due.
-pub record Performed (form : Form) (told : Option (List ℕ → Option (List ℕ))) (faults_before faults_after : ℕ) (a : Answer) : Type 0 where
-  pub contents : List (List ℕ)
-  pub read : AreRead told (names_of form) contents
-  pub settles : Settles (due_of form contents) a
-  pub no_fault : faults_after ≡ faults_before
+-- something is due, and it is the answer
+abbrev pub IsSettled : Option Due → Answer → Type 0
+IsSettled due answer = IsSomeAnd due (λ one. Settles one answer)
 
--- There is no answer: a read of a due name failed, or memory was wanting.
-abbrev pub Stopped : Form → ℕ → ℕ → Option (List ℕ) → Stop → Type 0
-Stopped form faults_before faults_after failed stop.ReadFault = Rose faults_before faults_after × ((name : List ℕ) × Contains (names_of form) name × (failed ≡ Some name))
-Stopped form faults_before faults_after failed stop.OutOfMemory = faults_after ≡ faults_before
+-- All files were read, and the answer is what is due.
+abbrev pub Performed : Form → ShelfEdge → Answer → Type 0
+Performed form s answer = (decided : Decided form s) × Settles decided.due answer
+
+-- There is no answer: a read of a due file failed, or no memory was found.
+abbrev pub Stopped : Form → ShelfEdge → Stop → Type 0
+Stopped form s stop.ReadFault = FailedAt form s
+Stopped form s stop.OutOfMemory = CameFar form s

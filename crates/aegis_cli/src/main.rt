@@ -13,10 +13,10 @@ mod work;
 
 use edge_io::{HostShelf, HostSink, OutOfMemory};
 use status::Status;
-use std::env;
 use std::io::ErrorKind;
 use std::process::ExitCode;
 use std::rt::Env;
+use std::{env, io};
 use top::aegis;
 
 /// The words after the program's name; none where one of them isn't text.
@@ -33,7 +33,7 @@ fn main(rt: HostRuntime) -> ExitCode {
         return ExitCode::from(Status::OutOfMemory.code());
     };
     let mut shelf = HostShelf::new(&rt);
-    let mut out = HostSink::new(&rt);
+    let mut out = HostSink::new(io::writer(&rt));
     let status = aegis(rt.alloc(), &words, &mut shelf, &mut out);
     ExitCode::from(status.code())
 }

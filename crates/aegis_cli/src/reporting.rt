@@ -1,13 +1,17 @@
 //! The work of `run IMAGE SCHEDULE TICKS`.
 ghost use Rattle.std.specs.Prelude.{◌≡◌, ◌≤◌, ◌<◌, ◌^◌, [], ◌∷◌, IfOk, IfErr, length};
-ghost use Rattle.aegis_cli.specs.Words.{Run};
+ghost use Rattle.aegis_cli.specs.Asked.{run_seen};
+ghost use Rattle.aegis_cli.specs.Words.{tick_limit};
+ghost use Rattle.aegis_cli.specs.Edges.{shelf_edge};
+ghost use Rattle.aegis_cli.specs.Files.{WereRead};
 ghost use Rattle.aegis_cli.specs.Due.{due_of, report_after as report_text_after};
-ghost use Rattle.aegis_cli.specs.Work.{Settles, Performed, Stopped};
+ghost use Rattle.aegis_cli.specs.Work.{IsSettled, Performed, Stopped};
 ghost use Rattle.boot_image.specs.Accepted.{IsAccepted};
 ghost use Rattle.boot_image.specs.Seen.{image_seen};
+ghost use Rattle.edge_io.specs.Limits.{file_limit};
 
 use crate::status::Status;
-use crate::words::{RunWords, TICK_LIMIT};
+use crate::words::RunWords;
 use crate::work::{Answer, Stop, refusal};
 use aegis_tick::{boot, run};
 use boot_image::{Image, check_schedule, read_image};
@@ -19,7 +23,7 @@ use std::alloc::Global;
 #[tactic(auto, unfolding(crate::specs::Due::report_after))]
 fn report_after(alloc: Global, image: &Image<'_>, ticks: u32) -> Result<Vec<u8>, OutOfMemory>
     requires accepted { IsAccepted (image_seen image.now) }
-    requires limit { ticks ≤ TICK_LIMIT }
+    requires limit { ticks ≤ tick_limit }
     ensures { IfOk result (λ text. text.items ≡ report_text_after (image_seen image.now) ticks) }
 {
     let mut board = boot(alloc, image)?;
@@ -34,9 +38,9 @@ fn due_run(
     image: &[u8],
     schedule: &[u8],
 ) -> Result<Answer, OutOfMemory>
-    requires limit { words.ticks ≤ TICK_LIMIT }
+    requires limit { words.ticks ≤ tick_limit }
     requires image { length image.now < 2 ^ 27 }
-    ensures { IfOk result (Settles (due_of (Run words.entry.image.now words.entry.schedule.now words.entry.ticks) (image.now ∷ schedule.now ∷ []))) }
+    ensures { IfOk result (IsSettled (due_of (run_seen words.entry) (image.now ∷ schedule.now ∷ []))) }
 {
     let image = match read_image(image) {
         Ok(image) => image,
@@ -62,18 +66,36 @@ fn due_run(
     })
 }
 
+/// What the files of a run hold.
+#[derive(Drop)]
+struct RunFiles {
+    image: Vec<u8>,
+    schedule: Vec<u8>,
+}
+
+/// Reads the files of a run.
+fn read_run<S: Shelf>(alloc: Global, words: RunWords<'_>, shelf: &mut S) -> Result<RunFiles, Stop>
+    ensures ok { IfOk result (λ files. WereRead (run_seen words.entry) (shelf_edge S.Shelf shelf.old shelf.new) (files.image.items ∷ files.schedule.items ∷ [])) }
+    ensures err { IfErr result (Stopped (run_seen words.entry) (shelf_edge S.Shelf shelf.old shelf.new)) }
+    ensures sure { S.Serves shelf.old words.entry.image.now → S.Serves shelf.old words.entry.schedule.now → IfErr result (λ s. s ≡ Stop.OutOfMemory) }
+    ensures within_limit { IfOk result (λ files. length files.image.items ≤ file_limit) }
+{
+    let image = shelf.read(alloc, words.image)?;
+    let schedule = shelf.read(alloc, words.schedule)?;
+    Ok(RunFiles { image, schedule })
+}
+
 /// Reads the files of a run, and does its work.
 pub fn perform_run<S: Shelf>(
     alloc: Global,
     words: RunWords<'_>,
     shelf: &mut S,
 ) -> Result<Answer, Stop>
-    requires { words.ticks ≤ TICK_LIMIT }
-    ensures ok { IfOk result (Performed (Run words.entry.image.now words.entry.schedule.now words.entry.ticks) (S.told shelf.old) (S.faults shelf.old) (S.faults shelf.new)) }
-    ensures err { IfErr result (Stopped (Run words.entry.image.now words.entry.schedule.now words.entry.ticks) (S.faults shelf.old) (S.faults shelf.new) (S.failed shelf.new)) }
+    requires { words.ticks ≤ tick_limit }
+    ensures ok { IfOk result (Performed (run_seen words.entry) (shelf_edge S.Shelf shelf.old shelf.new)) }
+    ensures err { IfErr result (Stopped (run_seen words.entry) (shelf_edge S.Shelf shelf.old shelf.new)) }
     ensures sure { S.Serves shelf.old words.entry.image.now → S.Serves shelf.old words.entry.schedule.now → IfErr result (λ s. s ≡ Stop.OutOfMemory) }
 {
-    let image = shelf.read(alloc, words.image)?;
-    let schedule = shelf.read(alloc, words.schedule)?;
-    Ok(due_run(alloc, words, &image, &schedule)?)
+    let files = read_run(alloc, words, shelf)?;
+    Ok(due_run(alloc, words, &files.image, &files.schedule)?)
 }

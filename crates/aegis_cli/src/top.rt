@@ -1,10 +1,11 @@
 //! The top call.
-ghost use Rattle.std.specs.Prelude.{◌≡◌, ◌≢◌, ◌≤◌, ◌<◌, ℕ, List, [], ◌∷◌, Option, Some, None, IfSome, IfNone, length, map, string_bytes};
-ghost use Rattle.aegis_cli.specs.Words.{form_of, names_of};
+ghost use Rattle.std.specs.Prelude.{◌≡◌, ◌≢◌, IfSome, IfNone, length};
+ghost use Rattle.aegis_cli.specs.Asked.{form_of_words};
+ghost use Rattle.aegis_cli.specs.Edges.{shelf_edge, sink_edge};
+ghost use Rattle.aegis_cli.specs.Files.{IsServed};
 ghost use Rattle.aegis_cli.specs.Due.{usage_text};
 ghost use Rattle.aegis_cli.specs.Outcome.{Outcome, Finished};
 ghost use Rattle.aegis_cli.specs.Headline.{IsHeadline, IsComplete, IsAssembler, IsTaken};
-ghost use Rattle.std.specs.List.{AllByRecursion};
 
 use crate::status::Status;
 use crate::words::parse;
@@ -17,7 +18,7 @@ const USAGE: &[u8] = b"aegis: usage\n";
 
 /// Writes a text, and answers the intended status unless a write fails.
 fn finish<K: Sink>(out: &mut K, text: &[u8], status: Status) -> Status
-    ensures finished { Finished status text.now (K.written out.old) (K.written out.new) (K.faults out.old) (K.faults out.new) result }
+    ensures finished { Finished status text.now (sink_edge K.Sink out.old out.new) result }
     ensures sure { K.Takes out.old (length text.now) → result ≡ status }
 {
     match write_whole(out, text) {
@@ -28,20 +29,11 @@ fn finish<K: Sink>(out: &mut K, text: &[u8], status: Status) -> Status
 
 /// Does what the words ask, and says by its status how it ended.
 fn respond<S: Shelf, K: Sink>(alloc: Global, words: &[String], shelf: &mut S, out: &mut K) -> Status
-    ensures unread { IfNone (form_of (map string_bytes words.now)) (shelf.new ≡ shelf.old) }
-    ensures no_form { IfNone (form_of (map string_bytes words.now)) (Finished Status.Usage usage_text (K.written out.old) (K.written out.new) (K.faults out.old) (K.faults out.new) result) }
-    ensures form { IfSome (form_of (map string_bytes words.now)) (λ form. Outcome form (record {
-      told = S.told shelf.old;
-      read_faults_before = S.faults shelf.old;
-      read_faults_after = S.faults shelf.new;
-      failed = S.failed shelf.new;
-      written_before = K.written out.old;
-      written_after = K.written out.new;
-      write_faults_before = K.faults out.old;
-      write_faults_after = K.faults out.new;
-    }) result) }
-    ensures served { IfSome (form_of (map string_bytes words.now)) (λ form. AllByRecursion (S.Serves shelf.old) (names_of form) → result ≢ Status.ReadFault) }
-    ensures taken { IfSome (form_of (map string_bytes words.now)) (λ form. IsTaken form (S.told shelf.old) (K.Takes out.old) result) }
+    ensures unread { IfNone (form_of_words words.now) (shelf.new ≡ shelf.old) }
+    ensures no_form { IfNone (form_of_words words.now) (Finished Status.Usage usage_text (sink_edge K.Sink out.old out.new) result) }
+    ensures form { IfSome (form_of_words words.now) (λ form. Outcome form (shelf_edge S.Shelf shelf.old shelf.new) (sink_edge K.Sink out.old out.new) result) }
+    ensures served { IfSome (form_of_words words.now) (λ form. IsServed form (shelf_edge S.Shelf shelf.old shelf.new) → result ≢ Status.ReadFault) }
+    ensures taken { IsTaken (form_of_words words.now) (shelf_edge S.Shelf shelf.old shelf.new) (sink_edge K.Sink out.old out.new) result }
 {
     let Some(words) = parse(words) else {
         return finish(out, USAGE, Status::Usage);
@@ -63,60 +55,25 @@ pub fn aegis<S: Shelf, K: Sink>(
     out: &mut K,
 ) -> Status
     // The headline: what run writes is the report of the world.
-    ensures headline { IsHeadline (form_of (map string_bytes words.now)) (record {
-      told = S.told shelf.old;
-      read_faults_before = S.faults shelf.old;
-      read_faults_after = S.faults shelf.new;
-      failed = S.failed shelf.new;
-      written_before = K.written out.old;
-      written_after = K.written out.new;
-      write_faults_before = K.faults out.old;
-      write_faults_after = K.faults out.new;
-    }) result }
-    ensures complete { IsComplete (form_of (map string_bytes words.now)) (record {
-      told = S.told shelf.old;
-      read_faults_before = S.faults shelf.old;
-      read_faults_after = S.faults shelf.new;
-      failed = S.failed shelf.new;
-      written_before = K.written out.old;
-      written_after = K.written out.new;
-      write_faults_before = K.faults out.old;
-      write_faults_after = K.faults out.new;
-    }) result }
+    ensures headline { IsHeadline (form_of_words words.now) (shelf_edge S.Shelf shelf.old shelf.new) (sink_edge K.Sink out.old out.new) result }
+    ensures complete { IsComplete (form_of_words words.now) (shelf_edge S.Shelf shelf.old shelf.new) (sink_edge K.Sink out.old out.new) result }
 
     // What asm writes is the ELF file of what its source assembles to.
-    ensures assembles { IsAssembler (form_of (map string_bytes words.now)) (record {
-      told = S.told shelf.old;
-      read_faults_before = S.faults shelf.old;
-      read_faults_after = S.faults shelf.new;
-      failed = S.failed shelf.new;
-      written_before = K.written out.old;
-      written_after = K.written out.new;
-      write_faults_before = K.faults out.old;
-      write_faults_after = K.faults out.new;
-    }) result }
+    ensures assembles { IsAssembler (form_of_words words.now) (shelf_edge S.Shelf shelf.old shelf.new) (sink_edge K.Sink out.old out.new) result }
 
     // Words that are no form are answered so, no file is read, and no memory is wanted.
-    ensures unread { IfNone (form_of (map string_bytes words.now)) (shelf.new ≡ shelf.old) }
-    ensures no_form { IfNone (form_of (map string_bytes words.now)) (Finished Status.Usage usage_text (K.written out.old) (K.written out.new) (K.faults out.old) (K.faults out.new) result) }
+    ensures unread { IfNone (form_of_words words.now) (shelf.new ≡ shelf.old) }
+    ensures no_form { IfNone (form_of_words words.now) (Finished Status.Usage usage_text (sink_edge K.Sink out.old out.new) result) }
 
-    // What holds for words of a form, by the status; no other status comes.
-    ensures form { IfSome (form_of (map string_bytes words.now)) (λ form. Outcome form (record {
-      told = S.told shelf.old;
-      read_faults_before = S.faults shelf.old;
-      read_faults_after = S.faults shelf.new;
-      failed = S.failed shelf.new;
-      written_before = K.written out.old;
-      written_after = K.written out.new;
-      write_faults_before = K.faults out.old;
-      write_faults_after = K.faults out.new;
-    }) result) }
+    // What holds for words of a form, by the status, of what was read and what was written; no other status
+    // comes.
+    ensures form { IfSome (form_of_words words.now) (λ form. Outcome form (shelf_edge S.Shelf shelf.old shelf.new) (sink_edge K.Sink out.old out.new) result) }
 
     // A shelf that is sure to serve the names gives no fault of reading.
-    ensures served { IfSome (form_of (map string_bytes words.now)) (λ form. AllByRecursion (S.Serves shelf.old) (names_of form) → result ≢ Status.ReadFault) }
+    ensures served { IfSome (form_of_words words.now) (λ form. IsServed form (shelf_edge S.Shelf shelf.old shelf.new) → result ≢ Status.ReadFault) }
 
-    // A sink that is sure to take what is due gives no fault of writing.
-    ensures taken { IfSome (form_of (map string_bytes words.now)) (λ form. IsTaken form (S.told shelf.old) (K.Takes out.old) result) }
+    // A sink that is sure to take what is due, or the usage, gives no fault of writing.
+    ensures taken { IsTaken (form_of_words words.now) (shelf_edge S.Shelf shelf.old shelf.new) (sink_edge K.Sink out.old out.new) result }
 {
     respond(alloc, words, shelf, out)
 }

@@ -1,8 +1,8 @@
 //! The words of the command line.
-ghost use Rattle.std.specs.Prelude.{◌≡◌, ◌≤◌, map, string_bytes, Option, IfSome};
+ghost use Rattle.std.specs.Prelude.{◌≡◌, IfSome};
 ghost use Rattle.std.specs.Option.{option_map};
-ghost use Rattle.aegis_cli.specs.Words.{form_of, ticks_of};
-ghost use Rattle.aegis_cli.specs.Asked.{form_seen, IsWithin};
+ghost use Rattle.aegis_cli.specs.Words.{ticks_of};
+ghost use Rattle.aegis_cli.specs.Asked.{form_of_words, form_seen, IsWithin};
 
 use line_text::decimal;
 
@@ -14,7 +14,7 @@ pub const TICK_LIMIT: u32 = 4_194_304;
 pub struct RunWords<'a> {
     pub image: &'a str,
     pub schedule: &'a str,
-    /// At most 4,194,304.
+    /// At most `TICK_LIMIT`.
     pub ticks: u32,
 }
 
@@ -36,7 +36,7 @@ fn ticks(word: &str) -> Option<u32>
 
 /// The form that the words are, if they are one.
 pub fn parse(words: &[String]) -> Option<Words<'_>>
-    ensures form { option_map form_seen result ≡ form_of (map string_bytes words.now) }
+    ensures form { option_map form_seen result ≡ form_of_words words.now }
     ensures limit { IfSome result IsWithin }
 {
     match words {

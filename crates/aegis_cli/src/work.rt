@@ -1,9 +1,9 @@
 //! The work of a form, which touches the shelf alone.
 ghost use Rattle.std.specs.Prelude.{◌≡◌, ◌++◌, IfOk, IfErr, OnOk, OnErr};
-ghost use Rattle.std.specs.List.{AllByRecursion};
 ghost use Rattle.aegis_cli.specs.Asked.{form_seen, IsWithin};
+ghost use Rattle.aegis_cli.specs.Edges.{shelf_edge};
+ghost use Rattle.aegis_cli.specs.Files.{IsServed};
 ghost use Rattle.aegis_cli.specs.Due.{refusal_text};
-ghost use Rattle.aegis_cli.specs.Words.{names_of};
 ghost use Rattle.aegis_cli.specs.Work.{Performed, Stopped};
 
 use crate::assembling::perform_asm;
@@ -88,9 +88,9 @@ pub(crate) fn refusal(
 /// Does the work of the words.
 pub fn perform<S: Shelf>(alloc: Global, words: Words<'_>, shelf: &mut S) -> Result<Answer, Stop>
     requires { IsWithin words }
-    ensures ok { IfOk result (Performed (form_seen words.entry) (S.told shelf.old) (S.faults shelf.old) (S.faults shelf.new)) }
-    ensures err { IfErr result (Stopped (form_seen words.entry) (S.faults shelf.old) (S.faults shelf.new) (S.failed shelf.new)) }
-    ensures sure { AllByRecursion (S.Serves shelf.old) (names_of (form_seen words.entry)) → IfErr result (λ s. s ≡ Stop.OutOfMemory) }
+    ensures ok { IfOk result (Performed (form_seen words.entry) (shelf_edge S.Shelf shelf.old shelf.new)) }
+    ensures err { IfErr result (Stopped (form_seen words.entry) (shelf_edge S.Shelf shelf.old shelf.new)) }
+    ensures sure { IsServed (form_seen words.entry) (shelf_edge S.Shelf shelf.old shelf.new) → IfErr result (λ s. s ≡ Stop.OutOfMemory) }
 {
     match words {
         Words::Run(words) => perform_run(alloc, words, shelf),

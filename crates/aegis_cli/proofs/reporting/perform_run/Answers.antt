@@ -1,19 +1,23 @@
--- What was read is what the shelf tells, and the answer is what is due for it.
-use Rattle.std.proofs.Common.{◌≡◌, ℕ, List, [], ◌∷◌, Option, sym, ◌∙◌, subst}
-use Rattle.edge_io.specs.Reads.{Tells}
-use Rattle.aegis_cli.specs.Work.{Performed}
+-- The answer is what is due for what was read.
+use Rattle.std.proofs.Common.{◌≡◌, ℕ, List, [], ◌∷◌, subst}
+use Rattle.aegis_cli.specs.Asked.{run_seen}
+use Rattle.aegis_cli.specs.Due.{due_of}
+use Rattle.aegis_cli.specs.Work.{IsSettled}
+use Rattle.aegis_cli.proofs.Decisions.{performed}
+use Rattle.aegis_cli.proofs.Stops.{stopped_by_want}
 use Rattle.aegis_cli.proofs.reporting.perform_run.Goals as goal
 
 pub returns-clause-ok : goal.returns-clause-ok
 returns-clause-ok g c =
-    let told = g.S.Shelf.told c.args.shelf.now in
-    let schedule = subst (λ (t : Option (List ℕ → Option (List ℕ))). Tells t c.args.words.schedule.now c.in_ok-schedule.schedule.items) c.in_ok-image.ensures.same_files c.in_ok-schedule.ensures.bytes in
-    record {
-      contents = c.deref.result.now ∷ c.deref-2.result.now ∷ [];
-      read = (
-        subst (Tells told c.args.words.image.now) (sym c.deref.ensures.value) c.in_ok-image.ensures.bytes,
-        (subst (Tells told c.args.words.schedule.now) (sym c.deref-2.ensures.value) schedule, tt),
-      );
-      settles = c.in_ok-due_run.ensures;
-      no_fault = c.in_ok-schedule.ensures.else_count ∙ c.in_ok-image.ensures.else_count;
-    }
+    let files = c.in_ok-files.files in
+    let form = run_seen c.args.words in
+    let image = c.deref.ensures.value in
+    let schedule = c.deref-2.ensures.value in
+    let same : c.deref.result.now ∷ c.deref-2.result.now ∷ [] ≡ files.image.items ∷ files.schedule.items ∷ [] = cc in
+    performed form _ (files.image.items ∷ files.schedule.items ∷ []) c.in_ok-due_run.field-0 c.in_ok-files.ensures.ok
+    (subst (λ (contents : List (List ℕ)). IsSettled (due_of form contents) c.in_ok-due_run.field-0) same c.in_ok-due_run.ensures)
+
+pub returns-in_err-due_run-clause-err : goal.returns-in_err-due_run-clause-err
+returns-in_err-due_run-clause-err g c =
+    let files = c.in_ok-files.files in
+    stopped_by_want (run_seen c.args.words) _ (files.image.items ∷ files.schedule.items ∷ []) c.from_residual-in_err-due_run.result c.in_ok-files.ensures.ok c.from_residual-in_err-due_run.ensures.1
