@@ -3,7 +3,7 @@ use Rattle.std.proofs.Common.{◌≡◌, ◌≤◌, ◌<◌, ℕ, zero, suc, ◌
 use Rattle.std.specs.Prelude.{sum_by, IfOk, Result, Ok, Err, nat_lt, if◌then◌else◌}
 use Rattle.std.specs.List.{AllByRecursion}
 use Rattle.aegis_limits.specs.Limits.{most_mappings, most_stack_pages}
-use Rattle.boot_image.specs.Numbers.{IsBytes}
+use Rattle.boot_image.specs.Bytes.{IsBytes}
 use Rattle.boot_image.proofs.Bytes.{word_small}
 use Rattle.boot_image.specs.declared.image.Image.{Image}
 use Rattle.boot_image.specs.Seen.{Answers, image_seen}

@@ -10,7 +10,8 @@ use Rattle.std.proofs.lemmas.List.Concat.{flat_map-cons}
 use Rattle.std.proofs.lemmas.Nat.{from_le_bytes-to_le_bytes_2, from_le_bytes-to_le_bytes_4}
 use lib.Pointwise.{bytes_decides}
 use Rattle.boot_image.specs.declared.fault.ImageFault.{ImageFault}
-use Rattle.boot_image.specs.Numbers.{half_at, word_at}
+use Rattle.byte_numbers.specs.Numbers.{half_at, word_at}
+use Rattle.boot_image.proofs.Bytes.{half_is, word_is}
 use Rattle.boot_image.specs.ImageValue.{ProgramValue, ImageValue, pages_in, quantum_in, environments_in, slots_in, slot_bytes, owner_of, first_header, name_in, base_in, stack_in, accept_in, kind_in, length_in, body_end, bodies_end, headers_from, headers, program_at, image_of, guaranteed_mappings}
 use Rattle.boot_image.specs.ImageFaults.{◌or_else◌, is_within, has_magic, is_name, is_base, header_fault, slot_fault, slots_fault, owners_fault, program_fault, first_fault, trailing_fault, mappings_fault, pages_fault, image_fault}
 use Rattle.boot_image.specs.Accepted.{IsFitting, IsOwnerBelow, IsAccepted}
@@ -28,15 +29,15 @@ long file i text rest stands some =
     omega (arith, length-drop i file)
 
 word_read : (file : List ℕ) (i n : ℕ) (rest : List ℕ) → drop i file ≡ to_le_bytes w32 n ++ rest → n < 2 ^ 32 → word_at file i ≡ n
-unfolding word_at
 word_read file i n rest stands fits =
-    ap (λ (bytes : List ℕ). from_le_bytes w32 (take 4 bytes)) stands
+    word_is file i (long file i (to_le_bytes w32 n) rest stands (omega arith))
+    ∙ ap (λ (bytes : List ℕ). from_le_bytes w32 (take 4 bytes)) stands
     ∙ ap (from_le_bytes w32) (take_at (to_le_bytes w32 n) rest 4 refl) ∙ from_le_bytes-to_le_bytes_4 n fits
 
 half_read : (file : List ℕ) (i n : ℕ) (rest : List ℕ) → drop i file ≡ to_le_bytes w16 n ++ rest → n < 2 ^ 16 → half_at file i ≡ n
-unfolding half_at
 half_read file i n rest stands fits =
-    ap (λ (bytes : List ℕ). from_le_bytes w16 (take 2 bytes)) stands
+    half_is file i (long file i (to_le_bytes w16 n) rest stands (omega arith))
+    ∙ ap (λ (bytes : List ℕ). from_le_bytes w16 (take 2 bytes)) stands
     ∙ ap (from_le_bytes w16) (take_at (to_le_bytes w16 n) rest 2 refl) ∙ from_le_bytes-to_le_bytes_2 n fits
 
 bytes_read : (file : List ℕ) (i : ℕ) (bytes rest : List ℕ) (n : ℕ) → drop i file ≡ bytes ++ rest → length bytes ≡ n → take n (drop i file) ≡ bytes

@@ -11,8 +11,9 @@ use Rattle.std.proofs.lemmas.List.{length-take, length-drop, take-append-drop, d
 use Rattle.std.proofs.lemmas.List.Concat.{flat_map-cons}
 use Rattle.std.proofs.lemmas.Nat.{le_bytes_2, le_bytes_4}
 use lib.Pointwise.{bytes_decides}
-use Rattle.boot_image.specs.Numbers.{IsBytes, half_at, word_at}
-use Rattle.boot_image.proofs.Bytes.{IsBytes-drop, IsBytes-take}
+use Rattle.byte_numbers.specs.Numbers.{half_at, word_at}
+use Rattle.boot_image.specs.Bytes.{IsBytes}
+use Rattle.boot_image.proofs.Bytes.{IsBytes-drop, IsBytes-take, half_is, word_is}
 use Rattle.boot_image.specs.ImageValue.{ImageValue, slots_in, slot_bytes, owner_of, environments_in, first_header, body_end, bodies_end, headers_from, headers, program_at, image_of, kind_in, length_in}
 use Rattle.boot_image.specs.ImageFaults.{has_magic, header_fault, slots_fault, program_fault, first_fault, trailing_fault, image_fault}
 use Rattle.boot_image.specs.Spelling.{slot_byte, program_text, image_text}
@@ -34,19 +35,19 @@ bytes_stand file i n j ends =
     sym (take-append-drop n (drop i file)) ∙ ap (λ (t : List ℕ). take n (drop i file) ++ t) (drop-drop n i file ∙ ap (λ (k : ℕ). drop k file) ends)
 
 word_stands : (file : List ℕ) (i j : ℕ) → IsBytes file → i + 4 ≡ j → j ≤ length file → Stands file i (to_le_bytes w32 (word_at file i)) j
-unfolding Stands word_at
+unfolding Stands
 word_stands file i j fits ends within =
     let four : length (take 4 (drop i file)) ≡ 4 = simp (length-take, length-drop) (omega arith) in
     let same : to_le_bytes w32 (word_at file i) ≡ take 4 (drop i file)
-    = le_bytes_4 (take 4 (drop i file)) (word_at file i) four (IsBytes-take 4 (drop i file) (IsBytes-drop i file fits)) refl in
+    = le_bytes_4 (take 4 (drop i file)) (word_at file i) four (IsBytes-take 4 (drop i file) (IsBytes-drop i file fits)) (word_is file i (omega (arith, ends, within))) in
     subst (λ (text : List ℕ). Stands file i text j) (sym same) (bytes_stand file i 4 j ends)
 
 half_stands : (file : List ℕ) (i j : ℕ) → IsBytes file → i + 2 ≡ j → j ≤ length file → Stands file i (to_le_bytes w16 (half_at file i)) j
-unfolding Stands half_at
+unfolding Stands
 half_stands file i j fits ends within =
     let two : length (take 2 (drop i file)) ≡ 2 = simp (length-take, length-drop) (omega arith) in
     let same : to_le_bytes w16 (half_at file i) ≡ take 2 (drop i file)
-    = le_bytes_2 (take 2 (drop i file)) (half_at file i) two (IsBytes-take 2 (drop i file) (IsBytes-drop i file fits)) refl in
+    = le_bytes_2 (take 2 (drop i file)) (half_at file i) two (IsBytes-take 2 (drop i file) (IsBytes-drop i file fits)) (half_is file i (omega (arith, ends, within))) in
     subst (λ (text : List ℕ). Stands file i text j) (sym same) (bytes_stand file i 2 j ends)
 
 -- the owners are the slot bytes again

@@ -2,7 +2,7 @@
 use Rattle.std.specs.Prelude.{ℕ, zero, suc, ◌+◌, ◌-◌, ◌/◌, ◌==◌, List, [], ◌∷◌, length, take, drop, map, Option, None, Some, if◌then◌else◌}
 use Rattle.std.specs.List.{before_first}
 use Rattle.aegis_limits.specs.Limits.{page_size}
-use Rattle.boot_image.specs.Numbers.{half_at, word_at}
+use Rattle.byte_numbers.specs.Numbers.{half_at, word_at}
 
 -- a program: its name of eight bytes, the address of its first byte, pages of stack, a bit for each
 -- environment from which it accepts transfers, and its body

@@ -1,5 +1,5 @@
 pub mod Names
-pub mod Numbers
+pub mod Bytes
 pub mod ImageValue
 pub mod ImageFaults
 pub mod Accepted

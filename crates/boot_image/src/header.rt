@@ -11,8 +11,8 @@ use crate::image::Owners;
 use crate::limits::{
     LEAST_PAGES, LEAST_QUANTUM, MOST_ENVIRONMENTS, MOST_PAGES, MOST_QUANTUM, MOST_SLOTS,
 };
-use crate::numbers::{half_at, word_at};
 use arrayvec::ArrayVec;
+use byte_numbers::{half_at, word_at};
 
 /// What an image begins with.
 const MAGIC: &[u8; 4] = b"AEG1";

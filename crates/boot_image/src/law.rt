@@ -1,6 +1,6 @@
 //! The law of the definitions that the layers above rest on.
 ghost use Rattle.std.specs.Prelude.{◌≡◌, ℕ, List, None};
-ghost use Rattle.boot_image.specs.Numbers.{IsBytes};
+ghost use Rattle.boot_image.specs.Bytes.{IsBytes};
 ghost use Rattle.boot_image.specs.ImageValue.{image_of};
 ghost use Rattle.boot_image.specs.ImageFaults.{image_fault};
 ghost use Rattle.boot_image.specs.Accepted.{IsAccepted};

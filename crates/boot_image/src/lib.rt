@@ -11,7 +11,7 @@ mod header;
 mod image;
 mod law;
 mod limits;
-mod numbers;
+mod name;
 mod program;
 mod reading;
 mod schedule;

@@ -12,9 +12,10 @@ use crate::fault::{ImageFault, ImageWhy};
 use crate::header::PAGES_AT;
 use crate::image::Program;
 use crate::limits::{BODY_LIMIT, LEAST_BASE, MOST_MAPPINGS, MOST_STACK_PAGES, PAGE_SIZE};
-use crate::numbers::{name_at, word_at};
+use crate::name::name_at;
 use aegis_limits::MOST_ENVIRONMENTS;
 use arrayvec::ArrayVec;
+use byte_numbers::word_at;
 
 /// The bytes of a program's header.
 pub(crate) const HEADER_SIZE: usize = 28;
