@@ -4,7 +4,8 @@ use Rattle.std.specs.Global.{Global}
 use Rattle.aegis_cli.specs.declared.words.RunWords.{RunWords}
 use Rattle.aegis_cli.specs.declared.words.Words.{Words}
 use Rattle.aegis_cli.specs.declared.words.Words.TheVariants as words
-use Rattle.aegis_cli.specs.Words.{Form, Run, Asm, form_of, tick_limit}
+use Rattle.aegis_limits.specs.Limits.{most_ticks}
+use Rattle.aegis_cli.specs.Words.{Form, Run, Asm, form_of}
 
 -- the form of the words after the program's name, if they are one
 abbrev pub form_of_words : List (String Global) → Option Form
@@ -21,5 +22,5 @@ form_seen (words.Asm source) = Asm source.now
 
 -- a run has no more ticks than the limit
 abbrev pub IsWithin : Words → Type 0
-IsWithin (words.Run w) = w.ticks ≤ tick_limit
+IsWithin (words.Run w) = w.ticks ≤ most_ticks
 IsWithin (words.Asm source) = Unit {0}

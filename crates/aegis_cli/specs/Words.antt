@@ -1,6 +1,7 @@
 -- The words of the command line.
 use Rattle.std.specs.Prelude.{ℕ, List, [], ◌∷◌, Option, Some, None, nat_le, if◌then◌else◌, codes}
 use Rattle.std.specs.Str.{bytes_eq}
+use Rattle.aegis_limits.specs.Limits.{most_ticks}
 use Rattle.line_text.specs.Number.{digits_number}
 
 pub data Form : Type 0 where
@@ -9,10 +10,6 @@ pub data Form : Type 0 where
   -- asm SOURCE
   Asm : (source : List ℕ) → Form
 
--- the most ticks of a run
-abbrev pub tick_limit : ℕ
-tick_limit = 4194304
-
 -- a number within a limit
 abbrev pub within : ℕ → Option ℕ → Option ℕ
 within limit None = None
@@ -20,7 +17,7 @@ within limit (Some n) = if nat_le n limit then Some n else None
 
 -- TICKS: one to ten decimal digits, and at most the limit
 abbrev pub ticks_of : List ℕ → Option ℕ
-ticks_of word = within tick_limit (digits_number 10 10 word)
+ticks_of word = within most_ticks (digits_number 10 10 word)
 
 abbrev pub run_form : List ℕ → List ℕ → Option ℕ → Option Form
 run_form image schedule None = None

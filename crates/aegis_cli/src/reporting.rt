@@ -1,7 +1,7 @@
 //! The work of `run IMAGE SCHEDULE TICKS`.
 ghost use Rattle.std.specs.Prelude.{◌≡◌, ◌≤◌, ◌<◌, ◌^◌, [], ◌∷◌, IfOk, IfErr, length};
 ghost use Rattle.aegis_cli.specs.Asked.{run_seen};
-ghost use Rattle.aegis_cli.specs.Words.{tick_limit};
+ghost use Rattle.aegis_limits.specs.Limits.{most_ticks};
 ghost use Rattle.aegis_cli.specs.Edges.{shelf_edge};
 ghost use Rattle.aegis_cli.specs.Files.{WereRead};
 ghost use Rattle.aegis_cli.specs.Due.{due_of, report_after as report_text_after};
@@ -23,7 +23,7 @@ use std::alloc::Global;
 #[tactic(auto, unfolding(crate::specs::Due::report_after))]
 fn report_after(alloc: Global, image: &Image<'_>, ticks: u32) -> Result<Vec<u8>, OutOfMemory>
     requires accepted { IsAccepted (image_seen image.now) }
-    requires limit { ticks ≤ tick_limit }
+    requires limit { ticks ≤ most_ticks }
     ensures { IfOk result (λ text. text.items ≡ report_text_after (image_seen image.now) ticks) }
 {
     let mut board = boot(alloc, image)?;
@@ -38,7 +38,7 @@ fn due_run(
     image: &[u8],
     schedule: &[u8],
 ) -> Result<Answer, OutOfMemory>
-    requires limit { words.ticks ≤ tick_limit }
+    requires limit { words.ticks ≤ most_ticks }
     requires image { length image.now < 2 ^ 27 }
     ensures { IfOk result (IsSettled (due_of (run_seen words.entry) (image.now ∷ schedule.now ∷ []))) }
 {
@@ -91,7 +91,7 @@ pub fn perform_run<S: Shelf>(
     words: RunWords<'_>,
     shelf: &mut S,
 ) -> Result<Answer, Stop>
-    requires { words.ticks ≤ tick_limit }
+    requires { words.ticks ≤ most_ticks }
     ensures ok { IfOk result (Performed (run_seen words.entry) (shelf_edge S.Shelf shelf.old shelf.new)) }
     ensures err { IfErr result (Stopped (run_seen words.entry) (shelf_edge S.Shelf shelf.old shelf.new)) }
     ensures sure { S.Serves shelf.old words.entry.image.now → S.Serves shelf.old words.entry.schedule.now → IfErr result (λ s. s ≡ Stop.OutOfMemory) }

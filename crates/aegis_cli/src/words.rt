@@ -4,17 +4,15 @@ ghost use Rattle.std.specs.Option.{option_map};
 ghost use Rattle.aegis_cli.specs.Words.{ticks_of};
 ghost use Rattle.aegis_cli.specs.Asked.{form_of_words, form_seen, IsWithin};
 
+use aegis_limits::MOST_TICKS;
 use line_text::decimal;
-
-/// The most ticks of a run.
-pub const TICK_LIMIT: u32 = 4_194_304;
 
 /// `run IMAGE SCHEDULE TICKS`: the names of an image and a schedule, and how many ticks to run.
 #[derive(Clone, Copy)]
 pub struct RunWords<'a> {
     pub image: &'a str,
     pub schedule: &'a str,
-    /// At most `TICK_LIMIT`.
+    /// At most `MOST_TICKS`.
     pub ticks: u32,
 }
 
@@ -31,7 +29,7 @@ pub enum Words<'a> {
 fn ticks(word: &str) -> Option<u32>
     ensures { result ≡ ticks_of word.now }
 {
-    decimal(word.as_bytes()).filter(|ticks| *ticks <= TICK_LIMIT)
+    decimal(word.as_bytes()).filter(|ticks| *ticks <= MOST_TICKS)
 }
 
 /// The form that the words are, if they are one.
