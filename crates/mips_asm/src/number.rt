@@ -1,6 +1,7 @@
 //! Numbers in memory.
 
 use crate::value::lies;
+use byte_numbers::{push_half, push_word};
 use std::alloc::AllocError;
 
 /// How many bytes a number takes.
@@ -48,11 +49,8 @@ impl NumberSize {
     {
         match self {
             NumberSize::Byte => out.push((value % (1 << 8)) as u8)?,
-            NumberSize::Half => {
-                let half = (value % (1 << 16)) as u16;
-                out.extend_from_slice(&half.to_le_bytes())?;
-            }
-            NumberSize::Word => out.extend_from_slice(&value.to_le_bytes())?,
+            NumberSize::Half => push_half(out, (value % (1 << 16)) as u16)?,
+            NumberSize::Word => push_word(out, value)?,
         }
         Ok(())
     }

@@ -1,6 +1,5 @@
 //! The words of drafts.
 ghost use Rattle.std.specs.Prelude.{◌≡◌, ◌+◌, ◌<◌, ◌^◌, ◌++◌, OnOk};
-ghost use Rattle.std.specs.Int.{to_le_bytes, w32};
 ghost use Rattle.mips_isa.specs.Encoding.{IsEncodable, word_of};
 ghost use Rattle.asm_parse.specs.Seen.{expression_seen};
 ghost use Rattle.mips_asm.specs.Content.{words_bytes};
@@ -12,6 +11,7 @@ use crate::draft::Draft;
 use crate::names::Names;
 use crate::value::{defined, field_bits};
 use asm_parse::{AsmWhy, Expression, Register};
+use byte_numbers::push_word;
 use mips_isa::{Insn, encode};
 use std::alloc::AllocError;
 
@@ -90,14 +90,6 @@ fn encoded(insn: &Insn) -> u32
         Some(word) => word,
         None => unreachable!(),
     }
-}
-
-/// Puts a word at the end, the lowest byte first.
-fn push_word(out: &mut Vec<u8>, word: u32) -> Result<(), AllocError>
-    ensures { OnOk result (out.new.items ≡ out.old.items ++ to_le_bytes w32 word) }
-{
-    out.extend_from_slice(&word.to_le_bytes())?;
-    Ok(())
 }
 
 /// Puts words at the end.

@@ -1,5 +1,3 @@
-use Rattle.mips_asm.specs.Layout.{stated}
-use Rattle.mips_asm.specs.Seen.{layout_seen}
 use Rattle.mips_asm.proofs.OutcomeLemmas.{line_gives}
 use Rattle.mips_asm.proofs.layout.Layout.add.Goals as goal
 
