@@ -5,7 +5,7 @@ use Rattle.std.proofs.lemmas.Bool.{eqb-true}
 use Rattle.std.proofs.lemmas.List.Sums.{suffix_len_is, prefix_len_stops}
 use Rattle.std.specs.Prelude.{◌==◌, ◌||◌}
 use Rattle.std.specs.List.{prefix_len, suffix_len}
-use Rattle.asm_parse.specs.Bytes.{is_blank}
+use Rattle.line_text.specs.Characters.{is_blank}
 use Rattle.asm_parse.specs.declared.quoting.Quoting.{Quoting}
 use Rattle.asm_parse.specs.declared.quoting.Quoting.TheVariants.{Outside}
 use Rattle.asm_parse.specs.Form.{before_mark, behind}

@@ -5,7 +5,7 @@ use Rattle.std.proofs.lemmas.List.{take-append-drop}
 use Rattle.std.proofs.lemmas.List.Sums.{prefix_len-le-length}
 use Rattle.std.specs.List.{prefix_len, suffix_len, slice_range}
 use Rattle.line_text.specs.Lines.{LineValue, IsPlaced}
-use Rattle.asm_parse.specs.Bytes.{is_blank}
+use Rattle.line_text.specs.Characters.{is_blank}
 use Rattle.asm_parse.specs.Form.{Piece, front, skip, after_blanks, trimmed}
 
 -- a piece stands in a source between two places

@@ -10,7 +10,8 @@ use Rattle.asm_parse.specs.Arg.{ArgValue}
 use Rattle.asm_parse.specs.declared.syntax.AsmBody.{AsmBody}
 use Rattle.asm_parse.specs.declared.syntax.AsmBody.TheVariants.{Nothing, Op, Directive}
 use Rattle.asm_parse.specs.declared.syntax.AsmLine.{AsmLine}
-use Rattle.asm_parse.specs.Bytes.{is_blank, is_name_byte, is_text_byte}
+use Rattle.line_text.specs.Characters.{is_blank, is_text_byte}
+use Rattle.asm_parse.specs.Bytes.{is_name_byte}
 use Rattle.asm_parse.specs.Words.{begins_name}
 use Rattle.asm_parse.specs.Form.{Piece, skip, before_mark, joined, said, after_label, label_of, body_named, body_of, operands_of, statement_of, line_of, due_of, statements_of, parsed, Gives}
 use Rattle.asm_parse.specs.Span.{IsBare, IsCut, IsCutArg, args_in}

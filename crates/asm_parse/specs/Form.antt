@@ -13,7 +13,8 @@ use Rattle.asm_parse.specs.declared.fault.AsmFault.TheVariants.{At, OutOfMemory}
 use Rattle.asm_parse.specs.declared.fault.AsmWhy.TheVariants.{Syntax}
 use Rattle.asm_parse.specs.declared.quoting.Quoting.{Quoting}
 use Rattle.asm_parse.specs.declared.quoting.Quoting.TheVariants.{Outside, Inside, Escape}
-use Rattle.asm_parse.specs.Bytes.{is_text_byte, is_blank, is_name_byte}
+use Rattle.line_text.specs.Characters.{is_text_byte, is_blank}
+use Rattle.asm_parse.specs.Bytes.{is_name_byte}
 use Rattle.asm_parse.specs.Operand.{operand_of}
 use Rattle.asm_parse.specs.Words.{begins_name}
 

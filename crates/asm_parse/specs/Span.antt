@@ -8,7 +8,7 @@ use Rattle.asm_parse.specs.declared.syntax.AsmBody.{AsmBody}
 use Rattle.asm_parse.specs.declared.syntax.AsmBody.TheVariants.{Nothing, Op, Directive}
 use Rattle.asm_parse.specs.declared.syntax.AsmLine.{AsmLine}
 use Rattle.asm_parse.specs.declared.quoting.Quoting.TheVariants.{Outside}
-use Rattle.asm_parse.specs.Bytes.{is_blank}
+use Rattle.line_text.specs.Characters.{is_blank}
 use Rattle.asm_parse.specs.Form.{before_mark, statement_of}
 
 -- an operand's span lies between two places, and cuts out bytes that say the operand

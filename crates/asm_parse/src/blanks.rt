@@ -1,9 +1,9 @@
 //! Blanks at the ends of bytes.
 ghost use Rattle.std.specs.Prelude.{◌≡◌, ◌≤◌, length};
 ghost use Rattle.std.specs.List.{prefix_len, suffix_len};
-ghost use Rattle.asm_parse.specs.Bytes.{is_blank};
+ghost use Rattle.line_text.specs.Characters.{is_blank};
 
-use crate::bytes::is_blank;
+use line_text::is_blank;
 
 /// How many blanks stand at the front.
 #[tactic(auto, using(std::proofs::lemmas::List::Sums::prefix_len_is))]

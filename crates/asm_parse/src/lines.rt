@@ -3,22 +3,20 @@ ghost use Rattle.std.specs.Prelude.{◌≡◌, ℕ, ◌+◌, ◌^◌, ◌<◌, �
 ghost use Rattle.std.specs.Option.{option_copied};
 ghost use Rattle.line_text.specs.LineView.{line_value};
 ghost use Rattle.asm_parse.specs.Form.{body_named, body_of, due_of, label_of, after_label, before_mark, parsed, said, statement_of, Gives};
-ghost use Rattle.asm_parse.specs.Bytes.{is_text_byte};
 ghost use Rattle.asm_parse.specs.declared.quoting.Quoting.TheVariants.{Outside};
 ghost use Rattle.asm_parse.specs.PieceSeen.{piece_seen};
-ghost use Rattle.std.specs.List.{AllByRecursion, list_all};
+ghost use Rattle.std.specs.List.{AllByRecursion};
 ghost use Rattle.std.specs.Str.{byte};
 ghost use Rattle.line_text.specs.Lines.{IsPlaced, lines_of};
 ghost use Rattle.asm_parse.specs.Span.{IsCut};
 
-use crate::bytes::is_text_byte;
 use crate::fault::{AsmFault, AsmWhy};
 use crate::marks::mark_place;
 use crate::operands::operands;
 use crate::piece::Piece;
 use crate::syntax::{Args, AsmBody, AsmLine, Name};
 use crate::words::{begins_name, name_length};
-use line_text::{Line, cut};
+use line_text::{Line, cut, is_text};
 use std::alloc::{AllocError, Global};
 
 /// The statements of a source in the order of its lines, one for each line that has a statement. A fault
@@ -83,13 +81,6 @@ fn statement_in<'a>(alloc: Global, line: &Line<'a>) -> Result<Option<AsmLine<'a>
         Some(statement) => Ok(Some(statement)),
         None => Err(syntax),
     }
-}
-
-/// Whether each byte may stand in a text.
-fn is_text(bytes: &[u8]) -> bool
-    ensures { result ≡ list_all is_text_byte bytes.now }
-{
-    bytes.iter().all(|byte| is_text_byte(*byte))
 }
 
 /// What a line has before its comment, without the blanks around it.

@@ -1,3 +1,4 @@
+//! How sources are parsed, and where they are at fault.
 use super::*;
 use std::alloc::Global;
 use std::process::Abort;

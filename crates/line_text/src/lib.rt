@@ -1,12 +1,17 @@
-//! Texts: their lines with their places, the numbers that are read in them, and the numbers and bytes
-//! that are written into them. Every reader of texts stands on these, so that a line number, a place and
-//! a number mean the same in each; and every writer appends exactly its definition of printed text.
+//! Texts: their lines with their places, the words of a line, the numbers that are read in them, and the
+//! numbers and bytes that are written into them. Every reader of texts stands on these, so that a line
+//! number, a place, a word and a number mean the same in each; and every writer appends exactly its
+//! definition of printed text.
 #![tactic(auto)]
 
+mod characters;
+mod line_words;
 mod lines;
 mod numbers;
 mod print;
 
+pub use characters::{is_blank, is_text};
+pub use line_words::{Words, words_of};
 pub use lines::{Line, Lines, cut};
 pub use numbers::{decimal, number, numeral};
 pub use print::{push_dec, push_hex, push_quoted};

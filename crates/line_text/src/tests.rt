@@ -1,3 +1,4 @@
+//! Lines, numbers and printed texts.
 use super::*;
 use std::test::Fail;
 
@@ -22,6 +23,20 @@ fn cuts_lines_at_their_places(rt: HostRuntime) -> Result<(), Fail> {
     }
     assert!(rt; lines.next().is_none());
     assert!(rt; cut(b"").next().is_none());
+    Ok(())
+}
+
+#[test]
+fn parts_a_line_into_words(rt: HostRuntime) -> Result<(), Fail> {
+    let expected: [&[u8]; 3] = [b"env", b"a\rb", b"-"];
+    let mut words = words_of(b" \tenv a\rb\t- # c");
+    for word in expected {
+        assert_eq!(rt; words.next().ok_or("too few words")?, word);
+    }
+    assert!(rt; words.next().is_none());
+    assert!(rt; words_of(b"\t#").next().is_none());
+    assert!(rt; is_text(b"\t ~\r"));
+    assert!(rt; !is_text(b"\x7f"));
     Ok(())
 }
 

@@ -1,6 +1,6 @@
 use Rattle.std.proofs.Common.{arith, length, sym}
 use Rattle.std.proofs.lemmas.List.Sums.{prefix_len_is}
-use Rattle.asm_parse.specs.Bytes.{is_blank}
+use Rattle.line_text.specs.Characters.{is_blank}
 use Rattle.asm_parse.proofs.blanks.blanks_before.Goals as goal
 
 pub returns-clause-count : goal.returns-clause-count

@@ -1,6 +1,6 @@
 use Rattle.std.proofs.Common.{arith, sym, ◌∙◌}
 use Rattle.std.proofs.lemmas.List.Sums.{suffix_len_is}
-use Rattle.asm_parse.specs.Bytes.{is_blank}
+use Rattle.line_text.specs.Characters.{is_blank}
 use Rattle.asm_parse.proofs.blanks.blanks_behind.Goals as goal
 use Rattle.asm_parse.proofs.blanks.blanks_behind.Goals.{then-loop-left-test+else-is_blank, else-loop-left-test}
 

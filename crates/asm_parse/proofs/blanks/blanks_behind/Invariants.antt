@@ -1,5 +1,5 @@
 use Rattle.std.proofs.Common.{◌≡◌, ℕ, ◌<◌, ◌≤◌, true, get_or, length}
-use Rattle.asm_parse.specs.Bytes.{is_blank}
+use Rattle.line_text.specs.Characters.{is_blank}
 use Rattle.asm_parse.proofs.blanks.blanks_behind.Given as goal
 
 abbrev pub invariant-loop-left : goal.invariant-loop-left

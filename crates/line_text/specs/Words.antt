@@ -1,0 +1,21 @@
+-- The words of a line.
+use Rattle.std.specs.Prelude.{ℕ, Bool, List, length, nat_lt, ◌==◌}
+use Rattle.std.specs.List.{before_first, filter, slice_split}
+use Rattle.std.specs.Str.{byte}
+use Rattle.line_text.specs.Characters.{is_blank}
+
+-- what stands before the first `#`
+abbrev pub before_comment : List ℕ → List ℕ
+before_comment line = before_first (λ b. b == byte "#") line
+
+-- whether a part of a line is a word: it isn't empty
+abbrev pub is_word : List ℕ → Bool
+is_word part = nat_lt 0 (length part)
+
+-- the words of bytes, which blanks part
+abbrev pub words_in : List ℕ → List (List ℕ)
+words_in bytes = filter is_word (slice_split is_blank bytes)
+
+-- the words of a line: those before its comment
+abbrev pub words_of : List ℕ → List (List ℕ)
+words_of line = words_in (before_comment line)

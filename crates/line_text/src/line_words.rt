@@ -1,0 +1,113 @@
+//! The words of a line, which blanks part, and which a comment ends.
+ghost use Rattle.std.specs.Prelude.{◌≡◌, ℕ, ◌<◌, ◌∷◌, ◌==◌, Bool, true, false, not, length, slice_index};
+ghost use Rattle.std.specs.List.{list_all, position};
+ghost use Rattle.line_text.specs.Characters.{is_blank};
+ghost use Rattle.line_text.specs.Words.{before_comment, words_in, words_of};
+
+use crate::characters::is_blank;
+use std::marker::Model;
+
+/// What a comment begins with.
+const COMMENT: u8 = b'#';
+
+/// The words of a line that are left.
+#[derive(Drop)]
+pub struct Words<'a> {
+    rest: &'a [u8],
+}
+
+impl<'a> Model for Words<'a> {
+    ghost use Rattle.std.specs.Prelude.{ℕ, List};
+    ghost use Rattle.line_text.specs.Words.{words_in};
+
+    ghost Value = { List (List ℕ) };
+
+    ghost view = { λ words. words_in words.rest.now };
+}
+
+/// The words of a line in order: what spaces and tabs part, before the first `#`.
+pub fn words_of(line: &[u8]) -> Words<'_>
+    ensures words { result ≡ words_of line.now }
+    // What holds of each byte of the line holds of each byte of its words.
+    ensures bytes { (test : ℕ → Bool) → list_all test line.now ≡ true → list_all (list_all test) result ≡ true }
+{
+    Words {
+        rest: before_comment(line),
+    }
+}
+
+impl<'a> Iterator for Words<'a> {
+    ghost use Rattle.std.specs.Prelude.{ℕ, List};
+    ghost use Rattle.std.specs.Iterator.{item_count, YieldsFirstBy};
+    ghost use Rattle.line_text.specs.WordView.{word_seen};
+
+    type Item = &'a [u8];
+
+    ghost next_gives = { YieldsFirstBy word_seen (λ words. words) };
+
+    ghost remaining = { item_count (λ words. words) };
+
+    fn next(&mut self) -> Option<&'a [u8]> {
+        let rest = without_blanks(self.rest);
+        if rest.is_empty() {
+            return None;
+        }
+        let (word, rest) = split_word(rest);
+        self.rest = rest;
+        Some(word)
+    }
+}
+
+/// What stands before the comment.
+fn before_comment(line: &[u8]) -> &[u8]
+    ensures { result.now ≡ before_comment line.now }
+{
+    match comment(line) {
+        Some(place) => &line[..place],
+        None => line,
+    }
+}
+
+/// The place where the comment begins.
+fn comment(line: &[u8]) -> Option<usize>
+    ensures { result ≡ position (λ b. b == COMMENT) line.now }
+{
+    line.iter().position(|byte| *byte == COMMENT)
+}
+
+/// What follows the blanks at the front: nothing, or a word and what follows it.
+fn without_blanks(bytes: &[u8]) -> &[u8]
+    ensures words { words_in result.now ≡ words_in bytes.now }
+    ensures solid { 0 < length result.now → is_blank (slice_index result.now 0) ≡ false }
+{
+    match first_solid(bytes) {
+        Some(place) => &bytes[place..],
+        None => &[],
+    }
+}
+
+/// The word that stands at the front, and what follows it.
+fn split_word(bytes: &[u8]) -> (&[u8], &[u8])
+    requires some { 0 < length bytes.now }
+    requires solid { is_blank (slice_index bytes.now 0) ≡ false }
+    ensures { words_in bytes.now ≡ result.0.now ∷ words_in result.1.now }
+{
+    match first_blank(bytes) {
+        Some(place) => bytes.split_at(place),
+        None => (bytes, &[]),
+    }
+}
+
+/// The place of the first byte that is no blank.
+fn first_solid(bytes: &[u8]) -> Option<usize>
+    ensures { result ≡ position (λ b. not (is_blank b)) bytes.now }
+{
+    bytes.iter().position(|byte| !is_blank(*byte))
+}
+
+/// The place of the first blank.
+fn first_blank(bytes: &[u8]) -> Option<usize>
+    ensures { result ≡ position is_blank bytes.now }
+{
+    bytes.iter().position(|byte| is_blank(*byte))
+}
