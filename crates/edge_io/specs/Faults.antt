@@ -1,3 +1,4 @@
+-- How faults are counted.
 use Rattle.std.specs.Prelude.{ℕ, ◌+◌, ◌-◌, ◌^◌, ◌≤◌, min}
 
 -- a 64-bit count, one higher: it stays at its last value

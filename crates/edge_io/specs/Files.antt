@@ -1,3 +1,4 @@
+-- Files by name.
 use Rattle.std.specs.Prelude.{◌≡◌, ◌⊎◌, ℕ, ◌==◌, ◌≤◌, List, [], Option, Some, None, option_map, IsSomeAnd, String, Vec, length, nat_le, if◌then◌else◌}
 use Rattle.std.specs.List.{find, list_any}
 use Rattle.std.specs.String.{string_bytes}

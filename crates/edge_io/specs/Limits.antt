@@ -1,3 +1,4 @@
+-- The limits of files.
 use Rattle.std.specs.Prelude.{ℕ}
 
 -- the most bytes that a file may have

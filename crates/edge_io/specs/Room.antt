@@ -1,3 +1,4 @@
+-- The room of a sink in memory.
 use Rattle.std.specs.Prelude.{◌≡◌, ℕ, ◌+◌, ◌-◌, ◌==◌, ◌||◌, ◌≤◌, [], Bool, length, min}
 use Rattle.std.specs.List.{list_any}
 use Rattle.edge_io.specs.declared.memory_sink.MemorySink.{MemorySink}

@@ -1,3 +1,4 @@
+-- What was written.
 use Rattle.std.specs.Prelude.{◌≡◌, ℕ, ◌<◌, List, ◌++◌, Option, option_map, length, take}
 
 -- what is written now is what was written before and then the bytes, where the sink says what was written

@@ -1,3 +1,4 @@
+//! A shelf of files in memory.
 ghost use Rattle.std.specs.Prelude.{◌≡◌, ◌≤◌, Some, None, IfOk, length};
 ghost use Rattle.std.specs.Option.{option_copied};
 ghost use Rattle.edge_io.specs.Faults.{one_more};

@@ -1,3 +1,4 @@
+//! A sink in memory.
 ghost use Rattle.std.specs.Prelude.{◌≡◌, ◌≤◌, [], IfOk, vec_len, vec_capacity};
 
 use crate::memory::OutOfMemory;

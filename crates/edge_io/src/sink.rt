@@ -1,3 +1,4 @@
+//! What the output is written to.
 ghost use Rattle.std.specs.Prelude.{◌≡◌, ℕ, ◌-◌, ◌<◌, ◌≤◌, List, Option, IsOk, IfOk, OnOk, OnErr, length, take};
 ghost use Rattle.edge_io.specs.Faults.{one_more};
 ghost use Rattle.edge_io.specs.Written.{Appends};

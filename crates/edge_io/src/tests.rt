@@ -1,3 +1,4 @@
+//! What shelves and sinks answer, and what they count.
 use super::*;
 use std::alloc::Global;
 use std::io;

@@ -1,3 +1,4 @@
+//! Writing all of some bytes.
 ghost use Rattle.std.specs.Prelude.{◌≡◌, ◌≤◌, IsOk, OnOk, OnErr, length};
 ghost use Rattle.edge_io.specs.Faults.{one_more};
 ghost use Rattle.edge_io.specs.Written.{Appends, AppendsPart};

@@ -1,3 +1,4 @@
+//! What an environment's frame keeps.
 use super::*;
 use mips_exec::Cpu;
 use std::test::Fail;

@@ -1,3 +1,4 @@
+//! Steps over lent pages.
 use super::*;
 use env_frames::Env;
 use frame_store::Frames;

@@ -1,3 +1,4 @@
+-- The ledger.
 use Rattle.std.specs.Prelude.{ℕ, ◌-◌, List, [], ◌∷◌, ◌++◌}
 use Rattle.kernel_journal.specs.declared.row.Row.{Row}
 

@@ -1,3 +1,4 @@
+//! The ledger while it is written.
 ghost use Rattle.std.specs.Prelude.{◌≡◌, ◌<◌, ◌≤◌, IsOk, OnOk, OnErr};
 ghost use Rattle.kernel_journal.specs.Ledger.{empty_ledger, with_row};
 

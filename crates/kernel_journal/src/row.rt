@@ -1,3 +1,4 @@
+//! The rows of the ledger.
 /// One act of the kernel. `time` is the tick in which it happened, `slot` a slot's number, `env`,
 /// `from`, `to`, `owner` and `holder` numbers of environments.
 #[derive(Clone, Copy)]

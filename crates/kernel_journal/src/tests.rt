@@ -1,3 +1,4 @@
+//! What the ledger holds after rows were pushed.
 use super::*;
 use std::test::Fail;
 

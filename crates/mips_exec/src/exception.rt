@@ -1,3 +1,4 @@
+//! The exceptions.
 ghost use Rattle.std.specs.Prelude.{◌≡◌};
 ghost use Rattle.mips_exec.specs.Exception.{at_address, cause_word_of, number_of, plain, unusable};
 

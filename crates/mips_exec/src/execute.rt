@@ -1,3 +1,4 @@
+//! What each instruction does.
 ghost use Rattle.std.specs.Prelude.{◌≡◌, ◌+◌, ◌<◌, ◌+ℤ◌, ◌-ℤ◌, ◌*ℤ◌, not, ◌||◌, ◌==◌};
 ghost use Rattle.std.specs.Int.{cast_unsigned, w64};
 ghost use Rattle.mips_exec.specs.Word.{is_negative, shifted_with_sign, sign_extended, signed, word_of};

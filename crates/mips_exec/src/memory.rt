@@ -1,3 +1,4 @@
+//! Memory as a step asks it.
 ghost use Rattle.std.specs.Prelude.{◌≡◌, ◌≢◌, ◌+◌, ◌%◌, ◌<◌, ◌≤◌, ℕ, List, OnOk, OnErr};
 ghost use Rattle.mips_exec.specs.Access.{low_bytes};
 ghost use Rattle.mips_exec.specs.Step.{Answers};

@@ -1,3 +1,4 @@
+//! The bytes that loads and stores name.
 ghost use Rattle.std.specs.Prelude.{◌≡◌};
 ghost use Rattle.std.specs.Option.{ForSome};
 ghost use Rattle.mips_exec.specs.Access.{access, at, below, place_of, is_aligned, left_store, right_store, IsSized};

@@ -1,3 +1,4 @@
+//! The registers of the processor.
 ghost use Rattle.std.specs.Prelude.{◌≡◌};
 ghost use Rattle.mips_exec.specs.Cpu.{address_of, blank_cpu, reg, rested, restart_of, with_reg};
 

@@ -1,3 +1,4 @@
+//! One step of a user program.
 ghost use Rattle.std.specs.Prelude.{◌≡◌};
 ghost use Rattle.mips_exec.specs.Step.{cpu_after, outcome_of, step_of, view_of, write_after, Wrote};
 

@@ -1,3 +1,4 @@
+//! From words to instructions.
 ghost use Rattle.std.specs.Prelude.{◌≡◌};
 ghost use Rattle.mips_isa.specs.Encoding.{Spells};
 ghost use Rattle.mips_isa.specs.Decoding.{insn_of, regimm_of, special_of, system_of, system_operation_of};

@@ -1,3 +1,4 @@
+//! From instructions to words.
 ghost use Rattle.std.specs.Prelude.{IfNone, IfSome, ℕ, ◌<◌, ◌≡◌, ◌^◌};
 ghost use Rattle.std.specs.Option.{SomeIff};
 ghost use Rattle.mips_isa.specs.Decoding.{insn_of};

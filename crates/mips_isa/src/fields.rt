@@ -1,3 +1,4 @@
+//! The fields of a word.
 ghost use Rattle.std.specs.Prelude.{◌≡◌};
 ghost use Rattle.mips_isa.specs.Fields.{code_of, function_of, imm_of, opcode_of, rd_of, rs_of, rt_of, sh_of, target_of};
 

@@ -1,3 +1,4 @@
+//! The instructions.
 /// One instruction, with the operands of its form as fields: register numbers `rd`, `rs`, `rt` and
 /// shift amounts `sh` below 32, `imm` the low half of the word, `target` below 2^26, `code` below 2^20
 /// (`docs/MACHINE.md`).

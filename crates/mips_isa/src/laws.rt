@@ -1,3 +1,4 @@
+//! The laws of words and instructions.
 ghost use Rattle.std.specs.Prelude.{◌≡◌, ℕ};
 ghost use Rattle.mips_isa.specs.declared.insn.Insn.{Insn};
 ghost use Rattle.mips_isa.specs.Decoding.{insn_of};

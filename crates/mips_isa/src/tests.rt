@@ -1,3 +1,4 @@
+//! Words and instructions, each read as the other.
 mod primary;
 mod special;
 

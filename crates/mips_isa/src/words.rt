@@ -1,3 +1,4 @@
+//! What is made of halves and bytes of words.
 ghost use Rattle.std.specs.Prelude.{◌≡◌, ◌<◌};
 ghost use Rattle.std.specs.Int.{from_le_bytes, to_le_bytes, w32};
 ghost use Rattle.mips_isa.specs.Word.{merged_left, merged_right, sign16_of, stored_left, stored_right};

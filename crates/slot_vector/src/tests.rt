@@ -1,3 +1,4 @@
+//! Turns, and what a death leaves of the slots.
 use super::*;
 use std::test::Fail;
 

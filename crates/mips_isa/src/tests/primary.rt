@@ -1,3 +1,4 @@
+//! The words of all opcodes but opcode 0.
 use super::Row;
 use crate::Insn;
 
