@@ -1,6 +1,7 @@
 //! The pages of physical memory.
 ghost use Rattle.std.specs.Prelude.{◌≡◌, ◌<◌, ◌≤◌, ◌+◌, ◌%◌, length, IfOk};
 ghost use Rattle.aegis_limits.specs.Limits.{page_size};
+ghost use Rattle.std.specs.Borrow.{sem};
 ghost use Rattle.frame_store.specs.Pages.{least_frames, most_frames, zero_page, zeroed, page_at, with_page, after_put, word_at, word_bytes};
 
 use aegis_limits::PAGE_SIZE;
@@ -17,6 +18,7 @@ pub struct Frames {
 
 impl Model for Frames {
     ghost use Rattle.std.specs.Prelude.{◌≤◌, ℕ, List, length};
+    ghost use Rattle.std.specs.Borrow.{sem};
     ghost use Rattle.frame_store.specs.Pages.{least_frames, most_frames};
 
     ghost Value = { List (List ℕ) };
@@ -27,6 +29,8 @@ impl Model for Frames {
 }
 
 impl Frames {
+    ghost use Rattle.frame_store.specs.Lending.{LendsPage};
+
     /// So many pages of zeros, from 16 to 4,096. An `Err` says that there is no memory for them.
     pub fn new(alloc: Global, pages: u32) -> Result<Frames, OutOfMemory>
         requires enough { least_frames ≤ pages }
@@ -59,6 +63,15 @@ impl Frames {
         &page[..]
     }
 
+    /// The 4,096 bytes of the page with this number, to be written. All other pages stay as they are.
+    pub fn page_mut(&mut self, n: u32) -> &mut [u8; PAGE_SIZE]
+        requires { n < length self.old }
+        ensures* writes_back { sem 𝓛 (LendsPage self.entry n result) }
+        ensures bytes { result.now ≡ page_at self.old n }
+    {
+        &mut self.pages[n as usize]
+    }
+
     /// Makes every byte of a page 0.
     pub fn zero(&mut self, n: u32)
         requires { n < length self.old }
@@ -83,8 +96,7 @@ impl Frames {
         ensures { self.new ≡ after_put self.old n offset bytes.now }
     {
         let offset = offset as usize;
-        let page = &mut self.pages[n as usize];
-        page[offset..offset + bytes.len()].copy_from_slice(bytes);
+        self.page_mut(n)[offset..offset + bytes.len()].copy_from_slice(bytes);
     }
 
     /// The word at an offset in bytes, a multiple of 4 below 4,096: its lowest byte stands first.
