@@ -10,3 +10,4 @@ pub mod Answers
 pub mod AcceptedElf
 pub mod ElfParts
 pub mod Loaded
+pub mod Smallest

@@ -1,5 +1,5 @@
 //! What an ELF file holds.
-use crate::segment::Segment;
+use crate::segment::{LEAST_VADDR, Segment};
 use arrayvec::ArrayVec;
 use std::marker::Model;
 
@@ -23,4 +23,26 @@ impl<'a> Model for Elf<'a> {
     ghost view = { λ elf. record { entry = elf.entry; segments = segments_seen elf.segments.items } };
 
     ghost invariant = { λ elf. IsAcceptedElf (record { entry = elf.entry; segments = segments_seen elf.segments.items }) };
+}
+
+/// The smallest program: one byte of memory at the first address that a segment may have, of value 0.
+impl Default for Elf<'_> {
+    ghost use Rattle.std.specs.Prelude.{◌≡◌};
+    ghost use Rattle.elf_static.specs.Smallest.{smallest};
+
+    ghost is_default = { λ elf. elf ≡ smallest };
+
+    fn default() -> Self {
+        let mut segments = ArrayVec::new();
+        segments.push(Segment {
+            vaddr: LEAST_VADDR,
+            bytes: &[],
+            memsz: 1,
+            writable: false,
+        });
+        Elf {
+            entry: LEAST_VADDR,
+            segments,
+        }
+    }
 }

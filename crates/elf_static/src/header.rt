@@ -1,5 +1,5 @@
 //! The file header.
-ghost use Rattle.std.specs.Prelude.{◌+◌, ◌*◌, ◌<◌, ◌≤◌, ◌^◌, IfOk, OnOk, length};
+ghost use Rattle.std.specs.Prelude.{◌+◌, ◌*◌, ◌<◌, ◌≤◌, ◌^◌, IfOk, IfErr, OnOk, length};
 ghost use Rattle.elf_static.specs.ElfFaults.{kind_fault, place_fault};
 ghost use Rattle.elf_static.specs.Answers.{Answers};
 ghost use Rattle.elf_static.specs.ElfParts.{table_of, table_seen};
@@ -60,6 +60,7 @@ pub(crate) fn check_kind(file: &[u8]) -> Result<(), ElfFault>
     requires { length file.now < 2 ^ 27 }
     ensures answer { Answers (λ x. x) result (kind_fault file.now) tt }
     ensures whole { OnOk result (52 ≤ length file.now) }
+    ensures place { IfErr result (λ fault. fault.place ≤ length file.now) }
 {
     if file.len() < FILE_HEADER_SIZE {
         return Err(ElfFault::at(ElfWhy::Short, file.len()));
@@ -93,6 +94,7 @@ pub(crate) fn read_table(file: &[u8]) -> Result<Table, ElfFault>
     ensures answer { Answers table_seen result (place_fault file.now) (table_of file.now) }
     ensures most { IfOk result (λ table. table.count ≤ 64) }
     ensures within { IfOk result (λ table. table.first + 32 * table.count ≤ length file.now) }
+    ensures place { IfErr result (λ fault. fault.place ≤ length file.now) }
 {
     if usize::from(half_at(file, SIZE_AT)) != PROGRAM_HEADER_SIZE {
         return Err(ElfFault::at(ElfWhy::BadHeaders, SIZE_AT));

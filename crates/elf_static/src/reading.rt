@@ -1,5 +1,5 @@
 //! The reader of ELF files, in the order of the faults.
-ghost use Rattle.std.specs.Prelude.{◌≡◌, ◌<◌, ◌^◌, Some, None, IfOk, IfErr, length};
+ghost use Rattle.std.specs.Prelude.{◌≡◌, ◌≤◌, ◌<◌, ◌^◌, Some, None, IfOk, IfErr, length};
 ghost use Rattle.elf_static.specs.ElfValue.{elf_of};
 ghost use Rattle.elf_static.specs.ElfFaults.{elf_fault};
 ghost use Rattle.elf_static.specs.Answers.{Answers};
@@ -17,6 +17,8 @@ pub fn read(file: &[u8]) -> Result<Elf<'_>, ElfFault>
     requires { length file.now < 2 ^ 27 }
     ensures ok { IfOk result (λ elf. (elf_fault file.now ≡ None) × (elf ≡ elf_of file.now)) }
     ensures err { IfErr result (λ fault. elf_fault file.now ≡ Some fault) }
+    // A fault stands within the file, or at its end.
+    ensures place { IfErr result (λ fault. fault.place ≤ length file.now) }
     ensures accepted { IfOk result (λ elf. IsAcceptedElf elf) }
 {
     read_elf(file)
@@ -26,7 +28,8 @@ pub fn read(file: &[u8]) -> Result<Elf<'_>, ElfFault>
 #[tactic(auto, unfolding(crate::specs::ElfFaults::elf_fault, crate::specs::ElfFaults::entry_fault, crate::specs::ElfValue::elf_of))]
 fn read_elf(file: &[u8]) -> Result<Elf<'_>, ElfFault>
     requires { length file.now < 2 ^ 27 }
-    ensures { Answers (λ elf. elf) result (elf_fault file.now) (elf_of file.now) }
+    ensures answer { Answers (λ elf. elf) result (elf_fault file.now) (elf_of file.now) }
+    ensures place { IfErr result (λ fault. fault.place ≤ length file.now) }
 {
     check_kind(file)?;
     let table = read_table(file)?;

@@ -1,6 +1,9 @@
 //! A segment of a program.
 ghost use Rattle.std.specs.Prelude.{◌≡◌, ◌+◌};
 
+/// The first address at which a segment may stand.
+pub(crate) const LEAST_VADDR: u32 = 0x2000;
+
 /// A part of a program's memory.
 #[derive(Clone, Copy)]
 pub struct Segment<'a> {

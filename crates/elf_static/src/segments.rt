@@ -1,5 +1,5 @@
 //! The program headers, and the segments that they describe.
-ghost use Rattle.std.specs.Prelude.{◌≡◌, ◌+◌, ◌*◌, ◌<◌, ◌≤◌, ◌^◌, ◌%◌, ◌==◌, ◌&&◌, [], true, length};
+ghost use Rattle.std.specs.Prelude.{◌≡◌, ◌+◌, ◌*◌, ◌<◌, ◌≤◌, ◌^◌, ◌%◌, ◌==◌, ◌&&◌, [], true, length, IfErr};
 ghost use Rattle.std.specs.List.{list_any};
 ghost use Rattle.elf_static.specs.ElfValue.{headers_from, segments_of, segment_at, is_kept};
 ghost use Rattle.elf_static.specs.ElfFaults.{header_fault, headers_fault, is_dynamic, is_in_range, is_covered, meets};
@@ -9,7 +9,7 @@ ghost use Rattle.elf_static.specs.ElfParts.{kept_at, kept_seen};
 
 use crate::fault::{ElfFault, ElfWhy};
 use crate::header::{PROGRAM_HEADER_SIZE, Table};
-use crate::segment::Segment;
+use crate::segment::{LEAST_VADDR, Segment};
 use arrayvec::ArrayVec;
 use byte_numbers::word_at;
 
@@ -33,8 +33,6 @@ const INTERPRETER: u32 = 3;
 /// The flag of a segment that may be written, which is a power of 2.
 const WRITABLE: u32 = 2;
 
-/// The first address at which a segment may stand.
-const LEAST_VADDR: u32 = 0x2000;
 /// The end of the addresses at which a segment may stand.
 const SEGMENT_LIMIT: u64 = 0x7FF0_0000;
 
@@ -46,8 +44,9 @@ pub(crate) fn read_segments(
     requires small { length file.now < 2 ^ 27 }
     requires most { table.count ≤ 64 }
     requires within { table.first + 32 * table.count ≤ length file.now }
-    ensures { Answers (λ segments. segments_seen segments.items) result
+    ensures answer { Answers (λ segments. segments_seen segments.items) result
         (headers_fault file.now [] (headers_from table.count table.first)) (segments_of file.now (headers_from table.count table.first)) }
+    ensures place { IfErr result (λ fault. fault.place ≤ length file.now) }
 {
     let mut segments = ArrayVec::new();
     let mut header = table.first as usize;
@@ -69,7 +68,8 @@ fn read_segment<'a>(
 ) -> Result<Option<Segment<'a>>, ElfFault>
     requires small { length file.now < 2 ^ 27 }
     requires within { header + 32 ≤ length file.now }
-    ensures { Answers kept_seen result (header_fault file.now (segments_seen earlier.now) header) (kept_at file.now header) }
+    ensures answer { Answers kept_seen result (header_fault file.now (segments_seen earlier.now) header) (kept_at file.now header) }
+    ensures place { IfErr result (λ fault. fault.place ≤ length file.now) }
 {
     let kind = word_at(file, header);
     if kind == DYNAMIC || kind == INTERPRETER {

@@ -1,3 +1,4 @@
+//! What ELF files are read as, and how programs are written.
 ghost use Rattle.std.specs.Prelude.{◌<◌, ◌^◌, length, IfOk};
 ghost use Rattle.elf_static.specs.Seen.{object_seen};
 ghost use Rattle.elf_static.specs.Writable.{IsWritable};

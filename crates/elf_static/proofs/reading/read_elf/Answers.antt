@@ -14,9 +14,9 @@ invariant_of-result c =
     let count = c.in_ok-table.table.count in
     let first = c.in_ok-table.table.first in
     let entry = c.word_at-entry.result in
-    let segments : segments_seen c.in_ok-segments.segments.items ≡ segments_of file (headers_from count first) = c.in_ok-segments.ensures.1 in
+    let segments : segments_seen c.in_ok-segments.segments.items ≡ segments_of file (headers_from count first) = c.in_ok-segments.ensures.answer.1 in
     let found : ((entry % 4 == 0) && list_any (is_covered entry) (segments_seen c.in_ok-segments.segments.items)) ≡ true
     = rw (sym c.deref.ensures.0) (sym c.if-not-is_entry.ensures) in
     let enters = sym (ap (λ (found : List SegmentValue). (entry % 4 == 0) && list_any (is_covered entry) found) segments) ∙ found in
     subst (λ (found : List SegmentValue). IsAcceptedElf (record { entry = entry; segments = found })) (sym segments)
-    (parts_accepted file count first entry c.in_ok-table.ensures.most c.in_ok-segments.ensures.0 enters)
+    (parts_accepted file count first entry c.in_ok-table.ensures.most c.in_ok-segments.ensures.answer.0 enters)

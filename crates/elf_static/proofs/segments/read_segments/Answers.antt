@@ -16,7 +16,7 @@ loop-preserved c =
     let header = c.loop.header in
     let earlier = segments_seen c.loop.segments.items in
     let left = headers_from (count - (i + 1)) (header + 32) in
-    let none : header_fault file earlier header ≡ None = rw (sym c.deref.ensures.0) c.in_ok-segment.ensures.0 in
+    let none : header_fault file earlier header ≡ None = rw (sym c.deref.ensures.0) c.in_ok-segment.ensures.answer.0 in
     let pushed : c.match-branch-2.segments.items ≡ c.loop.segments.items ++ option_to_list c.in_ok-segment.field-0 = elim c.match-branch-2.branch [
       | in-Some w ↦ rw (w.segments-is, w.in-Some.is) w.push.ensures.items
       | in_default w ↦ rw (w.segments-is, w.in_default.is) (sym (append-nil c.loop.segments.items))
@@ -25,7 +25,7 @@ loop-preserved c =
       | in-Some w ↦ rw w.segments-is (omega (arith, w.push.ensures.len, c.loop.invariant.few))
       | in_default w ↦ rw w.segments-is (omega (arith, c.loop.invariant.few))
     ] in
-    let later = ap segments_seen pushed ∙ seen_later file header c.loop.segments.items c.in_ok-segment.field-0 c.in_ok-segment.ensures.1 in
+    let later = ap segments_seen pushed ∙ seen_later file header c.loop.segments.items c.in_ok-segment.field-0 c.in_ok-segment.ensures.answer.1 in
     record {
       fault = ap (λ (segments : List SegmentValue). headers_fault file segments left) later
           ∙ sym (fault_step count i file earlier header c.loop-test.true none) ∙ c.loop.invariant.fault;
