@@ -1,0 +1,3 @@
+mod PageBytes
+mod PageNumbers
+pub mod Smallest

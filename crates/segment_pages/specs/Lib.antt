@@ -1,0 +1,2 @@
+pub mod FirstPage
+pub mod Pages
