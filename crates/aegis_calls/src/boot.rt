@@ -1,34 +1,31 @@
 //! The board before it runs: without programs, and with one more.
-ghost use Rattle.std.specs.Prelude.{◌≡◌, ◌≤◌, ◌<◌, ◌+◌, ◌-◌, ◌*◌, ◌/◌, ◌^◌, ◌++◌, ℕ, IfOk, IfSome, All, length, take, drop, [], ◌∷◌, Some};
-ghost use Rattle.boot_image.specs.Accepted.{IsFitting};
-ghost use Rattle.boot_image.specs.ImageValue.{pages_of_length, guaranteed_mappings};
-ghost use Rattle.boot_image.specs.Seen.{program_seen};
+ghost use Rattle.std.specs.Prelude.{◌≡◌, ◌≤◌, ◌<◌, ◌+◌, ◌-◌, ◌*◌, ◌/◌, ◌^◌, ◌++◌, ℕ, IfOk, IfSome, All, length, map, [], ◌∷◌};
+ghost use Rattle.segment_pages.specs.Pages.{page_numbers};
+ghost use Rattle.boot_image.specs.ImageValue.{guaranteed_mappings};
 ghost use Rattle.env_frames.specs.Frame.{IsAbove, IsRising, numbers};
-ghost use Rattle.aegis_limits.specs.Limits.{page_size, least_pages, most_pages, least_quantum, most_quantum, most_slots, most_environments, most_mappings};
+ghost use Rattle.aegis_limits.specs.Limits.{least_pages, most_pages, least_quantum, most_quantum, most_slots, most_environments, most_mappings};
 ghost use Rattle.frame_store.specs.Pages.{most_frames, zero_page};
-ghost use Rattle.world_model.specs.Boot.{open_page, kept_of, own_row, own_rows, bare_world, added};
+ghost use Rattle.world_model.specs.Boot.{open_page, body_page, kept_of, own_row, own_rows, bare_world, added};
 ghost use Rattle.world_model.specs.Book.{own_hold};
 ghost use Rattle.std.specs.Option.{option_map};
 ghost use Rattle.world_model.specs.Item.{boot_cpu as boot_registers};
-ghost use Rattle.board_world.specs.Loading.{IsLoading, IsKeptBelow, body_from, padded, zeros_from};
+ghost use Rattle.board_world.specs.Loading.{IsLoading, IsKeptBelow, zeros_from};
 ghost use Rattle.board_world.specs.Showing.{pages_seen, world_of};
 ghost use Rattle.board_world.specs.Doing.{with_rows};
 
 use crate::board::Board;
-use aegis_limits::PAGE_SIZE;
 use board_world::{Consoles, Environment, Roster};
 use boot_image::Program;
 use edge_io::OutOfMemory;
+use elf_static::Elf;
 use env_frames::Env;
 use frame_store::Frames;
 use kernel_journal::{Journal, Row};
 use mips_exec::Cpu;
+use segment_pages::{fill_page, is_writable, next_page};
 use slot_vector::Slots;
 use std::alloc::Global;
 use world_model::Life;
-
-/// The bytes of a page, as a difference of addresses.
-const PAGE_BYTES: u32 = PAGE_SIZE as u32;
 
 /// The page number above the stack.
 const STACK_END: u32 = 0x7fff0;
@@ -49,73 +46,65 @@ fn boot_cpu(entry: u32) -> Cpu
     cpu
 }
 
-/// The first bytes, so many at most.
-fn front(bytes: &[u8], most: usize) -> &[u8]
-    ensures part { result.now ≡ take most bytes.now }
-    ensures fits { length result.now ≤ most }
-{
-    if bytes.len() > most {
-        &bytes[..most]
-    } else {
-        bytes
-    }
-}
-
-/// The bytes from a place on, as many as a page has.
-fn page_part(bytes: &[u8], start: usize) -> &[u8]
-    requires { start ≤ length bytes.now }
-    ensures part { result.now ≡ take page_size (drop start bytes.now) }
-    ensures fits { length result.now ≤ page_size }
-{
-    front(&bytes[start..], PAGE_SIZE)
-}
-
 /// Gives an environment the next page, of those from the first one on, at a page number above all that
-/// it sees, with these bytes and zeros behind them.
-fn give_page(frames: &mut Frames, env: &mut Env, first: u32, vpn: u32, bytes: &[u8])
+/// it sees: the page of a program's body at this number.
+fn give_page(frames: &mut Frames, env: &mut Env, first: u32, vpn: u32, body: &Elf<'_>)
     requires loading { IsLoading first env.old.mappings }
     requires there { first + length env.old.mappings < length frames.old }
     requires most { length frames.old ≤ most_frames }
-    requires fits { length bytes.now ≤ page_size }
+    requires count { length env.old.mappings < most_mappings }
+    requires above { IsAbove env.old.mappings vpn }
+    requires number { vpn < 0x80000 }
+    ensures loading { IsLoading first env.new.mappings }
+    ensures below { IsKeptBelow first frames.old frames.new }
+    ensures pages { pages_seen frames.new env.new.mappings ≡ pages_seen frames.old env.old.mappings ++ body_page body.now vpn ∷ [] }
+    ensures above { IsAbove env.new.mappings (vpn + 1) }
+    ensures count { length env.new.mappings ≡ length env.old.mappings + 1 }
+    ensures cpu { env.new.cpu ≡ env.old.cpu }
+{
+    let page = first + env.mappings().len() as u32;
+    fill_page(body, vpn, frames.page_mut(page));
+    env.guarantee(vpn, page, is_writable(body, vpn));
+}
+
+/// Gives an environment the next page, of those from the first one on, at a page number above all that
+/// it sees: a page of zeros that it may store to.
+fn give_zero_page(frames: &mut Frames, env: &mut Env, first: u32, vpn: u32)
+    requires loading { IsLoading first env.old.mappings }
+    requires there { first + length env.old.mappings < length frames.old }
+    requires most { length frames.old ≤ most_frames }
     requires count { length env.old.mappings < most_mappings }
     requires above { IsAbove env.old.mappings vpn }
     ensures loading { IsLoading first env.new.mappings }
     ensures below { IsKeptBelow first frames.old frames.new }
-    ensures pages { pages_seen frames.new env.new.mappings ≡ pages_seen frames.old env.old.mappings ++ open_page vpn (padded bytes.now) ∷ [] }
+    ensures pages { pages_seen frames.new env.new.mappings ≡ pages_seen frames.old env.old.mappings ++ open_page vpn zero_page ∷ [] }
     ensures above { IsAbove env.new.mappings (vpn + 1) }
     ensures count { length env.new.mappings ≡ length env.old.mappings + 1 }
     ensures cpu { env.new.cpu ≡ env.old.cpu }
 {
     let page = first + env.mappings().len() as u32;
     frames.zero(page);
-    frames.put(page, 0, bytes);
     env.guarantee(vpn, page, true);
 }
 
-/// Gives an environment the pages of a program's body, from a page number on.
-fn give_body(frames: &mut Frames, env: &mut Env, first: u32, vpn: u32, bytes: &[u8])
+/// Gives an environment the pages of a program's body, by rising page number.
+fn give_body(frames: &mut Frames, env: &mut Env, first: u32, body: &Elf<'_>)
     requires loading { IsLoading first env.old.mappings }
-    requires there { first + length env.old.mappings + pages_of_length (length bytes.now) ≤ length frames.old }
+    requires there { first + length env.old.mappings + length (page_numbers body.now) ≤ length frames.old }
     requires most { length frames.old ≤ most_frames }
-    requires count { length env.old.mappings + pages_of_length (length bytes.now) ≤ most_mappings }
-    requires above { IsAbove env.old.mappings vpn }
-    requires numbers { vpn + pages_of_length (length bytes.now) ≤ 0x80000 }
+    requires count { length env.old.mappings + length (page_numbers body.now) ≤ most_mappings }
+    requires above { IsAbove env.old.mappings 2 }
     ensures loading { IsLoading first env.new.mappings }
     ensures below { IsKeptBelow first frames.old frames.new }
-    ensures pages { pages_seen frames.new env.new.mappings ≡ pages_seen frames.old env.old.mappings ++ body_from vpn bytes.now (pages_of_length (length bytes.now)) }
-    ensures above { IsAbove env.new.mappings (vpn + pages_of_length (length bytes.now)) }
-    ensures count { length env.new.mappings ≡ length env.old.mappings + pages_of_length (length bytes.now) }
+    ensures pages { pages_seen frames.new env.new.mappings ≡ pages_seen frames.old env.old.mappings ++ map (body_page body.now) (page_numbers body.now) }
+    ensures above { IsAbove env.new.mappings 0x7FF00 }
+    ensures count { length env.new.mappings ≡ length env.old.mappings + length (page_numbers body.now) }
     ensures cpu { env.new.cpu ≡ env.old.cpu }
 {
-    let pages = bytes.len().div_ceil(PAGE_SIZE);
-    for i in 0..pages {
-        give_page(
-            frames,
-            env,
-            first,
-            vpn + i as u32,
-            page_part(bytes, i * PAGE_SIZE),
-        );
+    let mut from = 0;
+    while let Some(vpn) = next_page(body, from) {
+        give_page(frames, env, first, vpn, body);
+        from = vpn + 1;
     }
 }
 
@@ -134,32 +123,26 @@ fn give_zeros(frames: &mut Frames, env: &mut Env, first: u32, vpn: u32, pages: u
     ensures cpu { env.new.cpu ≡ env.old.cpu }
 {
     for i in 0..pages {
-        give_page(frames, env, first, vpn + i, &[]);
+        give_zero_page(frames, env, first, vpn + i);
     }
 }
 
 /// The frame of a program's environment, to which the pages from the first one on are given: the context
 /// page, those of its body and those of its stack.
 fn load(frames: &mut Frames, first: u32, program: &Program<'_>) -> Env
-    requires fits { IsFitting (program_seen program.now) }
-    requires there { first + guaranteed_mappings (program_seen program.now) ≤ length frames.old }
+    requires there { first + guaranteed_mappings program.now ≤ length frames.old }
     requires most { length frames.old ≤ most_frames }
-    ensures cpu { result.cpu ≡ boot_registers program.now.base }
-    ensures pages { pages_seen frames.new result.mappings ≡ kept_of (program_seen program.now) }
+    ensures cpu { result.cpu ≡ boot_registers program.now.body.entry }
+    ensures pages { pages_seen frames.new result.mappings ≡ kept_of program.now }
     ensures loading { IsLoading first result.mappings }
     ensures below { IsKeptBelow first frames.old frames.new }
-    ensures count { length result.mappings ≡ guaranteed_mappings (program_seen program.now) }
+    ensures count { length result.mappings ≡ guaranteed_mappings program.now }
     ensures rising { IsRising (numbers result.mappings) }
 {
+    let body = &program.body;
     frames.zero(first);
-    let mut env = Env::new(boot_cpu(program.base), first);
-    give_body(
-        frames,
-        &mut env,
-        first,
-        program.base / PAGE_BYTES,
-        program.bytes,
-    );
+    let mut env = Env::new(boot_cpu(body.entry), first);
+    give_body(frames, &mut env, first, body);
     give_zeros(
         frames,
         &mut env,
@@ -245,11 +228,10 @@ impl Board {
     /// Makes the next environment, which has a program's pages and stands at its entry. It needs room for
     /// it, and as many pages as it has.
     pub fn add(&mut self, program: &Program<'_>)
-        requires fits { IsFitting (program_seen program.now) }
         requires room { 0 < self.old.roster.spare }
-        requires pages { self.old.taken + guaranteed_mappings (program_seen program.now) ≤ length self.old.frames }
-        ensures world { world_of self.new ≡ added (world_of self.old) (program_seen program.now) }
-        ensures taken { self.new.taken ≡ self.old.taken + guaranteed_mappings (program_seen program.now) }
+        requires pages { self.old.taken + guaranteed_mappings program.now ≤ length self.old.frames }
+        ensures world { world_of self.new ≡ added (world_of self.old) program.now }
+        ensures taken { self.new.taken ≡ self.old.taken + guaranteed_mappings program.now }
         ensures spare { self.new.roster.spare ≡ self.old.roster.spare - 1 }
         ensures pages { length self.new.frames ≡ length self.old.frames }
     {

@@ -1,10 +1,7 @@
 //! The boot of an image: a board with all of its environments.
-ghost use Rattle.std.specs.Prelude.{◌≡◌, ◌≤◌, ◌+◌, IfOk, map, fold, length, sum_by};
-ghost use Rattle.std.specs.List.{AllByRecursion};
+ghost use Rattle.std.specs.Prelude.{◌≡◌, ◌≤◌, ◌+◌, IfOk, fold, length, sum_by};
 ghost use Rattle.board_world.specs.Showing.{world_of};
-ghost use Rattle.boot_image.specs.Accepted.{IsAccepted, IsFitting};
 ghost use Rattle.boot_image.specs.ImageValue.{guaranteed_mappings};
-ghost use Rattle.boot_image.specs.Seen.{image_seen, program_seen};
 ghost use Rattle.world_model.specs.Boot.{added, boot_world};
 
 use aegis_calls::Board;
@@ -14,10 +11,9 @@ use std::alloc::Global;
 
 /// Makes an environment for each program, in their order, on a board that has room for just so many.
 fn add_all(board: &mut Board, programs: &[Program<'_>])
-    requires fits { AllByRecursion IsFitting (map program_seen programs.now) }
     requires room { board.old.roster.spare ≡ length programs.now }
-    requires pages { board.old.taken + sum_by guaranteed_mappings (map program_seen programs.now) ≤ length board.old.frames }
-    ensures world { world_of board.new ≡ fold added (world_of board.old) (map program_seen programs.now) }
+    requires pages { board.old.taken + sum_by guaranteed_mappings programs.now ≤ length board.old.frames }
+    ensures world { world_of board.new ≡ fold added (world_of board.old) programs.now }
     ensures whole { board.new.roster.spare ≡ 0 }
     ensures pages { length board.new.frames ≡ length board.old.frames }
 {
@@ -28,8 +24,7 @@ fn add_all(board: &mut Board, programs: &[Program<'_>])
 
 /// The board that an accepted image boots, with all of its environments (`docs/KERNEL.md`, "Boot").
 pub fn boot(alloc: Global, image: &Image<'_>) -> Result<Board, OutOfMemory>
-    requires { IsAccepted (image_seen image.now) }
-    ensures world { IfOk result (λ b. world_of b ≡ boot_world (image_seen image.now)) }
+    ensures world { IfOk result (λ b. world_of b ≡ boot_world image.now) }
     ensures whole { IfOk result (λ b. b.roster.spare ≡ 0) }
     ensures pages { IfOk result (λ b. length b.frames ≡ image.now.pages) }
 {

@@ -181,7 +181,7 @@ abbrev pub with_one : Shown → Environment → List (List ℕ) → ℕ → Show
 with_one b x frames taken = record b { frames = frames; taken = taken; roster = record { list = b.roster.list ++ x ∷ []; spare = b.roster.spare - 1 } }
 
 module _ (b : Shown) (x : Environment) (frames : List (List ℕ)) (taken : ℕ) (p : ProgramValue) (sound : IsSound b) (below : IsKeptBelow b.taken b.frames frames)
-    (name : x.name ≡ p.name) (lives : x.life ≡ Live) (cpu : x.env.cpu ≡ (booted 0 [] p.base []).cpu) (pages : pages_seen frames x.env.mappings ≡ kept_of p) where
+    (name : x.name ≡ p.name) (lives : x.life ≡ Live) (cpu : x.env.cpu ≡ (booted 0 [] p.body.entry []).cpu) (pages : pages_seen frames x.env.mappings ≡ kept_of p) where
   its_items : List Item
   its_items = record_items (length b.roster.list) (Some p)
 
@@ -195,7 +195,7 @@ module _ (b : Shown) (x : Environment) (frames : List (List ℕ)) (taken : ℕ) 
   added_here : solo_of (with_one b x frames taken) (length b.roster.list) ≡ absorb_all (solo_of b (length b.roster.list)) (only (length b.roster.list) (record_items (length b.roster.list) (Some p)) (length b.roster.list))
   added_here =
       let n = length b.roster.list in
-      let regs : cpu_seen (with_one b x frames taken) n x.env.cpu ≡ (booted 0 [] p.base []).cpu = rw unrun cpu in
+      let regs : cpu_seen (with_one b x frames taken) n x.env.cpu ≡ (booted 0 [] p.body.entry []).cpu = rw unrun cpu in
       ap (solo_or_absent (with_one b x frames taken) n) (last_get b.roster.list x)
       ∙ (λ k. record { number = n; name = name k; life = lives k; cpu = regs k; kept = pages k; console = sound.consoles.unwritten n (omega arith) k })
       ∙ ap (absorb_all (absent n)) (sym (only_here n (record_items n (Some p))))

@@ -1,12 +1,10 @@
 -- A page that is given to an environment.
-use Rattle.std.proofs.Common.{◌≡◌, ◌≢◌, ℕ, zero, suc, ◌+◌, ◌-◌, ◌<◌, List, [], ◌∷◌, ◌++◌, length, take, drop, ◌*◌, replicate, true, Some, refl, sym, append_assoc, add-one, ◌∙◌, ap, arith, get_or-set_same, get_or-set_other, length-set}
+use Rattle.std.proofs.Common.{◌≡◌, ◌≢◌, ℕ, zero, suc, ◌+◌, ◌-◌, ◌<◌, List, [], ◌∷◌, ◌++◌, length, map, Bool, true, Some, refl, sym, append_assoc, add-one, ◌∙◌, ap, arith, get_or-set_same, get_or-set_other}
 use Rattle.std.specs.Prelude.{slice_get}
-use Rattle.std.proofs.lemmas.List.{drop-replicate}
-use Rattle.aegis_limits.specs.Limits.{page_size}
-use Rattle.frame_store.specs.Pages.{page_at, with_page, after_put, with_bytes, zero_page}
+use Rattle.frame_store.specs.Pages.{with_page, zero_page}
 use Rattle.env_frames.specs.declared.mapping.Mapping.{Mapping}
 use Rattle.world_model.specs.Page.{KeptPage}
-use Rattle.world_model.specs.Boot.{listed, open_page, page_from}
+use Rattle.world_model.specs.Boot.{listed, open_page}
 use Rattle.std.specs.Prelude.{slice_index_or, Option}
 use Rattle.std.specs.Option.{option_map, option_flatten}
 use Rattle.std.proofs.lemmas.List.{length-append}
@@ -16,7 +14,7 @@ use Rattle.kernel_journal.specs.declared.row.Row.{Row}
 use Rattle.world_model.specs.Book.{own_hold}
 use Rattle.world_model.specs.Boot.{boot_slot, own_row, own_rows}
 use Rattle.board_world.specs.Doing.{with_rows}
-use Rattle.board_world.specs.Loading.{IsLoading, padded}
+use Rattle.board_world.specs.Loading.{IsLoading}
 use Rattle.board_world.specs.Showing.{page_seen, pages_seen}
 
 -- other pages stay
@@ -38,31 +36,28 @@ within-get [] a m is = cc
 within-get (n ∷ ms) zero m is = omega arith
 within-get (n ∷ ms) (suc a) m is = let there = within-get ms a m is in omega arith
 
--- bytes at the beginning of a page that was made zero
-zeros_behind : (size : ℕ) (bytes : List ℕ) → with_bytes (replicate size 0) 0 bytes ≡ bytes ++ replicate (size - length bytes) 0
-zeros_behind size bytes =
-    let none : 0 + length bytes ≡ length bytes = omega arith in
-    ap (λ (k : ℕ). bytes ++ drop k (replicate size 0)) none ∙ ap (λ page. bytes ++ page) (drop-replicate (length bytes) size 0)
-
-pub given_page : (frames : List (List ℕ)) (first vpn : ℕ) (bytes : List ℕ) (ms : List Mapping) → IsLoading first ms → first + length ms < length frames →
-    pages_seen (after_put (with_page frames (first + length ms) zero_page) (first + length ms) 0 bytes) (ms ++ record { vpn = vpn; page = first + length ms; writable = true } ∷ []) ≡ pages_seen frames ms ++ open_page vpn (padded bytes) ∷ []
-given_page frames first vpn bytes ms loading there =
+-- a page that got these bytes is mapped behind the others
+pub given_page : (frames : List (List ℕ)) (first vpn : ℕ) (writable : Bool) (bytes : List ℕ) (ms : List Mapping) → IsLoading first ms → first + length ms < length frames →
+    pages_seen (with_page frames (first + length ms) bytes) (ms ++ record { vpn = vpn; page = first + length ms; writable = writable } ∷ []) ≡ pages_seen frames ms ++ record { vpn = vpn; writable = writable; bytes = bytes } ∷ []
+given_page frames first vpn writable bytes ms loading there =
     let n = first + length ms in
-    let zeroed = with_page frames n zero_page in
-    let m : Mapping = record { vpn = vpn; page = n; writable = true } in
+    let m : Mapping = record { vpn = vpn; page = n; writable = writable } in
     let elsewhere : (a : ℕ) (k : Mapping) → slice_get ms a ≡ Some k → k.page ≢ n = λ a k at same. let place = loading.placed a k at in let within = within-get ms a k at in omega arith in
-    let old = other_pages zeroed n (with_bytes (page_at zeroed n) 0 bytes) ms elsewhere ∙ other_pages frames n zero_page ms elsewhere in
-    let page : page_at (after_put zeroed n 0 bytes) n ≡ padded bytes =
-    get_or-set_same zeroed n (with_bytes (page_at zeroed n) 0 bytes) [] (omega (arith, length-set frames n zero_page, there))
-    ∙ ap (λ (p : List ℕ). with_bytes p 0 bytes) (get_or-set_same frames n zero_page [] there)
-    ∙ zeros_behind page_size bytes in
-    seen-append (after_put zeroed n 0 bytes) ms m
-    ∙ ap (λ ps. ps ++ page_seen (after_put zeroed n 0 bytes) m ∷ []) old
-    ∙ ap (λ (bs : List ℕ). pages_seen frames ms ++ record { vpn = vpn; writable = true; bytes = bs } ∷ []) page
+    seen-append (with_page frames n bytes) ms m
+    ∙ ap (λ ps. ps ++ page_seen (with_page frames n bytes) m ∷ []) (other_pages frames n bytes ms elsewhere)
+    ∙ ap (λ (bs : List ℕ). pages_seen frames ms ++ record { vpn = vpn; writable = writable; bytes = bs } ∷ []) (get_or-set_same frames n bytes [] there)
 
 -- a context page that was made zero
 pub context_page : (frames : List (List ℕ)) (first : ℕ) → first < length frames → pages_seen (with_page frames first zero_page) (record { vpn = 1; page = first; writable = true } ∷ []) ≡ open_page 1 zero_page ∷ []
 context_page frames first there = ap (λ (bytes : List ℕ). open_page 1 bytes ∷ []) (get_or-set_same frames first zero_page [] there)
+
+-- the pages so far, one more, and those that are left
+pub one_moved : (old now next : List KeptPage) (f : ℕ → KeptPage) (vpn : ℕ) (left later all : List ℕ) → next ≡ now ++ f vpn ∷ [] → left ≡ vpn ∷ later → now ++ map f left ≡ old ++ map f all → next ++ map f later ≡ old ++ map f all
+one_moved old now next f vpn left later all longer begins so_far =
+    ap (λ (ps : List KeptPage). ps ++ map f later) longer
+    ∙ append_assoc now (f vpn ∷ []) (map f later)
+    ∙ ap (λ (vpns : List ℕ). now ++ map f vpns) (sym begins)
+    ∙ so_far
 
 -- the pages so far and one more
 pub one_more : (old now next : List KeptPage) (f : ℕ → KeptPage) (i : ℕ) (page : KeptPage) → next ≡ now ++ page ∷ [] → now ≡ old ++ listed f i → page ≡ f i → next ≡ old ++ listed f (i + 1)
@@ -75,13 +70,6 @@ one_more old now next f i page longer so_far is =
   where
     listed_more : (f : ℕ → KeptPage) (i : ℕ) → listed f (i + 1) ≡ listed f i ++ f i ∷ []
     listed_more f i = rw add-one refl
-
--- a part of a body as a page
-pub body_page : (vpn i : ℕ) (bytes part : List ℕ) → part ≡ take page_size (drop (i * page_size) bytes) → open_page (vpn + i) (padded part) ≡ open_page (vpn + i) (page_from bytes (page_size * i))
-body_page vpn i bytes part is =
-    let at : i * page_size ≡ page_size * i = omega arith in
-    ap (λ (p : List ℕ). open_page (vpn + i) (padded p)) is
-    ∙ ap (λ (n : ℕ). open_page (vpn + i) (page_from bytes n)) at
 
 -- the rows of the owners so far and one more
 pub more_owners : (j : Ledger) (owners : List (Option ℕ)) (k : ℕ) (d : Option ℕ) → k < length owners → with_rows (with_rows j (own_rows owners k)) (own_row k (option_map own_hold (slice_index_or owners k d))) ≡ with_rows j (own_rows owners (k + 1))

@@ -46,8 +46,8 @@ pub record Serves (b : Shown) (e : ℕ) (act : Act) (reply : Reply) (new : Shown
   pub time : new.time ≡ b.time
 
 -- apart from a tick it is the world once the act is served
-pub alone : (b : Shown) (e : ℕ) (act : Act) (new : Shown) → Serves b e act (tick.brings (world_of b) e act) new → world_of new ≡ tick.served (world_of b) e act
-alone b e act new serves = worlds (world_of new) (tick.served (world_of b) e act) serves.book serves.count serves.solos serves.rows
+pub alone : (b : Shown) (e : ℕ) (act : Act) (new : Shown) → Serves b e act (tick.brings (world_of b) e act) new → world_of new ≡ tick.act_world (world_of b) e act
+alone b e act new serves = worlds (world_of new) (tick.act_world (world_of b) e act) serves.book serves.count serves.solos serves.rows
 
 -- and where the runner's step came to the act it is the world after that phase
 pub in_step : (b : Shown) (e : ℕ) (act : Act) (reply : Reply) (new : Shown) → Serves b e act reply new → absorb (solo_of b e) AStep ≡ acted act (solo_of b e) → world_of new ≡ after (world_of b) (tick.with_step e reply)
@@ -226,7 +226,7 @@ pub called_world : (b : Shown) (e : ℕ) → IsSound b → running b.slots.runne
 called_world b e sound runs =
     let x = runner_runs b e sound runs in
     alone b e (call_act b.cpu (called b.cpu)) (doing.served b e (called b.cpu)) (called_serves b e sound runs)
-    ∙ ap (λ (s : Solo). tick.served (world_of b) e (call_act s.cpu (called s.cpu))) (sym (runner_seen b e x.0 x.1))
+    ∙ ap (λ (s : Solo). tick.act_world (world_of b) e (call_act s.cpu (called s.cpu))) (sym (runner_seen b e x.0 x.1))
 
 -- and after a death
 pub death_serves : (b : Shown) (e : ℕ) (cause : Cause) → IsSound b → running b.slots.runner ≡ Some e → Serves b e (Dies cause) (death (world_of b) e) (doing.died b e cause)
@@ -237,7 +237,7 @@ died_world b e cause sound runs = alone b e (Dies cause) (doing.died b e cause) 
 
 -- Of a world whose verdict is a refusal: an exit isn't refused, and the reply is the answer alone.
 module _ (w : World) (e : ℕ) (lives : (w.solos e).life ≡ Live) (why : Code) (v : ℕ) where
-  refusal_world : (c : Option Call) → verdict w e c ≡ Refuses why v → tick.served w e (Calls c) ≡ tick.refused_world w e why v
+  refusal_world : (c : Option Call) → verdict w e c ≡ Refuses why v → tick.act_world w e (Calls c) ≡ tick.refused_world w e why v
   refusal_world c is =
       ap (λ d. after (record w { solos = set_at e (w.solos e) w.solos }) (reply_of w e d)) is
       ∙ worlds (after (record w { solos = set_at e (w.solos e) w.solos }) (refusal w e why v)) (tick.refused_world w e why v) refl refl
@@ -253,7 +253,7 @@ module _ (w : World) (e : ℕ) (lives : (w.solos e).life ≡ Live) (why : Code) 
   pub refused_is : verdict_now w e ≡ Refuses why v → tick.called_world w e ≡ tick.refused_world w e why v
   refused_is is =
       let c = called (w.solos e).cpu in
-      ap (tick.served w e) (refused_call c is) ∙ refusal_world c is
+      ap (tick.act_world w e) (refused_call c is) ∙ refusal_world c is
 
 pub refused_world : (b : Shown) (e : ℕ) (why : Code) (v : ℕ) → IsSound b → running b.slots.runner ≡ Some e → verdict_now (world_of b) e ≡ Refuses why v → world_of (doing.served b e (called b.cpu)) ≡ tick.refused_world (world_of b) e why v
 refused_world b e why v sound runs is =

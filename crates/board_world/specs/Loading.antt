@@ -1,10 +1,9 @@
 -- An environment whose pages are being given to it, one after another.
-use Rattle.std.specs.Prelude.{◌≡◌, ◌≤◌, ◌<◌, ◌+◌, ◌-◌, ◌*◌, ◌++◌, ℕ, List, length, replicate, Some, slice_get}
-use Rattle.aegis_limits.specs.Limits.{page_size}
+use Rattle.std.specs.Prelude.{◌≡◌, ◌<◌, ◌+◌, ℕ, List, length, Some, slice_get}
 use Rattle.frame_store.specs.Pages.{page_at, zero_page}
 use Rattle.env_frames.specs.declared.mapping.Mapping.{Mapping}
 use Rattle.world_model.specs.Page.{KeptPage}
-use Rattle.world_model.specs.Boot.{listed, open_page, page_from}
+use Rattle.world_model.specs.Boot.{listed, open_page}
 use Rattle.board_world.specs.Shown.{Shown}
 
 -- its mappings lead to the pages from this one on, in order
@@ -15,14 +14,6 @@ pub record IsLoading (first : ℕ) (mappings : List Mapping) : Type 0 where
 pub record IsKeptBelow (first : ℕ) (old new : List (List ℕ)) : Type 0 where
   pub size : length new ≡ length old
   pub lower : (n : ℕ) → n < first → page_at new n ≡ page_at old n
-
--- bytes with zeros behind them, a whole page
-abbrev pub padded : List ℕ → List ℕ
-padded bytes = bytes ++ replicate (page_size - length bytes) 0
-
--- so many pages of a body, from a page number on
-abbrev pub body_from : ℕ → List ℕ → ℕ → List KeptPage
-body_from vpn bytes count = listed (λ i. open_page (vpn + i) (page_from bytes (page_size * i))) count
 
 -- so many pages of zeros, from a page number on
 abbrev pub zeros_from : ℕ → ℕ → List KeptPage

@@ -1,18 +1,20 @@
 -- An image without a fault is within its limits.
-use Rattle.std.proofs.Common.{◌≡◌, ◌≤◌, ◌<◌, ℕ, zero, suc, ◌+◌, true, List, [], ◌∷◌, Option, None, Some, map, length, inl, inr, refl, ap, sym, ◌∙◌, arith, subst}
-use Rattle.std.specs.Prelude.{sum_by, IfOk, Result, Ok, Err, nat_lt, if◌then◌else◌}
+use Rattle.std.proofs.Common.{◌≡◌, ◌≤◌, ◌<◌, ℕ, zero, suc, ◌+◌, ◌%◌, true, List, [], ◌∷◌, Option, None, Some, map, length, inl, inr, refl, ap, sym, ◌∙◌, arith, subst}
+use Rattle.std.specs.Prelude.{sum_by, if◌then◌else◌, ◌==◌, false, Bool}
 use Rattle.std.specs.List.{AllByRecursion}
 use Rattle.aegis_limits.specs.Limits.{most_mappings, most_stack_pages}
 use Rattle.boot_image.specs.Bytes.{IsBytes}
 use Rattle.boot_image.proofs.Bytes.{word_small}
-use Rattle.boot_image.specs.declared.image.Image.{Image}
-use Rattle.boot_image.specs.Seen.{Answers, image_seen}
-use Rattle.std.proofs.lemmas.Bool.{cases_eq}
+use Rattle.elf_static.specs.declared.fault.ElfFault.{ElfFault}
+use Rattle.elf_static.specs.ElfFaults.{elf_fault}
+use Rattle.elf_static.specs.AcceptedElf.{IsAcceptedElf}
+use Rattle.elf_static.specs.ElfValue.{elf_of}
+use Rattle.elf_static.proofs.Acceptance.{accepted as elf_accepted}
+use Rattle.std.proofs.lemmas.Bool.{cases_eq, eqb-true}
 use Rattle.std.proofs.lemmas.List.{length-take, length-drop, length-map}
 use Rattle.boot_image.specs.declared.fault.ImageFault.{ImageFault}
-use Rattle.boot_image.specs.ImageValue.{ProgramValue, ImageValue, pages_in, quantum_in, environments_in, slots_in, slot_bytes, owner_of, first_header, name_in, base_in, stack_in, length_in, body_end, headers_from, headers, program_at, image_of, guaranteed_mappings}
-use Rattle.boot_image.specs.ImageFaults.{fault, ◌or_else◌, is_name, is_base, header_fault, slot_fault, owners_fault, slots_fault, program_fault, first_fault, mappings_fault, pages_fault, image_fault}
-use Rattle.boot_image.specs.declared.fault.ImageWhy.TheVariants.{TooMany}
+use Rattle.boot_image.specs.ImageValue.{ImageValue, pages_in, quantum_in, environments_in, slots_in, slot_bytes, owner_of, first_header, name_in, base_in, stack_in, kind_in, length_in, bytes_in, body_end, body_of, flat_body, headers_from, headers, program_at, image_of, guaranteed_mappings}
+use Rattle.boot_image.specs.ImageFaults.{fault, ◌or_else◌, is_name, is_base, is_flat_base, header_fault, slot_fault, owners_fault, slots_fault, program_header_fault, body_fault, elf_fault_at, program_fault, first_fault, mappings_fault, pages_fault, image_fault}
 use Rattle.boot_image.specs.Accepted.{IsFitting, IsOwnerBelow, IsAccepted}
 use Rattle.boot_image.proofs.Programs.{length-headers_from}
 
@@ -76,72 +78,92 @@ count_of_slots file none =
 pub count_of_programs : (file : List ℕ) → length (map (program_at file) (headers file)) ≡ environments_in file
 count_of_programs file = length-map (headers file) (program_at file) ∙ length-headers_from (environments_in file) file (first_header file)
 
-record Program (file : List ℕ) (header : ℕ) : Type 0 where
+pub record Program (file : List ℕ) (header : ℕ) : Type 0 where
   pub name : is_name (name_in file header) ≡ true
+  pub kind : kind_in file header ≤ 1
   pub stack : stack_in file header ≤ most_stack_pages
-  pub base : is_base (base_in file header) (length_in file header) ≡ true
-  pub filled : 0 < length_in file header
+  pub base : is_base (kind_in file header) (base_in file header) (length_in file header) ≡ true
+  pub filled : kind_in file header ≡ 0 → 0 < length_in file header
   pub whole : body_end file header ≤ length file
 
-program_passes : (file : List ℕ) (header : ℕ) → program_fault file header ≡ None → Program file header
-unfolding program_fault
+pub program_passes : (file : List ℕ) (header : ℕ) → program_header_fault file header ≡ None → Program file header
+unfolding program_header_fault
 program_passes file header none = record {
   name = grind arith;
+  kind = grind arith;
   stack = grind arith;
   base = grind arith;
-  filled = grind arith;
+  filled = λ flat. grind (arith, flat);
   whole = grind arith;
 }
 
 -- a program's body has as many bytes as its header says
-body_size : (file : List ℕ) (header : ℕ) → Program file header → length (program_at file header).bytes ≡ length_in file header
-unfolding program_at
-body_size file header program = simp (length-take, length-drop) (omega (arith, program.whole))
+pub body_size : (file : List ℕ) (header : ℕ) → body_end file header ≤ length file → length (bytes_in file header) ≡ length_in file header
+body_size file header whole = simp (length-take, length-drop) (omega (arith, whole))
 
-program_fits : (file : List ℕ) (header : ℕ) → IsBytes file → Program file header → guaranteed_mappings (program_at file header) ≤ most_mappings → IsFitting (program_at file header)
-unfolding program_at
-program_fits file header bytes program few =
-    let size = body_size file header program in
+-- a flat body is within the limits of a program
+pub flat_accepted : (base : ℕ) (bytes : List ℕ) → is_flat_base base (length bytes) ≡ true → 0 < length bytes → IsAcceptedElf (flat_body base bytes)
+flat_accepted base bytes fits filled =
+    let aligned : base % 4096 ≡ 0 = grind (arith, fits) in
+    let above : 0x2000 ≤ base = grind (arith, fits) in
+    let below : base + length bytes ≤ 0x7FF00000 = grind (arith, fits) in
     record {
-      name = program.name;
-      name_length = simp (length-take, length-drop) (omega (arith, program.whole));
-      aligned = grind (arith, program.base);
-      above = grind (arith, program.base);
-      below = grind (arith, program.base, size);
-      filled = omega (arith, program.filled, size);
-      stack = program.stack;
-      accept = word_small file (header + 16) bytes (omega (arith, program.whole));
-      mappings = few;
+      most = omega arith;
+      segments = (record { filled = filled; given = omega arith; above = above; below = below }, tt);
+      apart = (tt, tt);
+      aligned = omega (arith, aligned);
+      entered = (0, record { vaddr = base; bytes = bytes; memsz = length bytes; writable = true }, omega arith, refl, (omega arith, omega (arith, filled)));
     }
 
-few_mappings : (program : ProgramValue) (header : ℕ) → (if nat_lt most_mappings (guaranteed_mappings program) then fault TooMany header else None) ≡ None → guaranteed_mappings program ≤ most_mappings
-few_mappings program header none = grind arith
+-- a fault of an ELF file is one of the image
+no_elf_fault : (start : ℕ) (found : Option ElfFault) → elf_fault_at start found ≡ None → found ≡ None
+no_elf_fault start None none = refl
+no_elf_fault start (Some found) none = absurd cc
+
+body_fits : (file : List ℕ) (header : ℕ) → Program file header → body_fault file header ≡ None → IsAcceptedElf (body_of (kind_in file header) (base_in file header) (bytes_in file header))
+body_fits file header program none = by_kind (kind_in file header == 0) refl program.base none
+  where
+    by_kind : (flat : Bool) → (kind_in file header == 0) ≡ flat → (if flat then is_flat_base (base_in file header) (length_in file header) else base_in file header == 0) ≡ true
+        → (if flat then None else elf_fault_at (header + 28) (elf_fault (bytes_in file header))) ≡ None
+        → IsAcceptedElf (if flat then flat_body (base_in file header) (bytes_in file header) else elf_of (bytes_in file header))
+    by_kind true is base none =
+        let size = body_size file header program.whole in
+        let fits : is_flat_base (base_in file header) (length (bytes_in file header)) ≡ true = ap (is_flat_base (base_in file header)) size ∙ base in
+        flat_accepted (base_in file header) (bytes_in file header) fits (omega (arith, size, program.filled (eqb-true (kind_in file header) 0 is)))
+    by_kind false is base none = elf_accepted (bytes_in file header) (no_elf_fault (header + 28) (elf_fault (bytes_in file header)) none)
+
+program_fits : (file : List ℕ) (header : ℕ) → IsBytes file → Program file header → body_fault file header ≡ None → guaranteed_mappings (program_at file header) ≤ most_mappings → IsFitting (program_at file header)
+unfolding program_at
+program_fits file header bytes program none few = record {
+  name = program.name;
+  name_length = simp (length-take, length-drop) (omega (arith, program.whole));
+  stack = program.stack;
+  accept = word_small file (header + 16) bytes (omega (arith, program.whole));
+  body = body_fits file header program none;
+  mappings = few;
+}
+
+few_mappings : (file : List ℕ) (header : ℕ) → mappings_fault file header ≡ None → guaranteed_mappings (program_at file header) ≤ most_mappings
+few_mappings file header none = grind arith
 
 programs_fit : (count : ℕ) (file : List ℕ) (header : ℕ) → IsBytes file → first_fault (program_fault file) (headers_from count file header) ≡ None
-    → mappings_fault header (map (program_at file) (headers_from count file header)) ≡ None → AllByRecursion IsFitting (map (program_at file) (headers_from count file header))
+    → first_fault (mappings_fault file) (headers_from count file header) ≡ None → AllByRecursion IsFitting (map (program_at file) (headers_from count file header))
 programs_fit zero file header bytes none mappings = tt
 programs_fit (suc count) file header bytes none mappings =
-    let program = program_at file header in
     let next = body_end file header in
-    let later = map (program_at file) (headers_from count file next) in
     let faults = neither (program_fault file header) (first_fault (program_fault file) (headers_from count file next)) none in
-    let room = neither (if nat_lt most_mappings (guaranteed_mappings program) then fault TooMany header else None) (mappings_fault (header + 28 + length program.bytes) later) mappings in
-    let passes = program_passes file header faults.0 in
-    let ends : header + 28 + length program.bytes ≡ next = ap (λ (size : ℕ). header + 28 + size) (body_size file header passes) in
-    let later_room : mappings_fault next later ≡ None = subst (λ (place : ℕ). mappings_fault place later ≡ None) ends room.1 in
-    (program_fits file header bytes passes (few_mappings program header room.0), programs_fit count file next bytes faults.1 later_room)
+    let parts = neither (program_header_fault file header) (body_fault file header) faults.0 in
+    let room = neither (mappings_fault file header) (first_fault (mappings_fault file) (headers_from count file next)) mappings in
+    (program_fits file header bytes (program_passes file header parts.0) parts.1 (few_mappings file header room.0), programs_fit count file next bytes faults.1 room.1)
 
 fitting_pages : (image : ImageValue) → pages_fault image ≡ None → sum_by guaranteed_mappings image.programs ≤ image.pages
 fitting_pages image none = grind arith
 
-pub accepted : (file : List ℕ) → IsBytes file → image_fault file ≡ None → IsAccepted (image_of file)
-unfolding image_fault image_of
-accepted file bytes none =
-    let header_none : header_fault file ≡ None = grind arith in
-    let slots_none : slots_fault file ≡ None = grind arith in
-    let programs_none : first_fault (program_fault file) (headers file) ≡ None = grind arith in
-    let mappings_none : mappings_fault (first_header file) (map (program_at file) (headers file)) ≡ None = grind arith in
-    let pages_none : pages_fault (image_of file) ≡ None = grind arith in
+-- a file whose parts have no fault
+pub parts_accepted : (file : List ℕ) → IsBytes file → header_fault file ≡ None → slots_fault file ≡ None → first_fault (program_fault file) (headers file) ≡ None
+    → first_fault (mappings_fault file) (headers file) ≡ None → sum_by guaranteed_mappings (image_of file).programs ≤ pages_in file → IsAccepted (image_of file)
+unfolding image_of
+parts_accepted file bytes header_none slots_none programs_none mappings_none room =
     let header = header_passes file header_none in
     let slots = slots_pass file slots_none in
     let programs_count = count_of_programs file in
@@ -158,11 +180,20 @@ accepted file bytes none =
       programs_least = omega (arith, header.environments_least);
       programs_most = omega (arith, header.environments_most);
       programs = programs_fit (environments_in file) file (first_header file) bytes programs_none mappings_none;
-      room = fitting_pages (image_of file) pages_none;
+      room = room;
     }
 
--- what the reader answers is within the limits
-pub read_is_accepted : (file : List ℕ) (answer : Result Image ImageFault) → IsBytes file → Answers image_seen answer (image_fault file) (image_of file)
-    → IfOk answer (λ image. IsAccepted (image_seen image))
-read_is_accepted file (Ok image) bytes answers = subst IsAccepted (sym answers.1) (accepted file bytes answers.0)
-read_is_accepted file (Err fault) bytes answers = tt
+pages_is : (file : List ℕ) → (image_of file).pages ≡ pages_in file
+unfolding image_of
+pages_is file = refl
+
+pub accepted : (file : List ℕ) → IsBytes file → image_fault file ≡ None → IsAccepted (image_of file)
+unfolding image_fault
+accepted file bytes none =
+    let header_none : header_fault file ≡ None = grind arith in
+    let slots_none : slots_fault file ≡ None = grind arith in
+    let programs_none : first_fault (program_fault file) (headers file) ≡ None = grind arith in
+    let mappings_none : first_fault (mappings_fault file) (headers file) ≡ None = grind arith in
+    let pages_none : pages_fault (image_of file) ≡ None = grind arith in
+    let room = fitting_pages (image_of file) pages_none in
+    parts_accepted file bytes header_none slots_none programs_none mappings_none (omega (arith, room, pages_is file))

@@ -1,5 +1,5 @@
 -- Parts of a file are bytes, and a word of them is below 2^32.
-use Rattle.std.proofs.Common.{◌≡◌, ◌≤◌, ◌<◌, ◌^◌, ℕ, ◌+◌, List, [], ◌∷◌, length, take, drop, inl, inr, get_or, arith}
+use Rattle.std.proofs.Common.{◌≡◌, ◌≤◌, ◌<◌, ◌^◌, ℕ, ◌+◌, List, [], ◌∷◌, length, take, drop, inl, inr, arith}
 use Rattle.std.specs.Int.{w16, w32, from_le_bytes}
 use Rattle.byteorder.specs.Endian.{little_number}
 use Rattle.std.proofs.lemmas.Bool.{cases_lt}

@@ -1,3 +1,4 @@
+-- The lemmas on images.
 mod Bytes
 pub mod Programs
 pub mod Acceptance

@@ -1,48 +1,18 @@
--- Programs one after another, as the loops take them.
-use Rattle.std.proofs.Common.{◌≡◌, ◌≤◌, ℕ, zero, suc, ◌+◌, ◌-◌, ◌<◌, List, [], ◌∷◌, ◌++◌, Option, None, map, length, drop, get_or, refl, ap, sym, ◌∙◌, append_assoc, arith, add-one}
-use Rattle.std.proofs.Math.Seq.{drop-cons}
+-- Programs one after another, as the loop takes them.
+use Rattle.std.proofs.Common.{◌≡◌, ℕ, zero, suc, ◌+◌, ◌-◌, ◌<◌, List, [], ◌∷◌, ◌++◌, Option, None, Some, map, length, refl, ap, sym, ◌∙◌, append_assoc, arith}
 use Rattle.boot_image.specs.declared.fault.ImageFault.{ImageFault}
-use Rattle.boot_image.specs.declared.image.Program.{Program}
-use Rattle.boot_image.specs.ImageValue.{ProgramValue, program_at, body_end, headers_from, bodies_end}
-use Rattle.boot_image.specs.ImageFaults.{◌or_else◌, program_fault, first_fault}
-use Rattle.boot_image.specs.Parts.{values_end}
-use Rattle.boot_image.specs.Seen.{program_seen}
+use Rattle.boot_image.specs.ImageValue.{ProgramValue, guaranteed_mappings, program_at, body_end, headers_from, bodies_end}
+use Rattle.std.specs.Option.{option_or}
+use Rattle.std.specs.Prelude.{nat_lt, Bool, ◌≢◌, true, false, if◌then◌else◌}
+use Rattle.aegis_limits.specs.Limits.{most_mappings}
+use Rattle.boot_image.specs.declared.fault.ImageWhy.TheVariants.{TooMany}
+use Rattle.boot_image.specs.ImageFaults.{fault, ◌or_else◌, first_fault}
+use Rattle.boot_image.specs.Parts.{if_fitting}
 
 -- so many programs have so many headers
 pub length-headers_from : (count : ℕ) (file : List ℕ) (header : ℕ) → length (headers_from count file header) ≡ count
 length-headers_from zero file header = refl
 length-headers_from (suc count) file header = ap suc (length-headers_from count file (body_end file header))
-
--- a place doesn't fall
-pub values_end_least : (header : ℕ) (programs : List ProgramValue) → header ≤ values_end header programs
-values_end_least header [] = omega arith
-values_end_least header (program ∷ programs) =
-    let later = values_end_least (header + 28 + length program.bytes) programs in omega arith
-
--- the end after one more program
-pub values_end_push : (header : ℕ) (programs : List ProgramValue) (program : ProgramValue)
-    → values_end header (programs ++ program ∷ []) ≡ values_end header programs + 28 + length program.bytes
-values_end_push header [] program = refl
-values_end_push header (first ∷ programs) program = values_end_push (header + 28 + length first.bytes) programs program
-
--- the programs from a place on are that one and those after it
-pub seen_rest : (programs : List Program) (i : ℕ) (blank : Program) → i < length programs
-    → map program_seen (drop i programs) ≡ program_seen (get_or programs i blank) ∷ map program_seen (drop (i + 1) programs)
-seen_rest programs i blank in_range =
-    let rest : drop i programs ≡ get_or programs i blank ∷ drop (i + 1) programs = rw (add-one, drop-cons programs i blank) refl in
-    rw rest refl
-
--- the next program ends before the last one does
-pub next_end_least : (header : ℕ) (programs : List Program) (i : ℕ) (blank : Program) (last : ℕ) → i < length programs
-    → values_end header (map program_seen (drop i programs)) ≡ last
-    → header + (28 + length (get_or programs i blank).bytes.now) ≤ last
-next_end_least header programs i blank last in_range ends =
-    let program = get_or programs i blank in
-    let rest : List ProgramValue = map program_seen (drop (i + 1) programs) in
-    let step : values_end header (map program_seen (drop i programs)) ≡ values_end (header + 28 + length program.bytes.now) rest
-    = ap (values_end header) (seen_rest programs i blank in_range) in
-    let least = values_end_least (header + 28 + length program.bytes.now) rest in
-    omega arith
 
 -- The headers that are left are this one and those from its body's end on.
 headers-step : (count i : ℕ) (file : List ℕ) (header next : ℕ) → i < count → next ≡ body_end file header
@@ -57,12 +27,23 @@ bodies_end-step count i file header next in_range ends =
     let left : count - i ≡ suc (count - (i + 1)) = omega arith in
     rw (left, ends) refl
 
--- a program without a fault leaves the fault to those after it
-pub fault-step : (count i : ℕ) (file : List ℕ) (header next : ℕ) → i < count → next ≡ body_end file header → program_fault file header ≡ None
-    → first_fault (program_fault file) (headers_from (count - i) file header) ≡ first_fault (program_fault file) (headers_from (count - (i + 1)) file next)
-fault-step count i file header next in_range ends none =
-    ap (first_fault (program_fault file)) (headers-step count i file header next in_range ends)
-    ∙ ap (λ (f : Option ImageFault). f or_else first_fault (program_fault file) (headers_from (count - (i + 1)) file next)) none
+-- what has no fault leaves the fault to what comes after it
+pub fault-step : (fault_of : ℕ → Option ImageFault) (count i : ℕ) (file : List ℕ) (header next : ℕ) → i < count → next ≡ body_end file header → fault_of header ≡ None
+    → first_fault fault_of (headers_from (count - i) file header) ≡ first_fault fault_of (headers_from (count - (i + 1)) file next)
+fault-step fault_of count i file header next in_range ends none =
+    ap (first_fault fault_of) (headers-step count i file header next in_range ends)
+    ∙ ap (λ (f : Option ImageFault). f or_else first_fault fault_of (headers_from (count - (i + 1)) file next)) none
+
+-- the first fault of what is left is the next one's, or a later one
+pub later-step : (fault_of : ℕ → Option ImageFault) (found : Option ImageFault) (count i : ℕ) (file : List ℕ) (header next : ℕ) → i < count → next ≡ body_end file header
+    → ((found or_else fault_of header) or_else first_fault fault_of (headers_from (count - (i + 1)) file next)) ≡ (found or_else first_fault fault_of (headers_from (count - i) file header))
+later-step fault_of found count i file header next in_range ends =
+    or_else_assoc found (fault_of header) (first_fault fault_of (headers_from (count - (i + 1)) file next))
+    ∙ ap (λ (headers : List ℕ). found or_else first_fault fault_of headers) (sym (headers-step count i file header next in_range ends))
+  where
+    or_else_assoc : (a b c : Option ImageFault) → ((a or_else b) or_else c) ≡ (a or_else (b or_else c))
+    or_else_assoc None b c = refl
+    or_else_assoc (Some f) b c = refl
 
 -- a program moves from those that are left to those that were read
 pub list-step : (read : List ProgramValue) (program : ProgramValue) (count i : ℕ) (file : List ℕ) (header next : ℕ) → i < count → next ≡ body_end file header → program ≡ program_at file header
@@ -72,3 +53,31 @@ list-step read program count i file header next in_range ends is =
     append_assoc read (program ∷ []) rest
     ∙ ap (λ (p : ProgramValue). read ++ p ∷ rest) is
     ∙ ap (λ (headers : List ℕ). read ++ map (program_at file) headers) (sym (headers-step count i file header next in_range ends))
+
+some_is : (a b : ProgramValue) → Some a ≡ Some b → a ≡ b
+some_is a b same = cc
+
+-- a program that is handed on is the one that was read, and needs no more mappings than it may have
+pub fitting_some : (read program : ProgramValue) (place : ℕ) → if_fitting read ≡ Some program → (program ≡ read) × ((if nat_lt most_mappings (guaranteed_mappings read) then fault TooMany place else None) ≡ None)
+fitting_some read program place is = by_test (nat_lt most_mappings (guaranteed_mappings read)) is
+  where
+    by_test : (many : Bool) → (if many then None else Some read) ≡ Some program → (program ≡ read) × ((if many then fault TooMany place else None) ≡ None)
+    by_test true is = absurd cc
+    by_test false is = (sym (some_is read program is), refl)
+
+-- one that isn't needs more
+pub fitting_none : (read : ProgramValue) (place : ℕ) → if_fitting read ≡ None → (if nat_lt most_mappings (guaranteed_mappings read) then fault TooMany place else None) ≡ fault TooMany place
+fitting_none read place is = by_test (nat_lt most_mappings (guaranteed_mappings read)) is
+  where
+    by_test : (many : Bool) → (if many then None else Some read) ≡ None → (if many then fault TooMany place else None) ≡ fault TooMany place
+    by_test true is = refl
+    by_test false is = absurd cc
+
+-- the first of two, in the words of std
+pub or_is : (found later : Option ImageFault) → option_or found later ≡ (found or_else later)
+or_is None later = refl
+or_is (Some f) later = refl
+
+pub none_or_some : (found : Option ImageFault) (f : ImageFault) → option_or found (Some f) ≢ None
+none_or_some None f none = cc
+none_or_some (Some g) f none = cc

@@ -1,7 +1,8 @@
 -- What holds of each image that has no fault.
-use Rattle.std.specs.Prelude.{ℕ, ◌≡◌, ◌≤◌, ◌<◌, ◌+◌, ◌%◌, ◌^◌, length, Option, IfSome, IsTrue, sum_by}
+use Rattle.std.specs.Prelude.{ℕ, ◌≡◌, ◌≤◌, ◌<◌, ◌^◌, length, Option, IfSome, IsTrue, sum_by}
 use Rattle.std.specs.List.{AllByRecursion}
-use Rattle.aegis_limits.specs.Limits.{page_size, least_pages, most_pages, least_quantum, most_quantum, most_slots, most_environments, most_stack_pages, most_mappings}
+use Rattle.aegis_limits.specs.Limits.{least_pages, most_pages, least_quantum, most_quantum, most_slots, most_environments, most_stack_pages, most_mappings}
+use Rattle.elf_static.specs.AcceptedElf.{IsAcceptedElf}
 use Rattle.boot_image.specs.ImageValue.{ImageValue, ProgramValue, guaranteed_mappings}
 use Rattle.boot_image.specs.ImageFaults.{is_name}
 
@@ -9,12 +10,9 @@ use Rattle.boot_image.specs.ImageFaults.{is_name}
 pub record IsFitting (program : ProgramValue) : Type 0 where
   pub name : IsTrue (is_name program.name)
   pub name_length : length program.name ≡ 8
-  pub aligned : program.base % page_size ≡ 0
-  pub above : 0x2000 ≤ program.base
-  pub below : program.base + length program.bytes ≤ 0x7FF00000
-  pub filled : 0 < length program.bytes
   pub stack : program.stack ≤ most_stack_pages
   pub accept : program.accept < 2 ^ 32
+  pub body : IsAcceptedElf program.body
   pub mappings : guaranteed_mappings program ≤ most_mappings
 
 -- a slot's owner, where it has one, is one of so many environments

@@ -4,8 +4,10 @@ use Rattle.std.specs.List.{list_all, starts_with}
 use Rattle.aegis_limits.specs.Limits.{page_size, least_pages, most_pages, least_quantum, most_quantum, most_slots, most_environments, most_stack_pages, most_mappings}
 use Rattle.boot_image.specs.declared.fault.ImageFault.{ImageFault}
 use Rattle.boot_image.specs.declared.fault.ImageWhy.{ImageWhy}
-use Rattle.boot_image.specs.declared.fault.ImageWhy.TheVariants.{Short, Magic, Pages, Quantum, Envs, Slots, SlotOwner, Name, Kind, Stack, Base, Empty, Trailing, TooMany, TooBig, NotBuilt}
-use Rattle.boot_image.specs.ImageValue.{ProgramValue, ImageValue, name_text, guaranteed_mappings, pages_in, quantum_in, environments_in, slots_in, slot_bytes, first_header, name_in, base_in, stack_in, kind_in, length_in, body_end, bodies_end, headers, image_of}
+use Rattle.boot_image.specs.declared.fault.ImageWhy.TheVariants.{Short, Magic, Pages, Quantum, Envs, Slots, SlotOwner, Name, Kind, Stack, Base, Empty, Elf, Trailing, TooMany, TooBig}
+use Rattle.elf_static.specs.declared.fault.ElfFault.{ElfFault}
+use Rattle.elf_static.specs.ElfFaults.{elf_fault}
+use Rattle.boot_image.specs.ImageValue.{ImageValue, name_text, guaranteed_mappings, pages_in, quantum_in, environments_in, slots_in, slot_bytes, first_header, name_in, base_in, stack_in, kind_in, length_in, bytes_in, body_end, bodies_end, headers, program_at, image_of}
 
 abbrev pub fault : ImageWhy → ℕ → Option ImageFault
 fault why place = Some (record { place = place; why = why })
@@ -67,21 +69,38 @@ is_name name =
     && list_all (λ byte. byte == 0) (drop (length (name_text name)) name)
 
 -- the address of a page behind the first two, from which so many bytes end below the stack
-abbrev pub is_base : ℕ → ℕ → Bool
-is_base base bytes = (base % page_size == 0) && nat_le 0x2000 base && nat_le (base + bytes) 0x7FF00000
+abbrev pub is_flat_base : ℕ → ℕ → Bool
+is_flat_base base bytes = (base % page_size == 0) && nat_le 0x2000 base && nat_le (base + bytes) 0x7FF00000
 
--- The program with this header. Kind 0 is what this stage has.
-unfoldable pub program_fault : List ℕ → ℕ → Option ImageFault
-program_fault file header =
+-- A flat body stands at its base. An ELF file says itself where its segments stand, and its base is 0.
+abbrev pub is_base : ℕ → ℕ → ℕ → Bool
+is_base kind base bytes = if kind == 0 then is_flat_base base bytes else base == 0
+
+-- The program's header, and that its body is there.
+unfoldable pub program_header_fault : List ℕ → ℕ → Option ImageFault
+program_header_fault file header =
     if nat_lt (length file) (header + 28) then fault Short (length file) else
     if not (is_name (name_in file header)) then fault Name header else
     if nat_lt 1 (kind_in file header) then fault Kind header else
-    if kind_in file header == 1 then fault NotBuilt header else
     if nat_lt most_stack_pages (stack_in file header) then fault Stack header else
-    if not (is_base (base_in file header) (length_in file header)) then fault Base header else
-    if length_in file header == 0 then fault Empty header else
+    if not (is_base (kind_in file header) (base_in file header) (length_in file header)) then fault Base header else
+    if (kind_in file header == 0) && (length_in file header == 0) then fault Empty header else
     if nat_lt (length file) (body_end file header) then fault Short (length file) else
     None
+
+-- a fault of an ELF file whose first byte stands at this place of an image
+abbrev pub elf_fault_at : ℕ → Option ElfFault → Option ImageFault
+elf_fault_at start None = None
+elf_fault_at start (Some found) = fault (Elf found.why) (start + found.place)
+
+-- The body, if it is an ELF file.
+abbrev pub body_fault : List ℕ → ℕ → Option ImageFault
+body_fault file header =
+    if kind_in file header == 0 then None else elf_fault_at (header + 28) (elf_fault (bytes_in file header))
+
+-- The program with this header.
+abbrev pub program_fault : List ℕ → ℕ → Option ImageFault
+program_fault file header = program_header_fault file header or_else body_fault file header
 
 -- The bytes after the last body.
 unfoldable pub trailing_fault : List ℕ → Option ImageFault
@@ -89,12 +108,10 @@ trailing_fault file =
     let end = bodies_end (environments_in file) file (first_header file) in
     if nat_lt end (length file) then fault Trailing end else None
 
--- The mappings of each environment, of which the first one's header stands at this place.
-abbrev pub mappings_fault : ℕ → List ProgramValue → Option ImageFault
-mappings_fault header [] = None
-mappings_fault header (program ∷ programs) =
-    (if nat_lt most_mappings (guaranteed_mappings program) then fault TooMany header else None)
-    or_else mappings_fault (header + 28 + length program.bytes) programs
+-- The mappings of the environment with this header.
+abbrev pub mappings_fault : List ℕ → ℕ → Option ImageFault
+mappings_fault file header =
+    if nat_lt most_mappings (guaranteed_mappings (program_at file header)) then fault TooMany header else None
 
 -- All of them together.
 abbrev pub pages_fault : ImageValue → Option ImageFault
@@ -108,5 +125,5 @@ image_fault file =
     or_else slots_fault file
     or_else first_fault (program_fault file) (headers file)
     or_else trailing_fault file
-    or_else mappings_fault (first_header file) (image_of file).programs
+    or_else first_fault (mappings_fault file) (headers file)
     or_else pages_fault (image_of file)

@@ -1,17 +1,17 @@
 -- What an image's bytes mean.
-use Rattle.std.specs.Prelude.{ℕ, zero, suc, ◌+◌, ◌-◌, ◌/◌, ◌==◌, List, [], ◌∷◌, length, take, drop, map, Option, None, Some, if◌then◌else◌}
+use Rattle.std.specs.Prelude.{ℕ, zero, suc, ◌+◌, ◌==◌, true, List, [], ◌∷◌, length, take, drop, map, Option, None, Some, if◌then◌else◌}
 use Rattle.std.specs.List.{before_first}
-use Rattle.aegis_limits.specs.Limits.{page_size}
 use Rattle.byte_numbers.specs.Numbers.{half_at, word_at}
+use Rattle.elf_static.specs.ElfValue.{ElfValue, elf_of}
+use Rattle.segment_pages.specs.Pages.{page_numbers}
 
--- a program: its name of eight bytes, the address of its first byte, pages of stack, a bit for each
--- environment from which it accepts transfers, and its body
+-- a program: its name of eight bytes, pages of stack, a bit for each environment from which it accepts
+-- transfers, and its body, which is an entry and segments
 pub record ProgramValue : Type 0 where
   pub name : List ℕ
-  pub base : ℕ
   pub stack : ℕ
   pub accept : ℕ
-  pub bytes : List ℕ
+  pub body : ElfValue
 
 -- an image: counts of pages and of a slice's ticks, the owner of each slot, and a program for each
 -- environment
@@ -21,21 +21,20 @@ pub record ImageValue : Type 0 where
   pub slots : List (Option ℕ)
   pub programs : List ProgramValue
 
+-- a flat body: one segment, all of it in the file, which may be stored to and is entered at its first byte
+abbrev pub flat_body : ℕ → List ℕ → ElfValue
+flat_body base bytes = record {
+  entry = base;
+  segments = record { vaddr = base; bytes = bytes; memsz = length bytes; writable = true } ∷ [];
+}
+
 -- a name without the zeros after it
 abbrev pub name_text : List ℕ → List ℕ
 name_text name = before_first (λ byte. byte == 0) name
 
--- the pages that a body of so many bytes fills
-abbrev pub pages_of_length : ℕ → ℕ
-pages_of_length bytes = (bytes + (page_size - 1)) / page_size
-
--- the pages of a program's body
-abbrev pub body_pages : ProgramValue → ℕ
-body_pages program = pages_of_length (length program.bytes)
-
 -- the pages that an environment has from its boot on: the context page, the body's and the stack's
 abbrev pub guaranteed_mappings : ProgramValue → ℕ
-guaranteed_mappings program = 1 + body_pages program + program.stack
+guaranteed_mappings program = 1 + length (page_numbers program.body) + program.stack
 
 -- The file's header: the magic of four bytes, and four numbers.
 abbrev pub pages_in : List ℕ → ℕ
@@ -79,6 +78,10 @@ kind_in file header = word_at file (header + 20)
 abbrev pub length_in : List ℕ → ℕ → ℕ
 length_in file header = word_at file (header + 24)
 
+-- the bytes of the body of the program with this header
+abbrev pub bytes_in : List ℕ → ℕ → List ℕ
+bytes_in file header = take (length_in file header) (drop (header + 28) file)
+
 -- where the body of the program with this header ends
 abbrev pub body_end : List ℕ → ℕ → ℕ
 body_end file header = header + 28 + length_in file header
@@ -97,14 +100,17 @@ bodies_end (suc count) file header = bodies_end count file (body_end file header
 abbrev pub headers : List ℕ → List ℕ
 headers file = headers_from (environments_in file) file (first_header file)
 
+-- the body with this base and these bytes: of kind 0 they are what it has in memory, of kind 1 an ELF file
+abbrev pub body_of : ℕ → ℕ → List ℕ → ElfValue
+body_of kind base bytes = if kind == 0 then flat_body base bytes else elf_of bytes
+
 -- the program with this header
 unfoldable pub program_at : List ℕ → ℕ → ProgramValue
 program_at file header = record {
   name = name_in file header;
-  base = base_in file header;
   stack = stack_in file header;
   accept = accept_in file header;
-  bytes = take (length_in file header) (drop (header + 28) file);
+  body = body_of (kind_in file header) (base_in file header) (bytes_in file header);
 }
 
 -- The image of the file's bytes. It is meant where image_fault finds nothing.

@@ -1,3 +1,4 @@
+-- The definitions of what the files of a boot mean, of their faults, and of how an image is spelled.
 pub mod Names
 pub mod Bytes
 pub mod ImageValue

@@ -1,7 +1,8 @@
 -- What is printed of each cause.
 use Rattle.std.specs.Prelude.{ℕ, List, codes}
+use Rattle.elf_static.specs.ElfNames.{elf_why_text}
 use Rattle.boot_image.specs.declared.fault.ImageWhy.{ImageWhy}
-use Rattle.boot_image.specs.declared.fault.ImageWhy.TheVariants.{Short, Magic, Pages, Quantum, Envs, Slots, SlotOwner, Name, Kind, Stack, Base, Empty, Trailing, TooMany, TooBig, NotBuilt}
+use Rattle.boot_image.specs.declared.fault.ImageWhy.TheVariants.{Short, Magic, Pages, Quantum, Envs, Slots, SlotOwner, Name, Kind, Stack, Base, Empty, Elf, Trailing, TooMany, TooBig}
 use Rattle.boot_image.specs.declared.fault.TextWhy.{TextWhy}
 use Rattle.boot_image.specs.declared.fault.TextWhy.TheVariants as text
 
@@ -19,10 +20,10 @@ image_why_text Kind = codes "Kind"
 image_why_text Stack = codes "Stack"
 image_why_text Base = codes "Base"
 image_why_text Empty = codes "Empty"
+image_why_text (Elf why) = elf_why_text why
 image_why_text Trailing = codes "Trailing"
 image_why_text TooMany = codes "TooMany"
 image_why_text TooBig = codes "TooBig"
-image_why_text NotBuilt = codes "NotBuilt"
 
 -- the printed name of a cause of a text
 abbrev pub text_why_text : TextWhy → List ℕ

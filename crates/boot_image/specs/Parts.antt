@@ -1,12 +1,11 @@
 -- The parts of a file, as the reader takes them one after another.
-use Rattle.std.specs.Prelude.{ℕ, ◌+◌, List, [], ◌∷◌, map, length, Option, None, nat_lt, sum_by, if◌then◌else◌}
+use Rattle.std.specs.Prelude.{ℕ, ◌≡◌, List, map, Option, None, Some, nat_lt, if◌then◌else◌}
 use Rattle.boot_image.specs.declared.header.Header.{Header}
+use Rattle.boot_image.specs.declared.program.Placed.{Placed}
 use Rattle.boot_image.specs.declared.program.Programs.{Programs}
-use Rattle.boot_image.specs.declared.fault.ImageFault.{ImageFault}
-use Rattle.boot_image.specs.declared.fault.ImageWhy.TheVariants.{TooBig}
-use Rattle.boot_image.specs.ImageValue.{ProgramValue, pages_in, quantum_in, environments_in, slots_in, headers_from, bodies_end, program_at, guaranteed_mappings}
-use Rattle.boot_image.specs.ImageFaults.{fault, ◌or_else◌, mappings_fault}
-use Rattle.boot_image.specs.Seen.{program_seen}
+use Rattle.aegis_limits.specs.Limits.{most_mappings}
+use Rattle.boot_image.specs.ImageValue.{ProgramValue, pages_in, quantum_in, environments_in, slots_in, headers_from, bodies_end, body_end, program_at, guaranteed_mappings}
+use Rattle.boot_image.specs.ImageFaults.{first_fault, mappings_fault}
 
 -- the header's numbers
 pub record HeaderValue : Type 0 where
@@ -21,24 +20,24 @@ header_of file = record { pages = pages_in file; quantum = quantum_in file; envi
 abbrev pub header_seen : Header → HeaderValue
 header_seen header = record { pages = header.pages; quantum = header.quantum; environments = header.environments; slots = header.slots }
 
--- the programs, and where the last body ends
-pub record ProgramsValue : Type 0 where
-  pub list : List ProgramValue
+-- a program, if it needs no more mappings than an environment may have
+abbrev pub if_fitting : ProgramValue → Option ProgramValue
+if_fitting program = if nat_lt most_mappings (guaranteed_mappings program) then None else Some program
+
+-- the program with a header, and where its body ends
+pub record PlacedValue : Type 0 where
+  pub program : Option ProgramValue
   pub end : ℕ
 
-abbrev pub programs_of : ℕ → List ℕ → ℕ → ProgramsValue
-programs_of count file header = record { list = map (program_at file) (headers_from count file header); end = bodies_end count file header }
+abbrev pub placed_at : List ℕ → ℕ → PlacedValue
+placed_at file header = record { program = if_fitting (program_at file header); end = body_end file header }
 
-abbrev pub programs_seen : Programs → ProgramsValue
-programs_seen programs = record { list = map program_seen programs.list.items; end = programs.end }
+abbrev pub placed_seen : Placed → PlacedValue
+placed_seen placed = record { program = placed.program; end = placed.end }
 
--- where the last body of these programs ends, of which the first one's header stands at this place
-abbrev pub values_end : ℕ → List ProgramValue → ℕ
-values_end header [] = header
-values_end header (program ∷ programs) = values_end (header + 28 + length program.bytes) programs
-
--- the faults of what the environments need together
-abbrev pub room_fault : ℕ → List ProgramValue → ℕ → Option ImageFault
-room_fault header programs pages =
-    mappings_fault header programs
-    or_else (if nat_lt pages (sum_by guaranteed_mappings programs) then fault TooBig 4 else None)
+-- the programs of so many headers, the first of which stands at this place: where the last body ends, which
+-- needs too many mappings first, and if none does, all of them
+pub record ArePrograms (file : List ℕ) (count first : ℕ) (programs : Programs) : Type 0 where
+  pub end : programs.end ≡ bodies_end count file first
+  pub crowded : programs.crowded ≡ first_fault (mappings_fault file) (headers_from count file first)
+  pub list : programs.crowded ≡ None → programs.list.items ≡ map (program_at file) (headers_from count file first)

@@ -1,23 +1,115 @@
--- The one spelling of each image.
-use Rattle.std.specs.Prelude.{ℕ, List, ◌++◌, length, map, Option, None, Some, codes}
-use Rattle.std.specs.List.{flat_map}
+-- How an image is spelled: what stands in its file, and what that means.
+use Rattle.std.specs.Prelude.{ℕ, ◌≡◌, ◌<◌, ◌%◌, ◌^◌, ◌==◌, List, [], ◌∷◌, ◌++◌, length, map, Option, None, Some, codes, if◌then◌else◌}
 use Rattle.std.specs.Int.{w16, w32, to_le_bytes}
-use Rattle.boot_image.specs.ImageValue.{ProgramValue, ImageValue}
+use Rattle.aegis_limits.specs.Limits.{page_size}
+use Rattle.elf_static.specs.ElfFaults.{elf_fault}
+use Rattle.boot_image.specs.ImageValue.{ProgramValue, ImageValue, body_of, pages_in, quantum_in, slot_bytes, owner_of, headers, name_in, base_in, stack_in, accept_in, kind_in, bytes_in}
+
+-- how a body is spelled: as what it has in memory from a base on, or as an ELF file
+pub data Kind : Type 0 where
+  Flat : (base : ℕ) → Kind
+  Elf : Kind
+
+abbrev pub kind_number : Kind → ℕ
+kind_number (Flat base) = 0
+kind_number Elf = 1
+
+abbrev pub base_number : Kind → ℕ
+base_number (Flat base) = base
+base_number Elf = 0
+
+-- a program without the bytes of its body
+pub record EntryValue : Type 0 where
+  pub name : List ℕ
+  pub kind : Kind
+  pub stack : ℕ
+  pub accept : ℕ
+
+-- an image without the bytes of the bodies: an entry for each
+pub record PlanValue : Type 0 where
+  pub pages : ℕ
+  pub quantum : ℕ
+  pub slots : List (Option ℕ)
+  pub entries : List EntryValue
 
 -- the byte of a slot: its owner, or 255
 abbrev pub slot_byte : Option ℕ → ℕ
 slot_byte None = 255
 slot_byte (Some owner) = owner
 
--- a flat program: name, base, stack, accept, kind, length, body
-abbrev pub program_text : ProgramValue → List ℕ
-program_text program =
-    program.name ++ to_le_bytes w32 program.base ++ to_le_bytes w32 program.stack ++ to_le_bytes w32 program.accept
-    ++ to_le_bytes w32 0 ++ to_le_bytes w32 (length program.bytes) ++ program.bytes
+-- a program: name, base, stack, accept, kind, length, body
+abbrev pub program_text : EntryValue → List ℕ → List ℕ
+program_text entry bytes =
+    entry.name ++ to_le_bytes w32 (base_number entry.kind) ++ to_le_bytes w32 entry.stack ++ to_le_bytes w32 entry.accept
+    ++ to_le_bytes w32 (kind_number entry.kind) ++ to_le_bytes w32 (length bytes) ++ bytes
+
+-- each entry with the body of its number
+abbrev pub programs_text : List EntryValue → List (List ℕ) → List ℕ
+programs_text [] bodies = []
+programs_text (entry ∷ entries) [] = []
+programs_text (entry ∷ entries) (bytes ∷ bodies) = program_text entry bytes ++ programs_text entries bodies
 
 -- an image: magic, pages, quantum, environments, slots, the slot bytes, and the programs
-abbrev pub image_text : ImageValue → List ℕ
-image_text image =
-    codes "AEG1" ++ to_le_bytes w32 image.pages ++ to_le_bytes w32 image.quantum
-    ++ to_le_bytes w16 (length image.programs) ++ to_le_bytes w16 (length image.slots)
-    ++ map slot_byte image.slots ++ flat_map program_text image.programs
+abbrev pub image_text : PlanValue → List (List ℕ) → List ℕ
+image_text plan bodies =
+    codes "AEG1" ++ to_le_bytes w32 plan.pages ++ to_le_bytes w32 plan.quantum
+    ++ to_le_bytes w16 (length plan.entries) ++ to_le_bytes w16 (length plan.slots)
+    ++ map slot_byte plan.slots ++ programs_text plan.entries bodies
+
+-- the program that an entry and a body's bytes spell
+abbrev pub program_with : EntryValue → List ℕ → ProgramValue
+program_with entry bytes = record {
+  name = entry.name;
+  stack = entry.stack;
+  accept = entry.accept;
+  body = body_of (kind_number entry.kind) (base_number entry.kind) bytes;
+}
+
+abbrev pub programs_with : List EntryValue → List (List ℕ) → List ProgramValue
+programs_with [] bodies = []
+programs_with (entry ∷ entries) [] = []
+programs_with (entry ∷ entries) (bytes ∷ bodies) = program_with entry bytes ∷ programs_with entries bodies
+
+-- the image that a plan and bodies spell
+abbrev pub image_with : PlanValue → List (List ℕ) → ImageValue
+image_with plan bodies = record {
+  pages = plan.pages;
+  quantum = plan.quantum;
+  slots = plan.slots;
+  programs = programs_with plan.entries bodies;
+}
+
+-- the bytes may stand as a body of this kind: a flat one's base is a page's, and an ELF file has no fault
+abbrev pub IsBody : Kind → List ℕ → Type 0
+IsBody (Flat base) bytes = base % page_size ≡ 0
+IsBody Elf bytes = elf_fault bytes ≡ None
+
+-- there is a body for each entry, which may stand there, and its length is a word
+abbrev pub AreBodies : List EntryValue → List (List ℕ) → Type 0
+AreBodies [] [] = Unit {0}
+AreBodies [] (bytes ∷ bodies) = ⊥
+AreBodies (entry ∷ entries) [] = ⊥
+AreBodies (entry ∷ entries) (bytes ∷ bodies) = IsBody entry.kind bytes × (length bytes < 2 ^ 32) × AreBodies entries bodies
+
+-- What a file is spelled from. It is meant where image_fault finds nothing.
+abbrev pub kind_at : List ℕ → ℕ → Kind
+kind_at file header = if kind_in file header == 0 then Flat (base_in file header) else Elf
+
+abbrev pub entry_at : List ℕ → ℕ → EntryValue
+entry_at file header = record {
+  name = name_in file header;
+  kind = kind_at file header;
+  stack = stack_in file header;
+  accept = accept_in file header;
+}
+
+abbrev pub plan_of : List ℕ → PlanValue
+plan_of file = record {
+  pages = pages_in file;
+  quantum = quantum_in file;
+  slots = map owner_of (slot_bytes file);
+  entries = map (entry_at file) (headers file);
+}
+
+abbrev pub bodies_of : List ℕ → List (List ℕ)
+bodies_of file = map (bytes_in file) (headers file)

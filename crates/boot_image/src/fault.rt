@@ -2,6 +2,8 @@
 ghost use Rattle.std.specs.Prelude.{◌≡◌, ◌<◌, ◌^◌};
 ghost use Rattle.boot_image.specs.Names.{image_why_text, text_why_text};
 
+use elf_static::ElfWhy;
+
 /// Which rule of an image is broken. `docs/FORMATS.md`, "Image", has the rules in the order in which
 /// they are tested.
 #[derive(Clone, Copy, Debug, PartialEq, Eq)]
@@ -27,18 +29,18 @@ pub enum ImageWhy {
     /// A program asks for more than 16 stack pages.
     Stack,
     /// A flat program's base isn't the address of a page at or above 0x2000, or the body passes
-    /// 0x7FF00000.
+    /// 0x7FF00000; or an ELF program's base isn't 0.
     Base,
     /// A flat program has no byte.
     Empty,
+    /// A program's body is an ELF file that breaks this rule of ELF files, at this place of the image.
+    Elf(ElfWhy),
     /// Bytes follow the last body.
     Trailing,
     /// An environment needs more than 256 guaranteed mappings.
     TooMany,
     /// The environments together need more pages than there are.
     TooBig,
-    /// The image is in order so far, and the program's body is an ELF file, which isn't read yet.
-    NotBuilt,
 }
 
 /// The first broken rule of an image, and the byte of the file where it is broken.
@@ -97,10 +99,10 @@ impl ImageWhy {
             ImageWhy::Stack => "Stack",
             ImageWhy::Base => "Base",
             ImageWhy::Empty => "Empty",
+            ImageWhy::Elf(why) => why.name(),
             ImageWhy::Trailing => "Trailing",
             ImageWhy::TooMany => "TooMany",
             ImageWhy::TooBig => "TooBig",
-            ImageWhy::NotBuilt => "NotBuilt",
         }
     }
 }

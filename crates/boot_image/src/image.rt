@@ -1,52 +1,121 @@
 //! What an image holds.
-ghost use Rattle.std.specs.Prelude.{◌≡◌, [], replicate};
+ghost use Rattle.std.specs.Prelude.{◌≡◌, ◌≤◌, IsTrue};
+ghost use Rattle.aegis_limits.specs.Limits.{most_mappings, most_stack_pages};
+ghost use Rattle.boot_image.specs.ImageValue.{guaranteed_mappings};
+ghost use Rattle.boot_image.specs.ImageFaults.{is_name};
+ghost use Rattle.boot_image.specs.Parts.{if_fitting};
 
+use crate::limits::MOST_MAPPINGS;
 use aegis_limits::{MOST_ENVIRONMENTS, MOST_SLOTS};
 use arrayvec::ArrayVec;
+use elf_static::Elf;
+use segment_pages::count_pages;
+use std::marker::Model;
 
 /// The owner of each slot, where one has an owner.
 pub type Owners = ArrayVec<Option<u8>, MOST_SLOTS>;
 
-/// An image of a boot. `docs/FORMATS.md`, "Image", has its limits.
+/// An image of a boot. `docs/FORMATS.md`, "Image", has its limits, which hold of every value of this type.
 #[derive(Drop)]
 pub struct Image<'a> {
-    /// How many pages the machine has, 16 to 1,024.
+    /// How many pages the machine has, 16 to 1,024, and at least as many as its programs need together.
     pub pages: u32,
     /// How many ticks a slice has, 16 to 65,536.
     pub quantum: u32,
-    /// The environment that owns each slot, where one does.
+    /// The environment that owns each of the 1 to 64 slots, where one does.
     pub slots: Owners,
-    /// One program for each environment, by its number.
+    /// One program for each of the 1 to 16 environments, by its number.
     pub programs: ArrayVec<Program<'a>, MOST_ENVIRONMENTS>,
 }
 
-/// A flat program: bytes that are mapped from a base on.
-#[derive(Clone, Copy)]
+impl<'a> Model for Image<'a> {
+    ghost use Rattle.boot_image.specs.ImageValue.{ImageValue};
+    ghost use Rattle.boot_image.specs.Accepted.{IsAccepted};
+
+    ghost Value = { ImageValue };
+
+    ghost view = { λ image. record { pages = image.pages; quantum = image.quantum; slots = image.slots.items; programs = image.programs.items } };
+
+    ghost invariant = { λ image. IsAccepted (record { pages = image.pages; quantum = image.quantum; slots = image.slots.items; programs = image.programs.items }) };
+}
+
+/// A program of an image. Its limits hold of every value of this type: among them that it needs at most 256
+/// mappings.
+#[derive(Drop)]
 pub struct Program<'a> {
-    /// The text of the name, one to eight characters, and then zeros.
+    /// The text of the name, one to eight of `a` to `z`, `0` to `9` and `_`, and then zeros.
     pub name: [u8; 8],
-    /// The address of the first byte, a multiple of 4,096 at or above 0x2000.
-    pub base: u32,
     /// How many pages of stack it asks for, at most 16.
     pub stack: u32,
     /// The environments from which it accepts transfers, a bit each.
     pub accept: u32,
-    /// The body, lent from the file.
-    pub bytes: &'a [u8],
+    /// Where it begins, and its segments, whose bytes are lent from the file. A flat body is one segment, which
+    /// may be stored to.
+    pub body: Elf<'a>,
 }
 
-impl Default for Program<'_> {
-    ghost use Rattle.boot_image.specs.Seen.{program_seen};
+impl<'a> Model for Program<'a> {
+    ghost use Rattle.boot_image.specs.ImageValue.{ProgramValue};
+    ghost use Rattle.boot_image.specs.Accepted.{IsFitting};
 
-    ghost is_default = { λ program. program_seen program ≡ record { name = replicate 8 0; base = 0; stack = 0; accept = 0; bytes = [] } };
+    ghost Value = { ProgramValue };
+
+    ghost view = { λ program. record { name = program.name; stack = program.stack; accept = program.accept; body = program.body } };
+
+    ghost invariant = { λ program. IsFitting (record { name = program.name; stack = program.stack; accept = program.accept; body = program.body }) };
+}
+
+impl<'a> Program<'a> {
+    /// The program with these parts, if it needs no more mappings than an environment may have.
+    pub(crate) fn fitting(
+        name: [u8; 8],
+        stack: u32,
+        accept: u32,
+        body: Elf<'a>,
+    ) -> Option<Program<'a>>
+        requires name { IsTrue (is_name name) }
+        requires stack { stack ≤ most_stack_pages }
+        ensures { result ≡ if_fitting (record { name = name; stack = stack; accept = accept; body = body.entry }) }
+    {
+        let room = MOST_MAPPINGS - 1 - stack;
+        count_pages(&body, room)?;
+        Some(Program {
+            name,
+            stack,
+            accept,
+            body,
+        })
+    }
+
+    /// How many pages an environment has from its boot on: the context page, the body's and the stack's. They
+    /// are at most 256.
+    pub fn mappings(&self) -> u32
+        ensures count { result ≡ guaranteed_mappings self.now }
+        ensures most { result ≤ most_mappings }
+    {
+        match count_pages(&self.body, MOST_MAPPINGS) {
+            Some(pages) => 1 + pages + self.stack,
+            None => MOST_MAPPINGS,
+        }
+    }
+}
+
+/// The smallest program: it has one byte of memory, of value 0, and is named `a`.
+impl Default for Program<'_> {
+    ghost use Rattle.std.specs.Prelude.{[], ◌∷◌, codes, replicate};
+    ghost use Rattle.elf_static.specs.ElfValue.{ElfValue};
+    ghost use Rattle.elf_static.specs.Smallest.{smallest};
+
+    ghost is_default = { λ program. program ≡ record { name = 97 ∷ replicate 7 0; stack = 0; accept = 0; body = smallest } };
 
     fn default() -> Self {
+        let body = Elf::default();
+        let _ = &body.entry;
         Program {
-            name: [0; 8],
-            base: 0,
+            name: *b"a\0\0\0\0\0\0\0",
             stack: 0,
             accept: 0,
-            bytes: &[],
+            body,
         }
     }
 }

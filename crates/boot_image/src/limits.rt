@@ -9,7 +9,7 @@ pub(crate) const MOST_ENVIRONMENTS: u32 = aegis_limits::MOST_ENVIRONMENTS as u32
 /// The most slots.
 pub(crate) const MOST_SLOTS: u32 = aegis_limits::MOST_SLOTS as u32;
 /// The most guaranteed mappings of an environment, its context page among them.
-pub(crate) const MOST_MAPPINGS: u64 = aegis_limits::MOST_MAPPINGS as u64;
+pub(crate) const MOST_MAPPINGS: u32 = aegis_limits::MOST_MAPPINGS as u32;
 /// The bytes of a page.
 pub(crate) const PAGE_SIZE: u32 = aegis_limits::PAGE_SIZE as u32;
 /// The first address at which a body may stand.

@@ -1,21 +1,21 @@
 //! The programs of an image.
-ghost use Rattle.std.specs.Prelude.{◌≡◌, ◌+◌, ◌<◌, ◌≤◌, ◌^◌, IfOk, length, map};
+ghost use Rattle.std.specs.Prelude.{◌≡◌, ◌+◌, ◌<◌, ◌≤◌, ◌^◌, ◌||◌, IfOk, IfErr, OnOk, IsTrue, length, sum_by, true};
 ghost use Rattle.std.specs.Prelude.{drop, ◌==◌, position};
 ghost use Rattle.std.specs.List.{list_all};
-ghost use Rattle.aegis_limits.specs.Limits.{most_environments};
-ghost use Rattle.boot_image.specs.ImageValue.{body_end, program_at, headers_from, name_text, guaranteed_mappings};
-ghost use Rattle.boot_image.specs.ImageFaults.{is_name, is_name_byte, is_base, program_fault, first_fault};
-ghost use Rattle.boot_image.specs.Parts.{programs_seen, programs_of, values_end, room_fault};
-ghost use Rattle.boot_image.specs.Seen.{Answers, program_seen};
+ghost use Rattle.aegis_limits.specs.Limits.{most_environments, most_stack_pages};
+ghost use Rattle.boot_image.specs.ImageValue.{body_end, body_of, bytes_in, flat_body, base_in, kind_in, stack_in, name_in, length_in, headers_from, name_text, guaranteed_mappings};
+ghost use Rattle.boot_image.specs.ImageFaults.{is_name, is_name_byte, is_base, is_flat_base, program_fault, program_header_fault, body_fault, first_fault};
+ghost use Rattle.boot_image.specs.Parts.{ArePrograms, placed_at, placed_seen};
+ghost use Rattle.boot_image.specs.Seen.{Answers};
 
 use crate::fault::{ImageFault, ImageWhy};
-use crate::header::PAGES_AT;
 use crate::image::Program;
-use crate::limits::{BODY_LIMIT, LEAST_BASE, MOST_MAPPINGS, MOST_STACK_PAGES, PAGE_SIZE};
+use crate::limits::{BODY_LIMIT, LEAST_BASE, MOST_STACK_PAGES, PAGE_SIZE};
 use crate::name::name_at;
 use aegis_limits::MOST_ENVIRONMENTS;
 use arrayvec::ArrayVec;
 use byte_numbers::word_at;
+use elf_static::{Elf, Segment, read};
 
 /// The bytes of a program's header.
 pub(crate) const HEADER_SIZE: usize = 28;
@@ -29,70 +29,140 @@ const ACCEPT_AT: usize = 16;
 const KIND_AT: usize = 20;
 /// Where the body's length stands in it.
 const LENGTH_AT: usize = 24;
-/// The kind of an ELF program, the last kind.
+/// The kind of a flat body.
+const FLAT: u32 = 0;
+/// The kind of an ELF body, the last kind.
 const ELF: u32 = 1;
 
+/// A program, if it needs no more mappings than an environment may have, and where its body ends.
+#[derive(Drop)]
+struct Placed<'a> {
+    program: Option<Program<'a>>,
+    end: usize,
+}
+
 /// The program whose header stands at `header`.
-#[tactic(auto, unfolding(crate::specs::ImageFaults::program_fault, crate::specs::ImageValue::program_at))]
-fn read_program(file: &[u8], header: usize) -> Result<Program<'_>, ImageFault>
+#[tactic(auto, unfolding(crate::specs::ImageValue::program_at))]
+fn read_program(file: &[u8], header: usize) -> Result<Placed<'_>, ImageFault>
     requires small { length file.now < 2 ^ 27 }
     requires start { header ≤ length file.now }
-    ensures answer { Answers program_seen result (program_fault file.now header) (program_at file.now header) }
-    ensures end { IfOk result (λ program. header + 28 + length program.bytes.now ≡ body_end file.now header) }
-    ensures whole { IfOk result (λ program. body_end file.now header ≤ length file.now) }
+    ensures answer { Answers placed_seen result (program_fault file.now header) (placed_at file.now header) }
+    ensures whole { IfOk result (λ placed. placed.end ≤ length file.now) }
+{
+    let end = check_program(file, header)?;
+    let body = read_body(file, header)?;
+    let name = name_at(file, header);
+    let stack = word_at(file, header + STACK_AT);
+    let accept = word_at(file, header + ACCEPT_AT);
+    Ok(Placed {
+        program: Program::fitting(name, stack, accept, body),
+        end,
+    })
+}
+
+/// Where the body of the program ends whose header stands at `header`.
+#[tactic(auto, unfolding(crate::specs::ImageFaults::program_header_fault))]
+fn check_program(file: &[u8], header: usize) -> Result<usize, ImageFault>
+    requires small { length file.now < 2 ^ 27 }
+    requires start { header ≤ length file.now }
+    ensures answer { Answers (λ end. end) result (program_header_fault file.now header) (body_end file.now header) }
+    ensures whole { IfOk result (λ end. end ≤ length file.now) }
+    ensures base { OnOk result (is_base (kind_in file.now header) (base_in file.now header) (length_in file.now header) ≡ true) }
+    ensures filled { OnOk result (kind_in file.now header ≡ 0 → 0 < length_in file.now header) }
+    ensures stack { OnOk result (stack_in file.now header ≤ most_stack_pages) }
+    ensures name { OnOk result (IsTrue (is_name (name_in file.now header))) }
 {
     let body = header + HEADER_SIZE;
     if file.len() < body {
         return Err(ImageFault::at(ImageWhy::Short, file.len()));
     }
-    let name = name_at(file, header);
-    if !is_name(&name) {
+    if !is_name(&name_at(file, header)) {
         return Err(ImageFault::at(ImageWhy::Name, header));
     }
     let kind = word_at(file, header + KIND_AT);
     if kind > ELF {
         return Err(ImageFault::at(ImageWhy::Kind, header));
     }
-    if kind == ELF {
-        return Err(ImageFault::at(ImageWhy::NotBuilt, header));
-    }
-    let stack = word_at(file, header + STACK_AT);
-    if stack > MOST_STACK_PAGES {
+    if word_at(file, header + STACK_AT) > MOST_STACK_PAGES {
         return Err(ImageFault::at(ImageWhy::Stack, header));
     }
-    let base = word_at(file, header + BASE_AT);
     let length = word_at(file, header + LENGTH_AT);
-    if !is_base(base, length) {
+    if !is_base(kind, word_at(file, header + BASE_AT), length) {
         return Err(ImageFault::at(ImageWhy::Base, header));
     }
-    if length == 0 {
+    if kind == FLAT && length == 0 {
         return Err(ImageFault::at(ImageWhy::Empty, header));
     }
-    let length = length as usize;
-    if file.len() < body + length {
+    let end = body + length as usize;
+    if file.len() < end {
         return Err(ImageFault::at(ImageWhy::Short, file.len()));
     }
-    Ok(Program {
-        name,
-        base,
-        stack,
-        accept: word_at(file, header + ACCEPT_AT),
-        bytes: &file[body..body + length],
-    })
+    Ok(end)
+}
+
+/// Whether a body of this kind and of `length` bytes may have this base.
+fn is_base(kind: u32, base: u32, length: u32) -> bool
+    ensures { result ≡ is_base kind base length }
+{
+    if kind == FLAT {
+        is_flat_base(base, length)
+    } else {
+        base == 0
+    }
 }
 
 /// Whether a flat body of `length` bytes may stand at `base`.
-fn is_base(base: u32, length: u32) -> bool
-    ensures { result ≡ is_base base length }
+fn is_flat_base(base: u32, length: u32) -> bool
+    ensures { result ≡ is_flat_base base length }
 {
     base.is_multiple_of(PAGE_SIZE)
         && base >= LEAST_BASE
         && u64::from(base) + u64::from(length) <= BODY_LIMIT
 }
 
-/// Whether a name is one to eight of its characters, and then zeros.
+/// The body of the program whose header stands at `header`, and is in order.
+fn read_body(file: &[u8], header: usize) -> Result<Elf<'_>, ImageFault>
+    requires small { length file.now < 2 ^ 27 }
+    requires whole { body_end file.now header ≤ length file.now }
+    requires base { is_base (kind_in file.now header) (base_in file.now header) (length_in file.now header) ≡ true }
+    requires filled { kind_in file.now header ≡ 0 → 0 < length_in file.now header }
+    ensures { Answers (λ body. body) result (body_fault file.now header) (body_of (kind_in file.now header) (base_in file.now header) (bytes_in file.now header)) }
+{
+    let start = header + HEADER_SIZE;
+    let length = word_at(file, header + LENGTH_AT) as usize;
+    let bytes = &file[start..start + length];
+    if word_at(file, header + KIND_AT) == FLAT {
+        return Ok(flat_body(word_at(file, header + BASE_AT), bytes));
+    }
+    match read(bytes) {
+        Ok(elf) => Ok(elf),
+        Err(fault) => Err(ImageFault::at(ImageWhy::Elf(fault.why), start + fault.place as usize)),
+    }
+}
+
+/// A flat body: one segment, which may be stored to and is entered at its first byte.
+fn flat_body(base: u32, bytes: &[u8]) -> Elf<'_>
+    requires base { is_flat_base base (length bytes.now) ≡ true }
+    requires filled { 0 < length bytes.now }
+    ensures { result ≡ flat_body base bytes.now }
+{
+    let mut segments = ArrayVec::new();
+    segments.push(Segment {
+        vaddr: base,
+        bytes,
+        memsz: bytes.len() as u32,
+        writable: true,
+    });
+    Elf {
+        entry: base,
+        segments,
+    }
+}
+
+/// Whether these bytes are the name of a program: one to eight of `a` to `z`, `0` to `9` and `_`, and then zeros.
+/// `docs/FORMATS.md`, "Image", has the rule.
 #[tactic(auto, unfolding(crate::specs::ImageFaults::is_name))]
-fn is_name(name: &[u8; 8]) -> bool
+pub fn is_name(name: &[u8; 8]) -> bool
     ensures { result ≡ is_name name.now }
 {
     let (text, rest) = parted(name);
@@ -135,11 +205,13 @@ fn is_name_byte(byte: u8) -> bool
     matches!(byte, b'a'..=b'z' | b'0'..=b'9' | b'_')
 }
 
-/// The programs of a file, and where the last body ends.
+/// The programs of a file, where the last body ends, and the first fault of a program that needs more mappings
+/// than an environment may have. If there is one the list lacks such programs.
 #[derive(Drop)]
 pub(crate) struct Programs<'a> {
     pub(crate) list: ArrayVec<Program<'a>, MOST_ENVIRONMENTS>,
     pub(crate) end: usize,
+    pub(crate) crowded: Option<ImageFault>,
 }
 
 /// The `count` programs of the file, of which the first one's header stands at `first`.
@@ -151,52 +223,38 @@ pub(crate) fn read_programs(
     requires small { length file.now < 2 ^ 27 }
     requires start { first ≤ length file.now }
     requires count { count ≤ most_environments }
-    ensures answer { Answers programs_seen result (first_fault (program_fault file.now) (headers_from count file.now first)) (programs_of count file.now first) }
+    ensures fault { IfErr result (λ fault. first_fault (program_fault file.now) (headers_from count file.now first) ≡ Some fault) }
+    ensures none { OnOk result (first_fault (program_fault file.now) (headers_from count file.now first) ≡ None) }
+    ensures programs { IfOk result (ArePrograms file.now count first) }
     ensures whole { IfOk result (λ programs. programs.end ≤ length file.now) }
-    ensures places { IfOk result (λ programs. values_end first (map program_seen programs.list.items) ≡ programs.end) }
     ensures most { IfOk result (λ programs. length programs.list.items ≤ most_environments) }
 {
     let mut list = ArrayVec::new();
     let mut end = first;
+    let mut crowded = None;
     for _ in 0..count {
-        let program = read_program(file, end)?;
-        end += HEADER_SIZE + program.bytes.len();
-        list.push(program);
+        let header = end;
+        let placed = read_program(file, header)?;
+        end = placed.end;
+        match placed.program {
+            Some(program) => list.push(program),
+            None => {
+                let fault = ImageFault::at(ImageWhy::TooMany, header);
+                crowded = crowded.or(Some(fault));
+            }
+        }
     }
-    Ok(Programs { list, end })
+    Ok(Programs { list, end, crowded })
 }
 
-/// Whether each environment's mappings are few enough, and all of them together at most `pages`. The
-/// first program's header stands at `first`.
-pub(crate) fn check_room(
-    programs: &[Program<'_>],
-    first: usize,
-    pages: u32,
-) -> Result<(), ImageFault>
-    requires most { length programs.now ≤ most_environments }
-    requires small { values_end first (map program_seen programs.now) < 2 ^ 27 }
-    ensures { Answers (λ x. x) result (room_fault first (map program_seen programs.now) pages) tt }
+/// How many pages the programs need together.
+pub(crate) fn needed_pages(programs: &[Program<'_>]) -> u32
+    requires { length programs.now ≤ most_environments }
+    ensures { result ≡ sum_by guaranteed_mappings programs.now }
 {
-    let mut header = first;
     let mut needed = 0;
     for program in programs {
-        let mappings = guaranteed_mappings(program);
-        if mappings > MOST_MAPPINGS {
-            return Err(ImageFault::at(ImageWhy::TooMany, header));
-        }
-        needed += mappings;
-        header += HEADER_SIZE + program.bytes.len();
+        needed += program.mappings();
     }
-    if needed > u64::from(pages) {
-        return Err(ImageFault::at(ImageWhy::TooBig, PAGES_AT));
-    }
-    Ok(())
-}
-
-/// How many pages an environment has from its boot on: the context page, the body's and the stack's.
-fn guaranteed_mappings(program: &Program<'_>) -> u64
-    ensures { result ≡ guaranteed_mappings (program_seen program.now) }
-{
-    let body = (program.bytes.len() as u64).div_ceil(PAGE_SIZE.into());
-    1 + body + u64::from(program.stack)
+    needed
 }

@@ -1,20 +1,23 @@
-ghost use Rattle.std.specs.Prelude.{◌≡◌, ◌<◌, IfOk};
+//! What a report of a board shows.
+ghost use Rattle.std.specs.Prelude.{◌<◌, IfSome};
 ghost use Rattle.board_world.specs.Showing.{world_of};
-ghost use Rattle.boot_image.specs.Accepted.{IsFitting};
-ghost use Rattle.boot_image.specs.ImageValue.{guaranteed_mappings};
-ghost use Rattle.boot_image.specs.Seen.{program_seen};
 
 use super::*;
 use aegis_calls::Board;
-use boot_image::Program;
-use edge_io::OutOfMemory;
+use boot_image::read_image;
 use kernel_journal::RunEnd;
 use std::alloc::Global;
 use std::test::Fail;
 
-/// A program that prints `hi` and exits with 7.
-const HI: &[u8] =
-    b"\x20\x20\x04\x34\x02\x00\x05\x34\x01\x00\x02\x34\x0c\x00\x00\x00\x07\x00\x04\x34\x02\x00\x02\x34\x0c\x00\x00\x00\x00\x00\x00\x00hi";
+/// An image of 16 pages, a quantum of 16 ticks and one slot, with the flat program `hi` at 0x2000, which prints
+/// `hi` and exits with 7.
+const HI: &[u8] = b"AEG1\x10\0\0\0\x10\0\0\0\x01\0\x01\0\0\
+    hi\0\0\0\0\0\0\0\x20\0\0\0\0\0\0\0\0\0\0\0\0\0\0\x22\0\0\0\
+    \x20\x20\x04\x34\x02\x00\x05\x34\x01\x00\x02\x34\x0c\x00\x00\x00\
+    \x07\x00\x04\x34\x02\x00\x02\x34\x0c\x00\x00\x00\x00\x00\x00\x00hi";
+
+/// The pages of the machine.
+const PAGES: u32 = 16;
 
 /// The report of it before its first tick: what stands ahead of the environment's lines, these lines,
 /// and what stands behind them. The fingerprints are those that `sha256sum` gives of 4,096 zeros, and
@@ -35,31 +38,23 @@ const SHOWN: &[u8] = b"env 0 hi live\n\
 
 const TAIL: &[u8] = b"own 0 0 0 0\nsum 0 0 0 0\ndone\n";
 
-fn hi() -> Program<'static>
-    ensures fits { IsFitting (program_seen result) }
-    ensures pages { guaranteed_mappings (program_seen result) ≡ 2 }
+/// A board with the image's program in its one slot.
+fn board(alloc: Global) -> Option<Board>
+    ensures { IfSome result (λ b. 0 < (world_of b).count) }
 {
-    Program {
-        name: *b"hi\0\0\0\0\0\0",
-        base: 0x2000,
-        stack: 0,
-        accept: 0,
-        bytes: HI,
+    let image = read_image(HI).ok()?;
+    let program = image.programs.first()?;
+    if program.mappings() > PAGES {
+        return None;
     }
-}
-
-/// A board of 16 pages with the program in its one slot.
-fn board(alloc: Global) -> Result<Board, OutOfMemory>
-    ensures { IfOk result (λ b. 0 < (world_of b).count) }
-{
-    let mut board = Board::build(alloc, 16, 16, &[Some(0)], 1)?;
-    board.add(&hi());
-    Ok(board)
+    let mut board = Board::build(alloc, PAGES, 16, &[Some(0)], 1).ok()?;
+    board.add(program);
+    Some(board)
 }
 
 #[test]
 fn a_program_that_has_not_run_is_shown_at_its_entry(rt: HostRuntime) -> Result<(), Fail> {
-    let board = board(rt.alloc()).expect(&rt, "memory");
+    let board = board(rt.alloc()).expect(&rt, "memory, and the image");
     let text = report(rt.alloc(), &board, RunEnd::Limit).expect(&rt, "memory");
     let lines = env_lines(rt.alloc(), &board, 0).expect(&rt, "memory");
     assert_eq!(rt; lines.as_slice(), SHOWN);

@@ -1,9 +1,10 @@
 -- The world that an image boots.
-use Rattle.std.specs.Prelude.{ℕ, zero, suc, ◌+◌, ◌-◌, ◌*◌, ◌/◌, List, [], ◌∷◌, ◌++◌, length, take, drop, replicate, true, Option, Some, None, slice_get}
+use Rattle.std.specs.Prelude.{ℕ, zero, suc, ◌+◌, ◌-◌, List, [], ◌∷◌, ◌++◌, length, map, true, Option, Some, None, slice_get}
 use Rattle.std.specs.Option.{option_flatten, option_map}
-use Rattle.aegis_limits.specs.Limits.{page_size}
 use Rattle.frame_store.specs.Pages.{zero_page}
-use Rattle.boot_image.specs.ImageValue.{ImageValue, ProgramValue, body_pages}
+use Rattle.elf_static.specs.ElfValue.{ElfValue}
+use Rattle.segment_pages.specs.Pages.{is_writable, page_bytes, page_numbers}
+use Rattle.boot_image.specs.ImageValue.{ImageValue, ProgramValue}
 use Rattle.kernel_journal.specs.declared.row.Row.{Row}
 use Rattle.world_model.specs.declared.slot.Hold.{Hold}
 use Rattle.world_model.specs.Verdict.{slot_row}
@@ -22,26 +23,22 @@ abbrev pub listed : {A : Type 0} → (ℕ → A) → ℕ → List A
 listed f zero = []
 listed f (suc n) = listed f n ++ f n ∷ []
 
--- the bytes from a place on that a page has room for, and zeros behind them
-abbrev pub page_from : List ℕ → ℕ → List ℕ
-page_from bytes at = let given = take page_size (drop at bytes) in given ++ replicate (page_size - length given) 0
-
--- a flat program's pages, from its base on
-abbrev pub program_page : ProgramValue → ℕ → KeptPage
-program_page p i = open_page (p.base / page_size + i) (page_from p.bytes (page_size * i))
+-- the page of a program's body at a page number
+abbrev pub body_page : ElfValue → ℕ → KeptPage
+body_page body vpn = record { vpn = vpn; writable = is_writable body vpn; bytes = page_bytes body vpn }
 
 -- the stack's pages end below 0x7FFF0000
 abbrev pub stack_page : ProgramValue → ℕ → KeptPage
 stack_page p i = open_page (0x7FFF0 - p.stack + i) zero_page
 
--- the context page at page number 1, then the program's pages, then those of its stack
+-- the context page at page number 1, then the pages of the program's body, then those of its stack
 abbrev pub kept_of : ProgramValue → List KeptPage
-kept_of p = open_page 1 zero_page ∷ listed (program_page p) (body_pages p) ++ listed (stack_page p) p.stack
+kept_of p = open_page 1 zero_page ∷ map (body_page p.body) (page_numbers p.body) ++ listed (stack_page p) p.stack
 
 -- what is given to an environment at boot: its record, where the image has one
 abbrev pub record_items : ℕ → Option ProgramValue → List Item
 record_items e None = []
-record_items e (Some p) = Boot e p.name p.base (kept_of p) ∷ []
+record_items e (Some p) = Boot e p.name p.body.entry (kept_of p) ∷ []
 
 abbrev pub boot_items : ImageValue → ℕ → List Item
 boot_items image e = record_items e (slice_get image.programs e)

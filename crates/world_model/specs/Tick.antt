@@ -77,17 +77,17 @@ tick_step w = run_phases w phases
 abbrev pub tick_items : World → ℕ → List Item
 tick_items w e = phase_items w phases e
 
--- Apart from a tick. The world once an act of the runner is served: what it does to the runner itself, and then what it brings
-abbrev pub served : World → ℕ → Act → World
-served w e act = after (record w { solos = set_at e (acted act (w.solos e)) w.solos }) (brings w e act)
+-- Apart from a tick. The world after an act of the runner: what it does to the runner itself, and then what it brings
+abbrev pub act_world : World → ℕ → Act → World
+act_world w e act = after (record w { solos = set_at e (acted act (w.solos e)) w.solos }) (brings w e act)
 
 -- the world after the runner's death of this cause
 abbrev pub died : World → ℕ → Cause → World
-died w e cause = served w e (Dies cause)
+died w e cause = act_world w e (Dies cause)
 
 -- the world after the kernel call at which the runner stands
 abbrev pub called_world : World → ℕ → World
-called_world w e = let cpu = (w.solos e).cpu in served w e (call_act cpu (called cpu))
+called_world w e = let cpu = (w.solos e).cpu in act_world w e (call_act cpu (called cpu))
 
 -- the world in which an environment's call was refused, and nothing else happened
 abbrev pub refused_world : World → ℕ → Code → ℕ → World

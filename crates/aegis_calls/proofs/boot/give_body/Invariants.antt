@@ -1,18 +1,23 @@
--- The pages so far.
-use Rattle.std.proofs.Common.{◌≡◌, ◌+◌, ◌*◌, ◌++◌, length}
+-- The pages so far, and those that are left.
+use Rattle.std.proofs.Common.{◌≡◌, ◌≤◌, ◌+◌, ◌-◌, ◌++◌, length, map}
+use Rattle.std.specs.Prelude.{max}
 use Rattle.env_frames.specs.Frame.{IsAbove}
-use Rattle.aegis_limits.specs.Limits.{page_size}
-use Rattle.world_model.specs.Boot.{listed, open_page, page_from}
+use Rattle.segment_pages.specs.Pages.{pages_from, page_numbers}
+use Rattle.world_model.specs.Boot.{body_page}
 use Rattle.board_world.specs.Loading.{IsLoading, IsKeptBelow}
 use Rattle.board_world.specs.Showing.{pages_seen}
 use Rattle.aegis_calls.proofs.boot.give_body.Given as goal
 
-abbrev pub invariant-loop-i : goal.invariant-loop-i
-invariant-loop-i l = record {
+abbrev pub invariant-loop-vpn : goal.invariant-loop-vpn
+invariant-loop-vpn l = record {
   loading : IsLoading l.first l.env.mappings;
   below : IsKeptBelow l.first l.fn.frames l.frames;
-  pages : pages_seen l.frames l.env.mappings ≡ pages_seen l.fn.frames l.fn.env.mappings ++ listed (λ i. open_page (l.vpn + i) (page_from l.bytes (page_size * i))) l.i;
-  above : IsAbove l.env.mappings (l.vpn + l.i);
-  count : length l.env.mappings ≡ length l.fn.env.mappings + l.i;
+  pages : pages_seen l.frames l.env.mappings ++ map (body_page l.body) (pages_from l.body l.from) ≡ pages_seen l.fn.frames l.fn.env.mappings ++ map (body_page l.body) (page_numbers l.body);
+  above : IsAbove l.env.mappings (max 2 l.from);
+  numbers : l.from ≤ 0x7FF00;
+  count : length l.env.mappings + length (pages_from l.body l.from) ≡ length l.fn.env.mappings + length (page_numbers l.body);
   cpu : l.env.cpu ≡ l.fn.env.cpu;
 }
+
+abbrev pub decreases-loop-vpn : goal.decreases-loop-vpn
+decreases-loop-vpn l = 0x7FF00 - l.from

@@ -1,16 +1,15 @@
 -- The programs so far stand on the board, and there is room for the rest.
-use Rattle.std.proofs.Common.{◌≡◌, ◌+◌, length, map, take}
+use Rattle.std.proofs.Common.{◌≡◌, ◌+◌, length, take}
 use Rattle.std.specs.Prelude.{fold, sum_by}
 use Rattle.boot_image.specs.ImageValue.{guaranteed_mappings}
-use Rattle.boot_image.specs.Seen.{program_seen}
 use Rattle.world_model.specs.Boot.{added}
 use Rattle.board_world.specs.Showing.{world_of}
 use Rattle.aegis_tick.proofs.booting.add_all.Given as goal
 
 abbrev pub invariant-loop-program : goal.invariant-loop-program
 invariant-loop-program l = record {
-  world : world_of l.board ≡ fold added (world_of l.fn.board) (map program_seen (take l.program-index l.programs));
+  world : world_of l.board ≡ fold added (world_of l.fn.board) (take l.program-index l.programs);
   room : l.board.roster.spare + l.program-index ≡ length l.programs;
-  taken : l.board.taken ≡ l.fn.board.taken + sum_by guaranteed_mappings (map program_seen (take l.program-index l.programs));
+  taken : l.board.taken ≡ l.fn.board.taken + sum_by guaranteed_mappings (take l.program-index l.programs);
   pages : length l.board.frames ≡ length l.fn.board.frames;
 }

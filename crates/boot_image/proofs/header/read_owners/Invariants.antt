@@ -1,3 +1,4 @@
+-- The owners so far are those of the slot bytes so far.
 use Rattle.std.proofs.Common.{◌≡◌, ◌+◌, length, map, take, drop}
 use Rattle.boot_image.specs.ImageValue.{owner_of}
 use Rattle.boot_image.specs.ImageFaults.{owners_fault}

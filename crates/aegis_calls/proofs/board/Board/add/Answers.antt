@@ -1,6 +1,6 @@
 -- One environment more.
 use Rattle.std.proofs.Common.{refl, ap, ◌∙◌, ◌<◌, arith, length, ◌+◌}
-use Rattle.boot_image.specs.Seen.{program_seen}
+use Rattle.boot_image.specs.ImageValue.{ProgramValue}
 use Rattle.world_model.specs.declared.life.Life.TheVariants.{Live}
 use Rattle.world_model.specs.Boot.{added}
 use Rattle.board_world.specs.declared.roster.Environment.{Environment}
@@ -12,7 +12,7 @@ use Rattle.aegis_calls.proofs.board.Board.add.Goals as goal
 pub invariant_of-self : goal.invariant_of-self
 invariant_of-self c =
     let b = c.self.inside in
-    let x : Environment = record { name = c.args.program.now.name; life = Live; env = c.load-env.result } in
+    let x : Environment = record { name = c.program.inside.name; life = Live; env = c.load-env.result } in
     let room : 0 < b.roster.spare = omega (arith, c.requires.room, ap (λ (s : Shown). s.roster.spare) c.self.view_is) in
     record {
       book = rw c.push.ensures (added_manned b.roster x refl room b.slots c.self.invariant.book);
@@ -25,7 +25,7 @@ invariant_of-self c =
 
 pub returns-clause-world : goal.returns-clause-world
 returns-clause-world c =
-    let p = program_seen c.args.program.now in
+    let p = c.args.program.now in
     let b : Shown = record {
       frames = c.self.inside.frames;
       taken = c.self.inside.taken;
@@ -36,7 +36,7 @@ returns-clause-world c =
       time = c.self.inside.time;
       ledger = c.self.inside.journal;
     } in
-    let x : Environment = record { name = c.args.program.now.name; life = Live; env = c.load-env.result } in
+    let x : Environment = record { name = c.program.inside.name; life = Live; env = c.load-env.result } in
     rw c.push.ensures
-    (added_world b x c.load-env.new.frames (c.self.inside.taken + length c.mappings.result.now) p c.self.invariant c.load-env.ensures.below refl refl c.load-env.ensures.cpu c.load-env.ensures.pages
+    (added_world b x c.load-env.new.frames (c.self.inside.taken + length c.mappings.result.now) p c.self.invariant c.load-env.ensures.below (ap (λ (q : ProgramValue). q.name) c.program.view_is) refl c.load-env.ensures.cpu c.load-env.ensures.pages
     ∙ ap (λ (s : Shown). added (world_of s) p) c.self.view_is)
