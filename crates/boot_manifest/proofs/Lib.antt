@@ -1,0 +1,6 @@
+pub mod Bodies
+pub mod FormLemmas
+pub mod LineLemmas
+pub mod ReadingLemmas
+pub mod Sizes
+pub mod TextLemmas

@@ -1,0 +1,32 @@
+-- The bytes of a text are ASCII.
+use Rattle.std.proofs.Common.{◌≡◌, ℕ, zero, suc, ◌<◌, List, [], ◌∷◌, Bool, true, false, Some, length, get_or, refl, arith, le-leb, ◌≤◌}
+use Rattle.std.proofs.lemmas.Bool.Decides.{nat_tests}
+use Rattle.std.proofs.lemmas.Str.{IsUtf8-from_ascii}
+use Rattle.std.specs.Prelude.{◌&&◌}
+use Rattle.std.specs.List.{list_all}
+use Rattle.std.specs.Option.{option_and_then}
+use Rattle.std.specs.Str.{IsUtf8}
+use Rattle.line_text.specs.Characters.{is_text_byte}
+use Rattle.line_text.specs.Words.{words_of}
+use Rattle.boot_manifest.specs.Forms.{line_words}
+use Rattle.boot_manifest.specs.Answers.{few}
+
+and_both : (a b : Bool) → (a && b) ≡ true → (a ≡ true) × (b ≡ true)
+and_both true b both = (refl, both)
+and_both false b both = absurd cc
+
+small : (b : ℕ) → is_text_byte b ≡ true → b < 128
+small b is = grind (arith, nat_tests)
+
+ascii : (bs : List ℕ) → list_all is_text_byte bs ≡ true → (i : ℕ) → get_or bs i 0 < 128
+ascii [] all i = omega arith
+ascii (b ∷ bs) all zero = small b (and_both (is_text_byte b) (list_all is_text_byte bs) all).0
+ascii (b ∷ bs) all (suc i) = ascii bs (and_both (is_text_byte b) (list_all is_text_byte bs) all).1 i
+
+pub text_utf8 : (bs : List ℕ) → list_all is_text_byte bs ≡ true → IsUtf8 bs
+text_utf8 bs all = IsUtf8-from_ascii bs (ascii bs all)
+
+-- the words of a text, if they are few
+pub few_words : (most : ℕ) (text : List ℕ) (words : List (List ℕ)) → list_all is_text_byte text ≡ true → words ≡ words_of text → length words ≤ most
+    → Some words ≡ option_and_then (few most) (line_words text)
+few_words most text words all are short = rw (all, ← are, le-leb (length words) most short) refl

@@ -1,0 +1,11 @@
+use Rattle.std.proofs.Common.{arith}
+use Rattle.boot_manifest.proofs.LineLemmas.{end_small}
+use Rattle.boot_manifest.proofs.lines.end_of.Goals as goal
+
+pub loop-init : goal.loop-init
+loop-init c = record {
+  can = tt;
+  finite = tt;
+  counted = rw (c.into_iter-iterator.ensures.into_iter_gives, c.cut-items.ensures.lines) (omega arith);
+  small = end_small c.args.text.now c.requires;
+}

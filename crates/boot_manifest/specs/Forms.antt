@@ -1,0 +1,49 @@
+-- The forms of a manifest's lines.
+use Rattle.std.specs.Prelude.{ℕ, Bool, List, [], ◌∷◌, Option, Some, None, length, not, ◌==◌, ◌&&◌, if◌then◌else◌, codes}
+use Rattle.std.specs.List.{filter, list_all}
+use Rattle.std.specs.Str.{bytes_eq}
+use Rattle.aegis_limits.specs.Limits.{most_slots}
+use Rattle.boot_image.specs.ImageFaults.{is_within}
+use Rattle.line_text.specs.Lines.{LineValue}
+use Rattle.line_text.specs.Characters.{is_text_byte}
+use Rattle.line_text.specs.Words.{words_of}
+
+-- whether a line is empty: a text without words
+abbrev pub is_empty_line : List ℕ → Bool
+is_empty_line text = list_all is_text_byte text && (length (words_of text) == 0)
+
+-- the lines that aren't
+abbrev pub statements_of : List LineValue → List LineValue
+statements_of lines = filter (λ (line : LineValue). not (is_empty_line line.text)) lines
+
+-- the words of a line, if it is a text
+abbrev pub line_words : List ℕ → Option (List (List ℕ))
+line_words text = if list_all is_text_byte text then Some (words_of text) else None
+
+-- `KEY N`: N
+abbrev pub count_form : List ℕ → List (List ℕ) → Option (List ℕ)
+count_form key (first ∷ word ∷ []) = if bytes_eq first key then Some word else None
+count_form key words = None
+
+-- `slots X ..`, with one to sixty-four X: these
+abbrev pub slots_form : List (List ℕ) → Option (List (List ℕ))
+slots_form [] = None
+slots_form (first ∷ words) = if bytes_eq first (codes "slots") && is_within 1 most_slots (length words) then Some words else None
+
+-- the words of an environment's line, among which a flat body has a base
+pub record EnvWords : Type 0 where
+  pub name : List ℕ
+  pub base : Option (List ℕ)
+  pub stack : List ℕ
+  pub accept : List ℕ
+  pub file : List ℕ
+
+-- `env NAME flat BASE STACK ACCEPT FILE` or `env NAME elf STACK ACCEPT FILE`
+abbrev pub env_form : List (List ℕ) → Option EnvWords
+env_form (first ∷ name ∷ kind ∷ base ∷ stack ∷ accept ∷ file ∷ []) =
+    if bytes_eq first (codes "env") && bytes_eq kind (codes "flat")
+    then Some (record { name = name; base = Some base; stack = stack; accept = accept; file = file }) else None
+env_form (first ∷ name ∷ kind ∷ stack ∷ accept ∷ file ∷ []) =
+    if bytes_eq first (codes "env") && bytes_eq kind (codes "elf")
+    then Some (record { name = name; base = None; stack = stack; accept = accept; file = file }) else None
+env_form words = None

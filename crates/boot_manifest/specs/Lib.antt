@@ -1,0 +1,9 @@
+pub mod ManifestValue
+pub mod Seen
+pub mod Limited
+pub mod Layout
+pub mod Forms
+pub mod Ranges
+pub mod Reading
+pub mod Answers
+pub mod Names

@@ -1,0 +1,52 @@
+-- What the words of a manifest's lines mean, if they are in their ranges.
+use Rattle.std.specs.Prelude.{ℕ, ◌-◌, List, [], ◌∷◌, ◌++◌, Option, Some, None, length, nat_le, ◌&&◌, if◌then◌else◌, codes, replicate}
+use Rattle.std.specs.Option.{option_map, option_and_then}
+use Rattle.std.specs.Str.{bytes_eq}
+use Rattle.aegis_limits.specs.Limits.{most_environments, most_stack_pages}
+use Rattle.line_text.specs.Number.{number_of}
+use Rattle.boot_image.specs.ImageFaults.{is_name, is_within}
+use Rattle.boot_image.specs.Spelling.{EntryValue, Kind, Flat, Elf}
+use Rattle.boot_manifest.specs.Forms.{EnvWords}
+use Rattle.boot_manifest.specs.ManifestValue.{ManifestEntry}
+
+-- a number from the least to the most
+abbrev pub number_within : ℕ → ℕ → List ℕ → Option ℕ
+number_within least most word = option_and_then (λ n. if is_within least most n then Some n else None) (number_of word)
+
+-- the owner of a slot: an environment's number, or `-` for an empty slot
+abbrev pub owner_in : List ℕ → Option (Option ℕ)
+owner_in word =
+    if bytes_eq word (codes "-") then Some None else
+    option_map (λ owner. Some owner) (number_within 0 (most_environments - 1) word)
+
+abbrev pub owners_in : List (List ℕ) → Option (List (Option ℕ))
+owners_in [] = Some []
+owners_in (word ∷ words) = option_and_then (λ owner. option_map (λ owners. owner ∷ owners) (owners_in words)) (owner_in word)
+
+-- a name in its eight bytes, with zeros behind it
+abbrev pub padded : List ℕ → List ℕ
+padded word = word ++ replicate (8 - length word) 0
+
+-- a name, by the rule of images
+abbrev pub name_in : List ℕ → Option (List ℕ)
+name_in word = if nat_le (length word) 8 && is_name (padded word) then Some (padded word) else None
+
+-- how a body stands in its file: at its base, if it has one
+abbrev pub kind_in : Option (List ℕ) → Option Kind
+kind_in None = Some Elf
+kind_in (Some base) = option_map (λ n. Flat n) (number_of base)
+
+-- a program without its body
+abbrev pub program_in : EnvWords → Option EntryValue
+program_in words =
+    option_and_then
+    (λ name. option_and_then
+    (λ kind. option_and_then
+    (λ stack. option_map (λ accept. record { name = name; kind = kind; stack = stack; accept = accept }) (number_of words.accept))
+    (number_within 0 most_stack_pages words.stack))
+    (kind_in words.base))
+    (name_in words.name)
+
+-- an entry: a program and the name of its file
+abbrev pub entry_in : EnvWords → Option ManifestEntry
+entry_in words = option_map (λ entry. record { entry = entry; file = words.file }) (program_in words)

@@ -1,0 +1,147 @@
+//! What the words of a manifest's lines mean, if they are in their ranges.
+ghost use Rattle.std.specs.Prelude.{◌≡◌, ℕ, ◌≤◌, ◌<◌, ◌^◌, List, Option, length, true, map, IfOk, IfSome, IsTrue};
+ghost use Rattle.std.specs.List.{AllByRecursion, list_all};
+ghost use Rattle.std.specs.Option.{option_copied, option_map};
+ghost use Rattle.aegis_limits.specs.Limits.{most_environments, most_stack_pages};
+ghost use Rattle.boot_image.specs.Accepted.{IsOwnerBelow};
+ghost use Rattle.boot_image.specs.ImageFaults.{is_name};
+ghost use Rattle.line_text.specs.Characters.{is_text_byte};
+ghost use Rattle.boot_manifest.specs.Ranges.{entry_in, kind_in, name_in, number_within, owner_in, owners_in, program_in};
+ghost use Rattle.boot_manifest.specs.Answers.{parts_seen, program_seen, words_seen};
+ghost use Rattle.boot_manifest.specs.Seen.{kind_seen};
+
+use crate::manifest::{Entry, EntryBody};
+use crate::statement::EnvParts;
+use aegis_limits::{MOST_ENVIRONMENTS, MOST_STACK_PAGES};
+use boot_image::is_name;
+use line_text::number;
+use std::alloc::{AllocError, Global};
+
+/// The bytes of a name in an image.
+const NAME_SIZE: usize = 8;
+/// The greatest number of an environment.
+const LAST_ENVIRONMENT: u32 = MOST_ENVIRONMENTS as u32 - 1;
+/// The owner of an empty slot.
+const NOBODY: &[u8] = b"-";
+
+/// A program without its body.
+#[derive(Clone, Copy)]
+struct Program {
+    name: [u8; NAME_SIZE],
+    body: EntryBody,
+    stack: u32,
+    accept: u32,
+}
+
+/// The number of a word, from the least to the most.
+pub(crate) fn number_within(word: &[u8], least: u32, most: u32) -> Option<u32>
+    ensures value { result ≡ number_within least most word.now }
+    ensures within { IfSome result (λ n. (least ≤ n) × (n ≤ most)) }
+{
+    let number = number(word)?;
+    if least <= number && number <= most {
+        Some(number)
+    } else {
+        None
+    }
+}
+
+/// The owner of a slot: the number of an environment, or `-` for an empty slot.
+fn owner_of(word: &[u8]) -> Option<Option<u8>>
+    ensures value { result ≡ owner_in word.now }
+    ensures below { IfSome result (IsOwnerBelow most_environments) }
+{
+    if word == NOBODY {
+        return Some(None);
+    }
+    let owner = number_within(word, 0, LAST_ENVIRONMENT)?;
+    Some(Some(owner as u8))
+}
+
+/// The owners of slots, if each of these words names one.
+pub(crate) fn owners_of(
+    alloc: Global,
+    words: &[&[u8]],
+) -> Result<Option<Vec<Option<u8>>>, AllocError>
+    ensures value { IfOk result (λ found. option_map (λ owners. owners.items) found ≡ owners_in (words_seen words.now)) }
+    ensures below { IfOk result (λ found. IfSome found (λ owners. AllByRecursion (IsOwnerBelow most_environments) owners.items)) }
+    ensures count { IfOk result (λ found. IfSome found (λ owners. length owners.items ≡ length words.now)) }
+{
+    let mut owners = Vec::with_capacity(alloc, words.len())?;
+    for word in words {
+        match owner_of(word) {
+            Some(owner) => owners.push(owner)?,
+            None => return Ok(None),
+        }
+    }
+    Ok(Some(owners))
+}
+
+/// A name in its eight bytes, by the rule of images.
+fn name_of(word: &[u8]) -> Option<[u8; NAME_SIZE]>
+    ensures value { result ≡ name_in word.now }
+    ensures rule { IfSome result (λ name. IsTrue (is_name name)) }
+{
+    if word.len() > NAME_SIZE {
+        return None;
+    }
+    let mut name = [0; NAME_SIZE];
+    name[..word.len()].copy_from_slice(word);
+    if is_name(&name) { Some(name) } else { None }
+}
+
+/// How a body stands in its file.
+fn body_of(base: Option<&[u8]>) -> Option<EntryBody>
+    ensures { option_map kind_seen result ≡ kind_in (option_copied base.entry) }
+{
+    match base {
+        Some(word) => {
+            let base = number(word)?;
+            Some(EntryBody::Flat { base })
+        }
+        None => Some(EntryBody::Elf),
+    }
+}
+
+/// The program of an environment's line.
+fn program_of(parts: &EnvParts<'_>) -> Option<Program>
+    ensures value { option_map program_seen result ≡ program_in (parts_seen parts.now) }
+    ensures name { IfSome result (λ program. IsTrue (is_name program.name)) }
+    ensures stack { IfSome result (λ program. program.stack ≤ most_stack_pages) }
+{
+    let name = name_of(parts.name)?;
+    let body = body_of(parts.base)?;
+    let stack = number_within(parts.stack, 0, MOST_STACK_PAGES)?;
+    let accept = number(parts.accept)?;
+    Some(Program {
+        name,
+        body,
+        stack,
+        accept,
+    })
+}
+
+/// The entry of an environment's line.
+pub(crate) fn entry_of(alloc: Global, parts: &EnvParts<'_>) -> Result<Option<Entry>, AllocError>
+    requires { list_all is_text_byte parts.now.file.now ≡ true }
+    ensures { IfOk result (λ found. found ≡ entry_in (parts_seen parts.now)) }
+{
+    let Some(program) = program_of(parts) else {
+        return Ok(None);
+    };
+    // The bytes of a text are ASCII, so none of them is replaced.
+    let file = String::from_utf8_lossy(alloc, parts.file)?;
+    let Program {
+        name,
+        body,
+        stack,
+        accept,
+    } = program;
+    Ok(Some(Entry {
+        name,
+        body,
+        stack,
+        accept,
+        file,
+    }))
+}

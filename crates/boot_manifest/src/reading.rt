@@ -1,0 +1,155 @@
+//! The reader of manifests, line by line.
+ghost use Rattle.std.specs.Prelude.{◌≡◌, ℕ, zero, suc, ◌+◌, ◌<◌, ◌≤◌, ◌^◌, List, [], ◌∷◌, Option, None, length, IfErr, IfOk, OnOk};
+ghost use Rattle.std.specs.List.{AllByRecursion, filter_map};
+ghost use Rattle.aegis_limits.specs.Limits.{most_environments, most_slots};
+ghost use Rattle.boot_image.specs.Accepted.{IsOwnerBelow};
+ghost use Rattle.line_text.specs.LineView.{line_value};
+ghost use Rattle.boot_manifest.specs.declared.fault.ManifestFault.TheVariants.{At};
+ghost use Rattle.boot_manifest.specs.declared.fault.ManifestWhy.TheVariants.{Syntax};
+ghost use Rattle.boot_manifest.specs.Answers.{Says};
+ghost use Rattle.boot_manifest.specs.Limited.{IsEntry};
+ghost use Rattle.boot_manifest.specs.Reading.{IsFirst, count_said, end_of, entries_said, entry_said, lines_fault, manifest_fault, manifest_of, slots_said};
+
+use crate::fault::{ManifestFault, ManifestWhy};
+use crate::lines::{Statements, end_of, statements_of};
+use crate::manifest::{Entry, Manifest};
+use crate::ranges::{entry_of, number_within, owners_of};
+use crate::statement::{count_word, env_parts, line_words, slots_form};
+use aegis_limits::{LEAST_PAGES, LEAST_QUANTUM, MOST_ENVIRONMENTS, MOST_PAGES, MOST_QUANTUM};
+use line_text::Line;
+use std::alloc::Global;
+
+/// The first word of the pages' line.
+const PAGES: &[u8] = b"pages";
+/// The first word of the quantum's line.
+const QUANTUM: &[u8] = b"quantum";
+
+/// Reads a manifest, or answers its first fault, unless memory runs out. `docs/FORMATS.md`, "Manifest", has the
+/// format and the faults in their order.
+#[tactic(auto, unfolding(crate::specs::Reading::manifest_fault, crate::specs::Reading::manifest_of))]
+pub fn read_manifest(alloc: Global, text: &[u8]) -> Result<Manifest, ManifestFault>
+    requires { length text.now < 2 ^ 27 }
+    ensures ok { IfOk result (λ manifest. (manifest_fault text.now ≡ None) × (manifest ≡ manifest_of text.now)) }
+    ensures err { IfErr result (IsFirst (manifest_fault text.now)) }
+{
+    let mut lines = statements_of(text);
+    let line = next_line(&mut lines, text)?;
+    let pages = read_count(&line, PAGES, LEAST_PAGES, MOST_PAGES)?;
+    let line = next_line(&mut lines, text)?;
+    let quantum = read_count(&line, QUANTUM, LEAST_QUANTUM, MOST_QUANTUM)?;
+    let line = next_line(&mut lines, text)?;
+    let slots = read_slots(alloc, &line)?;
+    let entries = read_entries(alloc, lines, text)?;
+    Ok(Manifest {
+        pages,
+        quantum,
+        slots,
+        entries,
+    })
+}
+
+/// The next line that isn't empty, or the fault of a text that ends too early.
+fn next_line<'a>(lines: &mut Statements<'a>, text: &[u8]) -> Result<Line<'a>, ManifestFault>
+    requires { length text.now < 2 ^ 27 }
+    ensures some { IfOk result (λ line. lines.old ≡ line_value line ∷ lines.new) }
+    ensures none { IfErr result (λ fault. (lines.old ≡ []) × (fault ≡ At (end_of text.now) Syntax)) }
+{
+    match lines.next() {
+        Some(line) => Ok(line),
+        None => Err(ManifestFault::At {
+            line: end_of(text),
+            why: ManifestWhy::Syntax,
+        }),
+    }
+}
+
+/// The number of a line `KEY N`, from the least to the most.
+fn read_count(line: &Line<'_>, key: &[u8], least: u32, most: u32) -> Result<u32, ManifestFault>
+    ensures said { Says (λ n. n) line.now.number result (count_said key.now least most line.now.text.now) }
+    ensures within { IfOk result (λ n. (least ≤ n) × (n ≤ most)) }
+{
+    let Some(word) = count_word(key, line.text) else {
+        return Err(at(line, ManifestWhy::Syntax));
+    };
+    match number_within(word, least, most) {
+        Some(count) => Ok(count),
+        None => Err(at(line, ManifestWhy::Range)),
+    }
+}
+
+/// The owners of the slots' line.
+fn read_slots(alloc: Global, line: &Line<'_>) -> Result<Vec<Option<u8>>, ManifestFault>
+    ensures said { Says (λ owners. owners.items) line.now.number result (slots_said line.now.text.now) }
+    ensures least { IfOk result (λ owners. 1 ≤ length owners.items) }
+    ensures most { IfOk result (λ owners. length owners.items ≤ most_slots) }
+    ensures below { IfOk result (λ owners. AllByRecursion (IsOwnerBelow most_environments) owners.items) }
+{
+    let Some(words) = line_words(line.text) else {
+        return Err(at(line, ManifestWhy::Syntax));
+    };
+    let Some(slots) = slots_form(&words) else {
+        return Err(at(line, ManifestWhy::Syntax));
+    };
+    match owners_of(alloc, slots)? {
+        Some(owners) => Ok(owners),
+        None => Err(at(line, ManifestWhy::Range)),
+    }
+}
+
+/// The entries of the environments' lines, of which there is one at least.
+fn read_entries(
+    alloc: Global,
+    lines: Statements<'_>,
+    text: &[u8],
+) -> Result<Vec<Entry>, ManifestFault>
+    requires { length text.now < 2 ^ 27 }
+    ensures fault { IfErr result (IsFirst (lines_fault (end_of text.now) 3 lines.entry)) }
+    ensures none { OnOk result (lines_fault (end_of text.now) 3 lines.entry ≡ None) }
+    ensures entries { IfOk result (λ entries. entries.items ≡ entries_said lines.entry) }
+    ensures least { IfOk result (λ entries. 1 ≤ length entries.items) }
+    ensures most { IfOk result (λ entries. length entries.items ≤ most_environments) }
+    ensures limits { IfOk result (λ entries. AllByRecursion IsEntry entries.items) }
+{
+    let mut entries = Vec::with_capacity(alloc, MOST_ENVIRONMENTS)?;
+    for line in lines {
+        let entry = read_entry(alloc, &line)?;
+        if entries.len() == MOST_ENVIRONMENTS {
+            return Err(at(&line, ManifestWhy::Many));
+        }
+        entries.push(entry)?;
+    }
+    if entries.is_empty() {
+        return Err(ManifestFault::At {
+            line: end_of(text),
+            why: ManifestWhy::Syntax,
+        });
+    }
+    Ok(entries)
+}
+
+/// The entry of an environment's line.
+fn read_entry(alloc: Global, line: &Line<'_>) -> Result<Entry, ManifestFault>
+    ensures said { Says (λ entry. entry) line.now.number result (entry_said line.now.text.now) }
+    ensures limits { IfOk result IsEntry }
+{
+    let Some(parts) = env_parts(line.text) else {
+        return Err(at(line, ManifestWhy::Syntax));
+    };
+    match entry_of(alloc, &parts)? {
+        Some(entry) => {
+            let _ = &entry.stack;
+            Ok(entry)
+        }
+        None => Err(at(line, ManifestWhy::Range)),
+    }
+}
+
+/// The fault of a line.
+fn at(line: &Line<'_>, why: ManifestWhy) -> ManifestFault
+    ensures { result ≡ At line.now.number why }
+{
+    ManifestFault::At {
+        line: line.number,
+        why,
+    }
+}

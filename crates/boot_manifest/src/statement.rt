@@ -1,0 +1,142 @@
+//! The forms of a manifest's lines.
+ghost use Rattle.std.specs.Prelude.{◌≡◌, ℕ, ◌≤◌, List, true, length, map, codes, IfSome};
+ghost use Rattle.std.specs.List.{list_all};
+ghost use Rattle.std.specs.Option.{option_and_then, option_copied, option_map};
+ghost use Rattle.aegis_limits.specs.Limits.{most_slots};
+ghost use Rattle.line_text.specs.Characters.{is_text_byte};
+ghost use Rattle.boot_manifest.specs.Forms.{count_form, env_form, is_empty_line, line_words, slots_form};
+ghost use Rattle.boot_manifest.specs.Answers.{few, parts_seen, words_seen};
+
+use aegis_limits::MOST_SLOTS;
+use arrayvec::ArrayVec;
+use line_text::{is_text, words_of};
+
+/// The first word of the slots' line.
+const SLOTS: &[u8] = b"slots";
+/// The first word of an environment's line.
+const ENV: &[u8] = b"env";
+/// The word of a body that is the program's memory.
+const FLAT: &[u8] = b"flat";
+/// The word of a body that is an ELF file.
+const ELF: &[u8] = b"elf";
+/// The most words that a line of some form has: `slots` and an owner for each slot.
+const MOST_WORDS: usize = 1 + MOST_SLOTS;
+
+/// The words of a line that has no more than a line of some form.
+pub(crate) type LineWords<'a> = ArrayVec<&'a [u8], MOST_WORDS>;
+
+/// The words of an environment's line. A flat body has a base.
+#[derive(Clone, Copy)]
+pub(crate) struct EnvParts<'a> {
+    pub(crate) name: &'a [u8],
+    pub(crate) base: Option<&'a [u8]>,
+    pub(crate) stack: &'a [u8],
+    pub(crate) accept: &'a [u8],
+    pub(crate) file: &'a [u8],
+}
+
+/// Whether a line is a text without words.
+pub(crate) fn is_empty_line(text: &[u8]) -> bool
+    ensures { result ≡ is_empty_line text.now }
+{
+    is_text(text) && words_of(text).next().is_none()
+}
+
+/// The words of a line, if it is a text and doesn't have more than a line of some form.
+pub(crate) fn line_words(text: &[u8]) -> Option<LineWords<'_>>
+    ensures words { option_map (λ words. words_seen words.items) result ≡ option_and_then (few MOST_WORDS) (line_words text.now) }
+    ensures bytes { IfSome result (λ words. list_all (list_all is_text_byte) (words_seen words.items) ≡ true) }
+{
+    if !is_text(text) {
+        return None;
+    }
+    let mut words = ArrayVec::new();
+    for word in words_of(text) {
+        if words.is_full() {
+            return None;
+        }
+        words.push(word);
+    }
+    Some(words)
+}
+
+/// The N of a line `KEY N`.
+#[tactic(auto, using(crate::proofs::ReadingLemmas::few_count))]
+pub(crate) fn count_word<'a>(key: &[u8], text: &'a [u8]) -> Option<&'a [u8]>
+    ensures { option_copied result ≡ option_and_then (count_form key.now) (line_words text.now) }
+{
+    let words = line_words(text)?;
+    count_form(key, &words)
+}
+
+/// The words of an environment's line.
+#[tactic(auto, using(crate::proofs::ReadingLemmas::few_env))]
+pub(crate) fn env_parts(text: &[u8]) -> Option<EnvParts<'_>>
+    ensures parts { option_map parts_seen result ≡ option_and_then env_form (line_words text.now) }
+    ensures bytes { IfSome result (λ parts. list_all is_text_byte parts.file.now ≡ true) }
+{
+    let words = line_words(text)?;
+    env_form(&words)
+}
+
+/// The N of `KEY N`.
+fn count_form<'a>(key: &[u8], words: &[&'a [u8]]) -> Option<&'a [u8]>
+    ensures { option_copied result ≡ count_form key.now (words_seen words.now) }
+{
+    let [first, word] = words else {
+        return None;
+    };
+    if *first == key { Some(word) } else { None }
+}
+
+/// Each X of `slots X ..`, if they are one to sixty-four.
+pub(crate) fn slots_form<'w, 'a>(words: &'w [&'a [u8]]) -> Option<&'w [&'a [u8]]>
+    ensures words { option_map (λ words. words_seen words.now) result ≡ slots_form (words_seen words.now) }
+    ensures some { IfSome result (λ words. 1 ≤ length words.now) }
+    ensures most { IfSome result (λ words. length words.now ≤ most_slots) }
+{
+    let [first, slots @ ..] = words else {
+        return None;
+    };
+    if *first == SLOTS && (1..=MOST_SLOTS).contains(&slots.len()) {
+        Some(slots)
+    } else {
+        None
+    }
+}
+
+/// The words of `env NAME flat BASE STACK ACCEPT FILE` or `env NAME elf STACK ACCEPT FILE`.
+fn env_form<'a>(words: &[&'a [u8]]) -> Option<EnvParts<'a>>
+    ensures parts { option_map parts_seen result ≡ env_form (words_seen words.now) }
+    ensures bytes { list_all (list_all is_text_byte) (words_seen words.now) ≡ true → IfSome result (λ parts. list_all is_text_byte parts.file.now ≡ true) }
+{
+    match words {
+        [first, name, kind, base, stack, accept, file] => {
+            if *first == ENV && *kind == FLAT {
+                Some(EnvParts {
+                    name,
+                    base: Some(base),
+                    stack,
+                    accept,
+                    file,
+                })
+            } else {
+                None
+            }
+        }
+        [first, name, kind, stack, accept, file] => {
+            if *first == ENV && *kind == ELF {
+                Some(EnvParts {
+                    name,
+                    base: None,
+                    stack,
+                    accept,
+                    file,
+                })
+            } else {
+                None
+            }
+        }
+        _ => None,
+    }
+}
