@@ -1,6 +1,10 @@
 //! The texts of the instructions.
 ghost use Rattle.std.specs.Prelude.{◌≡◌, ◌<◌, IfSome};
+ghost use Rattle.std.specs.List.{find};
+ghost use Rattle.std.specs.Option.{option_copied, option_map};
+ghost use Rattle.asm_parse.specs.Table.{row_seen, rows_seen};
 ghost use Rattle.mips_text.specs.Texts.{text_of};
+ghost use Rattle.mips_text.specs.WordRows.{row_of, spells};
 
 use crate::shape::{Field, Shape, Slot};
 use asm_parse::{Row, find};
@@ -14,7 +18,19 @@ pub struct Text(
     pub Shape,
 );
 
-/// The instructions by name.
+impl Text {
+    /// Whether a word is that of this text, with operands in their bits.
+    fn spells(&self, word: u32) -> bool
+        ensures { result ≡ spells self.now word }
+    {
+        u64::from(word) == u64::from(self.0) + u64::from(self.1.bits(word))
+    }
+}
+
+/// How many rows the further forms have, behind all others.
+const FURTHER_ROWS: usize = 5;
+
+/// The instructions by name, and behind them further forms of some.
 const TEXTS: [Row<Text>; 70] = [
     Row(
         b"sll",
@@ -227,4 +243,27 @@ pub fn find_text(name: &[u8]) -> Option<Text>
     ensures small { IfSome result (λ text. text.0 < 0xc0000000) }
 {
     find(&TEXTS, name)
+}
+
+/// The first of these rows whose text is that of a word.
+fn find_spelled(rows: &[Row<Text>], word: u32) -> Option<&Row<Text>>
+    ensures { option_copied result ≡ find (λ row. spells row.1 word) rows.now }
+{
+    rows.iter().find(|row| row.1.spells(word))
+}
+
+/// The same, copied.
+fn row_in(rows: &[Row<Text>], word: u32) -> Option<Row<Text>>
+    ensures { option_map row_seen result ≡ find (λ row. spells row.1 word) (rows_seen rows.now) }
+{
+    find_spelled(rows, word).copied()
+}
+
+/// The name and the text of the instruction that a word spells. None where it spells one for another
+/// coprocessor, or is a reserved word. Further forms, as `nop`, are of no word.
+#[tactic(auto, unfolding(crate::specs::WordRows::row_of, mips_isa::specs::Encoding::form_of))]
+pub fn find_word(word: u32) -> Option<Row<Text>>
+    ensures { option_map row_seen result ≡ row_of word }
+{
+    row_in(&TEXTS[..TEXTS.len() - FURTHER_ROWS], word)
 }

@@ -1,0 +1,3 @@
+pub mod WordText
+pub mod Listed
+pub mod Growth

@@ -1,0 +1,89 @@
+-- The text of a word: its instruction as the assembler reads it.
+use Rattle.std.specs.Prelude.{ℕ, ◌+◌, ◌-◌, ◌*◌, ◌/◌, ◌%◌, ◌^◌, List, [], ◌∷◌, ◌++◌, Option, Some, None, nat_lt, ◌==◌, if◌then◌else◌, codes}
+use Rattle.std.specs.Str.{byte}
+use Rattle.line_text.specs.Text.{dec_text, hex_text}
+use Rattle.mips_isa.specs.Decoding.{insn_of}
+use Rattle.mips_isa.specs.Word.{sign16_of}
+use Rattle.mips_text.specs.WordRows.{field_of, is_nameless, row_of, slot_of}
+use Rattle.mips_text.specs.declared.shape.Field.{Field}
+use Rattle.mips_text.specs.declared.shape.Field.TheVariants.{Amount, Signed, Unsigned, Code, Branch, Jump}
+use Rattle.mips_text.specs.declared.shape.Shape.{Shape}
+use Rattle.mips_text.specs.declared.shape.Shape.TheVariants.{Alone, One, Two, Three, Field0, Field1, Field2, Coded, Memory, Load}
+use Rattle.mips_text.specs.declared.shape.Slot.{Slot}
+use Rattle.mips_text.specs.declared.shape.Slot.TheVariants.{Rs, Rt}
+use Rattle.mips_text.specs.declared.text.Text.{Text}
+
+-- a number in so many hexadecimal digits
+abbrev pub hexadecimal : ℕ → ℕ → List ℕ
+hexadecimal digits n = codes "0x" ++ hex_text digits n
+
+-- a half as a number with its sign
+abbrev pub signed_text : ℕ → List ℕ
+signed_text half = if nat_lt half (2 ^ 15) then dec_text half else codes "-" ++ dec_text (2 ^ 16 - half)
+
+-- where a branch with this half goes, from an address
+abbrev pub branch_target : ℕ → ℕ → ℕ
+branch_target address half = (address + 4 + 4 * sign16_of half) % 2 ^ 32
+
+-- where a jump with these 26 bits goes, from an address: bits 31:28 are those of the address behind it
+abbrev pub jump_target : ℕ → ℕ → ℕ
+jump_target address target = (address + 4) % 2 ^ 32 / 2 ^ 28 * 2 ^ 28 + 4 * target
+
+-- the register in a slot of a word
+abbrev pub slot_text : Slot → ℕ → List ℕ
+slot_text slot word = codes "$" ++ dec_text (slot_of slot word)
+
+-- the number in a field of a word that stands at an address
+abbrev pub field_text : Field → ℕ → ℕ → List ℕ
+field_text Amount word address = dec_text (field_of Amount word)
+field_text Signed word address = signed_text (field_of Signed word)
+field_text Unsigned word address = hexadecimal 4 (field_of Unsigned word)
+field_text Code word address = dec_text (field_of Code word)
+field_text Branch word address = hexadecimal 8 (branch_target address (field_of Branch word))
+field_text Jump word address = hexadecimal 8 (jump_target address (field_of Jump word))
+
+-- a signed half, and `rs` in brackets
+abbrev pub based_text : ℕ → ℕ → List ℕ
+based_text word address = field_text Signed word address ++ codes "(" ++ slot_text Rs word ++ codes ")"
+
+-- the operands of a word by its shape, in the order in which they are written
+abbrev pub operand_texts : Shape → ℕ → ℕ → List (List ℕ)
+operand_texts Alone word address = []
+operand_texts (One a) word address = slot_text a word ∷ []
+operand_texts (Two a b) word address = slot_text a word ∷ slot_text b word ∷ []
+operand_texts (Three a b c) word address = slot_text a word ∷ slot_text b word ∷ slot_text c word ∷ []
+operand_texts (Field0 field) word address = field_text field word address ∷ []
+operand_texts (Field1 a field) word address = slot_text a word ∷ field_text field word address ∷ []
+operand_texts (Field2 a b field) word address = slot_text a word ∷ slot_text b word ∷ field_text field word address ∷ []
+operand_texts Coded word address = if field_of Code word == 0 then [] else field_text Code word address ∷ []
+operand_texts Memory word address = slot_text Rt word ∷ based_text word address ∷ []
+operand_texts Load word address = slot_text Rt word ∷ field_text Unsigned word address ∷ []
+
+-- texts with a comma between each two
+abbrev pub joined : List (List ℕ) → List ℕ
+joined [] = []
+joined (text ∷ []) = text
+joined (text ∷ next ∷ texts) = text ++ byte "," ∷ joined (next ∷ texts)
+
+-- operands behind a name: a space before them, where there are any
+abbrev pub spaced : List (List ℕ) → List ℕ
+spaced [] = []
+spaced (text ∷ texts) = byte " " ∷ joined (text ∷ texts)
+
+-- an instruction by its row: its name and its operands
+abbrev pub row_text : List ℕ × Text → ℕ → ℕ → List ℕ
+row_text row word address = row.0 ++ spaced (operand_texts row.1.1 word address)
+
+-- a word as a number
+abbrev pub data_text : ℕ → List ℕ
+data_text word = codes ".word " ++ hexadecimal 8 word
+
+-- a word by its row, or as a number where it has none
+abbrev pub text_by : Option (List ℕ × Text) → ℕ → ℕ → List ℕ
+text_by None word address = data_text word
+text_by (Some row) word address = row_text row word address
+
+-- a word that stands at an address: as a number where its instruction has no name, else by its row
+unfoldable pub word_text : ℕ → ℕ → List ℕ
+word_text word address =
+    if is_nameless (insn_of word) then data_text word else text_by (row_of word) word address

@@ -1,0 +1,149 @@
+//! The operands of instructions, as the bits of a word say them.
+ghost use Rattle.std.specs.Prelude.{◌≡◌, ◌++◌, ◌∷◌, ◌≤◌, OnOk, ◌<◌, ◌^◌};
+ghost use Rattle.mips_list.specs.Growth.{Keeps};
+ghost use Rattle.mips_list.specs.WordText.{based_text, branch_target, field_text, hexadecimal, jump_target, operand_texts, signed_text, slot_text, spaced};
+
+use crate::piece::{push_bytes, push_decimal, push_digits};
+use edge_io::OutOfMemory;
+use mips_isa::sign16;
+use mips_text::{Field, Shape, Slot};
+
+/// What stands before the first operand.
+const FIRST: u8 = b' ';
+/// What stands before each further one.
+const NEXT: u8 = b',';
+
+/// Appends the operands of a word that stands at an address, with a space before them where there are any.
+pub(crate) fn push_operands(
+    shape: Shape,
+    word: u32,
+    address: u32,
+    out: &mut Vec<u8>,
+) -> Result<(), OutOfMemory>
+    ensures ok { OnOk result (out.new.items ≡ out.old.items ++ spaced (operand_texts shape word address)) }
+    ensures keeps { Keeps out.old.items out.new.items }
+{
+    match shape {
+        Shape::Alone => Ok(()),
+        Shape::One(a) => push_slot(FIRST, a, word, out),
+        Shape::Two(a, b) => {
+            push_slot(FIRST, a, word, out)?;
+            push_slot(NEXT, b, word, out)
+        }
+        Shape::Three(a, b, c) => {
+            push_slot(FIRST, a, word, out)?;
+            push_slot(NEXT, b, word, out)?;
+            push_slot(NEXT, c, word, out)
+        }
+        Shape::Field0(field) => push_field(FIRST, field, word, address, out),
+        Shape::Field1(a, field) => {
+            push_slot(FIRST, a, word, out)?;
+            push_field(NEXT, field, word, address, out)
+        }
+        Shape::Field2(a, b, field) => {
+            push_slot(FIRST, a, word, out)?;
+            push_slot(NEXT, b, word, out)?;
+            push_field(NEXT, field, word, address, out)
+        }
+        Shape::Coded => push_code(word, address, out),
+        Shape::Memory => {
+            push_slot(FIRST, Slot::Rt, word, out)?;
+            push_based(NEXT, word, address, out)
+        }
+        Shape::Load => {
+            push_slot(FIRST, Slot::Rt, word, out)?;
+            push_field(NEXT, Field::Unsigned, word, address, out)
+        }
+    }
+}
+
+/// Appends a mark and a register of a word.
+fn push_slot(mark: u8, slot: Slot, word: u32, out: &mut Vec<u8>) -> Result<(), OutOfMemory>
+    ensures ok { OnOk result (out.new.items ≡ out.old.items ++ mark ∷ slot_text slot word) }
+    ensures keeps { Keeps out.old.items out.new.items }
+{
+    push_bytes(&[mark, b'$'], out)?;
+    push_decimal(u32::from(slot.get(word)), out)
+}
+
+/// Appends the code of a word, with a space before it, where it isn't 0.
+fn push_code(word: u32, address: u32, out: &mut Vec<u8>) -> Result<(), OutOfMemory>
+    ensures ok { OnOk result (out.new.items ≡ out.old.items ++ spaced (operand_texts Shape.Coded word address)) }
+    ensures keeps { Keeps out.old.items out.new.items }
+{
+    if Field::Code.get(word) == 0 {
+        return Ok(());
+    }
+    push_field(FIRST, Field::Code, word, address, out)
+}
+
+/// Appends a mark, a signed half, and a register in brackets.
+fn push_based(mark: u8, word: u32, address: u32, out: &mut Vec<u8>) -> Result<(), OutOfMemory>
+    ensures ok { OnOk result (out.new.items ≡ out.old.items ++ mark ∷ based_text word address) }
+    ensures keeps { Keeps out.old.items out.new.items }
+{
+    push_field(mark, Field::Signed, word, address, out)?;
+    push_slot(b'(', Slot::Rs, word, out)?;
+    push_bytes(b")", out)
+}
+
+/// Appends a mark and the number in a field of a word that stands at an address.
+fn push_field(
+    mark: u8,
+    field: Field,
+    word: u32,
+    address: u32,
+    out: &mut Vec<u8>,
+) -> Result<(), OutOfMemory>
+    ensures ok { OnOk result (out.new.items ≡ out.old.items ++ mark ∷ field_text field word address) }
+    ensures keeps { Keeps out.old.items out.new.items }
+{
+    push_bytes(&[mark], out)?;
+    let number = field.get(word);
+    match field {
+        Field::Amount | Field::Code => push_decimal(number, out),
+        Field::Signed => push_signed(number as u16, out),
+        Field::Unsigned => push_hexadecimal(number, 4, out),
+        Field::Branch => push_hexadecimal(branch_target(address, number as u16), 8, out),
+        Field::Jump => push_hexadecimal(jump_target(address, number), 8, out),
+    }
+}
+
+/// Appends a half as a number with its sign.
+fn push_signed(half: u16, out: &mut Vec<u8>) -> Result<(), OutOfMemory>
+    ensures ok { OnOk result (out.new.items ≡ out.old.items ++ signed_text half) }
+    ensures keeps { Keeps out.old.items out.new.items }
+{
+    if half < 0x8000 {
+        return push_decimal(u32::from(half), out);
+    }
+    push_bytes(b"-", out)?;
+    push_decimal(0x1_0000 - u32::from(half), out)
+}
+
+/// Appends `0x` and so many hexadecimal digits of a number.
+pub(crate) fn push_hexadecimal(n: u32, digits: u8, out: &mut Vec<u8>) -> Result<(), OutOfMemory>
+    requires { (1 ≤ digits) × (digits ≤ 8) }
+    ensures ok { OnOk result (out.new.items ≡ out.old.items ++ hexadecimal digits n) }
+    ensures keeps { Keeps out.old.items out.new.items }
+{
+    push_bytes(b"0x", out)?;
+    push_digits(n, digits, out)
+}
+
+/// Where a branch with this half goes, from an address.
+fn branch_target(address: u32, half: u16) -> u32
+    ensures { result ≡ branch_target address half }
+{
+    address
+        .wrapping_add(4)
+        .wrapping_add(sign16(half).wrapping_mul(4))
+}
+
+/// Where a jump with these 26 bits goes, from an address.
+fn jump_target(address: u32, target: u32) -> u32
+    requires { target < 2 ^ 26 }
+    ensures { result ≡ jump_target address target }
+{
+    (address.wrapping_add(4) >> 28 << 28) + target * 4
+}

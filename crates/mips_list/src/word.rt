@@ -1,0 +1,56 @@
+//! The text of a word.
+ghost use Rattle.std.specs.Prelude.{◌≡◌, ◌++◌, OnErr, OnOk};
+ghost use Rattle.asm_parse.specs.Table.{row_seen};
+ghost use Rattle.mips_list.specs.Growth.{Keeps};
+ghost use Rattle.mips_list.specs.WordText.{data_text, row_text, word_text};
+
+use crate::operand::{push_hexadecimal, push_operands};
+use crate::piece::push_bytes;
+use asm_parse::Row;
+use edge_io::OutOfMemory;
+use mips_text::{Text, find_word};
+
+/// Appends the text of a word that stands at an address: the instruction that it spells, as the assembler
+/// reads it, or `.word` where that has no name (`docs/ASSEMBLER.md`, "Listings"). Where memory runs out
+/// the list stays as it was.
+pub fn push_word_text(word: u32, address: u32, out: &mut Vec<u8>) -> Result<(), OutOfMemory>
+    ensures ok { OnOk result (out.new.items ≡ out.old.items ++ word_text word address) }
+    ensures err { OnErr result (out.new.items ≡ out.old.items) }
+{
+    let before = out.len();
+    let pushed = push_text(word, address, out);
+    if pushed.is_err() {
+        out.truncate(before);
+    }
+    pushed
+}
+
+/// The same, as far as memory reaches.
+#[tactic(auto, unfolding(crate::specs::WordText::word_text))]
+fn push_text(word: u32, address: u32, out: &mut Vec<u8>) -> Result<(), OutOfMemory>
+    ensures ok { OnOk result (out.new.items ≡ out.old.items ++ word_text word address) }
+    ensures keeps { Keeps out.old.items out.new.items }
+{
+    match find_word(word) {
+        Some(row) => push_row(row, word, address, out),
+        None => push_number(word, out),
+    }
+}
+
+/// Appends an instruction by its row.
+fn push_row(row: Row<Text>, word: u32, address: u32, out: &mut Vec<u8>) -> Result<(), OutOfMemory>
+    ensures ok { OnOk result (out.new.items ≡ out.old.items ++ row_text (row_seen row) word address) }
+    ensures keeps { Keeps out.old.items out.new.items }
+{
+    push_bytes(row.0, out)?;
+    push_operands(row.1.1, word, address, out)
+}
+
+/// Appends a word as a number.
+fn push_number(word: u32, out: &mut Vec<u8>) -> Result<(), OutOfMemory>
+    ensures ok { OnOk result (out.new.items ≡ out.old.items ++ data_text word) }
+    ensures keeps { Keeps out.old.items out.new.items }
+{
+    push_bytes(b".word ", out)?;
+    push_hexadecimal(word, 8, out)
+}
