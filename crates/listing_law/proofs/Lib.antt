@@ -1,0 +1,12 @@
+pub mod ArgTexts
+pub mod Assembling
+pub mod BasedTexts
+pub mod FieldTexts
+pub mod LineTexts
+pub mod Listings
+pub mod NumberTexts
+pub mod Numbers
+pub mod OperandTexts
+pub mod RowTexts
+pub mod Statements
+pub mod WordTexts

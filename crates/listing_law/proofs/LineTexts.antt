@@ -1,0 +1,252 @@
+-- A line that is an operation and its operands, read again.
+use Rattle.std.proofs.Common.{◌≡◌, ℕ, zero, suc, ◌+◌, ◌-◌, ◌<◌, ◌∙◌, Bool, true, false, List, [], ◌∷◌, ◌++◌, Option, Some, None, length, drop, refl, sym, ap, subst, arith}
+use Rattle.std.specs.Prelude.{◌==◌, ◌&&◌, not, nat_le, nat_eq, codes, if◌then◌else◌}
+use Rattle.std.proofs.lemmas.Bool.Decides.{nat_tests}
+use Rattle.std.proofs.Math.Bool.{and-false}
+use Rattle.std.specs.List.{list_all, starts_with, prefix_len, onto_first, take_while}
+use Rattle.std.specs.Option.{option_map}
+use lib.Pointwise.{pointwise}
+use Rattle.std.proofs.lemmas.List.{append-nil, take_at, drop_at}
+use Rattle.std.proofs.lemmas.List.Folds.{list_all-append}
+use Rattle.line_text.specs.Lines.{LineValue, lines_of, lines_from, pieces_of, without_end}
+use Rattle.asm_parse.specs.Arg.{ArgValue}
+use Rattle.line_text.specs.Characters.{is_blank, is_text_byte}
+use Rattle.asm_parse.specs.Bytes.{is_name_byte, is_name_start}
+use Rattle.asm_parse.specs.Operand.{OperandValue}
+use Rattle.asm_parse.specs.Words.{begins_name}
+use Rattle.asm_parse.specs.Form.{Piece, args_at, before_mark, behind, is_outside, body_named, body_of, label_of, line_of, operands_of, said, statement_of, trimmed}
+use Rattle.asm_parse.specs.declared.syntax.AsmLine.{AsmLine}
+use Rattle.mips_list.specs.WordText.{joined, spaced}
+use Rattle.listing_law.proofs.Numbers.{list_all_weaker}
+use Rattle.listing_law.proofs.NumberTexts.{IsOperand, is_plain}
+use Rattle.listing_law.proofs.ArgTexts.{AreOperands, AreRead, EndsPlain, args_spaced, before_none, both, ends_behind, plain_ends}
+
+-- a byte of a line without quoted texts and comments
+abbrev pub is_said : ℕ → Bool
+is_said b = nat_le 32 b && nat_le b 126 && not (b == 34) && not (b == 35)
+
+plain_said : (b : ℕ) → is_plain b ≡ true → is_said b ≡ true
+plain_said b is = grind (arith, nat_tests)
+
+said_text : (b : ℕ) → is_said b ≡ true → is_text_byte b ≡ true
+said_text b is = grind (arith, nat_tests)
+
+name_plain : (b : ℕ) → is_name_byte b ≡ true → is_plain b ≡ true
+name_plain b is = grind (arith, nat_tests)
+
+said_no_comment : (b : ℕ) → is_said b ≡ true → (b == 35) ≡ false
+said_no_comment b is = grind (arith, nat_tests)
+
+said_no_quote : (b : ℕ) → is_said b ≡ true → (b == 34) ≡ false
+said_no_quote b is = grind (arith, nat_tests)
+
+pub said_no_feed : (b : ℕ) → is_said b ≡ true → (b == 10) ≡ false
+said_no_feed b is = grind (arith, nat_tests)
+
+said_no_feed_turned : (b : ℕ) → is_said b ≡ true → (10 == b) ≡ false
+said_no_feed_turned b is = grind (arith, nat_tests)
+
+said_no_return_turned : (b : ℕ) → is_said b ≡ true → (13 == b) ≡ false
+said_no_return_turned b is = grind (arith, nat_tests)
+
+suc_not_zero : (n : ℕ) → (suc n == 0) ≡ false
+suc_not_zero n = grind (arith, nat_tests)
+
+-- A text of one line.
+
+one_piece : (bs : List ℕ) → list_all is_said bs ≡ true → 0 < length bs → pieces_of bs ≡ bs ∷ []
+one_piece [] all some = absurd (omega arith)
+one_piece (b ∷ []) all some = rw (said_no_feed b (both (is_said b) true all).0) refl
+one_piece (b ∷ c ∷ bs) all some =
+    let parts = both (is_said b) (list_all is_said (c ∷ bs)) all in
+    let more : pieces_of (c ∷ bs) ≡ (c ∷ bs) ∷ [] = one_piece (c ∷ bs) parts.1 (omega arith) in
+    rw (said_no_feed b parts.0) (ap (onto_first b) more)
+
+all_behind : (n : ℕ) (bs : List ℕ) → list_all is_said bs ≡ true → list_all is_said (drop n bs) ≡ true
+all_behind zero bs all = all
+all_behind (suc n) [] all = refl
+all_behind (suc n) (b ∷ bs) all = all_behind n bs (both (is_said b) (list_all is_said bs) all).1
+
+no_feed : (bs : List ℕ) → list_all is_said bs ≡ true → pointwise nat_eq (codes "\n") bs ≡ false
+no_feed [] all = refl
+no_feed (b ∷ bs) all = rw (said_no_feed_turned b (both (is_said b) (list_all is_said bs) all).0) refl
+
+no_return : (bs : List ℕ) → list_all is_said bs ≡ true → pointwise nat_eq (codes "\r\n") bs ≡ false
+no_return [] all = refl
+no_return (b ∷ bs) all = rw (said_no_return_turned b (both (is_said b) (list_all is_said bs) all).0) refl
+
+no_end : (bs : List ℕ) → list_all is_said bs ≡ true → without_end bs ≡ bs
+no_end bs all = rw (no_return (drop (length bs - 2) bs) (all_behind (length bs - 2) bs all), no_feed (drop (length bs - 1) bs) (all_behind (length bs - 1) bs all)) refl
+
+-- a text without a line feed is one line
+pub one_line : (bs : List ℕ) → list_all is_said bs ≡ true → 0 < length bs → lines_of bs ≡ (record { number = 1; start = 0; text = bs }) ∷ []
+one_line bs all some = ap (lines_from 1 0) (one_piece bs all some) ∙ ap (λ text. (record { number = 1; start = 0; text = text }) ∷ []) (no_end bs all)
+
+-- What a line says.
+
+no_comment : (q : _) (bs : List ℕ) → ((b : ℕ) → is_said b ≡ true → behind q b ≡ q) → list_all is_said bs ≡ true → before_mark 35 q bs ≡ bs
+no_comment q [] stays all = refl
+no_comment q (b ∷ bs) stays all =
+    let parts = both (is_said b) (list_all is_said bs) all in
+    rw (said_no_comment b parts.0, and-false (is_outside q), stays b parts.0, no_comment q bs stays parts.1) refl
+
+-- the name of an operation
+abbrev pub is_name : List ℕ → Bool
+is_name name = begins_name name && list_all is_name_byte name
+
+-- bytes that may follow a name: none, or a blank and more
+abbrev pub Follows : List ℕ → Type 0
+Follows [] = Unit {0}
+Follows (b ∷ bs) = b ≡ 32
+
+name_length : (name rest : List ℕ) → list_all is_name_byte name ≡ true → Follows rest → prefix_len is_name_byte (name ++ rest) ≡ length name
+name_length [] [] all follows = refl
+name_length [] (b ∷ rest) all follows = rw follows refl
+name_length (c ∷ name) rest all follows =
+    let parts = both (is_name_byte c) (list_all is_name_byte name) all in
+    let next : 1 + length name ≡ suc (length name) = omega arith in
+    rw (parts.0, name_length name rest parts.1 follows, next) refl
+
+named_before : (name rest : List ℕ) → list_all is_name_byte name ≡ true → Follows rest → take_while is_name_byte (name ++ rest) ≡ name
+named_before name rest all follows = rw (name_length name rest all follows) (take_at name rest (length name) refl)
+
+no_colon : (rest : List ℕ) → Follows rest → starts_with nat_eq rest (codes ":") ≡ false
+no_colon [] follows = refl
+no_colon (b ∷ rest) follows = rw follows refl
+
+no_label : (name rest : List ℕ) → list_all is_name_byte name ≡ true → Follows rest → label_of (name ++ rest) ≡ None
+unfolding label_of
+no_label name rest all follows =
+    rw (named_before name rest all follows, drop_at name rest (length name) refl, no_colon rest follows, and-false (begins_name name)) refl
+
+behind_blank : (p : Piece) → (length p.bytes == 0) ≡ false → (prefix_len is_blank p.bytes == 0) ≡ false → operands_of p ≡ args_at p
+unfolding operands_of
+behind_blank p some blank = rw (some, blank) refl
+
+-- the operands behind a name
+pub operands_read : (start : ℕ) (ts : List (List ℕ)) (os : List OperandValue) → AreOperands ts os → AreRead (operands_of (record { start = start; bytes = spaced ts })) os
+unfolding operands_of
+operands_read start [] [] are = record { found = []; is = refl; operands = refl }
+operands_read start [] (o ∷ os) are = absurd are
+operands_read start (t ∷ ts) [] are = absurd are
+operands_read start (t ∷ ts) (o ∷ os) are =
+    let p : Piece = record { start = start; bytes = spaced (t ∷ ts) } in
+    subst (λ (args : Option (List ArgValue)). AreRead args (o ∷ os))
+    (sym (behind_blank p (suc_not_zero (length (joined (t ∷ ts)))) (one_more_not_zero (prefix_len is_blank (joined (t ∷ ts))))))
+    (args_spaced p t ts o os refl are.0 are.1)
+  where
+    one_more_not_zero : (n : ℕ) → (1 + n == 0) ≡ false
+    one_more_not_zero n = grind (arith, nat_tests)
+
+follows_spaced : (ts : List (List ℕ)) → Follows (spaced ts)
+follows_spaced [] = tt
+follows_spaced (t ∷ ts) = refl
+
+some_name : (name : List ℕ) → begins_name name ≡ true → (c : ℕ) × (cs : List ℕ) × (name ≡ c ∷ cs)
+some_name [] begins = cc
+some_name (c ∷ cs) begins = (c, cs, refl)
+
+begins_behind : (name rest : List ℕ) → begins_name name ≡ true → begins_name (name ++ rest) ≡ true
+begins_behind [] rest begins = cc
+begins_behind (c ∷ cs) rest begins = begins
+
+some_length : (name rest : List ℕ) → begins_name name ≡ true → (length (name ++ rest) == 0) ≡ false
+some_length [] rest begins = cc
+some_length (c ∷ cs) rest begins = suc_not_zero (length (cs ++ rest))
+
+body_read : (start : ℕ) (name : List ℕ) (ts : List (List ℕ)) (args : List ArgValue) → is_name name ≡ true → operands_of (record { start = start + length name; bytes = spaced ts }) ≡ Some args
+    → body_of (record { start = start; bytes = name ++ spaced ts }) ≡ Some (body_named name args)
+unfolding body_of
+body_read start name ts args is reads =
+    let parts = both (begins_name name) (list_all is_name_byte name) is in
+    rw (named_before name (spaced ts) parts.1 (follows_spaced ts), some_length name (spaced ts) parts.0, parts.0, drop_at name (spaced ts) (length name) refl, reads) refl
+
+statement_read : (number start : ℕ) (name : List ℕ) (ts : List (List ℕ)) (args : List ArgValue) → is_name name ≡ true → operands_of (record { start = start + length name; bytes = spaced ts }) ≡ Some args
+    → statement_of number (record { start = start; bytes = name ++ spaced ts })
+    ≡ Some (record { line = number; start = start; end = start + length (name ++ spaced ts); label = None; body = body_named name args })
+unfolding statement_of
+statement_read number start name ts args is reads =
+    let parts = both (begins_name name) (list_all is_name_byte name) is in
+    rw (no_label name (spaced ts) parts.1 (follows_spaced ts), body_read start name ts args is reads) refl
+
+-- All bytes of a line.
+
+name_bytes : (name : List ℕ) → list_all is_name_byte name ≡ true → list_all is_plain name ≡ true
+name_bytes name all = list_all_weaker is_name_byte is_plain name_plain name all
+
+plain_bytes : (bs : List ℕ) → list_all is_plain bs ≡ true → list_all is_said bs ≡ true
+plain_bytes bs all = list_all_weaker is_plain is_said plain_said bs all
+
+joined_bytes : (t : List ℕ) (ts : List (List ℕ)) (o : OperandValue) (os : List OperandValue) → IsOperand t o → AreOperands ts os → list_all is_said (joined (t ∷ ts)) ≡ true
+joined_bytes t [] o os here rest = plain_bytes t here.plain
+joined_bytes t (u ∷ us) o [] here rest = absurd rest
+joined_bytes t (u ∷ us) o (p ∷ ps) here rest =
+    rw (list_all-append is_said t (44 ∷ joined (u ∷ us)), plain_bytes t here.plain, joined_bytes u us p ps rest.0 rest.1) refl
+
+joined_ends : (t : List ℕ) (ts : List (List ℕ)) (o : OperandValue) (os : List OperandValue) → IsOperand t o → AreOperands ts os → EndsPlain (joined (t ∷ ts))
+joined_ends t [] o os here rest = plain_ends t here.plain here.some
+joined_ends t (u ∷ us) o [] here rest = absurd rest
+joined_ends t (u ∷ us) o (p ∷ ps) here rest =
+    ends_behind t (44 ∷ joined (u ∷ us)) (ends_behind (44 ∷ []) (joined (u ∷ us)) (joined_ends u us p ps rest.0 rest.1))
+
+-- bytes of a line, whose last is no blank
+pub record IsLine (bs : List ℕ) : Type 0 where
+  pub bytes : list_all is_said bs ≡ true
+  pub ends : EndsPlain bs
+
+pub text_is_line : (name : List ℕ) (ts : List (List ℕ)) (os : List OperandValue) → is_name name ≡ true → AreOperands ts os → IsLine (name ++ spaced ts)
+text_is_line name [] [] is are =
+    let parts = both (begins_name name) (list_all is_name_byte name) is in
+    subst IsLine (sym (append-nil name)) (record { bytes = plain_bytes name (name_bytes name parts.1); ends = plain_ends name (name_bytes name parts.1) (positive name parts.0) })
+  where
+    positive : (name : List ℕ) → begins_name name ≡ true → 0 < length name
+    positive [] begins = cc
+    positive (c ∷ cs) begins = omega arith
+text_is_line name [] (o ∷ os) is are = absurd are
+text_is_line name (t ∷ ts) [] is are = absurd are
+text_is_line name (t ∷ ts) (o ∷ os) is are =
+    let parts = both (begins_name name) (list_all is_name_byte name) is in
+    record {
+      bytes = rw (list_all-append is_said name (32 ∷ joined (t ∷ ts)), plain_bytes name (name_bytes name parts.1), joined_bytes t ts o os are.0 are.1) refl;
+      ends = ends_behind name (32 ∷ joined (t ∷ ts)) (ends_behind (32 ∷ []) (joined (t ∷ ts)) (joined_ends t ts o os are.0 are.1));
+    }
+
+no_blanks_named : (name rest : List ℕ) → is_name name ≡ true → prefix_len is_blank (name ++ rest) ≡ 0
+no_blanks_named [] rest is = cc
+no_blanks_named (c ∷ cs) rest is = rw (no_blank c (both (is_name_start c) (list_all is_name_byte (c ∷ cs)) is).0) refl
+  where
+    no_blank : (b : ℕ) → is_name_start b ≡ true → is_blank b ≡ false
+    no_blank b is = grind (arith, nat_tests)
+
+said_line : (line : LineValue) → list_all is_said line.text ≡ true → said line ≡ trimmed (record { start = line.start; bytes = line.text })
+said_line line all = ap (λ bs. trimmed (record { start = line.start; bytes = bs })) (no_comment _ line.text (λ b is. rw (said_no_quote b is) refl) all)
+
+said_whole : (number start : ℕ) (name : List ℕ) (ts : List (List ℕ)) → is_name name ≡ true → IsLine (name ++ spaced ts)
+    → said (record { number = number; start = start; text = name ++ spaced ts }) ≡ record { start = start + 0; bytes = name ++ spaced ts }
+said_whole number start name ts is line =
+    said_line (record { number = number; start = start; text = name ++ spaced ts }) line.bytes
+    ∙ rw (no_blanks_named name (spaced ts) is) (before_none (start + 0) (name ++ spaced ts) line.ends)
+
+add_zero : (n : ℕ) → n + 0 ≡ n
+add_zero n = omega arith
+
+line_from : (line : LineValue) (p : Piece) (statement : AsmLine) → list_all is_text_byte line.text ≡ true → said line ≡ p → (length p.bytes == 0) ≡ false
+    → statement_of line.number p ≡ Some statement → line_of line ≡ Some (Some statement)
+unfolding line_of
+line_from line p statement text is some reads =
+    let by : Piece → Option (Option AsmLine) = λ q. if length q.bytes == 0 then Some None else option_map (λ statement. Some statement) (statement_of line.number q) in
+    let found : by p ≡ Some (Some statement) = rw (some, reads) refl in
+    rw text (ap by is ∙ found)
+
+-- a line that is an operation and its operands
+pub line_read : (number start : ℕ) (name : List ℕ) (ts : List (List ℕ)) (args : List ArgValue) → is_name name ≡ true → IsLine (name ++ spaced ts)
+    → operands_of (record { start = start + length name; bytes = spaced ts }) ≡ Some args
+    → line_of (record { number = number; start = start; text = name ++ spaced ts })
+    ≡ Some (Some (record { line = number; start = start; end = start + length (name ++ spaced ts); label = None; body = body_named name args }))
+line_read number start name ts args is line reads =
+    let parts = both (begins_name name) (list_all is_name_byte name) is in
+    let text : list_all is_text_byte (name ++ spaced ts) ≡ true = list_all_weaker is_said is_text_byte said_text (name ++ spaced ts) line.bytes in
+    line_from (record { number = number; start = start; text = name ++ spaced ts }) (record { start = start; bytes = name ++ spaced ts }) _ text
+    (said_whole number start name ts is line ∙ ap (λ n. record { start = n; bytes = name ++ spaced ts }) (add_zero start))
+    (some_length name (spaced ts) parts.0)
+    (statement_read number start name ts args is reads)

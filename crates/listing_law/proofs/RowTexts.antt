@@ -1,0 +1,91 @@
+-- The rows of words, and what is read by them.
+use Rattle.std.proofs.Common.{◌≡◌, ℕ, ◌+◌, inl, inr, Bool, true, false, List, [], ◌∷◌, ◌++◌, Some, refl, subst, eqb-true, eq-eqb}
+use Rattle.std.specs.Prelude.{◌&&◌, not, nat_eq, codes}
+use Rattle.std.proofs.lemmas.Bool.{cases_Bool}
+use Rattle.std.specs.List.{find, list_all, starts_with}
+use Rattle.std.specs.Map.{lookup}
+use Rattle.std.specs.Str.{bytes_eq}
+use Rattle.mips_text.specs.Texts.{further_rows, text_of}
+use Rattle.mips_text.specs.WordRows.{main_rows, operand_bits, row_of, spells}
+use Rattle.mips_text.specs.declared.text.Text.{Text}
+use Rattle.listing_law.proofs.ArgTexts.{both}
+use Rattle.listing_law.proofs.LineTexts.{is_name}
+use Rattle.listing_law.proofs.WordTexts.{is_load}
+
+same_row : (a b : List ℕ × Text) → Some a ≡ Some b → a ≡ b
+same_row a b is = cc
+
+-- what is found passes
+find_passes : (test : List ℕ × Text → Bool) (rows : List (List ℕ × Text)) (row : List ℕ × Text) → find test rows ≡ Some row → test row ≡ true
+find_passes test [] row found = cc
+find_passes test (r ∷ rows) row found =
+    elim (cases_Bool (test r)) [
+      | inl here ↦ subst (λ x. test x ≡ true) (same_row r row (rw here at found)) here
+      | inr later ↦ find_passes test rows row (rw later at found)
+    ]
+
+-- what holds of each row holds of the one that is found
+find_holds : (p test : List ℕ × Text → Bool) (rows : List (List ℕ × Text)) (row : List ℕ × Text) → list_all p rows ≡ true → find test rows ≡ Some row → p row ≡ true
+find_holds p test [] row all found = cc
+find_holds p test (r ∷ rows) row all found =
+    let parts = both (p r) (list_all p rows) all in
+    elim (cases_Bool (test r)) [
+      | inl here ↦ subst (λ x. p x ≡ true) (same_row r row (rw here at found)) parts.0
+      | inr later ↦ find_holds p test rows row parts.1 (rw later at found)
+    ]
+
+-- no two rows have one name
+abbrev are_apart : List (List ℕ × Text) → Bool
+are_apart [] = true
+are_apart (r ∷ rows) = list_all (λ row. not (bytes_eq row.0 r.0)) rows && are_apart rows
+
+same_bytes : (bs : List ℕ) → bytes_eq bs bs ≡ true
+same_bytes [] = refl
+same_bytes (b ∷ bs) = rw (eq-eqb b b refl, same_bytes bs) refl
+
+from_not : (a : Bool) → not a ≡ true → a ≡ false
+from_not true is = cc
+from_not false is = refl
+
+-- the name of a row that is found leads to the row's text
+named_text : (test : List ℕ × Text → Bool) (rows more : List (List ℕ × Text)) (row : List ℕ × Text) → are_apart rows ≡ true → find test rows ≡ Some row
+    → lookup (bytes_eq row.0) (rows ++ more) ≡ Some row.1
+named_text test [] more row apart found = cc
+named_text test (r ∷ rows) more row apart found =
+    let parts = both (list_all (λ other. not (bytes_eq other.0 r.0)) rows) (are_apart rows) apart in
+    elim (cases_Bool (test r)) [
+      | inl here ↦
+          let is : r ≡ row = same_row r row (rw here at found) in
+          subst (λ x. lookup (bytes_eq x.0) ((r ∷ rows) ++ more) ≡ Some x.1) is (rw (same_bytes r.0) refl)
+      | inr later ↦
+          let found_later : find test rows ≡ Some row = rw later at found in
+          let other : bytes_eq row.0 r.0 ≡ false = from_not (bytes_eq row.0 r.0) (find_holds (λ x. not (bytes_eq x.0 r.0)) test rows row parts.0 found_later) in
+          rw other (named_text test rows more row parts.1 found_later)
+    ]
+
+-- what each main row is: its name is that of an instruction, and it is one word
+abbrev is_instruction : List ℕ × Text → Bool
+is_instruction row = is_name row.0 && (not (starts_with nat_eq row.0 (codes ".")) && not (is_load row.1.1))
+
+-- the row of a word
+pub record IsRowOf (word : ℕ) (row : List ℕ × Text) : Type 0 where
+  pub name : is_name row.0 ≡ true
+  pub no_directive : starts_with nat_eq row.0 (codes ".") ≡ false
+  pub one_word : is_load row.1.1 ≡ false
+  pub text : text_of row.0 ≡ Some row.1
+  pub whole : word ≡ row.1.0 + operand_bits row.1.1 word
+
+pub row_found : (word : ℕ) (row : List ℕ × Text) → row_of word ≡ Some row → IsRowOf word row
+unfolding row_of text_of
+row_found word row found =
+    let test : List ℕ × Text → Bool = λ r. spells r.1 word in
+    let holds = find_holds is_instruction test main_rows row refl found in
+    let parts = both (is_name row.0) (not (starts_with nat_eq row.0 (codes ".")) && not (is_load row.1.1)) holds in
+    let more = both (not (starts_with nat_eq row.0 (codes "."))) (not (is_load row.1.1)) parts.1 in
+    record {
+      name = parts.0;
+      no_directive = from_not (starts_with nat_eq row.0 (codes ".")) more.0;
+      one_word = from_not (is_load row.1.1) more.1;
+      text = named_text test main_rows further_rows row refl found;
+      whole = eqb-true word (row.1.0 + operand_bits row.1.1 word) (find_passes test main_rows row found);
+    }

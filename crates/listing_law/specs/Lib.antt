@@ -1,0 +1,3 @@
+pub mod OneWord
+pub mod Statement
+pub mod Texts
