@@ -1,22 +1,29 @@
 -- From what holds by the status to what is written where no fault is met.
-use Rattle.std.proofs.Common.{◌≡◌, ◌≢◌, ◌≤◌, length, ℕ, List, [], ◌∷◌, Option, Some, None, inl, inr, sym, ◌∙◌, ap, refl, subst, IfSome, rules}
-use Rattle.std.specs.Prelude.{◌⊎◌}
+use Rattle.std.proofs.Common.{◌≡◌, ◌≢◌, ◌≤◌, length, ℕ, List, [], ◌∷◌, Option, Some, None, inl, inr, sym, ◌∙◌, ap, refl, subst, IfSome, rules, arith}
+use Rattle.std.specs.Prelude.{◌⊎◌, ◌<◌, ◌^◌, nat_le, false}
 use Rattle.boot_image.specs.ImageFaults.{image_fault}
 use Rattle.boot_image.specs.ImageValue.{image_of}
 use Rattle.boot_image.specs.ScheduleFaults.{schedule_fault}
 use Rattle.edge_io.specs.Faults.{Rose, one_more}
 use Rattle.elf_static.specs.ObjectValue.{ObjectValue}
 use Rattle.elf_static.specs.Layout.{elf_text}
+use Rattle.elf_static.specs.declared.fault.ElfFault.{ElfFault}
+use Rattle.elf_static.specs.ElfFaults.{elf_fault}
+use Rattle.elf_static.specs.ElfValue.{elf_of}
+use Rattle.mips_list.specs.Listed.{listed}
+use Rattle.boot_image.specs.Spelling.{image_text}
+use Rattle.boot_manifest.specs.ManifestValue.{files_in, plan_in}
+use Rattle.boot_manifest.specs.Reading.{manifest_fault, manifest_of}
 use Rattle.mips_asm.specs.Assembled.{assembled}
 use Rattle.aegis_cli.specs.declared.status.Status.{Status}
 use Rattle.aegis_cli.specs.declared.status.Status.TheVariants as status
 use Rattle.aegis_cli.specs.declared.work.Answer.{Answer}
 use Rattle.aegis_cli.specs.Edges.{ShelfEdge, SinkEdge}
-use Rattle.aegis_cli.specs.Words.{Form, Run, Asm}
-use Rattle.aegis_cli.specs.Files.{names_of, AreRead, AreTold}
-use Rattle.aegis_cli.specs.Due.{Due, Refusal, Whole, Found, due_of, run_due, asm_due, report_after, text_of, status_of}
+use Rattle.aegis_cli.specs.Words.{Form, Run, Asm, ListElf, MakeImage}
+use Rattle.aegis_cli.specs.Files.{names_of, files_named, body_names, AreRead, AreTold}
+use Rattle.aegis_cli.specs.Due.{Due, Refusal, Whole, Found, due_of, run_due, asm_due, list_due, image_due, sized_due, made_due, report_after, text_of, status_of}
 use Rattle.aegis_cli.specs.Outcome.{Decided, IsWhole, IsPart, Outcome, Finished}
-use Rattle.aegis_cli.specs.Headline.{NoFault, Ends, IsComplete, IsHeadline, IsAssembler, IsTaken}
+use Rattle.aegis_cli.specs.Headline.{NoFault, Ends, IsComplete, IsHeadline, IsAssembler, IsLister, IsImager, IsTaken}
 use Rattle.aegis_cli.specs.Work.{Performed}
 
 -- what is read of told files is what is told
@@ -31,11 +38,22 @@ same_contents files (n ∷ names) (x ∷ xs) (y ∷ ys) a b =
     let tails = same_contents files names xs ys a.1 b.1 in
     cc
 
+some_is : (x y : List ℕ) → Some x ≡ Some y → x ≡ y
+some_is x y is = cc
+
 -- so it is of a form's files
 told_contents : (form : Form) (told : Option (List ℕ → Option (List ℕ))) (xs ys : List (List ℕ)) → AreTold told (names_of form xs) xs → AreRead told (names_of form ys) ys → xs ≡ ys
 told_contents form None xs ys a b = absurd a
 told_contents (Run image schedule ticks) (Some files) xs ys a b = same_contents files (image ∷ schedule ∷ []) xs ys a b
 told_contents (Asm source) (Some files) xs ys a b = same_contents files (source ∷ []) xs ys a b
+told_contents (ListElf elf) (Some files) xs ys a b = same_contents files (elf ∷ []) xs ys a b
+told_contents (MakeImage manifest) (Some files) [] ys a b = absurd a
+told_contents (MakeImage manifest) (Some files) (x ∷ xs) [] a b = absurd b
+told_contents (MakeImage manifest) (Some files) (x ∷ xs) (y ∷ ys) a b =
+    let head : x ≡ y = some_is x y (sym a.0 ∙ b.0) in
+    let names : body_names (x ∷ xs) ≡ body_names (y ∷ ys) = ap (λ (text : List ℕ). files_named text (manifest_fault text)) head in
+    let tail = same_contents files (body_names (y ∷ ys)) xs ys (subst (λ (ns : List (List ℕ)). AreRead (Some files) ns xs) names a.1) b.1 in
+    λ i. head i ∷ tail i
 
 -- what was decided is what is due for the told contents
 told_due : (form : Form) (s : ShelfEdge) (decided : Decided form s) (contents : List (List ℕ)) → AreTold s.told (names_of form contents) contents → due_of form contents ≡ Some decided.due
@@ -81,6 +99,31 @@ is_assembler words s k result outcome name files source object is told source_is
     let due : asm_due name (assembled source) ≡ Some (Whole (elf_text object)) = ap (asm_due name) object_is in
     let read : AreTold s.told (name ∷ []) (source ∷ []) = subst (λ (t : Option (List ℕ → Option (List ℕ))). AreTold t (name ∷ []) (source ∷ [])) (sym told) (source_is, tt) in
     subst (λ (d : Option Due). Ends d k result) due (is_complete words s k result outcome (Asm name) (source ∷ []) is read calm)
+
+-- for an ELF file without fault it says that the listing is written
+pub is_lister : (words : Option Form) (s : ShelfEdge) (k : SinkEdge) (result : Status) → IfSome words (λ form. Outcome form s k result) → IsLister words s k result
+is_lister words s k result outcome name files elf is told elf_is elf_ok calm =
+    let due : Some (list_due name elf (elf_fault elf)) ≡ Some (Whole (listed (elf_of elf))) = ap (λ (f : Option ElfFault). Some (list_due name elf f)) elf_ok in
+    let read : AreTold s.told (name ∷ []) (elf ∷ []) = subst (λ (t : Option (List ℕ → Option (List ℕ))). AreTold t (name ∷ []) (elf ∷ [])) (sym told) (elf_is, tt) in
+    subst (λ (d : Option Due). Ends d k result) due (is_complete words s k result outcome (ListElf name) (elf ∷ []) is read calm)
+
+-- an image that can be read is due as it is
+made_whole : (name image : List ℕ) → length image < 2 ^ 27 → image_fault image ≡ None → sized_due name image ≡ Whole image
+made_whole name image short ok =
+    let long : nat_le (2 ^ 27) (length image) ≡ false = grind (arith, short) in
+    rw (long, ok) refl
+
+-- for a manifest whose bodies make such an image it says that this is written
+pub is_imager : (words : Option Form) (s : ShelfEdge) (k : SinkEdge) (result : Status) → IfSome words (λ form. Outcome form s k result) → IsImager words s k result
+is_imager words s k result outcome name files text bodies is told text_is text_ok bodies_are short ok calm =
+    let image = image_text (plan_in (manifest_of text)) bodies in
+    let due : image_due name text bodies (manifest_fault text) ≡ Some (Whole image)
+    = ap (image_due name text bodies) text_ok ∙ ap (λ (d : Due). Some d) (made_whole name image short ok) in
+    let names : files_in (manifest_of text) ≡ files_named text (manifest_fault text) = ap (files_named text) (sym text_ok) in
+    let bodies_read : AreRead (Some files) (files_named text (manifest_fault text)) bodies = subst (λ (ns : List (List ℕ)). AreRead (Some files) ns bodies) names bodies_are in
+    let read : AreTold s.told (name ∷ files_named text (manifest_fault text)) (text ∷ bodies)
+    = subst (λ (t : Option (List ℕ → Option (List ℕ))). AreTold t (name ∷ files_named text (manifest_fault text)) (text ∷ bodies)) (sym told) (text_is, bodies_read) in
+    subst (λ (d : Option Due). Ends d k result) due (is_complete words s k result outcome (MakeImage name) (text ∷ bodies) is read calm)
 
 -- no due status is that of a fault of writing
 due_status : (due : Due) → status_of due ≢ status.WriteFault

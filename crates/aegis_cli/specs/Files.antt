@@ -3,13 +3,28 @@ use Rattle.std.specs.Prelude.{◌≡◌, ◌⊎◌, ℕ, ◌+◌, List, [], ◌�
 use Rattle.std.specs.List.{AllByRecursion}
 use Rattle.edge_io.specs.Faults.{one_more}
 use Rattle.edge_io.specs.Reads.{Tells}
+use Rattle.boot_manifest.specs.declared.fault.ManifestFault.{ManifestFault}
+use Rattle.boot_manifest.specs.ManifestValue.{files_in}
+use Rattle.boot_manifest.specs.Reading.{manifest_fault, manifest_of}
 use Rattle.aegis_cli.specs.Edges.{ShelfEdge}
-use Rattle.aegis_cli.specs.Words.{Form, Run, Asm}
+use Rattle.aegis_cli.specs.Words.{Form, Run, Asm, ListElf, MakeImage}
+
+-- the files that a manifest without fault names
+abbrev pub files_named : List ℕ → Option ManifestFault → List (List ℕ)
+files_named text None = files_in (manifest_of text)
+files_named text (Some fault) = []
+
+-- the names of an image's bodies, once its manifest was read
+abbrev pub body_names : List (List ℕ) → List (List ℕ)
+body_names [] = []
+body_names (text ∷ bodies) = files_named text (manifest_fault text)
 
 -- the names of a form's files, in the order in which they are read, as far as the contents so far tell them
 abbrev pub names_of : Form → List (List ℕ) → List (List ℕ)
 names_of (Run image schedule ticks) contents = image ∷ schedule ∷ []
 names_of (Asm source) contents = source ∷ []
+names_of (ListElf elf) contents = elf ∷ []
+names_of (MakeImage manifest) contents = manifest ∷ body_names contents
 
 -- the name that is read after these contents, if one is
 abbrev pub next_name : Form → List (List ℕ) → Option (List ℕ)
@@ -55,7 +70,15 @@ pub record FailedAt (form : Form) (s : ShelfEdge) : Type 0 where
   pub failed : s.failed ≡ Some name
   pub fault : s.faults_after ≡ one_more s.faults_before
 
--- No read failed: all files were read, or those up to one for which no memory was found.
+-- An image's manifest and so many of its bodies were read, each once and in order, and no other file was asked
+-- for. No other form wants memory between two reads.
+abbrev pub CameBetween : Form → ShelfEdge → Type 0
+CameBetween (MakeImage manifest) s =
+    (contents : List (List ℕ)) × AreFirst (MakeImage manifest) s.told contents × s.Asked (take (length contents) (names_of (MakeImage manifest) contents))
+CameBetween form s = ⊥
+
+-- No read failed: all files were read, or those up to one for which no memory was found, or memory was wanting
+-- between two reads.
 pub record CameFar (form : Form) (s : ShelfEdge) : Type 0 where
-  pub came : ((contents : List (List ℕ)) × WereRead form s contents) ⊎ ((name : List ℕ) × CameTo form s name)
+  pub came : ((contents : List (List ℕ)) × WereRead form s contents) ⊎ ((name : List ℕ) × CameTo form s name) ⊎ CameBetween form s
   pub no_fault : s.faults_after ≡ s.faults_before

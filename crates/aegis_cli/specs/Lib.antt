@@ -6,5 +6,6 @@ pub mod Files
 pub mod Due
 pub mod Outcome
 pub mod Work
+pub mod Bodies
 pub mod Stopping
 pub mod Headline

@@ -1,5 +1,5 @@
 -- How a call of the program ends, by its status.
-use Rattle.std.specs.Prelude.{◌≡◌, ◌⊎◌, ℕ, List, Option, Some}
+use Rattle.std.specs.Prelude.{◌≡◌, ◌⊎◌, ℕ, List, Option, Some, IfSome, IfNone}
 use Rattle.edge_io.specs.Faults.{one_more}
 use Rattle.edge_io.specs.Written.{Appends, AppendsPart}
 use Rattle.aegis_cli.specs.declared.status.Status.{Status}
@@ -7,7 +7,7 @@ use Rattle.aegis_cli.specs.declared.status.Status.TheVariants as status
 use Rattle.aegis_cli.specs.Edges.{ShelfEdge, SinkEdge}
 use Rattle.aegis_cli.specs.Words.{Form}
 use Rattle.aegis_cli.specs.Files.{WereRead, FailedAt, CameFar}
-use Rattle.aegis_cli.specs.Due.{Due, due_of, text_of, status_of}
+use Rattle.aegis_cli.specs.Due.{Due, due_of, text_of, status_of, usage_text}
 
 -- All files were read, and this is due for what they hold.
 pub record Decided (form : Form) (s : ShelfEdge) : Type 0 where
@@ -45,7 +45,15 @@ Outcome form s k status.ReadFault = FailedAt form s × IsUntouched k
 Outcome form s k status.WriteFault = (decided : Decided form s) × IsPart k (text_of decided.due)
 Outcome form s k status.OutOfMemory = CameFar form s × IsUntouched k
 
+-- A call with words of a form ends as this form does.
+abbrev pub IsOutcome : Option Form → ShelfEdge → SinkEdge → Status → Type 0
+IsOutcome words s k result = IfSome words (λ form. Outcome form s k result)
+
 -- A text was written with this status, or a write failed after a first part of it.
 abbrev pub Finished : Status → List ℕ → SinkEdge → Status → Type 0
 Finished intended text k result =
     ((result ≡ intended) × IsWhole k text) ⊎ ((result ≡ status.WriteFault) × IsPart k text)
+
+-- A call with words of no form writes the usage.
+abbrev pub IsUsage : Option Form → SinkEdge → Status → Type 0
+IsUsage words k result = IfNone words (Finished status.Usage usage_text k result)

@@ -9,6 +9,10 @@ pub data Form : Type 0 where
   Run : (image schedule : List ℕ) (ticks : ℕ) → Form
   -- asm SOURCE
   Asm : (source : List ℕ) → Form
+  -- list ELF
+  ListElf : (elf : List ℕ) → Form
+  -- image MANIFEST
+  MakeImage : (manifest : List ℕ) → Form
 
 -- a number within a limit
 abbrev pub within : ℕ → Option ℕ → Option ℕ
@@ -23,9 +27,16 @@ abbrev pub run_form : List ℕ → List ℕ → Option ℕ → Option Form
 run_form image schedule None = None
 run_form image schedule (Some ticks) = Some (Run image schedule ticks)
 
+-- the form of a command and the name of one file
+abbrev pub one_file_form : List ℕ → List ℕ → Option Form
+one_file_form command name =
+    if bytes_eq command (codes "asm") then Some (Asm name) else
+    if bytes_eq command (codes "list") then Some (ListElf name) else
+    if bytes_eq command (codes "image") then Some (MakeImage name) else None
+
 -- the form of these words, if they are one
 abbrev pub form_of : List (List ℕ) → Option Form
 form_of (command ∷ image ∷ schedule ∷ ticks ∷ []) =
     if bytes_eq command (codes "run") then run_form image schedule (ticks_of ticks) else None
-form_of (command ∷ source ∷ []) = if bytes_eq command (codes "asm") then Some (Asm source) else None
+form_of (command ∷ name ∷ []) = one_file_form command name
 form_of _ = None

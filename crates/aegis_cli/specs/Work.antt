@@ -1,11 +1,12 @@
 -- What the work of a form gives, before anything is written.
-use Rattle.std.specs.Prelude.{◌≡◌, Option, IsSomeAnd}
+use Rattle.std.specs.Prelude.{◌≡◌, [], ◌∷◌, Option, IsSomeAnd, Result, IfErr}
 use Rattle.aegis_cli.specs.declared.work.Answer.{Answer}
 use Rattle.aegis_cli.specs.declared.work.Stop.{Stop}
 use Rattle.aegis_cli.specs.declared.work.Stop.TheVariants as stop
+use Rattle.aegis_cli.specs.declared.reporting.RunFiles.{RunFiles}
 use Rattle.aegis_cli.specs.Edges.{ShelfEdge}
 use Rattle.aegis_cli.specs.Words.{Form}
-use Rattle.aegis_cli.specs.Files.{FailedAt, CameFar}
+use Rattle.aegis_cli.specs.Files.{WereRead, FailedAt, CameFar}
 use Rattle.aegis_cli.specs.Due.{Due, text_of, status_of}
 use Rattle.aegis_cli.specs.Outcome.{Decided}
 
@@ -26,3 +27,11 @@ Performed form s answer = (decided : Decided form s) × Settles decided.due answ
 abbrev pub Stopped : Form → ShelfEdge → Stop → Type 0
 Stopped form s stop.ReadFault = FailedAt form s
 Stopped form s stop.OutOfMemory = CameFar form s
+
+-- Where there is no answer, memory was wanting and no read failed.
+abbrev pub StopsByWantAlone : {A : Type 0} → Result A Stop → Type 0
+StopsByWantAlone result = IfErr result (λ s. s ≡ stop.OutOfMemory)
+
+-- the files of a run were read
+abbrev pub RunRead : Form → ShelfEdge → RunFiles → Type 0
+RunRead form s files = WereRead form s (files.image.items ∷ files.schedule.items ∷ [])

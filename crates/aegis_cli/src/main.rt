@@ -2,7 +2,8 @@
 //! with the host's.
 #![tactic(auto)]
 
-mod assembling;
+mod imaging;
+mod one_file;
 mod reporting;
 mod status;
 #[cfg(test)]

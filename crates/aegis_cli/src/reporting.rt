@@ -3,16 +3,13 @@ ghost use Rattle.std.specs.Prelude.{◌≡◌, ◌≤◌, ◌<◌, ◌^◌, [], 
 ghost use Rattle.aegis_cli.specs.Asked.{run_seen};
 ghost use Rattle.aegis_limits.specs.Limits.{most_ticks};
 ghost use Rattle.aegis_cli.specs.Edges.{shelf_edge};
-ghost use Rattle.aegis_cli.specs.Files.{WereRead};
 ghost use Rattle.aegis_cli.specs.Due.{due_of, report_after as report_text_after};
-ghost use Rattle.aegis_cli.specs.Work.{IsSettled, Performed, Stopped};
-ghost use Rattle.boot_image.specs.Accepted.{IsAccepted};
-ghost use Rattle.boot_image.specs.Seen.{image_seen};
+ghost use Rattle.aegis_cli.specs.Work.{IsSettled, Performed, RunRead, Stopped, StopsByWantAlone};
 ghost use Rattle.edge_io.specs.Limits.{file_limit};
 
 use crate::status::Status;
 use crate::words::RunWords;
-use crate::work::{Answer, Stop, refusal};
+use crate::work::{Answer, Stop};
 use aegis_tick::{boot, run};
 use boot_image::{Image, check_schedule, read_image};
 use edge_io::{OutOfMemory, Shelf};
@@ -22,9 +19,8 @@ use std::alloc::Global;
 /// The report of a run of so many ticks.
 #[tactic(auto, unfolding(crate::specs::Due::report_after))]
 fn report_after(alloc: Global, image: &Image<'_>, ticks: u32) -> Result<Vec<u8>, OutOfMemory>
-    requires accepted { IsAccepted (image_seen image.now) }
-    requires limit { ticks ≤ most_ticks }
-    ensures { IfOk result (λ text. text.items ≡ report_text_after (image_seen image.now) ticks) }
+    requires { ticks ≤ most_ticks }
+    ensures { IfOk result (λ text. text.items ≡ report_text_after image.now ticks) }
 {
     let mut board = boot(alloc, image)?;
     let end = run(&mut board, ticks)?;
@@ -45,19 +41,11 @@ fn due_run(
     let image = match read_image(image) {
         Ok(image) => image,
         Err(fault) => {
-            let text = refusal(alloc, words.image, fault.why.name(), fault.place)?;
-            return Ok(Answer {
-                text,
-                status: Status::Refused,
-            });
+            return Answer::refusal(alloc, words.image, fault.why.name(), fault.place);
         }
     };
     if let Err(fault) = check_schedule(schedule) {
-        let text = refusal(alloc, words.schedule, fault.why.name(), fault.line)?;
-        return Ok(Answer {
-            text,
-            status: Status::Refused,
-        });
+        return Answer::refusal(alloc, words.schedule, fault.why.name(), fault.line);
     }
     let text = report_after(alloc, &image, words.ticks)?;
     Ok(Answer {
@@ -75,9 +63,9 @@ struct RunFiles {
 
 /// Reads the files of a run.
 fn read_run<S: Shelf>(alloc: Global, words: RunWords<'_>, shelf: &mut S) -> Result<RunFiles, Stop>
-    ensures ok { IfOk result (λ files. WereRead (run_seen words.entry) (shelf_edge S.Shelf shelf.old shelf.new) (files.image.items ∷ files.schedule.items ∷ [])) }
+    ensures ok { IfOk result (RunRead (run_seen words.entry) (shelf_edge S.Shelf shelf.old shelf.new)) }
     ensures err { IfErr result (Stopped (run_seen words.entry) (shelf_edge S.Shelf shelf.old shelf.new)) }
-    ensures sure { S.Serves shelf.old words.entry.image.now → S.Serves shelf.old words.entry.schedule.now → IfErr result (λ s. s ≡ Stop.OutOfMemory) }
+    ensures sure { S.Serves shelf.old words.entry.image.now → S.Serves shelf.old words.entry.schedule.now → StopsByWantAlone result }
     ensures within_limit { IfOk result (λ files. length files.image.items ≤ file_limit) }
 {
     let image = shelf.read(alloc, words.image)?;
@@ -94,7 +82,7 @@ pub fn perform_run<S: Shelf>(
     requires { words.ticks ≤ most_ticks }
     ensures ok { IfOk result (Performed (run_seen words.entry) (shelf_edge S.Shelf shelf.old shelf.new)) }
     ensures err { IfErr result (Stopped (run_seen words.entry) (shelf_edge S.Shelf shelf.old shelf.new)) }
-    ensures sure { S.Serves shelf.old words.entry.image.now → S.Serves shelf.old words.entry.schedule.now → IfErr result (λ s. s ≡ Stop.OutOfMemory) }
+    ensures sure { S.Serves shelf.old words.entry.image.now → S.Serves shelf.old words.entry.schedule.now → StopsByWantAlone result }
 {
     let files = read_run(alloc, words, shelf)?;
     Ok(due_run(alloc, words, &files.image, &files.schedule)?)

@@ -1,3 +1,4 @@
+//! How a call of the program ends.
 /// How a call of the program ends, by the numbers 0 to 6.
 #[derive(Clone, Copy, Debug, PartialEq, Eq)]
 pub enum Status {

@@ -30,12 +30,43 @@ sum 0 1 0 0
 done
 ";
 
+/// Where the body of its program begins, which is the file hi.bin.
+const BODY_AT: usize = 45;
+
+/// A manifest of that image.
+const MANIFEST: &[u8] = b"pages 16\nquantum 16\nslots 0\nenv hi flat 0x2000 0 0 hi.bin\n";
+
+/// A manifest that names one body twice, the second time as an ELF file, which it is not.
+const TWICE: &[u8] = b"\
+pages 16
+quantum 16
+slots 0
+env hi flat 0x2000 0 0 hi.bin
+env hi elf 0 0 hi.bin
+";
+
+/// A manifest of which the second body is no file on the shelf.
+const GONE: &[u8] = b"\
+pages 16
+quantum 16
+slots 0
+env hi flat 0x2000 0 0 hi.bin
+env hi flat 0x2000 0 0 no.bin
+";
+
 const USAGE: &[u8] = b"aegis: usage\n";
 
 const REFUSED: &[u8] = b"aegis: foo.s: UnknownName 1\n";
 
-/// The files on the shelf.
-const FILES: [(&str, &[u8]); 3] = [("hi.img", &HI), ("none.sch", b""), ("foo.s", b"foo $1\n")];
+/// The files on the shelf, beside hi.bin.
+const FILES: [(&str, &[u8]); 6] = [
+    ("hi.img", &HI),
+    ("none.sch", b""),
+    ("foo.s", b"foo $1\n"),
+    ("hi.man", MANIFEST),
+    ("twice.man", TWICE),
+    ("gone.man", GONE),
+];
 
 /// The number of no read or write that these tests make.
 const NONE: u64 = u64::MAX;
@@ -87,6 +118,8 @@ fn shelf(alloc: Global, fails: u64) -> Result<MemoryShelf, Fail> {
     for (name, bytes) in FILES {
         files.push((String::from_str(alloc, name)?, bytes.to_vec(alloc)?))?;
     }
+    let body = HI[BODY_AT..].to_vec(alloc)?;
+    files.push((String::from_str(alloc, "hi.bin")?, body))?;
     Ok(MemoryShelf {
         files,
         fails: [fails].to_vec(alloc)?,
@@ -117,7 +150,7 @@ fn expected(alloc: Global, end: &End<'_>) -> Result<(Status, Vec<u8>, u64, Strin
 
 #[test]
 fn reads_what_the_words_name_and_no_more(rt: HostRuntime) -> Result<(), Fail> {
-    let cases: [(&[&str], End<'_>); 5] = [
+    let cases: [(&[&str], End<'_>); 10] = [
         (RUN.words, DONE),
         (
             &["run", "hi.img", "none.sch", "4194305"],
@@ -153,6 +186,49 @@ fn reads_what_the_words_name_and_no_more(rt: HostRuntime) -> Result<(), Fail> {
                 ..DONE
             },
         ),
+        (
+            &["list", "foo.s"],
+            End {
+                status: Status::Refused,
+                written: b"aegis: foo.s: Short 7\n",
+                reads: 1,
+                ..DONE
+            },
+        ),
+        (
+            &["list", "foo.s", "foo.s"],
+            End {
+                status: Status::Usage,
+                written: USAGE,
+                reads: 0,
+                ..DONE
+            },
+        ),
+        (
+            &["image", "hi.man"],
+            End {
+                written: &HI,
+                ..DONE
+            },
+        ),
+        (
+            &["image", "twice.man"],
+            End {
+                status: Status::Refused,
+                written: b"aegis: twice.man: Short 141\n",
+                reads: 3,
+                ..DONE
+            },
+        ),
+        (
+            &["image", "foo.s"],
+            End {
+                status: Status::Refused,
+                written: b"aegis: foo.s: Syntax 1\n",
+                reads: 1,
+                ..DONE
+            },
+        ),
     ];
     for (words, end) in &cases {
         let call = Call { words, ..RUN };
@@ -173,7 +249,7 @@ fn a_refused_read_ends_the_call(rt: HostRuntime) -> Result<(), Fail> {
         reads: 1,
         failed: "hi.img",
     };
-    let cases: [(Call<'_>, End<'_>); 5] = [
+    let cases: [(Call<'_>, End<'_>); 7] = [
         (Call { read: 0, ..RUN }, first),
         (
             Call { read: 1, ..RUN },
@@ -212,6 +288,29 @@ fn a_refused_read_ends_the_call(rt: HostRuntime) -> Result<(), Fail> {
             },
             End {
                 failed: "foo.s",
+                ..first
+            },
+        ),
+        (
+            Call {
+                words: &["image", "gone.man"],
+                read: 1,
+                ..RUN
+            },
+            End {
+                reads: 2,
+                failed: "hi.bin",
+                ..first
+            },
+        ),
+        (
+            Call {
+                words: &["image", "gone.man"],
+                ..RUN
+            },
+            End {
+                reads: 3,
+                failed: "no.bin",
                 ..first
             },
         ),

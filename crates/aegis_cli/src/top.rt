@@ -1,11 +1,9 @@
 //! The top call.
-ghost use Rattle.std.specs.Prelude.{◌≡◌, ◌≢◌, IfSome, IfNone, length};
+ghost use Rattle.std.specs.Prelude.{◌≡◌, IfNone, length};
 ghost use Rattle.aegis_cli.specs.Asked.{form_of_words};
 ghost use Rattle.aegis_cli.specs.Edges.{shelf_edge, sink_edge};
-ghost use Rattle.aegis_cli.specs.Files.{IsServed};
-ghost use Rattle.aegis_cli.specs.Due.{usage_text};
-ghost use Rattle.aegis_cli.specs.Outcome.{Outcome, Finished};
-ghost use Rattle.aegis_cli.specs.Headline.{IsHeadline, IsComplete, IsAssembler, IsTaken};
+ghost use Rattle.aegis_cli.specs.Outcome.{Finished, IsOutcome, IsUsage};
+ghost use Rattle.aegis_cli.specs.Headline.{IsAssembler, IsComplete, IsGiven, IsHeadline, IsImager, IsLister, IsTaken};
 
 use crate::status::Status;
 use crate::words::parse;
@@ -30,9 +28,9 @@ fn finish<K: Sink>(out: &mut K, text: &[u8], status: Status) -> Status
 /// Does what the words ask, and says by its status how it ended.
 fn respond<S: Shelf, K: Sink>(alloc: Global, words: &[String], shelf: &mut S, out: &mut K) -> Status
     ensures unread { IfNone (form_of_words words.now) (shelf.new ≡ shelf.old) }
-    ensures no_form { IfNone (form_of_words words.now) (Finished Status.Usage usage_text (sink_edge K.Sink out.old out.new) result) }
-    ensures form { IfSome (form_of_words words.now) (λ form. Outcome form (shelf_edge S.Shelf shelf.old shelf.new) (sink_edge K.Sink out.old out.new) result) }
-    ensures served { IfSome (form_of_words words.now) (λ form. IsServed form (shelf_edge S.Shelf shelf.old shelf.new) → result ≢ Status.ReadFault) }
+    ensures no_form { IsUsage (form_of_words words.now) (sink_edge K.Sink out.old out.new) result }
+    ensures form { IsOutcome (form_of_words words.now) (shelf_edge S.Shelf shelf.old shelf.new) (sink_edge K.Sink out.old out.new) result }
+    ensures served { IsGiven (form_of_words words.now) (shelf_edge S.Shelf shelf.old shelf.new) result }
     ensures taken { IsTaken (form_of_words words.now) (shelf_edge S.Shelf shelf.old shelf.new) (sink_edge K.Sink out.old out.new) result }
 {
     let Some(words) = parse(words) else {
@@ -61,16 +59,20 @@ pub fn aegis<S: Shelf, K: Sink>(
     // What asm writes is the ELF file of what its source assembles to.
     ensures assembles { IsAssembler (form_of_words words.now) (shelf_edge S.Shelf shelf.old shelf.new) (sink_edge K.Sink out.old out.new) result }
 
+    // What list writes is the listing of its ELF file, and what image writes is the image of its manifest.
+    ensures lists { IsLister (form_of_words words.now) (shelf_edge S.Shelf shelf.old shelf.new) (sink_edge K.Sink out.old out.new) result }
+    ensures images { IsImager (form_of_words words.now) (shelf_edge S.Shelf shelf.old shelf.new) (sink_edge K.Sink out.old out.new) result }
+
     // Words that are no form are answered so, no file is read, and no memory is wanted.
     ensures unread { IfNone (form_of_words words.now) (shelf.new ≡ shelf.old) }
-    ensures no_form { IfNone (form_of_words words.now) (Finished Status.Usage usage_text (sink_edge K.Sink out.old out.new) result) }
+    ensures no_form { IsUsage (form_of_words words.now) (sink_edge K.Sink out.old out.new) result }
 
     // What holds for words of a form, by the status, of what was read and what was written; no other status
     // comes.
-    ensures form { IfSome (form_of_words words.now) (λ form. Outcome form (shelf_edge S.Shelf shelf.old shelf.new) (sink_edge K.Sink out.old out.new) result) }
+    ensures form { IsOutcome (form_of_words words.now) (shelf_edge S.Shelf shelf.old shelf.new) (sink_edge K.Sink out.old out.new) result }
 
     // A shelf that is sure to serve the names gives no fault of reading.
-    ensures served { IfSome (form_of_words words.now) (λ form. IsServed form (shelf_edge S.Shelf shelf.old shelf.new) → result ≢ Status.ReadFault) }
+    ensures served { IsGiven (form_of_words words.now) (shelf_edge S.Shelf shelf.old shelf.new) result }
 
     // A sink that is sure to take what is due, or the usage, gives no fault of writing.
     ensures taken { IsTaken (form_of_words words.now) (shelf_edge S.Shelf shelf.old shelf.new) (sink_edge K.Sink out.old out.new) result }

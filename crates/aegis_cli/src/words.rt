@@ -1,7 +1,7 @@
 //! The words of the command line.
 ghost use Rattle.std.specs.Prelude.{◌≡◌, IfSome};
 ghost use Rattle.std.specs.Option.{option_map};
-ghost use Rattle.aegis_cli.specs.Words.{ticks_of};
+ghost use Rattle.aegis_cli.specs.Words.{one_file_form, ticks_of};
 ghost use Rattle.aegis_cli.specs.Asked.{form_of_words, form_seen, IsWithin};
 
 use aegis_limits::MOST_TICKS;
@@ -16,13 +16,24 @@ pub struct RunWords<'a> {
     pub ticks: u32,
 }
 
+/// What is made of one file.
+#[derive(Clone, Copy)]
+pub enum FileCommand {
+    /// `asm SOURCE`: the ELF file that a source assembles to.
+    Assemble,
+    /// `list ELF`: the listing of an ELF file.
+    List,
+}
+
 /// What the words ask for.
 #[derive(Clone, Copy)]
 pub enum Words<'a> {
     /// `run IMAGE SCHEDULE TICKS`.
     Run(RunWords<'a>),
-    /// `asm SOURCE`: the name of a source.
-    Asm(&'a str),
+    /// A command on one file, and the file's name.
+    File(FileCommand, &'a str),
+    /// `image MANIFEST`: the name of a manifest.
+    Image(&'a str),
 }
 
 /// A number of ticks.
@@ -46,7 +57,24 @@ pub fn parse(words: &[String]) -> Option<Words<'_>>
                 ticks,
             }))
         }
-        [command, source] if command.as_str() == "asm" => Some(Words::Asm(source.as_str())),
+        [command, name] => parse_file(command.as_str(), name.as_str()),
         _ => None,
     }
+}
+
+/// The form of a command and the name of one file, if they are one.
+fn parse_file<'a>(command: &str, name: &'a str) -> Option<Words<'a>>
+    ensures form { option_map form_seen result ≡ one_file_form command.now name.now }
+    ensures limit { IfSome result IsWithin }
+{
+    if command == "asm" {
+        return Some(Words::File(FileCommand::Assemble, name));
+    }
+    if command == "list" {
+        return Some(Words::File(FileCommand::List, name));
+    }
+    if command == "image" {
+        return Some(Words::Image(name));
+    }
+    None
 }

@@ -3,22 +3,40 @@ ghost use Rattle.std.specs.Prelude.{◌≡◌, ◌++◌, IfOk, IfErr, OnOk, OnEr
 ghost use Rattle.aegis_cli.specs.Asked.{form_seen, IsWithin};
 ghost use Rattle.aegis_cli.specs.Edges.{shelf_edge};
 ghost use Rattle.aegis_cli.specs.Files.{IsServed};
-ghost use Rattle.aegis_cli.specs.Due.{refusal_text};
-ghost use Rattle.aegis_cli.specs.Work.{Performed, Stopped};
+ghost use Rattle.aegis_cli.specs.Due.{Refusal, refusal_text};
+ghost use Rattle.aegis_cli.specs.Work.{Performed, Settles, Stopped, StopsByWantAlone};
 
-use crate::assembling::perform_asm;
+use crate::imaging::perform_image;
+use crate::one_file::perform_file;
 use crate::reporting::perform_run;
 use crate::status::Status;
 use crate::words::Words;
 use edge_io::{OutOfMemory, ReadFail, Shelf};
 use line_text::push_dec;
-use std::alloc::Global;
+use std::alloc::{AllocFailed, Global};
 
 /// What is to be written, and the status once it is.
 #[derive(Drop)]
 pub struct Answer {
     pub text: Vec<u8>,
     pub status: Status,
+}
+
+impl Answer {
+    /// The refusal of a file: its name, why, and where.
+    pub(crate) fn refusal(
+        alloc: Global,
+        name: &str,
+        why: &str,
+        place: u32,
+    ) -> Result<Answer, OutOfMemory>
+        ensures { IfOk result (Settles (Refusal (refusal_text name.now why.now place))) }
+    {
+        Ok(Answer {
+            text: refusal_text(alloc, name, why, place)?,
+            status: Status::Refused,
+        })
+    }
 }
 
 /// Why there is nothing to write.
@@ -44,6 +62,17 @@ impl From<ReadFail> for Stop {
     }
 }
 
+impl<T: Drop> From<AllocFailed<T>> for Stop {
+    ghost use Rattle.std.specs.Prelude.{◌≡◌};
+    ghost use Rattle.aegis_cli.specs.declared.work.Stop.TheVariants as stop;
+
+    ghost from_gives = { λ e s. s ≡ stop.OutOfMemory };
+
+    fn from(_e: AllocFailed<T>) -> Stop {
+        Stop::OutOfMemory
+    }
+}
+
 impl From<OutOfMemory> for Stop {
     ghost use Rattle.std.specs.Prelude.{◌≡◌};
     ghost use Rattle.aegis_cli.specs.declared.work.Stop.TheVariants as stop;
@@ -66,12 +95,7 @@ fn push(out: &mut Vec<u8>, text: &[u8]) -> Result<(), OutOfMemory>
 
 /// Which file is refused, why, and where.
 #[tactic(auto, unfolding(crate::specs::Due::refusal_text))]
-pub(crate) fn refusal(
-    alloc: Global,
-    name: &str,
-    why: &str,
-    place: u32,
-) -> Result<Vec<u8>, OutOfMemory>
+fn refusal_text(alloc: Global, name: &str, why: &str, place: u32) -> Result<Vec<u8>, OutOfMemory>
     ensures { IfOk result (λ text. text.items ≡ refusal_text name.now why.now place) }
 {
     let mut text = Vec::new(alloc);
@@ -90,10 +114,11 @@ pub fn perform<S: Shelf>(alloc: Global, words: Words<'_>, shelf: &mut S) -> Resu
     requires { IsWithin words }
     ensures ok { IfOk result (Performed (form_seen words.entry) (shelf_edge S.Shelf shelf.old shelf.new)) }
     ensures err { IfErr result (Stopped (form_seen words.entry) (shelf_edge S.Shelf shelf.old shelf.new)) }
-    ensures sure { IsServed (form_seen words.entry) (shelf_edge S.Shelf shelf.old shelf.new) → IfErr result (λ s. s ≡ Stop.OutOfMemory) }
+    ensures sure { IsServed (form_seen words.entry) (shelf_edge S.Shelf shelf.old shelf.new) → StopsByWantAlone result }
 {
     match words {
         Words::Run(words) => perform_run(alloc, words, shelf),
-        Words::Asm(name) => perform_asm(alloc, name, shelf),
+        Words::File(command, name) => perform_file(alloc, command, name, shelf),
+        Words::Image(name) => perform_image(alloc, name, shelf),
     }
 }
