@@ -6,11 +6,13 @@ A manifest is a text of these lines, in this order; `#` begins a comment:
     pages N
     quantum N
     slots X ..                              an environment's number for each slot, or - for an empty one
-    env NAME flat BASE STACK ACCEPT FILE    once for each environment
+    env NAME flat BASE STACK ACCEPT FILE    once for each environment, or
+    env NAME elf STACK ACCEPT FILE
 
-FILE stands beside the manifest and has the program's bytes. A FILE that ends in .bin and isn't there is made of what
-has its name: of a source .s by `aegis asm` (the bytes of its parts, one behind the other), or of hexadecimal digits
-in .hex. Whether the image has no fault is left to `aegis run`. The image's layout is in docs/FORMATS.md.
+FILE stands beside the manifest and has the program's bytes. A FILE that isn't there is made of what has its name: of
+a source .s by `aegis asm` (all of an .elf file, and for a .bin file the bytes of its parts, one behind the other), or
+of hexadecimal digits in .hex. Whether the image has no fault is left to `aegis run`. The image's layout is in
+docs/FORMATS.md. What `aegis image` makes is compared with what this makes.
 """
 import os
 import struct
@@ -38,18 +40,20 @@ def bytes_of_elf(elf):
 
 
 def assembled(aegis, source):
+    """The ELF file of a source."""
     ran = subprocess.run([aegis, "asm", source], stdout=subprocess.PIPE)
     if ran.returncode:
         raise Refused(ran.stdout.decode(errors="replace").strip() or f"asm {source} ended with {ran.returncode}")
-    return bytes_of_elf(ran.stdout)
+    return ran.stdout
 
 
 def body(aegis, path):
     """The bytes of a program's file."""
     stem, ending = os.path.splitext(path)
-    if ending == ".bin" and not os.path.exists(path):
+    if ending in (".bin", ".elf") and not os.path.exists(path):
         if os.path.exists(f"{stem}.s"):
-            return assembled(aegis, f"{stem}.s")
+            elf = assembled(aegis, f"{stem}.s")
+            return elf if ending == ".elf" else bytes_of_elf(elf)
         if os.path.exists(f"{stem}.hex"):
             return bytes.fromhex("".join("".join(words) for _, words in lines_of(f"{stem}.hex")))
     with open(path, "rb") as file:
@@ -65,17 +69,17 @@ def packed(aegis, manifest):
             if words[0] != wanted:
                 raise ValueError
             if wanted == "env":
+                if words[2] == "elf":
+                    words.insert(3, "0")  # the file itself says where it stands
                 name, kind, base, stack, accept, file = words[1:]
-                if kind != "flat":
-                    raise ValueError
                 code = body(aegis, os.path.join(folder, file))
-                numbers = [int(base, 0), int(stack, 0), int(accept, 0), 0, len(code)]
+                numbers = [int(base, 0), int(stack, 0), int(accept, 0), ("flat", "elf").index(kind), len(code)]
                 programs.append(struct.pack("<8s5I", name.encode(), *numbers) + code)
             elif wanted == "slots":
                 fields[wanted] = bytes(255 if word == "-" else int(word, 0) for word in words[1:])
             else:
                 fields[wanted] = int(*words[1:], 0)
-        except (ValueError, TypeError, struct.error):
+        except (ValueError, TypeError, IndexError, struct.error):
             raise Refused(f"{manifest}: line {number} isn't of the form of a manifest's '{wanted}' line") from None
     if not programs:
         raise Refused(f"{manifest}: it ends too early")

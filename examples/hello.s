@@ -6,5 +6,6 @@ start:  la   $4, text
         li   $4, 0
         li   $2, 2              # exit, with the code in $4
         syscall
+.data
 text:   .ascii "hello\n"
 .equ    length, 6

@@ -1,6 +1,5 @@
-# Where a program begins: it calls main, and exits with what that returns. The stack pointer is set by the kernel.
+# Where a program begins: it calls main, and exits with what that returns. The kernel has set the stack pointer.
         .set    noreorder
-        .section .text.start
         .globl  start
 start:  jal     main
         nop

@@ -1,10 +1,12 @@
-/* Yields five times, and counts how often the time rose. */
+/* Yields five times, and prints how often the time rose. */
 #include "aegis.h"
+
+unsigned left = 5; /* each environment counts down its own */
 
 int main(void)
 {
     unsigned rose = 0;
-    for (unsigned turn = 0; turn < 5; turn++) {
+    for (; left > 0; left--) {
         unsigned before = aegis_clock();
         aegis_yield();
         rose += aegis_clock() > before;
