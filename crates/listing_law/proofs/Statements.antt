@@ -11,7 +11,7 @@ use Rattle.asm_parse.specs.Operand.{OperandValue, Value}
 use Rattle.asm_parse.specs.declared.fault.AsmWhy.{AsmWhy}
 use Rattle.asm_parse.specs.declared.fault.AsmWhy.TheVariants.{UnknownName}
 use Rattle.asm_parse.specs.declared.syntax.AsmBody.TheVariants as bodies
-use Rattle.mips_isa.specs.Decoding.{insn_of}
+use Rattle.mips_isa.specs.Encoding.{insn_of}
 use Rattle.mips_text.specs.Texts.{text_of}
 use Rattle.mips_text.specs.WordRows.{is_nameless, row_of}
 use Rattle.mips_text.specs.declared.text.Text.{Text}

@@ -1,7 +1,7 @@
 -- An instruction that loads or stores completes, whatever it is answered.
 use Rattle.std.proofs.Common.{◌≡◌, ℕ, Option, Some, None, refl, Bool, true, false, List, Ok, ◌%◌, arith, ◌∙◌}
 use mathlib.Core.Path.{ap}
-use Rattle.mips_isa.specs.Decoding.{insn_of}
+use Rattle.mips_isa.specs.Encoding.{insn_of}
 use Rattle.mips_isa.specs.declared.insn.Insn.{Insn}
 use Rattle.mips_isa.specs.declared.insn.Insn.TheVariants.{Lb, Lh, Lwl, Lw, Lbu, Lhu, Lwr, Sb, Sh, Swl, Sw, Swr}
 use Rattle.mips_exec.specs.declared.registers.Cpu.{Cpu}

@@ -1,6 +1,6 @@
 -- One step of a user program.
 use Rattle.std.specs.Prelude.{ℕ, ◌%◌, ◌==◌, if◌then◌else◌, Option, Some, None, Result, Ok, Err, List}
-use Rattle.mips_isa.specs.Decoding.{insn_of}
+use Rattle.mips_isa.specs.Encoding.{insn_of}
 use Rattle.mips_isa.specs.declared.insn.Insn.{Insn}
 use Rattle.mips_exec.specs.declared.registers.Cpu.{Cpu}
 use Rattle.mips_exec.specs.declared.reach.Access.{Access}

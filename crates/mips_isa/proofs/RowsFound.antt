@@ -5,8 +5,7 @@ use Rattle.std.specs.Prelude.{IsTrue, ◌==◌, ◌&&◌, if◌then◌else◌}
 use Rattle.mips_isa.specs.declared.insn.Insn.{Insn}
 use Rattle.mips_isa.specs.declared.insn.Insn.TheVariants.{Cop, Reserved}
 use Rattle.mips_isa.specs.Fields.{opcode_of, rs_of, rt_of, rd_of, sh_of, function_of, code_of, imm_of, target_of}
-use Rattle.mips_isa.specs.Encoding.{RegisterFits, CodedFits, ImmediateFits, JumpFits, form_of, register_word, coded_word, immediate_word, jump_word, is_coprocessor, IsRow}
-use Rattle.mips_isa.specs.Decoding.{Row, find_row, special_rows, special_of, regimm_rows, regimm_of, system_operation_rows, system_operation_of, system_rows, system_of, opcode_rows, coprocessor_of, insn_of}
+use Rattle.mips_isa.specs.Encoding.{RegisterFits, CodedFits, ImmediateFits, JumpFits, form_of, register_word, coded_word, immediate_word, jump_word, is_coprocessor, IsRow, Row, find_row, special_rows, special_of, regimm_rows, regimm_of, system_operation_rows, system_operation_of, system_rows, system_of, opcode_rows, coprocessor_of, insn_of}
 
 -- a row has w, or the instruction is the reserved word w
 abbrev pub IsFound : ℕ → Insn → Type 0

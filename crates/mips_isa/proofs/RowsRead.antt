@@ -5,8 +5,7 @@ use Rattle.std.specs.Prelude.{IsTrue}
 use Rattle.mips_isa.specs.declared.insn.Insn.{Insn}
 use Rattle.mips_isa.specs.declared.insn.Insn.TheVariants.{Sll, Srl, Sra, Sllv, Srlv, Srav, Jr, Jalr, Syscall, Break, Mfhi, Mthi, Mflo, Mtlo, Mult, Multu, Div, Divu, Add, Addu, Sub, Subu, And, Or, Xor, Nor, Slt, Sltu, Bltz, Bgez, Bltzal, Bgezal, J, Jal, Beq, Bne, Blez, Bgtz, Addi, Addiu, Slti, Sltiu, Andi, Ori, Xori, Lui, Lb, Lh, Lwl, Lw, Lbu, Lhu, Lwr, Sb, Sh, Swl, Sw, Swr, Mfc0, Mtc0, Tlbr, Tlbwi, Tlbwr, Tlbp, Rfe, Cop, Reserved}
 use Rattle.mips_isa.specs.Fields.{opcode_of, rs_of, rt_of, rd_of, sh_of, function_of, code_of, imm_of, target_of}
-use Rattle.mips_isa.specs.Encoding.{RegisterFits, CodedFits, ImmediateFits, form_of, register_word, coded_word, immediate_word, jump_word, is_coprocessor, IsRow}
-use Rattle.mips_isa.specs.Decoding.{insn_of, special_of, regimm_of, system_of, system_operation_of}
+use Rattle.mips_isa.specs.Encoding.{RegisterFits, CodedFits, ImmediateFits, form_of, register_word, coded_word, immediate_word, jump_word, is_coprocessor, IsRow, insn_of, special_of, regimm_of, system_of, system_operation_of}
 
 -- the fields of a word of each form
 pub record HasRegister (w op rs rt rd sh function : ℕ) : Type 0 where

@@ -2,8 +2,7 @@
 use Rattle.std.proofs.Common.{◌≡◌, ℕ, ◌⊎◌, inl, inr, refl, sym, ◌∙◌, ap, subst}
 use Rattle.mips_isa.specs.declared.insn.Insn.{Insn}
 use Rattle.mips_isa.specs.declared.insn.Insn.TheVariants.{Reserved}
-use Rattle.mips_isa.specs.Encoding.{form_of, IsRow, Spells}
-use Rattle.mips_isa.specs.Decoding.{insn_of}
+use Rattle.mips_isa.specs.Encoding.{form_of, IsRow, Spells, insn_of}
 use Rattle.mips_isa.proofs.RowsRead.{insn_of-row}
 use Rattle.mips_isa.proofs.RowsFound.{IsFound, insn_of-found}
 

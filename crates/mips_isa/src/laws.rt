@@ -1,8 +1,7 @@
 //! The laws of words and instructions.
 ghost use Rattle.std.specs.Prelude.{◌≡◌, ℕ};
 ghost use Rattle.mips_isa.specs.declared.insn.Insn.{Insn};
-ghost use Rattle.mips_isa.specs.Decoding.{insn_of};
-ghost use Rattle.mips_isa.specs.Encoding.{IsEncodable, Spells, word_of};
+ghost use Rattle.mips_isa.specs.Encoding.{insn_of, IsEncodable, Spells, word_of};
 
 use crate::insn::Insn;
 

@@ -7,8 +7,6 @@
 //! are sign-extended, merged and cut into bytes.
 #![tactic(auto)]
 
-mod decoder;
-mod encoder;
 mod fields;
 mod insn;
 mod laws;
@@ -16,9 +14,7 @@ mod laws;
 mod tests;
 mod words;
 
-pub use decoder::decode;
-pub use encoder::encode;
-pub use insn::Insn;
+pub use insn::{Insn, decode, encode};
 pub use laws::{
     each_word_spells_one_instruction, one_word_spells_each_instruction, only_word_spells,
 };

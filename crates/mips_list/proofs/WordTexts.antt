@@ -1,7 +1,7 @@
 -- The text of a word by its row.
 use Rattle.std.proofs.Common.{◌≡◌, ℕ, List, Some, false, sym, ap, ◌∙◌}
 use Rattle.std.specs.Option.{is_none}
-use Rattle.mips_isa.specs.Decoding.{insn_of}
+use Rattle.mips_isa.specs.Encoding.{insn_of}
 use Rattle.mips_text.specs.WordRows.{is_nameless, row_of}
 use Rattle.mips_text.specs.declared.text.Text.{Text}
 use Rattle.mips_text.proofs.NamedWords.{nameless_rows}

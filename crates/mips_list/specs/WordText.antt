@@ -2,7 +2,7 @@
 use Rattle.std.specs.Prelude.{ℕ, ◌+◌, ◌-◌, ◌*◌, ◌/◌, ◌%◌, ◌^◌, List, [], ◌∷◌, ◌++◌, Option, Some, None, nat_lt, ◌==◌, if◌then◌else◌, codes}
 use Rattle.std.specs.Str.{byte}
 use Rattle.line_text.specs.Text.{dec_text, hex_text}
-use Rattle.mips_isa.specs.Decoding.{insn_of}
+use Rattle.mips_isa.specs.Encoding.{insn_of}
 use Rattle.mips_isa.specs.Word.{sign16_of}
 use Rattle.mips_text.specs.WordRows.{field_of, is_nameless, row_of, slot_of}
 use Rattle.mips_text.specs.declared.shape.Field.{Field}

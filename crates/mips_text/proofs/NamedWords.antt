@@ -10,8 +10,7 @@ use Rattle.std.specs.Option.{is_some, is_none, unwrap_or}
 use Rattle.mips_isa.specs.declared.insn.Insn.{Insn}
 use Rattle.mips_isa.specs.declared.insn.Insn.TheVariants.{Sll, Srl, Sra, Sllv, Srlv, Srav, Jr, Jalr, Syscall, Break, Mfhi, Mflo, Mthi, Mtlo, Mult, Multu, Div, Divu, Add, Sub, Addu, Subu, And, Or, Xor, Nor, Slt, Sltu, Bltz, Bgez, Bltzal, Bgezal, J, Jal, Beq, Bne, Blez, Bgtz, Addi, Addiu, Slti, Sltiu, Andi, Ori, Xori, Lui, Lb, Lh, Lbu, Lhu, Lw, Lwl, Lwr, Sb, Sh, Sw, Swl, Swr, Mfc0, Mtc0, Tlbr, Tlbwi, Tlbwr, Tlbp, Rfe, Cop, Reserved}
 use Rattle.mips_isa.specs.Fields.{rs_of, rt_of, rd_of, sh_of, code_of, imm_of, target_of}
-use Rattle.mips_isa.specs.Encoding.{RegisterFits, CodedFits, ImmediateFits, JumpFits, Spells, IsRow, form_of, register_word, coded_word, immediate_word, jump_word}
-use Rattle.mips_isa.specs.Decoding.{insn_of}
+use Rattle.mips_isa.specs.Encoding.{RegisterFits, CodedFits, ImmediateFits, JumpFits, Spells, IsRow, form_of, register_word, coded_word, immediate_word, jump_word, insn_of}
 use Rattle.mips_isa.proofs.RowsRead.{insn_of-row}
 use Rattle.mips_isa.proofs.Spelling.{spells_insn_of}
 use Rattle.mips_text.specs.Texts.{special_rows, immediate_rows, memory_rows, system_rows}

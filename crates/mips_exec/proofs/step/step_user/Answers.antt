@@ -1,7 +1,7 @@
 -- The fetch stores nothing, and an instruction that loads or stores completes.
 use Rattle.std.proofs.Common.{◌≡◌, Option, Some, Ok}
 use mathlib.Core.Path.{ap, sym, subst, ◌∙◌}
-use Rattle.mips_isa.specs.Decoding.{insn_of}
+use Rattle.mips_isa.specs.Encoding.{insn_of}
 use Rattle.mips_exec.specs.Access.{write_of, Write, access}
 use Rattle.mips_exec.specs.Step.{Answers, answered, step_of, view_of, write_after, Wrote}
 use Rattle.mips_exec.proofs.Completion.{write_after-step, Wrote-since}

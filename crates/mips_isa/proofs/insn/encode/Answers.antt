@@ -2,10 +2,9 @@ use Rattle.std.proofs.Common.{◌≡◌, ℕ, Option, Some, None, sym, ◌∙◌
 use Rattle.std.specs.Prelude.{IfSome, IfNone}
 use Rattle.std.specs.Option.{SomeIff}
 use Rattle.mips_isa.specs.declared.insn.Insn.{Insn}
-use Rattle.mips_isa.specs.Encoding.{IsEncodable, Spells, word_of}
-use Rattle.mips_isa.specs.Decoding.{insn_of}
+use Rattle.mips_isa.specs.Encoding.{IsEncodable, Spells, word_of, insn_of}
 use Rattle.mips_isa.proofs.Spelling.{insn_of-spelled, spells_insn_of}
-use Rattle.mips_isa.proofs.encoder.encode.Goals as goal
+use Rattle.mips_isa.proofs.insn.encode.Goals as goal
 
 module _ (insn : Insn) where
   spells : (found : Option ℕ) → SomeIff found (IsEncodable insn) (word_of insn) → IfSome found (λ w. Spells w insn)
