@@ -1,15 +1,96 @@
 -- What a word is read as is a row of the table that the word has, or the reserved word itself.
-use Rattle.std.proofs.Common.{◌≡◌, ℕ, ◌%◌, ◌^◌, ◌<◌, ◌⊎◌, Bool, true, false, List, [], ◌∷◌, inl, inr, refl, arith, lit<, eqb-true}
+use Rattle.std.proofs.Common.{◌≡◌, ℕ, ◌%◌, ◌^◌, ◌⊎◌, Bool, true, false, List, [], ◌∷◌, map, drop, inl, inr, refl, ap, arith, eqb-true, sym, subst}
+use Rattle.std.proofs.lemmas.Bool.{ltb-true}
 use Rattle.std.proofs.lemmas.Bool.Decides.{eqb_tells}
-use Rattle.std.specs.Prelude.{IsTrue, ◌==◌, ◌&&◌, if◌then◌else◌}
+use Rattle.std.specs.Prelude.{IsTrue, nat_lt, ◌==◌, ◌&&◌, if◌then◌else◌}
 use Rattle.mips_isa.specs.declared.insn.Insn.{Insn}
 use Rattle.mips_isa.specs.declared.insn.Insn.TheVariants.{Cop, Reserved}
 use Rattle.mips_isa.specs.Fields.{opcode_of, rs_of, rt_of, rd_of, sh_of, function_of, code_of, imm_of, target_of}
-use Rattle.mips_isa.specs.Encoding.{RegisterFits, CodedFits, ImmediateFits, JumpFits, form_of, register_word, coded_word, immediate_word, jump_word, is_coprocessor, IsRow, Row, find_row, special_rows, special_of, regimm_rows, regimm_of, system_operation_rows, system_operation_of, system_rows, system_of, opcode_rows, coprocessor_of, insn_of}
+use Rattle.mips_isa.specs.Encoding.{Form, Register, Coded, Immediate, Jump, Coprocessor, Whole, FormFits, form_of, form_word, is_coprocessor, IsRow, Row, entry, find_row, special_rows, special_of, regimm_rows, regimm_of, system_operation_rows, system_operation_of, system_rows, system_of, opcode_rows, coprocessor_of, insn_of}
+use Rattle.mips_isa.proofs.RowsRead.{opcode_in, rs_in, rt_in, function_in, operation_in}
 
 -- a row has w, or the instruction is the reserved word w
 abbrev pub IsFound : ℕ → Insn → Type 0
 IsFound w insn = IsRow w insn ⊎ (insn ≡ Reserved w)
+
+-- Forms that a word has.
+
+-- the fields of the word are those of the form, and the opcode is one
+abbrev Holds : ℕ → Form → Type 0
+Holds w (Register op rs rt rd sh function) = IsTrue (nat_lt op (2 ^ 6)) × (opcode_of w ≡ op) × (rs_of w ≡ rs) × (rt_of w ≡ rt) × (rd_of w ≡ rd) × (sh_of w ≡ sh) × (function_of w ≡ function)
+Holds w (Coded code function) = (opcode_of w ≡ 0) × (code_of w ≡ code) × (function_of w ≡ function)
+Holds w (Immediate op rs rt imm) = IsTrue (nat_lt op (2 ^ 6)) × (opcode_of w ≡ op) × (rs_of w ≡ rs) × (rt_of w ≡ rt) × (imm_of w ≡ imm)
+Holds w (Jump op target) = IsTrue (nat_lt op (2 ^ 6)) × (opcode_of w ≡ op) × (target_of w ≡ target)
+Holds w (Coprocessor op rest) = IsTrue (is_coprocessor op) × (opcode_of w ≡ op) × (target_of w ≡ rest)
+Holds w (Whole value) = ⊥
+
+has_form : (w : ℕ) (form : Form) → Holds w form → FormFits form × (w ≡ form_word form)
+has_form w (Register op rs rt rd sh function) h = omega (arith, ltb-true)
+has_form w (Coded code function) h = omega arith
+has_form w (Immediate op rs rt imm) h = omega (arith, ltb-true)
+has_form w (Jump op target) h = omega (arith, ltb-true)
+has_form w (Coprocessor op rest) h = (record { is_opcode = h.0; rest_fits = omega arith }, omega arith)
+has_form w (Whole value) h = absurd h
+
+-- Keys: what tells a form's words from those of all others.
+
+data Key : Type 0 where
+  Special : ℕ → Key
+  Regimm : ℕ → Key
+  System : ℕ → Key
+  Operation : ℕ → Key
+  Opcode : ℕ → Key
+
+abbrev HasKey : ℕ → Key → Type 0
+HasKey w (Special function) = (opcode_of w ≡ 0) × (function_of w ≡ function)
+HasKey w (Regimm rt) = (opcode_of w ≡ 1) × (rt_of w ≡ rt)
+HasKey w (System rs) = (opcode_of w ≡ 16) × (rs_of w ≡ rs)
+HasKey w (Operation low) = (opcode_of w ≡ 16) × (rs_of w ≡ 16) × (w % 2 ^ 21 ≡ low)
+HasKey w (Opcode op) = opcode_of w ≡ op
+
+abbrev key_of : Form → Key
+key_of form =
+    if opcode_in form == 0 then Special (function_in form)
+    else (if opcode_in form == 1 then Regimm (rt_in form)
+    else (if opcode_in form == 16 then (if rs_in form == 16 then Operation (operation_in form) else System (rs_in form))
+    else Opcode (opcode_in form)))
+
+-- the row of a table with this key
+abbrev at : ℕ → List Row → Row
+at key [] = entry key false (Reserved 0)
+at key (r ∷ rows) = if key == r.key then r else at key rows
+
+abbrev row_at : ℕ → Key → Row
+row_at w (Special function) = at function (special_rows w)
+row_at w (Regimm rt) = at rt (regimm_rows w)
+row_at w (System rs) = at rs (system_rows w)
+row_at w (Operation low) = at low system_operation_rows
+row_at w (Opcode op) = at op (opcode_rows w)
+
+abbrev row_for : ℕ → Insn → Row
+row_for w insn = row_at w (key_of (form_of insn))
+
+abbrev is_listed : Insn → Bool
+is_listed (Cop op rest) = false
+is_listed (Reserved value) = false
+is_listed _ = true
+
+and_left : (a b : Bool) → IsTrue (a && b) → IsTrue a
+and_left true b is = refl
+and_left false b is = cc
+
+and_right : (a b : Bool) → IsTrue (a && b) → IsTrue b
+and_right true b is = is
+and_right false b is = cc
+
+-- a word with an instruction's key, whose unused fields are 0, has the row
+has_row : (w : ℕ) (insn : Insn) → is_listed insn ≡ true → HasKey w (key_of (form_of insn)) → IsTrue (row_for w insn).is_clear → IsRow w (row_for w insn).insn
+unfolding form_of
+has_row w (Cop op rest) listed key clear = cc
+has_row w (Reserved value) listed key clear = cc
+has_row w insn listed key clear = has_form w (form_of (row_for w insn).insn) (search (eqb-true, and_left, and_right, arith))
+
+-- Tables.
 
 -- each row with this key and clear fields has an instruction of which P holds
 abbrev AllRows : (Insn → Type 0) → ℕ → List Row → Type 0
@@ -34,250 +115,48 @@ find_row-All P key (r ∷ rows) other all on_other =
     (λ is. by_clear P r.is_clear r.insn other (all.0 is) on_other)
     (find_row-All P key rows other all.1 on_other)
 
--- w has a form whose fields fit
-abbrev IsRegister : (w op rs rt rd sh function : ℕ) → Type 0
-IsRegister w op rs rt rd sh function = RegisterFits op rs rt rd sh function × (w ≡ register_word op rs rt rd sh function)
+-- a row with what a table of keys says of it
+record Seen : Type 0 where
+  row : Row
+  key : Key
+  listed : Bool
 
-abbrev IsCoded : (w code function : ℕ) → Type 0
-IsCoded w code function = CodedFits code function × (w ≡ coded_word code function)
+abbrev seen : ℕ → Row → Seen
+seen w r = record { row = row_for w r.insn; key = key_of (form_of r.insn); listed = is_listed r.insn }
 
-abbrev IsImmediate : (w op rs rt imm : ℕ) → Type 0
-IsImmediate w op rs rt imm = ImmediateFits op rs rt imm × (w ≡ immediate_word op rs rt imm)
+abbrev meant : (ℕ → Key) → Row → Seen
+meant key r = record { row = r; key = key r.key; listed = true }
 
-abbrev IsJump : (w op target : ℕ) → Type 0
-IsJump w op target = JumpFits op target × (w ≡ jump_word op target)
+row_found : (w : ℕ) (r : Row) (insn : Insn) → row_for w insn ≡ r → is_listed insn ≡ true → HasKey w (key_of (form_of insn)) → IsTrue r.is_clear → IsFound w r.insn
+row_found w r insn is listed key clear = subst (λ q. IsTrue q.is_clear → IsFound w q.insn) is (λ c. inl (has_row w insn listed key c)) clear
 
--- a word is the sum of its fields
-IsRegister-whole : (w function : ℕ) → opcode_of w ≡ 0 → function_of w ≡ function → IsRegister w 0 (rs_of w) (rt_of w) (rd_of w) (sh_of w) function
-IsRegister-whole w function op_is function_is = (
-  record {
-    op_fits = lit< tt;
-    rs_fits = omega arith;
-    rt_fits = omega arith;
-    rd_fits = omega arith;
-    sh_fits = omega arith;
-    function_fits = omega arith;
-  },
-  omega arith,
-)
-
-IsImmediate-whole : (w op : ℕ) → op < 2 ^ 6 → opcode_of w ≡ op → IsImmediate w op (rs_of w) (rt_of w) (imm_of w)
-IsImmediate-whole w op below op_is = (
-  record { op_fits = below; rs_fits = omega arith; rt_fits = omega arith; imm_fits = omega arith },
-  omega arith,
-)
-
-IsJump-whole : (w op : ℕ) → op < 2 ^ 6 → opcode_of w ≡ op → IsJump w op (target_of w)
-IsJump-whole w op below op_is = (record { op_fits = below; target_fits = omega arith }, omega arith)
-
-IsCoded-whole : (w function : ℕ) → opcode_of w ≡ 0 → function_of w ≡ function → IsCoded w (code_of w) function
-IsCoded-whole w function op_is function_is = (
-  record { code_fits = omega arith; function_fits = omega arith },
-  omega arith,
-)
-
-both : (a b : Bool) → IsTrue (a && b) → IsTrue a × IsTrue b
-both true b is = (refl, is)
-both false b is = cc
-
--- words of opcode 0 by their unused fields
-module _ (w function : ℕ) (op_is : opcode_of w ≡ 0) (function_is : function_of w ≡ function) where
-  without_rs : IsTrue (rs_of w == 0) → IsRegister w 0 0 (rt_of w) (rd_of w) (sh_of w) function
-  without_rs clear = rw (eqb-true _ _ clear) at (IsRegister-whole w function op_is function_is)
-
-  without_sh : IsTrue (sh_of w == 0) → IsRegister w 0 (rs_of w) (rt_of w) (rd_of w) 0 function
-  without_sh clear = rw (eqb-true _ _ clear) at (IsRegister-whole w function op_is function_is)
-
-  without_rd_sh : IsTrue (rd_of w == 0 && sh_of w == 0) → IsRegister w 0 (rs_of w) (rt_of w) 0 0 function
-  without_rd_sh clear =
-      let parts = both _ _ clear in
-      rw (eqb-true _ _ parts.0) at (without_sh parts.1)
-
-  without_rt_sh : IsTrue (rt_of w == 0 && sh_of w == 0) → IsRegister w 0 (rs_of w) 0 (rd_of w) 0 function
-  without_rt_sh clear =
-      let parts = both _ _ clear in
-      rw (eqb-true _ _ parts.0) at (without_sh parts.1)
-
-  without_rt_rd_sh : IsTrue (rt_of w == 0 && rd_of w == 0 && sh_of w == 0) → IsRegister w 0 (rs_of w) 0 0 0 function
-  without_rt_rd_sh clear =
-      let parts = both _ _ clear in
-      let first = both _ _ parts.0 in
-      rw (eqb-true (rt_of w) 0 first.0, eqb-true (rd_of w) 0 first.1) at (without_sh parts.1)
-
-  without_rs_rt_sh : IsTrue (rs_of w == 0 && rt_of w == 0 && sh_of w == 0) → IsRegister w 0 0 0 (rd_of w) 0 function
-  without_rs_rt_sh clear =
-      let parts = both _ _ clear in
-      let first = both _ _ parts.0 in
-      rw (eqb-true (rs_of w) 0 first.0, eqb-true (rt_of w) 0 first.1) at (without_sh parts.1)
+rows_found : (w k : ℕ) (key : ℕ → Key) → ((n : ℕ) → k ≡ n → HasKey w (key n)) → (rows : List Row) → map (seen w) rows ≡ map (meant key) rows → AllRows (IsFound w) k rows
+rows_found w k key has [] is = tt
+rows_found w k key has (r ∷ rows) is =
+    let first : seen w r ≡ meant key r = cc in
+    let rest : map (seen w) rows ≡ map (meant key) rows = cc in (
+      λ here clear. row_found w r r.insn (ap (λ (s : Seen). s.row) first) (ap (λ (s : Seen). s.listed) first) (subst (HasKey w) (sym (ap (λ (s : Seen). s.key) first)) (has r.key here)) clear,
+      rows_found w k key has rows rest,
+    )
 
 special_of-found : (w : ℕ) → opcode_of w ≡ 0 → IsFound w (special_of w)
 unfolding special_of form_of
-special_of-found w op_is =
-    find_row-All (IsFound w) (function_of w) (special_rows w) (Reserved w) (
-      λ is clear. inl (without_rs w 0 op_is is clear),
-      (
-        λ is clear. inl (without_rs w 2 op_is is clear),
-        (
-          λ is clear. inl (without_rs w 3 op_is is clear),
-          (
-            λ is clear. inl (without_sh w 4 op_is is clear),
-            (
-              λ is clear. inl (without_sh w 6 op_is is clear),
-              (
-                λ is clear. inl (without_sh w 7 op_is is clear),
-                (
-                  λ is clear. inl (without_rt_rd_sh w 8 op_is is clear),
-                  (
-                    λ is clear. inl (without_rt_sh w 9 op_is is clear),
-                    (
-                      λ is clear. inl (IsCoded-whole w 12 op_is is),
-                      (
-                        λ is clear. inl (IsCoded-whole w 13 op_is is),
-                        (
-                          λ is clear. inl (without_rs_rt_sh w 16 op_is is clear),
-                          (
-                            λ is clear. inl (without_rs_rt_sh w 18 op_is is clear),
-                            (
-                              λ is clear. inl (without_rt_rd_sh w 17 op_is is clear),
-                              (
-                                λ is clear. inl (without_rt_rd_sh w 19 op_is is clear),
-                                (
-                                  λ is clear. inl (without_rd_sh w 24 op_is is clear),
-                                  (
-                                    λ is clear. inl (without_rd_sh w 25 op_is is clear),
-                                    (
-                                      λ is clear. inl (without_rd_sh w 26 op_is is clear),
-                                      (
-                                        λ is clear. inl (without_rd_sh w 27 op_is is clear),
-                                        (
-                                          λ is clear. inl (without_sh w 32 op_is is clear),
-                                          (
-                                            λ is clear. inl (without_sh w 34 op_is is clear),
-                                            (
-                                              λ is clear. inl (without_sh w 33 op_is is clear),
-                                              (
-                                                λ is clear. inl (without_sh w 35 op_is is clear),
-                                                (
-                                                  λ is clear. inl (without_sh w 36 op_is is clear),
-                                                  (
-                                                    λ is clear. inl (without_sh w 37 op_is is clear),
-                                                    (
-                                                      λ is clear. inl (without_sh w 38 op_is is clear),
-                                                      (
-                                                        λ is clear. inl (without_sh w 39 op_is is clear),
-                                                        (
-                                                          λ is clear. inl (without_sh w 42 op_is is clear),
-                                                          (
-                                                            λ is clear. inl (without_sh w 43 op_is is clear),
-                                                            tt,
-                                                          ),
-                                                        ),
-                                                      ),
-                                                    ),
-                                                  ),
-                                                ),
-                                              ),
-                                            ),
-                                          ),
-                                        ),
-                                      ),
-                                    ),
-                                  ),
-                                ),
-                              ),
-                            ),
-                          ),
-                        ),
-                      ),
-                    ),
-                  ),
-                ),
-              ),
-            ),
-          ),
-        ),
-      ),
-    )
-    (inr refl)
+special_of-found w op_is = find_row-All (IsFound w) (function_of w) (special_rows w) (Reserved w) (rows_found w (function_of w) Special (λ n is. (op_is, is)) (special_rows w) refl) (inr refl)
 
 regimm_of-found : (w : ℕ) → opcode_of w ≡ 1 → IsFound w (regimm_of w)
 unfolding regimm_of form_of
-regimm_of-found w op_is =
-    find_row-All (IsFound w) (rt_of w) (regimm_rows w) (Reserved w) (
-      λ is clear. inl (rw is at (IsImmediate-whole w 1 (lit< tt) op_is)),
-      (
-        λ is clear. inl (rw is at (IsImmediate-whole w 1 (lit< tt) op_is)),
-        (
-          λ is clear. inl (rw is at (IsImmediate-whole w 1 (lit< tt) op_is)),
-          (
-            λ is clear. inl (rw is at (IsImmediate-whole w 1 (lit< tt) op_is)),
-            tt,
-          ),
-        ),
-      ),
-    )
-    (inr refl)
-
-IsRegister-operation : (w operation : ℕ) → opcode_of w ≡ 16 → rs_of w ≡ 16 → operation < 2 ^ 6 → w % 2 ^ 21 ≡ operation → IsRegister w 16 16 0 0 0 operation
-IsRegister-operation w operation op_is rs_is below is = (
-  record {
-    op_fits = lit< tt;
-    rs_fits = lit< tt;
-    rt_fits = lit< tt;
-    rd_fits = lit< tt;
-    sh_fits = lit< tt;
-    function_fits = below;
-  },
-  omega arith,
-)
+regimm_of-found w op_is = find_row-All (IsFound w) (rt_of w) (regimm_rows w) (Reserved w) (rows_found w (rt_of w) Regimm (λ n is. (op_is, is)) (regimm_rows w) refl) (inr refl)
 
 system_operation_of-found : (w : ℕ) → opcode_of w ≡ 16 → rs_of w ≡ 16 → IsFound w (system_operation_of w)
 unfolding system_operation_of form_of
-system_operation_of-found w op_is rs_is =
-    find_row-All (IsFound w) (w % 2 ^ 21) system_operation_rows (Reserved w) (
-      λ is clear. inl (IsRegister-operation w 1 op_is rs_is (lit< tt) is),
-      (
-        λ is clear. inl (IsRegister-operation w 2 op_is rs_is (lit< tt) is),
-        (
-          λ is clear. inl (IsRegister-operation w 6 op_is rs_is (lit< tt) is),
-          (
-            λ is clear. inl (IsRegister-operation w 8 op_is rs_is (lit< tt) is),
-            (
-              λ is clear. inl (IsRegister-operation w 16 op_is rs_is (lit< tt) is),
-              tt,
-            ),
-          ),
-        ),
-      ),
-    )
-    (inr refl)
-
-IsRegister-move : (w form : ℕ) → opcode_of w ≡ 16 → rs_of w ≡ form → IsTrue (w % 2 ^ 11 == 0) → IsRegister w 16 form (rt_of w) (rd_of w) 0 0
-IsRegister-move w form op_is rs_is clear =
-    let rest : w % 2 ^ 11 ≡ 0 = eqb-true _ _ clear in (
-      record {
-        op_fits = lit< tt;
-        rs_fits = omega arith;
-        rt_fits = omega arith;
-        rd_fits = omega arith;
-        sh_fits = lit< tt;
-        function_fits = lit< tt;
-      },
-      omega arith,
-    )
+system_operation_of-found w op_is rs_is = find_row-All (IsFound w) (w % 2 ^ 21) system_operation_rows (Reserved w) (rows_found w (w % 2 ^ 21) Operation (λ n is. (op_is, rs_is, is)) system_operation_rows refl) (inr refl)
 
 system_of-found : (w : ℕ) → opcode_of w ≡ 16 → IsFound w (system_of w)
 unfolding system_of form_of
 system_of-found w op_is =
     find_row-All (IsFound w) (rs_of w) (system_rows w) (Reserved w) (
-      λ is clear. inl (IsRegister-move w 0 op_is is clear),
-      (
-        λ is clear. inl (IsRegister-move w 4 op_is is clear),
-        (
-          λ is clear. system_operation_of-found w op_is is,
-          tt,
-        ),
-      ),
+      λ is clear. system_operation_of-found w op_is is,
+      rows_found w (rs_of w) System (λ n is. (op_is, is)) (drop 1 (system_rows w)) refl,
     )
     (inr refl)
 
@@ -285,7 +164,7 @@ coprocessor_of-found : (w : ℕ) → IsFound w (coprocessor_of w)
 unfolding form_of
 coprocessor_of-found w =
     by_clear (IsFound w) (is_coprocessor (opcode_of w)) (Cop (opcode_of w) (target_of w)) (Reserved w)
-    (λ is. inl (record { is_opcode = is; rest_fits = omega arith }, omega arith))
+    (λ is. inl (has_form w (Coprocessor (opcode_of w) (target_of w)) (is, refl, refl)))
     (inr refl)
 
 pub insn_of-found : (w : ℕ) → IsFound w (insn_of w)
@@ -296,86 +175,8 @@ insn_of-found w =
       (
         λ is clear. regimm_of-found w is,
         (
-          λ is clear. inl (IsJump-whole w 2 (lit< tt) is),
-          (
-            λ is clear. inl (IsJump-whole w 3 (lit< tt) is),
-            (
-              λ is clear. inl (IsImmediate-whole w 4 (lit< tt) is),
-              (
-                λ is clear. inl (IsImmediate-whole w 5 (lit< tt) is),
-                (
-                  λ is clear. inl (rw (eqb-true _ _ clear) at (IsImmediate-whole w 6 (lit< tt) is)),
-                  (
-                    λ is clear. inl (rw (eqb-true _ _ clear) at (IsImmediate-whole w 7 (lit< tt) is)),
-                    (
-                      λ is clear. inl (IsImmediate-whole w 8 (lit< tt) is),
-                      (
-                        λ is clear. inl (IsImmediate-whole w 9 (lit< tt) is),
-                        (
-                          λ is clear. inl (IsImmediate-whole w 10 (lit< tt) is),
-                          (
-                            λ is clear. inl (IsImmediate-whole w 11 (lit< tt) is),
-                            (
-                              λ is clear. inl (IsImmediate-whole w 12 (lit< tt) is),
-                              (
-                                λ is clear. inl (IsImmediate-whole w 13 (lit< tt) is),
-                                (
-                                  λ is clear. inl (IsImmediate-whole w 14 (lit< tt) is),
-                                  (
-                                    λ is clear. inl (rw (eqb-true _ _ clear) at (IsImmediate-whole w 15 (lit< tt) is)),
-                                    (
-                                      λ is clear. system_of-found w is,
-                                      (
-                                        λ is clear. inl (IsImmediate-whole w 32 (lit< tt) is),
-                                        (
-                                          λ is clear. inl (IsImmediate-whole w 33 (lit< tt) is),
-                                          (
-                                            λ is clear. inl (IsImmediate-whole w 36 (lit< tt) is),
-                                            (
-                                              λ is clear. inl (IsImmediate-whole w 37 (lit< tt) is),
-                                              (
-                                                λ is clear. inl (IsImmediate-whole w 35 (lit< tt) is),
-                                                (
-                                                  λ is clear. inl (IsImmediate-whole w 34 (lit< tt) is),
-                                                  (
-                                                    λ is clear. inl (IsImmediate-whole w 38 (lit< tt) is),
-                                                    (
-                                                      λ is clear. inl (IsImmediate-whole w 40 (lit< tt) is),
-                                                      (
-                                                        λ is clear. inl (IsImmediate-whole w 41 (lit< tt) is),
-                                                        (
-                                                          λ is clear. inl (IsImmediate-whole w 43 (lit< tt) is),
-                                                          (
-                                                            λ is clear. inl (IsImmediate-whole w 42 (lit< tt) is),
-                                                            (
-                                                              λ is clear. inl (IsImmediate-whole w 46 (lit< tt) is),
-                                                              tt,
-                                                            ),
-                                                          ),
-                                                        ),
-                                                      ),
-                                                    ),
-                                                  ),
-                                                ),
-                                              ),
-                                            ),
-                                          ),
-                                        ),
-                                      ),
-                                    ),
-                                  ),
-                                ),
-                              ),
-                            ),
-                          ),
-                        ),
-                      ),
-                    ),
-                  ),
-                ),
-              ),
-            ),
-          ),
+          λ is clear. system_of-found w is,
+          rows_found w (opcode_of w) Opcode (λ n is. is) (drop 3 (opcode_rows w)) refl,
         ),
       ),
     )

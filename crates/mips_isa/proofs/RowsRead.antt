@@ -1,63 +1,131 @@
 -- A word that has a row of the table is read as that row's instruction.
-use Rattle.std.proofs.Common.{◌≡◌, ℕ, ◌+◌, ◌%◌, ◌^◌, ◌<◌, ◌≤◌, ◌⊎◌, ◌∙◌, inl, inr, ap, arith}
+use Rattle.std.proofs.Common.{◌≡◌, ℕ, ◌+◌, ◌*◌, ◌%◌, ◌^◌, ◌≤◌, ◌⊎◌, ◌∙◌, inl, inr, ap, arith}
 use Rattle.std.proofs.lemmas.Bool.Decides.{nat_tests}
 use Rattle.std.specs.Prelude.{IsTrue}
 use Rattle.mips_isa.specs.declared.insn.Insn.{Insn}
-use Rattle.mips_isa.specs.declared.insn.Insn.TheVariants.{Sll, Srl, Sra, Sllv, Srlv, Srav, Jr, Jalr, Syscall, Break, Mfhi, Mthi, Mflo, Mtlo, Mult, Multu, Div, Divu, Add, Addu, Sub, Subu, And, Or, Xor, Nor, Slt, Sltu, Bltz, Bgez, Bltzal, Bgezal, J, Jal, Beq, Bne, Blez, Bgtz, Addi, Addiu, Slti, Sltiu, Andi, Ori, Xori, Lui, Lb, Lh, Lwl, Lw, Lbu, Lhu, Lwr, Sb, Sh, Swl, Sw, Swr, Mfc0, Mtc0, Tlbr, Tlbwi, Tlbwr, Tlbp, Rfe, Cop, Reserved}
+use Rattle.mips_isa.specs.declared.insn.Insn.TheVariants.{Cop, Reserved}
 use Rattle.mips_isa.specs.Fields.{opcode_of, rs_of, rt_of, rd_of, sh_of, function_of, code_of, imm_of, target_of}
-use Rattle.mips_isa.specs.Encoding.{RegisterFits, CodedFits, ImmediateFits, form_of, register_word, coded_word, immediate_word, jump_word, is_coprocessor, IsRow, insn_of, special_of, regimm_of, system_of, system_operation_of}
+use Rattle.mips_isa.specs.Encoding.{Form, FormFits, form_of, form_word, find_row, opcode_rows, coprocessor_of, Register, Coded, Immediate, Jump, Coprocessor, is_coprocessor, IsRow, insn_of, special_of, regimm_of, system_of, system_operation_of}
 
--- the fields of a word of each form
-pub record HasRegister (w op rs rt rd sh function : ℕ) : Type 0 where
-  pub opcode_is : opcode_of w ≡ op
-  pub rs_is : rs_of w ≡ rs
-  pub rt_is : rt_of w ≡ rt
-  pub rd_is : rd_of w ≡ rd
-  pub sh_is : sh_of w ≡ sh
-  pub function_is : function_of w ≡ function
+-- bits 10:0, which are 0 in a move from or to coprocessor 0
+abbrev move_of : ℕ → ℕ
+move_of w = w % 2 ^ 11
 
-pub record HasImmediate (w op rs rt imm : ℕ) : Type 0 where
-  pub opcode_is : opcode_of w ≡ op
-  pub rs_is : rs_of w ≡ rs
-  pub rt_is : rt_of w ≡ rt
-  pub imm_is : imm_of w ≡ imm
+-- bits 20:0, which tell the operations of coprocessor 0 apart
+abbrev operation_of : ℕ → ℕ
+operation_of w = w % 2 ^ 21
 
-register_fields : {w op rs rt rd sh function : ℕ} → RegisterFits op rs rt rd sh function → w ≡ register_word op rs rt rd sh function → HasRegister w op rs rt rd sh function
-register_fields fits is = record {
-  opcode_is = omega arith;
-  rs_is = omega arith;
-  rt_is = omega arith;
-  rd_is = omega arith;
-  sh_is = omega arith;
-  function_is = omega arith;
-}
+-- The fields of a form's word. One that the form does not name is that of its word.
 
-coded_fields : {w code function : ℕ} → CodedFits code function → w ≡ coded_word code function → (opcode_of w ≡ 0) × (code_of w ≡ code) × (function_of w ≡ function)
-coded_fields fits is = (omega arith, omega arith, omega arith)
+abbrev pub opcode_in : Form → ℕ
+opcode_in (Register op rs rt rd sh function) = op
+opcode_in (Coded code function) = 0
+opcode_in (Immediate op rs rt imm) = op
+opcode_in (Jump op target) = op
+opcode_in (Coprocessor op rest) = op
+opcode_in form = opcode_of (form_word form)
 
-immediate_fields : {w op rs rt imm : ℕ} → ImmediateFits op rs rt imm → w ≡ immediate_word op rs rt imm → HasImmediate w op rs rt imm
-immediate_fields fits is = record {
-  opcode_is = omega arith;
-  rs_is = omega arith;
-  rt_is = omega arith;
-  imm_is = omega arith;
-}
+abbrev pub rs_in : Form → ℕ
+rs_in (Register op rs rt rd sh function) = rs
+rs_in (Immediate op rs rt imm) = rs
+rs_in form = rs_of (form_word form)
 
-jump_fields : {w : ℕ} (op target : ℕ) → target < 2 ^ 26 → w ≡ jump_word op target → (opcode_of w ≡ op) × (target_of w ≡ target)
-jump_fields op target fits is = (omega arith, omega arith)
+abbrev pub rt_in : Form → ℕ
+rt_in (Register op rs rt rd sh function) = rt
+rt_in (Immediate op rs rt imm) = rt
+rt_in form = rt_of (form_word form)
 
--- the table that a word of opcode 0, 1 or 16 is read by
-insn_of-special : (w : ℕ) → opcode_of w ≡ 0 → insn_of w ≡ special_of w
+abbrev pub rd_in : Form → ℕ
+rd_in (Register op rs rt rd sh function) = rd
+rd_in form = rd_of (form_word form)
+
+abbrev pub sh_in : Form → ℕ
+sh_in (Register op rs rt rd sh function) = sh
+sh_in form = sh_of (form_word form)
+
+abbrev pub function_in : Form → ℕ
+function_in (Register op rs rt rd sh function) = function
+function_in (Coded code function) = function
+function_in form = function_of (form_word form)
+
+abbrev pub code_in : Form → ℕ
+code_in (Coded code function) = code
+code_in form = code_of (form_word form)
+
+abbrev pub imm_in : Form → ℕ
+imm_in (Immediate op rs rt imm) = imm
+imm_in form = imm_of (form_word form)
+
+abbrev pub target_in : Form → ℕ
+target_in (Jump op target) = target
+target_in (Coprocessor op rest) = rest
+target_in form = target_of (form_word form)
+
+abbrev pub move_in : Form → ℕ
+move_in (Register op rs rt rd sh function) = sh * 2 ^ 6 + function
+move_in form = move_of (form_word form)
+
+abbrev pub operation_in : Form → ℕ
+operation_in (Register op rs rt rd sh function) = rt * 2 ^ 16 + rd * 2 ^ 11 + sh * 2 ^ 6 + function
+operation_in form = operation_of (form_word form)
+
+-- the fields of a word that has a form are those of the form
+module _ (w : ℕ) where
+  opcode_read : (form : Form) → FormFits form → w ≡ form_word form → opcode_of w ≡ opcode_in form
+  opcode_read (Register op rs rt rd sh function) fits is = omega arith
+  opcode_read (Coded code function) fits is = omega arith
+  opcode_read (Immediate op rs rt imm) fits is = omega arith
+  opcode_read (Jump op target) fits is = omega arith
+  opcode_read (Coprocessor op rest) fits is = omega arith
+  opcode_read form fits is = ap opcode_of is
+
+  rs_read : (form : Form) → FormFits form → w ≡ form_word form → rs_of w ≡ rs_in form
+  rs_read (Register op rs rt rd sh function) fits is = omega arith
+  rs_read (Immediate op rs rt imm) fits is = omega arith
+  rs_read form fits is = ap rs_of is
+
+  rt_read : (form : Form) → FormFits form → w ≡ form_word form → rt_of w ≡ rt_in form
+  rt_read (Register op rs rt rd sh function) fits is = omega arith
+  rt_read (Immediate op rs rt imm) fits is = omega arith
+  rt_read form fits is = ap rt_of is
+
+  rd_read : (form : Form) → FormFits form → w ≡ form_word form → rd_of w ≡ rd_in form
+  rd_read (Register op rs rt rd sh function) fits is = omega arith
+  rd_read form fits is = ap rd_of is
+
+  sh_read : (form : Form) → FormFits form → w ≡ form_word form → sh_of w ≡ sh_in form
+  sh_read (Register op rs rt rd sh function) fits is = omega arith
+  sh_read form fits is = ap sh_of is
+
+  function_read : (form : Form) → FormFits form → w ≡ form_word form → function_of w ≡ function_in form
+  function_read (Register op rs rt rd sh function) fits is = omega arith
+  function_read (Coded code function) fits is = omega arith
+  function_read form fits is = ap function_of is
+
+  code_read : (form : Form) → FormFits form → w ≡ form_word form → code_of w ≡ code_in form
+  code_read (Coded code function) fits is = omega arith
+  code_read form fits is = ap code_of is
+
+  imm_read : (form : Form) → FormFits form → w ≡ form_word form → imm_of w ≡ imm_in form
+  imm_read (Immediate op rs rt imm) fits is = omega arith
+  imm_read form fits is = ap imm_of is
+
+  target_read : (form : Form) → FormFits form → w ≡ form_word form → target_of w ≡ target_in form
+  target_read (Jump op target) fits is = omega arith
+  target_read (Coprocessor op rest) fits is = omega arith
+  target_read form fits is = ap target_of is
+
+  move_read : (form : Form) → FormFits form → w ≡ form_word form → move_of w ≡ move_in form
+  move_read (Register op rs rt rd sh function) fits is = omega arith
+  move_read form fits is = ap move_of is
+
+  operation_read : (form : Form) → FormFits form → w ≡ form_word form → operation_of w ≡ operation_in form
+  operation_read (Register op rs rt rd sh function) fits is = omega arith
+  operation_read form fits is = ap operation_of is
+
+insn_of-opcode : (w op : ℕ) → opcode_of w ≡ op → insn_of w ≡ find_row op (opcode_rows w) (coprocessor_of w)
 unfolding insn_of
-insn_of-special w is = rw is
-
-insn_of-regimm : (w : ℕ) → opcode_of w ≡ 1 → insn_of w ≡ regimm_of w
-unfolding insn_of
-insn_of-regimm w is = rw is
-
-insn_of-system : (w : ℕ) → opcode_of w ≡ 16 → insn_of w ≡ system_of w
-unfolding insn_of
-insn_of-system w is = rw is
+insn_of-opcode w op is = rw is
 
 -- the opcodes of coprocessors 1 to 3, one by one
 coprocessor_range : (op : ℕ) → IsTrue (is_coprocessor op) → ((17 ≤ op) × (op ≤ 19)) ⊎ (((49 ≤ op) × (op ≤ 51)) ⊎ ((57 ≤ op) × (op ≤ 59)))
@@ -89,136 +157,10 @@ insn_of-coprocessor w op is at =
 
 pub insn_of-row : (w : ℕ) (insn : Insn) → IsRow w insn → insn_of w ≡ insn
 unfolding insn_of special_of regimm_of system_of system_operation_of form_of
-insn_of-row w (Sll rd rt sh) form =
-    let f = register_fields form.0 form.1 in insn_of-special w f.opcode_is ∙ rw (f.function_is, f.rs_is, f.rt_is, f.rd_is, f.sh_is)
-insn_of-row w (Srl rd rt sh) form =
-    let f = register_fields form.0 form.1 in insn_of-special w f.opcode_is ∙ rw (f.function_is, f.rs_is, f.rt_is, f.rd_is, f.sh_is)
-insn_of-row w (Sra rd rt sh) form =
-    let f = register_fields form.0 form.1 in insn_of-special w f.opcode_is ∙ rw (f.function_is, f.rs_is, f.rt_is, f.rd_is, f.sh_is)
-insn_of-row w (Sllv rd rt rs) form =
-    let f = register_fields form.0 form.1 in insn_of-special w f.opcode_is ∙ rw (f.function_is, f.rs_is, f.rt_is, f.rd_is, f.sh_is)
-insn_of-row w (Srlv rd rt rs) form =
-    let f = register_fields form.0 form.1 in insn_of-special w f.opcode_is ∙ rw (f.function_is, f.rs_is, f.rt_is, f.rd_is, f.sh_is)
-insn_of-row w (Srav rd rt rs) form =
-    let f = register_fields form.0 form.1 in insn_of-special w f.opcode_is ∙ rw (f.function_is, f.rs_is, f.rt_is, f.rd_is, f.sh_is)
-insn_of-row w (Jr rs) form =
-    let f = register_fields form.0 form.1 in insn_of-special w f.opcode_is ∙ rw (f.function_is, f.rs_is, f.rt_is, f.rd_is, f.sh_is)
-insn_of-row w (Jalr rd rs) form =
-    let f = register_fields form.0 form.1 in insn_of-special w f.opcode_is ∙ rw (f.function_is, f.rs_is, f.rt_is, f.rd_is, f.sh_is)
-insn_of-row w (Syscall code) form =
-    let f = coded_fields form.0 form.1 in insn_of-special w f.0 ∙ rw (f.2, f.1)
-insn_of-row w (Break code) form =
-    let f = coded_fields form.0 form.1 in insn_of-special w f.0 ∙ rw (f.2, f.1)
-insn_of-row w (Mfhi rd) form =
-    let f = register_fields form.0 form.1 in insn_of-special w f.opcode_is ∙ rw (f.function_is, f.rs_is, f.rt_is, f.rd_is, f.sh_is)
-insn_of-row w (Mthi rs) form =
-    let f = register_fields form.0 form.1 in insn_of-special w f.opcode_is ∙ rw (f.function_is, f.rs_is, f.rt_is, f.rd_is, f.sh_is)
-insn_of-row w (Mflo rd) form =
-    let f = register_fields form.0 form.1 in insn_of-special w f.opcode_is ∙ rw (f.function_is, f.rs_is, f.rt_is, f.rd_is, f.sh_is)
-insn_of-row w (Mtlo rs) form =
-    let f = register_fields form.0 form.1 in insn_of-special w f.opcode_is ∙ rw (f.function_is, f.rs_is, f.rt_is, f.rd_is, f.sh_is)
-insn_of-row w (Mult rs rt) form =
-    let f = register_fields form.0 form.1 in insn_of-special w f.opcode_is ∙ rw (f.function_is, f.rs_is, f.rt_is, f.rd_is, f.sh_is)
-insn_of-row w (Multu rs rt) form =
-    let f = register_fields form.0 form.1 in insn_of-special w f.opcode_is ∙ rw (f.function_is, f.rs_is, f.rt_is, f.rd_is, f.sh_is)
-insn_of-row w (Div rs rt) form =
-    let f = register_fields form.0 form.1 in insn_of-special w f.opcode_is ∙ rw (f.function_is, f.rs_is, f.rt_is, f.rd_is, f.sh_is)
-insn_of-row w (Divu rs rt) form =
-    let f = register_fields form.0 form.1 in insn_of-special w f.opcode_is ∙ rw (f.function_is, f.rs_is, f.rt_is, f.rd_is, f.sh_is)
-insn_of-row w (Add rd rs rt) form =
-    let f = register_fields form.0 form.1 in insn_of-special w f.opcode_is ∙ rw (f.function_is, f.rs_is, f.rt_is, f.rd_is, f.sh_is)
-insn_of-row w (Addu rd rs rt) form =
-    let f = register_fields form.0 form.1 in insn_of-special w f.opcode_is ∙ rw (f.function_is, f.rs_is, f.rt_is, f.rd_is, f.sh_is)
-insn_of-row w (Sub rd rs rt) form =
-    let f = register_fields form.0 form.1 in insn_of-special w f.opcode_is ∙ rw (f.function_is, f.rs_is, f.rt_is, f.rd_is, f.sh_is)
-insn_of-row w (Subu rd rs rt) form =
-    let f = register_fields form.0 form.1 in insn_of-special w f.opcode_is ∙ rw (f.function_is, f.rs_is, f.rt_is, f.rd_is, f.sh_is)
-insn_of-row w (And rd rs rt) form =
-    let f = register_fields form.0 form.1 in insn_of-special w f.opcode_is ∙ rw (f.function_is, f.rs_is, f.rt_is, f.rd_is, f.sh_is)
-insn_of-row w (Or rd rs rt) form =
-    let f = register_fields form.0 form.1 in insn_of-special w f.opcode_is ∙ rw (f.function_is, f.rs_is, f.rt_is, f.rd_is, f.sh_is)
-insn_of-row w (Xor rd rs rt) form =
-    let f = register_fields form.0 form.1 in insn_of-special w f.opcode_is ∙ rw (f.function_is, f.rs_is, f.rt_is, f.rd_is, f.sh_is)
-insn_of-row w (Nor rd rs rt) form =
-    let f = register_fields form.0 form.1 in insn_of-special w f.opcode_is ∙ rw (f.function_is, f.rs_is, f.rt_is, f.rd_is, f.sh_is)
-insn_of-row w (Slt rd rs rt) form =
-    let f = register_fields form.0 form.1 in insn_of-special w f.opcode_is ∙ rw (f.function_is, f.rs_is, f.rt_is, f.rd_is, f.sh_is)
-insn_of-row w (Sltu rd rs rt) form =
-    let f = register_fields form.0 form.1 in insn_of-special w f.opcode_is ∙ rw (f.function_is, f.rs_is, f.rt_is, f.rd_is, f.sh_is)
-insn_of-row w (Bltz rs imm) form =
-    let f = immediate_fields form.0 form.1 in insn_of-regimm w f.opcode_is ∙ rw (f.rt_is, f.rs_is, f.imm_is)
-insn_of-row w (Bgez rs imm) form =
-    let f = immediate_fields form.0 form.1 in insn_of-regimm w f.opcode_is ∙ rw (f.rt_is, f.rs_is, f.imm_is)
-insn_of-row w (Bltzal rs imm) form =
-    let f = immediate_fields form.0 form.1 in insn_of-regimm w f.opcode_is ∙ rw (f.rt_is, f.rs_is, f.imm_is)
-insn_of-row w (Bgezal rs imm) form =
-    let f = immediate_fields form.0 form.1 in insn_of-regimm w f.opcode_is ∙ rw (f.rt_is, f.rs_is, f.imm_is)
-insn_of-row w (J target) form =
-    let f = jump_fields 2 target form.0.target_fits form.1 in rw (f.0, f.1)
-insn_of-row w (Jal target) form =
-    let f = jump_fields 3 target form.0.target_fits form.1 in rw (f.0, f.1)
-insn_of-row w (Beq rs rt imm) form =
-    let f = immediate_fields form.0 form.1 in rw (f.opcode_is, f.rs_is, f.rt_is, f.imm_is)
-insn_of-row w (Bne rs rt imm) form =
-    let f = immediate_fields form.0 form.1 in rw (f.opcode_is, f.rs_is, f.rt_is, f.imm_is)
-insn_of-row w (Blez rs imm) form =
-    let f = immediate_fields form.0 form.1 in rw (f.opcode_is, f.rs_is, f.rt_is, f.imm_is)
-insn_of-row w (Bgtz rs imm) form =
-    let f = immediate_fields form.0 form.1 in rw (f.opcode_is, f.rs_is, f.rt_is, f.imm_is)
-insn_of-row w (Addi rt rs imm) form =
-    let f = immediate_fields form.0 form.1 in rw (f.opcode_is, f.rs_is, f.rt_is, f.imm_is)
-insn_of-row w (Addiu rt rs imm) form =
-    let f = immediate_fields form.0 form.1 in rw (f.opcode_is, f.rs_is, f.rt_is, f.imm_is)
-insn_of-row w (Slti rt rs imm) form =
-    let f = immediate_fields form.0 form.1 in rw (f.opcode_is, f.rs_is, f.rt_is, f.imm_is)
-insn_of-row w (Sltiu rt rs imm) form =
-    let f = immediate_fields form.0 form.1 in rw (f.opcode_is, f.rs_is, f.rt_is, f.imm_is)
-insn_of-row w (Andi rt rs imm) form =
-    let f = immediate_fields form.0 form.1 in rw (f.opcode_is, f.rs_is, f.rt_is, f.imm_is)
-insn_of-row w (Ori rt rs imm) form =
-    let f = immediate_fields form.0 form.1 in rw (f.opcode_is, f.rs_is, f.rt_is, f.imm_is)
-insn_of-row w (Xori rt rs imm) form =
-    let f = immediate_fields form.0 form.1 in rw (f.opcode_is, f.rs_is, f.rt_is, f.imm_is)
-insn_of-row w (Lui rt imm) form =
-    let f = immediate_fields form.0 form.1 in rw (f.opcode_is, f.rs_is, f.rt_is, f.imm_is)
-insn_of-row w (Lb rt imm rs) form =
-    let f = immediate_fields form.0 form.1 in rw (f.opcode_is, f.rs_is, f.rt_is, f.imm_is)
-insn_of-row w (Lh rt imm rs) form =
-    let f = immediate_fields form.0 form.1 in rw (f.opcode_is, f.rs_is, f.rt_is, f.imm_is)
-insn_of-row w (Lwl rt imm rs) form =
-    let f = immediate_fields form.0 form.1 in rw (f.opcode_is, f.rs_is, f.rt_is, f.imm_is)
-insn_of-row w (Lw rt imm rs) form =
-    let f = immediate_fields form.0 form.1 in rw (f.opcode_is, f.rs_is, f.rt_is, f.imm_is)
-insn_of-row w (Lbu rt imm rs) form =
-    let f = immediate_fields form.0 form.1 in rw (f.opcode_is, f.rs_is, f.rt_is, f.imm_is)
-insn_of-row w (Lhu rt imm rs) form =
-    let f = immediate_fields form.0 form.1 in rw (f.opcode_is, f.rs_is, f.rt_is, f.imm_is)
-insn_of-row w (Lwr rt imm rs) form =
-    let f = immediate_fields form.0 form.1 in rw (f.opcode_is, f.rs_is, f.rt_is, f.imm_is)
-insn_of-row w (Sb rt imm rs) form =
-    let f = immediate_fields form.0 form.1 in rw (f.opcode_is, f.rs_is, f.rt_is, f.imm_is)
-insn_of-row w (Sh rt imm rs) form =
-    let f = immediate_fields form.0 form.1 in rw (f.opcode_is, f.rs_is, f.rt_is, f.imm_is)
-insn_of-row w (Swl rt imm rs) form =
-    let f = immediate_fields form.0 form.1 in rw (f.opcode_is, f.rs_is, f.rt_is, f.imm_is)
-insn_of-row w (Sw rt imm rs) form =
-    let f = immediate_fields form.0 form.1 in rw (f.opcode_is, f.rs_is, f.rt_is, f.imm_is)
-insn_of-row w (Swr rt imm rs) form =
-    let f = immediate_fields form.0 form.1 in rw (f.opcode_is, f.rs_is, f.rt_is, f.imm_is)
-insn_of-row w (Mfc0 rt rd) form =
-    let f = register_fields form.0 form.1 in let rest : w % 2 ^ 11 ≡ 0 = omega arith in insn_of-system w f.opcode_is ∙ rw (f.rs_is, rest, f.rt_is, f.rd_is)
-insn_of-row w (Mtc0 rt rd) form =
-    let f = register_fields form.0 form.1 in let rest : w % 2 ^ 11 ≡ 0 = omega arith in insn_of-system w f.opcode_is ∙ rw (f.rs_is, rest, f.rt_is, f.rd_is)
-insn_of-row w Tlbr form =
-    let f = register_fields form.0 form.1 in insn_of-system w f.opcode_is ∙ simp (f.rs_is) (grind arith)
-insn_of-row w Tlbwi form =
-    let f = register_fields form.0 form.1 in insn_of-system w f.opcode_is ∙ simp (f.rs_is) (grind arith)
-insn_of-row w Tlbwr form =
-    let f = register_fields form.0 form.1 in insn_of-system w f.opcode_is ∙ simp (f.rs_is) (grind arith)
-insn_of-row w Tlbp form =
-    let f = register_fields form.0 form.1 in insn_of-system w f.opcode_is ∙ simp (f.rs_is) (grind arith)
-insn_of-row w Rfe form =
-    let f = register_fields form.0 form.1 in insn_of-system w f.opcode_is ∙ simp (f.rs_is) (grind arith)
-insn_of-row w (Cop op rest) form =
-    let f = jump_fields op rest form.0.rest_fits form.1 in insn_of-coprocessor w op form.0.is_opcode f.0 ∙ ap (Cop op) f.1
-insn_of-row w (Reserved value) form = absurd form.0
+insn_of-row w (Cop op rest) row =
+    insn_of-coprocessor w op row.0.is_opcode (opcode_read w (Coprocessor op rest) row.0 row.1) ∙ ap (Cop op) (target_read w (Coprocessor op rest) row.0 row.1)
+insn_of-row w (Reserved value) row = absurd row.0
+insn_of-row w insn row =
+    let form = form_of insn in
+    insn_of-opcode w (opcode_in form) (opcode_read w form row.0 row.1)
+    ∙ simp (function_read w form row.0 row.1, rs_read w form row.0 row.1, rt_read w form row.0 row.1, rd_read w form row.0 row.1, sh_read w form row.0 row.1, code_read w form row.0 row.1, imm_read w form row.0 row.1, target_read w form row.0 row.1, move_read w form row.0 row.1, operation_read w form row.0 row.1)

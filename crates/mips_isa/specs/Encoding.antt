@@ -169,9 +169,9 @@ system_operation_of w = find_row (w % 2 ^ 21) system_operation_rows (Reserved w)
 -- opcode 16, by the field rs
 abbrev pub system_rows : ℕ → List Row
 system_rows w =
-    entry 0 (w % 2 ^ 11 == 0) (Mfc0 (rt_of w) (rd_of w))
+    entry 16 true (system_operation_of w)
+    ∷ entry 0 (w % 2 ^ 11 == 0) (Mfc0 (rt_of w) (rd_of w))
     ∷ entry 4 (w % 2 ^ 11 == 0) (Mtc0 (rt_of w) (rd_of w))
-    ∷ entry 16 true (system_operation_of w)
     ∷ []
 
 unfoldable pub system_of : ℕ → Insn
@@ -186,6 +186,7 @@ opcode_rows w =
     let target = target_of w in
     entry 0 true (special_of w)
     ∷ entry 1 true (regimm_of w)
+    ∷ entry 16 true (system_of w)
     ∷ entry 2 true (J target)
     ∷ entry 3 true (Jal target)
     ∷ entry 4 true (Beq rs rt imm)
@@ -200,7 +201,6 @@ opcode_rows w =
     ∷ entry 13 true (Ori rt rs imm)
     ∷ entry 14 true (Xori rt rs imm)
     ∷ entry 15 (rs == 0) (Lui rt imm)
-    ∷ entry 16 true (system_of w)
     ∷ entry 32 true (Lb rt imm rs)
     ∷ entry 33 true (Lh rt imm rs)
     ∷ entry 36 true (Lbu rt imm rs)
