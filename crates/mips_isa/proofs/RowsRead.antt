@@ -1,4 +1,5 @@
--- A word that has a row of the table is read as that row's instruction.
+-- A word that has a row of the table is read as that row's instruction. The proof is by forms: an
+-- instruction of a form that stands here needs no line of its own.
 use Rattle.std.proofs.Common.{◌≡◌, ℕ, ◌+◌, ◌*◌, ◌%◌, ◌^◌, ◌≤◌, ◌⊎◌, ◌∙◌, inl, inr, ap, arith}
 use Rattle.std.proofs.lemmas.Bool.Decides.{nat_tests}
 use Rattle.std.specs.Prelude.{IsTrue}
@@ -69,7 +70,8 @@ abbrev pub operation_in : Form → ℕ
 operation_in (Register op rs rt rd sh function) = rt * 2 ^ 16 + rd * 2 ^ 11 + sh * 2 ^ 6 + function
 operation_in form = operation_of (form_word form)
 
--- the fields of a word that has a form are those of the form
+-- A word that has a form has the fields of the form.
+
 module _ (w : ℕ) where
   opcode_read : (form : Form) → FormFits form → w ≡ form_word form → opcode_of w ≡ opcode_in form
   opcode_read (Register op rs rt rd sh function) fits is = omega arith
@@ -123,6 +125,7 @@ module _ (w : ℕ) where
   operation_read (Register op rs rt rd sh function) fits is = omega arith
   operation_read form fits is = ap operation_of is
 
+-- the row by which a word of an opcode is read
 insn_of-opcode : (w op : ℕ) → opcode_of w ≡ op → insn_of w ≡ find_row op (opcode_rows w) (coprocessor_of w)
 unfolding insn_of
 insn_of-opcode w op is = rw is
@@ -163,4 +166,15 @@ insn_of-row w (Reserved value) row = absurd row.0
 insn_of-row w insn row =
     let form = form_of insn in
     insn_of-opcode w (opcode_in form) (opcode_read w form row.0 row.1)
-    ∙ simp (function_read w form row.0 row.1, rs_read w form row.0 row.1, rt_read w form row.0 row.1, rd_read w form row.0 row.1, sh_read w form row.0 row.1, code_read w form row.0 row.1, imm_read w form row.0 row.1, target_read w form row.0 row.1, move_read w form row.0 row.1, operation_read w form row.0 row.1)
+    ∙ simp (
+      function_read w form row.0 row.1,
+      rs_read w form row.0 row.1,
+      rt_read w form row.0 row.1,
+      rd_read w form row.0 row.1,
+      sh_read w form row.0 row.1,
+      code_read w form row.0 row.1,
+      imm_read w form row.0 row.1,
+      target_read w form row.0 row.1,
+      move_read w form row.0 row.1,
+      operation_read w form row.0 row.1,
+    )
