@@ -6,8 +6,8 @@ use Rattle.asm_parse.specs.Form.{due_of}
 use Rattle.elf_static.specs.ObjectValue.{ObjectValue}
 use Rattle.mips_list.specs.WordText.{word_text}
 use Rattle.mips_asm.specs.Assembled.{assembled}
-use Rattle.mips_asm.specs.Content.{Content}
-use Rattle.mips_asm.specs.Layout.{Layout, acted, laid, laid_from, nothing_placed, stated}
+use Rattle.asm_layout.specs.Content.{Content}
+use Rattle.asm_layout.specs.Layout.{Layout, acted, laid, laid_from, nothing_placed, stated}
 use Rattle.mips_asm.specs.Second.{Sections, emitted, filled}
 use Rattle.listing_law.specs.OneWord.{one_word}
 use Rattle.listing_law.specs.Statement.{Puts}

@@ -7,8 +7,8 @@ use Rattle.mips_text.specs.WordRows.{field_of}
 use Rattle.mips_text.specs.declared.shape.Field.{Field}
 use Rattle.mips_text.specs.declared.shape.Field.TheVariants.{Amount, Signed, Unsigned, Code, Branch, Jump}
 use Rattle.mips_list.specs.WordText.{branch_target, field_text, jump_target}
-use Rattle.mips_asm.specs.Value as values
-use Rattle.mips_asm.specs.Value.{aligned_target, distance, lies, ranged}
+use Rattle.mips_asm.specs.Field as fields
+use Rattle.mips_asm.specs.Field.{aligned_target, distance, lies, ranged}
 use Rattle.listing_law.proofs.NumberTexts.{IsNumber, decimal_text, half_text_read, signed_text_read, signed_value, word_text_read}
 
 -- the number that is printed of a field
@@ -83,7 +83,7 @@ jump_back target address small below =
     ∙ ranged_ok _ _ target (eq-eqb _ _ region) (omega arith)
 
 -- the assembler gets the field back
-pub field_back : (field : Field) (word address : ℕ) → address % 4 ≡ 0 → address + 4 < 2 ^ 32 → values.field_of field address (field_value field word address) ≡ Ok (field_of field word)
+pub field_back : (field : Field) (word address : ℕ) → address % 4 ≡ 0 → address + 4 < 2 ^ 32 → fields.field_of field address (field_value field word address) ≡ Ok (field_of field word)
 field_back Amount word address aligned below = ranged_ok _ _ _ (within_high 0 31 (field_of Amount word) (omega arith)) refl
 field_back Signed word address aligned below = signed_back (field_of Signed word) (omega arith)
 field_back Unsigned word address aligned below = ranged_ok _ _ _ (within_high 0 65535 (field_of Unsigned word) (omega arith)) refl

@@ -10,8 +10,9 @@ use Rattle.asm_parse.specs.Form.{due_of}
 use Rattle.asm_parse.specs.declared.fault.AsmFault.{AsmFault}
 use Rattle.mips_list.specs.WordText.{word_text}
 use Rattle.mips_asm.specs.Assembled.{assembled}
-use Rattle.mips_asm.specs.Content.{Content, bytes_of}
-use Rattle.mips_asm.specs.Layout.{Layout, Placed, acted, laid, laid_from, nothing_placed, stated}
+use Rattle.mips_asm.specs.Emission.{bytes_of}
+use Rattle.asm_layout.specs.Content.{Content}
+use Rattle.asm_layout.specs.Layout.{Layout, Placed, acted, laid, laid_from, nothing_placed, stated}
 use Rattle.mips_asm.specs.Second.{Sections, emitted, filled, filled_from}
 use Rattle.listing_law.specs.Statement.{Puts}
 use Rattle.listing_law.specs.Texts.{program_of_words, texts_from}

@@ -17,12 +17,13 @@ use Rattle.mips_text.specs.WordRows.{is_nameless, row_of}
 use Rattle.mips_text.specs.declared.text.Text.{Text}
 use Rattle.mips_text.proofs.NamedWords.{nameless_rows}
 use Rattle.mips_list.specs.WordText.{data_text, hexadecimal, operand_texts, row_text, spaced, text_by, word_text}
-use Rattle.mips_asm.specs.Action.{Action, Put, action_of, directed, directive_of, operands_in}
-use Rattle.mips_asm.specs.Content.{Content, Given, Instruction, alignment, bytes_of, content_length}
-use Rattle.mips_asm.specs.Draft.{Draft, draft_of}
-use Rattle.mips_asm.specs.Layout.{nothing_placed}
-use Rattle.mips_asm.specs.Outcome.{◌>>=◌}
-use Rattle.mips_asm.specs.Value.{Names, value_of}
+use Rattle.asm_layout.specs.Action.{Action, Put, action_of, directed, directive_of, operands_in}
+use Rattle.asm_layout.specs.Content.{Content, Given, Instruction, alignment, content_length}
+use Rattle.asm_layout.specs.Draft.{Draft, draft_of}
+use Rattle.asm_layout.specs.Layout.{nothing_placed}
+use Rattle.asm_layout.specs.Outcome.{◌>>=◌}
+use Rattle.asm_layout.specs.Value.{Names, value_of}
+use Rattle.mips_asm.specs.Emission.{bytes_of}
 use Rattle.listing_law.specs.Statement.{Puts}
 use Rattle.listing_law.proofs.OperandTexts.{number_value}
 use Rattle.listing_law.proofs.NumberTexts.{number_operand, word_text_read}

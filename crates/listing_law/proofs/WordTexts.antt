@@ -12,9 +12,10 @@ use Rattle.mips_text.specs.declared.shape.Shape.TheVariants.{Alone, One, Two, Th
 use Rattle.mips_text.specs.declared.shape.Slot.{Slot}
 use Rattle.mips_text.specs.declared.shape.Slot.TheVariants.{Rs, Rt, Rd}
 use Rattle.mips_list.specs.WordText.{based_text, field_text, operand_texts, slot_text}
-use Rattle.mips_asm.specs.Content.{draft_length}
-use Rattle.mips_asm.specs.Draft.{Draft, Fixed, Filled, shaped, words_of}
-use Rattle.mips_asm.specs.Value.{Names, value_of}
+use Rattle.mips_asm.specs.Words.{words_of}
+use Rattle.asm_layout.specs.Content.{draft_length}
+use Rattle.asm_layout.specs.Draft.{Draft, Fixed, Filled, shaped}
+use Rattle.asm_layout.specs.Value.{Names, value_of}
 use Rattle.listing_law.proofs.OperandTexts.{number_value}
 use Rattle.listing_law.proofs.NumberTexts.{IsOperand, number_operand, register_operand}
 use Rattle.listing_law.proofs.BasedTexts.{based_text_read}

@@ -3,10 +3,11 @@ use Rattle.std.specs.Prelude.{◌≡◌, ℕ, List, Some, None, Ok}
 use Rattle.line_text.specs.Lines.{LineValue}
 use Rattle.asm_parse.specs.Form.{line_of}
 use Rattle.asm_parse.specs.declared.syntax.AsmLine.{AsmLine}
-use Rattle.mips_asm.specs.Action.{Put, action_of}
-use Rattle.mips_asm.specs.Content.{Content, alignment, bytes_of, content_length}
-use Rattle.mips_asm.specs.Layout.{nothing_placed}
-use Rattle.mips_asm.specs.Value.{Names}
+use Rattle.asm_layout.specs.Action.{Put, action_of}
+use Rattle.asm_layout.specs.Content.{Content, alignment, content_length}
+use Rattle.asm_layout.specs.Layout.{nothing_placed}
+use Rattle.asm_layout.specs.Value.{Names}
+use Rattle.mips_asm.specs.Emission.{bytes_of}
 
 -- A line is a statement that may stand in the text at a multiple of 4, takes four bytes there, and puts these
 -- bytes where it stands at this address, whatever names the program has.

@@ -1,9 +1,9 @@
 -- What stands after a statement's bytes are put, or a fault.
 use Rattle.std.proofs.Common.{◌≡◌, ℕ, List, Option, Some, None, Result, Ok, Err, refl, ap, sym, subst}
 use Rattle.asm_parse.specs.declared.fault.AsmWhy.{AsmWhy}
-use Rattle.mips_asm.specs.declared.cause.Cause.{Cause}
-use Rattle.mips_asm.specs.declared.cause.Cause.TheVariants.{Why, OutOfMemory}
-use Rattle.mips_asm.specs.Outcome.{Means}
+use Rattle.asm_layout.specs.declared.cause.Cause.{Cause}
+use Rattle.asm_layout.specs.declared.cause.Cause.TheVariants.{Why, OutOfMemory}
+use Rattle.asm_layout.specs.Outcome.{Means}
 use Rattle.mips_asm.specs.Second.{earlier, onto, unless_start, unless_start_cause}
 
 -- what is put, or a fault, is due also where something is wrong with `start`

@@ -7,18 +7,22 @@ use Rattle.asm_parse.specs.declared.fault.AsmWhy.{AsmWhy}
 use Rattle.asm_parse.specs.declared.fault.AsmWhy.TheVariants.{OutOfRange}
 use Rattle.mips_isa.specs.Encoding.{word_of}
 use Rattle.mips_isa.specs.declared.insn.Insn.TheVariants.{Lui, Ori}
-use Rattle.mips_asm.specs.declared.number.NumberSize.{NumberSize}
-use Rattle.mips_asm.specs.declared.number.NumberSize.TheVariants.{Byte, Half, Word}
-use Rattle.mips_asm.specs.declared.section.Section.{Section}
-use Rattle.mips_asm.specs.declared.section.Section.TheVariants.{Text, Data}
-use Rattle.mips_asm.specs.Content.{Content, Instruction, Numbers, Given, bytes_of, content_length, draft_length, words_bytes, number_bytes, numbers_bytes, values_of}
-use Rattle.mips_asm.specs.Draft.{Draft, Fixed, Filled, Halves, defined, field_bits_in, words_of}
-use Rattle.mips_asm.specs.Layout.{Layout, Placed}
-use Rattle.mips_asm.specs.Outcome.{◌>>=◌, in_line}
+use Rattle.asm_layout.specs.declared.number.NumberSize.{NumberSize}
+use Rattle.asm_layout.specs.declared.number.NumberSize.TheVariants.{Byte, Half, Word}
+use Rattle.asm_layout.specs.declared.section.Section.{Section}
+use Rattle.asm_layout.specs.declared.section.Section.TheVariants.{Text, Data}
+use Rattle.asm_layout.specs.Content.{Content, Instruction, Numbers, Given, content_length, draft_length, number_length}
+use Rattle.asm_layout.specs.Draft.{Draft, Fixed, Filled, Halves}
+use Rattle.asm_layout.specs.Laid.{HasStart, length_in, total}
+use Rattle.asm_layout.specs.Layout.{Layout, Placed}
+use Rattle.asm_layout.specs.Outcome.{◌>>=◌, in_line}
+use Rattle.asm_layout.specs.Value.{Names, defined}
+use Rattle.asm_layout.proofs.OutcomeLemmas.{bind_ok, chosen_ok, in_line_ok, ok_is}
+use Rattle.mips_asm.specs.Emission.{bytes_of, values_of}
+use Rattle.mips_asm.specs.Field.{field_bits_in}
+use Rattle.mips_asm.specs.Number.{number_bytes, number_fits, numbers_bytes}
 use Rattle.mips_asm.specs.Second.{Sections, emitted, extended, filled, filled_from, start_fault, start_fault_of, unless_start, widened}
-use Rattle.mips_asm.specs.Value.{Names, number_fits, number_length}
-use Rattle.mips_asm.proofs.LaidLemmas.{HasStart, length_in, total}
-use Rattle.mips_asm.proofs.OutcomeLemmas.{bind_ok, chosen_ok, in_line_ok, ok_is}
+use Rattle.mips_asm.specs.Words.{words_bytes, words_of}
 
 -- the lengths of what is put
 

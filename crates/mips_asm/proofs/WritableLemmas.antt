@@ -9,13 +9,14 @@ use Rattle.asm_parse.specs.declared.fault.AsmWhy.{AsmWhy}
 use Rattle.asm_parse.specs.declared.fault.AsmWhy.TheVariants.{Empty, OutOfRange, Unaligned}
 use Rattle.elf_static.specs.ObjectValue.{ObjectValue, PartValue}
 use Rattle.elf_static.specs.Writable.{IsWritable}
+use Rattle.asm_layout.specs.Laid.{IsLaid, StartIn}
+use Rattle.asm_layout.specs.Layout.{Layout, Placed, laid}
+use Rattle.asm_layout.specs.Outcome.{◌>>=◌}
+use Rattle.asm_layout.proofs.LaidLemmas.{laid_laid}
+use Rattle.asm_layout.proofs.OutcomeLemmas.{bind_ok, ok_is, other_ok}
 use Rattle.mips_asm.specs.Assembled.{assembled, program_of}
-use Rattle.mips_asm.specs.Layout.{Layout, Placed, laid}
-use Rattle.mips_asm.specs.Outcome.{◌>>=◌}
 use Rattle.mips_asm.specs.Second.{Sections, filled, is_in_text, start_fault}
 use Rattle.mips_asm.proofs.FilledLemmas.{StartIsGood, filled_is, start_good}
-use Rattle.mips_asm.proofs.LaidLemmas.{IsLaid, StartIn, laid_laid}
-use Rattle.mips_asm.proofs.OutcomeLemmas.{bind_ok, ok_is, other_ok}
 
 text_part : List ℕ → PartValue
 text_part bs = record { vaddr = 0x00400000; bytes = bs; writable = false }

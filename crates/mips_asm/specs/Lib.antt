@@ -1,10 +1,7 @@
-pub mod Action
 pub mod Assembled
-pub mod Content
-pub mod Draft
-pub mod Layout
-pub mod Outcome
-pub mod Room
+pub mod Emission
+pub mod Field
+pub mod Number
 pub mod Second
 pub mod Seen
-pub mod Value
+pub mod Words

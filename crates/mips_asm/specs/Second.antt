@@ -3,14 +3,14 @@ use Rattle.std.specs.Prelude.{ℕ, ◌+◌, ◌%◌, Bool, List, [], ◌∷◌, 
 use Rattle.asm_parse.specs.declared.fault.AsmFault.{AsmFault}
 use Rattle.asm_parse.specs.declared.fault.AsmWhy.{AsmWhy}
 use Rattle.asm_parse.specs.declared.fault.AsmWhy.TheVariants.{OutOfRange, Unaligned}
-use Rattle.mips_asm.specs.declared.cause.Cause.{Cause}
-use Rattle.mips_asm.specs.declared.cause.Cause.TheVariants as causes
-use Rattle.mips_asm.specs.declared.section.Section.{Section}
-use Rattle.mips_asm.specs.declared.section.Section.TheVariants.{Text, Data}
-use Rattle.mips_asm.specs.Content.{bytes_of}
-use Rattle.mips_asm.specs.Layout.{Layout, Placed, base_of}
-use Rattle.mips_asm.specs.Outcome.{◌>>=◌, in_line}
-use Rattle.mips_asm.specs.Value.{Names}
+use Rattle.asm_layout.specs.declared.cause.Cause.{Cause}
+use Rattle.asm_layout.specs.declared.cause.Cause.TheVariants as causes
+use Rattle.asm_layout.specs.declared.section.Section.{Section}
+use Rattle.asm_layout.specs.declared.section.Section.TheVariants.{Text, Data}
+use Rattle.asm_layout.specs.Layout.{Layout, Placed, base_of}
+use Rattle.asm_layout.specs.Outcome.{◌>>=◌, in_line}
+use Rattle.asm_layout.specs.Value.{Names}
+use Rattle.mips_asm.specs.Emission.{bytes_of}
 
 -- the bytes of the sections
 pub record Sections : Type 0 where

@@ -1,59 +1,9 @@
 -- What the program holds, as plain data.
-use Rattle.std.specs.Prelude.{ℕ, List, ◌∷◌, map, replicate}
+use Rattle.std.specs.Prelude.{ℕ, List, ◌∷◌}
 use Rattle.std.specs.Option.{option_to_list}
-use Rattle.asm_parse.specs.Expression.{ExpressionValue}
-use Rattle.asm_parse.specs.Operand.{OperandValue}
-use Rattle.asm_parse.specs.Seen.{arg_seen, expression_seen}
-use Rattle.asm_parse.specs.declared.syntax.Arg.{Arg}
-use Rattle.asm_parse.specs.declared.expression.Expression.{Expression}
-use Rattle.mips_asm.specs.Action as actions
-use Rattle.mips_asm.specs.Action.{operands_in}
-use Rattle.mips_asm.specs.Content as contents
-use Rattle.mips_asm.specs.Draft as drafts
-use Rattle.mips_asm.specs.Layout as layouts
 use Rattle.mips_asm.specs.Second as seconds
-use Rattle.mips_asm.specs.declared.action.Action.{Action}
-use Rattle.mips_asm.specs.declared.action.Action.TheVariants as action
-use Rattle.mips_asm.specs.declared.content.Content.{Content}
-use Rattle.mips_asm.specs.declared.content.Content.TheVariants as content
-use Rattle.mips_asm.specs.declared.draft.Draft.{Draft}
-use Rattle.mips_asm.specs.declared.draft.Draft.TheVariants as draft
-use Rattle.mips_asm.specs.declared.words.Words.{Words}
-use Rattle.mips_asm.specs.declared.layout.Layout.{Layout}
-use Rattle.mips_asm.specs.declared.layout.Placed.{Placed}
 use Rattle.mips_asm.specs.declared.second.Sections.{Sections}
-
-abbrev pub operands_seen : List Arg → List OperandValue
-operands_seen args = operands_in (map arg_seen args)
-
-abbrev pub draft_seen : Draft → drafts.Draft
-draft_seen (draft.Fixed w) = drafts.Fixed w.value
-draft_seen (draft.Filled field w e) = drafts.Filled field w.value (expression_seen e)
-draft_seen (draft.Halves r e) = drafts.Halves r.number (expression_seen e)
-
-abbrev pub expressions_seen : List Expression → List ExpressionValue
-expressions_seen es = map expression_seen es
-
-abbrev pub content_seen : Content → contents.Content
-content_seen (content.Instruction d) = contents.Instruction (draft_seen d)
-content_seen (content.Numbers size es) = contents.Numbers size (expressions_seen es.items)
-content_seen (content.Bytes bs) = contents.Given bs.items
-content_seen (content.Zeros n) = contents.Given (replicate n 0)
-
-abbrev pub action_seen : Action → actions.Action
-action_seen (action.Put c) = actions.Put (content_seen c)
-action_seen (action.Align n) = actions.Align n
-action_seen (action.Enter section) = actions.Enter section
-action_seen (action.Define name e) = actions.Define name.now (expression_seen e)
-
-abbrev pub placed_seen : Placed → layouts.Placed
-placed_seen p = record { line = p.line; section = p.section; place = p.place; is_start = p.is_start; content = content_seen p.content }
-
-abbrev pub all_placed_seen : List Placed → List layouts.Placed
-all_placed_seen ps = map placed_seen ps
-
-abbrev pub layout_seen : Layout → layouts.Layout
-layout_seen l = record { section = l.section; text = l.text; data_bytes = l.data_bytes; names = l.names; start = l.start; placed = all_placed_seen l.placed.items }
+use Rattle.mips_asm.specs.declared.words.Words.{Words}
 
 abbrev pub sections_seen : Sections → seconds.Sections
 sections_seen s = record { text = s.text.items; data_bytes = s.data_bytes.items }

@@ -3,16 +3,14 @@ ghost use Rattle.std.specs.Prelude.{◌≡◌, ◌<◌, ◌^◌, length, IfOk, I
 ghost use Rattle.asm_parse.specs.Form.{Gives};
 ghost use Rattle.elf_static.specs.Seen.{object_seen};
 ghost use Rattle.elf_static.specs.Writable.{IsWritable};
+ghost use Rattle.asm_layout.specs.Seen.{layout_seen};
 ghost use Rattle.mips_asm.specs.Assembled.{IsDue, assembled, parts_of, program_of};
-ghost use Rattle.mips_asm.specs.Layout.{laid};
-ghost use Rattle.mips_asm.specs.Seen.{layout_seen, sections_seen};
+ghost use Rattle.mips_asm.specs.Seen.{sections_seen};
 
-use crate::layout::Layout;
 use crate::second::Sections;
-use crate::section::Section;
-use asm_parse::{AsmFault, AsmWhy, parse_line};
+use asm_layout::{Layout, Section, lay_out};
+use asm_parse::{AsmFault, AsmWhy};
 use elf_static::{Object, Part};
-use line_text::cut;
 use std::alloc::{AllocError, Global};
 
 /// The line of the fault that a source has no byte of text.
@@ -39,7 +37,7 @@ fn assembly(alloc: Global, source: &[u8]) -> Result<Object, AsmFault>
     requires { length source.now < 2 ^ 27 }
     ensures { Gives object_seen result (assembled source.now) }
 {
-    let layout = laid(alloc, source)?;
+    let layout = lay_out(alloc, source)?;
     if layout.text == 0 {
         return Err(AsmFault::At {
             line: EMPTY_LINE,
@@ -48,21 +46,6 @@ fn assembly(alloc: Global, source: &[u8]) -> Result<Object, AsmFault>
     }
     let sections = Sections::of(alloc, &layout)?;
     Ok(program(alloc, &layout, sections)?)
-}
-
-/// What the lines of a source place.
-#[tactic(auto, unfolding(crate::specs::Layout::laid))]
-fn laid<'a>(alloc: Global, source: &'a [u8]) -> Result<Layout<'a>, AsmFault>
-    requires { length source.now < 2 ^ 27 }
-    ensures { Gives layout_seen result (laid source.now) }
-{
-    let mut layout = Layout::new(alloc);
-    for line in cut(source) {
-        if let Some(statement) = parse_line(alloc, &line)? {
-            layout.add(alloc, &statement)?;
-        }
-    }
-    Ok(layout)
 }
 
 /// The program of sections.

@@ -1,20 +1,15 @@
 //! The bytes of statements.
 ghost use Rattle.std.specs.Prelude.{◌≡◌, ◌+◌, ◌<◌, ◌^◌, ◌++◌, OnOk, replicate};
 ghost use Rattle.std.specs.List.{flat_map, list_all};
-ghost use Rattle.mips_asm.specs.Value.{number_fits};
-ghost use Rattle.mips_asm.specs.Content.{bytes_of, number_bytes, numbers_bytes, values_of};
-ghost use Rattle.mips_asm.specs.Outcome.{Means};
+ghost use Rattle.asm_layout.specs.Outcome.{Means};
+ghost use Rattle.asm_layout.specs.Seen.{content_seen, expressions_seen, placed_seen};
+ghost use Rattle.mips_asm.specs.Emission.{bytes_of, values_of};
+ghost use Rattle.mips_asm.specs.Number.{number_bytes, number_fits, numbers_bytes};
 ghost use Rattle.mips_asm.specs.Second.{earlier, emitted, onto, start_fault, start_fault_of, unless_start_cause};
-ghost use Rattle.mips_asm.specs.Seen.{content_seen, expressions_seen, placed_seen};
 
-use crate::cause::Cause;
-use crate::content::Content;
-use crate::layout::Placed;
-use crate::names::Names;
-use crate::number::NumberSize;
-use crate::section::Section;
-use crate::value::defined;
+use crate::number::{fits, push_number};
 use crate::words::{draft_words, push_words};
+use asm_layout::{Cause, Content, Names, NumberSize, Placed, Section, defined};
 use asm_parse::{AsmWhy, Expression};
 use std::alloc::{AllocError, Global};
 
@@ -85,7 +80,7 @@ fn start_fault(size: u32, place: u32) -> Option<AsmWhy>
 }
 
 /// Puts the bytes of a statement's content at the end.
-#[tactic(auto, unfolding(crate::specs::Content::bytes_of))]
+#[tactic(auto, unfolding(crate::specs::Emission::bytes_of))]
 fn push_content(
     out: &mut Vec<u8>,
     alloc: Global,
@@ -135,7 +130,7 @@ fn push_numbers(out: &mut Vec<u8>, size: NumberSize, values: &[u32]) -> Result<(
 fn all_fit(size: NumberSize, values: &[u32]) -> bool
     ensures { result ≡ list_all (number_fits size) values.now }
 {
-    values.iter().all(|value| size.fits(*value))
+    values.iter().all(|value| fits(size, *value))
 }
 
 /// Puts numbers at the end.
@@ -143,7 +138,7 @@ fn push_all(out: &mut Vec<u8>, size: NumberSize, values: &[u32]) -> Result<(), A
     ensures { OnOk result (out.new.items ≡ out.old.items ++ flat_map (number_bytes size) values.now) }
 {
     for value in values {
-        size.push(out, *value)?;
+        push_number(out, size, *value)?;
     }
     Ok(())
 }

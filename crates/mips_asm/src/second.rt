@@ -1,10 +1,7 @@
 //! The second pass: the bytes of the sections.
 
 use crate::emission::emit;
-use crate::layout::{Layout, Placed};
-use crate::line::at_line;
-use crate::names::Names;
-use crate::section::Section;
+use asm_layout::{Layout, Names, Placed, Section, at_line};
 use asm_parse::AsmFault;
 use std::alloc::Global;
 
@@ -20,8 +17,9 @@ pub(crate) struct Sections {
 impl Sections {
     ghost use Rattle.std.specs.Prelude.{◌≡◌};
     ghost use Rattle.asm_parse.specs.Form.{Gives};
+    ghost use Rattle.asm_layout.specs.Seen.{layout_seen, placed_seen};
     ghost use Rattle.mips_asm.specs.Second.{filled, widened};
-    ghost use Rattle.mips_asm.specs.Seen.{layout_seen, placed_seen, sections_seen};
+    ghost use Rattle.mips_asm.specs.Seen.{sections_seen};
 
     /// The sections of what the first pass has placed.
     #[tactic(auto, unfolding(crate::specs::Second::filled))]

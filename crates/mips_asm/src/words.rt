@@ -2,14 +2,13 @@
 ghost use Rattle.std.specs.Prelude.{◌≡◌, ◌+◌, ◌<◌, ◌^◌, ◌++◌, OnOk};
 ghost use Rattle.mips_isa.specs.Encoding.{IsEncodable, word_of};
 ghost use Rattle.asm_parse.specs.Seen.{expression_seen};
-ghost use Rattle.mips_asm.specs.Content.{words_bytes};
-ghost use Rattle.mips_asm.specs.Draft.{halves_in, words_of};
-ghost use Rattle.mips_asm.specs.Outcome.{ok_seen};
-ghost use Rattle.mips_asm.specs.Seen.{draft_seen, words_seen};
+ghost use Rattle.asm_layout.specs.Outcome.{ok_seen};
+ghost use Rattle.asm_layout.specs.Seen.{draft_seen};
+ghost use Rattle.mips_asm.specs.Seen.{words_seen};
+ghost use Rattle.mips_asm.specs.Words.{halves_in, words_bytes, words_of};
 
-use crate::draft::Draft;
-use crate::names::Names;
-use crate::value::{defined, field_bits};
+use crate::field::field_bits;
+use asm_layout::{Draft, Names, defined};
 use asm_parse::{AsmWhy, Expression, Register};
 use byte_numbers::push_word;
 use mips_isa::{Insn, encode};
@@ -35,7 +34,7 @@ fn one(first: u32) -> Words
 }
 
 /// The words that a draft at a place makes. The fault is Undefined, Unaligned or OutOfRange.
-#[tactic(auto, unfolding(crate::specs::Draft::words_of))]
+#[tactic(auto, unfolding(crate::specs::Words::words_of))]
 pub(crate) fn draft_words(draft: Draft<'_>, names: &Names, place: u32) -> Result<Words, AsmWhy>
     requires { place + 4 < 2 ^ 32 }
     ensures { ok_seen words_seen result ≡ words_of names.now place (draft_seen draft.entry) }

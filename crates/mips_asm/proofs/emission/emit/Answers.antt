@@ -1,6 +1,6 @@
-use Rattle.mips_asm.specs.Content.{bytes_of}
+use Rattle.mips_asm.specs.Emission.{bytes_of}
 use Rattle.mips_asm.specs.Second.{emitted}
-use Rattle.mips_asm.specs.Seen.{content_seen}
+use Rattle.asm_layout.specs.Seen.{content_seen}
 use Rattle.mips_asm.proofs.EmissionLemmas.{emit_means}
 use Rattle.mips_asm.proofs.emission.emit.Goals as goal
 

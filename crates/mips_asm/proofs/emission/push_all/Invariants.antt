@@ -1,6 +1,6 @@
 use Rattle.std.proofs.Common.{◌≡◌, ◌++◌, take}
 use Rattle.std.specs.List.{flat_map}
-use Rattle.mips_asm.specs.Content.{number_bytes}
+use Rattle.mips_asm.specs.Number.{number_bytes}
 use Rattle.mips_asm.proofs.emission.push_all.Given as goal
 
 abbrev pub invariant-loop-value : goal.invariant-loop-value

@@ -1,6 +1,7 @@
 use Rattle.std.proofs.Common.{◌≡◌, [], drop}
+use Rattle.asm_layout.specs.Seen.{all_placed_seen}
 use Rattle.mips_asm.specs.Second.{filled_from}
-use Rattle.mips_asm.specs.Seen.{all_placed_seen, sections_seen}
+use Rattle.mips_asm.specs.Seen.{sections_seen}
 use Rattle.mips_asm.proofs.second.Sections.of.Given as goal
 
 -- the sections so far, with what is to come, are those of all statements

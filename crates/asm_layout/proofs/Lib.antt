@@ -1,0 +1,4 @@
+pub mod LaidLemmas
+pub mod NameLemmas
+pub mod OperandLemmas
+pub mod OutcomeLemmas

@@ -1,0 +1,145 @@
+-- What a statement asks for.
+use Rattle.std.specs.Prelude.{ℕ, List, [], ◌∷◌, ◌++◌, Option, Result, Ok, Err, map, replicate, codes}
+use Rattle.std.specs.Map.{lookup}
+use Rattle.std.specs.Option.{ok_or}
+use Rattle.std.specs.Str.{bytes_eq}
+use Rattle.asm_parse.specs.Expression.{ExpressionValue, InnerValue, Number, Name}
+use Rattle.asm_parse.specs.declared.fault.AsmWhy.{AsmWhy}
+use Rattle.asm_parse.specs.declared.fault.AsmWhy.TheVariants.{Syntax, UnknownName}
+use Rattle.asm_parse.specs.Arg.{ArgValue}
+use Rattle.asm_parse.specs.Operand.{OperandValue}
+use Rattle.asm_parse.specs.declared.syntax.AsmBody.{AsmBody}
+use Rattle.asm_parse.specs.declared.syntax.AsmBody.TheVariants as bodies
+use Rattle.asm_layout.specs.declared.directive.Directive.{Directive}
+use Rattle.asm_layout.specs.declared.directive.Directive.TheVariants as directives
+use Rattle.asm_layout.specs.declared.number.NumberSize.TheVariants.{Byte, Half, Word}
+use Rattle.asm_layout.specs.declared.section.Section.{Section}
+use Rattle.asm_layout.specs.declared.section.Section.TheVariants.{Text, Data}
+use Rattle.asm_layout.specs.Content.{Content, Instruction, Numbers, Given}
+use Rattle.asm_layout.specs.Draft.{draft_of, nothing_in, quoted_form, value_form, value_in}
+use Rattle.mips_text.specs.Texts.{text_of}
+use Rattle.asm_layout.specs.Outcome.{◌>>=◌}
+
+pub data Action : Type 0 where
+  -- put a content at the place
+  Put : Content → Action
+  -- put zeros up to a multiple of this power of 2
+  Align : ℕ → Action
+  -- go on in a section
+  Enter : Section → Action
+  -- give a name the value of an expression
+  Define : List ℕ → ExpressionValue → Action
+
+-- the directives by name
+abbrev pub directive_rows : List (List ℕ × Directive)
+directive_rows =
+    (codes ".text", directives.Enter Text)
+    ∷ (codes ".data", directives.Enter Data)
+    ∷ (codes ".word", directives.Numbers Word)
+    ∷ (codes ".half", directives.Numbers Half)
+    ∷ (codes ".byte", directives.Numbers Byte)
+    ∷ (codes ".ascii", directives.Ascii)
+    ∷ (codes ".asciiz", directives.Asciiz)
+    ∷ (codes ".space", directives.Space)
+    ∷ (codes ".align", directives.Align)
+    ∷ (codes ".equ", directives.Equ)
+    ∷ []
+
+unfoldable pub directive_of : List ℕ → Option Directive
+directive_of name = lookup (bytes_eq name) directive_rows
+
+-- instructions stand in the text
+abbrev pub in_text : Section → Result (Unit {0}) AsmWhy
+in_text Text = Ok tt
+in_text Data = Err Syntax
+
+-- each operand an expression
+abbrev pub values_in : List OperandValue → Result (List ExpressionValue) AsmWhy
+values_in [] = Ok []
+values_in (a ∷ rest) = do
+  e ← value_form a
+  es ← values_in rest
+  Ok (e ∷ es)
+
+-- one expression or more
+abbrev pub some_values_in : List OperandValue → Result (List ExpressionValue) AsmWhy
+some_values_in [] = Err Syntax
+some_values_in (a ∷ rest) = values_in (a ∷ rest)
+
+-- the bytes that a quoted text means
+abbrev pub quoted_in : List OperandValue → Result (List ℕ) AsmWhy
+quoted_in (a ∷ []) = quoted_form a
+quoted_in _ = Err Syntax
+
+-- a number without openings
+abbrev pub number_alone : List ℕ → InnerValue → Result ℕ AsmWhy
+number_alone [] (Number n) = Ok n
+number_alone _ _ = Err Syntax
+
+-- an expression that is written as a number
+abbrev pub written_number : ExpressionValue → Result ℕ AsmWhy
+written_number e = number_alone e.openings e.inner
+
+abbrev pub number_in : List OperandValue → Result ℕ AsmWhy
+number_in operands = do
+  e ← value_in operands
+  written_number e
+
+-- a name without openings
+abbrev pub name_alone : List ℕ → InnerValue → Result (List ℕ) AsmWhy
+name_alone [] (Name name) = Ok name
+name_alone _ _ = Err Syntax
+
+-- an expression that is written as a name
+abbrev pub written_name : ExpressionValue → Result (List ℕ) AsmWhy
+written_name e = name_alone e.openings e.inner
+
+-- a name and an expression
+abbrev pub definition_in : List OperandValue → Result (List ℕ × ExpressionValue) AsmWhy
+definition_in (a ∷ b ∷ []) = do
+  a ← value_form a
+  e ← value_form b
+  name ← written_name a
+  Ok (name, e)
+definition_in _ = Err Syntax
+
+-- what a directive with these operands asks for
+unfoldable pub directed : Directive → List OperandValue → Result Action AsmWhy
+directed (directives.Enter section) operands = do
+  none ← nothing_in operands
+  Ok (Enter section)
+directed (directives.Numbers size) operands = do
+  es ← some_values_in operands
+  Ok (Put (Numbers size es))
+directed directives.Ascii operands = do
+  bs ← quoted_in operands
+  Ok (Put (Given bs))
+directed directives.Asciiz operands = do
+  bs ← quoted_in operands
+  Ok (Put (Given (bs ++ 0 ∷ [])))
+directed directives.Space operands = do
+  n ← number_in operands
+  Ok (Put (Given (replicate n 0)))
+directed directives.Align operands = do
+  n ← number_in operands
+  Ok (Align n)
+directed directives.Equ operands = do
+  definition ← definition_in operands
+  Ok (Define definition.0 definition.1)
+
+-- operands without their places
+abbrev pub operands_in : List ArgValue → List OperandValue
+operands_in args = map (λ arg. arg.operand) args
+
+-- what an operation in a section asks for: a name that isn't known stands before operands that it can't take, and
+-- these before a register that there isn't
+unfoldable pub action_of : Section → AsmBody → Result Action AsmWhy
+action_of section bodies.Nothing = Ok (Put (Given []))
+action_of section (bodies.Op name args) = do
+  text ← ok_or (text_of name) UnknownName
+  none ← in_text section
+  draft ← draft_of text (operands_in args)
+  Ok (Put (Instruction draft))
+action_of section (bodies.Directive name args) = do
+  directive ← ok_or (directive_of name) UnknownName
+  directed directive (operands_in args)

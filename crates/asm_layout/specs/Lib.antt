@@ -1,0 +1,9 @@
+pub mod Action
+pub mod Content
+pub mod Draft
+pub mod Laid
+pub mod Layout
+pub mod Outcome
+pub mod Room
+pub mod Seen
+pub mod Value

@@ -1,0 +1,52 @@
+//! Directives.
+ghost use Rattle.std.specs.Prelude.{◌≡◌};
+
+use crate::number::NumberSize;
+use crate::section::Section;
+use asm_parse::{Row, find};
+
+/// An operation that is no instruction.
+#[derive(Clone, Copy)]
+pub(crate) enum Directive {
+    /// `.text` and `.data`: go on in a section.
+    Enter(Section),
+    /// `.word`, `.half` and `.byte`: put numbers.
+    Numbers(NumberSize),
+    /// `.ascii`: put the bytes of a text.
+    Ascii,
+    /// `.asciiz`: put the bytes of a text and a zero.
+    Asciiz,
+    /// `.space`: put zeros.
+    Space,
+    /// `.align`: put zeros up to a multiple of a power of 2.
+    Align,
+    /// `.equ`: give a name a value.
+    Equ,
+}
+
+/// The directives by name.
+const DIRECTIVES: [Row<Directive>; 10] = [
+    Row(b".text", Directive::Enter(Section::Text)),
+    Row(b".data", Directive::Enter(Section::Data)),
+    Row(b".word", Directive::Numbers(NumberSize::Word)),
+    Row(b".half", Directive::Numbers(NumberSize::Half)),
+    Row(b".byte", Directive::Numbers(NumberSize::Byte)),
+    Row(b".ascii", Directive::Ascii),
+    Row(b".asciiz", Directive::Asciiz),
+    Row(b".space", Directive::Space),
+    Row(b".align", Directive::Align),
+    Row(b".equ", Directive::Equ),
+];
+
+impl Directive {
+    ghost use Rattle.std.specs.Prelude.{◌≡◌};
+    ghost use Rattle.asm_layout.specs.Action.{directive_of};
+
+    /// The directive of a name, if it has one.
+    #[tactic(auto, unfolding(crate::specs::Action::directive_of))]
+    pub(crate) fn named(name: &[u8]) -> Option<Directive>
+        ensures { result ≡ directive_of name.now }
+    {
+        find(&DIRECTIVES, name)
+    }
+}

@@ -1,0 +1,234 @@
+//! The first pass: where each statement stands, and the values of the names.
+ghost use Rattle.std.specs.Prelude.{◌≤◌, ◌<◌};
+
+use crate::action::{Action, read_action};
+use crate::cause::Cause;
+use crate::content::Content;
+use crate::line::at_line;
+use crate::names::Names;
+use crate::padding::padding;
+use crate::section::{SECTION_LIMIT, Section};
+use crate::start::is_start;
+use crate::value::defined;
+use asm_parse::{AsmFault, AsmLine, AsmWhy, Expression, Name};
+use std::alloc::Global;
+
+/// What a statement puts, and where.
+#[derive(Drop)]
+pub struct Placed<'a> {
+    /// The statement's line.
+    pub line: u32,
+    /// The section.
+    pub section: Section,
+    /// The address of the statement.
+    pub place: u32,
+    /// Whether its label is `start`.
+    pub is_start: bool,
+    /// What it puts.
+    pub content: Content<'a>,
+    ghost low: { place < 0x20000000 },
+}
+
+/// How far the first pass has come.
+#[derive(Drop)]
+pub struct Layout<'a> {
+    /// The section to which statements are added.
+    pub section: Section,
+    /// How many bytes the text has.
+    pub text: u32,
+    /// How many bytes the data has.
+    pub data_bytes: u32,
+    /// The labels and the names of `.equ`.
+    pub names: Names,
+    /// The address of the label `start`.
+    pub start: Option<u32>,
+    /// The statements in order.
+    pub placed: Vec<Placed<'a>>,
+    ghost text_fits: { text ≤ 1048576 },
+    ghost data_fits: { data_bytes ≤ 1048576 },
+}
+
+/// The largest power of 2 to which `.align` goes.
+const LARGEST_ALIGNMENT: u32 = 12;
+
+impl<'a> Layout<'a> {
+    ghost use Rattle.std.specs.Prelude.{◌≡◌, ◌+◌, ◌≤◌, ◌<◌, ◌++◌, ◌∷◌, [], None, OnOk, IfOk};
+    ghost use Rattle.std.specs.Option.{option_copied, option_map};
+    ghost use Rattle.std.specs.List.{AllByRecursion};
+    ghost use Rattle.asm_parse.specs.Form.{Gives};
+    ghost use Rattle.asm_parse.specs.Seen.{expression_seen};
+    ghost use Rattle.asm_layout.specs.Layout.{acted, appended, equated, is_start, labelled, named, nothing_placed, padded, place_of, put, stated, used_by};
+    ghost use Rattle.asm_layout.specs.Content.{content_length};
+    ghost use Rattle.asm_layout.specs.Outcome.{in_line, Means};
+    ghost use Rattle.asm_layout.specs.Seen.{action_seen, content_seen, layout_seen, placed_seen};
+
+    /// No lines yet.
+    pub(crate) fn new(alloc: Global) -> Layout<'a>
+        ensures { layout_seen result ≡ nothing_placed }
+    {
+        Layout {
+            section: Section::Text,
+            text: 0,
+            data_bytes: 0,
+            names: Names::new(alloc),
+            start: None,
+            placed: Vec::new(alloc),
+        }
+    }
+
+    /// How many bytes the section has, to which statements are added.
+    fn used(&self) -> u32
+        ensures value { result ≡ used_by self.now.section (layout_seen self.now) }
+        ensures within { result ≤ 1048576 }
+    {
+        match self.section {
+            Section::Text => self.text,
+            Section::Data => self.data_bytes,
+        }
+    }
+
+    /// The address at which the next statement stands.
+    fn place(&self) -> u32
+        ensures value { result ≡ place_of (layout_seen self.now) }
+        ensures low { result < 0x20000000 }
+    {
+        self.section.base() + self.used()
+    }
+
+    /// Adds a line's statement.
+    pub(crate) fn add(&mut self, alloc: Global, statement: &AsmLine<'a>) -> Result<(), AsmFault>
+        ensures { Gives (λ _. layout_seen self.new) result (in_line statement.now.line (stated statement.now (layout_seen self.old))) }
+    {
+        let stated = self.state(alloc, statement);
+        at_line(statement.line, stated)
+    }
+
+    /// Reads a statement's operation, gives its label a value, and does what it asks for.
+    #[tactic(auto, unfolding(crate::specs::Layout::stated))]
+    fn state(&mut self, alloc: Global, statement: &AsmLine<'a>) -> Result<(), Cause>
+        ensures { Means (λ _. layout_seen self.new) result (stated statement.now (layout_seen self.old)) }
+    {
+        let action = read_action(alloc, self.section, &statement.body)?;
+        self.label(alloc, &statement.label)?;
+        self.act(alloc, statement.line, is_start(&statement.label), action)
+    }
+
+    /// Gives a label the address of its statement.
+    fn label(&mut self, alloc: Global, label: &Option<Name>) -> Result<(), Cause>
+        ensures { Means (λ _. layout_seen self.new) result (labelled label.now (layout_seen self.old)) }
+    {
+        let Some(name) = label else {
+            return Ok(());
+        };
+        let place = self.place();
+        self.name(alloc, name.bytes(), place)?;
+        if is_start(label) {
+            self.start = Some(place);
+        }
+        Ok(())
+    }
+
+    /// Gives a name its value, where it has none yet.
+    fn name(&mut self, alloc: Global, name: &[u8], value: u32) -> Result<(), Cause>
+        ensures { Means (λ _. layout_seen self.new) result (named name.now value (layout_seen self.old)) }
+    {
+        if self.names.value(name).is_some() {
+            return Err(Cause::Why(AsmWhy::Redefined));
+        }
+        self.names.add(alloc, name, value)?;
+        Ok(())
+    }
+
+    /// Does what a statement asks for.
+    #[tactic(auto, unfolding(crate::specs::Layout::acted))]
+    fn act(
+        &mut self,
+        alloc: Global,
+        line: u32,
+        is_start: bool,
+        action: Action<'a>,
+    ) -> Result<(), Cause>
+        ensures { Means (λ _. layout_seen self.new) result (acted line is_start (action_seen action.entry) (layout_seen self.old)) }
+    {
+        match action {
+            Action::Put(content) => self.put(line, is_start, content),
+            Action::Align(power) => self.align(line, is_start, power),
+            Action::Enter(section) => {
+                self.put(line, is_start, Content::Zeros(0))?;
+                self.section = section;
+                Ok(())
+            }
+            Action::Define(name, value) => {
+                self.equate(alloc, name, value)?;
+                self.put(line, is_start, Content::Zeros(0))
+            }
+        }
+    }
+
+    /// Puts zeros up to a multiple of a power of 2.
+    fn align(&mut self, line: u32, is_start: bool, power: u32) -> Result<(), Cause>
+        ensures { Means (λ _. layout_seen self.new) result (padded line is_start power (layout_seen self.old)) }
+    {
+        if power > LARGEST_ALIGNMENT {
+            return Err(Cause::Why(AsmWhy::OutOfRange));
+        }
+        let count = padding(self.place(), 1 << power);
+        self.put(line, is_start, Content::Zeros(count))
+    }
+
+    /// Gives a name of `.equ` the value of its expression, which has one already.
+    fn equate(
+        &mut self,
+        alloc: Global,
+        constant: &[u8],
+        expression: Expression<'_>,
+    ) -> Result<(), Cause>
+        ensures { Means (λ _. layout_seen self.new) result (equated constant.now (expression_seen expression.entry) (layout_seen self.old)) }
+    {
+        if self.names.value(constant).is_some() {
+            return Err(Cause::Why(AsmWhy::Redefined));
+        }
+        let value = defined(&self.names, expression)?;
+        self.name(alloc, constant, value)
+    }
+
+    /// Puts a content at the place, where it is aligned and the section has room.
+    fn put(&mut self, line: u32, is_start: bool, content: Content<'a>) -> Result<(), Cause>
+        ensures { Means (λ _. layout_seen self.new) result (put line is_start (content_seen content.entry) (layout_seen self.old)) }
+    {
+        if self.place() % content.alignment() != 0 {
+            return Err(Cause::Why(AsmWhy::Unaligned));
+        }
+        match content.length_within(SECTION_LIMIT - self.used()) {
+            Some(length) => self.append(line, is_start, content, length),
+            None => Err(Cause::Why(AsmWhy::OutOfRange)),
+        }
+    }
+
+    /// Puts a content at the place.
+    fn append(
+        &mut self,
+        line: u32,
+        is_start: bool,
+        content: Content<'a>,
+        length: u32,
+    ) -> Result<(), Cause>
+        requires length { length ≡ content_length (content_seen content) }
+        requires room { used_by self.old.section (layout_seen self.old) + length ≤ 1048576 }
+        ensures { Means (λ _. layout_seen self.new) result (Ok (appended line is_start (content_seen content.entry) (layout_seen self.old))) }
+    {
+        let placed = Placed {
+            line,
+            section: self.section,
+            place: self.place(),
+            is_start,
+            content,
+        };
+        self.placed.push(placed)?;
+        match self.section {
+            Section::Text => self.text += length,
+            Section::Data => self.data_bytes += length,
+        }
+        Ok(())
+    }
+}

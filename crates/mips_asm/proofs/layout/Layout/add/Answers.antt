@@ -1,6 +1,0 @@
-use Rattle.mips_asm.proofs.OutcomeLemmas.{line_gives}
-use Rattle.mips_asm.proofs.layout.Layout.add.Goals as goal
-
-pub returns : goal.returns
-returns c =
-    line_gives _ c.args.statement.now.line c.state-stated.result c.at_line.result _ c.state-stated.ensures c.at_line.ensures

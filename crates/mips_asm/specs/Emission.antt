@@ -1,0 +1,27 @@
+-- The bytes of what statements put into their sections.
+use Rattle.std.specs.Prelude.{ℕ, List, [], ◌∷◌, Result, Ok}
+use Rattle.asm_parse.specs.Expression.{ExpressionValue}
+use Rattle.asm_parse.specs.declared.fault.AsmWhy.{AsmWhy}
+use Rattle.asm_layout.specs.Content.{Content, Instruction, Numbers, Given}
+use Rattle.asm_layout.specs.Outcome.{◌>>=◌}
+use Rattle.asm_layout.specs.Value.{Names, defined}
+use Rattle.mips_asm.specs.Number.{numbers_bytes}
+use Rattle.mips_asm.specs.Words.{words_bytes, words_of}
+
+-- the values of expressions, each of whose names has one
+abbrev pub values_of : Names → List ExpressionValue → Result (List ℕ) AsmWhy
+values_of names [] = Ok []
+values_of names (e ∷ es) = do
+  v ← defined names e
+  vs ← values_of names es
+  Ok (v ∷ vs)
+
+-- the bytes of a content at a place
+unfoldable pub bytes_of : Names → ℕ → Content → Result (List ℕ) AsmWhy
+bytes_of names place (Instruction draft) = do
+  words ← words_of names place draft
+  Ok (words_bytes words)
+bytes_of names place (Numbers size es) = do
+  vs ← values_of names es
+  numbers_bytes size vs
+bytes_of names place (Given bs) = Ok bs

@@ -1,0 +1,30 @@
+-- The words of instructions.
+use Rattle.std.specs.Prelude.{ℕ, ◌+◌, ◌/◌, ◌%◌, ◌^◌, List, [], ◌∷◌, Result, Ok}
+use Rattle.std.specs.List.{flat_map}
+use Rattle.std.specs.Int.{w32, to_le_bytes}
+use Rattle.asm_parse.specs.Expression.{ExpressionValue}
+use Rattle.asm_parse.specs.declared.fault.AsmWhy.{AsmWhy}
+use Rattle.mips_isa.specs.Encoding.{word_of}
+use Rattle.mips_isa.specs.declared.insn.Insn.TheVariants.{Lui, Ori}
+use Rattle.asm_layout.specs.Draft.{Draft, Fixed, Filled, Halves}
+use Rattle.asm_layout.specs.Outcome.{◌>>=◌}
+use Rattle.asm_layout.specs.Value.{Names, defined}
+use Rattle.mips_asm.specs.Field.{field_bits_in}
+
+-- LUI of the high half and ORI of the low half of an expression
+abbrev pub halves_in : Names → ℕ → ExpressionValue → Result (List ℕ) AsmWhy
+halves_in names rt e = do
+  v ← defined names e
+  Ok (word_of (Lui rt (v / 2 ^ 16)) ∷ word_of (Ori rt rt (v % 2 ^ 16)) ∷ [])
+
+-- the words that a draft at a place makes
+unfoldable pub words_of : Names → ℕ → Draft → Result (List ℕ) AsmWhy
+words_of names place (Fixed w) = Ok (w ∷ [])
+words_of names place (Filled field w e) = do
+  bits ← field_bits_in names field place e
+  Ok ((w + bits) ∷ [])
+words_of names place (Halves rt e) = halves_in names rt e
+
+-- words in memory
+abbrev pub words_bytes : List ℕ → List ℕ
+words_bytes words = flat_map (λ word. to_le_bytes w32 word) words
