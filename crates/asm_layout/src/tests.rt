@@ -1,5 +1,5 @@
-//! A source with a label behind its instructions. What each line places is in cases/assembler, and the faults of the
-//! first pass are in cases/assembler_faults.
+//! A source whose names have their values behind the statement that uses one. The faults of the first pass are in
+//! cases/assembler_faults, and what sources assemble to in cases/assembler.
 use super::*;
 use std::test::Fail;
 
