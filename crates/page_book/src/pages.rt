@@ -1,0 +1,228 @@
+//! The book of pages.
+ghost use Rattle.std.specs.Prelude.{◌≡◌, ◌<◌, ◌≤◌, ◌+◌, false, length, replicate, map, slice_get, IsNone, IsOk, OnOk, IfOk};
+ghost use Rattle.std.specs.Option.{ok_or};
+ghost use Rattle.aegis_limits.specs.Limits.{least_pages};
+ghost use Rattle.page_book.specs.declared.row.PageRow.TheVariants.{Free, Guaranteed, Owned};
+ghost use Rattle.page_book.specs.declared.refusal.PageNo.TheVariants.{NoneFree};
+ghost use Rattle.page_book.specs.Row.{is_free, is_guaranteed, owner_of, alloc_refusal, change_refusal, bind_refusal, released, unless};
+ghost use Rattle.page_book.specs.Rows.{most_rows, row_in, first_free, free_pages, given, changed_unless};
+
+use crate::refusal::PageNo;
+use crate::row::{Capabilities, PageRow};
+use crate::search::{count_free, first_free, release};
+use edge_io::OutOfMemory;
+use std::alloc::Global;
+use std::marker::Model;
+
+/// Whose each page of physical memory is: from 16 to 4,096 pages, numbered from 0.
+#[derive(Drop)]
+pub struct Pages {
+    rows: Vec<PageRow>,
+}
+
+impl Model for Pages {
+    ghost use Rattle.std.specs.Prelude.{◌≤◌, List, length};
+    ghost use Rattle.aegis_limits.specs.Limits.{least_pages};
+    ghost use Rattle.page_book.specs.declared.row.PageRow.{PageRow as Row};
+    ghost use Rattle.page_book.specs.Rows.{most_rows};
+
+    ghost Value = { List Row };
+
+    ghost view = { λ p. p.rows.items };
+
+    ghost invariant = { λ p. (least_pages ≤ length p.rows.items) × (length p.rows.items ≤ most_rows) };
+}
+
+impl Pages {
+    /// So many free pages, from 16 to 4,096. An `Err` says that there is no memory for the book.
+    pub fn new(alloc: Global, pages: u32) -> Result<Pages, OutOfMemory>
+        requires enough { least_pages ≤ pages }
+        requires within { pages ≤ most_rows }
+        ensures { IfOk result (λ p. p ≡ replicate pages Free) }
+    {
+        let mut rows = Vec::with_capacity(alloc, pages as usize)?;
+        for _ in 0..pages {
+            rows.push(PageRow::Free)?;
+        }
+        Ok(Pages { rows })
+    }
+
+    /// How many pages there are, from 16 to 4,096.
+    pub fn pages(&self) -> u32
+        ensures count { result ≡ length self.now }
+        ensures least { least_pages ≤ result }
+        ensures most { result ≤ most_rows }
+    {
+        self.rows.len() as u32
+    }
+
+    /// The row of the page; none where there is no page of this number.
+    pub fn row(&self, page: u32) -> Option<PageRow>
+        ensures { result ≡ slice_get self.now page }
+    {
+        self.rows.get(page as usize).copied()
+    }
+
+    /// The row of a page that is there.
+    fn row_there(&self, page: u32) -> PageRow
+        requires { page < length self.now }
+        ensures { result ≡ row_in self.now page }
+    {
+        self.rows[page as usize]
+    }
+
+    /// The environment whose page it is, guaranteed or not; none if it is free.
+    pub fn owner(&self, page: u32) -> Option<u8>
+        requires { page < length self.now }
+        ensures { result ≡ owner_of (row_in self.now page) }
+    {
+        self.row_there(page).owner()
+    }
+
+    /// Whether there is a page of this number that is a guaranteed one of an environment.
+    pub fn guaranteed(&self, page: u32) -> bool
+        ensures { result ≡ is_guaranteed (row_in self.now page) }
+    {
+        page < self.pages() && self.row_there(page).is_guaranteed()
+    }
+
+    /// How many pages are free.
+    pub fn free_count(&self) -> u32
+        ensures { result ≡ free_pages self.now }
+    {
+        count_free(&self.rows)
+    }
+
+    /// The lowest free page becomes a guaranteed page of the environment, and its number is the answer. `NoneFree`
+    /// comes where no page is free, and changes nothing.
+    pub fn keep(&mut self, env: u8) -> Result<u32, PageNo>
+        ensures answer { result ≡ ok_or (first_free self.old) NoneFree }
+        ensures after { self.new ≡ given self.old (first_free self.old) (Guaranteed env) }
+        ensures was_free { IfOk result (λ p. (p < length self.old) × (row_in self.old p ≡ Free)) }
+        ensures left { OnOk result (free_pages self.old ≡ free_pages self.new + 1) }
+        ensures sure { 0 < free_pages self.old → IsOk result }
+    {
+        self.give(PageRow::Guaranteed { owner: env })
+    }
+
+    /// The environment allocates the lowest free page, with these words, and its number is the answer. `NoneFree`
+    /// comes where no page is free, and changes nothing.
+    pub fn alloc_any(&mut self, env: u8, words: Capabilities) -> Result<u32, PageNo>
+        ensures answer { result ≡ ok_or (first_free self.old) NoneFree }
+        ensures after { self.new ≡ given self.old (first_free self.old) (Owned env words) }
+        ensures was_free { IfOk result (λ p. (p < length self.old) × (row_in self.old p ≡ Free)) }
+        ensures left { OnOk result (free_pages self.old ≡ free_pages self.new + 1) }
+        ensures sure { 0 < free_pages self.old → IsOk result }
+    {
+        self.give(PageRow::Owned { owner: env, words })
+    }
+
+    /// The environment allocates this page, with these words. `NoPage` comes where there is no such page, and `Taken`
+    /// where it has an owner; neither changes anything.
+    pub fn alloc_at(&mut self, env: u8, page: u32, words: Capabilities) -> Result<(), PageNo>
+        ensures answer { result ≡ unless (alloc_refusal (slice_get self.old page)) }
+        ensures after { self.new ≡ changed_unless (alloc_refusal (slice_get self.old page)) self.old page (Owned env words) }
+    {
+        let why = self.alloc_refusal(page);
+        self.change(why, page, PageRow::Owned { owner: env, words })
+    }
+
+    /// The environment frees its page. `NoPage` comes where there is no such page, `NotOwner` where it isn't the
+    /// environment's, and `Guaranteed` where it is guaranteed to it; none changes anything.
+    pub fn free(&mut self, env: u8, page: u32) -> Result<(), PageNo>
+        ensures answer { result ≡ unless (change_refusal env (slice_get self.old page)) }
+        ensures after { self.new ≡ changed_unless (change_refusal env (slice_get self.old page)) self.old page Free }
+    {
+        let why = self.change_refusal(env, page);
+        self.change(why, page, PageRow::Free)
+    }
+
+    /// The environment gives its page other words. It is refused as `free` is.
+    pub fn recap(&mut self, env: u8, page: u32, words: Capabilities) -> Result<(), PageNo>
+        ensures answer { result ≡ unless (change_refusal env (slice_get self.old page)) }
+        ensures after { self.new ≡ changed_unless (change_refusal env (slice_get self.old page)) self.old page (Owned env words) }
+    {
+        let why = self.change_refusal(env, page);
+        let recapped = PageRow::Owned { owner: env, words };
+        self.change(why, page, recapped)
+    }
+
+    /// Whether the environment, which presents a word, may bind the page, to store to it too if `writable`. `NoPage`
+    /// comes where there is no such page, `Guaranteed` where it is guaranteed to the environment itself, and `NoRight`
+    /// where it is free, guaranteed to another, or neither the environment's own nor one that the word gives a right to.
+    pub fn may_bind(&self, env: u8, page: u32, writable: bool, word: u64) -> Result<(), PageNo>
+        ensures { result ≡ unless (bind_refusal env writable word (slice_get self.now page)) }
+    {
+        match self.row(page) {
+            Some(row) => answer_unless(row.bind_refusal(env, writable, word)),
+            None => Err(PageNo::NoPage),
+        }
+    }
+
+    /// All pages of an environment that is gone become free, its guaranteed ones too.
+    pub fn release_env(&mut self, env: u8)
+        ensures { self.new ≡ map (released env) self.old }
+    {
+        release(&mut self.rows, env);
+    }
+
+    /// Gives the lowest free page this row.
+    fn give(&mut self, row: PageRow) -> Result<u32, PageNo>
+        requires { is_free row ≡ false }
+        ensures answer { result ≡ ok_or (first_free self.old) NoneFree }
+        ensures after { self.new ≡ given self.old (first_free self.old) row }
+        ensures was_free { IfOk result (λ p. (p < length self.old) × (row_in self.old p ≡ Free)) }
+        ensures left { OnOk result (free_pages self.old ≡ free_pages self.new + 1) }
+        ensures sure { 0 < free_pages self.old → IsOk result }
+    {
+        let Some(page) = first_free(&self.rows) else {
+            return Err(PageNo::NoneFree);
+        };
+        self.rows[page as usize] = row;
+        Ok(page)
+    }
+
+    /// Why the page can't be allocated.
+    fn alloc_refusal(&self, page: u32) -> Option<PageNo>
+        ensures why { result ≡ alloc_refusal (slice_get self.now page) }
+        ensures there { IsNone result → page < length self.now }
+    {
+        match self.row(page) {
+            Some(row) => row.alloc_refusal(),
+            None => Some(PageNo::NoPage),
+        }
+    }
+
+    /// Why the environment can't free the page, or give it other words.
+    fn change_refusal(&self, env: u8, page: u32) -> Option<PageNo>
+        ensures why { result ≡ change_refusal env (slice_get self.now page) }
+        ensures there { IsNone result → page < length self.now }
+    {
+        match self.row(page) {
+            Some(row) => row.change_refusal(env),
+            None => Some(PageNo::NoPage),
+        }
+    }
+
+    /// Gives a page this row, unless the call is refused.
+    fn change(&mut self, why: Option<PageNo>, page: u32, row: PageRow) -> Result<(), PageNo>
+        requires { IsNone why → page < length self.old }
+        ensures answer { result ≡ unless why }
+        ensures after { self.new ≡ changed_unless why self.old page row }
+    {
+        if why.is_none() {
+            self.rows[page as usize] = row;
+        }
+        answer_unless(why)
+    }
+}
+
+/// The answer of a call that is refused for this cause, if there is one.
+fn answer_unless(why: Option<PageNo>) -> Result<(), PageNo>
+    ensures { result ≡ unless why }
+{
+    match why {
+        None => Ok(()),
+        Some(why) => Err(why),
+    }
+}
