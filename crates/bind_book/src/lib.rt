@@ -1,0 +1,16 @@
+//! The book of bindings: at which of their page numbers environments see pages that they bound.
+//!
+//! Each environment has a stripe of 256 rows, and the binding of a page number stands in the row of that number
+//! modulo 256. The book is seen as the list of all rows, those of environment 0 first.
+#![tactic(auto)]
+
+mod binding;
+mod bindings;
+mod laws;
+mod sweep;
+#[cfg(test)]
+mod tests;
+
+pub use binding::Binding;
+pub use bindings::{Bindings, STRIPE_ROWS};
+pub use laws::{law_bound, law_empty_rows, law_row_set, law_stays_unbound, law_swept};

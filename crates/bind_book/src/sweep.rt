@@ -1,0 +1,71 @@
+//! What a pass over the rows of all environments leaves.
+ghost use Rattle.std.specs.Prelude.{◌≡◌, ◌≤◌, ◌<◌, ◌/◌, length};
+ghost use Rattle.page_book.specs.Row.{belongs_to};
+ghost use Rattle.page_book.specs.Rows.{row_in};
+ghost use Rattle.bind_book.specs.Stripe.{stripe_rows, most_places, breaks_page, goes_with, without, swept};
+
+use crate::binding::Binding;
+use crate::bindings::STRIPE_ROWS;
+use page_book::Pages;
+
+/// Breaks the bindings of a page, of all environments but this one, if one is spared.
+pub(crate) fn break_page(rows: &mut [Option<Binding>], page: u32, but: Option<u8>)
+    requires { length rows.old ≤ most_places }
+    ensures { rows.new ≡ swept (breaks_page page but) rows.old }
+{
+    for (place, row) in rows.iter_mut().enumerate() {
+        *row = without_page(*row, env_of(place), page, but);
+    }
+}
+
+/// Takes away the bindings of an environment that is gone, and those of its pages.
+pub(crate) fn clear_env(rows: &mut [Option<Binding>], gone: u8, pages: &Pages)
+    requires { length rows.old ≤ most_places }
+    ensures { rows.new ≡ swept (goes_with (row_in pages.now) gone) rows.old }
+{
+    for (place, row) in rows.iter_mut().enumerate() {
+        *row = without_env(*row, env_of(place), gone, pages);
+    }
+}
+
+/// The environment in whose stripe a place is.
+fn env_of(place: usize) -> u8
+    requires { place < most_places }
+    ensures { result ≡ place / stripe_rows }
+{
+    (place / STRIPE_ROWS as usize) as u8
+}
+
+/// The environment's row once a page is broken.
+fn without_page(row: Option<Binding>, env: u8, page: u32, but: Option<u8>) -> Option<Binding>
+    ensures { result ≡ without (breaks_page page but env) row }
+{
+    let binding = row?;
+    if binding.page == page && but != Some(env) {
+        None
+    } else {
+        row
+    }
+}
+
+/// The environment's row once an environment is gone.
+fn without_env(row: Option<Binding>, env: u8, gone: u8, pages: &Pages) -> Option<Binding>
+    ensures { result ≡ without (goes_with (row_in pages.now) gone env) row }
+{
+    let binding = row?;
+    if env == gone || page_belongs_to(pages, binding.page, gone) {
+        None
+    } else {
+        row
+    }
+}
+
+/// Whether the page is this environment's; one that isn't there is nobody's.
+fn page_belongs_to(pages: &Pages, page: u32, env: u8) -> bool
+    ensures { result ≡ belongs_to env (row_in pages.now page) }
+{
+    match pages.row(page) {
+        Some(row) => row.belongs_to(env),
+        None => false,
+    }
+}
