@@ -1,11 +1,19 @@
 -- An environment's frame: the registers that are kept of it, and where its page numbers lead.
-use Rattle.std.specs.Prelude.{ℕ, ◌<◌, List, length, map, find, slice_index, ◌==◌, Option}
+use Rattle.std.specs.Prelude.{ℕ, ◌<◌, List, [], length, map, find, slice_index, ◌==◌, Option, Some, None}
+use Rattle.std.specs.Option.{option_map}
 use Rattle.mips_exec.specs.declared.registers.Cpu.{Cpu}
+use Rattle.mips_exec.specs.declared.exception.Exc.{Exc}
+use Rattle.mips_exec.specs.Cpu.{blank_cpu}
+use Rattle.frame_store.specs.Pages.{after_put}
+use Rattle.env_frames.specs.declared.context.Handlers.{Handlers}
+use Rattle.env_frames.specs.Context.{exception_area, exception_bytes, no_handlers}
 use Rattle.env_frames.specs.declared.mapping.Mapping.{Mapping}
 
--- the kept registers, and the guaranteed mappings by rising page number
+-- the kept registers, the handlers, the mask of those whose yields and transfers it accepts, and the guaranteed mappings by rising page number
 pub record EnvValue : Type 0 where
   pub cpu : Cpu
+  pub handlers : Handlers
+  pub mask : ℕ
   pub mappings : List Mapping
 
 -- the guaranteed mapping at a page number
@@ -15,6 +23,19 @@ mapping_at mappings vpn = find (λ m. m.vpn == vpn) mappings
 -- the page numbers
 abbrev pub numbers : List Mapping → List ℕ
 numbers mappings = map (λ m. m.vpn) mappings
+
+-- the page of physical memory that an environment sees at this number
+abbrev pub page_of : List Mapping → ℕ → Option ℕ
+page_of mappings vpn = option_map (λ m. m.page) (mapping_at mappings vpn)
+
+-- what an exception leaves in physical memory: its words in the context page of the environment
+abbrev pub raised_in : Exc → Cpu → Option ℕ → List (List ℕ) → List (List ℕ)
+raised_in exc cpu None frames = frames
+raised_in exc cpu (Some page) frames = after_put frames page exception_area (exception_bytes exc cpu)
+
+-- an environment that is gone has nothing
+abbrev pub gone_env : EnvValue
+gone_env = record { cpu = blank_cpu; handlers = no_handlers; mask = 0; mappings = [] }
 
 -- each number is below each one after it
 abbrev pub IsRising : List ℕ → Type 0

@@ -1,24 +1,28 @@
 //! An environment's frame.
-ghost use Rattle.std.specs.Prelude.{◌≡◌, ◌<◌, ◌≤◌, ◌+◌, [], ◌∷◌, ◌++◌, length, true};
+ghost use Rattle.std.specs.Prelude.{◌≡◌, ◌<◌, ◌≤◌, ◌+◌, ◌==◌, [], ◌∷◌, ◌++◌, length, true, not, if◌then◌else◌, IfSome};
 ghost use Rattle.aegis_limits.specs.Limits.{most_mappings};
-ghost use Rattle.mips_exec.specs.Cpu.{blank_cpu, rested};
-ghost use Rattle.env_frames.specs.Frame.{IsAbove, IsRising, mapping_at, numbers};
+ghost use Rattle.mips_exec.specs.Cpu.{rested};
+ghost use Rattle.env_frames.specs.Context.{handler_of, no_handlers, raised_cpu, with_handler};
+ghost use Rattle.env_frames.specs.Frame.{IsAbove, IsRising, gone_env, mapping_at, numbers, page_of, raised_in};
 
+use crate::context::{CONTEXT_PAGE, Context, EXCEPTION_AREA, Handlers};
+use crate::exception::{enter_handler, exception_bytes};
 use crate::mapping::Mapping;
 use crate::search::place_in;
 use aegis_limits::MOST_MAPPINGS;
 use arrayvec::ArrayVec;
-use mips_exec::Cpu;
+use frame_store::Frames;
+use mips_exec::{Cpu, Exc};
 use std::marker::Model;
 
-/// The page number at which each environment sees its context page.
-const CONTEXT_PAGE: u32 = 1;
-
-/// What the kernel keeps of an environment: its registers while it doesn't run, and its guaranteed
-/// mappings by rising page number, at most 256.
+/// What the kernel keeps of an environment: its registers while it doesn't run, the addresses of its
+/// handlers, the mask of those whose yields and transfers it accepts, and its guaranteed mappings by
+/// rising page number, at most 256.
 #[derive(Drop)]
 pub struct Env {
     cpu: Cpu,
+    handlers: Handlers,
+    mask: u32,
     mappings: ArrayVec<Mapping, MOST_MAPPINGS>,
 }
 
@@ -28,16 +32,16 @@ impl Model for Env {
 
     ghost Value = { EnvValue };
 
-    ghost view = { λ e. record { cpu = e.cpu; mappings = e.mappings.items } };
+    ghost view = { λ e. record { cpu = e.cpu; handlers = e.handlers; mask = e.mask; mappings = e.mappings.items } };
 
     ghost invariant = { λ e. IsRising (numbers e.mappings.items) };
 }
 
 impl Env {
-    /// An environment with these registers that sees one page, which it may store to, at page number
-    /// 1: its context page.
-    pub fn new(cpu: Cpu, page: u32) -> Env
-        ensures { result ≡ record { cpu = cpu; mappings = record { vpn = 1; page = page; writable = true } ∷ [] } }
+    /// An environment with these registers and this mask that handles nothing and sees one page, which
+    /// it may store to, at page number 1: its context page.
+    pub fn new(cpu: Cpu, page: u32, accept: u32) -> Env
+        ensures { result ≡ record { cpu = cpu; handlers = no_handlers; mask = accept; mappings = record { vpn = 1; page = page; writable = true } ∷ [] } }
     {
         let mut mappings = ArrayVec::new();
         mappings.push(Mapping {
@@ -45,7 +49,12 @@ impl Env {
             page,
             writable: true,
         });
-        Env { cpu, mappings }
+        Env {
+            cpu,
+            handlers: Handlers::none(),
+            mask: accept,
+            mappings,
+        }
     }
 
     /// Guarantees a mapping, at a page number above all that are guaranteed.
@@ -101,11 +110,69 @@ impl Env {
         self.cpu.rested()
     }
 
+    /// The address of a context's handler; 0 is none.
+    pub fn handler(&self, context: Context) -> u32
+        ensures { result ≡ handler_of self.now.handlers context }
+    {
+        self.handlers.of(context)
+    }
+
+    /// Handles a context at an address; 0 is no handler.
+    pub fn set_handler(&mut self, context: Context, address: u32)
+        ensures { self.new ≡ record self.old { handlers = with_handler self.old.handlers context address } }
+    {
+        self.handlers = self.handlers.with(context, address);
+    }
+
+    /// The mask of those whose yields and transfers the environment accepts.
+    pub fn accept(&self) -> u32
+        ensures { result ≡ self.now.mask }
+    {
+        self.mask
+    }
+
+    /// Accepts the yields and transfers of those in this mask, and of no others.
+    pub fn set_accept(&mut self, mask: u32)
+        ensures { self.new ≡ record self.old { mask = mask } }
+    {
+        self.mask = mask;
+    }
+
+    /// The page of physical memory that is the context page, if the environment has one.
+    fn context_page(&self) -> Option<u32>
+        ensures { result ≡ page_of self.now.mappings 1 }
+    {
+        self.guaranteed(CONTEXT_PAGE).map(|mapping| mapping.page)
+    }
+
+    /// Hands an exception to the environment's handler: what it needs to go on later stands in the
+    /// context page, and its registers continue at the handler. `false` says that there is no handler,
+    /// and then nothing has changed.
+    pub fn raise(&self, frames: &mut Frames, cpu: &mut Cpu, exc: &Exc) -> bool
+        requires { IfSome (page_of self.now.mappings 1) (λ page. page < length frames.old) }
+        ensures answer { result ≡ not (self.now.handlers.exception == 0) }
+        ensures frames { frames.new ≡ (if self.now.handlers.exception == 0 then frames.old else raised_in exc.now cpu.old (page_of self.now.mappings 1) frames.old) }
+        ensures cpu { cpu.new ≡ (if self.now.handlers.exception == 0 then cpu.old else raised_cpu self.now.handlers.exception exc.now cpu.old) }
+        ensures size { length frames.new ≡ length frames.old }
+    {
+        let handler = self.handlers.exception;
+        if handler == 0 {
+            return false;
+        }
+        if let Some(page) = self.context_page() {
+            frames.put(page, EXCEPTION_AREA, &exception_bytes(cpu, exc));
+        }
+        enter_handler(cpu, handler, exc);
+        true
+    }
+
     /// The environment is dead: nothing of it is kept, and all its registers are 0.
     pub fn clear(&mut self)
-        ensures { self.new ≡ record { cpu = blank_cpu; mappings = [] } }
+        ensures { self.new ≡ gone_env }
     {
         self.cpu = Cpu::blank();
+        self.handlers = Handlers::none();
+        self.mask = 0;
         self.mappings.clear();
     }
 }

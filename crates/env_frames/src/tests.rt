@@ -1,19 +1,28 @@
-//! What an environment's frame keeps.
+//! What an environment's frame keeps, and how it hands an exception to a handler.
 use super::*;
-use mips_exec::Cpu;
+use frame_store::Frames;
+use mips_exec::{Cpu, Exc, ExcCode};
 use std::test::Fail;
 
-#[test]
-fn a_page_number_leads_to_its_mapping(rt: HostRuntime) -> Result<(), Fail> {
-    let cpu = Cpu {
-        regs: [7; 32],
+/// A program that stands in the delay slot of a branch at 0x400004.
+fn in_a_slot() -> Cpu {
+    let mut regs = [0; 32];
+    regs[1] = 7;
+    regs[26] = 8;
+    regs[27] = 9;
+    Cpu {
+        regs,
         hi: 0,
         lo: 0,
         pc: 0x40_0008,
         next: 0x40_0100,
         slot: true,
-    };
-    let mut env = Env::new(cpu, 3);
+    }
+}
+
+#[test]
+fn a_page_number_leads_to_its_mapping(rt: HostRuntime) -> Result<(), Fail> {
+    let mut env = Env::new(in_a_slot(), 3, 0);
     env.guarantee(0x400, 9, false);
     let there = env.guaranteed(0x400).map(|mapping| mapping.page);
     assert_eq!(rt; there, Some(9));
@@ -21,5 +30,35 @@ fn a_page_number_leads_to_its_mapping(rt: HostRuntime) -> Result<(), Fail> {
     assert_eq!(rt; env.restore().next, 0x40_0008);
     env.clear();
     assert_eq!(rt; env.mappings().len(), 0);
+    Ok(())
+}
+
+#[test]
+fn an_exception_leaves_six_words_and_goes_to_its_handler(rt: HostRuntime) -> Result<(), Fail> {
+    let Ok(mut frames) = Frames::new(rt.alloc(), 16) else {
+        return Err(Fail::from("no memory"));
+    };
+    let mut env = Env::new(in_a_slot(), 3, 0);
+    let mut cpu = in_a_slot();
+    let exc = Exc {
+        code: ExcCode::Adel,
+        bad: 0x40_1001,
+        unit: 0,
+    };
+    assert!(rt; !env.raise(&mut frames, &mut cpu, &exc));
+    assert_eq!(rt; &frames.page(3)[..24], [0; 24].as_slice());
+    assert_eq!(rt; [cpu.regs[1], cpu.regs[26], cpu.regs[27]], [7, 8, 9]);
+    assert_eq!(rt; (cpu.pc, cpu.next, cpu.slot), (0x40_0008, 0x40_0100, true));
+    env.set_handler(Context::Exception, 0x40_0200);
+    assert!(rt; env.raise(&mut frames, &mut cpu, &exc));
+    let area = [
+        7, 0, 0, 0, 8, 0, 0, 0, 9, 0, 0, 0, 0x04, 0, 0x40, 0, 0x01, 0x10, 0x40, 0, 0x10, 0, 0, 0x80,
+    ];
+    assert_eq!(rt; &frames.page(3)[..24], area.as_slice());
+    assert_eq!(rt;
+        [cpu.regs[1], cpu.regs[26], cpu.regs[27]],
+        [0x8000_0010, 0x40_0004, 0x40_1001]
+    );
+    assert_eq!(rt; (cpu.pc, cpu.next, cpu.slot), (0x40_0200, 0x40_0204, false));
     Ok(())
 }
