@@ -1,18 +1,38 @@
--- The kernel's one book, and the vector of slots in it.
-use Rattle.std.specs.Prelude.{ℕ, zero, suc, ◌+◌, ◌%◌, Bool, false, ◌==◌, ◌&&◌, ◌||◌, if◌then◌else◌, Option, Some, None, is_none}
+-- The kernel's one book: the vector of slots, whose the pages are, and who has bound them.
+use Rattle.std.specs.Prelude.{ℕ, zero, suc, ◌+◌, ◌%◌, Bool, false, ◌==◌, ◌&&◌, ◌||◌, nat_lt, if◌then◌else◌, Option, Some, None, is_none}
 use Rattle.std.specs.Option.{option_map}
+use Rattle.page_book.specs.declared.row.PageRow.{PageRow}
+use Rattle.page_book.specs.Row.{is_owned_by}
+use Rattle.bind_book.specs.declared.binding.Binding.{Binding}
+use Rattle.bind_book.specs.Stripe.{breaks_page, is_bound, without}
 use Rattle.world_model.specs.declared.slot.Hold.{Hold}
 use Rattle.world_model.specs.declared.slot.Runner.{Runner}
 use Rattle.world_model.specs.declared.slot.Turn.{Turn}
 
--- slots from slot_count on are empty; a runner, if one runs, runs in the cursor's slot
+-- Slots from slot_count on are empty; a runner, if one runs, runs in the cursor's slot. Pages are numbered below page_count; from there on
+-- each is as if free. The bindings stand by environment, in the rows of its stripe.
 pub record Book : Type 0 where
   pub slot_count : ℕ
   pub slots : ℕ → Option Hold
   pub quantum : ℕ
   pub cursor : ℕ
   pub runner : Option Runner
+  pub page_count : ℕ
+  pub pages : ℕ → PageRow
+  pub binds : ℕ → ℕ → Option Binding
   pub time : ℕ
+
+-- the row of a page, if there is one of this number
+abbrev pub page_row : Book → ℕ → Option PageRow
+page_row b page = if nat_lt page b.page_count then Some (b.pages page) else None
+
+-- whether an environment owns a page that isn't guaranteed to it, or has bound it
+abbrev pub sees : Book → ℕ → ℕ → Bool
+sees b e page = is_owned_by e (b.pages page) || is_bound page (b.binds e)
+
+-- the book without the bindings of a page, which spares those of one environment
+abbrev pub broken : ℕ → Option ℕ → Book → Book
+broken page but b = record b { binds = λ e row. without (breaks_page page but e) (b.binds e row) }
 
 -- the environment that runs
 abbrev pub running : Option Runner → Option ℕ

@@ -4,13 +4,17 @@ use Rattle.std.specs.Option.{option_flatten, option_map}
 use Rattle.frame_store.specs.Pages.{zero_page}
 use Rattle.elf_static.specs.ElfValue.{ElfValue}
 use Rattle.segment_pages.specs.Pages.{is_writable, page_bytes, page_numbers}
-use Rattle.boot_image.specs.ImageValue.{ImageValue, ProgramValue}
+use Rattle.boot_image.specs.ImageValue.{ImageValue, ProgramValue, guaranteed_mappings}
+use Rattle.page_book.specs.declared.row.PageRow.{PageRow}
+use Rattle.page_book.specs.declared.row.PageRow.TheVariants.{Free, Guaranteed}
+use Rattle.page_book.specs.Rows.{lowest_free}
 use Rattle.kernel_journal.specs.declared.row.Row.{Row}
 use Rattle.world_model.specs.declared.slot.Hold.{Hold}
+use Rattle.world_model.specs.Table.{set_at}
 use Rattle.world_model.specs.Verdict.{slot_row}
 use Rattle.world_model.specs.Book.{Book, own_hold}
 use Rattle.world_model.specs.Page.{KeptPage}
-use Rattle.world_model.specs.Solo.{absent}
+use Rattle.world_model.specs.Solo.{absent, nothing_bound}
 use Rattle.world_model.specs.Item.{Item, Boot, absorb_all}
 use Rattle.world_model.specs.World.{World, only}
 
@@ -38,7 +42,7 @@ kept_of p = open_page 1 zero_page ∷ map (body_page p.body) (page_numbers p.bod
 -- what is given to an environment at boot: its record, where the image has one
 abbrev pub record_items : ℕ → Option ProgramValue → List Item
 record_items e None = []
-record_items e (Some p) = Boot e p.name p.body.entry (kept_of p) ∷ []
+record_items e (Some p) = Boot e p.name p.body.entry p.accept (kept_of p) ∷ []
 
 abbrev pub boot_items : ImageValue → ℕ → List Item
 boot_items image e = record_items e (slice_get image.programs e)
@@ -57,23 +61,53 @@ abbrev pub own_rows : List (Option ℕ) → ℕ → List Row
 own_rows owners zero = []
 own_rows owners (suc k) = own_rows owners k ++ own_row k (boot_slot owners k)
 
-abbrev pub boot_book : ℕ → List (Option ℕ) → Book
-boot_book quantum owners = record {
+abbrev pub boot_book : ℕ → ℕ → List (Option ℕ) → Book
+boot_book pages quantum owners = record {
   slot_count = length owners;
   slots = boot_slot owners;
   quantum = quantum;
   cursor = length owners - 1;
   runner = None;
+  page_count = pages;
+  pages = λ page. Free;
+  binds = λ e. nothing_bound;
   time = 0;
 }
 
 -- the world of a board on which no program stands yet
-abbrev pub bare_world : ℕ → List (Option ℕ) → World
-bare_world quantum owners = record { book = boot_book quantum owners; count = 0; solos = absent; rows = own_rows owners (length owners) }
+abbrev pub bare_world : ℕ → ℕ → List (Option ℕ) → World
+bare_world pages quantum owners = record { book = boot_book pages quantum owners; count = 0; solos = absent; rows = own_rows owners (length owners) }
+
+-- the pages once the lowest free one of those below count, if there is one, is guaranteed to an environment
+abbrev pub keep_lowest : ℕ → Option ℕ → (ℕ → PageRow) → ℕ → PageRow
+keep_lowest e None pages = pages
+keep_lowest e (Some page) pages = set_at page (Guaranteed e) pages
+
+-- so many of the lowest free pages, one after another
+abbrev pub keep_pages : ℕ → ℕ → ℕ → (ℕ → PageRow) → ℕ → PageRow
+keep_pages e count zero pages = pages
+keep_pages e count (suc n) pages = keep_lowest e (lowest_free (keep_pages e count n pages) count) (keep_pages e count n pages)
+
+-- the book once the pages of a program are guaranteed to an environment
+abbrev pub with_kept : ℕ → ProgramValue → Book → Book
+with_kept e p b = record b { pages = keep_pages e b.page_count (guaranteed_mappings p) b.pages }
+
+-- the book once those of environments from this one on are
+abbrev pub with_all_kept : ℕ → List ProgramValue → Book → Book
+with_all_kept e [] b = b
+with_all_kept e (p ∷ programs) b = with_all_kept (e + 1) programs (with_kept e p b)
 
 abbrev pub boot_world : ImageValue → World
-boot_world image = record (bare_world image.quantum image.slots) { count = length image.programs; solos = λ e. absorb_all (absent e) (boot_items image e) }
+boot_world image = record (bare_world image.pages image.quantum image.slots) {
+  book = with_all_kept 0 image.programs (boot_book image.pages image.quantum image.slots);
+  count = length image.programs;
+  solos = λ e. absorb_all (absent e) (boot_items image e);
+}
 
 -- the world with the next environment on it, which is given its record
 abbrev pub added : World → ProgramValue → World
-added w p = record w { count = w.count + 1; solos = λ e. absorb_all (w.solos e) (only w.count (record_items w.count (Some p)) e) }
+added w p = record w {
+  book = with_kept w.count p w.book;
+  count = w.count + 1;
+  solos = λ e. absorb_all (w.solos e) (only w.count (record_items w.count (Some p)) e);
+}

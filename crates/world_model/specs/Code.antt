@@ -2,6 +2,8 @@
 use Rattle.std.specs.Prelude.{ℕ}
 use Rattle.world_model.specs.declared.code.Code.{Code}
 use Rattle.world_model.specs.declared.code.Code.TheVariants as code
+use Rattle.page_book.specs.declared.refusal.PageNo.{PageNo}
+use Rattle.page_book.specs.declared.refusal.PageNo.TheVariants as no
 
 abbrev pub code_number : Code → ℕ
 code_number code.Ok = 0
@@ -26,3 +28,12 @@ code_number code.ConsoleFull = 18
 code_number code.Full = 19
 code_number code.BadCall = 20
 code_number code.BadPointer = 21
+
+-- what a caller is told of a refusal by the book of pages
+abbrev pub code_of : PageNo → Code
+code_of no.NoPage = code.NoPage
+code_of no.Taken = code.Taken
+code_of no.NoneFree = code.NoneFree
+code_of no.NotOwner = code.NotOwner
+code_of no.NoRight = code.NoRight
+code_of no.Guaranteed = code.Guaranteed

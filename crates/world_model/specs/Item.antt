@@ -1,22 +1,23 @@
 -- What an environment is given from outside, and what it makes of it.
-use Rattle.std.specs.Prelude.{ℕ, ◌+◌, ◌%◌, ◌^◌, List, [], ◌++◌, if◌then◌else◌, Option, Some, None, unwrap_or, fold}
+use Rattle.std.specs.Prelude.{ℕ, ◌+◌, ◌%◌, ◌^◌, Bool, List, [], ◌++◌, if◌then◌else◌, Option, Some, None, unwrap_or, fold}
 use Rattle.mips_exec.specs.declared.registers.Cpu.{Cpu}
-use Rattle.mips_exec.specs.Cpu.{blank_cpu, rested, with_reg}
+use Rattle.mips_exec.specs.Cpu.{blank_cpu, reg, rested, with_reg}
 use Rattle.mips_exec.specs.Word.{word_of}
 use Rattle.world_model.specs.declared.life.Life.TheVariants.{Live}
 use Rattle.world_model.specs.declared.code.Code.{Code}
 use Rattle.world_model.specs.declared.code.Code.TheVariants as code
 use Rattle.world_model.specs.Code.{code_number}
 use Rattle.world_model.specs.Page.{KeptPage}
-use Rattle.world_model.specs.Solo.{Solo, is_dead, sight}
+use Rattle.world_model.specs.Solo.{Solo, Physical, bare_solo, is_dead, sight, stored}
+use Rattle.world_model.specs.Holding.{bound, unbound, owning, gained, lost}
 use Rattle.world_model.specs.declared.call.Call.{Call}
 use Rattle.world_model.specs.declared.call.Call.TheVariants as call
 use Rattle.world_model.specs.Step.{step_alone, stepped}
-use Rattle.world_model.specs.Call.{called, put_bytes}
+use Rattle.world_model.specs.Call.{called, binding_of, put_bytes}
 
 pub data Item : Type 0 where
-  -- its record in the image: number, name, entry and guaranteed pages
-  Boot : (number : ℕ) (name : List ℕ) (entry : ℕ) (kept : List KeptPage) → Item
+  -- its record in the image: number, name, entry, the mask of those from whom it accepts transfers, and guaranteed pages
+  Boot : (number : ℕ) (name : List ℕ) (entry : ℕ) (accept : ℕ) (kept : List KeptPage) → Item
   -- a step of its machine
   Step : Item
   -- the start of a slice
@@ -25,36 +26,49 @@ pub data Item : Type 0 where
   Granted : (value : ℕ) → Item
   -- or refused, with a code and a value
   Refused : (code : Code) (value : ℕ) → Item
+  -- a page that it allocated or bound, whether it may store to it, and its bytes
+  Gained : (page : ℕ) (writable : Bool) (bytes : List ℕ) → Item
+  -- a page that isn't its any more, or that was taken back from it
+  Lost : (page : ℕ) → Item
+  -- bytes that another stored at an offset of a page that it owns or has bound
+  Left : (page : ℕ) (offset : ℕ) (bytes : List ℕ) → Item
 
 -- at boot all registers are 0 but the stack pointer, and the machine stands at the entry
 abbrev pub boot_cpu : ℕ → Cpu
 boot_cpu entry = record (with_reg blank_cpu 29 0x7FFEFFF0) { pc = entry; next = word_of (entry + 4) }
 
-abbrev pub booted : ℕ → List ℕ → ℕ → List KeptPage → Solo
-booted number name entry kept = record { number = number; name = name; life = Live; cpu = boot_cpu entry; kept = kept; console = [] }
+abbrev pub booted : ℕ → List ℕ → ℕ → ℕ → List KeptPage → Solo
+booted number name entry accept kept = record (bare_solo number name Live []) { cpu = boot_cpu entry; mask = accept; kept = kept }
 
--- what a granted call does to its caller's own state
-abbrev pub own_part : Option Call → Solo → Solo
-own_part (Some call.Put) s = record s { console = s.console ++ unwrap_or (put_bytes s.cpu (sight s.kept)) [] }
-own_part call s = s
+-- what a granted call, answered with a value, does to its caller's own state
+abbrev pub own_part : Option Call → ℕ → Solo → Solo
+own_part (Some call.Put) value s = record s { console = s.console ++ unwrap_or (put_bytes s.cpu (sight s)) [] }
+own_part (Some call.Alloc) value s = owning value s
+own_part (Some call.Bind) value s = bound (binding_of s.cpu) s
+own_part (Some call.Unbind) value s = unbound (reg s.cpu 4) s
+own_part (Some call.Context) value s = record s { handlers = record s.handlers { exception = reg s.cpu 5 } }
+own_part call value s = s
 
 -- register 2 has the answer's code and register 3 its value, and the machine goes on behind the call
 abbrev pub answered_cpu : Code → ℕ → Cpu → Cpu
 answered_cpu code value cpu = record (with_reg (with_reg cpu 2 (code_number code)) 3 value) { pc = word_of (cpu.pc + 4); next = word_of (cpu.next + 4) }
 
 abbrev pub granted : ℕ → Solo → Solo
-granted value s = record (own_part (called s.cpu) s) { cpu = answered_cpu code.Ok value s.cpu }
+granted value s = record (own_part (called s.cpu) value s) { cpu = answered_cpu code.Ok value s.cpu }
 
 -- a refused call changes its caller's registers 2 and 3 and where it stands, and nothing else
 abbrev pub refused : Code → ℕ → Solo → Solo
 refused code value s = record s { cpu = answered_cpu code value s.cpu }
 
 abbrev pub absorbed : Solo → Item → Solo
-absorbed s (Boot number name entry kept) = booted number name entry kept
+absorbed s (Boot number name entry accept kept) = booted number name entry accept kept
 absorbed s Step = stepped s (step_alone s)
 absorbed s Start = record s { cpu = rested s.cpu }
 absorbed s (Granted value) = granted value s
 absorbed s (Refused code value) = refused code value s
+absorbed s (Gained page writable bytes) = gained page bytes s
+absorbed s (Lost page) = lost page s
+absorbed s (Left page offset bytes) = stored (record { key = Physical page; offset = offset; bytes = bytes }) s
 
 -- a dead environment absorbs nothing more
 abbrev pub absorb : Solo → Item → Solo

@@ -1,12 +1,16 @@
+pub mod Table
 pub mod Code
 pub mod Page
 pub mod Solo
+pub mod Holding
 pub mod Call
 pub mod Step
 pub mod Item
 pub mod Book
 pub mod NextTurn
 pub mod World
+pub mod Answer
+pub mod PageCalls
 pub mod Verdict
 pub mod Tick
 pub mod Boot

@@ -1,10 +1,12 @@
 -- The text of a report.
-use Rattle.std.specs.Prelude.{ℕ, zero, suc, ◌+◌, List, [], ◌∷◌, ◌++◌, length, count_by, codes, Bool, true, false, ◌==◌, if◌then◌else◌, Option, Some, None}
+use Rattle.std.specs.Prelude.{ℕ, zero, suc, ◌+◌, List, [], ◌∷◌, ◌++◌, length, count_by, codes, Bool, true, false, ◌==◌, nat_lt, if◌then◌else◌, Option, Some, None}
 use Rattle.std.specs.List.{flat_map}
 use Rattle.sha2.specs.Sha256.{sha256}
 use Rattle.hex.specs.Hex.{encode_lower}
 use Rattle.line_text.specs.Text.{dec_text, hex_text, quoted_text}
 use Rattle.boot_image.specs.ImageValue.{name_text}
+use Rattle.bind_book.specs.declared.binding.Binding.{Binding}
+use Rattle.bind_book.specs.Stripe.{stripe_rows}
 use Rattle.kernel_journal.specs.declared.row.Row.{Row}
 use Rattle.kernel_journal.specs.declared.row.Row.TheVariants as row
 use Rattle.kernel_journal.specs.declared.row.RunEnd.{RunEnd}
@@ -17,10 +19,15 @@ use Rattle.world_model.specs.declared.life.Life.{Life}
 use Rattle.world_model.specs.declared.life.Life.TheVariants.{Live, Dead}
 use Rattle.world_model.specs.declared.life.Cause.TheVariants as cause
 use Rattle.world_model.specs.Page.{KeptPage}
-use Rattle.world_model.specs.Solo.{Solo}
+use Rattle.world_model.specs.Solo.{Solo, Seen}
 use Rattle.world_model.specs.Book.{is_runner}
 use Rattle.world_model.specs.World.{World}
 use Rattle.world_model.specs.Boot.{listed}
+
+-- the texts of 0, 1 and so on, so many
+abbrev pub for_each : (ℕ → List ℕ) → ℕ → List ℕ
+for_each text zero = []
+for_each text (suc n) = for_each text n ++ text n
 
 -- a word behind the space that parts it from the word before it
 abbrev pub spaced : List ℕ → List ℕ
@@ -93,7 +100,7 @@ register_text cpu i = word_text (reg cpu (i + 1))
 unfoldable pub regs_line : ℕ → Cpu → List ℕ
 regs_line e cpu = line (codes "regs" ∷ dec_text e ∷ listed (register_text cpu) 31)
 
--- an environment without handlers never runs past its slice, so it has no excess
+-- an environment without a handler for the end of a slice never runs past it, so it has no excess
 abbrev pub excess_of : World → ℕ → ℕ
 excess_of w e = 0
 
@@ -110,13 +117,51 @@ keep_line e p = line (codes "keep" ∷ dec_text e ∷ hex_text 5 p.vpn ∷ finge
 abbrev pub keep_lines : ℕ → List KeptPage → List ℕ
 keep_lines e kept = flat_map (keep_line e) kept
 
+-- a page that an environment owns
+unfoldable pub page_line : ℕ → ℕ → List ℕ → List ℕ
+page_line e page bytes = line (codes "page" ∷ dec_text e ∷ dec_text page ∷ fingerprint bytes ∷ [])
+
+abbrev pub owned_line : ℕ → ℕ → Option Seen → List ℕ
+owned_line e page None = []
+owned_line e page (Some x) = if x.owned then page_line e page x.bytes else []
+
+-- the pages below count that an environment owns, by rising number
+abbrev pub page_lines : ℕ → (ℕ → Option Seen) → ℕ → List ℕ
+page_lines e seen count = for_each (λ page. owned_line e page (seen page)) count
+
+abbrev pub mode_text : Bool → List ℕ
+mode_text true = codes "w"
+mode_text false = codes "r"
+
+unfoldable pub bind_line : ℕ → Binding → List ℕ
+bind_line e b = line (codes "bind" ∷ dec_text e ∷ hex_text 5 b.vpn ∷ dec_text b.page ∷ mode_text b.writable ∷ [])
+
+-- a binding among others by rising page number
+abbrev pub inserted : Binding → List Binding → List Binding
+inserted b [] = b ∷ []
+inserted b (x ∷ xs) = if nat_lt b.vpn x.vpn then b ∷ x ∷ xs else x ∷ inserted b xs
+
+abbrev pub inserted_row : Option Binding → List Binding → List Binding
+inserted_row None bindings = bindings
+inserted_row (Some b) bindings = inserted b bindings
+
+-- the bindings in the first rows of a stripe, so many, by rising page number
+abbrev pub rising_bindings : (ℕ → Option Binding) → ℕ → List Binding
+rising_bindings stripe zero = []
+rising_bindings stripe (suc row) = inserted_row (stripe row) (rising_bindings stripe row)
+
+abbrev pub bind_lines : ℕ → (ℕ → Option Binding) → List ℕ
+bind_lines e stripe = flat_map (bind_line e) (rising_bindings stripe stripe_rows)
+
 -- the registers that are shown: those of an environment that doesn't run at rest
 unfoldable pub shown_cpu : World → ℕ → Cpu
 shown_cpu w e = if is_runner e w.book.runner then (w.solos e).cpu else rested (w.solos e).cpu
 
 -- what is shown of an environment while it lives
 unfoldable pub living_lines : World → ℕ → List ℕ
-living_lines w e = cpu_line e (shown_cpu w e) ++ regs_line e (shown_cpu w e) ++ excess_line e (excess_of w e) ++ keep_lines e (w.solos e).kept
+living_lines w e =
+    cpu_line e (shown_cpu w e) ++ regs_line e (shown_cpu w e) ++ excess_line e (excess_of w e) ++ keep_lines e (w.solos e).kept
+    ++ page_lines e (w.solos e).seen w.book.page_count ++ bind_lines e (w.solos e).binds
 
 abbrev pub if_live : Life → List ℕ → List ℕ
 if_live Live text = text
@@ -157,11 +202,6 @@ is_over_of e _ = false
 abbrev pub sum_line : List Row → ℕ → List ℕ
 sum_line rows e = numbers_line (codes "sum") (Some e ∷ Some (count_by (is_run_of e) rows) ∷ Some (count_by (is_pay_of e) rows) ∷ Some (count_by (is_over_of e) rows) ∷ [])
 
--- the texts of environments 0, 1 and so on, so many
-abbrev pub for_each_env : (ℕ → List ℕ) → ℕ → List ℕ
-for_each_env text zero = []
-for_each_env text (suc e) = for_each_env text e ++ text e
-
 abbrev pub end_text : RunEnd → List ℕ
 end_text end.Limit = codes "limit"
 end_text end.Idle = codes "idle"
@@ -171,5 +211,5 @@ end_line w how = line (codes "end" ∷ end_text how ∷ dec_text w.book.time ∷
 
 unfoldable pub report_text : World → RunEnd → List ℕ
 report_text w how =
-    line (codes "aegis" ∷ codes "run" ∷ []) ++ end_line w how ++ for_each_env (env_text w) w.count
-    ++ flat_map row_line w.rows ++ for_each_env (sum_line w.rows) w.count ++ line (codes "done" ∷ [])
+    line (codes "aegis" ∷ codes "run" ∷ []) ++ end_line w how ++ for_each (env_text w) w.count
+    ++ flat_map row_line w.rows ++ for_each (sum_line w.rows) w.count ++ line (codes "done" ∷ [])

@@ -1,6 +1,7 @@
 -- What an environment does alone in one step.
-use Rattle.std.specs.Prelude.{Option, Some, None}
+use Rattle.std.specs.Prelude.{ℕ, ◌==◌, if◌then◌else◌, Option, Some, None}
 use Rattle.mips_exec.specs.declared.registers.Cpu.{Cpu}
+use Rattle.mips_exec.specs.declared.exception.Exc.{Exc}
 use Rattle.mips_exec.specs.Cpu.{reg}
 use Rattle.mips_exec.specs.Step.{Step, Retired, Called, Trapped, step_of, view_of, cpu_after}
 use Rattle.world_model.specs.declared.call.Call.{Call}
@@ -9,11 +10,12 @@ use Rattle.world_model.specs.declared.life.Cause.{Cause}
 use Rattle.world_model.specs.declared.life.Cause.TheVariants as cause
 use Rattle.world_model.specs.Call.{called}
 use Rattle.world_model.specs.Page.{answers_by}
-use Rattle.world_model.specs.Solo.{Solo, Store, sight, store_of, kept_after, dead}
+use Rattle.world_model.specs.Solo.{Solo, Store, sight, store_of, stored, dead}
+use Rattle.world_model.specs.Holding.{raise}
 
 -- what the step of its machine comes to
 abbrev pub step_alone : Solo → Step
-step_alone s = step_of s.cpu (view_of (answers_by (sight s.kept)) s.cpu)
+step_alone s = step_of s.cpu (view_of (answers_by (sight s)) s.cpu)
 
 -- what the environment does to the world
 pub data Act : Type 0 where
@@ -21,6 +23,8 @@ pub data Act : Type 0 where
   Stores : (store : Store) → Act
   -- a kernel call, which leaves its caller as it is until it is answered
   Calls : (call : Option Call) → Act
+  -- an exception, which its handler gets
+  Raises : (exc : Exc) → Act
   Dies : (cause : Cause) → Act
 
 abbrev pub store_act : Option Store → Act
@@ -32,17 +36,21 @@ abbrev pub call_act : Cpu → Option Call → Act
 call_act cpu (Some call.Exit) = Dies (cause.Exit (reg cpu 4))
 call_act cpu call = Calls call
 
--- a trap is its death
+-- a trap is its death, where it has no handler of exceptions
+abbrev pub trap_act : ℕ → Exc → Act
+trap_act handler exc = if handler == 0 then Dies (cause.Trapped exc.code) else Raises exc
+
 abbrev pub act_of : Solo → Step → Act
-act_of s (Retired after write) = store_act (store_of s.kept write)
+act_of s (Retired after write) = store_act (store_of s write)
 act_of s Called = call_act s.cpu (called s.cpu)
-act_of s (Trapped exc) = Dies (cause.Trapped exc.code)
+act_of s (Trapped exc) = trap_act s.handlers.exception exc
 
 -- the environment after its act
 abbrev pub acted : Act → Solo → Solo
 acted Nothing s = s
-acted (Stores x) s = record s { kept = kept_after s.kept x }
+acted (Stores x) s = stored x s
 acted (Calls call) s = s
+acted (Raises exc) s = raise exc s
 acted (Dies cause) s = dead cause s
 
 -- the environment after a step

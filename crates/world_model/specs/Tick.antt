@@ -8,9 +8,11 @@ use Rattle.world_model.specs.declared.slot.Turn.{Turn}
 use Rattle.world_model.specs.Book.{next_turn, running}
 use Rattle.world_model.specs.Call.{called}
 use Rattle.world_model.specs.Item.{Item, Step, Start, refused}
-use Rattle.world_model.specs.Step.{Act, Nothing, Stores, Calls, Dies, step_alone, act_of, acted, call_act}
+use Rattle.world_model.specs.Step.{Act, Nothing, Stores, Calls, Raises, Dies, step_alone, act_of, acted, call_act}
 use Rattle.world_model.specs.Verdict.{Refuses, reply_to, death, stop_row, verdict_now}
-use Rattle.world_model.specs.World.{World, Reply, set_at, only, no_items, after, run_phases, phase_items}
+use Rattle.world_model.specs.Table.{set_at}
+use Rattle.world_model.specs.PageCalls.{left_by}
+use Rattle.world_model.specs.World.{World, Reply, only, no_items, after, run_phases, phase_items}
 
 abbrev pub no_change : World → Reply
 no_change w = record { book = w.book; items = no_items; rows = [] }
@@ -34,8 +36,9 @@ turn w = turn_when w w.book.runner
 -- what an act of the runner brings
 abbrev pub brings : World → ℕ → Act → Reply
 brings w e Nothing = no_change w
-brings w e (Stores x) = no_change w
+brings w e (Stores x) = record { book = w.book; items = left_by w.book e x; rows = [] }
 brings w e (Calls call) = reply_to w e call
+brings w e (Raises exc) = no_change w
 brings w e (Dies cause) = death w e
 
 -- the runner absorbs its step, and then what its act brings

@@ -10,22 +10,11 @@ use Rattle.world_model.specs.declared.code.Code.TheVariants as code
 use Rattle.world_model.specs.declared.slot.Hold.{Hold}
 use Rattle.world_model.specs.Book.{Book, released, has_part}
 use Rattle.world_model.specs.Call.{called, put_refusal, any}
-use Rattle.world_model.specs.Item.{Item, Granted, Refused}
+use Rattle.world_model.specs.Item.{Item, Granted}
 use Rattle.world_model.specs.Solo.{Solo, sight}
-use Rattle.world_model.specs.World.{World, Reply, only, no_items}
-
--- a refusal with a code and a value, or what the call brings, its answer with it
-pub data Verdict : Type 0 where
-  Refuses : (code : Code) (value : ℕ) → Verdict
-  Grants : (reply : Reply) → Verdict
-
--- a refusal is answered, and changes nothing but the caller
-abbrev pub refusal : World → ℕ → Code → ℕ → Reply
-refusal w e code value = record { book = w.book; items = only e (Refused code value ∷ []); rows = [] }
-
--- so is a granted call that changes nothing but its caller
-abbrev pub grant : World → ℕ → ℕ → Reply
-grant w e value = record { book = w.book; items = only e (Granted value ∷ []); rows = [] }
+use Rattle.world_model.specs.World.{World, Reply, only}
+use Rattle.world_model.specs.PageCalls.{alloc, free, recap, bind, unbind, context, death_items, without_pages_of}
+pub use Rattle.world_model.specs.Answer.{Verdict, Refuses, Grants, refusal, grant}
 
 -- the row of a runner that is stopped
 abbrev pub stop_row : Book → ℕ → Row
@@ -45,7 +34,7 @@ put_if w e None = Grants (grant w e (reg (w.solos e).cpu 5))
 put_if w e (Some code) = Refuses code 0
 
 abbrev pub put : World → ℕ → Verdict
-put w e = let s = w.solos e in put_if w e (put_refusal s.cpu (sight s.kept) (length s.console))
+put w e = let s = w.solos e in put_if w e (put_refusal s.cpu (sight s) (length s.console))
 
 -- the row of a slot that has changed
 abbrev pub slot_row : ℕ → ℕ → Option Hold → Row
@@ -61,11 +50,11 @@ abbrev pub released_rows : ℕ → ℕ → (ℕ → Option Hold) → ℕ → Lis
 released_rows t e slots zero = []
 released_rows t e slots (suc k) = released_rows t e slots k ++ released_row t e k (slots k)
 
--- the runner's death: its slots are empty, and the rest of its slice is dropped
+-- the runner's death: its slots are empty, its pages free, and the rest of its slice is dropped
 abbrev pub death : World → ℕ → Reply
 death w e = record {
-  book = record w.book { slots = λ k. released e (w.book.slots k); runner = None };
-  items = no_items;
+  book = without_pages_of e (record w.book { slots = λ k. released e (w.book.slots k); runner = None });
+  items = death_items w.book e;
   rows = row.Dead w.book.time w.book.cursor e ∷ released_rows w.book.time e w.book.slots w.book.slot_count;
 }
 
@@ -75,6 +64,12 @@ verdict w e None = Refuses code.BadCall 0
 verdict w e (Some call.Yield) = yield w e
 verdict w e (Some call.Put) = put w e
 verdict w e (Some call.Exit) = Grants (death w e)
+verdict w e (Some call.Alloc) = alloc w e
+verdict w e (Some call.Free) = free w e
+verdict w e (Some call.Recap) = recap w e
+verdict w e (Some call.Bind) = bind w e
+verdict w e (Some call.Unbind) = unbind w e
+verdict w e (Some call.Context) = context w e
 verdict w e (Some call.OwnNumber) = Grants (grant w e (w.solos e).number)
 verdict w e (Some call.Clock) = Grants (grant w e w.book.time)
 

@@ -1,6 +1,7 @@
 -- The world: one book, a lonely machine for each environment, and the ledger.
-use Rattle.std.specs.Prelude.{ℕ, List, [], ◌∷◌, ◌++◌, ◌==◌, if◌then◌else◌}
+use Rattle.std.specs.Prelude.{ℕ, List, [], ◌∷◌, ◌++◌}
 use Rattle.kernel_journal.specs.declared.row.Row.{Row}
+use Rattle.world_model.specs.Table.{set_at}
 use Rattle.world_model.specs.Book.{Book}
 use Rattle.world_model.specs.Solo.{Solo}
 use Rattle.world_model.specs.Item.{Item, absorb_all}
@@ -17,10 +18,6 @@ pub record Reply : Type 0 where
   pub book : Book
   pub items : ℕ → List Item
   pub rows : List Row
-
--- a table with another value at one number
-abbrev pub set_at : {A : Type 0} → ℕ → A → (ℕ → A) → ℕ → A
-set_at n x f i = if i == n then x else f i
 
 abbrev pub no_items : ℕ → List Item
 no_items i = []

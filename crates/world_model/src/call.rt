@@ -10,6 +10,18 @@ pub enum Call {
     Put,
     /// Ends the environment.
     Exit,
+    /// Allocates a page, with its capability words.
+    Alloc,
+    /// Frees a page of the caller's.
+    Free,
+    /// Gives a page of the caller's other capability words.
+    Recap,
+    /// Binds a page to a page number of the caller's.
+    Bind,
+    /// Takes the binding of a page number away.
+    Unbind,
+    /// Sets the address of a handler.
+    Context,
     /// Answers the caller's own number.
     OwnNumber,
     /// Answers the time, in ticks since the boot.
@@ -27,6 +39,12 @@ impl Call {
             0 => Some(Call::Yield),
             1 => Some(Call::Put),
             2 => Some(Call::Exit),
+            3 => Some(Call::Alloc),
+            4 => Some(Call::Free),
+            5 => Some(Call::Recap),
+            6 => Some(Call::Bind),
+            7 => Some(Call::Unbind),
+            8 => Some(Call::Context),
             20 => Some(Call::OwnNumber),
             21 => Some(Call::Clock),
             _ => None,

@@ -1,6 +1,8 @@
 //! The answer codes of kernel calls.
 ghost use Rattle.std.specs.Prelude.{◌≡◌};
 
+use page_book::PageNo;
+
 /// The answer code of a kernel call, which the caller finds in register 2 (`docs/KERNEL.md`).
 #[derive(Clone, Copy)]
 pub enum Code {
@@ -36,5 +38,23 @@ impl Code {
         ensures { result ≡ code_number self }
     {
         self as u32
+    }
+}
+
+impl From<PageNo> for Code {
+    ghost use Rattle.world_model.specs.Code.{code_of};
+
+    /// What a caller is told of a refusal by the book of pages.
+    fn from(no: PageNo) -> Code
+        ensures { result ≡ code_of no }
+    {
+        match no {
+            PageNo::NoPage => Code::NoPage,
+            PageNo::Taken => Code::Taken,
+            PageNo::NoneFree => Code::NoneFree,
+            PageNo::NotOwner => Code::NotOwner,
+            PageNo::NoRight => Code::NoRight,
+            PageNo::Guaranteed => Code::Guaranteed,
+        }
     }
 }
