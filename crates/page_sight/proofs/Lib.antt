@@ -1,0 +1,4 @@
+pub mod Tables
+pub mod Stripes
+pub mod Sights
+pub mod Mourning
