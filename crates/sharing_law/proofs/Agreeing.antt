@@ -1,0 +1,133 @@
+-- The book and the environments agree after every number of ticks.
+use Rattle.std.proofs.Common.{◌≡◌, ◌≤◌, ℕ, zero, suc, ◌+◌, List, [], ◌∷◌, Bool, true, false, Option, Some, None, refl, ◌∙◌, arith}
+use Rattle.std.specs.Prelude.{◌==◌, if◌then◌else◌, slice_get}
+use Rattle.boot_image.specs.ImageValue.{ImageValue, ProgramValue, guaranteed_mappings}
+use Rattle.page_book.specs.declared.row.PageRow.{PageRow}
+use Rattle.page_book.specs.declared.row.PageRow.TheVariants.{Free, Guaranteed}
+use Rattle.page_book.specs.Row.{is_owned_by}
+use Rattle.page_book.specs.Rows.{lowest_free}
+use Rattle.page_book.proofs.Free.{is_lowest}
+use Rattle.world_model.specs.declared.life.Life.TheVariants.{Live}
+use Rattle.world_model.specs.declared.slot.Runner.{Runner}
+use Rattle.world_model.specs.Book.{Book, is_idle_book}
+use Rattle.world_model.specs.Solo.{Solo, absent}
+use Rattle.world_model.specs.Item.{absorb_all}
+use Rattle.world_model.specs.PageCalls.{page_bytes}
+use Rattle.world_model.specs.Step.{act_of, step_alone}
+use Rattle.world_model.specs.World.{World, after}
+use Rattle.world_model.specs.Tick.{step, step_when, tick_step, turn}
+use Rattle.world_model.specs.Boot.{boot_book, boot_world, keep_lowest, keep_pages, record_items, with_all_kept, with_kept}
+use Rattle.world_model.specs.Run.{world_after}
+use Rattle.page_sight.proofs.Tables.{set_else}
+use Rattle.sharing_law.specs.Agreement.{AreBoundAllocated, BooksAgree, BoundIsAllocated}
+use Rattle.sharing_law.proofs.Sound.{HasNone, Sound, sees_nothing}
+use Rattle.sharing_law.proofs.Turning.{allocated_alike, allocated_before, sound_alike, sound_timed, sound_turned, timer_alike, turn_alike, unchanged}
+use Rattle.sharing_law.proofs.Stepping.{sound_stepped, step_brings}
+
+-- At boot no page is allocated, and none behind the last one is anybody's.
+record AreFresh (count : ℕ) (pages : ℕ → PageRow) : Type 0 where
+  owns : (i page : ℕ) → is_owned_by i (pages page) ≡ false
+  behind : (page : ℕ) → count ≤ page → pages page ≡ Free
+
+fresh_lowest : (e count : ℕ) (pages : ℕ → PageRow) (o : Option ℕ) → lowest_free pages count ≡ o → AreFresh count pages → AreFresh count (keep_lowest e o pages)
+fresh_lowest e count pages None is fresh = fresh
+fresh_lowest e count pages (Some page) is fresh = record {
+  owns = λ i p. by_test i p (p == page);
+  behind = λ p more. set_else page p (Guaranteed e) pages (λ same. other p more same) ∙ fresh.behind p more;
+}
+  where
+    by_test : (i p : ℕ) (t : Bool) → is_owned_by i (if t then Guaranteed e else pages p) ≡ false
+    by_test i p true = refl
+    by_test i p false = fresh.owns i p
+
+    other : (p : ℕ) → count ≤ p → p ≡ page → ⊥
+    other p more same = omega (arith, (is_lowest pages count page is).below)
+
+fresh_pages : (e count n : ℕ) (pages : ℕ → PageRow) → AreFresh count pages → AreFresh count (keep_pages e count n pages)
+fresh_pages e count zero pages fresh = fresh
+fresh_pages e count (suc n) pages fresh = fresh_lowest e count (keep_pages e count n pages) (lowest_free (keep_pages e count n pages) count) refl (fresh_pages e count n pages fresh)
+
+-- nobody has bound anything or runs
+record IsFresh (b : Book) : Type 0 where
+  pages : AreFresh b.page_count b.pages
+  binds : (e row : ℕ) → b.binds e row ≡ None
+  runner : b.runner ≡ None
+
+fresh_kept : (e : ℕ) (programs : List ProgramValue) (b : Book) → IsFresh b → IsFresh (with_all_kept e programs b)
+fresh_kept e [] b fresh = fresh
+fresh_kept e (p ∷ programs) b fresh = fresh_kept (e + 1) programs (with_kept e p b) (record {
+  pages = fresh_pages e b.page_count (guaranteed_mappings p) b.pages fresh.pages;
+  binds = fresh.binds;
+  runner = fresh.runner;
+})
+
+-- and environments see nothing
+record IsBlank (s : Solo) : Type 0 where
+  binds : (row : ℕ) → s.binds row ≡ None
+  seen : (page : ℕ) → s.seen page ≡ None
+  lives : s.life ≡ Live
+
+blank : (e : ℕ) (o : Option ProgramValue) → IsBlank (absorb_all (absent e) (record_items e o))
+blank e None = record { binds = λ row. refl; seen = λ page. refl; lives = refl }
+blank e (Some p) = record { binds = λ row. refl; seen = λ page. refl; lives = refl }
+
+module _ (image : ImageValue) where
+  booted : (e : ℕ) → IsBlank ((boot_world image).solos e)
+  booted e = blank e (slice_get image.programs e)
+
+  book_fresh : IsFresh (boot_world image).book
+  book_fresh = fresh_kept 0 image.programs (boot_book image.pages image.quantum image.slots) (record {
+    pages = record { owns = λ i page. refl; behind = λ page more. refl };
+    binds = λ e row. refl;
+    runner = refl;
+  })
+
+  none_yet : (i : ℕ) → HasNone i (boot_world image).book.pages ((boot_world image).book.binds i)
+  none_yet i = record { binds = book_fresh.binds i; owns = book_fresh.pages.owns i }
+
+  sound_boot : Sound (boot_world image)
+  sound_boot = record {
+    agreed = λ e. sees_nothing e (boot_world image).book.pages ((boot_world image).book.binds e) (page_bytes (boot_world image)) ((boot_world image).solos e) (none_yet e) (booted e).binds (booted e).seen;
+    none = λ i cause died. none_yet i;
+    stripes = λ i row behind. book_fresh.binds i row;
+    behind = book_fresh.pages.behind;
+    holders = λ k h at. record { owner = (booted h.owner).lives; holder = (booted h.holder).lives };
+    runs = λ r is. (booted r.env).lives;
+  }
+
+-- The step, whoever runs.
+stepped_by : (w : World) (o : Option Runner) → w.book.runner ≡ o → Sound w → AreBoundAllocated w → AreBoundAllocated (after w (step_when w o)) → Sound (after w (step_when w o))
+stepped_by w None is sound allocated next = sound_alike w (after w (step_when w None)) (unchanged w) sound.runs sound
+stepped_by w (Some r) is sound allocated next =
+    let s = w.solos r.env in
+    let lives = sound.runs r is in
+    sound_stepped w r.env (act_of s (step_alone s)) sound lives (step_brings w r.env sound lives allocated (step_alone s)) next
+
+-- A tick.
+module _ (w : World) (sound : Sound w) (allocated : AreBoundAllocated w) where
+  abbrev at_turn : World
+  at_turn = after w (turn w)
+
+  abbrev at_timer : World
+  at_timer = after at_turn (step at_turn)
+
+  pub allocated_turned : AreBoundAllocated at_turn
+  allocated_turned = allocated_alike w at_turn (turn_alike w) allocated
+
+  pub sound_ticked : AreBoundAllocated (tick_step w) → Sound (tick_step w)
+  sound_ticked next =
+      sound_timed at_timer
+      (stepped_by at_turn at_turn.book.runner refl (sound_turned w sound) allocated_turned
+      (allocated_before at_timer (tick_step w) (timer_alike at_timer) next))
+
+sound_next : (w : World) (idle : Bool) → Sound w → AreBoundAllocated w → AreBoundAllocated (if idle then w else tick_step w) → Sound (if idle then w else tick_step w)
+sound_next w true sound allocated next = sound
+sound_next w false sound allocated next = sound_ticked w sound allocated next
+
+-- Every world is so, where no page is bound that isn't allocated.
+pub all_sound : BoundIsAllocated → (image : ImageValue) (t : ℕ) → Sound (world_after image t)
+all_sound bound image zero = sound_boot image
+all_sound bound image (suc t) = sound_next (world_after image t) (is_idle_book (world_after image t).book) (all_sound bound image t) (bound image t) (bound image (suc t))
+
+pub books_agree : BoundIsAllocated → BooksAgree
+books_agree bound image t = (all_sound bound image t).agreed

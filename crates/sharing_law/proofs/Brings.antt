@@ -1,0 +1,193 @@
+-- What the runner's act brings: what each environment sees after it.
+use Rattle.std.proofs.Common.{◌≡◌, ◌≢◌, ◌≤◌, ℕ, List, [], Bool, true, false, Option, Some, None, refl, sym, ◌∙◌, ap, subst}
+use Rattle.std.specs.Prelude.{◌==◌, ◌||◌, if◌then◌else◌}
+use Rattle.std.specs.Option.{option_map}
+use Rattle.std.proofs.lemmas.Bool.{eq-eqb, eqb-true, ne_eqb}
+use Rattle.frame_store.specs.Pages.{with_bytes, zero_page}
+use Rattle.mips_exec.specs.declared.registers.Cpu.{Cpu}
+use Rattle.page_book.specs.declared.row.PageRow.{PageRow}
+use Rattle.page_book.specs.declared.row.PageRow.TheVariants.{Free, Guaranteed, Owned}
+use Rattle.page_book.specs.Row.{belongs_to, is_owned_by, released as released_row}
+use Rattle.bind_book.specs.declared.binding.Binding.{Binding}
+use Rattle.bind_book.specs.Stripe.{goes_with, without}
+use Rattle.world_model.specs.declared.life.Life.TheVariants.{Live}
+use Rattle.world_model.specs.declared.life.Cause.{Cause}
+use Rattle.world_model.specs.declared.slot.Runner.{Runner}
+use Rattle.world_model.specs.Table.{set_at}
+use Rattle.world_model.specs.Book.{Book, released, sees}
+use Rattle.world_model.specs.Item.{Item, absorb_all}
+use Rattle.world_model.specs.PageCalls.{death_items, left_at, left_if, lost_with, page_bytes}
+use Rattle.world_model.specs.Solo.{Solo, Store, Key, Kept, Physical, dead, is_physical, stored, stored_sight}
+use Rattle.world_model.specs.Step.{Act, Stores, Dies}
+use Rattle.world_model.specs.Tick as tick
+use Rattle.world_model.specs.Verdict.{death}
+use Rattle.world_model.specs.World.{World, Reply}
+use Rattle.page_sight.specs.Sight.{IsStripe, Sees}
+use Rattle.page_sight.proofs.Mourning.{mourners_lose}
+use Rattle.page_sight.proofs.Sights.{readers_see, writer_sees}
+use Rattle.page_sight.proofs.Stripes.{without_ends}
+use Rattle.sharing_law.proofs.Given.{Keeps, keeps_none, keeps_left, keeps_death, dead_absorbs}
+use Rattle.sharing_law.proofs.Sound.{HasNone, Sound, sees_nothing}
+
+-- What becomes of an allocated page and of its bytes: it was its owner's and has them still, the runner stored to it, or it was free and has zeros.
+pub data Fate (w : World) (act : Act) (o page : ℕ) (bytes : List ℕ) : Type 0 where
+  Stays : is_owned_by o (w.book.pages page) ≡ true → bytes ≡ page_bytes w page → Fate w act o page bytes
+  Written : is_owned_by o (w.book.pages page) ≡ true → (x : Store) → act ≡ Stores x → x.key ≡ Physical page → Fate w act o page bytes
+  Taken : w.book.pages page ≡ Free → bytes ≡ zero_page → Fate w act o page bytes
+
+-- the runner goes on, or it dies
+pub data Fortune (w : World) (e : ℕ) (s : Solo) (b : Book) : Type 0 where
+  GoesOn : s.life ≡ Live → b.slots ≡ w.book.slots → ((r : Runner) → b.runner ≡ Some r → w.book.runner ≡ Some r) → Fortune w e s b
+  Ends : b.slots ≡ (λ k. released e (w.book.slots k)) → b.runner ≡ None → HasNone e b.pages (b.binds e) → Fortune w e s b
+
+-- what the act of a runner, which is s after it, brings to each environment: the book after it, and what each is given
+pub record Brings (w : World) (e : ℕ) (s : Solo) (act : Act) (b : Book) (items : ℕ → List Item) : Type 0 where
+  pub bytes : ℕ → List ℕ
+  pub own : Sees e b.pages (b.binds e) bytes (absorb_all s (items e))
+  pub others : (i : ℕ) → i ≢ e → (w.solos i).life ≡ Live → Sees i b.pages (b.binds i) bytes (absorb_all (w.solos i) (items i))
+  pub none : (i : ℕ) → i ≢ e → HasNone i w.book.pages (w.book.binds i) → HasNone i b.pages (b.binds i)
+  pub stripes : (i : ℕ) → IsStripe (b.binds i)
+  pub behind : (page : ℕ) → b.page_count ≤ page → b.pages page ≡ Free
+  pub fate : (o page : ℕ) → is_owned_by o (b.pages page) ≡ true → Fate w act o page (bytes page)
+  pub keeps : (i : ℕ) → Keeps (items i)
+  pub fortune : Fortune w e s b
+
+abbrev pub BringsIn : World → ℕ → Solo → Act → Reply → Type 0
+BringsIn w e s act r = Brings w e s act r.book r.items
+
+-- who has the same bindings and sees the same
+pub as_before : (e : ℕ) (pages : ℕ → PageRow) (stripe : ℕ → Option Binding) (bytes : ℕ → List ℕ) (s t : Solo) → t.binds ≡ s.binds → t.seen ≡ s.seen → Sees e pages stripe bytes s → Sees e pages stripe bytes t
+as_before e pages stripe bytes s t binds sights seen = record {
+  binds = λ row. ap (λ (f : ℕ → Option Binding). f row) binds ∙ seen.binds row;
+  seen = λ page. (λ k. sights k page) ∙ seen.seen page;
+}
+
+-- what is owned once an environment's pages are released was owned before, and not by it
+released_owned : (gone o : ℕ) (row : PageRow) → is_owned_by o (released_row gone row) ≡ true → is_owned_by o row ≡ true
+released_owned gone o row owns = by_test (belongs_to gone row) owns
+  where
+    by_test : (t : Bool) → is_owned_by o (if t then Free else row) ≡ true → is_owned_by o row ≡ true
+    by_test true owns = cc
+    by_test false owns = owns
+
+released_none : (gone o : ℕ) (row : PageRow) → is_owned_by o row ≡ false → is_owned_by o (released_row gone row) ≡ false
+released_none gone o row owns = by_test (belongs_to gone row)
+  where
+    by_test : (t : Bool) → is_owned_by o (if t then Free else row) ≡ false
+    by_test true = refl
+    by_test false = owns
+
+released_own : (gone : ℕ) (row : PageRow) → is_owned_by gone (released_row gone row) ≡ false
+released_own gone Free = refl
+released_own gone (Guaranteed owner) = by_test (owner == gone)
+  where
+    by_test : (t : Bool) → is_owned_by gone (if t then Free else Guaranteed owner) ≡ false
+    by_test true = refl
+    by_test false = refl
+released_own gone (Owned owner words) = by_test (owner == gone) refl
+  where
+    by_test : (t : Bool) → (owner == gone) ≡ t → is_owned_by gone (if t then Free else Owned owner words) ≡ false
+    by_test true is = refl
+    by_test false is = is
+
+gone_row : (pages : ℕ → PageRow) (e : ℕ) (b : Option Binding) → without (goes_with pages e e) b ≡ None
+gone_row pages e None = refl
+gone_row pages e (Some b) = ap (λ own. if own || belongs_to e (pages b.page) then None else Some b) (eq-eqb e e refl)
+
+module _ (w : World) (e : ℕ) (sound : Sound w) (lives : (w.solos e).life ≡ Live) where
+  -- who is given nothing
+  idle : (i : ℕ) (items : List Item) → items ≡ [] → Sees i w.book.pages (w.book.binds i) (page_bytes w) (absorb_all (w.solos i) items)
+  idle i items none = subst (λ its. Sees i w.book.pages (w.book.binds i) (page_bytes w) (absorb_all (w.solos i) its)) (sym none) (sound.agreed i)
+
+  -- An act that changes nobody else.
+  pub quiet : (s : Solo) (act : Act) (runner : Option Runner) (items : ℕ → List Item) → s.life ≡ Live → ((r : Runner) → runner ≡ Some r → w.book.runner ≡ Some r)
+      → ((i : ℕ) → i ≢ e → items i ≡ []) → ((i : ℕ) → Keeps (items i)) → Sees e w.book.pages (w.book.binds e) (page_bytes w) (absorb_all s (items e))
+      → Brings w e s act (record w.book { runner = runner }) items
+  quiet s act runner items alive still none keeps own = record {
+    bytes = page_bytes w;
+    own = own;
+    others = λ i ne live. idle i (items i) (none i ne);
+    none = λ i ne before. before;
+    stripes = sound.stripes;
+    behind = sound.behind;
+    fate = λ o page owns. Stays owns refl;
+    keeps = keeps;
+    fortune = GoesOn alive refl still;
+  }
+
+  -- one that brings nothing
+  pub silent : (s : Solo) (act : Act) → s.life ≡ Live → s.binds ≡ (w.solos e).binds → s.seen ≡ (w.solos e).seen → BringsIn w e s act (tick.no_change w)
+  silent s act alive binds sights =
+      quiet s act w.book.runner (λ i. []) alive (λ r is. is) (λ i ne. refl) (λ i. keeps_none)
+      (as_before e w.book.pages (w.book.binds e) (page_bytes w) (w.solos e) s binds sights (sound.agreed e))
+
+  -- A store.
+  module _ (cpu : Cpu) (x : Store) where
+    abbrev writer : Solo
+    writer = record (w.solos e) { cpu = cpu }
+
+    kept_sights : (v : ℕ) → x.key ≡ Kept v → (stored x writer).seen ≡ (w.solos e).seen
+    kept_sights v is = λ k page. (if is_physical page (is k) then option_map (stored_sight x) ((w.solos e).seen page) else (w.solos e).seen page)
+
+    -- the bytes once they are in the page
+    abbrev written : ℕ → ℕ → List ℕ
+    written page = set_at page (with_bytes (page_bytes w page) x.offset x.bytes) (page_bytes w)
+
+    to_bound : (page : ℕ) → x.key ≡ Physical page → Brings w e (stored x writer) (Stores x) w.book (left_at w.book e x (Physical page))
+    to_bound page is = record {
+      bytes = written page;
+      own = subst (λ its. Sees e w.book.pages (w.book.binds e) (written page) (absorb_all (stored x writer) its)) (ap (λ t. if t then [] else left_if (sees w.book e page) page x) (sym (eq-eqb e e refl)))
+          (writer_sees e page x w.book.pages (w.book.binds e) (page_bytes w) writer (as_before e w.book.pages (w.book.binds e) (page_bytes w) (w.solos e) writer refl refl (sound.agreed e)) is);
+      others = λ i ne live.
+          subst (λ its. Sees i w.book.pages (w.book.binds i) (written page) (absorb_all (w.solos i) its)) (ap (λ t. if t then [] else left_if (sees w.book i page) page x) (sym (ne_eqb i e ne)))
+          (readers_see i page x w.book (page_bytes w) (w.solos i) (sound.agreed i) live);
+      none = λ i ne before. before;
+      stripes = sound.stripes;
+      behind = sound.behind;
+      fate = fate;
+      keeps = λ i. keeps_left (sees w.book i page) e i page x;
+      fortune = GoesOn lives refl (λ r is. is);
+    }
+      where
+        by_page : (o p : ℕ) → is_owned_by o (w.book.pages p) ≡ true → (t : Bool) → (p == page) ≡ t → Fate w (Stores x) o p (if t then with_bytes (page_bytes w page) x.offset x.bytes else page_bytes w p)
+        by_page o p owns true same = Written owns x refl (is ∙ ap Physical (sym (eqb-true p page same)))
+        by_page o p owns false other = Stays owns refl
+
+        fate : (o p : ℕ) → is_owned_by o (w.book.pages p) ≡ true → Fate w (Stores x) o p (written page p)
+        fate o p owns = by_page o p owns (p == page) refl
+
+    by_key : (key : Key) → x.key ≡ key → Brings w e (stored x writer) (Stores x) w.book (left_at w.book e x key)
+    by_key (Kept v) is =
+        quiet (stored x writer) (Stores x) w.book.runner (left_at w.book e x (Kept v)) lives (λ r is. is) (λ i ne. refl) (λ i. keeps_none)
+        (as_before e w.book.pages (w.book.binds e) (page_bytes w) (w.solos e) (stored x writer) refl (kept_sights v is) (sound.agreed e))
+    by_key (Physical page) is = to_bound page is
+
+    pub store_brings : BringsIn w e (stored x writer) (Stores x) (tick.brings w e (Stores x))
+    store_brings = by_key x.key refl
+
+  -- A death.
+  module _ (cpu : Cpu) (cause : Cause) where
+    abbrev corpse : Solo
+    corpse = dead cause (record (w.solos e) { cpu = cpu })
+
+    nothing_left : HasNone e (death w e).book.pages ((death w e).book.binds e)
+    nothing_left = record { binds = λ row. gone_row w.book.pages e (w.book.binds e row); owns = λ page. released_own e (w.book.pages page) }
+
+    pub death_brings : BringsIn w e corpse (Dies cause) (tick.brings w e (Dies cause))
+    death_brings = record {
+      bytes = page_bytes w;
+      own = subst (λ (s : Solo). Sees e (death w e).book.pages ((death w e).book.binds e) (page_bytes w) s) (sym (dead_absorbs corpse cause (death_items w.book e e) refl))
+          (sees_nothing e (death w e).book.pages ((death w e).book.binds e) (page_bytes w) corpse nothing_left (λ row. refl) (λ page. refl));
+      others = λ i ne live.
+          subst (λ its. Sees i (death w e).book.pages ((death w e).book.binds i) (page_bytes w) (absorb_all (w.solos i) its)) (ap (λ t. if t then [] else lost_with w.book e i w.book.page_count) (sym (ne_eqb i e ne)))
+          (mourners_lose e i w.book (page_bytes w) (w.solos i) (sound.agreed i) live ne sound.behind (sound.stripes i));
+      none = λ i ne before. record {
+        binds = λ row. ap (without (goes_with w.book.pages e i)) (before.binds row);
+        owns = λ page. released_none e i (w.book.pages page) (before.owns page);
+      };
+      stripes = λ i. without_ends (goes_with w.book.pages e i) (w.book.binds i) (sound.stripes i);
+      behind = λ page there. ap (released_row e) (sound.behind page there);
+      fate = λ o page owns. Stays (released_owned e o (w.book.pages page) owns) refl;
+      keeps = λ i. keeps_death w.book e i;
+      fortune = Ends refl refl nothing_left;
+    }

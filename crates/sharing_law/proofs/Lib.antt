@@ -1,0 +1,12 @@
+mod Replies
+mod Books
+mod Live
+mod Given
+mod Sound
+mod Brings
+mod Calling
+mod Turning
+mod Stepping
+mod Agreeing
+mod Writing
+mod Changing

@@ -1,0 +1,208 @@
+-- The phase of a tick in which the runner makes its step.
+use Rattle.std.proofs.Common.{◌≡◌, ◌≢◌, ℕ, List, [], ◌∷◌, ◌++◌, Bool, true, false, Option, Some, None, ◌⊎◌, inl, inr, refl, sym, ◌∙◌, ap, subst}
+use Rattle.std.specs.Prelude.{◌==◌, if◌then◌else◌}
+use Rattle.std.proofs.lemmas.Bool.{cases_eq, eqb-false}
+use Rattle.mips_exec.specs.declared.registers.Cpu.{Cpu}
+use Rattle.mips_exec.specs.declared.exception.Exc.{Exc}
+use Rattle.mips_exec.specs.Cpu.{reg}
+use Rattle.mips_exec.specs.Step as mips
+use Rattle.mips_exec.specs.Step.{Retired, Called, Trapped}
+use Rattle.world_model.specs.declared.call.Call.{Call}
+use Rattle.world_model.specs.declared.call.Call.TheVariants as call
+use Rattle.world_model.specs.declared.life.Life.{Life}
+use Rattle.world_model.specs.declared.life.Life.TheVariants.{Live, Dead}
+use Rattle.world_model.specs.declared.life.Cause.{Cause}
+use Rattle.world_model.specs.declared.life.Cause.TheVariants as cause
+use Rattle.world_model.specs.declared.slot.Hold.{Hold}
+use Rattle.world_model.specs.declared.slot.Runner.{Runner}
+use Rattle.world_model.specs.Book.{own_hold, released}
+use Rattle.world_model.specs.Call.{called}
+use Rattle.world_model.specs.Holding.{raise}
+use Rattle.world_model.specs.Item.{Item, Step, absorb_all}
+use Rattle.world_model.specs.PageCalls.{page_bytes}
+use Rattle.world_model.specs.Solo.{Solo, Store, store_of}
+use Rattle.world_model.specs.Step.{Act, Nothing, Raises, Dies, acted, act_of, call_act, step_alone, stepped, store_act}
+use Rattle.world_model.specs.Tick as tick
+use Rattle.world_model.specs.World.{World, after}
+use Rattle.page_sight.specs.Sight.{Sees}
+use Rattle.page_sight.proofs.Tables.{set_here, set_else}
+use Rattle.sharing_law.specs.Agreement.{AreBoundAllocated}
+use Rattle.sharing_law.proofs.Given.{absorbs, dead_absorbs}
+use Rattle.sharing_law.proofs.Sound.{AreLive, HasNone, Sound, agreed, still_nothing}
+use Rattle.sharing_law.proofs.Brings.{BringsIn, Fortune, GoesOn, Ends, death_brings, silent, store_brings}
+use Rattle.sharing_law.proofs.Calling.{call_brings}
+
+-- What the runner's step brings, whatever it comes to.
+module _ (w : World) (e : ℕ) (sound : Sound w) (lives : (w.solos e).life ≡ Live) (allocated : AreBoundAllocated w) where
+  by_store : (cpu : Cpu) (o : Option Store) → BringsIn w e (acted (store_act o) (record (w.solos e) { cpu = cpu })) (store_act o) (tick.brings w e (store_act o))
+  by_store cpu None = silent w e sound lives (record (w.solos e) { cpu = cpu }) Nothing lives refl refl
+  by_store cpu (Some x) = store_brings w e sound lives cpu x
+
+  by_call : (c : Option Call) → called (w.solos e).cpu ≡ c → BringsIn w e (acted (call_act (w.solos e).cpu c) (w.solos e)) (call_act (w.solos e).cpu c) (tick.brings w e (call_act (w.solos e).cpu c))
+  by_call None named = call_brings w e sound lives allocated None named (λ is. none_exits is)
+    where
+      none_exits : None ≡ Some call.Exit → ⊥
+      none_exits is = cc
+  by_call (Some call.Exit) named = death_brings w e sound lives (w.solos e).cpu (cause.Exit (reg (w.solos e).cpu 4))
+  by_call (Some call.Yield) named = call_brings w e sound lives allocated (Some call.Yield) named (λ is. cc)
+  by_call (Some call.Put) named = call_brings w e sound lives allocated (Some call.Put) named (λ is. cc)
+  by_call (Some call.Alloc) named = call_brings w e sound lives allocated (Some call.Alloc) named (λ is. cc)
+  by_call (Some call.Free) named = call_brings w e sound lives allocated (Some call.Free) named (λ is. cc)
+  by_call (Some call.Recap) named = call_brings w e sound lives allocated (Some call.Recap) named (λ is. cc)
+  by_call (Some call.Bind) named = call_brings w e sound lives allocated (Some call.Bind) named (λ is. cc)
+  by_call (Some call.Unbind) named = call_brings w e sound lives allocated (Some call.Unbind) named (λ is. cc)
+  by_call (Some call.Context) named = call_brings w e sound lives allocated (Some call.Context) named (λ is. cc)
+  by_call (Some call.OwnNumber) named = call_brings w e sound lives allocated (Some call.OwnNumber) named (λ is. cc)
+  by_call (Some call.Clock) named = call_brings w e sound lives allocated (Some call.Clock) named (λ is. cc)
+
+  by_handler : (exc : Exc) (none : Bool) → BringsIn w e (acted (if none then Dies (cause.Trapped exc.code) else Raises exc) (w.solos e)) (if none then Dies (cause.Trapped exc.code) else Raises exc) (tick.brings w e (if none then Dies (cause.Trapped exc.code) else Raises exc))
+  by_handler exc true = death_brings w e sound lives (w.solos e).cpu (cause.Trapped exc.code)
+  by_handler exc false = silent w e sound lives (raise exc (w.solos e)) (Raises exc) lives refl refl
+
+  pub step_brings : (st : mips.Step) → BringsIn w e (stepped (w.solos e) st) (act_of (w.solos e) st) (tick.brings w e (act_of (w.solos e) st))
+  step_brings (Retired cpu write) = by_store cpu (store_of (w.solos e) write)
+  step_brings Called = by_call (called (w.solos e).cpu) refl
+  step_brings (Trapped exc) = by_handler exc ((w.solos e).handlers.exception == 0)
+
+-- what a slot of the living is once one of them is gone
+record IsLeft (slots : Option Hold) (gone : ℕ) (h : Hold) : Type 0 where
+  old : Hold
+  was : slots ≡ Some old
+  owner : h.owner ≡ old.owner
+  holder : (h.holder ≡ old.owner) ⊎ (h.holder ≡ old.holder)
+  not_owner : h.owner ≢ gone
+  not_holder : h.holder ≢ gone
+
+left_hold : (gone : ℕ) (o : Option Hold) (h : Hold) → released gone o ≡ Some h → IsLeft o gone h
+left_hold gone None h is = cc
+left_hold gone (Some old) h is = by_owner (old.owner == gone) refl (old.holder == gone) refl is
+  where
+    by_owner : (owns : Bool) → (old.owner == gone) ≡ owns → (holds : Bool) → (old.holder == gone) ≡ holds → (if owns then None else (if holds then Some (own_hold old.owner) else Some old)) ≡ Some h → IsLeft (Some old) gone h
+    by_owner true owned holds held is = cc
+    by_owner false owned true held is =
+        let hold : own_hold old.owner ≡ h = cc in
+        let owner : old.owner ≡ h.owner = ap (λ (x : Hold). x.owner) hold in
+        let holder : old.owner ≡ h.holder = ap (λ (x : Hold). x.holder) hold in
+        record {
+          old = old;
+          was = refl;
+          owner = sym owner;
+          holder = inl (sym holder);
+          not_owner = λ same. eqb-false old.owner gone owned (owner ∙ same);
+          not_holder = λ same. eqb-false old.owner gone owned (holder ∙ same);
+        }
+    by_owner false owned false held is =
+        let hold : old ≡ h = cc in
+        let owner : old.owner ≡ h.owner = ap (λ (x : Hold). x.owner) hold in
+        let holder : old.holder ≡ h.holder = ap (λ (x : Hold). x.holder) hold in
+        record {
+          old = old;
+          was = refl;
+          owner = sym owner;
+          holder = inr (sym holder);
+          not_owner = λ same. eqb-false old.owner gone owned (owner ∙ same);
+          not_holder = λ same. eqb-false old.holder gone held (holder ∙ same);
+        }
+
+-- The world after the step of a runner that brings this.
+module _ (w : World) (e : ℕ) (act : Act) (sound : Sound w) (lives : (w.solos e).life ≡ Live) (brings : BringsIn w e (stepped (w.solos e) (step_alone (w.solos e))) act (tick.brings w e act)) where
+  abbrev runner : Solo
+  runner = stepped (w.solos e) (step_alone (w.solos e))
+
+  abbrev now : World
+  now = after w (tick.with_step e (tick.brings w e act))
+
+  abbrev items : ℕ → List Item
+  items = (tick.brings w e act).items
+
+  own_now : now.solos e ≡ absorb_all runner (items e)
+  own_now = ap (λ (its : List Item). absorb_all (w.solos e) (its ++ items e)) (set_here e (Step ∷ []) (λ i. [])) ∙ absorbs (w.solos e) Step (items e) lives
+
+  other_now : (i : ℕ) → i ≢ e → now.solos i ≡ absorb_all (w.solos i) (items i)
+  other_now i ne = ap (λ (its : List Item). absorb_all (w.solos i) (its ++ items i)) (set_else e i (Step ∷ []) (λ j. []) ne)
+
+  -- lives and guaranteed pages are what the runner's step makes of them
+  pub own_life : (now.solos e).life ≡ runner.life
+  own_life = ap (λ (s : Solo). s.life) own_now ∙ (brings.keeps e).life runner
+
+  pub own_kept : (now.solos e).kept ≡ runner.kept
+  own_kept = ap (λ (s : Solo). s.kept) own_now ∙ (brings.keeps e).kept runner
+
+  pub other_life : (i : ℕ) → i ≢ e → (now.solos i).life ≡ (w.solos i).life
+  other_life i ne = ap (λ (s : Solo). s.life) (other_now i ne) ∙ (brings.keeps i).life (w.solos i)
+
+  pub other_kept : (i : ℕ) → i ≢ e → (now.solos i).kept ≡ (w.solos i).kept
+  other_kept i ne = ap (λ (s : Solo). s.kept) (other_now i ne) ∙ (brings.keeps i).kept (w.solos i)
+
+  -- what each environment sees
+  other_sees : (i : ℕ) → i ≢ e → Sees i now.book.pages (now.book.binds i) brings.bytes (now.solos i)
+  other_sees i ne = subst (λ s. Sees i now.book.pages (now.book.binds i) brings.bytes s) (sym (other_now i ne)) (by_life (w.solos i).life refl)
+    where
+      by_life : (life : Life) → (w.solos i).life ≡ life → Sees i now.book.pages (now.book.binds i) brings.bytes (absorb_all (w.solos i) (items i))
+      by_life Live is = brings.others i ne is
+      by_life (Dead cause) is =
+          let before = sound.none i cause is in
+          subst (λ s. Sees i now.book.pages (now.book.binds i) brings.bytes s) (sym (dead_absorbs (w.solos i) cause (items i) is))
+          (still_nothing i w.book.pages now.book.pages (w.book.binds i) (now.book.binds i) (page_bytes w) brings.bytes (w.solos i) before (brings.none i ne before) (sound.agreed i))
+
+  pub all_see : (i : ℕ) → Sees i now.book.pages (now.book.binds i) brings.bytes (now.solos i)
+  all_see i = elim (cases_eq i e) [
+    | inl same ↦ subst (λ (n : ℕ). Sees n now.book.pages (now.book.binds n) brings.bytes (now.solos n)) (sym same) (subst (λ s. Sees e now.book.pages (now.book.binds e) brings.bytes s) (sym own_now) brings.own)
+    | inr ne ↦ other_sees i ne
+  ]
+
+  -- whoever lives goes on, but a runner whose end it is
+  still_lives : (i : ℕ) → (i ≡ e → runner.life ≡ Live) → (w.solos i).life ≡ Live → (now.solos i).life ≡ Live
+  still_lives i own before = elim (cases_eq i e) [
+    | inl same ↦ ap (λ (n : ℕ). (now.solos n).life) same ∙ own_life ∙ own same
+    | inr ne ↦ other_life i ne ∙ before
+  ]
+
+  other_none : (i : ℕ) → i ≢ e → (cause : Cause) → (now.solos i).life ≡ Dead cause → HasNone i now.book.pages (now.book.binds i)
+  other_none i ne cause died = brings.none i ne (sound.none i cause (sym (other_life i ne) ∙ died))
+
+  pub sound_stepped : AreBoundAllocated now → Sound now
+  sound_stepped allocated = by_fortune brings.fortune
+    where
+      by_fortune : Fortune w e runner now.book → Sound now
+      by_fortune (GoesOn alive slots runs) = record {
+        agreed = agreed now brings.bytes all_see allocated;
+        none = λ i cause died. elim (cases_eq i e) [
+          | inl same ↦ absurd (clash cause (sym alive ∙ sym own_life ∙ ap (λ (n : ℕ). (now.solos n).life) (sym same) ∙ died))
+          | inr ne ↦ other_none i ne cause died
+        ];
+        stripes = brings.stripes;
+        behind = brings.behind;
+        holders = λ k h at.
+            let before = sound.holders k h ((λ j. sym slots j k) ∙ at) in
+            record { owner = still_lives h.owner (λ same. alive) before.owner; holder = still_lives h.holder (λ same. alive) before.holder };
+        runs = λ r is. still_lives r.env (λ same. alive) (sound.runs r (runs r is));
+      }
+        where
+          clash : (cause : Cause) → Live ≡ Dead cause → ⊥
+          clash cause is = cc
+      by_fortune (Ends slots runs nothing) = record {
+        agreed = agreed now brings.bytes all_see allocated;
+        none = λ i cause died. elim (cases_eq i e) [
+          | inl same ↦ subst (λ (n : ℕ). HasNone n now.book.pages (now.book.binds n)) (sym same) nothing
+          | inr ne ↦ other_none i ne cause died
+        ];
+        stripes = brings.stripes;
+        behind = brings.behind;
+        holders = λ k h at. left_live k h (left_hold e (w.book.slots k) h ((λ j. sym slots j k) ∙ at));
+        runs = λ r is. absurd (nobody r (sym runs ∙ is));
+      }
+        where
+          nobody : (r : Runner) → None ≡ Some r → ⊥
+          nobody r is = cc
+
+          left_live : (k : ℕ) (h : Hold) → IsLeft (w.book.slots k) e h → AreLive now.solos h
+          left_live k h left =
+              let before = sound.holders k left.old left.was in
+              record {
+                owner = other_life h.owner left.not_owner ∙ ap (λ (n : ℕ). (w.solos n).life) left.owner ∙ before.owner;
+                holder = other_life h.holder left.not_holder ∙ elim left.holder [
+                  | inl owner ↦ ap (λ (n : ℕ). (w.solos n).life) owner ∙ before.owner
+                  | inr holder ↦ ap (λ (n : ℕ). (w.solos n).life) holder ∙ before.holder
+                ];
+              }

@@ -1,0 +1,4 @@
+pub mod Acting
+pub mod Agreement
+pub mod Right
+pub mod Change

@@ -1,0 +1,11 @@
+//! The laws of shared pages, for every image and number of ticks: by what right each binding stands, that the
+//! kernel's book and the environments agree, and why the bytes of a page change.
+#![tactic(auto)]
+
+mod agreement;
+mod change;
+mod right;
+
+pub use agreement::{law_agreement, law_bound};
+pub use change::{law_allocated_change, law_guaranteed_change, law_zeros};
+pub use right::law_live;
