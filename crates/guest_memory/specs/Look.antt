@@ -1,13 +1,24 @@
 -- What is seen through a look-up of page numbers, and what steps do there.
 use Rattle.std.specs.Prelude.{ℕ, ◌/◌, ◌%◌, List, Option, Some, None, slice_get}
-use Rattle.std.specs.Option.{option_map}
+use Rattle.std.specs.Option.{option_map, option_or}
 use Rattle.mips_exec.specs.declared.registers.Cpu.{Cpu}
 use Rattle.mips_exec.specs.Access.{Write}
 use Rattle.mips_exec.specs.Step.{Step, step_of, view_of}
 use Rattle.aegis_limits.specs.Limits.{page_size}
 use Rattle.frame_store.specs.Pages.{after_put}
 use Rattle.env_frames.specs.declared.mapping.Mapping.{Mapping}
+use Rattle.env_frames.specs.Frame.{mapping_at}
+use Rattle.bind_book.specs.declared.binding.Binding.{Binding}
+use Rattle.bind_book.specs.Stripe.{binding_at}
 use Rattle.world_model.specs.Page.{Mapped, answers_by}
+
+-- a binding as a mapping
+abbrev pub bound_mapping : Binding → Mapping
+bound_mapping b = record { vpn = b.vpn; page = b.page; writable = b.writable }
+
+-- the mapping of a page number: the guaranteed one, else that of the binding
+abbrev pub mapping_in : List Mapping → (ℕ → Option Binding) → ℕ → Option Mapping
+mapping_in mappings stripe vpn = option_or (mapping_at mappings vpn) (option_map bound_mapping (binding_at stripe vpn))
 
 -- a mapping leads to its page, where physical memory has it
 abbrev pub look_through : List (List ℕ) → Option Mapping → Option Mapped

@@ -2,12 +2,12 @@
 ghost use Rattle.std.specs.Prelude.{◌≡◌, ◌≢◌, ◌+◌, ◌%◌, ◌<◌, ◌≤◌, ℕ, List, OnOk, OnErr, length};
 ghost use Rattle.byteorder.specs.Endian.{little_number};
 ghost use Rattle.mips_exec.specs.Step.{cpu_after, outcome_of, write_after};
-ghost use Rattle.env_frames.specs.Frame.{mapping_at};
+ghost use Rattle.guest_memory.specs.Space.{lookup};
 ghost use Rattle.guest_memory.specs.Look.{frames_after, guest_step};
 
 use crate::place::{PAGE_BYTES, bytes_from, locate};
+use crate::space::Space;
 use byteorder::{ByteOrder, LittleEndian};
-use env_frames::Env;
 use frame_store::Frames;
 use mips_exec::{Bus, Cpu, Exc, Outcome, step_user};
 use world_model::Purpose;
@@ -16,39 +16,39 @@ use world_model::Purpose;
 #[derive(Drop)]
 struct GuestBus<'a> {
     frames: &'a mut Frames,
-    env: &'a Env,
+    space: &'a Space<'a>,
 }
 
 impl Bus for GuestBus<'_> {
     ghost use Rattle.std.proofs.Common.{refl, sym, ◌∙◌, ap};
     ghost use Rattle.guest_memory.specs.Lent.{IsKept, IsStored, answers_of, stored};
 
-    ghost answers = { λ b. answers_of b.frames.now b.env.now };
+    ghost answers = { λ b. answers_of b.frames.now b.space.now };
 
     ghost Kept = { IsKept };
 
     ghost Stored = { IsStored };
 
-    ghost keeps_itself = { λ b. record { lent = refl; frames = refl; env = refl } };
+    ghost keeps_itself = { λ b. record { lent = refl; frames = refl; space = refl } };
 
-    ghost keeps_on = { λ a b c first then. record { lent = then.lent ∙ first.lent; frames = then.frames ∙ first.frames; env = then.env ∙ first.env } };
+    ghost keeps_on = { λ a b c first then. record { lent = then.lent ∙ first.lent; frames = then.frames ∙ first.frames; space = then.space ∙ first.space } };
 
-    ghost keeps_answers = { λ a b kept. ap (λ pages. answers_of pages a.env.now) (sym kept.frames) ∙ ap (answers_of b.frames.now) (sym kept.env) };
+    ghost keeps_answers = { λ a b kept. ap (λ pages. answers_of pages a.space.now) (sym kept.frames) ∙ ap (answers_of b.frames.now) (sym kept.space) };
 
-    ghost stores_on = { λ a b c address bytes kept then. record { lent = then.lent ∙ kept.lent; frames = then.frames ∙ ap (λ pages. stored pages b.env.now address bytes) kept.frames ∙ ap (λ env. stored a.frames.now env address bytes) kept.env; env = then.env ∙ kept.env } };
+    ghost stores_on = { λ a b c address bytes kept then. record { lent = then.lent ∙ kept.lent; frames = then.frames ∙ ap (λ pages. stored pages b.space.now address bytes) kept.frames ∙ ap (λ space. stored a.frames.now space address bytes) kept.space; space = then.space ∙ kept.space } };
 
     fn fetch(&mut self, va: u32) -> Result<u32, Exc> {
-        let mapping = locate(self.frames, self.env, Purpose::Fetch, va)?;
+        let mapping = locate(self.frames, self.space, Purpose::Fetch, va)?;
         Ok(LittleEndian::read_u32(bytes_from(self.frames, mapping.page, va)))
     }
 
     fn load(&mut self, va: u32, width: u8) -> Result<u32, Exc> {
-        let mapping = locate(self.frames, self.env, Purpose::Load, va)?;
+        let mapping = locate(self.frames, self.space, Purpose::Load, va)?;
         Ok(number_at(bytes_from(self.frames, mapping.page, va), width))
     }
 
     fn store(&mut self, va: u32, width: u8, value: u32) -> Result<(), Exc> {
-        let mapping = locate(self.frames, self.env, Purpose::Store, va)?;
+        let mapping = locate(self.frames, self.space, Purpose::Store, va)?;
         let bytes = value.to_le_bytes();
         self.frames.put(mapping.page, va % PAGE_BYTES, &bytes[..usize::from(width)]);
         Ok(())
@@ -70,14 +70,14 @@ fn number_at(bytes: &[u8], width: u8) -> u32
     }
 }
 
-/// One step of an environment: its fetch, load and store go through its guaranteed mappings. A page
-/// number that has none, or whose page physical memory hasn't got, is a miss.
-pub fn step_guest(cpu: &mut Cpu, frames: &mut Frames, env: &Env) -> Outcome
-    ensures cpu { cpu.new ≡ cpu_after cpu.old (guest_step frames.old (mapping_at env.now.mappings) cpu.old) }
-    ensures outcome { result ≡ outcome_of (guest_step frames.old (mapping_at env.now.mappings) cpu.old) }
-    ensures frames { frames.new ≡ frames_after frames.old (mapping_at env.now.mappings) (write_after (guest_step frames.old (mapping_at env.now.mappings) cpu.old)) }
+/// One step of an environment: its fetch, load and store go through its guaranteed mappings and its bindings.
+/// A page number that has neither, or whose page physical memory hasn't got, is a miss.
+pub fn step_guest(cpu: &mut Cpu, frames: &mut Frames, space: &Space<'_>) -> Outcome
+    ensures cpu { cpu.new ≡ cpu_after cpu.old (guest_step frames.old (lookup space.now) cpu.old) }
+    ensures outcome { result ≡ outcome_of (guest_step frames.old (lookup space.now) cpu.old) }
+    ensures frames { frames.new ≡ frames_after frames.old (lookup space.now) (write_after (guest_step frames.old (lookup space.now) cpu.old)) }
     ensures size { length frames.new ≡ length frames.old }
 {
-    let mut bus = GuestBus { frames, env };
+    let mut bus = GuestBus { frames, space };
     step_user(cpu, &mut bus)
 }

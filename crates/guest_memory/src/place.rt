@@ -3,12 +3,13 @@ ghost use Rattle.std.specs.Prelude.{◌≡◌, ◌+◌, ◌/◌, ◌%◌, ◌<�
 ghost use Rattle.frame_store.specs.Pages.{page_at};
 ghost use Rattle.world_model.specs.Page.{address_error as address_error_of, miss as miss_of, reach, raised as raised_at, is_store as is_store_of};
 ghost use Rattle.aegis_limits.specs.Limits.{page_size};
-ghost use Rattle.env_frames.specs.Frame.{mapping_at};
+ghost use Rattle.guest_memory.specs.Space.{lookup};
 ghost use Rattle.guest_memory.specs.Look.{look};
 ghost use Rattle.guest_memory.specs.Place.{LeadsThrough, Located};
 
+use crate::space::Space;
 use aegis_limits::PAGE_SIZE;
-use env_frames::{Env, Mapping};
+use env_frames::Mapping;
 use frame_store::Frames;
 use mips_exec::{Exc, ExcCode};
 use world_model::Purpose;
@@ -59,10 +60,10 @@ fn raised(code: ExcCode, address: u32) -> Exc
 }
 
 /// The mapping of a page number, where physical memory has its page.
-pub(crate) fn mapping_of(frames: &Frames, env: &Env, vpn: u32) -> Option<Mapping>
-    ensures { MatchOption result (look frames.now (mapping_at env.now.mappings) vpn ≡ None) (LeadsThrough frames.now (mapping_at env.now.mappings) vpn) }
+pub(crate) fn mapping_of(frames: &Frames, space: &Space<'_>, vpn: u32) -> Option<Mapping>
+    ensures { MatchOption result (look frames.now (lookup space.now) vpn ≡ None) (LeadsThrough frames.now (lookup space.now) vpn) }
 {
-    let mapping = env.guaranteed(vpn)?;
+    let mapping = space.mapping(vpn)?;
     if mapping.page < frames.pages() {
         Some(mapping)
     } else {
@@ -71,13 +72,18 @@ pub(crate) fn mapping_of(frames: &Frames, env: &Env, vpn: u32) -> Option<Mapping
 }
 
 /// The mapping that serves an access, or what the access raises.
-pub(crate) fn locate(frames: &Frames, env: &Env, purpose: Purpose, va: u32) -> Result<Mapping, Exc>
-    ensures { Located frames.now (mapping_at env.now.mappings) (va / page_size) (reach (look frames.now (mapping_at env.now.mappings)) purpose va) result }
+pub(crate) fn locate(
+    frames: &Frames,
+    space: &Space<'_>,
+    purpose: Purpose,
+    va: u32,
+) -> Result<Mapping, Exc>
+    ensures { Located frames.now (lookup space.now) (va / page_size) (reach (look frames.now (lookup space.now)) purpose va) result }
 {
     if va >= USER_END {
         return Err(raised(address_error(purpose), va));
     }
-    let Some(mapping) = mapping_of(frames, env, va / PAGE_BYTES) else {
+    let Some(mapping) = mapping_of(frames, space, va / PAGE_BYTES) else {
         return Err(raised(miss(purpose), va));
     };
     if is_store(purpose) && !mapping.writable {

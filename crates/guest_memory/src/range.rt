@@ -2,21 +2,26 @@
 ghost use Rattle.std.specs.Prelude.{◌≡◌};
 ghost use Rattle.std.specs.Option.{option_map};
 ghost use Rattle.world_model.specs.Call.{good_range};
-ghost use Rattle.env_frames.specs.Frame.{mapping_at};
+ghost use Rattle.guest_memory.specs.Space.{lookup};
 ghost use Rattle.guest_memory.specs.Look.{look};
 
 use crate::place::{PAGE_BYTES, USER_END, bytes_from, mapping_of};
-use env_frames::Env;
+use crate::space::Space;
 use frame_store::Frames;
 
 /// The bytes of a good range: so many from an address on, in one page that the environment sees,
 /// below 0x80000000.
-pub fn guest_range<'a>(frames: &'a Frames, env: &Env, address: u32, size: u32) -> Option<&'a [u8]>
-    ensures { option_map (λ r. r.now) result ≡ good_range (look frames.now (mapping_at env.now.mappings)) address size }
+pub fn guest_range<'a>(
+    frames: &'a Frames,
+    space: &Space<'_>,
+    address: u32,
+    size: u32,
+) -> Option<&'a [u8]>
+    ensures { option_map (λ r. r.now) result ≡ good_range (look frames.now (lookup space.now)) address size }
 {
     if address >= USER_END || size > PAGE_BYTES - address % PAGE_BYTES {
         return None;
     }
-    let mapping = mapping_of(frames, env, address / PAGE_BYTES)?;
+    let mapping = mapping_of(frames, space, address / PAGE_BYTES)?;
     Some(&bytes_from(frames, mapping.page, address)[..size as usize])
 }
