@@ -1,9 +1,11 @@
 //! The board and what it shows.
 
+use bind_book::Bindings;
 use board_world::{Consoles, Roster};
 use frame_store::Frames;
 use kernel_journal::Journal;
 use mips_exec::Cpu;
+use page_book::Pages;
 use slot_vector::Slots;
 use std::marker::Model;
 
@@ -11,7 +13,8 @@ use std::marker::Model;
 #[derive(Drop)]
 pub struct Board {
     pub(crate) frames: Frames,
-    pub(crate) taken: u32,
+    pub(crate) pages: Pages,
+    pub(crate) bindings: Bindings,
     pub(crate) slots: Slots,
     pub(crate) cpu: Cpu,
     pub(crate) roster: Roster,
@@ -26,7 +29,7 @@ impl Model for Board {
 
     ghost Value = { Shown };
 
-    ghost view = { λ b. record { frames = b.frames; taken = b.taken; slots = b.slots; cpu = b.cpu; roster = b.roster; consoles = b.consoles; time = b.time; ledger = b.journal } };
+    ghost view = { λ b. record { frames = b.frames; pages = b.pages; binds = b.bindings; slots = b.slots; cpu = b.cpu; roster = b.roster; consoles = b.consoles; time = b.time; ledger = b.journal } };
 
-    ghost invariant = { λ b. IsSound (record { frames = b.frames; taken = b.taken; slots = b.slots; cpu = b.cpu; roster = b.roster; consoles = b.consoles; time = b.time; ledger = b.journal }) };
+    ghost invariant = { λ b. IsSound (record { frames = b.frames; pages = b.pages; binds = b.bindings; slots = b.slots; cpu = b.cpu; roster = b.roster; consoles = b.consoles; time = b.time; ledger = b.journal }) };
 }

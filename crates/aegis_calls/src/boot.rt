@@ -1,19 +1,24 @@
 //! The board before it runs: without programs, and with one more.
-ghost use Rattle.std.specs.Prelude.{◌≡◌, ◌≤◌, ◌<◌, ◌+◌, ◌-◌, ◌*◌, ◌/◌, ◌^◌, ◌++◌, ℕ, IfOk, IfSome, All, length, map, [], ◌∷◌};
+ghost use Rattle.std.specs.Prelude.{◌≡◌, ◌≤◌, ◌<◌, ◌+◌, ◌-◌, ◌++◌, Some, IfOk, IfSome, All, length, map, [], ◌∷◌, slice_set};
 ghost use Rattle.segment_pages.specs.Pages.{page_numbers};
 ghost use Rattle.boot_image.specs.ImageValue.{guaranteed_mappings};
-ghost use Rattle.env_frames.specs.Frame.{IsAbove, IsRising, numbers};
+ghost use Rattle.env_frames.specs.Context.{no_handlers};
+ghost use Rattle.env_frames.specs.Frame.{IsAbove};
 ghost use Rattle.aegis_limits.specs.Limits.{least_pages, most_pages, least_quantum, most_quantum, most_slots, most_environments, most_mappings};
-ghost use Rattle.frame_store.specs.Pages.{most_frames, zero_page};
+ghost use Rattle.frame_store.specs.Pages.{zero_page};
+ghost use Rattle.page_book.specs.declared.row.PageRow.TheVariants.{Free, Guaranteed};
+ghost use Rattle.page_book.specs.Rows.{first_free, free_pages, row_in};
 ghost use Rattle.world_model.specs.Boot.{open_page, body_page, kept_of, own_row, own_rows, bare_world, added};
 ghost use Rattle.world_model.specs.Book.{own_hold};
 ghost use Rattle.std.specs.Option.{option_map};
 ghost use Rattle.world_model.specs.Item.{boot_cpu as boot_registers};
-ghost use Rattle.board_world.specs.Loading.{IsLoading, IsKeptBelow, zeros_from};
+ghost use Rattle.board_world.specs.Loading.{AreGiven, HasPages, zeros_from};
 ghost use Rattle.board_world.specs.Showing.{pages_seen, world_of};
+ghost use Rattle.board_world.specs.Sound.{AreGuaranteed};
 ghost use Rattle.board_world.specs.Doing.{with_rows};
 
 use crate::board::Board;
+use bind_book::Bindings;
 use board_world::{Consoles, Environment, Roster};
 use boot_image::Program;
 use edge_io::OutOfMemory;
@@ -22,6 +27,7 @@ use env_frames::Env;
 use frame_store::Frames;
 use kernel_journal::{Journal, Row};
 use mips_exec::Cpu;
+use page_book::Pages;
 use segment_pages::{fill_page, is_writable, next_page};
 use slot_vector::Slots;
 use std::alloc::Global;
@@ -46,111 +52,148 @@ fn boot_cpu(entry: u32) -> Cpu
     cpu
 }
 
-/// Gives an environment the next page, of those from the first one on, at a page number above all that
-/// it sees: the page of a program's body at this number.
-fn give_page(frames: &mut Frames, env: &mut Env, first: u32, vpn: u32, body: &Elf<'_>)
-    requires loading { IsLoading first env.old.mappings }
-    requires there { first + length env.old.mappings < length frames.old }
-    requires most { length frames.old ≤ most_frames }
+/// Guarantees the lowest free page to an environment, and answers its number.
+fn keep_page(pages: &mut Pages, number: u8) -> u32
+    requires { 0 < free_pages pages.old }
+    ensures lowest { first_free pages.old ≡ Some result }
+    ensures there { result < length pages.old }
+    ensures was_free { row_in pages.old result ≡ Free }
+    ensures after { pages.new ≡ slice_set pages.old result (Guaranteed number) }
+    ensures left { free_pages pages.old ≡ free_pages pages.new + 1 }
+{
+    pages.keep(number).unwrap()
+}
+
+/// Gives an environment, which has this number, the lowest free page at a page number above all that it sees:
+/// the page of a program's body at this page number.
+fn give_page(
+    frames: &mut Frames,
+    pages: &mut Pages,
+    number: u8,
+    env: &mut Env,
+    vpn: u32,
+    body: &Elf<'_>,
+)
+    requires guaranteed { AreGuaranteed pages.old number env.old.mappings }
+    requires same { HasPages frames.old pages.old }
+    requires free { 0 < free_pages pages.old }
     requires count { length env.old.mappings < most_mappings }
     requires above { IsAbove env.old.mappings vpn }
-    requires number { vpn < 0x80000 }
-    ensures loading { IsLoading first env.new.mappings }
-    ensures below { IsKeptBelow first frames.old frames.new }
-    ensures pages { pages_seen frames.new env.new.mappings ≡ pages_seen frames.old env.old.mappings ++ body_page body.now vpn ∷ [] }
+    requires within { vpn < 0x80000 }
+    ensures guaranteed { AreGuaranteed pages.new number env.new.mappings }
+    ensures given { AreGiven number 1 pages.old pages.new frames.old frames.new }
+    ensures seen { pages_seen frames.new env.new.mappings ≡ pages_seen frames.old env.old.mappings ++ body_page body.now vpn ∷ [] }
     ensures above { IsAbove env.new.mappings (vpn + 1) }
     ensures count { length env.new.mappings ≡ length env.old.mappings + 1 }
-    ensures cpu { env.new.cpu ≡ env.old.cpu }
+    ensures rest { env.new ≡ record env.old { mappings = env.new.mappings } }
 {
-    let page = first + env.mappings().len() as u32;
+    let page = keep_page(pages, number);
     fill_page(body, vpn, frames.page_mut(page));
     env.guarantee(vpn, page, is_writable(body, vpn));
 }
 
-/// Gives an environment the next page, of those from the first one on, at a page number above all that
-/// it sees: a page of zeros that it may store to.
-fn give_zero_page(frames: &mut Frames, env: &mut Env, first: u32, vpn: u32)
-    requires loading { IsLoading first env.old.mappings }
-    requires there { first + length env.old.mappings < length frames.old }
-    requires most { length frames.old ≤ most_frames }
+/// Gives an environment, which has this number, the lowest free page at a page number above all that it sees:
+/// a page of zeros that it may store to.
+fn give_zero_page(frames: &mut Frames, pages: &mut Pages, number: u8, env: &mut Env, vpn: u32)
+    requires guaranteed { AreGuaranteed pages.old number env.old.mappings }
+    requires same { HasPages frames.old pages.old }
+    requires free { 0 < free_pages pages.old }
     requires count { length env.old.mappings < most_mappings }
     requires above { IsAbove env.old.mappings vpn }
-    ensures loading { IsLoading first env.new.mappings }
-    ensures below { IsKeptBelow first frames.old frames.new }
-    ensures pages { pages_seen frames.new env.new.mappings ≡ pages_seen frames.old env.old.mappings ++ open_page vpn zero_page ∷ [] }
+    ensures guaranteed { AreGuaranteed pages.new number env.new.mappings }
+    ensures given { AreGiven number 1 pages.old pages.new frames.old frames.new }
+    ensures seen { pages_seen frames.new env.new.mappings ≡ pages_seen frames.old env.old.mappings ++ open_page vpn zero_page ∷ [] }
     ensures above { IsAbove env.new.mappings (vpn + 1) }
     ensures count { length env.new.mappings ≡ length env.old.mappings + 1 }
-    ensures cpu { env.new.cpu ≡ env.old.cpu }
+    ensures rest { env.new ≡ record env.old { mappings = env.new.mappings } }
 {
-    let page = first + env.mappings().len() as u32;
+    let page = keep_page(pages, number);
     frames.zero(page);
     env.guarantee(vpn, page, true);
 }
 
-/// Gives an environment the pages of a program's body, by rising page number.
-fn give_body(frames: &mut Frames, env: &mut Env, first: u32, body: &Elf<'_>)
-    requires loading { IsLoading first env.old.mappings }
-    requires there { first + length env.old.mappings + length (page_numbers body.now) ≤ length frames.old }
-    requires most { length frames.old ≤ most_frames }
+/// Gives an environment, which has this number, the pages of a program's body, by rising page number.
+fn give_body(frames: &mut Frames, pages: &mut Pages, number: u8, env: &mut Env, body: &Elf<'_>)
+    requires guaranteed { AreGuaranteed pages.old number env.old.mappings }
+    requires same { HasPages frames.old pages.old }
+    requires free { length (page_numbers body.now) ≤ free_pages pages.old }
     requires count { length env.old.mappings + length (page_numbers body.now) ≤ most_mappings }
     requires above { IsAbove env.old.mappings 2 }
-    ensures loading { IsLoading first env.new.mappings }
-    ensures below { IsKeptBelow first frames.old frames.new }
-    ensures pages { pages_seen frames.new env.new.mappings ≡ pages_seen frames.old env.old.mappings ++ map (body_page body.now) (page_numbers body.now) }
+    ensures guaranteed { AreGuaranteed pages.new number env.new.mappings }
+    ensures given { AreGiven number (length (page_numbers body.now)) pages.old pages.new frames.old frames.new }
+    ensures seen { pages_seen frames.new env.new.mappings ≡ pages_seen frames.old env.old.mappings ++ map (body_page body.now) (page_numbers body.now) }
     ensures above { IsAbove env.new.mappings 0x7FF00 }
     ensures count { length env.new.mappings ≡ length env.old.mappings + length (page_numbers body.now) }
-    ensures cpu { env.new.cpu ≡ env.old.cpu }
+    ensures rest { env.new ≡ record env.old { mappings = env.new.mappings } }
 {
     let mut from = 0;
     while let Some(vpn) = next_page(body, from) {
-        give_page(frames, env, first, vpn, body);
+        give_page(frames, pages, number, env, vpn, body);
         from = vpn + 1;
     }
 }
 
-/// Gives an environment so many pages of zeros, from a page number on.
-fn give_zeros(frames: &mut Frames, env: &mut Env, first: u32, vpn: u32, pages: u32)
-    requires loading { IsLoading first env.old.mappings }
-    requires there { first + length env.old.mappings + pages ≤ length frames.old }
-    requires most { length frames.old ≤ most_frames }
-    requires count { length env.old.mappings + pages ≤ most_mappings }
+/// Gives an environment, which has this number, so many pages of zeros, from a page number on.
+fn give_zeros(
+    frames: &mut Frames,
+    pages: &mut Pages,
+    number: u8,
+    env: &mut Env,
+    vpn: u32,
+    zeros: u32,
+)
+    requires guaranteed { AreGuaranteed pages.old number env.old.mappings }
+    requires same { HasPages frames.old pages.old }
+    requires free { zeros ≤ free_pages pages.old }
+    requires count { length env.old.mappings + zeros ≤ most_mappings }
     requires above { IsAbove env.old.mappings vpn }
-    requires numbers { vpn + pages ≤ 0x80000 }
-    ensures loading { IsLoading first env.new.mappings }
-    ensures below { IsKeptBelow first frames.old frames.new }
-    ensures pages { pages_seen frames.new env.new.mappings ≡ pages_seen frames.old env.old.mappings ++ zeros_from vpn pages }
-    ensures count { length env.new.mappings ≡ length env.old.mappings + pages }
-    ensures cpu { env.new.cpu ≡ env.old.cpu }
+    requires numbers { vpn + zeros ≤ 0x80000 }
+    ensures guaranteed { AreGuaranteed pages.new number env.new.mappings }
+    ensures given { AreGiven number zeros pages.old pages.new frames.old frames.new }
+    ensures seen { pages_seen frames.new env.new.mappings ≡ pages_seen frames.old env.old.mappings ++ zeros_from vpn zeros }
+    ensures count { length env.new.mappings ≡ length env.old.mappings + zeros }
+    ensures rest { env.new ≡ record env.old { mappings = env.new.mappings } }
 {
-    for i in 0..pages {
-        give_zero_page(frames, env, first, vpn + i);
+    for i in 0..zeros {
+        give_zero_page(frames, pages, number, env, vpn + i);
     }
 }
 
-/// The frame of a program's environment, to which the pages from the first one on are given: the context
-/// page, those of its body and those of its stack.
-fn load(frames: &mut Frames, first: u32, program: &Program<'_>) -> Env
-    requires there { first + guaranteed_mappings program.now ≤ length frames.old }
-    requires most { length frames.old ≤ most_frames }
+/// The frame of an environment, which has this number, at its program's entry. Its context page is the lowest free
+/// page.
+fn enter(frames: &mut Frames, pages: &mut Pages, number: u8, program: &Program<'_>) -> Env
+    requires same { HasPages frames.old pages.old }
+    requires free { 0 < free_pages pages.old }
     ensures cpu { result.cpu ≡ boot_registers program.now.body.entry }
-    ensures pages { pages_seen frames.new result.mappings ≡ kept_of program.now }
-    ensures loading { IsLoading first result.mappings }
-    ensures below { IsKeptBelow first frames.old frames.new }
-    ensures count { length result.mappings ≡ guaranteed_mappings program.now }
-    ensures rising { IsRising (numbers result.mappings) }
+    ensures handlers { result.handlers ≡ no_handlers }
+    ensures mask { result.mask ≡ program.now.accept }
+    ensures seen { pages_seen frames.new result.mappings ≡ open_page 1 zero_page ∷ [] }
+    ensures guaranteed { AreGuaranteed pages.new number result.mappings }
+    ensures given { AreGiven number 1 pages.old pages.new frames.old frames.new }
+    ensures above { IsAbove result.mappings 2 }
+    ensures count { length result.mappings ≡ 1 }
 {
-    let body = &program.body;
-    frames.zero(first);
-    let mut env = Env::new(boot_cpu(body.entry), first);
-    give_body(frames, &mut env, first, body);
-    give_zeros(
-        frames,
-        &mut env,
-        first,
-        STACK_END - program.stack,
-        program.stack,
-    );
-    let _ = env.mappings();
+    let page = keep_page(pages, number);
+    frames.zero(page);
+    Env::new(boot_cpu(program.body.entry), page, program.accept)
+}
+
+/// The frame of a program's environment, which has this number and to which its pages are given: the context page,
+/// those of its body and those of its stack.
+fn load(frames: &mut Frames, pages: &mut Pages, number: u8, program: &Program<'_>) -> Env
+    requires same { HasPages frames.old pages.old }
+    requires free { guaranteed_mappings program.now ≤ free_pages pages.old }
+    ensures cpu { result.cpu ≡ boot_registers program.now.body.entry }
+    ensures handlers { result.handlers ≡ no_handlers }
+    ensures mask { result.mask ≡ program.now.accept }
+    ensures seen { pages_seen frames.new result.mappings ≡ kept_of program.now }
+    ensures guaranteed { AreGuaranteed pages.new number result.mappings }
+    ensures given { AreGiven number (guaranteed_mappings program.now) pages.old pages.new frames.old frames.new }
+{
+    let stack = STACK_END - program.stack;
+    let mut env = enter(frames, pages, number, program);
+    give_body(frames, pages, number, &mut env, &program.body);
+    give_zeros(frames, pages, number, &mut env, stack, program.stack);
     env
 }
 
@@ -210,12 +253,13 @@ impl Board {
         requires slots { 1 ≤ length slots.now × length slots.now ≤ most_slots }
         requires envs { envs ≤ most_environments }
         requires owners { All (λ owner. IfSome owner (λ e. e < envs)) slots.now }
-        ensures world { IfOk result (λ b. world_of b ≡ bare_world quantum slots.now) }
+        ensures world { IfOk result (λ b. world_of b ≡ bare_world pages quantum slots.now) }
         ensures bare { IfOk result (IsBare pages envs) }
     {
         Ok(Board {
             frames: Frames::new(alloc, pages)?,
-            taken: 0,
+            pages: Pages::new(alloc, pages)?,
+            bindings: Bindings::new(alloc, envs)?,
             slots: Slots::new(quantum, slots),
             cpu: Cpu::blank(),
             roster: Roster::new(alloc, envs)?,
@@ -226,17 +270,17 @@ impl Board {
     }
 
     /// Makes the next environment, which has a program's pages and stands at its entry. It needs room for
-    /// it, and as many pages as it has.
+    /// it, and as many free pages as it has.
     pub fn add(&mut self, program: &Program<'_>)
         requires room { 0 < self.old.roster.spare }
-        requires pages { self.old.taken + guaranteed_mappings program.now ≤ length self.old.frames }
+        requires pages { guaranteed_mappings program.now ≤ free_pages self.old.pages }
         ensures world { world_of self.new ≡ added (world_of self.old) program.now }
-        ensures taken { self.new.taken ≡ self.old.taken + guaranteed_mappings program.now }
+        ensures free { free_pages self.old.pages ≡ free_pages self.new.pages + guaranteed_mappings program.now }
         ensures spare { self.new.roster.spare ≡ self.old.roster.spare - 1 }
         ensures pages { length self.new.frames ≡ length self.old.frames }
     {
-        let env = load(&mut self.frames, self.taken, program);
-        self.taken += env.mappings().len() as u32;
+        let number = self.roster.len() as u8;
+        let env = load(&mut self.frames, &mut self.pages, number, program);
         self.roster.push(Environment {
             name: program.name,
             life: Life::Live,

@@ -41,8 +41,8 @@ fn push_slots(journal: &mut Journal, slots: &Slots, time: u32, mask: u64)
 impl Board {
     ghost use Rattle.board_world.specs.Doing.{died};
 
-    /// The runner dies: its pages are free, its slots are empty, and those that it held for others are
-    /// theirs again.
+    /// The runner dies: its pages are free, and neither its bindings nor those of its pages are left; its
+    /// slots are empty, and those that it held for others are theirs again.
     pub(crate) fn die(&mut self, env: u8, cause: Cause)
         requires runs { running self.old.slots.runner ≡ Some env }
         requires room { 64 < self.old.ledger.spare }
@@ -53,6 +53,8 @@ impl Board {
             slot: self.slots.slot(),
             env,
         });
+        self.bindings.clear_env(env, &self.pages);
+        self.pages.release_env(env);
         let mask = self.slots.release_env(env);
         push_slots(&mut self.journal, &self.slots, self.time, mask);
         self.roster.die(env, cause);

@@ -3,31 +3,27 @@ ghost use Rattle.std.specs.Prelude.{◌≡◌, ◌<◌, None, Some, length};
 ghost use Rattle.std.specs.Option.{option_map};
 ghost use Rattle.mips_exec.specs.Cpu.{reg};
 ghost use Rattle.guest_memory.specs.Look.{look};
-ghost use Rattle.env_frames.specs.Frame.{mapping_at};
+ghost use Rattle.guest_memory.specs.Space.{lookup};
 ghost use Rattle.world_model.specs.Book.{running};
 ghost use Rattle.world_model.specs.Call.{put_bytes as put_bytes_of};
 
 use crate::board::Board;
-use crate::registers::{FIRST_ARGUMENT, SECOND_ARGUMENT, answer};
+use crate::registers::{ANY, FIRST_ARGUMENT, SECOND_ARGUMENT, answer};
 use aegis_limits::CONSOLE_SIZE;
-use env_frames::Env;
 use frame_store::Frames;
-use guest_memory::guest_range;
+use guest_memory::{Space, guest_range};
 use mips_exec::Cpu;
 use world_model::{Call, Cause, Code};
 
-/// The argument of a yield that names no environment.
-const ANY: u32 = 0xffff_ffff;
-
 /// The bytes that a put of a caller with these registers names, if its range is good.
-fn put_bytes<'a>(cpu: &Cpu, frames: &'a Frames, frame: &Env) -> Option<&'a [u8]>
-    ensures { option_map (λ r. r.now) result ≡ put_bytes_of cpu.now (look frames.now (mapping_at frame.now.mappings)) }
+fn put_bytes<'a>(cpu: &Cpu, frames: &'a Frames, space: &Space<'_>) -> Option<&'a [u8]>
+    ensures { option_map (λ r. r.now) result ≡ put_bytes_of cpu.now (look frames.now (lookup space.now)) }
 {
     let size = cpu.reg(SECOND_ARGUMENT);
     if size == 0 {
         return Some(&[]);
     }
-    guest_range(frames, frame, cpu.reg(FIRST_ARGUMENT), size)
+    guest_range(frames, space, cpu.reg(FIRST_ARGUMENT), size)
 }
 
 impl Board {
@@ -36,7 +32,7 @@ impl Board {
     ghost use Rattle.board_world.specs.Doing.{answered, appended, put_if, refusal_of_put, served, yield_if};
 
     /// A call is answered.
-    fn answer(&mut self, code: Code, value: u32)
+    pub(crate) fn answer(&mut self, code: Code, value: u32)
         ensures { self.new ≡ answered self.old code value }
     {
         answer(&mut self.cpu, code, value);
@@ -48,7 +44,12 @@ impl Board {
         ensures refusal { result ≡ refusal_of_put self.old env }
         ensures after { self.new ≡ appended self.old env result }
     {
-        let Some(bytes) = put_bytes(&self.cpu, &self.frames, self.roster.frame(env)) else {
+        let space = Space {
+            env: self.roster.frame(env),
+            bindings: &self.bindings,
+            number: env,
+        };
+        let Some(bytes) = put_bytes(&self.cpu, &self.frames, &space) else {
             return Some(Code::BadPointer);
         };
         let size = self.cpu.reg(SECOND_ARGUMENT) as usize;
@@ -97,6 +98,12 @@ impl Board {
                 let code = self.cpu.reg(FIRST_ARGUMENT);
                 self.die(env, Cause::Exit(code));
             }
+            Some(Call::Alloc) => self.alloc(env),
+            Some(Call::Free) => self.free(env),
+            Some(Call::Recap) => self.recap(env),
+            Some(Call::Bind) => self.bind(env),
+            Some(Call::Unbind) => self.unbind(env),
+            Some(Call::Context) => self.context(env),
             Some(Call::OwnNumber) => self.answer(Code::Ok, u32::from(env)),
             Some(Call::Clock) => {
                 let time = self.time;

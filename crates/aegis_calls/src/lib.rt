@@ -5,11 +5,14 @@
 //! files change the board's parts, each by one equation.
 #![tactic(auto)]
 
+mod bind_call;
 mod board;
 mod boot;
 mod death;
+mod exception;
 mod kernel_call;
 mod machine_step;
+mod page_call;
 mod phases;
 mod readers;
 mod registers;

@@ -5,9 +5,9 @@ ghost use Rattle.world_model.specs.Book.{running};
 
 use crate::board::Board;
 use crate::registers::CODE_REGISTER;
-use guest_memory::step_guest;
+use guest_memory::{Space, step_guest};
 use mips_exec::Outcome;
-use world_model::{Call, Cause};
+use world_model::Call;
 
 impl Board {
     ghost use Rattle.board_world.specs.Doing.{came_to, ran, step_seen};
@@ -18,8 +18,12 @@ impl Board {
         ensures shown { self.new ≡ ran self.old env (step_seen self.old env) }
         ensures outcome { result ≡ outcome_of (step_seen self.old env) }
     {
-        let frame = self.roster.frame(env);
-        step_guest(&mut self.cpu, &mut self.frames, frame)
+        let space = Space {
+            env: self.roster.frame(env),
+            bindings: &self.bindings,
+            number: env,
+        };
+        step_guest(&mut self.cpu, &mut self.frames, &space)
     }
 
     /// The runner makes a step, and its call or trap is handled.
@@ -34,7 +38,7 @@ impl Board {
                 let number = self.cpu.reg(CODE_REGISTER);
                 self.serve(env, Call::named(number));
             }
-            Outcome::Trap(exc) => self.die(env, Cause::Trapped(exc.code)),
+            Outcome::Trap(exc) => self.trap(env, &exc),
         }
     }
 }

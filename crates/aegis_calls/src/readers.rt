@@ -2,17 +2,31 @@
 //! them, from 0 on.
 ghost use Rattle.std.specs.Prelude.{◌≡◌, ◌<◌, ◌≤◌, OnOk, OnErr, IsOk, length, slice_get};
 ghost use Rattle.std.specs.Option.{option_map};
+ghost use Rattle.page_book.specs.Row.{is_owned_by};
+ghost use Rattle.bind_book.specs.Stripe.{stripe_rows};
 ghost use Rattle.world_model.specs.Book.{running};
 ghost use Rattle.board_world.specs.Shown.{with_spare};
-ghost use Rattle.board_world.specs.Showing.{view_seen, page_seen};
+ghost use Rattle.board_world.specs.Showing.{owned_bytes, view_seen, page_seen};
 
 use crate::board::Board;
+use bind_book::Binding;
 use board_world::PageView;
 use edge_io::OutOfMemory;
 use env_frames::Mapping;
 use kernel_journal::Row;
 use mips_exec::Cpu;
+use page_book::PageRow;
 use world_model::Life;
+
+/// Whether the page with this row is one that the environment allocated.
+fn is_owned(row: PageRow, env: u8) -> bool
+    ensures { result ≡ is_owned_by env row }
+{
+    match row {
+        PageRow::Owned { owner, .. } => owner == env,
+        PageRow::Free | PageRow::Guaranteed { .. } => false,
+    }
+}
 
 impl Board {
     ghost use Rattle.board_world.specs.Showing.{world_of};
@@ -97,6 +111,37 @@ impl Board {
             writable: mapping.writable,
             bytes: self.frames.page(mapping.page),
         }
+    }
+
+    /// How many pages of physical memory there are, from 16 to 4,096.
+    pub fn page_count(&self) -> u32
+        ensures { result ≡ (world_of self.now).book.page_count }
+    {
+        self.pages.pages()
+    }
+
+    /// The 4,096 bytes of a page that an environment owns; none of one that is guaranteed to it, or that it has
+    /// merely bound.
+    pub fn owned_page(&self, env: u8, page: u32) -> Option<&[u8]>
+        requires env { env < (world_of self.now).count }
+        requires page { page < (world_of self.now).book.page_count }
+        ensures { option_map (λ r. r.now) result ≡ owned_bytes (((world_of self.now).solos env).seen page) }
+    {
+        let row = self.pages.row(page)?;
+        if is_owned(row, env) {
+            Some(self.frames.page(page))
+        } else {
+            None
+        }
+    }
+
+    /// The binding that stands in this row, below 256, of an environment's, if one does.
+    pub fn binding(&self, env: u8, row: u32) -> Option<Binding>
+        requires env { env < (world_of self.now).count }
+        requires row { row < stripe_rows }
+        ensures { result ≡ ((world_of self.now).solos env).binds row }
+    {
+        self.bindings.in_row(env, row)
     }
 
     /// Who runs, if anybody does.

@@ -1,22 +1,31 @@
 -- Programs that are added one after another to the bare world give the boot of their image.
-use Rattle.std.proofs.Common.{◌≡◌, ◌≢◌, ℕ, List, [], ◌∷◌, ◌++◌, length, Some, inl, inr, refl, sym, ◌∙◌, ap, append_assoc}
+use Rattle.std.proofs.Common.{◌≡◌, ◌≢◌, ℕ, suc, ◌+◌, List, [], ◌∷◌, ◌++◌, length, Some, inl, inr, refl, sym, ◌∙◌, ap, append_assoc, add-zero, arith}
 use Rattle.std.specs.Prelude.{fold, slice_get, ◌⊎◌}
 use Rattle.std.proofs.lemmas.Bool.{cases_eq, ne_eqb, eq-eqb}
 use Rattle.std.proofs.lemmas.List.{length-append, append-nil}
 use Rattle.boot_image.specs.ImageValue.{ImageValue, ProgramValue}
+use Rattle.world_model.specs.Book.{Book}
 use Rattle.world_model.specs.Solo.{Solo, absent}
 use Rattle.world_model.specs.Item.{Item, absorb_all}
 use Rattle.world_model.specs.World.{World, only}
-use Rattle.world_model.specs.Boot.{record_items, bare_world, added, boot_world}
+use Rattle.world_model.specs.Boot.{record_items, bare_world, added, boot_world, with_kept, with_all_kept, boot_book}
 use Rattle.board_world.proofs.Lists.{last_get, other_get, past_get}
 
 -- an environment of so many programs
 abbrev booted_solo : List ProgramValue → ℕ → Solo
 booted_solo programs e = absorb_all (absent e) (record_items e (slice_get programs e))
 
--- the world with these programs on it
+-- the world with these programs on it, which have their pages
 abbrev with_programs : World → List ProgramValue → World
-with_programs bare programs = record bare { count = length programs; solos = booted_solo programs }
+with_programs bare programs = record bare { book = with_all_kept 0 programs bare.book; count = length programs; solos = booted_solo programs }
+
+-- the pages of one program more
+kept_more : (e : ℕ) (ps : List ProgramValue) (p : ProgramValue) (b : Book) → with_kept (e + length ps) p (with_all_kept e ps b) ≡ with_all_kept e (ps ++ p ∷ []) b
+kept_more e [] p b = ap (λ (n : ℕ). with_kept n p b) (add-zero e)
+kept_more e (q ∷ ps) p b =
+    let next : e + suc (length ps) ≡ e + 1 + length ps = omega arith in
+    ap (λ (n : ℕ). with_kept n p (with_all_kept (e + 1) ps (with_kept e q b))) next
+    ∙ kept_more (e + 1) ps p (with_kept e q b)
 
 -- what the next environment is given, and no other
 added_items : ℕ → ProgramValue → ℕ → List Item
@@ -30,7 +39,10 @@ next_solo ps p e = by_number (cases_eq e (length ps))
     by_number (inr other) = rw (ne_eqb e (length ps) other, other_get ps p e other) refl
 
 one_more : (bare : World) (ps : List ProgramValue) (p : ProgramValue) → added (with_programs bare ps) p ≡ with_programs bare (ps ++ p ∷ [])
-one_more bare ps p = λ i. record { book = bare.book; count = sym (length-append ps (p ∷ [])) i; solos = λ e. next_solo ps p e i; rows = bare.rows }
+one_more bare ps p = λ i. record { book = first_kept bare.book i; count = sym (length-append ps (p ∷ [])) i; solos = λ e. next_solo ps p e i; rows = bare.rows }
+  where
+    first_kept : (b : Book) → with_kept (length ps) p (with_all_kept 0 ps b) ≡ with_all_kept 0 (ps ++ p ∷ []) b
+    first_kept b = let none : length ps ≡ 0 + length ps = omega arith in ap (λ (n : ℕ). with_kept n p (with_all_kept 0 ps b)) none ∙ kept_more 0 ps p b
 
 all_added : (bare : World) (ps qs : List ProgramValue) → fold added (with_programs bare ps) qs ≡ with_programs bare (ps ++ qs)
 all_added bare ps [] = ap (with_programs bare) (sym (append-nil ps))
@@ -40,10 +52,20 @@ all_added bare ps (q ∷ qs) =
     ∙ ap (with_programs bare) (append_assoc ps (q ∷ []) qs)
 
 -- a board without programs shows a world without programs
-none_yet : (image : ImageValue) → with_programs (bare_world image.quantum image.slots) [] ≡ bare_world image.quantum image.slots
-none_yet image = λ i. record { book = (bare_world image.quantum image.slots).book; count = 0; solos = absent; rows = (bare_world image.quantum image.slots).rows }
+none_yet : (image : ImageValue) → with_programs (bare_world image.pages image.quantum image.slots) [] ≡ bare_world image.pages image.quantum image.slots
+none_yet image =
+    let bare = bare_world image.pages image.quantum image.slots in
+    λ i. record { book = bare.book; count = 0; solos = absent; rows = bare.rows }
 
-pub added_boot : (image : ImageValue) → fold added (bare_world image.quantum image.slots) image.programs ≡ boot_world image
+pub added_boot : (image : ImageValue) → fold added (bare_world image.pages image.quantum image.slots) image.programs ≡ boot_world image
 added_boot image =
     ap (λ (w : World). fold added w image.programs) (sym (none_yet image))
-    ∙ all_added (bare_world image.quantum image.slots) [] image.programs
+    ∙ all_added (bare_world image.pages image.quantum image.slots) [] image.programs
+
+-- a boot takes no time
+kept_time : (e : ℕ) (ps : List ProgramValue) (b : Book) → (with_all_kept e ps b).time ≡ b.time
+kept_time e [] b = refl
+kept_time e (p ∷ ps) b = kept_time (e + 1) ps (with_kept e p b)
+
+pub boot_time : (image : ImageValue) → (boot_world image).book.time ≡ 0
+boot_time image = kept_time 0 image.programs (boot_book image.pages image.quantum image.slots)

@@ -11,7 +11,7 @@ pages_at (p ∷ ps) zero d within = omega (arith, sum_by-cons guaranteed_mapping
 pages_at (p ∷ ps) (suc i) d within =
     omega (arith, pages_at ps i d (omega arith), sum_by-cons guaranteed_mappings p ps, sum_by-cons guaranteed_mappings p (take i ps))
 
--- so there is room for the next
-pub room_at : (ps : List ProgramValue) (i : ℕ) (d : ProgramValue) (before taken most pages : ℕ) → i < length ps → before + sum_by guaranteed_mappings ps ≤ most
-    → taken ≡ before + sum_by guaranteed_mappings (take i ps) → pages ≡ most → taken + guaranteed_mappings (slice_index_or ps i d) ≤ pages
-room_at ps i d before taken most pages within all so_far same = omega (arith, pages_at ps i d within)
+-- so there are free pages for the next
+pub room_at : (ps : List ProgramValue) (i : ℕ) (d : ProgramValue) (free left : ℕ) → i < length ps → sum_by guaranteed_mappings ps ≤ free
+    → free ≡ left + sum_by guaranteed_mappings (take i ps) → guaranteed_mappings (slice_index_or ps i d) ≤ left
+room_at ps i d free left within all so_far = omega (arith, pages_at ps i d within)

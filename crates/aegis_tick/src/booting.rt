@@ -1,7 +1,8 @@
 //! The boot of an image: a board with all of its environments.
-ghost use Rattle.std.specs.Prelude.{◌≡◌, ◌≤◌, ◌+◌, IfOk, fold, length, sum_by};
+ghost use Rattle.std.specs.Prelude.{◌≡◌, ◌≤◌, IfOk, fold, length, sum_by};
 ghost use Rattle.board_world.specs.Showing.{world_of};
 ghost use Rattle.boot_image.specs.ImageValue.{guaranteed_mappings};
+ghost use Rattle.page_book.specs.Rows.{free_pages};
 ghost use Rattle.world_model.specs.Boot.{added, boot_world};
 
 use aegis_calls::Board;
@@ -12,7 +13,7 @@ use std::alloc::Global;
 /// Makes an environment for each program, in their order, on a board that has room for just so many.
 fn add_all(board: &mut Board, programs: &[Program<'_>])
     requires room { board.old.roster.spare ≡ length programs.now }
-    requires pages { board.old.taken + sum_by guaranteed_mappings programs.now ≤ length board.old.frames }
+    requires pages { sum_by guaranteed_mappings programs.now ≤ free_pages board.old.pages }
     ensures world { world_of board.new ≡ fold added (world_of board.old) programs.now }
     ensures whole { board.new.roster.spare ≡ 0 }
     ensures pages { length board.new.frames ≡ length board.old.frames }
@@ -25,6 +26,7 @@ fn add_all(board: &mut Board, programs: &[Program<'_>])
 /// The board that an accepted image boots, with all of its environments (`docs/KERNEL.md`, "Boot").
 pub fn boot(alloc: Global, image: &Image<'_>) -> Result<Board, OutOfMemory>
     ensures world { IfOk result (λ b. world_of b ≡ boot_world image.now) }
+    ensures fresh { IfOk result (λ b. b.time ≡ 0) }
     ensures whole { IfOk result (λ b. b.roster.spare ≡ 0) }
     ensures pages { IfOk result (λ b. length b.frames ≡ image.now.pages) }
 {

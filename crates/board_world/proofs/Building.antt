@@ -1,31 +1,43 @@
 -- A board without programs, and one with one more.
-use Rattle.std.proofs.Common.{◌≡◌, ◌≢◌, ◌≤◌, ◌<◌, ℕ, zero, suc, ◌+◌, ◌-◌, List, [], ◌∷◌, ◌++◌, length, map, replicate, Bool, true, false, Option, Some, None, IfSome, refl, sym, ◌∙◌, ap, arith, ◌⊎◌, inl, inr, ⊎_elim}
+use Rattle.std.proofs.Common.{◌≡◌, ◌≢◌, ◌≤◌, ◌<◌, ℕ, zero, suc, ◌+◌, ◌-◌, ◌*◌, List, [], ◌∷◌, ◌++◌, length, map, replicate, Bool, true, false, Option, Some, None, IfSome, inl, inr, refl, sym, ◌∙◌, ap, arith}
 use Rattle.std.specs.Prelude.{◌==◌, slice_get, All}
 use Rattle.std.specs.Option.{option_map}
-use Rattle.std.proofs.lemmas.List.{length-append, length-map, length-replicate, get_or-replicate}
+use Rattle.std.proofs.lemmas.List.{length-append, length-map, length-replicate}
 use Rattle.std.proofs.lemmas.Bool.{ne_eqb, eqb-true, eqb-false}
-use Rattle.frame_store.specs.Pages.{zero_page, zeroed}
+use Rattle.frame_store.specs.Pages.{page_at, zero_page, zeroed}
+use Rattle.page_book.specs.declared.row.PageRow.{PageRow}
+use Rattle.page_book.specs.declared.row.PageRow.TheVariants.{Free, Guaranteed, Owned}
+use Rattle.page_book.specs.Row.{is_owned_by, owner_of}
+use Rattle.page_book.specs.Rows.{free_below, free_pages, row_in}
+use Rattle.bind_book.specs.declared.binding.Binding.{Binding}
+use Rattle.bind_book.specs.Stripe.{is_bound, is_of_page, stripe_rows, stripes}
+use Rattle.bind_book.proofs.Rows.{empty_row}
 use Rattle.env_frames.specs.declared.mapping.Mapping.{Mapping}
-use Rattle.env_frames.specs.Frame.{IsRising, numbers}
+use Rattle.env_frames.specs.Context.{no_handlers}
 use Rattle.slot_vector.specs.Slices as vector
-use Rattle.aegis_limits.specs.Limits.{least_quantum, most_quantum, most_slots, most_environments, most_pages}
-use Rattle.boot_image.specs.ImageValue.{ProgramValue}
+use Rattle.aegis_limits.specs.Limits.{least_quantum, most_slots, most_environments, most_pages}
+use Rattle.boot_image.specs.ImageValue.{ProgramValue, guaranteed_mappings}
 use Rattle.world_model.specs.declared.life.Life.TheVariants.{Live}
 use Rattle.world_model.specs.declared.slot.Runner.{Runner}
 use Rattle.world_model.specs.Book.{is_runner, own_hold}
-use Rattle.world_model.specs.Boot.{boot_slot, bare_world, added, kept_of, record_items}
-use Rattle.world_model.specs.Item.{Item, booted, absorb_all}
+use Rattle.world_model.specs.Boot.{boot_slot, bare_world, added, kept_of, own_rows, record_items}
+use Rattle.world_model.specs.Item.{Item, absorb_all, boot_cpu}
 use Rattle.world_model.specs.Solo.{absent}
 use Rattle.world_model.specs.World.{only}
+use Rattle.page_sight.specs.Sight.{seen_if}
+use Rattle.page_sight.proofs.Sights.{nothing_of}
+use Rattle.page_sight.proofs.Stripes.{bound_nowhere}
 use Rattle.board_world.specs.declared.roster.Environment.{Environment}
 use Rattle.board_world.specs.Shown.{Shown, Environments, mappings_of, mappings_in, console_of}
-use Rattle.board_world.specs.Showing.{world_of, solo_of, solo_or_absent, cpu_seen, pages_seen, page_seen}
-use Rattle.board_world.specs.Sound.{IsSound, IsManned, AreConsoles, IsParted, IsLive, IsUndead}
-use Rattle.board_world.specs.Loading.{IsLoading, IsKeptBelow}
-use Rattle.board_world.proofs.Lists.{last_get, other_get, past_get, get_within}
+use Rattle.board_world.specs.Showing.{book_of, world_of, solo_of, solo_or_absent, cpu_seen, pages_seen, page_seen}
+use Rattle.board_world.specs.Sound.{AreBooked, AreGuaranteed, IsSound, IsManned, AreConsoles, IsParted, IsLive, IsUndead}
+use Rattle.board_world.specs.Loading.{AreGiven, AreLeft}
+use Rattle.board_world.proofs.Giving.{none_guaranteed}
+use Rattle.board_world.proofs.Keeping.{IsGivenRow, given_row, taken_row}
+use Rattle.board_world.proofs.Lists.{last_get, other_get, past_get}
 use Rattle.board_world.proofs.Parts.{worlds, by_env, only_here, only_else}
 use Rattle.board_world.proofs.Sound.{if_both}
-use Rattle.board_world.proofs.Seen.{like_solo}
+use Rattle.board_world.proofs.Seen.{like_solo, owned_taken, sights_of}
 
 -- the slots at boot: each owner is one of those that will be
 own_holds : (envs : ℕ) (owners : List (Option ℕ)) → All (λ owner. IfSome owner (λ e. e < envs)) owners → (k : ℕ) → IfSome (vector.hold_at (map (option_map own_hold) owners) k) (λ h. (h.owner < envs) × (h.holder < envs))
@@ -51,16 +63,35 @@ empty_consoles (suc envs) (suc e) = empty_consoles envs e
 pub built_consoles : (envs : ℕ) → envs ≤ most_environments → AreConsoles (replicate envs []) (record { list = []; spare = envs })
 built_consoles envs few = record { most = omega arith; count = omega (arith, length-replicate {A = List ℕ} envs []); unwritten = λ e past. empty_consoles envs e }
 
-pub built_parted : (pages : ℕ) → pages ≤ most_pages → IsParted (zeroed pages) 0 []
+pub built_parted : (pages : ℕ) → pages ≤ most_pages → IsParted (zeroed pages) (replicate pages Free) []
 built_parted pages few =
     let size : length (zeroed pages) ≡ pages = length-replicate pages zero_page in
     record {
-      within = omega arith;
+      same = size ∙ sym (length-replicate pages Free);
       most = omega (arith, size);
-      inside = λ i a m at. cc;
-      apart = λ i j a b m n at_a at_b same. cc;
-      rising = λ i a b before within. absurd (omega arith);
+      mapped = none_guaranteed (replicate pages Free);
     }
+
+all_free : (pages page : ℕ) → row_in (replicate pages Free) page ≡ Free
+all_free zero page = refl
+all_free (suc pages) zero = refl
+all_free (suc pages) (suc page) = all_free pages page
+
+free_among : (rows : ℕ → PageRow) (count : ℕ) → ((page : ℕ) → rows page ≡ Free) → free_below rows count ≡ count
+free_among rows zero free = refl
+free_among rows (suc count) free = rw (free count, free_among rows count free) refl
+
+-- all pages of a board without programs are free
+pub built_free : (pages : ℕ) → free_pages (replicate pages Free) ≡ pages
+built_free pages = free_among (row_in (replicate pages Free)) (length (replicate pages Free)) (all_free pages) ∙ length-replicate pages Free
+
+pub built_booked : (pages envs : ℕ) → AreBooked (replicate pages Free) (replicate (envs * stripe_rows) None) (record { list = []; spare = envs })
+built_booked pages envs = record {
+  striped = let all : envs ≡ 0 + envs = omega arith in length-replicate {A = Option Binding} (envs * stripe_rows) None ∙ ap (λ n. n * stripe_rows) all;
+  owners = λ page e is. let none : None ≡ Some e = ap owner_of (sym (all_free pages page)) ∙ is in cc;
+  binders = λ e row x is. let none : None ≡ Some x = sym (empty_row (envs * stripe_rows) e row) ∙ is in cc;
+  bound = λ e row x is. let none : None ≡ Some x = sym (empty_row (envs * stripe_rows) e row) ∙ is in cc;
+}
 
 own_slots : (owners : List (Option ℕ)) (k : ℕ) → vector.hold_at (map (option_map own_hold) owners) k ≡ boot_slot owners k
 own_slots [] k = refl
@@ -69,16 +100,20 @@ own_slots (Some e ∷ owners) zero = refl
 own_slots (o ∷ owners) (suc k) = own_slots owners k
 
 -- what a board without programs shows
-pub built_world : (quantum : ℕ) (owners : List (Option ℕ)) (b : Shown) → b.slots ≡ vector.first_slices quantum owners → b.roster.list ≡ [] → b.time ≡ 0 → b.ledger.rows ≡ (bare_world quantum owners).rows → world_of b ≡ bare_world quantum owners
-built_world quantum owners b slots none start rows =
+pub built_world : (pages envs quantum : ℕ) (owners : List (Option ℕ)) (b : Shown) → b.pages ≡ replicate pages Free → b.binds ≡ replicate (envs * stripe_rows) None → b.slots ≡ vector.first_slices quantum owners → b.roster.list ≡ [] → b.time ≡ 0 → b.ledger.rows ≡ own_rows owners (length owners) → world_of b ≡ bare_world pages quantum owners
+built_world pages envs quantum owners b free unbound slots none start rows =
     let count : length b.slots.slots ≡ length owners = ap (λ v. length v.slots) slots ∙ length-map owners (option_map own_hold) in
-    worlds (world_of b) (bare_world quantum owners)
+    let page_count : length b.pages ≡ pages = ap length free ∙ length-replicate pages Free in
+    worlds (world_of b) (bare_world pages quantum owners)
     (λ i. record {
       slot_count = count i;
       slots = λ k. (ap (λ v. vector.hold_at v.slots k) slots ∙ own_slots owners k) i;
       quantum = (slots i).quantum;
       cursor = (slots i).cursor;
       runner = (slots i).runner;
+      page_count = page_count i;
+      pages = λ page. (ap (λ rows. row_in rows page) free ∙ all_free pages page) i;
+      binds = λ e row. (ap (λ rows. stripes rows e row) unbound ∙ empty_row (envs * stripe_rows) e row) i;
       time = start i;
     })
     (ap length none)
@@ -128,60 +163,72 @@ last_mappings list x = ap mappings_in (last_get list x)
 other_mappings : (list : List Environment) (x : Environment) (i : ℕ) → i ≢ length list → mappings_of (list ++ x ∷ []) i ≡ mappings_of list i
 other_mappings list x i ne = ap mappings_in (other_get list x i ne)
 
-module _ (frames new : List (List ℕ)) (taken : ℕ) (list : List Environment) (x : Environment) (parted : IsParted frames taken list) (loading : IsLoading taken x.env.mappings) (below : IsKeptBelow taken frames new) (room : taken + length x.env.mappings ≤ length frames) (rising : IsRising (numbers x.env.mappings)) where
-  -- whose page a page is
-  record IsNew (i a : ℕ) (m : Mapping) : Type 0 where
-    its : i ≡ length list
-    page : m.page ≡ taken + a
-    within : a < length x.env.mappings
+-- Pages are given to the environment that is added.
+module _ (r : Environments) (x : Environment) (count : ℕ) (pages given : List PageRow) (frames new : List (List ℕ)) (binds : List (Option Binding)) (gives : AreGiven (length r.list) count pages given frames new) where
+  abbrev its_row : ℕ → Type 0
+  its_row p = IsGivenRow (length r.list) (row_in pages p) (row_in given p)
 
-  record IsOld (i a : ℕ) (m : Mapping) : Type 0 where
-    at : slice_get (mappings_of list i) a ≡ Some m
-    page : m.page < taken
+  becomes : (p : ℕ) → IsGivenRow (length r.list) (row_in pages p) (row_in given p)
+  becomes p = given_row (length r.list) count pages given frames new gives p
 
-  whose : (i a : ℕ) (m : Mapping) → slice_get (mappings_of (list ++ x ∷ []) i) a ≡ Some m → IsNew i a m ⊎ IsOld i a m
-  whose i a m at = by_last (i == length list) refl
-    where
-      by_last : (last : Bool) → (i == length list) ≡ last → IsNew i a m ⊎ IsOld i a m
-      by_last true is =
-          let last = eqb-true i (length list) is in
-          let there : slice_get x.env.mappings a ≡ Some m = ap (λ ms. slice_get ms a) (sym (last_mappings list x) ∙ ap (mappings_of (list ++ x ∷ [])) (sym last)) ∙ at in
-          inl (record { its = last; page = loading.placed a m there; within = get_within x.env.mappings a m there })
-      by_last false is =
-          let there = ap (λ ms. slice_get ms a) (sym (other_mappings list x i (eqb-false i (length list) is))) ∙ at in
-          inr (record { at = there; page = parted.inside i a m there })
+  -- what was guaranteed to another stays so
+  still_guaranteed : (i : ℕ) (ms : List Mapping) → AreGuaranteed pages i ms → AreGuaranteed given i ms
+  still_guaranteed i ms are = record {
+    its = λ a m at.
+        let its = are.its a m at in
+        taken_row (length r.list) (row_in pages m.page) (row_in given m.page) (becomes m.page) (λ free. let both : Guaranteed i ≡ Free = sym its ∙ free in cc) ∙ its;
+    apart = are.apart;
+    rising = are.rising;
+  }
 
-  pub added_parted : IsParted new (taken + length x.env.mappings) (list ++ x ∷ [])
-  added_parted = record {
-    within = omega (arith, below.size, room);
-    most = omega (arith, below.size, parted.most);
-    inside = λ i a m at. ⊎_elim (λ new. omega (arith, new.page, new.within)) (λ old. omega (arith, old.page)) (whose i a m at);
-    apart = λ i j a b m n at_a at_b same.
-        ⊎_elim
-        (λ new. ⊎_elim (λ other. (new.its ∙ sym other.its, omega (arith, new.page, other.page, same))) (λ other. absurd (omega (arith, new.page, other.page, same))) (whose j b n at_b))
-        (λ old. ⊎_elim (λ other. absurd (omega (arith, old.page, other.page, same))) (λ other. parted.apart i j a b m n old.at other.at same) (whose j b n at_b))
-        (whose i a m at_a);
-    rising = λ i. by_last i (i == length list) refl;
+  pub added_parted : IsParted frames pages r.list → AreGuaranteed given (length r.list) x.env.mappings → IsParted new given (r.list ++ x ∷ [])
+  added_parted parted its = record {
+    same = gives.left.size ∙ parted.same ∙ sym gives.size;
+    most = omega (arith, gives.left.size, parted.most);
+    mapped = λ i. by_last i (i == length r.list) refl;
   }
     where
-      by_last : (i : ℕ) (last : Bool) → (i == length list) ≡ last → IsRising (numbers (mappings_of (list ++ x ∷ []) i))
-      by_last i true is = rw (ap (mappings_of (list ++ x ∷ [])) (eqb-true i (length list) is) ∙ last_mappings list x) rising
-      by_last i false is = rw (other_mappings list x i (eqb-false i (length list) is)) (parted.rising i)
+      by_last : (i : ℕ) (last : Bool) → (i == length r.list) ≡ last → AreGuaranteed given i (mappings_of (r.list ++ x ∷ []) i)
+      by_last i true is =
+          let last = eqb-true i (length r.list) is in
+          let same : mappings_of (r.list ++ x ∷ []) i ≡ x.env.mappings = ap (mappings_of (r.list ++ x ∷ [])) last ∙ last_mappings r.list x in
+          rw (same, last) its
+      by_last i false is = rw (other_mappings r.list x i (eqb-false i (length r.list) is)) (still_guaranteed i (mappings_of r.list i) (parted.mapped i))
 
--- pages below stay as they are seen
-below_pages : (taken : ℕ) (frames new : List (List ℕ)) (ms : List Mapping) → IsKeptBelow taken frames new → ((a : ℕ) (m : Mapping) → slice_get ms a ≡ Some m → m.page < taken) → pages_seen new ms ≡ pages_seen frames ms
-below_pages taken frames new [] below inside = refl
-below_pages taken frames new (m ∷ ms) below inside =
-    let head : page_seen new m ≡ page_seen frames m = ap (λ (bytes : List ℕ). record { vpn = m.vpn; writable = m.writable; bytes = bytes }) (below.lower m.page (inside 0 m refl)) in
-    let tail = below_pages taken frames new ms below (λ a n. inside (suc a) n) in
+  pub added_booked : AreBooked pages binds r → x.life ≡ Live → 0 < r.spare → AreBooked given binds (record { list = r.list ++ x ∷ []; spare = r.spare - 1 })
+  added_booked booked lives room =
+      let count_is : length r.list + r.spare ≡ length (r.list ++ x ∷ []) + (r.spare - 1) = omega (arith, one_longer r x lives room, room) in
+      record {
+        striped = booked.striped ∙ ap (λ n. n * stripe_rows) count_is;
+        owners = λ page e is. by_row page e is (becomes page);
+        binders = λ e row y is. still_live r x lives room e (booked.binders e row y is);
+        bound = λ e row y is.
+            let owned = booked.bound e row y is in
+            rw (taken_row (length r.list) (row_in pages y.page) (row_in given y.page) (becomes y.page) (owned_taken (row_in pages y.page) owned)) owned;
+      }
+    where
+      by_row : (page e : ℕ) → owner_of (row_in given page) ≡ Some e → its_row page → IsLive (r.list ++ x ∷ []) e
+      by_row page e is (inl stays) = still_live r x lives room e (booked.owners page e (ap owner_of (sym stays) ∙ is))
+      by_row page e is (inr new) =
+          let its : Some (length r.list) ≡ Some e = ap owner_of (sym new.1) ∙ is in
+          let same : length r.list ≡ e = cc in
+          (omega (arith, same, one_longer r x lives room), rw (← same, last_get r.list x) lives)
+
+-- pages that aren't free stay as they are seen
+left_pages : (pages : List PageRow) (frames new : List (List ℕ)) (e : ℕ) (ms : List Mapping) → AreLeft pages frames new → ((a : ℕ) (m : Mapping) → slice_get ms a ≡ Some m → row_in pages m.page ≡ Guaranteed e) → pages_seen new ms ≡ pages_seen frames ms
+left_pages pages frames new e [] left its = refl
+left_pages pages frames new e (m ∷ ms) left its =
+    let taken : row_in pages m.page ≢ Free = λ free. let both : Guaranteed e ≡ Free = sym (its 0 m refl) ∙ free in cc in
+    let head : page_seen new m ≡ page_seen frames m = ap (λ (bytes : List ℕ). record { vpn = m.vpn; writable = m.writable; bytes = bytes }) (left.left m.page taken) in
+    let tail = left_pages pages frames new e ms left (λ a n. its (suc a) n) in
     cc
 
--- The board with one environment more.
-abbrev pub with_one : Shown → Environment → List (List ℕ) → ℕ → Shown
-with_one b x frames taken = record b { frames = frames; taken = taken; roster = record { list = b.roster.list ++ x ∷ []; spare = b.roster.spare - 1 } }
+-- The board with one environment more, and with its pages.
+abbrev pub with_one : Shown → Environment → List (List ℕ) → List PageRow → Shown
+with_one b x frames pages = record b { frames = frames; pages = pages; roster = record { list = b.roster.list ++ x ∷ []; spare = b.roster.spare - 1 } }
 
-module _ (b : Shown) (x : Environment) (frames : List (List ℕ)) (taken : ℕ) (p : ProgramValue) (sound : IsSound b) (below : IsKeptBelow b.taken b.frames frames)
-    (name : x.name ≡ p.name) (lives : x.life ≡ Live) (cpu : x.env.cpu ≡ (booted 0 [] p.body.entry []).cpu) (pages : pages_seen frames x.env.mappings ≡ kept_of p) where
+module _ (b : Shown) (x : Environment) (frames : List (List ℕ)) (pages : List PageRow) (p : ProgramValue) (sound : IsSound b) (gives : AreGiven (length b.roster.list) (guaranteed_mappings p) b.pages pages b.frames frames)
+    (name : x.name ≡ p.name) (lives : x.life ≡ Live) (cpu : x.env.cpu ≡ boot_cpu p.body.entry) (handlers : x.env.handlers ≡ no_handlers) (mask : x.env.mask ≡ p.accept) (kept : pages_seen frames x.env.mappings ≡ kept_of p) where
   its_items : List Item
   its_items = record_items (length b.roster.list) (Some p)
 
@@ -192,27 +239,100 @@ module _ (b : Shown) (x : Environment) (frames : List (List ℕ)) (taken : ℕ) 
       by_runner None live = refl
       by_runner (Some y) live = ne_eqb y.env (length b.roster.list) (λ same. omega (arith, same, live.0))
 
-  added_here : solo_of (with_one b x frames taken) (length b.roster.list) ≡ absorb_all (solo_of b (length b.roster.list)) (only (length b.roster.list) (record_items (length b.roster.list) (Some p)) (length b.roster.list))
+  -- nobody has bound or owns pages who isn't there
+  unbound : (row : ℕ) → stripes b.binds (length b.roster.list) row ≡ None
+  unbound row = by_row (stripes b.binds (length b.roster.list) row) refl
+    where
+      by_row : (o : Option Binding) → stripes b.binds (length b.roster.list) row ≡ o → o ≡ None
+      by_row None is = refl
+      by_row (Some y) is = let live = sound.books.binders (length b.roster.list) row y is in absurd (omega (arith, live.0))
+
+  becomes_row : (page : ℕ) → IsGivenRow (length b.roster.list) (row_in b.pages page) (row_in pages page)
+  becomes_row page = given_row (length b.roster.list) (guaranteed_mappings p) b.pages pages b.frames frames gives page
+
+  -- nobody comes to own a page by what is given
+  owned_alike : (i page : ℕ) → is_owned_by i (row_in pages page) ≡ is_owned_by i (row_in b.pages page)
+  owned_alike i page = by_row (becomes_row page)
+    where
+      by_row : IsGivenRow (length b.roster.list) (row_in b.pages page) (row_in pages page) → is_owned_by i (row_in pages page) ≡ is_owned_by i (row_in b.pages page)
+      by_row (inl stays) = ap (is_owned_by i) stays
+      by_row (inr new) = ap (is_owned_by i) new.1 ∙ sym (ap (is_owned_by i) new.0)
+
+  unowned : (page : ℕ) → is_owned_by (length b.roster.list) (row_in b.pages page) ≡ false
+  unowned page = by_row (row_in b.pages page) refl
+    where
+      by_row : (row : PageRow) → row_in b.pages page ≡ row → is_owned_by (length b.roster.list) row ≡ false
+      by_row Free is = refl
+      by_row (Guaranteed owner) is = refl
+      by_row (Owned owner words) is =
+          let live = sound.books.owners page owner (ap owner_of is) in
+          ne_eqb owner (length b.roster.list) (λ same. omega (arith, same, live.0))
+
+  unseen : (page : ℕ) → sights_of (with_one b x frames pages) (length b.roster.list) page ≡ None
+  unseen page =
+      nothing_of
+      (is_owned_by (length b.roster.list) (row_in pages page)) (is_bound page (stripes b.binds (length b.roster.list))) (page_at frames page)
+      (owned_alike (length b.roster.list) page ∙ unowned page)
+      (bound_nowhere page (stripes b.binds (length b.roster.list)) (λ row. ap (is_of_page page) (unbound row)))
+
+  -- what a page that is free shows to nobody
+  nowhere_bound : (i page : ℕ) → row_in b.pages page ≡ Free → is_bound page (stripes b.binds i) ≡ false
+  nowhere_bound i page free = bound_nowhere page (stripes b.binds i) (λ row. by_row row (stripes b.binds i row) refl)
+    where
+      by_row : (row : ℕ) (o : Option Binding) → stripes b.binds i row ≡ o → is_of_page page o ≡ false
+      by_row row None is = refl
+      by_row row (Some y) is = ne_eqb y.page page (λ same. owned_taken (row_in b.pages y.page) (sound.books.bound i row y is) (ap (row_in b.pages) same ∙ free))
+
+  seen_alike : (i page : ℕ) → sights_of (with_one b x frames pages) i page ≡ sights_of b i page
+  seen_alike i page = by_row (row_in b.pages page) refl
+    where
+      taken_alike : row_in b.pages page ≢ Free → sights_of (with_one b x frames pages) i page ≡ sights_of b i page
+      taken_alike taken = λ k. seen_if (owned_alike i page k) (is_bound page (stripes b.binds i)) (gives.left.left page taken k)
+
+      by_row : (row : PageRow) → row_in b.pages page ≡ row → sights_of (with_one b x frames pages) i page ≡ sights_of b i page
+      by_row Free is =
+          let owned : is_owned_by i (row_in b.pages page) ≡ false = ap (is_owned_by i) is in
+          nothing_of (is_owned_by i (row_in pages page)) (is_bound page (stripes b.binds i)) (page_at frames page) (owned_alike i page ∙ owned) (nowhere_bound i page is)
+          ∙ sym (nothing_of (is_owned_by i (row_in b.pages page)) (is_bound page (stripes b.binds i)) (page_at b.frames page) owned (nowhere_bound i page is))
+      by_row (Guaranteed owner) is = taken_alike (λ free. let both : Guaranteed owner ≡ Free = sym is ∙ free in cc)
+      by_row (Owned owner words) is = taken_alike (λ free. let both : Owned owner words ≡ Free = sym is ∙ free in cc)
+
+  added_here : solo_of (with_one b x frames pages) (length b.roster.list) ≡ absorb_all (solo_of b (length b.roster.list)) (only (length b.roster.list) (record_items (length b.roster.list) (Some p)) (length b.roster.list))
   added_here =
       let n = length b.roster.list in
-      let regs : cpu_seen (with_one b x frames taken) n x.env.cpu ≡ (booted 0 [] p.body.entry []).cpu = rw unrun cpu in
-      ap (solo_or_absent (with_one b x frames taken) n) (last_get b.roster.list x)
-      ∙ (λ k. record { number = n; name = name k; life = lives k; cpu = regs k; kept = pages k; console = sound.consoles.unwritten n (omega arith) k })
+      let regs : cpu_seen (with_one b x frames pages) n x.env.cpu ≡ boot_cpu p.body.entry = rw unrun cpu in
+      ap (solo_or_absent (with_one b x frames pages) n) (last_get b.roster.list x)
+      ∙ (λ k. record {
+        number = n;
+        name = name k;
+        life = lives k;
+        cpu = regs k;
+        handlers = handlers k;
+        mask = mask k;
+        kept = kept k;
+        binds = λ row. unbound row k;
+        seen = λ page. unseen page k;
+        console = sound.consoles.unwritten n (omega arith) k;
+      })
       ∙ ap (absorb_all (absent n)) (sym (only_here n (record_items n (Some p))))
       ∙ ap (λ s. absorb_all s (only n (record_items n (Some p)) n)) (sym (ap (solo_or_absent b n) (past_get b.roster.list)))
 
-  added_others : (i : ℕ) → i ≢ length b.roster.list → solo_of (with_one b x frames taken) i ≡ absorb_all (solo_of b i) (only (length b.roster.list) (record_items (length b.roster.list) (Some p)) i)
+  added_others : (i : ℕ) → i ≢ length b.roster.list → solo_of (with_one b x frames pages) i ≡ absorb_all (solo_of b i) (only (length b.roster.list) (record_items (length b.roster.list) (Some p)) i)
   added_others i ne =
-      like_solo i (with_one b x frames taken) b (record {
+      like_solo i (with_one b x frames pages) b (record {
         record_is = other_get b.roster.list x i ne;
         cpu = λ kept. refl;
-        pages = below_pages b.taken b.frames frames (mappings_of b.roster.list i) below (λ a m at. sound.memory.inside i a m at);
+        pages = left_pages b.pages b.frames frames i (mappings_of b.roster.list i) gives.left (sound.memory.mapped i).its;
+        binds = refl;
+        sights = λ k page. seen_alike i page k;
         console = refl;
       })
       ∙ ap (absorb_all (solo_of b i)) (sym (only_else (length b.roster.list) i (record_items (length b.roster.list) (Some p)) ne))
 
-  pub added_world : world_of (with_one b x frames taken) ≡ added (world_of b) p
+  pub added_world : world_of (with_one b x frames pages) ≡ added (world_of b) p
   added_world =
-      worlds (world_of (with_one b x frames taken)) (added (world_of b) p) refl (length-append b.roster.list (x ∷ []))
-      (by_env (solo_of (with_one b x frames taken)) (added (world_of b) p).solos (length b.roster.list) added_here added_others)
+      worlds (world_of (with_one b x frames pages)) (added (world_of b) p)
+      (λ k. record (book_of b) { page_count = gives.size k; pages = gives.rows k })
+      (length-append b.roster.list (x ∷ []))
+      (by_env (solo_of (with_one b x frames pages)) (added (world_of b) p).solos (length b.roster.list) added_here added_others)
       refl

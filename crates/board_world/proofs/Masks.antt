@@ -1,5 +1,5 @@
 -- The rows of the slots that a mask names.
-use Rattle.std.proofs.Common.{◌≡◌, ◌≢◌, ◌≤◌, ℕ, zero, suc, ◌+◌, ◌-◌, ◌*◌, ◌/◌, ◌%◌, List, [], ◌∷◌, ◌++◌, length, map, Bool, true, false, Option, Some, None, refl, sym, ◌∙◌, ap, arith, append_assoc, add-one}
+use Rattle.std.proofs.Common.{◌≡◌, ◌≢◌, ◌≤◌, ℕ, zero, suc, ◌+◌, ◌-◌, ◌*◌, ◌/◌, ◌%◌, List, [], ◌∷◌, ◌++◌, length, map, Bool, true, false, Option, refl, sym, ◌∙◌, ap, arith, append_assoc, add-one}
 use Rattle.std.specs.Prelude.{◌==◌, if◌then◌else◌}
 use Rattle.std.proofs.lemmas.List.{length-map, length-append}
 use Rattle.std.proofs.lemmas.Bool.{ne_eqb, eq-eqb}
@@ -8,10 +8,10 @@ use Rattle.kernel_journal.specs.declared.row.Row.{Row}
 use Rattle.slot_vector.specs.Slices.{bit, hold_at, mask_of}
 use Rattle.world_model.specs.declared.slot.Hold.{Hold}
 use Rattle.world_model.specs.Book.{released, has_part}
-use Rattle.world_model.specs.Verdict.{slot_row, released_row, released_rows}
+use Rattle.world_model.specs.Verdict.{slot_row, released_rows}
 use Rattle.board_world.specs.Doing.{mask_rows, shifted, with_rows}
 use Rattle.board_world.proofs.Parts.{append_nothing}
-use Rattle.board_world.proofs.Serving.{hold_at-map}
+use Rattle.board_world.proofs.Sound.{hold_at-released}
 
 pub shifted_on : (mask k : ℕ) → shifted mask (suc k) ≡ shifted mask k / 2
 shifted_on mask zero = refl
@@ -45,7 +45,7 @@ rows_below t e slots (suc k) =
     ap (λ rows. rows ++ (if shifted (mask_of e slots) k % 2 == 1 then slot_row t k (hold_at (map (released e) slots) k) ∷ [] else [])) (rows_below t e slots k)
     ∙ ap (λ (n : ℕ). released_rows t e (hold_at slots) k ++ (if n == 1 then slot_row t k (hold_at (map (released e) slots) k) ∷ [] else [])) (mask_bit e slots k)
     ∙ ap (λ rows. released_rows t e (hold_at slots) k ++ rows) (named_row t k (has_part e (hold_at slots k)) (hold_at (map (released e) slots) k))
-    ∙ ap (λ hold. released_rows t e (hold_at slots) k ++ (if has_part e (hold_at slots k) then slot_row t k hold ∷ [] else [])) (hold_at-map e slots k)
+    ∙ ap (λ hold. released_rows t e (hold_at slots) k ++ (if has_part e (hold_at slots k) then slot_row t k hold ∷ [] else [])) (hold_at-released e slots k)
 
 -- the rows that the mask names once the environment is gone
 pub rows_named : (t e : ℕ) (slots : List (Option Hold)) → mask_rows t (mask_of e slots) (hold_at (map (released e) slots)) (length (map (released e) slots)) ≡ released_rows t e (hold_at slots) (length slots)

@@ -1,5 +1,5 @@
 -- What a store does to the pages that environments see.
-use Rattle.std.proofs.Common.{◌≡◌, ◌≢◌, ℕ, zero, suc, ◌/◌, ◌%◌, ◌<◌, List, [], ◌∷◌, length, Bool, true, false, Option, Some, None, refl, sym, ◌∙◌, ap, arith, get_or-set_same, get_or-set_other}
+use Rattle.std.proofs.Common.{◌≡◌, ◌≢◌, ℕ, zero, suc, ◌/◌, ◌%◌, ◌<◌, List, [], ◌∷◌, length, Bool, true, false, Some, refl, sym, ◌∙◌, ap, arith, get_or-set_same, get_or-set_other}
 use Rattle.std.specs.Prelude.{◌==◌, if◌then◌else◌, slice_get, slice_index}
 use Rattle.std.specs.Option.{option_map}
 use Rattle.std.proofs.lemmas.Bool.{eqb-true, eqb-false}
@@ -8,9 +8,7 @@ use Rattle.aegis_limits.specs.Limits.{page_size}
 use Rattle.frame_store.specs.Pages.{page_at, after_put, with_bytes}
 use Rattle.env_frames.specs.declared.mapping.Mapping.{Mapping}
 use Rattle.env_frames.specs.Frame.{mapping_at, numbers, IsRising}
-use Rattle.guest_memory.specs.Look.{look, look_through}
-use Rattle.world_model.specs.Page.{KeptPage, Mapped}
-use Rattle.world_model.specs.Solo.{Kept, Store, place_at, kept_at, bytes_in, sight, mapped, kept_after, stored_page}
+use Rattle.world_model.specs.Solo.{Kept, Store, kept_at, kept_after, stored_page}
 use Rattle.board_world.specs.Showing.{page_seen, pages_seen}
 
 -- each mapping leads to a page that physical memory has
@@ -31,31 +29,6 @@ seen_kept frames (m ∷ ms) v =
       | true ↦ refl
       | false ↦ seen_kept frames ms v
     ]
-
--- a page as it is seen through a mapping
-abbrev pub mapped_page : KeptPage → Mapped
-mapped_page p = record { writable = p.writable; bytes = p.bytes }
-
--- what is seen at a page number is the page there
-sight_is : (kept : List KeptPage) (v : ℕ) → sight kept v ≡ option_map mapped_page (kept_at kept v)
-sight_is kept v = by_page (kept_at kept v) refl
-  where
-    by_page : (o : Option KeptPage) → kept_at kept v ≡ o → option_map (mapped kept) (option_map (place_at v) o) ≡ option_map mapped_page o
-    by_page None is = refl
-    by_page (Some p) is = ap (λ (y : Option KeptPage). Some (record { writable = p.writable; bytes = bytes_in y })) is
-
--- each mapping that is found is one of the mappings
-found_inside : (frames : List (List ℕ)) (ms : List Mapping) (v : ℕ) → AreInside frames ms → look_through frames (mapping_at ms v) ≡ option_map mapped_page (option_map (page_seen frames) (mapping_at ms v))
-found_inside frames [] v inside = refl
-found_inside frames (m ∷ ms) v inside =
-    elim (m.vpn == v) as (λ here. look_through frames (if here then Some m else mapping_at ms v) ≡ option_map mapped_page (option_map (page_seen frames) (if here then Some m else mapping_at ms v))) [
-      | true ↦ rw (page_there frames m.page (inside 0 m refl)) refl
-      | false ↦ found_inside frames ms v (λ a n. inside (suc a) n)
-    ]
-
--- where a page number leads is what the environment sees there
-pub seen_look : (frames : List (List ℕ)) (ms : List Mapping) (v : ℕ) → AreInside frames ms → look frames (mapping_at ms) v ≡ sight (pages_seen frames ms) v
-seen_look frames ms v inside = found_inside frames ms v inside ∙ ap (option_map mapped_page) (sym (seen_kept frames ms v)) ∙ sym (sight_is (pages_seen frames ms) v)
 
 -- the store of a write, at the page that its page number names
 abbrev pub its_store : Write → Store

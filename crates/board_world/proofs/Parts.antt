@@ -1,11 +1,11 @@
 -- Worlds are equal by their parts, and environments one by one.
-use Rattle.std.proofs.Common.{◌≡◌, ◌≢◌, ℕ, List, [], ◌∷◌, ◌++◌, Bool, true, false, refl, sym, ◌∙◌, ap}
-use Rattle.std.specs.Prelude.{◌==◌}
-use Rattle.std.proofs.lemmas.Bool.{ne_eqb, eq-eqb, eqb-true, eqb-false}
+use Rattle.std.proofs.Common.{◌≡◌, ◌≢◌, ℕ, List, [], ◌∷◌, ◌++◌, refl, sym, ◌∙◌, ap}
 use Rattle.world_model.specs.Solo.{Solo}
 use Rattle.world_model.specs.Step.{Act, acted}
 use Rattle.world_model.specs.Item.{Item, absorb_all}
-use Rattle.world_model.specs.World.{World, only, set_at}
+use Rattle.world_model.specs.Table.{set_at}
+use Rattle.world_model.specs.World.{World, only}
+pub use Rattle.page_sight.proofs.Tables.{by_number as by_env, set_here, set_else}
 
 pub append_nothing : {A : Type 0} (xs : List A) → xs ++ [] ≡ xs
 append_nothing [] = refl
@@ -13,21 +13,6 @@ append_nothing (x ∷ xs) = ap (λ ys. x ∷ ys) (append_nothing xs)
 
 pub worlds : (v w : World) → v.book ≡ w.book → v.count ≡ w.count → ((i : ℕ) → v.solos i ≡ w.solos i) → v.rows ≡ w.rows → v ≡ w
 worlds v w book count solos rows = λ k. record { book = book k; count = count k; solos = λ i. solos i k; rows = rows k }
-
--- one environment, and all others
-pub by_env : {A : Type 0} (f g : ℕ → A) (e : ℕ) → f e ≡ g e → ((i : ℕ) → i ≢ e → f i ≡ g i) → (i : ℕ) → f i ≡ g i
-by_env f g e here others i = by_test (i == e) refl
-  where
-    by_test : (t : Bool) → (i == e) ≡ t → f i ≡ g i
-    by_test true is = let same = eqb-true i e is in ap f same ∙ here ∙ ap g (sym same)
-    by_test false is = others i (eqb-false i e is)
-
--- a table with another value at one number: there, and elsewhere
-pub set_here : {A : Type 0} (n : ℕ) (x : A) (f : ℕ → A) → set_at n x f n ≡ x
-set_here n x f = rw (eq-eqb n n refl) refl
-
-pub set_else : {A : Type 0} (n i : ℕ) (x : A) (f : ℕ → A) → i ≢ n → set_at n x f i ≡ f i
-set_else n i x f ne = rw (ne_eqb i n ne) refl
 
 pub only_here : (e : ℕ) (items : List Item) → only e items e ≡ items
 only_here e items = set_here e items (λ i. [])

@@ -1,34 +1,49 @@
 -- What a board shows of its environments.
-use Rattle.std.proofs.Common.{◌≡◌, ◌≢◌, ℕ, zero, suc, ◌/◌, ◌<◌, List, [], ◌∷◌, length, true, false, Option, Some, None, IfSome, refl, sym, ◌∙◌, ap, subst, arith}
-use Rattle.std.specs.Prelude.{slice_get, unwrap_or}
+use Rattle.std.proofs.Common.{◌≡◌, ◌≢◌, ℕ, zero, suc, ◌<◌, List, [], ◌∷◌, length, Bool, true, false, Option, Some, None, IfSome, refl, sym, ◌∙◌, ap, subst, arith}
+use Rattle.std.specs.Prelude.{◌==◌, if◌then◌else◌, slice_get, unwrap_or}
 use Rattle.std.specs.Option.{option_map}
 use Rattle.std.proofs.lemmas.Bool.{ne_eqb, eq-eqb}
 use Rattle.mips_exec.specs.declared.registers.Cpu.{Cpu}
-use Rattle.aegis_limits.specs.Limits.{page_size}
-use Rattle.mips_exec.specs.Access.{Write}
 use Rattle.mips_exec.specs.Step.{step_of, view_of}
 use Rattle.env_frames.specs.declared.mapping.Mapping.{Mapping}
-use Rattle.env_frames.specs.Frame.{mapping_at}
-use Rattle.guest_memory.specs.Look.{look, frames_after, written_through}
+use Rattle.frame_store.specs.Pages.{page_at}
+use Rattle.page_book.specs.declared.row.PageRow.{PageRow}
+use Rattle.page_book.specs.declared.row.PageRow.TheVariants.{Free, Guaranteed, Owned}
+use Rattle.page_book.specs.Rows.{row_in}
+use Rattle.bind_book.specs.declared.binding.Binding.{Binding}
+use Rattle.bind_book.specs.Stripe.{binding_at, is_bound, is_of_page, of_number, row_of, stripe_rows, stripes}
+use Rattle.page_sight.specs.Sight.{seen_in}
+use Rattle.page_sight.proofs.Stripes.{bound_somewhere}
+use Rattle.guest_memory.specs.Look.{look, mapping_in}
+use Rattle.guest_memory.specs.Space.{lookup}
 use Rattle.world_model.specs.declared.life.Life.TheVariants.{Live}
 use Rattle.world_model.specs.Page.{Mapped, answers_by}
 use Rattle.world_model.specs.declared.slot.Runner.{Runner}
 use Rattle.world_model.specs.Book.{is_runner, running}
-use Rattle.world_model.specs.Solo.{Solo, Kept, place_at, leads, kept_at, sight, kept_after, store_of, store_through}
-use Rattle.world_model.specs.Step.{step_alone, store_act, acted}
+use Rattle.world_model.specs.Solo.{Solo, Seen as Sight, sight}
+use Rattle.world_model.specs.Step.{step_alone}
 use Rattle.board_world.specs.declared.roster.Environment.{Environment}
 use Rattle.board_world.specs.Shown.{Shown, mappings_in, mappings_of, console_of, changed}
-use Rattle.board_world.specs.Showing.{solo_of, solo_or_absent, cpu_seen, page_seen, pages_seen}
-use Rattle.board_world.specs.Sound.{IsSound, IsParted, IsAlive, IsLive}
-use Rattle.board_world.specs.Doing.{step_seen, lookup_of, look_of}
+use Rattle.board_world.specs.Showing.{solo_of, solo_or_absent, solo_seen, cpu_seen, page_seen, pages_seen}
+use Rattle.board_world.specs.Sound.{IsSound, IsParted, IsAlive, IsLive, IsOwned}
+use Rattle.board_world.specs.Doing.{step_seen, look_of}
 use Rattle.board_world.proofs.Lists.{changed_else}
-use Rattle.board_world.proofs.Pages.{seen_kept, seen_look, its_store, stored_own, stored_else, placed, one_place}
+use Rattle.board_world.proofs.Looks.{seen_look}
 
--- an environment whose record, registers, pages and console are as they were
+-- the bindings of an environment, and what it sees of the pages that it owns or has bound
+abbrev pub stripe_of : Shown → ℕ → ℕ → Option Binding
+stripe_of b e = stripes b.binds e
+
+abbrev pub sights_of : Shown → ℕ → ℕ → Option Sight
+sights_of b e = seen_in e (row_in b.pages) (stripes b.binds e) (page_at b.frames)
+
+-- an environment whose record, registers, pages, bindings and console are as they were
 pub record IsLike (i : ℕ) (new old : Shown) : Type 0 where
   pub record_is : slice_get new.roster.list i ≡ slice_get old.roster.list i
   pub cpu : (kept : Cpu) → cpu_seen new i kept ≡ cpu_seen old i kept
   pub pages : pages_seen new.frames (mappings_of old.roster.list i) ≡ pages_seen old.frames (mappings_of old.roster.list i)
+  pub binds : stripe_of new i ≡ stripe_of old i
+  pub sights : sights_of new i ≡ sights_of old i
   pub console : console_of new.consoles i ≡ console_of old.consoles i
 
 pub like_solo : (i : ℕ) (new old : Shown) → IsLike i new old → solo_of new i ≡ solo_of old i
@@ -39,18 +54,20 @@ like_solo i new old like = ap (solo_or_absent new i) like.record_is ∙ by_recor
     by_record (Some x) is =
         let pages : pages_seen new.frames x.env.mappings ≡ pages_seen old.frames x.env.mappings =
         ap (λ y. pages_seen new.frames (mappings_in y)) (sym is) ∙ like.pages ∙ ap (λ y. pages_seen old.frames (mappings_in y)) is in
-        λ k. record { number = i; name = x.name; life = x.life; cpu = like.cpu x.env.cpu k; kept = pages k; console = like.console k }
+        λ k. record (solo_seen old i x) { cpu = like.cpu x.env.cpu k; kept = pages k; binds = like.binds k; seen = like.sights k; console = like.console k }
 
--- an environment that neither runs before nor after, and whose pages and console are as they were
+-- an environment that neither runs before nor after, and whose pages, bindings and console are as they were
 pub record IsSame (i : ℕ) (new old : Shown) : Type 0 where
   pub record_is : slice_get new.roster.list i ≡ slice_get old.roster.list i
   pub idles : is_runner i new.slots.runner ≡ false
   pub idled : is_runner i old.slots.runner ≡ false
   pub pages : pages_seen new.frames (mappings_of old.roster.list i) ≡ pages_seen old.frames (mappings_of old.roster.list i)
+  pub binds : stripe_of new i ≡ stripe_of old i
+  pub sights : sights_of new i ≡ sights_of old i
   pub console : console_of new.consoles i ≡ console_of old.consoles i
 
 pub same_solo : (i : ℕ) (new old : Shown) → IsSame i new old → solo_of new i ≡ solo_of old i
-same_solo i new old same = like_solo i new old (record { record_is = same.record_is; cpu = λ kept. rw (same.idles, same.idled) refl; pages = same.pages; console = same.console })
+same_solo i new old same = like_solo i new old (record { record_is = same.record_is; cpu = λ kept. rw (same.idles, same.idled) refl; pages = same.pages; binds = same.binds; sights = same.sights; console = same.console })
 
 -- a runner with a number
 pub record IsNamed (e : ℕ) (runner : Option Runner) : Type 0 where
@@ -63,7 +80,53 @@ named e (Some r) is = let same : r.env ≡ e = cc in record { its = eq-eqb r.env
 
 -- the environment that runs, alone
 abbrev pub runner_solo : Shown → ℕ → Environment → Solo
-runner_solo b e x = record { number = e; name = x.name; life = Live; cpu = b.cpu; kept = pages_seen b.frames x.env.mappings; console = console_of b.consoles e }
+runner_solo b e x = record (solo_seen b e x) { life = Live; cpu = b.cpu }
+
+-- a look-up by the parts of what an environment sees
+opened_look : (b : Shown) (e v : ℕ) → look_of b e v ≡ look b.frames (mapping_in (mappings_of b.roster.list e) (stripe_of b e)) v
+unfolding lookup
+opened_look b e v = refl
+
+-- a page that isn't free is there
+row_there : (pages : List PageRow) (page : ℕ) → row_in pages page ≢ Free → page < length pages
+row_there [] page taken = absurd (taken refl)
+row_there (row ∷ pages) zero taken = omega arith
+row_there (row ∷ pages) (suc page) taken = let there = row_there pages page taken in omega arith
+
+-- a page that is mapped is there, and guaranteed
+pub guaranteed_there : (frames : List (List ℕ)) (pages : List PageRow) (list : List Environment) → IsParted frames pages list → (e a : ℕ) (m : Mapping) → slice_get (mappings_of list e) a ≡ Some m → m.page < length frames
+guaranteed_there frames pages list parted e a m at =
+    let its : row_in pages m.page ≡ Guaranteed e = (parted.mapped e).its a m at in
+    omega (arith, parted.same, row_there pages m.page (λ free. let both : Guaranteed e ≡ Free = sym its ∙ free in cc))
+
+-- a row with an owner who can let others bind it isn't free
+pub owned_taken : (row : PageRow) → IsOwned row → row ≢ Free
+owned_taken Free owned is = owned
+owned_taken (Guaranteed owner) owned is = owned
+owned_taken (Owned owner words) owned is = cc
+
+-- each page number has a row
+pub row_within : (v : ℕ) → row_of v < stripe_rows
+row_within v = omega arith
+
+-- the binding that is found for a page number stands in a row
+pub found_in_row : (stripe : ℕ → Option Binding) (v : ℕ) (y : Binding) → binding_at stripe v ≡ Some y → stripe (row_of v) ≡ Some y
+found_in_row stripe v y found = by_row (stripe (row_of v)) refl found
+  where
+    by_number : (x : Binding) (test : Bool) → (if test then Some x else None) ≡ Some y → Some x ≡ Some y
+    by_number x true is = is
+    by_number x false is = cc
+
+    by_row : (o : Option Binding) → stripe (row_of v) ≡ o → of_number v o ≡ Some y → o ≡ Some y
+    by_row None is found = cc
+    by_row (Some x) is found = by_number x (x.vpn == v) found
+
+-- a page that is bound is there, and is bound
+pub bound_there : (b : Shown) (e v : ℕ) (y : Binding) → IsSound b → binding_at (stripe_of b e) v ≡ Some y → (y.page < length b.frames) × (is_bound y.page (stripe_of b e) ≡ true)
+bound_there b e v y sound found =
+    let at = found_in_row (stripe_of b e) v y found in
+    let there = row_there b.pages y.page (owned_taken (row_in b.pages y.page) (sound.books.bound e (row_of v) y at)) in
+    (omega (arith, sound.memory.same, there), bound_somewhere y.page (stripe_of b e) (row_of v) (row_within v) (ap (is_of_page y.page) at ∙ eq-eqb y.page y.page refl))
 
 -- What is known where it runs.
 pub record Runs (b : Shown) (e : ℕ) (x : Environment) : Type 0 where
@@ -94,64 +157,22 @@ module _ (b : Shown) (e : ℕ) (x : Environment) (r : Runs b e x) where
   pub runner_seen : solo_of b e ≡ runner_solo b e x
   runner_seen =
       let cpu : cpu_seen b e x.env.cpu ≡ b.cpu = rw r.runs.its refl in
-      ap (solo_or_absent b e) r.at ∙ (λ k. record { number = e; name = x.name; life = r.lives k; cpu = cpu k; kept = pages_seen b.frames x.env.mappings; console = console_of b.consoles e })
+      ap (solo_or_absent b e) r.at ∙ (λ k. record (solo_seen b e x) { life = r.lives k; cpu = cpu k })
 
   pub its_mappings : mappings_of b.roster.list e ≡ x.env.mappings
   its_mappings = ap mappings_in r.at
 
-  pub its_look : IsSound b → (v : ℕ) → look_of b e v ≡ sight (pages_seen b.frames x.env.mappings) v
+  pub its_look : IsSound b → (v : ℕ) → look_of b e v ≡ sight (runner_solo b e x) v
   its_look sound v =
-      ap (λ ms. look b.frames (mapping_at ms) v) its_mappings
-      ∙ seen_look b.frames x.env.mappings v (λ a m at. omega (arith, sound.memory.within, sound.memory.inside e a m (ap (λ ms. slice_get ms a) its_mappings ∙ at)))
+      opened_look b e v
+      ∙ ap (λ ms. look b.frames (mapping_in ms (stripe_of b e)) v) its_mappings
+      ∙ seen_look b.frames e (row_in b.pages) (stripe_of b e) x.env.mappings (runner_solo b e x) refl refl refl v
+      (λ a m at. guaranteed_there b.frames b.pages b.roster.list sound.memory e a m (ap (λ ms. slice_get ms a) its_mappings ∙ at))
+      (λ y at. bound_there b e v y sound at)
 
   -- the machine's step is what the environment does alone
   pub its_step : IsSound b → step_seen b e ≡ step_alone (runner_solo b e x)
   its_step sound = ap (λ (l : ℕ → Option Mapped). step_of b.cpu (view_of (answers_by l) b.cpu)) (λ k v. its_look sound v k)
-
--- what stands at one place is one mapping
-same_mapping : (ns : List Mapping) (a k : ℕ) (n m : Mapping) → a ≡ k → slice_get ns a ≡ Some n → slice_get ns k ≡ Some m → n ≡ m
-same_mapping ns a k n m same at_a at_k = let both : Some n ≡ Some m = sym at_a ∙ ap (slice_get ns) same ∙ at_k in cc
-
--- A store goes to the page that its page number leads to: there it is the environment's own, and nobody else's page changes.
-module _ (frames : List (List ℕ)) (taken : ℕ) (list : List Environment) (parted : IsParted frames taken list) (e : ℕ) where
-  -- what the environment stores by itself
-  own_store : (w : Write) (s : Solo) → s.kept ≡ pages_seen frames (mappings_of list e) →
-      pages_seen (frames_after frames (mapping_at (mappings_of list e)) (Some w)) (mappings_of list e) ≡ (acted (store_act (store_of s.kept (Some w))) s).kept
-  own_store w s kept = by_mapping (mapping_at (mappings_of list e) (w.address / page_size)) refl
-    where
-      at : (y : Option Mapping) → mapping_at (mappings_of list e) (w.address / page_size) ≡ y → store_of s.kept (Some w) ≡ option_map (store_through w) (option_map (place_at (w.address / page_size)) (option_map (page_seen frames) y))
-      at y is = ap (λ o. option_map (store_through w) (option_map (place_at (w.address / page_size)) o)) (ap (λ ps. kept_at ps (w.address / page_size)) kept ∙ seen_kept frames (mappings_of list e) (w.address / page_size) ∙ ap (option_map (page_seen frames)) is)
-
-      by_mapping : (y : Option Mapping) → mapping_at (mappings_of list e) (w.address / page_size) ≡ y → pages_seen (written_through frames w y) (mappings_of list e) ≡ (acted (store_act (store_of s.kept (Some w))) s).kept
-      by_mapping None is = sym kept ∙ ap (λ o. (acted (store_act o) s).kept) (sym (at None is))
-      by_mapping (Some m) is =
-          let there = placed (mappings_of list e) (w.address / page_size) m is in
-          stored_own frames w m.page (omega (arith, parted.within, parted.inside e there.0 m there.1.place)) (mappings_of list e)
-          (λ a n at. record {
-            here = λ same. ap (λ (y : Mapping). y.page) (same_mapping (mappings_of list e) a there.0 n m (one_place (mappings_of list e) a there.0 n m (parted.rising e) at there.1.place (same ∙ sym there.1.number)) at there.1.place);
-            elsewhere = λ differs same. differs (ap (λ (y : Mapping). y.vpn) (same_mapping (mappings_of list e) a there.0 n m (parted.apart e e a there.0 n m at there.1.place same).1 at there.1.place) ∙ there.1.number);
-          })
-          ∙ ap (λ ps. kept_after ps (its_store w)) (sym kept)
-          ∙ ap (λ o. (acted (store_act o) s).kept) (sym (at (Some m) is))
-
-  pub own_write : (write : Option Write) (s : Solo) → s.kept ≡ pages_seen frames (mappings_of list e) →
-      pages_seen (frames_after frames (mapping_at (mappings_of list e)) write) (mappings_of list e) ≡ (acted (store_act (store_of s.kept write)) s).kept
-  own_write None s kept = sym kept
-  own_write (Some w) s kept = own_store w s kept
-
-  other_store : (w : Write) (i : ℕ) → i ≢ e → pages_seen (frames_after frames (mapping_at (mappings_of list e)) (Some w)) (mappings_of list i) ≡ pages_seen frames (mappings_of list i)
-  other_store w i ne = by_mapping (mapping_at (mappings_of list e) (w.address / page_size)) refl
-    where
-      by_mapping : (y : Option Mapping) → mapping_at (mappings_of list e) (w.address / page_size) ≡ y → pages_seen (written_through frames w y) (mappings_of list i) ≡ pages_seen frames (mappings_of list i)
-      by_mapping None is = refl
-      by_mapping (Some m) is =
-          let there = placed (mappings_of list e) (w.address / page_size) m is in
-          stored_else frames w m.page (omega (arith, parted.within, parted.inside e there.0 m there.1.place)) (mappings_of list i)
-          (λ a n at same. ne (parted.apart i e a there.0 n m at there.1.place same).0)
-
-  pub other_write : (write : Option Write) (i : ℕ) → i ≢ e → pages_seen (frames_after frames (mapping_at (mappings_of list e)) write) (mappings_of list i) ≡ pages_seen frames (mappings_of list i)
-  other_write None i ne = refl
-  other_write (Some w) i ne = other_store w i ne
 
 -- a console that is appended to, and the others
 pub console_changed : (f : List ℕ → List ℕ) (consoles : List (List ℕ)) (e : ℕ) → e < length consoles → console_of (changed f consoles e) e ≡ f (console_of consoles e)

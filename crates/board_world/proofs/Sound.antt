@@ -1,14 +1,9 @@
--- What holds of a board goes on holding.
-use Rattle.std.proofs.Common.{◌≡◌, ◌≢◌, ℕ, zero, suc, ◌+◌, ◌-◌, ◌%◌, ◌/◌, ◌<◌, ◌≤◌, List, [], ◌∷◌, length, map, Bool, true, false, Option, Some, None, IfSome, ◌⊎◌, inl, inr, refl, sym, ◌∙◌, ap, subst, arith, length-set}
+-- The slots and the consoles of a board go on being sound.
+use Rattle.std.proofs.Common.{◌≡◌, ◌≢◌, ℕ, zero, suc, ◌+◌, ◌-◌, ◌%◌, ◌<◌, ◌≤◌, List, [], ◌∷◌, length, map, Bool, true, false, Option, Some, None, IfSome, refl, sym, ◌∙◌, ap, subst, arith}
 use Rattle.std.specs.Prelude.{◌==◌, if◌then◌else◌, slice_get}
-use Rattle.std.proofs.lemmas.Bool.{eq-eqb, eqb-false}
+use Rattle.std.proofs.lemmas.Bool.{eqb-false}
+use Rattle.std.proofs.lemmas.List.{length-map}
 use Rattle.mips_exec.specs.declared.registers.Cpu.{Cpu}
-use Rattle.mips_exec.specs.Access.{Write}
-use Rattle.aegis_limits.specs.Limits.{page_size}
-use Rattle.frame_store.specs.Pages.{page_at, after_put, with_bytes}
-use Rattle.env_frames.specs.declared.mapping.Mapping.{Mapping}
-use Rattle.env_frames.specs.Frame.{mapping_at, numbers, IsRising}
-use Rattle.guest_memory.specs.Look.{frames_after, written_through}
 use Rattle.slot_vector.specs.Slices.{Slices, HasTicks, hold_at, next_turn, with_turn, turn_ended, counted_in, timer_counted, without_env}
 use Rattle.world_model.specs.declared.slot.Hold.{Hold}
 use Rattle.world_model.specs.declared.slot.Runner.{Runner}
@@ -17,10 +12,11 @@ use Rattle.world_model.specs.Book.{own_hold, first_turn, is_runner, released, ru
 use Rattle.world_model.specs.declared.life.Life.TheVariants.{Live}
 use Rattle.world_model.specs.declared.life.Cause.{Cause}
 use Rattle.board_world.specs.declared.roster.Environment.{Environment}
-use Rattle.board_world.specs.Shown.{Environments, mappings_of, changed, with_list}
-use Rattle.board_world.specs.Sound.{IsAlive, IsLive, IsUndead, IsManned, AreConsoles, IsParted}
-use Rattle.board_world.specs.Doing.{with_registers, dead_frame}
+use Rattle.board_world.specs.Shown.{Environments, changed, with_list}
+use Rattle.board_world.specs.Sound.{IsAlive, IsLive, IsUndead, IsManned, AreConsoles}
+use Rattle.board_world.specs.Doing.{with_registers, handling, dead_frame}
 use Rattle.board_world.proofs.Lists.{changed_else, length-changed}
+use Rattle.board_world.proofs.Seen.{runner_live}
 
 -- whoever will live lives, once all are there
 undead_alive : (list : List Environment) (e : ℕ) → e < length list → IfSome (slice_get list e) (λ x. x.life ≡ Live) → IsAlive (slice_get list e)
@@ -62,48 +58,61 @@ module _ (r : Environments) (f : Environment → Environment) (e : ℕ) where
   changed_undead : (i : ℕ) → i ≢ e → IsUndead r i → IsUndead (with_list r (changed f r.list e)) i
   changed_undead i ne undead = (omega (arith, undead.0, length-changed f r.list e), rw (changed_else f r.list e i ne) undead.1)
 
--- keeping registers leaves everybody's life
-kept_alive : (cpu : Cpu) (list : List Environment) (e i : ℕ) → IfSome (slice_get list i) (λ x. x.life ≡ Live) → IfSome (slice_get (changed (with_registers cpu) list e) i) (λ x. x.life ≡ Live)
-kept_alive cpu [] e i live = live
-kept_alive cpu (x ∷ list) zero zero live = live
-kept_alive cpu (x ∷ list) zero (suc i) live = live
-kept_alive cpu (x ∷ list) (suc e) zero live = live
-kept_alive cpu (x ∷ list) (suc e) (suc i) live = kept_alive cpu list e i live
+-- what changes neither an environment's life nor its pages
+pub record Keeps (f : Environment → Environment) : Type 0 where
+  pub life : (x : Environment) → (f x).life ≡ x.life
+  pub mappings : (x : Environment) → (f x).env.mappings ≡ x.env.mappings
 
-kept_undead : (cpu : Cpu) (r : Environments) (e i : ℕ) → IsUndead r i → IsUndead (with_list r (changed (with_registers cpu) r.list e)) i
-kept_undead cpu r e i undead = (omega (arith, undead.0, length-changed (with_registers cpu) r.list e), kept_alive cpu r.list e i undead.1)
+pub keeps_registers : (cpu : Cpu) → Keeps (with_registers cpu)
+keeps_registers cpu = record { life = λ x. refl; mappings = λ x. refl }
+
+pub keeps_handling : (address : ℕ) → Keeps (handling address)
+keeps_handling address = record { life = λ x. refl; mappings = λ x. refl }
 
 pub if_both : {A : Type 0} {P Q : A → Type 0} (x : Option A) → ((a : A) → x ≡ Some a → P a → Q a) → IfSome x P → IfSome x Q
 if_both None f holds = holds
 if_both (Some a) f holds = f a refl holds
 
-kept_live : (cpu : Cpu) (list : List Environment) (e i : ℕ) → IsAlive (slice_get list i) → IsAlive (slice_get (changed (with_registers cpu) list e) i)
-kept_live cpu [] e i live = live
-kept_live cpu (x ∷ list) zero zero live = live
-kept_live cpu (x ∷ list) zero (suc i) live = live
-kept_live cpu (x ∷ list) (suc e) zero live = live
-kept_live cpu (x ∷ list) (suc e) (suc i) live = kept_live cpu list e i live
+module _ (f : Environment → Environment) (keeps : Keeps f) where
+  kept_undying : (list : List Environment) (e i : ℕ) → IfSome (slice_get list i) (λ x. x.life ≡ Live) → IfSome (slice_get (changed f list e) i) (λ x. x.life ≡ Live)
+  kept_undying [] e i live = live
+  kept_undying (x ∷ list) zero zero live = keeps.life x ∙ live
+  kept_undying (x ∷ list) zero (suc i) live = live
+  kept_undying (x ∷ list) (suc e) zero live = live
+  kept_undying (x ∷ list) (suc e) (suc i) live = kept_undying list e i live
 
-pub keep_manned : (cpu : Cpu) (v : Slices) (r : Environments) (e : ℕ) → IsManned v r → IsManned v (with_list r (changed (with_registers cpu) r.list e))
-keep_manned cpu v r e manned = record {
-  quantum = manned.quantum;
-  ticks = manned.ticks;
-  runner = if_both v.runner (λ x is live. (omega (arith, live.0, length-changed (with_registers cpu) r.list e), kept_live cpu r.list e x.env live.1)) manned.runner;
-  holds = λ k. if_both (hold_at v.slots k) (λ h is undead. (kept_undead cpu r e h.owner undead.0, kept_undead cpu r e h.holder undead.1)) (manned.holds k);
-  count = manned.count;
-}
+  kept_alive : (list : List Environment) (e i : ℕ) → IsAlive (slice_get list i) → IsAlive (slice_get (changed f list e) i)
+  kept_alive [] e i live = live
+  kept_alive (x ∷ list) zero zero live = keeps.life x ∙ live
+  kept_alive (x ∷ list) zero (suc i) live = live
+  kept_alive (x ∷ list) (suc e) zero live = live
+  kept_alive (x ∷ list) (suc e) (suc i) live = kept_alive list e i live
+
+  kept_undead : (r : Environments) (e i : ℕ) → IsUndead r i → IsUndead (with_list r (changed f r.list e)) i
+  kept_undead r e i undead = (omega (arith, undead.0, length-changed f r.list e), kept_undying r.list e i undead.1)
+
+  pub kept_live : (list : List Environment) (e i : ℕ) → IsLive list i → IsLive (changed f list e) i
+  kept_live list e i live = (omega (arith, live.0, length-changed f list e), kept_alive list e i live.1)
+
+  pub keep_manned : (v : Slices) (r : Environments) (e : ℕ) → IsManned v r → IsManned v (with_list r (changed f r.list e))
+  keep_manned v r e manned = record {
+    quantum = manned.quantum;
+    ticks = manned.ticks;
+    runner = if_both v.runner (λ x is live. kept_live r.list e x.env live) manned.runner;
+    holds = λ k. if_both (hold_at v.slots k) (λ h is undead. (kept_undead r e h.owner undead.0, kept_undead r e h.holder undead.1)) (manned.holds k);
+    count = manned.count;
+  }
 
 -- the turn ends
 pub end_manned : (v : Slices) (r : Environments) → IsManned v r → IsManned (turn_ended v) r
 end_manned v r manned = record { quantum = manned.quantum; ticks = tt; runner = tt; holds = manned.holds; count = manned.count }
 
--- a runner is one of the environments
+-- whoever runs lives, and is one of the environments
+pub runner_alive : (v : Slices) (r : Environments) (e : ℕ) → IsManned v r → running v.runner ≡ Some e → IsLive r.list e
+runner_alive v r e manned runs = runner_live r.list e v.runner manned.runner runs
+
 pub runner_within : (v : Slices) (r : Environments) (e : ℕ) → IsManned v r → running v.runner ≡ Some e → e < length r.list
-runner_within v r e manned runs = by_runner v.runner manned.runner runs
-  where
-    by_runner : (o : Option Runner) → IfSome o (λ x. IsLive r.list x.env) → running o ≡ Some e → e < length r.list
-    by_runner None live is = cc
-    by_runner (Some x) live is = let same : x.env ≡ e = cc in omega (arith, same, live.0)
+runner_within v r e manned runs = (runner_alive v r e manned runs).0
 
 -- the timer
 pub go_on_manned : (v : Slices) (r : Environments) → IsManned v r → IsManned (timer_counted v) r
@@ -123,6 +132,12 @@ go_on_manned v r manned = by_runner v.runner manned.runner manned.ticks
     by_runner None live some = record { quantum = manned.quantum; ticks = tt; runner = tt; holds = manned.holds; count = manned.count }
     by_runner (Some x) live some = by_left x (x.left == 1) refl live some
 
+-- the slots once one is gone
+pub hold_at-released : (e : ℕ) (slots : List (Option Hold)) (k : ℕ) → hold_at (map (released e) slots) k ≡ released e (hold_at slots k)
+hold_at-released e [] k = refl
+hold_at-released e (hold ∷ slots) zero = refl
+hold_at-released e (hold ∷ slots) (suc k) = hold_at-released e slots k
+
 -- a death
 module _ (v : Slices) (r : Environments) (e : ℕ) (cause : Cause) (manned : IsManned v r) where
   gone : Environments
@@ -140,22 +155,13 @@ module _ (v : Slices) (r : Environments) (e : ℕ) (cause : Cause) (manned : IsM
       by_owner true is = tt
       by_owner false is = by_holder (h.holder == e) refl (eqb-false h.owner e is)
 
-  hold_at-released : (slots : List (Option Hold)) (k : ℕ) → hold_at (map (released e) slots) k ≡ released e (hold_at slots k)
-  hold_at-released [] k = refl
-  hold_at-released (hold ∷ slots) zero = refl
-  hold_at-released (hold ∷ slots) (suc k) = hold_at-released slots k
-
-  length-released : (slots : List (Option Hold)) → length (map (released e) slots) ≡ length slots
-  length-released [] = refl
-  length-released (hold ∷ slots) = ap suc (length-released slots)
-
   pub death_manned : is_runner e v.runner ≡ true → IsManned (without_env e v) (with_list r (changed (dead_frame cause) r.list e))
   death_manned runs = rw runs (record {
     quantum = manned.quantum;
     ticks = tt;
     runner = tt;
-    holds = λ k. rw (hold_at-released v.slots k) (released_undead (hold_at v.slots k) (manned.holds k));
-    count = omega (arith, length-released v.slots, manned.count);
+    holds = λ k. rw (hold_at-released e v.slots k) (released_undead (hold_at v.slots k) (manned.holds k));
+    count = omega (arith, length-map v.slots (released e), manned.count);
   })
 
 -- the consoles
@@ -168,65 +174,3 @@ put_consoles f consoles r e within are = record {
   count = length-changed f consoles e ∙ are.count;
   unwritten = λ i past. rw (changed_else f consoles e i (λ same. omega (arith, same, within, past))) (are.unwritten i past);
 }
-
--- Physical memory.
-pub sub_parted : (frames : List (List ℕ)) (taken : ℕ) (list new : List Environment) → IsParted frames taken list → ((i : ℕ) → (mappings_of new i ≡ mappings_of list i) ⊎ (mappings_of new i ≡ [])) → IsParted frames taken new
-sub_parted frames taken list new parted sub = record {
-  within = parted.within;
-  most = parted.most;
-  inside = λ i a m at. parted.inside i a m (back i a m at);
-  apart = λ i j a b m n at_a at_b same. parted.apart i j a b m n (back i a m at_a) (back j b n at_b) same;
-  rising = λ i. rise i (sub i);
-}
-  where
-    back : (i a : ℕ) (m : Mapping) → slice_get (mappings_of new i) a ≡ Some m → slice_get (mappings_of list i) a ≡ Some m
-    back i a m at = by_sub (sub i)
-      where
-        by_sub : (mappings_of new i ≡ mappings_of list i) ⊎ (mappings_of new i ≡ []) → slice_get (mappings_of list i) a ≡ Some m
-        by_sub (inl same) = ap (λ ms. slice_get ms a) (sym same) ∙ at
-        by_sub (inr none) = let gone : None ≡ Some m = ap (λ ms. slice_get ms a) (sym none) ∙ at in cc
-
-    rise : (i : ℕ) → (mappings_of new i ≡ mappings_of list i) ⊎ (mappings_of new i ≡ []) → IsRising (numbers (mappings_of new i))
-    rise i (inl same) = rw same (parted.rising i)
-    rise i (inr none) = rw none (λ a b before within. absurd (omega arith))
-
-kept_mappings : (cpu : Cpu) (list : List Environment) (e i : ℕ) → mappings_of (changed (with_registers cpu) list e) i ≡ mappings_of list i
-kept_mappings cpu [] e i = refl
-kept_mappings cpu (x ∷ list) zero zero = refl
-kept_mappings cpu (x ∷ list) zero (suc i) = refl
-kept_mappings cpu (x ∷ list) (suc e) zero = refl
-kept_mappings cpu (x ∷ list) (suc e) (suc i) = kept_mappings cpu list e i
-
-pub keep_parted : (cpu : Cpu) (frames : List (List ℕ)) (taken : ℕ) (list : List Environment) (e : ℕ) → IsParted frames taken list → IsParted frames taken (changed (with_registers cpu) list e)
-keep_parted cpu frames taken list e parted = sub_parted frames taken list _ parted (λ i. inl (kept_mappings cpu list e i))
-
-lost_mappings : (cause : Cause) (list : List Environment) (e i : ℕ) → (mappings_of (changed (dead_frame cause) list e) i ≡ mappings_of list i) ⊎ (mappings_of (changed (dead_frame cause) list e) i ≡ [])
-lost_mappings cause [] e i = inl refl
-lost_mappings cause (x ∷ list) zero zero = inr refl
-lost_mappings cause (x ∷ list) zero (suc i) = inl refl
-lost_mappings cause (x ∷ list) (suc e) zero = inl refl
-lost_mappings cause (x ∷ list) (suc e) (suc i) = lost_mappings cause list e i
-
-pub death_parted : (cause : Cause) (frames : List (List ℕ)) (taken : ℕ) (list : List Environment) (e : ℕ) → IsParted frames taken list → IsParted frames taken (changed (dead_frame cause) list e)
-death_parted cause frames taken list e parted = sub_parted frames taken list _ parted (λ i. lost_mappings cause list e i)
-
--- a store leaves the pages that nobody has
-module _ (frames : List (List ℕ)) (taken : ℕ) (list : List Environment) (e : ℕ) (parted : IsParted frames taken list) where
-  put_parted : (n offset : ℕ) (bytes : List ℕ) → IsParted (after_put frames n offset bytes) taken list
-  put_parted n offset bytes =
-      let size = length-set frames n (with_bytes (page_at frames n) offset bytes) in
-      record {
-        within = omega (arith, size, parted.within);
-        most = omega (arith, size, parted.most);
-        inside = parted.inside;
-        apart = parted.apart;
-        rising = parted.rising;
-      }
-
-  pub store_parted : (w : Option Write) → IsParted (frames_after frames (mapping_at (mappings_of list e)) w) taken list
-  store_parted None = parted
-  store_parted (Some w) = by_mapping (mapping_at (mappings_of list e) (w.address / page_size)) refl
-    where
-      by_mapping : (y : Option Mapping) → mapping_at (mappings_of list e) (w.address / page_size) ≡ y → IsParted (written_through frames w y) taken list
-      by_mapping None is = parted
-      by_mapping (Some m) is = put_parted m.page (w.address % page_size) w.bytes

@@ -1,5 +1,5 @@
 -- The turn and the timer, on the world that is shown.
-use Rattle.std.proofs.Common.{◌≡◌, ◌≢◌, ℕ, ◌-◌, ◌≤◌, ◌<◌, [], ◌∷◌, Bool, true, false, Option, Some, None, IsSome, refl, sym, ◌∙◌, ap, arith}
+use Rattle.std.proofs.Common.{◌≡◌, ◌≢◌, ℕ, ◌-◌, ◌≤◌, [], ◌∷◌, Bool, true, false, Option, Some, None, IsSome, refl, sym, ◌∙◌, ap, arith}
 use Rattle.std.specs.Prelude.{◌==◌, if◌then◌else◌, slice_get}
 use Rattle.std.specs.Option.{option_map}
 use Rattle.std.proofs.lemmas.Bool.{ne_eqb, eq-eqb, eqb-true, eqb-false}
@@ -14,7 +14,7 @@ use Rattle.world_model.specs.World.{World, after}
 use Rattle.world_model.specs.Tick as tick
 use Rattle.board_world.specs.declared.roster.Environment.{Environment}
 use Rattle.board_world.specs.Shown.{Shown, registers_in}
-use Rattle.board_world.specs.Showing.{world_of, book_of, solo_of, solo_or_absent, solo_seen, cpu_seen, pages_seen}
+use Rattle.board_world.specs.Showing.{world_of, book_of, solo_of, solo_or_absent, solo_seen, cpu_seen}
 use Rattle.board_world.specs.Sound.{IsSound}
 use Rattle.board_world.specs.Doing.{started, turned, turned_to, turned_when, stopped, counted, counted_down, ticked, with_registers}
 use Rattle.board_world.proofs.Lists.{changed_here, changed_else, length-changed}
@@ -28,23 +28,23 @@ idle_names b i none = ap (is_runner i) none
 
 -- the start of a slice
 module _ (b : Shown) (t : Turn) (x : Environment) (at : slice_get b.roster.list t.env ≡ Some x) (lives : x.life ≡ Live) (none : b.slots.runner ≡ None) where
-  waiting_seen : solo_of b t.env ≡ record { number = t.env; name = x.name; life = Live; cpu = x.env.cpu; kept = pages_seen b.frames x.env.mappings; console = (solo_seen b t.env x).console }
+  waiting_seen : solo_of b t.env ≡ record (solo_seen b t.env x) { life = Live; cpu = x.env.cpu }
   waiting_seen =
       let cpu : cpu_seen b t.env x.env.cpu ≡ x.env.cpu = rw (idle_names b t.env none) refl in
-      ap (solo_or_absent b t.env) at ∙ (λ k. record { number = t.env; name = x.name; life = lives k; cpu = cpu k; kept = pages_seen b.frames x.env.mappings; console = (solo_seen b t.env x).console })
+      ap (solo_or_absent b t.env) at ∙ (λ k. record (solo_seen b t.env x) { life = lives k; cpu = cpu k })
 
   starts : solo_of (started b t) t.env ≡ absorb_all (solo_of b t.env) (Start ∷ [])
   starts =
       let cpu : cpu_seen (started b t) t.env x.env.cpu ≡ rested x.env.cpu = rw (eq-eqb t.env t.env refl) (ap (λ y. rested (registers_in y)) at) in
       ap (solo_or_absent (started b t) t.env) at
-      ∙ (λ k. record { number = t.env; name = x.name; life = lives k; cpu = cpu k; kept = pages_seen b.frames x.env.mappings; console = (solo_seen b t.env x).console })
+      ∙ (λ k. record (solo_seen b t.env x) { life = lives k; cpu = cpu k })
       ∙ ap (λ s. absorb_all s (Start ∷ [])) (sym waiting_seen)
 
   pub started_world : world_of (started b t) ≡ after (world_of b) (tick.take_turn (world_of b) (Some t))
   started_world =
       worlds (world_of (started b t)) (after (world_of b) (tick.take_turn (world_of b) (Some t))) refl refl
       (one_absorbed (solo_of b) (solo_of (started b t)) t.env (Start ∷ []) starts
-      (λ i ne. same_solo i (started b t) b (record { record_is = refl; idles = ne_eqb t.env i (λ same. ne (sym same)); idled = idle_names b i none; pages = refl; console = refl })))
+      (λ i ne. same_solo i (started b t) b (record { record_is = refl; idles = ne_eqb t.env i (λ same. ne (sym same)); idled = idle_names b i none; pages = refl; binds = refl; sights = refl; console = refl })))
       refl
 
 -- a world in which nothing happens
@@ -85,7 +85,7 @@ module _ (b : Shown) (e : ℕ) (x : Environment) (r : Runs b e x) where
   stopped_solo =
       let cpu : cpu_seen b e x.env.cpu ≡ b.cpu = rw r.runs.its refl in
       ap (solo_or_absent (stopped b e) e) (changed_here (with_registers b.cpu) b.roster.list e ∙ ap (option_map (with_registers b.cpu)) r.at)
-      ∙ (λ k. record { number = e; name = x.name; life = x.life; cpu = sym cpu k; kept = pages_seen b.frames x.env.mappings; console = (solo_seen b e x).console })
+      ∙ (λ k. record (solo_seen b e x) { cpu = sym cpu k })
       ∙ sym (ap (solo_or_absent b e) r.at)
 
   pub stopped_others : (i : ℕ) → i ≢ e → solo_of (stopped b e) i ≡ solo_of b i
@@ -95,6 +95,8 @@ module _ (b : Shown) (e : ℕ) (x : Environment) (r : Runs b e x) where
         idles = refl;
         idled = r.runs.others i ne;
         pages = refl;
+        binds = refl;
+        sights = refl;
         console = refl;
       })
 
@@ -116,7 +118,7 @@ module _ (b : Shown) (r : Runner) (is : b.slots.runner ≡ Some r) (x : Environm
       worlds (world_of (ticked now)) (after (world_of b) (tick.go_on (world_of b) (Some (record { env = r.env; left = r.left - 1 }))))
       (λ k. record (book_of (ticked now)) { runner = left k })
       refl
-      (λ i. like_solo i (ticked now) b (record { record_is = refl; cpu = λ kept. ap (λ (t : Bool). if t then b.cpu else kept) (its i); pages = refl; console = refl }))
+      (λ i. like_solo i (ticked now) b (record { record_is = refl; cpu = λ kept. ap (λ (t : Bool). if t then b.cpu else kept) (its i); pages = refl; binds = refl; sights = refl; console = refl }))
       (sym (append_nothing b.ledger.rows))
       ∙ rw (ne_eqb (r.left - 1) 0 more) refl
 

@@ -1,19 +1,28 @@
 -- An environment whose pages are being given to it, one after another.
-use Rattle.std.specs.Prelude.{◌≡◌, ◌<◌, ◌+◌, ℕ, List, length, Some, slice_get}
+use Rattle.std.specs.Prelude.{◌≡◌, ◌≢◌, ◌+◌, ℕ, List, length}
 use Rattle.frame_store.specs.Pages.{page_at, zero_page}
-use Rattle.env_frames.specs.declared.mapping.Mapping.{Mapping}
+use Rattle.page_book.specs.declared.row.PageRow.{PageRow}
+use Rattle.page_book.specs.declared.row.PageRow.TheVariants.{Free}
+use Rattle.page_book.specs.Rows.{free_pages, row_in}
 use Rattle.world_model.specs.Page.{KeptPage}
-use Rattle.world_model.specs.Boot.{listed, open_page}
+use Rattle.world_model.specs.Boot.{keep_pages, listed, open_page}
 use Rattle.board_world.specs.Shown.{Shown}
 
--- its mappings lead to the pages from this one on, in order
-pub record IsLoading (first : ℕ) (mappings : List Mapping) : Type 0 where
-  pub placed : (k : ℕ) (m : Mapping) → slice_get mappings k ≡ Some m → m.page ≡ first + k
+-- physical memory has a page for each row
+abbrev pub HasPages : List (List ℕ) → List PageRow → Type 0
+HasPages frames pages = length frames ≡ length pages
 
--- the pages below this one stayed as they were, and none came or went
-pub record IsKeptBelow (first : ℕ) (old new : List (List ℕ)) : Type 0 where
+-- the pages that weren't free stayed as they were, and none came or went
+pub record AreLeft (pages : List PageRow) (old new : List (List ℕ)) : Type 0 where
   pub size : length new ≡ length old
-  pub lower : (n : ℕ) → n < first → page_at new n ≡ page_at old n
+  pub left : (n : ℕ) → row_in pages n ≢ Free → page_at new n ≡ page_at old n
+
+-- So many of the lowest free pages were guaranteed to an environment, and those that weren't free stayed as they were.
+pub record AreGiven (e count : ℕ) (old new : List PageRow) (before after : List (List ℕ)) : Type 0 where
+  pub rows : row_in new ≡ keep_pages e (length old) count (row_in old)
+  pub size : length new ≡ length old
+  pub free : free_pages old ≡ free_pages new + count
+  pub left : AreLeft old before after
 
 -- so many pages of zeros, from a page number on
 abbrev pub zeros_from : ℕ → ℕ → List KeptPage
@@ -22,6 +31,6 @@ zeros_from vpn count = listed (λ i. open_page (vpn + i) zero_page) count
 -- a board on which no program stands yet, with so many pages, and room for so many environments
 pub record IsBare (pages envs : ℕ) (b : Shown) : Type 0 where
   pub pages_are : length b.frames ≡ pages
-  pub taken : b.taken ≡ 0
+  pub free : free_pages b.pages ≡ pages
   pub spare : b.roster.spare ≡ envs
   pub time : b.time ≡ 0

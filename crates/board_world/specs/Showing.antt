@@ -3,11 +3,14 @@ use Rattle.std.specs.Prelude.{ℕ, if◌then◌else◌, List, map, length, Optio
 use Rattle.mips_exec.specs.declared.registers.Cpu.{Cpu}
 use Rattle.frame_store.specs.Pages.{page_at}
 use Rattle.env_frames.specs.declared.mapping.Mapping.{Mapping}
+use Rattle.page_book.specs.Rows.{row_in}
+use Rattle.bind_book.specs.Stripe.{stripes}
 use Rattle.slot_vector.specs.Slices.{hold_at}
 use Rattle.world_model.specs.Page.{KeptPage}
 use Rattle.world_model.specs.Book.{Book, is_runner}
-use Rattle.world_model.specs.Solo.{Solo, absent}
+use Rattle.world_model.specs.Solo.{Seen, Solo, absent}
 use Rattle.world_model.specs.World.{World}
+use Rattle.page_sight.specs.Sight.{seen_in}
 use Rattle.board_world.specs.declared.view.PageView.{PageView}
 use Rattle.board_world.specs.declared.roster.Environment.{Environment}
 use Rattle.board_world.specs.Shown.{Shown, console_of}
@@ -29,7 +32,11 @@ solo_seen b e x = record {
   name = x.name;
   life = x.life;
   cpu = cpu_seen b e x.env.cpu;
+  handlers = x.env.handlers;
+  mask = x.env.mask;
   kept = pages_seen b.frames x.env.mappings;
+  binds = stripes b.binds e;
+  seen = seen_in e (row_in b.pages) (stripes b.binds e) (page_at b.frames);
   console = console_of b.consoles e;
 }
 
@@ -48,6 +55,9 @@ book_of b = record {
   quantum = b.slots.quantum;
   cursor = b.slots.cursor;
   runner = b.slots.runner;
+  page_count = length b.pages;
+  pages = row_in b.pages;
+  binds = stripes b.binds;
   time = b.time;
 }
 
@@ -57,3 +67,8 @@ world_of b = record { book = book_of b; count = length b.roster.list; solos = so
 -- a page that is lent
 abbrev pub view_seen : PageView → KeptPage
 view_seen v = record { vpn = v.vpn; writable = v.writable; bytes = v.bytes.now }
+
+-- the bytes of a page that an environment sees, if it owns the page
+abbrev pub owned_bytes : Option Seen → Option (List ℕ)
+owned_bytes None = None
+owned_bytes (Some x) = if x.owned then Some x.bytes else None

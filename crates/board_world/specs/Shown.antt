@@ -3,8 +3,12 @@ use Rattle.std.specs.Prelude.{ℕ, zero, suc, List, [], ◌∷◌, Option, Some,
 use Rattle.kernel_journal.specs.Ledger.{Ledger}
 use Rattle.mips_exec.specs.declared.registers.Cpu.{Cpu}
 use Rattle.mips_exec.specs.Cpu.{blank_cpu}
+use Rattle.page_book.specs.declared.row.PageRow.{PageRow}
+use Rattle.bind_book.specs.declared.binding.Binding.{Binding}
 use Rattle.slot_vector.specs.Slices.{Slices}
+use Rattle.env_frames.specs.declared.context.Handlers.{Handlers}
 use Rattle.env_frames.specs.declared.mapping.Mapping.{Mapping}
+use Rattle.env_frames.specs.Context.{no_handlers}
 use Rattle.board_world.specs.declared.roster.Environment.{Environment}
 
 -- the environments so far, and how many more there is room for
@@ -12,11 +16,12 @@ pub record Environments : Type 0 where
   pub list : List Environment
   pub spare : ℕ
 
--- The pages of physical memory, of which so many are given out; the vector of slots; the registers of
--- the machine; the environments; what each wrote to its console; the time; and the ledger.
+-- The pages of physical memory; whose each of them is; the rows of all stripes of bindings; the vector of slots;
+-- the registers of the machine; the environments; what each wrote to its console; the time; and the ledger.
 pub record Shown : Type 0 where
   pub frames : List (List ℕ)
-  pub taken : ℕ
+  pub pages : List PageRow
+  pub binds : List (Option Binding)
   pub slots : Slices
   pub cpu : Cpu
   pub roster : Environments
@@ -31,6 +36,14 @@ mappings_in (Some x) = x.env.mappings
 -- the guaranteed mappings of an environment
 abbrev pub mappings_of : List Environment → ℕ → List Mapping
 mappings_of list e = mappings_in (slice_get list e)
+
+abbrev pub handlers_in : Option Environment → Handlers
+handlers_in None = no_handlers
+handlers_in (Some x) = x.env.handlers
+
+-- the handlers of an environment
+abbrev pub handlers_of : List Environment → ℕ → Handlers
+handlers_of list e = handlers_in (slice_get list e)
 
 abbrev pub registers_in : Option Environment → Cpu
 registers_in None = blank_cpu

@@ -1,7 +1,13 @@
 -- What holds of every board.
-use Rattle.std.specs.Prelude.{◌≡◌, ◌≤◌, ◌<◌, ◌+◌, ℕ, List, [], length, Option, Some, None, IfSome, slice_get}
+use Rattle.std.specs.Prelude.{◌≡◌, ◌≤◌, ◌<◌, ◌+◌, ◌*◌, ℕ, List, [], length, Option, Some, None, IfSome, slice_get}
 use Rattle.aegis_limits.specs.Limits.{most_environments, most_slots}
 use Rattle.frame_store.specs.Pages.{most_frames}
+use Rattle.page_book.specs.declared.row.PageRow.{PageRow}
+use Rattle.page_book.specs.declared.row.PageRow.TheVariants.{Free, Guaranteed, Owned}
+use Rattle.page_book.specs.Row.{owner_of}
+use Rattle.page_book.specs.Rows.{row_in}
+use Rattle.bind_book.specs.declared.binding.Binding.{Binding}
+use Rattle.bind_book.specs.Stripe.{stripe_rows, stripes}
 use Rattle.env_frames.specs.declared.mapping.Mapping.{Mapping}
 use Rattle.env_frames.specs.Frame.{IsRising, numbers}
 use Rattle.slot_vector.specs.Slices.{Slices, HasTicks, hold_at}
@@ -21,13 +27,29 @@ IsLive list e = (e < length list) × IsAlive (slice_get list e)
 abbrev pub IsUndead : Environments → ℕ → Type 0
 IsUndead r e = (e < length r.list + r.spare) × IfSome (slice_get r.list e) (λ x. x.life ≡ Live)
 
--- Physical memory: no page is mapped twice, and none that isn't given out is mapped.
-pub record IsParted (frames : List (List ℕ)) (taken : ℕ) (list : List Environment) : Type 0 where
-  pub within : taken ≤ length frames
+-- an environment's guaranteed mappings lead to pages that are guaranteed to it, each to one of its own
+pub record AreGuaranteed (pages : List PageRow) (e : ℕ) (mappings : List Mapping) : Type 0 where
+  pub its : (a : ℕ) (m : Mapping) → slice_get mappings a ≡ Some m → row_in pages m.page ≡ Guaranteed e
+  pub apart : (a b : ℕ) (m n : Mapping) → slice_get mappings a ≡ Some m → slice_get mappings b ≡ Some n → m.page ≡ n.page → a ≡ b
+  pub rising : IsRising (numbers mappings)
+
+-- Physical memory: each page has a row, and what is mapped is guaranteed.
+pub record IsParted (frames : List (List ℕ)) (pages : List PageRow) (list : List Environment) : Type 0 where
+  pub same : length frames ≡ length pages
   pub most : length frames ≤ most_frames
-  pub inside : (i a : ℕ) (m : Mapping) → slice_get (mappings_of list i) a ≡ Some m → m.page < taken
-  pub apart : (i j a b : ℕ) (m n : Mapping) → slice_get (mappings_of list i) a ≡ Some m → slice_get (mappings_of list j) b ≡ Some n → m.page ≡ n.page → (i ≡ j) × (a ≡ b)
-  pub rising : (i : ℕ) → IsRising (numbers (mappings_of list i))
+  pub mapped : (e : ℕ) → AreGuaranteed pages e (mappings_of list e)
+
+abbrev pub IsOwned : PageRow → Type 0
+IsOwned Free = ⊥
+IsOwned (Guaranteed owner) = ⊥
+IsOwned (Owned owner words) = Unit {0}
+
+-- The books: there is a stripe for each environment; pages and bindings are those of environments that live; and no page is bound that is free or guaranteed.
+pub record AreBooked (pages : List PageRow) (binds : List (Option Binding)) (r : Environments) : Type 0 where
+  pub striped : length binds ≡ (length r.list + r.spare) * stripe_rows
+  pub owners : (page e : ℕ) → owner_of (row_in pages page) ≡ Some e → IsLive r.list e
+  pub binders : (e row : ℕ) (x : Binding) → stripes binds e row ≡ Some x → IsLive r.list e
+  pub bound : (e row : ℕ) (x : Binding) → stripes binds e row ≡ Some x → IsOwned (row_in pages x.page)
 
 -- The slots: a runner lives and has ticks left, and whoever owns or holds a slot isn't dead.
 pub record IsManned (v : Slices) (r : Environments) : Type 0 where
@@ -47,4 +69,5 @@ pub record AreConsoles (consoles : List (List ℕ)) (r : Environments) : Type 0 
 pub record IsSound (b : Shown) : Type 0 where
   pub book : IsManned b.slots b.roster
   pub consoles : AreConsoles b.consoles b.roster
-  pub memory : IsParted b.frames b.taken b.roster.list
+  pub memory : IsParted b.frames b.pages b.roster.list
+  pub books : AreBooked b.pages b.binds b.roster

@@ -1,10 +1,10 @@
 //! The environments of a board.
 ghost use Rattle.std.specs.Prelude.{◌≡◌, ◌<◌, ◌≤◌, ◌-◌, [], ◌∷◌, ◌++◌, length, slice_get, Some, IfOk};
-ghost use Rattle.board_world.specs.Shown.{changed, mappings_of, registers_of, with_list};
-ghost use Rattle.board_world.specs.Doing.{with_registers, dead_frame};
+ghost use Rattle.board_world.specs.Shown.{changed, handlers_of, mappings_of, registers_of, with_list};
+ghost use Rattle.board_world.specs.Doing.{with_registers, handling, dead_frame};
 
 use edge_io::OutOfMemory;
-use env_frames::Env;
+use env_frames::{Context, Env};
 use mips_exec::Cpu;
 use std::alloc::Global;
 use std::marker::Model;
@@ -16,7 +16,7 @@ pub struct Environment {
     /// One to eight characters, then zeros.
     pub name: [u8; 8],
     pub life: Life,
-    /// Its registers while it doesn't run, and its guaranteed mappings.
+    /// Its registers while it doesn't run, its handlers, and its guaranteed mappings.
     pub env: Env,
 }
 
@@ -70,6 +70,7 @@ impl Roster {
         requires { env < length self.now.list }
         ensures mappings { result.now.mappings ≡ mappings_of self.now.list env }
         ensures registers { result.now.cpu ≡ registers_of self.now.list env }
+        ensures handlers { result.now.handlers ≡ handlers_of self.now.list env }
     {
         &self.at(env).env
     }
@@ -91,6 +92,14 @@ impl Roster {
         keep_in(&mut self.list, usize::from(env), cpu);
     }
 
+    /// The handler of exceptions of the environment of this number stands at an address from now on; 0 is none.
+    pub fn handle(&mut self, env: u8, address: u32)
+        requires { env < length self.old.list }
+        ensures { self.new ≡ with_list self.old (changed (handling address) self.old.list env) }
+    {
+        handle_in(&mut self.list, usize::from(env), address);
+    }
+
     /// The environment of this number dies: its registers and its mappings go.
     pub fn die(&mut self, env: u8, cause: Cause)
         requires { env < length self.old.list }
@@ -107,6 +116,15 @@ fn keep_in(list: &mut [Environment], place: usize, cpu: &Cpu)
 {
     let environment = &mut list[place];
     environment.env.keep(cpu);
+}
+
+/// Sets the handler of exceptions of the environment at a place.
+fn handle_in(list: &mut [Environment], place: usize, address: u32)
+    requires { place < length list.old }
+    ensures { list.new ≡ changed (handling address) list.old place }
+{
+    let environment = &mut list[place];
+    environment.env.set_handler(Context::Exception, address);
 }
 
 /// The environment at a place dies.

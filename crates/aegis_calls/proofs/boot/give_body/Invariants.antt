@@ -4,19 +4,22 @@ use Rattle.std.specs.Prelude.{max}
 use Rattle.env_frames.specs.Frame.{IsAbove}
 use Rattle.segment_pages.specs.Pages.{pages_from, page_numbers}
 use Rattle.world_model.specs.Boot.{body_page}
-use Rattle.board_world.specs.Loading.{IsLoading, IsKeptBelow}
+use Rattle.board_world.specs.Loading.{AreGiven, HasPages}
 use Rattle.board_world.specs.Showing.{pages_seen}
+use Rattle.board_world.specs.Sound.{AreGuaranteed}
 use Rattle.aegis_calls.proofs.boot.give_body.Given as goal
 
 abbrev pub invariant-loop-vpn : goal.invariant-loop-vpn
 invariant-loop-vpn l = record {
-  loading : IsLoading l.first l.env.mappings;
-  below : IsKeptBelow l.first l.fn.frames l.frames;
-  pages : pages_seen l.frames l.env.mappings ++ map (body_page l.body) (pages_from l.body l.from) ≡ pages_seen l.fn.frames l.fn.env.mappings ++ map (body_page l.body) (page_numbers l.body);
+  guaranteed : AreGuaranteed l.pages l.number l.env.mappings;
+  same : HasPages l.frames l.pages;
+  given : AreGiven l.number (length l.env.mappings - length l.fn.env.mappings) l.fn.pages l.pages l.fn.frames l.frames;
+  seen : pages_seen l.frames l.env.mappings ++ map (body_page l.body) (pages_from l.body l.from) ≡ pages_seen l.fn.frames l.fn.env.mappings ++ map (body_page l.body) (page_numbers l.body);
   above : IsAbove l.env.mappings (max 2 l.from);
   numbers : l.from ≤ 0x7FF00;
+  more : length l.fn.env.mappings ≤ length l.env.mappings;
   count : length l.env.mappings + length (pages_from l.body l.from) ≡ length l.fn.env.mappings + length (page_numbers l.body);
-  cpu : l.env.cpu ≡ l.fn.env.cpu;
+  rest : l.env ≡ record l.fn.env { mappings = l.env.mappings };
 }
 
 abbrev pub decreases-loop-vpn : goal.decreases-loop-vpn

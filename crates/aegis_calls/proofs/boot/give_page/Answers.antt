@@ -1,9 +1,20 @@
--- The page is the next one, and was filled from the body.
+-- The page was free, and was filled from the body.
 use Rattle.segment_pages.specs.Pages.{is_writable, page_bytes}
-use Rattle.board_world.proofs.Giving.{given_page}
+use Rattle.board_world.proofs.Giving.{given_guaranteed, given_page}
 use Rattle.aegis_calls.proofs.boot.give_page.Goals as goal
 
-pub returns-clause-pages : goal.returns-clause-pages
-returns-clause-pages c =
-    rw (c.guarantee.ensures.mapping, c.mappings.ensures.value, c.fill_page.ensures, c.is_writable.ensures)
-    (given_page c.args.frames.now c.args.first c.args.vpn (is_writable c.args.body.now c.args.vpn) (page_bytes c.args.body.now c.args.vpn) c.args.env.now.mappings c.requires.loading c.requires.there)
+pub returns-clause-seen : goal.returns-clause-seen
+returns-clause-seen c =
+    let kept = c.keep_page-page.ensures in
+    let writable = is_writable c.args.body.now c.args.vpn in
+    let bytes = page_bytes c.args.body.now c.args.vpn in
+    rw (c.guarantee.ensures.mapping, c.fill_page.ensures, c.is_writable.ensures)
+    (given_page c.args.frames.now c.args.pages.now c.args.number c.args.vpn c.keep_page-page.result writable bytes c.args.env.now.mappings c.requires.guaranteed kept.there kept.was_free c.requires.same)
+
+pub returns-clause-guaranteed : goal.returns-clause-guaranteed
+returns-clause-guaranteed c =
+    let kept = c.keep_page-page.ensures in
+    let writable = is_writable c.args.body.now c.args.vpn in
+    let bytes = page_bytes c.args.body.now c.args.vpn in
+    rw (c.guarantee.ensures.mapping, c.is_writable.ensures, kept.after)
+    (given_guaranteed c.args.frames.now c.args.pages.now c.args.number c.args.vpn c.keep_page-page.result writable bytes c.args.env.now.mappings c.requires.guaranteed kept.there kept.was_free c.requires.above)

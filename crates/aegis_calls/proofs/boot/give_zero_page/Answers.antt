@@ -1,10 +1,17 @@
--- The page is the next one, and was made zero.
+-- The page was free, and was made zero.
 use Rattle.std.specs.Prelude.{true}
 use Rattle.frame_store.specs.Pages.{zero_page}
-use Rattle.board_world.proofs.Giving.{given_page}
+use Rattle.board_world.proofs.Giving.{given_guaranteed, given_page}
 use Rattle.aegis_calls.proofs.boot.give_zero_page.Goals as goal
 
-pub returns-clause-pages : goal.returns-clause-pages
-returns-clause-pages c =
-    rw (c.zero.ensures, c.guarantee.ensures.mapping, c.mappings.ensures.value)
-    (given_page c.args.frames.now c.args.first c.args.vpn true zero_page c.args.env.now.mappings c.requires.loading c.requires.there)
+pub returns-clause-seen : goal.returns-clause-seen
+returns-clause-seen c =
+    let kept = c.keep_page-page.ensures in
+    rw (c.zero.ensures, c.guarantee.ensures.mapping)
+    (given_page c.args.frames.now c.args.pages.now c.args.number c.args.vpn c.keep_page-page.result true zero_page c.args.env.now.mappings c.requires.guaranteed kept.there kept.was_free c.requires.same)
+
+pub returns-clause-guaranteed : goal.returns-clause-guaranteed
+returns-clause-guaranteed c =
+    let kept = c.keep_page-page.ensures in
+    rw (c.guarantee.ensures.mapping, kept.after)
+    (given_guaranteed c.args.frames.now c.args.pages.now c.args.number c.args.vpn c.keep_page-page.result true zero_page c.args.env.now.mappings c.requires.guaranteed kept.there kept.was_free c.requires.above)

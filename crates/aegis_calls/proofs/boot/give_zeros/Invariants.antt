@@ -3,16 +3,18 @@ use Rattle.std.proofs.Common.{◌≡◌, ◌+◌, ◌++◌, length}
 use Rattle.env_frames.specs.Frame.{IsAbove}
 use Rattle.world_model.specs.Boot.{listed, open_page}
 use Rattle.frame_store.specs.Pages.{zero_page}
-use Rattle.board_world.specs.Loading.{IsLoading, IsKeptBelow}
+use Rattle.board_world.specs.Loading.{AreGiven, HasPages}
 use Rattle.board_world.specs.Showing.{pages_seen}
+use Rattle.board_world.specs.Sound.{AreGuaranteed}
 use Rattle.aegis_calls.proofs.boot.give_zeros.Given as goal
 
 abbrev pub invariant-loop-i : goal.invariant-loop-i
 invariant-loop-i l = record {
-  loading : IsLoading l.first l.env.mappings;
-  below : IsKeptBelow l.first l.fn.frames l.frames;
-  pages : pages_seen l.frames l.env.mappings ≡ pages_seen l.fn.frames l.fn.env.mappings ++ listed (λ i. open_page (l.vpn + i) zero_page) l.i;
+  guaranteed : AreGuaranteed l.pages l.number l.env.mappings;
+  same : HasPages l.frames l.pages;
+  given : AreGiven l.number l.i l.fn.pages l.pages l.fn.frames l.frames;
+  seen : pages_seen l.frames l.env.mappings ≡ pages_seen l.fn.frames l.fn.env.mappings ++ listed (λ i. open_page (l.vpn + i) zero_page) l.i;
   above : IsAbove l.env.mappings (l.vpn + l.i);
   count : length l.env.mappings ≡ length l.fn.env.mappings + l.i;
-  cpu : l.env.cpu ≡ l.fn.env.cpu;
+  rest : l.env ≡ record l.fn.env { mappings = l.env.mappings };
 }

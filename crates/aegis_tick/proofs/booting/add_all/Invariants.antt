@@ -1,6 +1,7 @@
 -- The programs so far stand on the board, and there is room for the rest.
 use Rattle.std.proofs.Common.{◌≡◌, ◌+◌, length, take}
 use Rattle.std.specs.Prelude.{fold, sum_by}
+use Rattle.page_book.specs.Rows.{free_pages}
 use Rattle.boot_image.specs.ImageValue.{guaranteed_mappings}
 use Rattle.world_model.specs.Boot.{added}
 use Rattle.board_world.specs.Showing.{world_of}
@@ -10,6 +11,6 @@ abbrev pub invariant-loop-program : goal.invariant-loop-program
 invariant-loop-program l = record {
   world : world_of l.board ≡ fold added (world_of l.fn.board) (take l.program-index l.programs);
   room : l.board.roster.spare + l.program-index ≡ length l.programs;
-  taken : l.board.taken ≡ l.fn.board.taken + sum_by guaranteed_mappings (take l.program-index l.programs);
+  free : free_pages l.fn.board.pages ≡ free_pages l.board.pages + sum_by guaranteed_mappings (take l.program-index l.programs);
   pages : length l.board.frames ≡ length l.fn.board.frames;
 }

@@ -12,4 +12,5 @@ invariant_of-self c =
       book = c.self.invariant.book;
       consoles = rw c.put.ensures (put_consoles _ b.consoles b.roster c.args.env (runner_within b.slots b.roster c.args.env c.self.invariant.book (ap (λ (s : Shown). running s.slots.runner) c.self.view_is ∙ c.requires.runs)) c.self.invariant.consoles);
       memory = c.self.invariant.memory;
+      books = c.self.invariant.books;
     }

@@ -10,7 +10,9 @@ use Rattle.board_world.specs.Doing.{dead_frame, died, mask_rows, with_rows}
 use Rattle.board_world.proofs.Lists.{length-changed}
 use Rattle.board_world.proofs.Masks.{rows_named}
 use Rattle.board_world.proofs.Seen.{named}
-use Rattle.board_world.proofs.Sound.{death_manned, same_consoles, death_parted}
+use Rattle.board_world.proofs.Booked.{death_booked}
+use Rattle.board_world.proofs.Parted.{death_parted}
+use Rattle.board_world.proofs.Sound.{death_manned, same_consoles}
 use Rattle.aegis_calls.proofs.board.Board.die.Goals as goal
 
 pub invariant_of-self : goal.invariant_of-self
@@ -20,7 +22,8 @@ invariant_of-self c =
     record {
       book = rw (c.release_env-mask.ensures.after, c.die.ensures) (death_manned b.slots b.roster c.args.env c.args.cause c.self.invariant.book runs.its);
       consoles = rw c.die.ensures (same_consoles b.consoles b.roster _ c.self.invariant.consoles (length-changed (dead_frame c.args.cause) b.roster.list c.args.env));
-      memory = rw c.die.ensures (death_parted c.args.cause b.frames b.taken b.roster.list c.args.env c.self.invariant.memory);
+      memory = rw (c.release_env.ensures, c.die.ensures) (death_parted c.args.cause b.frames b.pages b.roster.list c.args.env c.self.invariant.memory);
+      books = rw (c.release_env.ensures, c.clear_env.ensures.after, c.die.ensures) (death_booked c.args.cause b.pages b.bindings b.roster c.args.env c.self.invariant.books);
     }
 
 pub push_slots-requires : goal.push_slots-requires
@@ -49,7 +52,8 @@ returns c =
     ∙ ap (with_rows (with_row b.journal (row.Dead b.time b.slots.cursor e))) (rows_named b.time e b.slots.slots) in
     (λ k. record {
       frames = b.frames;
-      taken = b.taken;
+      pages = c.release_env.ensures k;
+      binds = c.clear_env.ensures.after k;
       slots = gone.ensures.after k;
       cpu = b.cpu;
       roster = c.die.ensures k;

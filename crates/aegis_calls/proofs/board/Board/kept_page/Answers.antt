@@ -4,6 +4,7 @@ use Rattle.std.specs.Prelude.{List, slice_get, slice_index_or}
 use Rattle.std.proofs.lemmas.Option.{slice_get-get_or}
 use Rattle.env_frames.specs.declared.mapping.Mapping.{Mapping}
 use Rattle.board_world.specs.Shown.{Shown}
+use Rattle.board_world.proofs.Seen.{guaranteed_there}
 use Rattle.aegis_calls.proofs.board.Board.kept_page.Goals as goal
 
 abbrev pub no_mapping : Mapping
@@ -13,4 +14,4 @@ pub page_through-requires : goal.page_through-requires
 page_through-requires c =
     let ms = c.mappings-mappings.result.now in
     let at = ap (λ (xs : List Mapping). slice_get xs c.args.place) (sym c.frame.ensures.mappings ∙ sym c.mappings-mappings.ensures.value) ∙ slice_get-get_or ms c.args.place no_mapping c.if-place-mappings.false in
-    omega (arith, c.self.invariant.memory.inside c.args.env c.args.place (slice_index_or ms c.args.place no_mapping) at, c.self.invariant.memory.within, ap (λ (b : Shown). length b.frames) c.self.view_is)
+    omega (arith, guaranteed_there c.self.inside.frames c.self.inside.pages c.self.inside.roster.list c.self.invariant.memory c.args.env c.args.place (slice_index_or ms c.args.place no_mapping) at, ap (λ (b : Shown). length b.frames) c.self.view_is)

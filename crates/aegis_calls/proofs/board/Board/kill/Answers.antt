@@ -1,6 +1,5 @@
 -- A death is the model's.
 use Rattle.std.proofs.Common.{ap, ◌∙◌, subst}
-use Rattle.board_world.specs.Shown.{Shown}
 use Rattle.board_world.specs.Showing.{world_of}
 use Rattle.board_world.specs.Sound.{IsSound}
 use Rattle.board_world.proofs.Serving.{death_serves, died_world}

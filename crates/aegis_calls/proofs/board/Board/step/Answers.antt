@@ -14,3 +14,13 @@ pub returns-in-Some-clause-room : goal.returns-in-Some-clause-room
 returns-in-Some-clause-room c =
     let leaves = came_leaves c.args.self.now c.in-Some.env (step_seen c.args.self.now c.in-Some.env) (subst IsSound c.self.view_is c.self.invariant) (sym c.runner.ensures ∙ c.in-Some.is) in
     omega (arith, leaves.room, ap (λ (b : Shown). b.ledger.spare) c.run_step.ensures)
+
+pub returns-in-Some-clause-time : goal.returns-in-Some-clause-time
+returns-in-Some-clause-time c =
+    let leaves = came_leaves c.args.self.now c.in-Some.env (step_seen c.args.self.now c.in-Some.env) (subst IsSound c.self.view_is c.self.invariant) (sym c.runner.ensures ∙ c.in-Some.is) in
+    ap (λ (b : Shown). b.time) c.run_step.ensures ∙ leaves.time
+
+pub returns-in-Some-clause-whole : goal.returns-in-Some-clause-whole
+returns-in-Some-clause-whole c =
+    let leaves = came_leaves c.args.self.now c.in-Some.env (step_seen c.args.self.now c.in-Some.env) (subst IsSound c.self.view_is c.self.invariant) (sym c.runner.ensures ∙ c.in-Some.is) in
+    ap (λ (b : Shown). b.roster.spare) c.run_step.ensures ∙ leaves.spare

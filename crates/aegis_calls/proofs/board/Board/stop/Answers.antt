@@ -7,4 +7,5 @@ invariant_of-self c = record {
   book = rw c.give_up.ensures (end_manned c.self.inside.slots c.self.inside.roster c.self.invariant.book);
   consoles = c.self.invariant.consoles;
   memory = c.self.invariant.memory;
+  books = c.self.invariant.books;
 }

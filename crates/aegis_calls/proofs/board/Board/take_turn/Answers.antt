@@ -12,4 +12,5 @@ invariant_of-self c = record {
   book = rw (c.next_turn.ensures.after, c.in-Some.is) (turn_manned c.self.inside.slots c.self.inside.roster c.in-Some.turn c.self.invariant.book (ap (λ (b : Shown). b.roster.spare) c.self.view_is ∙ c.requires.whole) (sym c.next_turn.ensures.turn ∙ c.in-Some.is));
   consoles = c.self.invariant.consoles;
   memory = c.self.invariant.memory;
+  books = c.self.invariant.books;
 }

@@ -1,0 +1,155 @@
+-- The books stay sound: pages and bindings are those of environments that live, and what is bound is owned.
+use Rattle.std.proofs.Common.{◌≡◌, ◌≢◌, ℕ, ◌+◌, ◌*◌, ◌<◌, List, length, map, Bool, true, false, Option, Some, None, refl, sym, ◌∙◌, ap, subst, arith, inl, inr, get_or-set_same, length-set}
+use Rattle.std.specs.Prelude.{◌==◌, ◌&&◌, if◌then◌else◌, slice_set}
+use Rattle.std.proofs.lemmas.Bool.{cases_eq, eq-eqb, eqb-true, eqb-false, or_parts}
+use Rattle.page_book.specs.declared.row.Capabilities.{Capabilities}
+use Rattle.page_book.specs.declared.row.PageRow.{PageRow}
+use Rattle.page_book.specs.declared.row.PageRow.TheVariants.{Free, Guaranteed, Owned}
+use Rattle.page_book.specs.Row.{belongs_to, owner_of, released}
+use Rattle.page_book.specs.Rows.{row_in}
+use Rattle.bind_book.specs.declared.binding.Binding.{Binding}
+use Rattle.bind_book.specs.Stripe.{HasStripe, breaks_page, goes_with, place_of, row_of, stripe_rows, stripes, swept, without}
+use Rattle.bind_book.proofs.Rows.{row_set}
+use Rattle.bind_book.proofs.Swept.{length-swept, swept_row}
+use Rattle.world_model.specs.declared.life.Cause.{Cause}
+use Rattle.board_world.specs.declared.roster.Environment.{Environment}
+use Rattle.board_world.specs.Shown.{Environments, changed, with_list}
+use Rattle.board_world.specs.Sound.{AreBooked, IsAlive, IsLive, IsOwned}
+use Rattle.board_world.specs.Doing.{dead_frame}
+use Rattle.board_world.proofs.Lists.{changed_else, length-changed}
+use Rattle.board_world.proofs.Parted.{other_row}
+use Rattle.board_world.proofs.Seen.{row_within}
+use Rattle.board_world.proofs.Sound.{Keeps, kept_live}
+use Rattle.board_world.proofs.Tables.{row_released}
+
+-- each environment of the board has a stripe
+pub its_stripe : (pages : List PageRow) (binds : List (Option Binding)) (r : Environments) (e : ℕ) → AreBooked pages binds r → e < length r.list → HasStripe binds e
+its_stripe pages binds r e are within = omega (arith, are.striped, within)
+
+-- a change of an environment that leaves its life
+pub keep_booked : (f : Environment → Environment) → Keeps f → (pages : List PageRow) (binds : List (Option Binding)) (r : Environments) (e : ℕ) → AreBooked pages binds r → AreBooked pages binds (with_list r (changed f r.list e))
+keep_booked f keeps pages binds r e are = record {
+  striped = are.striped ∙ ap (λ n. (n + r.spare) * stripe_rows) (sym (length-changed f r.list e));
+  owners = λ page i is. kept_live f keeps r.list e i (are.owners page i is);
+  binders = λ i row x is. kept_live f keeps r.list e i (are.binders i row x is);
+  bound = are.bound;
+}
+
+-- what holds of the row that a page got, and of those of the others
+by_page : (P : PageRow → Type 0) (pages : List PageRow) (page p : ℕ) (row : PageRow) → page < length pages → (p ≡ page → P row) → (p ≢ page → P (row_in pages p)) → P (row_in (slice_set pages page row) p)
+by_page P pages page p row within here others =
+    elim (cases_eq p page) [
+      | inl same ↦ subst P (sym (ap (row_in (slice_set pages page row)) same ∙ get_or-set_same pages page row Free within)) (here same)
+      | inr other ↦ subst P (sym (other_row pages page p row other)) (others other)
+    ]
+
+-- a page becomes an environment's that lives, or stays so with other words
+pub owned_booked : (pages : List PageRow) (binds : List (Option Binding)) (r : Environments) (page e : ℕ) (words : Capabilities) → page < length pages → IsLive r.list e → AreBooked pages binds r → AreBooked (slice_set pages page (Owned e words)) binds r
+owned_booked pages binds r page e words within lives are = record {
+  striped = are.striped;
+  owners = λ p i. by_page (λ row. owner_of row ≡ Some i → IsLive r.list i) pages page p (Owned e words) within (λ same is. let its : e ≡ i = cc in subst (IsLive r.list) its lives) (λ other. are.owners p i);
+  binders = are.binders;
+  bound = λ i row x is. by_page IsOwned pages page x.page (Owned e words) within (λ same. tt) (λ other. are.bound i row x is);
+}
+
+-- what a sweep leaves was there, and isn't broken
+left_row : (broken : Binding → Bool) (row : Option Binding) (x : Binding) → without broken row ≡ Some x → (row ≡ Some x) × (broken x ≡ false)
+left_row broken None x is = cc
+left_row broken (Some y) x is = by_test (broken y) refl is
+  where
+    by_test : (t : Bool) → broken y ≡ t → (if t then None else Some y) ≡ Some x → (Some y ≡ Some x) × (broken x ≡ false)
+    by_test true gone is = cc
+    by_test false spared is = let same : y ≡ x = cc in (is, ap broken (sym same) ∙ spared)
+
+left_binding : (broken : ℕ → Binding → Bool) (binds : List (Option Binding)) (e row : ℕ) (x : Binding) → stripes (swept broken binds) e row ≡ Some x → (stripes binds e row ≡ Some x) × (broken e x ≡ false)
+left_binding broken binds e row x is = left_row (broken e) (stripes binds e row) x (sym (swept_row broken binds e row) ∙ is)
+
+-- bindings are broken
+pub sweep_booked : (broken : ℕ → Binding → Bool) (pages : List PageRow) (binds : List (Option Binding)) (r : Environments) → AreBooked pages binds r → AreBooked pages (swept broken binds) r
+sweep_booked broken pages binds r are = record {
+  striped = length-swept broken binds ∙ are.striped;
+  owners = are.owners;
+  binders = λ i row x is. are.binders i row x (left_binding broken binds i row x is).0;
+  bound = λ i row x is. are.bound i row x (left_binding broken binds i row x is).0;
+}
+
+-- a page is freed, and all bindings of it are broken
+pub free_booked : (pages : List PageRow) (binds : List (Option Binding)) (r : Environments) (page : ℕ) → page < length pages → AreBooked pages binds r → AreBooked (slice_set pages page Free) (swept (breaks_page page None) binds) r
+free_booked pages binds r page within are = record {
+  striped = length-swept (breaks_page page None) binds ∙ are.striped;
+  owners = λ p i. by_page (λ row. owner_of row ≡ Some i → IsLive r.list i) pages page p Free within (λ same is. cc) (λ other. are.owners p i);
+  binders = λ i row x is. are.binders i row x (left_binding (breaks_page page None) binds i row x is).0;
+  bound = λ i row x is.
+      let before = left_binding (breaks_page page None) binds i row x is in
+      by_page IsOwned pages page x.page Free within (λ same. of_page i x same before.1) (λ other. are.bound i row x before.0);
+}
+  where
+    of_page : (i : ℕ) (x : Binding) → x.page ≡ page → breaks_page page None i x ≡ false → ⊥
+    of_page i x same spared = let broken : breaks_page page None i x ≡ true = rw (eq-eqb x.page page same) refl in cc
+
+-- a row of a stripe takes a binding, or none
+module _ (pages : List PageRow) (binds : List (Option Binding)) (r : Environments) (e row : ℕ) (y : Option Binding) (are : AreBooked pages binds r) (lives : IsLive r.list e) (below : row < stripe_rows) where
+  here_or_before : (i at : ℕ) (x : Binding) → stripes (slice_set binds (place_of e row) y) i at ≡ Some x → (P : Type 0) → (i ≡ e → y ≡ Some x → P) → (stripes binds i at ≡ Some x → P) → P
+  here_or_before i at x is P here before = by_test (i == e) (at == row) refl (sym (row_set binds e row y (its_stripe pages binds r e are lives.0) below i at) ∙ is)
+    where
+      by_test : (its same : Bool) → (i == e) ≡ its → (if its && same then y else stripes binds i at) ≡ Some x → P
+      by_test true true env is = here (eqb-true i e env) is
+      by_test true false env is = before is
+      by_test false same env is = before is
+
+  pub row_booked : ((x : Binding) → y ≡ Some x → IsOwned (row_in pages x.page)) → AreBooked pages (slice_set binds (place_of e row) y) r
+  row_booked owned = record {
+    striped = length-set binds (place_of e row) y ∙ are.striped;
+    owners = are.owners;
+    binders = λ i at x is. here_or_before i at x is (IsLive r.list i) (λ same its. subst (IsLive r.list) (sym same) lives) (are.binders i at x);
+    bound = λ i at x is. here_or_before i at x is (IsOwned (row_in pages x.page)) (λ same its. owned x its) (are.bound i at x);
+  }
+
+-- a page number is bound, to a page that somebody owns
+pub bind_booked : (pages : List PageRow) (binds : List (Option Binding)) (r : Environments) (e : ℕ) (x : Binding) → IsLive r.list e → IsOwned (row_in pages x.page) → AreBooked pages binds r → AreBooked pages (slice_set binds (place_of e (row_of x.vpn)) (Some x)) r
+bind_booked pages binds r e x lives owned are = row_booked pages binds r e (row_of x.vpn) (Some x) are lives (row_within x.vpn) (λ y is. let same : x ≡ y = cc in subst (λ (z : Binding). IsOwned (row_in pages z.page)) same owned)
+
+-- or unbound, if it was bound
+pub unbind_booked : (pages : List PageRow) (binds : List (Option Binding)) (r : Environments) (e vpn : ℕ) (bound : Bool) → IsLive r.list e → AreBooked pages binds r → AreBooked pages (if bound then slice_set binds (place_of e (row_of vpn)) None else binds) r
+unbind_booked pages binds r e vpn true lives are = row_booked pages binds r e (row_of vpn) None are lives (row_within vpn) (λ x is. cc)
+unbind_booked pages binds r e vpn false lives are = are
+
+-- an environment dies
+module _ (cause : Cause) (pages : List PageRow) (binds : List (Option Binding)) (r : Environments) (e : ℕ) (are : AreBooked pages binds r) where
+  others_live : (i : ℕ) → i ≢ e → IsLive r.list i → IsLive (changed (dead_frame cause) r.list e) i
+  others_live i other live = (omega (arith, live.0, length-changed (dead_frame cause) r.list e), subst IsAlive (sym (changed_else (dead_frame cause) r.list e i other)) live.1)
+
+  -- what is left has an owner that isn't gone
+  owner_left : (row : PageRow) (i : ℕ) → owner_of (released e row) ≡ Some i → (owner_of row ≡ Some i) × (i ≢ e)
+  owner_left row i is = by_test (belongs_to e row) refl is
+    where
+      not_its : (row : PageRow) → belongs_to e row ≡ false → owner_of row ≡ Some i → i ≢ e
+      not_its Free stays owns same = cc
+      not_its (Guaranteed owner) stays owns same = let its : owner ≡ i = cc in eqb-false owner e stays (its ∙ same)
+      not_its (Owned owner words) stays owns same = let its : owner ≡ i = cc in eqb-false owner e stays (its ∙ same)
+
+      by_test : (t : Bool) → belongs_to e row ≡ t → owner_of (if t then Free else row) ≡ Some i → (owner_of row ≡ Some i) × (i ≢ e)
+      by_test true gone owns = cc
+      by_test false stays owns = (owns, not_its row stays owns)
+
+  -- what is still bound was neither the dead one's binding, nor of its page
+  still_bound : (i row : ℕ) (x : Binding) → stripes (swept (goes_with (row_in pages) e) binds) i row ≡ Some x → (stripes binds i row ≡ Some x) × ((i ≢ e) × (belongs_to e (row_in pages x.page) ≡ false))
+  still_bound i row x is =
+      let before = left_binding (goes_with (row_in pages) e) binds i row x is in
+      let parts = or_parts (i == e) (belongs_to e (row_in pages x.page)) before.1 in
+      (before.0, (eqb-false i e parts.0, parts.1))
+
+  still_owned : (row : PageRow) → belongs_to e row ≡ false → IsOwned row → IsOwned (released e row)
+  still_owned row stays owned = rw stays owned
+
+  pub death_booked : AreBooked (map (released e) pages) (swept (goes_with (row_in pages) e) binds) (with_list r (changed (dead_frame cause) r.list e))
+  death_booked = record {
+    striped = length-swept (goes_with (row_in pages) e) binds ∙ are.striped ∙ ap (λ n. (n + r.spare) * stripe_rows) (sym (length-changed (dead_frame cause) r.list e));
+    owners = λ p i is.
+        let left = owner_left (row_in pages p) i (ap owner_of (sym (row_released e pages p)) ∙ is) in
+        others_live i left.1 (are.owners p i left.0);
+    binders = λ i row x is. let was = still_bound i row x is in others_live i was.1.0 (are.binders i row x was.0);
+    bound = λ i row x is.
+        let was = still_bound i row x is in
+        subst IsOwned (sym (row_released e pages x.page)) (still_owned (row_in pages x.page) was.1.1 (are.bound i row x was.0));
+  }

@@ -1,0 +1,150 @@
+-- The runner's death, on the world that is shown.
+use Rattle.std.proofs.Common.{◌≡◌, ◌≢◌, ◌≤◌, ℕ, List, [], ◌∷◌, length, map, suc, zero, Bool, true, false, Option, Some, None, refl, sym, ◌∙◌, ap, arith, append_assoc}
+use Rattle.std.proofs.lemmas.Bool.{ne_eqb, eq-eqb}
+use Rattle.std.proofs.lemmas.List.{length-map, length-append}
+use Rattle.std.specs.Prelude.{◌==◌, if◌then◌else◌}
+use Rattle.std.specs.Option.{option_map}
+use Rattle.frame_store.specs.Pages.{page_at}
+use Rattle.kernel_journal.specs.declared.row.Row.TheVariants as row
+use Rattle.page_book.specs.declared.row.PageRow.{PageRow}
+use Rattle.page_book.specs.declared.row.PageRow.TheVariants.{Free, Guaranteed, Owned}
+use Rattle.page_book.specs.Row.{belongs_to, is_owned_by, released as released_page}
+use Rattle.page_book.specs.Rows.{row_in}
+use Rattle.bind_book.specs.declared.binding.Binding.{Binding}
+use Rattle.bind_book.specs.Stripe.{goes_with, without}
+use Rattle.bind_book.proofs.Swept.{swept_row}
+use Rattle.page_sight.proofs.Mourning.{mourners_lose}
+use Rattle.page_sight.proofs.Stripes.{stripes_end}
+use Rattle.slot_vector.specs.Slices.{hold_at, without_env}
+use Rattle.world_model.specs.declared.slot.Hold.{Hold}
+use Rattle.world_model.specs.declared.life.Cause.{Cause}
+use Rattle.world_model.specs.Book.{released, has_part}
+use Rattle.world_model.specs.Item.{absorb_all}
+use Rattle.world_model.specs.PageCalls.{death_items, lost_with}
+use Rattle.world_model.specs.Solo.{dead}
+use Rattle.world_model.specs.Step.{Dies}
+use Rattle.world_model.specs.Verdict.{death, slot_row, released_row, released_rows}
+use Rattle.world_model.specs.Table.{set_at}
+use Rattle.board_world.specs.declared.roster.Environment.{Environment}
+use Rattle.board_world.specs.Shown.{Shown}
+use Rattle.board_world.specs.Showing.{world_of, book_of, solo_of, solo_or_absent, solo_seen}
+use Rattle.board_world.specs.Sound.{IsSound}
+use Rattle.board_world.specs.Doing as doing
+use Rattle.board_world.proofs.Lists.{changed_here, changed_else, length-changed}
+use Rattle.board_world.proofs.Losing.{dropped, HasNone, losses_keep, no_losses, nothing_seen, sees_by}
+use Rattle.board_world.proofs.Parts.{by_env, set_here, set_else}
+use Rattle.board_world.proofs.Replying.{Serves}
+use Rattle.board_world.proofs.Seen.{Runs, runner_seen, stripe_of}
+use Rattle.board_world.proofs.Tables.{row_past, row_released}
+
+-- The slots once an environment is gone.
+pub hold_at-map : (e : ℕ) (slots : List (Option Hold)) (k : ℕ) → hold_at (map (released e) slots) k ≡ released e (hold_at slots k)
+hold_at-map e [] k = refl
+hold_at-map e (hold ∷ slots) zero = refl
+hold_at-map e (hold ∷ slots) (suc k) = hold_at-map e slots k
+
+one_row : (t e k : ℕ) (hold : Option Hold) → length (released_row t e k hold) ≤ 1
+one_row t e k hold = elim (has_part e hold) as (λ part. length (if part then slot_row t k (released e hold) ∷ [] else []) ≤ 1) [ true ↦ omega arith | false ↦ omega arith ]
+
+few_rows : (t e : ℕ) (slots : ℕ → Option Hold) (k : ℕ) → length (released_rows t e slots k) ≤ k
+few_rows t e slots zero = omega arith
+few_rows t e slots (suc k) = let so_far = few_rows t e slots k in let row = one_row t e k (slots k) in omega (arith, so_far, row, length-append (released_rows t e slots k) (released_row t e k (slots k)))
+
+-- nothing that is released is still the same environment's
+released_owner : (e : ℕ) (row : PageRow) → is_owned_by e (released_page e row) ≡ false
+released_owner e Free = refl
+released_owner e (Guaranteed owner) = by_test (owner == e)
+  where
+    by_test : (t : Bool) → is_owned_by e (if t then Free else Guaranteed owner) ≡ false
+    by_test true = refl
+    by_test false = refl
+released_owner e (Owned owner words) = by_test (owner == e) refl
+  where
+    by_test : (t : Bool) → (owner == e) ≡ t → is_owned_by e (if t then Free else Owned owner words) ≡ false
+    by_test true same = refl
+    by_test false other = other
+
+-- who owned nothing owns nothing of what is released
+released_none : (e i : ℕ) (row : PageRow) → is_owned_by i row ≡ false → is_owned_by i (released_page e row) ≡ false
+released_none e i row none = by_test (belongs_to e row)
+  where
+    by_test : (t : Bool) → is_owned_by i (if t then Free else row) ≡ false
+    by_test true = refl
+    by_test false = none
+
+-- the bindings of one that is gone go
+own_goes : (pages : ℕ → PageRow) (e : ℕ) (x : Option Binding) → without (goes_with pages e e) x ≡ None
+own_goes pages e None = refl
+own_goes pages e (Some x) = rw (eq-eqb e e refl) refl
+
+module _ (b : Shown) (e : ℕ) (x : Environment) (r : Runs b e x) (sound : IsSound b) (cause : Cause) where
+  abbrev after_death : Shown
+  after_death = doing.died b e cause
+
+  swept_stripe : (i row : ℕ) → stripe_of after_death i row ≡ without (goes_with (row_in b.pages) e i) (stripe_of b i row)
+  swept_stripe i row = swept_row (goes_with (row_in b.pages) e) b.binds i row
+
+  has_nothing : HasNone e (row_in after_death.pages) (stripe_of after_death e)
+  has_nothing = record {
+    binds = λ row. swept_stripe e row ∙ own_goes (row_in b.pages) e (stripe_of b e row);
+    owns = λ page. ap (is_owned_by e) (row_released e b.pages page) ∙ released_owner e (row_in b.pages page);
+  }
+
+  dead_solo : solo_of after_death e ≡ dead cause (solo_of b e)
+  dead_solo =
+      ap (solo_or_absent after_death e) (changed_here (doing.dead_frame cause) b.roster.list e ∙ ap (option_map (doing.dead_frame cause)) r.at)
+      ∙ rw r.runs.its (λ k. record (dead cause (solo_seen b e x)) {
+        binds = λ row. has_nothing.binds row k;
+        seen = λ page. nothing_seen e (row_in after_death.pages) (stripe_of after_death e) (page_at b.frames) has_nothing page k;
+      })
+      ∙ ap (dead cause) (sym (runner_seen b e x r))
+
+  dead_others : (i : ℕ) → i ≢ e → solo_of after_death i ≡ absorb_all (solo_of b i) (lost_with (book_of b) e i (length b.pages))
+  dead_others i ne = dropped i b after_death (lost_with (book_of b) e i (length b.pages)) (record {
+    record_is = changed_else (doing.dead_frame cause) b.roster.list e i ne;
+    idles = rw r.runs.its refl;
+    idled = r.runs.others i ne;
+    pages = refl;
+    console = refl;
+    sees = λ s lives seen.
+        sees_by i (λ page. released_page e (row_in b.pages page)) (row_in after_death.pages) (λ row. without (goes_with (row_in b.pages) e i) (stripe_of b i row)) (stripe_of after_death i) (page_at b.frames) (page_at b.frames)
+        (absorb_all s (lost_with (book_of b) e i (length b.pages))) (row_released e b.pages) (swept_stripe i) (λ page. refl)
+        (mourners_lose e i (book_of b) (page_at b.frames) s seen lives ne (row_past b.pages) (stripes_end b.binds i));
+    keeps = losses_keep (book_of b) e i (length b.pages);
+    none = λ none. record {
+      binds = λ row. swept_stripe i row ∙ ap (without (goes_with (row_in b.pages) e i)) (none.binds row);
+      owns = λ page. ap (is_owned_by i) (row_released e b.pages page) ∙ released_none e i (row_in b.pages page) (none.owns page);
+    };
+    nothing = λ none. no_losses (book_of b) e i (length b.pages) none.binds;
+  }) sound
+
+  pub dies : Serves b e (Dies cause) (death (world_of b) e) after_death
+  dies = record {
+    book =
+        let ended : (without_env e b.slots).runner ≡ None = rw r.runs.its refl in
+        λ k. record {
+          slot_count = length-map b.slots.slots (released e) k;
+          slots = λ n. hold_at-map e b.slots.slots n k;
+          quantum = b.slots.quantum;
+          cursor = b.slots.cursor;
+          runner = ended k;
+          page_count = length-map b.pages (released_page e) k;
+          pages = λ page. row_released e b.pages page k;
+          binds = λ i row. swept_stripe i row k;
+          time = b.time;
+        };
+    count = length-changed (doing.dead_frame cause) b.roster.list e;
+    solos =
+        by_env (solo_of after_death) (λ i. absorb_all (set_at e (dead cause (solo_of b e)) (solo_of b) i) (death_items (book_of b) e i)) e
+        (dead_solo
+        ∙ (λ k. absorb_all (sym (set_here e (dead cause (solo_of b e)) (solo_of b)) k) (if sym (eq-eqb e e refl) k then [] else lost_with (book_of b) e e (length b.pages))))
+        (λ i ne. dead_others i ne
+        ∙ (λ k. absorb_all (sym (set_else e i (dead cause (solo_of b e)) (solo_of b) ne) k) (if sym (ne_eqb i e ne) k then [] else lost_with (book_of b) e i (length b.pages))));
+    rows = append_assoc b.ledger.rows (row.Dead b.time b.slots.cursor e ∷ []) (released_rows b.time e (hold_at b.slots.slots) (length b.slots.slots));
+    room = omega (arith, few_rows b.time e (hold_at b.slots.slots) (length b.slots.slots), sound.book.count);
+    spare = refl;
+    time = refl;
+  }
+
+pub died_serves : (b : Shown) (e : ℕ) (x : Environment) → Runs b e x → IsSound b → (cause : Cause) → Serves b e (Dies cause) (death (world_of b) e) (doing.died b e cause)
+died_serves b e x r sound cause = dies b e x r sound cause

@@ -1,0 +1,100 @@
+-- The lowest free pages are guaranteed to an environment, one after another.
+use Rattle.std.proofs.Common.{◌≡◌, ◌≢◌, ℕ, zero, suc, ◌+◌, List, [], length, Bool, true, false, Option, Some, None, ◌⊎◌, inl, inr, refl, sym, ◌∙◌, ap, arith, add-zero, add-suc, length-set, get_or-set_same, get_or-set_other}
+use Rattle.std.specs.Prelude.{◌==◌, if◌then◌else◌, slice_set}
+use Rattle.std.proofs.lemmas.Bool.{eqb-true}
+use Rattle.frame_store.specs.Pages.{with_page}
+use Rattle.page_book.specs.declared.row.PageRow.{PageRow}
+use Rattle.page_book.specs.declared.row.PageRow.TheVariants.{Free, Guaranteed}
+use Rattle.page_book.specs.Rows.{first_free, free_pages, lowest_free, row_in, IsLowest}
+use Rattle.page_book.proofs.Free.{is_lowest}
+use Rattle.world_model.specs.Boot.{keep_lowest, keep_pages}
+use Rattle.page_sight.proofs.Tables.{by_number, set_here, set_else}
+use Rattle.board_world.specs.Loading.{AreGiven}
+
+-- a row stays, or it was that of a free page, which is guaranteed to the environment
+abbrev pub IsGivenRow : ℕ → PageRow → PageRow → Type 0
+IsGivenRow e old new = (new ≡ old) ⊎ ((old ≡ Free) × (new ≡ Guaranteed e))
+
+both_rows : (e : ℕ) (old mid new : PageRow) → IsGivenRow e old mid → IsGivenRow e mid new → IsGivenRow e old new
+both_rows e old mid new (inl stays) (inl still) = inl (still ∙ stays)
+both_rows e old mid new (inl stays) (inr given) = inr (sym stays ∙ given.0, given.1)
+both_rows e old mid new (inr given) (inl stays) = inr (given.0, stays ∙ given.1)
+both_rows e old mid new (inr given) (inr again) = inr (given.0, again.1)
+
+lowest_given : (e count : ℕ) (o : Option ℕ) (rows : ℕ → PageRow) → lowest_free rows count ≡ o → (p : ℕ) → IsGivenRow e (rows p) (keep_lowest e o rows p)
+lowest_given e count None rows is p = inl refl
+lowest_given e count (Some page) rows is p = by_test (p == page) refl
+  where
+    lowest : IsLowest rows count page
+    lowest = is_lowest rows count page is
+
+    by_test : (t : Bool) → (p == page) ≡ t → IsGivenRow e (rows p) (if t then Guaranteed e else rows p)
+    by_test true same = inr (ap rows (eqb-true p page same) ∙ lowest.free, refl)
+    by_test false other = inl refl
+
+pub kept_row : (e count n : ℕ) (rows : ℕ → PageRow) (p : ℕ) → IsGivenRow e (rows p) (keep_pages e count n rows p)
+kept_row e count zero rows p = inl refl
+kept_row e count (suc n) rows p =
+    let before = keep_pages e count n rows in
+    both_rows e (rows p) (before p) (keep_pages e count (suc n) rows p) (kept_row e count n rows p) (lowest_given e count (lowest_free before count) before refl p)
+
+-- some pages, and then some more
+kept_both : (e count m n : ℕ) (rows : ℕ → PageRow) → keep_pages e count n (keep_pages e count m rows) ≡ keep_pages e count (m + n) rows
+kept_both e count m zero rows = ap (λ k. keep_pages e count k rows) (sym (add-zero m))
+kept_both e count m (suc n) rows =
+    ap (λ (f : ℕ → PageRow). keep_lowest e (lowest_free f count) f) (kept_both e count m n rows)
+    ∙ ap (λ k. keep_pages e count k rows) (sym (add-suc m n))
+
+-- what becomes of a row where pages are given
+pub given_row : (e n : ℕ) (old new : List PageRow) (before after : List (List ℕ)) → AreGiven e n old new before after → (p : ℕ) → IsGivenRow e (row_in old p) (row_in new p)
+given_row e n old new before after given p = rw (ap (λ (f : ℕ → PageRow). f p) given.rows) (kept_row e (length old) n (row_in old) p)
+
+-- a page that isn't free stays so, with its row
+pub taken_row : (e : ℕ) (old new : PageRow) → IsGivenRow e old new → old ≢ Free → new ≡ old
+taken_row e old new (inl stays) taken = stays
+taken_row e old new (inr given) taken = absurd (taken given.0)
+
+-- nothing given yet
+pub given_none : (e : ℕ) (pages : List PageRow) (frames : List (List ℕ)) → AreGiven e 0 pages pages frames frames
+given_none e pages frames = record { rows = refl; size = refl; free = omega arith; left = record { size = refl; left = λ n taken. refl } }
+
+-- some pages given, and then some more
+pub given_both : (e m n : ℕ) (old mid new : List PageRow) (before between after : List (List ℕ)) → AreGiven e m old mid before between → AreGiven e n mid new between after → AreGiven e (m + n) old new before after
+given_both e m n old mid new before between after first second = record {
+  rows =
+      second.rows
+      ∙ (λ k. keep_pages e (first.size k) n (first.rows k))
+      ∙ kept_both e (length old) m n (row_in old);
+  size = second.size ∙ first.size;
+  free = omega (arith, first.free, second.free);
+  left = record {
+    size = second.left.size ∙ first.left.size;
+    left = λ p taken.
+        let stays = taken_row e (row_in old p) (row_in mid p) (given_row e m old mid before between first p) taken in
+        second.left.left p (λ free. taken (sym stays ∙ free)) ∙ first.left.left p taken;
+  };
+}
+
+-- One page given: the lowest free one, which got some bytes.
+module _ (e page : ℕ) (pages : List PageRow) (frames : List (List ℕ)) (bytes : List ℕ) (lowest : first_free pages ≡ Some page) where
+  is_one : IsLowest (row_in pages) (length pages) page
+  is_one = is_lowest (row_in pages) (length pages) page lowest
+
+  one_row : (p : ℕ) → row_in (slice_set pages page (Guaranteed e)) p ≡ keep_lowest e (first_free pages) (row_in pages) p
+  one_row p =
+      by_number (row_in (slice_set pages page (Guaranteed e))) (keep_lowest e (Some page) (row_in pages)) page
+      (get_or-set_same pages page (Guaranteed e) Free is_one.below ∙ sym (set_here page (Guaranteed e) (row_in pages)))
+      (λ i ne. get_or-set_other pages page i (Guaranteed e) Free ne ∙ sym (set_else page i (Guaranteed e) (row_in pages) ne))
+      p
+      ∙ ap (λ o. keep_lowest e o (row_in pages) p) (sym lowest)
+
+  pub given_one : free_pages pages ≡ free_pages (slice_set pages page (Guaranteed e)) + 1 → AreGiven e 1 pages (slice_set pages page (Guaranteed e)) frames (with_page frames page bytes)
+  given_one less = record {
+    rows = λ k p. one_row p k;
+    size = length-set pages page (Guaranteed e);
+    free = less;
+    left = record {
+      size = length-set frames page bytes;
+      left = λ n taken. get_or-set_other frames page n bytes [] (λ same. taken (ap (row_in pages) same ∙ is_one.free));
+    };
+  }

@@ -1,0 +1,175 @@
+-- What environments other than the runner see of a change of the books.
+use Rattle.std.proofs.Common.{◌≡◌, ℕ, zero, suc, List, [], ◌++◌, Bool, true, false, Option, Some, None, inl, inr, ◌⊎◌, refl, sym, ◌∙◌, ap, subst}
+use Rattle.std.specs.Prelude.{◌==◌, if◌then◌else◌, slice_get}
+use Rattle.std.proofs.lemmas.Bool.{eqb-true}
+use Rattle.std.proofs.lemmas.List.Sums.{fold-append}
+use Rattle.frame_store.specs.Pages.{page_at}
+use Rattle.page_book.specs.declared.row.PageRow.{PageRow}
+use Rattle.page_book.specs.declared.row.PageRow.TheVariants.{Free, Guaranteed, Owned}
+use Rattle.page_book.specs.Row.{belongs_to, is_owned_by, owner_of}
+use Rattle.page_book.specs.Rows.{row_in}
+use Rattle.bind_book.specs.declared.binding.Binding.{Binding}
+use Rattle.bind_book.specs.Stripe.{is_bound, is_of_page}
+use Rattle.page_sight.specs.Sight.{Sees, seen_if, seen_in}
+use Rattle.page_sight.proofs.Sights.{nothing_of}
+use Rattle.page_sight.proofs.Stripes.{bound_nowhere}
+use Rattle.world_model.specs.declared.life.Life.{Life}
+use Rattle.world_model.specs.declared.life.Life.TheVariants.{Live, Dead}
+use Rattle.world_model.specs.Book.{Book, is_runner}
+use Rattle.world_model.specs.Item.{Item, absorb, absorb_all}
+use Rattle.world_model.specs.Holding.{lost}
+use Rattle.world_model.specs.PageCalls.{lost_if, lost_with}
+use Rattle.world_model.specs.Solo.{Solo, is_dead}
+use Rattle.board_world.specs.declared.roster.Environment.{Environment}
+use Rattle.board_world.specs.Shown.{Shown, mappings_in, mappings_of, console_of}
+use Rattle.board_world.specs.Showing.{solo_of, solo_or_absent, solo_seen, cpu_seen, pages_seen}
+use Rattle.board_world.specs.Sound.{IsSound, IsAlive, IsLive}
+use Rattle.board_world.proofs.Seen.{same_solo, stripe_of}
+
+-- Books with the same tables serve alike.
+pub sees_by : (e : ℕ) (pages rows : ℕ → PageRow) (stripe binds : ℕ → Option Binding) (bytes frames : ℕ → List ℕ) (s : Solo) →
+    ((p : ℕ) → rows p ≡ pages p) → ((r : ℕ) → binds r ≡ stripe r) → ((p : ℕ) → frames p ≡ bytes p) → Sees e pages stripe bytes s → Sees e rows binds frames s
+sees_by e pages rows stripe binds bytes frames s same_rows same_binds same_bytes seen = record {
+  binds = λ r. seen.binds r ∙ sym (same_binds r);
+  seen = λ p. seen.seen p ∙ (λ k. seen_if (is_owned_by e (sym (same_rows p) k)) (is_bound p (λ r. sym (same_binds r) k)) (sym (same_bytes p) k));
+}
+
+-- with the bindings of another, and what that one sees
+abbrev pub resighted : Solo → Solo → Solo
+resighted s t = record s { binds = t.binds; seen = t.seen }
+
+-- who loses a page keeps all else
+pub lost_keeps : (s : Solo) (t : Bool) (page : ℕ) → absorb_all s (lost_if t page) ≡ resighted s (absorb_all s (lost_if t page))
+lost_keeps s false page = refl
+lost_keeps s true page = by_life (is_dead s.life)
+  where
+    by_life : (gone : Bool) → (if gone then s else lost page s) ≡ resighted s (if gone then s else lost page s)
+    by_life true = refl
+    by_life false = refl
+
+next_keeps : (s u v : Solo) → u ≡ resighted s u → v ≡ resighted u v → v ≡ resighted s v
+next_keeps s u v first next = next ∙ ap (λ w. resighted w v) first
+
+-- and so does who loses pages with one that dies
+pub losses_keep : (b : Book) (gone i n : ℕ) (s : Solo) → absorb_all s (lost_with b gone i n) ≡ resighted s (absorb_all s (lost_with b gone i n))
+losses_keep b gone i zero s = refl
+losses_keep b gone i (suc n) s =
+    let so_far = absorb_all s (lost_with b gone i n) in
+    let next : List Item = if belongs_to gone (b.pages n) then lost_if (is_bound n (b.binds i)) n else [] in
+    subst (λ (u : Solo). u ≡ resighted s u) (sym (fold-append absorb s (lost_with b gone i n) next))
+    (next_keeps s so_far (absorb_all so_far next) (losses_keep b gone i n s) (by_part so_far (belongs_to gone (b.pages n))))
+  where
+    by_part : (u : Solo) (t : Bool) → absorb_all u (if t then lost_if (is_bound n (b.binds i)) n else []) ≡ resighted u (absorb_all u (if t then lost_if (is_bound n (b.binds i)) n else []))
+    by_part u true = lost_keeps u (is_bound n (b.binds i)) n
+    by_part u false = refl
+
+-- an environment with no bindings that owns no page
+pub record HasNone (i : ℕ) (pages : ℕ → PageRow) (stripe : ℕ → Option Binding) : Type 0 where
+  pub binds : (row : ℕ) → stripe row ≡ None
+  pub owns : (page : ℕ) → is_owned_by i (pages page) ≡ false
+
+-- where nothing is bound, a page isn't
+pub unbound_page : (stripe : ℕ → Option Binding) → ((row : ℕ) → stripe row ≡ None) → (page : ℕ) → is_bound page stripe ≡ false
+unbound_page stripe none page = bound_nowhere page stripe (λ row. ap (is_of_page page) (none row))
+
+pub nothing_seen : (i : ℕ) (pages : ℕ → PageRow) (stripe : ℕ → Option Binding) (bytes : ℕ → List ℕ) → HasNone i pages stripe → (page : ℕ) → seen_in i pages stripe bytes page ≡ None
+nothing_seen i pages stripe bytes none page = nothing_of (is_owned_by i (pages page)) (is_bound page stripe) (bytes page) (none.owns page) (unbound_page stripe none.binds page)
+
+-- and nothing is lost
+pub nothing_lost : (stripe : ℕ → Option Binding) → ((row : ℕ) → stripe row ≡ None) → (page : ℕ) → lost_if (is_bound page stripe) page ≡ []
+nothing_lost stripe none page = ap (λ t. lost_if t page) (unbound_page stripe none page)
+
+pub no_losses : (b : Book) (gone i n : ℕ) → ((row : ℕ) → b.binds i row ≡ None) → lost_with b gone i n ≡ []
+no_losses b gone i zero none = refl
+no_losses b gone i (suc n) none =
+    let before = no_losses b gone i n none in
+    let here = nothing_lost (b.binds i) none n in
+    (λ k. before k ++ (if belongs_to gone (b.pages n) then here k else [])) ∙ by_part (belongs_to gone (b.pages n))
+  where
+    nothing : List Item
+    nothing = []
+
+    by_part : (t : Bool) → (if t then nothing else nothing) ≡ nothing
+    by_part true = refl
+    by_part false = refl
+
+-- an environment lives, or isn't one of the board that does
+pub lives_or_not : (list : List Environment) (i : ℕ) → ((x : Environment) × ((slice_get list i ≡ Some x) × (x.life ≡ Live))) ⊎ (IsLive list i → ⊥)
+lives_or_not list i = by_record (slice_get list i) refl
+  where
+    by_life : (x : Environment) (life : Life) → slice_get list i ≡ Some x → x.life ≡ life → ((y : Environment) × ((slice_get list i ≡ Some y) × (y.life ≡ Live))) ⊎ (IsLive list i → ⊥)
+    by_life x Live is lives = inl (x, (is, lives))
+    by_life x (Dead cause) is died = inr (λ live. let both : Live ≡ Dead cause = sym (subst IsAlive is live.1) ∙ died in cc)
+
+    by_record : (y : Option Environment) → slice_get list i ≡ y → ((x : Environment) × ((slice_get list i ≡ Some x) × (x.life ≡ Live))) ⊎ (IsLive list i → ⊥)
+    by_record None is = inr (λ live. subst IsAlive is live.1)
+    by_record (Some x) is = by_life x x.life is refl
+
+-- one that doesn't live has no bindings and owns no page
+pub has_none : (b : Shown) (i : ℕ) → IsSound b → (IsLive b.roster.list i → ⊥) → HasNone i (row_in b.pages) (stripe_of b i)
+has_none b i sound dead = record { binds = λ row. by_binding row (stripe_of b i row) refl; owns = λ page. by_row page (row_in b.pages page) refl }
+  where
+    by_binding : (row : ℕ) (x : Option Binding) → stripe_of b i row ≡ x → x ≡ None
+    by_binding row None is = refl
+    by_binding row (Some x) is = absurd (dead (sound.books.binders i row x is))
+
+    by_test : (page owner : ℕ) (t : Bool) → (owner == i) ≡ t → owner_of (row_in b.pages page) ≡ Some owner → t ≡ false
+    by_test page owner true same is = absurd (dead (sound.books.owners page i (is ∙ ap Some (eqb-true owner i same))))
+    by_test page owner false other is = refl
+
+    by_row : (page : ℕ) (row : PageRow) → row_in b.pages page ≡ row → is_owned_by i row ≡ false
+    by_row page Free is = refl
+    by_row page (Guaranteed owner) is = refl
+    by_row page (Owned owner words) is = by_test page owner (owner == i) refl (ap owner_of is)
+
+-- What another than the runner is given, if it lives; one that doesn't sees nothing before and after.
+pub record Drops (i : ℕ) (old new : Shown) (its : List Item) : Type 0 where
+  pub record_is : slice_get new.roster.list i ≡ slice_get old.roster.list i
+  pub idles : is_runner i new.slots.runner ≡ false
+  pub idled : is_runner i old.slots.runner ≡ false
+  pub pages : pages_seen new.frames (mappings_of old.roster.list i) ≡ pages_seen old.frames (mappings_of old.roster.list i)
+  pub console : console_of new.consoles i ≡ console_of old.consoles i
+  pub sees : (s : Solo) → s.life ≡ Live → Sees i (row_in old.pages) (stripe_of old i) (page_at old.frames) s → Sees i (row_in new.pages) (stripe_of new i) (page_at new.frames) (absorb_all s its)
+  pub keeps : (s : Solo) → absorb_all s its ≡ resighted s (absorb_all s its)
+  pub none : HasNone i (row_in old.pages) (stripe_of old i) → HasNone i (row_in new.pages) (stripe_of new i)
+  pub nothing : HasNone i (row_in old.pages) (stripe_of old i) → its ≡ []
+
+module _ (i : ℕ) (old new : Shown) (its : List Item) (drops : Drops i old new its) where
+  abbrev idle_solo : Shown → Environment → Solo
+  idle_solo b x = record (solo_seen b i x) { life = Live; cpu = x.env.cpu }
+
+  idle_seen : (b : Shown) (x : Environment) → slice_get b.roster.list i ≡ Some x → x.life ≡ Live → is_runner i b.slots.runner ≡ false → solo_of b i ≡ idle_solo b x
+  idle_seen b x at lives idles =
+      let cpu : cpu_seen b i x.env.cpu ≡ x.env.cpu = rw idles refl in
+      ap (solo_or_absent b i) at ∙ (λ k. record (solo_seen b i x) { life = lives k; cpu = cpu k })
+
+  live_drops : (x : Environment) → slice_get old.roster.list i ≡ Some x → x.life ≡ Live → solo_of new i ≡ absorb_all (solo_of old i) its
+  live_drops x at lives =
+      let s = idle_solo old x in
+      let sees : Sees i (row_in new.pages) (stripe_of new i) (page_at new.frames) (absorb_all s its) = drops.sees s refl (record { binds = λ row. refl; seen = λ page. refl }) in
+      let pages : pages_seen new.frames x.env.mappings ≡ pages_seen old.frames x.env.mappings =
+      ap (λ y. pages_seen new.frames (mappings_in y)) (sym at) ∙ drops.pages ∙ ap (λ y. pages_seen old.frames (mappings_in y)) at in
+      idle_seen new x (drops.record_is ∙ at) lives drops.idles
+      ∙ (λ k. record s { kept = pages k; console = drops.console k; binds = λ row. sym (sees.binds row) k; seen = λ page. sym (sees.seen page) k })
+      ∙ sym (drops.keeps s)
+      ∙ ap (λ t. absorb_all t its) (sym (idle_seen old x at lives drops.idled))
+
+  dead_drops : HasNone i (row_in old.pages) (stripe_of old i) → solo_of new i ≡ absorb_all (solo_of old i) its
+  dead_drops none =
+      let still = drops.none none in
+      same_solo i new old (record {
+        record_is = drops.record_is;
+        idles = drops.idles;
+        idled = drops.idled;
+        pages = drops.pages;
+        binds = λ k row. (still.binds row ∙ sym (none.binds row)) k;
+        sights = λ k page. (nothing_seen i (row_in new.pages) (stripe_of new i) (page_at new.frames) still page ∙ sym (nothing_seen i (row_in old.pages) (stripe_of old i) (page_at old.frames) none page)) k;
+        console = drops.console;
+      })
+      ∙ ap (absorb_all (solo_of old i)) (sym (drops.nothing none))
+
+  pub dropped : IsSound old → solo_of new i ≡ absorb_all (solo_of old i) its
+  dropped sound = elim (lives_or_not old.roster.list i) [
+    | inl lives ↦ live_drops lives.0 lives.1.0 lives.1.1
+    | inr dead ↦ dead_drops (has_none old i sound dead)
+  ]

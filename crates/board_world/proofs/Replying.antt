@@ -1,0 +1,82 @@
+-- What an act of the runner leaves, where it brings a reply.
+use Rattle.std.proofs.Common.{◌≡◌, ◌≢◌, ◌≤◌, ℕ, ◌+◌, List, [], ◌∷◌, ◌++◌, length, Option, refl, sym, ◌∙◌, ap, arith}
+use Rattle.std.proofs.lemmas.List.Sums.{fold-append}
+use Rattle.world_model.specs.declared.call.Call.{Call}
+use Rattle.world_model.specs.declared.code.Code.{Code}
+use Rattle.world_model.specs.declared.code.Code.TheVariants as code
+use Rattle.world_model.specs.Call.{called}
+use Rattle.world_model.specs.Item.{Item, Step as AStep, Granted, Refused, absorb, absorb_all, answered_cpu, own_part}
+use Rattle.world_model.specs.Solo.{Solo}
+use Rattle.world_model.specs.Step.{Act, Calls, acted}
+use Rattle.world_model.specs.Verdict.{refusal}
+use Rattle.world_model.specs.World.{Reply, after, only}
+use Rattle.world_model.specs.Table.{set_at}
+use Rattle.world_model.specs.Tick as tick
+use Rattle.board_world.specs.declared.roster.Environment.{Environment}
+use Rattle.board_world.specs.Shown.{Shown}
+use Rattle.board_world.specs.Showing.{world_of, book_of, solo_of}
+use Rattle.board_world.specs.Doing as doing
+use Rattle.board_world.proofs.Parts.{append_nothing, worlds, by_env, set_here, set_else, only_here, only_else, one_acted}
+use Rattle.board_world.proofs.Seen.{same_solo, Runs, runner_solo, runner_seen}
+
+-- Each environment has absorbed what it is given, and few rows are written.
+pub record Serves (b : Shown) (e : ℕ) (act : Act) (reply : Reply) (new : Shown) : Type 0 where
+  pub book : book_of new ≡ reply.book
+  pub count : length new.roster.list ≡ length b.roster.list
+  pub solos : (i : ℕ) → solo_of new i ≡ absorb_all (set_at e (acted act (solo_of b e)) (solo_of b) i) (reply.items i)
+  pub rows : new.ledger.rows ≡ b.ledger.rows ++ reply.rows
+  pub room : b.ledger.spare ≤ new.ledger.spare + 128
+  pub spare : new.roster.spare ≡ b.roster.spare
+  pub time : new.time ≡ b.time
+
+-- apart from a tick it is the world once the act is served
+pub alone : (b : Shown) (e : ℕ) (act : Act) (new : Shown) → Serves b e act (tick.brings (world_of b) e act) new → world_of new ≡ tick.act_world (world_of b) e act
+alone b e act new serves = worlds (world_of new) (tick.act_world (world_of b) e act) serves.book serves.count serves.solos serves.rows
+
+-- and where the runner's step came to the act it is the world after that phase
+pub in_step : (b : Shown) (e : ℕ) (act : Act) (reply : Reply) (new : Shown) → Serves b e act reply new → absorb (solo_of b e) AStep ≡ acted act (solo_of b e) → world_of new ≡ after (world_of b) (tick.with_step e reply)
+in_step b e act reply new serves steps =
+    worlds (world_of new) (after (world_of b) (tick.with_step e reply)) serves.book serves.count
+    (λ i. serves.solos i
+    ∙ ap (λ s. absorb_all s (reply.items i)) (sym (stepped_first i))
+    ∙ sym (fold-append absorb (solo_of b i) (only e (AStep ∷ []) i) (reply.items i)))
+    serves.rows
+  where
+    stepped_first : (i : ℕ) → absorb_all (solo_of b i) (only e (AStep ∷ []) i) ≡ set_at e (acted act (solo_of b e)) (solo_of b) i
+    stepped_first =
+        by_env (λ i. absorb_all (solo_of b i) (only e (AStep ∷ []) i)) (set_at e (acted act (solo_of b e)) (solo_of b)) e
+        (ap (absorb_all (solo_of b e)) (only_here e (AStep ∷ [])) ∙ steps ∙ sym (set_here e (acted act (solo_of b e)) (solo_of b)))
+        (λ i ne. ap (absorb_all (solo_of b i)) (only_else e i (AStep ∷ []) ne) ∙ sym (set_else e i (acted act (solo_of b e)) (solo_of b) ne))
+
+-- where one did something itself, and each is given something
+pub all_given : (old new : ℕ → Solo) (e : ℕ) (first : Solo) (its : List Item) (theirs : ℕ → List Item) → new e ≡ absorb_all first its → ((i : ℕ) → i ≢ e → new i ≡ absorb_all (old i) (theirs i)) → (i : ℕ) → new i ≡ absorb_all (set_at e first old i) (set_at e its theirs i)
+all_given old new e first its theirs here others =
+    by_env new (λ i. absorb_all (set_at e first old i) (set_at e its theirs i)) e
+    (here ∙ (λ k. absorb_all (sym (set_here e first old) k) (sym (set_here e its theirs) k)))
+    (λ i ne. others i ne ∙ (λ k. absorb_all (sym (set_else e i first old ne) k) (sym (set_else e i its theirs ne) k)))
+
+module _ (b : Shown) (e : ℕ) (x : Environment) (r : Runs b e x) where
+  -- A call that its reply answers alone: the machine's registers change, and what is given is the answer.
+  pub answered_others : (c : Code) (v i : ℕ) → i ≢ e → solo_of (doing.answered b c v) i ≡ solo_of b i
+  answered_others c v i ne = same_solo i (doing.answered b c v) b (record { record_is = refl; idles = r.runs.others i ne; idled = r.runs.others i ne; pages = refl; binds = refl; sights = refl; console = refl })
+
+  pub answered_seen : (c : Code) (v : ℕ) → solo_of (doing.answered b c v) e ≡ record (runner_solo b e x) { cpu = answered_cpu c v b.cpu }
+  answered_seen c v = runner_seen (doing.answered b c v) e x (record { at = r.at; lives = r.lives; runs = r.runs })
+
+  -- the caller of a granted call, which is given more after the answer
+  pub granted_first : (c : Option Call) (v : ℕ) (more : List Item) → called b.cpu ≡ c → absorb_all (record (own_part c v (runner_solo b e x)) { cpu = answered_cpu code.Ok v b.cpu }) more ≡ absorb_all (solo_of b e) (Granted v ∷ more)
+  granted_first c v more named =
+      ap (λ d. absorb_all (record (own_part d v (runner_solo b e x)) { cpu = answered_cpu code.Ok v b.cpu }) more) (sym named)
+      ∙ ap (λ s. absorb_all s (Granted v ∷ more)) (sym (runner_seen b e x r))
+
+  -- a refused call
+  pub refuses : (c : Option Call) (why : Code) (v : ℕ) → Serves b e (Calls c) (refusal (world_of b) e why v) (doing.answered b why v)
+  refuses c why v = record {
+    book = refl;
+    count = refl;
+    solos = one_acted (solo_of b) (solo_of (doing.answered b why v)) e (Calls c) (Refused why v ∷ []) (answered_seen why v ∙ ap (λ s. absorb_all s (Refused why v ∷ [])) (sym (runner_seen b e x r))) (answered_others why v);
+    rows = sym (append_nothing b.ledger.rows);
+    room = omega arith;
+    spare = refl;
+    time = refl;
+  }
