@@ -5,7 +5,8 @@ ghost use Rattle.boot_image.specs.ImageValue.{name_text};
 ghost use Rattle.board_world.specs.Showing.{world_of};
 ghost use Rattle.world_model.specs.Report.{spaced, life_words, exception_text, env_line, out_line, excess_line, living_lines, env_text};
 
-use crate::page::push_keep_lines;
+use crate::binding::push_bind_lines;
+use crate::page::{push_keep_lines, push_page_lines};
 use crate::processor::{push_cpu_line, push_regs_line, shown_cpu};
 use crate::words::{
     end_line, env, number, push_number, push_numbers_line, push_quotation, push_text, push_word,
@@ -16,7 +17,7 @@ use mips_exec::ExcCode;
 use std::alloc::Global;
 use world_model::{Cause, Life};
 
-/// What an environment without handlers has of excess: it never runs past its slice.
+/// What an environment without a handler for the end of a slice has of excess: it never runs past it.
 const NO_EXCESS: u32 = 0;
 
 /// The lines that a report has of an environment, below `envs()` of the board
@@ -148,5 +149,7 @@ fn push_living_lines(out: &mut Vec<u8>, board: &Board, env: u8) -> Result<(), Ou
     push_cpu_line(out, env, &cpu)?;
     push_regs_line(out, env, &cpu)?;
     push_excess_line(out, env, NO_EXCESS)?;
-    push_keep_lines(out, board, env)
+    push_keep_lines(out, board, env)?;
+    push_page_lines(out, board, env)?;
+    push_bind_lines(out, board, env)
 }

@@ -5,6 +5,7 @@
 //! ends somewhere within the text and is given up, so no private push says what it holds then.
 #![tactic(auto)]
 
+mod binding;
 mod environment;
 mod ledger;
 mod page;

@@ -1,7 +1,7 @@
-//! The guaranteed pages that a report shows, each by the fingerprint of its bytes.
+//! The pages that a report shows, each by the fingerprint of its bytes.
 ghost use Rattle.std.specs.Prelude.{◌≡◌, ◌++◌, ◌<◌, OnOk};
-ghost use Rattle.board_world.specs.Showing.{world_of, view_seen};
-ghost use Rattle.world_model.specs.Report.{fingerprint, keep_line, keep_lines};
+ghost use Rattle.board_world.specs.Showing.{world_of, owned_bytes, view_seen};
+ghost use Rattle.world_model.specs.Report.{fingerprint, keep_line, keep_lines, page_line, owned_line, page_lines};
 
 use crate::words::{end_line, push_digits, push_number, push_text, push_word};
 use aegis_calls::Board;
@@ -10,7 +10,7 @@ use edge_io::OutOfMemory;
 use sha2::{Digest, Sha256};
 
 /// The hexadecimal digits of a page number.
-const PAGE_NUMBER_DIGITS: u8 = 5;
+pub(crate) const PAGE_NUMBER_DIGITS: u8 = 5;
 
 /// The characters of a fingerprint: two for each byte of a digest.
 const FINGERPRINT_SIZE: usize = 64;
@@ -46,6 +46,41 @@ pub(crate) fn push_keep_lines(out: &mut Vec<u8>, board: &Board, env: u8) -> Resu
         if let Some(page) = board.kept_page(env, place) {
             push_keep_line(out, env, page)?;
         }
+    }
+    Ok(())
+}
+
+/// Appends the line of a page that an environment owns.
+#[tactic(auto, unfolding(world_model::specs::Report::page_line))]
+fn push_page_line(out: &mut Vec<u8>, env: u8, page: u32, bytes: &[u8]) -> Result<(), OutOfMemory>
+    ensures { OnOk result (out.new.items ≡ out.old.items ++ page_line env page bytes.now) }
+{
+    push_text(out, b"page")?;
+    push_number(out, u64::from(env))?;
+    push_number(out, u64::from(page))?;
+    push_word(out, &fingerprint(bytes))?;
+    end_line(out)
+}
+
+/// Appends the line of a page, where the environment owns it.
+fn push_if_owned(out: &mut Vec<u8>, board: &Board, env: u8, page: u32) -> Result<(), OutOfMemory>
+    requires there { env < (world_of board.now).count }
+    requires page { page < (world_of board.now).book.page_count }
+    ensures { OnOk result (out.new.items ≡ out.old.items ++ owned_line env page (((world_of board.now).solos env).seen page)) }
+{
+    match board.owned_page(env, page) {
+        Some(bytes) => push_page_line(out, env, page, bytes),
+        None => Ok(()),
+    }
+}
+
+/// Appends the lines of the pages that an environment owns, by rising number.
+pub(crate) fn push_page_lines(out: &mut Vec<u8>, board: &Board, env: u8) -> Result<(), OutOfMemory>
+    requires { env < (world_of board.now).count }
+    ensures { OnOk result (out.new.items ≡ out.old.items ++ page_lines env ((world_of board.now).solos env).seen (world_of board.now).book.page_count) }
+{
+    for page in 0..board.page_count() {
+        push_if_owned(out, board, env, page)?;
     }
     Ok(())
 }

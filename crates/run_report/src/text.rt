@@ -1,7 +1,7 @@
 //! The whole report.
 ghost use Rattle.std.specs.Prelude.{◌≡◌, ◌++◌, OnOk, IfOk};
 ghost use Rattle.board_world.specs.Showing.{world_of};
-ghost use Rattle.world_model.specs.Report.{env_text, sum_line, for_each_env, end_text, end_line as end_line_of, report_text};
+ghost use Rattle.world_model.specs.Report.{env_text, sum_line, for_each, end_text, end_line as end_line_of, report_text};
 
 use crate::environment::push_env;
 use crate::ledger::push_rows;
@@ -50,7 +50,7 @@ fn end_text(end: RunEnd) -> &'static [u8]
 
 /// Appends the lines of each environment.
 fn push_envs(out: &mut Vec<u8>, board: &Board) -> Result<(), OutOfMemory>
-    ensures { OnOk result (out.new.items ≡ out.old.items ++ for_each_env (env_text (world_of board.now)) (world_of board.now).count) }
+    ensures { OnOk result (out.new.items ≡ out.old.items ++ for_each (env_text (world_of board.now)) (world_of board.now).count) }
 {
     for env in 0..board.envs() {
         push_env(out, board, env)?;
@@ -60,7 +60,7 @@ fn push_envs(out: &mut Vec<u8>, board: &Board) -> Result<(), OutOfMemory>
 
 /// Appends the sums of each environment.
 fn push_sums(out: &mut Vec<u8>, board: &Board) -> Result<(), OutOfMemory>
-    ensures { OnOk result (out.new.items ≡ out.old.items ++ for_each_env (sum_line (world_of board.now).rows) (world_of board.now).count) }
+    ensures { OnOk result (out.new.items ≡ out.old.items ++ for_each (sum_line (world_of board.now).rows) (world_of board.now).count) }
 {
     for env in 0..board.envs() {
         push_sum_line(out, board.journal(), env)?;

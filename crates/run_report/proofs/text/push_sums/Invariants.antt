@@ -1,7 +1,7 @@
 use Rattle.std.proofs.Common.{◌≡◌, ◌++◌}
 use Rattle.board_world.specs.Showing.{world_of}
-use Rattle.world_model.specs.Report.{sum_line, for_each_env}
+use Rattle.world_model.specs.Report.{sum_line, for_each}
 use Rattle.run_report.proofs.text.push_sums.Given as goal
 
 abbrev pub invariant-loop-env : goal.invariant-loop-env
-invariant-loop-env l = l.out.items ≡ l.fn.out.items ++ for_each_env (sum_line (world_of l.board).rows) l.env
+invariant-loop-env l = l.out.items ≡ l.fn.out.items ++ for_each (sum_line (world_of l.board).rows) l.env
