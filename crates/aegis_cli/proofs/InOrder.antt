@@ -104,7 +104,7 @@ manifest_refused name text s manifest.OutOfMemory answer first refused tells ask
 
 -- want of memory for what a manifest says comes between two reads
 pub manifest_wants : (name text : List ℕ) (s : ShelfEdge) → Tells s.told name text → s.Asked (name ∷ []) → s.faults_after ≡ s.faults_before → CameFar (MakeImage name) s
-manifest_wants name text s tells asked same = record { came = inr (inr (text ∷ [], (tells, tt), asked)); no_fault = same }
+manifest_wants name text s tells asked same = record { came = inr (inr (text, [], (tells, tt), asked)); no_fault = same }
 
 -- one more is as many and one
 pub longer : {A : Type 0} (xs : List A) (x : A) (i : ℕ) → length xs ≡ i → length (xs ++ x ∷ []) ≡ i + 1
@@ -175,7 +175,7 @@ module _ {S : Type 0} (of : OfShelf S) (before between after : S) (name text : L
           asked = asked_of (length b.bodies + 1) (length (text ∷ b.bodies) + 1) (omega arith) at.2.asked;
         },
       )
-      | inr between_two ↦ inr (text ∷ b.bodies, first_of b.bodies between_two.read, asked_of (length b.bodies) (length (text ∷ b.bodies)) refl between_two.asked)
+      | inr between_two ↦ inr (text, b.bodies, first_of b.bodies between_two.read, asked_of (length b.bodies) (length (text ∷ b.bodies)) refl between_two.asked)
     ]);
     no_fault = b.no_fault ∙ same;
   }

@@ -74,7 +74,7 @@ pub record FailedAt (form : Form) (s : ShelfEdge) : Type 0 where
 -- for. No other form wants memory between two reads.
 abbrev pub CameBetween : Form → ShelfEdge → Type 0
 CameBetween (MakeImage manifest) s =
-    (contents : List (List ℕ)) × AreFirst (MakeImage manifest) s.told contents × s.Asked (take (length contents) (names_of (MakeImage manifest) contents))
+    (text : List ℕ) × (bodies : List (List ℕ)) × AreFirst (MakeImage manifest) s.told (text ∷ bodies) × s.Asked (take (length (text ∷ bodies)) (names_of (MakeImage manifest) (text ∷ bodies)))
 CameBetween form s = ⊥
 
 -- No read failed: all files were read, or those up to one for which no memory was found, or memory was wanting
