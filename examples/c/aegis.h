@@ -1,4 +1,4 @@
-/* The kernel's calls: yield, put, exit, self, clock. The number is in $2 and the arguments are in $4 and $5; the code
+/* Five of the kernel's calls: yield, put, exit, self, clock. The number is in $2 and the arguments are in $4 and $5; the code
    comes in $2 and the value in $3. docs/KERNEL.md says what each does. */
 #ifndef AEGIS_H
 #define AEGIS_H

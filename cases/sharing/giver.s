@@ -1,0 +1,23 @@
+# Allocates page 6 with the read word 5, binds it and stores; yields; frees it; and yields for ever.
+        ori  $2, $0, 3          # alloc
+        ori  $4, $0, 6
+        ori  $5, $0, 5
+        syscall
+        ori  $2, $0, 6          # bind
+        ori  $4, $0, 0x500
+        ori  $5, $0, 6
+        ori  $6, $0, 1
+        syscall
+        lui  $9, 0x50
+        sw   $9, 0($9)
+        addiu $4, $0, -1
+        ori  $2, $0, 0          # yield
+        syscall
+        ori  $2, $0, 4          # free
+        ori  $4, $0, 6
+        syscall
+        addiu $4, $0, -1
+loop:   ori  $2, $0, 0
+        syscall
+        b    loop
+        nop
