@@ -1,9 +1,9 @@
 -- The context page, and what an exception leaves there.
-use Rattle.std.specs.Prelude.{ℕ, ◌+◌, List, [], ◌∷◌, false, ◌==◌, if◌then◌else◌, Option, Some, None}
+use Rattle.std.specs.Prelude.{ℕ, ◌+◌, ◌^◌, List, [], ◌∷◌, false, ◌==◌, if◌then◌else◌, Option, Some, None}
 use Rattle.std.specs.List.{flat_map}
 use Rattle.mips_exec.specs.declared.registers.Cpu.{Cpu}
 use Rattle.mips_exec.specs.declared.exception.Exc.{Exc}
-use Rattle.mips_exec.specs.Cpu.{reg, restart_of, with_reg}
+use Rattle.mips_exec.specs.Cpu.{reg, rested, restart_of, with_reg}
 use Rattle.mips_exec.specs.Exception.{cause_word_of}
 use Rattle.mips_exec.specs.Word.{word_of}
 use Rattle.frame_store.specs.Pages.{word_bytes}
@@ -27,6 +27,14 @@ context_numbered kind =
     if kind == 2 then Some context.End else
     if kind == 3 then Some context.Asynchronous else
     if kind == 4 then Some context.Synchronous else None
+
+-- the start area has the old $26 and the resume address
+abbrev pub start_area : ℕ
+start_area = 0x040
+
+-- the end area has the old $26, the resume address and Cause
+abbrev pub end_area : ℕ
+end_area = 0x050
 
 -- an environment that handles nothing
 abbrev pub no_handlers : Handlers
@@ -63,3 +71,23 @@ continued address cpu = record cpu { pc = address; next = word_of (address + 4);
 -- the handler finds Cause in $1, EPC in $26 and the bad address in $27
 abbrev pub raised_cpu : ℕ → Exc → Cpu → Cpu
 raised_cpu handler exc cpu = continued handler (with_reg (with_reg (with_reg cpu 1 (cause_word_of exc cpu.slot)) 26 (restart_of cpu)) 27 exc.bad)
+
+-- What the start of a slice leaves in the start area, of registers that go on at their restart address.
+unfoldable pub start_bytes : Cpu → List ℕ
+start_bytes cpu = flat_map word_bytes (reg cpu 26 ∷ restart_of cpu ∷ [])
+
+-- Cause without an exception says only whether a delay slot was due
+abbrev pub end_cause : Cpu → ℕ
+end_cause cpu = if cpu.slot then 2 ^ 31 else 0
+
+-- what the end of a slice leaves in the end area
+unfoldable pub end_bytes : Cpu → List ℕ
+end_bytes cpu = flat_map word_bytes (reg cpu 26 ∷ restart_of cpu ∷ end_cause cpu ∷ [])
+
+-- a handler of starts or ends finds the resume address in $26
+abbrev pub resumed_cpu : ℕ → Cpu → Cpu
+resumed_cpu handler cpu = continued handler (with_reg cpu 26 (restart_of cpu))
+
+-- the registers with which a slice starts: at the handler of starts, where there is one, else at rest
+abbrev pub started_cpu : ℕ → Cpu → Cpu
+started_cpu handler cpu = if handler == 0 then rested cpu else resumed_cpu handler cpu

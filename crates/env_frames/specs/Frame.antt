@@ -28,10 +28,14 @@ numbers mappings = map (λ m. m.vpn) mappings
 abbrev pub page_of : List Mapping → ℕ → Option ℕ
 page_of mappings vpn = option_map (λ m. m.page) (mapping_at mappings vpn)
 
+-- physical memory with bytes in an area of the context page, which is this page
+abbrev pub left_in : ℕ → List ℕ → Option ℕ → List (List ℕ) → List (List ℕ)
+left_in area bytes None frames = frames
+left_in area bytes (Some page) frames = after_put frames page area bytes
+
 -- what an exception leaves in physical memory: its words in the context page of the environment
 abbrev pub raised_in : Exc → Cpu → Option ℕ → List (List ℕ) → List (List ℕ)
-raised_in exc cpu None frames = frames
-raised_in exc cpu (Some page) frames = after_put frames page exception_area (exception_bytes exc cpu)
+raised_in exc cpu page frames = left_in exception_area (exception_bytes exc cpu) page frames
 
 -- an environment that is gone has nothing
 abbrev pub gone_env : EnvValue

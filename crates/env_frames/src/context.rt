@@ -11,6 +11,18 @@ pub(crate) const EXCEPTION_AREA: u32 = 0x000;
 /// How many bytes the exception area has: six words.
 pub(crate) const EXCEPTION_AREA_SIZE: usize = 24;
 
+/// Where the start area begins in the context page.
+pub(crate) const START_AREA: u32 = 0x040;
+
+/// How many bytes the start area has: two words.
+pub(crate) const START_AREA_SIZE: usize = 8;
+
+/// Where the end area begins in the context page.
+pub(crate) const END_AREA: u32 = 0x050;
+
+/// How many bytes the end area has: three words.
+pub(crate) const END_AREA_SIZE: usize = 12;
+
 /// Why the kernel continues an environment at an address that the environment chose.
 #[derive(Clone, Copy)]
 pub enum Context {

@@ -1,14 +1,14 @@
 //! An environment's frame.
-ghost use Rattle.std.specs.Prelude.{◌≡◌, ◌<◌, ◌≤◌, ◌+◌, ◌==◌, [], ◌∷◌, ◌++◌, length, true, not, if◌then◌else◌, IfSome};
-ghost use Rattle.aegis_limits.specs.Limits.{most_mappings};
+ghost use Rattle.std.specs.Prelude.{◌≡◌, ◌≢◌, ◌<◌, ◌≤◌, ◌+◌, ◌==◌, [], ◌∷◌, ◌++◌, length, true, not, if◌then◌else◌, IfSome};
+ghost use Rattle.aegis_limits.specs.Limits.{most_mappings, page_size};
 ghost use Rattle.mips_exec.specs.Cpu.{rested};
-ghost use Rattle.env_frames.specs.Context.{handler_of, no_handlers, raised_cpu, with_handler};
-ghost use Rattle.env_frames.specs.Frame.{IsAbove, IsRising, gone_env, mapping_at, numbers, page_of, raised_in};
+ghost use Rattle.env_frames.specs.Context.{end_area, end_bytes, handler_of, no_handlers, raised_cpu, resumed_cpu, start_area, start_bytes, started_cpu, with_handler};
+ghost use Rattle.env_frames.specs.Frame.{IsAbove, IsRising, gone_env, left_in, mapping_at, numbers, page_of, raised_in};
 
-use crate::context::{CONTEXT_PAGE, Context, EXCEPTION_AREA, Handlers};
-use crate::exception::{enter_handler, exception_bytes};
+use crate::context::{CONTEXT_PAGE, Context, END_AREA, EXCEPTION_AREA, Handlers, START_AREA};
 use crate::mapping::Mapping;
 use crate::search::place_in;
+use crate::upcall::{end_bytes, enter_raised, enter_resumed, exception_bytes, start_bytes};
 use aegis_limits::MOST_MAPPINGS;
 use arrayvec::ArrayVec;
 use frame_store::Frames;
@@ -145,6 +145,19 @@ impl Env {
         self.guaranteed(CONTEXT_PAGE).map(|mapping| mapping.page)
     }
 
+    /// Leaves bytes in an area of the context page, if the environment has one. The area lies within
+    /// the page.
+    fn leave(&self, frames: &mut Frames, area: u32, bytes: &[u8])
+        requires there { IfSome (page_of self.now.mappings 1) (λ page. page < length frames.old) }
+        requires within { area + length bytes.now ≤ page_size }
+        ensures frames { frames.new ≡ left_in area bytes.now (page_of self.now.mappings 1) frames.old }
+        ensures size { length frames.new ≡ length frames.old }
+    {
+        if let Some(page) = self.context_page() {
+            frames.put(page, area, bytes);
+        }
+    }
+
     /// Hands an exception to the environment's handler: what it needs to go on later stands in the
     /// context page, and its registers continue at the handler. `false` says that there is no handler,
     /// and then nothing has changed.
@@ -159,11 +172,42 @@ impl Env {
         if handler == 0 {
             return false;
         }
-        if let Some(page) = self.context_page() {
-            frames.put(page, EXCEPTION_AREA, &exception_bytes(cpu, exc));
-        }
-        enter_handler(cpu, handler, exc);
+        self.leave(frames, EXCEPTION_AREA, &exception_bytes(cpu, exc));
+        enter_raised(cpu, handler, exc);
         true
+    }
+
+    /// The registers with which a slice of the environment starts: at its handler of starts, which
+    /// finds in the context page what it needs to go on where the kept registers stand; or, without a
+    /// handler, at rest where they stand (`docs/KERNEL.md`, "Starts and ends of slices").
+    pub fn start(&self, frames: &mut Frames) -> Cpu
+        requires { IfSome (page_of self.now.mappings 1) (λ page. page < length frames.old) }
+        ensures cpu { result ≡ started_cpu self.now.handlers.start self.now.cpu }
+        ensures frames { frames.new ≡ (if self.now.handlers.start == 0 then frames.old else left_in start_area (start_bytes self.now.cpu) (page_of self.now.mappings 1) frames.old) }
+        ensures size { length frames.new ≡ length frames.old }
+    {
+        let handler = self.handlers.start;
+        if handler == 0 {
+            return self.restore();
+        }
+        let mut cpu = self.cpu;
+        self.leave(frames, START_AREA, &start_bytes(&cpu));
+        enter_resumed(&mut cpu, handler);
+        cpu
+    }
+
+    /// Tells the environment, which handles ends, that its slice ends: its registers continue at the
+    /// handler, which finds in the context page what it needs to go on where they stood
+    /// (`docs/KERNEL.md`, "Starts and ends of slices").
+    pub fn end(&self, frames: &mut Frames, cpu: &mut Cpu)
+        requires handled { self.now.handlers.end ≢ 0 }
+        requires there { IfSome (page_of self.now.mappings 1) (λ page. page < length frames.old) }
+        ensures frames { frames.new ≡ left_in end_area (end_bytes cpu.old) (page_of self.now.mappings 1) frames.old }
+        ensures cpu { cpu.new ≡ resumed_cpu self.now.handlers.end cpu.old }
+        ensures size { length frames.new ≡ length frames.old }
+    {
+        self.leave(frames, END_AREA, &end_bytes(cpu));
+        enter_resumed(cpu, self.handlers.end);
     }
 
     /// The environment is dead: nothing of it is kept, and all its registers are 0.

@@ -2,18 +2,21 @@
 //! handlers, the mask of those whose yields and transfers it accepts, and its guaranteed mappings, by
 //! which its page numbers lead to pages of physical memory.
 //!
-//! Mappings are given by rising page number, and looked up by halving. An exception that the environment
-//! handles leaves its words in the context page, which is the page at page number 1, and continues at the
-//! handler; where there is no handler it leaves all as it is.
+//! Mappings are given by rising page number, and looked up by halving.
+//!
+//! An upcall is the kernel's: an environment goes on at a handler of its own, after an exception, where
+//! its slice starts, and where its slice ends. What it needs to go on as if nothing had been stands then
+//! in the context page, which is the page at page number 1, in an area for each kind of upcall. Without a
+//! handler the context page stays as it is.
 #![tactic(auto)]
 
 mod context;
 mod env;
-mod exception;
 mod mapping;
 mod search;
 #[cfg(test)]
 mod tests;
+mod upcall;
 
 pub use context::{Context, Handlers};
 pub use env::Env;

@@ -1,4 +1,4 @@
-//! What an environment's frame keeps, and how it hands an exception to a handler.
+//! What an environment's frame keeps, and what its upcalls leave.
 use super::*;
 use frame_store::Frames;
 use mips_exec::{Cpu, Exc, ExcCode};
@@ -60,5 +60,40 @@ fn an_exception_leaves_six_words_and_goes_to_its_handler(rt: HostRuntime) -> Res
         [0x8000_0010, 0x40_0004, 0x40_1001]
     );
     assert_eq!(rt; (cpu.pc, cpu.next, cpu.slot), (0x40_0200, 0x40_0204, false));
+    Ok(())
+}
+
+#[test]
+fn a_start_and_an_end_leave_their_words_and_go_to_their_handlers(
+    rt: HostRuntime,
+) -> Result<(), Fail> {
+    let Ok(mut frames) = Frames::new(rt.alloc(), 16) else {
+        return Err(Fail::from("no memory"));
+    };
+    let mut env = Env::new(in_a_slot(), 3, 0);
+    assert_eq!(rt; env.start(&mut frames).pc, 0x40_0004);
+    assert_eq!(rt; &frames.page(3)[0x40..0x48], [0; 8].as_slice());
+    env.set_handler(Context::Start, 0x40_0200);
+    env.set_handler(Context::End, 0x40_0300);
+    let started = env.start(&mut frames);
+    let start_area = [8, 0, 0, 0, 0x04, 0, 0x40, 0];
+    assert_eq!(rt; &frames.page(3)[0x40..0x48], start_area.as_slice());
+    assert_eq!(rt;
+        [started.regs[1], started.regs[26], started.regs[27]],
+        [7, 0x40_0004, 9]
+    );
+    assert_eq!(rt;
+        (started.pc, started.next, started.slot),
+        (0x40_0200, 0x40_0204, false)
+    );
+    let mut cpu = in_a_slot();
+    env.end(&mut frames, &mut cpu);
+    let end_area = [8, 0, 0, 0, 0x04, 0, 0x40, 0, 0, 0, 0, 0x80];
+    assert_eq!(rt; &frames.page(3)[0x50..0x5C], end_area.as_slice());
+    assert_eq!(rt;
+        [cpu.regs[1], cpu.regs[26], cpu.regs[27]],
+        [7, 0x40_0004, 9]
+    );
+    assert_eq!(rt; (cpu.pc, cpu.next, cpu.slot), (0x40_0300, 0x40_0304, false));
     Ok(())
 }

@@ -1,0 +1,96 @@
+//! What the kernel's upcalls leave in the context page, and in the registers of their handlers.
+ghost use Rattle.std.specs.Prelude.{◌≡◌};
+ghost use Rattle.env_frames.specs.Context.{continued, end_bytes, end_cause, exception_bytes, raised_cpu, resumed_cpu, start_bytes};
+
+use crate::context::{END_AREA_SIZE, EXCEPTION_AREA_SIZE, START_AREA_SIZE};
+use byteorder::{ByteOrder, LittleEndian};
+use mips_exec::{Cpu, Exc, cause_word, restart};
+
+/// The register in which a handler of exceptions finds Cause.
+const CAUSE_REGISTER: u8 = 1;
+
+/// The register in which every handler finds the address at which the program would go on: EPC of an
+/// exception, the resume address where a slice starts or ends.
+const RESUME_REGISTER: u8 = 26;
+
+/// The register in which a handler of exceptions finds the bad address.
+const BAD_ADDRESS_REGISTER: u8 = 27;
+
+/// The bytes of the exception area: the three registers that the handler finds changed, EPC, the bad
+/// address and Cause, in words whose lowest byte stands first (`docs/KERNEL.md`, "The context page").
+#[tactic(auto, unfolding(crate::specs::Context::exception_bytes))]
+pub(crate) fn exception_bytes(cpu: &Cpu, exc: &Exc) -> [u8; EXCEPTION_AREA_SIZE]
+    ensures { result ≡ exception_bytes exc.now cpu.now }
+{
+    let words = [
+        cpu.reg(CAUSE_REGISTER),
+        cpu.reg(RESUME_REGISTER),
+        cpu.reg(BAD_ADDRESS_REGISTER),
+        restart(cpu),
+        exc.bad,
+        cause_word(exc, cpu.slot),
+    ];
+    let mut bytes = [0; EXCEPTION_AREA_SIZE];
+    LittleEndian::write_u32_into(&words, &mut bytes);
+    bytes
+}
+
+/// The bytes of the start area: the register that the handler finds changed and the resume address, as
+/// words of the same form.
+#[tactic(auto, unfolding(crate::specs::Context::start_bytes))]
+pub(crate) fn start_bytes(cpu: &Cpu) -> [u8; START_AREA_SIZE]
+    ensures { result ≡ start_bytes cpu.now }
+{
+    let words = [cpu.reg(RESUME_REGISTER), restart(cpu)];
+    let mut bytes = [0; START_AREA_SIZE];
+    LittleEndian::write_u32_into(&words, &mut bytes);
+    bytes
+}
+
+/// The bytes of the end area: those of a start, and Cause.
+#[tactic(auto, unfolding(crate::specs::Context::end_bytes))]
+pub(crate) fn end_bytes(cpu: &Cpu) -> [u8; END_AREA_SIZE]
+    ensures { result ≡ end_bytes cpu.now }
+{
+    let words = [cpu.reg(RESUME_REGISTER), restart(cpu), end_cause(cpu)];
+    let mut bytes = [0; END_AREA_SIZE];
+    LittleEndian::write_u32_into(&words, &mut bytes);
+    bytes
+}
+
+/// Cause where there was no exception: bit 31 says that `pc` was a delay slot, and all else is 0.
+fn end_cause(cpu: &Cpu) -> u32
+    ensures { result ≡ end_cause cpu.now }
+{
+    if cpu.slot { 0x8000_0000 } else { 0 }
+}
+
+/// Continues at an exception's handler, which finds Cause, EPC and the bad address in registers.
+pub(crate) fn enter_raised(cpu: &mut Cpu, handler: u32, exc: &Exc)
+    ensures { cpu.new ≡ raised_cpu handler exc.now cpu.old }
+{
+    let cause = cause_word(exc, cpu.slot);
+    let epc = restart(cpu);
+    cpu.set_reg(CAUSE_REGISTER, cause);
+    cpu.set_reg(RESUME_REGISTER, epc);
+    cpu.set_reg(BAD_ADDRESS_REGISTER, exc.bad);
+    go_on(cpu, handler);
+}
+
+/// Continues at a handler of starts or ends, which finds the resume address in a register.
+pub(crate) fn enter_resumed(cpu: &mut Cpu, handler: u32)
+    ensures { cpu.new ≡ resumed_cpu handler cpu.old }
+{
+    let address = restart(cpu);
+    cpu.set_reg(RESUME_REGISTER, address);
+    go_on(cpu, handler);
+}
+
+/// Goes on at an address, out of a delay slot.
+fn go_on(cpu: &mut Cpu, address: u32)
+    ensures { cpu.new ≡ continued address cpu.old }
+{
+    cpu.pc = address;
+    cpu.next = address.wrapping_add(4);
+    cpu.slot = false;
+}
