@@ -1,2 +1,7 @@
 mod Fold
 mod NextTurn
+mod Turns
+mod Lives
+mod Rows
+mod Replies
+pub mod Balance

@@ -8,11 +8,11 @@ use Rattle.world_model.specs.declared.slot.Turn.{Turn}
 use Rattle.world_model.specs.Book.{Book, turn_or, first_turn, next_turn}
 use Rattle.world_model.specs.NextTurn.{IsNextTurn}
 
-abbrev holder_in : Option Hold → Option ℕ
+abbrev pub holder_in : Option Hold → Option ℕ
 holder_in hold = option_map (λ (h : Hold). h.holder) hold
 
 -- of so many slots after a place the first held one
-record FoundAt (slots : ℕ → Option Hold) (count place tries slot e : ℕ) : Type 0 where
+pub record FoundAt (slots : ℕ → Option Hold) (count place tries slot e : ℕ) : Type 0 where
   pub held : holder_in (slots slot) ≡ Some e
   pub steps : ℕ
   pub steps_least : 1 ≤ steps
@@ -20,7 +20,7 @@ record FoundAt (slots : ℕ → Option Hold) (count place tries slot e : ℕ) : 
   pub stands : slot ≡ (place + steps) % count
   pub between : (j : ℕ) → 1 ≤ j → j < steps → slots ((place + j) % count) ≡ None
 
-abbrev Found : (ℕ → Option Hold) → ℕ → ℕ → ℕ → Option Turn → Type 0
+abbrev pub Found : (ℕ → Option Hold) → ℕ → ℕ → ℕ → Option Turn → Type 0
 Found slots count place tries None = (j : ℕ) → 1 ≤ j → j ≤ tries → slots ((place + j) % count) ≡ None
 Found slots count place tries (Some t) = FoundAt slots count place tries t.slot t.env
 
@@ -61,7 +61,7 @@ further slots count place tries (Some hold) later is found = record {
   between = λ j least most. absurd (omega arith);
 }
 
-search_finds : (slots : ℕ → Option Hold) (count place tries : ℕ) → Found slots count place tries (first_turn slots count place tries)
+pub search_finds : (slots : ℕ → Option Hold) (count place tries : ℕ) → Found slots count place tries (first_turn slots count place tries)
 search_finds slots count place zero = λ j least most. absurd (omega arith)
 search_finds slots count place (suc tries) =
     let next = (place + 1) % count in

@@ -1,5 +1,5 @@
 -- The kernel's answer to a call: a refusal, or what the call brings.
-use Rattle.std.specs.Prelude.{ℕ, List, [], ◌∷◌}
+use Rattle.std.specs.Prelude.{ℕ, [], ◌∷◌}
 use Rattle.world_model.specs.declared.code.Code.{Code}
 use Rattle.world_model.specs.Item.{Granted, Refused}
 use Rattle.world_model.specs.World.{World, Reply, only}

@@ -1,15 +1,16 @@
 -- The kernel's one book: the vector of slots, whose the pages are, and who has bound them.
-use Rattle.std.specs.Prelude.{ℕ, zero, suc, ◌+◌, ◌%◌, Bool, false, ◌==◌, ◌&&◌, ◌||◌, nat_lt, if◌then◌else◌, Option, Some, None, is_none}
+use Rattle.std.specs.Prelude.{ℕ, zero, suc, ◌+◌, ◌-◌, ◌%◌, List, [], ◌∷◌, Bool, false, ◌==◌, ◌&&◌, ◌||◌, nat_lt, if◌then◌else◌, Option, Some, None, is_none}
 use Rattle.std.specs.Option.{option_map}
 use Rattle.page_book.specs.declared.row.PageRow.{PageRow}
 use Rattle.page_book.specs.Row.{is_owned_by}
 use Rattle.bind_book.specs.declared.binding.Binding.{Binding}
 use Rattle.bind_book.specs.Stripe.{breaks_page, is_bound, without}
+use Rattle.world_model.specs.Table.{set_at}
 use Rattle.world_model.specs.declared.slot.Hold.{Hold}
 use Rattle.world_model.specs.declared.slot.Runner.{Runner}
 use Rattle.world_model.specs.declared.slot.Turn.{Turn}
 
--- Slots from slot_count on are empty; a runner, if one runs, runs in the cursor's slot. Pages are numbered below page_count; from there on
+-- Slots from slot_count on are empty; a runner, if one runs, runs in the cursor's slot. Each environment has its excess: the quanta that it ran past its slices and hasn't forfeited yet. Pages are numbered below page_count; from there on
 -- each is as if free. The bindings stand by environment, in the rows of its stripe.
 pub record Book : Type 0 where
   pub slot_count : ℕ
@@ -17,6 +18,7 @@ pub record Book : Type 0 where
   pub quantum : ℕ
   pub cursor : ℕ
   pub runner : Option Runner
+  pub excess : ℕ → ℕ
   pub page_count : ℕ
   pub pages : ℕ → PageRow
   pub binds : ℕ → ℕ → Option Binding
@@ -56,6 +58,54 @@ first_turn slots count place (suc tries) = turn_or ((place + 1) % count) (slots 
 -- whose turn is next: the holder's of the next held slot after the cursor, all around
 abbrev pub next_turn : Book → Option Turn
 next_turn b = first_turn b.slots b.slot_count b.cursor b.slot_count
+
+-- more than so much excess is death
+abbrev pub excess_limit : ℕ
+excess_limit = 8
+
+-- what the holder of a slot owes
+abbrev pub owed_in : (ℕ → ℕ) → Option Hold → ℕ
+owed_in excess None = 0
+owed_in excess (Some hold) = excess hold.holder
+
+-- what the holders of the slots below count owe, slot by slot
+abbrev pub owed : (ℕ → ℕ) → (ℕ → Option Hold) → ℕ → ℕ
+owed excess slots zero = 0
+owed excess slots (suc k) = owed excess slots k + owed_in excess (slots k)
+
+-- A turn told to its end: the slots that are forfeited on the way, each for its holder; the turn that is run at last, if any slot has a holder; and the excess and the cursor that are left.
+pub record Told : Type 0 where
+  pub pays : List Turn
+  pub runs : Option Turn
+  pub excess : ℕ → ℕ
+  pub cursor : ℕ
+
+-- nobody's turn
+abbrev pub nobodys : ℕ → (ℕ → ℕ) → Told
+nobodys cursor excess = record { pays = []; runs = None; excess = excess; cursor = cursor }
+
+abbrev pub pays_first : Turn → Told → Told
+pays_first t rest = record rest { pays = t ∷ rest.pays }
+
+-- an environment's excess, lowered by one
+abbrev pub lowered : ℕ → (ℕ → ℕ) → ℕ → ℕ
+lowered e excess = set_at e (excess e - 1) excess
+
+-- the holder of the next held slot runs, if it owes nothing; else the slot is forfeited, and so on with the rest of the turn
+abbrev pub told_at : (ℕ → (ℕ → ℕ) → Told) → ℕ → (ℕ → ℕ) → Option Turn → Told
+told_at rest cursor excess None = nobodys cursor excess
+told_at rest cursor excess (Some t) =
+    if excess t.env == 0 then record { pays = []; runs = Some t; excess = excess; cursor = t.slot }
+    else pays_first t (rest t.slot (lowered t.env excess))
+
+-- the turn after a cursor, with fewer than so many forfeits
+abbrev pub told_turn : (ℕ → Option Hold) → ℕ → ℕ → ℕ → (ℕ → ℕ) → Told
+told_turn slots count zero cursor excess = nobodys cursor excess
+told_turn slots count (suc n) cursor excess = told_at (told_turn slots count n) cursor excess (first_turn slots count cursor count)
+
+-- the next turn, told to its end: there are no more forfeits than the holders owe
+abbrev pub whole_turn : Book → Told
+whole_turn b = told_turn b.slots b.slot_count (suc (owed b.excess b.slots b.slot_count)) b.cursor b.excess
 
 -- nobody runs and no slot has a holder
 abbrev pub is_idle_book : Book → Bool

@@ -68,6 +68,7 @@ boot_book pages quantum owners = record {
   quantum = quantum;
   cursor = length owners - 1;
   runner = None;
+  excess = λ e. 0;
   page_count = pages;
   pages = λ page. Free;
   binds = λ e. nothing_bound;

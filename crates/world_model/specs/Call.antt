@@ -1,9 +1,11 @@
 -- Kernel calls: their numbers, their arguments, and what is found in the caller.
-use Rattle.std.specs.Prelude.{ℕ, ◌+◌, ◌*◌, ◌/◌, ◌%◌, ◌^◌, Bool, List, [], take, drop, not, ◌==◌, ◌&&◌, nat_le, nat_lt, if◌then◌else◌, Option, Some, None, is_none}
+use Rattle.std.specs.Prelude.{ℕ, ◌+◌, ◌*◌, ◌/◌, ◌%◌, ◌^◌, Bool, List, [], take, drop, not, ◌==◌, ◌&&◌, nat_le, nat_lt, if◌then◌else◌, Option, Some, None, is_none, is_some}
 use Rattle.std.specs.Option.{option_map, option_or}
 use Rattle.aegis_limits.specs.Limits.{page_size, console_size}
 use Rattle.mips_exec.specs.declared.registers.Cpu.{Cpu}
 use Rattle.mips_exec.specs.Cpu.{reg}
+use Rattle.env_frames.specs.declared.context.Context.{Context}
+use Rattle.env_frames.specs.declared.context.Context.TheVariants as context
 use Rattle.page_book.specs.declared.row.Capabilities.{Capabilities}
 use Rattle.page_book.specs.declared.row.PageRow.{PageRow}
 use Rattle.page_book.specs.Row.{bind_refusal}
@@ -26,6 +28,10 @@ call_named number =
     if number == 6 then Some call.Bind else
     if number == 7 then Some call.Unbind else
     if number == 8 then Some call.Context else
+    if number == 9 then Some call.Accept else
+    if number == 11 then Some call.SlotTake else
+    if number == 12 then Some call.SlotDrop else
+    if number == 13 then Some call.Query else
     if number == 20 then Some call.OwnNumber else
     if number == 21 then Some call.Clock else None
 
@@ -65,10 +71,17 @@ abbrev pub refusal_of_bind : ℕ → Cpu → Bool → Option PageRow → Option 
 refusal_of_bind e cpu guaranteed row =
     option_or (number_refusal guaranteed (reg cpu 4)) (option_map code_of (bind_refusal e (binding_of cpu).writable (presented cpu) row))
 
--- a handler's address is a word's, of user space; 0 is no handler. There are handlers of exceptions alone
+-- the contexts that have handlers, by the number that the call names them by
+abbrev pub handled : ℕ → Option Context
+handled kind =
+    if kind == 0 then Some context.Exception else
+    if kind == 1 then Some context.Start else
+    if kind == 2 then Some context.End else None
+
+-- a handler's address is a word's, of user space; 0 is no handler
 abbrev pub refusal_of_context : Cpu → Option Code
 refusal_of_context cpu =
-    if reg cpu 4 == 0 && (reg cpu 5 % 4 == 0 && nat_lt (reg cpu 5) user_end) then None else Some code.BadCall
+    if is_some (handled (reg cpu 4)) && (reg cpu 5 % 4 == 0 && nat_lt (reg cpu 5) user_end) then None else Some code.BadCall
 
 -- the bytes of a range, where it is good: it lies in one page, below the users' end, and its page number leads somewhere
 abbrev pub good_range : (ℕ → Option Mapped) → ℕ → ℕ → Option (List ℕ)

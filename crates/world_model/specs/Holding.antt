@@ -1,7 +1,8 @@
 -- What becomes of the pages that an environment owns or has bound.
-use Rattle.std.specs.Prelude.{ℕ, Bool, true, false, ◌==◌, ◌||◌, if◌then◌else◌, List, [], ◌∷◌, Option, Some, None, is_some}
+use Rattle.std.specs.Prelude.{ℕ, Bool, true, false, ◌==◌, ◌||◌, if◌then◌else◌, List, Option, Some, None, is_some}
 use Rattle.mips_exec.specs.declared.exception.Exc.{Exc}
-use Rattle.env_frames.specs.Context.{context_number, exception_area, exception_bytes, raised_cpu}
+use Rattle.mips_exec.specs.Cpu.{rested}
+use Rattle.env_frames.specs.Context.{context_number, end_area, end_bytes, exception_area, exception_bytes, raised_cpu, resumed_cpu, start_area, start_bytes}
 use Rattle.bind_book.specs.declared.binding.Binding.{Binding}
 use Rattle.bind_book.specs.Stripe.{binding_at, is_bound, row_of, without}
 use Rattle.world_model.specs.Table.{set_at}
@@ -40,9 +41,21 @@ gained page bytes s = record s { seen = set_at page (Some (record { owned = is_o
 abbrev pub lost : ℕ → Solo → Solo
 lost page s = record s { binds = λ row. without (λ b. b.page == page) (s.binds row); seen = set_at page None s.seen }
 
+-- the environment with bytes in an area of its context page
+abbrev pub with_context : ℕ → List ℕ → Solo → Solo
+with_context area bytes s = record s { kept = kept_after s.kept (record { key = Kept context_number; offset = area; bytes = bytes }) }
+
 -- an exception goes to the environment's handler, which finds in the context page what it needs
 abbrev pub raise : Exc → Solo → Solo
-raise exc s = record s {
-  cpu = raised_cpu s.handlers.exception exc s.cpu;
-  kept = kept_after s.kept (record { key = Kept context_number; offset = exception_area; bytes = exception_bytes exc s.cpu });
-}
+raise exc s = record (with_context exception_area (exception_bytes exc s.cpu) s) { cpu = raised_cpu s.handlers.exception exc s.cpu }
+
+-- A slice starts where the environment stood, at rest; or at its handler of starts, which finds where it stood.
+abbrev pub start_by : ℕ → Solo → Solo
+start_by handler s = if handler == 0 then record s { cpu = rested s.cpu } else record (with_context start_area (start_bytes s.cpu) s) { cpu = resumed_cpu handler s.cpu }
+
+abbrev pub start : Solo → Solo
+start s = start_by s.handlers.start s
+
+-- A slice ends at the environment's handler of ends, which finds where it stood, and whether in a delay slot.
+abbrev pub end_slice : Solo → Solo
+end_slice s = record (with_context end_area (end_bytes s.cpu) s) { cpu = resumed_cpu s.handlers.end s.cpu }

@@ -11,8 +11,9 @@ pub mod NextTurn
 pub mod World
 pub mod Answer
 pub mod PageCalls
+pub mod SlotCalls
 pub mod Verdict
 pub mod Tick
 pub mod Boot
 pub mod Run
-pub mod Report
+pub mod Excess

@@ -1,8 +1,6 @@
 -- The calls on pages: who may allocate, free and bind them, and what the others are given of it.
 use Rattle.std.specs.Prelude.{ℕ, zero, suc, List, [], ◌∷◌, ◌++◌, Bool, true, false, ◌==◌, if◌then◌else◌, Option, Some, None, is_some, Result, Ok, Err, ok_or}
-use Rattle.std.specs.Option.{option_map}
 use Rattle.frame_store.specs.Pages.{zero_page}
-use Rattle.mips_exec.specs.declared.registers.Cpu.{Cpu}
 use Rattle.mips_exec.specs.Cpu.{reg}
 use Rattle.page_book.specs.declared.row.PageRow.{PageRow}
 use Rattle.page_book.specs.declared.row.PageRow.TheVariants.{Free, Guaranteed, Owned}
@@ -13,14 +11,13 @@ use Rattle.page_book.specs.Rows.{lowest_free}
 use Rattle.bind_book.specs.declared.binding.Binding.{Binding}
 use Rattle.bind_book.specs.Stripe.{binding_at, goes_with, is_bound, row_of, without}
 use Rattle.world_model.specs.declared.code.Code.{Code}
-use Rattle.world_model.specs.declared.code.Code.TheVariants as code
 use Rattle.world_model.specs.Table.{set_at}
 use Rattle.world_model.specs.Code.{code_of}
 use Rattle.world_model.specs.Book.{Book, broken, page_row, sees}
 use Rattle.world_model.specs.Call.{any, binding_of, number_refusal, refusal_of_bind, refusal_of_context, words_of}
 use Rattle.world_model.specs.Solo.{Solo, Store, Key, Kept, Physical, bytes_seen, kept_at}
 use Rattle.world_model.specs.Item.{Item, Granted, Gained, Lost, Left}
-use Rattle.world_model.specs.World.{World, Reply, no_items, only}
+use Rattle.world_model.specs.World.{World, Reply, only}
 use Rattle.world_model.specs.Answer.{Verdict, Refuses, Grants, grant}
 
 -- Breaks. An environment that has bound a page loses it
@@ -33,12 +30,12 @@ abbrev pub breaks : Book → ℕ → ℕ → List Item
 breaks b page e = lost_if (is_bound page (b.binds e)) page
 
 -- Allocation: the named page, if it is free, and for any the lowest free one.
-abbrev pub named_page : Book → ℕ → Option PageNo → Result ℕ PageNo
-named_page b page None = Ok page
-named_page b page (Some why) = Err why
+abbrev pub named_page : ℕ → Option PageNo → Result ℕ PageNo
+named_page page None = Ok page
+named_page page (Some why) = Err why
 
 abbrev pub chosen_page : Book → ℕ → Result ℕ PageNo
-chosen_page b page = if page == any then ok_or (lowest_free b.pages b.page_count) no.NoneFree else named_page b page (alloc_refusal (page_row b page))
+chosen_page b page = if page == any then ok_or (lowest_free b.pages b.page_count) no.NoneFree else named_page page (alloc_refusal (page_row b page))
 
 -- the caller owns the page, which holds zeros
 abbrev pub allocated : World → ℕ → ℕ → Reply

@@ -1,13 +1,16 @@
 -- The tick: the turn, the runner's step with its call or death, and the timer.
-use Rattle.std.specs.Prelude.{◌≡◌, ℕ, ◌+◌, ◌-◌, List, [], ◌∷◌, ◌++◌, ◌==◌, if◌then◌else◌, Option, Some, None}
+use Rattle.std.specs.Prelude.{◌≡◌, ℕ, ◌+◌, ◌-◌, List, [], ◌∷◌, ◌++◌, map, ◌==◌, nat_lt, if◌then◌else◌, Option, Some, None}
+use Rattle.kernel_journal.specs.declared.row.Row.{Row}
 use Rattle.kernel_journal.specs.declared.row.Row.TheVariants as row
 use Rattle.world_model.specs.declared.code.Code.{Code}
 use Rattle.world_model.specs.declared.life.Cause.{Cause}
+use Rattle.world_model.specs.declared.slot.Phase.{Phase}
+use Rattle.world_model.specs.declared.slot.Phase.TheVariants as phase
 use Rattle.world_model.specs.declared.slot.Runner.{Runner}
 use Rattle.world_model.specs.declared.slot.Turn.{Turn}
-use Rattle.world_model.specs.Book.{next_turn, running}
+use Rattle.world_model.specs.Book.{Told, excess_limit, running, whole_turn}
 use Rattle.world_model.specs.Call.{called}
-use Rattle.world_model.specs.Item.{Item, Step, Start, refused}
+use Rattle.world_model.specs.Item.{Item, Step, Start, End, Killed, refused}
 use Rattle.world_model.specs.Step.{Act, Nothing, Stores, Calls, Raises, Dies, step_alone, act_of, acted, call_act}
 use Rattle.world_model.specs.Verdict.{Refuses, reply_to, death, stop_row, verdict_now}
 use Rattle.world_model.specs.Table.{set_at}
@@ -17,18 +20,21 @@ use Rattle.world_model.specs.World.{World, Reply, only, no_items, after, run_pha
 abbrev pub no_change : World → Reply
 no_change w = record { book = w.book; items = no_items; rows = [] }
 
--- The turn: where nobody runs, the next holder starts with a full quantum.
-abbrev pub take_turn : World → Option Turn → Reply
-take_turn w None = no_change w
-take_turn w (Some t) = record {
-  book = record w.book { cursor = t.slot; runner = Some (record { env = t.env; left = w.book.quantum }) };
+-- The turn: where nobody runs, slots are forfeited whose holders owe, and the first holder that owes nothing starts with a full quantum.
+abbrev pub pay_row : ℕ → Turn → Row
+pay_row time t = row.Pay time t.slot t.env
+
+abbrev pub take_turn : World → Told → Option Turn → Reply
+take_turn w told None = no_change w
+take_turn w told (Some t) = record {
+  book = record w.book { cursor = told.cursor; excess = told.excess; runner = Some (record { env = t.env; left = w.book.quantum; phase = phase.Own }) };
   items = only t.env (Start ∷ []);
-  rows = row.Run w.book.time t.slot t.env ∷ [];
+  rows = map (pay_row w.book.time) told.pays ++ row.Run w.book.time t.slot t.env ∷ [];
 }
 
 abbrev pub turn_when : World → Option Runner → Reply
 turn_when w (Some r) = no_change w
-turn_when w None = take_turn w (next_turn w.book)
+turn_when w None = take_turn w (whole_turn w.book) (whole_turn w.book).runs
 
 abbrev pub turn : World → Reply
 turn w = turn_when w w.book.runner
@@ -52,19 +58,49 @@ step_when w (Some r) = let s = w.solos r.env in with_step r.env (brings w r.env 
 abbrev pub step : World → Reply
 step w = step_when w w.book.runner
 
--- The timer: the ticks left of a runner's slice fall by one, and at none it is stopped. Time rises by one.
-abbrev pub stop : World → ℕ → Reply
-stop w e = record { book = record w.book { runner = None; time = w.book.time + 1 }; items = no_items; rows = stop_row w.book e ∷ [] }
+-- The timer: the ticks left of a runner's slice fall by one, and time rises by one.
+abbrev pub timed : World → Option Runner → (ℕ → List Item) → List Row → Reply
+timed w runner items rows = record { book = record w.book { runner = runner; time = w.book.time + 1 }; items = items; rows = rows }
 
-abbrev pub go_on : World → Option Runner → Reply
-go_on w runner = record { book = record w.book { runner = runner; time = w.book.time + 1 }; items = no_items; rows = [] }
+-- At the end of its slice a runner is told, and has a quantum of grace, if it has a handler of ends; else it is stopped.
+abbrev pub slice_end : World → ℕ → ℕ → Reply
+slice_end w e handler =
+    if handler == 0 then timed w None no_items (stop_row w.book e ∷ [])
+    else timed w (Some (record { env = e; left = w.book.quantum; phase = phase.Grace })) (only e (End ∷ [])) (row.End w.book.time w.book.cursor e ∷ [])
 
-abbrev pub count_down : World → ℕ → ℕ → Reply
-count_down w e left = if left == 0 then stop w e else go_on w (Some (record { env = e; left = left }))
+-- a reply after which time has risen, too
+abbrev pub later : Reply → Reply
+later r = record r { book = record r.book { time = r.book.time + 1 } }
+
+-- a reply with a row before its own
+abbrev pub with_row : Row → Reply → Reply
+with_row first r = record r { rows = first ∷ r.rows }
+
+-- the runner dies of its excess
+abbrev pub killed : World → ℕ → Reply
+killed w e = let r = death w e in record r { items = set_at e (Killed ∷ []) r.items }
+
+-- At the end of a quantum of grace its excess rises to this; above the limit it dies, else it has another quantum.
+abbrev pub grace_end : World → ℕ → ℕ → Reply
+grace_end w e excess =
+    with_row (row.Over w.book.time w.book.cursor e excess)
+    (if nat_lt excess_limit excess then later (killed w e)
+    else later (record {
+      book = record w.book { runner = Some (record { env = e; left = w.book.quantum; phase = phase.Grace }); excess = set_at e excess w.book.excess };
+      items = no_items;
+      rows = [];
+    }))
+
+abbrev pub run_out : World → ℕ → Phase → Reply
+run_out w e phase.Own = slice_end w e (w.solos e).handlers.end
+run_out w e phase.Grace = grace_end w e (w.book.excess e + 1)
+
+abbrev pub count_down : World → Runner → ℕ → Reply
+count_down w r left = if left == 0 then run_out w r.env r.phase else timed w (Some (record r { left = left })) no_items []
 
 abbrev pub timer_when : World → Option Runner → Reply
-timer_when w None = go_on w None
-timer_when w (Some r) = count_down w r.env (r.left - 1)
+timer_when w None = timed w None no_items []
+timer_when w (Some r) = count_down w r (r.left - 1)
 
 abbrev pub timer : World → Reply
 timer w = timer_when w w.book.runner

@@ -1,5 +1,5 @@
 -- The kernel calls: for each, why it is refused and with which value, or what it brings.
-use Rattle.std.specs.Prelude.{ℕ, zero, suc, List, [], ◌∷◌, ◌++◌, length, Bool, true, false, ◌==◌, if◌then◌else◌, Option, Some, None}
+use Rattle.std.specs.Prelude.{ℕ, zero, suc, List, [], ◌∷◌, ◌++◌, length, if◌then◌else◌, Option, Some, None}
 use Rattle.kernel_journal.specs.declared.row.Row.{Row}
 use Rattle.kernel_journal.specs.declared.row.Row.TheVariants as row
 use Rattle.mips_exec.specs.Cpu.{reg}
@@ -8,25 +8,14 @@ use Rattle.world_model.specs.declared.call.Call.TheVariants as call
 use Rattle.world_model.specs.declared.code.Code.{Code}
 use Rattle.world_model.specs.declared.code.Code.TheVariants as code
 use Rattle.world_model.specs.declared.slot.Hold.{Hold}
-use Rattle.world_model.specs.Book.{Book, released, has_part}
-use Rattle.world_model.specs.Call.{called, put_refusal, any}
-use Rattle.world_model.specs.Item.{Item, Granted}
-use Rattle.world_model.specs.Solo.{Solo, sight}
-use Rattle.world_model.specs.World.{World, Reply, only}
+use Rattle.world_model.specs.Book.{released, has_part}
+use Rattle.world_model.specs.Call.{called, put_refusal}
+use Rattle.world_model.specs.Solo.{sight}
+use Rattle.world_model.specs.World.{World, Reply}
 use Rattle.world_model.specs.PageCalls.{alloc, free, recap, bind, unbind, context, death_items, without_pages_of}
+use Rattle.world_model.specs.Table.{set_at}
+pub use Rattle.world_model.specs.SlotCalls.{stop_row, slot_row, yield, slot_take, slot_drop, query}
 pub use Rattle.world_model.specs.Answer.{Verdict, Refuses, Grants, refusal, grant}
-
--- the row of a runner that is stopped
-abbrev pub stop_row : Book → ℕ → Row
-stop_row b e = row.Stop b.time b.cursor e
-
--- yield: without a target the caller is stopped, and the rest of its slice is dropped; there is no yield to a target
-abbrev pub yield_if : World → ℕ → Bool → Verdict
-yield_if w e false = Refuses code.BadCall 0
-yield_if w e true = Grants (record { book = record w.book { runner = None }; items = only e (Granted 0 ∷ []); rows = stop_row w.book e ∷ [] })
-
-abbrev pub yield : World → ℕ → Verdict
-yield w e = yield_if w e (reg (w.solos e).cpu 4 == any)
 
 -- put: bytes for the console, whose number is the value
 abbrev pub put_if : World → ℕ → Option Code → Verdict
@@ -35,11 +24,6 @@ put_if w e (Some code) = Refuses code 0
 
 abbrev pub put : World → ℕ → Verdict
 put w e = let s = w.solos e in put_if w e (put_refusal s.cpu (sight s) (length s.console))
-
--- the row of a slot that has changed
-abbrev pub slot_row : ℕ → ℕ → Option Hold → Row
-slot_row t k None = row.Own t k None None
-slot_row t k (Some hold) = row.Own t k (Some hold.owner) (Some hold.holder)
 
 -- the row of a slot that an environment owns or holds, once it is gone
 abbrev pub released_row : ℕ → ℕ → ℕ → Option Hold → List Row
@@ -50,10 +34,10 @@ abbrev pub released_rows : ℕ → ℕ → (ℕ → Option Hold) → ℕ → Lis
 released_rows t e slots zero = []
 released_rows t e slots (suc k) = released_rows t e slots k ++ released_row t e k (slots k)
 
--- the runner's death: its slots are empty, its pages free, and the rest of its slice is dropped
+-- the runner's death: its slots are empty, its pages free, it owes nothing, and the rest of its slice is dropped
 abbrev pub death : World → ℕ → Reply
 death w e = record {
-  book = without_pages_of e (record w.book { slots = λ k. released e (w.book.slots k); runner = None });
+  book = without_pages_of e (record w.book { slots = λ k. released e (w.book.slots k); runner = None; excess = set_at e 0 w.book.excess });
   items = death_items w.book e;
   rows = row.Dead w.book.time w.book.cursor e ∷ released_rows w.book.time e w.book.slots w.book.slot_count;
 }
@@ -70,6 +54,10 @@ verdict w e (Some call.Recap) = recap w e
 verdict w e (Some call.Bind) = bind w e
 verdict w e (Some call.Unbind) = unbind w e
 verdict w e (Some call.Context) = context w e
+verdict w e (Some call.Accept) = Grants (grant w e 0)
+verdict w e (Some call.SlotTake) = slot_take w e
+verdict w e (Some call.SlotDrop) = slot_drop w e
+verdict w e (Some call.Query) = query w e
 verdict w e (Some call.OwnNumber) = Grants (grant w e (w.solos e).number)
 verdict w e (Some call.Clock) = Grants (grant w e w.book.time)
 

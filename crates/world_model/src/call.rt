@@ -4,7 +4,7 @@ ghost use Rattle.std.specs.Prelude.{◌≡◌};
 /// A kernel call, named by its number in register 2 (`docs/KERNEL.md`).
 #[derive(Clone, Copy)]
 pub enum Call {
-    /// Gives up the rest of the slice.
+    /// Gives up the rest of the slice, or gives it to another.
     Yield,
     /// Appends bytes to the console.
     Put,
@@ -22,6 +22,14 @@ pub enum Call {
     Unbind,
     /// Sets the address of a handler.
     Context,
+    /// Sets the mask of those whose yields and transfers the caller accepts.
+    Accept,
+    /// Takes an empty slot.
+    SlotTake,
+    /// Drops a slot that the caller holds.
+    SlotDrop,
+    /// Answers a number of the machine or of the kernel's book.
+    Query,
     /// Answers the caller's own number.
     OwnNumber,
     /// Answers the time, in ticks since the boot.
@@ -45,6 +53,10 @@ impl Call {
             6 => Some(Call::Bind),
             7 => Some(Call::Unbind),
             8 => Some(Call::Context),
+            9 => Some(Call::Accept),
+            11 => Some(Call::SlotTake),
+            12 => Some(Call::SlotDrop),
+            13 => Some(Call::Query),
             20 => Some(Call::OwnNumber),
             21 => Some(Call::Clock),
             _ => None,

@@ -2,6 +2,7 @@
 ghost use Rattle.std.specs.Prelude.{◌<◌};
 ghost use Rattle.world_model.specs.Book.{Book, next_turn};
 ghost use Rattle.world_model.specs.NextTurn.{IsNextTurn};
+ghost use Rattle.world_model.specs.Excess.{BalanceHolds, LedgersAreLawful, TurnsGoByRule};
 ghost use Rattle.world_model.specs.Run.{IsFoldOfFeed};
 
 /// Each environment is what it makes alone of what it is given: for every image, number of ticks and
@@ -14,4 +15,20 @@ pub fn law_fold()
 /// last. It is nobody's exactly where every slot is empty.
 pub fn law_next_turn()
     ensures { (b : Book) → b.cursor < b.slot_count → IsNextTurn b (next_turn b) }
+{}
+
+/// A turn goes by the rule of excess: who runs in it owes nothing, every slot that is passed over is empty or was
+/// forfeited, and each forfeit lowers one excess by one.
+pub fn law_turn()
+    ensures { TurnsGoByRule }
+{}
+
+/// What an environment that lives ran past its slices it has forfeited, or still owes.
+pub fn law_balance()
+    ensures { BalanceHolds }
+{}
+
+/// Every row of every ledger is lawful after those before it, by the rule of excess.
+pub fn law_ledger()
+    ensures { LedgersAreLawful }
 {}

@@ -11,7 +11,7 @@ mod slot;
 
 pub use call::Call;
 pub use code::Code;
-pub use laws::{law_fold, law_next_turn};
+pub use laws::{law_balance, law_fold, law_ledger, law_next_turn, law_turn};
 pub use life::{Cause, Life};
 pub use page::Purpose;
-pub use slot::{Hold, Runner, Turn};
+pub use slot::{Hold, Phase, Runner, Turn};

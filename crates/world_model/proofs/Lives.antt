@@ -1,0 +1,116 @@
+-- What leaves an environment's life as it is.
+use Rattle.std.proofs.Common.{◌≡◌, ℕ, zero, suc, List, [], ◌∷◌, ◌++◌, Bool, true, false, refl, ◌∙◌, ap, Option, Some, None}
+use Rattle.std.specs.Prelude.{◌==◌, if◌then◌else◌, is_some}
+use Rattle.std.proofs.lemmas.List.Sums.{fold-append}
+use Rattle.env_frames.specs.declared.context.Context.{Context}
+use Rattle.env_frames.specs.Context.{resumed_cpu, start_area, start_bytes}
+use Rattle.bind_book.specs.Stripe.{binding_at, is_bound, row_of}
+use Rattle.mips_exec.specs.Cpu.{reg, rested}
+use Rattle.page_book.specs.Row.{belongs_to}
+use Rattle.world_model.specs.declared.call.Call.{Call}
+use Rattle.world_model.specs.declared.call.Call.TheVariants as call
+use Rattle.world_model.specs.declared.code.Code.{Code}
+use Rattle.world_model.specs.Book.{Book, sees}
+use Rattle.world_model.specs.Call.{called, handled}
+use Rattle.world_model.specs.Holding.{start_by, with_binds, with_context}
+use Rattle.world_model.specs.Item.{Item, Start, End, Granted, Refused, Gained, Lost, Left, absorb, absorb_all, absorbed, own_part, with_handlers}
+use Rattle.world_model.specs.PageCalls.{breaks, left_at, left_by, left_if, lost_if, lost_with}
+use Rattle.world_model.specs.Solo.{Solo, Store, Key, Kept, Physical, is_dead}
+use Rattle.world_model.specs.Table.{set_at}
+use Rattle.world_model.specs.World.{only}
+
+-- whoever absorbs these items lives as before
+abbrev pub Keeps : List Item → Type 0
+Keeps items = (s : Solo) → (absorb_all s items).life ≡ s.life
+
+pub keep_none : Keeps []
+keep_none s = refl
+
+pub if_living : (b : Bool) (s t : Solo) → t.life ≡ s.life → (if b then s else t).life ≡ s.life
+if_living true s t same = refl
+if_living false s t same = same
+
+pub keep_one : (i : Item) → ((s : Solo) → (absorbed s i).life ≡ s.life) → Keeps (i ∷ [])
+keep_one i same s = if_living (is_dead s.life) s (absorbed s i) (same s)
+
+pub keep_both : (xs ys : List Item) → Keeps xs → Keeps ys → Keeps (xs ++ ys)
+keep_both xs ys first second s = ap (λ (t : Solo). t.life) (fold-append absorb s xs ys) ∙ second (absorb_all s xs) ∙ first s
+
+pub keep_if : (t : Bool) (xs ys : List Item) → Keeps xs → Keeps ys → Keeps (if t then xs else ys)
+keep_if true xs ys first second = first
+keep_if false xs ys first second = second
+
+pub keep_set : (e : ℕ) (xs : List Item) (f : ℕ → List Item) → Keeps xs → ((i : ℕ) → Keeps (f i)) → (i : ℕ) → Keeps (set_at e xs f i)
+keep_set e xs f first others i = keep_if (i == e) xs (f i) first (others i)
+
+pub keep_only : (e : ℕ) (xs : List Item) → Keeps xs → (i : ℕ) → Keeps (only e xs i)
+keep_only e xs first i = keep_if (i == e) xs [] first keep_none
+
+-- item by item
+handlers_same : (context : Option Context) (address : ℕ) (s : Solo) → (with_handlers context address s).life ≡ s.life
+handlers_same None address s = refl
+handlers_same (Some kind) address s = refl
+
+if_bound : (b : Bool) (s t : Solo) → t.life ≡ s.life → (if b then t else s).life ≡ s.life
+if_bound true s t same = same
+if_bound false s t same = refl
+
+own_part_same : (c : Option Call) (value : ℕ) (s : Solo) → (own_part c value s).life ≡ s.life
+own_part_same (Some call.Context) value s = handlers_same (handled (reg s.cpu 4)) (reg s.cpu 5) s
+own_part_same (Some call.Unbind) value s =
+    if_bound (is_some (binding_at s.binds (reg s.cpu 4))) s (with_binds (set_at (row_of (reg s.cpu 4)) None s.binds) s) refl
+own_part_same c value s = refl
+
+start_same : (handler : ℕ) (s : Solo) → (start_by handler s).life ≡ s.life
+start_same handler s = by_test (handler == 0)
+  where
+    by_test : (t : Bool) → (if t then record s { cpu = rested s.cpu } else record (with_context start_area (start_bytes s.cpu) s) { cpu = resumed_cpu handler s.cpu }).life ≡ s.life
+    by_test true = refl
+    by_test false = refl
+
+pub keep_start : Keeps (Start ∷ [])
+keep_start = keep_one Start (λ s. start_same s.handlers.start s)
+
+pub keep_end : Keeps (End ∷ [])
+keep_end = keep_one End (λ s. refl)
+
+pub keep_granted : (value : ℕ) → Keeps (Granted value ∷ [])
+keep_granted value = keep_one (Granted value) (λ s. own_part_same (called s.cpu) value s)
+
+pub keep_refused : (code : Code) (value : ℕ) → Keeps (Refused code value ∷ [])
+keep_refused code value = keep_one (Refused code value) (λ s. refl)
+
+pub keep_gained : (value page : ℕ) (writable : Bool) (bytes : List ℕ) → Keeps (Granted value ∷ Gained page writable bytes ∷ [])
+keep_gained value page writable bytes =
+    keep_both (Granted value ∷ []) (Gained page writable bytes ∷ []) (keep_granted value) (keep_one (Gained page writable bytes) (λ s. refl))
+
+pub keep_lost : (page : ℕ) → Keeps (Lost page ∷ [])
+keep_lost page = keep_one (Lost page) (λ s. refl)
+
+pub keep_freed : (page : ℕ) → Keeps (Granted 0 ∷ Lost page ∷ [])
+keep_freed page = keep_both (Granted 0 ∷ []) (Lost page ∷ []) (keep_granted 0) (keep_lost page)
+
+-- what a break, a store or a death of another brings
+lost_keeps : (bound : Bool) (page : ℕ) → Keeps (lost_if bound page)
+lost_keeps true page = keep_lost page
+lost_keeps false page = keep_none
+
+pub breaks_keep : (b : Book) (page e : ℕ) → Keeps (breaks b page e)
+breaks_keep b page e = lost_keeps (is_bound page (b.binds e)) page
+
+left_keeps : (seen : Bool) (page : ℕ) (x : Store) → Keeps (left_if seen page x)
+left_keeps true page x = keep_one (Left page x.offset x.bytes) (λ s. refl)
+left_keeps false page x = keep_none
+
+left_at_keeps : (b : Book) (writer : ℕ) (x : Store) (key : Key) (e : ℕ) → Keeps (left_at b writer x key e)
+left_at_keeps b writer x (Kept vpn) e = keep_none
+left_at_keeps b writer x (Physical page) e = keep_if (e == writer) [] (left_if (sees b e page) page x) keep_none (left_keeps (sees b e page) page x)
+
+pub left_by_keeps : (b : Book) (writer : ℕ) (x : Store) (e : ℕ) → Keeps (left_by b writer x e)
+left_by_keeps b writer x e = left_at_keeps b writer x x.key e
+
+pub lost_with_keeps : (b : Book) (gone e page : ℕ) → Keeps (lost_with b gone e page)
+lost_with_keeps b gone e zero = keep_none
+lost_with_keeps b gone e (suc page) =
+    keep_both (lost_with b gone e page) (if belongs_to gone (b.pages page) then breaks b page e else []) (lost_with_keeps b gone e page)
+    (keep_if (belongs_to gone (b.pages page)) (breaks b page e) [] (breaks_keep b page e) keep_none)

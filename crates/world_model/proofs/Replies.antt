@@ -1,0 +1,372 @@
+-- What the reply to the runner's step leaves of lives and slots.
+use Rattle.std.proofs.Common.{◌≡◌, ◌+◌, ℕ, List, [], ◌∷◌, ◌++◌, length, Bool, true, false, ◌&&◌, refl, sym, ◌∙◌, ap, subst, Option, Some, None, Result, Ok, Err}
+use Rattle.std.specs.Prelude.{◌==◌, not, nat_lt, if◌then◌else◌, is_some}
+use Rattle.std.proofs.lemmas.Bool.{and_parts, eqb-true, eqb-false, eq-eqb, not-true}
+use Rattle.frame_store.specs.Pages.{zero_page}
+use Rattle.mips_exec.specs.declared.registers.Cpu.{Cpu}
+use Rattle.mips_exec.specs.declared.exception.Exc.{Exc}
+use Rattle.mips_exec.specs.Cpu.{reg}
+use Rattle.mips_exec.specs.Step.{Step as MachineStep, Retired, Called, Trapped, cpu_after}
+use Rattle.page_book.specs.declared.row.PageRow.{PageRow}
+use Rattle.page_book.specs.declared.row.PageRow.TheVariants.{Free, Owned}
+use Rattle.page_book.specs.declared.refusal.PageNo.{PageNo}
+use Rattle.page_book.specs.Row.{change_refusal}
+use Rattle.bind_book.specs.declared.binding.Binding.{Binding}
+use Rattle.bind_book.specs.Stripe.{binding_at}
+use Rattle.world_model.specs.declared.call.Call.{Call}
+use Rattle.world_model.specs.declared.call.Call.TheVariants as call
+use Rattle.world_model.specs.declared.code.Code.{Code}
+use Rattle.world_model.specs.declared.code.Code.TheVariants as code
+use Rattle.world_model.specs.declared.life.Life.{Life}
+use Rattle.world_model.specs.declared.life.Life.TheVariants.{Live, Dead}
+use Rattle.world_model.specs.declared.life.Cause.{Cause}
+use Rattle.world_model.specs.declared.life.Cause.TheVariants as cause
+use Rattle.world_model.specs.declared.slot.Hold.{Hold}
+use Rattle.world_model.specs.declared.slot.Runner.{Runner}
+use Rattle.world_model.specs.Table.{set_at}
+use Rattle.world_model.specs.Book.{broken, own_hold, page_row, released}
+use Rattle.world_model.specs.Call.{any, binding_of, called, number_refusal, put_refusal, refusal_of_bind, refusal_of_context, words_of}
+use Rattle.world_model.specs.Code.{code_of}
+use Rattle.world_model.specs.Excess.{pays, AreSlotsLive, IsAccounted, IsRunnerLive, Lives}
+use Rattle.world_model.specs.Item.{Item, Step, Start, Granted, Refused, Gained, Lost, absorb, absorb_all}
+use Rattle.world_model.specs.PageCalls.{alloc_by, bind_by, breaks, chosen_page, context_by, free_by, is_guaranteed, left_by, lost_with, page_bytes, recap_by, unbind_by, with_binding, without_number}
+use Rattle.world_model.specs.SlotCalls.{accepts, answer_to, drop_by, drop_refusal, dropped, give_by, handed, is_grace, is_other, query_by, refusal_of_giving, slot_at, take_by, take_refusal, with_slot, yield_by}
+use Rattle.world_model.specs.Solo.{Solo, Store, is_dead, sight, store_of}
+use Rattle.world_model.specs.Step.{Act, Nothing, Stores, Calls, Raises, Dies, act_of, acted, call_act, step_alone, stepped, store_act, trap_act}
+use Rattle.world_model.specs.Tick.{brings, no_change, with_step}
+use Rattle.world_model.specs.Verdict.{death, grant, put_if, refusal, reply_of, reply_to}
+use Rattle.world_model.specs.World.{World, Reply, after, no_items, only}
+use Rattle.world_model.proofs.Lives.{Keeps, if_living, keep_none, keep_set, keep_only, keep_start, keep_granted, keep_refused, keep_gained, keep_freed, breaks_keep, left_by_keeps, lost_with_keeps}
+use Rattle.world_model.proofs.Rows.{AreQuiet, Adds, adds_quiet, lawful_both, set_other, quiet_dead, quiet_give, quiet_releases, quiet_stop, quiet_slot}
+
+-- After a reply who lives lived before, with this excess, and who has slots or runs lives.
+pub record Calm (w : World) (r : Reply) (excess : ℕ → ℕ) : Type 0 where
+  pub living : (i : ℕ) → Lives (after w r) i → Lives w i × (r.book.excess i ≡ excess i)
+  pub slots : AreSlotsLive (after w r) r.book.slots
+  pub runner : IsRunnerLive (after w r) r.book.runner
+
+-- A reply with rows that count for nobody, which leaves lives and excess.
+pub record Mild (w : World) (r : Reply) : Type 0 where
+  pub excess : r.book.excess ≡ w.book.excess
+  pub quiet : AreQuiet r.rows
+  pub keeps : (i : ℕ) → Keeps (r.items i)
+  pub slots : AreSlotsLive w r.book.slots
+  pub runner : IsRunnerLive w r.book.runner
+
+-- a mild reply is calm with whatever items leave lives
+pub calm_with : (w : World) (r : Reply) (items : ℕ → List Item) → Mild w r → ((i : ℕ) → (absorb_all (w.solos i) (items i)).life ≡ (w.solos i).life) → Calm w (record r { items = items }) w.book.excess
+calm_with w r items mild same = record {
+  living = λ i lives. (sym (same i) ∙ lives, ap (λ (f : ℕ → ℕ). f i) mild.excess);
+  slots = λ k hold is. let were = mild.slots k hold is in (same hold.owner ∙ were.0, same hold.holder ∙ were.1);
+  runner = λ x is. same x.env ∙ mild.runner x is;
+}
+
+-- what a calm reply with lawful rows leaves is accounted
+pub accounts : (w : World) (r : Reply) (excess : ℕ → ℕ) → IsAccounted w → Adds w w.rows r.rows excess → Calm w r excess → IsAccounted (after w r)
+accounts w r excess good adds calm = record {
+  balanced = λ e lives. let was = calm.living e lives in adds.balanced e was.0 ∙ ap (λ (n : ℕ). pays e (w.rows ++ r.rows) + n) (sym was.1);
+  lawful = lawful_both [] w.rows r.rows good.lawful adds.lawful;
+  slots_live = calm.slots;
+  runner_lives = calm.runner;
+}
+
+pub mild_accounts : (w : World) (r : Reply) → IsAccounted w → Mild w r → IsAccounted (after w r)
+mild_accounts w r good mild =
+    accounts w r w.book.excess good (adds_quiet w w.rows r.rows w.book.excess mild.quiet good.balanced) (calm_with w r r.items mild (λ i. mild.keeps i (w.solos i)))
+
+-- who has slots, or runs, after a death lived and isn't the dead one
+released_lives : (w v : World) (e : ℕ) → ((i : ℕ) → (i == e) ≡ false → Lives w i → Lives v i) → (old : Option Hold) → ((hold : Hold) → old ≡ Some hold → Lives w hold.owner × Lives w hold.holder)
+    → (hold : Hold) → released e old ≡ Some hold → Lives v hold.owner × Lives v hold.holder
+released_lives w v e still None lived hold is = cc
+released_lives w v e still (Some old) lived hold is = by_owner (old.owner == e) refl is
+  where
+    by_holder : (old.owner == e) ≡ false → (t : Bool) → (old.holder == e) ≡ t → (if t then Some (own_hold old.owner) else Some old) ≡ Some hold → Lives v hold.owner × Lives v hold.holder
+    by_holder other true held is =
+        let owner = still old.owner other (lived old refl).0 in
+        let same : own_hold old.owner ≡ hold = cc in
+        subst (λ (h : Hold). Lives v h.owner × Lives v h.holder) same (owner, owner)
+    by_holder other false held is =
+        let were = lived old refl in
+        let same : old ≡ hold = cc in
+        subst (λ (h : Hold). Lives v h.owner × Lives v h.holder) same (still old.owner other were.0, still old.holder held were.1)
+
+    by_owner : (t : Bool) → (old.owner == e) ≡ t → (if t then None else (if old.holder == e then Some (own_hold old.owner) else Some old)) ≡ Some hold → Lives v hold.owner × Lives v hold.holder
+    by_owner true own is = cc
+    by_owner false other is = by_holder other (old.holder == e) refl is
+
+-- A reply that leaves one dead, and lives, excess and slots of the others.
+pub record Mourns (w : World) (e : ℕ) (r : Reply) (left : ℕ → ℕ) : Type 0 where
+  pub gone : Lives (after w r) e → ⊥
+  pub others : (i : ℕ) → (i == e) ≡ false → (absorb_all (w.solos i) (r.items i)).life ≡ (w.solos i).life
+  pub excess : (i : ℕ) → (i == e) ≡ false → r.book.excess i ≡ left i
+  pub slots : (k : ℕ) → r.book.slots k ≡ released e (w.book.slots k)
+  pub runner : r.book.runner ≡ None
+
+pub mourning_is_calm : (w : World) (e : ℕ) (r : Reply) (left : ℕ → ℕ) → AreSlotsLive w w.book.slots → Mourns w e r left → Calm w r left
+mourning_is_calm w e r left live mourns = record {
+  living = λ i lives. by_test i lives (i == e) refl;
+  slots = λ k hold is. released_lives w (after w r) e (λ i other lives. mourns.others i other ∙ lives) (w.book.slots k) (live k) hold (sym (mourns.slots k) ∙ is);
+  runner = λ x is. let never : None ≡ Some x = sym mourns.runner ∙ is in cc;
+}
+  where
+    by_test : (i : ℕ) → Lives (after w r) i → (t : Bool) → (i == e) ≡ t → Lives w i × (r.book.excess i ≡ left i)
+    by_test i lives true is = absurd (mourns.gone (subst (λ (n : ℕ). Lives (after w r) n) (eqb-true i e is) lives))
+    by_test i lives false is = (sym (mourns.others i is) ∙ lives, mourns.excess i is)
+
+pub death_is_quiet : (w : World) (e : ℕ) → AreQuiet (death w e).rows
+death_is_quiet w e = (quiet_dead w.book.time w.book.cursor e, quiet_releases w.book.time e w.book.slots w.book.slot_count)
+
+-- whoever absorbs a death doesn't live
+pub dies : (b : Bool) (s t : Solo) → is_dead s.life ≡ b → (t.life ≡ Live → ⊥) → (if b then s else t).life ≡ Live → ⊥
+dies true s t is ends lives = let alive : is_dead s.life ≡ false = ap is_dead lives in cc
+dies false s t is ends lives = ends lives
+
+-- a step leaves a life, unless it is death
+steps_on : (act : Act) (s : Solo) → ((cause : Cause) → act ≡ Dies cause → ⊥) → (acted act s).life ≡ s.life
+steps_on Nothing s lives = refl
+steps_on (Stores x) s lives = refl
+steps_on (Calls c) s lives = refl
+steps_on (Raises exc) s lives = refl
+steps_on (Dies cause) s lives = absurd (lives cause refl)
+
+-- the step of one that lives, in a reply that is mild
+step_accounts : (w : World) (e : ℕ) (r : Reply) (act : Act) → IsAccounted w → act_of (w.solos e) (step_alone (w.solos e)) ≡ act → ((cause : Cause) → act ≡ Dies cause → ⊥) → Mild w r
+    → IsAccounted (after w (with_step e r))
+step_accounts w e r act good is lives mild =
+    accounts w (with_step e r) w.book.excess good (adds_quiet w w.rows r.rows w.book.excess mild.quiet good.balanced)
+    (calm_with w r (λ i. only e (Step ∷ []) i ++ r.items i) mild (λ i. by_test i (i == e) refl))
+  where
+    step_same : (s : Solo) → act_of s (step_alone s) ≡ act → (absorb s Step).life ≡ s.life
+    step_same s is = if_living (is_dead s.life) s (stepped s (step_alone s)) (rw is (steps_on act (record s { cpu = cpu_after s.cpu (step_alone s) }) lives))
+
+    by_test : (i : ℕ) (t : Bool) → (i == e) ≡ t → (absorb_all (w.solos i) ((if t then Step ∷ [] else []) ++ r.items i)).life ≡ (w.solos i).life
+    by_test i true own =
+        let same : w.solos i ≡ w.solos e = ap w.solos (eqb-true i e own) in
+        mild.keeps i (absorb (w.solos i) Step) ∙ step_same (w.solos i) (ap (λ (s : Solo). act_of s (step_alone s)) same ∙ is)
+    by_test i false other = mild.keeps i (w.solos i)
+
+-- the step at which one dies
+dead_lives_not : (act : Act) (s : Solo) (cause : Cause) → act ≡ Dies cause → (acted act s).life ≡ Live → ⊥
+dead_lives_not act s cause is lives = let never : Dead cause ≡ Live = subst (λ (a : Act). (acted a s).life ≡ Live) is lives in cc
+
+death_accounts : (w : World) (e : ℕ) (cause : Cause) → IsAccounted w → act_of (w.solos e) (step_alone (w.solos e)) ≡ Dies cause → IsAccounted (after w (with_step e (death w e)))
+death_accounts w e cause good is =
+    accounts w (with_step e (death w e)) w.book.excess good (adds_quiet w w.rows (death w e).rows w.book.excess (death_is_quiet w e) good.balanced)
+    (mourning_is_calm w e (with_step e (death w e)) w.book.excess good.slots_live mourns)
+  where
+    ends : (t : Bool) → t ≡ true → (absorb_all (w.solos e) ((if t then Step ∷ [] else []) ++ (if t then [] else lost_with w.book e e w.book.page_count))).life ≡ Live → ⊥
+    ends true own lives =
+        let s = w.solos e in
+        dies (is_dead s.life) s (stepped s (step_alone s)) refl (dead_lives_not (act_of s (step_alone s)) (record s { cpu = cpu_after s.cpu (step_alone s) }) cause is) lives
+    ends false own lives = cc
+
+    stays : (i : ℕ) (t : Bool) → t ≡ false
+        → (absorb_all (w.solos i) ((if t then Step ∷ [] else []) ++ (if t then [] else lost_with w.book e i w.book.page_count))).life ≡ (w.solos i).life
+    stays i true other = cc
+    stays i false other = lost_with_keeps w.book e i w.book.page_count (w.solos i)
+
+    mourns : Mourns w e (with_step e (death w e)) w.book.excess
+    mourns = record {
+      gone = ends (e == e) (eq-eqb e e refl);
+      others = λ i other. stays i (i == e) other;
+      excess = λ i other. set_other e 0 w.book.excess i (eqb-false i e other);
+      slots = λ k. refl;
+      runner = refl;
+    }
+
+-- the slots once one of them has another holder
+with_slot_live : (w : World) (k : ℕ) (new : Option Hold) → AreSlotsLive w w.book.slots → ((hold : Hold) → new ≡ Some hold → Lives w hold.owner × Lives w hold.holder)
+    → AreSlotsLive w (set_at k new w.book.slots)
+with_slot_live w k new live now j hold is = by_test (j == k) is
+  where
+    by_test : (t : Bool) → (if t then new else w.book.slots j) ≡ Some hold → Lives w hold.owner × Lives w hold.holder
+    by_test true is = now hold is
+    by_test false is = live j hold is
+
+own_lives : (w : World) (e : ℕ) → Lives w e → (hold : Hold) → Some (own_hold e) ≡ Some hold → Lives w hold.owner × Lives w hold.holder
+own_lives w e lives hold is =
+    let same : own_hold e ≡ hold = cc in
+    subst (λ (h : Hold). Lives w h.owner × Lives w h.holder) same (lives, lives)
+
+dropped_lives : (w : World) (e : ℕ) (old : Option Hold) → ((hold : Hold) → old ≡ Some hold → Lives w hold.owner × Lives w hold.holder)
+    → (hold : Hold) → dropped e old ≡ Some hold → Lives w hold.owner × Lives w hold.holder
+dropped_lives w e None lived hold is = cc
+dropped_lives w e (Some old) lived hold is = by_owner (old.owner == e) is
+  where
+    by_owner : (t : Bool) → (if t then None else Some (own_hold old.owner)) ≡ Some hold → Lives w hold.owner × Lives w hold.holder
+    by_owner true is = cc
+    by_owner false is = own_lives w old.owner (lived old refl).0 hold is
+
+-- a target that a slice may be given to lives
+is_live : (life : Life) → is_dead life ≡ false → life ≡ Live
+is_live Live is = refl
+is_live (Dead cause) is = cc
+
+not_refused : (other grace accepted : Bool) → refusal_of_giving other grace accepted ≡ None → other ≡ true
+not_refused true grace accepted none = refl
+not_refused false grace accepted none = cc
+
+target_lives : (w : World) (e target : ℕ) → is_other w e target ≡ true → Lives w target
+target_lives w e target is =
+    let alive = not (is_dead (w.solos target).life) in
+    let rest : (alive && not (target == e)) ≡ true = (and_parts (nat_lt target w.count) (alive && not (target == e)) is).1 in
+    is_live (w.solos target).life (not-true (is_dead (w.solos target).life) (and_parts alive (not (target == e)) rest).0)
+
+handed_lives : (w : World) (target : ℕ) → Lives w target → (runner : Option Runner) → IsRunnerLive w (handed target runner)
+handed_lives w target lives None x is = cc
+handed_lives w target lives (Some r) x is = let same : target ≡ x.env = cc in subst (λ (n : ℕ). Lives w n) same lives
+
+-- The calls, by why they are refused
+module _ (w : World) (e : ℕ) (good : IsAccounted w) where
+  -- items alone
+  unmoved : (items : ℕ → List Item) → ((i : ℕ) → Keeps (items i)) → Mild w (record { book = w.book; items = items; rows = [] })
+  unmoved items keeps = record { excess = refl; quiet = tt; keeps = keeps; slots = good.slots_live; runner = good.runner_lives }
+
+  -- other pages and bindings
+  repaged : (pages : ℕ → PageRow) (binds : ℕ → ℕ → Option Binding) (items : ℕ → List Item) → ((i : ℕ) → Keeps (items i))
+      → Mild w (record { book = record w.book { pages = pages; binds = binds }; items = items; rows = [] })
+  repaged pages binds items keeps = record { excess = refl; quiet = tt; keeps = keeps; slots = good.slots_live; runner = good.runner_lives }
+
+  refuses : (code : Code) (value : ℕ) → Mild w (refusal w e code value)
+  refuses code value = unmoved (only e (Refused code value ∷ [])) (keep_only e (Refused code value ∷ []) (keep_refused code value))
+
+  grants : (value : ℕ) → Mild w (grant w e value)
+  grants value = unmoved (only e (Granted value ∷ [])) (keep_only e (Granted value ∷ []) (keep_granted value))
+
+  -- another slot
+  reslotted : (k : ℕ) (hold : Option Hold) → ((new : Hold) → hold ≡ Some new → Lives w new.owner × Lives w new.holder) → Mild w (with_slot w e k hold)
+  reslotted k hold now = record {
+    excess = refl;
+    quiet = (quiet_slot w.book.time k hold, tt);
+    keeps = keep_only e (Granted 0 ∷ []) (keep_granted 0);
+    slots = with_slot_live w k hold good.slots_live now;
+    runner = good.runner_lives;
+  }
+
+  gives_by : (target : ℕ) (why : Option Code) → refusal_of_giving (is_other w e target) (is_grace w.book.runner) (accepts (w.solos target).mask e) ≡ why → Mild w (reply_of w e (give_by w e target why))
+  gives_by target None none = record {
+    excess = refl;
+    quiet = (quiet_give w.book.time w.book.cursor e target, tt);
+    keeps = keep_set target (Start ∷ []) (only e (Granted 0 ∷ [])) keep_start (keep_only e (Granted 0 ∷ []) (keep_granted 0));
+    slots = good.slots_live;
+    runner = handed_lives w target (target_lives w e target (not_refused (is_other w e target) (is_grace w.book.runner) (accepts (w.solos target).mask e) none)) w.book.runner;
+  }
+  gives_by target (Some why) is = refuses why 0
+
+  yields_by : (target : ℕ) (stops : Bool) → Mild w (reply_of w e (yield_by w e target stops))
+  yields_by target true = record {
+    excess = refl;
+    quiet = (quiet_stop w.book.time w.book.cursor e, tt);
+    keeps = keep_only e (Granted 0 ∷ []) (keep_granted 0);
+    slots = good.slots_live;
+    runner = λ x is. cc;
+  }
+  yields_by target false = gives_by target (refusal_of_giving (is_other w e target) (is_grace w.book.runner) (accepts (w.solos target).mask e)) refl
+
+  puts_by : (why : Option Code) → Mild w (reply_of w e (put_if w e why))
+  puts_by None = grants (reg (w.solos e).cpu 5)
+  puts_by (Some why) = refuses why 0
+
+  allocs_by : (chosen : Result ℕ PageNo) → Mild w (reply_of w e (alloc_by w e chosen))
+  allocs_by (Ok page) =
+      let items = Granted page ∷ Gained page true zero_page ∷ [] in
+      repaged (set_at page (Owned e (words_of (w.solos e).cpu)) w.book.pages) w.book.binds (only e items) (keep_only e items (keep_gained page page true zero_page))
+  allocs_by (Err why) = refuses (code_of why) 0
+
+  frees_by : (why : Option PageNo) → Mild w (reply_of w e (free_by w e why))
+  frees_by None =
+      let page = reg (w.solos e).cpu 4 in
+      let items = Granted 0 ∷ Lost page ∷ [] in
+      repaged (set_at page Free w.book.pages) (broken page None w.book).binds (set_at e items (breaks w.book page)) (keep_set e items (breaks w.book page) (keep_freed page) (breaks_keep w.book page))
+  frees_by (Some why) = refuses (code_of why) 0
+
+  recaps_by : (why : Option PageNo) → Mild w (reply_of w e (recap_by w e why))
+  recaps_by None =
+      let page = reg (w.solos e).cpu 4 in
+      let items = Granted 0 ∷ [] in
+      repaged (set_at page (Owned e (words_of (w.solos e).cpu)) w.book.pages) (broken page (Some e) w.book).binds (set_at e items (breaks w.book page))
+      (keep_set e items (breaks w.book page) (keep_granted 0) (breaks_keep w.book page))
+  recaps_by (Some why) = refuses (code_of why) 0
+
+  binds_by : (why : Option Code) → Mild w (reply_of w e (bind_by w e why))
+  binds_by None =
+      let b = binding_of (w.solos e).cpu in
+      let items = Granted 0 ∷ Gained b.page b.writable (page_bytes w b.page) ∷ [] in
+      repaged w.book.pages (with_binding e b w.book.binds) (only e items) (keep_only e items (keep_gained 0 b.page b.writable (page_bytes w b.page)))
+  binds_by (Some why) = refuses why 0
+
+  unbinds_by : (why : Option Code) → Mild w (reply_of w e (unbind_by w e why))
+  unbinds_by None =
+      let vpn = reg (w.solos e).cpu 4 in
+      let value = if is_some (binding_at (w.solos e).binds vpn) then 1 else 0 in
+      repaged w.book.pages (set_at e (without_number vpn (w.book.binds e)) w.book.binds) (only e (Granted value ∷ [])) (keep_only e (Granted value ∷ []) (keep_granted value))
+  unbinds_by (Some why) = refuses why 0
+
+  contexts_by : (why : Option Code) → Mild w (reply_of w e (context_by w e why))
+  contexts_by None = grants 0
+  contexts_by (Some why) = refuses why 0
+
+  takes_by : (k : ℕ) → Lives w e → (why : Option Code) → Mild w (reply_of w e (take_by w e k why))
+  takes_by k lives None = reslotted k (Some (own_hold e)) (own_lives w e lives)
+  takes_by k lives (Some why) = refuses why 0
+
+  drops_by : (k : ℕ) (why : Option Code) → Mild w (reply_of w e (drop_by w e k why))
+  drops_by k None = reslotted k (dropped e (w.book.slots k)) (dropped_lives w e (w.book.slots k) (good.slots_live k))
+  drops_by k (Some why) = refuses why 0
+
+  queries_by : (answer : Result ℕ Code) → Mild w (reply_of w e (query_by w e answer))
+  queries_by (Ok value) = grants value
+  queries_by (Err why) = refuses why 0
+
+  call_is_mild : Lives w e → (c : Option Call) → (c ≡ Some call.Exit → ⊥) → Mild w (reply_to w e c)
+  call_is_mild lives None stays = refuses code.BadCall 0
+  call_is_mild lives (Some call.Yield) stays = let target = reg (w.solos e).cpu 4 in yields_by target (target == any)
+  call_is_mild lives (Some call.Put) stays = let s = w.solos e in puts_by (put_refusal s.cpu (sight s) (length s.console))
+  call_is_mild lives (Some call.Exit) stays = absurd (stays refl)
+  call_is_mild lives (Some call.Alloc) stays = allocs_by (chosen_page w.book (reg (w.solos e).cpu 4))
+  call_is_mild lives (Some call.Free) stays = frees_by (change_refusal e (page_row w.book (reg (w.solos e).cpu 4)))
+  call_is_mild lives (Some call.Recap) stays = recaps_by (change_refusal e (page_row w.book (reg (w.solos e).cpu 4)))
+  call_is_mild lives (Some call.Bind) stays =
+      let s = w.solos e in
+      binds_by (refusal_of_bind e s.cpu (is_guaranteed s (reg s.cpu 4)) (page_row w.book (reg s.cpu 5)))
+  call_is_mild lives (Some call.Unbind) stays = let s = w.solos e in unbinds_by (number_refusal (is_guaranteed s (reg s.cpu 4)) (reg s.cpu 4))
+  call_is_mild lives (Some call.Context) stays = contexts_by (refusal_of_context (w.solos e).cpu)
+  call_is_mild lives (Some call.Accept) stays = grants 0
+  call_is_mild lives (Some call.SlotTake) stays = let k = reg (w.solos e).cpu 4 in takes_by k lives (take_refusal (slot_at w.book k))
+  call_is_mild lives (Some call.SlotDrop) stays = let k = reg (w.solos e).cpu 4 in drops_by k (drop_refusal e (slot_at w.book k))
+  call_is_mild lives (Some call.Query) stays = let cpu = (w.solos e).cpu in queries_by (answer_to w e (reg cpu 4) (reg cpu 5))
+  call_is_mild lives (Some call.OwnNumber) stays = grants (w.solos e).number
+  call_is_mild lives (Some call.Clock) stays = grants w.book.time
+
+-- exit is no call that is answered
+exit_dies : (cpu : Cpu) (c : Option Call) → call_act cpu c ≡ Calls (Some call.Exit) → ⊥
+exit_dies cpu (Some call.Exit) is = cc
+exit_dies cpu None is = cc
+exit_dies cpu (Some c) is = cc
+
+store_calls_not : (x : Option Store) (c : Option Call) → store_act x ≡ Calls c → ⊥
+store_calls_not None c is = cc
+store_calls_not (Some x) c is = cc
+
+trap_calls_not : (handler : ℕ) (exc : Exc) (c : Option Call) → trap_act handler exc ≡ Calls c → ⊥
+trap_calls_not handler exc c is = by_test (handler == 0) is
+  where
+    by_test : (t : Bool) → (if t then Dies (cause.Trapped exc.code) else Raises exc) ≡ Calls c → ⊥
+    by_test true is = cc
+    by_test false is = cc
+
+never_exits : (s : Solo) (step : MachineStep) → act_of s step ≡ Calls (Some call.Exit) → ⊥
+never_exits s (Retired cpu write) is = store_calls_not (store_of s write) (Some call.Exit) is
+never_exits s Called is = exit_dies s.cpu (called s.cpu) is
+never_exits s (Trapped exc) is = trap_calls_not s.handlers.exception exc (Some call.Exit) is
+
+-- what an act of the runner brings, with its step
+pub act_accounts : (w : World) (e : ℕ) → IsAccounted w → Lives w e → (act : Act) → act_of (w.solos e) (step_alone (w.solos e)) ≡ act → IsAccounted (after w (with_step e (brings w e act)))
+act_accounts w e good lives Nothing is = step_accounts w e (no_change w) Nothing good is (λ cause dies. cc) (unmoved w e good no_items (λ i. keep_none))
+act_accounts w e good lives (Stores x) is =
+    step_accounts w e (brings w e (Stores x)) (Stores x) good is (λ cause dies. cc) (unmoved w e good (left_by w.book e x) (left_by_keeps w.book e x))
+act_accounts w e good lives (Calls c) is =
+    let stays : c ≡ Some call.Exit → ⊥ = λ exits. never_exits (w.solos e) (step_alone (w.solos e)) (is ∙ ap Calls exits) in
+    step_accounts w e (reply_to w e c) (Calls c) good is (λ cause dies. cc) (call_is_mild w e good lives c stays)
+act_accounts w e good lives (Raises exc) is = step_accounts w e (no_change w) (Raises exc) good is (λ cause dies. cc) (unmoved w e good no_items (λ i. keep_none))
+act_accounts w e good lives (Dies cause) is = death_accounts w e cause good is
