@@ -1,3 +1,6 @@
 mod Around
 mod Mask
+mod Numbered
+pub mod Owed
 mod Release
+pub mod Whole

@@ -1,19 +1,35 @@
 -- The vector of slots as a list, its turns and its timer; what each slot and turn is stands in the model's book.
-use Rattle.std.specs.Prelude.{ℕ, ◌+◌, ◌-◌, ◌*◌, ◌≤◌, Bool, true, false, ◌==◌, ◌&&◌, if◌then◌else◌, Option, Some, None, is_none, List, [], ◌∷◌, length, map, slice_get}
+use Rattle.std.specs.Prelude.{ℕ, suc, ◌+◌, ◌-◌, ◌*◌, ◌<◌, ◌≤◌, Bool, true, false, ◌==◌, ◌&&◌, nat_lt, if◌then◌else◌, Option, Some, None, is_none, Result, Ok, Err, List, [], ◌∷◌, length, map, replicate, slice_get, slice_index_or, slice_set}
 use Rattle.std.specs.Option.{option_flatten, option_map}
 use Rattle.world_model.specs.declared.slot.Hold.{Hold}
 use Rattle.world_model.specs.declared.slot.Runner.{Runner}
 use Rattle.world_model.specs.declared.slot.Turn.{Turn}
-use Rattle.world_model.specs.Book.{first_turn, own_hold, released, has_part, is_runner}
+use Rattle.world_model.specs.declared.slot.Phase.{Phase}
+use Rattle.world_model.specs.declared.slot.Phase.TheVariants as phase
+use Rattle.world_model.specs.declared.code.Code.{Code}
+use Rattle.world_model.specs.declared.code.Code.TheVariants as code
+use Rattle.world_model.specs.Book.{Told, excess_limit, first_turn, owed, own_hold, released, has_part, is_runner, told_turn}
+use Rattle.world_model.specs.SlotCalls.{drop_refusal, handed, is_grace, take_refusal}
+use Rattle.slot_vector.specs.declared.turn.NextTurn.{NextTurn}
+use Rattle.slot_vector.specs.declared.turn.NextTurn.TheVariants as next
 use Rattle.slot_vector.specs.declared.timer.Timer.{Timer}
 use Rattle.slot_vector.specs.declared.timer.Timer.TheVariants as timer
 
--- the slots in their order, none where a slot is empty; a runner, if one runs, runs in the cursor's slot
+-- the slots in their order, none where a slot is empty; a runner, if one runs, runs in the cursor's slot; and the excess of each environment by its number
 pub record Slices : Type 0 where
   pub slots : List (Option Hold)
   pub quantum : ℕ
   pub cursor : ℕ
   pub runner : Option Runner
+  pub excess : List ℕ
+
+-- environments are numbered below this one here
+abbrev pub most_numbers : ℕ
+most_numbers = 32
+
+-- the excess of an environment; behind the last there is none
+abbrev pub excess_of : List ℕ → ℕ → ℕ
+excess_of excess e = slice_index_or excess e 0
 
 -- the hold of the slot of this number; past the last there is none
 abbrev pub hold_at : List (Option Hold) → ℕ → Option Hold
@@ -21,46 +37,98 @@ hold_at slots k = option_flatten (slice_get slots k)
 
 -- the vector before its first turn, which is the first held slot's: each owner holds its slot itself
 abbrev pub first_slices : ℕ → List (Option ℕ) → Slices
-first_slices quantum owners = record { slots = map (option_map own_hold) owners; quantum = quantum; cursor = length owners - 1; runner = None }
+first_slices quantum owners = record { slots = map (option_map own_hold) owners; quantum = quantum; cursor = length owners - 1; runner = None; excess = replicate most_numbers 0 }
 
--- whose turn is next
-abbrev pub next_turn : Slices → Option Turn
-next_turn v = first_turn (hold_at v.slots) (length v.slots) v.cursor (length v.slots)
+-- the turn in the next held slot
+abbrev pub next_held : Slices → Option Turn
+next_held v = first_turn (hold_at v.slots) (length v.slots) v.cursor (length v.slots)
 
--- the vector once this turn began, with a full quantum
-abbrev pub with_turn : Slices → Option Turn → Slices
-with_turn v None = v
-with_turn v (Some t) = record v { cursor = t.slot; runner = Some (record { env = t.env; left = v.quantum }) }
+-- what comes next where nobody runs: nothing where no slot is held; a forfeit where the next holder owes; else its run
+abbrev pub turn_of : (ℕ → ℕ) → Option Turn → NextTurn
+turn_of excess None = next.Idle
+turn_of excess (Some t) = if excess t.env == 0 then next.Run t else next.Pay t
+
+abbrev pub next_turn : Slices → NextTurn
+next_turn v = turn_of (excess_of v.excess) (next_held v)
+
+-- the vector once that came
+abbrev pub after_turn : Slices → NextTurn → Slices
+after_turn v next.Idle = v
+after_turn v (next.Pay t) = record v { cursor = t.slot; excess = slice_set v.excess t.env (excess_of v.excess t.env - 1) }
+after_turn v (next.Run t) = record v { cursor = t.slot; runner = Some (record { env = t.env; left = v.quantum; phase = phase.Own }) }
+
+-- the whole turn, told to its end
+abbrev pub told_of : Slices → Told
+told_of v = told_turn (hold_at v.slots) (length v.slots) (suc (owed (excess_of v.excess) (hold_at v.slots) (length v.slots))) v.cursor (excess_of v.excess)
 
 -- the vector once the turn ended
 abbrev pub turn_ended : Slices → Slices
 turn_ended v = record v { runner = None }
 
--- a runner after a tick of its slice: none after the last
-abbrev pub counted : Runner → Option Runner
-counted r = if r.left == 1 then None else Some (record r { left = r.left - 1 })
+-- the vector once another goes on with the rest of the slice
+abbrev pub given_to : ℕ → Slices → Slices
+given_to target v = record v { runner = handed target v.runner }
 
-abbrev pub counted_in : Option Runner → Option Runner
-counted_in None = None
-counted_in (Some r) = counted r
+-- What the timer brings after a tick of a runner who has a handler of ends or not: nothing while ticks are left; then the end of its slice, or its stop; and in grace one more of excess, or too much of it.
+abbrev pub timer_at_end : Phase → Bool → ℕ → Timer
+timer_at_end phase.Own true excess = timer.End
+timer_at_end phase.Own false excess = timer.Stop
+timer_at_end phase.Grace has_end excess = if nat_lt excess_limit (excess + 1) then timer.Kill else timer.Over (excess + 1)
 
--- the vector once the timer counted
-abbrev pub timer_counted : Slices → Slices
-timer_counted v = record v { runner = counted_in v.runner }
+abbrev pub timer_of : Runner → Bool → ℕ → Timer
+timer_of r has_end excess = if r.left == 1 then timer_at_end r.phase has_end excess else timer.Nothing
 
--- the timer stops the runner after the last tick of its slice
-abbrev pub timer_answer : Option Runner → Timer
-timer_answer None = timer.Nothing
-timer_answer (Some r) = if r.left == 1 then timer.Stop else timer.Nothing
+abbrev pub timer_by : Option Runner → Bool → (ℕ → ℕ) → Timer
+timer_by None has_end excess = timer.Nothing
+timer_by (Some r) has_end excess = timer_of r has_end (excess r.env)
+
+abbrev pub timer_answer : Slices → Bool → Timer
+timer_answer v has_end = timer_by v.runner has_end (excess_of v.excess)
+
+-- a runner with another quantum, which is one of grace
+abbrev pub in_grace_again : Slices → Option Runner → Option Runner
+in_grace_again v runner = option_map (λ (r : Runner). record r { left = v.quantum; phase = phase.Grace }) runner
+
+-- the runner's excess, once it is so much
+abbrev pub raised_for : Option Runner → ℕ → List ℕ → List ℕ
+raised_for None excess all = all
+raised_for (Some r) excess all = slice_set all r.env excess
+
+abbrev pub counted : Runner → Runner
+counted r = record r { left = r.left - 1 }
+
+-- the vector once the timer brought that; a runner with too much excess is left to its death
+abbrev pub after_timer : Slices → Timer → Slices
+after_timer v timer.Nothing = record v { runner = option_map counted v.runner }
+after_timer v timer.Stop = turn_ended v
+after_timer v timer.End = record v { runner = in_grace_again v v.runner }
+after_timer v (timer.Over excess) = record v { runner = in_grace_again v v.runner; excess = raised_for v.runner excess v.excess }
+after_timer v timer.Kill = v
 
 -- a runner has ticks left
 abbrev pub HasTicks : Option Runner → Type 0
 HasTicks None = Unit {0}
 HasTicks (Some r) = 1 ≤ r.left
 
+-- the numbers of a slot's owner and holder are below most_numbers
+abbrev pub IsNumbered : Option Hold → Type 0
+IsNumbered None = Unit {0}
+IsNumbered (Some hold) = (hold.owner < most_numbers) × (hold.holder < most_numbers)
+
+-- so is the runner's number
+abbrev pub RunsByNumber : Option Runner → Type 0
+RunsByNumber None = Unit {0}
+RunsByNumber (Some r) = r.env < most_numbers
+
+-- a turn that came is in one of so many slots
+abbrev pub IsWithin : ℕ → NextTurn → Type 0
+IsWithin count next.Idle = Unit {0}
+IsWithin count (next.Pay t) = t.slot < count
+IsWithin count (next.Run t) = t.slot < count
+
 -- nobody runs and no slot has a holder
 abbrev pub is_idle : Slices → Bool
-is_idle v = is_none v.runner && is_none (next_turn v)
+is_idle v = is_none v.runner && is_none (next_held v)
 
 abbrev pub bit : Bool → ℕ
 bit false = 0
@@ -71,6 +139,26 @@ abbrev pub mask_of : ℕ → List (Option Hold) → ℕ
 mask_of e [] = 0
 mask_of e (slot ∷ slots) = bit (has_part e slot) + 2 * mask_of e slots
 
--- the vector once an environment is gone: its turn ends, if it runs
+-- the vector once an environment is gone: its turn ends, if it runs, and it owes nothing
 abbrev pub without_env : ℕ → Slices → Slices
-without_env e v = record v { slots = map (released e) v.slots; runner = if is_runner e v.runner then None else v.runner }
+without_env e v = record v { slots = map (released e) v.slots; runner = if is_runner e v.runner then None else v.runner; excess = slice_set v.excess e 0 }
+
+-- the vector once a slot has this hold
+abbrev pub with_hold : Slices → ℕ → Option Hold → Slices
+with_hold v k hold = record v { slots = slice_set v.slots k hold }
+
+-- the answer of a call that is refused for this cause, if there is one
+abbrev pub unless : Option Code → Result (Unit {0}) Code
+unless None = Ok tt
+unless (Some why) = Err why
+
+-- why an environment can't take a slot, or drop it
+abbrev pub refusal_of_take : Slices → ℕ → Option Code
+refusal_of_take v k = take_refusal (slice_get v.slots k)
+
+abbrev pub refusal_of_drop : ℕ → Slices → ℕ → Option Code
+refusal_of_drop e v k = drop_refusal e (slice_get v.slots k)
+
+-- why the runner can't give its slice away: it isn't its own time
+abbrev pub refusal_of_gift : Slices → Option Code
+refusal_of_gift v = if is_grace v.runner then Some code.NoSlice else None

@@ -1,9 +1,9 @@
 //! What is found in, and done to, the slots as a list.
-ghost use Rattle.std.specs.Prelude.{◌≡◌, ◌<◌, ◌≤◌, ◌^◌, IfSome, length, map};
+ghost use Rattle.std.specs.Prelude.{◌≡◌, ◌<◌, ◌≤◌, ◌^◌, All, IfSome, length, map};
 ghost use Rattle.std.specs.Option.{option_map};
 ghost use Rattle.aegis_limits.specs.Limits.{most_slots};
 ghost use Rattle.world_model.specs.Book.{first_turn, has_part, own_hold, released};
-ghost use Rattle.slot_vector.specs.Slices.{bit, hold_at, mask_of};
+ghost use Rattle.slot_vector.specs.Slices.{IsNumbered, bit, hold_at, mask_of, most_numbers};
 
 use aegis_limits::MOST_SLOTS;
 use arrayvec::ArrayVec;
@@ -14,7 +14,8 @@ pub(crate) type Row = ArrayVec<Option<Hold>, MOST_SLOTS>;
 
 /// The hold of the slot at this place; past the last there is none.
 pub(crate) fn hold_at(slots: &[Option<Hold>], place: usize) -> Option<Hold>
-    ensures { result ≡ hold_at slots.now place }
+    ensures hold { result ≡ hold_at slots.now place }
+    ensures numbered { All IsNumbered slots.now → IsNumbered result }
 {
     match slots.get(place) {
         Some(hold) => *hold,
@@ -26,8 +27,10 @@ pub(crate) fn hold_at(slots: &[Option<Hold>], place: usize) -> Option<Hold>
 pub(crate) fn first_turn(slots: &[Option<Hold>], place: usize) -> Option<Turn>
     requires count { length slots.now ≤ most_slots }
     requires within { place < length slots.now }
+    requires numbered { All IsNumbered slots.now }
     ensures turn { result ≡ first_turn (hold_at slots.now) (length slots.now) place (length slots.now) }
     ensures within { IfSome result (λ t. t.slot < length slots.now) }
+    ensures numbered { IfSome result (λ t. t.env < most_numbers) }
 {
     let mut slot = place;
     let mut tries = slots.len();
@@ -46,8 +49,10 @@ pub(crate) fn first_turn(slots: &[Option<Hold>], place: usize) -> Option<Turn>
 
 /// The slots at the start, each held by its owner.
 pub(crate) fn own_holds(owners: &[Option<u8>]) -> Row
-    requires { length owners.now ≤ most_slots }
-    ensures { result.items ≡ map (option_map own_hold) owners.now }
+    requires count { length owners.now ≤ most_slots }
+    requires owners { All (λ owner. IfSome owner (λ e. e < most_numbers)) owners.now }
+    ensures holds { result.items ≡ map (option_map own_hold) owners.now }
+    ensures numbered { All IsNumbered result.items }
 {
     let mut slots = ArrayVec::new();
     for owner in owners {
@@ -57,7 +62,7 @@ pub(crate) fn own_holds(owners: &[Option<u8>]) -> Row
 }
 
 /// A slot that its owner holds itself.
-fn own_hold(owner: Option<u8>) -> Option<Hold>
+pub(crate) fn own_hold(owner: Option<u8>) -> Option<Hold>
     ensures { result ≡ option_map own_hold owner }
 {
     let env = owner?;
@@ -108,7 +113,8 @@ fn released(slot: Option<Hold>, env: u8) -> Option<Hold>
 
 /// Empties each slot that the environment owns, and gives back each that it holds for another.
 pub(crate) fn release(slots: &mut [Option<Hold>], env: u8)
-    ensures { slots.new ≡ map (released env) slots.old }
+    ensures released { slots.new ≡ map (released env) slots.old }
+    ensures numbered { All IsNumbered slots.old → All IsNumbered slots.new }
 {
     for slot in slots.iter_mut() {
         *slot = released(*slot, env);

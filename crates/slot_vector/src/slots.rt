@@ -1,44 +1,51 @@
 //! The vector of slots, by the calls of the kernel.
-ghost use Rattle.std.specs.Prelude.{◌≡◌, ◌<◌, ◌≤◌, IsSome, IfSome, IsNone, length, All};
+ghost use Rattle.std.specs.Prelude.{◌≡◌, ◌<◌, ◌≤◌, ◌↔◌, true, false, IsSome, IfSome, IsNone, Some, OnErr, OnOk, length, All};
 ghost use Rattle.std.specs.Option.{option_map};
 ghost use Rattle.aegis_limits.specs.Limits.{least_quantum, most_quantum, most_slots};
 ghost use Rattle.world_model.specs.declared.slot.Hold.{Hold as Held};
-ghost use Rattle.world_model.specs.Book.{running};
-ghost use Rattle.slot_vector.specs.Slices.{first_slices, hold_at, next_turn, with_turn, turn_ended, timer_answer, timer_counted, is_idle, mask_of, without_env};
+ghost use Rattle.world_model.specs.declared.slot.Phase.TheVariants as phase;
+ghost use Rattle.world_model.specs.Book.{excess_limit, own_hold, running};
+ghost use Rattle.world_model.specs.SlotCalls.{dropped, is_grace};
+ghost use Rattle.slot_vector.specs.Slices.{IsWithin, after_timer, after_turn, excess_of, first_slices, given_to, hold_at, in_grace_again, is_idle, mask_of, most_numbers, next_turn, refusal_of_drop, refusal_of_gift, refusal_of_take, timer_answer, timer_at_end, turn_ended, unless, with_hold, without_env};
 
-use crate::search::{Row, first_turn, hold_at, mask_of, own_holds, release};
+use crate::excess::{EXCESS_LIMIT, Excess};
+use crate::held::{drop_refusal, dropped, put, take_refusal};
+use crate::search::{Row, first_turn, hold_at, mask_of, own_hold, own_holds, release};
 use crate::timer::Timer;
+use crate::turn::NextTurn;
 use std::marker::Model;
-use world_model::{Runner, Turn};
+use world_model::{Code, Phase, Runner};
 
-/// The vector of slots, and the runner with the ticks left of its slice, at least one.
+/// The vector of slots, what each environment owes, and the runner with the ticks left of its quantum, at
+/// least one.
 #[derive(Drop)]
 pub struct Slots {
     slots: Row,
     quantum: u32,
     cursor: usize,
     runner: Option<Runner>,
+    excess: Excess,
 }
 
 impl Model for Slots {
-    ghost use Rattle.std.specs.Prelude.{◌<◌, ◌≤◌, length};
+    ghost use Rattle.std.specs.Prelude.{◌<◌, ◌≤◌, All, length};
     ghost use Rattle.aegis_limits.specs.Limits.{most_slots};
-    ghost use Rattle.slot_vector.specs.Slices.{Slices, HasTicks};
+    ghost use Rattle.slot_vector.specs.Slices.{Slices, HasTicks, IsNumbered, RunsByNumber};
 
     ghost Value = { Slices };
 
-    ghost view = { λ s. record { slots = s.slots.items; quantum = s.quantum; cursor = s.cursor; runner = s.runner } };
+    ghost view = { λ s. record { slots = s.slots.items; quantum = s.quantum; cursor = s.cursor; runner = s.runner; excess = s.excess } };
 
-    ghost invariant = { λ s. (s.cursor < length s.slots.items) × (length s.slots.items ≤ most_slots) × (0 < s.quantum) × HasTicks s.runner };
+    ghost invariant = { λ s. (s.cursor < length s.slots.items) × (length s.slots.items ≤ most_slots) × (0 < s.quantum) × HasTicks s.runner × RunsByNumber s.runner × All IsNumbered s.slots.items };
 }
 
 impl Slots {
     /// A vector with these owners, each holding its slots itself. The cursor is at the last slot,
-    /// so that the first turn is the first held slot's. The quantum is in ticks.
+    /// so that the first turn is the first held slot's. The quantum is in ticks. Nobody owes anything.
     pub fn new(quantum: u32, owners: &[Option<u8>]) -> Slots
         requires quantum { least_quantum ≤ quantum × quantum ≤ most_quantum }
         requires count { 1 ≤ length owners.now × length owners.now ≤ most_slots }
-        requires owners { All (λ owner. IfSome owner (λ e. e < 32)) owners.now }
+        requires owners { All (λ owner. IfSome owner (λ e. e < most_numbers)) owners.now }
         ensures { result ≡ first_slices quantum owners.now }
     {
         Slots {
@@ -46,43 +53,102 @@ impl Slots {
             quantum,
             cursor: owners.len() - 1,
             runner: None,
+            excess: Excess::new(),
         }
     }
 
-    /// The next turn, where nobody runs: the holder of the first held slot after the cursor, all
-    /// around, runs with a full quantum, and the cursor moves there. Where no slot has a holder
+    /// What comes next, where nobody runs, by the first held slot after the cursor, all around. If its
+    /// holder owes, the slot is forfeited, and the holder owes one quantum less; ask again then. Else
+    /// the holder runs, with a full quantum. The cursor moves to the slot. Where no slot has a holder
     /// nothing changes.
-    pub fn next_turn(&mut self) -> Option<Turn>
+    pub fn next_turn(&mut self) -> NextTurn
         requires { IsNone self.old.runner }
         ensures turn { result ≡ next_turn self.old }
-        ensures after { self.new ≡ with_turn self.old result }
+        ensures after { self.new ≡ after_turn self.old result }
+        ensures within { IsWithin (length self.old.slots) result }
     {
-        let turn = first_turn(self.slots.as_slice(), self.cursor)?;
+        let Some(turn) = first_turn(self.slots.as_slice(), self.cursor) else {
+            return NextTurn::Idle;
+        };
         self.cursor = turn.slot as usize;
-        self.runner = Some(Runner {
-            env: turn.env,
-            left: self.quantum,
-        });
-        Some(turn)
+        let owed = self.excess.of(turn.env);
+        if owed == 0 {
+            self.runner = Some(Runner {
+                env: turn.env,
+                left: self.quantum,
+                phase: Phase::Own,
+            });
+            return NextTurn::Run(turn);
+        }
+        self.excess.set(turn.env, owed - 1);
+        NextTurn::Pay(turn)
     }
 
-    /// A tick of the runner's slice is over: the ticks left fall by one, and at none the turn ends.
-    pub fn timer(&mut self) -> Timer
-        ensures answer { result ≡ timer_answer self.old.runner }
-        ensures after { self.new ≡ timer_counted self.old }
+    /// A tick of the runner's quantum is over, and it has a handler of the ends of its slices or not.
+    /// The ticks left fall by one, and at none the quantum is over: a slice ends the turn, or begins
+    /// the time of grace of a runner with a handler; a quantum of grace raises the runner's excess by
+    /// one, and another begins. `Kill` changes nothing: the runner is to die.
+    pub fn timer(&mut self, has_end: bool) -> Timer
+        ensures answer { result ≡ timer_answer self.old has_end }
+        ensures after { self.new ≡ after_timer self.old result }
     {
         let Some(runner) = self.runner else {
             return Timer::Nothing;
         };
         if runner.left == 1 {
-            self.runner = None;
-            return Timer::Stop;
+            return self.end_quantum(runner, has_end);
         }
         self.runner = Some(Runner {
-            env: runner.env,
             left: runner.left - 1,
+            ..runner
         });
         Timer::Nothing
+    }
+
+    /// The runner's quantum is over.
+    fn end_quantum(&mut self, runner: Runner, has_end: bool) -> Timer
+        requires runs { self.old.runner ≡ Some runner }
+        ensures answer { result ≡ timer_at_end runner.phase has_end (excess_of self.old.excess runner.env) }
+        ensures after { self.new ≡ after_timer self.old result }
+    {
+        match runner.phase {
+            Phase::Own if has_end => {
+                self.begin_grace(runner);
+                Timer::End
+            }
+            Phase::Own => {
+                self.runner = None;
+                Timer::Stop
+            }
+            Phase::Grace => self.count_grace(runner),
+        }
+    }
+
+    /// A quantum of grace is over.
+    fn count_grace(&mut self, runner: Runner) -> Timer
+        requires runs { self.old.runner ≡ Some runner }
+        ensures answer { result ≡ timer_at_end phase.Grace true (excess_of self.old.excess runner.env) }
+        ensures after { self.new ≡ after_timer self.old result }
+    {
+        let excess = self.excess.of(runner.env) + 1;
+        if excess > EXCESS_LIMIT {
+            return Timer::Kill;
+        }
+        self.excess.set(runner.env, excess);
+        self.begin_grace(runner);
+        Timer::Over(excess)
+    }
+
+    /// The runner goes on, with a quantum of grace.
+    fn begin_grace(&mut self, runner: Runner)
+        requires runs { self.old.runner ≡ Some runner }
+        ensures { self.new ≡ record self.old { runner = in_grace_again self.old self.old.runner } }
+    {
+        self.runner = Some(Runner {
+            left: self.quantum,
+            phase: Phase::Grace,
+            ..runner
+        });
     }
 
     /// The turn ends, with the rest of its slice.
@@ -92,19 +158,101 @@ impl Slots {
         self.runner = None;
     }
 
+    /// Whether the runner may give the rest of its slice away: `NoSlice` says that it runs in time of
+    /// grace, which isn't its own.
+    pub fn may_donate(&self) -> Result<(), Code>
+        ensures answer { result ≡ unless (refusal_of_gift self.now) }
+        ensures own { OnOk result (is_grace self.now.runner ≡ false) }
+        ensures grace { OnErr result (is_grace self.now.runner ≡ true) }
+    {
+        match self.runner {
+            Some(
+                Runner {
+                    phase: Phase::Grace,
+                    ..
+                },
+            ) => Err(Code::NoSlice),
+            _ => Ok(()),
+        }
+    }
+
+    /// Another environment goes on with the rest of the runner's slice.
+    pub fn donate(&mut self, to: u8)
+        requires runs { IsSome self.old.runner }
+        requires number { to < most_numbers }
+        ensures { self.new ≡ given_to to self.old }
+    {
+        if let Some(runner) = self.runner {
+            self.runner = Some(Runner { env: to, ..runner });
+        }
+    }
+
+    /// The empty slot is the environment's own, which holds it itself. `NoSlice` comes where there is no
+    /// such slot, and `SlotTaken` where it isn't empty; neither changes anything.
+    pub fn take(&mut self, env: u8, slot: u32) -> Result<(), Code>
+        requires { env < most_numbers }
+        ensures answer { result ≡ unless (refusal_of_take self.old slot) }
+        ensures taken { OnOk result (self.new ≡ with_hold self.old slot (Some (own_hold env))) }
+        ensures left { OnErr result (self.new ≡ self.old) }
+    {
+        if let Some(why) = take_refusal(self.slots.as_slice(), slot as usize) {
+            return Err(why);
+        }
+        put(
+            self.slots.as_mut_slice(),
+            slot as usize,
+            own_hold(Some(env)),
+        );
+        Ok(())
+    }
+
+    /// The environment drops the slot that it holds: one of its own is empty, and one that it holds for
+    /// another is its owner's again. `NoSlice` comes where there is no such slot, and `NotHolder` where
+    /// the environment doesn't hold it; neither changes anything.
+    pub fn drop_slot(&mut self, env: u8, slot: u32) -> Result<(), Code>
+        ensures answer { result ≡ unless (refusal_of_drop env self.old slot) }
+        ensures dropped { OnOk result (self.new ≡ with_hold self.old slot (dropped env (hold_at self.old.slots slot))) }
+        ensures left { OnErr result (self.new ≡ self.old) }
+    {
+        let place = slot as usize;
+        if let Some(why) = drop_refusal(self.slots.as_slice(), env, place) {
+            return Err(why);
+        }
+        let hold = hold_at(self.slots.as_slice(), place);
+        put(self.slots.as_mut_slice(), place, dropped(hold, env));
+        Ok(())
+    }
+
     /// The environment is gone: each slot that it owned is empty, each that it held for another goes
-    /// back to its owner, and its turn ends, if it runs. The result has a bit for each slot that
-    /// changed, the lowest for slot 0.
+    /// back to its owner, its turn ends, if it runs, and it owes nothing. The result has a bit for each
+    /// slot that changed, the lowest for slot 0.
     pub fn release_env(&mut self, env: u8) -> u64
+        requires { env < most_numbers }
         ensures mask { result ≡ mask_of env self.old.slots }
         ensures after { self.new ≡ without_env env self.old }
     {
         let mask = mask_of(self.slots.as_slice(), env);
         release(self.slots.as_mut_slice(), env);
+        self.excess.set(env, 0);
         if self.runner() == Some(env) {
             self.give_up();
         }
         mask
+    }
+
+    /// The environment's excess: the quanta that it ran past its slices and hasn't forfeited yet, 0 to 8.
+    pub fn excess(&self, env: u8) -> u32
+        ensures excess { result ≡ excess_of self.now.excess env }
+        ensures most { result ≤ excess_limit }
+    {
+        self.excess.of(env)
+    }
+
+    /// The ticks of a quantum.
+    pub fn quantum(&self) -> u32
+        ensures { result ≡ self.now.quantum }
+    {
+        self.quantum
     }
 
     /// The environment that owns the slot; none where it is empty, or past the last.

@@ -1,0 +1,35 @@
+-- How the whole turn, which the model tells at once, is made of what comes next, again and again.
+use Rattle.std.specs.Prelude.{◌≡◌, ◌↔◌, ◌<◌, ℕ, List, [], length, Some, None, slice_set}
+use Rattle.world_model.specs.declared.slot.Turn.{Turn}
+use Rattle.world_model.specs.Table.{set_at}
+use Rattle.world_model.specs.Book.{nobodys, owed, pays_first}
+use Rattle.slot_vector.specs.declared.turn.NextTurn.TheVariants as next
+use Rattle.slot_vector.specs.Slices.{Slices, after_turn, excess_of, hold_at, next_held, next_turn, told_of}
+
+-- A forfeit comes first in the turn, and the rest of the turn is that of the vector after it.
+abbrev pub ForfeitComesFirst : Type 0
+ForfeitComesFirst = (v : Slices) (t : Turn) → next_turn v ≡ next.Pay t → told_of v ≡ pays_first t (told_of (after_turn v (next.Pay t)))
+
+-- what the holders of a vector's slots owe
+abbrev pub owed_of : Slices → ℕ
+owed_of v = owed (excess_of v.excess) (hold_at v.slots) (length v.slots)
+
+-- With each forfeit the holders owe less.
+abbrev pub ForfeitLowersOwed : Type 0
+ForfeitLowersOwed = (v : Slices) (t : Turn) → next_turn v ≡ next.Pay t → owed_of (after_turn v (next.Pay t)) < owed_of v
+
+-- A run ends the turn, and nothing is forfeited before it.
+abbrev pub RunEndsTurn : Type 0
+RunEndsTurn = (v : Slices) (t : Turn) → next_turn v ≡ next.Run t → told_of v ≡ record { pays = []; runs = Some t; excess = excess_of v.excess; cursor = t.slot }
+
+-- Where nobody is next, the turn is nobody's.
+abbrev pub IdleIsNobodys : Type 0
+IdleIsNobodys = (v : Slices) → next_turn v ≡ next.Idle → told_of v ≡ nobodys v.cursor (excess_of v.excess)
+
+-- The turn runs nobody exactly where no slot is held.
+abbrev pub RunsNobodyWhereNoneHeld : Type 0
+RunsNobodyWhereNoneHeld = (v : Slices) → ((told_of v).runs ≡ None) ↔ (next_held v ≡ None)
+
+-- Another excess of one environment changes that of no other.
+abbrev pub ExcessSetsOne : Type 0
+ExcessSetsOne = (all : List ℕ) (e excess : ℕ) → e < length all → excess_of (slice_set all e excess) ≡ set_at e excess (excess_of all)

@@ -1,0 +1,54 @@
+//! Which slots an environment may take or drop, and what becomes of one.
+ghost use Rattle.std.specs.Prelude.{◌≡◌, ◌<◌, All, IsNone, length, slice_get, slice_set};
+ghost use Rattle.world_model.specs.SlotCalls.{drop_refusal, dropped, take_refusal};
+ghost use Rattle.slot_vector.specs.Slices.{IsNumbered, hold_at};
+
+use crate::search::own_hold;
+use world_model::{Code, Hold};
+
+/// Why the slot can't be taken: `NoSlice` where there is no such slot, and `SlotTaken` where it isn't
+/// empty.
+pub(crate) fn take_refusal(slots: &[Option<Hold>], slot: usize) -> Option<Code>
+    ensures why { result ≡ take_refusal (slice_get slots.now slot) }
+    ensures there { IsNone result → slot < length slots.now }
+{
+    match slots.get(slot) {
+        None => Some(Code::NoSlice),
+        Some(None) => None,
+        Some(Some(_)) => Some(Code::SlotTaken),
+    }
+}
+
+/// Why the environment can't drop the slot: `NoSlice` where there is no such slot, and `NotHolder` where
+/// it doesn't hold it.
+pub(crate) fn drop_refusal(slots: &[Option<Hold>], env: u8, slot: usize) -> Option<Code>
+    ensures why { result ≡ drop_refusal env (slice_get slots.now slot) }
+    ensures there { IsNone result → slot < length slots.now }
+{
+    match slots.get(slot) {
+        None => Some(Code::NoSlice),
+        Some(Some(hold)) if hold.holder == env => None,
+        Some(_) => Some(Code::NotHolder),
+    }
+}
+
+/// The slot once the environment, its holder, has dropped it.
+pub(crate) fn dropped(slot: Option<Hold>, env: u8) -> Option<Hold>
+    ensures hold { result ≡ dropped env slot }
+    ensures numbered { IsNumbered slot → IsNumbered result }
+{
+    let hold = slot?;
+    if hold.owner == env {
+        return None;
+    }
+    own_hold(Some(hold.owner))
+}
+
+/// The slot has this hold now.
+pub(crate) fn put(slots: &mut [Option<Hold>], slot: usize, hold: Option<Hold>)
+    requires { slot < length slots.old }
+    ensures put { slots.new ≡ slice_set slots.old slot hold }
+    ensures numbered { All IsNumbered slots.old → IsNumbered hold → All IsNumbered slots.new }
+{
+    slots[slot] = hold;
+}
