@@ -13,16 +13,18 @@ use Rattle.world_model.specs.Book.{Book, is_idle_book}
 use Rattle.world_model.specs.Solo.{Solo, absent}
 use Rattle.world_model.specs.Item.{absorb_all}
 use Rattle.world_model.specs.PageCalls.{page_bytes}
-use Rattle.world_model.specs.Step.{act_of, step_alone}
+use Rattle.world_model.specs.Step.{act_of, step_alone, stepped}
 use Rattle.world_model.specs.World.{World, after}
-use Rattle.world_model.specs.Tick.{step, step_when, tick_step, turn}
+use Rattle.world_model.specs.Tick.{brings, step, step_when, tick_step, turn}
 use Rattle.world_model.specs.Boot.{boot_book, boot_world, keep_lowest, keep_pages, record_items, with_all_kept, with_kept}
 use Rattle.world_model.specs.Run.{world_after}
 use Rattle.page_sight.proofs.Tables.{set_else}
 use Rattle.sharing_law.specs.Agreement.{AreBoundAllocated, BooksAgree, BoundIsAllocated}
 use Rattle.sharing_law.proofs.Sound.{HasNone, Sound, sees_nothing}
-use Rattle.sharing_law.proofs.Turning.{allocated_alike, allocated_before, sound_alike, sound_timed, sound_turned, timer_alike, turn_alike, unchanged}
-use Rattle.sharing_law.proofs.Stepping.{sound_stepped, step_brings}
+use Rattle.sharing_law.proofs.Books.{step_allocated}
+use Rattle.sharing_law.proofs.Turning.{allocated_alike, sound_alike, sound_turned, turn_alike, unchanged}
+use Rattle.sharing_law.proofs.Stepping.{sound_following, step_brings, step_follows}
+use Rattle.sharing_law.proofs.Timing.{sound_timed}
 
 -- At boot no page is allocated, and none behind the last one is anybody's.
 record AreFresh (count : ℕ) (pages : ℕ → PageRow) : Type 0 where
@@ -100,8 +102,10 @@ stepped_by : (w : World) (o : Option Runner) → w.book.runner ≡ o → Sound w
 stepped_by w None is sound allocated next = sound_alike w (after w (step_when w None)) (unchanged w) sound.runs sound
 stepped_by w (Some r) is sound allocated next =
     let s = w.solos r.env in
+    let act = act_of s (step_alone s) in
     let lives = sound.runs r is in
-    sound_stepped w r.env (act_of s (step_alone s)) sound lives (step_brings w r.env sound lives allocated (step_alone s)) next
+    let follows = step_follows w r.env act lives (step_brings w r.env sound lives allocated (step_alone s)) in
+    sound_following w r.env (stepped s (step_alone s)) act (after w (step_when w (Some r))) (brings w r.env act).items sound follows next
 
 -- A tick.
 module _ (w : World) (sound : Sound w) (allocated : AreBoundAllocated w) where
@@ -114,20 +118,23 @@ module _ (w : World) (sound : Sound w) (allocated : AreBoundAllocated w) where
   pub allocated_turned : AreBoundAllocated at_turn
   allocated_turned = allocated_alike w at_turn (turn_alike w) allocated
 
-  pub sound_ticked : AreBoundAllocated (tick_step w) → Sound (tick_step w)
-  sound_ticked next =
-      sound_timed at_timer
-      (stepped_by at_turn at_turn.book.runner refl (sound_turned w sound) allocated_turned
-      (allocated_before at_timer (tick_step w) (timer_alike at_timer) next))
+  pub allocated_stepped : AreBoundAllocated at_timer
+  allocated_stepped = step_allocated at_turn allocated_turned
 
-sound_next : (w : World) (idle : Bool) → Sound w → AreBoundAllocated w → AreBoundAllocated (if idle then w else tick_step w) → Sound (if idle then w else tick_step w)
-sound_next w true sound allocated next = sound
-sound_next w false sound allocated next = sound_ticked w sound allocated next
+  pub sound_stepped : Sound at_timer
+  sound_stepped = stepped_by at_turn at_turn.book.runner refl (sound_turned w sound) allocated_turned allocated_stepped
+
+  pub sound_ticked : Sound (tick_step w)
+  sound_ticked = sound_timed at_timer sound_stepped allocated_stepped
+
+sound_next : (w : World) (idle : Bool) → Sound w → AreBoundAllocated w → Sound (if idle then w else tick_step w)
+sound_next w true sound allocated = sound
+sound_next w false sound allocated = sound_ticked w sound allocated
 
 -- Every world is so, where no page is bound that isn't allocated.
 pub all_sound : BoundIsAllocated → (image : ImageValue) (t : ℕ) → Sound (world_after image t)
 all_sound bound image zero = sound_boot image
-all_sound bound image (suc t) = sound_next (world_after image t) (is_idle_book (world_after image t).book) (all_sound bound image t) (bound image t) (bound image (suc t))
+all_sound bound image (suc t) = sound_next (world_after image t) (is_idle_book (world_after image t).book) (all_sound bound image t) (bound image t)
 
 pub books_agree : BoundIsAllocated → BooksAgree
 books_agree bound image t = (all_sound bound image t).agreed

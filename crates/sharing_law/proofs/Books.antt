@@ -1,44 +1,21 @@
 -- What a tick does to a binding that is listed, and to its page.
-use Rattle.std.proofs.Common.{◌≡◌, ℕ, Bool, true, false, ◌-◌, Option, Some, None, refl, sym, ◌∙◌, ap, subst, inl, inr}
-use Rattle.std.specs.Prelude.{◌==◌, ◌⊎◌, if◌then◌else◌}
+use Rattle.std.proofs.Common.{◌≡◌, ℕ, Bool, true, false, Option, Some, None, refl, sym, ◌∙◌, ap, subst, inl, inr}
+use Rattle.std.specs.Prelude.{◌⊎◌, if◌then◌else◌}
 use Rattle.page_book.specs.declared.row.PageRow.{PageRow}
 use Rattle.bind_book.specs.declared.binding.Binding.{Binding}
 use Rattle.bind_book.specs.Stripe.{row_of}
 use Rattle.world_model.specs.declared.call.Call.TheVariants as call
 use Rattle.world_model.specs.declared.slot.Runner.{Runner}
-use Rattle.world_model.specs.declared.slot.Turn.{Turn}
-use Rattle.world_model.specs.Book.{Book, is_idle_book, next_turn, running}
+use Rattle.world_model.specs.Book.{Book, is_idle_book, running}
 use Rattle.world_model.specs.Call.{binding_of, presented}
 use Rattle.world_model.specs.World.{World, after}
 use Rattle.world_model.specs.Step.{Calls, act_of, step_alone}
-use Rattle.world_model.specs.Tick.{count_down, take_turn, timer_when, tick_step, turn, turn_when, step, step_when}
+use Rattle.world_model.specs.Tick.{tick_step, timer, turn, step, step_when}
 use Rattle.world_model.specs.Run.{next_world}
 use Rattle.sharing_law.specs.Agreement.{IsAllocated, AreBoundAllocated}
-use Rattle.sharing_law.proofs.Replies.{IsCarried, MayBind, IsPut, WasListed, act_carries}
-
--- two books of the same pages and bindings
-record IsSame (old new : Book) : Type 0 where
-  pages : new.pages ≡ old.pages
-  binds : new.binds ≡ old.binds
-
-same_turn : (w : World) (t : Option Turn) → IsSame w.book (take_turn w t).book
-same_turn w None = record { pages = refl; binds = refl }
-same_turn w (Some t) = record { pages = refl; binds = refl }
-
-same_runner : (w : World) (runner : Option Runner) → IsSame w.book (turn_when w runner).book
-same_runner w None = same_turn w (next_turn w.book)
-same_runner w (Some r) = record { pages = refl; binds = refl }
-
-same_count : (w : World) (e left : ℕ) → IsSame w.book (count_down w e left).book
-same_count w e left = by_test (left == 0) refl
-  where
-    by_test : (t : Bool) → (left == 0) ≡ t → IsSame w.book (count_down w e left).book
-    by_test true is = rw is (record { pages = refl; binds = refl })
-    by_test false is = rw is (record { pages = refl; binds = refl })
-
-same_timer : (w : World) (runner : Option Runner) → IsSame w.book (timer_when w runner).book
-same_timer w None = record { pages = refl; binds = refl }
-same_timer w (Some r) = same_count w r.env (r.left - 1)
+use Rattle.sharing_law.proofs.Replies.{IsCarried, MayBind, IsPut, WasListed, Remains, act_carries, carried_allocated}
+use Rattle.sharing_law.proofs.Turning.{IsAlike, allocated_alike, turn_alike}
+use Rattle.sharing_law.proofs.Timing.{timer_remains}
 
 -- the binding was put by the step of this world
 pub record IsPutBy (v : World) (pages : ℕ → PageRow) (e row : ℕ) (b : Binding) : Type 0 where
@@ -63,16 +40,33 @@ step_carries v allocated (Some r) runs e row b is =
       | inr was ↦ inr was
     ]
 
--- the pages of all bindings are allocated in a book of the same pages and bindings
-same_allocated : (w v : World) → IsSame w.book v.book → AreBoundAllocated w → AreBoundAllocated v
-same_allocated w v same allocated e row b is =
-    subst (λ (pages : ℕ → PageRow). IsAllocated (pages b.page)) (sym same.pages) (allocated e row b (sym (ap (λ (f : ℕ → ℕ → Option Binding). f e row) same.binds) ∙ is))
+-- so the pages of all bindings are allocated after a step, too
+pub step_allocated : (v : World) → AreBoundAllocated v → AreBoundAllocated (after v (step v))
+step_allocated v allocated e row b is =
+    elim (step_carries v allocated v.book.runner refl e row b is) [
+      | inl put ↦ subst IsAllocated (sym put.may.owned) tt
+      | inr was ↦ carried_allocated e (v.book.pages b.page) ((step v).book.pages b.page) was.carried (allocated e row b was.listed)
+    ]
 
-same_listed : (w v : World) (pages : ℕ → PageRow) (e row : ℕ) (b : Binding) → IsSame w.book v.book → WasListed v pages e row b → WasListed w pages e row b
-same_listed w v pages e row b same was = record {
-  listed = sym (ap (λ (f : ℕ → ℕ → Option Binding). f e row) same.binds) ∙ was.listed;
-  carried = subst (λ (old : ℕ → PageRow). IsCarried e (old b.page) (pages b.page)) same.pages was.carried;
+-- what the turn leaves was there before it
+turned_listed : (w v : World) (pages : ℕ → PageRow) (e row : ℕ) (b : Binding) → IsAlike w v → WasListed v pages e row b → WasListed w pages e row b
+turned_listed w v pages e row b alike was = record {
+  listed = sym (ap (λ (f : ℕ → ℕ → Option Binding). f e row) alike.binds) ∙ was.listed;
+  carried = subst (λ (old : ℕ → PageRow). IsCarried e (old b.page) (pages b.page)) alike.pages was.carried;
 }
+
+-- and the timer leaves what it doesn't unbind
+put_timed : (v : World) (old new : Book) (e row : ℕ) (b : Binding) → Remains old new e row b → IsPutBy v old.pages e row b → IsPutBy v new.pages e row b
+put_timed v old new e row b left put = record {
+  runs = put.runs;
+  comes = put.comes;
+  named = put.named;
+  stands = put.stands;
+  may = subst (λ (one : PageRow). MayBind e b.writable (presented (v.solos e).cpu) one) (sym left.page) put.may;
+}
+
+listed_timed : (w : World) (old new : Book) (e row : ℕ) (b : Binding) → Remains old new e row b → WasListed w old.pages e row b → WasListed w new.pages e row b
+listed_timed w old new e row b left was = record { listed = was.listed; carried = subst (λ (one : PageRow). IsCarried e (w.book.pages b.page) one) (sym left.page) was.carried }
 
 abbrev Carried : World → Book → ℕ → ℕ → Binding → Type 0
 Carried w new e row b = IsPutBy (after w (turn w)) new.pages e row b ⊎ WasListed w new.pages e row b
@@ -81,14 +75,11 @@ tick_carries : (w : World) → AreBoundAllocated w → (e row : ℕ) (b : Bindin
 tick_carries w allocated e row b is =
     let v = after w (turn w) in
     let u = after v (step v) in
-    let turned : IsSame w.book v.book = same_runner w w.book.runner in
-    let timed : IsSame u.book (tick_step w).book = same_timer u u.book.runner in
-    let before : u.book.binds e row ≡ Some b = sym (ap (λ (f : ℕ → ℕ → Option Binding). f e row) timed.binds) ∙ is in
-    subst (λ (pages : ℕ → PageRow). IsPutBy v pages e row b ⊎ WasListed w pages e row b) (sym timed.pages)
-    (elim (step_carries v (same_allocated w v turned allocated) v.book.runner refl e row b before) [
-      | inl put ↦ inl put
-      | inr was ↦ inr (same_listed w v u.book.pages e row b turned was)
-    ])
+    let left = timer_remains u e row b is in
+    elim (step_carries v (allocated_alike w v (turn_alike w) allocated) v.book.runner refl e row b left.listed) [
+      | inl put ↦ inl (put_timed v u.book (timer u).book e row b left put)
+      | inr was ↦ inr (listed_timed w u.book (timer u).book e row b left (turned_listed w v u.book.pages e row b (turn_alike w) was))
+    ]
 
 -- in the next world a binding was put by the step of the tick, or was listed before
 pub next_carries : (w : World) → AreBoundAllocated w → (e row : ℕ) (b : Binding) → (next_world w).book.binds e row ≡ Some b

@@ -12,6 +12,7 @@ use Rattle.bind_book.specs.declared.binding.Binding.{Binding}
 use Rattle.bind_book.specs.Stripe.{goes_with, without}
 use Rattle.world_model.specs.declared.life.Life.TheVariants.{Live}
 use Rattle.world_model.specs.declared.life.Cause.{Cause}
+use Rattle.world_model.specs.declared.slot.Hold.{Hold}
 use Rattle.world_model.specs.declared.slot.Runner.{Runner}
 use Rattle.world_model.specs.Table.{set_at}
 use Rattle.world_model.specs.Book.{Book, released, sees}
@@ -27,7 +28,7 @@ use Rattle.page_sight.proofs.Mourning.{mourners_lose}
 use Rattle.page_sight.proofs.Sights.{readers_see, writer_sees}
 use Rattle.page_sight.proofs.Stripes.{without_ends}
 use Rattle.sharing_law.proofs.Given.{Keeps, keeps_none, keeps_left, keeps_death, dead_absorbs}
-use Rattle.sharing_law.proofs.Sound.{HasNone, Sound, sees_nothing}
+use Rattle.sharing_law.proofs.Sound.{AreLive, HasNone, Sound, sees_nothing}
 
 -- What becomes of an allocated page and of its bytes: it was its owner's and has them still, the runner stored to it, or it was free and has zeros.
 pub data Fate (w : World) (act : Act) (o page : ℕ) (bytes : List ℕ) : Type 0 where
@@ -37,7 +38,7 @@ pub data Fate (w : World) (act : Act) (o page : ℕ) (bytes : List ℕ) : Type 0
 
 -- the runner goes on, or it dies
 pub data Fortune (w : World) (e : ℕ) (s : Solo) (b : Book) : Type 0 where
-  GoesOn : s.life ≡ Live → b.slots ≡ w.book.slots → ((r : Runner) → b.runner ≡ Some r → w.book.runner ≡ Some r) → Fortune w e s b
+  GoesOn : s.life ≡ Live → ((k : ℕ) (h : Hold) → b.slots k ≡ Some h → AreLive w.solos h) → ((r : Runner) → b.runner ≡ Some r → (w.solos r.env).life ≡ Live) → Fortune w e s b
   Ends : b.slots ≡ (λ k. released e (w.book.slots k)) → b.runner ≡ None → HasNone e b.pages (b.binds e) → Fortune w e s b
 
 -- what the act of a runner, which is s after it, brings to each environment: the book after it, and what each is given
@@ -63,7 +64,7 @@ as_before e pages stripe bytes s t binds sights seen = record {
 }
 
 -- what is owned once an environment's pages are released was owned before, and not by it
-released_owned : (gone o : ℕ) (row : PageRow) → is_owned_by o (released_row gone row) ≡ true → is_owned_by o row ≡ true
+pub released_owned : (gone o : ℕ) (row : PageRow) → is_owned_by o (released_row gone row) ≡ true → is_owned_by o row ≡ true
 released_owned gone o row owns = by_test (belongs_to gone row) owns
   where
     by_test : (t : Bool) → is_owned_by o (if t then Free else row) ≡ true → is_owned_by o row ≡ true
@@ -100,10 +101,11 @@ module _ (w : World) (e : ℕ) (sound : Sound w) (lives : (w.solos e).life ≡ L
   idle i items none = subst (λ its. Sees i w.book.pages (w.book.binds i) (page_bytes w) (absorb_all (w.solos i) its)) (sym none) (sound.agreed i)
 
   -- An act that changes nobody else.
-  pub quiet : (s : Solo) (act : Act) (runner : Option Runner) (items : ℕ → List Item) → s.life ≡ Live → ((r : Runner) → runner ≡ Some r → w.book.runner ≡ Some r)
+  pub quiet : (s : Solo) (act : Act) (slots : ℕ → Option Hold) → ((k : ℕ) (h : Hold) → slots k ≡ Some h → AreLive w.solos h) → (runner : Option Runner) → ((r : Runner) → runner ≡ Some r → (w.solos r.env).life ≡ Live)
+      → (items : ℕ → List Item) → s.life ≡ Live
       → ((i : ℕ) → i ≢ e → items i ≡ []) → ((i : ℕ) → Keeps (items i)) → Sees e w.book.pages (w.book.binds e) (page_bytes w) (absorb_all s (items e))
-      → Brings w e s act (record w.book { runner = runner }) items
-  quiet s act runner items alive still none keeps own = record {
+      → Brings w e s act (record w.book { slots = slots; runner = runner }) items
+  quiet s act slots holders runner runs items alive none keeps own = record {
     bytes = page_bytes w;
     own = own;
     others = λ i ne live. idle i (items i) (none i ne);
@@ -112,13 +114,13 @@ module _ (w : World) (e : ℕ) (sound : Sound w) (lives : (w.solos e).life ≡ L
     behind = sound.behind;
     fate = λ o page owns. Stays owns refl;
     keeps = keeps;
-    fortune = GoesOn alive refl still;
+    fortune = GoesOn alive holders runs;
   }
 
   -- one that brings nothing
   pub silent : (s : Solo) (act : Act) → s.life ≡ Live → s.binds ≡ (w.solos e).binds → s.seen ≡ (w.solos e).seen → BringsIn w e s act (tick.no_change w)
   silent s act alive binds sights =
-      quiet s act w.book.runner (λ i. []) alive (λ r is. is) (λ i ne. refl) (λ i. keeps_none)
+      quiet s act w.book.slots sound.holders w.book.runner sound.runs (λ i. []) alive (λ i ne. refl) (λ i. keeps_none)
       (as_before e w.book.pages (w.book.binds e) (page_bytes w) (w.solos e) s binds sights (sound.agreed e))
 
   -- A store.
@@ -146,7 +148,7 @@ module _ (w : World) (e : ℕ) (sound : Sound w) (lives : (w.solos e).life ≡ L
       behind = sound.behind;
       fate = fate;
       keeps = λ i. keeps_left (sees w.book i page) e i page x;
-      fortune = GoesOn lives refl (λ r is. is);
+      fortune = GoesOn lives sound.holders sound.runs;
     }
       where
         by_page : (o p : ℕ) → is_owned_by o (w.book.pages p) ≡ true → (t : Bool) → (p == page) ≡ t → Fate w (Stores x) o p (if t then with_bytes (page_bytes w page) x.offset x.bytes else page_bytes w p)
@@ -158,7 +160,7 @@ module _ (w : World) (e : ℕ) (sound : Sound w) (lives : (w.solos e).life ≡ L
 
     by_key : (key : Key) → x.key ≡ key → Brings w e (stored x writer) (Stores x) w.book (left_at w.book e x key)
     by_key (Kept v) is =
-        quiet (stored x writer) (Stores x) w.book.runner (left_at w.book e x (Kept v)) lives (λ r is. is) (λ i ne. refl) (λ i. keeps_none)
+        quiet (stored x writer) (Stores x) w.book.slots sound.holders w.book.runner sound.runs (left_at w.book e x (Kept v)) lives (λ i ne. refl) (λ i. keeps_none)
         (as_before e w.book.pages (w.book.binds e) (page_bytes w) (w.solos e) (stored x writer) refl (kept_sights v is) (sound.agreed e))
     by_key (Physical page) is = to_bound page is
 
@@ -191,3 +193,21 @@ module _ (w : World) (e : ℕ) (sound : Sound w) (lives : (w.solos e).life ≡ L
       keeps = λ i. keeps_death w.book e i;
       fortune = Ends refl refl nothing_left;
     }
+
+  -- time may rise, too
+  later_fortune : (b : Book) (s : Solo) (time : ℕ) → Fortune w e s b → Fortune w e s (record b { time = time })
+  later_fortune b s time (GoesOn alive holders runs) = GoesOn alive holders runs
+  later_fortune b s time (Ends slots runs nothing) = Ends slots runs nothing
+
+  pub later_brings : (b : Book) (s : Solo) (act : Act) (items : ℕ → List Item) (time : ℕ) → Brings w e s act b items → Brings w e s act (record b { time = time }) items
+  later_brings b s act items time brings = record {
+    bytes = brings.bytes;
+    own = brings.own;
+    others = brings.others;
+    none = brings.none;
+    stripes = brings.stripes;
+    behind = brings.behind;
+    fate = brings.fate;
+    keeps = brings.keeps;
+    fortune = later_fortune b s time brings.fortune;
+  }

@@ -1,7 +1,7 @@
 -- What the runner's call brings: what each environment sees after it.
 use Rattle.std.proofs.Common.{◌≡◌, ◌≢◌, ◌≤◌, ◌<◌, ℕ, List, [], ◌∷◌, length, Bool, true, false, Option, Some, None, Result, Ok, Err, ok_or, is_some, refl, sym, ◌∙◌, ap, subst, arith}
-use Rattle.std.specs.Prelude.{◌==◌, nat_lt, if◌then◌else◌}
-use Rattle.std.proofs.lemmas.Bool.{eqb-true, ne_eqb, ltb-true}
+use Rattle.std.specs.Prelude.{◌==◌, ◌&&◌, nat_lt, not, if◌then◌else◌}
+use Rattle.std.proofs.lemmas.Bool.{eq-eqb, eqb-true, ne_eqb, ltb-true}
 use Rattle.frame_store.specs.Pages.{zero_page}
 use Rattle.mips_exec.specs.Cpu.{reg}
 use Rattle.page_book.specs.declared.row.Capabilities.{Capabilities}
@@ -17,27 +17,30 @@ use Rattle.world_model.specs.declared.call.Call.{Call}
 use Rattle.world_model.specs.declared.call.Call.TheVariants as call
 use Rattle.world_model.specs.declared.code.Code.{Code}
 use Rattle.world_model.specs.declared.code.Code.TheVariants as code
-use Rattle.world_model.specs.declared.life.Life.TheVariants.{Live}
+use Rattle.world_model.specs.declared.life.Life.TheVariants.{Live, Dead}
+use Rattle.world_model.specs.declared.life.Life.{Life}
+use Rattle.world_model.specs.declared.slot.Hold.{Hold}
 use Rattle.world_model.specs.declared.slot.Runner.{Runner}
 use Rattle.world_model.specs.Table.{set_at}
 use Rattle.world_model.specs.Answer.{refusal}
-use Rattle.world_model.specs.Book.{Book, broken, page_row}
-use Rattle.world_model.specs.Call.{any, binding_of, called, number_refusal, put_refusal, refusal_of_bind, refusal_of_context, words_of}
+use Rattle.world_model.specs.Book.{Book, broken, own_hold, page_row}
+use Rattle.world_model.specs.Call.{any, binding_of, called, handled, number_refusal, put_refusal, refusal_of_bind, refusal_of_context, words_of}
 use Rattle.world_model.specs.Code.{code_of}
 use Rattle.world_model.specs.Holding.{bound, gained, lost, owning, unbound}
-use Rattle.world_model.specs.Item.{Item, Granted, Refused, Gained, Lost, absorb_all, answered_cpu, own_part, refused}
+use Rattle.world_model.specs.Item.{Item, Start, Granted, Refused, Gained, Lost, absorb_all, answered_cpu, own_part, refused}
 use Rattle.world_model.specs.PageCalls.{alloc_by, bind_by, binds_to, breaks, chosen_page, context_by, free_by, freed, is_guaranteed, named_page, page_bytes, recap_by, recapped, unbind_by, unbinds, without_number}
-use Rattle.world_model.specs.Solo.{Solo, sight}
+use Rattle.world_model.specs.Solo.{Solo, is_dead, sight}
 use Rattle.world_model.specs.Step.{Calls}
-use Rattle.world_model.specs.Verdict.{put_if, reply_of, reply_to, yield_if}
+use Rattle.world_model.specs.SlotCalls.{accepts, answer_to, drop_by, drop_refusal, dropped, give_by, gives, handed, is_grace, is_other, query_by, refusal_of_giving, slot_at, take_by, take_refusal, yield_by}
+use Rattle.world_model.specs.Verdict.{put_if, reply_of, reply_to}
 use Rattle.world_model.specs.World.{World, only}
 use Rattle.page_sight.specs.Sight.{IsStripe, Sees}
 use Rattle.page_sight.proofs.Sights.{allocator_sees, binder_sees, freer_loses, others_dont, others_lose, recapper_keeps, unbinder_loses}
 use Rattle.page_sight.proofs.Stripes.{bound_nowhere, without_ends}
 use Rattle.page_sight.proofs.Tables.{set_here, set_else}
 use Rattle.sharing_law.specs.Agreement.{AreBoundAllocated, IsAllocated}
-use Rattle.sharing_law.proofs.Given.{Keeps, absorbs, keeps_at, keeps_gained, keeps_granted, keeps_lost, keeps_lost_if, keeps_only, keeps_refused}
-use Rattle.sharing_law.proofs.Sound.{HasNone, Sound}
+use Rattle.sharing_law.proofs.Given.{Keeps, absorbs, handlers_rest, keeps_start, start_rests, keeps_at, keeps_gained, keeps_granted, keeps_lost, keeps_lost_if, keeps_only, keeps_refused}
+use Rattle.sharing_law.proofs.Sound.{AreLive, HasNone, Sound}
 use Rattle.sharing_law.proofs.Brings.{Brings, BringsIn, Fate, Stays, Taken, GoesOn, as_before, quiet}
 
 -- a page that is there and free
@@ -56,16 +59,16 @@ chosen_free b n page chosen = by_any (n == any) chosen
         let found = is_lowest b.pages b.page_count page (is ∙ ap Some same) in
         record { within = found.below; free = found.free }
 
-    by_row : n < b.page_count → (row : PageRow) → b.pages n ≡ row → named_page b n (alloc_refusal (Some row)) ≡ Ok page → IsFreePage b page
+    by_row : n < b.page_count → (row : PageRow) → b.pages n ≡ row → named_page n (alloc_refusal (Some row)) ≡ Ok page → IsFreePage b page
     by_row below Free is chosen = let same : n ≡ page = cc in subst (IsFreePage b) same (record { within = below; free = is })
     by_row below (Guaranteed owner) is chosen = cc
     by_row below (Owned owner words) is chosen = cc
 
-    by_count : (t : Bool) → nat_lt n b.page_count ≡ t → named_page b n (alloc_refusal (if t then Some (b.pages n) else None)) ≡ Ok page → IsFreePage b page
+    by_count : (t : Bool) → nat_lt n b.page_count ≡ t → named_page n (alloc_refusal (if t then Some (b.pages n) else None)) ≡ Ok page → IsFreePage b page
     by_count true is chosen = by_row (ltb-true n b.page_count is) (b.pages n) refl chosen
     by_count false is chosen = cc
 
-    by_any : (t : Bool) → (if t then ok_or (lowest_free b.pages b.page_count) PageNo.NoneFree else named_page b n (alloc_refusal (page_row b n))) ≡ Ok page → IsFreePage b page
+    by_any : (t : Bool) → (if t then ok_or (lowest_free b.pages b.page_count) PageNo.NoneFree else named_page n (alloc_refusal (page_row b n))) ≡ Ok page → IsFreePage b page
     by_any true chosen = by_first (lowest_free b.pages b.page_count) refl chosen
     by_any false chosen = by_count (nat_lt n b.page_count) refl chosen
 
@@ -135,17 +138,18 @@ module _ (w : World) (e : ℕ) (sound : Sound w) (lives : (w.solos e).life ≡ L
   refuses : (c : Option Call) (code : Code) (value : ℕ) → BringsIn w e (w.solos e) (Calls c) (refusal w e code value)
   refuses c code value =
       let its : List Item = Refused code value ∷ [] in
-      quiet w e sound lives (w.solos e) (Calls c) w.book.runner (only e its) lives (λ r is. is) (λ i ne. set_else e i its (λ j. []) ne) (λ i. keeps_only e i its (keeps_refused code value))
+      quiet w e sound lives (w.solos e) (Calls c) w.book.slots sound.holders w.book.runner sound.runs (only e its) lives (λ i ne. set_else e i its (λ j. []) ne) (λ i. keeps_only e i its (keeps_refused code value))
       (receives w.book.pages (w.book.binds e) (page_bytes w) its (λ j. []) (refused code value (w.solos e)) (absorbs (w.solos e) (Refused code value) [] lives)
       (as_before e w.book.pages (w.book.binds e) (page_bytes w) (w.solos e) (refused code value (w.solos e)) refl refl (sound.agreed e)))
 
   -- a granted call that changes nothing that is seen
   grants : (c : Option Call) → called (w.solos e).cpu ≡ c → (value : ℕ) → (own_part c value (w.solos e)).binds ≡ (w.solos e).binds → (own_part c value (w.solos e)).seen ≡ (w.solos e).seen
-      → (runner : Option Runner) → ((r : Runner) → runner ≡ Some r → w.book.runner ≡ Some r) → Brings w e (w.solos e) (Calls c) (record w.book { runner = runner }) (only e (Granted value ∷ []))
-  grants c named value binds sights runner still =
+      → (slots : ℕ → Option Hold) → ((k : ℕ) (h : Hold) → slots k ≡ Some h → AreLive w.solos h) → (runner : Option Runner) → ((r : Runner) → runner ≡ Some r → (w.solos r.env).life ≡ Live)
+      → Brings w e (w.solos e) (Calls c) (record w.book { slots = slots; runner = runner }) (only e (Granted value ∷ []))
+  grants c named value binds sights slots holders runner runs =
       let its : List Item = Granted value ∷ [] in
       let t : Solo = record (own_part c value (w.solos e)) { cpu = answered_cpu code.Ok value (w.solos e).cpu } in
-      quiet w e sound lives (w.solos e) (Calls c) runner (only e its) lives still (λ i ne. set_else e i its (λ j. []) ne) (λ i. keeps_only e i its (keeps_granted value))
+      quiet w e sound lives (w.solos e) (Calls c) slots holders runner runs (only e its) lives (λ i ne. set_else e i its (λ j. []) ne) (λ i. keeps_only e i its (keeps_granted value))
       (receives w.book.pages (w.book.binds e) (page_bytes w) its (λ j. []) t (granted_is (w.solos e) c lives named value [])
       (as_before e w.book.pages (w.book.binds e) (page_bytes w) (w.solos e) t binds sights (sound.agreed e)))
 
@@ -190,7 +194,7 @@ module _ (w : World) (e : ℕ) (sound : Sound w) (lives : (w.solos e).life ≡ L
       behind = λ p more. set_else page p (Owned e words) w.book.pages (λ same. behind_other p more same) ∙ sound.behind p more;
       fate = λ o p owns. taken_fate o p (p == page) refl owns;
       keeps = λ i. keeps_only e i taken_items (keeps_gained page page true zeros);
-      fortune = GoesOn lives refl (λ r is. is);
+      fortune = GoesOn lives sound.holders sound.runs;
     }
       where
         behind_other : (p : ℕ) → w.book.page_count ≤ p → p ≡ page → ⊥
@@ -221,7 +225,7 @@ module _ (w : World) (e : ℕ) (sound : Sound w) (lives : (w.solos e).life ≡ L
       behind = λ p more. set_else page p row w.book.pages (λ same. behind_other p more same) ∙ sound.behind p more;
       fate = λ o p owns. fate o p (p == page) refl owns;
       keeps = λ i. keeps_at e i its (breaks w.book page) its_keep (keeps_lost_if (is_bound page (w.book.binds i)) page);
-      fortune = GoesOn lives refl (λ r is. is);
+      fortune = GoesOn lives sound.holders sound.runs;
     }
       where
         fate : (o p : ℕ) (t : Bool) → (p == page) ≡ t → is_owned_by o (if t then row else w.book.pages p) ≡ true → Fate w (Calls c) o p (page_bytes w p)
@@ -280,7 +284,7 @@ module _ (w : World) (e : ℕ) (sound : Sound w) (lives : (w.solos e).life ≡ L
       behind = sound.behind;
       fate = λ o p owns. Stays owns refl;
       keeps = λ i. keeps_only e i its its_keep;
-      fortune = GoesOn lives refl (λ r is. is);
+      fortune = GoesOn lives sound.holders sound.runs;
     }
       where
         by_test : (i : ℕ) (t : Bool) → IsStripe (if t then stripe else w.book.binds i)
@@ -322,25 +326,140 @@ module _ (w : World) (e : ℕ) (sound : Sound w) (lives : (w.solos e).life ≡ L
   unbind_served (Some why) named = refuses (Some call.Unbind) why 0
   unbind_served None named = unbind_brings named
 
-  yield_served : (t : Bool) → called (w.solos e).cpu ≡ Some call.Yield → BringsIn w e (w.solos e) (Calls (Some call.Yield)) (reply_of w e (yield_if w e t))
-  yield_served false named = refuses (Some call.Yield) code.BadCall 0
-  yield_served true named = grants (Some call.Yield) named 0 refl refl None nobody
+  -- a granted call that changes nothing but the caller
+  granted_alone : (c : Option Call) → called (w.solos e).cpu ≡ c → (value : ℕ) → (own_part c value (w.solos e)).binds ≡ (w.solos e).binds → (own_part c value (w.solos e)).seen ≡ (w.solos e).seen
+      → Brings w e (w.solos e) (Calls c) w.book (only e (Granted value ∷ []))
+  granted_alone c named value binds sights = grants c named value binds sights w.book.slots sound.holders w.book.runner sound.runs
+
+  -- The rest of a slice goes to another, which starts.
+  module _ (target : ℕ) (other : e ≢ target) (its_life : (w.solos target).life ≡ Live) (named : called (w.solos e).cpu ≡ Some call.Yield) where
+    abbrev its : List Item
+    its = Granted 0 ∷ []
+
+    abbrev given : ℕ → List Item
+    given = set_at target (Start ∷ []) (only e its)
+
+    giver_sees : Sees e w.book.pages (w.book.binds e) (page_bytes w) (absorb_all (w.solos e) (given e))
+    giver_sees =
+        let t : Solo = record (w.solos e) { cpu = answered_cpu code.Ok 0 (w.solos e).cpu } in
+        subst (λ (items : List Item). Sees e w.book.pages (w.book.binds e) (page_bytes w) (absorb_all (w.solos e) items)) (sym (set_else target e (Start ∷ []) (only e its) other))
+        (receives w.book.pages (w.book.binds e) (page_bytes w) its (λ j. []) t (granted_is (w.solos e) (Some call.Yield) lives named 0 [])
+        (as_before e w.book.pages (w.book.binds e) (page_bytes w) (w.solos e) t refl refl (sound.agreed e)))
+
+    other_sees : (i : ℕ) → i ≢ e → (t : Bool) → Sees i w.book.pages (w.book.binds i) (page_bytes w) (absorb_all (w.solos i) (if t then Start ∷ [] else only e its i))
+    other_sees i ne true =
+        let rests = start_rests (w.solos i) in
+        as_before i w.book.pages (w.book.binds i) (page_bytes w) (w.solos i) (absorb_all (w.solos i) (Start ∷ [])) rests.binds rests.seen (sound.agreed i)
+    other_sees i ne false = beside i ne w.book.pages (w.book.binds i) (page_bytes w) its (λ j. []) (sound.agreed i)
+
+    target_runs : (o : Option Runner) (r : Runner) → handed target o ≡ Some r → (w.solos r.env).life ≡ Live
+    target_runs None r is = cc
+    target_runs (Some x) r is =
+        let same : record x { env = target } ≡ r = cc in
+        subst (λ (i : ℕ). (w.solos i).life ≡ Live) (ap (λ (y : Runner). y.env) same) its_life
+
+    gives_brings : BringsIn w e (w.solos e) (Calls (Some call.Yield)) (gives w e target)
+    gives_brings = record {
+      bytes = page_bytes w;
+      own = giver_sees;
+      others = λ i ne live. other_sees i ne (i == target);
+      none = λ i ne before. before;
+      stripes = sound.stripes;
+      behind = sound.behind;
+      fate = λ o page owns. Stays owns refl;
+      keeps = λ i. keeps_at target i (Start ∷ []) (only e its) keeps_start (keeps_only e i its (keeps_granted 0));
+      fortune = GoesOn lives sound.holders (target_runs w.book.runner);
+    }
+
+  -- what a gift that isn't refused says of its target
+  both_true : (a b : Bool) → (a && b) ≡ true → (a ≡ true) × (b ≡ true)
+  both_true true true is = (refl, refl)
+  both_true true false is = cc
+  both_true false b is = cc
+
+  given_other : (other grace accepted : Bool) → refusal_of_giving other grace accepted ≡ None → other ≡ true
+  given_other true grace accepted is = refl
+  given_other false grace accepted is = cc
+
+  not_true : (t : Bool) → not t ≡ true → t ≡ false
+  not_true true is = cc
+  not_true false is = refl
+
+  lives_if : (life : Life) → is_dead life ≡ false → life ≡ Live
+  lives_if Live is = refl
+  lives_if (Dead cause) is = cc
+
+  give_served : (target : ℕ) (why : Option Code) → refusal_of_giving (is_other w e target) (is_grace w.book.runner) (accepts (w.solos target).mask e) ≡ why → called (w.solos e).cpu ≡ Some call.Yield
+      → BringsIn w e (w.solos e) (Calls (Some call.Yield)) (reply_of w e (give_by w e target why))
+  give_served target (Some why) is named = refuses (Some call.Yield) why 0
+  give_served target None is named =
+      let its = given_other (is_other w e target) (is_grace w.book.runner) (accepts (w.solos target).mask e) is in
+      let parts = both_true (nat_lt target w.count) (not (is_dead (w.solos target).life) && not (target == e)) its in
+      let two = both_true (not (is_dead (w.solos target).life)) (not (target == e)) parts.1 in
+      gives_brings target (λ same. unlike target (not_true (target == e) two.1) (sym same)) (lives_if (w.solos target).life (not_true (is_dead (w.solos target).life) two.0)) named
     where
-      nobody : (r : Runner) → None ≡ Some r → w.book.runner ≡ Some r
+      unlike : (target : ℕ) → (target == e) ≡ false → target ≡ e → ⊥
+      unlike target is same = let clash : false ≡ true = sym is ∙ eq-eqb target e same in cc
+
+  yield_served : (target : ℕ) (t : Bool) → called (w.solos e).cpu ≡ Some call.Yield → BringsIn w e (w.solos e) (Calls (Some call.Yield)) (reply_of w e (yield_by w e target t))
+  yield_served target false named = give_served target (refusal_of_giving (is_other w e target) (is_grace w.book.runner) (accepts (w.solos target).mask e)) refl named
+  yield_served target true named = grants (Some call.Yield) named 0 refl refl w.book.slots sound.holders None nobody
+    where
+      nobody : (r : Runner) → None ≡ Some r → (w.solos r.env).life ≡ Live
       nobody r is = cc
+
+  -- A slot changes, and whoever has it then lives.
+  slot_holders : (k : ℕ) (hold : Option Hold) → ((h : Hold) → hold ≡ Some h → AreLive w.solos h) → (j : ℕ) (h : Hold) → set_at k hold w.book.slots j ≡ Some h → AreLive w.solos h
+  slot_holders k hold live j h is = by_test (j == k) is
+    where
+      by_test : (t : Bool) → (if t then hold else w.book.slots j) ≡ Some h → AreLive w.solos h
+      by_test true is = live h is
+      by_test false is = sound.holders j h is
+
+  own_lives : (h : Hold) → Some (own_hold e) ≡ Some h → AreLive w.solos h
+  own_lives h is = let same : own_hold e ≡ h = cc in subst (AreLive w.solos) same (record { owner = lives; holder = lives })
+
+  take_served : (k : ℕ) (why : Option Code) → called (w.solos e).cpu ≡ Some call.SlotTake → BringsIn w e (w.solos e) (Calls (Some call.SlotTake)) (reply_of w e (take_by w e k why))
+  take_served k (Some why) named = refuses (Some call.SlotTake) why 0
+  take_served k None named =
+      grants (Some call.SlotTake) named 0 refl refl (set_at k (Some (own_hold e)) w.book.slots) (slot_holders k (Some (own_hold e)) own_lives) w.book.runner sound.runs
+
+  dropped_lives : (k : ℕ) (o : Option Hold) → w.book.slots k ≡ o → (h : Hold) → dropped e o ≡ Some h → AreLive w.solos h
+  dropped_lives k None at h is = cc
+  dropped_lives k (Some x) at h is = by_test (x.owner == e) is
+    where
+      by_test : (t : Bool) → (if t then None else Some (own_hold x.owner)) ≡ Some h → AreLive w.solos h
+      by_test true is = cc
+      by_test false is =
+          let same : own_hold x.owner ≡ h = cc in
+          let owner = (sound.holders k x at).owner in
+          subst (AreLive w.solos) same (record { owner = owner; holder = owner })
+
+  drop_served : (k : ℕ) (why : Option Code) → called (w.solos e).cpu ≡ Some call.SlotDrop → BringsIn w e (w.solos e) (Calls (Some call.SlotDrop)) (reply_of w e (drop_by w e k why))
+  drop_served k (Some why) named = refuses (Some call.SlotDrop) why 0
+  drop_served k None named =
+      let hold = dropped e (w.book.slots k) in
+      grants (Some call.SlotDrop) named 0 refl refl (set_at k hold w.book.slots) (slot_holders k hold (dropped_lives k (w.book.slots k) refl)) w.book.runner sound.runs
+
+  query_served : (answer : Result ℕ Code) → called (w.solos e).cpu ≡ Some call.Query → BringsIn w e (w.solos e) (Calls (Some call.Query)) (reply_of w e (query_by w e answer))
+  query_served (Ok value) named = granted_alone (Some call.Query) named value refl refl
+  query_served (Err why) named = refuses (Some call.Query) why 0
 
   put_served : (why : Option Code) → called (w.solos e).cpu ≡ Some call.Put → BringsIn w e (w.solos e) (Calls (Some call.Put)) (reply_of w e (put_if w e why))
   put_served (Some why) named = refuses (Some call.Put) why 0
-  put_served None named = grants (Some call.Put) named (reg (w.solos e).cpu 5) refl refl w.book.runner (λ r is. is)
+  put_served None named = granted_alone (Some call.Put) named (reg (w.solos e).cpu 5) refl refl
 
   context_served : (why : Option Code) → called (w.solos e).cpu ≡ Some call.Context → BringsIn w e (w.solos e) (Calls (Some call.Context)) (reply_of w e (context_by w e why))
   context_served (Some why) named = refuses (Some call.Context) why 0
-  context_served None named = grants (Some call.Context) named 0 refl refl w.book.runner (λ r is. is)
+  context_served None named =
+      let cpu = (w.solos e).cpu in
+      let rests = handlers_rest (handled (reg cpu 4)) (reg cpu 5) (w.solos e) in
+      granted_alone (Some call.Context) named 0 rests.binds rests.seen
 
   -- whichever call it is that isn't exit
   pub call_brings : (c : Option Call) → called (w.solos e).cpu ≡ c → c ≢ Some call.Exit → BringsIn w e (w.solos e) (Calls c) (reply_to w e c)
   call_brings None named other = refuses None code.BadCall 0
-  call_brings (Some call.Yield) named other = yield_served (reg (w.solos e).cpu 4 == any) named
+  call_brings (Some call.Yield) named other = yield_served (reg (w.solos e).cpu 4) (reg (w.solos e).cpu 4 == any) named
   call_brings (Some call.Put) named other = put_served (put_refusal (w.solos e).cpu (sight (w.solos e)) (length (w.solos e).console)) named
   call_brings (Some call.Exit) named other = absurd (other refl)
   call_brings (Some call.Alloc) named other = alloc_served (chosen_page w.book (reg (w.solos e).cpu 4)) refl named
@@ -349,5 +468,9 @@ module _ (w : World) (e : ℕ) (sound : Sound w) (lives : (w.solos e).life ≡ L
   call_brings (Some call.Bind) named other = bind_served (refusal_of_bind e (w.solos e).cpu (is_guaranteed (w.solos e) (reg (w.solos e).cpu 4)) (page_row w.book (reg (w.solos e).cpu 5))) named
   call_brings (Some call.Unbind) named other = unbind_served (number_refusal (is_guaranteed (w.solos e) (reg (w.solos e).cpu 4)) (reg (w.solos e).cpu 4)) named
   call_brings (Some call.Context) named other = context_served (refusal_of_context (w.solos e).cpu) named
-  call_brings (Some call.OwnNumber) named other = grants (Some call.OwnNumber) named (w.solos e).number refl refl w.book.runner (λ r is. is)
-  call_brings (Some call.Clock) named other = grants (Some call.Clock) named w.book.time refl refl w.book.runner (λ r is. is)
+  call_brings (Some call.Accept) named other = granted_alone (Some call.Accept) named 0 refl refl
+  call_brings (Some call.SlotTake) named other = take_served (reg (w.solos e).cpu 4) (take_refusal (slot_at w.book (reg (w.solos e).cpu 4))) named
+  call_brings (Some call.SlotDrop) named other = drop_served (reg (w.solos e).cpu 4) (drop_refusal e (slot_at w.book (reg (w.solos e).cpu 4))) named
+  call_brings (Some call.Query) named other = query_served (answer_to w e (reg (w.solos e).cpu 4) (reg (w.solos e).cpu 5)) named
+  call_brings (Some call.OwnNumber) named other = granted_alone (Some call.OwnNumber) named (w.solos e).number refl refl
+  call_brings (Some call.Clock) named other = granted_alone (Some call.Clock) named w.book.time refl refl

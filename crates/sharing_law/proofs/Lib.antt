@@ -7,6 +7,7 @@ mod Brings
 mod Calling
 mod Turning
 mod Stepping
+mod Timing
 mod Agreeing
 mod Writing
 mod Changing

@@ -15,7 +15,7 @@ use Rattle.world_model.specs.Run.{world_after}
 use Rattle.sharing_law.specs.Acting.{at_step, cpu_at_step}
 use Rattle.sharing_law.specs.Agreement.{IsAllocated, AreBoundAllocated, BoundIsAllocated}
 use Rattle.sharing_law.specs.Right.{row_after, Since, HasWord, IsLive, EachIsLive}
-use Rattle.sharing_law.proofs.Replies.{IsCarried, WasListed}
+use Rattle.sharing_law.proofs.Replies.{IsCarried, WasListed, owned_allocated}
 use Rattle.sharing_law.proofs.Books.{IsPutBy, next_carries}
 
 -- what holds since then holds after one tick more, if it holds there
@@ -94,13 +94,8 @@ abbrev EachStands : ImageValue → ℕ → Type 0
 EachStands image t = (e row : ℕ) (b : Binding) → (world_after image t).book.binds e row ≡ Some b → Stands image t e row b
 
 -- the page of a live binding is allocated
-allocated_row : (owner : ℕ) (row : PageRow) → is_owned_by owner row ≡ true → IsAllocated row
-allocated_row owner Free is = cc
-allocated_row owner (Guaranteed one) is = cc
-allocated_row owner (Owned one words) is = tt
-
 live_allocated : (image : ImageValue) (t e : ℕ) (b : Binding) → IsLive image t e b → IsAllocated (row_after image t b.page)
-live_allocated image t e b live = allocated_row live.owner (row_after image t b.page) (live.owned t live.earlier (omega arith))
+live_allocated image t e b live = owned_allocated live.owner (row_after image t b.page) (live.owned t live.earlier (omega arith))
 
 each_allocated : (image : ImageValue) (t : ℕ) → EachStands image t → AreBoundAllocated (world_after image t)
 each_allocated image t each e row b listed = live_allocated image t e b (each e row b listed).live

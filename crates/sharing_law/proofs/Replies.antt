@@ -9,7 +9,7 @@ use Rattle.page_book.specs.declared.row.PageRow.{PageRow}
 use Rattle.page_book.specs.declared.row.PageRow.TheVariants.{Free, Guaranteed, Owned}
 use Rattle.page_book.specs.declared.refusal.PageNo.{PageNo}
 use Rattle.page_book.specs.declared.refusal.PageNo.TheVariants as no
-use Rattle.page_book.specs.Row.{alloc_refusal, belongs_to, bind_refusal, change_refusal, gives_right, is_owned_by, released}
+use Rattle.page_book.specs.Row.{alloc_refusal, belongs_to, bind_refusal, change_refusal, gives_right, is_owned_by}
 use Rattle.page_book.specs.Rows.{lowest_free, IsLowestFree}
 use Rattle.page_book.proofs.Free.{is_lowest_free}
 use Rattle.bind_book.specs.declared.binding.Binding.{Binding}
@@ -23,7 +23,8 @@ use Rattle.world_model.specs.Book.{Book, page_row}
 use Rattle.world_model.specs.Call.{any, binding_of, number_refusal, presented, put_refusal, refusal_of_bind, refusal_of_context, words_of}
 use Rattle.world_model.specs.Solo.{sight}
 use Rattle.world_model.specs.PageCalls.{chosen_page, named_page, alloc_by, free_by, recap_by, bind_by, unbind_by, context_by, is_guaranteed, with_binding, without_number}
-use Rattle.world_model.specs.Verdict.{put_if, yield_if, reply_of, reply_to}
+use Rattle.world_model.specs.SlotCalls.{accepts, answer_to, drop_by, drop_refusal, give_by, is_grace, is_other, query_by, refusal_of_giving, slot_at, take_by, take_refusal, yield_by}
+use Rattle.world_model.specs.Verdict.{death, put_if, reply_of, reply_to}
 use Rattle.world_model.specs.World.{World, Reply}
 use Rattle.world_model.specs.Step.{Act, Nothing, Stores, Calls, Raises, Dies}
 use Rattle.world_model.specs.Tick.{brings}
@@ -48,10 +49,25 @@ pub record IsPut (w : World) (e : ℕ) (act : Act) (pages : ℕ → PageRow) (i 
   pub stands : row ≡ row_of b.vpn
   pub may : MayBind e b.writable (presented (w.solos e).cpu) (pages b.page)
 
+-- a page that is owned is allocated, and one that is carried over stays so
+pub owned_allocated : (owner : ℕ) (row : PageRow) → is_owned_by owner row ≡ true → IsAllocated row
+owned_allocated owner Free is = cc
+owned_allocated owner (Guaranteed one) is = cc
+owned_allocated owner (Owned one words) is = tt
+
+pub carried_allocated : (e : ℕ) (old new : PageRow) → IsCarried e old new → IsAllocated old → IsAllocated new
+carried_allocated e old new (inl same) had = subst IsAllocated (sym same) had
+carried_allocated e old new (inr (before, now)) had = owned_allocated e new now
+
 -- the binding was listed before, and its page is carried over
 pub record WasListed (w : World) (pages : ℕ → PageRow) (i row : ℕ) (b : Binding) : Type 0 where
   pub listed : w.book.binds i row ≡ Some b
   pub carried : IsCarried i (w.book.pages b.page) (pages b.page)
+
+-- the binding was listed in this book before, and its page has the row that it had
+pub record Remains (old new : Book) (i row : ℕ) (b : Binding) : Type 0 where
+  pub listed : old.binds i row ≡ Some b
+  pub page : new.pages b.page ≡ old.pages b.page
 
 -- with these pages and bindings after an act of the runner, each binding was put by it or listed before
 pub record Carries (w : World) (e : ℕ) (act : Act) (pages : ℕ → PageRow) (binds : ℕ → ℕ → Option Binding) : Type 0 where
@@ -123,13 +139,13 @@ allocates w e act page words allocated free = record {
     by_test b had false is = is
 
 -- the environment is gone, with its bindings, its pages and theirs
-mourns : (w : World) (e : ℕ) (act : Act)
-    → Carries w e act (λ page. released e (w.book.pages page)) (λ i row. without (goes_with w.book.pages e i) (w.book.binds i row))
-mourns w e act = record {
-  each = λ i row b is.
-      let before = left_in_row (goes_with w.book.pages e i) (w.book.binds i row) b is in
-      inr (record { listed = before.0; carried = inl (rw (or_parts (i == e) (belongs_to e (w.book.pages b.page)) before.1).1) });
-}
+pub mourned : (w : World) (e i row : ℕ) (b : Binding) → (death w e).book.binds i row ≡ Some b → Remains w.book (death w e).book i row b
+mourned w e i row b is =
+    let before = left_in_row (goes_with w.book.pages e i) (w.book.binds i row) b is in
+    record { listed = before.0; page = rw (or_parts (i == e) (belongs_to e (w.book.pages b.page)) before.1).1 }
+
+mourns : (w : World) (e : ℕ) (act : Act) → Carries w e act (death w e).book.pages (death w e).book.binds
+mourns w e act = record { each = λ i row b is. let before = mourned w e i row b is in inr (record { listed = before.listed; carried = inl before.page }) }
 
 -- a binding is put over that in its row
 binds_over : (w : World) (e : ℕ) (b : Binding) → binding_of (w.solos e).cpu ≡ b → MayBind e b.writable (presented (w.solos e).cpu) (w.book.pages b.page)
@@ -217,22 +233,38 @@ lowest_choice : (pages : ℕ → PageRow) (count : ℕ) (lowest : Option ℕ) �
 lowest_choice pages count None is = tt
 lowest_choice pages count (Some page) is = is.free
 
-named_choice : (b : Book) (page : ℕ) (why : Option PageNo) → alloc_refusal (page_row b page) ≡ why → IsFreeChoice b.pages (named_page b page why)
+named_choice : (b : Book) (page : ℕ) (why : Option PageNo) → alloc_refusal (page_row b page) ≡ why → IsFreeChoice b.pages (named_page page why)
 named_choice b page None is = allocable (nat_lt page b.page_count) (b.pages page) is
 named_choice b page (Some why) is = tt
 
 free_choice : (b : Book) (page : ℕ) → IsFreeChoice b.pages (chosen_page b page)
 free_choice b page = by_test (page == any)
   where
-    by_test : (t : Bool) → IsFreeChoice b.pages (if t then ok_or (lowest_free b.pages b.page_count) no.NoneFree else named_page b page (alloc_refusal (page_row b page)))
+    by_test : (t : Bool) → IsFreeChoice b.pages (if t then ok_or (lowest_free b.pages b.page_count) no.NoneFree else named_page page (alloc_refusal (page_row b page)))
     by_test true = lowest_choice b.pages b.page_count (lowest_free b.pages b.page_count) (is_lowest_free b.pages b.page_count)
     by_test false = named_choice b page (alloc_refusal (page_row b page)) refl
 
 -- The calls, by why they are refused
 module _ (w : World) (e : ℕ) (act : Act) where
-  yields : (t : Bool) → CarriesInto w e act (reply_of w e (yield_if w e t))
-  yields true = stays w e act
-  yields false = stays w e act
+  given : (target : ℕ) (why : Option Code) → CarriesInto w e act (reply_of w e (give_by w e target why))
+  given target None = stays w e act
+  given target (Some why) = stays w e act
+
+  yields : (target : ℕ) (t : Bool) → CarriesInto w e act (reply_of w e (yield_by w e target t))
+  yields target true = stays w e act
+  yields target false = given target (refusal_of_giving (is_other w e target) (is_grace w.book.runner) (accepts (w.solos target).mask e))
+
+  takes : (k : ℕ) (why : Option Code) → CarriesInto w e act (reply_of w e (take_by w e k why))
+  takes k None = stays w e act
+  takes k (Some why) = stays w e act
+
+  drops : (k : ℕ) (why : Option Code) → CarriesInto w e act (reply_of w e (drop_by w e k why))
+  drops k None = stays w e act
+  drops k (Some why) = stays w e act
+
+  queries : (answer : Result ℕ Code) → CarriesInto w e act (reply_of w e (query_by w e answer))
+  queries (Ok value) = stays w e act
+  queries (Err why) = stays w e act
 
   puts : (why : Option Code) → CarriesInto w e act (reply_of w e (put_if w e why))
   puts None = stays w e act
@@ -273,7 +305,7 @@ binds_by w e guaranteed (Some why) is = stays w e (Calls (Some call.Bind))
 
 call_carries : (w : World) (e : ℕ) → AreBoundAllocated w → (c : Option Call) → CarriesInto w e (Calls c) (reply_to w e c)
 call_carries w e allocated None = stays w e (Calls None)
-call_carries w e allocated (Some call.Yield) = yields w e (Calls (Some call.Yield)) (reg (w.solos e).cpu 4 == any)
+call_carries w e allocated (Some call.Yield) = yields w e (Calls (Some call.Yield)) (reg (w.solos e).cpu 4) (reg (w.solos e).cpu 4 == any)
 call_carries w e allocated (Some call.Put) =
     let s = w.solos e in
     puts w e (Calls (Some call.Put)) (put_refusal s.cpu (sight s) (length s.console))
@@ -291,6 +323,10 @@ call_carries w e allocated (Some call.Unbind) =
     let s = w.solos e in
     unbinds_by w e (Calls (Some call.Unbind)) (number_refusal (is_guaranteed s (reg s.cpu 4)) (reg s.cpu 4))
 call_carries w e allocated (Some call.Context) = contexts w e (Calls (Some call.Context)) (refusal_of_context (w.solos e).cpu)
+call_carries w e allocated (Some call.Accept) = stays w e (Calls (Some call.Accept))
+call_carries w e allocated (Some call.SlotTake) = takes w e (Calls (Some call.SlotTake)) (reg (w.solos e).cpu 4) (take_refusal (slot_at w.book (reg (w.solos e).cpu 4)))
+call_carries w e allocated (Some call.SlotDrop) = drops w e (Calls (Some call.SlotDrop)) (reg (w.solos e).cpu 4) (drop_refusal e (slot_at w.book (reg (w.solos e).cpu 4)))
+call_carries w e allocated (Some call.Query) = queries w e (Calls (Some call.Query)) (answer_to w e (reg (w.solos e).cpu 4) (reg (w.solos e).cpu 5))
 call_carries w e allocated (Some call.OwnNumber) = stays w e (Calls (Some call.OwnNumber))
 call_carries w e allocated (Some call.Clock) = stays w e (Calls (Some call.Clock))
 

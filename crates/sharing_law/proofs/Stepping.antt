@@ -27,9 +27,9 @@ use Rattle.world_model.specs.World.{World, after}
 use Rattle.page_sight.specs.Sight.{Sees}
 use Rattle.page_sight.proofs.Tables.{set_here, set_else}
 use Rattle.sharing_law.specs.Agreement.{AreBoundAllocated}
-use Rattle.sharing_law.proofs.Given.{absorbs, dead_absorbs}
+use Rattle.sharing_law.proofs.Given.{KeepsPage, absorbs, dead_absorbs}
 use Rattle.sharing_law.proofs.Sound.{AreLive, HasNone, Sound, agreed, still_nothing}
-use Rattle.sharing_law.proofs.Brings.{BringsIn, Fortune, GoesOn, Ends, death_brings, silent, store_brings}
+use Rattle.sharing_law.proofs.Brings.{Brings, BringsIn, Fortune, GoesOn, Ends, death_brings, silent, store_brings}
 use Rattle.sharing_law.proofs.Calling.{call_brings}
 
 -- What the runner's step brings, whatever it comes to.
@@ -52,6 +52,10 @@ module _ (w : World) (e : ℕ) (sound : Sound w) (lives : (w.solos e).life ≡ L
   by_call (Some call.Bind) named = call_brings w e sound lives allocated (Some call.Bind) named (λ is. cc)
   by_call (Some call.Unbind) named = call_brings w e sound lives allocated (Some call.Unbind) named (λ is. cc)
   by_call (Some call.Context) named = call_brings w e sound lives allocated (Some call.Context) named (λ is. cc)
+  by_call (Some call.Accept) named = call_brings w e sound lives allocated (Some call.Accept) named (λ is. cc)
+  by_call (Some call.SlotTake) named = call_brings w e sound lives allocated (Some call.SlotTake) named (λ is. cc)
+  by_call (Some call.SlotDrop) named = call_brings w e sound lives allocated (Some call.SlotDrop) named (λ is. cc)
+  by_call (Some call.Query) named = call_brings w e sound lives allocated (Some call.Query) named (λ is. cc)
   by_call (Some call.OwnNumber) named = call_brings w e sound lives allocated (Some call.OwnNumber) named (λ is. cc)
   by_call (Some call.Clock) named = call_brings w e sound lives allocated (Some call.Clock) named (λ is. cc)
 
@@ -104,55 +108,59 @@ left_hold gone (Some old) h is = by_owner (old.owner == gone) refl (old.holder =
           not_holder = λ same. eqb-false old.holder gone held (holder ∙ same);
         }
 
--- The world after the step of a runner that brings this.
-module _ (w : World) (e : ℕ) (act : Act) (sound : Sound w) (lives : (w.solos e).life ≡ Live) (brings : BringsIn w e (stepped (w.solos e) (step_alone (w.solos e))) act (tick.brings w e act)) where
-  abbrev runner : Solo
-  runner = stepped (w.solos e) (step_alone (w.solos e))
+-- A world follows on another, in which this came of the runner, whatever it was given in between.
+pub record Follows (w : World) (e : ℕ) (s : Solo) (act : Act) (now : World) (items : ℕ → List Item) : Type 0 where
+  pub brings : Brings w e s act now.book items
+  pub own : now.solos e ≡ absorb_all s (items e)
+  pub others : (i : ℕ) → i ≢ e → now.solos i ≡ absorb_all (w.solos i) (items i)
 
-  abbrev now : World
-  now = after w (tick.with_step e (tick.brings w e act))
+-- so does the world after the runner's step
+pub step_follows : (w : World) (e : ℕ) (act : Act) → (w.solos e).life ≡ Live → BringsIn w e (stepped (w.solos e) (step_alone (w.solos e))) act (tick.brings w e act)
+    → Follows w e (stepped (w.solos e) (step_alone (w.solos e))) act (after w (tick.with_step e (tick.brings w e act))) (tick.brings w e act).items
+step_follows w e act lives brings =
+    let items = (tick.brings w e act).items in
+    record {
+      brings = brings;
+      own = ap (λ (its : List Item). absorb_all (w.solos e) (its ++ items e)) (set_here e (Step ∷ []) (λ i. [])) ∙ absorbs (w.solos e) Step (items e) lives;
+      others = λ i ne. ap (λ (its : List Item). absorb_all (w.solos i) (its ++ items i)) (set_else e i (Step ∷ []) (λ j. []) ne);
+    }
 
-  abbrev items : ℕ → List Item
-  items = (tick.brings w e act).items
+module _ (w : World) (e : ℕ) (s : Solo) (act : Act) (now : World) (items : ℕ → List Item) (sound : Sound w) (follows : Follows w e s act now items) where
+  abbrev brings : Brings w e s act now.book items
+  brings = follows.brings
 
-  own_now : now.solos e ≡ absorb_all runner (items e)
-  own_now = ap (λ (its : List Item). absorb_all (w.solos e) (its ++ items e)) (set_here e (Step ∷ []) (λ i. [])) ∙ absorbs (w.solos e) Step (items e) lives
+  -- lives and guaranteed pages are what became of them
+  pub own_life : (now.solos e).life ≡ s.life
+  own_life = ap (λ (t : Solo). t.life) follows.own ∙ (brings.keeps e).life s
 
-  other_now : (i : ℕ) → i ≢ e → now.solos i ≡ absorb_all (w.solos i) (items i)
-  other_now i ne = ap (λ (its : List Item). absorb_all (w.solos i) (its ++ items i)) (set_else e i (Step ∷ []) (λ j. []) ne)
-
-  -- lives and guaranteed pages are what the runner's step makes of them
-  pub own_life : (now.solos e).life ≡ runner.life
-  own_life = ap (λ (s : Solo). s.life) own_now ∙ (brings.keeps e).life runner
-
-  pub own_kept : (now.solos e).kept ≡ runner.kept
-  own_kept = ap (λ (s : Solo). s.kept) own_now ∙ (brings.keeps e).kept runner
+  pub own_kept : (vpn : ℕ) → KeepsPage (items e) s (now.solos e) vpn
+  own_kept vpn = subst (λ (t : Solo). KeepsPage (items e) s t vpn) (sym follows.own) ((brings.keeps e).kept s vpn)
 
   pub other_life : (i : ℕ) → i ≢ e → (now.solos i).life ≡ (w.solos i).life
-  other_life i ne = ap (λ (s : Solo). s.life) (other_now i ne) ∙ (brings.keeps i).life (w.solos i)
+  other_life i ne = ap (λ (t : Solo). t.life) (follows.others i ne) ∙ (brings.keeps i).life (w.solos i)
 
-  pub other_kept : (i : ℕ) → i ≢ e → (now.solos i).kept ≡ (w.solos i).kept
-  other_kept i ne = ap (λ (s : Solo). s.kept) (other_now i ne) ∙ (brings.keeps i).kept (w.solos i)
+  pub other_kept : (i vpn : ℕ) → i ≢ e → KeepsPage (items i) (w.solos i) (now.solos i) vpn
+  other_kept i vpn ne = subst (λ (t : Solo). KeepsPage (items i) (w.solos i) t vpn) (sym (follows.others i ne)) ((brings.keeps i).kept (w.solos i) vpn)
 
   -- what each environment sees
   other_sees : (i : ℕ) → i ≢ e → Sees i now.book.pages (now.book.binds i) brings.bytes (now.solos i)
-  other_sees i ne = subst (λ s. Sees i now.book.pages (now.book.binds i) brings.bytes s) (sym (other_now i ne)) (by_life (w.solos i).life refl)
+  other_sees i ne = subst (λ t. Sees i now.book.pages (now.book.binds i) brings.bytes t) (sym (follows.others i ne)) (by_life (w.solos i).life refl)
     where
       by_life : (life : Life) → (w.solos i).life ≡ life → Sees i now.book.pages (now.book.binds i) brings.bytes (absorb_all (w.solos i) (items i))
       by_life Live is = brings.others i ne is
       by_life (Dead cause) is =
           let before = sound.none i cause is in
-          subst (λ s. Sees i now.book.pages (now.book.binds i) brings.bytes s) (sym (dead_absorbs (w.solos i) cause (items i) is))
+          subst (λ t. Sees i now.book.pages (now.book.binds i) brings.bytes t) (sym (dead_absorbs (w.solos i) cause (items i) is))
           (still_nothing i w.book.pages now.book.pages (w.book.binds i) (now.book.binds i) (page_bytes w) brings.bytes (w.solos i) before (brings.none i ne before) (sound.agreed i))
 
   pub all_see : (i : ℕ) → Sees i now.book.pages (now.book.binds i) brings.bytes (now.solos i)
   all_see i = elim (cases_eq i e) [
-    | inl same ↦ subst (λ (n : ℕ). Sees n now.book.pages (now.book.binds n) brings.bytes (now.solos n)) (sym same) (subst (λ s. Sees e now.book.pages (now.book.binds e) brings.bytes s) (sym own_now) brings.own)
+    | inl same ↦ subst (λ (n : ℕ). Sees n now.book.pages (now.book.binds n) brings.bytes (now.solos n)) (sym same) (subst (λ t. Sees e now.book.pages (now.book.binds e) brings.bytes t) (sym follows.own) brings.own)
     | inr ne ↦ other_sees i ne
   ]
 
   -- whoever lives goes on, but a runner whose end it is
-  still_lives : (i : ℕ) → (i ≡ e → runner.life ≡ Live) → (w.solos i).life ≡ Live → (now.solos i).life ≡ Live
+  still_lives : (i : ℕ) → (i ≡ e → s.life ≡ Live) → (w.solos i).life ≡ Live → (now.solos i).life ≡ Live
   still_lives i own before = elim (cases_eq i e) [
     | inl same ↦ ap (λ (n : ℕ). (now.solos n).life) same ∙ own_life ∙ own same
     | inr ne ↦ other_life i ne ∙ before
@@ -161,11 +169,11 @@ module _ (w : World) (e : ℕ) (act : Act) (sound : Sound w) (lives : (w.solos e
   other_none : (i : ℕ) → i ≢ e → (cause : Cause) → (now.solos i).life ≡ Dead cause → HasNone i now.book.pages (now.book.binds i)
   other_none i ne cause died = brings.none i ne (sound.none i cause (sym (other_life i ne) ∙ died))
 
-  pub sound_stepped : AreBoundAllocated now → Sound now
-  sound_stepped allocated = by_fortune brings.fortune
+  pub sound_following : AreBoundAllocated now → Sound now
+  sound_following allocated = by_fortune brings.fortune
     where
-      by_fortune : Fortune w e runner now.book → Sound now
-      by_fortune (GoesOn alive slots runs) = record {
+      by_fortune : Fortune w e s now.book → Sound now
+      by_fortune (GoesOn alive holders runs) = record {
         agreed = agreed now brings.bytes all_see allocated;
         none = λ i cause died. elim (cases_eq i e) [
           | inl same ↦ absurd (clash cause (sym alive ∙ sym own_life ∙ ap (λ (n : ℕ). (now.solos n).life) (sym same) ∙ died))
@@ -174,9 +182,9 @@ module _ (w : World) (e : ℕ) (act : Act) (sound : Sound w) (lives : (w.solos e
         stripes = brings.stripes;
         behind = brings.behind;
         holders = λ k h at.
-            let before = sound.holders k h ((λ j. sym slots j k) ∙ at) in
+            let before = holders k h at in
             record { owner = still_lives h.owner (λ same. alive) before.owner; holder = still_lives h.holder (λ same. alive) before.holder };
-        runs = λ r is. still_lives r.env (λ same. alive) (sound.runs r (runs r is));
+        runs = λ r is. still_lives r.env (λ same. alive) (runs r is);
       }
         where
           clash : (cause : Cause) → Live ≡ Dead cause → ⊥

@@ -1,30 +1,23 @@
--- The phases of a tick in which no book changes but whose turn it is: the turn and the timer.
+-- The phase of a tick in which no book changes but whose turn it is.
 use Rattle.std.proofs.Common.{◌≡◌, ◌≤◌, ℕ, zero, suc, ◌+◌, ◌%◌, [], ◌∷◌, Bool, true, false, Option, Some, None, refl, sym, ◌∙◌, ap, subst}
-use Rattle.std.specs.Prelude.{◌==◌, ◌-◌, if◌then◌else◌}
+use Rattle.std.specs.Prelude.{◌==◌, if◌then◌else◌}
 use Rattle.page_book.specs.declared.row.PageRow.{PageRow}
 use Rattle.page_book.specs.declared.row.PageRow.TheVariants.{Free, Guaranteed, Owned}
 use Rattle.page_book.specs.Row.{is_owned_by}
-use Rattle.mips_exec.specs.Cpu.{rested}
 use Rattle.world_model.specs.declared.life.Life.TheVariants.{Live}
 use Rattle.world_model.specs.declared.slot.Hold.{Hold}
 use Rattle.world_model.specs.declared.slot.Runner.{Runner}
 use Rattle.world_model.specs.declared.slot.Turn.{Turn}
-use Rattle.world_model.specs.Book.{first_turn, next_turn, running, turn_or}
-use Rattle.world_model.specs.Solo.{Solo, bytes_seen, is_dead}
+use Rattle.world_model.specs.Book.{Told, first_turn, lowered, owed, pays_first, running, told_at, told_turn, turn_or, whole_turn}
+use Rattle.world_model.specs.Solo.{Solo, bytes_seen}
 use Rattle.world_model.specs.Item.{Start, absorb_all}
 use Rattle.world_model.specs.PageCalls.{bytes_owned, page_bytes}
 use Rattle.world_model.specs.World.{World, after}
-use Rattle.world_model.specs.Tick.{go_on, no_change, stop, take_turn, timer, timer_when, turn, turn_when}
+use Rattle.world_model.specs.Tick.{no_change, take_turn, turn, turn_when}
 use Rattle.page_sight.specs.Sight.{seen_in}
 use Rattle.sharing_law.specs.Agreement.{AreBoundAllocated, IsAllocated}
+use Rattle.sharing_law.proofs.Given.{IsRested, Keeps, keeps_none, keeps_only, keeps_start, rests_same, start_rests}
 use Rattle.sharing_law.proofs.Sound.{Sound}
-
--- an environment that differs in its registers alone
-pub record IsRested (s t : Solo) : Type 0 where
-  pub binds : t.binds ≡ s.binds
-  pub seen : t.seen ≡ s.seen
-  pub life : t.life ≡ s.life
-  pub kept : t.kept ≡ s.kept
 
 -- two worlds whose books differ in whose turn it is alone, and whose environments do in their registers
 pub record IsAlike (w v : World) : Type 0 where
@@ -46,12 +39,6 @@ pub allocated_alike : (w v : World) → IsAlike w v → AreBoundAllocated w → 
 allocated_alike w v alike allocated e row b at =
     subst (λ (pages : ℕ → PageRow). IsAllocated (pages b.page)) (sym alike.pages)
     (allocated e row b ((λ k. sym alike.binds k e row) ∙ at))
-
--- and back
-pub allocated_before : (w v : World) → IsAlike w v → AreBoundAllocated v → AreBoundAllocated w
-allocated_before w v alike allocated e row b at =
-    subst (λ (pages : ℕ → PageRow). IsAllocated (pages b.page)) alike.pages
-    (allocated e row b ((λ k. alike.binds k e row) ∙ at))
 
 pub sound_alike : (w v : World) → IsAlike w v → ((r : Runner) → v.book.runner ≡ Some r → (w.solos r.env).life ≡ Live) → Sound w → Sound v
 sound_alike w v alike runs sound = record {
@@ -86,39 +73,58 @@ first_held slots count place (suc tries) t is =
     by_hold None at later found further = further found
     by_hold (Some hold) at later found further = record { slot = (place + 1) % count; hold = hold; at = at; its = cc }
 
--- who starts rests, and all others stay as they are
-started : (s : Solo) (t : Bool) → IsRested s (absorb_all s (if t then Start ∷ [] else []))
-started s false = record { binds = refl; seen = refl; life = refl; kept = refl }
-started s true = by_life (is_dead s.life)
+-- the turn that is run is its slot's holder's
+told_held_at : (slots : ℕ → Option Hold) (count n cursor : ℕ) (excess : ℕ → ℕ) (t : Turn) → ((c : ℕ) (x : ℕ → ℕ) → (told_turn slots count n c x).runs ≡ Some t → IsHeldBy slots t.env)
+    → (o : Option Turn) → first_turn slots count cursor count ≡ o → (told_at (told_turn slots count n) cursor excess o).runs ≡ Some t → IsHeldBy slots t.env
+told_held_at slots count n cursor excess t further None found is = cc
+told_held_at slots count n cursor excess t further (Some x) found is = by_test (excess x.env == 0) is
   where
-    by_life : (gone : Bool) → IsRested s (if gone then s else record s { cpu = rested s.cpu })
-    by_life true = record { binds = refl; seen = refl; life = refl; kept = refl }
-    by_life false = record { binds = refl; seen = refl; life = refl; kept = refl }
+    by_test : (free : Bool) → (if free then record { pays = []; runs = Some x; excess = excess; cursor = x.slot } else pays_first x (told_turn slots count n x.slot (lowered x.env excess))).runs ≡ Some t → IsHeldBy slots t.env
+    by_test true is = first_held slots count cursor count t (found ∙ is)
+    by_test false is = further x.slot (lowered x.env excess) is
 
-same : (s : Solo) → IsRested s s
-same s = record { binds = refl; seen = refl; life = refl; kept = refl }
+told_held : (slots : ℕ → Option Hold) (count n cursor : ℕ) (excess : ℕ → ℕ) (t : Turn) → (told_turn slots count n cursor excess).runs ≡ Some t → IsHeldBy slots t.env
+told_held slots count zero cursor excess t is = cc
+told_held slots count (suc n) cursor excess t is =
+    told_held_at slots count n cursor excess t (λ c x runs. told_held slots count n c x t runs) (first_turn slots count cursor count) refl is
+
+-- who starts rests, and all others stay as they are
+given_start : (s : Solo) (t : Bool) → IsRested s (absorb_all s (if t then Start ∷ [] else []))
+given_start s false = rests_same s
+given_start s true = start_rests s
 
 pub unchanged : (w : World) → IsAlike w (after w (no_change w))
-unchanged w = record { solos = λ i. same (w.solos i); pages = refl; binds = refl; count = refl; slots = refl }
+unchanged w = record { solos = λ i. rests_same (w.solos i); pages = refl; binds = refl; count = refl; slots = refl }
 
 -- The turn.
-turn_taken : (w : World) (x : Option Turn) → IsAlike w (after w (take_turn w x))
-turn_taken w None = unchanged w
-turn_taken w (Some t) = record { solos = λ i. started (w.solos i) (i == t.env); pages = refl; binds = refl; count = refl; slots = refl }
+turn_taken : (w : World) (told : Told) (x : Option Turn) → IsAlike w (after w (take_turn w told x))
+turn_taken w told None = unchanged w
+turn_taken w told (Some t) = record { solos = λ i. given_start (w.solos i) (i == t.env); pages = refl; binds = refl; count = refl; slots = refl }
 
 turn_by : (w : World) (o : Option Runner) → IsAlike w (after w (turn_when w o))
-turn_by w None = turn_taken w (next_turn w.book)
+turn_by w None = turn_taken w (whole_turn w.book) (whole_turn w.book).runs
 turn_by w (Some r) = unchanged w
 
 pub turn_alike : (w : World) → IsAlike w (after w (turn w))
 turn_alike w = turn_by w w.book.runner
 
+taken_keeps : (w : World) (told : Told) (x : Option Turn) (i : ℕ) → Keeps ((take_turn w told x).items i)
+taken_keeps w told None i = keeps_none
+taken_keeps w told (Some t) i = keeps_only t.env i (Start ∷ []) keeps_start
+
+when_keeps : (w : World) (o : Option Runner) (i : ℕ) → Keeps ((turn_when w o).items i)
+when_keeps w None i = taken_keeps w (whole_turn w.book) (whole_turn w.book).runs i
+when_keeps w (Some r) i = keeps_none
+
+pub turn_keeps : (w : World) (i : ℕ) → Keeps ((turn w).items i)
+turn_keeps w i = when_keeps w w.book.runner i
+
 -- who runs after it lives
 module _ (w : World) (sound : Sound w) where
-  taker_lives : (x : Option Turn) → next_turn w.book ≡ x → (r : Runner) → (take_turn w x).book.runner ≡ Some r → (w.solos r.env).life ≡ Live
+  taker_lives : (x : Option Turn) → (whole_turn w.book).runs ≡ x → (r : Runner) → (take_turn w (whole_turn w.book) x).book.runner ≡ Some r → (w.solos r.env).life ≡ Live
   taker_lives None found r is = sound.runs r is
   taker_lives (Some t) found r is =
-      let held = first_held w.book.slots w.book.slot_count w.book.cursor w.book.slot_count t found in
+      let held = told_held w.book.slots w.book.slot_count (suc (owed w.book.excess w.book.slots w.book.slot_count)) w.book.cursor w.book.excess t found in
       let env : t.env ≡ r.env = one (ap running is) in
       subst (λ (e : ℕ). (w.solos e).life ≡ Live) (held.its ∙ env) (sound.holders held.slot held.hold held.at).holder
     where
@@ -126,35 +132,8 @@ module _ (w : World) (sound : Sound w) where
       one both = cc
 
   runner_lives : (o : Option Runner) → w.book.runner ≡ o → (r : Runner) → (turn_when w o).book.runner ≡ Some r → (w.solos r.env).life ≡ Live
-  runner_lives None is r runs = taker_lives (next_turn w.book) refl r runs
+  runner_lives None is r runs = taker_lives (whole_turn w.book).runs refl r runs
   runner_lives (Some x) is r runs = sound.runs r runs
 
   pub sound_turned : Sound (after w (turn w))
   sound_turned = sound_alike w (after w (turn w)) (turn_alike w) (runner_lives w.book.runner refl) sound
-
--- The timer.
-counted : (w : World) (e left : ℕ) (t : Bool) → IsAlike w (after w (if t then stop w e else go_on w (Some (record { env = e; left = left }))))
-counted w e left true = record { solos = λ i. same (w.solos i); pages = refl; binds = refl; count = refl; slots = refl }
-counted w e left false = record { solos = λ i. same (w.solos i); pages = refl; binds = refl; count = refl; slots = refl }
-
-timed_by : (w : World) (o : Option Runner) → IsAlike w (after w (timer_when w o))
-timed_by w None = record { solos = λ i. same (w.solos i); pages = refl; binds = refl; count = refl; slots = refl }
-timed_by w (Some r) = counted w r.env (r.left - 1) (r.left - 1 == 0)
-
-pub timer_alike : (w : World) → IsAlike w (after w (timer w))
-timer_alike w = timed_by w w.book.runner
-
-module _ (w : World) (sound : Sound w) where
-  counted_lives : (e left : ℕ) (t : Bool) → (w.solos e).life ≡ Live → (r : Runner) → (if t then stop w e else go_on w (Some (record { env = e; left = left }))).book.runner ≡ Some r → (w.solos r.env).life ≡ Live
-  counted_lives e left true lives r is = cc
-  counted_lives e left false lives r is = subst (λ (i : ℕ). (w.solos i).life ≡ Live) (one (ap running is)) lives
-    where
-      one : Some e ≡ Some r.env → e ≡ r.env
-      one both = cc
-
-  timed_lives : (o : Option Runner) → w.book.runner ≡ o → (r : Runner) → (timer_when w o).book.runner ≡ Some r → (w.solos r.env).life ≡ Live
-  timed_lives None is r runs = cc
-  timed_lives (Some x) is r runs = counted_lives x.env (x.left - 1) (x.left - 1 == 0) (sound.runs x is) r runs
-
-  pub sound_timed : Sound (after w (timer w))
-  sound_timed = sound_alike w (after w (timer w)) (timer_alike w) (timed_lives w.book.runner refl) sound

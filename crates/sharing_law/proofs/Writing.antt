@@ -157,6 +157,10 @@ module _ (s : Solo) (x : Store) (page : ℕ) (into : x.key ≡ Physical page) wh
   by_call (Some call.Bind) acts = cc
   by_call (Some call.Unbind) acts = cc
   by_call (Some call.Context) acts = cc
+  by_call (Some call.Accept) acts = cc
+  by_call (Some call.SlotTake) acts = cc
+  by_call (Some call.SlotDrop) acts = cc
+  by_call (Some call.Query) acts = cc
   by_call (Some call.OwnNumber) acts = cc
   by_call (Some call.Clock) acts = cc
 

@@ -1,5 +1,5 @@
 -- Why the bytes of a page change.
-use Rattle.std.specs.Prelude.{◌≡◌, ℕ, suc, true, List, ◌⊎◌}
+use Rattle.std.specs.Prelude.{◌≡◌, ℕ, suc, true, List, ◌⊎◌, Contains}
 use Rattle.boot_image.specs.ImageValue.{ImageValue}
 use Rattle.frame_store.specs.Pages.{zero_page}
 use Rattle.mips_exec.specs.declared.exception.Exc.{Exc}
@@ -10,7 +10,8 @@ use Rattle.env_frames.specs.Context.{context_number}
 use Rattle.world_model.specs.Solo.{Store, Kept, Physical, bytes_in, is_dead, kept_at}
 use Rattle.world_model.specs.Step.{Stores, Raises}
 use Rattle.world_model.specs.PageCalls.{page_bytes}
-use Rattle.world_model.specs.Run.{world_after}
+use Rattle.world_model.specs.Item.{Start, End}
+use Rattle.world_model.specs.Run.{next_items, world_after}
 use Rattle.sharing_law.specs.Acting.{Acts}
 use Rattle.sharing_law.specs.Right.{IsLive, row_after}
 
@@ -33,6 +34,11 @@ pub record RaisesAnException (image : ImageValue) (t e vpn : ℕ) : Type 0 where
   pub acts : Acts image t e (Raises exception)
   pub context : vpn ≡ context_number
 
+-- in a tick the environment is told that its slice starts or ends, by words that go into its context page, and the page is that one
+pub record IsToldOfItsSlice (image : ImageValue) (t e vpn : ℕ) : Type 0 where
+  pub told : Contains (next_items (world_after image t) e) Start ⊎ Contains (next_items (world_after image t) e) End
+  pub context : vpn ≡ context_number
+
 -- in a tick an environment stores to the page through a live binding that is writable
 pub record IsStoredThroughABinding (image : ImageValue) (t page : ℕ) : Type 0 where
   pub writer : ℕ
@@ -44,11 +50,14 @@ pub record IsStoredThroughABinding (image : ImageValue) (t page : ℕ) : Type 0 
   pub its : binding.page ≡ page
   pub writable : binding.writable ≡ true
 
--- The bytes of a guaranteed page stay in a tick, unless its environment stores there, raises an exception, or is dead after it.
+-- The bytes of a guaranteed page stay in a tick, unless its environment stores there, raises an exception, is told of its slice, or is dead after it.
 abbrev pub GuaranteedChange : Type 0
 GuaranteedChange = (image : ImageValue) (t e vpn : ℕ) →
     (kept_bytes image (suc t) e vpn ≡ kept_bytes image t e vpn)
-    ⊎ (StoresToItsOwn image t e vpn ⊎ (RaisesAnException image t e vpn ⊎ (is_dead ((world_after image (suc t)).solos e).life ≡ true)))
+    ⊎ (StoresToItsOwn image t e vpn
+    ⊎ (RaisesAnException image t e vpn
+    ⊎ (IsToldOfItsSlice image t e vpn
+    ⊎ (is_dead ((world_after image (suc t)).solos e).life ≡ true))))
 
 -- The bytes of a page that stays allocated to an environment stay in a tick, unless somebody stores there through a live writable binding.
 abbrev pub AllocatedChange : Type 0

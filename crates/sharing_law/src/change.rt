@@ -2,7 +2,7 @@
 ghost use Rattle.sharing_law.specs.Change.{AllocatedChange, AllocatedZeros, GuaranteedChange};
 
 /// The bytes of a guaranteed page change only by a store of its own environment through that mapping, or by the words of
-/// an exception of its own, unless the environment died.
+/// an exception of its own, or of the start or end of its slice, unless the environment died.
 pub fn law_guaranteed_change()
     ensures { GuaranteedChange }
 {}
