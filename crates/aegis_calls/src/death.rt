@@ -12,7 +12,7 @@ use slot_vector::Slots;
 use world_model::Cause;
 
 /// Writes the row of a slot as it stands.
-fn push_slot(journal: &mut Journal, slots: &Slots, time: u32, slot: u32)
+pub(crate) fn push_slot(journal: &mut Journal, slots: &Slots, time: u32, slot: u32)
     requires { 0 < journal.old.spare }
     ensures { journal.new ≡ with_row journal.old (slot_row time slot (hold_at slots.now.slots slot)) }
 {

@@ -1,12 +1,12 @@
-//! Exceptions of the runner, and its handler of them: what they do to the board's parts.
+//! Exceptions of the runner, and its handlers: what they do to the board's parts.
 ghost use Rattle.std.specs.Prelude.{◌≡◌, ◌<◌, ◌==◌, if◌then◌else◌, not, None, Some};
 ghost use Rattle.mips_exec.specs.Cpu.{reg};
 ghost use Rattle.world_model.specs.Book.{running};
-ghost use Rattle.world_model.specs.Call.{refusal_of_context};
+ghost use Rattle.world_model.specs.Call.{handled, refusal_of_context};
 ghost use Rattle.board_world.specs.Shown.{handlers_of};
 
 use crate::board::Board;
-use crate::registers::{SECOND_ARGUMENT, refuse_context};
+use crate::registers::{FIRST_ARGUMENT, SECOND_ARGUMENT, handled, refuse_context};
 use mips_exec::Exc;
 use world_model::{Cause, Code};
 
@@ -34,16 +34,18 @@ impl Board {
         }
     }
 
-    /// The runner's handler of exceptions stands at the address that its call names.
+    /// The runner's handler of the context that its call names, if it names one, stands at the address that it names.
     fn handle(&mut self, env: u8)
         requires { running self.old.slots.runner ≡ Some env }
-        ensures { self.new ≡ with_handling self.old env (reg self.old.cpu 5) }
+        ensures { self.new ≡ with_handling self.old env (handled (reg self.old.cpu 4)) (reg self.old.cpu 5) }
     {
-        let address = self.cpu.reg(SECOND_ARGUMENT);
-        self.roster.handle(env, address);
+        if let Some(context) = handled(self.cpu.reg(FIRST_ARGUMENT)) {
+            let address = self.cpu.reg(SECOND_ARGUMENT);
+            self.roster.handle(env, context, address);
+        }
     }
 
-    /// Sets the runner's handler of exceptions, unless that is refused.
+    /// Sets a handler of the runner's, unless that is refused.
     pub(crate) fn context(&mut self, env: u8)
         requires { running self.old.slots.runner ≡ Some env }
         ensures { self.new ≡ context_if self.old env (refusal_of_context self.old.cpu) }

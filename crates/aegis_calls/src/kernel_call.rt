@@ -1,14 +1,13 @@
 //! Kernel calls: what they do to the board's parts.
 ghost use Rattle.std.specs.Prelude.{◌≡◌, ◌<◌, None, Some, length};
 ghost use Rattle.std.specs.Option.{option_map};
-ghost use Rattle.mips_exec.specs.Cpu.{reg};
 ghost use Rattle.guest_memory.specs.Look.{look};
 ghost use Rattle.guest_memory.specs.Space.{lookup};
 ghost use Rattle.world_model.specs.Book.{running};
 ghost use Rattle.world_model.specs.Call.{put_bytes as put_bytes_of};
 
 use crate::board::Board;
-use crate::registers::{ANY, FIRST_ARGUMENT, SECOND_ARGUMENT, answer};
+use crate::registers::{FIRST_ARGUMENT, SECOND_ARGUMENT, answer};
 use aegis_limits::CONSOLE_SIZE;
 use frame_store::Frames;
 use guest_memory::{Space, guest_range};
@@ -27,9 +26,7 @@ fn put_bytes<'a>(cpu: &Cpu, frames: &'a Frames, space: &Space<'_>) -> Option<&'a
 }
 
 impl Board {
-    ghost use Rattle.std.specs.Prelude.{◌==◌};
-    ghost use Rattle.world_model.specs.Call.{any};
-    ghost use Rattle.board_world.specs.Doing.{answered, appended, put_if, refusal_of_put, served, yield_if};
+    ghost use Rattle.board_world.specs.Doing.{answered, appended, put_if, refusal_of_put, served};
 
     /// A call is answered.
     pub(crate) fn answer(&mut self, code: Code, value: u32)
@@ -72,19 +69,6 @@ impl Board {
         self.answer(Code::Ok, size);
     }
 
-    /// The runner is stopped, where it names nobody to go on in its place.
-    fn give_way(&mut self, env: u8)
-        requires runs { running self.old.slots.runner ≡ Some env }
-        requires room { 0 < self.old.ledger.spare }
-        ensures { self.new ≡ yield_if self.old env (reg self.old.cpu 4 == any) }
-    {
-        if self.cpu.reg(FIRST_ARGUMENT) != ANY {
-            return self.answer(Code::BadCall, 0);
-        }
-        self.answer(Code::Ok, 0);
-        self.stop(env);
-    }
-
     /// A kernel call of the runner.
     pub(crate) fn serve(&mut self, env: u8, call: Option<Call>)
         requires runs { running self.old.slots.runner ≡ Some env }
@@ -104,6 +88,10 @@ impl Board {
             Some(Call::Bind) => self.bind(env),
             Some(Call::Unbind) => self.unbind(env),
             Some(Call::Context) => self.context(env),
+            Some(Call::Accept) => self.accept(env),
+            Some(Call::SlotTake) => self.take_slot(env),
+            Some(Call::SlotDrop) => self.drop_slot(env),
+            Some(Call::Query) => self.query(env),
             Some(Call::OwnNumber) => self.answer(Code::Ok, u32::from(env)),
             Some(Call::Clock) => {
                 let time = self.time;

@@ -16,6 +16,7 @@ mod page_call;
 mod phases;
 mod readers;
 mod registers;
+mod slot_call;
 mod timer;
 mod turn;
 

@@ -9,8 +9,9 @@ use crate::board::Board;
 use crate::registers::CODE_REGISTER;
 use world_model::{Call, Cause};
 
-/// The most rows that a turn may write.
-pub const TURN_ROWS: usize = 512;
+/// The most rows that a turn may write: a start, and a forfeit for each quantum that the holders of 64 slots owe, at
+/// most eight each.
+pub const TURN_ROWS: usize = 513;
 
 /// The most rows that a step, or the timer, may write.
 pub const STEP_ROWS: usize = 256;
@@ -28,7 +29,8 @@ impl Board {
         self.slots.idle()
     }
 
-    /// The next turn with its start, where nobody runs; else nothing. All environments must be there.
+    /// The next turn, where nobody runs: slots are forfeited whose holders owe, until one starts that owes nothing;
+    /// else nothing. All environments must be there.
     pub fn turn(&mut self)
         requires whole { self.old.roster.spare ≡ 0 }
         requires room { TURN_ROWS ≤ self.old.ledger.spare }
@@ -58,7 +60,7 @@ impl Board {
         }
     }
 
-    /// The runner's ticks left fall by one, and at none it is stopped; time rises by one.
+    /// The runner's ticks left fall by one, and at none its slice ends, or it owes a quantum more; time rises by one.
     pub fn timer(&mut self)
         requires time { self.old.time < most_ticks }
         requires room { STEP_ROWS ≤ self.old.ledger.spare }

@@ -4,7 +4,7 @@ ghost use Rattle.std.specs.Prelude.{◌≡◌, ◌<◌, ◌≤◌, OnOk, OnErr, 
 ghost use Rattle.std.specs.Option.{option_map};
 ghost use Rattle.page_book.specs.Row.{is_owned_by};
 ghost use Rattle.bind_book.specs.Stripe.{stripe_rows};
-ghost use Rattle.world_model.specs.Book.{running};
+ghost use Rattle.world_model.specs.Book.{excess_limit, running};
 ghost use Rattle.board_world.specs.Shown.{with_spare};
 ghost use Rattle.board_world.specs.Showing.{owned_bytes, view_seen, page_seen};
 
@@ -149,6 +149,14 @@ impl Board {
         ensures { result ≡ running (world_of self.now).book.runner }
     {
         self.slots.runner()
+    }
+
+    /// An environment's excess: the quanta that it ran past its slices and hasn't forfeited yet, 0 to 8.
+    pub fn excess(&self, env: u8) -> u32
+        ensures excess { result ≡ (world_of self.now).book.excess env }
+        ensures most { result ≤ excess_limit }
+    {
+        self.slots.excess(env)
     }
 
     /// The rows of the ledger.

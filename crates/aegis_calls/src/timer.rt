@@ -1,13 +1,16 @@
 //! The timer, and the stop of a runner: what they do to the board's parts.
-ghost use Rattle.std.specs.Prelude.{◌≡◌, ◌<◌, ◌^◌, ◌-◌, length, Some};
+ghost use Rattle.std.specs.Prelude.{◌≡◌, ◌<◌, ◌^◌, ◌-◌, length, true, Some};
+ghost use Rattle.slot_vector.specs.Slices.{after_timer, timer_answer};
 ghost use Rattle.world_model.specs.Book.{running};
 
 use crate::board::Board;
+use env_frames::Context;
 use kernel_journal::Row;
 use slot_vector::Timer;
+use world_model::Cause;
 
 impl Board {
-    ghost use Rattle.board_world.specs.Doing.{counted, counted_down, kept_stopped, stopped};
+    ghost use Rattle.board_world.specs.Doing.{brought, counted, ended, has_end, kept_stopped, over_row, stopped};
 
     /// The registers of an environment that is stopped are kept, and the ledger says so.
     fn keep_stopped(&mut self, env: u8)
@@ -33,26 +36,84 @@ impl Board {
         self.keep_stopped(env);
     }
 
-    /// The timer counts for a runner, which is stopped after the last tick of its slice, and time rises by one.
-    pub(crate) fn count(&mut self)
+    /// The end of a slice is told to its environment, which handles it: all but what the slots are after it.
+    fn tell_end(&mut self, env: u8)
+        requires there { env < length self.old.roster.list }
+        requires handled { has_end self.old env ≡ true }
         requires room { 0 < self.old.ledger.spare }
+        ensures { self.new ≡ record (ended self.old env) { slots = self.old.slots } }
+    {
+        let frame = self.roster.frame(env);
+        frame.end(&mut self.frames, &mut self.cpu);
+        self.journal.push(Row::End {
+            time: self.time,
+            slot: self.slots.slot(),
+            env,
+        });
+    }
+
+    /// The ledger says that a quantum of grace is over, and what the environment's excess is now.
+    fn tell_over(&mut self, env: u8, excess: u32)
+        requires { 0 < self.old.ledger.spare }
+        ensures { self.new ≡ record self.old { ledger = over_row self.old env excess } }
+    {
+        self.journal.push(Row::Over {
+            time: self.time,
+            slot: self.slots.slot(),
+            env,
+            excess,
+        });
+    }
+
+    /// Whether an environment has a handler of the ends of its slices.
+    fn handles_end(&self, env: u8) -> bool
+        requires { env < length self.now.roster.list }
+        ensures { result ≡ has_end self.now env }
+    {
+        self.roster.frame(env).handler(Context::End) != 0
+    }
+
+    /// The ticks left of the runner's quantum fall by one; the result is what that brings.
+    fn use_tick(&mut self, env: u8) -> Timer
+        requires { env < length self.old.roster.list }
+        ensures answer { result ≡ timer_answer self.old.slots (has_end self.old env) }
+        ensures after { self.new ≡ record self.old { slots = after_timer self.old.slots result } }
+    {
+        let handles = self.handles_end(env);
+        self.slots.timer(handles)
+    }
+
+    /// A tick of the runner's quantum is over: after the last one it is told, or it is stopped, and in time of
+    /// grace its excess rises, and above the limit it dies.
+    fn count_down(&mut self, env: u8)
+        requires runs { running self.old.slots.runner ≡ Some env }
+        requires room { 65 < self.old.ledger.spare }
+        ensures { self.new ≡ brought self.old env (timer_answer self.old.slots (has_end self.old env)) }
+    {
+        // Reads a part, and with it that the board is sound.
+        let _ = &self.time;
+        match self.use_tick(env) {
+            Timer::Nothing => {}
+            Timer::End => self.tell_end(env),
+            Timer::Stop => self.keep_stopped(env),
+            Timer::Over(excess) => self.tell_over(env, excess),
+            Timer::Kill => {
+                let excess = self.excess(env) + 1;
+                self.tell_over(env, excess);
+                self.die(env, Cause::Excess);
+            }
+        }
+    }
+
+    /// The timer counts for a runner, and time rises by one.
+    pub(crate) fn count(&mut self)
+        requires room { 65 < self.old.ledger.spare }
         requires time { self.old.time < 2 ^ 32 - 1 }
         ensures { self.new ≡ counted self.old }
     {
-        if let Some(env) = self.slots.runner() {
+        if let Some(env) = self.runner() {
             self.count_down(env);
         }
         self.time += 1;
-    }
-
-    /// The runner's ticks left fall by one, and at none it is stopped.
-    fn count_down(&mut self, env: u8)
-        requires runs { running self.old.slots.runner ≡ Some env }
-        requires room { 0 < self.old.ledger.spare }
-        ensures { self.new ≡ counted_down self.old self.old.slots.runner }
-    {
-        if let Timer::Stop = self.slots.timer() {
-            self.keep_stopped(env);
-        }
     }
 }

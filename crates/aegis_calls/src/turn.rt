@@ -1,28 +1,64 @@
 //! Turns: what they do to the board's parts.
-ghost use Rattle.std.specs.Prelude.{◌≡◌, ◌<◌};
+ghost use Rattle.std.specs.Prelude.{◌≡◌, ◌<◌, ◌≤◌, ◌+◌, IsNone, length};
+ghost use Rattle.slot_vector.specs.Laws.{owed_of};
+ghost use Rattle.slot_vector.specs.Slices.{next_turn};
 
 use crate::board::Board;
 use kernel_journal::Row;
+use slot_vector::NextTurn;
 
 impl Board {
-    ghost use Rattle.board_world.specs.Doing.{turned};
+    ghost use Rattle.board_world.specs.Doing.{came_next, start_frames, start_registers, turned};
 
-    /// Where nobody runs, the holder of the next held slot starts with a full quantum.
-    pub(crate) fn take_turn(&mut self)
+    /// An environment starts: at its handler of starts, or without one where its registers were kept.
+    pub(crate) fn start(&mut self, env: u8)
+        requires { env < length self.old.roster.list }
+        ensures { self.new ≡ record self.old { frames = start_frames self.old env; cpu = start_registers self.old.roster.list env } }
+    {
+        self.cpu = self.roster.frame(env).start(&mut self.frames);
+    }
+
+    /// What comes next in the vector of slots, where nobody runs: a slot is forfeited, or its holder starts.
+    fn next(&mut self) -> NextTurn
+        requires nobody { IsNone self.old.slots.runner }
         requires whole { self.old.roster.spare ≡ 0 }
         requires room { 0 < self.old.ledger.spare }
-        ensures { self.new ≡ turned self.old }
+        ensures turn { result ≡ next_turn self.old.slots }
+        ensures after { self.new ≡ came_next self.old result }
     {
-        if self.slots.runner().is_some() {
-            return;
-        }
-        if let Some(turn) = self.slots.next_turn() {
-            self.cpu = self.roster.frame(turn.env).restore();
-            self.journal.push(Row::Run {
+        let next = self.slots.next_turn();
+        match next {
+            NextTurn::Pay(turn) => self.journal.push(Row::Pay {
                 time: self.time,
                 slot: turn.slot,
                 env: turn.env,
-            });
+            }),
+            NextTurn::Run(turn) => {
+                self.start(turn.env);
+                self.journal.push(Row::Run {
+                    time: self.time,
+                    slot: turn.slot,
+                    env: turn.env,
+                });
+            }
+            NextTurn::Idle => {}
         }
+        next
+    }
+
+    /// Where nobody runs, the slots of holders that owe are forfeited, and the first holder that owes nothing
+    /// starts with a full quantum.
+    pub(crate) fn take_turn(&mut self)
+        requires whole { self.old.roster.spare ≡ 0 }
+        requires room { owed_of self.old.slots < self.old.ledger.spare }
+        ensures after { self.new ≡ turned self.old }
+        ensures time { self.new.time ≡ self.old.time }
+        ensures whole { self.new.roster.spare ≡ 0 }
+        ensures room { self.old.ledger.spare ≤ self.new.ledger.spare + owed_of self.old.slots + 1 }
+    {
+        if self.runner().is_some() {
+            return;
+        }
+        while let NextTurn::Pay(_) = self.next() {}
     }
 }

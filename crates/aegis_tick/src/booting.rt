@@ -4,6 +4,7 @@ ghost use Rattle.board_world.specs.Showing.{world_of};
 ghost use Rattle.boot_image.specs.ImageValue.{guaranteed_mappings};
 ghost use Rattle.page_book.specs.Rows.{free_pages};
 ghost use Rattle.world_model.specs.Boot.{added, boot_world};
+ghost use Rattle.world_model.specs.Excess.{IsAccounted};
 
 use aegis_calls::Board;
 use boot_image::{Image, Program};
@@ -23,9 +24,11 @@ fn add_all(board: &mut Board, programs: &[Program<'_>])
     }
 }
 
-/// The board that an accepted image boots, with all of its environments (`docs/KERNEL.md`, "Boot").
+/// The board that an accepted image boots, with all of its environments (`docs/KERNEL.md`, "Boot"). Nobody owes
+/// anything.
 pub fn boot(alloc: Global, image: &Image<'_>) -> Result<Board, OutOfMemory>
     ensures world { IfOk result (λ b. world_of b ≡ boot_world image.now) }
+    ensures balance { IfOk result (λ b. IsAccounted (world_of b)) }
     ensures fresh { IfOk result (λ b. b.time ≡ 0) }
     ensures whole { IfOk result (λ b. b.roster.spare ≡ 0) }
     ensures pages { IfOk result (λ b. length b.frames ≡ image.now.pages) }

@@ -5,6 +5,7 @@ use Rattle.std.specs.Option.{option_map, option_or}
 use Rattle.std.proofs.lemmas.Bool.{eq-eqb}
 use Rattle.std.proofs.lemmas.Option.{get_or_from_slice_get}
 use Rattle.frame_store.specs.Pages.{page_at}
+use Rattle.env_frames.specs.declared.context.Context.{Context}
 use Rattle.env_frames.specs.Frame.{mapping_at}
 use Rattle.page_book.specs.declared.row.PageRow.{PageRow}
 use Rattle.page_book.specs.declared.row.PageRow.TheVariants.{Free, Guaranteed, Owned}
@@ -18,15 +19,15 @@ use Rattle.world_model.specs.declared.call.Call.TheVariants as call
 use Rattle.world_model.specs.declared.code.Code.{Code}
 use Rattle.world_model.specs.declared.code.Code.TheVariants as code
 use Rattle.world_model.specs.Book.{page_row}
-use Rattle.world_model.specs.Call.{binding_of, called, number_refusal, presented, refusal_of_bind, refusal_of_context}
+use Rattle.world_model.specs.Call.{binding_of, called, handled, number_refusal, presented, refusal_of_bind, refusal_of_context}
 use Rattle.world_model.specs.Code.{code_of}
 use Rattle.world_model.specs.Holding.{bound, gained, unbound, with_binds}
-use Rattle.world_model.specs.Item.{Granted, Gained, absorb_all, answered_cpu}
+use Rattle.world_model.specs.Item.{Granted, Gained, absorb_all, answered_cpu, with_handlers}
 use Rattle.world_model.specs.PageCalls as calls
 use Rattle.world_model.specs.Solo.{Solo, bytes_seen}
 use Rattle.world_model.specs.Step.{Calls}
 use Rattle.world_model.specs.Table.{set_at}
-use Rattle.world_model.specs.Verdict.{reply_of}
+use Rattle.world_model.specs.Verdict.{grant, reply_of}
 use Rattle.world_model.specs.World.{no_items}
 use Rattle.mips_exec.specs.Cpu.{reg}
 use Rattle.board_world.specs.declared.roster.Environment.{Environment}
@@ -39,7 +40,7 @@ use Rattle.board_world.proofs.Lists.{changed_here, changed_else, length-changed,
 use Rattle.board_world.proofs.PageServing.{its_reg, own_sees}
 use Rattle.board_world.proofs.Pages.{seen_kept}
 use Rattle.board_world.proofs.Parts.{append_nothing, set_here, set_else}
-use Rattle.board_world.proofs.Replying.{Serves, all_given, granted_first, refuses}
+use Rattle.board_world.proofs.Replying.{Serves, all_given, granted_first, grants, refuses}
 use Rattle.board_world.proofs.Seen.{same_solo, Runs, runner_solo, runner_seen, its_mappings, live_record, stripe_of}
 use Rattle.board_world.proofs.Tables.{row_got, stripe_set, stripe_without}
 
@@ -205,17 +206,19 @@ module _ (b : Shown) (e : ℕ) (x : Environment) (r : Runs b e x) (sound : IsSou
       ∙ ap (λ (s : Solo). number_refusal (calls.is_guaranteed s (reg s.cpu 4)) (reg s.cpu 4)) (sym (runner_seen b e x r))
 
   -- Context.
-  pub sets_handler : (why : Option Code) → called b.cpu ≡ Some call.Context → Serves b e (Calls (Some call.Context)) (reply_of (world_of b) e (calls.context_by (world_of b) e why)) (doing.context_if b e why)
-  sets_handler (Some why) named = refuses b e x r (Some call.Context) why 0
-  sets_handler None named =
-      let f = doing.handling (reg b.cpu 5) in
-      let now = doing.context_if b e None in
+  handles : (kind : Option Context) → handled (reg b.cpu 4) ≡ kind → called b.cpu ≡ Some call.Context → Serves b e (Calls (Some call.Context)) (grant (world_of b) e 0) (doing.answered (doing.with_handling b e kind (reg b.cpu 5)) code.Ok 0)
+  handles None is named = grants b e x r (Some call.Context) 0 named (ap (λ kind. with_handlers kind (reg b.cpu 5) (runner_solo b e x)) is)
+  handles (Some kind) is named =
+      let f = doing.handling kind (reg b.cpu 5) in
+      let now = doing.answered (doing.with_handling b e (Some kind) (reg b.cpu 5)) code.Ok 0 in
       let still : Runs now e (f x) = record { at = changed_here f b.roster.list e ∙ ap (option_map f) r.at; lives = r.lives; runs = r.runs } in
       record {
         book = refl;
         count = length-changed f b.roster.list e;
         solos = all_given (solo_of b) (solo_of now) e (solo_of b e) (Granted 0 ∷ []) no_items
-            (runner_seen now e (f x) still ∙ granted_first b e x r (Some call.Context) 0 [] named)
+            (runner_seen now e (f x) still
+            ∙ (λ k. record (with_handlers (sym is k) (reg b.cpu 5) (runner_solo b e x)) { cpu = answered_cpu code.Ok 0 b.cpu })
+            ∙ granted_first b e x r (Some call.Context) 0 [] named)
             (λ i ne. same_solo i now b (record {
               record_is = changed_else f b.roster.list e i ne;
               idles = r.runs.others i ne;
@@ -230,6 +233,10 @@ module _ (b : Shown) (e : ℕ) (x : Environment) (r : Runs b e x) (sound : IsSou
         spare = refl;
         time = refl;
       }
+
+  pub sets_handler : (why : Option Code) → called b.cpu ≡ Some call.Context → Serves b e (Calls (Some call.Context)) (reply_of (world_of b) e (calls.context_by (world_of b) e why)) (doing.context_if b e why)
+  sets_handler (Some why) named = refuses b e x r (Some call.Context) why 0
+  sets_handler None named = handles (handled (reg b.cpu 4)) refl named
 
   pub context_same : refusal_of_context b.cpu ≡ refusal_of_context (solo_of b e).cpu
   context_same = ap (λ (s : Solo). refusal_of_context s.cpu) (sym (runner_seen b e x r))

@@ -46,6 +46,12 @@ own_holds envs (None ∷ owners) all zero = tt
 own_holds envs (Some e ∷ owners) all zero = (all 0 None (omega arith), all 0 None (omega arith))
 own_holds envs (o ∷ owners) all (suc k) = own_holds envs owners (λ i d within. all (suc i) d (omega arith)) k
 
+-- at boot nobody owes anything
+nothing_owed : (count e : ℕ) → vector.excess_of (replicate count 0) e ≡ 0
+nothing_owed zero e = refl
+nothing_owed (suc count) zero = refl
+nothing_owed (suc count) (suc e) = nothing_owed count e
+
 pub built_manned : (quantum envs : ℕ) (owners : List (Option ℕ)) → least_quantum ≤ quantum → length owners ≤ most_slots → All (λ owner. IfSome owner (λ e. e < envs)) owners → IsManned (vector.first_slices quantum owners) (record { list = []; spare = envs })
 built_manned quantum envs owners long few all = record {
   quantum = omega arith;
@@ -53,6 +59,8 @@ built_manned quantum envs owners long few all = record {
   runner = tt;
   holds = λ k. if_both (vector.hold_at (map (option_map own_hold) owners) k) (λ h is both. ((omega (arith, both.0), tt), (omega (arith, both.1), tt))) (own_holds envs owners all k);
   count = omega (arith, length-map owners (option_map own_hold));
+  numbered = length-replicate {A = ℕ} vector.most_numbers 0;
+  owes = λ e. omega (arith, nothing_owed vector.most_numbers e);
 }
 
 empty_consoles : (envs e : ℕ) → console_of (replicate envs []) e ≡ []
@@ -111,6 +119,7 @@ built_world pages envs quantum owners b free unbound slots none start rows =
       quantum = (slots i).quantum;
       cursor = (slots i).cursor;
       runner = (slots i).runner;
+      excess = λ e. (ap (λ v. vector.excess_of v.excess e) slots ∙ nothing_owed vector.most_numbers e) i;
       page_count = page_count i;
       pages = λ page. (ap (λ rows. row_in rows page) free ∙ all_free pages page) i;
       binds = λ e row. (ap (λ rows. stripes rows e row) unbound ∙ empty_row (envs * stripe_rows) e row) i;
@@ -147,6 +156,8 @@ module _ (r : Environments) (x : Environment) (lives : x.life ≡ Live) (room : 
     runner = if_both v.runner (λ y is live. still_live y.env live) manned.runner;
     holds = λ k. if_both (vector.hold_at v.slots k) (λ h is both. (still_undead h.owner both.0, still_undead h.holder both.1)) (manned.holds k);
     count = manned.count;
+    numbered = manned.numbered;
+    owes = manned.owes;
   }
 
   pub added_consoles : (consoles : List (List ℕ)) → AreConsoles consoles r → AreConsoles consoles (record { list = r.list ++ x ∷ []; spare = r.spare - 1 })

@@ -1,8 +1,8 @@
 -- The runner's death, on the world that is shown.
-use Rattle.std.proofs.Common.{◌≡◌, ◌≢◌, ◌≤◌, ℕ, List, [], ◌∷◌, length, map, suc, zero, Bool, true, false, Option, Some, None, refl, sym, ◌∙◌, ap, arith, append_assoc}
+use Rattle.std.proofs.Common.{◌≡◌, ◌≢◌, ◌≤◌, ◌<◌, ℕ, List, [], ◌∷◌, length, map, suc, zero, Bool, true, false, Option, Some, None, refl, sym, ◌∙◌, ap, arith, append_assoc}
 use Rattle.std.proofs.lemmas.Bool.{ne_eqb, eq-eqb}
 use Rattle.std.proofs.lemmas.List.{length-map, length-append}
-use Rattle.std.specs.Prelude.{◌==◌, if◌then◌else◌}
+use Rattle.std.specs.Prelude.{◌==◌, if◌then◌else◌, slice_get}
 use Rattle.std.specs.Option.{option_map}
 use Rattle.frame_store.specs.Pages.{page_at}
 use Rattle.kernel_journal.specs.declared.row.Row.TheVariants as row
@@ -15,7 +15,8 @@ use Rattle.bind_book.specs.Stripe.{goes_with, without}
 use Rattle.bind_book.proofs.Swept.{swept_row}
 use Rattle.page_sight.proofs.Mourning.{mourners_lose}
 use Rattle.page_sight.proofs.Stripes.{stripes_end}
-use Rattle.slot_vector.specs.Slices.{hold_at, without_env}
+use Rattle.slot_vector.specs.Slices.{excess_of, hold_at, without_env}
+use Rattle.slot_vector.proofs.Owed.{excess_set}
 use Rattle.world_model.specs.declared.slot.Hold.{Hold}
 use Rattle.world_model.specs.declared.life.Cause.{Cause}
 use Rattle.world_model.specs.Book.{released, has_part}
@@ -30,7 +31,7 @@ use Rattle.board_world.specs.Shown.{Shown}
 use Rattle.board_world.specs.Showing.{world_of, book_of, solo_of, solo_or_absent, solo_seen}
 use Rattle.board_world.specs.Sound.{IsSound}
 use Rattle.board_world.specs.Doing as doing
-use Rattle.board_world.proofs.Lists.{changed_here, changed_else, length-changed}
+use Rattle.board_world.proofs.Lists.{changed_here, changed_else, get_within, length-changed}
 use Rattle.board_world.proofs.Losing.{dropped, HasNone, losses_keep, no_losses, nothing_seen, sees_by}
 use Rattle.board_world.proofs.Parts.{by_env, set_here, set_else}
 use Rattle.board_world.proofs.Replying.{Serves}
@@ -77,6 +78,10 @@ own_goes : (pages : ℕ → PageRow) (e : ℕ) (x : Option Binding) → without 
 own_goes pages e None = refl
 own_goes pages e (Some x) = rw (eq-eqb e e refl) refl
 
+-- each environment of the board has an excess
+pub numbered_within : (b : Shown) (e : ℕ) (x : Environment) → slice_get b.roster.list e ≡ Some x → IsSound b → e < length b.slots.excess
+numbered_within b e x at sound = omega (arith, get_within b.roster.list e x at, sound.consoles.most, sound.book.numbered)
+
 module _ (b : Shown) (e : ℕ) (x : Environment) (r : Runs b e x) (sound : IsSound b) (cause : Cause) where
   abbrev after_death : Shown
   after_death = doing.died b e cause
@@ -122,12 +127,14 @@ module _ (b : Shown) (e : ℕ) (x : Environment) (r : Runs b e x) (sound : IsSou
   dies = record {
     book =
         let ended : (without_env e b.slots).runner ≡ None = rw r.runs.its refl in
+        let forgiven : excess_of (without_env e b.slots).excess ≡ set_at e 0 (excess_of b.slots.excess) = excess_set b.slots.excess e 0 (numbered_within b e x r.at sound) in
         λ k. record {
           slot_count = length-map b.slots.slots (released e) k;
           slots = λ n. hold_at-map e b.slots.slots n k;
           quantum = b.slots.quantum;
           cursor = b.slots.cursor;
           runner = ended k;
+          excess = forgiven k;
           page_count = length-map b.pages (released_page e) k;
           pages = λ page. row_released e b.pages page k;
           binds = λ i row. swept_stripe i row k;

@@ -2,7 +2,10 @@ pub mod Allowed
 pub mod BindServing
 pub mod Booked
 pub mod Building
+pub mod Contexts
+pub mod Counting
 pub mod Dying
+pub mod GiftServing
 pub mod Giving
 pub mod Keeping
 pub mod Lists
@@ -16,8 +19,12 @@ pub mod Parts
 pub mod Replying
 pub mod Seen
 pub mod Serving
+pub mod SlotServing
+pub mod Slots
+pub mod Slotted
 pub mod Sound
 pub mod Stepping
 pub mod Stores
 pub mod Tables
 pub mod Turning
+pub mod Turns

@@ -323,7 +323,7 @@ module _ (b : Shown) (e : ℕ) (x : Environment) (r : Runs b e x) (sound : IsSou
       (λ k. if reg b.cpu 4 == any then ok_or (first_free b.pages) PageNo.NoneFree else same_named (alloc_refusal (row_got b.pages (reg b.cpu 4) k)) k)
       ∙ ap (calls.chosen_page (book_of b)) (its_reg b e x r 4)
     where
-      same_named : (why : Option PageNo) → doing.chosen_named (reg b.cpu 4) why ≡ calls.named_page (book_of b) (reg b.cpu 4) why
+      same_named : (why : Option PageNo) → doing.chosen_named (reg b.cpu 4) why ≡ calls.named_page (reg b.cpu 4) why
       same_named None = refl
       same_named (Some why) = refl
 

@@ -8,7 +8,7 @@ use Rattle.world_model.specs.Call.{called}
 use Rattle.world_model.specs.Item.{Item, Step as AStep, Granted, Refused, absorb, absorb_all, answered_cpu, own_part}
 use Rattle.world_model.specs.Solo.{Solo}
 use Rattle.world_model.specs.Step.{Act, Calls, acted}
-use Rattle.world_model.specs.Verdict.{refusal}
+use Rattle.world_model.specs.Verdict.{grant, refusal}
 use Rattle.world_model.specs.World.{Reply, after, only}
 use Rattle.world_model.specs.Table.{set_at}
 use Rattle.world_model.specs.Tick as tick
@@ -75,6 +75,22 @@ module _ (b : Shown) (e : ℕ) (x : Environment) (r : Runs b e x) where
     book = refl;
     count = refl;
     solos = one_acted (solo_of b) (solo_of (doing.answered b why v)) e (Calls c) (Refused why v ∷ []) (answered_seen why v ∙ ap (λ s. absorb_all s (Refused why v ∷ [])) (sym (runner_seen b e x r))) (answered_others why v);
+    rows = sym (append_nothing b.ledger.rows);
+    room = omega arith;
+    spare = refl;
+    time = refl;
+  }
+
+  -- what a granted call that changes registers alone leaves of its caller, where it has no part of its own
+  pub grants : (c : Option Call) (v : ℕ) → called b.cpu ≡ c → own_part c v (runner_solo b e x) ≡ runner_solo b e x → Serves b e (Calls c) (grant (world_of b) e v) (doing.answered b code.Ok v)
+  grants c v named own = record {
+    book = refl;
+    count = refl;
+    solos = one_acted (solo_of b) (solo_of (doing.answered b code.Ok v)) e (Calls c) (Granted v ∷ [])
+        (answered_seen code.Ok v
+        ∙ ap (λ (s : Solo). record s { cpu = answered_cpu code.Ok v b.cpu }) (sym own)
+        ∙ granted_first c v [] named)
+        (answered_others code.Ok v);
     rows = sym (append_nothing b.ledger.rows);
     room = omega arith;
     spare = refl;

@@ -1,5 +1,5 @@
 -- The runner's calls and its death, on the world that is shown.
-use Rattle.std.proofs.Common.{◌≡◌, ℕ, ◌<◌, [], ◌∷◌, ◌++◌, length, Bool, true, false, Option, Some, None, refl, sym, ◌∙◌, ap, arith, subst}
+use Rattle.std.proofs.Common.{◌≡◌, ℕ, ◌<◌, [], ◌∷◌, ◌++◌, length, Option, Some, None, refl, sym, ◌∙◌, ap, arith, subst}
 use Rattle.std.specs.Prelude.{◌==◌, unwrap_or}
 use Rattle.mips_exec.specs.Cpu.{reg}
 use Rattle.world_model.specs.declared.call.Call.{Call}
@@ -11,17 +11,18 @@ use Rattle.world_model.specs.declared.life.Cause.{Cause}
 use Rattle.world_model.specs.declared.life.Cause.TheVariants as cause
 use Rattle.world_model.specs.Book.{running}
 use Rattle.world_model.specs.Call.{any, called, put_bytes, put_refusal, refusal_of_context}
-use Rattle.world_model.specs.Item.{Granted, Refused, absorb_all, answered_cpu, own_part, refused}
+use Rattle.world_model.specs.Item.{Granted, Refused, absorb_all, answered_cpu, refused}
 use Rattle.world_model.specs.PageCalls as calls
 use Rattle.world_model.specs.Solo.{Solo, sight}
 use Rattle.world_model.specs.Step.{Calls, Dies, call_act}
-use Rattle.world_model.specs.Verdict.{Refuses, refusal, grant, verdict, verdict_now, reply_of, yield_if, put_if, death}
+use Rattle.world_model.specs.Verdict.{Refuses, refusal, grant, verdict, verdict_now, reply_of, put_if, death}
+use Rattle.world_model.specs.SlotCalls.{drop_by, drop_refusal, query_by, slot_at, take_by, take_refusal, yield_by}
 use Rattle.world_model.specs.World.{World, after, only}
 use Rattle.world_model.specs.Table.{set_at}
 use Rattle.world_model.specs.Tick as tick
 use Rattle.board_world.specs.declared.roster.Environment.{Environment}
 use Rattle.board_world.specs.Shown.{Shown, console_of}
-use Rattle.board_world.specs.Showing.{world_of, solo_of}
+use Rattle.board_world.specs.Showing.{book_of, world_of, solo_of}
 use Rattle.board_world.specs.Sound.{IsSound}
 use Rattle.board_world.specs.Doing as doing
 use Rattle.board_world.proofs.Lists.{get_within}
@@ -29,46 +30,13 @@ use Rattle.board_world.proofs.Parts.{append_nothing, worlds, by_env, set_here, s
 use Rattle.board_world.proofs.Seen.{same_solo, Runs, runner_solo, runner_seen, runner_runs, its_look, console_changed, console_elsewhere}
 use Rattle.board_world.proofs.BindServing.{bind_same, binds, context_same, sets_handler, unbind_same, unbinds}
 use Rattle.board_world.proofs.PageServing.{alloc_same, allocates, change_same, frees, recaps, its_reg}
-use Rattle.board_world.proofs.Replying.{alone, answered_others, answered_seen, granted_first, refuses}
+use Rattle.board_world.proofs.Replying.{alone, granted_first, grants, refuses}
 pub use Rattle.board_world.proofs.Replying.{Serves, in_step}
 pub use Rattle.board_world.proofs.Dying.{died_serves, hold_at-map}
-use Rattle.board_world.proofs.Turning.{stopped_solo, stopped_others, stopped_count}
+use Rattle.board_world.proofs.GiftServing.{yields}
+use Rattle.board_world.proofs.SlotServing.{takes, drops, queries, query_same, sets_mask}
 
 module _ (b : Shown) (e : ℕ) (x : Environment) (r : Runs b e x) (sound : IsSound b) where
-  -- what a granted call that changes registers alone leaves of its caller, where it has no part of its own
-  grants : (c : Option Call) (v : ℕ) → called b.cpu ≡ c → own_part c v (runner_solo b e x) ≡ runner_solo b e x → Serves b e (Calls c) (grant (world_of b) e v) (doing.answered b code.Ok v)
-  grants c v named own = record {
-    book = refl;
-    count = refl;
-    solos = one_acted (solo_of b) (solo_of (doing.answered b code.Ok v)) e (Calls c) (Granted v ∷ [])
-        (answered_seen b e x r code.Ok v
-        ∙ ap (λ (s : Solo). record s { cpu = answered_cpu code.Ok v b.cpu }) (sym own)
-        ∙ granted_first b e x r c v [] named)
-        (answered_others b e x r code.Ok v);
-    rows = sym (append_nothing b.ledger.rows);
-    room = omega arith;
-    spare = refl;
-    time = refl;
-  }
-
-  -- yield
-  yields : (t : Bool) → called b.cpu ≡ Some call.Yield → Serves b e (Calls (Some call.Yield)) (reply_of (world_of b) e (yield_if (world_of b) e t)) (doing.yield_if b e t)
-  yields false named = refuses b e x r (Some call.Yield) code.BadCall 0
-  yields true named =
-      let now = doing.answered b code.Ok 0 in
-      let still : Runs now e x = record { at = r.at; lives = r.lives; runs = r.runs } in
-      record {
-        book = refl;
-        count = stopped_count now e x still;
-        solos = one_acted (solo_of b) (solo_of (doing.yield_if b e true)) e (Calls (Some call.Yield)) (Granted 0 ∷ [])
-            (stopped_solo now e x still ∙ answered_seen b e x r code.Ok 0 ∙ granted_first b e x r (Some call.Yield) 0 [] named)
-            (λ i ne. stopped_others now e x still i ne ∙ answered_others b e x r code.Ok 0 i ne);
-        rows = refl;
-        room = omega arith;
-        spare = refl;
-        time = refl;
-      }
-
   -- put
   looks : (λ v. doing.look_of b e v) ≡ sight (runner_solo b e x)
   looks = λ k v. its_look b e x r sound v k
@@ -109,7 +77,8 @@ module _ (b : Shown) (e : ℕ) (x : Environment) (r : Runs b e x) (sound : IsSou
   pub call_serves : (c : Option Call) → called b.cpu ≡ c → Serves b e (call_act b.cpu c) (tick.brings (world_of b) e (call_act b.cpu c)) (doing.served b e c)
   call_serves None named = refuses b e x r None code.BadCall 0
   call_serves (Some call.Yield) named =
-      subst (λ n. Serves b e (Calls (Some call.Yield)) (reply_of (world_of b) e (yield_if (world_of b) e (n == any))) (doing.served b e (Some call.Yield))) (its_reg b e x r 4) (yields (reg b.cpu 4 == any) named)
+      subst (λ n. Serves b e (Calls (Some call.Yield)) (reply_of (world_of b) e (yield_by (world_of b) e n (n == any))) (doing.served b e (Some call.Yield))) (its_reg b e x r 4)
+      (yields b e x r sound (reg b.cpu 4 == any) named)
   call_serves (Some call.Put) named =
       subst (λ why. Serves b e (Calls (Some call.Put)) (reply_of (world_of b) e (put_if (world_of b) e why)) (doing.served b e (Some call.Put))) refusal_same (puts (doing.refusal_of_put b e) named)
   call_serves (Some call.Exit) named = died_serves b e x r sound (cause.Exit (reg b.cpu 4))
@@ -131,10 +100,20 @@ module _ (b : Shown) (e : ℕ) (x : Environment) (r : Runs b e x) (sound : IsSou
   call_serves (Some call.Context) named =
       subst (λ why. Serves b e (Calls (Some call.Context)) (reply_of (world_of b) e (calls.context_by (world_of b) e why)) (doing.served b e (Some call.Context))) (context_same b e x r sound)
       (sets_handler b e x r sound (refusal_of_context b.cpu) named)
+  call_serves (Some call.Accept) named = sets_mask b e x r named
+  call_serves (Some call.SlotTake) named =
+      subst (λ n. Serves b e (Calls (Some call.SlotTake)) (reply_of (world_of b) e (take_by (world_of b) e n (take_refusal (slot_at (book_of b) n)))) (doing.served b e (Some call.SlotTake))) (its_reg b e x r 4)
+      (takes b e x r (reg b.cpu 4) named)
+  call_serves (Some call.SlotDrop) named =
+      subst (λ n. Serves b e (Calls (Some call.SlotDrop)) (reply_of (world_of b) e (drop_by (world_of b) e n (drop_refusal e (slot_at (book_of b) n)))) (doing.served b e (Some call.SlotDrop))) (its_reg b e x r 4)
+      (drops b e x r (reg b.cpu 4) named)
+  call_serves (Some call.Query) named =
+      subst (λ a. Serves b e (Calls (Some call.Query)) (reply_of (world_of b) e (query_by (world_of b) e a)) (doing.served b e (Some call.Query))) (query_same b e x r)
+      (queries b e x r (doing.answer_in b e (reg b.cpu 4) (reg b.cpu 5)) named)
   call_serves (Some call.OwnNumber) named =
       let own : e ≡ (solo_of b e).number = ap (λ (s : Solo). s.number) (sym (runner_seen b e x r)) in
-      subst (λ n. Serves b e (Calls (Some call.OwnNumber)) (grant (world_of b) e n) (doing.answered b code.Ok e)) own (grants (Some call.OwnNumber) e named refl)
-  call_serves (Some call.Clock) named = grants (Some call.Clock) b.time named refl
+      subst (λ n. Serves b e (Calls (Some call.OwnNumber)) (grant (world_of b) e n) (doing.answered b code.Ok e)) own (grants b e x r (Some call.OwnNumber) e named refl)
+  call_serves (Some call.Clock) named = grants b e x r (Some call.Clock) b.time named refl
 
 -- What is shown after a call, apart from a tick.
 pub called_serves : (b : Shown) (e : ℕ) → IsSound b → running b.slots.runner ≡ Some e → Serves b e (call_act b.cpu (called b.cpu)) (tick.brings (world_of b) e (call_act b.cpu (called b.cpu))) (doing.served b e (called b.cpu))

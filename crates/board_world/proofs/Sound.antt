@@ -1,20 +1,29 @@
 -- The slots and the consoles of a board go on being sound.
 use Rattle.std.proofs.Common.{◌≡◌, ◌≢◌, ℕ, zero, suc, ◌+◌, ◌-◌, ◌%◌, ◌<◌, ◌≤◌, List, [], ◌∷◌, length, map, Bool, true, false, Option, Some, None, IfSome, refl, sym, ◌∙◌, ap, subst, arith}
-use Rattle.std.specs.Prelude.{◌==◌, if◌then◌else◌, slice_get}
-use Rattle.std.proofs.lemmas.Bool.{eqb-false}
+use Rattle.std.specs.Prelude.{◌==◌, ◌*◌, ◌-◌, if◌then◌else◌, nat_lt, slice_get, slice_index_or, slice_set}
+use Rattle.std.proofs.Common.{length-set}
+use Rattle.std.proofs.lemmas.Bool.{eqb-false, ltb-false}
 use Rattle.std.proofs.lemmas.List.{length-map}
 use Rattle.mips_exec.specs.declared.registers.Cpu.{Cpu}
-use Rattle.slot_vector.specs.Slices.{Slices, HasTicks, hold_at, next_turn, with_turn, turn_ended, counted_in, timer_counted, without_env}
+use Rattle.slot_vector.specs.declared.turn.NextTurn.TheVariants as next
+use Rattle.slot_vector.specs.declared.timer.Timer.TheVariants as timer
+use Rattle.slot_vector.specs.Slices.{Slices, HasTicks, after_timer, after_turn, excess_of, given_to, hold_at, next_held, in_grace_again, next_turn, timer_answer, timer_at_end, timer_by, turn_ended, with_hold, without_env}
+use Rattle.slot_vector.specs.Laws.{owed_of}
+use Rattle.slot_vector.proofs.Whole.{ran_is}
+use Rattle.env_frames.specs.declared.context.Context.{Context}
 use Rattle.world_model.specs.declared.slot.Hold.{Hold}
 use Rattle.world_model.specs.declared.slot.Runner.{Runner}
 use Rattle.world_model.specs.declared.slot.Turn.{Turn}
-use Rattle.world_model.specs.Book.{own_hold, first_turn, is_runner, released, running, turn_or}
+use Rattle.world_model.specs.declared.slot.Phase.{Phase}
+use Rattle.world_model.specs.declared.slot.Phase.TheVariants as phase
+use Rattle.world_model.specs.Book.{excess_limit, first_turn, is_runner, owed, owed_in, own_hold, released, running, turn_or}
+use Rattle.world_model.specs.SlotCalls.{dropped, handed}
 use Rattle.world_model.specs.declared.life.Life.TheVariants.{Live}
 use Rattle.world_model.specs.declared.life.Cause.{Cause}
 use Rattle.board_world.specs.declared.roster.Environment.{Environment}
 use Rattle.board_world.specs.Shown.{Environments, changed, with_list}
 use Rattle.board_world.specs.Sound.{IsAlive, IsLive, IsUndead, IsManned, AreConsoles}
-use Rattle.board_world.specs.Doing.{with_registers, handling, dead_frame}
+use Rattle.board_world.specs.Doing.{accepting, with_registers, handling, dead_frame}
 use Rattle.board_world.proofs.Lists.{changed_else, length-changed}
 use Rattle.board_world.proofs.Seen.{runner_live}
 
@@ -41,17 +50,68 @@ module _ (r : Environments) (slots : ℕ → Option Hold) (count : ℕ) (whole :
       let at = (place + 1) % count in
       by_hold at (slots at) (first_turn slots count at tries) (holds at) (λ further. first_live at tries further) is
 
-pub turn_live : (v : Slices) (r : Environments) (t : Turn) → IsManned v r → r.spare ≡ 0 → next_turn v ≡ Some t → IsLive r.list t.env
-turn_live v r t manned whole is = first_live r (hold_at v.slots) (length v.slots) whole manned.holds t v.cursor (length v.slots) is
+-- whose turn is next lives, once all are there
+pub held_live : (v : Slices) (r : Environments) (t : Turn) → IsManned v r → r.spare ≡ 0 → next_held v ≡ Some t → IsLive r.list t.env
+held_live v r t manned whole is = first_live r (hold_at v.slots) (length v.slots) whole manned.holds t v.cursor (length v.slots) is
 
-pub turn_manned : (v : Slices) (r : Environments) (t : Turn) → IsManned v r → r.spare ≡ 0 → next_turn v ≡ Some t → IsManned (with_turn v (Some t)) r
-turn_manned v r t manned whole is = record {
+pub turn_live : (v : Slices) (r : Environments) (t : Turn) → IsManned v r → r.spare ≡ 0 → next_turn v ≡ next.Run t → IsLive r.list t.env
+turn_live v r t manned whole is = held_live v r t manned whole (ran_is (excess_of v.excess) (next_held v) t is).0
+
+-- the vector once somebody runs
+pub run_manned : (v : Slices) (r : Environments) (t : Turn) → IsManned v r → IsLive r.list t.env → IsManned (after_turn v (next.Run t)) r
+run_manned v r t manned lives = record {
   quantum = manned.quantum;
   ticks = omega (arith, manned.quantum);
-  runner = turn_live v r t manned whole is;
+  runner = lives;
   holds = manned.holds;
   count = manned.count;
+  numbered = manned.numbered;
+  owes = manned.owes;
 }
+
+-- what holds of an element that was written, and of the others, holds of all
+set_all : {A : Type 0} (P : A → Type 0) (xs : List A) (k i : ℕ) (x d : A) → P x → P (slice_index_or xs i d) → P (slice_index_or (slice_set xs k x) i d)
+set_all P [] k i x d new old = old
+set_all P (y ∷ xs) zero zero x d new old = new
+set_all P (y ∷ xs) zero (suc i) x d new old = old
+set_all P (y ∷ xs) (suc k) zero x d new old = old
+set_all P (y ∷ xs) (suc k) (suc i) x d new old = set_all P xs k i x d new old
+
+-- the vector once an excess is another, which is within the limit
+owing_manned : (v : Slices) (r : Environments) (e excess : ℕ) → excess ≤ excess_limit → IsManned v r → IsManned (record v { excess = slice_set v.excess e excess }) r
+owing_manned v r e excess most manned = record {
+  quantum = manned.quantum;
+  ticks = manned.ticks;
+  runner = manned.runner;
+  holds = manned.holds;
+  count = manned.count;
+  numbered = length-set v.excess e excess ∙ manned.numbered;
+  owes = λ i. set_all (λ n. n ≤ excess_limit) v.excess e i excess 0 most (manned.owes i);
+}
+
+-- a slot is forfeited
+pub pay_manned : (v : Slices) (r : Environments) (t : Turn) → IsManned v r → IsManned (after_turn v (next.Pay t)) r
+pay_manned v r t manned = owing_manned (record v { cursor = t.slot }) r t.env (excess_of v.excess t.env - 1) (omega (arith, manned.owes t.env)) (record {
+  quantum = manned.quantum;
+  ticks = manned.ticks;
+  runner = manned.runner;
+  holds = manned.holds;
+  count = manned.count;
+  numbered = manned.numbered;
+  owes = manned.owes;
+})
+
+-- what the holders of the slots owe all together
+slot_owes : (excess : ℕ → ℕ) (hold : Option Hold) → ((e : ℕ) → excess e ≤ excess_limit) → owed_in excess hold ≤ excess_limit
+slot_owes excess None most = omega arith
+slot_owes excess (Some hold) most = most hold.holder
+
+all_owe : (excess : ℕ → ℕ) (slots : ℕ → Option Hold) (count : ℕ) → ((e : ℕ) → excess e ≤ excess_limit) → owed excess slots count ≤ 8 * count
+all_owe excess slots zero most = omega arith
+all_owe excess slots (suc k) most = omega (arith, all_owe excess slots k most, slot_owes excess (slots k) most)
+
+pub owed_most : (v : Slices) (r : Environments) → IsManned v r → owed_of v ≤ 512
+owed_most v r manned = omega (arith, all_owe (excess_of v.excess) (hold_at v.slots) (length v.slots) manned.owes, manned.count)
 
 -- numbers that neither live nor die by the change of one record
 module _ (r : Environments) (f : Environment → Environment) (e : ℕ) where
@@ -66,8 +126,11 @@ pub record Keeps (f : Environment → Environment) : Type 0 where
 pub keeps_registers : (cpu : Cpu) → Keeps (with_registers cpu)
 keeps_registers cpu = record { life = λ x. refl; mappings = λ x. refl }
 
-pub keeps_handling : (address : ℕ) → Keeps (handling address)
-keeps_handling address = record { life = λ x. refl; mappings = λ x. refl }
+pub keeps_handling : (context : Context) (address : ℕ) → Keeps (handling context address)
+keeps_handling context address = record { life = λ x. refl; mappings = λ x. refl }
+
+pub keeps_accepting : (mask : ℕ) → Keeps (accepting mask)
+keeps_accepting mask = record { life = λ x. refl; mappings = λ x. refl }
 
 pub if_both : {A : Type 0} {P Q : A → Type 0} (x : Option A) → ((a : A) → x ≡ Some a → P a → Q a) → IfSome x P → IfSome x Q
 if_both None f holds = holds
@@ -101,11 +164,13 @@ module _ (f : Environment → Environment) (keeps : Keeps f) where
     runner = if_both v.runner (λ x is live. kept_live r.list e x.env live) manned.runner;
     holds = λ k. if_both (hold_at v.slots k) (λ h is undead. (kept_undead r e h.owner undead.0, kept_undead r e h.holder undead.1)) (manned.holds k);
     count = manned.count;
+    numbered = manned.numbered;
+    owes = manned.owes;
   }
 
 -- the turn ends
 pub end_manned : (v : Slices) (r : Environments) → IsManned v r → IsManned (turn_ended v) r
-end_manned v r manned = record { quantum = manned.quantum; ticks = tt; runner = tt; holds = manned.holds; count = manned.count }
+end_manned v r manned = record { quantum = manned.quantum; ticks = tt; runner = tt; holds = manned.holds; count = manned.count; numbered = manned.numbered; owes = manned.owes }
 
 -- whoever runs lives, and is one of the environments
 pub runner_alive : (v : Slices) (r : Environments) (e : ℕ) → IsManned v r → running v.runner ≡ Some e → IsLive r.list e
@@ -114,23 +179,109 @@ runner_alive v r e manned runs = runner_live r.list e v.runner manned.runner run
 pub runner_within : (v : Slices) (r : Environments) (e : ℕ) → IsManned v r → running v.runner ≡ Some e → e < length r.list
 runner_within v r e manned runs = (runner_alive v r e manned runs).0
 
--- the timer
-pub go_on_manned : (v : Slices) (r : Environments) → IsManned v r → IsManned (timer_counted v) r
-go_on_manned v r manned = by_runner v.runner manned.runner manned.ticks
+-- another goes on with the rest of the slice
+pub given_manned : (v : Slices) (r : Environments) (target : ℕ) → IsManned v r → IsLive r.list target → IsManned (given_to target v) r
+given_manned v r target manned lives = record {
+  quantum = manned.quantum;
+  ticks = handed_ticks v.runner manned.ticks;
+  runner = handed_live v.runner;
+  holds = manned.holds;
+  count = manned.count;
+  numbered = manned.numbered;
+  owes = manned.owes;
+}
   where
-    by_left : (x : Runner) (last : Bool) → (x.left == 1) ≡ last → IsLive r.list x.env → 1 ≤ x.left → IsManned (record v { runner = if last then None else Some (record x { left = x.left - 1 }) }) r
-    by_left x true last live some = record { quantum = manned.quantum; ticks = tt; runner = tt; holds = manned.holds; count = manned.count }
-    by_left x false last live some = record {
-      quantum = manned.quantum;
-      ticks = let more = eqb-false x.left 1 last in omega (arith, some, more);
-      runner = live;
-      holds = manned.holds;
-      count = manned.count;
-    }
+    handed_ticks : (o : Option Runner) → HasTicks o → HasTicks (handed target o)
+    handed_ticks None some = tt
+    handed_ticks (Some x) some = some
 
-    by_runner : (o : Option Runner) → IfSome o (λ x. IsLive r.list x.env) → HasTicks o → IsManned (record v { runner = counted_in o }) r
-    by_runner None live some = record { quantum = manned.quantum; ticks = tt; runner = tt; holds = manned.holds; count = manned.count }
-    by_runner (Some x) live some = by_left x (x.left == 1) refl live some
+    handed_live : (o : Option Runner) → IfSome (handed target o) (λ x. IsLive r.list x.env)
+    handed_live None = tt
+    handed_live (Some x) = lives
+
+-- the timer
+module _ (v : Slices) (r : Environments) (manned : IsManned v r) where
+  -- the runner, with as many ticks and in this phase
+  again : (x : Runner) (left : ℕ) (in_phase : Phase) → IsLive r.list x.env → 1 ≤ left → IsManned (record v { runner = Some (record x { left = left; phase = in_phase }) }) r
+  again x left in_phase live some = record {
+    quantum = manned.quantum;
+    ticks = some;
+    runner = live;
+    holds = manned.holds;
+    count = manned.count;
+    numbered = manned.numbered;
+    owes = manned.owes;
+  }
+
+  -- the runner has another quantum, in time of grace
+  graced : (x : Runner) → v.runner ≡ Some x → IsLive r.list x.env → IsManned (record v { runner = in_grace_again v v.runner }) r
+  graced x is live = rw is (again x v.quantum phase.Grace live manned.quantum)
+
+  -- and owes more
+  overrun : (x : Runner) (excess : ℕ) → v.runner ≡ Some x → IsLive r.list x.env → excess ≤ excess_limit → IsManned (after_timer v (timer.Over excess)) r
+  overrun x excess is live most = rw is (owing_manned (record v { runner = Some (record x { left = v.quantum; phase = phase.Grace }) }) r x.env excess most (again x v.quantum phase.Grace live manned.quantum))
+
+  by_limit : (x : Runner) (excess : ℕ) (over : Bool) → v.runner ≡ Some x → IsLive r.list x.env → nat_lt excess_limit excess ≡ over → IsManned (after_timer v (if over then timer.Kill else timer.Over excess)) r
+  by_limit x excess true is live test = manned
+  by_limit x excess false is live test = overrun x excess is live (ltb-false excess_limit excess test)
+
+  by_phase : (x : Runner) (p : Phase) (has_end : Bool) (excess : ℕ) → v.runner ≡ Some x → IsLive r.list x.env → IsManned (after_timer v (timer_at_end p has_end excess)) r
+  by_phase x phase.Own true excess is live = graced x is live
+  by_phase x phase.Own false excess is live = end_manned v r manned
+  by_phase x phase.Grace has_end excess is live = by_limit x (excess + 1) (nat_lt excess_limit (excess + 1)) is live refl
+
+  by_left : (x : Runner) (has_end last : Bool) (excess : ℕ) → v.runner ≡ Some x → IsLive r.list x.env → 1 ≤ x.left → (x.left == 1) ≡ last → IsManned (after_timer v (if last then timer_at_end x.phase has_end excess else timer.Nothing)) r
+  by_left x has_end true excess is live some last = by_phase x x.phase has_end excess is live
+  by_left x has_end false excess is live some last = rw is (again x (x.left - 1) x.phase live (let more = eqb-false x.left 1 last in omega (arith, some, more)))
+
+  by_runner : (o : Option Runner) (has_end : Bool) → v.runner ≡ o → IfSome o (λ x. IsLive r.list x.env) → HasTicks o → IsManned (after_timer v (timer_by o has_end (excess_of v.excess))) r
+  by_runner None has_end is live some = rw is (record { quantum = manned.quantum; ticks = tt; runner = tt; holds = manned.holds; count = manned.count; numbered = manned.numbered; owes = manned.owes })
+  by_runner (Some x) has_end is live some = by_left x has_end (x.left == 1) (excess_of v.excess x.env) is live some refl
+
+  pub timer_manned : (has_end : Bool) → IsManned (after_timer v (timer_answer v has_end)) r
+  timer_manned has_end = by_runner v.runner has_end refl manned.runner manned.ticks
+
+-- what holds of a slot's new hold, and of the others, holds of all
+hold_all : (P : Option Hold → Type 0) (slots : List (Option Hold)) (k i : ℕ) (hold : Option Hold) → P hold → P (hold_at slots i) → P (hold_at (slice_set slots k hold) i)
+hold_all P [] k i hold new old = old
+hold_all P (x ∷ slots) zero zero hold new old = new
+hold_all P (x ∷ slots) zero (suc i) hold new old = old
+hold_all P (x ∷ slots) (suc k) zero hold new old = old
+hold_all P (x ∷ slots) (suc k) (suc i) hold new old = hold_all P slots k i hold new old
+
+-- a slot has another hold
+pub hold_manned : (v : Slices) (r : Environments) (k : ℕ) (hold : Option Hold) → IsManned v r → IfSome hold (λ h. IsUndead r h.owner × IsUndead r h.holder) → IsManned (with_hold v k hold) r
+hold_manned v r k hold manned undead = record {
+  quantum = manned.quantum;
+  ticks = manned.ticks;
+  runner = manned.runner;
+  holds = λ i. hold_all (λ o. IfSome o (λ h. IsUndead r h.owner × IsUndead r h.holder)) v.slots k i hold undead (manned.holds i);
+  count = omega (arith, length-set v.slots k hold, manned.count);
+  numbered = manned.numbered;
+  owes = manned.owes;
+}
+
+alive_undying : (o : Option Environment) → IsAlive o → IfSome o (λ x. x.life ≡ Live)
+alive_undying None alive = tt
+alive_undying (Some x) alive = alive
+
+-- whoever lives may own a slot
+live_undead : (r : Environments) (e : ℕ) → IsLive r.list e → IsUndead r e
+live_undead r e live = (omega (arith, live.0), alive_undying (slice_get r.list e) live.1)
+
+pub take_manned : (v : Slices) (r : Environments) (e k : ℕ) → IsManned v r → IsLive r.list e → IsManned (with_hold v k (Some (own_hold e))) r
+take_manned v r e k manned live = hold_manned v r k (Some (own_hold e)) manned (live_undead r e live, live_undead r e live)
+
+pub drop_manned : (v : Slices) (r : Environments) (e k : ℕ) → IsManned v r → IsManned (with_hold v k (dropped e (hold_at v.slots k))) r
+drop_manned v r e k manned = hold_manned v r k (dropped e (hold_at v.slots k)) manned (by_hold (hold_at v.slots k) (manned.holds k))
+  where
+    by_owner : (h : Hold) (its : Bool) → IsUndead r h.owner → IfSome (if its then None else Some (own_hold h.owner)) (λ h. IsUndead r h.owner × IsUndead r h.holder)
+    by_owner h true undead = tt
+    by_owner h false undead = (undead, undead)
+
+    by_hold : (o : Option Hold) → IfSome o (λ h. IsUndead r h.owner × IsUndead r h.holder) → IfSome (dropped e o) (λ h. IsUndead r h.owner × IsUndead r h.holder)
+    by_hold None undead = tt
+    by_hold (Some h) undead = by_owner h (h.owner == e) undead.0
 
 -- the slots once one is gone
 pub hold_at-released : (e : ℕ) (slots : List (Option Hold)) (k : ℕ) → hold_at (map (released e) slots) k ≡ released e (hold_at slots k)
@@ -162,6 +313,8 @@ module _ (v : Slices) (r : Environments) (e : ℕ) (cause : Cause) (manned : IsM
     runner = tt;
     holds = λ k. rw (hold_at-released e v.slots k) (released_undead (hold_at v.slots k) (manned.holds k));
     count = omega (arith, length-map v.slots (released e), manned.count);
+    numbered = length-set v.excess e 0 ∙ manned.numbered;
+    owes = λ i. set_all (λ n. n ≤ excess_limit) v.excess e i 0 0 (omega arith) (manned.owes i);
   })
 
 -- the consoles

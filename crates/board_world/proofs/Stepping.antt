@@ -17,8 +17,8 @@ use Rattle.page_book.specs.Rows.{row_in}
 use Rattle.bind_book.specs.declared.binding.Binding.{Binding}
 use Rattle.bind_book.specs.Stripe.{binding_at, is_bound, is_of_page, row_of}
 use Rattle.env_frames.specs.declared.mapping.Mapping.{Mapping}
-use Rattle.env_frames.specs.Context.{context_number, exception_bytes, raised_cpu}
-use Rattle.env_frames.specs.Frame.{mapping_at, page_of, raised_in}
+use Rattle.env_frames.specs.Context.{exception_bytes, raised_cpu}
+use Rattle.env_frames.specs.Frame.{mapping_at}
 use Rattle.guest_memory.specs.Look.{bound_mapping, frames_after, mapping_in, written_through}
 use Rattle.guest_memory.specs.Space.{lookup}
 use Rattle.world_model.specs.declared.life.Life.{Life}
@@ -43,6 +43,7 @@ use Rattle.board_world.specs.Shown.{Shown, handlers_in, handlers_of, mappings_in
 use Rattle.board_world.specs.Showing.{world_of, book_of, solo_of, solo_or_absent, solo_seen, cpu_seen, page_seen, pages_seen}
 use Rattle.board_world.specs.Sound.{IsSound, IsLive, IsOwned}
 use Rattle.board_world.specs.Doing.{step_seen, lookup_of, ran, raised, trapped, served, came_to}
+use Rattle.board_world.proofs.Contexts.{left_by, left_others, left_own, left_sights, left_store}
 use Rattle.board_world.proofs.Looks.{leads_by}
 use Rattle.board_world.proofs.Pages.{its_store}
 use Rattle.board_world.proofs.Parts.{append_nothing, worlds, by_env, set_here, set_else, only_here, only_else}
@@ -89,9 +90,9 @@ came_called b e Called is = refl
 came_called b e (Trapped exc) is = cc
 
 -- nothing is left to the writer
-left_own : (w : World) (e : ℕ) (x : Option Store) → (tick.brings w e (store_act x)).items e ≡ []
-left_own w e None = refl
-left_own w e (Some x) = by_key x.key
+writer_left : (w : World) (e : ℕ) (x : Option Store) → (tick.brings w e (store_act x)).items e ≡ []
+writer_left w e None = refl
+writer_left w e (Some x) = by_key x.key
   where
     by_key : (key : Key) → left_at w.book e x key e ≡ []
     by_key (Kept vpn) = refl
@@ -249,7 +250,7 @@ module _ (b : Shown) (e : ℕ) (x : Environment) (r : Runs b e x) (sound : IsSou
       by_env (solo_of (struck b cpu frames)) (λ i. absorb_all (solo_of b i) (only e (AStep ∷ []) i ++ left i)) e
       (after_write cpu frames y strikes ∙ sym steps
       ∙ ap (λ (its : List Item). absorb_all (solo_of b e) (its ++ [])) (sym (only_here e (AStep ∷ [])))
-      ∙ ap (λ (more : List Item). absorb_all (solo_of b e) (only e (AStep ∷ []) e ++ more)) (sym (left_own (world_of b) e y)))
+      ∙ ap (λ (more : List Item). absorb_all (solo_of b e) (only e (AStep ∷ []) e ++ more)) (sym (writer_left (world_of b) e y)))
       (λ i ne. strikes.others i ne ∙ ap (λ (its : List Item). absorb_all (solo_of b i) (its ++ left i)) (sym (only_else e i (AStep ∷ []) ne)))
 
   retired : (cpu : Cpu) (w : Option Write) → step_alone (runner_solo b e x) ≡ Retired cpu w → world_of (ran b e (Retired cpu w)) ≡ after (world_of b) (tick.with_step e (tick.brings (world_of b) e (act_of (runner_solo b e x) (Retired cpu w))))
@@ -265,44 +266,28 @@ module _ (b : Shown) (e : ℕ) (x : Environment) (r : Runs b e x) (sound : IsSou
           (struck_solos cpu (frames_after b.frames (lookup_of b e) w) (Some y) strikes steps) (sym (append_nothing b.ledger.rows))
 
   -- The runner's exception goes to its handler: the words stand in its context page, and nobody else's page changes.
-  raised_words : (exc : Exc) → Write
-  raised_words exc = record { address = page_size; bytes = exception_bytes exc b.cpu }
-
-  raised_memory : (exc : Exc) (m : Option Mapping) → raised_in exc b.cpu (option_map (λ (m : Mapping). m.page) m) b.frames ≡ written_through b.frames (record { address = page_size; bytes = exception_bytes exc b.cpu }) m
-  raised_memory exc None = refl
-  raised_memory exc (Some m) = refl
-
   raised_serves : (exc : Exc) → Serves b e (Raises exc) (tick.no_change (world_of b)) (raised b e (handlers_of b.roster.list e).exception exc)
   raised_serves exc =
       let w : Write = record { address = page_size; bytes = exception_bytes exc b.cpu } in
-      let ms = mappings_of b.roster.list e in
-      let m = mapping_at ms context_number in
-      let frames = raised_in exc b.cpu (page_of ms context_number) b.frames in
-      let cpu = raised_cpu (handlers_of b.roster.list e).exception exc b.cpu in
-      let handler : (handlers_of b.roster.list e).exception ≡ x.env.handlers.exception = ap (λ o. (handlers_in o).exception) r.at in
-      let wrote : frames ≡ written_through b.frames w m = raised_memory exc m in
-      let pages : pages_seen frames x.env.mappings ≡ kept_after (pages_seen b.frames x.env.mappings) (its_store w) =
-      ap (λ fs. pages_seen fs x.env.mappings) wrote ∙ ap (pages_seen (written_through b.frames w m)) (sym (its_mappings b e x r))
-      ∙ own_kept b.frames b.pages b.roster.list sound.memory e w m refl
-      ∙ ap (λ ms. kept_after (pages_seen b.frames ms) (its_store w)) (its_mappings b e x r) in
-      let sights : (i p : ℕ) → seen_in i (row_in b.pages) (stripe_of b i) (page_at frames) p ≡ sights_of b i p =
-      λ i p. ap (λ fs. seen_in i (row_in b.pages) (stripe_of b i) (page_at fs) p) wrote
-      ∙ guaranteed_sights b.frames b.pages b.binds b.roster sound.memory sound.books e w i m refl p in
+      let now = raised b e (handlers_of b.roster.list e).exception exc in
+      let maps = its_mappings b e x r in
+      let pages : pages_seen now.frames x.env.mappings ≡ kept_after (pages_seen b.frames x.env.mappings) (left_store w) =
+      ap (pages_seen (left_by b e w)) (sym maps) ∙ left_own b sound e w refl ∙ ap (λ ms. kept_after (pages_seen b.frames ms) (left_store w)) maps in
       record {
         book = refl;
         count = refl;
-        solos = by_env (solo_of (struck b cpu frames)) (λ i. absorb_all (set_at e (raise exc (solo_of b e)) (solo_of b) i) []) e
-            (runner_seen (struck b cpu frames) e x (record { at = r.at; lives = r.lives; runs = r.runs })
-            ∙ (λ k. record (runner_solo b e x) { cpu = raised_cpu (handler k) exc b.cpu; kept = pages k; seen = λ p. sights e p k })
+        solos = by_env (solo_of now) (λ i. absorb_all (set_at e (raise exc (solo_of b e)) (solo_of b) i) []) e
+            (runner_seen now e x (record { at = r.at; lives = r.lives; runs = r.runs })
+            ∙ (λ k. record (runner_solo b e x) { cpu = raised_cpu (handlers_in (r.at k)).exception exc b.cpu; kept = pages k; seen = λ p. left_sights b sound e w refl e p k })
             ∙ ap (raise exc) (sym (runner_seen b e x r))
             ∙ sym (set_here e (raise exc (solo_of b e)) (solo_of b)))
-            (λ i ne. same_solo i (struck b cpu frames) b (record {
+            (λ i ne. same_solo i now b (record {
               record_is = refl;
               idles = r.runs.others i ne;
               idled = r.runs.others i ne;
-              pages = ap (λ fs. pages_seen fs (mappings_of b.roster.list i)) wrote ∙ other_kept b.frames b.pages b.roster.list sound.memory e w i ne m refl;
+              pages = left_others b sound e w refl i ne;
               binds = refl;
-              sights = λ k p. sights i p k;
+              sights = λ k p. left_sights b sound e w refl i p k;
               console = refl;
             })
             ∙ sym (set_else e i (raise exc (solo_of b e)) (solo_of b) ne));

@@ -1,82 +1,161 @@
 -- The turn and the timer, on the world that is shown.
-use Rattle.std.proofs.Common.{◌≡◌, ◌≢◌, ℕ, ◌-◌, ◌≤◌, [], ◌∷◌, Bool, true, false, Option, Some, None, IsSome, refl, sym, ◌∙◌, ap, arith}
-use Rattle.std.specs.Prelude.{◌==◌, if◌then◌else◌, slice_get}
+use Rattle.std.proofs.Common.{◌≡◌, ◌≢◌, ℕ, zero, suc, ◌+◌, ◌-◌, ◌<◌, ◌≤◌, [], ◌∷◌, ◌++◌, length, map, Bool, true, false, not, Option, Some, None, IsSome, refl, sym, ◌∙◌, ap, subst, arith, append_assoc}
+use Rattle.std.specs.Prelude.{◌==◌, nat_lt, if◌then◌else◌, slice_get}
 use Rattle.std.specs.Option.{option_map}
 use Rattle.std.proofs.lemmas.Bool.{ne_eqb, eq-eqb, eqb-true, eqb-false}
-use Rattle.mips_exec.specs.Cpu.{rested}
-use Rattle.slot_vector.specs.Slices.{HasTicks, next_turn, timer_counted, counted_in}
+use Rattle.aegis_limits.specs.Limits.{page_size}
+use Rattle.mips_exec.specs.Access.{Write}
+use Rattle.env_frames.specs.Context.{end_area, end_bytes, resumed_cpu}
+use Rattle.kernel_journal.specs.declared.row.Row.TheVariants as row
+use Rattle.slot_vector.specs.declared.turn.NextTurn.{NextTurn}
+use Rattle.slot_vector.specs.declared.turn.NextTurn.TheVariants as next
+use Rattle.slot_vector.specs.Laws.{owed_of}
+use Rattle.slot_vector.specs.Slices.{HasTicks, after_turn, counted as counted_runner, excess_of, in_grace_again, next_held, next_turn, raised_for, timer_at_end, timer_by, told_of}
+use Rattle.slot_vector.specs.declared.timer.Timer.TheVariants as timer
+use Rattle.slot_vector.proofs.Owed.{excess_set}
+use Rattle.slot_vector.proofs.Whole.{idle_step, is_idle, paid_is, pay_lowers, pay_step, ran_is, run_step}
+use Rattle.world_model.specs.declared.life.Life.{Life}
 use Rattle.world_model.specs.declared.life.Life.TheVariants.{Live}
+use Rattle.world_model.specs.declared.life.Cause.TheVariants as cause
+use Rattle.world_model.specs.declared.slot.Phase.{Phase}
+use Rattle.world_model.specs.declared.slot.Phase.TheVariants as phase
 use Rattle.world_model.specs.declared.slot.Runner.{Runner}
 use Rattle.world_model.specs.declared.slot.Turn.{Turn}
-use Rattle.world_model.specs.Book.{is_idle_book, is_runner, running}
-use Rattle.world_model.specs.Item.{Start, absorb_all}
-use Rattle.world_model.specs.World.{World, after}
+use Rattle.world_model.specs.Book.{Book, Told, excess_limit, is_idle_book, is_runner, pays_first, running}
+use Rattle.world_model.specs.Item.{End, Killed, Start, absorb_all}
+use Rattle.world_model.specs.PageCalls.{lost_with}
+use Rattle.world_model.specs.Solo.{Solo, dead, is_dead, kept_after}
+use Rattle.world_model.specs.Table.{set_at}
+use Rattle.world_model.specs.Verdict.{death}
+use Rattle.world_model.specs.World.{World, after, no_items, only}
 use Rattle.world_model.specs.Tick as tick
 use Rattle.board_world.specs.declared.roster.Environment.{Environment}
-use Rattle.board_world.specs.Shown.{Shown, registers_in}
-use Rattle.board_world.specs.Showing.{world_of, book_of, solo_of, solo_or_absent, solo_seen, cpu_seen}
+use Rattle.board_world.specs.Shown.{Shown, handlers_in, handlers_of}
+use Rattle.board_world.specs.Showing.{world_of, book_of, solo_of, solo_or_absent, solo_seen, cpu_seen, pages_seen}
 use Rattle.board_world.specs.Sound.{IsSound}
-use Rattle.board_world.specs.Doing.{started, turned, turned_to, turned_when, stopped, counted, counted_down, ticked, with_registers}
+use Rattle.board_world.specs.Doing.{brought, counted, counted_down, died, ended, has_end, over_row, paid, start_registers, started, stopped, ticked, turned, turned_by, turned_to, turned_when, with_registers}
+use Rattle.board_world.proofs.Contexts.{left_by, left_others, left_own, left_sights, left_store, start_others, start_seen, start_sights, waiting}
+use Rattle.board_world.proofs.Dying.{died_serves, numbered_within}
 use Rattle.board_world.proofs.Lists.{changed_here, changed_else, length-changed}
-use Rattle.board_world.proofs.Parts.{append_nothing, worlds, by_env, one_absorbed}
-use Rattle.board_world.proofs.Seen.{like_solo, same_solo, Runs, runner_runs, live_record}
-use Rattle.board_world.proofs.Sound.{turn_live}
+use Rattle.board_world.proofs.Parts.{append_nothing, by_env, worlds, one_absorbed, set_here, set_else}
+use Rattle.board_world.proofs.Seen.{like_solo, same_solo, named, Runs, its_mappings, live_record, runner_runs, runner_seen, runner_solo}
+use Rattle.board_world.proofs.Sound.{held_live}
+use Rattle.board_world.proofs.Turns.{paid_sound}
 
 -- nobody runs
 idle_names : (b : Shown) (i : ℕ) → b.slots.runner ≡ None → is_runner i b.slots.runner ≡ false
 idle_names b i none = ap (is_runner i) none
 
 -- the start of a slice
-module _ (b : Shown) (t : Turn) (x : Environment) (at : slice_get b.roster.list t.env ≡ Some x) (lives : x.life ≡ Live) (none : b.slots.runner ≡ None) where
-  waiting_seen : solo_of b t.env ≡ record (solo_seen b t.env x) { life = Live; cpu = x.env.cpu }
+module _ (b : Shown) (sound : IsSound b) (t : Turn) (x : Environment) (at : slice_get b.roster.list t.env ≡ Some x) (lives : x.life ≡ Live) (none : b.slots.runner ≡ None) where
+  waiting_seen : solo_of b t.env ≡ waiting b t.env x
   waiting_seen =
       let cpu : cpu_seen b t.env x.env.cpu ≡ x.env.cpu = rw (idle_names b t.env none) refl in
       ap (solo_or_absent b t.env) at ∙ (λ k. record (solo_seen b t.env x) { life = lives k; cpu = cpu k })
 
   starts : solo_of (started b t) t.env ≡ absorb_all (solo_of b t.env) (Start ∷ [])
   starts =
-      let cpu : cpu_seen (started b t) t.env x.env.cpu ≡ rested x.env.cpu = rw (eq-eqb t.env t.env refl) (ap (λ y. rested (registers_in y)) at) in
-      ap (solo_or_absent (started b t) t.env) at
-      ∙ (λ k. record (solo_seen b t.env x) { life = lives k; cpu = cpu k })
+      let new = started b t in
+      let cpu : cpu_seen new t.env x.env.cpu ≡ start_registers b.roster.list t.env = rw (eq-eqb t.env t.env refl) refl in
+      ap (solo_or_absent new t.env) at
+      ∙ (λ k. record (solo_seen new t.env x) { life = lives k; cpu = cpu k; seen = λ p. start_sights b sound t.env t.env p k })
+      ∙ start_seen b sound t.env x at
       ∙ ap (λ s. absorb_all s (Start ∷ [])) (sym waiting_seen)
 
-  pub started_world : world_of (started b t) ≡ after (world_of b) (tick.take_turn (world_of b) (Some t))
+  others : (i : ℕ) → i ≢ t.env → solo_of (started b t) i ≡ solo_of b i
+  others i ne = same_solo i (started b t) b (record {
+    record_is = refl;
+    idles = ne_eqb t.env i (λ same. ne (sym same));
+    idled = idle_names b i none;
+    pages = start_others b sound t.env i ne;
+    binds = refl;
+    sights = λ k p. start_sights b sound t.env i p k;
+    console = refl;
+  })
+
+  pub started_world : world_of (started b t) ≡ after (world_of b) (tick.take_turn (world_of b) (record { pays = []; runs = Some t; excess = excess_of b.slots.excess; cursor = t.slot }) (Some t))
   started_world =
-      worlds (world_of (started b t)) (after (world_of b) (tick.take_turn (world_of b) (Some t))) refl refl
-      (one_absorbed (solo_of b) (solo_of (started b t)) t.env (Start ∷ []) starts
-      (λ i ne. same_solo i (started b t) b (record { record_is = refl; idles = ne_eqb t.env i (λ same. ne (sym same)); idled = idle_names b i none; pages = refl; binds = refl; sights = refl; console = refl })))
+      worlds (world_of (started b t)) (after (world_of b) (tick.take_turn (world_of b) (record { pays = []; runs = Some t; excess = excess_of b.slots.excess; cursor = t.slot }) (Some t))) refl refl
+      (one_absorbed (solo_of b) (solo_of (started b t)) t.env (Start ∷ []) starts others)
       refl
 
 -- a world in which nothing happens
 pub quiet_world : (w : World) → w ≡ after w (tick.no_change w)
 quiet_world w = worlds w (after w (tick.no_change w)) refl refl (λ i. refl) (sym (append_nothing w.rows))
 
-turned_to_world : (b : Shown) (t : Option Turn) → next_turn b.slots ≡ t → IsSound b → b.roster.spare ≡ 0 → b.slots.runner ≡ None → world_of (turned_to b t) ≡ after (world_of b) (tick.take_turn (world_of b) t)
-turned_to_world b None is sound whole none = quiet_world (world_of b)
-turned_to_world b (Some t) is sound whole none =
-    let live = turn_live b.slots b.roster t sound.book whole is in
-    let x = live_record b.roster.list t.env live.1 in
-    started_world b t x.0 x.1.0 x.1.1 none
+-- a forfeit changes no environment
+paid_solo : (b : Shown) (t : Turn) (i : ℕ) → solo_of (paid b t) i ≡ solo_of b i
+paid_solo b t i = like_solo i (paid b t) b (record { record_is = refl; cpu = λ kept. refl; pages = refl; binds = refl; sights = refl; console = refl })
+
+-- the turn as the model tells it
+abbrev told_world : Shown → Told → World
+told_world b told = after (world_of b) (tick.take_turn (world_of b) told told.runs)
+
+-- a forfeit, and then the rest of the turn, in which somebody runs
+forfeit_first : (b : Shown) (t : Turn) (rest : Told) (runs : Option Turn) → rest.runs ≡ runs → runs ≢ None → told_world (paid b t) rest ≡ told_world b (pays_first t rest)
+forfeit_first b t rest None is some = absurd (some refl)
+forfeit_first b t rest (Some u) is some =
+    let before = world_of (paid b t) in
+    let w = world_of b in
+    ap (λ o. after before (tick.take_turn before rest o)) is
+    ∙ worlds (after before (tick.take_turn before rest (Some u))) (after w (tick.take_turn w (pays_first t rest) (Some u))) refl refl
+    (λ i. ap (λ s. absorb_all s ((tick.take_turn w rest (Some u)).items i)) (paid_solo b t i))
+    (append_assoc b.ledger.rows (row.Pay b.time t.slot t.env ∷ []) (map (tick.pay_row b.time) rest.pays ++ row.Run b.time u.slot u.env ∷ []))
+    ∙ ap (λ o. after w (tick.take_turn w (pays_first t rest) o)) (sym is)
+
+-- after a forfeit somebody runs: the slot is still held
+pays_runs : (b : Shown) (t : Turn) → next_turn b.slots ≡ next.Pay t → (told_of (after_turn b.slots (next.Pay t))).runs ≢ None
+pays_runs b t is none =
+    let held : next_held b.slots ≡ Some t = (paid_is (excess_of b.slots.excess) (next_held b.slots) t is).0 in
+    let told : (told_of b.slots).runs ≡ None = ap (λ (told : Told). told.runs) (pay_step b.slots t is) ∙ none in
+    let idle : next_held b.slots ≡ None = (is_idle b.slots).0 told in
+    let both : Some t ≡ None = sym held ∙ idle in
+    cc
+
+-- the turn is the model's, where that of a board after a forfeit is
+abbrev IsTold : Shown → Type 0
+IsTold b = world_of (turned_by b (told_of b.slots)) ≡ told_world b (told_of b.slots)
+
+module _ (b : Shown) (sound : IsSound b) (whole : b.roster.spare ≡ 0) (none : b.slots.runner ≡ None) where
+  told_next : ((t : Turn) → next_turn b.slots ≡ next.Pay t → IsTold (paid b t)) → (comes : NextTurn) → next_turn b.slots ≡ comes → IsTold b
+  told_next later next.Idle is = rw (idle_step b.slots is) (quiet_world (world_of b))
+  told_next later (next.Run t) is =
+      let held = (ran_is (excess_of b.slots.excess) (next_held b.slots) t is).0 in
+      let live = held_live b.slots b.roster t sound.book whole held in
+      let x = live_record b.roster.list t.env live.1 in
+      rw (run_step b.slots t is) (started_world b sound t x.0 x.1.0 x.1.1 none)
+  told_next later (next.Pay t) is =
+      let rest = told_of (after_turn b.slots (next.Pay t)) in
+      rw (pay_step b.slots t is) (later t is ∙ forfeit_first b t rest rest.runs refl (pays_runs b t is))
+
+-- so it is with fewer than so much owed
+told_within : (n : ℕ) (b : Shown) → owed_of b.slots < n → IsSound b → b.roster.spare ≡ 0 → b.slots.runner ≡ None → IsTold b
+told_within zero b enough sound whole none = absurd (omega arith)
+told_within (suc n) b enough sound whole none =
+    told_next b sound whole none
+    (λ t is. told_within n (paid b t) (let less = pay_lowers b.slots t is in omega (arith, less)) (paid_sound b t sound) whole none)
+    (next_turn b.slots) refl
 
 pub turned_world : (b : Shown) → IsSound b → b.roster.spare ≡ 0 → world_of (turned b) ≡ after (world_of b) (tick.turn (world_of b))
 turned_world b sound whole = by_runner b.slots.runner refl
   where
     by_runner : (r : Option Runner) → b.slots.runner ≡ r → world_of (turned_when b r) ≡ after (world_of b) (tick.turn_when (world_of b) r)
     by_runner (Some r) is = quiet_world (world_of b)
-    by_runner None is = turned_to_world b (next_turn b.slots) refl sound whole is
+    by_runner None is = told_within (suc (owed_of b.slots)) b (omega arith) sound whole is
 
 -- after the turn of a board that isn't idle somebody runs
 pub turned_runs : (b : Shown) → is_idle_book (book_of b) ≡ false → IsSome (turned b).slots.runner
 turned_runs b busy = by_runner b.slots.runner refl
   where
-    by_turn : (t : Option Turn) → next_turn b.slots ≡ t → b.slots.runner ≡ None → IsSome (turned_to b t).slots.runner
-    by_turn None is none =
-        let idle : is_idle_book (book_of b) ≡ true = rw (none, is) refl in
+    by_told : (start : Shown) (runs : Option Turn) → (told_of b.slots).runs ≡ runs → b.slots.runner ≡ None → IsSome (turned_to start runs).slots.runner
+    by_told start None is none =
+        let held : next_held b.slots ≡ None = (is_idle b.slots).0 is in
+        let idle : is_idle_book (book_of b) ≡ true = rw (none, held) refl in
         let both : true ≡ false = sym idle ∙ busy in cc
-    by_turn (Some t) is none = refl
+    by_told start (Some t) is none = refl
 
     by_runner : (o : Option Runner) → b.slots.runner ≡ o → IsSome (turned_when b o).slots.runner
-    by_runner None is = by_turn (next_turn b.slots) refl is
+    by_runner None is = by_told _ (told_of b.slots).runs refl is
     by_runner (Some r) is = rw is refl
 
 -- the runner is stopped
@@ -103,30 +182,171 @@ module _ (b : Shown) (e : ℕ) (x : Environment) (r : Runs b e x) where
   pub stopped_count : (world_of (stopped b e)).count ≡ (world_of b).count
   stopped_count = length-changed (with_registers b.cpu) b.roster.list e
 
--- the timer, by whether the runner has one tick left
-module _ (b : Shown) (r : Runner) (is : b.slots.runner ≡ Some r) (x : Environment) (runs : Runs b r.env x) (some : 1 ≤ r.left) where
-  counted_when : (last : Bool) → (r.left == 1) ≡ last → world_of (ticked (if last then stopped b r.env else (record b { slots = timer_counted b.slots }))) ≡ after (world_of b) (tick.count_down (world_of b) r.env (r.left - 1))
-  counted_when true last =
-      let none : r.left - 1 ≡ 0 = omega (arith, eqb-true r.left 1 last) in
-      worlds (world_of (ticked (stopped b r.env))) (after (world_of b) (tick.stop (world_of b) r.env)) refl (stopped_count b r.env x runs) (by_env (solo_of (ticked (stopped b r.env))) (solo_of b) r.env (stopped_solo b r.env x runs) (stopped_others b r.env x runs)) refl
-      ∙ rw (eq-eqb (r.left - 1) 0 none) refl
-  counted_when false last =
-      let more : r.left - 1 ≢ 0 = λ zero. eqb-false r.left 1 last (omega (arith, some)) in
-      let left : counted_in b.slots.runner ≡ Some (record { env = r.env; left = r.left - 1 }) = ap counted_in is ∙ rw last refl in
-      let now : Shown = record b { slots = timer_counted b.slots } in
-      let its : (i : ℕ) → is_runner i (counted_in b.slots.runner) ≡ is_runner i b.slots.runner = λ i. ap (is_runner i) left ∙ ap (is_runner i) (sym is) in
-      worlds (world_of (ticked now)) (after (world_of b) (tick.go_on (world_of b) (Some (record { env = r.env; left = r.left - 1 }))))
+-- The timer. A board at the next time is the same to everybody.
+ticked_solo : (b : Shown) (i : ℕ) → solo_of (ticked b) i ≡ solo_of b i
+ticked_solo b i = like_solo i (ticked b) b (record { record_is = refl; cpu = λ kept. refl; pages = refl; binds = refl; sights = refl; console = refl })
+
+-- by its runner, who has ticks left
+module _ (b : Shown) (sound : IsSound b) (r : Runner) (is : b.slots.runner ≡ Some r) (x : Environment) (runs : Runs b r.env x) where
+  same_runner : (left : ℕ) (p : Phase) (i : ℕ) → is_runner i (Some (record { env = r.env; left = left; phase = p })) ≡ is_runner i b.slots.runner
+  same_runner left p i = ap (is_runner i) (sym is)
+
+  -- nothing
+  goes_on : r.left ≢ 1 → 1 ≤ r.left → world_of (ticked (brought b r.env timer.Nothing)) ≡ after (world_of b) (tick.count_down (world_of b) r (r.left - 1))
+  goes_on more some =
+      let left : option_map counted_runner b.slots.runner ≡ Some (record r { left = r.left - 1 }) = ap (option_map counted_runner) is in
+      let now = brought b r.env timer.Nothing in
+      worlds (world_of (ticked now)) (after (world_of b) (tick.timed (world_of b) (Some (record r { left = r.left - 1 })) no_items []))
       (λ k. record (book_of (ticked now)) { runner = left k })
       refl
-      (λ i. like_solo i (ticked now) b (record { record_is = refl; cpu = λ kept. ap (λ (t : Bool). if t then b.cpu else kept) (its i); pages = refl; binds = refl; sights = refl; console = refl }))
+      (λ i. like_solo i (ticked now) b (record {
+        record_is = refl;
+        cpu = λ kept. ap (λ (t : Bool). if t then b.cpu else kept) (ap (is_runner i) left ∙ same_runner (r.left - 1) r.phase i);
+        pages = refl;
+        binds = refl;
+        sights = refl;
+        console = refl;
+      }))
       (sym (append_nothing b.ledger.rows))
-      ∙ rw (ne_eqb (r.left - 1) 0 more) refl
+      ∙ rw (ne_eqb (r.left - 1) 0 (λ zero. more (omega (arith, some, zero)))) refl
+
+  -- the end of its slice, where it has no handler of ends
+  stops : world_of (ticked (brought b r.env timer.Stop)) ≡ after (world_of b) (tick.slice_end (world_of b) r.env 0)
+  stops =
+      let now = stopped b r.env in
+      worlds (world_of (ticked now)) (after (world_of b) (tick.slice_end (world_of b) r.env 0)) refl (stopped_count b r.env x runs)
+      (by_env (solo_of (ticked now)) (solo_of b) r.env
+      (ticked_solo now r.env ∙ stopped_solo b r.env x runs)
+      (λ i ne. ticked_solo now i ∙ stopped_others b r.env x runs i ne))
+      refl
+
+  in_grace : in_grace_again b.slots b.slots.runner ≡ Some (record { env = r.env; left = b.slots.quantum; phase = phase.Grace })
+  in_grace = ap (in_grace_again b.slots) is
+
+  -- and where it has one
+  ends : (h : ℕ) → (h == 0) ≡ false → (handlers_of b.roster.list r.env).end ≡ h → world_of (ticked (brought b r.env timer.End)) ≡ after (world_of b) (tick.slice_end (world_of b) r.env h)
+  ends h some handler =
+      let e = r.env in
+      let now = ended b e in
+      let w : Write = record { address = page_size + end_area; bytes = end_bytes b.cpu } in
+      let told = tick.timed (world_of b) (Some (record { env = e; left = b.slots.quantum; phase = phase.Grace })) (only e (End ∷ [])) (row.End b.time b.slots.cursor e ∷ []) in
+      let maps = its_mappings b e x runs in
+      let pages : pages_seen now.frames x.env.mappings ≡ kept_after (pages_seen b.frames x.env.mappings) (left_store w) =
+      ap (pages_seen (left_by b e w)) (sym maps) ∙ left_own b sound e w refl ∙ ap (λ ms. kept_after (pages_seen b.frames ms) (left_store w)) maps in
+      let still : Runs now e x = record { at = runs.at; lives = runs.lives; runs = named e now.slots.runner (ap running in_grace) } in
+      worlds (world_of (ticked now)) (after (world_of b) told)
+      (λ k. record (book_of (ticked now)) { runner = in_grace k })
+      refl
+      (one_absorbed (solo_of b) (solo_of (ticked now)) e (End ∷ [])
+      (ticked_solo now e
+      ∙ runner_seen now e x still
+      ∙ (λ k. record (runner_solo b e x) { cpu = resumed_cpu (handlers_in (runs.at k)).end b.cpu; kept = pages k; seen = λ p. left_sights b sound e w refl e p k })
+      ∙ ap (λ s. absorb_all s (End ∷ [])) (sym (runner_seen b e x runs)))
+      (λ i ne. ticked_solo now i ∙ same_solo i now b (record {
+        record_is = refl;
+        idles = still.runs.others i ne;
+        idled = runs.runs.others i ne;
+        pages = left_others b sound e w refl i ne;
+        binds = refl;
+        sights = λ k p. left_sights b sound e w refl i p k;
+        console = refl;
+      })))
+      refl
+      ∙ rw some refl
+
+  -- another quantum of grace
+  goes_over : (excess : ℕ) → world_of (ticked (brought b r.env (timer.Over excess))) ≡ after (world_of b) (tick.with_row (row.Over b.time b.slots.cursor r.env excess) (tick.later (record {
+    book = record (book_of b) { runner = Some (record { env = r.env; left = b.slots.quantum; phase = phase.Grace }); excess = set_at r.env excess (excess_of b.slots.excess) };
+    items = no_items;
+    rows = [];
+  })))
+  goes_over excess =
+      let now = brought b r.env (timer.Over excess) in
+      let told = tick.with_row (row.Over b.time b.slots.cursor r.env excess) (tick.later (record {
+        book = record (book_of b) { runner = Some (record { env = r.env; left = b.slots.quantum; phase = phase.Grace }); excess = set_at r.env excess (excess_of b.slots.excess) };
+        items = no_items;
+        rows = [];
+      })) in
+      let owes : excess_of (raised_for b.slots.runner excess b.slots.excess) ≡ set_at r.env excess (excess_of b.slots.excess) =
+      ap (λ o. excess_of (raised_for o excess b.slots.excess)) is ∙ excess_set b.slots.excess r.env excess (numbered_within b r.env x runs.at sound) in
+      worlds (world_of (ticked now)) (after (world_of b) told)
+      (λ k. record (book_of (ticked now)) { runner = in_grace k; excess = owes k })
+      refl
+      (λ i. like_solo i (ticked now) b (record {
+        record_is = refl;
+        cpu = λ kept. ap (λ (t : Bool). if t then b.cpu else kept) (ap (is_runner i) in_grace ∙ same_runner b.slots.quantum phase.Grace i);
+        pages = refl;
+        binds = refl;
+        sights = refl;
+        console = refl;
+      }))
+      refl
+
+  -- death of too much excess, on the board whose ledger says so
+  abbrev over : Shown
+  over = record b { ledger = over_row b r.env (excess_of b.slots.excess r.env + 1) }
+
+  over_solo : (i : ℕ) → solo_of over i ≡ solo_of b i
+  over_solo i = like_solo i over b (record { record_is = refl; cpu = λ kept. refl; pages = refl; binds = refl; sights = refl; console = refl })
+
+  over_sound : IsSound over
+  over_sound = record { book = sound.book; consoles = sound.consoles; memory = sound.memory; books = sound.books }
+
+  dies : world_of (ticked (brought b r.env timer.Kill)) ≡ after (world_of b) (tick.with_row (row.Over b.time b.slots.cursor r.env (excess_of b.slots.excess r.env + 1)) (tick.later (tick.killed (world_of b) r.env)))
+  dies =
+      let e = r.env in
+      let now = died over e cause.Excess in
+      let first = row.Over b.time b.slots.cursor e (excess_of b.slots.excess e + 1) in
+      let last = death (world_of b) e in
+      let old = solo_of over in
+      let gone = dead cause.Excess (solo_of over e) in
+      let serves = died_serves over e x (record { at = runs.at; lives = runs.lives; runs = runs.runs }) over_sound cause.Excess in
+      let lives : (solo_of b e).life ≡ Live = ap (λ (s : Solo). s.life) (runner_seen b e x runs) in
+      worlds (world_of (ticked now)) (after (world_of b) (tick.with_row first (tick.later (tick.killed (world_of b) e))))
+      (ap (λ (k : Book). record k { time = k.time + 1 }) serves.book)
+      serves.count
+      (by_env (solo_of (ticked now)) (λ i. absorb_all (solo_of b i) (set_at e (Killed ∷ []) last.items i)) e
+      (ticked_solo now e ∙ serves.solos e
+      ∙ (λ k. absorb_all (set_here e gone old k) (if eq-eqb e e refl k then [] else lost_with (book_of b) e e (length b.pages)))
+      ∙ ap (dead cause.Excess) (over_solo e)
+      ∙ sym (ap (λ (life : Life). if is_dead life then solo_of b e else dead cause.Excess (solo_of b e)) lives)
+      ∙ ap (absorb_all (solo_of b e)) (sym (set_here e (Killed ∷ []) last.items)))
+      (λ i ne. ticked_solo now i ∙ serves.solos i
+      ∙ ap (λ s. absorb_all s (last.items i)) (set_else e i gone old ne ∙ over_solo i)
+      ∙ ap (absorb_all (solo_of b i)) (sym (set_else e i (Killed ∷ []) last.items ne))))
+      (serves.rows ∙ append_assoc b.ledger.rows (first ∷ []) last.rows)
+
+  -- by the phase of what it used up
+  runs_out : (p : Phase) → world_of (ticked (brought b r.env (timer_at_end p (has_end b r.env) (excess_of b.slots.excess r.env)))) ≡ after (world_of b) (tick.run_out (world_of b) r.env p)
+  runs_out phase.Own =
+      let handler : (handlers_of b.roster.list r.env).end ≡ (solo_of b r.env).handlers.end = ap (λ o. (handlers_in o).end) runs.at ∙ ap (λ (s : Solo). s.handlers.end) (sym (runner_seen b r.env x runs)) in
+      subst (λ h. world_of (ticked (brought b r.env (timer_at_end phase.Own (has_end b r.env) (excess_of b.slots.excess r.env)))) ≡ after (world_of b) (tick.slice_end (world_of b) r.env h)) handler
+      (by_test ((handlers_of b.roster.list r.env).end == 0) refl)
+    where
+      by_test : (none : Bool) → ((handlers_of b.roster.list r.env).end == 0) ≡ none → world_of (ticked (brought b r.env (timer_at_end phase.Own (not none) (excess_of b.slots.excess r.env)))) ≡ after (world_of b) (tick.slice_end (world_of b) r.env (handlers_of b.roster.list r.env).end)
+      by_test true none = rw (eqb-true (handlers_of b.roster.list r.env).end 0 none) stops
+      by_test false some = ends (handlers_of b.roster.list r.env).end some refl
+  runs_out phase.Grace = by_test (nat_lt excess_limit (excess_of b.slots.excess r.env + 1)) refl
+    where
+      by_test : (much : Bool) → nat_lt excess_limit (excess_of b.slots.excess r.env + 1) ≡ much
+          → world_of (ticked (brought b r.env (if much then timer.Kill else timer.Over (excess_of b.slots.excess r.env + 1)))) ≡ after (world_of b) (tick.grace_end (world_of b) r.env (excess_of b.slots.excess r.env + 1))
+      by_test true much = dies ∙ rw much refl
+      by_test false little = goes_over (excess_of b.slots.excess r.env + 1) ∙ rw little refl
+
+  -- by whether it has one tick left
+  counts : (last : Bool) → (r.left == 1) ≡ last → 1 ≤ r.left
+      → world_of (ticked (brought b r.env (if last then timer_at_end r.phase (has_end b r.env) (excess_of b.slots.excess r.env) else timer.Nothing))) ≡ after (world_of b) (tick.count_down (world_of b) r (r.left - 1))
+  counts true one some =
+      let none : r.left - 1 ≡ 0 = omega (arith, eqb-true r.left 1 one) in
+      runs_out r.phase ∙ rw (eq-eqb (r.left - 1) 0 none) refl
+  counts false more some = goes_on (eqb-false r.left 1 more) some
 
 pub counted_world : (b : Shown) → IsSound b → world_of (counted b) ≡ after (world_of b) (tick.timer (world_of b))
 counted_world b sound = by_runner b.slots.runner refl sound.book.ticks
   where
     by_runner : (o : Option Runner) → b.slots.runner ≡ o → HasTicks o → world_of (ticked (counted_down b o)) ≡ after (world_of b) (tick.timer_when (world_of b) o)
-    by_runner None is some = worlds (world_of (ticked b)) (after (world_of b) (tick.timer_when (world_of b) None)) (λ k. record (book_of (ticked b)) { runner = is k }) refl (λ i. refl) (sym (append_nothing b.ledger.rows))
+    by_runner None is some = worlds (world_of (ticked b)) (after (world_of b) (tick.timer_when (world_of b) None)) (λ k. record (book_of (ticked b)) { runner = is k }) refl (ticked_solo b) (sym (append_nothing b.ledger.rows))
     by_runner (Some r) is some =
         let x = runner_runs b r.env sound (ap running is) in
-        counted_when b r is x.0 x.1 some (r.left == 1) refl
+        ap (λ o. world_of (ticked (brought b r.env (timer_by o (has_end b r.env) (excess_of b.slots.excess))))) is
+        ∙ counts b sound r is x.0 x.1 (r.left == 1) refl some

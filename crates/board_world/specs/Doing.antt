@@ -1,28 +1,32 @@
 -- What the parts of a board's tick do to what it shows.
-use Rattle.std.specs.Prelude.{ℕ, zero, suc, ◌+◌, ◌-◌, ◌/◌, ◌%◌, Bool, true, false, List, [], ◌∷◌, ◌++◌, length, map, ◌==◌, if◌then◌else◌, Option, Some, None, is_some, unwrap_or, Result, Ok, Err, ok_or, slice_get, slice_set}
+use Rattle.std.specs.Prelude.{ℕ, zero, suc, ◌+◌, ◌-◌, ◌/◌, ◌%◌, Bool, true, false, not, ◌&&◌, fold, List, [], ◌∷◌, ◌++◌, length, map, ◌==◌, if◌then◌else◌, Option, Some, None, is_some, unwrap_or, Result, Ok, Err, ok_or, slice_get, slice_set}
 use Rattle.kernel_journal.specs.Ledger.{Ledger, with_row}
 use Rattle.kernel_journal.specs.declared.row.Row.{Row}
 use Rattle.kernel_journal.specs.declared.row.Row.TheVariants as row
 use Rattle.mips_exec.specs.declared.registers.Cpu.{Cpu}
 use Rattle.mips_exec.specs.declared.exception.Exc.{Exc}
-use Rattle.mips_exec.specs.Cpu.{reg, rested}
+use Rattle.mips_exec.specs.Cpu.{reg}
 use Rattle.mips_exec.specs.Step.{Step, Retired, Called, Trapped, cpu_after, write_after}
 use Rattle.env_frames.specs.declared.mapping.Mapping.{Mapping}
-use Rattle.env_frames.specs.declared.context.Context.TheVariants as context
-use Rattle.env_frames.specs.Context.{context_number, raised_cpu, with_handler}
-use Rattle.env_frames.specs.Frame.{gone_env, mapping_at, page_of, raised_in}
+use Rattle.env_frames.specs.declared.context.Context.{Context}
+use Rattle.env_frames.specs.Context.{context_number, end_area, end_bytes, raised_cpu, resumed_cpu, start_area, start_bytes, started_cpu, with_handler}
+use Rattle.env_frames.specs.Frame.{gone_env, left_in, mapping_at, page_of, raised_in}
 use Rattle.frame_store.specs.Pages.{with_page, zero_page}
 use Rattle.page_book.specs.declared.row.PageRow.{PageRow}
 use Rattle.page_book.specs.declared.row.PageRow.TheVariants.{Free, Owned}
 use Rattle.page_book.specs.declared.refusal.PageNo.{PageNo}
 use Rattle.page_book.specs.declared.refusal.PageNo.TheVariants as no
 use Rattle.page_book.specs.Row.{alloc_refusal, change_refusal, released}
-use Rattle.page_book.specs.Rows.{first_free, row_in}
+use Rattle.page_book.specs.Rows.{first_free, free_pages, row_in}
 use Rattle.bind_book.specs.declared.binding.Binding.{Binding}
 use Rattle.bind_book.specs.Stripe.{binding_at, breaks_page, goes_with, place_of, row_of, stripes, swept}
 use Rattle.guest_memory.specs.Look.{look, frames_after, guest_step}
 use Rattle.guest_memory.specs.Space.{lookup}
-use Rattle.slot_vector.specs.Slices.{hold_at, next_turn, with_turn, turn_ended, timer_counted, without_env}
+use Rattle.slot_vector.specs.declared.turn.NextTurn.{NextTurn}
+use Rattle.slot_vector.specs.declared.turn.NextTurn.TheVariants as next
+use Rattle.slot_vector.specs.declared.timer.Timer.{Timer}
+use Rattle.slot_vector.specs.declared.timer.Timer.TheVariants as timer
+use Rattle.slot_vector.specs.Slices.{after_timer, after_turn, excess_of, given_to, hold_at, refusal_of_drop, refusal_of_take, timer_answer, told_of, turn_ended, with_hold, without_env}
 use Rattle.world_model.specs.declared.slot.Hold.{Hold}
 use Rattle.world_model.specs.declared.slot.Runner.{Runner}
 use Rattle.world_model.specs.declared.slot.Turn.{Turn}
@@ -35,26 +39,53 @@ use Rattle.world_model.specs.declared.life.Cause.{Cause}
 use Rattle.world_model.specs.declared.life.Cause.TheVariants as cause
 use Rattle.world_model.specs.Page.{Mapped}
 use Rattle.world_model.specs.Item.{answered_cpu}
+use Rattle.std.specs.Option.{option_map}
 use Rattle.world_model.specs.Verdict.{released_rows, slot_row}
 use Rattle.world_model.specs.Code.{code_of}
-use Rattle.world_model.specs.Call.{any, binding_of, called, number_refusal, put_bytes, put_refusal, refusal_of_bind, refusal_of_context, words_of}
+use Rattle.world_model.specs.Book.{Told, own_hold}
+use Rattle.world_model.specs.Solo.{is_dead}
+use Rattle.world_model.specs.SlotCalls.{accepts, dropped, holder_answer, is_grace, owner_answer, refusal_of_giving}
+use Rattle.world_model.specs.Call.{any, binding_of, called, handled, number_refusal, put_bytes, put_refusal, refusal_of_bind, refusal_of_context, words_of}
 use Rattle.board_world.specs.declared.roster.Environment.{Environment}
 use Rattle.board_world.specs.Shown.{Shown, mappings_of, handlers_of, registers_of, console_of, changed, with_list}
 
--- the start of an environment's slice in a slot
+-- The start of an environment's slice: the registers with which it starts, and physical memory with what its handler of starts finds.
+abbrev pub start_registers : List Environment → ℕ → Cpu
+start_registers list e = started_cpu (handlers_of list e).start (registers_of list e)
+
+abbrev pub start_frames : Shown → ℕ → List (List ℕ)
+start_frames b e =
+    if (handlers_of b.roster.list e).start == 0 then b.frames
+    else left_in start_area (start_bytes (registers_of b.roster.list e)) (page_of (mappings_of b.roster.list e) context_number) b.frames
+
+-- a slot that is forfeited
+abbrev pub paid : Shown → Turn → Shown
+paid b t = record b { slots = after_turn b.slots (next.Pay t); ledger = with_row b.ledger (row.Pay b.time t.slot t.env) }
+
+-- the start of a slot's holder
 abbrev pub started : Shown → Turn → Shown
 started b t = record b {
-  slots = with_turn b.slots (Some t);
-  cpu = rested (registers_of b.roster.list t.env);
+  slots = after_turn b.slots (next.Run t);
+  frames = start_frames b t.env;
+  cpu = start_registers b.roster.list t.env;
   ledger = with_row b.ledger (row.Run b.time t.slot t.env);
 }
+
+-- what comes next in the vector of slots
+abbrev pub came_next : Shown → NextTurn → Shown
+came_next b next.Idle = b
+came_next b (next.Pay t) = paid b t
+came_next b (next.Run t) = started b t
 
 abbrev pub turned_to : Shown → Option Turn → Shown
 turned_to b None = b
 turned_to b (Some t) = started b t
 
+abbrev pub turned_by : Shown → Told → Shown
+turned_by b told = turned_to (fold paid b told.pays) told.runs
+
 abbrev pub turned_when : Shown → Option Runner → Shown
-turned_when b None = turned_to b (next_turn b.slots)
+turned_when b None = turned_by b (told_of b.slots)
 turned_when b (Some r) = b
 
 -- the turn
@@ -84,9 +115,13 @@ ran b e step = record b {
 abbrev pub with_registers : Cpu → Environment → Environment
 with_registers cpu x = record x { env = record x.env { cpu = cpu } }
 
--- an environment whose handler of exceptions stands at an address
-abbrev pub handling : ℕ → Environment → Environment
-handling address x = record x { env = record x.env { handlers = with_handler x.env.handlers context.Exception address } }
+-- an environment whose handler of a context stands at an address
+abbrev pub handling : Context → ℕ → Environment → Environment
+handling kind address x = record x { env = record x.env { handlers = with_handler x.env.handlers kind address } }
+
+-- an environment that accepts those of a mask
+abbrev pub accepting : ℕ → Environment → Environment
+accepting mask x = record x { env = record x.env { mask = mask } }
 
 -- an environment after its death
 abbrev pub dead_frame : Cause → Environment → Environment
@@ -144,9 +179,70 @@ abbrev pub put_if : Shown → ℕ → Option Code → Shown
 put_if b e None = answered (appended b e None) code.Ok (reg b.cpu 5)
 put_if b e (Some code) = answered b code 0
 
+-- the rest of the runner's slice goes to another environment, which is started
+abbrev pub given : Shown → ℕ → ℕ → Shown
+given b e target = record b {
+  slots = given_to target b.slots;
+  frames = start_frames b target;
+  cpu = start_registers b.roster.list target;
+  roster = with_list b.roster (changed (with_registers b.cpu) b.roster.list e);
+  ledger = with_row b.ledger (row.Give b.time b.slots.cursor e target);
+}
+
+-- whether a number is that of another environment that lives
+abbrev pub lives_in : Option Environment → Bool
+lives_in None = false
+lives_in (Some x) = not (is_dead x.life)
+
+abbrev pub is_other_in : Shown → ℕ → ℕ → Bool
+is_other_in b e target = lives_in (slice_get b.roster.list target) && not (target == e)
+
+abbrev pub mask_of : List Environment → ℕ → ℕ
+mask_of list e = unwrap_or (option_map (λ (x : Environment). x.env.mask) (slice_get list e)) 0
+
+abbrev pub refusal_of_gift_to : Shown → ℕ → ℕ → Option Code
+refusal_of_gift_to b e target = refusal_of_giving (is_other_in b e target) (is_grace b.slots.runner) (accepts (mask_of b.roster.list target) e)
+
+abbrev pub give_if : Shown → ℕ → ℕ → Option Code → Shown
+give_if b e target None = given (answered b code.Ok 0) e target
+give_if b e target (Some why) = answered b why 0
+
 abbrev pub yield_if : Shown → ℕ → Bool → Shown
 yield_if b e true = stopped (answered b code.Ok 0) e
-yield_if b e false = answered b code.BadCall 0
+yield_if b e false = give_if b e (reg b.cpu 4) (refusal_of_gift_to b e (reg b.cpu 4))
+
+-- Accept: the runner has another mask.
+abbrev pub accepted : Shown → ℕ → ℕ → Shown
+accepted b e mask = record b { roster = with_list b.roster (changed (accepting mask) b.roster.list e) }
+
+-- Take and drop: a slot has another hold.
+abbrev pub with_slot : Shown → ℕ → Option Hold → Shown
+with_slot b k hold = record b { slots = with_hold b.slots k hold; ledger = with_row b.ledger (slot_row b.time k hold) }
+
+abbrev pub slot_if : Shown → ℕ → Option Hold → Option Code → Shown
+slot_if b k hold None = answered (with_slot b k hold) code.Ok 0
+slot_if b k hold (Some why) = answered b why 0
+
+-- Query.
+abbrev pub death_answer_in : Option Environment → Result ℕ Code
+death_answer_in None = Err code.NoEnv
+death_answer_in (Some x) = Ok (if is_dead x.life then 1 else 0)
+
+abbrev pub answer_in : Shown → ℕ → ℕ → ℕ → Result ℕ Code
+answer_in b e what index =
+    if what == 0 then Ok (free_pages b.pages) else
+    if what == 1 then Ok (length b.pages) else
+    if what == 2 then Ok (length b.roster.list) else
+    if what == 3 then Ok (length b.slots.slots) else
+    if what == 4 then Ok b.slots.quantum else
+    if what == 5 then owner_answer (slice_get b.pages index) else
+    if what == 6 then holder_answer (slice_get b.slots.slots index) else
+    if what == 7 then Ok (excess_of b.slots.excess e) else
+    if what == 8 then death_answer_in (slice_get b.roster.list index) else Err code.BadCall
+
+abbrev pub query_if : Shown → Result ℕ Code → Shown
+query_if b (Ok value) = answered b code.Ok value
+query_if b (Err why) = answered b why 0
 
 -- The runner's exception goes to its handler, which stands at this address.
 abbrev pub raised : Shown → ℕ → ℕ → Exc → Shown
@@ -222,12 +318,13 @@ abbrev pub unbind_if : Shown → ℕ → Option Code → Shown
 unbind_if b e None = answered (with_unbound b e (reg b.cpu 4)) code.Ok (if has_bound b e (reg b.cpu 4) then 1 else 0)
 unbind_if b e (Some why) = answered b why 0
 
--- Context: the runner's handler of exceptions stands at an address.
-abbrev pub with_handling : Shown → ℕ → ℕ → Shown
-with_handling b e address = record b { roster = with_list b.roster (changed (handling address) b.roster.list e) }
+-- Context: the runner's handler of a context, if it is one, stands at an address.
+abbrev pub with_handling : Shown → ℕ → Option Context → ℕ → Shown
+with_handling b e None address = b
+with_handling b e (Some kind) address = record b { roster = with_list b.roster (changed (handling kind address) b.roster.list e) }
 
 abbrev pub context_if : Shown → ℕ → Option Code → Shown
-context_if b e None = answered (with_handling b e (reg b.cpu 5)) code.Ok 0
+context_if b e None = answered (with_handling b e (handled (reg b.cpu 4)) (reg b.cpu 5)) code.Ok 0
 context_if b e (Some why) = answered b why 0
 
 -- a kernel call of the runner
@@ -242,6 +339,10 @@ served b e (Some call.Recap) = changed_page b (reg b.cpu 4) (Owned e (words_of b
 served b e (Some call.Bind) = bind_if b e (refusal_of_binding b e)
 served b e (Some call.Unbind) = unbind_if b e (refusal_of_unbinding b e)
 served b e (Some call.Context) = context_if b e (refusal_of_context b.cpu)
+served b e (Some call.Accept) = answered (accepted b e (reg b.cpu 4)) code.Ok 0
+served b e (Some call.SlotTake) = slot_if b (reg b.cpu 4) (Some (own_hold e)) (refusal_of_take b.slots (reg b.cpu 4))
+served b e (Some call.SlotDrop) = slot_if b (reg b.cpu 4) (dropped e (hold_at b.slots.slots (reg b.cpu 4))) (refusal_of_drop e b.slots (reg b.cpu 4))
+served b e (Some call.Query) = query_if b (answer_in b e (reg b.cpu 4) (reg b.cpu 5))
 served b e (Some call.OwnNumber) = answered b code.Ok e
 served b e (Some call.Clock) = answered b code.Ok b.time
 
@@ -255,10 +356,33 @@ came_to b e (Trapped exc) = trapped b e exc
 abbrev pub ticked : Shown → Shown
 ticked b = record b { time = b.time + 1 }
 
--- the runner's ticks left fall by one; after the last it is stopped
+-- the end of a slice is told to the runner
+abbrev pub ended : Shown → ℕ → Shown
+ended b e = record b {
+  slots = after_timer b.slots timer.End;
+  frames = left_in end_area (end_bytes b.cpu) (page_of (mappings_of b.roster.list e) context_number) b.frames;
+  cpu = resumed_cpu (handlers_of b.roster.list e).end b.cpu;
+  ledger = with_row b.ledger (row.End b.time b.slots.cursor e);
+}
+
+-- a quantum of grace is over, and the runner's excess is this now
+abbrev pub over_row : Shown → ℕ → ℕ → Ledger
+over_row b e excess = with_row b.ledger (row.Over b.time b.slots.cursor e excess)
+
+-- what the timer brings to the runner
+abbrev pub brought : Shown → ℕ → Timer → Shown
+brought b e timer.Nothing = record b { slots = after_timer b.slots timer.Nothing }
+brought b e timer.Stop = stopped b e
+brought b e timer.End = ended b e
+brought b e (timer.Over excess) = record b { slots = after_timer b.slots (timer.Over excess); ledger = over_row b e excess }
+brought b e timer.Kill = died (record b { ledger = over_row b e (excess_of b.slots.excess e + 1) }) e cause.Excess
+
+abbrev pub has_end : Shown → ℕ → Bool
+has_end b e = not ((handlers_of b.roster.list e).end == 0)
+
 abbrev pub counted_down : Shown → Option Runner → Shown
 counted_down b None = b
-counted_down b (Some r) = if r.left == 1 then stopped b r.env else (record b { slots = timer_counted b.slots })
+counted_down b (Some r) = brought b r.env (timer_answer b.slots (has_end b r.env))
 
 -- the timer
 abbrev pub counted : Shown → Shown

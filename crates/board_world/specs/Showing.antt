@@ -5,7 +5,7 @@ use Rattle.frame_store.specs.Pages.{page_at}
 use Rattle.env_frames.specs.declared.mapping.Mapping.{Mapping}
 use Rattle.page_book.specs.Rows.{row_in}
 use Rattle.bind_book.specs.Stripe.{stripes}
-use Rattle.slot_vector.specs.Slices.{hold_at}
+use Rattle.slot_vector.specs.Slices.{excess_of, hold_at}
 use Rattle.world_model.specs.Page.{KeptPage}
 use Rattle.world_model.specs.Book.{Book, is_runner}
 use Rattle.world_model.specs.Solo.{Seen, Solo, absent}
@@ -55,6 +55,7 @@ book_of b = record {
   quantum = b.slots.quantum;
   cursor = b.slots.cursor;
   runner = b.slots.runner;
+  excess = excess_of b.slots.excess;
   page_count = length b.pages;
   pages = row_in b.pages;
   binds = stripes b.binds;

@@ -10,7 +10,8 @@ use Rattle.bind_book.specs.declared.binding.Binding.{Binding}
 use Rattle.bind_book.specs.Stripe.{stripe_rows, stripes}
 use Rattle.env_frames.specs.declared.mapping.Mapping.{Mapping}
 use Rattle.env_frames.specs.Frame.{IsRising, numbers}
-use Rattle.slot_vector.specs.Slices.{Slices, HasTicks, hold_at}
+use Rattle.slot_vector.specs.Slices.{Slices, HasTicks, excess_of, hold_at, most_numbers}
+use Rattle.world_model.specs.Book.{excess_limit}
 use Rattle.world_model.specs.declared.life.Life.TheVariants.{Live}
 use Rattle.board_world.specs.declared.roster.Environment.{Environment}
 use Rattle.board_world.specs.Shown.{Shown, Environments, mappings_of, console_of}
@@ -51,13 +52,15 @@ pub record AreBooked (pages : List PageRow) (binds : List (Option Binding)) (r :
   pub binders : (e row : ℕ) (x : Binding) → stripes binds e row ≡ Some x → IsLive r.list e
   pub bound : (e row : ℕ) (x : Binding) → stripes binds e row ≡ Some x → IsOwned (row_in pages x.page)
 
--- The slots: a runner lives and has ticks left, and whoever owns or holds a slot isn't dead.
+-- The slots: a runner lives and has ticks left, whoever owns or holds a slot isn't dead, and nobody owes more than the limit.
 pub record IsManned (v : Slices) (r : Environments) : Type 0 where
   pub quantum : 0 < v.quantum
   pub ticks : HasTicks v.runner
   pub runner : IfSome v.runner (λ x. IsLive r.list x.env)
   pub holds : (k : ℕ) → IfSome (hold_at v.slots k) (λ h. IsUndead r h.owner × IsUndead r h.holder)
   pub count : length v.slots ≤ most_slots
+  pub numbered : length v.excess ≡ most_numbers
+  pub owes : (e : ℕ) → excess_of v.excess e ≤ excess_limit
 
 -- The consoles: there is one for each environment, and what isn't there yet wrote nothing.
 pub record AreConsoles (consoles : List (List ℕ)) (r : Environments) : Type 0 where

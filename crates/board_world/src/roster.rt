@@ -1,7 +1,8 @@
 //! The environments of a board.
 ghost use Rattle.std.specs.Prelude.{◌≡◌, ◌<◌, ◌≤◌, ◌-◌, [], ◌∷◌, ◌++◌, length, slice_get, Some, IfOk};
+ghost use Rattle.std.specs.Option.{option_map};
 ghost use Rattle.board_world.specs.Shown.{changed, handlers_of, mappings_of, registers_of, with_list};
-ghost use Rattle.board_world.specs.Doing.{with_registers, handling, dead_frame};
+ghost use Rattle.board_world.specs.Doing.{with_registers, accepting, handling, dead_frame, mask_of};
 
 use edge_io::OutOfMemory;
 use env_frames::{Context, Env};
@@ -71,8 +72,17 @@ impl Roster {
         ensures mappings { result.now.mappings ≡ mappings_of self.now.list env }
         ensures registers { result.now.cpu ≡ registers_of self.now.list env }
         ensures handlers { result.now.handlers ≡ handlers_of self.now.list env }
+        ensures mask { result.now.mask ≡ mask_of self.now.list env }
     {
         &self.at(env).env
+    }
+
+    /// Whether the environment of this number lives, or why it died; none where there is no such environment.
+    pub fn life(&self, number: u32) -> Option<Life>
+        ensures { result ≡ option_map (λ x. x.life) (slice_get self.now.list number) }
+    {
+        let environment = self.list.get(number as usize)?;
+        Some(environment.life)
     }
 
     /// Adds the next environment, for which there must be room.
@@ -92,12 +102,20 @@ impl Roster {
         keep_in(&mut self.list, usize::from(env), cpu);
     }
 
-    /// The handler of exceptions of the environment of this number stands at an address from now on; 0 is none.
-    pub fn handle(&mut self, env: u8, address: u32)
+    /// The handler of a context of the environment of this number stands at an address from now on; 0 is none.
+    pub fn handle(&mut self, env: u8, context: Context, address: u32)
         requires { env < length self.old.list }
-        ensures { self.new ≡ with_list self.old (changed (handling address) self.old.list env) }
+        ensures { self.new ≡ with_list self.old (changed (handling context address) self.old.list env) }
     {
-        handle_in(&mut self.list, usize::from(env), address);
+        handle_in(&mut self.list, usize::from(env), context, address);
+    }
+
+    /// The environment of this number accepts the yields and transfers of those in this mask, and of no others.
+    pub fn accept(&mut self, env: u8, mask: u32)
+        requires { env < length self.old.list }
+        ensures { self.new ≡ with_list self.old (changed (accepting mask) self.old.list env) }
+    {
+        accept_in(&mut self.list, usize::from(env), mask);
     }
 
     /// The environment of this number dies: its registers and its mappings go.
@@ -118,13 +136,22 @@ fn keep_in(list: &mut [Environment], place: usize, cpu: &Cpu)
     environment.env.keep(cpu);
 }
 
-/// Sets the handler of exceptions of the environment at a place.
-fn handle_in(list: &mut [Environment], place: usize, address: u32)
+/// Sets the handler of a context of the environment at a place.
+fn handle_in(list: &mut [Environment], place: usize, context: Context, address: u32)
     requires { place < length list.old }
-    ensures { list.new ≡ changed (handling address) list.old place }
+    ensures { list.new ≡ changed (handling context address) list.old place }
 {
     let environment = &mut list[place];
-    environment.env.set_handler(Context::Exception, address);
+    environment.env.set_handler(context, address);
+}
+
+/// Sets whom the environment at a place accepts.
+fn accept_in(list: &mut [Environment], place: usize, mask: u32)
+    requires { place < length list.old }
+    ensures { list.new ≡ changed (accepting mask) list.old place }
+{
+    let environment = &mut list[place];
+    environment.env.set_accept(mask);
 }
 
 /// The environment at a place dies.

@@ -1,9 +1,11 @@
 -- All programs of the image, added to the bare world, give its boot.
-use Rattle.std.proofs.Common.{◌≡◌, ℕ, List, Option, ap, ◌∙◌}
+use Rattle.std.proofs.Common.{◌≡◌, ℕ, List, Option, ap, sym, subst, ◌∙◌}
 use Rattle.std.specs.Prelude.{fold}
 use Rattle.boot_image.specs.ImageValue.{ProgramValue}
 use Rattle.world_model.specs.World.{World}
 use Rattle.world_model.specs.Boot.{bare_world, added, boot_world}
+use Rattle.world_model.specs.Excess.{IsAccounted}
+use Rattle.world_model.proofs.Balance.{boots_accounted}
 use Rattle.board_world.specs.Showing.{world_of}
 use Rattle.aegis_tick.proofs.Booted.{added_boot, boot_time}
 use Rattle.aegis_tick.proofs.booting.boot.Goals as goal
@@ -22,6 +24,9 @@ booted c =
 
 pub returns-clause-world : goal.returns-clause-world
 returns-clause-world c = booted c
+
+pub returns-clause-balance : goal.returns-clause-balance
+returns-clause-balance c = subst IsAccounted (sym (booted c)) (boots_accounted c.args.image.now)
 
 pub returns-clause-fresh : goal.returns-clause-fresh
 returns-clause-fresh c = ap (λ (w : World). w.book.time) (booted c) ∙ boot_time c.args.image.now

@@ -1,11 +1,13 @@
 -- Each turn of the loop is a tick of the model, until it is idle.
-use Rattle.std.proofs.Common.{◌≡◌, ◌+◌, ◌-◌, ℕ, sym, ◌∙◌, ap, arith}
+use Rattle.std.proofs.Common.{◌≡◌, ◌+◌, ◌-◌, ℕ, sym, subst, ◌∙◌, ap, arith}
 use Rattle.board_world.specs.Shown.{Shown}
 use Rattle.board_world.specs.Showing.{world_of}
 use Rattle.world_model.specs.Book.{is_idle_book}
+use Rattle.world_model.specs.Excess.{IsAccounted}
 use Rattle.world_model.specs.World.{World}
 use Rattle.world_model.specs.Run.{run_on}
 use Rattle.world_model.specs.Tick.{tick_step}
+use Rattle.world_model.proofs.Balance.{ticks_keep_accounts}
 use Rattle.aegis_tick.proofs.Whole.{stays, goes_on}
 use Rattle.aegis_tick.proofs.running.run_ticks.Goals as goal
 
@@ -28,8 +30,10 @@ loop-done-preserved c =
     let w = world_of c.args.board.now in
     let same = c.in_ok-make_room.ensures.world ∙ c.loop-done.invariant.world in
     let busy = ap (λ (v : World). is_idle_book v.book) (sym c.loop-done.invariant.world) ∙ sym c.idle.ensures ∙ c.if-idle.false in
+    let world = c.tick.ensures.world ∙ ap tick_step same ∙ sym (goes_on w c.loop-done.done busy) in
     record {
-      world = c.tick.ensures.world ∙ ap tick_step same ∙ sym (goes_on w c.loop-done.done busy);
+      world = world;
+      balance = λ good. subst IsAccounted (sym world) (ticks_keep_accounts w good (c.loop-done.done + 1));
       whole = c.tick.ensures.whole;
       time = c.tick.ensures.time ∙ ap (λ (v : World). v.book.time + 1) c.in_ok-make_room.ensures.world ∙ ap (λ (n : ℕ). n + 1) c.loop-done.invariant.time;
       room = λ enough.

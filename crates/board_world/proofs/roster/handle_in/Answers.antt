@@ -10,4 +10,4 @@ pub returns : goal.returns
 returns c =
     let x = slice_index_or c.args.list.now c.args.place c.index-list-place.result in
     ap (λ (v : EnvValue). slice_set c.args.list.now c.args.place (record x { env = v })) c.set_handler.ensures
-    ∙ changed_set (handling c.args.address) c.args.list.now c.args.place c.index-list-place.result c.requires
+    ∙ changed_set (handling c.args.context c.args.address) c.args.list.now c.args.place c.index-list-place.result c.requires

@@ -9,8 +9,8 @@ use Rattle.aegis_calls.proofs.board.Board.handle.Goals as goal
 pub invariant_of-self : goal.invariant_of-self
 invariant_of-self c =
     let b = c.self.inside in
-    let f = handling c.reg-address.result in
-    let keeps = keeps_handling c.reg-address.result in
+    let f = handling c.in-Some.context c.reg-address.result in
+    let keeps = keeps_handling c.in-Some.context c.reg-address.result in
     record {
       book = rw c.handle.ensures (keep_manned f keeps b.slots b.roster c.args.env c.self.invariant.book);
       consoles = rw c.handle.ensures (same_consoles b.consoles b.roster _ c.self.invariant.consoles (length-changed f b.roster.list c.args.env));

@@ -1,16 +1,27 @@
--- Whoever takes the turn lives.
-use Rattle.std.proofs.Common.{sym, ap, ◌∙◌}
+-- Each forfeit comes first in the rest of the turn, and lowers what is owed.
+use Rattle.std.proofs.Common.{◌<◌, sym, ap, ◌∙◌, subst, arith}
+use Rattle.slot_vector.specs.Laws.{owed_of}
+use Rattle.slot_vector.specs.Slices.{told_of}
+use Rattle.slot_vector.proofs.Whole.{pay_lowers}
 use Rattle.board_world.specs.Shown.{Shown}
-use Rattle.board_world.proofs.Sound.{turn_live, turn_manned}
+use Rattle.board_world.specs.Doing.{turned_by}
+use Rattle.board_world.proofs.Turns.{pay_turned}
 use Rattle.aegis_calls.proofs.board.Board.take_turn.Goals as goal
 
-pub frame-requires : goal.frame-requires
-frame-requires c = (turn_live c.self.inside.slots c.self.inside.roster c.in-Some.turn c.self.invariant.book (ap (λ (b : Shown). b.roster.spare) c.self.view_is ∙ c.requires.whole) (sym c.next_turn.ensures.turn ∙ c.in-Some.is)).0
+pub loop-smaller : goal.loop-smaller
+loop-smaller c = subst (λ (b : Shown). owed_of b.slots < owed_of c.loop.self.slots) (sym c.in-Pay.ensures.after) (pay_lowers c.loop.self.slots c.in-Pay.field-0 (sym c.in-Pay.ensures.turn))
 
-pub invariant_of-self : goal.invariant_of-self
-invariant_of-self c = record {
-  book = rw (c.next_turn.ensures.after, c.in-Some.is) (turn_manned c.self.inside.slots c.self.inside.roster c.in-Some.turn c.self.invariant.book (ap (λ (b : Shown). b.roster.spare) c.self.view_is ∙ c.requires.whole) (sym c.next_turn.ensures.turn ∙ c.in-Some.is));
-  consoles = c.self.invariant.consoles;
-  memory = c.self.invariant.memory;
-  books = c.self.invariant.books;
-}
+pub loop-preserved : goal.loop-preserved
+loop-preserved c =
+    let b = c.loop.self in
+    let t = c.in-Pay.field-0 in
+    let pays = sym c.in-Pay.ensures.turn in
+    let after = c.in-Pay.ensures.after in
+    let so_far = c.loop.invariant in
+    record {
+      turn = ap (λ (s : Shown). turned_by s (told_of s.slots)) after ∙ pay_turned b t pays ∙ so_far.turn;
+      nobody = ap (λ (s : Shown). s.slots.runner) after ∙ so_far.nobody;
+      time = ap (λ (s : Shown). s.time) after ∙ so_far.time;
+      whole = ap (λ (s : Shown). s.roster.spare) after ∙ so_far.whole;
+      room = omega (arith, pay_lowers b.slots t pays, ap (λ (s : Shown). owed_of s.slots) after, ap (λ (s : Shown). s.ledger.spare) after, so_far.room, c.requires.room);
+    }

@@ -2,8 +2,18 @@
 use Rattle.std.proofs.Common.{ap, ◌∙◌, subst}
 use Rattle.board_world.specs.Showing.{world_of}
 use Rattle.board_world.specs.Sound.{IsSound}
+use Rattle.board_world.proofs.Counting.{counted_counts}
 use Rattle.board_world.proofs.Turning.{counted_world}
 use Rattle.aegis_calls.proofs.board.Board.timer.Goals as goal
 
 pub returns-clause-world : goal.returns-clause-world
 returns-clause-world c = ap world_of c.count.ensures ∙ counted_world c.args.self.now (subst IsSound c.self.view_is c.self.invariant)
+
+pub returns-clause-time : goal.returns-clause-time
+returns-clause-time c = rw c.count.ensures (counted_counts c.args.self.now (subst IsSound c.self.view_is c.self.invariant)).time
+
+pub returns-clause-whole : goal.returns-clause-whole
+returns-clause-whole c = rw c.count.ensures (counted_counts c.args.self.now (subst IsSound c.self.view_is c.self.invariant)).spare
+
+pub returns-clause-room : goal.returns-clause-room
+returns-clause-room c = rw c.count.ensures (counted_counts c.args.self.now (subst IsSound c.self.view_is c.self.invariant)).room

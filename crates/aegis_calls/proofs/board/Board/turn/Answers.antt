@@ -1,12 +1,19 @@
--- The turn is the model's.
-use Rattle.std.proofs.Common.{ap, ◌∙◌, subst}
+-- The turn is the model's, and writes no more rows than its forfeits and a start.
+use Rattle.std.proofs.Common.{ap, ◌∙◌, subst, arith}
 use Rattle.board_world.specs.Showing.{world_of}
 use Rattle.board_world.specs.Sound.{IsSound}
+use Rattle.board_world.proofs.Sound.{owed_most}
 use Rattle.board_world.proofs.Turning.{turned_runs, turned_world}
 use Rattle.aegis_calls.proofs.board.Board.turn.Goals as goal
 
+pub take_turn-requires-clause-room : goal.take_turn-requires-clause-room
+take_turn-requires-clause-room c = omega (arith, owed_most c.args.self.now.slots c.args.self.now.roster (subst IsSound c.self.view_is c.self.invariant).book, c.requires.room)
+
 pub returns-clause-world : goal.returns-clause-world
-returns-clause-world c = ap world_of c.take_turn.ensures ∙ turned_world c.args.self.now (subst IsSound c.self.view_is c.self.invariant) c.requires.whole
+returns-clause-world c = ap world_of c.take_turn.ensures.after ∙ turned_world c.args.self.now (subst IsSound c.self.view_is c.self.invariant) c.requires.whole
 
 pub returns-clause-runs : goal.returns-clause-runs
-returns-clause-runs c = λ busy. rw c.take_turn.ensures (turned_runs c.args.self.now busy)
+returns-clause-runs c = λ busy. rw c.take_turn.ensures.after (turned_runs c.args.self.now busy)
+
+pub returns-clause-room : goal.returns-clause-room
+returns-clause-room c = omega (arith, owed_most c.args.self.now.slots c.args.self.now.roster (subst IsSound c.self.view_is c.self.invariant).book, c.take_turn.ensures.room)

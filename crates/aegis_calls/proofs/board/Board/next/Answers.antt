@@ -1,0 +1,19 @@
+-- Whoever starts lives.
+use Rattle.std.proofs.Common.{sym, ap, ◌∙◌}
+use Rattle.board_world.specs.Shown.{Shown}
+use Rattle.board_world.proofs.Sound.{run_manned, turn_live}
+use Rattle.aegis_calls.proofs.board.Board.next.Goals as goal
+
+pub start-requires : goal.start-requires
+start-requires c = (turn_live c.self.inside.slots c.self.inside.roster c.in-Run.turn c.self.invariant.book (ap (λ (b : Shown). b.roster.spare) c.self.view_is ∙ c.requires.whole) (sym c.next_turn-next.ensures.turn ∙ c.in-Run.is)).0
+
+pub invariant_of-self-in-Run : goal.invariant_of-self-in-Run
+invariant_of-self-in-Run c =
+    let b = c.self.inside in
+    let lives = turn_live b.slots b.roster c.in-Run.turn c.self.invariant.book (ap (λ (s : Shown). s.roster.spare) c.self.view_is ∙ c.requires.whole) (sym c.next_turn-next.ensures.turn ∙ c.in-Run.is) in
+    record {
+      book = rw (c.next_turn-next.ensures.after, c.in-Run.is) (run_manned b.slots b.roster c.in-Run.turn c.self.invariant.book lives);
+      consoles = c.self.invariant.consoles;
+      memory = c.self.invariant.memory;
+      books = c.self.invariant.books;
+    }

@@ -1,0 +1,18 @@
+-- The rest of the turn makes the whole of it, and there is room for all that is owed.
+use Rattle.std.proofs.Common.{◌≡◌, ◌≤◌, ◌+◌, None}
+use Rattle.slot_vector.specs.Laws.{owed_of}
+use Rattle.slot_vector.specs.Slices.{told_of}
+use Rattle.board_world.specs.Doing.{turned_by}
+use Rattle.aegis_calls.proofs.board.Board.take_turn.Given as goal
+
+abbrev pub invariant-loop : goal.invariant-loop
+invariant-loop l = record {
+  turn : turned_by l.self (told_of l.self.slots) ≡ turned_by l.fn.self (told_of l.fn.self.slots);
+  nobody : l.self.slots.runner ≡ None;
+  time : l.self.time ≡ l.fn.self.time;
+  whole : l.self.roster.spare ≡ 0;
+  room : l.fn.self.ledger.spare + owed_of l.self.slots ≤ l.self.ledger.spare + owed_of l.fn.self.slots;
+}
+
+abbrev pub decreases-loop : goal.decreases-loop
+decreases-loop l = owed_of l.self.slots

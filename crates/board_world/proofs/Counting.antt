@@ -1,0 +1,34 @@
+-- What the timer leaves: all environments stay, and it writes few rows.
+use Rattle.std.proofs.Common.{◌≡◌, ◌≤◌, ◌+◌, ℕ, Option, Some, None, refl, ap, arith}
+use Rattle.slot_vector.specs.declared.timer.Timer.{Timer}
+use Rattle.slot_vector.specs.declared.timer.Timer.TheVariants as timer
+use Rattle.slot_vector.specs.Slices.{excess_of, timer_answer}
+use Rattle.world_model.specs.declared.life.Cause.TheVariants as cause
+use Rattle.world_model.specs.declared.slot.Runner.{Runner}
+use Rattle.world_model.specs.Book.{running}
+use Rattle.board_world.specs.Shown.{Shown}
+use Rattle.board_world.specs.Sound.{IsSound}
+use Rattle.board_world.specs.Doing.{brought, counted, counted_down, has_end, over_row, ticked}
+use Rattle.board_world.proofs.Serving.{death_serves}
+
+pub record Counts (b new : Shown) : Type 0 where
+  pub room : b.ledger.spare ≤ new.ledger.spare + 256
+  pub spare : new.roster.spare ≡ b.roster.spare
+  pub time : new.time ≡ b.time + 1
+
+brought_counts : (b : Shown) (e : ℕ) (answer : Timer) → IsSound b → running b.slots.runner ≡ Some e → Counts b (ticked (brought b e answer))
+brought_counts b e timer.Nothing sound runs = record { room = omega arith; spare = refl; time = refl }
+brought_counts b e timer.Stop sound runs = record { room = omega arith; spare = refl; time = refl }
+brought_counts b e timer.End sound runs = record { room = omega arith; spare = refl; time = refl }
+brought_counts b e (timer.Over excess) sound runs = record { room = omega arith; spare = refl; time = refl }
+brought_counts b e timer.Kill sound runs =
+    let told : Shown = record b { ledger = over_row b e (excess_of b.slots.excess e + 1) } in
+    let dies = death_serves told e cause.Excess (record { book = sound.book; consoles = sound.consoles; memory = sound.memory; books = sound.books }) runs in
+    record { room = omega (arith, dies.room); spare = dies.spare; time = ap (λ (n : ℕ). n + 1) dies.time }
+
+pub counted_counts : (b : Shown) → IsSound b → Counts b (counted b)
+counted_counts b sound = by_runner b.slots.runner refl
+  where
+    by_runner : (o : Option Runner) → b.slots.runner ≡ o → Counts b (ticked (counted_down b o))
+    by_runner None is = record { room = omega arith; spare = refl; time = refl }
+    by_runner (Some r) is = brought_counts b r.env (timer_answer b.slots (has_end b r.env)) sound (ap running is)

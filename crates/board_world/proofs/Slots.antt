@@ -1,0 +1,53 @@
+-- The vector of slots as a list and as a table.
+use Rattle.std.proofs.Common.{◌≡◌, ◌≢◌, ◌<◌, ℕ, zero, suc, List, [], ◌∷◌, length, true, Option, Some, None, is_some, inl, inr, refl, sym, ◌∙◌, ap, arith}
+use Rattle.std.specs.Prelude.{nat_lt, if◌then◌else◌, slice_get, slice_set}
+use Rattle.std.proofs.lemmas.Bool.{cases_lt, lt-ltb, le-ltb}
+use Rattle.std.proofs.lemmas.Option.{slice_get_past}
+use Rattle.slot_vector.specs.Slices.{hold_at}
+use Rattle.world_model.specs.declared.slot.Hold.{Hold}
+use Rattle.world_model.specs.Table.{set_at}
+use Rattle.board_world.proofs.Parts.{by_env, set_here, set_else}
+
+some_within : {A : Type 0} (xs : List A) (k : ℕ) → k < length xs → is_some (slice_get xs k) ≡ true
+some_within [] k within = absurd (omega arith)
+some_within (x ∷ xs) zero within = refl
+some_within (x ∷ xs) (suc k) within = some_within xs k (omega arith)
+
+-- what is below the length is there
+pub is_there : {A : Type 0} (xs : List A) (k : ℕ) → nat_lt k (length xs) ≡ is_some (slice_get xs k)
+is_there xs k = elim (cases_lt k (length xs)) [
+  | inl within ↦ lt-ltb k (length xs) within ∙ sym (some_within xs k within)
+  | inr past ↦ le-ltb k (length xs) past ∙ sym (ap is_some (slice_get_past xs k past))
+]
+
+got_within : (slots : List (Option Hold)) (k : ℕ) → k < length slots → slice_get slots k ≡ Some (hold_at slots k)
+got_within [] k within = absurd (omega arith)
+got_within (slot ∷ slots) zero within = refl
+got_within (slot ∷ slots) (suc k) within = got_within slots k (omega arith)
+
+-- the slot of a number, if there is one
+pub slot_got : (slots : List (Option Hold)) (k : ℕ) → slice_get slots k ≡ (if nat_lt k (length slots) then Some (hold_at slots k) else None)
+slot_got slots k = elim (cases_lt k (length slots)) [
+  | inl within ↦ got_within slots k within ∙ ap (λ t. if t then Some (hold_at slots k) else None) (sym (lt-ltb k (length slots) within))
+  | inr past ↦ slice_get_past slots k past ∙ ap (λ t. if t then Some (hold_at slots k) else None) (sym (le-ltb k (length slots) past))
+]
+
+-- the slot itself, and the others
+pub hold_here : (slots : List (Option Hold)) (k : ℕ) (hold : Option Hold) → k < length slots → hold_at (slice_set slots k hold) k ≡ hold
+hold_here [] k hold within = absurd (omega arith)
+hold_here (slot ∷ slots) zero hold within = refl
+hold_here (slot ∷ slots) (suc k) hold within = hold_here slots k hold (omega arith)
+
+hold_else : (slots : List (Option Hold)) (k i : ℕ) (hold : Option Hold) → i ≢ k → hold_at (slice_set slots k hold) i ≡ hold_at slots i
+hold_else [] k i hold ne = refl
+hold_else (slot ∷ slots) zero zero hold ne = absurd (ne refl)
+hold_else (slot ∷ slots) zero (suc i) hold ne = refl
+hold_else (slot ∷ slots) (suc k) zero hold ne = refl
+hold_else (slot ∷ slots) (suc k) (suc i) hold ne = hold_else slots k i hold (λ same. ne (ap suc same))
+
+-- the slots once one of them has another hold
+pub hold_set : (slots : List (Option Hold)) (k : ℕ) (hold : Option Hold) → k < length slots → (i : ℕ) → hold_at (slice_set slots k hold) i ≡ set_at k hold (hold_at slots) i
+hold_set slots k hold within =
+    by_env (hold_at (slice_set slots k hold)) (set_at k hold (hold_at slots)) k
+    (hold_here slots k hold within ∙ sym (set_here k hold (hold_at slots)))
+    (λ i ne. hold_else slots k i hold ne ∙ sym (set_else k i hold (hold_at slots) ne))

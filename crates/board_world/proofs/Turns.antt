@@ -1,0 +1,26 @@
+-- A turn, step by step.
+use Rattle.std.proofs.Common.{◌≡◌, ap, sym}
+use Rattle.slot_vector.specs.declared.turn.NextTurn.TheVariants as next
+use Rattle.slot_vector.specs.Slices.{next_turn, told_of}
+use Rattle.slot_vector.proofs.Whole.{idle_step, pay_step, run_step}
+use Rattle.world_model.specs.declared.slot.Turn.{Turn}
+use Rattle.board_world.specs.Shown.{Shown}
+use Rattle.board_world.specs.Sound.{IsSound}
+use Rattle.board_world.specs.Doing.{paid, started, turned_by}
+use Rattle.board_world.proofs.Sound.{pay_manned}
+
+-- a forfeit leaves a board sound
+pub paid_sound : (b : Shown) (t : Turn) → IsSound b → IsSound (paid b t)
+paid_sound b t sound = record { book = pay_manned b.slots b.roster t sound.book; consoles = sound.consoles; memory = sound.memory; books = sound.books }
+
+-- a forfeit comes first, and then the rest of the turn
+pub pay_turned : (b : Shown) (t : Turn) → next_turn b.slots ≡ next.Pay t → turned_by (paid b t) (told_of (paid b t).slots) ≡ turned_by b (told_of b.slots)
+pay_turned b t is = sym (ap (turned_by b) (pay_step b.slots t is))
+
+-- a start ends it
+pub run_turned : (b : Shown) (t : Turn) → next_turn b.slots ≡ next.Run t → started b t ≡ turned_by b (told_of b.slots)
+run_turned b t is = sym (ap (turned_by b) (run_step b.slots t is))
+
+-- where nobody is next there is none
+pub idle_turned : (b : Shown) → next_turn b.slots ≡ next.Idle → b ≡ turned_by b (told_of b.slots)
+idle_turned b is = sym (ap (turned_by b) (idle_step b.slots is))
