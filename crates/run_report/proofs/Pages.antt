@@ -5,7 +5,7 @@ use Rattle.std.proofs.lemmas.List.{take_more, append-nil}
 use Rattle.std.proofs.lemmas.Option.{slice_get_within, get_or_from_slice_get}
 use Rattle.std.proofs.lemmas.Grind.{flat_map-append}
 use Rattle.world_model.specs.Page.{KeptPage}
-use Rattle.world_model.specs.Report.{keep_line, keep_lines}
+use Rattle.run_report.specs.Report.{keep_line, keep_lines}
 
 pub line_more : (e k : ℕ) (kept : List KeptPage) (page : KeptPage) → slice_get kept k ≡ Some page → keep_lines e (take (k + 1) kept) ≡ keep_lines e (take k kept) ++ keep_line e page
 line_more e k kept page is =

@@ -3,7 +3,7 @@ ghost use Rattle.std.specs.Prelude.{◌≡◌, ◌++◌, ◌<◌, ◌==◌, OnOk
 ghost use Rattle.std.specs.List.{flat_map};
 ghost use Rattle.boot_image.specs.ImageValue.{name_text};
 ghost use Rattle.board_world.specs.Showing.{world_of};
-ghost use Rattle.world_model.specs.Report.{spaced, life_words, exception_text, env_line, out_line, excess_line, living_lines, env_text};
+ghost use Rattle.run_report.specs.Report.{spaced, life_words, exception_text, env_line, out_line, excess_line, living_lines, env_text};
 
 use crate::binding::push_bind_lines;
 use crate::page::{push_keep_lines, push_page_lines};
@@ -17,9 +17,6 @@ use mips_exec::ExcCode;
 use std::alloc::Global;
 use world_model::{Cause, Life};
 
-/// What an environment without a handler for the end of a slice has of excess: it never runs past it.
-const NO_EXCESS: u32 = 0;
-
 /// The lines that a report has of an environment, below `envs()` of the board
 /// (`docs/PROGRAM.md`, "The report").
 pub fn env_lines(alloc: Global, board: &Board, env: u8) -> Result<Vec<u8>, OutOfMemory>
@@ -32,7 +29,7 @@ pub fn env_lines(alloc: Global, board: &Board, env: u8) -> Result<Vec<u8>, OutOf
 }
 
 /// Appends the lines of an environment.
-#[tactic(auto, unfolding(world_model::specs::Report::env_text))]
+#[tactic(auto, unfolding(crate::specs::Report::env_text))]
 pub(crate) fn push_env(out: &mut Vec<u8>, board: &Board, env: u8) -> Result<(), OutOfMemory>
     requires { env < (world_of board.now).count }
     ensures { OnOk result (out.new.items ≡ out.old.items ++ env_text (world_of board.now) env) }
@@ -46,7 +43,7 @@ pub(crate) fn push_env(out: &mut Vec<u8>, board: &Board, env: u8) -> Result<(), 
 }
 
 /// Appends the line of an environment's name and life.
-#[tactic(auto, unfolding(world_model::specs::Report::env_line))]
+#[tactic(auto, unfolding(crate::specs::Report::env_line))]
 fn push_env_line(out: &mut Vec<u8>, board: &Board, env: u8) -> Result<(), OutOfMemory>
     requires { env < (world_of board.now).count }
     ensures { OnOk result (out.new.items ≡ out.old.items ++ env_line env ((world_of board.now).solos env)) }
@@ -119,7 +116,7 @@ fn exception_text(code: ExcCode) -> &'static [u8]
 }
 
 /// Appends the line of an environment's console.
-#[tactic(auto, unfolding(world_model::specs::Report::out_line))]
+#[tactic(auto, unfolding(crate::specs::Report::out_line))]
 fn push_out_line(out: &mut Vec<u8>, board: &Board, env: u8) -> Result<(), OutOfMemory>
     requires { env < (world_of board.now).count }
     ensures { OnOk result (out.new.items ≡ out.old.items ++ out_line env ((world_of board.now).solos env)) }
@@ -140,7 +137,7 @@ fn push_excess_line(out: &mut Vec<u8>, who: u8, excess: u32) -> Result<(), OutOf
 }
 
 /// Appends what is shown of an environment while it lives.
-#[tactic(auto, unfolding(world_model::specs::Report::living_lines))]
+#[tactic(auto, unfolding(crate::specs::Report::living_lines))]
 fn push_living_lines(out: &mut Vec<u8>, board: &Board, env: u8) -> Result<(), OutOfMemory>
     requires { env < (world_of board.now).count }
     ensures { OnOk result (out.new.items ≡ out.old.items ++ living_lines (world_of board.now) env) }
@@ -148,7 +145,7 @@ fn push_living_lines(out: &mut Vec<u8>, board: &Board, env: u8) -> Result<(), Ou
     let cpu = shown_cpu(board, env);
     push_cpu_line(out, env, &cpu)?;
     push_regs_line(out, env, &cpu)?;
-    push_excess_line(out, env, NO_EXCESS)?;
+    push_excess_line(out, env, board.excess(env))?;
     push_keep_lines(out, board, env)?;
     push_page_lines(out, board, env)?;
     push_bind_lines(out, board, env)

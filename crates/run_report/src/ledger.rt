@@ -1,7 +1,7 @@
 //! The rows of the ledger, a line each.
 ghost use Rattle.std.specs.Prelude.{◌≡◌, ◌++◌, [], ◌∷◌, Some, OnOk};
 ghost use Rattle.std.specs.List.{flat_map};
-ghost use Rattle.world_model.specs.Report.{numbers_line, row_line};
+ghost use Rattle.run_report.specs.Report.{numbers_line, row_line};
 
 use crate::words::{env, env_or_none, number, number_or_none, push_numbers_line};
 use edge_io::OutOfMemory;

@@ -1,7 +1,7 @@
 //! The pages that a report shows, each by the fingerprint of its bytes.
 ghost use Rattle.std.specs.Prelude.{◌≡◌, ◌++◌, ◌<◌, OnOk};
 ghost use Rattle.board_world.specs.Showing.{world_of, owned_bytes, view_seen};
-ghost use Rattle.world_model.specs.Report.{fingerprint, keep_line, keep_lines, page_line, owned_line, page_lines};
+ghost use Rattle.run_report.specs.Report.{fingerprint, keep_line, keep_lines, page_line, owned_line, page_lines};
 
 use crate::words::{end_line, push_digits, push_number, push_text, push_word};
 use aegis_calls::Board;
@@ -26,7 +26,7 @@ fn fingerprint(bytes: &[u8]) -> [u8; FINGERPRINT_SIZE]
 }
 
 /// Appends the line of a page.
-#[tactic(auto, unfolding(world_model::specs::Report::keep_line))]
+#[tactic(auto, unfolding(crate::specs::Report::keep_line))]
 fn push_keep_line(out: &mut Vec<u8>, env: u8, page: PageView<'_>) -> Result<(), OutOfMemory>
     ensures { OnOk result (out.new.items ≡ out.old.items ++ keep_line env (view_seen page.entry)) }
 {
@@ -51,7 +51,7 @@ pub(crate) fn push_keep_lines(out: &mut Vec<u8>, board: &Board, env: u8) -> Resu
 }
 
 /// Appends the line of a page that an environment owns.
-#[tactic(auto, unfolding(world_model::specs::Report::page_line))]
+#[tactic(auto, unfolding(crate::specs::Report::page_line))]
 fn push_page_line(out: &mut Vec<u8>, env: u8, page: u32, bytes: &[u8]) -> Result<(), OutOfMemory>
     ensures { OnOk result (out.new.items ≡ out.old.items ++ page_line env page bytes.now) }
 {

@@ -3,7 +3,7 @@ ghost use Rattle.std.specs.Prelude.{◌≡◌, ◌++◌, ◌<◌, OnOk};
 ghost use Rattle.std.specs.List.{flat_map};
 ghost use Rattle.board_world.specs.Showing.{world_of};
 ghost use Rattle.world_model.specs.Boot.{listed};
-ghost use Rattle.world_model.specs.Report.{spaced, shown_cpu, cpu_line, word_text, register_text, regs_line};
+ghost use Rattle.run_report.specs.Report.{spaced, shown_cpu, cpu_line, word_text, register_text, regs_line};
 
 use crate::words::{end_line, push_digits, push_flag, push_number, push_text};
 use aegis_calls::Board;
@@ -18,7 +18,7 @@ const SHOWN_REGISTERS: u8 = 31;
 
 /// The registers that are shown of an environment: the runner's as they stand, and a stopped one's at
 /// rest.
-#[tactic(auto, unfolding(world_model::specs::Report::shown_cpu))]
+#[tactic(auto, unfolding(crate::specs::Report::shown_cpu))]
 pub(crate) fn shown_cpu(board: &Board, env: u8) -> Cpu
     requires { env < (world_of board.now).count }
     ensures { result ≡ shown_cpu (world_of board.now) env }
@@ -31,7 +31,7 @@ pub(crate) fn shown_cpu(board: &Board, env: u8) -> Cpu
 }
 
 /// Appends the line of the program counters, the slot flag, HI and LO.
-#[tactic(auto, unfolding(world_model::specs::Report::cpu_line))]
+#[tactic(auto, unfolding(crate::specs::Report::cpu_line))]
 pub(crate) fn push_cpu_line(out: &mut Vec<u8>, env: u8, cpu: &Cpu) -> Result<(), OutOfMemory>
     ensures { OnOk result (out.new.items ≡ out.old.items ++ cpu_line env cpu.now) }
 {
@@ -52,7 +52,7 @@ fn push_pair(out: &mut Vec<u8>, first: u32, second: u32) -> Result<(), OutOfMemo
 }
 
 /// Appends the line of registers 1 to 31.
-#[tactic(auto, unfolding(world_model::specs::Report::regs_line))]
+#[tactic(auto, unfolding(crate::specs::Report::regs_line))]
 pub(crate) fn push_regs_line(out: &mut Vec<u8>, env: u8, cpu: &Cpu) -> Result<(), OutOfMemory>
     ensures { OnOk result (out.new.items ≡ out.old.items ++ regs_line env cpu.now) }
 {

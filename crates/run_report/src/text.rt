@@ -1,7 +1,7 @@
 //! The whole report.
 ghost use Rattle.std.specs.Prelude.{◌≡◌, ◌++◌, OnOk, IfOk};
 ghost use Rattle.board_world.specs.Showing.{world_of};
-ghost use Rattle.world_model.specs.Report.{env_text, sum_line, for_each, end_text, end_line as end_line_of, report_text};
+ghost use Rattle.run_report.specs.Report.{env_text, sum_line, for_each, end_text, end_line as end_line_of, report_text};
 
 use crate::environment::push_env;
 use crate::ledger::push_rows;
@@ -13,7 +13,7 @@ use kernel_journal::RunEnd;
 use std::alloc::Global;
 
 /// The report of a board whose run ended in this way (`docs/PROGRAM.md`, "The report").
-#[tactic(auto, unfolding(world_model::specs::Report::report_text))]
+#[tactic(auto, unfolding(crate::specs::Report::report_text))]
 pub fn report(alloc: Global, board: &Board, end: RunEnd) -> Result<Vec<u8>, OutOfMemory>
     ensures { IfOk result (λ v. v.items ≡ report_text (world_of board.now) end) }
 {
@@ -28,7 +28,7 @@ pub fn report(alloc: Global, board: &Board, end: RunEnd) -> Result<Vec<u8>, OutO
 }
 
 /// Appends the line of how the run ended, and when.
-#[tactic(auto, unfolding(world_model::specs::Report::end_line))]
+#[tactic(auto, unfolding(crate::specs::Report::end_line))]
 fn push_end_line(out: &mut Vec<u8>, board: &Board, end: RunEnd) -> Result<(), OutOfMemory>
     ensures { OnOk result (out.new.items ≡ out.old.items ++ end_line_of (world_of board.now) end) }
 {

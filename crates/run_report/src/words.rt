@@ -3,7 +3,7 @@
 ghost use Rattle.std.specs.Prelude.{◌≡◌, ◌++◌, ◌∷◌, [], ◌≤◌, OnOk, Some};
 ghost use Rattle.line_text.specs.Text.{dec_text, hex_text};
 ghost use Rattle.std.specs.List.{flat_map};
-ghost use Rattle.world_model.specs.Report.{spaced, or_dash, flag_text, numbers_line, quotation};
+ghost use Rattle.run_report.specs.Report.{spaced, or_dash, flag_text, numbers_line, quotation};
 
 use edge_io::OutOfMemory;
 use line_text::{push_dec, push_hex, push_quoted};
@@ -71,7 +71,7 @@ fn push_numbers(out: &mut Vec<u8>, numbers: &[Option<u64>]) -> Result<(), OutOfM
 }
 
 /// Appends a line of a name and numbers.
-#[tactic(auto, unfolding(world_model::specs::Report::numbers_line))]
+#[tactic(auto, unfolding(crate::specs::Report::numbers_line))]
 pub(crate) fn push_numbers_line(
     out: &mut Vec<u8>,
     name: &[u8],

@@ -2,7 +2,7 @@
 use Rattle.std.proofs.Common.{◌≡◌, ap, ◌∙◌}
 use Rattle.world_model.specs.World.{World}
 use Rattle.world_model.specs.Run.{run_on, world_after, end_of_run}
-use Rattle.world_model.specs.Report.{report_text}
+use Rattle.run_report.specs.Report.{report_text}
 use Rattle.board_world.specs.Showing.{world_of}
 use Rattle.kernel_journal.specs.declared.row.RunEnd.{RunEnd}
 use Rattle.aegis_cli.specs.Due.{report_after}

@@ -1,6 +1,6 @@
 use Rattle.std.proofs.Common.{◌≡◌, ◌++◌, take}
 use Rattle.std.specs.List.{flat_map}
-use Rattle.world_model.specs.Report.{row_line}
+use Rattle.run_report.specs.Report.{row_line}
 use Rattle.run_report.proofs.ledger.push_rows.Given as goal
 
 abbrev pub invariant-loop-row : goal.invariant-loop-row

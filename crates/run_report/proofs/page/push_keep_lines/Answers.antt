@@ -2,7 +2,7 @@
 use Rattle.std.proofs.Common.{Vec, Global, ◌<◌, ◌++◌, ◌∙◌, ap, sym, ℕ, length, append_assoc, arith}
 use Rattle.std.specs.Option.{option_map}
 use Rattle.board_world.specs.Showing.{world_of, view_seen}
-use Rattle.world_model.specs.Report.{keep_line}
+use Rattle.run_report.specs.Report.{keep_line}
 use Rattle.run_report.proofs.Pages.{line_more, is_there}
 use Rattle.run_report.proofs.page.push_keep_lines.Goals as goal
 use Rattle.run_report.proofs.page.push_keep_lines.Goals.{in-Some+in_ok-push_keep_line, in_default}

@@ -1,6 +1,6 @@
 use Rattle.std.proofs.Common.{◌≡◌, ◌++◌, take}
 use Rattle.board_world.specs.Showing.{world_of}
-use Rattle.world_model.specs.Report.{keep_lines}
+use Rattle.run_report.specs.Report.{keep_lines}
 use Rattle.run_report.proofs.page.push_keep_lines.Given as goal
 
 abbrev pub invariant-loop-place : goal.invariant-loop-place

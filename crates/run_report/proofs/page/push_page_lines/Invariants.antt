@@ -1,6 +1,6 @@
 use Rattle.std.proofs.Common.{◌≡◌, ◌++◌}
 use Rattle.board_world.specs.Showing.{world_of}
-use Rattle.world_model.specs.Report.{page_lines}
+use Rattle.run_report.specs.Report.{page_lines}
 use Rattle.run_report.proofs.page.push_page_lines.Given as goal
 
 abbrev pub invariant-loop-page : goal.invariant-loop-page

@@ -1,6 +1,6 @@
 use Rattle.std.proofs.Common.{◌≡◌, ◌++◌}
 use Rattle.board_world.specs.Showing.{world_of}
-use Rattle.world_model.specs.Report.{sum_line, for_each}
+use Rattle.run_report.specs.Report.{sum_line, for_each}
 use Rattle.run_report.proofs.text.push_sums.Given as goal
 
 abbrev pub invariant-loop-env : goal.invariant-loop-env

@@ -1,6 +1,6 @@
 use Rattle.std.proofs.Common.{◌≡◌, ◌++◌, take}
 use Rattle.std.specs.List.{flat_map}
-use Rattle.world_model.specs.Report.{spaced, or_dash}
+use Rattle.run_report.specs.Report.{spaced, or_dash}
 use Rattle.run_report.proofs.words.push_numbers.Given as goal
 
 abbrev pub invariant-loop-n : goal.invariant-loop-n

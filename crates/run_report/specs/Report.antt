@@ -1,0 +1,199 @@
+-- The text of a report.
+use Rattle.std.specs.Prelude.{ℕ, zero, suc, ◌+◌, List, [], ◌∷◌, ◌++◌, length, count_by, codes, Bool, true, false, ◌==◌, nat_lt, if◌then◌else◌, Option, Some, None}
+use Rattle.std.specs.List.{flat_map}
+use Rattle.sha2.specs.Sha256.{sha256}
+use Rattle.hex.specs.Hex.{encode_lower}
+use Rattle.line_text.specs.Text.{dec_text, hex_text, quoted_text}
+use Rattle.boot_image.specs.ImageValue.{name_text}
+use Rattle.bind_book.specs.declared.binding.Binding.{Binding}
+use Rattle.bind_book.specs.Stripe.{stripe_rows}
+use Rattle.kernel_journal.specs.declared.row.Row.{Row}
+use Rattle.kernel_journal.specs.declared.row.Row.TheVariants as row
+use Rattle.kernel_journal.specs.declared.row.RunEnd.{RunEnd}
+use Rattle.kernel_journal.specs.declared.row.RunEnd.TheVariants as end
+use Rattle.mips_exec.specs.declared.registers.Cpu.{Cpu}
+use Rattle.mips_exec.specs.declared.exception.ExcCode.{ExcCode}
+use Rattle.mips_exec.specs.declared.exception.ExcCode.TheVariants as exc
+use Rattle.mips_exec.specs.Cpu.{reg, rested}
+use Rattle.world_model.specs.declared.life.Life.{Life}
+use Rattle.world_model.specs.declared.life.Life.TheVariants.{Live, Dead}
+use Rattle.world_model.specs.declared.life.Cause.TheVariants as cause
+use Rattle.world_model.specs.Page.{KeptPage}
+use Rattle.world_model.specs.Solo.{Solo, Seen}
+use Rattle.world_model.specs.Book.{is_runner}
+use Rattle.world_model.specs.World.{World}
+use Rattle.world_model.specs.Boot.{listed}
+use Rattle.world_model.specs.Excess.{is_over_of, is_pay_of, is_run_of}
+
+-- the texts of 0, 1 and so on, so many
+abbrev pub for_each : (ℕ → List ℕ) → ℕ → List ℕ
+for_each text zero = []
+for_each text (suc n) = for_each text n ++ text n
+
+-- a word behind the space that parts it from the word before it
+abbrev pub spaced : List ℕ → List ℕ
+spaced word = 32 ∷ word
+
+-- A line is its words, parted by single spaces, and a line feed.
+abbrev pub line : List (List ℕ) → List ℕ
+line [] = 10 ∷ []
+line (word ∷ words) = word ++ flat_map spaced words ++ 10 ∷ []
+
+-- a number in decimal, or a dash where there is none
+abbrev pub or_dash : Option ℕ → List ℕ
+or_dash None = codes "-"
+or_dash (Some n) = dec_text n
+
+-- a line of a name and numbers
+unfoldable pub numbers_line : List ℕ → List (Option ℕ) → List ℕ
+numbers_line name numbers = name ++ flat_map (λ n. spaced (or_dash n)) numbers ++ 10 ∷ []
+
+-- eight hexadecimal digits
+abbrev pub word_text : ℕ → List ℕ
+word_text n = hex_text 8 n
+
+abbrev pub flag_text : Bool → List ℕ
+flag_text true = codes "1"
+flag_text false = codes "0"
+
+-- an exception's name
+abbrev pub exception_text : ExcCode → List ℕ
+exception_text exc.Int = codes "int"
+exception_text exc.Mod = codes "mod"
+exception_text exc.Tlbl = codes "tlbl"
+exception_text exc.Tlbs = codes "tlbs"
+exception_text exc.Adel = codes "adel"
+exception_text exc.Ades = codes "ades"
+exception_text exc.Ibe = codes "ibe"
+exception_text exc.Dbe = codes "dbe"
+exception_text exc.Sys = codes "sys"
+exception_text exc.Bp = codes "bp"
+exception_text exc.Ri = codes "ri"
+exception_text exc.Cpu = codes "cpu"
+exception_text exc.Ov = codes "ov"
+
+-- how an environment lives, or why it died
+abbrev pub life_words : Life → List (List ℕ)
+life_words Live = codes "live" ∷ []
+life_words (Dead (cause.Exit code)) = codes "exit" ∷ dec_text code ∷ []
+life_words (Dead (cause.Trapped code)) = codes "dead" ∷ exception_text code ∷ []
+life_words (Dead cause.Excess) = codes "dead" ∷ codes "excess" ∷ []
+
+unfoldable pub env_line : ℕ → Solo → List ℕ
+env_line e s = line (codes "env" ∷ dec_text e ∷ name_text s.name ∷ life_words s.life)
+
+-- bytes between quotation marks
+abbrev pub quotation : List ℕ → List ℕ
+quotation bytes = 34 ∷ quoted_text bytes ++ 34 ∷ []
+
+-- the console: its length, and its bytes
+unfoldable pub out_line : ℕ → Solo → List ℕ
+out_line e s = line (codes "out" ∷ dec_text e ∷ dec_text (length s.console) ∷ quotation s.console ∷ [])
+
+unfoldable pub cpu_line : ℕ → Cpu → List ℕ
+cpu_line e cpu = line (codes "cpu" ∷ dec_text e ∷ word_text cpu.pc ∷ word_text cpu.next ∷ flag_text cpu.slot ∷ word_text cpu.hi ∷ word_text cpu.lo ∷ [])
+
+-- the register after register i
+abbrev pub register_text : Cpu → ℕ → List ℕ
+register_text cpu i = word_text (reg cpu (i + 1))
+
+-- registers 1 to 31
+unfoldable pub regs_line : ℕ → Cpu → List ℕ
+regs_line e cpu = line (codes "regs" ∷ dec_text e ∷ listed (register_text cpu) 31)
+
+abbrev pub excess_line : ℕ → ℕ → List ℕ
+excess_line e excess = numbers_line (codes "excess") (Some e ∷ Some excess ∷ [])
+
+-- a page's fingerprint: SHA-256 in 64 digits
+abbrev pub fingerprint : List ℕ → List ℕ
+fingerprint bytes = encode_lower (sha256 bytes)
+
+unfoldable pub keep_line : ℕ → KeptPage → List ℕ
+keep_line e p = line (codes "keep" ∷ dec_text e ∷ hex_text 5 p.vpn ∷ fingerprint p.bytes ∷ [])
+
+abbrev pub keep_lines : ℕ → List KeptPage → List ℕ
+keep_lines e kept = flat_map (keep_line e) kept
+
+-- a page that an environment owns
+unfoldable pub page_line : ℕ → ℕ → List ℕ → List ℕ
+page_line e page bytes = line (codes "page" ∷ dec_text e ∷ dec_text page ∷ fingerprint bytes ∷ [])
+
+abbrev pub owned_line : ℕ → ℕ → Option Seen → List ℕ
+owned_line e page None = []
+owned_line e page (Some x) = if x.owned then page_line e page x.bytes else []
+
+-- the pages below count that an environment owns, by rising number
+abbrev pub page_lines : ℕ → (ℕ → Option Seen) → ℕ → List ℕ
+page_lines e seen count = for_each (λ page. owned_line e page (seen page)) count
+
+abbrev pub mode_text : Bool → List ℕ
+mode_text true = codes "w"
+mode_text false = codes "r"
+
+unfoldable pub bind_line : ℕ → Binding → List ℕ
+bind_line e b = line (codes "bind" ∷ dec_text e ∷ hex_text 5 b.vpn ∷ dec_text b.page ∷ mode_text b.writable ∷ [])
+
+-- a binding among others by rising page number
+abbrev pub inserted : Binding → List Binding → List Binding
+inserted b [] = b ∷ []
+inserted b (x ∷ xs) = if nat_lt b.vpn x.vpn then b ∷ x ∷ xs else x ∷ inserted b xs
+
+abbrev pub inserted_row : Option Binding → List Binding → List Binding
+inserted_row None bindings = bindings
+inserted_row (Some b) bindings = inserted b bindings
+
+-- the bindings in the first rows of a stripe, so many, by rising page number
+abbrev pub rising_bindings : (ℕ → Option Binding) → ℕ → List Binding
+rising_bindings stripe zero = []
+rising_bindings stripe (suc row) = inserted_row (stripe row) (rising_bindings stripe row)
+
+abbrev pub bind_lines : ℕ → (ℕ → Option Binding) → List ℕ
+bind_lines e stripe = flat_map (bind_line e) (rising_bindings stripe stripe_rows)
+
+-- the registers that are shown: those of an environment that doesn't run at rest
+unfoldable pub shown_cpu : World → ℕ → Cpu
+shown_cpu w e = if is_runner e w.book.runner then (w.solos e).cpu else rested (w.solos e).cpu
+
+-- what is shown of an environment while it lives
+unfoldable pub living_lines : World → ℕ → List ℕ
+living_lines w e =
+    cpu_line e (shown_cpu w e) ++ regs_line e (shown_cpu w e) ++ excess_line e (w.book.excess e) ++ keep_lines e (w.solos e).kept
+    ++ page_lines e (w.solos e).seen w.book.page_count ++ bind_lines e (w.solos e).binds
+
+abbrev pub if_live : Life → List ℕ → List ℕ
+if_live Live text = text
+if_live (Dead cause) text = []
+
+unfoldable pub env_text : World → ℕ → List ℕ
+env_text w e = env_line e (w.solos e) ++ out_line e (w.solos e) ++ if_live (w.solos e).life (living_lines w e)
+
+-- A row of the ledger: the time, and the row's numbers in their order.
+abbrev pub row_line : Row → List ℕ
+row_line (row.Own t slot owner holder) = numbers_line (codes "own") (Some t ∷ Some slot ∷ owner ∷ holder ∷ [])
+row_line (row.Run t slot e) = numbers_line (codes "run") (Some t ∷ Some slot ∷ Some e ∷ [])
+row_line (row.Pay t slot e) = numbers_line (codes "pay") (Some t ∷ Some slot ∷ Some e ∷ [])
+row_line (row.Give t slot from to) = numbers_line (codes "give") (Some t ∷ Some slot ∷ Some from ∷ Some to ∷ [])
+row_line (row.Async t slot from to) = numbers_line (codes "async") (Some t ∷ Some slot ∷ Some from ∷ Some to ∷ [])
+row_line (row.Sync t slot from to) = numbers_line (codes "sync") (Some t ∷ Some slot ∷ Some from ∷ Some to ∷ [])
+row_line (row.End t slot e) = numbers_line (codes "end") (Some t ∷ Some slot ∷ Some e ∷ [])
+row_line (row.Over t slot e excess) = numbers_line (codes "over") (Some t ∷ Some slot ∷ Some e ∷ Some excess ∷ [])
+row_line (row.Stop t slot e) = numbers_line (codes "stop") (Some t ∷ Some slot ∷ Some e ∷ [])
+row_line (row.Dead t slot e) = numbers_line (codes "dead") (Some t ∷ Some slot ∷ Some e ∷ [])
+row_line (row.Asked t e outstanding deadline) = numbers_line (codes "asked") (Some t ∷ Some e ∷ Some outstanding ∷ Some deadline ∷ [])
+row_line (row.Take t e page backup) = numbers_line (codes "take") (Some t ∷ Some e ∷ Some page ∷ backup ∷ [])
+row_line (row.Unclaimed t size) = numbers_line (codes "drop") (Some t ∷ Some size ∷ [])
+
+abbrev pub sum_line : List Row → ℕ → List ℕ
+sum_line rows e = numbers_line (codes "sum") (Some e ∷ Some (count_by (is_run_of e) rows) ∷ Some (count_by (is_pay_of e) rows) ∷ Some (count_by (is_over_of e) rows) ∷ [])
+
+abbrev pub end_text : RunEnd → List ℕ
+end_text end.Limit = codes "limit"
+end_text end.Idle = codes "idle"
+
+unfoldable pub end_line : World → RunEnd → List ℕ
+end_line w how = line (codes "end" ∷ end_text how ∷ dec_text w.book.time ∷ [])
+
+unfoldable pub report_text : World → RunEnd → List ℕ
+report_text w how =
+    line (codes "aegis" ∷ codes "run" ∷ []) ++ end_line w how ++ for_each (env_text w) w.count
+    ++ flat_map row_line w.rows ++ for_each (sum_line w.rows) w.count ++ line (codes "done" ∷ [])
