@@ -3,14 +3,21 @@
 Each environment runs a loop of random blocks: arithmetic, loads and stores, and kernel calls whose arguments make sense
 often enough that most calls are granted. Most have a handler of exceptions, which passes over the instruction or binds a
 page where it was missed. The words that pages get and binds present are few, so that environments bind each other's.
+
+Many have handlers of the starts and ends of their slices. One of ends yields at once, or some quanta later, or never: then
+the program runs on in grace. Environments give each other slices, mostly in their own time and to who accepts it; some
+have no slot, and take one that is empty.
 """
 import random
 import struct
 
 BASE, PAGE, AREA = 0x2000, 4096, 0x1000
-YIELD, PUT, EXIT, ALLOC, FREE, RECAP, BIND, UNBIND, CONTEXT, OWN_NUMBER, CLOCK = 0, 1, 2, 3, 4, 5, 6, 7, 8, 20, 21
+YIELD, PUT, EXIT, ALLOC, FREE, RECAP, BIND, UNBIND, CONTEXT, ACCEPT = range(10)
+TAKE, DROP, QUERY, OWN_NUMBER, CLOCK = 11, 12, 13, 20, 21
+EXCEPTIONS, STARTS, ENDS = range(3)
+ANY = 0xFFFFFFFF
 ZERO, AT, V0, V1, A0, A1, A2, A3, A4 = range(9)
-SCRATCH, PAGES, POINTER, COUNTER, ROUNDS, MISSES, K0, K1, STACK = range(9, 16), range(16, 20), 20, 21, 22, 23, 26, 27, 29
+SCRATCH, PAGES, POINTER, COUNTER, ROUNDS, MISSES, RESUME, OLD, K0, K1, STACK = range(9, 16), range(16, 20), 20, 21, 22, 23, 24, 25, 26, 27, 29
 # the page numbers at which pages are bound: the first three share a row, and so do the next two with guaranteed ones
 NUMBERS = (0x500, 0x600, 0x700, 0x101, 0x102, 0x000, 0x501, 0x7FF00)
 READ_WORDS, WRITE_WORDS = ((5, 0),) * 6 + ((5, 1), (0, 0)), ((9, 0),) * 6 + ((0, 1), (0, 0))
@@ -40,10 +47,14 @@ NOP, SYSCALL, BREAK = 0, 12, 13
 class Program:
     """The words of one environment's program, as they are made."""
 
-    def __init__(self, chance, guaranteed, pages):
-        self.chance, self.guaranteed, self.pages = chance, guaranteed, pages
+    def __init__(self, chance, system, number):
+        self.chance, self.guaranteed, self.pages = chance, system.total, system.pages
+        self.own, self.count, self.slots = number, len(system.guaranteed), len(system.slots)
         self.words = []
         self.has_handler = chance.random() < 0.8
+        # by kind of its handler, the places of the words that put its address into a register
+        self.wanted = {kind: [] for kind in (EXCEPTIONS, STARTS, ENDS)}
+        self.hears = [kind for kind, share in ((STARTS, 0.35), (ENDS, 0.5)) if chance.random() < share]
 
     def add(self, *words):
         self.words += words
@@ -65,6 +76,12 @@ class Program:
             else:
                 self.load_number(place, argument)
         self.add(ori(V0, ZERO, number), SYSCALL)
+
+    def handle(self, kind):
+        """Has exceptions, starts or ends handled, by a handler that is made last."""
+        self.add(ori(A0, ZERO, kind), ori(V0, ZERO, CONTEXT))
+        self.wanted[kind].append(len(self.words))
+        self.add(NOP, SYSCALL)
 
     def branch_back(self, opcode, rs, rt, place, slot=NOP):
         self.add(immediate(opcode, rs, rt, place - len(self.words) - 1), slot)
@@ -94,7 +111,7 @@ class Program:
         page = self.chance.choice(PAGES)
         if self.chance.random() < 0.7:
             self.call(FREE, [page])
-        self.call(ALLOC, 0xFFFFFFFF if self.chance.random() < 0.8 else self.page_number(), *self.words_given())
+        self.call(ALLOC, ANY if self.chance.random() < 0.8 else self.page_number(), *self.words_given())
         self.add(immediate(5, V0, ZERO, 2), NOP, register(37, V1, ZERO, page))
 
     def free(self):
@@ -122,22 +139,57 @@ class Program:
         self.call(UNBIND, self.number())
 
     def give_up(self):
-        self.call(YIELD, 0xFFFFFFFF)
+        self.call(YIELD, ANY)
+
+    def other(self):
+        """The number of another environment, and at times of none that may be given a slice."""
+        if self.count == 1 or self.chance.random() < 0.1:
+            return self.chance.choice((self.own, self.count, 31, 0xFFFFFFFE))
+        return self.chance.choice([number for number in range(self.count) if number != self.own])
+
+    def give(self):
+        self.call(YIELD, self.other())
+
+    def accept(self):
+        self.call(ACCEPT, self.chance.choice((0xFFFF, 0xFFFF, self.chance.randrange(1 << 16), ANY, 0)))
+
+    def slot(self):
+        """The number of a slot, and at times of none."""
+        return self.chance.randrange(self.slots) if self.chance.random() < 0.95 else self.chance.choice((self.slots, 64, ANY))
+
+    def take(self):
+        self.call(TAKE, self.slot())
+
+    def drop(self):
+        self.call(DROP, self.slot())
+
+    def query(self):
+        """A question, whose answer is kept among the registers of arithmetic."""
+        what = self.chance.choice((0, 1, 2, 3, 4, 5, 5, 6, 6, 7, 7, 8, 8, 9, ANY))
+        which = {5: self.page_number(), 6: self.slot(), 8: self.chance.randrange(self.count + 1)}.get(what, self.chance.choice((0, ANY)))
+        self.call(QUERY, what, which)
+        self.add(register(37, V1, ZERO, self.chance.choice(SCRATCH)))
+
+    def hear(self):
+        """Has starts or ends handled, or not any more."""
+        kind = self.chance.choice((STARTS, ENDS))
+        if self.chance.random() < 0.6:
+            self.handle(kind)
+        else:
+            self.call(CONTEXT, kind, 0)
 
     def put(self):
         address = self.chance.choice((AREA, BASE, BASE + 0xFF8, *(number * PAGE + 0x10 for number in NUMBERS[:4])))
         self.call(PUT, address + self.chance.randrange(8), self.chance.choice((0, 1, 3, 8, 8)))
 
     def ask(self):
-        self.call(self.chance.choice((OWN_NUMBER, CLOCK, CLOCK, 9, 19, 0x12345678)))
+        self.call(self.chance.choice((OWN_NUMBER, CLOCK, CLOCK, 10, 14, 19, 0x12345678)))
 
     def other_calls(self):
-        """Refused ones, and at times the last one."""
+        """Contexts, mostly refused ones, and at times the last call."""
         kind = self.chance.random()
-        if kind < 0.3:
-            self.call(YIELD, self.chance.randrange(6))
-        elif kind < 0.8:
-            self.call(CONTEXT, self.chance.randrange(6), self.chance.choice((BASE + 2, 0x80000000, BASE + 0x400)))
+        if kind < 0.8:
+            self.call(CONTEXT, *self.chance.choice(((3, BASE), (4, 0), (5, BASE), (0, BASE + 2), (1, BASE + 1), (2, 0x80000000), (1, BASE + 0x400))))
         elif kind < 0.88:
             self.call(CONTEXT, 0, 0)
             self.has_handler = False
@@ -175,7 +227,7 @@ class Program:
         self.add(immediate(OPCODES["sw"], POINTER, self.chance.choice(SCRATCH), 0), addiu(COUNTER, COUNTER, -1))
         self.branch_back(5, COUNTER, ZERO, place, addiu(POINTER, POINTER, 4))
 
-    def slot(self):
+    def delay_slot(self):
         """A branch, taken or not, with an access or a call in its slot."""
         self.point()
         opcode, rs = self.chance.choice(((4, 0), (5, 0), (6, 9), (7, 9)))
@@ -202,9 +254,41 @@ class Program:
             self.add(*self.chance.choice(((BREAK,), overflow, (0xFFFFFFFF,), (0x40086000,), (0x4C000000,))))
 
     BLOCKS = ((allocate, 4), (free, 1), (recap, 2), (bind_own, 4), (bind_shared, 8), (unbind, 2), (give_up, 2), (put, 3), (ask, 1),
-              (other_calls, 1), (accesses, 4), (fill, 2), (slot, 2), (arithmetic, 3), (fault, 1))
+              (give, 5), (accept, 1), (take, 2), (drop, 1), (query, 3), (hear, 1),
+              (other_calls, 1), (accesses, 4), (fill, 2), (delay_slot, 2), (arithmetic, 3), (fault, 1))
 
-    def handler(self):
+    def handler_of_starts(self):
+        """Goes on with the program; at times it gives the slice away, or is long."""
+        kind = self.chance.random()
+        if kind < 0.3:
+            self.add(register(37, K0, ZERO, RESUME), immediate(OPCODES["lw"], ZERO, OLD, AREA + 0x40))
+            self.give()
+            self.add(register(8, RESUME, 0, 0), register(37, OLD, ZERO, K0))
+            return
+        if kind < 0.5:
+            self.wait()
+        self.add(register(8, K0, 0, 0), immediate(OPCODES["lw"], ZERO, K0, AREA + 0x40))
+
+    def handler_of_ends(self):
+        """Yields, at once or later, and goes on with the program at the next start; or goes on in grace."""
+        self.add(register(37, K0, ZERO, RESUME), immediate(OPCODES["lw"], ZERO, OLD, AREA + 0x50))
+        kind = self.chance.random()
+        if kind < 0.4:
+            self.wait()
+        if self.chance.random() < 0.1:
+            self.chance.choice((self.give, self.take, self.drop, self.query))()
+        if kind < 0.85:
+            self.call(YIELD, ANY)
+        self.add(register(8, RESUME, 0, 0), register(37, OLD, ZERO, K0))
+
+    def wait(self):
+        """Counts down from a number."""
+        self.add(ori(COUNTER, ZERO, self.chance.randrange(1, 80)))
+        place = len(self.words)
+        self.add(addiu(COUNTER, COUNTER, -1))
+        self.branch_back(5, COUNTER, ZERO, place)
+
+    def handler_of_exceptions(self):
         """Binds a page where it was missed, at every other miss if it does at all; else it passes over the instruction."""
         self.add(addiu(MISSES, MISSES, 1))
         if self.chance.random() < 0.6:
@@ -215,11 +299,12 @@ class Program:
 
     def made(self):
         """All bytes of the program, of at most a page."""
-        where = 2 if self.has_handler else None
         if self.has_handler:
-            self.add(ori(A0, ZERO, 0), ori(V0, ZERO, CONTEXT), NOP, SYSCALL)
+            self.handle(EXCEPTIONS)
+        for kind in self.hears:
+            self.handle(kind)
         for page in self.chance.sample(PAGES, self.chance.randrange(1, 4)):
-            self.call(ALLOC, 0xFFFFFFFF, *self.words_given())
+            self.call(ALLOC, ANY, *self.words_given())
             self.add(register(37, V1, ZERO, page))
         start = len(self.words)
         blocks, weights = zip(*self.BLOCKS)
@@ -227,9 +312,11 @@ class Program:
             block(self)
         self.add(addiu(ROUNDS, ROUNDS, 1))
         self.branch_back(4, ZERO, ZERO, start)
-        if where is not None:
-            self.words[where] = ori(A1, ZERO, BASE + 4 * len(self.words))
-            self.handler()
+        for kind, handler in enumerate((self.handler_of_exceptions, self.handler_of_starts, self.handler_of_ends)):
+            for place in self.wanted[kind]:
+                self.words[place] = ori(A1, ZERO, BASE + 4 * len(self.words))
+            if self.wanted[kind]:
+                handler()
         return struct.pack(f"<{len(self.words)}I", *self.words)
 
 
@@ -242,15 +329,17 @@ class System:
         stacks = [chance.choice((0, 0, 1)) for _ in range(count)]
         # by environment, the page numbers at which pages are guaranteed; the pages themselves are the lowest, in this order
         self.guaranteed = [[1, BASE // PAGE] + [0x7FFF0 - stack + place for place in range(stack)] for stack in stacks]
-        total = sum(map(len, self.guaranteed))
-        self.pages = max(16, total + chance.randrange(2, 10))
-        self.slots = list(range(count)) + [chance.choice((*range(count), 255)) for _ in range(chance.randrange(4))]
+        self.total = sum(map(len, self.guaranteed))
+        self.pages = max(16, self.total + chance.randrange(2, 10))
+        # one slot has an owner for sure; 255 is for an empty one
+        self.slots = [0] + [chance.choice((environment,) * 6 + (255,)) for environment in range(1, count)]
+        self.slots += [chance.choice((*range(count), 255)) for _ in range(chance.randrange(4))]
         chance.shuffle(self.slots)
-        self.ticks = chance.randrange(100, 700)
-        self.image = b"AEG1" + struct.pack("<IIHH", self.pages, chance.randrange(16, 80), count, len(self.slots)) + bytes(self.slots)
+        self.quantum, self.ticks = chance.randrange(16, 80), chance.randrange(200, 1200)
+        self.image = b"AEG1" + struct.pack("<IIHH", self.pages, self.quantum, count, len(self.slots)) + bytes(self.slots)
         for environment, stack in enumerate(stacks):
-            body = Program(chance, total, self.pages).made()
-            self.image += f"e{environment}".encode().ljust(8, b"\0") + struct.pack("<5I", BASE, stack, 0, 0, len(body)) + body
+            mask, body = chance.choice((0xFFFF, 0xFFFF, chance.randrange(1 << 16), 0)), Program(chance, self, environment).made()
+            self.image += f"e{environment}".encode().ljust(8, b"\0") + struct.pack("<5I", BASE, stack, mask, 0, len(body)) + body
 
     def pages_of(self, environment):
         """The pages that are guaranteed to an environment."""

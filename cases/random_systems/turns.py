@@ -1,0 +1,140 @@
+"""The ledger of a run, told again by the rules of turns, slices and slots, without what the environments do."""
+
+MOST_EXCESS = 8
+
+
+class Wrong(Exception):
+    """What a report must not be."""
+
+
+def must(holds, why):
+    if not holds:
+        raise Wrong(why)
+
+
+class Slice:
+    """Who runs, in which slot, whether behind the end of a slice, and the last tick of this quantum."""
+
+    def __init__(self, slot, env, last):
+        self.slot, self.env, self.last, self.grace = slot, env, last, False
+
+
+class Turns:
+    """Who holds which slot, whose turn it is, and who owes how much."""
+
+    def __init__(self, system):
+        self.quantum, self.count = system.quantum, len(system.guaranteed)
+        # nobody gives a slot to another, so a slot's holder is its owner
+        self.holders = [None if owner == 255 else owner for owner in system.slots]
+        self.cursor, self.next_turn = len(self.holders) - 1, 0
+        self.excess, self.gone, self.killed, self.slice = [0] * self.count, set(), set(), None
+
+    def tell(self, rows, time, idle):
+        """Reads all rows of a run that ended at this time, idle or at its limit."""
+        self.rows, self.place = [self.words_of(row) for row in rows], 0
+        for slot, holder in enumerate(self.holders):
+            if holder is not None:
+                self.change(0, slot, holder)
+        while self.place < len(self.rows):
+            name, tick, slot, env = self.rows[self.place][:4]
+            if self.slice is None:
+                self.turn(tick)
+            else:
+                self.row(name, tick, slot, env)
+        if self.slice:
+            must(time <= self.slice.last, f"nothing is said of the end of the quantum in tick {self.slice.last}")
+        else:
+            must(time == self.next_turn, f"no turn begins in tick {self.next_turn}")
+        must(not idle or not self.slice and not self.is_held(), "it is idle while somebody runs or a slot is held")
+
+    @staticmethod
+    def words_of(row):
+        name, *numbers = row.split()
+        return [name, *(None if word == "-" else int(word) for word in numbers)]
+
+    def take(self, *due):
+        """Reads the row that is due."""
+        found = self.rows[self.place] if self.place < len(self.rows) else None
+        must(found == list(due), f"{found} is where {list(due)} is due")
+        self.place += 1
+
+    def next_tick(self):
+        """The tick of the row that comes next, if there is one."""
+        return self.rows[self.place][1] if self.place < len(self.rows) else None
+
+    def is_held(self):
+        return any(holder is not None for holder in self.holders)
+
+    def change(self, tick, slot, holder):
+        self.holders[slot] = holder
+        self.take("own", tick, slot, holder, holder)
+
+    def turn(self, tick):
+        """The next held slots are forfeited up to that of a holder who owes nothing, all in the tick behind the last slice."""
+        must(tick == self.next_turn and self.is_held(), f"a turn is due in tick {self.next_turn} if a slot is held, and one is in tick {tick}")
+        while True:
+            self.cursor = (self.cursor + 1) % len(self.holders)
+            env = self.holders[self.cursor]
+            if env is None:
+                continue
+            if self.excess[env] == 0:
+                break
+            self.excess[env] -= 1
+            self.take("pay", tick, self.cursor, env)
+        self.take("run", tick, self.cursor, env)
+        self.slice = Slice(self.cursor, env, tick + self.quantum - 1)
+
+    def row(self, name, tick, slot, env):
+        """A row of the slice that runs."""
+        runs = self.slice
+        must(tick <= runs.last, f"nothing is said of the end of the quantum in tick {runs.last}")
+        if name == "own":
+            return self.take_or_drop(tick, slot)
+        must((slot, env) == (runs.slot, runs.env), f"{name} {tick} names slot {slot} and environment {env}, while {runs.env} runs in {runs.slot}")
+        rules = {"give": self.give, "end": self.end, "over": self.over, "stop": self.stop, "dead": self.dead}
+        must(name in rules, f"{name} {tick} comes while {env} runs")
+        rules[name](tick, slot, env)
+
+    def take_or_drop(self, tick, slot):
+        """The runner takes an empty slot, or drops one that it holds."""
+        holder = self.holders[slot]
+        must(holder in (None, self.slice.env), f"{self.slice.env} changes slot {slot}, which {holder} holds")
+        self.change(tick, slot, self.slice.env if holder is None else None)
+
+    def give(self, tick, slot, env):
+        target = self.rows[self.place][4]
+        must(not self.slice.grace, f"{env} gives a slice in tick {tick}, in grace")
+        must(target < self.count and target != env and target not in self.gone, f"a slice is given to {target} in tick {tick}")
+        self.take("give", tick, slot, env, target)
+        self.slice.env = target
+        # the tick counts: what is given in the last one is over in it
+        must((self.next_tick() == tick) == (tick == self.slice.last), f"what is given in tick {tick} is over too early or too late")
+
+    def end(self, tick, slot, env):
+        must(not self.slice.grace and tick == self.slice.last, f"{env} is told of an end in tick {tick}")
+        self.take("end", tick, slot, env)
+        self.slice.grace, self.slice.last = True, tick + self.quantum
+
+    def over(self, tick, slot, env):
+        must(self.slice.grace and tick == self.slice.last, f"{env} has used up a quantum of grace in tick {tick}")
+        self.excess[env] += 1
+        self.take("over", tick, slot, env, self.excess[env])
+        self.slice.last = tick + self.quantum
+        if self.excess[env] > MOST_EXCESS:
+            self.killed.add(env)
+            self.dead(tick, slot, env)
+        else:
+            must(self.next_tick() != tick, f"more happens in tick {tick}, in which {env} has used up a quantum of grace")
+
+    def stop(self, tick, slot, env):
+        self.take("stop", tick, slot, env)
+        self.slice, self.next_turn = None, tick + 1
+
+    def dead(self, tick, slot, env):
+        self.take("dead", tick, slot, env)
+        for place, holder in enumerate(self.holders):
+            if holder == env:
+                self.change(tick, place, None)
+        self.gone.add(env)
+        self.excess[env] = 0
+        self.slice, self.next_turn = None, tick + 1
