@@ -1,5 +1,5 @@
 //! What a pass over the rows of all environments leaves.
-ghost use Rattle.std.specs.Prelude.{◌≡◌, ◌≤◌, ◌<◌, ◌/◌, length};
+ghost use Rattle.std.specs.Prelude.{◌≡◌, ◌≤◌, ◌<◌, ◌/◌, None, if◌then◌else◌, length};
 ghost use Rattle.page_book.specs.Row.{belongs_to};
 ghost use Rattle.page_book.specs.Rows.{row_in};
 ghost use Rattle.bind_book.specs.Stripe.{stripe_rows, most_places, breaks_page, goes_with, without, swept};
@@ -14,7 +14,9 @@ pub(crate) fn break_page(rows: &mut [Option<Binding>], page: u32, but: Option<u8
     ensures { rows.new ≡ swept (breaks_page page but) rows.old }
 {
     for (place, row) in rows.iter_mut().enumerate() {
-        *row = without_page(*row, env_of(place), page, but);
+        if is_broken(*row, env_of(place), page, but) {
+            *row = None;
+        }
     }
 }
 
@@ -36,15 +38,13 @@ fn env_of(place: usize) -> u8
     (place / STRIPE_ROWS as usize) as u8
 }
 
-/// The environment's row once a page is broken.
-fn without_page(row: Option<Binding>, env: u8, page: u32, but: Option<u8>) -> Option<Binding>
-    ensures { result ≡ without (breaks_page page but env) row }
+/// Whether the environment's binding in a row, if there is one, is broken with the page.
+fn is_broken(row: Option<Binding>, env: u8, page: u32, but: Option<u8>) -> bool
+    ensures { without (breaks_page page but env) row ≡ (if result then None else row) }
 {
-    let binding = row?;
-    if binding.page == page && but != Some(env) {
-        None
-    } else {
-        row
+    match row {
+        Some(binding) => binding.page == page && but != Some(env),
+        None => false,
     }
 }
 
