@@ -23,6 +23,15 @@ pub(crate) const END_AREA: u32 = 0x050;
 /// How many bytes the end area has: three words.
 pub(crate) const END_AREA_SIZE: usize = 12;
 
+/// Where the entry area begins in the context page.
+pub(crate) const ENTRY_AREA: u32 = 0x080;
+
+/// How many bytes `$1` to `$31` have, which stand first in the entry area.
+pub(crate) const GENERAL_SIZE: usize = 124;
+
+/// How many bytes the entry area has: 36 words.
+pub(crate) const ENTRY_AREA_SIZE: usize = 144;
+
 /// Why the kernel continues an environment at an address that the environment chose.
 #[derive(Clone, Copy)]
 pub enum Context {

@@ -3,12 +3,18 @@ ghost use Rattle.std.specs.Prelude.{◌≡◌, ◌≢◌, ◌<◌, ◌≤◌, �
 ghost use Rattle.aegis_limits.specs.Limits.{most_mappings, page_size};
 ghost use Rattle.mips_exec.specs.Cpu.{rested};
 ghost use Rattle.env_frames.specs.Context.{end_area, end_bytes, handler_of, no_handlers, raised_cpu, resumed_cpu, start_area, start_bytes, started_cpu, with_handler};
+ghost use Rattle.env_frames.specs.Transfer.{carried, entered_cpu, entry_area, entry_bytes, entry_context};
 ghost use Rattle.env_frames.specs.Frame.{IsAbove, IsRising, gone_env, left_in, mapping_at, numbers, page_of, raised_in};
 
-use crate::context::{CONTEXT_PAGE, Context, END_AREA, EXCEPTION_AREA, Handlers, START_AREA};
+use crate::context::{
+    CONTEXT_PAGE, Context, END_AREA, ENTRY_AREA, EXCEPTION_AREA, Handlers, START_AREA,
+};
 use crate::mapping::Mapping;
 use crate::search::place_in;
-use crate::upcall::{end_bytes, enter_raised, enter_resumed, exception_bytes, start_bytes};
+use crate::transfer::TransferKind;
+use crate::upcall::{
+    end_bytes, enter_raised, enter_resumed, entered, entry_bytes, exception_bytes, start_bytes,
+};
 use aegis_limits::MOST_MAPPINGS;
 use arrayvec::ArrayVec;
 use frame_store::Frames;
@@ -208,6 +214,23 @@ impl Env {
     {
         self.leave(frames, END_AREA, &end_bytes(cpu));
         enter_resumed(cpu, self.handlers.end);
+    }
+
+    /// The registers with which a transfer enters the environment, which handles it: its caller's, at the
+    /// entry for this kind. What the environment needs to go on where it stood, and who calls it, stands
+    /// in its context page, and it accepts nobody (`docs/KERNEL.md`, "Transfers").
+    pub fn enter(&mut self, frames: &mut Frames, from: u8, kind: TransferKind, caller: &Cpu) -> Cpu
+        requires handled { handler_of self.old.handlers (entry_context kind) ≢ 0 }
+        requires there { IfSome (page_of self.old.mappings 1) (λ page. page < length frames.old) }
+        ensures cpu { result ≡ entered_cpu (handler_of self.old.handlers (entry_context kind)) (carried caller.now) }
+        ensures frames { frames.new ≡ left_in entry_area (entry_bytes from kind self.old.cpu) (page_of self.old.mappings 1) frames.old }
+        ensures env { self.new ≡ record self.old { mask = 0 } }
+        ensures size { length frames.new ≡ length frames.old }
+    {
+        let bytes = entry_bytes(&self.cpu, from, kind);
+        self.leave(frames, ENTRY_AREA, &bytes);
+        self.set_accept(0);
+        entered(self.handler(kind.context()), caller)
     }
 
     /// The environment is dead: nothing of it is kept, and all its registers are 0.

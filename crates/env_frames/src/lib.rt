@@ -5,9 +5,9 @@
 //! Mappings are given by rising page number, and looked up by halving.
 //!
 //! An upcall is the kernel's: an environment goes on at a handler of its own, after an exception, where
-//! its slice starts, and where its slice ends. What it needs to go on as if nothing had been stands then
-//! in the context page, which is the page at page number 1, in an area for each kind of upcall. Without a
-//! handler the context page stays as it is.
+//! its slice starts, where its slice ends, and where another calls it by a transfer. What it needs to go on
+//! as if nothing had been stands then in the context page, which is the page at page number 1, in an area
+//! for each kind of upcall. Without a handler the context page stays as it is.
 #![tactic(auto)]
 
 mod context;
@@ -16,8 +16,10 @@ mod mapping;
 mod search;
 #[cfg(test)]
 mod tests;
+mod transfer;
 mod upcall;
 
 pub use context::{Context, Handlers};
 pub use env::Env;
 pub use mapping::Mapping;
+pub use transfer::TransferKind;

@@ -97,3 +97,33 @@ fn a_start_and_an_end_leave_their_words_and_go_to_their_handlers(
     assert_eq!(rt; (cpu.pc, cpu.next, cpu.slot), (0x40_0300, 0x40_0304, false));
     Ok(())
 }
+
+#[test]
+fn a_transfer_leaves_36_words_and_goes_to_the_entry(rt: HostRuntime) -> Result<(), Fail> {
+    let Ok(mut frames) = Frames::new(rt.alloc(), 16) else {
+        return Err(Fail::from("no memory"));
+    };
+    let mut env = Env::new(in_a_slot(), 3, 6);
+    env.set_handler(Context::Synchronous, 0x40_0200);
+    let mut caller = Cpu::blank();
+    caller.regs[4] = 11;
+    caller.hi = 12;
+    let entered = env.enter(&mut frames, 2, TransferKind::Synchronous, &caller);
+    assert_eq!(rt; (entered.regs[4], entered.regs[1], entered.hi), (11, 0, 12));
+    assert_eq!(rt;
+        (entered.pc, entered.next, entered.slot),
+        (0x40_0200, 0x40_0204, false)
+    );
+    assert_eq!(rt; env.accept(), 0);
+    let page = frames.page(3);
+    assert_eq!(rt;
+        &page[0x07C..0x088],
+        [0, 0, 0, 0, 7, 0, 0, 0, 0, 0, 0, 0].as_slice()
+    );
+    assert_eq!(rt; &page[0x0E4..0x0EC], [8, 0, 0, 0, 9, 0, 0, 0].as_slice());
+    let behind = [
+        0, 0, 0, 0, 0, 0, 0, 0, 0x04, 0, 0x40, 0, 2, 0, 0, 0, 1, 0, 0, 0, 0, 0, 0, 0,
+    ];
+    assert_eq!(rt; &page[0x0FC..0x114], behind.as_slice());
+    Ok(())
+}

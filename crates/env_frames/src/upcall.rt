@@ -1,8 +1,12 @@
 //! What the kernel's upcalls leave in the context page, and in the registers of their handlers.
 ghost use Rattle.std.specs.Prelude.{◌≡◌};
+ghost use Rattle.env_frames.specs.Transfer.{carried, entered_cpu, entry_bytes};
 ghost use Rattle.env_frames.specs.Context.{continued, end_bytes, end_cause, exception_bytes, raised_cpu, resumed_cpu, start_bytes};
 
-use crate::context::{END_AREA_SIZE, EXCEPTION_AREA_SIZE, START_AREA_SIZE};
+use crate::context::{
+    END_AREA_SIZE, ENTRY_AREA_SIZE, EXCEPTION_AREA_SIZE, GENERAL_SIZE, START_AREA_SIZE,
+};
+use crate::transfer::TransferKind;
 use byteorder::{ByteOrder, LittleEndian};
 use mips_exec::{Cpu, Exc, cause_word, restart};
 
@@ -58,6 +62,26 @@ pub(crate) fn end_bytes(cpu: &Cpu) -> [u8; END_AREA_SIZE]
     bytes
 }
 
+/// The bytes of the entry area: the registers that were kept of the target, `$1` to `$31`, HI, LO and the
+/// resume address; then the caller's number and the kind of the transfer, as words of the same form.
+#[tactic(auto, unfolding(crate::specs::Transfer::entry_bytes))]
+pub(crate) fn entry_bytes(kept: &Cpu, from: u8, kind: TransferKind) -> [u8; ENTRY_AREA_SIZE]
+    ensures { result ≡ entry_bytes from kind kept.now }
+{
+    let mut bytes = [0; ENTRY_AREA_SIZE];
+    let (general, rest) = bytes.split_at_mut(GENERAL_SIZE);
+    LittleEndian::write_u32_into(&kept.regs[1..32], general);
+    let words = [
+        kept.hi,
+        kept.lo,
+        restart(kept),
+        u32::from(from),
+        kind.number(),
+    ];
+    LittleEndian::write_u32_into(&words, rest);
+    bytes
+}
+
 /// Cause where there was no exception: bit 31 says that `pc` was a delay slot, and all else is 0.
 fn end_cause(cpu: &Cpu) -> u32
     ensures { result ≡ end_cause cpu.now }
@@ -84,6 +108,15 @@ pub(crate) fn enter_resumed(cpu: &mut Cpu, handler: u32)
     let address = restart(cpu);
     cpu.set_reg(RESUME_REGISTER, address);
     go_on(cpu, handler);
+}
+
+/// The registers with which a transfer enters its target: its caller's, at the entry.
+pub(crate) fn entered(entry: u32, caller: &Cpu) -> Cpu
+    ensures { result ≡ entered_cpu entry (carried caller.now) }
+{
+    let mut cpu = *caller;
+    go_on(&mut cpu, entry);
+    cpu
 }
 
 /// Goes on at an address, out of a delay slot.
