@@ -3,7 +3,9 @@ use Rattle.std.proofs.Common.{◌≡◌, ℕ, zero, suc, List, [], ◌∷◌, �
 use Rattle.std.specs.Prelude.{◌==◌, if◌then◌else◌, is_some}
 use Rattle.std.proofs.lemmas.List.Sums.{fold-append}
 use Rattle.env_frames.specs.declared.context.Context.{Context}
-use Rattle.env_frames.specs.Context.{resumed_cpu, start_area, start_bytes}
+use Rattle.env_frames.specs.declared.transfer.TransferKind.{TransferKind}
+use Rattle.env_frames.specs.Transfer.{Registers}
+use Rattle.env_frames.specs.Context.{context_numbered, resumed_cpu, start_area, start_bytes}
 use Rattle.bind_book.specs.Stripe.{binding_at, is_bound, row_of}
 use Rattle.mips_exec.specs.Cpu.{reg, rested}
 use Rattle.page_book.specs.Row.{belongs_to}
@@ -11,9 +13,9 @@ use Rattle.world_model.specs.declared.call.Call.{Call}
 use Rattle.world_model.specs.declared.call.Call.TheVariants as call
 use Rattle.world_model.specs.declared.code.Code.{Code}
 use Rattle.world_model.specs.Book.{Book, sees}
-use Rattle.world_model.specs.Call.{called, handled}
+use Rattle.world_model.specs.Call.{called}
 use Rattle.world_model.specs.Holding.{start_by, with_binds, with_context}
-use Rattle.world_model.specs.Item.{Item, Start, End, Granted, Refused, Gained, Lost, Left, absorb, absorb_all, absorbed, own_part, with_handlers}
+use Rattle.world_model.specs.Item.{Item, Start, End, Transfer, Granted, Refused, Gained, Lost, Left, absorb, absorb_all, absorbed, own_part, with_handlers}
 use Rattle.world_model.specs.PageCalls.{breaks, left_at, left_by, left_if, lost_if, lost_with}
 use Rattle.world_model.specs.Solo.{Solo, Store, Key, Kept, Physical, is_dead}
 use Rattle.world_model.specs.Table.{set_at}
@@ -56,7 +58,7 @@ if_bound true s t same = same
 if_bound false s t same = refl
 
 own_part_same : (c : Option Call) (value : ℕ) (s : Solo) → (own_part c value s).life ≡ s.life
-own_part_same (Some call.Context) value s = handlers_same (handled (reg s.cpu 4)) (reg s.cpu 5) s
+own_part_same (Some call.Context) value s = handlers_same (context_numbered (reg s.cpu 4)) (reg s.cpu 5) s
 own_part_same (Some call.Unbind) value s =
     if_bound (is_some (binding_at s.binds (reg s.cpu 4))) s (with_binds (set_at (row_of (reg s.cpu 4)) None s.binds) s) refl
 own_part_same c value s = refl
@@ -73,6 +75,9 @@ keep_start = keep_one Start (λ s. start_same s.handlers.start s)
 
 pub keep_end : Keeps (End ∷ [])
 keep_end = keep_one End (λ s. refl)
+
+pub keep_transfer : (from : ℕ) (kind : TransferKind) (registers : Registers) → Keeps (Transfer from kind registers ∷ [])
+keep_transfer from kind registers = keep_one (Transfer from kind registers) (λ s. refl)
 
 pub keep_granted : (value : ℕ) → Keeps (Granted value ∷ [])
 keep_granted value = keep_one (Granted value) (λ s. own_part_same (called s.cpu) value s)

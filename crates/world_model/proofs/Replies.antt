@@ -7,6 +7,10 @@ use Rattle.mips_exec.specs.declared.registers.Cpu.{Cpu}
 use Rattle.mips_exec.specs.declared.exception.Exc.{Exc}
 use Rattle.mips_exec.specs.Cpu.{reg}
 use Rattle.mips_exec.specs.Step.{Step as MachineStep, Retired, Called, Trapped, cpu_after}
+use Rattle.std.specs.Option.{option_map}
+use Rattle.env_frames.specs.declared.transfer.TransferKind.{TransferKind}
+use Rattle.env_frames.specs.declared.transfer.TransferKind.TheVariants as kind
+use Rattle.env_frames.specs.Transfer.{carried, hands_slot, transfer_numbered}
 use Rattle.page_book.specs.declared.row.PageRow.{PageRow}
 use Rattle.page_book.specs.declared.row.PageRow.TheVariants.{Free, Owned}
 use Rattle.page_book.specs.declared.refusal.PageNo.{PageNo}
@@ -28,16 +32,17 @@ use Rattle.world_model.specs.Book.{broken, own_hold, page_row, released}
 use Rattle.world_model.specs.Call.{any, binding_of, called, number_refusal, put_refusal, refusal_of_bind, refusal_of_context, words_of}
 use Rattle.world_model.specs.Code.{code_of}
 use Rattle.world_model.specs.Excess.{pays, AreSlotsLive, IsAccounted, IsRunnerLive, Lives}
-use Rattle.world_model.specs.Item.{Item, Step, Start, Granted, Refused, Gained, Lost, absorb, absorb_all}
+use Rattle.world_model.specs.Item.{Item, Step, Start, Transfer, Granted, Refused, Gained, Lost, absorb, absorb_all}
 use Rattle.world_model.specs.PageCalls.{alloc_by, bind_by, breaks, chosen_page, context_by, free_by, is_guaranteed, left_by, lost_with, page_bytes, recap_by, unbind_by, with_binding, without_number}
-use Rattle.world_model.specs.SlotCalls.{accepts, answer_to, drop_by, drop_refusal, dropped, give_by, handed, is_grace, is_other, query_by, refusal_of_giving, slot_at, take_by, take_refusal, with_slot, yield_by}
+use Rattle.world_model.specs.Transfers.{is_open, refusal_of_transfer, slots_handed, transfer_by, transfer_of, transfer_rows}
+use Rattle.world_model.specs.SlotCalls.{accepts, answer_to, drop_by, drop_refusal, dropped, gift_refusal, give_by, handed, held_by, is_other, query_by, question_numbered, refusal_of_giving, slot_at, turn_slot, take_by, take_refusal, with_slot, yield_by}
 use Rattle.world_model.specs.Solo.{Solo, Store, is_dead, sight, store_of}
 use Rattle.world_model.specs.Step.{Act, Nothing, Stores, Calls, Raises, Dies, act_of, acted, call_act, step_alone, stepped, store_act, trap_act}
 use Rattle.world_model.specs.Tick.{brings, no_change, with_step}
 use Rattle.world_model.specs.Verdict.{death, grant, put_if, refusal, reply_of, reply_to}
 use Rattle.world_model.specs.World.{World, Reply, after, no_items, only}
-use Rattle.world_model.proofs.Lives.{Keeps, if_living, keep_none, keep_set, keep_only, keep_start, keep_granted, keep_refused, keep_gained, keep_freed, breaks_keep, left_by_keeps, lost_with_keeps}
-use Rattle.world_model.proofs.Rows.{AreQuiet, Adds, adds_quiet, lawful_both, set_other, quiet_dead, quiet_give, quiet_releases, quiet_stop, quiet_slot}
+use Rattle.world_model.proofs.Lives.{Keeps, if_living, keep_none, keep_set, keep_only, keep_start, keep_transfer, keep_granted, keep_refused, keep_gained, keep_freed, breaks_keep, left_by_keeps, lost_with_keeps}
+use Rattle.world_model.proofs.Rows.{AreQuiet, Adds, adds_quiet, lawful_both, set_other, quiet_async, quiet_dead, quiet_give, quiet_releases, quiet_stop, quiet_slot, quiet_sync}
 
 -- After a reply who lives lived before, with this excess, and who has slots or runs lives.
 pub record Calm (w : World) (r : Reply) (excess : ℕ → ℕ) : Type 0 where
@@ -202,9 +207,9 @@ is_live : (life : Life) → is_dead life ≡ false → life ≡ Live
 is_live Live is = refl
 is_live (Dead cause) is = cc
 
-not_refused : (other grace accepted : Bool) → refusal_of_giving other grace accepted ≡ None → other ≡ true
-not_refused true grace accepted none = refl
-not_refused false grace accepted none = cc
+not_refused : (other : Bool) (gift : Option Code) (accepted : Bool) → refusal_of_giving other gift accepted ≡ None → other ≡ true
+not_refused true gift accepted none = refl
+not_refused false gift accepted none = cc
 
 target_lives : (w : World) (e target : ℕ) → is_other w e target ≡ true → Lives w target
 target_lives w e target is =
@@ -215,6 +220,25 @@ target_lives w e target is =
 handed_lives : (w : World) (target : ℕ) → Lives w target → (runner : Option Runner) → IsRunnerLive w (handed target runner)
 handed_lives w target lives None x is = cc
 handed_lives w target lives (Some r) x is = let same : target ≡ x.env = cc in subst (λ (n : ℕ). Lives w n) same lives
+
+-- who has the slots once one is handed on lives
+handed_on_lives : (w : World) (target : ℕ) → Lives w target → (old : Option Hold) → ((hold : Hold) → old ≡ Some hold → Lives w hold.owner × Lives w hold.holder)
+    → (hold : Hold) → option_map (held_by target) old ≡ Some hold → Lives w hold.owner × Lives w hold.holder
+handed_on_lives w target lives None lived hold is = cc
+handed_on_lives w target lives (Some old) lived hold is =
+    let same : held_by target old ≡ hold = cc in
+    subst (λ (h : Hold). Lives w h.owner × Lives w h.holder) same ((lived old refl).0, lives)
+
+slots_handed_live : (w : World) (later : Bool) (target : ℕ) → Lives w target → AreSlotsLive w w.book.slots → AreSlotsLive w (slots_handed later target w.book)
+slots_handed_live w true target lives live =
+    with_slot_live w w.book.cursor (option_map (held_by target) (turn_slot w.book)) live (handed_on_lives w target lives (turn_slot w.book) (live w.book.cursor))
+slots_handed_live w false target lives live = live
+
+-- the rows of a transfer count for nobody
+transfer_is_quiet : (w : World) (e target : ℕ) (kind : TransferKind) → AreQuiet (transfer_rows w.book e target kind)
+transfer_is_quiet w e target kind.Asynchronous = (quiet_async w.book.time w.book.cursor e target, tt)
+transfer_is_quiet w e target kind.Synchronous =
+    (quiet_sync w.book.time w.book.cursor e target, (quiet_slot w.book.time w.book.cursor (option_map (held_by target) (turn_slot w.book)), tt))
 
 -- The calls, by why they are refused
 module _ (w : World) (e : ℕ) (good : IsAccounted w) where
@@ -243,15 +267,34 @@ module _ (w : World) (e : ℕ) (good : IsAccounted w) where
     runner = good.runner_lives;
   }
 
-  gives_by : (target : ℕ) (why : Option Code) → refusal_of_giving (is_other w e target) (is_grace w.book.runner) (accepts (w.solos target).mask e) ≡ why → Mild w (reply_of w e (give_by w e target why))
+  gives_by : (target : ℕ) (why : Option Code) → refusal_of_giving (is_other w e target) (gift_refusal false w.book.runner (turn_slot w.book)) (accepts (w.solos target).mask e) ≡ why → Mild w (reply_of w e (give_by w e target why))
   gives_by target None none = record {
     excess = refl;
     quiet = (quiet_give w.book.time w.book.cursor e target, tt);
     keeps = keep_set target (Start ∷ []) (only e (Granted 0 ∷ [])) keep_start (keep_only e (Granted 0 ∷ []) (keep_granted 0));
     slots = good.slots_live;
-    runner = handed_lives w target (target_lives w e target (not_refused (is_other w e target) (is_grace w.book.runner) (accepts (w.solos target).mask e) none)) w.book.runner;
+    runner = handed_lives w target (target_lives w e target (not_refused (is_other w e target) (gift_refusal false w.book.runner (turn_slot w.book)) (accepts (w.solos target).mask e) none)) w.book.runner;
   }
   gives_by target (Some why) is = refuses why 0
+
+  transfers_by : (target : ℕ) (kind : TransferKind) (why : Option Code) → refusal_of_transfer w e target kind ≡ why → Mild w (reply_of w e (transfer_by w e target kind why))
+  transfers_by target kind None none =
+      let s = w.solos target in
+      let accepted = accepts s.mask e && is_open s kind in
+      let lives = target_lives w e target (not_refused (is_other w e target) (gift_refusal (hands_slot kind) w.book.runner (turn_slot w.book)) accepted none) in
+      let registers = carried (w.solos e).cpu in
+      record {
+        excess = refl;
+        quiet = transfer_is_quiet w e target kind;
+        keeps = keep_set target (Transfer e kind registers ∷ []) (only e (Granted 0 ∷ [])) (keep_transfer e kind registers) (keep_only e (Granted 0 ∷ []) (keep_granted 0));
+        slots = slots_handed_live w (hands_slot kind) target lives good.slots_live;
+        runner = handed_lives w target lives w.book.runner;
+      }
+  transfers_by target kind (Some why) is = refuses why 0
+
+  transfers_of : (target : ℕ) (kind : Option TransferKind) → Mild w (reply_of w e (transfer_of w e target kind))
+  transfers_of target None = refuses code.BadCall 0
+  transfers_of target (Some kind) = transfers_by target kind (refusal_of_transfer w e target kind) refl
 
   yields_by : (target : ℕ) (stops : Bool) → Mild w (reply_of w e (yield_by w e target stops))
   yields_by target true = record {
@@ -261,7 +304,7 @@ module _ (w : World) (e : ℕ) (good : IsAccounted w) where
     slots = good.slots_live;
     runner = λ x is. cc;
   }
-  yields_by target false = gives_by target (refusal_of_giving (is_other w e target) (is_grace w.book.runner) (accepts (w.solos target).mask e)) refl
+  yields_by target false = gives_by target (refusal_of_giving (is_other w e target) (gift_refusal false w.book.runner (turn_slot w.book)) (accepts (w.solos target).mask e)) refl
 
   puts_by : (why : Option Code) → Mild w (reply_of w e (put_if w e why))
   puts_by None = grants (reg (w.solos e).cpu 5)
@@ -332,9 +375,10 @@ module _ (w : World) (e : ℕ) (good : IsAccounted w) where
   call_is_mild lives (Some call.Unbind) stays = let s = w.solos e in unbinds_by (number_refusal (is_guaranteed s (reg s.cpu 4)) (reg s.cpu 4))
   call_is_mild lives (Some call.Context) stays = contexts_by (refusal_of_context (w.solos e).cpu)
   call_is_mild lives (Some call.Accept) stays = grants 0
+  call_is_mild lives (Some call.Transfer) stays = let cpu = (w.solos e).cpu in transfers_of (reg cpu 4) (transfer_numbered (reg cpu 5))
   call_is_mild lives (Some call.SlotTake) stays = let k = reg (w.solos e).cpu 4 in takes_by k lives (take_refusal (slot_at w.book k))
   call_is_mild lives (Some call.SlotDrop) stays = let k = reg (w.solos e).cpu 4 in drops_by k (drop_refusal e (slot_at w.book k))
-  call_is_mild lives (Some call.Query) stays = let cpu = (w.solos e).cpu in queries_by (answer_to w e (reg cpu 4) (reg cpu 5))
+  call_is_mild lives (Some call.Query) stays = let cpu = (w.solos e).cpu in queries_by (answer_to w e (question_numbered (reg cpu 4)) (reg cpu 5))
   call_is_mild lives (Some call.OwnNumber) stays = grants (w.solos e).number
   call_is_mild lives (Some call.Clock) stays = grants w.book.time
 

@@ -57,6 +57,12 @@ quiet_own t k owner holder = record { no_over = λ e. refl; no_pay = λ e. refl;
 pub quiet_give : (t k from to : ℕ) → IsQuiet (row.Give t k from to)
 quiet_give t k from to = record { no_over = λ e. refl; no_pay = λ e. refl; lawful = λ before. tt }
 
+pub quiet_async : (t k from to : ℕ) → IsQuiet (row.Async t k from to)
+quiet_async t k from to = record { no_over = λ e. refl; no_pay = λ e. refl; lawful = λ before. tt }
+
+pub quiet_sync : (t k from to : ℕ) → IsQuiet (row.Sync t k from to)
+quiet_sync t k from to = record { no_over = λ e. refl; no_pay = λ e. refl; lawful = λ before. tt }
+
 pub quiet_end : (t k e : ℕ) → IsQuiet (row.End t k e)
 quiet_end t k e = record { no_over = λ e. refl; no_pay = λ e. refl; lawful = λ before. tt }
 

@@ -4,8 +4,7 @@ use Rattle.std.specs.Option.{option_map, option_or}
 use Rattle.aegis_limits.specs.Limits.{page_size, console_size}
 use Rattle.mips_exec.specs.declared.registers.Cpu.{Cpu}
 use Rattle.mips_exec.specs.Cpu.{reg}
-use Rattle.env_frames.specs.declared.context.Context.{Context}
-use Rattle.env_frames.specs.declared.context.Context.TheVariants as context
+use Rattle.env_frames.specs.Context.{context_numbered}
 use Rattle.page_book.specs.declared.row.Capabilities.{Capabilities}
 use Rattle.page_book.specs.declared.row.PageRow.{PageRow}
 use Rattle.page_book.specs.Row.{bind_refusal}
@@ -29,6 +28,7 @@ call_named number =
     if number == 7 then Some call.Unbind else
     if number == 8 then Some call.Context else
     if number == 9 then Some call.Accept else
+    if number == 10 then Some call.Transfer else
     if number == 11 then Some call.SlotTake else
     if number == 12 then Some call.SlotDrop else
     if number == 13 then Some call.Query else
@@ -71,17 +71,10 @@ abbrev pub refusal_of_bind : ℕ → Cpu → Bool → Option PageRow → Option 
 refusal_of_bind e cpu guaranteed row =
     option_or (number_refusal guaranteed (reg cpu 4)) (option_map code_of (bind_refusal e (binding_of cpu).writable (presented cpu) row))
 
--- the contexts that have handlers, by the number that the call names them by
-abbrev pub handled : ℕ → Option Context
-handled kind =
-    if kind == 0 then Some context.Exception else
-    if kind == 1 then Some context.Start else
-    if kind == 2 then Some context.End else None
-
 -- a handler's address is a word's, of user space; 0 is no handler
 abbrev pub refusal_of_context : Cpu → Option Code
 refusal_of_context cpu =
-    if is_some (handled (reg cpu 4)) && (reg cpu 5 % 4 == 0 && nat_lt (reg cpu 5) user_end) then None else Some code.BadCall
+    if is_some (context_numbered (reg cpu 4)) && (reg cpu 5 % 4 == 0 && nat_lt (reg cpu 5) user_end) then None else Some code.BadCall
 
 -- the bytes of a range, where it is good: it lies in one page, below the users' end, and its page number leads somewhere
 abbrev pub good_range : (ℕ → Option Mapped) → ℕ → ℕ → Option (List ℕ)

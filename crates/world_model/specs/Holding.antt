@@ -2,7 +2,9 @@
 use Rattle.std.specs.Prelude.{ℕ, Bool, true, false, ◌==◌, ◌||◌, if◌then◌else◌, List, Option, Some, None, is_some}
 use Rattle.mips_exec.specs.declared.exception.Exc.{Exc}
 use Rattle.mips_exec.specs.Cpu.{rested}
-use Rattle.env_frames.specs.Context.{context_number, end_area, end_bytes, exception_area, exception_bytes, raised_cpu, resumed_cpu, start_area, start_bytes}
+use Rattle.env_frames.specs.declared.transfer.TransferKind.{TransferKind}
+use Rattle.env_frames.specs.Transfer.{Registers, entered_cpu, entry_area, entry_bytes, entry_context}
+use Rattle.env_frames.specs.Context.{context_number, end_area, end_bytes, exception_area, exception_bytes, handler_of, raised_cpu, resumed_cpu, start_area, start_bytes}
 use Rattle.bind_book.specs.declared.binding.Binding.{Binding}
 use Rattle.bind_book.specs.Stripe.{binding_at, is_bound, row_of, without}
 use Rattle.world_model.specs.Table.{set_at}
@@ -59,3 +61,11 @@ start s = start_by s.handlers.start s
 -- A slice ends at the environment's handler of ends, which finds where it stood, and whether in a delay slot.
 abbrev pub end_slice : Solo → Solo
 end_slice s = record (with_context end_area (end_bytes s.cpu) s) { cpu = resumed_cpu s.handlers.end s.cpu }
+
+-- A transfer enters the environment: in its entry area it finds with which registers and where it stood, and who calls it
+-- how; it goes on with its caller's registers; it stands at its entry for this kind; and it accepts nobody.
+abbrev pub enter : ℕ → TransferKind → Registers → Solo → Solo
+enter from kind registers s = record (with_context entry_area (entry_bytes from kind s.cpu) s) {
+  cpu = entered_cpu (handler_of s.handlers (entry_context kind)) registers;
+  mask = 0;
+}

@@ -6,20 +6,22 @@ use Rattle.mips_exec.specs.Word.{word_of}
 use Rattle.world_model.specs.declared.life.Life.TheVariants.{Live}
 use Rattle.world_model.specs.declared.life.Cause.TheVariants as cause
 use Rattle.env_frames.specs.declared.context.Context.{Context}
-use Rattle.env_frames.specs.Context.{with_handler}
+use Rattle.env_frames.specs.Context.{context_numbered, with_handler}
+use Rattle.env_frames.specs.declared.transfer.TransferKind.{TransferKind}
+use Rattle.env_frames.specs.Transfer.{Registers}
 use Rattle.world_model.specs.declared.code.Code.{Code}
 use Rattle.world_model.specs.declared.code.Code.TheVariants as code
 use Rattle.world_model.specs.Code.{code_number}
 use Rattle.world_model.specs.Page.{KeptPage}
 use Rattle.world_model.specs.Solo.{Solo, Physical, bare_solo, dead, is_dead, sight, stored}
-use Rattle.world_model.specs.Holding.{bound, unbound, owning, gained, lost, start, end_slice}
+use Rattle.world_model.specs.Holding.{bound, unbound, owning, gained, lost, start, end_slice, enter}
 use Rattle.world_model.specs.declared.call.Call.{Call}
 use Rattle.world_model.specs.declared.call.Call.TheVariants as call
 use Rattle.world_model.specs.Step.{step_alone, stepped}
-use Rattle.world_model.specs.Call.{called, binding_of, handled, put_bytes}
+use Rattle.world_model.specs.Call.{called, binding_of, put_bytes}
 
 pub data Item : Type 0 where
-  -- its record in the image: number, name, entry, the mask of those from whom it accepts transfers, and guaranteed pages
+  -- its record in the image: number, name, entry, the mask of those from whom it accepts yields and transfers, and guaranteed pages
   Boot : (number : ℕ) (name : List ℕ) (entry : ℕ) (accept : ℕ) (kept : List KeptPage) → Item
   -- a step of its machine
   Step : Item
@@ -27,6 +29,8 @@ pub data Item : Type 0 where
   Start : Item
   -- the end of a slice, to whom handles it
   End : Item
+  -- another's transfer to it: whose, of which kind, and the caller's registers
+  Transfer : (from : ℕ) (kind : TransferKind) (registers : Registers) → Item
   -- death, for too much excess
   Killed : Item
   -- the kernel's answer to its call: it is granted, with a value
@@ -58,7 +62,7 @@ own_part (Some call.Put) value s = record s { console = s.console ++ unwrap_or (
 own_part (Some call.Alloc) value s = owning value s
 own_part (Some call.Bind) value s = bound (binding_of s.cpu) s
 own_part (Some call.Unbind) value s = unbound (reg s.cpu 4) s
-own_part (Some call.Context) value s = with_handlers (handled (reg s.cpu 4)) (reg s.cpu 5) s
+own_part (Some call.Context) value s = with_handlers (context_numbered (reg s.cpu 4)) (reg s.cpu 5) s
 own_part (Some call.Accept) value s = record s { mask = reg s.cpu 4 }
 own_part call value s = s
 
@@ -78,6 +82,7 @@ absorbed s (Boot number name entry accept kept) = booted number name entry accep
 absorbed s Step = stepped s (step_alone s)
 absorbed s Start = start s
 absorbed s End = end_slice s
+absorbed s (Transfer from kind registers) = enter from kind registers s
 absorbed s Killed = dead cause.Excess s
 absorbed s (Granted value) = granted value s
 absorbed s (Refused code value) = refused code value s

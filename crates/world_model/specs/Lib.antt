@@ -12,6 +12,7 @@ pub mod World
 pub mod Answer
 pub mod PageCalls
 pub mod SlotCalls
+pub mod Transfers
 pub mod Verdict
 pub mod Tick
 pub mod Boot

@@ -1,6 +1,6 @@
 -- The calls on slices and slots, and the questions about the book.
-use Rattle.std.specs.Prelude.{ℕ, ◌/◌, ◌%◌, ◌^◌, [], ◌∷◌, Bool, true, false, not, ◌==◌, ◌&&◌, nat_lt, if◌then◌else◌, Option, Some, None, unwrap_or, Result, Ok, Err}
-use Rattle.std.specs.Option.{option_map}
+use Rattle.std.specs.Prelude.{ℕ, ◌/◌, ◌%◌, ◌^◌, [], ◌∷◌, Bool, true, false, not, ◌==◌, ◌&&◌, ◌||◌, nat_lt, if◌then◌else◌, Option, Some, None, unwrap_or, Result, Ok, Err}
+use Rattle.std.specs.Option.{option_map, option_or}
 use Rattle.kernel_journal.specs.declared.row.Row.{Row}
 use Rattle.kernel_journal.specs.declared.row.Row.TheVariants as row
 use Rattle.mips_exec.specs.Cpu.{reg}
@@ -9,6 +9,8 @@ use Rattle.page_book.specs.Row.{owner_of}
 use Rattle.page_book.specs.Rows.{free_below}
 use Rattle.world_model.specs.declared.code.Code.{Code}
 use Rattle.world_model.specs.declared.code.Code.TheVariants as code
+use Rattle.world_model.specs.declared.question.Question.{Question}
+use Rattle.world_model.specs.declared.question.Question.TheVariants as question
 use Rattle.world_model.specs.declared.slot.Hold.{Hold}
 use Rattle.world_model.specs.declared.slot.Phase.{Phase}
 use Rattle.world_model.specs.declared.slot.Phase.TheVariants as phase
@@ -38,10 +40,26 @@ abbrev pub in_grace : Phase → Bool
 in_grace phase.Own = false
 in_grace phase.Grace = true
 
--- whether the runner runs behind the end of its slice
-abbrev pub is_grace : Option Runner → Bool
-is_grace None = false
-is_grace (Some r) = in_grace r.phase
+abbrev pub holds : ℕ → Option Hold → Bool
+holds e None = false
+holds e (Some hold) = hold.holder == e
+
+-- who runs in a slot may hand it on with its later slices if it holds it, and the rest of this slice in any case
+abbrev pub may_hand_on : Bool → ℕ → Option Hold → Bool
+may_hand_on later e slot = not later || holds e slot
+
+-- why a runner can't hand on the slice that it runs, or its slot with the later slices: it runs behind the end of its slice; or the slot isn't its own to hand on
+abbrev pub gift_refusal : Bool → Option Runner → Option Hold → Option Code
+gift_refusal later None slot = None
+gift_refusal later (Some r) slot = if in_grace r.phase then Some code.NoSlice else (if may_hand_on later r.env slot then None else Some code.NotHolder)
+
+-- a slot with another holder
+abbrev pub held_by : ℕ → Hold → Hold
+held_by e hold = record hold { holder = e }
+
+-- the slot of the turn
+abbrev pub turn_slot : Book → Option Hold
+turn_slot b = b.slots b.cursor
 
 -- whether a mask has the bit of an environment
 abbrev pub accepts : ℕ → ℕ → Bool
@@ -51,10 +69,9 @@ accepts mask e = mask / 2 ^ e % 2 == 1
 abbrev pub is_other : World → ℕ → ℕ → Bool
 is_other w e target = nat_lt target w.count && (not (is_dead (w.solos target).life) && not (target == e))
 
--- why a runner can't hand the rest of its slice to a target: there is no such other environment; it is its time of grace; or it isn't accepted
-abbrev pub refusal_of_giving : Bool → Bool → Bool → Option Code
-refusal_of_giving other grace accepted =
-    if not other then Some code.NoEnv else (if grace then Some code.NoSlice else (if accepted then None else Some code.NotAccepted))
+-- why a runner can't hand on anything to a target: there is no such other environment; it can't hand it on to anybody; or it isn't accepted
+abbrev pub refusal_of_giving : Bool → Option Code → Bool → Option Code
+refusal_of_giving other gift accepted = if other then option_or gift (if accepted then None else Some code.NotAccepted) else Some code.NoEnv
 
 -- Yield to a target: the rest of the slice is the target's, which is started.
 abbrev pub handed : ℕ → Option Runner → Option Runner
@@ -72,7 +89,7 @@ give_by w e target None = Grants (gives w e target)
 give_by w e target (Some why) = Refuses why 0
 
 abbrev pub give : World → ℕ → ℕ → Verdict
-give w e target = give_by w e target (refusal_of_giving (is_other w e target) (is_grace w.book.runner) (accepts (w.solos target).mask e))
+give w e target = give_by w e target (refusal_of_giving (is_other w e target) (gift_refusal false w.book.runner (turn_slot w.book)) (accepts (w.solos target).mask e))
 
 abbrev pub yield_by : World → ℕ → ℕ → Bool → Verdict
 yield_by w e target true = Grants (stops w e)
@@ -123,6 +140,18 @@ abbrev pub slot_drop : World → ℕ → Verdict
 slot_drop w e = let k = reg (w.solos e).cpu 4 in drop_by w e k (drop_refusal e (slot_at w.book k))
 
 -- Query: a number of the book, by what is asked and of which page, slot or environment. There is none of what isn't there.
+abbrev pub question_numbered : ℕ → Option Question
+question_numbered number =
+    if number == 0 then Some question.FreePages else
+    if number == 1 then Some question.Pages else
+    if number == 2 then Some question.Environments else
+    if number == 3 then Some question.Slots else
+    if number == 4 then Some question.Quantum else
+    if number == 5 then Some question.PageOwner else
+    if number == 6 then Some question.SlotHolder else
+    if number == 7 then Some question.Excess else
+    if number == 8 then Some question.Death else None
+
 abbrev pub or_any : Option ℕ → ℕ
 or_any who = unwrap_or who any
 
@@ -137,21 +166,21 @@ holder_answer (Some slot) = Ok (or_any (option_map (λ (hold : Hold). hold.holde
 abbrev pub death_answer : World → ℕ → Result ℕ Code
 death_answer w e = if nat_lt e w.count then Ok (if is_dead (w.solos e).life then 1 else 0) else Err code.NoEnv
 
-abbrev pub answer_to : World → ℕ → ℕ → ℕ → Result ℕ Code
-answer_to w e what index =
-    if what == 0 then Ok (free_below w.book.pages w.book.page_count) else
-    if what == 1 then Ok w.book.page_count else
-    if what == 2 then Ok w.count else
-    if what == 3 then Ok w.book.slot_count else
-    if what == 4 then Ok w.book.quantum else
-    if what == 5 then owner_answer (page_row w.book index) else
-    if what == 6 then holder_answer (slot_at w.book index) else
-    if what == 7 then Ok (w.book.excess e) else
-    if what == 8 then death_answer w index else Err code.BadCall
+abbrev pub answer_to : World → ℕ → Option Question → ℕ → Result ℕ Code
+answer_to w e None index = Err code.BadCall
+answer_to w e (Some question.FreePages) index = Ok (free_below w.book.pages w.book.page_count)
+answer_to w e (Some question.Pages) index = Ok w.book.page_count
+answer_to w e (Some question.Environments) index = Ok w.count
+answer_to w e (Some question.Slots) index = Ok w.book.slot_count
+answer_to w e (Some question.Quantum) index = Ok w.book.quantum
+answer_to w e (Some question.PageOwner) index = owner_answer (page_row w.book index)
+answer_to w e (Some question.SlotHolder) index = holder_answer (slot_at w.book index)
+answer_to w e (Some question.Excess) index = Ok (w.book.excess e)
+answer_to w e (Some question.Death) index = death_answer w index
 
 abbrev pub query_by : World → ℕ → Result ℕ Code → Verdict
 query_by w e (Ok value) = Grants (grant w e value)
 query_by w e (Err why) = Refuses why 0
 
 abbrev pub query : World → ℕ → Verdict
-query w e = let cpu = (w.solos e).cpu in query_by w e (answer_to w e (reg cpu 4) (reg cpu 5))
+query w e = let cpu = (w.solos e).cpu in query_by w e (answer_to w e (question_numbered (reg cpu 4)) (reg cpu 5))

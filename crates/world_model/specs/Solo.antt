@@ -20,7 +20,7 @@ pub record Seen : Type 0 where
   pub owned : Bool
   pub bytes : List ℕ
 
--- Number, name, life, registers, handlers, the mask of those from whom it accepts transfers, guaranteed pages by rising
+-- Number, name, life, registers, handlers, the mask of those from whom it accepts yields and transfers, guaranteed pages by rising
 -- page number, the binding in each row of its stripe, each other page that it owns or has bound by its number in
 -- physical memory, and console.
 pub record Solo : Type 0 where

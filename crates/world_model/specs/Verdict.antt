@@ -15,6 +15,7 @@ use Rattle.world_model.specs.World.{World, Reply}
 use Rattle.world_model.specs.PageCalls.{alloc, free, recap, bind, unbind, context, death_items, without_pages_of}
 use Rattle.world_model.specs.Table.{set_at}
 pub use Rattle.world_model.specs.SlotCalls.{stop_row, slot_row, yield, slot_take, slot_drop, query}
+pub use Rattle.world_model.specs.Transfers.{transfer}
 pub use Rattle.world_model.specs.Answer.{Verdict, Refuses, Grants, refusal, grant}
 
 -- put: bytes for the console, whose number is the value
@@ -55,6 +56,7 @@ verdict w e (Some call.Bind) = bind w e
 verdict w e (Some call.Unbind) = unbind w e
 verdict w e (Some call.Context) = context w e
 verdict w e (Some call.Accept) = Grants (grant w e 0)
+verdict w e (Some call.Transfer) = transfer w e
 verdict w e (Some call.SlotTake) = slot_take w e
 verdict w e (Some call.SlotDrop) = slot_drop w e
 verdict w e (Some call.Query) = query w e

@@ -24,6 +24,8 @@ pub enum Call {
     Context,
     /// Sets the mask of those whose yields and transfers the caller accepts.
     Accept,
+    /// Calls another environment at its entry.
+    Transfer,
     /// Takes an empty slot.
     SlotTake,
     /// Drops a slot that the caller holds.
@@ -54,6 +56,7 @@ impl Call {
             7 => Some(Call::Unbind),
             8 => Some(Call::Context),
             9 => Some(Call::Accept),
+            10 => Some(Call::Transfer),
             11 => Some(Call::SlotTake),
             12 => Some(Call::SlotDrop),
             13 => Some(Call::Query),

@@ -7,6 +7,7 @@ mod code;
 mod laws;
 mod life;
 mod page;
+mod question;
 mod slot;
 
 pub use call::Call;
@@ -14,4 +15,5 @@ pub use code::Code;
 pub use laws::{law_balance, law_fold, law_ledger, law_next_turn, law_turn};
 pub use life::{Cause, Life};
 pub use page::Purpose;
+pub use question::Question;
 pub use slot::{Hold, Phase, Runner, Turn};
