@@ -7,9 +7,8 @@ use Rattle.world_model.specs.declared.slot.Turn.{Turn}
 use Rattle.world_model.specs.declared.slot.Phase.{Phase}
 use Rattle.world_model.specs.declared.slot.Phase.TheVariants as phase
 use Rattle.world_model.specs.declared.code.Code.{Code}
-use Rattle.world_model.specs.declared.code.Code.TheVariants as code
 use Rattle.world_model.specs.Book.{Told, excess_limit, first_turn, owed, own_hold, released, has_part, is_runner, told_turn}
-use Rattle.world_model.specs.SlotCalls.{drop_refusal, handed, is_grace, take_refusal}
+use Rattle.world_model.specs.SlotCalls.{drop_refusal, gift_refusal, handed, held_by, take_refusal}
 use Rattle.slot_vector.specs.declared.turn.NextTurn.{NextTurn}
 use Rattle.slot_vector.specs.declared.turn.NextTurn.TheVariants as next
 use Rattle.slot_vector.specs.declared.timer.Timer.{Timer}
@@ -65,9 +64,13 @@ told_of v = told_turn (hold_at v.slots) (length v.slots) (suc (owed (excess_of v
 abbrev pub turn_ended : Slices → Slices
 turn_ended v = record v { runner = None }
 
--- the vector once another goes on with the rest of the slice
-abbrev pub given_to : ℕ → Slices → Slices
-given_to target v = record v { runner = handed target v.runner }
+-- the slots once that of the turn is handed on, if it is: its holder is another, and its owner stays
+abbrev pub slots_given : Bool → ℕ → Slices → List (Option Hold)
+slots_given later target v = if later then slice_set v.slots v.cursor (option_map (held_by target) (hold_at v.slots v.cursor)) else v.slots
+
+-- the vector once another goes on with the rest of the slice, and has the slot with its later slices or not
+abbrev pub given_to : ℕ → Bool → Slices → Slices
+given_to target later v = record v { slots = slots_given later target v; runner = handed target v.runner }
 
 -- What the timer brings after a tick of a runner who has a handler of ends or not: nothing while ticks are left; then the end of its slice, or its stop; and in grace one more of excess, or too much of it.
 abbrev pub timer_at_end : Phase → Bool → ℕ → Timer
@@ -159,6 +162,6 @@ refusal_of_take v k = take_refusal (slice_get v.slots k)
 abbrev pub refusal_of_drop : ℕ → Slices → ℕ → Option Code
 refusal_of_drop e v k = drop_refusal e (slice_get v.slots k)
 
--- why the runner can't give its slice away: it isn't its own time
-abbrev pub refusal_of_gift : Slices → Option Code
-refusal_of_gift v = if is_grace v.runner then Some code.NoSlice else None
+-- why the runner can't give its slice away, or its slot with the later slices
+abbrev pub refusal_of_gift : Bool → Slices → Option Code
+refusal_of_gift later v = gift_refusal later v.runner (hold_at v.slots v.cursor)

@@ -1,10 +1,11 @@
-//! Which slots an environment may take or drop, and what becomes of one.
+//! Which slots an environment may take, drop or hand on, and what becomes of one.
+ghost use Rattle.std.specs.Option.{option_map};
 ghost use Rattle.std.specs.Prelude.{◌≡◌, ◌<◌, All, IsNone, length, slice_get, slice_set};
-ghost use Rattle.world_model.specs.SlotCalls.{drop_refusal, dropped, take_refusal};
-ghost use Rattle.slot_vector.specs.Slices.{IsNumbered, hold_at};
+ghost use Rattle.world_model.specs.SlotCalls.{drop_refusal, dropped, gift_refusal, held_by, holds, take_refusal};
+ghost use Rattle.slot_vector.specs.Slices.{IsNumbered, hold_at, most_numbers};
 
 use crate::search::own_hold;
-use world_model::{Code, Hold};
+use world_model::{Code, Hold, Phase, Runner};
 
 /// Why the slot can't be taken: `NoSlice` where there is no such slot, and `SlotTaken` where it isn't
 /// empty.
@@ -42,6 +43,41 @@ pub(crate) fn dropped(slot: Option<Hold>, env: u8) -> Option<Hold>
         return None;
     }
     own_hold(Some(hold.owner))
+}
+
+/// Whether the environment holds the slot.
+fn holds(slot: Option<Hold>, env: u8) -> bool
+    ensures { result ≡ holds env slot }
+{
+    match slot {
+        Some(hold) => hold.holder == env,
+        None => false,
+    }
+}
+
+/// Why a runner can't hand on the slice that it runs, or for a later its slot: `NoSlice` in time of grace, and
+/// `NotHolder` where it doesn't hold the slot.
+pub(crate) fn gift_refusal(later: bool, runner: Option<Runner>, slot: Option<Hold>) -> Option<Code>
+    ensures { result ≡ gift_refusal later runner slot }
+{
+    let runner = runner?;
+    match runner.phase {
+        Phase::Grace => Some(Code::NoSlice),
+        Phase::Own if later && !holds(slot, runner.env) => Some(Code::NotHolder),
+        Phase::Own => None,
+    }
+}
+
+/// The slot with another holder; its owner stays.
+pub(crate) fn held_by(slot: Option<Hold>, env: u8) -> Option<Hold>
+    ensures hold { result ≡ option_map (held_by env) slot }
+    ensures numbered { IsNumbered slot → env < most_numbers → IsNumbered result }
+{
+    let hold = slot?;
+    Some(Hold {
+        holder: env,
+        ..hold
+    })
 }
 
 /// The slot has this hold now.

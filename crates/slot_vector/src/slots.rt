@@ -5,11 +5,11 @@ ghost use Rattle.aegis_limits.specs.Limits.{least_quantum, most_quantum, most_sl
 ghost use Rattle.world_model.specs.declared.slot.Hold.{Hold as Held};
 ghost use Rattle.world_model.specs.declared.slot.Phase.TheVariants as phase;
 ghost use Rattle.world_model.specs.Book.{excess_limit, own_hold, running};
-ghost use Rattle.world_model.specs.SlotCalls.{dropped, is_grace};
+ghost use Rattle.world_model.specs.SlotCalls.{dropped};
 ghost use Rattle.slot_vector.specs.Slices.{IsWithin, after_timer, after_turn, excess_of, first_slices, given_to, hold_at, in_grace_again, is_idle, mask_of, most_numbers, next_turn, refusal_of_drop, refusal_of_gift, refusal_of_take, timer_answer, timer_at_end, turn_ended, unless, with_hold, without_env};
 
 use crate::excess::{EXCESS_LIMIT, Excess};
-use crate::held::{drop_refusal, dropped, put, take_refusal};
+use crate::held::{drop_refusal, dropped, gift_refusal, held_by, put, take_refusal};
 use crate::search::{Row, first_turn, hold_at, mask_of, own_hold, own_holds, release};
 use crate::timer::Timer;
 use crate::turn::NextTurn;
@@ -158,32 +158,32 @@ impl Slots {
         self.runner = None;
     }
 
-    /// Whether the runner may give the rest of its slice away: `NoSlice` says that it runs in time of
-    /// grace, which isn't its own.
-    pub fn may_donate(&self) -> Result<(), Code>
-        ensures answer { result ≡ unless (refusal_of_gift self.now) }
-        ensures own { OnOk result (is_grace self.now.runner ≡ false) }
-        ensures grace { OnErr result (is_grace self.now.runner ≡ true) }
+    /// Whether the runner may give the rest of its slice away, and for a later the slot with its later slices too.
+    /// `NoSlice` says that it runs in time of grace, which isn't its own; and `NotHolder` that the slot, which is
+    /// asked for too, isn't its own to give, since another holds it.
+    pub fn may_donate(&self, later: bool) -> Result<(), Code>
+        ensures { result ≡ unless (refusal_of_gift later self.now) }
     {
-        match self.runner {
-            Some(
-                Runner {
-                    phase: Phase::Grace,
-                    ..
-                },
-            ) => Err(Code::NoSlice),
-            _ => Ok(()),
+        let slot = hold_at(self.slots.as_slice(), self.cursor);
+        match gift_refusal(later, self.runner, slot) {
+            Some(why) => Err(why),
+            None => Ok(()),
         }
     }
 
-    /// Another environment goes on with the rest of the runner's slice.
-    pub fn donate(&mut self, to: u8)
+    /// Another environment goes on with the rest of the runner's slice. For a later it holds the slot from now
+    /// on, whose owner stays.
+    pub fn donate(&mut self, to: u8, later: bool)
         requires runs { IsSome self.old.runner }
         requires number { to < most_numbers }
-        ensures { self.new ≡ given_to to self.old }
+        ensures { self.new ≡ given_to to later self.old }
     {
         if let Some(runner) = self.runner {
             self.runner = Some(Runner { env: to, ..runner });
+        }
+        if later {
+            let slot = hold_at(self.slots.as_slice(), self.cursor);
+            put(self.slots.as_mut_slice(), self.cursor, held_by(slot, to));
         }
     }
 

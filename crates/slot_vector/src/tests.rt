@@ -38,13 +38,15 @@ fn who_runs_past_its_slice_forfeits_a_later_one(rt: HostRuntime) -> Result<(), F
     let mut slots = Slots::new(16, &[Some(3), Some(5)]);
     if let NextTurn::Run(turn) = slots.next_turn() {
         assert_eq!(rt; turn.env, 3);
-        assert!(rt; slots.may_donate().is_ok());
-        slots.donate(5);
+        assert!(rt; slots.may_donate(true).is_ok());
+        slots.donate(5, false);
         assert_eq!(rt; slots.runner(), Some(5));
-        slots.donate(3);
+        assert!(rt; slots.may_donate(false).is_ok());
+        assert!(rt; matches!(slots.may_donate(true), Err(Code::NotHolder)));
+        slots.donate(3, false);
     }
     assert_eq!(rt; run_quantum(&mut slots), Timer::End);
-    assert!(rt; matches!(slots.may_donate(), Err(Code::NoSlice)));
+    assert!(rt; matches!(slots.may_donate(true), Err(Code::NoSlice)));
     assert_eq!(rt; run_quantum(&mut slots), Timer::Over(1));
     slots.give_up();
     assert!(rt; matches!(slots.next_turn(), NextTurn::Run(Turn { slot: 1, env: 5 })));
@@ -63,5 +65,18 @@ fn who_runs_past_its_slice_forfeits_a_later_one(rt: HostRuntime) -> Result<(), F
     assert_eq!(rt; slots.excess(3), 8);
     assert_eq!(rt; slots.release_env(3), 0b01);
     assert_eq!(rt; slots.excess(3), 0);
+    Ok(())
+}
+
+#[test]
+fn a_slot_that_is_handed_on_goes_back_with_a_death(rt: HostRuntime) -> Result<(), Fail> {
+    let mut slots = Slots::new(16, &[Some(3), Some(5)]);
+    assert!(rt; matches!(slots.next_turn(), NextTurn::Run(Turn { slot: 0, env: 3 })));
+    slots.donate(5, true);
+    assert_eq!(rt; (slots.owner(0), slots.holder(0)), (Some(3), Some(5)));
+    assert_eq!(rt; slots.runner(), Some(5));
+    assert_eq!(rt; slots.release_env(5), 0b11);
+    assert_eq!(rt; (slots.owner(0), slots.holder(0)), (Some(3), Some(3)));
+    assert_eq!(rt; slots.holder(1), None);
     Ok(())
 }
