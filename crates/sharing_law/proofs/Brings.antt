@@ -1,10 +1,13 @@
 -- What the runner's act brings: what each environment sees after it.
-use Rattle.std.proofs.Common.{◌≡◌, ◌≢◌, ◌≤◌, ℕ, List, [], Bool, true, false, Option, Some, None, refl, sym, ◌∙◌, ap, subst}
+use Rattle.std.proofs.Common.{◌≡◌, ◌≢◌, ◌≤◌, ℕ, List, [], ◌∷◌, Bool, true, false, Option, Some, None, refl, sym, ◌∙◌, ap, subst}
 use Rattle.std.specs.Prelude.{◌==◌, ◌||◌, if◌then◌else◌}
 use Rattle.std.specs.Option.{option_map}
 use Rattle.std.proofs.lemmas.Bool.{eq-eqb, eqb-true, ne_eqb}
 use Rattle.frame_store.specs.Pages.{with_bytes, zero_page}
 use Rattle.mips_exec.specs.declared.registers.Cpu.{Cpu}
+use Rattle.env_frames.specs.declared.transfer.TransferKind.{TransferKind}
+use Rattle.env_frames.specs.Transfer.{carried}
+use Rattle.world_model.specs.declared.call.Call.TheVariants as call
 use Rattle.page_book.specs.declared.row.PageRow.{PageRow}
 use Rattle.page_book.specs.declared.row.PageRow.TheVariants.{Free, Guaranteed, Owned}
 use Rattle.page_book.specs.Row.{belongs_to, is_owned_by, released as released_row}
@@ -16,10 +19,11 @@ use Rattle.world_model.specs.declared.slot.Hold.{Hold}
 use Rattle.world_model.specs.declared.slot.Runner.{Runner}
 use Rattle.world_model.specs.Table.{set_at}
 use Rattle.world_model.specs.Book.{Book, released, sees}
-use Rattle.world_model.specs.Item.{Item, absorb_all}
+use Rattle.world_model.specs.Item.{Item, Start, Transfer, absorb_all}
 use Rattle.world_model.specs.PageCalls.{death_items, left_at, left_if, lost_with, page_bytes}
 use Rattle.world_model.specs.Solo.{Solo, Store, Key, Kept, Physical, dead, is_physical, stored, stored_sight}
-use Rattle.world_model.specs.Step.{Act, Stores, Dies}
+use Rattle.world_model.specs.Step.{Act, Stores, Calls, Dies}
+use Rattle.world_model.specs.SlotCalls.{accepts}
 use Rattle.world_model.specs.Tick as tick
 use Rattle.world_model.specs.Verdict.{death}
 use Rattle.world_model.specs.World.{World, Reply}
@@ -30,16 +34,22 @@ use Rattle.page_sight.proofs.Stripes.{without_ends}
 use Rattle.sharing_law.proofs.Given.{Keeps, keeps_none, keeps_left, keeps_death, dead_absorbs}
 use Rattle.sharing_law.proofs.Sound.{AreLive, HasNone, Sound, sees_nothing}
 
--- What becomes of an allocated page and of its bytes: it was its owner's and has them still, the runner stored to it, or it was free and has zeros.
-pub data Fate (w : World) (act : Act) (o page : ℕ) (bytes : List ℕ) : Type 0 where
-  Stays : is_owned_by o (w.book.pages page) ≡ true → bytes ≡ page_bytes w page → Fate w act o page bytes
-  Written : is_owned_by o (w.book.pages page) ≡ true → (x : Store) → act ≡ Stores x → x.key ≡ Physical page → Fate w act o page bytes
-  Taken : w.book.pages page ≡ Free → bytes ≡ zero_page → Fate w act o page bytes
+-- What becomes of an allocated page and of its bytes: it was its owner's and has them still, the runner stored to it, or it was free and has zeros, since its owner is the runner, who called for it.
+pub data Fate (w : World) (e : ℕ) (act : Act) (o page : ℕ) (bytes : List ℕ) : Type 0 where
+  Stays : is_owned_by o (w.book.pages page) ≡ true → bytes ≡ page_bytes w page → Fate w e act o page bytes
+  Written : is_owned_by o (w.book.pages page) ≡ true → (x : Store) → act ≡ Stores x → x.key ≡ Physical page → Fate w e act o page bytes
+  Taken : o ≡ e → act ≡ Calls (Some call.Alloc) → w.book.pages page ≡ Free → bytes ≡ zero_page → Fate w e act o page bytes
 
 -- the runner goes on, or it dies
 pub data Fortune (w : World) (e : ℕ) (s : Solo) (b : Book) : Type 0 where
   GoesOn : s.life ≡ Live → ((k : ℕ) (h : Hold) → b.slots k ≡ Some h → AreLive w.solos h) → ((r : Runner) → b.runner ≡ Some r → (w.solos r.env).life ≡ Live) → Fortune w e s b
   Ends : b.slots ≡ (λ k. released e (w.book.slots k)) → b.runner ≡ None → HasNone e b.pages (b.binds e) → Fortune w e s b
+
+-- What the act of a runner gives to an environment: what leaves its guaranteed pages, or the start of a slice or a transfer that it accepts, of the runner, which is another.
+pub data Gives (w : World) (e : ℕ) (act : Act) (i : ℕ) (items : List Item) : Type 0 where
+  Tells : Keeps items → Gives w e act i items
+  Starts : e ≢ i → items ≡ Start ∷ [] → Gives w e act i items
+  Enters : (kind : TransferKind) → e ≢ i → act ≡ Calls (Some call.Transfer) → accepts (w.solos i).mask e ≡ true → items ≡ Transfer e kind (carried (w.solos e).cpu) ∷ [] → Gives w e act i items
 
 -- what the act of a runner, which is s after it, brings to each environment: the book after it, and what each is given
 pub record Brings (w : World) (e : ℕ) (s : Solo) (act : Act) (b : Book) (items : ℕ → List Item) : Type 0 where
@@ -49,8 +59,8 @@ pub record Brings (w : World) (e : ℕ) (s : Solo) (act : Act) (b : Book) (items
   pub none : (i : ℕ) → i ≢ e → HasNone i w.book.pages (w.book.binds i) → HasNone i b.pages (b.binds i)
   pub stripes : (i : ℕ) → IsStripe (b.binds i)
   pub behind : (page : ℕ) → b.page_count ≤ page → b.pages page ≡ Free
-  pub fate : (o page : ℕ) → is_owned_by o (b.pages page) ≡ true → Fate w act o page (bytes page)
-  pub keeps : (i : ℕ) → Keeps (items i)
+  pub fate : (o page : ℕ) → is_owned_by o (b.pages page) ≡ true → Fate w e act o page (bytes page)
+  pub gives : (i : ℕ) → Gives w e act i (items i)
   pub fortune : Fortune w e s b
 
 abbrev pub BringsIn : World → ℕ → Solo → Act → Reply → Type 0
@@ -113,7 +123,7 @@ module _ (w : World) (e : ℕ) (sound : Sound w) (lives : (w.solos e).life ≡ L
     stripes = sound.stripes;
     behind = sound.behind;
     fate = λ o page owns. Stays owns refl;
-    keeps = keeps;
+    gives = λ i. Tells (keeps i);
     fortune = GoesOn alive holders runs;
   }
 
@@ -147,15 +157,15 @@ module _ (w : World) (e : ℕ) (sound : Sound w) (lives : (w.solos e).life ≡ L
       stripes = sound.stripes;
       behind = sound.behind;
       fate = fate;
-      keeps = λ i. keeps_left (sees w.book i page) e i page x;
+      gives = λ i. Tells (keeps_left (sees w.book i page) e i page x);
       fortune = GoesOn lives sound.holders sound.runs;
     }
       where
-        by_page : (o p : ℕ) → is_owned_by o (w.book.pages p) ≡ true → (t : Bool) → (p == page) ≡ t → Fate w (Stores x) o p (if t then with_bytes (page_bytes w page) x.offset x.bytes else page_bytes w p)
+        by_page : (o p : ℕ) → is_owned_by o (w.book.pages p) ≡ true → (t : Bool) → (p == page) ≡ t → Fate w e (Stores x) o p (if t then with_bytes (page_bytes w page) x.offset x.bytes else page_bytes w p)
         by_page o p owns true same = Written owns x refl (is ∙ ap Physical (sym (eqb-true p page same)))
         by_page o p owns false other = Stays owns refl
 
-        fate : (o p : ℕ) → is_owned_by o (w.book.pages p) ≡ true → Fate w (Stores x) o p (written page p)
+        fate : (o p : ℕ) → is_owned_by o (w.book.pages p) ≡ true → Fate w e (Stores x) o p (written page p)
         fate o p owns = by_page o p owns (p == page) refl
 
     by_key : (key : Key) → x.key ≡ key → Brings w e (stored x writer) (Stores x) w.book (left_at w.book e x key)
@@ -190,7 +200,7 @@ module _ (w : World) (e : ℕ) (sound : Sound w) (lives : (w.solos e).life ≡ L
       stripes = λ i. without_ends (goes_with w.book.pages e i) (w.book.binds i) (sound.stripes i);
       behind = λ page there. ap (released_row e) (sound.behind page there);
       fate = λ o page owns. Stays (released_owned e o (w.book.pages page) owns) refl;
-      keeps = λ i. keeps_death w.book e i;
+      gives = λ i. Tells (keeps_death w.book e i);
       fortune = Ends refl refl nothing_left;
     }
 
@@ -208,6 +218,6 @@ module _ (w : World) (e : ℕ) (sound : Sound w) (lives : (w.solos e).life ≡ L
     stripes = brings.stripes;
     behind = brings.behind;
     fate = brings.fate;
-    keeps = brings.keeps;
+    gives = brings.gives;
     fortune = later_fortune b s time brings.fortune;
   }

@@ -1,9 +1,13 @@
 -- What the runner's call brings: what each environment sees after it.
 use Rattle.std.proofs.Common.{◌≡◌, ◌≢◌, ◌≤◌, ◌<◌, ℕ, List, [], ◌∷◌, length, Bool, true, false, Option, Some, None, Result, Ok, Err, ok_or, is_some, refl, sym, ◌∙◌, ap, subst, arith}
 use Rattle.std.specs.Prelude.{◌==◌, ◌&&◌, nat_lt, not, if◌then◌else◌}
+use Rattle.std.specs.Option.{option_map}
 use Rattle.std.proofs.lemmas.Bool.{eq-eqb, eqb-true, ne_eqb, ltb-true}
 use Rattle.frame_store.specs.Pages.{zero_page}
 use Rattle.mips_exec.specs.Cpu.{reg}
+use Rattle.env_frames.specs.declared.transfer.TransferKind.{TransferKind}
+use Rattle.env_frames.specs.Context.{context_numbered}
+use Rattle.env_frames.specs.Transfer.{carried, hands_slot, transfer_numbered}
 use Rattle.page_book.specs.declared.row.Capabilities.{Capabilities}
 use Rattle.page_book.specs.declared.row.PageRow.{PageRow}
 use Rattle.page_book.specs.declared.row.PageRow.TheVariants.{Free, Guaranteed, Owned}
@@ -24,14 +28,15 @@ use Rattle.world_model.specs.declared.slot.Runner.{Runner}
 use Rattle.world_model.specs.Table.{set_at}
 use Rattle.world_model.specs.Answer.{refusal}
 use Rattle.world_model.specs.Book.{Book, broken, own_hold, page_row}
-use Rattle.world_model.specs.Call.{any, binding_of, called, handled, number_refusal, put_refusal, refusal_of_bind, refusal_of_context, words_of}
+use Rattle.world_model.specs.Call.{any, binding_of, called, number_refusal, put_refusal, refusal_of_bind, refusal_of_context, words_of}
 use Rattle.world_model.specs.Code.{code_of}
 use Rattle.world_model.specs.Holding.{bound, gained, lost, owning, unbound}
-use Rattle.world_model.specs.Item.{Item, Start, Granted, Refused, Gained, Lost, absorb_all, answered_cpu, own_part, refused}
+use Rattle.world_model.specs.Item.{Item, Start, Transfer, Granted, Refused, Gained, Lost, absorb_all, answered_cpu, own_part, refused}
 use Rattle.world_model.specs.PageCalls.{alloc_by, bind_by, binds_to, breaks, chosen_page, context_by, free_by, freed, is_guaranteed, named_page, page_bytes, recap_by, recapped, unbind_by, unbinds, without_number}
 use Rattle.world_model.specs.Solo.{Solo, is_dead, sight}
 use Rattle.world_model.specs.Step.{Calls}
-use Rattle.world_model.specs.SlotCalls.{accepts, answer_to, drop_by, drop_refusal, dropped, give_by, gives, handed, is_grace, is_other, query_by, refusal_of_giving, slot_at, take_by, take_refusal, yield_by}
+use Rattle.world_model.specs.SlotCalls.{accepts, answer_to, drop_by, drop_refusal, dropped, gift_refusal, give_by, handed, held_by, is_other, query_by, question_numbered, refusal_of_giving, slot_at, take_by, take_refusal, turn_slot, yield_by}
+use Rattle.world_model.specs.Transfers.{is_open, refusal_of_transfer, slots_handed, transfer_by, transfer_of}
 use Rattle.world_model.specs.Verdict.{put_if, reply_of, reply_to}
 use Rattle.world_model.specs.World.{World, only}
 use Rattle.page_sight.specs.Sight.{IsStripe, Sees}
@@ -39,9 +44,9 @@ use Rattle.page_sight.proofs.Sights.{allocator_sees, binder_sees, freer_loses, o
 use Rattle.page_sight.proofs.Stripes.{bound_nowhere, without_ends}
 use Rattle.page_sight.proofs.Tables.{set_here, set_else}
 use Rattle.sharing_law.specs.Agreement.{AreBoundAllocated, IsAllocated}
-use Rattle.sharing_law.proofs.Given.{Keeps, absorbs, handlers_rest, keeps_start, start_rests, keeps_at, keeps_gained, keeps_granted, keeps_lost, keeps_lost_if, keeps_only, keeps_refused}
+use Rattle.sharing_law.proofs.Given.{IsRested, Keeps, absorbs, enter_rests, handlers_rest, start_rests, keeps_at, keeps_gained, keeps_granted, keeps_lost, keeps_lost_if, keeps_only, keeps_refused}
 use Rattle.sharing_law.proofs.Sound.{AreLive, HasNone, Sound}
-use Rattle.sharing_law.proofs.Brings.{Brings, BringsIn, Fate, Stays, Taken, GoesOn, as_before, quiet}
+use Rattle.sharing_law.proofs.Brings.{Brings, BringsIn, Fate, Stays, Taken, Gives, Tells, Starts, Enters, GoesOn, as_before, quiet}
 
 -- a page that is there and free
 pub record IsFreePage (b : Book) (page : ℕ) : Type 0 where
@@ -175,8 +180,8 @@ module _ (w : World) (e : ℕ) (sound : Sound w) (lives : (w.solos e).life ≡ L
     abbrev taker : Solo
     taker = record (owning page (w.solos e)) { cpu = answered_cpu code.Ok page (w.solos e).cpu }
 
-    taken_fate : (o p : ℕ) (t : Bool) → (p == page) ≡ t → is_owned_by o (if t then Owned e words else w.book.pages p) ≡ true → Fate w (Calls (Some call.Alloc)) o p (if t then zeros else page_bytes w p)
-    taken_fate o p true same owns = Taken (ap w.book.pages (eqb-true p page same) ∙ there.free) are
+    taken_fate : (o p : ℕ) (t : Bool) → (p == page) ≡ t → is_owned_by o (if t then Owned e words else w.book.pages p) ≡ true → Fate w e (Calls (Some call.Alloc)) o p (if t then zeros else page_bytes w p)
+    taken_fate o p true same owns = Taken (sym (eqb-true e o owns)) refl (ap w.book.pages (eqb-true p page same) ∙ there.free) are
     taken_fate o p false other owns = Stays owns refl
 
     alloc_brings : Brings w e (w.solos e) (Calls (Some call.Alloc)) taken (only e taken_items)
@@ -193,7 +198,7 @@ module _ (w : World) (e : ℕ) (sound : Sound w) (lives : (w.solos e).life ≡ L
       stripes = sound.stripes;
       behind = λ p more. set_else page p (Owned e words) w.book.pages (λ same. behind_other p more same) ∙ sound.behind p more;
       fate = λ o p owns. taken_fate o p (p == page) refl owns;
-      keeps = λ i. keeps_only e i taken_items (keeps_gained page page true zeros);
+      gives = λ i. Tells (keeps_only e i taken_items (keeps_gained page page true zeros));
       fortune = GoesOn lives sound.holders sound.runs;
     }
       where
@@ -224,11 +229,11 @@ module _ (w : World) (e : ℕ) (sound : Sound w) (lives : (w.solos e).life ≡ L
       stripes = λ i. without_ends (breaks_page page but i) (w.book.binds i) (sound.stripes i);
       behind = λ p more. set_else page p row w.book.pages (λ same. behind_other p more same) ∙ sound.behind p more;
       fate = λ o p owns. fate o p (p == page) refl owns;
-      keeps = λ i. keeps_at e i its (breaks w.book page) its_keep (keeps_lost_if (is_bound page (w.book.binds i)) page);
+      gives = λ i. Tells (keeps_at e i its (breaks w.book page) its_keep (keeps_lost_if (is_bound page (w.book.binds i)) page));
       fortune = GoesOn lives sound.holders sound.runs;
     }
       where
-        fate : (o p : ℕ) (t : Bool) → (p == page) ≡ t → is_owned_by o (if t then row else w.book.pages p) ≡ true → Fate w (Calls c) o p (page_bytes w p)
+        fate : (o p : ℕ) (t : Bool) → (p == page) ≡ t → is_owned_by o (if t then row else w.book.pages p) ≡ true → Fate w e (Calls c) o p (page_bytes w p)
         fate o p true same owns = Stays (ap (λ n. is_owned_by o (w.book.pages n)) (eqb-true p page same) ∙ before o owns) refl
         fate o p false other owns = Stays owns refl
 
@@ -283,7 +288,7 @@ module _ (w : World) (e : ℕ) (sound : Sound w) (lives : (w.solos e).life ≡ L
       stripes = λ i. by_test i (i == e);
       behind = sound.behind;
       fate = λ o p owns. Stays owns refl;
-      keeps = λ i. keeps_only e i its its_keep;
+      gives = λ i. Tells (keeps_only e i its its_keep);
       fortune = GoesOn lives sound.holders sound.runs;
     }
       where
@@ -331,25 +336,26 @@ module _ (w : World) (e : ℕ) (sound : Sound w) (lives : (w.solos e).life ≡ L
       → Brings w e (w.solos e) (Calls c) w.book (only e (Granted value ∷ []))
   granted_alone c named value binds sights = grants c named value binds sights w.book.slots sound.holders w.book.runner sound.runs
 
-  -- The rest of a slice goes to another, which starts.
-  module _ (target : ℕ) (other : e ≢ target) (its_life : (w.solos target).life ≡ Live) (named : called (w.solos e).cpu ≡ Some call.Yield) where
+  -- The rest of a slice goes to another, which starts or is entered.
+  module _ (c : Call) (target : ℕ) (item : Item) (rests : (s : Solo) → IsRested s (absorb_all s (item ∷ []))) (other : e ≢ target) (its_life : (w.solos target).life ≡ Live)
+      (named : called (w.solos e).cpu ≡ Some c) (alone : own_part (Some c) 0 (w.solos e) ≡ w.solos e) (given_it : Gives w e (Calls (Some c)) target (item ∷ [])) where
     abbrev its : List Item
     its = Granted 0 ∷ []
 
     abbrev given : ℕ → List Item
-    given = set_at target (Start ∷ []) (only e its)
+    given = set_at target (item ∷ []) (only e its)
 
     giver_sees : Sees e w.book.pages (w.book.binds e) (page_bytes w) (absorb_all (w.solos e) (given e))
     giver_sees =
-        let t : Solo = record (w.solos e) { cpu = answered_cpu code.Ok 0 (w.solos e).cpu } in
-        subst (λ (items : List Item). Sees e w.book.pages (w.book.binds e) (page_bytes w) (absorb_all (w.solos e) items)) (sym (set_else target e (Start ∷ []) (only e its) other))
-        (receives w.book.pages (w.book.binds e) (page_bytes w) its (λ j. []) t (granted_is (w.solos e) (Some call.Yield) lives named 0 [])
-        (as_before e w.book.pages (w.book.binds e) (page_bytes w) (w.solos e) t refl refl (sound.agreed e)))
+        let t : Solo = record (own_part (Some c) 0 (w.solos e)) { cpu = answered_cpu code.Ok 0 (w.solos e).cpu } in
+        subst (λ (items : List Item). Sees e w.book.pages (w.book.binds e) (page_bytes w) (absorb_all (w.solos e) items)) (sym (set_else target e (item ∷ []) (only e its) other))
+        (receives w.book.pages (w.book.binds e) (page_bytes w) its (λ j. []) t (granted_is (w.solos e) (Some c) lives named 0 [])
+        (as_before e w.book.pages (w.book.binds e) (page_bytes w) (w.solos e) t (ap (λ (s : Solo). s.binds) alone) (ap (λ (s : Solo). s.seen) alone) (sound.agreed e)))
 
-    other_sees : (i : ℕ) → i ≢ e → (t : Bool) → Sees i w.book.pages (w.book.binds i) (page_bytes w) (absorb_all (w.solos i) (if t then Start ∷ [] else only e its i))
+    other_sees : (i : ℕ) → i ≢ e → (t : Bool) → Sees i w.book.pages (w.book.binds i) (page_bytes w) (absorb_all (w.solos i) (if t then item ∷ [] else only e its i))
     other_sees i ne true =
-        let rests = start_rests (w.solos i) in
-        as_before i w.book.pages (w.book.binds i) (page_bytes w) (w.solos i) (absorb_all (w.solos i) (Start ∷ [])) rests.binds rests.seen (sound.agreed i)
+        let its_rests = rests (w.solos i) in
+        as_before i w.book.pages (w.book.binds i) (page_bytes w) (w.solos i) (absorb_all (w.solos i) (item ∷ [])) its_rests.binds its_rests.seen (sound.agreed i)
     other_sees i ne false = beside i ne w.book.pages (w.book.binds i) (page_bytes w) its (λ j. []) (sound.agreed i)
 
     target_runs : (o : Option Runner) (r : Runner) → handed target o ≡ Some r → (w.solos r.env).life ≡ Live
@@ -358,8 +364,13 @@ module _ (w : World) (e : ℕ) (sound : Sound w) (lives : (w.solos e).life ≡ L
         let same : record x { env = target } ≡ r = cc in
         subst (λ (i : ℕ). (w.solos i).life ≡ Live) (ap (λ (y : Runner). y.env) same) its_life
 
-    gives_brings : BringsIn w e (w.solos e) (Calls (Some call.Yield)) (gives w e target)
-    gives_brings = record {
+    gives_each : (i : ℕ) (t : Bool) → (i == target) ≡ t → Gives w e (Calls (Some c)) i (if t then item ∷ [] else only e its i)
+    gives_each i true same = subst (λ (n : ℕ). Gives w e (Calls (Some c)) n (item ∷ [])) (sym (eqb-true i target same)) given_it
+    gives_each i false same = Tells (keeps_only e i its (keeps_granted 0))
+
+    hands_brings : (slots : ℕ → Option Hold) → ((k : ℕ) (h : Hold) → slots k ≡ Some h → AreLive w.solos h)
+        → Brings w e (w.solos e) (Calls (Some c)) (record w.book { slots = slots; runner = handed target w.book.runner }) given
+    hands_brings slots holders = record {
       bytes = page_bytes w;
       own = giver_sees;
       others = λ i ne live. other_sees i ne (i == target);
@@ -367,8 +378,8 @@ module _ (w : World) (e : ℕ) (sound : Sound w) (lives : (w.solos e).life ≡ L
       stripes = sound.stripes;
       behind = sound.behind;
       fate = λ o page owns. Stays owns refl;
-      keeps = λ i. keeps_at target i (Start ∷ []) (only e its) keeps_start (keeps_only e i its (keeps_granted 0));
-      fortune = GoesOn lives sound.holders (target_runs w.book.runner);
+      gives = λ i. gives_each i (i == target) refl;
+      fortune = GoesOn lives holders (target_runs w.book.runner);
     }
 
   -- what a gift that isn't refused says of its target
@@ -377,9 +388,15 @@ module _ (w : World) (e : ℕ) (sound : Sound w) (lives : (w.solos e).life ≡ L
   both_true true false is = cc
   both_true false b is = cc
 
-  given_other : (other grace accepted : Bool) → refusal_of_giving other grace accepted ≡ None → other ≡ true
-  given_other true grace accepted is = refl
-  given_other false grace accepted is = cc
+  given_other : (other : Bool) (gift : Option Code) (accepted : Bool) → refusal_of_giving other gift accepted ≡ None → other ≡ true
+  given_other true gift accepted is = refl
+  given_other false gift accepted is = cc
+
+  given_accepted : (other : Bool) (gift : Option Code) (accepted : Bool) → refusal_of_giving other gift accepted ≡ None → accepted ≡ true
+  given_accepted true None true is = refl
+  given_accepted true None false is = cc
+  given_accepted true (Some why) accepted is = cc
+  given_accepted false gift accepted is = cc
 
   not_true : (t : Bool) → not t ≡ true → t ≡ false
   not_true true is = cc
@@ -389,20 +406,24 @@ module _ (w : World) (e : ℕ) (sound : Sound w) (lives : (w.solos e).life ≡ L
   lives_if Live is = refl
   lives_if (Dead cause) is = cc
 
-  give_served : (target : ℕ) (why : Option Code) → refusal_of_giving (is_other w e target) (is_grace w.book.runner) (accepts (w.solos target).mask e) ≡ why → called (w.solos e).cpu ≡ Some call.Yield
+  target_lives : (target : ℕ) → is_other w e target ≡ true → (e ≢ target) × ((w.solos target).life ≡ Live)
+  target_lives target its =
+      let parts = both_true (nat_lt target w.count) (not (is_dead (w.solos target).life) && not (target == e)) its in
+      let two = both_true (not (is_dead (w.solos target).life)) (not (target == e)) parts.1 in
+      ((λ same. unlike (not_true (target == e) two.1) (sym same)), lives_if (w.solos target).life (not_true (is_dead (w.solos target).life) two.0))
+    where
+      unlike : (target == e) ≡ false → target ≡ e → ⊥
+      unlike is same = let clash : false ≡ true = sym is ∙ eq-eqb target e same in cc
+
+  give_served : (target : ℕ) (why : Option Code) → refusal_of_giving (is_other w e target) (gift_refusal false w.book.runner (turn_slot w.book)) (accepts (w.solos target).mask e) ≡ why → called (w.solos e).cpu ≡ Some call.Yield
       → BringsIn w e (w.solos e) (Calls (Some call.Yield)) (reply_of w e (give_by w e target why))
   give_served target (Some why) is named = refuses (Some call.Yield) why 0
   give_served target None is named =
-      let its = given_other (is_other w e target) (is_grace w.book.runner) (accepts (w.solos target).mask e) is in
-      let parts = both_true (nat_lt target w.count) (not (is_dead (w.solos target).life) && not (target == e)) its in
-      let two = both_true (not (is_dead (w.solos target).life)) (not (target == e)) parts.1 in
-      gives_brings target (λ same. unlike target (not_true (target == e) two.1) (sym same)) (lives_if (w.solos target).life (not_true (is_dead (w.solos target).life) two.0)) named
-    where
-      unlike : (target : ℕ) → (target == e) ≡ false → target ≡ e → ⊥
-      unlike target is same = let clash : false ≡ true = sym is ∙ eq-eqb target e same in cc
+      let its = target_lives target (given_other (is_other w e target) (gift_refusal false w.book.runner (turn_slot w.book)) (accepts (w.solos target).mask e) is) in
+      hands_brings call.Yield target Start start_rests its.0 its.1 named refl (Starts its.0 refl) w.book.slots sound.holders
 
   yield_served : (target : ℕ) (t : Bool) → called (w.solos e).cpu ≡ Some call.Yield → BringsIn w e (w.solos e) (Calls (Some call.Yield)) (reply_of w e (yield_by w e target t))
-  yield_served target false named = give_served target (refusal_of_giving (is_other w e target) (is_grace w.book.runner) (accepts (w.solos target).mask e)) refl named
+  yield_served target false named = give_served target (refusal_of_giving (is_other w e target) (gift_refusal false w.book.runner (turn_slot w.book)) (accepts (w.solos target).mask e)) refl named
   yield_served target true named = grants (Some call.Yield) named 0 refl refl w.book.slots sound.holders None nobody
     where
       nobody : (r : Runner) → None ≡ Some r → (w.solos r.env).life ≡ Live
@@ -441,6 +462,34 @@ module _ (w : World) (e : ℕ) (sound : Sound w) (lives : (w.solos e).life ≡ L
       let hold = dropped e (w.book.slots k) in
       grants (Some call.SlotDrop) named 0 refl refl (set_at k hold w.book.slots) (slot_holders k hold (dropped_lives k (w.book.slots k) refl)) w.book.runner sound.runs
 
+  -- The slot of the turn goes to another holder, if it goes.
+  handed_lives : (target : ℕ) → (w.solos target).life ≡ Live → (o : Option Hold) → w.book.slots w.book.cursor ≡ o → (h : Hold) → option_map (held_by target) o ≡ Some h → AreLive w.solos h
+  handed_lives target its_life None at h is = cc
+  handed_lives target its_life (Some x) at h is =
+      let same : held_by target x ≡ h = cc in
+      subst (AreLive w.solos) same (record { owner = (sound.holders w.book.cursor x at).owner; holder = its_life })
+
+  slots_handed_live : (later : Bool) (target : ℕ) → (w.solos target).life ≡ Live → (k : ℕ) (h : Hold) → slots_handed later target w.book k ≡ Some h → AreLive w.solos h
+  slots_handed_live true target its_life = slot_holders w.book.cursor (option_map (held_by target) (turn_slot w.book)) (handed_lives target its_life (turn_slot w.book) refl)
+  slots_handed_live false target its_life = sound.holders
+
+  transfer_served : (target : ℕ) (kind : TransferKind) (why : Option Code) → refusal_of_transfer w e target kind ≡ why → called (w.solos e).cpu ≡ Some call.Transfer
+      → BringsIn w e (w.solos e) (Calls (Some call.Transfer)) (reply_of w e (transfer_by w e target kind why))
+  transfer_served target kind (Some why) is named = refuses (Some call.Transfer) why 0
+  transfer_served target kind None is named =
+      let s = w.solos target in
+      let gift = gift_refusal (hands_slot kind) w.book.runner (turn_slot w.book) in
+      let accepted = accepts s.mask e && is_open s kind in
+      let its = target_lives target (given_other (is_other w e target) gift accepted is) in
+      let may = both_true (accepts s.mask e) (is_open s kind) (given_accepted (is_other w e target) gift accepted is) in
+      let registers = carried (w.solos e).cpu in
+      hands_brings call.Transfer target (Transfer e kind registers) (enter_rests e kind registers) its.0 its.1 named refl (Enters kind its.0 refl may.0 refl)
+      (slots_handed (hands_slot kind) target w.book) (slots_handed_live (hands_slot kind) target its.1)
+
+  transfer_named : (target : ℕ) (kind : Option TransferKind) → called (w.solos e).cpu ≡ Some call.Transfer → BringsIn w e (w.solos e) (Calls (Some call.Transfer)) (reply_of w e (transfer_of w e target kind))
+  transfer_named target None named = refuses (Some call.Transfer) code.BadCall 0
+  transfer_named target (Some kind) named = transfer_served target kind (refusal_of_transfer w e target kind) refl named
+
   query_served : (answer : Result ℕ Code) → called (w.solos e).cpu ≡ Some call.Query → BringsIn w e (w.solos e) (Calls (Some call.Query)) (reply_of w e (query_by w e answer))
   query_served (Ok value) named = granted_alone (Some call.Query) named value refl refl
   query_served (Err why) named = refuses (Some call.Query) why 0
@@ -453,7 +502,7 @@ module _ (w : World) (e : ℕ) (sound : Sound w) (lives : (w.solos e).life ≡ L
   context_served (Some why) named = refuses (Some call.Context) why 0
   context_served None named =
       let cpu = (w.solos e).cpu in
-      let rests = handlers_rest (handled (reg cpu 4)) (reg cpu 5) (w.solos e) in
+      let rests = handlers_rest (context_numbered (reg cpu 4)) (reg cpu 5) (w.solos e) in
       granted_alone (Some call.Context) named 0 rests.binds rests.seen
 
   -- whichever call it is that isn't exit
@@ -469,8 +518,9 @@ module _ (w : World) (e : ℕ) (sound : Sound w) (lives : (w.solos e).life ≡ L
   call_brings (Some call.Unbind) named other = unbind_served (number_refusal (is_guaranteed (w.solos e) (reg (w.solos e).cpu 4)) (reg (w.solos e).cpu 4)) named
   call_brings (Some call.Context) named other = context_served (refusal_of_context (w.solos e).cpu) named
   call_brings (Some call.Accept) named other = granted_alone (Some call.Accept) named 0 refl refl
+  call_brings (Some call.Transfer) named other = transfer_named (reg (w.solos e).cpu 4) (transfer_numbered (reg (w.solos e).cpu 5)) named
   call_brings (Some call.SlotTake) named other = take_served (reg (w.solos e).cpu 4) (take_refusal (slot_at w.book (reg (w.solos e).cpu 4))) named
   call_brings (Some call.SlotDrop) named other = drop_served (reg (w.solos e).cpu 4) (drop_refusal e (slot_at w.book (reg (w.solos e).cpu 4))) named
-  call_brings (Some call.Query) named other = query_served (answer_to w e (reg (w.solos e).cpu 4) (reg (w.solos e).cpu 5)) named
+  call_brings (Some call.Query) named other = query_served (answer_to w e (question_numbered (reg (w.solos e).cpu 4)) (reg (w.solos e).cpu 5)) named
   call_brings (Some call.OwnNumber) named other = granted_alone (Some call.OwnNumber) named (w.solos e).number refl refl
   call_brings (Some call.Clock) named other = granted_alone (Some call.Clock) named w.book.time refl refl

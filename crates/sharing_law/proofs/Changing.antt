@@ -1,37 +1,40 @@
 -- Why the bytes of a page change in a tick.
 use Rattle.std.proofs.Common.{◌≡◌, ◌≢◌, ℕ, suc, List, [], ◌∷◌, ◌++◌, Bool, true, false, Option, Some, None, ◌⊎◌, inl, inr, refl, sym, ◌∙◌, ap, subst}
+use Rattle.std.proofs.lemmas.List.Elements.{Contains-append_left, Contains-append_right}
 use Rattle.std.specs.Prelude.{Contains, if◌then◌else◌}
 use Rattle.std.proofs.lemmas.Bool.{cases_eq}
 use Rattle.boot_image.specs.ImageValue.{ImageValue}
-use Rattle.frame_store.specs.Pages.{zero_page}
+use Rattle.frame_store.specs.Pages.{with_bytes, zero_page}
 use Rattle.mips_exec.specs.declared.registers.Cpu.{Cpu}
 use Rattle.mips_exec.specs.Step.{cpu_after}
 use Rattle.page_book.specs.declared.row.PageRow.{PageRow}
 use Rattle.page_book.specs.declared.row.PageRow.TheVariants.{Free}
 use Rattle.page_book.specs.Row.{is_owned_by}
-use Rattle.env_frames.specs.Context.{context_number, exception_area, exception_bytes}
+use Rattle.env_frames.specs.Context.{context_number, end_area, end_bytes, exception_area, exception_bytes, start_area, start_bytes}
+use Rattle.env_frames.specs.Transfer.{carried, entry_area, entry_bytes}
+use Rattle.world_model.specs.declared.call.Call.TheVariants as call
 use Rattle.world_model.specs.declared.slot.Runner.{Runner}
 use Rattle.world_model.specs.Book.{is_idle_book, running}
 use Rattle.world_model.specs.Page.{KeptPage}
 use Rattle.world_model.specs.PageCalls.{page_bytes}
-use Rattle.world_model.specs.Item.{Item, Step, Start, End, absorb_all}
+use Rattle.world_model.specs.Item.{Item, Step, Start, End, Transfer, absorb_all}
 use Rattle.world_model.specs.Solo.{Solo, Store, Key, Kept, Physical, bytes_in, is_dead, kept_after, kept_at}
 use Rattle.world_model.specs.Step.{Act, Nothing, Stores, Calls, Raises, Dies, act_of, acted, step_alone, stepped}
 use Rattle.world_model.specs.World.{World, after, only}
 use Rattle.world_model.specs.Tick.{brings, step_when, tick_items, tick_step, timer, turn}
-use Rattle.world_model.specs.Run.{world_after}
-use Rattle.sharing_law.specs.Acting.{Acts, at_step}
+use Rattle.world_model.specs.Run.{next_items, world_after}
+use Rattle.sharing_law.specs.Acting.{Acts, at_step, cpu_at_step}
 use Rattle.sharing_law.specs.Agreement.{AreBoundAllocated, BoundIsAllocated}
-use Rattle.sharing_law.specs.Change.{AllocatedChange, AllocatedZeros, GuaranteedChange, IsStoredThroughABinding, IsToldOfItsSlice, RaisesAnException, StoresToItsOwn, bytes_after, kept_bytes}
+use Rattle.sharing_law.specs.Change.{AllocatedChange, AllocatedZeros, GuaranteedChange, IsAllocatedByCall, IsStartedOrEntered, IsStoredThroughABinding, IsToldByTheKernel, RaisesAnException, StoresToItsOwn, bytes_after, kept_bytes}
 use Rattle.sharing_law.specs.Right.{EachIsLive, row_after}
-use Rattle.sharing_law.proofs.Given.{IsTold, KeepsPage, gone_absorbs, kept_as_was, kept_else, told_left, told_right}
+use Rattle.sharing_law.proofs.Given.{HasStart, gone_absorbs, is_first, kept_as_was, kept_else, started_kept}
 use Rattle.sharing_law.proofs.Sound.{Sound, owner_bytes}
 use Rattle.sharing_law.proofs.Brings.{BringsIn, Fate, Stays, Written, Taken}
-use Rattle.sharing_law.proofs.Turning.{allocated_alike, bytes_alike, sound_turned, turn_alike, turn_keeps, unchanged}
-use Rattle.sharing_law.proofs.Stepping.{Follows, all_see, other_kept, own_kept, own_life, step_brings, step_follows}
+use Rattle.sharing_law.proofs.Turning.{IsGivenTurn, Waits, Begins, allocated_alike, bytes_alike, sound_turned, turn_alike, turn_given, unchanged}
+use Rattle.sharing_law.proofs.Stepping.{Follows, IsEnteredBy, OtherKept, all_see, other_kept, own_kept, own_life, step_brings, step_follows}
 use Rattle.sharing_law.proofs.Agreeing.{all_sound, sound_stepped}
-use Rattle.sharing_law.proofs.Timing.{timer_kept, timer_owned}
-use Rattle.sharing_law.proofs.Writing.{stored_through}
+use Rattle.sharing_law.proofs.Timing.{IsEndedBy, TimedKept, timer_kept, timer_owned}
+use Rattle.sharing_law.proofs.Writing.{stored_through, stored_writable}
 
 -- a store to another page leaves them all
 kept_physical : (kept : List KeptPage) (x : Store) (page : ℕ) → x.key ≡ Physical page → kept_after kept x ≡ kept
@@ -41,7 +44,7 @@ kept_physical kept x page key = (λ k. kept_after kept (record { key = key k; of
 data PageChange (image : ImageValue) (t owner page : ℕ) (bytes : List ℕ) : Type 0 where
   Keeps : is_owned_by owner (row_after image t page) ≡ true → bytes ≡ bytes_after image t page → PageChange image t owner page bytes
   Rewrites : is_owned_by owner (row_after image t page) ≡ true → (EachIsLive → IsStoredThroughABinding image t page) → PageChange image t owner page bytes
-  Allocates : row_after image t page ≡ Free → bytes ≡ zero_page → PageChange image t owner page bytes
+  Allocates : Acts image t owner (Calls (Some call.Alloc)) → row_after image t page ≡ Free → bytes ≡ zero_page → PageChange image t owner page bytes
 
 module _ (image : ImageValue) (t : ℕ) (sound : Sound (world_after image t)) (allocated : AreBoundAllocated (world_after image t)) where
   abbrev before : World
@@ -60,35 +63,93 @@ module _ (image : ImageValue) (t : ℕ) (sound : Sound (world_after image t)) (a
   abbrev late : Option Runner → World
   late o = after mid (step_when mid o)
 
-  -- What becomes of a guaranteed page between two states of its environment, in which it is given these items.
-  abbrev KeptSo : ℕ → ℕ → List Item → Solo → Solo → Type 0
-  KeptSo e vpn items s u =
-      (bytes_in (kept_at u.kept vpn) ≡ bytes_in (kept_at s.kept vpn))
-      ⊎ (StoresToItsOwn image t e vpn ⊎ (RaisesAnException image t e vpn ⊎ (IsTold items vpn ⊎ (is_dead u.life ≡ true))))
+  -- the bytes of a guaranteed page
+  abbrev bytes_at : Solo → ℕ → List ℕ
+  bytes_at s vpn = bytes_in (kept_at s.kept vpn)
 
-  by_items : (e vpn : ℕ) (items : List Item) (s u : Solo) → KeepsPage items s u vpn → KeptSo e vpn items s u
-  by_items e vpn items s u (inl same) = inl (ap bytes_in same)
-  by_items e vpn items s u (inr told) = inr (inr (inr (inl told)))
+  -- The kernel has told it of a start or an entry since the tick began.
+  record IsToldFirst (e vpn : ℕ) (bytes : List ℕ) : Type 0 where
+    context : vpn ≡ context_number
+    told : IsStartedOrEntered image t e bytes
 
-  -- and over two such spans, the dead being dead
-  both : (e vpn : ℕ) (xs ys : List Item) (s u v : Solo) → (is_dead u.life ≡ true → is_dead v.life ≡ true) → KeptSo e vpn xs s u → KeptSo e vpn ys u v → KeptSo e vpn (xs ++ ys) s v
-  both e vpn xs ys s u v dead (inl first) (inl next) = inl (next ∙ first)
-  both e vpn xs ys s u v dead (inr (inl stores)) (inl next) = inr (inl stores)
-  both e vpn xs ys s u v dead (inr (inr (inl raises))) (inl next) = inr (inr (inl raises))
-  both e vpn xs ys s u v dead (inr (inr (inr (inl told)))) (inl next) = inr (inr (inr (inl (told_left xs ys vpn told))))
-  both e vpn xs ys s u v dead (inr (inr (inr (inr gone)))) (inl next) = inr (inr (inr (inr (dead gone))))
-  both e vpn xs ys s u v dead first (inr (inl stores)) = inr (inl stores)
-  both e vpn xs ys s u v dead first (inr (inr (inl raises))) = inr (inr (inl raises))
-  both e vpn xs ys s u v dead first (inr (inr (inr (inl told)))) = inr (inr (inr (inl (told_right xs ys vpn told))))
-  both e vpn xs ys s u v dead first (inr (inr (inr (inr gone)))) = inr (inr (inr (inr gone)))
+  -- What became of the page since the tick began, before the timer.
+  abbrev KeptSo : ℕ → ℕ → Solo → Type 0
+  KeptSo e vpn u =
+      (bytes_at u vpn ≡ kept_bytes image t e vpn)
+      ⊎ (StoresToItsOwn image t e vpn ⊎ (RaisesAnException image t e vpn ⊎ (IsToldFirst e vpn (bytes_at u vpn) ⊎ (is_dead u.life ≡ true))))
 
-  -- items given before don't matter
-  wider : (e vpn : ℕ) (xs ys : List Item) (s u : Solo) → KeptSo e vpn ys s u → KeptSo e vpn (xs ++ ys) s u
-  wider e vpn xs ys s u (inl same) = inl same
-  wider e vpn xs ys s u (inr (inl stores)) = inr (inl stores)
-  wider e vpn xs ys s u (inr (inr (inl raises))) = inr (inr (inl raises))
-  wider e vpn xs ys s u (inr (inr (inr (inl told)))) = inr (inr (inr (inl (told_right xs ys vpn told))))
-  wider e vpn xs ys s u (inr (inr (inr (inr gone)))) = inr (inr (inr (inr gone)))
+  -- what is given in the tick is given next, where the world isn't idle
+  module _ (e : ℕ) (item : Item) (busy : is_idle_book before.book ≡ false) where
+    in_tick : Contains (tick_items before e) item → Contains (next_items before e) item
+    in_tick is = subst (λ (items : List Item). Contains items item) (sym (ap (λ (idle : Bool). if idle then [] else tick_items before e) busy)) is
+
+    abbrev timer_items : List Item
+    timer_items = (timer (late mid.book.runner)).items e ++ []
+
+    in_turn : (turn before).items e ≡ item ∷ [] → Contains (next_items before e) item
+    in_turn is =
+        let xs = (turn before).items e in
+        in_tick (Contains-append_left xs ((step_when mid mid.book.runner).items e ++ timer_items) item (subst (λ (items : List Item). Contains items item) (sym is) (is_first item)))
+
+    in_step : (o : Option Runner) → mid.book.runner ≡ o → Contains ((step_when mid o).items e) item → Contains (next_items before e) item
+    in_step o runs is =
+        let xs = (turn before).items e in
+        let ys = (step_when mid mid.book.runner).items e in
+        in_tick (Contains-append_right xs (ys ++ timer_items) item (Contains-append_left ys timer_items item (subst (λ (x : Option Runner). Contains ((step_when mid x).items e) item) (sym runs) is)))
+
+    at_end : (timer (late mid.book.runner)).items e ≡ item ∷ [] → Contains (next_items before e) item
+    at_end is =
+        let xs = (turn before).items e in
+        let ys = (step_when mid mid.book.runner).items e in
+        let zs = (timer (late mid.book.runner)).items e in
+        in_tick (Contains-append_right xs (ys ++ timer_items) item (Contains-append_right ys timer_items item (Contains-append_left zs [] item (subst (λ (items : List Item). Contains items item) (sym is) (is_first item)))))
+
+  -- Before the timer an environment is started, in the turn or in the step.
+  started_so : (e vpn : ℕ) (s u : Solo) → s ≡ before.solos e → Contains (next_items before e) Start → HasStart s u vpn → IsToldFirst e vpn (bytes_at u vpn)
+  started_so e vpn s u same given is =
+      let its : HasStart (before.solos e) u vpn = subst (λ (x : Solo). HasStart x u vpn) same is in
+      record {
+        context = its.has.context;
+        told = inl (record {
+          given = given;
+          handles = its.handles;
+          words = subst (λ (n : ℕ). bytes_at u vpn ≡ with_bytes (kept_bytes image t e n) start_area (start_bytes (before.solos e).cpu)) its.has.context its.has.words;
+        });
+      }
+
+  -- What the turn leaves.
+  abbrev TurnedSo : ℕ → ℕ → Type 0
+  TurnedSo e vpn = (bytes_at (mid.solos e) vpn ≡ kept_bytes image t e vpn) ⊎ IsToldFirst e vpn (bytes_at (mid.solos e) vpn)
+
+  turned : is_idle_book before.book ≡ false → (e vpn : ℕ) → TurnedSo e vpn
+  turned busy e vpn = by_turn (turn_given before e)
+    where
+      by_start : (turn before).items e ≡ Start ∷ [] → (kept_at (absorb_all (before.solos e) (Start ∷ [])).kept vpn ≡ kept_at (before.solos e).kept vpn) ⊎ HasStart (before.solos e) (absorb_all (before.solos e) (Start ∷ [])) vpn
+          → (bytes_at (absorb_all (before.solos e) (Start ∷ [])) vpn ≡ kept_bytes image t e vpn) ⊎ IsToldFirst e vpn (bytes_at (absorb_all (before.solos e) (Start ∷ [])) vpn)
+      by_start given (inl same) = inl (ap bytes_in same)
+      by_start given (inr start) = inr (started_so e vpn (before.solos e) (absorb_all (before.solos e) (Start ∷ [])) refl (in_turn e Start busy given) start)
+
+      by_turn : IsGivenTurn before (turn before) e → TurnedSo e vpn
+      by_turn (Waits same) = inl (ap (λ (s : Solo). bytes_at s vpn) same)
+      by_turn (Begins runs given) =
+          subst (λ (items : List Item). (bytes_at (absorb_all (before.solos e) items) vpn ≡ kept_bytes image t e vpn) ⊎ IsToldFirst e vpn (bytes_at (absorb_all (before.solos e) items) vpn)) (sym given)
+          (by_start given (started_kept (before.solos e) vpn))
+
+  -- whose page stays in the step
+  stays_so : (e vpn : ℕ) (u : Solo) → bytes_at u vpn ≡ bytes_at (mid.solos e) vpn → TurnedSo e vpn → KeptSo e vpn u
+  stays_so e vpn u same (inl first) = inl (same ∙ first)
+  stays_so e vpn u same (inr told) = inr (inr (inr (inl (subst (λ (bytes : List ℕ). IsToldFirst e vpn bytes) (sym same) told))))
+
+  -- who doesn't run after the turn was given nothing in it
+  turned_other : (r : Runner) → mid.book.runner ≡ Some r → (e : ℕ) → e ≢ r.env → mid.solos e ≡ before.solos e
+  turned_other r runs e ne = by_turn (turn_given before e)
+    where
+      by_turn : IsGivenTurn before (turn before) e → mid.solos e ≡ before.solos e
+      by_turn (Waits same) = same
+      by_turn (Begins begins given) = let same : Some r.env ≡ Some e = sym (ap running runs) ∙ begins in absurd (ne (one same))
+        where
+          one : Some r.env ≡ Some e → e ≡ r.env
+          one same = cc
 
   stays_dead : (s : Solo) (items : List Item) → is_dead s.life ≡ true → is_dead (absorb_all s items).life ≡ true
   stays_dead s items gone = ap (λ (u : Solo). is_dead u.life) (gone_absorbs s items gone) ∙ gone
@@ -114,14 +175,23 @@ module _ (image : ImageValue) (t : ℕ) (sound : Sound (world_after image t)) (a
     acts_so : (a : Act) → act ≡ a → Acts image t r.env a
     acts_so a is = record { runs = ap running runs; comes = is }
 
-    by_key : (vpn : ℕ) (x : Store) (cpu : Cpu) → act ≡ Stores x → (key : Key) → x.key ≡ key → KeptSo r.env vpn [] runner (acted (Stores x) (record runner { cpu = cpu }))
+    to_own : (vpn : ℕ) (x : Store) → act ≡ Stores x → x.key ≡ Kept vpn → StoresToItsOwn image t r.env vpn
+    to_own vpn x acts into =
+        let its = stored_writable runner x vpn into acts in
+        record { store = x; acts = acts_so (Stores x) acts; into = into; page = its.page; there = its.there; writable = its.writable }
+
+    -- What its own step leaves.
+    abbrev OwnSo : ℕ → Solo → Type 0
+    OwnSo vpn u = (bytes_at u vpn ≡ bytes_at runner vpn) ⊎ (StoresToItsOwn image t r.env vpn ⊎ (RaisesAnException image t r.env vpn ⊎ (is_dead u.life ≡ true)))
+
+    by_key : (vpn : ℕ) (x : Store) (cpu : Cpu) → act ≡ Stores x → (key : Key) → x.key ≡ key → OwnSo vpn (acted (Stores x) (record runner { cpu = cpu }))
     by_key vpn x cpu acts (Kept v) is = elim (cases_eq vpn v) [
-      | inl same ↦ inr (inl (record { store = x; acts = acts_so (Stores x) acts; into = is ∙ ap Kept (sym same) }))
+      | inl same ↦ inr (inl (to_own vpn x acts (is ∙ ap Kept (sym same))))
       | inr other ↦ inl (ap bytes_in (kept_else runner.kept x v vpn is other))
     ]
     by_key vpn x cpu acts (Physical page) is = inl (ap (λ kept. bytes_in (kept_at kept vpn)) (kept_physical runner.kept x page is))
 
-    by_act : (vpn : ℕ) (a : Act) (cpu : Cpu) → act ≡ a → KeptSo r.env vpn [] runner (acted a (record runner { cpu = cpu }))
+    by_act : (vpn : ℕ) (a : Act) (cpu : Cpu) → act ≡ a → OwnSo vpn (acted a (record runner { cpu = cpu }))
     by_act vpn Nothing cpu acts = inl refl
     by_act vpn (Stores x) cpu acts = by_key vpn x cpu acts x.key refl
     by_act vpn (Calls call) cpu acts = inl refl
@@ -129,33 +199,70 @@ module _ (image : ImageValue) (t : ℕ) (sound : Sound (world_after image t)) (a
       | inl same ↦ inr (inr (inl (record { exception = exc; acts = acts_so (Raises exc) acts; context = same })))
       | inr other ↦ inl (ap bytes_in (kept_else runner.kept (record { key = Kept context_number; offset = exception_area; bytes = exception_bytes exc cpu }) context_number vpn refl other))
     ]
-    by_act vpn (Dies cause) cpu acts = inr (inr (inr (inr refl)))
+    by_act vpn (Dies cause) cpu acts = inr (inr (inr refl))
 
-    abbrev its : ℕ → List Item
-    its i = (step_when mid (Some r)).items i
+    kept_own : is_idle_book before.book ≡ false → (vpn : ℕ) → KeptSo r.env vpn ((late (Some r)).solos r.env)
+    kept_own busy vpn = by_own (by_act vpn act (cpu_after runner.cpu (step_alone runner)) refl)
+      where
+        s : Solo
+        s = stepped runner (step_alone runner)
 
-    kept_own : (vpn : ℕ) → KeptSo r.env vpn (its r.env) runner ((late (Some r)).solos r.env)
-    kept_own vpn =
-        let s = stepped runner (step_alone runner) in
-        let u = (late (Some r)).solos r.env in
-        let given = (brings mid r.env act).items r.env in
-        let life : u.life ≡ s.life = own_life mid r.env s act (late (Some r)) (brings mid r.env act).items sound_mid its_follows in
-        wider r.env vpn (only r.env (Step ∷ []) r.env) given runner u
-        (both r.env vpn [] given runner s u (λ gone. ap is_dead life ∙ gone)
-        (by_act vpn act (cpu_after runner.cpu (step_alone runner)) refl)
-        (by_items r.env vpn given s u (own_kept mid r.env s act (late (Some r)) (brings mid r.env act).items sound_mid its_follows vpn)))
+        u : Solo
+        u = (late (Some r)).solos r.env
 
-    kept_other : (e vpn : ℕ) → e ≢ r.env → KeptSo e vpn (its e) (mid.solos e) ((late (Some r)).solos e)
-    kept_other e vpn ne =
-        let given = (brings mid r.env act).items e in
-        wider e vpn (only r.env (Step ∷ []) e) given (mid.solos e) ((late (Some r)).solos e)
-        (by_items e vpn given (mid.solos e) ((late (Some r)).solos e)
-        (other_kept mid r.env (stepped runner (step_alone runner)) act (late (Some r)) (brings mid r.env act).items sound_mid its_follows e vpn ne))
+        kept : u.kept ≡ s.kept
+        kept = own_kept mid r.env s act (late (Some r)) (brings mid r.env act).items sound_mid its_follows
 
-    kept_so : (e vpn : ℕ) → KeptSo e vpn (its e) (mid.solos e) ((late (Some r)).solos e)
-    kept_so e vpn = elim (cases_eq e r.env) [
-      | inl same ↦ subst (λ (i : ℕ). KeptSo i vpn (its i) (mid.solos i) ((late (Some r)).solos i)) (sym same) (kept_own vpn)
-      | inr ne ↦ kept_other e vpn ne
+        life : u.life ≡ s.life
+        life = own_life mid r.env s act (late (Some r)) (brings mid r.env act).items sound_mid its_follows
+
+        by_own : OwnSo vpn s → KeptSo r.env vpn u
+        by_own (inl same) = stays_so r.env vpn u (ap (λ ps. bytes_in (kept_at ps vpn)) kept ∙ same) (turned busy r.env vpn)
+        by_own (inr (inl stores)) = inr (inl stores)
+        by_own (inr (inr (inl raises))) = inr (inr (inl raises))
+        by_own (inr (inr (inr gone))) = inr (inr (inr (inr (ap is_dead life ∙ gone))))
+
+    abbrev given_to : ℕ → List Item
+    given_to e = (brings mid r.env act).items e
+
+    step_gives : is_idle_book before.book ≡ false → (e : ℕ) (item : Item) → given_to e ≡ item ∷ [] → Contains (next_items before e) item
+    step_gives busy e item is =
+        in_step e item busy (Some r) runs
+        (Contains-append_right (only r.env (Step ∷ []) e) (given_to e) item (subst (λ (items : List Item). Contains items item) (sym is) (is_first item)))
+
+    entered_so : is_idle_book before.book ≡ false → (e vpn : ℕ) (u : Solo) → mid.solos e ≡ before.solos e → IsEnteredBy mid r.env act e vpn (given_to e) u → IsToldFirst e vpn (bytes_at u vpn)
+    entered_so busy e vpn u same is = record {
+      context = is.entry.context;
+      told = inr (record {
+        caller = r.env;
+        another = is.another;
+        acts = acts_so (Calls (Some call.Transfer)) is.acts;
+        accepted = is.accepted;
+        kind = is.kind;
+        given = step_gives busy e (Transfer r.env is.kind (carried runner.cpu)) is.given;
+        words = subst (λ (n : ℕ). bytes_at u vpn ≡ with_bytes (kept_bytes image t e n) entry_area (entry_bytes r.env is.kind (cpu_at_step image t e))) is.entry.context
+            (is.entry.words ∙ ap (λ (x : Solo). with_bytes (bytes_at x vpn) entry_area (entry_bytes r.env is.kind (cpu_at_step image t e))) same);
+      });
+    }
+
+    kept_other : is_idle_book before.book ≡ false → (e vpn : ℕ) → e ≢ r.env → KeptSo e vpn ((late (Some r)).solos e)
+    kept_other busy e vpn ne = by_given (other_kept mid r.env (stepped runner (step_alone runner)) act (late (Some r)) (brings mid r.env act).items sound_mid its_follows e vpn ne)
+      where
+        u : Solo
+        u = (late (Some r)).solos e
+
+        same : mid.solos e ≡ before.solos e
+        same = turned_other r runs e ne
+
+        by_given : OtherKept mid r.env act e vpn (given_to e) u → KeptSo e vpn u
+        by_given (inl stays) = inl (ap bytes_in stays ∙ ap (λ (x : Solo). bytes_at x vpn) same)
+        by_given (inr (inl started)) = inr (inr (inr (inl (started_so e vpn (mid.solos e) u same (step_gives busy e Start started.given) started.start))))
+        by_given (inr (inr entered)) = inr (inr (inr (inl (entered_so busy e vpn u same entered))))
+
+    kept_so : is_idle_book before.book ≡ false → (e vpn : ℕ) → KeptSo e vpn ((late (Some r)).solos e)
+    kept_so busy e vpn = elim (cases_eq e r.env) [
+      | inl same ↦ subst (λ (i : ℕ). KeptSo i vpn ((late (Some r)).solos i)) (sym same) (kept_own busy vpn)
+      | inr ne ↦ kept_other busy e vpn ne
     ]
 
     -- an allocated page
@@ -163,8 +270,8 @@ module _ (image : ImageValue) (t : ℕ) (sound : Sound (world_after image t)) (a
       late_bytes : page_bytes (late (Some r)) page ≡ its_follows.brings.bytes page
       late_bytes = owner_bytes (late (Some r)) its_follows.brings.bytes (all_see mid r.env (stepped runner (step_alone runner)) act (late (Some r)) (brings mid r.env act).items sound_mid its_follows) owner page owns
 
-      fate_own : Fate mid act owner page (page_bytes (late (Some r)) page)
-      fate_own = subst (λ (bytes : List ℕ). Fate mid act owner page bytes) (sym late_bytes) (its_follows.brings.fate owner page owns)
+      fate_own : Fate mid r.env act owner page (page_bytes (late (Some r)) page)
+      fate_own = subst (λ (bytes : List ℕ). Fate mid r.env act owner page bytes) (sym late_bytes) (its_follows.brings.fate owner page owns)
 
     through : EachIsLive → (x : Store) (page : ℕ) → act ≡ Stores x → x.key ≡ Physical page → IsStoredThroughABinding image t page
     through live x page acts into =
@@ -181,15 +288,15 @@ module _ (image : ImageValue) (t : ℕ) (sound : Sound (world_after image t)) (a
           writable = it.writable;
         }
 
-    changed_by : (owner page : ℕ) (bytes : List ℕ) → Fate mid act owner page bytes → PageChange image t owner page bytes
+    changed_by : (owner page : ℕ) (bytes : List ℕ) → Fate mid r.env act owner page bytes → PageChange image t owner page bytes
     changed_by owner page bytes (Stays owns same) = Keeps (row_before owner page owns) (same ∙ bytes_alike before mid (turn_alike before) page)
     changed_by owner page bytes (Written owns x acts into) = Rewrites (row_before owner page owns) (λ live. through live x page acts into)
-    changed_by owner page bytes (Taken free zeros) = Allocates ((λ k. sym (turn_alike before).pages k page) ∙ free) zeros
+    changed_by owner page bytes (Taken own acts free zeros) = Allocates (subst (λ (i : ℕ). Acts image t i (Calls (Some call.Alloc))) (sym own) (acts_so (Calls (Some call.Alloc)) acts)) ((λ k. sym (turn_alike before).pages k page) ∙ free) zeros
 
   -- whoever runs
-  late_kept : (o : Option Runner) → mid.book.runner ≡ o → (e vpn : ℕ) → KeptSo e vpn ((step_when mid o).items e) (mid.solos e) ((late o).solos e)
-  late_kept None runs e vpn = inl refl
-  late_kept (Some r) runs e vpn = kept_so r runs e vpn
+  late_kept : is_idle_book before.book ≡ false → (o : Option Runner) → mid.book.runner ≡ o → (e vpn : ℕ) → KeptSo e vpn ((late o).solos e)
+  late_kept busy None runs e vpn = stays_so e vpn ((late None).solos e) refl (turned busy e vpn)
+  late_kept busy (Some r) runs e vpn = kept_so r runs busy e vpn
 
   late_changed : (o : Option Runner) → mid.book.runner ≡ o → (owner page : ℕ) → is_owned_by owner ((late o).book.pages page) ≡ true → PageChange image t owner page (page_bytes (late o) page)
   late_changed None runs owner page owns = Keeps (row_before owner page owns) (bytes_alike mid (late None) (unchanged mid) page ∙ bytes_alike before mid (turn_alike before) page)
@@ -202,26 +309,6 @@ module _ (image : ImageValue) (t : ℕ) (sound : Sound (world_after image t)) (a
   sound_last : Sound last
   sound_last = sound_stepped before sound allocated
 
-  -- the timer
-  last_kept : (e vpn : ℕ) → KeptSo e vpn ((timer last).items e) (last.solos e) ((tick_step before).solos e)
-  last_kept e vpn = by_timer (timer_kept last sound_last e vpn)
-    where
-      by_timer : KeepsPage ((timer last).items e) (last.solos e) ((tick_step before).solos e) vpn ⊎ (is_dead ((tick_step before).solos e).life ≡ true) → KeptSo e vpn ((timer last).items e) (last.solos e) ((tick_step before).solos e)
-      by_timer (inl keeps) = by_items e vpn ((timer last).items e) (last.solos e) ((tick_step before).solos e) keeps
-      by_timer (inr gone) = inr (inr (inr (inr gone)))
-
-  ticked_kept : (e vpn : ℕ) → KeptSo e vpn (tick_items before e) (before.solos e) ((tick_step before).solos e)
-  ticked_kept e vpn =
-      let xs = (turn before).items e in
-      let ys = (step_when mid mid.book.runner).items e in
-      let zs = (timer last).items e in
-      let now = (tick_step before).solos e in
-      both e vpn xs (ys ++ (zs ++ [])) (before.solos e) (mid.solos e) now (λ gone. stays_dead (last.solos e) zs (stays_dead (mid.solos e) ys gone))
-      (by_items e vpn xs (before.solos e) (mid.solos e) ((turn_keeps before e).kept (before.solos e) vpn))
-      (both e vpn ys (zs ++ []) (mid.solos e) (last.solos e) now (stays_dead (last.solos e) zs)
-      (late_kept mid.book.runner refl e vpn)
-      (both e vpn zs [] (last.solos e) now now (λ gone. gone) (last_kept e vpn) (inl refl)))
-
   ticked_changed : (owner page : ℕ) → is_owned_by owner ((tick_step before).book.pages page) ≡ true → PageChange image t owner page (page_bytes (tick_step before) page)
   ticked_changed owner page owns =
       let was = timer_owned last sound_last owner page owns in
@@ -229,26 +316,51 @@ module _ (image : ImageValue) (t : ℕ) (sound : Sound (world_after image t)) (a
 
   -- the guaranteed page as it was before the tick
   abbrev KeptIn : ℕ → ℕ → World → Type 0
-  KeptIn e vpn next = (bytes_in (kept_at (next.solos e).kept vpn) ≡ kept_bytes image t e vpn) ⊎ (StoresToItsOwn image t e vpn ⊎ (RaisesAnException image t e vpn ⊎ (IsToldOfItsSlice image t e vpn ⊎ (is_dead (next.solos e).life ≡ true))))
+  KeptIn e vpn next = (bytes_in (kept_at (next.solos e).kept vpn) ≡ kept_bytes image t e vpn) ⊎ (StoresToItsOwn image t e vpn ⊎ (RaisesAnException image t e vpn ⊎ (IsToldByTheKernel image t e vpn ⊎ (is_dead (next.solos e).life ≡ true))))
 
-  -- what is given in the tick is given next, where the world isn't idle
-  given_next : (e vpn : ℕ) → is_idle_book before.book ≡ false → IsTold (tick_items before e) vpn → IsToldOfItsSlice image t e vpn
-  given_next e vpn busy is = record {
-    told = subst (λ (items : List Item). Contains items Start ⊎ Contains items End) (sym (ap (λ (idle : Bool). if idle then [] else tick_items before e) busy)) is.told;
-    context = is.context;
-  }
+  -- what became of it since the tick began, and what the timer leaves of that
+  module _ (e vpn : ℕ) (busy : is_idle_book before.book ≡ false) where
+    abbrev now : Solo
+    now = (tick_step before).solos e
 
-  since_start : (e vpn : ℕ) → is_idle_book before.book ≡ false → KeptSo e vpn (tick_items before e) (before.solos e) ((tick_step before).solos e) → KeptIn e vpn (tick_step before)
-  since_start e vpn busy (inl stays) = inl stays
-  since_start e vpn busy (inr (inl stores)) = inr (inl stores)
-  since_start e vpn busy (inr (inr (inl raises))) = inr (inr (inl raises))
-  since_start e vpn busy (inr (inr (inr (inl told)))) = inr (inr (inr (inl (given_next e vpn busy told))))
-  since_start e vpn busy (inr (inr (inr (inr gone)))) = inr (inr (inr (inr gone)))
+    now_next : vpn ≡ context_number → kept_bytes image (suc t) e context_number ≡ bytes_at now vpn
+    now_next context = ap (kept_bytes image (suc t) e) (sym context) ∙ ap (λ (idle : Bool). bytes_at ((if idle then before else tick_step before).solos e) vpn) busy
+
+    told_next : bytes_at now vpn ≡ bytes_at (last.solos e) vpn → IsToldFirst e vpn (bytes_at (last.solos e) vpn) → IsToldByTheKernel image t e vpn
+    told_next same is = record {
+      told = inl (subst (λ (bytes : List ℕ). IsStartedOrEntered image t e bytes) (sym (now_next is.context ∙ same)) is.told);
+      context = is.context;
+    }
+
+    ended_next : (bytes_at (last.solos e) vpn ≡ kept_bytes image t e vpn) ⊎ IsToldFirst e vpn (bytes_at (last.solos e) vpn) → IsEndedBy (last.solos e) ((timer last).items e) now vpn → IsToldByTheKernel image t e vpn
+    ended_next first is = record {
+      told = inr (record {
+        given = at_end e End busy is.given;
+        handles = is.handles;
+        first = subst (λ (n : ℕ). (bytes_at (last.solos e) n ≡ kept_bytes image t e n) ⊎ IsStartedOrEntered image t e (bytes_at (last.solos e) n)) is.end.context (by_first first);
+        words = now_next is.end.context ∙ subst (λ (n : ℕ). bytes_at now vpn ≡ with_bytes (bytes_at (last.solos e) n) end_area (end_bytes (last.solos e).cpu)) is.end.context is.end.words;
+      });
+      context = is.end.context;
+    }
+      where
+        by_first : (bytes_at (last.solos e) vpn ≡ kept_bytes image t e vpn) ⊎ IsToldFirst e vpn (bytes_at (last.solos e) vpn) → (bytes_at (last.solos e) vpn ≡ kept_bytes image t e vpn) ⊎ IsStartedOrEntered image t e (bytes_at (last.solos e) vpn)
+        by_first (inl same) = inl same
+        by_first (inr is) = inr is.told
+
+    by_timer : KeptSo e vpn (last.solos e) → TimedKept (last.solos e) ((timer last).items e) now vpn → KeptIn e vpn (tick_step before)
+    by_timer (inl first) (inl same) = inl (ap bytes_in same ∙ first)
+    by_timer (inr (inl stores)) timed = inr (inl stores)
+    by_timer (inr (inr (inl raises))) timed = inr (inr (inl raises))
+    by_timer (inr (inr (inr (inl told)))) (inl same) = inr (inr (inr (inl (told_next (ap bytes_in same) told))))
+    by_timer (inr (inr (inr (inr gone)))) timed = inr (inr (inr (inr (stays_dead (last.solos e) ((timer last).items e) gone))))
+    by_timer (inl first) (inr (inl ended)) = inr (inr (inr (inl (ended_next (inl first) ended))))
+    by_timer (inr (inr (inr (inl told)))) (inr (inl ended)) = inr (inr (inr (inl (ended_next (inr told) ended))))
+    by_timer first (inr (inr gone)) = inr (inr (inr (inr gone)))
 
   -- an idle world stays as it is
   next_kept : (idle : Bool) → is_idle_book before.book ≡ idle → (e vpn : ℕ) → KeptIn e vpn (if idle then before else tick_step before)
   next_kept true is e vpn = inl refl
-  next_kept false is e vpn = since_start e vpn is (ticked_kept e vpn)
+  next_kept false is e vpn = by_timer e vpn is (late_kept is mid.book.runner refl e vpn) (timer_kept last sound_last e vpn)
 
   next_changed : (idle : Bool) (owner page : ℕ) → is_owned_by owner ((if idle then before else tick_step before).book.pages page) ≡ true → PageChange image t owner page (page_bytes (if idle then before else tick_step before) page)
   next_changed true owner page owns = Keeps owns refl
@@ -271,12 +383,12 @@ allocated_change bound live image t page owner before after = by_change (changed
     by_change : PageChange image t owner page (bytes_after image (suc t) page) → (bytes_after image (suc t) page ≡ bytes_after image t page) ⊎ IsStoredThroughABinding image t page
     by_change (Keeps owns same) = inl same
     by_change (Rewrites owns stored) = inr (stored live)
-    by_change (Allocates free zeros) = absurd (free_owned owner (row_after image t page) free before)
+    by_change (Allocates acts free zeros) = absurd (free_owned owner (row_after image t page) free before)
 
 pub allocated_zeros : BoundIsAllocated → AllocatedZeros
 allocated_zeros bound image t page owner after = by_change (changed bound image t owner page after)
   where
-    by_change : PageChange image t owner page (bytes_after image (suc t) page) → (is_owned_by owner (row_after image t page) ≡ true) ⊎ ((row_after image t page ≡ Free) × (bytes_after image (suc t) page ≡ zero_page))
+    by_change : PageChange image t owner page (bytes_after image (suc t) page) → (is_owned_by owner (row_after image t page) ≡ true) ⊎ IsAllocatedByCall image t page owner
     by_change (Keeps owns same) = inl owns
     by_change (Rewrites owns stored) = inl owns
-    by_change (Allocates free zeros) = inr (free, zeros)
+    by_change (Allocates acts free zeros) = inr (record { acts = acts; free = free; zeros = zeros })

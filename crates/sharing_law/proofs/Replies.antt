@@ -4,6 +4,8 @@ use Rattle.std.specs.Prelude.{◌==◌, ◌⊎◌, not, nat_lt, if◌then◌else
 use Rattle.std.specs.Option.{option_map, option_or}
 use Rattle.std.proofs.lemmas.Bool.{and_cases, or_parts, eqb-true, eq-eqb}
 use Rattle.mips_exec.specs.Cpu.{reg}
+use Rattle.env_frames.specs.declared.transfer.TransferKind.{TransferKind}
+use Rattle.env_frames.specs.Transfer.{transfer_numbered}
 use Rattle.page_book.specs.declared.row.Capabilities.{Capabilities}
 use Rattle.page_book.specs.declared.row.PageRow.{PageRow}
 use Rattle.page_book.specs.declared.row.PageRow.TheVariants.{Free, Guaranteed, Owned}
@@ -23,7 +25,8 @@ use Rattle.world_model.specs.Book.{Book, page_row}
 use Rattle.world_model.specs.Call.{any, binding_of, number_refusal, presented, put_refusal, refusal_of_bind, refusal_of_context, words_of}
 use Rattle.world_model.specs.Solo.{sight}
 use Rattle.world_model.specs.PageCalls.{chosen_page, named_page, alloc_by, free_by, recap_by, bind_by, unbind_by, context_by, is_guaranteed, with_binding, without_number}
-use Rattle.world_model.specs.SlotCalls.{accepts, answer_to, drop_by, drop_refusal, give_by, is_grace, is_other, query_by, refusal_of_giving, slot_at, take_by, take_refusal, yield_by}
+use Rattle.world_model.specs.SlotCalls.{accepts, answer_to, drop_by, drop_refusal, gift_refusal, give_by, is_other, query_by, question_numbered, refusal_of_giving, slot_at, take_by, take_refusal, turn_slot, yield_by}
+use Rattle.world_model.specs.Transfers.{refusal_of_transfer, transfer_by, transfer_of}
 use Rattle.world_model.specs.Verdict.{death, put_if, reply_of, reply_to}
 use Rattle.world_model.specs.World.{World, Reply}
 use Rattle.world_model.specs.Step.{Act, Nothing, Stores, Calls, Raises, Dies}
@@ -252,7 +255,15 @@ module _ (w : World) (e : ℕ) (act : Act) where
 
   yields : (target : ℕ) (t : Bool) → CarriesInto w e act (reply_of w e (yield_by w e target t))
   yields target true = stays w e act
-  yields target false = given target (refusal_of_giving (is_other w e target) (is_grace w.book.runner) (accepts (w.solos target).mask e))
+  yields target false = given target (refusal_of_giving (is_other w e target) (gift_refusal false w.book.runner (turn_slot w.book)) (accepts (w.solos target).mask e))
+
+  transfers_by : (target : ℕ) (kind : TransferKind) (why : Option Code) → CarriesInto w e act (reply_of w e (transfer_by w e target kind why))
+  transfers_by target kind None = stays w e act
+  transfers_by target kind (Some why) = stays w e act
+
+  transfers_of : (target : ℕ) (kind : Option TransferKind) → CarriesInto w e act (reply_of w e (transfer_of w e target kind))
+  transfers_of target None = stays w e act
+  transfers_of target (Some kind) = transfers_by target kind (refusal_of_transfer w e target kind)
 
   takes : (k : ℕ) (why : Option Code) → CarriesInto w e act (reply_of w e (take_by w e k why))
   takes k None = stays w e act
@@ -324,9 +335,10 @@ call_carries w e allocated (Some call.Unbind) =
     unbinds_by w e (Calls (Some call.Unbind)) (number_refusal (is_guaranteed s (reg s.cpu 4)) (reg s.cpu 4))
 call_carries w e allocated (Some call.Context) = contexts w e (Calls (Some call.Context)) (refusal_of_context (w.solos e).cpu)
 call_carries w e allocated (Some call.Accept) = stays w e (Calls (Some call.Accept))
+call_carries w e allocated (Some call.Transfer) = transfers_of w e (Calls (Some call.Transfer)) (reg (w.solos e).cpu 4) (transfer_numbered (reg (w.solos e).cpu 5))
 call_carries w e allocated (Some call.SlotTake) = takes w e (Calls (Some call.SlotTake)) (reg (w.solos e).cpu 4) (take_refusal (slot_at w.book (reg (w.solos e).cpu 4)))
 call_carries w e allocated (Some call.SlotDrop) = drops w e (Calls (Some call.SlotDrop)) (reg (w.solos e).cpu 4) (drop_refusal e (slot_at w.book (reg (w.solos e).cpu 4)))
-call_carries w e allocated (Some call.Query) = queries w e (Calls (Some call.Query)) (answer_to w e (reg (w.solos e).cpu 4) (reg (w.solos e).cpu 5))
+call_carries w e allocated (Some call.Query) = queries w e (Calls (Some call.Query)) (answer_to w e (question_numbered (reg (w.solos e).cpu 4)) (reg (w.solos e).cpu 5))
 call_carries w e allocated (Some call.OwnNumber) = stays w e (Calls (Some call.OwnNumber))
 call_carries w e allocated (Some call.Clock) = stays w e (Calls (Some call.Clock))
 

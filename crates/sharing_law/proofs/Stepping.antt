@@ -5,6 +5,8 @@ use Rattle.std.proofs.lemmas.Bool.{cases_eq, eqb-false}
 use Rattle.mips_exec.specs.declared.registers.Cpu.{Cpu}
 use Rattle.mips_exec.specs.declared.exception.Exc.{Exc}
 use Rattle.mips_exec.specs.Cpu.{reg}
+use Rattle.env_frames.specs.declared.transfer.TransferKind.{TransferKind}
+use Rattle.env_frames.specs.Transfer.{carried, entry_area, entry_bytes}
 use Rattle.mips_exec.specs.Step as mips
 use Rattle.mips_exec.specs.Step.{Retired, Called, Trapped}
 use Rattle.world_model.specs.declared.call.Call.{Call}
@@ -18,18 +20,19 @@ use Rattle.world_model.specs.declared.slot.Runner.{Runner}
 use Rattle.world_model.specs.Book.{own_hold, released}
 use Rattle.world_model.specs.Call.{called}
 use Rattle.world_model.specs.Holding.{raise}
-use Rattle.world_model.specs.Item.{Item, Step, absorb_all}
+use Rattle.world_model.specs.Item.{Item, Step, Start, Transfer, absorb_all}
 use Rattle.world_model.specs.PageCalls.{page_bytes}
-use Rattle.world_model.specs.Solo.{Solo, Store, store_of}
-use Rattle.world_model.specs.Step.{Act, Nothing, Raises, Dies, acted, act_of, call_act, step_alone, stepped, store_act}
+use Rattle.world_model.specs.Solo.{Solo, Store, kept_at, store_of}
+use Rattle.world_model.specs.Step.{Act, Nothing, Calls, Raises, Dies, acted, act_of, call_act, step_alone, stepped, store_act}
+use Rattle.world_model.specs.SlotCalls.{accepts}
 use Rattle.world_model.specs.Tick as tick
 use Rattle.world_model.specs.World.{World, after}
 use Rattle.page_sight.specs.Sight.{Sees}
 use Rattle.page_sight.proofs.Tables.{set_here, set_else}
 use Rattle.sharing_law.specs.Agreement.{AreBoundAllocated}
-use Rattle.sharing_law.proofs.Given.{KeepsPage, absorbs, dead_absorbs}
+use Rattle.sharing_law.proofs.Given.{HasStart, HasWords, Keeps, StaysOrHas, absorbs, dead_absorbs, enter_rests, entered_kept, start_rests, started_kept}
 use Rattle.sharing_law.proofs.Sound.{AreLive, HasNone, Sound, agreed, still_nothing}
-use Rattle.sharing_law.proofs.Brings.{Brings, BringsIn, Fortune, GoesOn, Ends, death_brings, silent, store_brings}
+use Rattle.sharing_law.proofs.Brings.{Brings, BringsIn, Gives, Tells, Starts, Enters, Fortune, GoesOn, Ends, death_brings, silent, store_brings}
 use Rattle.sharing_law.proofs.Calling.{call_brings}
 
 -- What the runner's step brings, whatever it comes to.
@@ -53,6 +56,7 @@ module _ (w : World) (e : ℕ) (sound : Sound w) (lives : (w.solos e).life ≡ L
   by_call (Some call.Unbind) named = call_brings w e sound lives allocated (Some call.Unbind) named (λ is. cc)
   by_call (Some call.Context) named = call_brings w e sound lives allocated (Some call.Context) named (λ is. cc)
   by_call (Some call.Accept) named = call_brings w e sound lives allocated (Some call.Accept) named (λ is. cc)
+  by_call (Some call.Transfer) named = call_brings w e sound lives allocated (Some call.Transfer) named (λ is. cc)
   by_call (Some call.SlotTake) named = call_brings w e sound lives allocated (Some call.SlotTake) named (λ is. cc)
   by_call (Some call.SlotDrop) named = call_brings w e sound lives allocated (Some call.SlotDrop) named (λ is. cc)
   by_call (Some call.Query) named = call_brings w e sound lives allocated (Some call.Query) named (λ is. cc)
@@ -125,22 +129,74 @@ step_follows w e act lives brings =
       others = λ i ne. ap (λ (its : List Item). absorb_all (w.solos i) (its ++ items i)) (set_else e i (Step ∷ []) (λ j. []) ne);
     }
 
+-- an environment is entered by the runner's transfer, which it accepts, and this page has the words of that
+pub record IsEnteredBy (w : World) (e : ℕ) (act : Act) (i vpn : ℕ) (items : List Item) (now : Solo) : Type 0 where
+  pub kind : TransferKind
+  pub another : e ≢ i
+  pub acts : act ≡ Calls (Some call.Transfer)
+  pub accepted : accepts (w.solos i).mask e ≡ true
+  pub given : items ≡ Transfer e kind (carried (w.solos e).cpu) ∷ []
+  pub entry : HasWords entry_area (entry_bytes e kind (w.solos i).cpu) (w.solos i) now vpn
+
+-- or it is started by the runner's yield
+pub record IsStartedBy (w : World) (e i vpn : ℕ) (items : List Item) (now : Solo) : Type 0 where
+  pub another : e ≢ i
+  pub given : items ≡ Start ∷ []
+  pub start : HasStart (w.solos i) now vpn
+
+-- what becomes of a guaranteed page of an environment that doesn't run
+abbrev pub OtherKept : World → ℕ → Act → ℕ → ℕ → List Item → Solo → Type 0
+OtherKept w e act i vpn items now = (kept_at now.kept vpn ≡ kept_at (w.solos i).kept vpn) ⊎ (IsStartedBy w e i vpn items now ⊎ IsEnteredBy w e act i vpn items now)
+
+-- What is given leaves lives, and guaranteed pages but for such words.
+module _ (w : World) (e : ℕ) (act : Act) (i : ℕ) (items : List Item) where
+  gives_own : Gives w e act i items → e ≡ i → Keeps items
+  gives_own (Tells keeps) own = keeps
+  gives_own (Starts another given) own = absurd (another own)
+  gives_own (Enters kind another acts accepted given) own = absurd (another own)
+
+  gives_life : Gives w e act i items → (s : Solo) → (absorb_all s items).life ≡ s.life
+  gives_life (Tells keeps) s = keeps.life s
+  gives_life (Starts another given) s = ap (λ (its : List Item). (absorb_all s its).life) given ∙ (start_rests s).life
+  gives_life (Enters kind another acts accepted given) s = ap (λ (its : List Item). (absorb_all s its).life) given ∙ (enter_rests e kind (carried (w.solos e).cpu) s).life
+
+  gives_kept : Gives w e act i items → (vpn : ℕ) → OtherKept w e act i vpn items (absorb_all (w.solos i) items)
+  gives_kept (Tells keeps) vpn = inl (ap (λ ps. kept_at ps vpn) (keeps.kept (w.solos i)))
+  gives_kept (Starts another given) vpn =
+      subst (λ (xs : List Item). OtherKept w e act i vpn xs (absorb_all (w.solos i) xs)) (sym given) (by_start (started_kept (w.solos i) vpn))
+    where
+      started : Solo
+      started = absorb_all (w.solos i) (Start ∷ [])
+
+      by_start : (kept_at started.kept vpn ≡ kept_at (w.solos i).kept vpn) ⊎ HasStart (w.solos i) started vpn → OtherKept w e act i vpn (Start ∷ []) started
+      by_start (inl same) = inl same
+      by_start (inr start) = inr (inl (record { another = another; given = refl; start = start }))
+  gives_kept (Enters kind another acts accepted given) vpn =
+      subst (λ (xs : List Item). OtherKept w e act i vpn xs (absorb_all (w.solos i) xs)) (sym given) (by_entry (entered_kept e kind (carried (w.solos e).cpu) (w.solos i) vpn))
+    where
+      entered : Solo
+      entered = absorb_all (w.solos i) (Transfer e kind (carried (w.solos e).cpu) ∷ [])
+
+      by_entry : StaysOrHas entry_area (entry_bytes e kind (w.solos i).cpu) (w.solos i) entered vpn → OtherKept w e act i vpn (Transfer e kind (carried (w.solos e).cpu) ∷ []) entered
+      by_entry (inl same) = inl same
+      by_entry (inr entry) = inr (inr (record { kind = kind; another = another; acts = acts; accepted = accepted; given = refl; entry = entry }))
+
 module _ (w : World) (e : ℕ) (s : Solo) (act : Act) (now : World) (items : ℕ → List Item) (sound : Sound w) (follows : Follows w e s act now items) where
   abbrev brings : Brings w e s act now.book items
   brings = follows.brings
 
   -- lives and guaranteed pages are what became of them
   pub own_life : (now.solos e).life ≡ s.life
-  own_life = ap (λ (t : Solo). t.life) follows.own ∙ (brings.keeps e).life s
+  own_life = ap (λ (t : Solo). t.life) follows.own ∙ gives_life w e act e (items e) (brings.gives e) s
 
-  pub own_kept : (vpn : ℕ) → KeepsPage (items e) s (now.solos e) vpn
-  own_kept vpn = subst (λ (t : Solo). KeepsPage (items e) s t vpn) (sym follows.own) ((brings.keeps e).kept s vpn)
+  pub own_kept : (now.solos e).kept ≡ s.kept
+  own_kept = ap (λ (t : Solo). t.kept) follows.own ∙ (gives_own w e act e (items e) (brings.gives e) refl).kept s
 
   pub other_life : (i : ℕ) → i ≢ e → (now.solos i).life ≡ (w.solos i).life
-  other_life i ne = ap (λ (t : Solo). t.life) (follows.others i ne) ∙ (brings.keeps i).life (w.solos i)
+  other_life i ne = ap (λ (t : Solo). t.life) (follows.others i ne) ∙ gives_life w e act i (items i) (brings.gives i) (w.solos i)
 
-  pub other_kept : (i vpn : ℕ) → i ≢ e → KeepsPage (items i) (w.solos i) (now.solos i) vpn
-  other_kept i vpn ne = subst (λ (t : Solo). KeepsPage (items i) (w.solos i) t vpn) (sym (follows.others i ne)) ((brings.keeps i).kept (w.solos i) vpn)
+  pub other_kept : (i vpn : ℕ) → i ≢ e → OtherKept w e act i vpn (items i) (now.solos i)
+  other_kept i vpn ne = subst (λ (t : Solo). OtherKept w e act i vpn (items i) t) (sym (follows.others i ne)) (gives_kept w e act i (items i) (brings.gives i) vpn)
 
   -- what each environment sees
   other_sees : (i : ℕ) → i ≢ e → Sees i now.book.pages (now.book.binds i) brings.bytes (now.solos i)

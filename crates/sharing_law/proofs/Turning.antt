@@ -1,6 +1,7 @@
 -- The phase of a tick in which no book changes but whose turn it is.
 use Rattle.std.proofs.Common.{◌≡◌, ◌≤◌, ℕ, zero, suc, ◌+◌, ◌%◌, [], ◌∷◌, Bool, true, false, Option, Some, None, refl, sym, ◌∙◌, ap, subst}
 use Rattle.std.specs.Prelude.{◌==◌, if◌then◌else◌}
+use Rattle.std.proofs.lemmas.Bool.{eqb-true}
 use Rattle.page_book.specs.declared.row.PageRow.{PageRow}
 use Rattle.page_book.specs.declared.row.PageRow.TheVariants.{Free, Guaranteed, Owned}
 use Rattle.page_book.specs.Row.{is_owned_by}
@@ -12,11 +13,11 @@ use Rattle.world_model.specs.Book.{Told, first_turn, lowered, owed, pays_first, 
 use Rattle.world_model.specs.Solo.{Solo, bytes_seen}
 use Rattle.world_model.specs.Item.{Start, absorb_all}
 use Rattle.world_model.specs.PageCalls.{bytes_owned, page_bytes}
-use Rattle.world_model.specs.World.{World, after}
+use Rattle.world_model.specs.World.{World, Reply, after}
 use Rattle.world_model.specs.Tick.{no_change, take_turn, turn, turn_when}
 use Rattle.page_sight.specs.Sight.{seen_in}
 use Rattle.sharing_law.specs.Agreement.{AreBoundAllocated, IsAllocated}
-use Rattle.sharing_law.proofs.Given.{IsRested, Keeps, keeps_none, keeps_only, keeps_start, rests_same, start_rests}
+use Rattle.sharing_law.proofs.Given.{IsRested, rests_same, start_rests}
 use Rattle.sharing_law.proofs.Sound.{Sound}
 
 -- two worlds whose books differ in whose turn it is alone, and whose environments do in their registers
@@ -108,16 +109,25 @@ turn_by w (Some r) = unchanged w
 pub turn_alike : (w : World) → IsAlike w (after w (turn w))
 turn_alike w = turn_by w w.book.runner
 
-taken_keeps : (w : World) (told : Told) (x : Option Turn) (i : ℕ) → Keeps ((take_turn w told x).items i)
-taken_keeps w told None i = keeps_none
-taken_keeps w told (Some t) i = keeps_only t.env i (Start ∷ []) keeps_start
+-- What it gives to an environment: nothing, or the start of its slice, if it runs then.
+pub data IsGivenTurn (w : World) (r : Reply) (i : ℕ) : Type 0 where
+  Waits : (after w r).solos i ≡ w.solos i → IsGivenTurn w r i
+  Begins : running r.book.runner ≡ Some i → r.items i ≡ Start ∷ [] → IsGivenTurn w r i
 
-when_keeps : (w : World) (o : Option Runner) (i : ℕ) → Keeps ((turn_when w o).items i)
-when_keeps w None i = taken_keeps w (whole_turn w.book) (whole_turn w.book).runs i
-when_keeps w (Some r) i = keeps_none
+taken_given : (w : World) (told : Told) (x : Option Turn) (i : ℕ) → IsGivenTurn w (take_turn w told x) i
+taken_given w told None i = Waits refl
+taken_given w told (Some t) i = by_test (i == t.env) refl
+  where
+    by_test : (mine : Bool) → (i == t.env) ≡ mine → IsGivenTurn w (take_turn w told (Some t)) i
+    by_test true is = Begins (ap Some (sym (eqb-true i t.env is))) (ap (λ (mine : Bool). if mine then Start ∷ [] else []) is)
+    by_test false is = Waits (ap (λ (mine : Bool). absorb_all (w.solos i) (if mine then Start ∷ [] else [])) is)
 
-pub turn_keeps : (w : World) (i : ℕ) → Keeps ((turn w).items i)
-turn_keeps w i = when_keeps w w.book.runner i
+when_given : (w : World) (o : Option Runner) (i : ℕ) → IsGivenTurn w (turn_when w o) i
+when_given w None i = taken_given w (whole_turn w.book) (whole_turn w.book).runs i
+when_given w (Some r) i = Waits refl
+
+pub turn_given : (w : World) (i : ℕ) → IsGivenTurn w (turn w) i
+turn_given w i = when_given w w.book.runner i
 
 -- who runs after it lives
 module _ (w : World) (sound : Sound w) where

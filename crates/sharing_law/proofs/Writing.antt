@@ -116,6 +116,60 @@ found_in_row vpn (Some x) b is = by_test (x.vpn == vpn) is
     by_test true is = is
     by_test false is = cc
 
+-- a store goes to where a page number leads, and that may be stored to
+record IsLed (s : Solo) (x : Store) : Type 0 where
+  vpn : ℕ
+  place : Place
+  led : leads s vpn ≡ Some place
+  key : place.key ≡ x.key
+  writable : place.writable ≡ true
+
+module _ (s : Solo) (x : Store) where
+  by_led : (new : Cpu) (w : Write) → step_alone s ≡ Retired new (Some w) → (o : Option Place) → leads s (w.address / page_size) ≡ o → store_act (option_map (store_through w) o) ≡ Stores x → IsLed s x
+  by_led new w retired None led acts = cc
+  by_led new w retired (Some place) led acts =
+      let store : store_through w place ≡ x = cc in
+      let granted = granted_store (answers_by (sight s)) s.cpu new w retired in
+      record {
+        vpn = w.address / page_size;
+        place = place;
+        led = led;
+        key = ap (λ (y : Store). y.key) store;
+        writable = granted_writable (sight s) w.address (mapped s place) (ap (option_map (mapped s)) led) granted.granted;
+      }
+
+  by_call : (c : Option Call) → call_act s.cpu c ≡ Stores x → IsLed s x
+  by_call None acts = cc
+  by_call (Some call.Yield) acts = cc
+  by_call (Some call.Put) acts = cc
+  by_call (Some call.Exit) acts = cc
+  by_call (Some call.Alloc) acts = cc
+  by_call (Some call.Free) acts = cc
+  by_call (Some call.Recap) acts = cc
+  by_call (Some call.Bind) acts = cc
+  by_call (Some call.Unbind) acts = cc
+  by_call (Some call.Context) acts = cc
+  by_call (Some call.Accept) acts = cc
+  by_call (Some call.Transfer) acts = cc
+  by_call (Some call.SlotTake) acts = cc
+  by_call (Some call.SlotDrop) acts = cc
+  by_call (Some call.Query) acts = cc
+  by_call (Some call.OwnNumber) acts = cc
+  by_call (Some call.Clock) acts = cc
+
+  by_handler : (exc : Exc) (none : Bool) → (if none then Dies (cause.Trapped exc.code) else Raises exc) ≡ Stores x → IsLed s x
+  by_handler exc true acts = cc
+  by_handler exc false acts = cc
+
+  by_step : (st : Step) → step_alone s ≡ st → act_of s st ≡ Stores x → IsLed s x
+  by_step (Retired new None) is acts = cc
+  by_step (Retired new (Some w)) is acts = by_led new w is (leads s (w.address / page_size)) refl acts
+  by_step Called is acts = by_call (called s.cpu) acts
+  by_step (Trapped exc) is acts = by_handler exc (s.handlers.exception == 0) acts
+
+  led_store : act_of s (step_alone s) ≡ Stores x → IsLed s x
+  led_store acts = by_step (step_alone s) refl acts
+
 module _ (s : Solo) (x : Store) (page : ℕ) (into : x.key ≡ Physical page) where
   -- the page number leads to the binding
   by_binding : (vpn : ℕ) (p : Option KeptPage) (b : Option Binding) (place : Place) → binding_at s.binds vpn ≡ b → option_or (option_map (place_at vpn) p) (option_map bound_place b) ≡ Some place
@@ -136,43 +190,29 @@ module _ (s : Solo) (x : Store) (page : ℕ) (into : x.key ≡ Physical page) wh
         writable = ap (λ (q : Place). q.writable) same ∙ writable;
       }
 
-  by_led : (new : Cpu) (w : Write) → step_alone s ≡ Retired new (Some w) → (o : Option Place) → leads s (w.address / page_size) ≡ o → store_act (option_map (store_through w) o) ≡ Stores x → IsThrough s page
-  by_led new w retired None led acts = cc
-  by_led new w retired (Some place) led acts =
-      let vpn = w.address / page_size in
-      let store : store_through w place ≡ x = cc in
-      let key : place.key ≡ Physical page = ap (λ (y : Store). y.key) store ∙ into in
-      let granted = granted_store (answers_by (sight s)) s.cpu new w retired in
-      let writable : (mapped s place).writable ≡ true = granted_writable (sight s) w.address (mapped s place) (ap (option_map (mapped s)) led) granted.granted in
-      by_binding vpn (kept_at s.kept vpn) (binding_at s.binds vpn) place refl led key writable
-
-  by_call : (c : Option Call) → call_act s.cpu c ≡ Stores x → IsThrough s page
-  by_call None acts = cc
-  by_call (Some call.Yield) acts = cc
-  by_call (Some call.Put) acts = cc
-  by_call (Some call.Exit) acts = cc
-  by_call (Some call.Alloc) acts = cc
-  by_call (Some call.Free) acts = cc
-  by_call (Some call.Recap) acts = cc
-  by_call (Some call.Bind) acts = cc
-  by_call (Some call.Unbind) acts = cc
-  by_call (Some call.Context) acts = cc
-  by_call (Some call.Accept) acts = cc
-  by_call (Some call.SlotTake) acts = cc
-  by_call (Some call.SlotDrop) acts = cc
-  by_call (Some call.Query) acts = cc
-  by_call (Some call.OwnNumber) acts = cc
-  by_call (Some call.Clock) acts = cc
-
-  by_handler : (exc : Exc) (none : Bool) → (if none then Dies (cause.Trapped exc.code) else Raises exc) ≡ Stores x → IsThrough s page
-  by_handler exc true acts = cc
-  by_handler exc false acts = cc
-
-  by_step : (st : Step) → step_alone s ≡ st → act_of s st ≡ Stores x → IsThrough s page
-  by_step (Retired new None) is acts = cc
-  by_step (Retired new (Some w)) is acts = by_led new w is (leads s (w.address / page_size)) refl acts
-  by_step Called is acts = by_call (called s.cpu) acts
-  by_step (Trapped exc) is acts = by_handler exc (s.handlers.exception == 0) acts
-
   pub stored_through : act_of s (step_alone s) ≡ Stores x → IsThrough s page
-  stored_through acts = by_step (step_alone s) refl acts
+  stored_through acts = let it = led_store s x acts in by_binding it.vpn (kept_at s.kept it.vpn) (binding_at s.binds it.vpn) it.place refl it.led (it.key ∙ into) it.writable
+
+-- the guaranteed page at this number is there, and may be stored to
+pub record IsWritable (s : Solo) (vpn : ℕ) : Type 0 where
+  pub page : KeptPage
+  pub there : kept_at s.kept vpn ≡ Some page
+  pub writable : page.writable ≡ true
+
+module _ (s : Solo) (x : Store) (vpn : ℕ) (into : x.key ≡ Kept vpn) where
+  -- the page number leads to it
+  by_page : (n : ℕ) (p : Option KeptPage) (b : Option Binding) (place : Place) → kept_at s.kept n ≡ p → option_or (option_map (place_at n) p) (option_map bound_place b) ≡ Some place
+      → place.key ≡ Kept vpn → place.writable ≡ true → IsWritable s vpn
+  by_page n (Some p) b place found led key writable =
+      let same : place_at n p ≡ place = cc in
+      let its : Kept n ≡ Kept vpn = ap (λ (q : Place). q.key) same ∙ key in
+      let number : n ≡ vpn = cc in
+      record { page = p; there = ap (kept_at s.kept) (sym number) ∙ found; writable = ap (λ (q : Place). q.writable) same ∙ writable }
+  by_page n None None place found led key writable = cc
+  by_page n None (Some b) place found led key writable =
+      let same : bound_place b ≡ place = cc in
+      let clash : Physical b.page ≡ Kept vpn = ap (λ (q : Place). q.key) same ∙ key in
+      cc
+
+  pub stored_writable : act_of s (step_alone s) ≡ Stores x → IsWritable s vpn
+  stored_writable acts = let it = led_store s x acts in by_page it.vpn (kept_at s.kept it.vpn) (binding_at s.binds it.vpn) it.place refl it.led (it.key ∙ into) it.writable
