@@ -6,6 +6,7 @@ use Rattle.std.proofs.lemmas.Bool.{eq-eqb}
 use Rattle.std.proofs.lemmas.Option.{get_or_from_slice_get}
 use Rattle.frame_store.specs.Pages.{page_at}
 use Rattle.env_frames.specs.declared.context.Context.{Context}
+use Rattle.env_frames.specs.Context.{context_numbered}
 use Rattle.env_frames.specs.Frame.{mapping_at}
 use Rattle.page_book.specs.declared.row.PageRow.{PageRow}
 use Rattle.page_book.specs.declared.row.PageRow.TheVariants.{Free, Guaranteed, Owned}
@@ -19,7 +20,7 @@ use Rattle.world_model.specs.declared.call.Call.TheVariants as call
 use Rattle.world_model.specs.declared.code.Code.{Code}
 use Rattle.world_model.specs.declared.code.Code.TheVariants as code
 use Rattle.world_model.specs.Book.{page_row}
-use Rattle.world_model.specs.Call.{binding_of, called, handled, number_refusal, presented, refusal_of_bind, refusal_of_context}
+use Rattle.world_model.specs.Call.{binding_of, called, number_refusal, presented, refusal_of_bind, refusal_of_context}
 use Rattle.world_model.specs.Code.{code_of}
 use Rattle.world_model.specs.Holding.{bound, gained, unbound, with_binds}
 use Rattle.world_model.specs.Item.{Granted, Gained, absorb_all, answered_cpu, with_handlers}
@@ -206,7 +207,7 @@ module _ (b : Shown) (e : ℕ) (x : Environment) (r : Runs b e x) (sound : IsSou
       ∙ ap (λ (s : Solo). number_refusal (calls.is_guaranteed s (reg s.cpu 4)) (reg s.cpu 4)) (sym (runner_seen b e x r))
 
   -- Context.
-  handles : (kind : Option Context) → handled (reg b.cpu 4) ≡ kind → called b.cpu ≡ Some call.Context → Serves b e (Calls (Some call.Context)) (grant (world_of b) e 0) (doing.answered (doing.with_handling b e kind (reg b.cpu 5)) code.Ok 0)
+  handles : (kind : Option Context) → context_numbered (reg b.cpu 4) ≡ kind → called b.cpu ≡ Some call.Context → Serves b e (Calls (Some call.Context)) (grant (world_of b) e 0) (doing.answered (doing.with_handling b e kind (reg b.cpu 5)) code.Ok 0)
   handles None is named = grants b e x r (Some call.Context) 0 named (ap (λ kind. with_handlers kind (reg b.cpu 5) (runner_solo b e x)) is)
   handles (Some kind) is named =
       let f = doing.handling kind (reg b.cpu 5) in
@@ -236,7 +237,7 @@ module _ (b : Shown) (e : ℕ) (x : Environment) (r : Runs b e x) (sound : IsSou
 
   pub sets_handler : (why : Option Code) → called b.cpu ≡ Some call.Context → Serves b e (Calls (Some call.Context)) (reply_of (world_of b) e (calls.context_by (world_of b) e why)) (doing.context_if b e why)
   sets_handler (Some why) named = refuses b e x r (Some call.Context) why 0
-  sets_handler None named = handles (handled (reg b.cpu 4)) refl named
+  sets_handler None named = handles (context_numbered (reg b.cpu 4)) refl named
 
   pub context_same : refusal_of_context b.cpu ≡ refusal_of_context (solo_of b e).cpu
   context_same = ap (λ (s : Solo). refusal_of_context s.cpu) (sym (runner_seen b e x r))

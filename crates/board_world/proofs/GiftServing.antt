@@ -4,6 +4,7 @@ use Rattle.std.specs.Prelude.{◌==◌, ◌&&◌, not, slice_get, unwrap_or}
 use Rattle.std.specs.Option.{option_map}
 use Rattle.std.proofs.lemmas.Bool.{cases_eq, ne_eqb, eq-eqb}
 use Rattle.mips_exec.specs.Cpu.{reg}
+use Rattle.slot_vector.specs.Slices.{refusal_of_gift}
 use Rattle.world_model.specs.declared.call.Call.TheVariants as call
 use Rattle.world_model.specs.declared.code.Code.{Code}
 use Rattle.world_model.specs.declared.code.Code.TheVariants as code
@@ -13,7 +14,7 @@ use Rattle.world_model.specs.declared.slot.Runner.{Runner}
 use Rattle.world_model.specs.Book.{is_runner}
 use Rattle.world_model.specs.Call.{called}
 use Rattle.world_model.specs.Item.{Item, Granted, Start, absorb_all}
-use Rattle.world_model.specs.SlotCalls.{accepts, give_by, handed, is_grace, is_other, refusal_of_giving, stops, yield_by}
+use Rattle.world_model.specs.SlotCalls.{accepts, gift_refusal, give_by, handed, is_other, refusal_of_giving, stops, turn_slot, yield_by}
 use Rattle.world_model.specs.Solo.{Solo, is_dead}
 use Rattle.world_model.specs.Step.{Calls}
 use Rattle.world_model.specs.Table.{set_at}
@@ -21,7 +22,7 @@ use Rattle.world_model.specs.Verdict.{reply_of}
 use Rattle.world_model.specs.World.{only}
 use Rattle.board_world.specs.declared.roster.Environment.{Environment}
 use Rattle.board_world.specs.Shown.{Shown, mappings_in}
-use Rattle.board_world.specs.Showing.{world_of, solo_of, solo_or_absent, solo_seen, cpu_seen, pages_seen}
+use Rattle.board_world.specs.Showing.{world_of, book_of, solo_of, solo_or_absent, solo_seen, cpu_seen, pages_seen}
 use Rattle.board_world.specs.Sound.{IsSound}
 use Rattle.board_world.specs.Doing as doing
 use Rattle.board_world.proofs.Contexts.{start_others, start_seen, start_sights, waiting}
@@ -30,15 +31,16 @@ use Rattle.board_world.proofs.Parts.{set_here, set_else, only_here, only_else, o
 use Rattle.board_world.proofs.Replying.{Serves, answered_others, answered_seen, granted_first, refuses}
 use Rattle.board_world.proofs.Seen.{same_solo, IsNamed, Runs, runner_seen, runner_solo}
 use Rattle.board_world.proofs.Slots.{is_there}
+use Rattle.board_world.proofs.Slotted.{both_true, differs, giving_parts}
 use Rattle.board_world.proofs.Turning.{stopped_solo, stopped_others, stopped_count}
 
 -- who has the slice runs
-handed_named : (e t : ℕ) (o : Option Runner) → is_runner e o ≡ true → IsNamed t (handed t o)
+pub handed_named : (e t : ℕ) (o : Option Runner) → is_runner e o ≡ true → IsNamed t (handed t o)
 handed_named e t None is = cc
 handed_named e t (Some r) is = record { its = eq-eqb t t refl; others = λ i ne. ne_eqb t i (λ same. ne (sym same)) }
 
 -- where one is given something, and another something else
-two_given : (old new : ℕ → Solo) (e t : ℕ) (first : Solo) (its theirs : List Item) → t ≢ e → new e ≡ absorb_all first its → new t ≡ absorb_all (old t) theirs → ((i : ℕ) → i ≢ e → i ≢ t → new i ≡ old i) →
+pub two_given : (old new : ℕ → Solo) (e t : ℕ) (first : Solo) (its theirs : List Item) → t ≢ e → new e ≡ absorb_all first its → new t ≡ absorb_all (old t) theirs → ((i : ℕ) → i ≢ e → i ≢ t → new i ≡ old i) →
     (i : ℕ) → new i ≡ absorb_all (set_at e first old i) (set_at t theirs (only e its) i)
 two_given old new e t first its theirs other here there else_same i =
     elim (cases_eq i t) [
@@ -55,24 +57,12 @@ two_given old new e t first its theirs other here there else_same i =
           ]
     ]
 
--- The test of the target.
-giving_other : (other grace accepted : Bool) → refusal_of_giving other grace accepted ≡ None → other ≡ true
-giving_other true grace accepted none = refl
-giving_other false grace accepted none = cc
-
-both_true : (x y : Bool) → (x && y) ≡ true → (x ≡ true) × (y ≡ true)
-both_true true y is = (refl, is)
-both_true false y is = cc
-
-differs : (t e : ℕ) → not (t == e) ≡ true → t ≢ e
-differs t e is same = let no : true ≡ false = sym is ∙ ap not (eq-eqb t e same) in cc
-
 -- an environment of the list that lives
-record IsThere (list : List Environment) (t : ℕ) (y : Environment) : Type 0 where
-  at : slice_get list t ≡ Some y
-  lives : y.life ≡ Live
+pub record IsThere (list : List Environment) (t : ℕ) (y : Environment) : Type 0 where
+  pub at : slice_get list t ≡ Some y
+  pub lives : y.life ≡ Live
 
-there_in : (list : List Environment) (t : ℕ) (o : Option Environment) → slice_get list t ≡ o → doing.lives_in o ≡ true → (y : Environment) × IsThere list t y
+pub there_in : (list : List Environment) (t : ℕ) (o : Option Environment) → slice_get list t ≡ o → doing.lives_in o ≡ true → (y : Environment) × IsThere list t y
 there_in list t None is lives = cc
 there_in list t (Some y) is lives = (y, record { at = is; lives = by_life y.life lives })
   where
@@ -80,7 +70,7 @@ there_in list t (Some y) is lives = (y, record { at = is; lives = by_life y.life
     by_life Live lives = refl
     by_life (Dead cause) lives = cc
 
-other_same : (b : Shown) (e t : ℕ) → doing.is_other_in b e t ≡ is_other (world_of b) e t
+pub other_same : (b : Shown) (e t : ℕ) → doing.is_other_in b e t ≡ is_other (world_of b) e t
 other_same b e t =
     by_record (slice_get b.roster.list t) refl
     ∙ (λ k. sym (is_there b.roster.list t) k && (not (is_dead (solo_of b t).life) && not (t == e)))
@@ -89,15 +79,15 @@ other_same b e t =
     by_record None is = rw is refl
     by_record (Some y) is = rw is refl
 
-mask_same : (b : Shown) (t : ℕ) → doing.mask_of b.roster.list t ≡ (solo_of b t).mask
+pub mask_same : (b : Shown) (t : ℕ) → doing.mask_of b.roster.list t ≡ (solo_of b t).mask
 mask_same b t = by_record (slice_get b.roster.list t)
   where
     by_record : (o : Option Environment) → unwrap_or (option_map (λ (y : Environment). y.env.mask) o) 0 ≡ (solo_or_absent b t o).mask
     by_record None = refl
     by_record (Some y) = refl
 
-gift_same : (b : Shown) (e t : ℕ) → doing.refusal_of_gift_to b e t ≡ refusal_of_giving (is_other (world_of b) e t) (is_grace b.slots.runner) (accepts (solo_of b t).mask e)
-gift_same b e t = λ k. refusal_of_giving (other_same b e t k) (is_grace b.slots.runner) (accepts (mask_same b t k) e)
+gift_same : (b : Shown) (e t : ℕ) → doing.refusal_of_gift_to b e t ≡ refusal_of_giving (is_other (world_of b) e t) (gift_refusal false b.slots.runner (turn_slot (book_of b))) (accepts (solo_of b t).mask e)
+gift_same b e t = λ k. refusal_of_giving (other_same b e t k) (refusal_of_gift false b.slots) (accepts (mask_same b t k) e)
 
 module _ (b : Shown) (e : ℕ) (x : Environment) (r : Runs b e x) (sound : IsSound b) where
   -- The target is started.
@@ -111,7 +101,7 @@ module _ (b : Shown) (e : ℕ) (x : Environment) (r : Runs b e x) (sound : IsSou
     runs_next : Runs new t y
     runs_next = record { at = changed_else (doing.with_registers now.cpu) b.roster.list e t other ∙ there.at; lives = there.lives; runs = handed_named e t b.slots.runner r.runs.its }
 
-    waiting_seen : solo_of b t ≡ waiting b t y
+    pub waiting_seen : solo_of b t ≡ waiting b t y
     waiting_seen =
         let cpu : cpu_seen b t y.env.cpu ≡ y.env.cpu = rw (r.runs.others t other) refl in
         ap (solo_or_absent b t) there.at ∙ (λ k. record (solo_seen b t y) { life = there.lives k; cpu = cpu k })
@@ -167,7 +157,7 @@ module _ (b : Shown) (e : ℕ) (x : Environment) (r : Runs b e x) (sound : IsSou
   gives : (t : ℕ) (why : Option Code) → doing.refusal_of_gift_to b e t ≡ why → called b.cpu ≡ Some call.Yield → Serves b e (Calls (Some call.Yield)) (reply_of (world_of b) e (give_by (world_of b) e t why)) (doing.give_if b e t why)
   gives t (Some why) is named = refuses b e x r (Some call.Yield) why 0
   gives t None is named =
-      let parts = both_true (doing.lives_in (slice_get b.roster.list t)) (not (t == e)) (giving_other (doing.is_other_in b e t) (is_grace b.slots.runner) (accepts (doing.mask_of b.roster.list t) e) is) in
+      let parts = both_true (doing.lives_in (slice_get b.roster.list t)) (not (t == e)) (giving_parts (doing.is_other_in b e t) (refusal_of_gift false b.slots) (accepts (doing.mask_of b.roster.list t) e) is) in
       let target = there_in b.roster.list t (slice_get b.roster.list t) refl parts.0 in
       gives_to t target.0 target.1 (differs t e parts.1) named
 

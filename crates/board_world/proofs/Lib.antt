@@ -26,5 +26,6 @@ pub mod Sound
 pub mod Stepping
 pub mod Stores
 pub mod Tables
+pub mod TransferServing
 pub mod Turning
 pub mod Turns

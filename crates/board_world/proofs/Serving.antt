@@ -2,6 +2,7 @@
 use Rattle.std.proofs.Common.{◌≡◌, ℕ, ◌<◌, [], ◌∷◌, ◌++◌, length, Option, Some, None, refl, sym, ◌∙◌, ap, arith, subst}
 use Rattle.std.specs.Prelude.{◌==◌, unwrap_or}
 use Rattle.mips_exec.specs.Cpu.{reg}
+use Rattle.env_frames.specs.Transfer.{transfer_numbered}
 use Rattle.world_model.specs.declared.call.Call.{Call}
 use Rattle.world_model.specs.declared.call.Call.TheVariants as call
 use Rattle.world_model.specs.declared.code.Code.{Code}
@@ -16,7 +17,8 @@ use Rattle.world_model.specs.PageCalls as calls
 use Rattle.world_model.specs.Solo.{Solo, sight}
 use Rattle.world_model.specs.Step.{Calls, Dies, call_act}
 use Rattle.world_model.specs.Verdict.{Refuses, refusal, grant, verdict, verdict_now, reply_of, put_if, death}
-use Rattle.world_model.specs.SlotCalls.{drop_by, drop_refusal, query_by, slot_at, take_by, take_refusal, yield_by}
+use Rattle.world_model.specs.SlotCalls.{drop_by, drop_refusal, query_by, question_numbered, slot_at, take_by, take_refusal, yield_by}
+use Rattle.world_model.specs.Transfers.{transfer_of}
 use Rattle.world_model.specs.World.{World, after, only}
 use Rattle.world_model.specs.Table.{set_at}
 use Rattle.world_model.specs.Tick as tick
@@ -35,6 +37,7 @@ pub use Rattle.board_world.proofs.Replying.{Serves, in_step}
 pub use Rattle.board_world.proofs.Dying.{died_serves, hold_at-map}
 use Rattle.board_world.proofs.GiftServing.{yields}
 use Rattle.board_world.proofs.SlotServing.{takes, drops, queries, query_same, sets_mask}
+use Rattle.board_world.proofs.TransferServing.{transfers}
 
 module _ (b : Shown) (e : ℕ) (x : Environment) (r : Runs b e x) (sound : IsSound b) where
   -- put
@@ -101,6 +104,9 @@ module _ (b : Shown) (e : ℕ) (x : Environment) (r : Runs b e x) (sound : IsSou
       subst (λ why. Serves b e (Calls (Some call.Context)) (reply_of (world_of b) e (calls.context_by (world_of b) e why)) (doing.served b e (Some call.Context))) (context_same b e x r sound)
       (sets_handler b e x r sound (refusal_of_context b.cpu) named)
   call_serves (Some call.Accept) named = sets_mask b e x r named
+  call_serves (Some call.Transfer) named =
+      subst (λ (s : Solo). Serves b e (Calls (Some call.Transfer)) (reply_of (world_of b) e (transfer_of (world_of b) e (reg s.cpu 4) (transfer_numbered (reg s.cpu 5)))) (doing.served b e (Some call.Transfer))) (sym (runner_seen b e x r))
+      (transfers b e x r sound (reg b.cpu 4) (transfer_numbered (reg b.cpu 5)) named)
   call_serves (Some call.SlotTake) named =
       subst (λ n. Serves b e (Calls (Some call.SlotTake)) (reply_of (world_of b) e (take_by (world_of b) e n (take_refusal (slot_at (book_of b) n)))) (doing.served b e (Some call.SlotTake))) (its_reg b e x r 4)
       (takes b e x r (reg b.cpu 4) named)
@@ -109,7 +115,7 @@ module _ (b : Shown) (e : ℕ) (x : Environment) (r : Runs b e x) (sound : IsSou
       (drops b e x r (reg b.cpu 4) named)
   call_serves (Some call.Query) named =
       subst (λ a. Serves b e (Calls (Some call.Query)) (reply_of (world_of b) e (query_by (world_of b) e a)) (doing.served b e (Some call.Query))) (query_same b e x r)
-      (queries b e x r (doing.answer_in b e (reg b.cpu 4) (reg b.cpu 5)) named)
+      (queries b e x r (doing.answer_in b e (question_numbered (reg b.cpu 4)) (reg b.cpu 5)) named)
   call_serves (Some call.OwnNumber) named =
       let own : e ≡ (solo_of b e).number = ap (λ (s : Solo). s.number) (sym (runner_seen b e x r)) in
       subst (λ n. Serves b e (Calls (Some call.OwnNumber)) (grant (world_of b) e n) (doing.answered b code.Ok e)) own (grants b e x r (Some call.OwnNumber) e named refl)

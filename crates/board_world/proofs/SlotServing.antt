@@ -1,19 +1,20 @@
 -- The runner's calls on slots and its questions, on the world that is shown.
 use Rattle.std.proofs.Common.{◌≡◌, ◌<◌, ℕ, List, [], ◌∷◌, length, Option, Some, None, Result, Ok, Err, is_some, refl, sym, ◌∙◌, ap, arith, subst, length-set}
-use Rattle.std.specs.Prelude.{◌==◌, if◌then◌else◌, slice_get}
+use Rattle.std.specs.Prelude.{if◌then◌else◌, slice_get}
 use Rattle.std.specs.Option.{option_map}
 use Rattle.mips_exec.specs.Cpu.{reg}
-use Rattle.page_book.specs.Rows.{free_pages}
-use Rattle.slot_vector.specs.Slices.{excess_of, hold_at, refusal_of_drop, refusal_of_take}
+use Rattle.slot_vector.specs.Slices.{hold_at, refusal_of_drop, refusal_of_take}
 use Rattle.world_model.specs.declared.call.Call.{Call}
 use Rattle.world_model.specs.declared.call.Call.TheVariants as call
 use Rattle.world_model.specs.declared.code.Code.{Code}
 use Rattle.world_model.specs.declared.code.Code.TheVariants as code
+use Rattle.world_model.specs.declared.question.Question.{Question}
+use Rattle.world_model.specs.declared.question.Question.TheVariants as question
 use Rattle.world_model.specs.declared.slot.Hold.{Hold}
 use Rattle.world_model.specs.Book.{own_hold}
 use Rattle.world_model.specs.Call.{called}
 use Rattle.world_model.specs.Item.{Granted, answered_cpu, own_part}
-use Rattle.world_model.specs.SlotCalls.{answer_to, death_answer, drop_by, drop_refusal, dropped, holder_answer, owner_answer, query_by, slot_at, take_by, take_refusal, with_slot}
+use Rattle.world_model.specs.SlotCalls.{answer_to, death_answer, drop_by, drop_refusal, dropped, holder_answer, owner_answer, query_by, question_numbered, slot_at, take_by, take_refusal, with_slot}
 use Rattle.world_model.specs.Solo.{Solo, is_dead}
 use Rattle.world_model.specs.Step.{Calls}
 use Rattle.world_model.specs.Verdict.{grant, reply_of}
@@ -55,17 +56,17 @@ death_same b e =
     by_record (Some x) is = refl
 
 -- the answer to each question
-answer_same : (b : Shown) (e what index : ℕ) → doing.answer_in b e what index ≡ answer_to (world_of b) e what index
-answer_same b e what index = λ k.
-    if what == 0 then Ok (free_pages b.pages) else
-    if what == 1 then Ok (length b.pages) else
-    if what == 2 then Ok (length b.roster.list) else
-    if what == 3 then Ok (length b.slots.slots) else
-    if what == 4 then Ok b.slots.quantum else
-    if what == 5 then owner_answer (row_got b.pages index k) else
-    if what == 6 then holder_answer (slot_got b.slots.slots index k) else
-    if what == 7 then Ok (excess_of b.slots.excess e) else
-    if what == 8 then death_same b index k else Err code.BadCall
+answer_same : (b : Shown) (e : ℕ) (what : Option Question) (index : ℕ) → doing.answer_in b e what index ≡ answer_to (world_of b) e what index
+answer_same b e None index = refl
+answer_same b e (Some question.FreePages) index = refl
+answer_same b e (Some question.Pages) index = refl
+answer_same b e (Some question.Environments) index = refl
+answer_same b e (Some question.Slots) index = refl
+answer_same b e (Some question.Quantum) index = refl
+answer_same b e (Some question.PageOwner) index = ap owner_answer (row_got b.pages index)
+answer_same b e (Some question.SlotHolder) index = ap holder_answer (slot_got b.slots.slots index)
+answer_same b e (Some question.Excess) index = refl
+answer_same b e (Some question.Death) index = death_same b index
 
 module _ (b : Shown) (e : ℕ) (x : Environment) (r : Runs b e x) where
   -- A slot has another hold, and the runner is answered.
@@ -114,8 +115,8 @@ module _ (b : Shown) (e : ℕ) (x : Environment) (r : Runs b e x) where
   queries (Ok value) named = grants b e x r (Some call.Query) value named refl
   queries (Err why) named = refuses b e x r (Some call.Query) why 0
 
-  pub query_same : doing.answer_in b e (reg b.cpu 4) (reg b.cpu 5) ≡ answer_to (world_of b) e (reg (solo_of b e).cpu 4) (reg (solo_of b e).cpu 5)
-  query_same = answer_same b e (reg b.cpu 4) (reg b.cpu 5) ∙ ap (λ (s : Solo). answer_to (world_of b) e (reg s.cpu 4) (reg s.cpu 5)) (sym (runner_seen b e x r))
+  pub query_same : doing.answer_in b e (question_numbered (reg b.cpu 4)) (reg b.cpu 5) ≡ answer_to (world_of b) e (question_numbered (reg (solo_of b e).cpu 4)) (reg (solo_of b e).cpu 5)
+  query_same = answer_same b e (question_numbered (reg b.cpu 4)) (reg b.cpu 5) ∙ ap (λ (s : Solo). answer_to (world_of b) e (question_numbered (reg s.cpu 4)) (reg s.cpu 5)) (sym (runner_seen b e x r))
 
   -- Accept.
   pub sets_mask : called b.cpu ≡ Some call.Accept → Serves b e (Calls (Some call.Accept)) (grant (world_of b) e 0) (doing.answered (doing.accepted b e (reg b.cpu 4)) code.Ok 0)

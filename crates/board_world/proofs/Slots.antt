@@ -1,5 +1,6 @@
 -- The vector of slots as a list and as a table.
 use Rattle.std.proofs.Common.{◌≡◌, ◌≢◌, ◌<◌, ℕ, zero, suc, List, [], ◌∷◌, length, true, Option, Some, None, is_some, inl, inr, refl, sym, ◌∙◌, ap, arith}
+use Rattle.std.specs.Option.{option_map}
 use Rattle.std.specs.Prelude.{nat_lt, if◌then◌else◌, slice_get, slice_set}
 use Rattle.std.proofs.lemmas.Bool.{cases_lt, lt-ltb, le-ltb}
 use Rattle.std.proofs.lemmas.Option.{slice_get_past}
@@ -50,4 +51,17 @@ pub hold_set : (slots : List (Option Hold)) (k : ℕ) (hold : Option Hold) → k
 hold_set slots k hold within =
     by_env (hold_at (slice_set slots k hold)) (set_at k hold (hold_at slots)) k
     (hold_here slots k hold within ∙ sym (set_here k hold (hold_at slots)))
+    (λ i ne. hold_else slots k i hold ne ∙ sym (set_else k i hold (hold_at slots) ne))
+
+-- once it is handed on, if there is one
+pub handed_here : (f : Hold → Hold) (slots : List (Option Hold)) (k : ℕ) → hold_at (slice_set slots k (option_map f (hold_at slots k))) k ≡ option_map f (hold_at slots k)
+handed_here f [] k = refl
+handed_here f (slot ∷ slots) zero = refl
+handed_here f (slot ∷ slots) (suc k) = handed_here f slots k
+
+pub hold_changed : (f : Hold → Hold) (slots : List (Option Hold)) (k i : ℕ) → hold_at (slice_set slots k (option_map f (hold_at slots k))) i ≡ set_at k (option_map f (hold_at slots k)) (hold_at slots) i
+hold_changed f slots k =
+    let hold = option_map f (hold_at slots k) in
+    by_env (hold_at (slice_set slots k hold)) (set_at k hold (hold_at slots)) k
+    (handed_here f slots k ∙ sym (set_here k hold (hold_at slots)))
     (λ i ne. hold_else slots k i hold ne ∙ sym (set_else k i hold (hold_at slots) ne))

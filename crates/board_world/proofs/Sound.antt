@@ -1,13 +1,15 @@
 -- The slots and the consoles of a board go on being sound.
 use Rattle.std.proofs.Common.{◌≡◌, ◌≢◌, ℕ, zero, suc, ◌+◌, ◌-◌, ◌%◌, ◌<◌, ◌≤◌, List, [], ◌∷◌, length, map, Bool, true, false, Option, Some, None, IfSome, refl, sym, ◌∙◌, ap, subst, arith}
+use Rattle.std.specs.Option.{option_map}
 use Rattle.std.specs.Prelude.{◌==◌, ◌*◌, ◌-◌, if◌then◌else◌, nat_lt, slice_get, slice_index_or, slice_set}
 use Rattle.std.proofs.Common.{length-set}
 use Rattle.std.proofs.lemmas.Bool.{eqb-false, ltb-false}
 use Rattle.std.proofs.lemmas.List.{length-map}
+use Rattle.aegis_limits.specs.Limits.{most_slots}
 use Rattle.mips_exec.specs.declared.registers.Cpu.{Cpu}
 use Rattle.slot_vector.specs.declared.turn.NextTurn.TheVariants as next
 use Rattle.slot_vector.specs.declared.timer.Timer.TheVariants as timer
-use Rattle.slot_vector.specs.Slices.{Slices, HasTicks, after_timer, after_turn, excess_of, given_to, hold_at, next_held, in_grace_again, next_turn, timer_answer, timer_at_end, timer_by, turn_ended, with_hold, without_env}
+use Rattle.slot_vector.specs.Slices.{Slices, HasTicks, after_timer, after_turn, excess_of, given_to, hold_at, next_held, in_grace_again, next_turn, slots_given, timer_answer, timer_at_end, timer_by, turn_ended, with_hold, without_env}
 use Rattle.slot_vector.specs.Laws.{owed_of}
 use Rattle.slot_vector.proofs.Whole.{ran_is}
 use Rattle.env_frames.specs.declared.context.Context.{Context}
@@ -17,7 +19,7 @@ use Rattle.world_model.specs.declared.slot.Turn.{Turn}
 use Rattle.world_model.specs.declared.slot.Phase.{Phase}
 use Rattle.world_model.specs.declared.slot.Phase.TheVariants as phase
 use Rattle.world_model.specs.Book.{excess_limit, first_turn, is_runner, owed, owed_in, own_hold, released, running, turn_or}
-use Rattle.world_model.specs.SlotCalls.{dropped, handed}
+use Rattle.world_model.specs.SlotCalls.{dropped, handed, held_by}
 use Rattle.world_model.specs.declared.life.Life.TheVariants.{Live}
 use Rattle.world_model.specs.declared.life.Cause.{Cause}
 use Rattle.board_world.specs.declared.roster.Environment.{Environment}
@@ -179,26 +181,6 @@ runner_alive v r e manned runs = runner_live r.list e v.runner manned.runner run
 pub runner_within : (v : Slices) (r : Environments) (e : ℕ) → IsManned v r → running v.runner ≡ Some e → e < length r.list
 runner_within v r e manned runs = (runner_alive v r e manned runs).0
 
--- another goes on with the rest of the slice
-pub given_manned : (v : Slices) (r : Environments) (target : ℕ) → IsManned v r → IsLive r.list target → IsManned (given_to target v) r
-given_manned v r target manned lives = record {
-  quantum = manned.quantum;
-  ticks = handed_ticks v.runner manned.ticks;
-  runner = handed_live v.runner;
-  holds = manned.holds;
-  count = manned.count;
-  numbered = manned.numbered;
-  owes = manned.owes;
-}
-  where
-    handed_ticks : (o : Option Runner) → HasTicks o → HasTicks (handed target o)
-    handed_ticks None some = tt
-    handed_ticks (Some x) some = some
-
-    handed_live : (o : Option Runner) → IfSome (handed target o) (λ x. IsLive r.list x.env)
-    handed_live None = tt
-    handed_live (Some x) = lives
-
 -- the timer
 module _ (v : Slices) (r : Environments) (manned : IsManned v r) where
   -- the runner, with as many ticks and in this phase
@@ -268,6 +250,44 @@ alive_undying (Some x) alive = alive
 -- whoever lives may own a slot
 live_undead : (r : Environments) (e : ℕ) → IsLive r.list e → IsUndead r e
 live_undead r e live = (omega (arith, live.0), alive_undying (slice_get r.list e) live.1)
+
+-- another who lives holds a slot
+held_undead : (r : Environments) (target : ℕ) (hold : Option Hold) → IsLive r.list target → IfSome hold (λ h. IsUndead r h.owner × IsUndead r h.holder) → IfSome (option_map (held_by target) hold) (λ h. IsUndead r h.owner × IsUndead r h.holder)
+held_undead r target None lives undead = tt
+held_undead r target (Some h) lives undead = (undead.0, live_undead r target lives)
+
+-- a runner who is another's has as many ticks left, and lives as that one does
+handed_ticks : (target : ℕ) (o : Option Runner) → HasTicks o → HasTicks (handed target o)
+handed_ticks target None some = tt
+handed_ticks target (Some x) some = some
+
+handed_live : (list : List Environment) (target : ℕ) (o : Option Runner) → IsLive list target → IfSome (handed target o) (λ x. IsLive list x.env)
+handed_live list target None lives = tt
+handed_live list target (Some x) lives = lives
+
+-- another goes on with the rest of the slice, and has the slot with its later slices or not
+pub given_manned : (v : Slices) (r : Environments) (target : ℕ) (later : Bool) → IsManned v r → IsLive r.list target → IsManned (given_to target later v) r
+given_manned v r target later manned lives = record {
+  quantum = manned.quantum;
+  ticks = handed_ticks target v.runner manned.ticks;
+  runner = handed_live r.list target v.runner lives;
+  holds = given_holds later;
+  count = given_count later;
+  numbered = manned.numbered;
+  owes = manned.owes;
+}
+  where
+    given_holds : (b : Bool) (k : ℕ) → IfSome (hold_at (slots_given b target v) k) (λ h. IsUndead r h.owner × IsUndead r h.holder)
+    given_holds false k = manned.holds k
+    given_holds true k =
+        let hold = option_map (held_by target) (hold_at v.slots v.cursor) in
+        hold_all (λ o. IfSome o (λ h. IsUndead r h.owner × IsUndead r h.holder)) v.slots v.cursor k hold
+        (held_undead r target (hold_at v.slots v.cursor) lives (manned.holds v.cursor))
+        (manned.holds k)
+
+    given_count : (b : Bool) → length (slots_given b target v) ≤ most_slots
+    given_count false = manned.count
+    given_count true = omega (arith, length-set v.slots v.cursor (option_map (held_by target) (hold_at v.slots v.cursor)), manned.count)
 
 pub take_manned : (v : Slices) (r : Environments) (e k : ℕ) → IsManned v r → IsLive r.list e → IsManned (with_hold v k (Some (own_hold e))) r
 take_manned v r e k manned live = hold_manned v r k (Some (own_hold e)) manned (live_undead r e live, live_undead r e live)

@@ -9,7 +9,10 @@ use Rattle.mips_exec.specs.Cpu.{reg}
 use Rattle.mips_exec.specs.Step.{Step, Retired, Called, Trapped, cpu_after, write_after}
 use Rattle.env_frames.specs.declared.mapping.Mapping.{Mapping}
 use Rattle.env_frames.specs.declared.context.Context.{Context}
-use Rattle.env_frames.specs.Context.{context_number, end_area, end_bytes, raised_cpu, resumed_cpu, start_area, start_bytes, started_cpu, with_handler}
+use Rattle.env_frames.specs.declared.transfer.TransferKind.{TransferKind}
+use Rattle.env_frames.specs.declared.transfer.TransferKind.TheVariants as kind
+use Rattle.env_frames.specs.Transfer.{carried, entered_cpu, entry_area, entry_bytes, entry_context, hands_slot, transfer_numbered}
+use Rattle.env_frames.specs.Context.{context_number, context_numbered, end_area, end_bytes, handler_of, raised_cpu, resumed_cpu, start_area, start_bytes, started_cpu, with_handler}
 use Rattle.env_frames.specs.Frame.{gone_env, left_in, mapping_at, page_of, raised_in}
 use Rattle.frame_store.specs.Pages.{with_page, zero_page}
 use Rattle.page_book.specs.declared.row.PageRow.{PageRow}
@@ -26,7 +29,7 @@ use Rattle.slot_vector.specs.declared.turn.NextTurn.{NextTurn}
 use Rattle.slot_vector.specs.declared.turn.NextTurn.TheVariants as next
 use Rattle.slot_vector.specs.declared.timer.Timer.{Timer}
 use Rattle.slot_vector.specs.declared.timer.Timer.TheVariants as timer
-use Rattle.slot_vector.specs.Slices.{after_timer, after_turn, excess_of, given_to, hold_at, refusal_of_drop, refusal_of_take, timer_answer, told_of, turn_ended, with_hold, without_env}
+use Rattle.slot_vector.specs.Slices.{after_timer, after_turn, excess_of, given_to, hold_at, refusal_of_drop, refusal_of_gift, refusal_of_take, timer_answer, told_of, turn_ended, with_hold, without_env}
 use Rattle.world_model.specs.declared.slot.Hold.{Hold}
 use Rattle.world_model.specs.declared.slot.Runner.{Runner}
 use Rattle.world_model.specs.declared.slot.Turn.{Turn}
@@ -34,6 +37,8 @@ use Rattle.world_model.specs.declared.call.Call.{Call}
 use Rattle.world_model.specs.declared.call.Call.TheVariants as call
 use Rattle.world_model.specs.declared.code.Code.{Code}
 use Rattle.world_model.specs.declared.code.Code.TheVariants as code
+use Rattle.world_model.specs.declared.question.Question.{Question}
+use Rattle.world_model.specs.declared.question.Question.TheVariants as question
 use Rattle.world_model.specs.declared.life.Life.TheVariants.{Dead}
 use Rattle.world_model.specs.declared.life.Cause.{Cause}
 use Rattle.world_model.specs.declared.life.Cause.TheVariants as cause
@@ -44,8 +49,8 @@ use Rattle.world_model.specs.Verdict.{released_rows, slot_row}
 use Rattle.world_model.specs.Code.{code_of}
 use Rattle.world_model.specs.Book.{Told, own_hold}
 use Rattle.world_model.specs.Solo.{is_dead}
-use Rattle.world_model.specs.SlotCalls.{accepts, dropped, holder_answer, is_grace, owner_answer, refusal_of_giving}
-use Rattle.world_model.specs.Call.{any, binding_of, called, handled, number_refusal, put_bytes, put_refusal, refusal_of_bind, refusal_of_context, words_of}
+use Rattle.world_model.specs.SlotCalls.{accepts, dropped, held_by, holder_answer, owner_answer, question_numbered, refusal_of_giving}
+use Rattle.world_model.specs.Call.{any, binding_of, called, number_refusal, put_bytes, put_refusal, refusal_of_bind, refusal_of_context, words_of}
 use Rattle.board_world.specs.declared.roster.Environment.{Environment}
 use Rattle.board_world.specs.Shown.{Shown, mappings_of, handlers_of, registers_of, console_of, changed, with_list}
 
@@ -182,7 +187,7 @@ put_if b e (Some code) = answered b code 0
 -- the rest of the runner's slice goes to another environment, which is started
 abbrev pub given : Shown → ℕ → ℕ → Shown
 given b e target = record b {
-  slots = given_to target b.slots;
+  slots = given_to target false b.slots;
   frames = start_frames b target;
   cpu = start_registers b.roster.list target;
   roster = with_list b.roster (changed (with_registers b.cpu) b.roster.list e);
@@ -200,8 +205,12 @@ is_other_in b e target = lives_in (slice_get b.roster.list target) && not (targe
 abbrev pub mask_of : List Environment → ℕ → ℕ
 mask_of list e = unwrap_or (option_map (λ (x : Environment). x.env.mask) (slice_get list e)) 0
 
+-- why the runner can't hand on the rest of its slice to another, or for a later its slot too
+abbrev pub refusal_of_handing : Bool → Shown → ℕ → ℕ → Option Code
+refusal_of_handing later b e target = refusal_of_giving (is_other_in b e target) (refusal_of_gift later b.slots) (accepts (mask_of b.roster.list target) e)
+
 abbrev pub refusal_of_gift_to : Shown → ℕ → ℕ → Option Code
-refusal_of_gift_to b e target = refusal_of_giving (is_other_in b e target) (is_grace b.slots.runner) (accepts (mask_of b.roster.list target) e)
+refusal_of_gift_to b e target = refusal_of_handing false b e target
 
 abbrev pub give_if : Shown → ℕ → ℕ → Option Code → Shown
 give_if b e target None = given (answered b code.Ok 0) e target
@@ -210,6 +219,47 @@ give_if b e target (Some why) = answered b why 0
 abbrev pub yield_if : Shown → ℕ → Bool → Shown
 yield_if b e true = stopped (answered b code.Ok 0) e
 yield_if b e false = give_if b e (reg b.cpu 4) (refusal_of_gift_to b e (reg b.cpu 4))
+
+-- Transfer: the runner's registers are kept behind its call, which is answered; another environment goes on at its entry with those that the runner had at the call, for the rest of the slice, and holds the slot or not.
+abbrev pub entered_frames : Shown → ℕ → ℕ → TransferKind → List (List ℕ)
+entered_frames b e target kind =
+    left_in entry_area (entry_bytes e kind (registers_of b.roster.list target)) (page_of (mappings_of b.roster.list target) context_number) b.frames
+
+abbrev pub entered_registers : Shown → ℕ → TransferKind → Cpu
+entered_registers b target kind = entered_cpu (handler_of (handlers_of b.roster.list target) (entry_context kind)) (carried b.cpu)
+
+abbrev pub roster_entered : Shown → ℕ → ℕ → List Environment
+roster_entered b e target = changed (with_registers (answered_cpu code.Ok 0 b.cpu)) (changed (accepting 0) b.roster.list target) e
+
+abbrev pub ledger_entered : Shown → ℕ → ℕ → TransferKind → Ledger
+ledger_entered b e target kind.Asynchronous = with_row b.ledger (row.Async b.time b.slots.cursor e target)
+ledger_entered b e target kind.Synchronous =
+    with_row (with_row b.ledger (row.Sync b.time b.slots.cursor e target)) (slot_row b.time b.slots.cursor (option_map (held_by target) (hold_at b.slots.slots b.slots.cursor)))
+
+abbrev pub transferred : Shown → ℕ → ℕ → TransferKind → Shown
+transferred b e target kind = record b {
+  slots = given_to target (hands_slot kind) b.slots;
+  frames = entered_frames b e target kind;
+  cpu = entered_registers b target kind;
+  roster = with_list b.roster (roster_entered b e target);
+  ledger = ledger_entered b e target kind;
+}
+
+-- whether an environment has an entry for transfers of a kind
+abbrev pub is_open_in : Shown → ℕ → TransferKind → Bool
+is_open_in b target kind = not (handler_of (handlers_of b.roster.list target) (entry_context kind) == 0)
+
+abbrev pub refusal_of_transfer_to : Shown → ℕ → ℕ → TransferKind → Option Code
+refusal_of_transfer_to b e target kind =
+    refusal_of_giving (is_other_in b e target) (refusal_of_gift (hands_slot kind) b.slots) (accepts (mask_of b.roster.list target) e && is_open_in b target kind)
+
+abbrev pub transfer_by : Shown → ℕ → ℕ → TransferKind → Option Code → Shown
+transfer_by b e target kind None = transferred b e target kind
+transfer_by b e target kind (Some why) = answered b why 0
+
+abbrev pub transfer_if : Shown → ℕ → ℕ → Option TransferKind → Shown
+transfer_if b e target None = answered b code.BadCall 0
+transfer_if b e target (Some kind) = transfer_by b e target kind (refusal_of_transfer_to b e target kind)
 
 -- Accept: the runner has another mask.
 abbrev pub accepted : Shown → ℕ → ℕ → Shown
@@ -228,17 +278,17 @@ abbrev pub death_answer_in : Option Environment → Result ℕ Code
 death_answer_in None = Err code.NoEnv
 death_answer_in (Some x) = Ok (if is_dead x.life then 1 else 0)
 
-abbrev pub answer_in : Shown → ℕ → ℕ → ℕ → Result ℕ Code
-answer_in b e what index =
-    if what == 0 then Ok (free_pages b.pages) else
-    if what == 1 then Ok (length b.pages) else
-    if what == 2 then Ok (length b.roster.list) else
-    if what == 3 then Ok (length b.slots.slots) else
-    if what == 4 then Ok b.slots.quantum else
-    if what == 5 then owner_answer (slice_get b.pages index) else
-    if what == 6 then holder_answer (slice_get b.slots.slots index) else
-    if what == 7 then Ok (excess_of b.slots.excess e) else
-    if what == 8 then death_answer_in (slice_get b.roster.list index) else Err code.BadCall
+abbrev pub answer_in : Shown → ℕ → Option Question → ℕ → Result ℕ Code
+answer_in b e None index = Err code.BadCall
+answer_in b e (Some question.FreePages) index = Ok (free_pages b.pages)
+answer_in b e (Some question.Pages) index = Ok (length b.pages)
+answer_in b e (Some question.Environments) index = Ok (length b.roster.list)
+answer_in b e (Some question.Slots) index = Ok (length b.slots.slots)
+answer_in b e (Some question.Quantum) index = Ok b.slots.quantum
+answer_in b e (Some question.PageOwner) index = owner_answer (slice_get b.pages index)
+answer_in b e (Some question.SlotHolder) index = holder_answer (slice_get b.slots.slots index)
+answer_in b e (Some question.Excess) index = Ok (excess_of b.slots.excess e)
+answer_in b e (Some question.Death) index = death_answer_in (slice_get b.roster.list index)
 
 abbrev pub query_if : Shown → Result ℕ Code → Shown
 query_if b (Ok value) = answered b code.Ok value
@@ -324,7 +374,7 @@ with_handling b e None address = b
 with_handling b e (Some kind) address = record b { roster = with_list b.roster (changed (handling kind address) b.roster.list e) }
 
 abbrev pub context_if : Shown → ℕ → Option Code → Shown
-context_if b e None = answered (with_handling b e (handled (reg b.cpu 4)) (reg b.cpu 5)) code.Ok 0
+context_if b e None = answered (with_handling b e (context_numbered (reg b.cpu 4)) (reg b.cpu 5)) code.Ok 0
 context_if b e (Some why) = answered b why 0
 
 -- a kernel call of the runner
@@ -340,9 +390,10 @@ served b e (Some call.Bind) = bind_if b e (refusal_of_binding b e)
 served b e (Some call.Unbind) = unbind_if b e (refusal_of_unbinding b e)
 served b e (Some call.Context) = context_if b e (refusal_of_context b.cpu)
 served b e (Some call.Accept) = answered (accepted b e (reg b.cpu 4)) code.Ok 0
+served b e (Some call.Transfer) = transfer_if b e (reg b.cpu 4) (transfer_numbered (reg b.cpu 5))
 served b e (Some call.SlotTake) = slot_if b (reg b.cpu 4) (Some (own_hold e)) (refusal_of_take b.slots (reg b.cpu 4))
 served b e (Some call.SlotDrop) = slot_if b (reg b.cpu 4) (dropped e (hold_at b.slots.slots (reg b.cpu 4))) (refusal_of_drop e b.slots (reg b.cpu 4))
-served b e (Some call.Query) = query_if b (answer_in b e (reg b.cpu 4) (reg b.cpu 5))
+served b e (Some call.Query) = query_if b (answer_in b e (question_numbered (reg b.cpu 4)) (reg b.cpu 5))
 served b e (Some call.OwnNumber) = answered b code.Ok e
 served b e (Some call.Clock) = answered b code.Ok b.time
 

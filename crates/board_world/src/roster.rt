@@ -1,11 +1,15 @@
 //! The environments of a board.
-ghost use Rattle.std.specs.Prelude.{◌≡◌, ◌<◌, ◌≤◌, ◌-◌, [], ◌∷◌, ◌++◌, length, slice_get, Some, IfOk};
+ghost use Rattle.std.specs.Prelude.{◌≡◌, ◌≢◌, ◌<◌, ◌≤◌, ◌-◌, [], ◌∷◌, ◌++◌, length, slice_get, Some, IfOk, IfSome};
+ghost use Rattle.env_frames.specs.Context.{context_number, handler_of};
+ghost use Rattle.env_frames.specs.Frame.{left_in, page_of};
+ghost use Rattle.env_frames.specs.Transfer.{carried, entered_cpu, entry_area, entry_bytes, entry_context};
 ghost use Rattle.std.specs.Option.{option_map};
 ghost use Rattle.board_world.specs.Shown.{changed, handlers_of, mappings_of, registers_of, with_list};
 ghost use Rattle.board_world.specs.Doing.{with_registers, accepting, handling, dead_frame, mask_of};
 
 use edge_io::OutOfMemory;
-use env_frames::{Context, Env};
+use env_frames::{Context, Env, TransferKind};
+use frame_store::Frames;
 use mips_exec::Cpu;
 use std::alloc::Global;
 use std::marker::Model;
@@ -118,6 +122,27 @@ impl Roster {
         accept_in(&mut self.list, usize::from(env), mask);
     }
 
+    /// A transfer of another's enters the environment of this number, which has an entry for its kind: the
+    /// result is the registers with which it goes on, and it accepts nobody.
+    pub fn enter(
+        &mut self,
+        env: u8,
+        frames: &mut Frames,
+        from: u8,
+        kind: TransferKind,
+        caller: &Cpu,
+    ) -> Cpu
+        requires there { env < length self.old.list }
+        requires open { handler_of (handlers_of self.old.list env) (entry_context kind) ≢ 0 }
+        requires page { IfSome (page_of (mappings_of self.old.list env) context_number) (λ page. page < length frames.old) }
+        ensures cpu { result ≡ entered_cpu (handler_of (handlers_of self.old.list env) (entry_context kind)) (carried caller.now) }
+        ensures frames { frames.new ≡ left_in entry_area (entry_bytes from kind (registers_of self.old.list env)) (page_of (mappings_of self.old.list env) context_number) frames.old }
+        ensures roster { self.new ≡ with_list self.old (changed (accepting 0) self.old.list env) }
+        ensures size { length frames.new ≡ length frames.old }
+    {
+        enter_in(&mut self.list, usize::from(env), frames, from, kind, caller)
+    }
+
     /// The environment of this number dies: its registers and its mappings go.
     pub fn die(&mut self, env: u8, cause: Cause)
         requires { env < length self.old.list }
@@ -152,6 +177,27 @@ fn accept_in(list: &mut [Environment], place: usize, mask: u32)
 {
     let environment = &mut list[place];
     environment.env.set_accept(mask);
+}
+
+/// A transfer enters the environment at a place.
+fn enter_in(
+    list: &mut [Environment],
+    place: usize,
+    frames: &mut Frames,
+    from: u8,
+    kind: TransferKind,
+    caller: &Cpu,
+) -> Cpu
+    requires there { place < length list.old }
+    requires open { handler_of (handlers_of list.old place) (entry_context kind) ≢ 0 }
+    requires page { IfSome (page_of (mappings_of list.old place) context_number) (λ page. page < length frames.old) }
+    ensures cpu { result ≡ entered_cpu (handler_of (handlers_of list.old place) (entry_context kind)) (carried caller.now) }
+    ensures frames { frames.new ≡ left_in entry_area (entry_bytes from kind (registers_of list.old place)) (page_of (mappings_of list.old place) context_number) frames.old }
+    ensures list { list.new ≡ changed (accepting 0) list.old place }
+    ensures size { length frames.new ≡ length frames.old }
+{
+    let environment = &mut list[place];
+    environment.env.enter(frames, from, kind, caller)
 }
 
 /// The environment at a place dies.
