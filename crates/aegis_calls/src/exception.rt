@@ -2,11 +2,13 @@
 ghost use Rattle.std.specs.Prelude.{◌≡◌, ◌<◌, ◌==◌, if◌then◌else◌, not, None, Some};
 ghost use Rattle.mips_exec.specs.Cpu.{reg};
 ghost use Rattle.world_model.specs.Book.{running};
-ghost use Rattle.world_model.specs.Call.{handled, refusal_of_context};
+ghost use Rattle.env_frames.specs.Context.{context_numbered};
+ghost use Rattle.world_model.specs.Call.{refusal_of_context};
 ghost use Rattle.board_world.specs.Shown.{handlers_of};
 
 use crate::board::Board;
-use crate::registers::{FIRST_ARGUMENT, SECOND_ARGUMENT, handled, refuse_context};
+use crate::registers::{FIRST_ARGUMENT, SECOND_ARGUMENT, refuse_context};
+use env_frames::Context;
 use mips_exec::Exc;
 use world_model::{Cause, Code};
 
@@ -37,9 +39,9 @@ impl Board {
     /// The runner's handler of the context that its call names, if it names one, stands at the address that it names.
     fn handle(&mut self, env: u8)
         requires { running self.old.slots.runner ≡ Some env }
-        ensures { self.new ≡ with_handling self.old env (handled (reg self.old.cpu 4)) (reg self.old.cpu 5) }
+        ensures { self.new ≡ with_handling self.old env (context_numbered (reg self.old.cpu 4)) (reg self.old.cpu 5) }
     {
-        if let Some(context) = handled(self.cpu.reg(FIRST_ARGUMENT)) {
+        if let Some(context) = Context::numbered(self.cpu.reg(FIRST_ARGUMENT)) {
             let address = self.cpu.reg(SECOND_ARGUMENT);
             self.roster.handle(env, context, address);
         }

@@ -89,6 +89,7 @@ impl Board {
             Some(Call::Unbind) => self.unbind(env),
             Some(Call::Context) => self.context(env),
             Some(Call::Accept) => self.accept(env),
+            Some(Call::Transfer) => self.transfer(env),
             Some(Call::SlotTake) => self.take_slot(env),
             Some(Call::SlotDrop) => self.drop_slot(env),
             Some(Call::Query) => self.query(env),

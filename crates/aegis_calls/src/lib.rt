@@ -18,6 +18,7 @@ mod readers;
 mod registers;
 mod slot_call;
 mod timer;
+mod transfer_call;
 mod turn;
 
 pub use board::Board;

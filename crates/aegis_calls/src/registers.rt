@@ -1,6 +1,6 @@
 //! What the kernel finds in the registers of its caller, and leaves there.
 ghost use Rattle.std.specs.Prelude.{◌≡◌};
-ghost use Rattle.world_model.specs.Call.{binding_of, handled, presented as presented_of, refusal_of_context, word_in, words_of};
+ghost use Rattle.world_model.specs.Call.{binding_of, presented as presented_of, refusal_of_context, word_in, words_of};
 ghost use Rattle.world_model.specs.Item.{answered_cpu};
 
 use bind_book::Binding;
@@ -67,22 +67,15 @@ pub(crate) fn presented(cpu: &Cpu) -> u64
     word(cpu.reg(FOURTH_ARGUMENT), cpu.reg(FIFTH_ARGUMENT))
 }
 
-/// The context of this number, if it may be handled: the last two have no handlers.
-pub(crate) fn handled(kind: u32) -> Option<Context>
-    ensures { result ≡ handled kind }
-{
-    match Context::numbered(kind)? {
-        Context::Asynchronous | Context::Synchronous => None,
-        context => Some(context),
-    }
-}
-
-/// Why a handler can't be set: there is no handler of such a context, or its address isn't a word's, of user space.
+/// Why a handler can't be set: there is no such context, or its address isn't a word's, of user space.
 pub(crate) fn refuse_context(cpu: &Cpu) -> Option<Code>
     ensures { result ≡ refusal_of_context cpu.now }
 {
     let address = cpu.reg(SECOND_ARGUMENT);
-    if handled(cpu.reg(FIRST_ARGUMENT)).is_some() && address % 4 == 0 && address < USER_END {
+    if Context::numbered(cpu.reg(FIRST_ARGUMENT)).is_some()
+        && address % 4 == 0
+        && address < USER_END
+    {
         None
     } else {
         Some(Code::BadCall)

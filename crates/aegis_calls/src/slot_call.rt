@@ -5,13 +5,13 @@ ghost use Rattle.slot_vector.specs.Slices.{hold_at, refusal_of_drop, refusal_of_
 ghost use Rattle.world_model.specs.declared.code.Code.TheVariants as code;
 ghost use Rattle.world_model.specs.Book.{own_hold, running};
 ghost use Rattle.world_model.specs.Call.{any};
-ghost use Rattle.world_model.specs.SlotCalls.{accepts, dropped, holder_answer, owner_answer};
+ghost use Rattle.world_model.specs.SlotCalls.{accepts, dropped, holder_answer, owner_answer, question_numbered};
 
 use crate::board::Board;
 use crate::death::push_slot;
 use crate::registers::{ANY, FIRST_ARGUMENT, SECOND_ARGUMENT};
 use kernel_journal::Row;
-use world_model::{Code, Life};
+use world_model::{Code, Life, Question};
 
 /// Whether a mask has the bit of an environment.
 fn accepts(mask: u32, env: u8) -> bool
@@ -22,7 +22,7 @@ fn accepts(mask: u32, env: u8) -> bool
 }
 
 impl Board {
-    ghost use Rattle.board_world.specs.Doing.{accepted, answer_in, answered, death_answer_in, given, is_other_in, lives_in, query_if, refusal_of_gift_to, slot_if, with_slot, yield_if};
+    ghost use Rattle.board_world.specs.Doing.{accepted, answer_in, answered, death_answer_in, given, is_other_in, lives_in, query_if, refusal_of_handing, slot_if, with_slot, yield_if};
 
     /// Whether a number is that of another environment that lives.
     fn is_other(&self, env: u8, target: u32) -> bool
@@ -34,16 +34,17 @@ impl Board {
         }
     }
 
-    /// The environment of this number, to which the runner may give the rest of its slice; or why it may not.
-    fn receiver(&self, env: u8, target: u32) -> Result<u8, Code>
+    /// The environment of this number, to which the runner may give the rest of its slice, and for a later the slot
+    /// too; or why it may not.
+    pub(crate) fn receiver(&self, env: u8, target: u32, later: bool) -> Result<u8, Code>
         requires { running self.now.slots.runner ≡ Some env }
-        ensures may { IfOk result (λ to. (to ≡ target) × (refusal_of_gift_to self.now env target ≡ None)) }
-        ensures refused { IfErr result (λ why. refusal_of_gift_to self.now env target ≡ Some why) }
+        ensures may { IfOk result (λ to. (to ≡ target) × (refusal_of_handing later self.now env target ≡ None)) }
+        ensures refused { IfErr result (λ why. refusal_of_handing later self.now env target ≡ Some why) }
     {
         if !self.is_other(env, target) {
             return Err(Code::NoEnv);
         }
-        self.slots.may_donate()?;
+        self.slots.may_donate(later)?;
         let to = target as u8;
         if !accepts(self.roster.frame(to).accept(), env) {
             return Err(Code::NotAccepted);
@@ -59,7 +60,7 @@ impl Board {
         ensures { self.new ≡ given self.old env target }
     {
         let kept = self.cpu;
-        self.slots.donate(target);
+        self.slots.donate(target, false);
         self.start(target);
         self.roster.keep(env, &kept);
         self.journal.push(Row::Give {
@@ -81,7 +82,7 @@ impl Board {
             self.answer(Code::Ok, 0);
             return self.stop(env);
         }
-        match self.receiver(env, target) {
+        match self.receiver(env, target, false) {
             Ok(to) => {
                 self.answer(Code::Ok, 0);
                 self.give(env, to);
@@ -198,25 +199,27 @@ impl Board {
     /// The answer to a question about the kernel's book, by its number, for one of its pages, slots or environments
     /// (`docs/KERNEL.md`, "Questions").
     fn ask(&self, env: u8, what: u32, index: u32) -> Result<u32, Code>
-        ensures { result ≡ answer_in self.now env what index }
+        ensures { result ≡ answer_in self.now env (question_numbered what) index }
     {
-        match what {
-            0 => Ok(self.pages.free_count()),
-            1 => Ok(self.pages.pages()),
-            2 => Ok(self.roster.len() as u32),
-            3 => Ok(self.slots.slots()),
-            4 => Ok(self.slots.quantum()),
-            5 => self.ask_owner(index),
-            6 => self.ask_holder(index),
-            7 => Ok(self.slots.excess(env)),
-            8 => self.ask_death(index),
-            _ => Err(Code::BadCall),
+        let Some(question) = Question::numbered(what) else {
+            return Err(Code::BadCall);
+        };
+        match question {
+            Question::FreePages => Ok(self.pages.free_count()),
+            Question::Pages => Ok(self.pages.pages()),
+            Question::Environments => Ok(self.roster.len() as u32),
+            Question::Slots => Ok(self.slots.slots()),
+            Question::Quantum => Ok(self.slots.quantum()),
+            Question::PageOwner => self.ask_owner(index),
+            Question::SlotHolder => self.ask_holder(index),
+            Question::Excess => Ok(self.slots.excess(env)),
+            Question::Death => self.ask_death(index),
         }
     }
 
     /// Answers the runner's question.
     pub(crate) fn query(&mut self, env: u8)
-        ensures { self.new ≡ query_if self.old (answer_in self.old env (reg self.old.cpu 4) (reg self.old.cpu 5)) }
+        ensures { self.new ≡ query_if self.old (answer_in self.old env (question_numbered (reg self.old.cpu 4)) (reg self.old.cpu 5)) }
     {
         let what = self.cpu.reg(FIRST_ARGUMENT);
         let index = self.cpu.reg(SECOND_ARGUMENT);
