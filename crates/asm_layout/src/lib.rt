@@ -34,6 +34,3 @@ pub use number::NumberSize;
 pub use section::Section;
 pub use value::defined;
 pub use word::Word;
-
-#[cfg(test)]
-mod tests;

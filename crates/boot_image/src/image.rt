@@ -47,7 +47,7 @@ pub struct Program<'a> {
     pub name: [u8; 8],
     /// How many pages of stack it asks for, at most 16.
     pub stack: u32,
-    /// The environments from which it accepts transfers, a bit each.
+    /// The environments from which it accepts yields and transfers, a bit each.
     pub accept: u32,
     /// Where it begins, and its segments, whose bytes are lent from the file. A flat body is one segment, which
     /// may be stored to.

@@ -18,6 +18,3 @@ pub use fault::{ManifestFault, ManifestWhy};
 pub use manifest::{Entry, EntryBody, Manifest};
 pub use reading::read_manifest;
 pub use writing::{image_length, write_image};
-
-#[cfg(test)]
-mod tests;

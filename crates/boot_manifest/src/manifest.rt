@@ -57,7 +57,7 @@ pub struct Entry {
     pub body: EntryBody,
     /// How many pages of stack it asks for, at most 16.
     pub stack: u32,
-    /// The environments from which it accepts transfers, a bit each.
+    /// The environments from which it accepts yields and transfers, a bit each.
     pub accept: u32,
     /// The name of the file that has the body.
     pub file: String,

@@ -13,6 +13,3 @@ mod second;
 mod words;
 
 pub use assembler::assemble;
-
-#[cfg(test)]
-mod tests;
