@@ -7,14 +7,17 @@ page where it was missed. The words that pages get and binds present are few, so
 Many have handlers of the starts and ends of their slices. One of ends yields at once, or some quanta later, or never: then
 the program runs on in grace. Environments give each other slices, mostly in their own time and to who accepts it; some
 have no slot, and take one that is empty.
+
+Most have entries for transfers, of one kind or of both, and call each other. Who is called does some of what a program does,
+mostly accepts again, and goes on where it stood; at times it calls its caller back, so that slots go there and back.
 """
 import random
 import struct
 
 BASE, PAGE, AREA = 0x2000, 4096, 0x1000
-YIELD, PUT, EXIT, ALLOC, FREE, RECAP, BIND, UNBIND, CONTEXT, ACCEPT = range(10)
+YIELD, PUT, EXIT, ALLOC, FREE, RECAP, BIND, UNBIND, CONTEXT, ACCEPT, TRANSFER = range(11)
 TAKE, DROP, QUERY, OWN_NUMBER, CLOCK = 11, 12, 13, 20, 21
-EXCEPTIONS, STARTS, ENDS = range(3)
+EXCEPTIONS, STARTS, ENDS, ASYNCHRONOUS, SYNCHRONOUS = CONTEXTS = range(5)
 ANY = 0xFFFFFFFF
 ZERO, AT, V0, V1, A0, A1, A2, A3, A4 = range(9)
 SCRATCH, PAGES, POINTER, COUNTER, ROUNDS, MISSES, RESUME, OLD, K0, K1, STACK = range(9, 16), range(16, 20), 20, 21, 22, 23, 24, 25, 26, 27, 29
@@ -53,8 +56,9 @@ class Program:
         self.words = []
         self.has_handler = chance.random() < 0.8
         # by kind of its handler, the places of the words that put its address into a register
-        self.wanted = {kind: [] for kind in (EXCEPTIONS, STARTS, ENDS)}
-        self.hears = [kind for kind, share in ((STARTS, 0.35), (ENDS, 0.5)) if chance.random() < share]
+        self.wanted = {kind: [] for kind in CONTEXTS}
+        shares = ((STARTS, 0.35), (ENDS, 0.5), (ASYNCHRONOUS, 0.8), (SYNCHRONOUS, 0.8))
+        self.hears = [kind for kind, share in shares if chance.random() < share]
 
     def add(self, *words):
         self.words += words
@@ -78,7 +82,7 @@ class Program:
         self.add(ori(V0, ZERO, number), SYSCALL)
 
     def handle(self, kind):
-        """Has exceptions, starts or ends handled, by a handler that is made last."""
+        """Has exceptions, starts or ends handled, or transfers enter, where a handler is made last."""
         self.add(ori(A0, ZERO, kind), ori(V0, ZERO, CONTEXT))
         self.wanted[kind].append(len(self.words))
         self.add(NOP, SYSCALL)
@@ -153,6 +157,13 @@ class Program:
     def accept(self):
         self.call(ACCEPT, self.chance.choice((0xFFFF, 0xFFFF, self.chance.randrange(1 << 16), ANY, 0)))
 
+    def kind(self):
+        """A kind of transfers, and at times none."""
+        return self.chance.randrange(2) if self.chance.random() < 0.95 else self.chance.choice((2, ANY))
+
+    def transfer(self):
+        self.call(TRANSFER, self.other(), self.kind())
+
     def slot(self):
         """The number of a slot, and at times of none."""
         return self.chance.randrange(self.slots) if self.chance.random() < 0.95 else self.chance.choice((self.slots, 64, ANY))
@@ -171,9 +182,9 @@ class Program:
         self.add(register(37, V1, ZERO, self.chance.choice(SCRATCH)))
 
     def hear(self):
-        """Has starts or ends handled, or not any more."""
-        kind = self.chance.choice((STARTS, ENDS))
-        if self.chance.random() < 0.6:
+        """Has starts or ends handled, or transfers enter, or not any more."""
+        kind = self.chance.choice((STARTS, ENDS, ASYNCHRONOUS, SYNCHRONOUS))
+        if self.chance.random() < 0.7:
             self.handle(kind)
         else:
             self.call(CONTEXT, kind, 0)
@@ -183,13 +194,13 @@ class Program:
         self.call(PUT, address + self.chance.randrange(8), self.chance.choice((0, 1, 3, 8, 8)))
 
     def ask(self):
-        self.call(self.chance.choice((OWN_NUMBER, CLOCK, CLOCK, 10, 14, 19, 0x12345678)))
+        self.call(self.chance.choice((OWN_NUMBER, CLOCK, CLOCK, 14, 19, 0x12345678)))
 
     def other_calls(self):
         """Contexts, mostly refused ones, and at times the last call."""
         kind = self.chance.random()
         if kind < 0.8:
-            self.call(CONTEXT, *self.chance.choice(((3, BASE), (4, 0), (5, BASE), (0, BASE + 2), (1, BASE + 1), (2, 0x80000000), (1, BASE + 0x400))))
+            self.call(CONTEXT, *self.chance.choice(((5, BASE), (0, BASE + 2), (1, BASE + 1), (2, 0x80000000), (3, BASE + 3), (4, ANY - 3), (1, BASE + 0x400))))
         elif kind < 0.88:
             self.call(CONTEXT, 0, 0)
             self.has_handler = False
@@ -254,7 +265,7 @@ class Program:
             self.add(*self.chance.choice(((BREAK,), overflow, (0xFFFFFFFF,), (0x40086000,), (0x4C000000,))))
 
     BLOCKS = ((allocate, 4), (free, 1), (recap, 2), (bind_own, 4), (bind_shared, 8), (unbind, 2), (give_up, 2), (put, 3), (ask, 1),
-              (give, 5), (accept, 1), (take, 2), (drop, 1), (query, 3), (hear, 1),
+              (give, 4), (transfer, 9), (accept, 3), (take, 2), (drop, 2), (query, 3), (hear, 1),
               (other_calls, 1), (accesses, 4), (fill, 2), (delay_slot, 2), (arithmetic, 3), (fault, 1))
 
     def handler_of_starts(self):
@@ -262,7 +273,7 @@ class Program:
         kind = self.chance.random()
         if kind < 0.3:
             self.add(register(37, K0, ZERO, RESUME), immediate(OPCODES["lw"], ZERO, OLD, AREA + 0x40))
-            self.give()
+            self.chance.choice((self.give, self.transfer))()
             self.add(register(8, RESUME, 0, 0), register(37, OLD, ZERO, K0))
             return
         if kind < 0.5:
@@ -276,10 +287,26 @@ class Program:
         if kind < 0.4:
             self.wait()
         if self.chance.random() < 0.1:
-            self.chance.choice((self.give, self.take, self.drop, self.query))()
+            self.chance.choice((self.give, self.transfer, self.take, self.drop, self.query))()
         if kind < 0.85:
             self.call(YIELD, ANY)
         self.add(register(8, RESUME, 0, 0), register(37, OLD, ZERO, K0))
+
+    def entry(self):
+        """Goes on where the transfer came between; before that it may accept again, call its caller back, or do something."""
+        if self.chance.random() < 0.5:
+            self.chance.choice((self.wait, self.arithmetic, self.put, self.query, self.allocate, self.bind_shared, self.drop))()
+        if self.chance.random() < 0.4:
+            self.accept()
+        if self.chance.random() < 0.6:
+            self.add(immediate(OPCODES["lw"], ZERO, A0, AREA + 0x108), ori(A1, ZERO, self.kind() & 3), ori(V0, ZERO, TRANSFER), SYSCALL)
+        if self.chance.random() < 0.8:
+            self.accept()
+        for number in range(SCRATCH[0], STACK + 1):
+            if number != RESUME:
+                self.add(immediate(OPCODES["lw"], ZERO, number, AREA + 0x80 + 4 * (number - 1)))
+        self.add(immediate(OPCODES["lw"], ZERO, RESUME, AREA + 0x104), register(8, RESUME, 0, 0))
+        self.add(immediate(OPCODES["lw"], ZERO, RESUME, AREA + 0x80 + 4 * (RESUME - 1)))
 
     def wait(self):
         """Counts down from a number."""
@@ -312,7 +339,7 @@ class Program:
             block(self)
         self.add(addiu(ROUNDS, ROUNDS, 1))
         self.branch_back(4, ZERO, ZERO, start)
-        for kind, handler in enumerate((self.handler_of_exceptions, self.handler_of_starts, self.handler_of_ends)):
+        for kind, handler in zip(CONTEXTS, (self.handler_of_exceptions, self.handler_of_starts, self.handler_of_ends, self.entry, self.entry)):
             for place in self.wanted[kind]:
                 self.words[place] = ori(A1, ZERO, BASE + 4 * len(self.words))
             if self.wanted[kind]:

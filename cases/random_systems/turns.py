@@ -1,6 +1,7 @@
 """The ledger of a run, told again by the rules of turns, slices and slots, without what the environments do."""
 
 MOST_EXCESS = 8
+GIFTS = ("give", "async", "sync")
 
 
 class Wrong(Exception):
@@ -20,21 +21,23 @@ class Slice:
 
 
 class Turns:
-    """Who holds which slot, whose turn it is, and who owes how much."""
+    """Who owns and who holds which slot, whose turn it is, and who owes how much."""
 
     def __init__(self, system):
         self.quantum, self.count = system.quantum, len(system.guaranteed)
-        # nobody gives a slot to another, so a slot's holder is its owner
-        self.holders = [None if owner == 255 else owner for owner in system.slots]
-        self.cursor, self.next_turn = len(self.holders) - 1, 0
+        # by slot, its owner and its holder, if it has one
+        self.slots = [None if owner == 255 else (owner, owner) for owner in system.slots]
+        self.cursor, self.next_turn = len(self.slots) - 1, 0
         self.excess, self.gone, self.killed, self.slice = [0] * self.count, set(), set(), None
+        # how many slices were given, and in which way
+        self.gifts = dict.fromkeys(GIFTS, 0)
 
     def tell(self, rows, time, idle):
         """Reads all rows of a run that ended at this time, idle or at its limit."""
         self.rows, self.place = [self.words_of(row) for row in rows], 0
-        for slot, holder in enumerate(self.holders):
-            if holder is not None:
-                self.change(0, slot, holder)
+        for slot, hold in enumerate(self.slots):
+            if hold:
+                self.change(0, slot, hold)
         while self.place < len(self.rows):
             name, tick, slot, env = self.rows[self.place][:4]
             if self.slice is None:
@@ -63,20 +66,25 @@ class Turns:
         return self.rows[self.place][1] if self.place < len(self.rows) else None
 
     def is_held(self):
-        return any(holder is not None for holder in self.holders)
+        return any(self.slots)
 
-    def change(self, tick, slot, holder):
-        self.holders[slot] = holder
-        self.take("own", tick, slot, holder, holder)
+    def change(self, tick, slot, hold):
+        self.slots[slot] = hold
+        self.take("own", tick, slot, *(hold or (None, None)))
+
+    @staticmethod
+    def without(hold, env):
+        """A slot that its holder gives away: its owner's again, and empty if that is the holder."""
+        return None if hold[0] == env else (hold[0], hold[0])
 
     def turn(self, tick):
         """The next held slots are forfeited up to that of a holder who owes nothing, all in the tick behind the last slice."""
         must(tick == self.next_turn and self.is_held(), f"a turn is due in tick {self.next_turn} if a slot is held, and one is in tick {tick}")
         while True:
-            self.cursor = (self.cursor + 1) % len(self.holders)
-            env = self.holders[self.cursor]
-            if env is None:
+            self.cursor = (self.cursor + 1) % len(self.slots)
+            if self.slots[self.cursor] is None:
                 continue
+            env = self.slots[self.cursor][1]
             if self.excess[env] == 0:
                 break
             self.excess[env] -= 1
@@ -91,22 +99,29 @@ class Turns:
         if name == "own":
             return self.take_or_drop(tick, slot)
         must((slot, env) == (runs.slot, runs.env), f"{name} {tick} names slot {slot} and environment {env}, while {runs.env} runs in {runs.slot}")
-        rules = {"give": self.give, "end": self.end, "over": self.over, "stop": self.stop, "dead": self.dead}
+        if name in GIFTS:
+            return self.give(name, tick, slot, env)
+        rules = {"end": self.end, "over": self.over, "stop": self.stop, "dead": self.dead}
         must(name in rules, f"{name} {tick} comes while {env} runs")
         rules[name](tick, slot, env)
 
     def take_or_drop(self, tick, slot):
         """The runner takes an empty slot, or drops one that it holds."""
-        holder = self.holders[slot]
-        must(holder in (None, self.slice.env), f"{self.slice.env} changes slot {slot}, which {holder} holds")
-        self.change(tick, slot, self.slice.env if holder is None else None)
+        env, hold = self.slice.env, self.slots[slot]
+        must(hold is None or hold[1] == env, f"{env} changes slot {slot}, whose owner and holder are {hold}")
+        self.change(tick, slot, (env, env) if hold is None else self.without(hold, env))
 
-    def give(self, tick, slot, env):
-        target = self.rows[self.place][4]
+    def give(self, name, tick, slot, env):
+        """The rest of the slice is another's, by a yield or a transfer; with a synchronous one the slot is, if the runner holds it."""
+        target, hold = self.rows[self.place][4], self.slots[slot]
         must(not self.slice.grace, f"{env} gives a slice in tick {tick}, in grace")
         must(target < self.count and target != env and target not in self.gone, f"a slice is given to {target} in tick {tick}")
-        self.take("give", tick, slot, env, target)
+        self.take(name, tick, slot, env, target)
+        if name == "sync":
+            must(hold and hold[1] == env, f"{env} gives slot {slot} in tick {tick}, whose owner and holder are {hold}")
+            self.change(tick, slot, (hold[0], target))
         self.slice.env = target
+        self.gifts[name] += 1
         # the tick counts: what is given in the last one is over in it
         must((self.next_tick() == tick) == (tick == self.slice.last), f"what is given in tick {tick} is over too early or too late")
 
@@ -132,9 +147,9 @@ class Turns:
 
     def dead(self, tick, slot, env):
         self.take("dead", tick, slot, env)
-        for place, holder in enumerate(self.holders):
-            if holder == env:
-                self.change(tick, place, None)
+        for place, hold in enumerate(self.slots):
+            if hold and env in hold:
+                self.change(tick, place, self.without(hold, env))
         self.gone.add(env)
         self.excess[env] = 0
         self.slice, self.next_turn = None, tick + 1

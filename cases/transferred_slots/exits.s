@@ -1,0 +1,14 @@
+# Has synchronous transfers enter at entered, where it exits.
+start:  ori  $2, $0, 8          # context: synchronous transfers enter at entered
+        ori  $4, $0, 4
+        la   $5, entered
+        syscall
+idle:   ori  $2, $0, 0          # yield
+        addiu $4, $0, -1
+        syscall
+        b    idle
+        nop
+entered:
+        ori  $2, $0, 2          # exit
+        ori  $4, $0, 0
+        syscall

@@ -1,0 +1,17 @@
+# Has synchronous transfers enter at entered, and hands them on to environment 2.
+start:  ori  $2, $0, 8          # context: synchronous transfers enter at entered
+        ori  $4, $0, 4
+        la   $5, entered
+        syscall
+idle:   ori  $2, $0, 0          # yield
+        addiu $4, $0, -1
+        syscall
+        b    idle
+        nop
+entered:
+        ori  $2, $0, 10         # transfer to 2
+        ori  $4, $0, 2
+        ori  $5, $0, 1
+        syscall
+        b    idle
+        nop

@@ -1,0 +1,17 @@
+# Has transfers of both kinds enter at entered.
+start:  ori  $2, $0, 8          # context: asynchronous transfers
+        ori  $4, $0, 3
+        la   $5, entered
+        syscall
+        ori  $2, $0, 8          # context: synchronous transfers
+        ori  $4, $0, 4
+        syscall
+        ori  $2, $0, 0          # yield
+        addiu $4, $0, -1
+        syscall
+stay:   b    stay
+        nop
+entered:
+        addiu $8, $8, 1         # at 0x00400034
+        b    entered
+        nop
