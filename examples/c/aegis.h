@@ -1,11 +1,52 @@
-/* Five of the kernel's calls: yield, put, exit, self, clock. The number is in $2 and the arguments are in $4 and $5; the code
-   comes in $2 and the value in $3. docs/KERNEL.md says what each does. */
+/* Kernel calls of up to three arguments. The number is in $2 and the arguments are in $4 to $6; the code comes in $2 and the
+   value in $3. docs/KERNEL.md says what each does. */
 #ifndef AEGIS_H
 #define AEGIS_H
 
-enum aegis_number { AEGIS_YIELD = 0, AEGIS_PUT = 1, AEGIS_EXIT = 2, AEGIS_SELF = 20, AEGIS_CLOCK = 21 };
+enum aegis_number {
+    AEGIS_YIELD = 0,
+    AEGIS_PUT = 1,
+    AEGIS_EXIT = 2,
+    AEGIS_CONTEXT = 8,
+    AEGIS_ACCEPT = 9,
+    AEGIS_TRANSFER = 10,
+    AEGIS_TAKE = 11,
+    AEGIS_DROP = 12,
+    AEGIS_QUERY = 13,
+    AEGIS_SELF = 20,
+    AEGIS_CLOCK = 21
+};
 
-enum aegis_code { AEGIS_OK = 0, AEGIS_CONSOLE_FULL = 18, AEGIS_BAD_CALL = 20, AEGIS_BAD_POINTER = 21 };
+enum aegis_code {
+    AEGIS_OK = 0,
+    AEGIS_NO_ENV = 8,
+    AEGIS_NOT_ACCEPTED = 9,
+    AEGIS_NO_SLICE = 10,
+    AEGIS_SLOT_TAKEN = 11,
+    AEGIS_NOT_HOLDER = 12,
+    AEGIS_CONSOLE_FULL = 18,
+    AEGIS_BAD_CALL = 20,
+    AEGIS_BAD_POINTER = 21
+};
+
+/* What an environment may name a handler of its own for. */
+enum aegis_context { AEGIS_EXCEPTIONS, AEGIS_STARTS, AEGIS_ENDS, AEGIS_ASYNCHRONOUS_CALLS, AEGIS_SYNCHRONOUS_CALLS };
+
+/* What may be asked of a query; of some there are more than one, which are numbered. */
+enum aegis_question {
+    AEGIS_FREE_PAGES,
+    AEGIS_PAGES,
+    AEGIS_ENVS,
+    AEGIS_SLOTS,
+    AEGIS_QUANTUM,
+    AEGIS_OWNER,
+    AEGIS_HOLDER,
+    AEGIS_EXCESS,
+    AEGIS_DEAD
+};
+
+/* A transfer hands on the rest of the slice, or the slot too. */
+enum aegis_kind { AEGIS_ASYNCHRONOUS, AEGIS_SYNCHRONOUS };
 
 #define AEGIS_ANY 0xffffffffu /* for whoever is next */
 #define AEGIS_PAGE 4096u
@@ -49,6 +90,62 @@ static inline unsigned aegis_self(void)
 {
     return aegis_call(AEGIS_SELF, 0, 0).value;
 }
+
+/* Has a context handled at an address, and by 0 not any more. No stack is kept for a handler, and no register but those that
+   the kernel says, so it is assembly. */
+static inline unsigned aegis_context(enum aegis_context context, void (*handler)(void))
+{
+    return aegis_call(AEGIS_CONTEXT, context, (unsigned)handler).code;
+}
+
+/* Accepts the yields and transfers of these environments alone, a bit for each. */
+static inline void aegis_accept(unsigned mask)
+{
+    aegis_call(AEGIS_ACCEPT, mask, 0);
+}
+
+/* Gives the rest of the slice to another environment. */
+static inline unsigned aegis_give(unsigned target)
+{
+    return aegis_call(AEGIS_YIELD, target, 0).code;
+}
+
+/* Takes an empty slot, and drops one that the environment holds. */
+static inline unsigned aegis_take(unsigned slot)
+{
+    return aegis_call(AEGIS_TAKE, slot, 0).code;
+}
+
+static inline unsigned aegis_drop(unsigned slot)
+{
+    return aegis_call(AEGIS_DROP, slot, 0).code;
+}
+
+static inline struct aegis_answer aegis_query(enum aegis_question what, unsigned which)
+{
+    return aegis_call(AEGIS_QUERY, what, which);
+}
+
+/* Has another environment go on at its entry, where it finds the word in $6. It gets all other registers, too. */
+static inline unsigned aegis_transfer(unsigned target, enum aegis_kind kind, unsigned word)
+{
+    register unsigned code __asm__("$2") = AEGIS_TRANSFER;
+    register unsigned value __asm__("$3");
+    register unsigned first __asm__("$4") = target;
+    register unsigned second __asm__("$5") = kind;
+    register unsigned third __asm__("$6") = word;
+    __asm__ volatile("syscall" : "+r"(code), "=r"(value) : "r"(first), "r"(second), "r"(third) : "memory");
+    return code;
+}
+
+/* calls.c: a client calls a server, which is another environment, and waits for its answer. As long as the server isn't open it
+   yields, and tries again. The code is 0 with an answer; 8 if there is no server any more; and this one if the client has its
+   slot again without an answer, since the server is dead, or has dropped it. */
+#define AEGIS_NO_ANSWER 0xffffffffu
+struct aegis_answer aegis_ask(unsigned server, unsigned argument);
+
+/* The other side: answers the calls of these clients, a bit for each, for ever. It wants one slot of its own. */
+__attribute__((noreturn)) void aegis_serve(unsigned clients, unsigned (*answer)(unsigned client, unsigned argument));
 
 /* How many ticks were made before this one. */
 static inline unsigned aegis_clock(void)
