@@ -12,8 +12,6 @@ mod ledger;
 mod page;
 mod processor;
 mod sums;
-#[cfg(test)]
-mod tests;
 mod text;
 mod words;
 
