@@ -26,6 +26,3 @@ pub use lines::{parse, parse_line};
 pub use register::Register;
 pub use syntax::{Arg, Args, AsmBody, AsmLine, Name, Operand};
 pub use table::{Row, find};
-
-#[cfg(test)]
-mod tests;

@@ -8,8 +8,6 @@ mod binding;
 mod bindings;
 mod laws;
 mod sweep;
-#[cfg(test)]
-mod tests;
 
 pub use binding::Binding;
 pub use bindings::{Bindings, STRIPE_ROWS};

@@ -22,6 +22,3 @@ pub use law::{law_accepted, law_reads_what_is_spelled, law_spelled};
 pub use program::is_name;
 pub use reading::read_image;
 pub use schedule::check_schedule;
-
-#[cfg(test)]
-mod tests;

@@ -26,6 +26,3 @@ pub use object::{Object, Part};
 pub use reading::read;
 pub use segment::Segment;
 pub use writing::write;
-
-#[cfg(test)]
-mod tests;

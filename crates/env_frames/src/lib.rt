@@ -14,8 +14,6 @@ mod context;
 mod env;
 mod mapping;
 mod search;
-#[cfg(test)]
-mod tests;
 mod transfer;
 mod upcall;
 

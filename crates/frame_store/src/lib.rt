@@ -5,7 +5,5 @@
 #![tactic(auto)]
 
 mod frames;
-#[cfg(test)]
-mod tests;
 
 pub use frames::Frames;

@@ -9,8 +9,6 @@ mod bus;
 mod place;
 mod range;
 mod space;
-#[cfg(test)]
-mod tests;
 
 pub use bus::step_guest;
 pub use range::guest_range;

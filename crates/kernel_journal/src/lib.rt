@@ -6,8 +6,6 @@
 
 mod journal;
 mod row;
-#[cfg(test)]
-mod tests;
 
 pub use journal::Journal;
 pub use row::{Row, RunEnd};

@@ -15,6 +15,3 @@ pub use line_words::{Words, words_of};
 pub use lines::{Line, Lines, cut};
 pub use numbers::{decimal, number, numeral};
 pub use print::{push_dec, push_hex, push_quoted};
-
-#[cfg(test)]
-mod tests;

@@ -31,6 +31,3 @@ pub fn step_user<B: Bus>(cpu: &mut Cpu, bus: &mut B) -> Outcome
         },
     }
 }
-
-#[cfg(test)]
-mod tests;

@@ -10,8 +10,6 @@
 mod fields;
 mod insn;
 mod laws;
-#[cfg(test)]
-mod tests;
 mod words;
 
 pub use insn::{Insn, decode, encode};

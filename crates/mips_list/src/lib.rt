@@ -9,8 +9,6 @@
 mod listing;
 mod operand;
 mod piece;
-#[cfg(test)]
-mod tests;
 mod word;
 
 pub use listing::list;

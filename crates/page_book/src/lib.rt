@@ -8,8 +8,6 @@ mod pages;
 mod refusal;
 mod row;
 mod search;
-#[cfg(test)]
-mod tests;
 
 pub use laws::{law_lowest_free, law_none_free};
 pub use pages::Pages;

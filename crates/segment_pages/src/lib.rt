@@ -12,6 +12,3 @@ mod numbers;
 pub use bytes::fill_page;
 pub use law::law_smallest;
 pub use numbers::{count_pages, is_writable, next_page};
-
-#[cfg(test)]
-mod tests;

@@ -11,8 +11,6 @@ mod held;
 mod laws;
 mod search;
 mod slots;
-#[cfg(test)]
-mod tests;
 mod timer;
 mod turn;
 
