@@ -7,7 +7,9 @@ use Rattle.mips_isa.specs.declared.insn.Insn.TheVariants.{Lb, Lh, Lwl, Lw, Lbu, 
 use Rattle.mips_exec.specs.declared.registers.Cpu.{Cpu}
 use Rattle.mips_exec.specs.declared.reach.Access.{Access}
 use Rattle.mips_exec.specs.Access.{access, write_of, Write}
-use Rattle.mips_exec.specs.Effect.{effect, Change, Calls, Raises}
+use Rattle.mips_exec.specs.declared.change.Change.{Change}
+use Rattle.mips_exec.specs.declared.change.Change.TheVariants.{Calls, Raises}
+use Rattle.mips_exec.specs.Effect.{effect}
 use Rattle.mips_exec.specs.Step.{Answers, answered, ended, step_of, view_of, write_after, Wrote}
 
 abbrev completes : Change → Bool

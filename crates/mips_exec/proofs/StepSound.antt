@@ -19,7 +19,9 @@ use Rattle.mips_exec.specs.Cpu.{with_reg, advanced, jumped, with_hi_lo}
 use Rattle.mips_exec.specs.declared.exception.ExcCode.TheVariants.{Ades}
 use Rattle.mips_exec.specs.Exception.{plain}
 use Rattle.mips_exec.specs.Word.{word_of}
-use Rattle.mips_exec.specs.Effect.{effect, changed, Change, Puts, PutsHiLo, Passes, Jumps, JumpsAndLinks, Calls, Raises}
+use Rattle.mips_exec.specs.declared.change.Change.{Change}
+use Rattle.mips_exec.specs.declared.change.Change.TheVariants.{Puts, PutsHiLo, Passes, Jumps, JumpsAndLinks, Calls, Raises}
+use Rattle.mips_exec.specs.Effect.{effect, changed}
 use Rattle.mips_exec.specs.Step.{Answers, answered, answered_if, access_after, without_value, fetched, ended, executed, decoded, write_after, cpu_after}
 use Rattle.mips_exec.specs.Kept.{HasWords, IsWrite, StepsAreSound}
 

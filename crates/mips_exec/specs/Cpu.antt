@@ -27,7 +27,7 @@ jumped cpu target = record cpu { pc = cpu.next; next = word_of target; slot = tr
 
 -- after a branch's delay slot: pc + 4 + 4 * imm, with the sign of imm, where the branch is taken
 abbrev pub branch_target : Cpu → Bool → ℕ → ℕ
-branch_target cpu taken imm = if taken then cpu.pc + 4 + 4 * sign16_of imm else cpu.next + 4
+branch_target cpu taken imm = word_of (if taken then cpu.pc + 4 + 4 * sign16_of imm else cpu.next + 4)
 
 -- the address that a jump's 26 bits name in the 2^28 bytes of the delay slot
 abbrev pub jump_target : Cpu → ℕ → ℕ

@@ -11,7 +11,9 @@ use Rattle.mips_exec.specs.declared.exception.Outcome.{Outcome}
 use Rattle.mips_exec.specs.declared.exception.Outcome.TheVariants as outcomes
 use Rattle.mips_exec.specs.Exception.{plain, at_address}
 use Rattle.mips_exec.specs.Access.{access, Write, write_of, place_of, is_aligned}
-use Rattle.mips_exec.specs.Effect.{Change, Calls, Raises, changed, effect}
+use Rattle.mips_exec.specs.declared.change.Change.{Change}
+use Rattle.mips_exec.specs.declared.change.Change.TheVariants.{Calls, Raises}
+use Rattle.mips_exec.specs.Effect.{changed, effect}
 
 -- ---- what is asked of memory, and its answers
 

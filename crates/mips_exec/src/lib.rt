@@ -3,14 +3,16 @@
 //! any memory that a `Bus` answers for.
 #![tactic(auto)]
 
+mod change;
+mod effect;
 mod exception;
-mod execute;
 mod laws;
 mod memory;
 mod reach;
 mod registers;
 mod step;
 
+pub use change::Change;
 pub use exception::{Exc, ExcCode, Outcome, cause_word};
 pub use laws::steps_are_sound;
 pub use memory::Bus;

@@ -15,7 +15,8 @@ use Rattle.mips_exec.specs.Exception.{plain}
 use Rattle.mips_exec.specs.Access as accesses
 use Rattle.mips_exec.specs.Access.{Write, is_aligned, place_of, write_of}
 use Rattle.mips_exec.specs.Effect as effects
-use Rattle.mips_exec.specs.Effect.{Change}
+use Rattle.mips_exec.specs.declared.change.Change.{Change}
+use Rattle.mips_exec.specs.declared.change.Change.TheVariants as change
 use Rattle.mips_exec.specs.Step.{Answers, Step, Retired, Called, Trapped, accessed, answered, answered_if, ended, executed, access_after, decoded, fetched, step_of, view_of, without_value}
 use Rattle.bind_book.specs.declared.binding.Binding.{Binding}
 use Rattle.bind_book.specs.Stripe.{binding_at, of_number, row_of}
@@ -30,13 +31,13 @@ use Rattle.world_model.specs.Step.{Stores, Raises, Dies, act_of, call_act, step_
 
 -- an instruction that retires writes what its access does
 ended_write : (cpu new : Cpu) (change : Change) (write o : Option Write) → ended cpu change write ≡ Retired new o → write ≡ o
-ended_write cpu new (effects.Puts n value) write o is = cc
-ended_write cpu new (effects.PutsHiLo high low) write o is = cc
-ended_write cpu new effects.Passes write o is = cc
-ended_write cpu new (effects.Jumps target) write o is = cc
-ended_write cpu new (effects.JumpsAndLinks n target) write o is = cc
-ended_write cpu new effects.Calls write o is = cc
-ended_write cpu new (effects.Raises exc) write o is = cc
+ended_write cpu new (change.Puts n value) write o is = cc
+ended_write cpu new (change.PutsHiLo high low) write o is = cc
+ended_write cpu new change.Passes write o is = cc
+ended_write cpu new (change.Jumps target) write o is = cc
+ended_write cpu new (change.JumpsAndLinks n target) write o is = cc
+ended_write cpu new change.Calls write o is = cc
+ended_write cpu new (change.Raises exc) write o is = cc
 
 -- memory granted a store at this address
 record IsGranted (answers : Answers) (address : ℕ) : Type 0 where

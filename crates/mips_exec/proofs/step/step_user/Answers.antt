@@ -5,6 +5,8 @@ use Rattle.mips_isa.specs.Encoding.{insn_of}
 use Rattle.mips_exec.specs.Access.{write_of, Write, access}
 use Rattle.mips_exec.specs.Step.{Answers, answered, step_of, view_of, write_after, Wrote}
 use Rattle.mips_exec.proofs.Completion.{write_after-step, Wrote-since}
+use Rattle.std.proofs.Common.{arith}
+use Rattle.std.proofs.lemmas.Grind.{common_steps}
 use Rattle.mips_exec.proofs.step.step_user.Goals as goal
 
 pub returns-in-Ok-perform-clause-memory : goal.returns-in-Ok-perform-clause-memory
@@ -20,3 +22,39 @@ returns-in-Ok-perform-clause-memory g c =
     write_after-step (g.B.Bus.answers c.args.bus.now) c.args.cpu.now c.in-Ok.word c.in-Some.access c.in-Ok-perform.loaded
     c.if-cpu-ne0.false (sym c.in-Ok.ensures.answer) named gave in
     subst (λ (w : Option Write). Wrote g.B.Bus.Kept g.B.Bus.Stored c.args.bus.now w c.perform.new.bus) (sym written) since
+
+pub returns-then-cpu-ne0-clause-cpu : goal.returns-then-cpu-ne0-clause-cpu
+returns-then-cpu-ne0-clause-cpu g c = grind (arith, common_steps)
+
+pub returns-then-cpu-ne0-clause-outcome : goal.returns-then-cpu-ne0-clause-outcome
+returns-then-cpu-ne0-clause-outcome g c = grind (arith, common_steps)
+
+pub returns-then-cpu-ne0-clause-memory : goal.returns-then-cpu-ne0-clause-memory
+returns-then-cpu-ne0-clause-memory g c = grind (arith, common_steps)
+
+pub returns-in-Err-clause-cpu : goal.returns-in-Err-clause-cpu
+returns-in-Err-clause-cpu g c = grind (arith, common_steps)
+
+pub returns-in-Err-clause-outcome : goal.returns-in-Err-clause-outcome
+returns-in-Err-clause-outcome g c = grind (arith, common_steps)
+
+pub returns-in-Err-clause-memory : goal.returns-in-Err-clause-memory
+returns-in-Err-clause-memory g c = grind (arith, common_steps)
+
+pub returns-in-None-clause-cpu : goal.returns-in-None-clause-cpu
+returns-in-None-clause-cpu g c = grind (arith, common_steps)
+
+pub returns-in-None-clause-outcome : goal.returns-in-None-clause-outcome
+returns-in-None-clause-outcome g c = grind (arith, common_steps)
+
+pub returns-in-None-clause-memory : goal.returns-in-None-clause-memory
+returns-in-None-clause-memory g c = grind (arith, common_steps)
+
+pub returns-in-Ok-perform-clause-outcome : goal.returns-in-Ok-perform-clause-outcome
+returns-in-Ok-perform-clause-outcome g c = grind (arith, common_steps)
+
+pub returns-in-Err-perform-clause-cpu : goal.returns-in-Err-perform-clause-cpu
+returns-in-Err-perform-clause-cpu g c = grind (arith, common_steps)
+
+pub returns-in-Err-perform-clause-outcome : goal.returns-in-Err-perform-clause-outcome
+returns-in-Err-perform-clause-outcome g c = grind (arith, common_steps)
