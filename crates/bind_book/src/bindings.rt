@@ -38,11 +38,7 @@ impl Bindings {
         requires { envs ≤ most_environments }
         ensures { IfOk result (λ b. b ≡ replicate (envs * stripe_rows) None) }
     {
-        let places = place(envs, 0);
-        let mut rows = Vec::with_capacity(alloc, places)?;
-        for _ in 0..places {
-            rows.push(None)?;
-        }
+        let rows = vec![in alloc; None; place(envs, 0)]?;
         Ok(Bindings { rows })
     }
 

@@ -40,10 +40,7 @@ impl Pages {
         requires within { pages ≤ most_rows }
         ensures { IfOk result (λ p. p ≡ replicate pages Free) }
     {
-        let mut rows = Vec::with_capacity(alloc, pages as usize)?;
-        for _ in 0..pages {
-            rows.push(PageRow::Free)?;
-        }
+        let rows = vec![in alloc; PageRow::Free; pages as usize]?;
         Ok(Pages { rows })
     }
 
