@@ -2,17 +2,15 @@
 //!
 //! A `Shelf` gives the bytes of named files, and a `Sink` takes bytes. Each counts its faults, so
 //! that a caller's failure of reading or writing is one that the outside caused, and of a shelf it
-//! is known which names were asked for, in which order. `MemoryShelf` and `MemorySink` are exact.
-//! `HostShelf` reads the files that a `Folder` opens, as the host does, and `HostSink` writes to a
-//! writer, as to the standard output. `write_whole` writes all of a text.
+//! is known which names were asked for, in which order. `HostShelf` reads the files that a `Folder`
+//! opens, as the host does, and `HostSink` writes to a writer, as to the standard output.
+//! `write_whole` writes all of a text.
 #![tactic(auto)]
 
 mod folder;
 mod host_shelf;
 mod host_sink;
 mod memory;
-mod memory_shelf;
-mod memory_sink;
 mod shelf;
 mod sink;
 #[cfg(test)]
@@ -23,8 +21,6 @@ pub use folder::{Folder, Opened};
 pub use host_shelf::HostShelf;
 pub use host_sink::HostSink;
 pub use memory::OutOfMemory;
-pub use memory_shelf::MemoryShelf;
-pub use memory_sink::MemorySink;
 pub use shelf::{FILE_LIMIT, ReadFail, Shelf};
 pub use sink::{Sink, WriteFail};
 pub use whole::write_whole;

@@ -15,7 +15,7 @@ use std::io::ErrorKind;
 pub const FILE_LIMIT: usize = 67_108_864;
 
 /// Why a read gave no bytes.
-#[derive(Clone, Copy, Debug, PartialEq, Eq)]
+#[derive(Clone, Copy)]
 pub enum ReadFail {
     /// The file couldn't be read, there is none, or it has more than `FILE_LIMIT` bytes. The shelf
     /// counted it as a fault.

@@ -4,7 +4,7 @@ ghost use Rattle.edge_io.specs.Faults.{one_more};
 ghost use Rattle.edge_io.specs.Written.{Appends};
 
 /// Why a write took nothing.
-#[derive(Clone, Copy, Debug, PartialEq, Eq)]
+#[derive(Clone, Copy)]
 pub enum WriteFail {
     /// The sink counted a fault.
     Failed,

@@ -1,7 +1,7 @@
 -- The room of a sink in memory.
 use Rattle.std.specs.Prelude.{◌≡◌, ℕ, ◌+◌, ◌-◌, ◌==◌, ◌||◌, ◌≤◌, [], Bool, length, min}
 use Rattle.std.specs.List.{list_any}
-use Rattle.edge_io.specs.declared.memory_sink.MemorySink.{MemorySink}
+use Rattle.edge_memory.specs.declared.sink.MemorySink.{MemorySink}
 
 -- for how many bytes more there is room
 abbrev pub room_left : MemorySink → ℕ

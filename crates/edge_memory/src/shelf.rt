@@ -2,11 +2,11 @@
 ghost use Rattle.std.specs.Prelude.{◌≡◌, ◌≤◌, Some, None, IfOk, length};
 ghost use Rattle.std.specs.Option.{option_copied};
 ghost use Rattle.edge_io.specs.Faults.{one_more};
-ghost use Rattle.edge_io.specs.Files.{IsSureOf, WasAsked, file_named, found, found_at};
+ghost use Rattle.edge_memory.specs.Files.{IsSureOf, WasAsked, file_named, found, found_at};
 ghost use Rattle.edge_io.specs.Limits.{file_limit};
 ghost use Rattle.edge_io.specs.Reads.{Tells, OnFailed, UnlessFailed, name_bytes};
 
-use crate::shelf::{FILE_LIMIT, ReadFail, Shelf};
+use edge_io::{FILE_LIMIT, ReadFail, Shelf};
 use std::alloc::Global;
 
 /// Files in memory. Of two files with one name the first counts. Each read has a number, counted

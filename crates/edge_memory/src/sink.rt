@@ -1,8 +1,7 @@
 //! A sink in memory.
 ghost use Rattle.std.specs.Prelude.{◌≡◌, ◌≤◌, [], IfOk, vec_len, vec_capacity};
 
-use crate::memory::OutOfMemory;
-use crate::sink::{Sink, WriteFail};
+use edge_io::{OutOfMemory, Sink, WriteFail};
 use std::alloc::Global;
 
 /// A sink that keeps in memory what is written, up to its room. Each write has a number, counted
@@ -58,7 +57,7 @@ impl MemorySink {
 impl Sink for MemorySink {
     ghost use Rattle.std.specs.Prelude.{◌≡◌, ℕ, ◌-◌, ◌<◌, ◌≤◌, ◌++◌, true, false, Some, IsOk, IfOk, OnOk, OnErr, length, take};
     ghost use Rattle.edge_io.specs.Faults.{one_more};
-    ghost use Rattle.edge_io.specs.Room.{HasRoomFor, is_refused, taken_of};
+    ghost use Rattle.edge_memory.specs.Room.{HasRoomFor, is_refused, taken_of};
     ghost use Rattle.edge_io.specs.Written.{Appends};
 
     ghost written = { λ s. Some s.bytes.items };

@@ -7,7 +7,7 @@ use Rattle.std.specs.Global.{Global}
 use Rattle.edge_io.specs.Faults.{one_more}
 use Rattle.edge_io.specs.Limits.{file_limit}
 use Rattle.edge_io.specs.Reads.{name_bytes}
-use Rattle.edge_io.specs.declared.memory_shelf.MemoryShelf.{MemoryShelf}
+use Rattle.edge_memory.specs.declared.shelf.MemoryShelf.{MemoryShelf}
 
 -- a file: its name and its bytes
 abbrev pub File : Type 0
