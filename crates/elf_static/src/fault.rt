@@ -4,7 +4,7 @@ ghost use Rattle.elf_static.specs.ElfNames.{elf_why_text};
 
 /// Which rule of an ELF file is broken. `docs/FORMATS.md`, "ELF files that Aegis reads", has the rules
 /// in the order in which they are tested.
-#[derive(Clone, Copy, Debug, PartialEq, Eq)]
+#[derive(Clone, Copy)]
 pub enum ElfWhy {
     /// The file is shorter than its header.
     Short,
@@ -34,7 +34,7 @@ pub enum ElfWhy {
 }
 
 /// The first broken rule of an ELF file, and the byte of the file where it is broken.
-#[derive(Clone, Copy, Debug, PartialEq, Eq)]
+#[derive(Clone, Copy)]
 pub struct ElfFault {
     /// A byte's place in the file, counted from 0.
     pub place: u32,

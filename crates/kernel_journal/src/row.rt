@@ -92,7 +92,7 @@ pub enum Row {
 }
 
 /// How a run of the board ended.
-#[derive(Clone, Copy, Debug, PartialEq, Eq)]
+#[derive(Clone, Copy)]
 pub enum RunEnd {
     /// The time reached the limit.
     Limit,
