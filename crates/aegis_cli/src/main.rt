@@ -1,24 +1,12 @@
-//! The program: the top call, over any shelf of files and any sink, and `main`, which calls it once
-//! with the host's.
+//! The program: `main` calls the top call once, with the host's files and its standard output.
 #![tactic(auto)]
 
-mod imaging;
-mod one_file;
-mod reporting;
-mod status;
-#[cfg(test)]
-mod tests;
-mod top;
-mod words;
-mod work;
-
+use aegis_command::{Status, aegis};
 use edge_io::{HostShelf, HostSink, OutOfMemory};
-use status::Status;
 use std::io::ErrorKind;
 use std::process::ExitCode;
 use std::rt::Env;
 use std::{env, io};
-use top::aegis;
 
 /// The words after the program's name; none where one of them isn't text.
 fn arguments(rt: &(impl Env + AllocGlobal)) -> Result<Vec<String>, OutOfMemory> {

@@ -1,0 +1,59 @@
+-- How a call of the program ends, by its status.
+use Rattle.std.specs.Prelude.{◌≡◌, ◌⊎◌, ℕ, List, Option, Some, IfSome, IfNone}
+use Rattle.edge_io.specs.Faults.{one_more}
+use Rattle.edge_io.specs.Written.{Appends, AppendsPart}
+use Rattle.aegis_command.specs.declared.status.Status.{Status}
+use Rattle.aegis_command.specs.declared.status.Status.TheVariants as status
+use Rattle.aegis_command.specs.Edges.{ShelfEdge, SinkEdge}
+use Rattle.aegis_command.specs.Words.{Form}
+use Rattle.aegis_command.specs.Files.{WereRead, FailedAt, CameFar}
+use Rattle.aegis_command.specs.Due.{Due, due_of, text_of, status_of, usage_text}
+
+-- All files were read, and this is due for what they hold.
+pub record Decided (form : Form) (s : ShelfEdge) : Type 0 where
+  pub contents : List (List ℕ)
+  pub read : WereRead form s contents
+  pub due : Due
+  pub is_due : due_of form contents ≡ Some due
+
+-- The text was written whole, and no write failed.
+pub record IsWhole (k : SinkEdge) (text : List ℕ) : Type 0 where
+  pub appended : Appends k.written_before k.written_after text
+  pub no_fault : k.faults_after ≡ k.faults_before
+
+-- One write failed, and before it a first part of the text was written, but not all.
+pub record IsPart (k : SinkEdge) (text : List ℕ) : Type 0 where
+  pub appended : AppendsPart k.written_before k.written_after text
+  pub fault : k.faults_after ≡ one_more k.faults_before
+
+-- Nothing was written, and no write failed.
+pub record IsUntouched (k : SinkEdge) : Type 0 where
+  pub nothing : k.written_after ≡ k.written_before
+  pub no_fault : k.faults_after ≡ k.faults_before
+
+-- What is due was written whole, with its status.
+abbrev pub Wrote : Form → ShelfEdge → SinkEdge → Status → Type 0
+Wrote form s k result = (decided : Decided form s) × (status_of decided.due ≡ result) × IsWhole k (text_of decided.due)
+
+-- What holds after a call with words of this form, by its status. No other status comes.
+abbrev pub Outcome : Form → ShelfEdge → SinkEdge → Status → Type 0
+Outcome form s k status.Done = Wrote form s k status.Done
+Outcome form s k status.Found = Wrote form s k status.Found
+Outcome form s k status.Usage = ⊥
+Outcome form s k status.Refused = Wrote form s k status.Refused
+Outcome form s k status.ReadFault = FailedAt form s × IsUntouched k
+Outcome form s k status.WriteFault = (decided : Decided form s) × IsPart k (text_of decided.due)
+Outcome form s k status.OutOfMemory = CameFar form s × IsUntouched k
+
+-- A call with words of a form ends as this form does.
+abbrev pub IsOutcome : Option Form → ShelfEdge → SinkEdge → Status → Type 0
+IsOutcome words s k result = IfSome words (λ form. Outcome form s k result)
+
+-- A text was written with this status, or a write failed after a first part of it.
+abbrev pub Finished : Status → List ℕ → SinkEdge → Status → Type 0
+Finished intended text k result =
+    ((result ≡ intended) × IsWhole k text) ⊎ ((result ≡ status.WriteFault) × IsPart k text)
+
+-- A call with words of no form writes the usage.
+abbrev pub IsUsage : Option Form → SinkEdge → Status → Type 0
+IsUsage words k result = IfNone words (Finished status.Usage usage_text k result)

@@ -1,0 +1,37 @@
+-- What the work of a form gives, before anything is written.
+use Rattle.std.specs.Prelude.{◌≡◌, [], ◌∷◌, Option, IsSomeAnd, Result, IfErr}
+use Rattle.aegis_command.specs.declared.work.Answer.{Answer}
+use Rattle.aegis_command.specs.declared.work.Stop.{Stop}
+use Rattle.aegis_command.specs.declared.work.Stop.TheVariants as stop
+use Rattle.aegis_command.specs.declared.reporting.RunFiles.{RunFiles}
+use Rattle.aegis_command.specs.Edges.{ShelfEdge}
+use Rattle.aegis_command.specs.Words.{Form}
+use Rattle.aegis_command.specs.Files.{WereRead, FailedAt, CameFar}
+use Rattle.aegis_command.specs.Due.{Due, text_of, status_of}
+use Rattle.aegis_command.specs.Outcome.{Decided}
+
+-- the answer is what is due, with its status
+pub record Settles (due : Due) (answer : Answer) : Type 0 where
+  pub text : answer.text.items ≡ text_of due
+  pub status : answer.status ≡ status_of due
+
+-- something is due, and it is the answer
+abbrev pub IsSettled : Option Due → Answer → Type 0
+IsSettled due answer = IsSomeAnd due (λ one. Settles one answer)
+
+-- All files were read, and the answer is what is due.
+abbrev pub Performed : Form → ShelfEdge → Answer → Type 0
+Performed form s answer = (decided : Decided form s) × Settles decided.due answer
+
+-- There is no answer: a read of a due file failed, or no memory was found.
+abbrev pub Stopped : Form → ShelfEdge → Stop → Type 0
+Stopped form s stop.ReadFault = FailedAt form s
+Stopped form s stop.OutOfMemory = CameFar form s
+
+-- Where there is no answer, memory was wanting and no read failed.
+abbrev pub StopsByWantAlone : {A : Type 0} → Result A Stop → Type 0
+StopsByWantAlone result = IfErr result (λ s. s ≡ stop.OutOfMemory)
+
+-- the files of a run were read
+abbrev pub RunRead : Form → ShelfEdge → RunFiles → Type 0
+RunRead form s files = WereRead form s (files.image.items ∷ files.schedule.items ∷ [])
