@@ -1,4 +1,5 @@
 pub mod LaidLemmas
+pub mod LineLemmas
 pub mod NameLemmas
 pub mod OperandLemmas
 pub mod OutcomeLemmas

@@ -113,6 +113,12 @@ abbrev pub code_in : List OperandValue → Result ExpressionValue AsmWhy
 code_in [] = Ok (record { openings = []; inner = Number 0 })
 code_in (a ∷ rest) = value_in (a ∷ rest)
 
+-- the two instructions that load an expression into a register
+abbrev pub load_of : List OperandValue → Result Draft AsmWhy
+load_of operands = do
+  r ← register_and_value_in operands
+  Ok (Halves r.0 r.1)
+
 -- a word with operands of a shape
 unfoldable pub shaped : Shape → ℕ → List OperandValue → Result Draft AsmWhy
 shaped Alone w operands = do

@@ -148,6 +148,12 @@ abbrev pub added : Option AsmLine → Layout → Result Layout AsmFault
 added None layout = Ok layout
 added (Some statement) layout = in_line statement.line (stated statement layout)
 
+-- what a line says
+abbrev pub line_added : LineValue → Layout → Result Layout AsmFault
+line_added line layout = do
+  said ← due_of line
+  added said layout
+
 -- lines in order, up to the first fault
 abbrev pub laid_from : Layout → List LineValue → Result Layout AsmFault
 laid_from layout [] = Ok layout

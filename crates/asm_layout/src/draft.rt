@@ -1,14 +1,14 @@
 //! Instructions as they are read.
-ghost use Rattle.std.specs.Prelude.{◌≡◌};
-ghost use Rattle.std.specs.Option.{option_map};
+ghost use Rattle.std.specs.Prelude.{◌≡◌, ◌<◌};
 ghost use Rattle.asm_layout.specs.Outcome.{ok_seen};
-ghost use Rattle.asm_parse.specs.Seen.{expression_seen, number_seen};
-ghost use Rattle.asm_layout.specs.Draft.{based_in, code_in, known, nothing_in, register_and_value_in, register_in, three_registers_in, two_registers_and_value_in, two_registers_in, value_in};
-ghost use Rattle.asm_layout.specs.Seen.{operands_seen};
+ghost use Rattle.asm_parse.specs.Seen.{expression_seen};
+ghost use Rattle.mips_text.specs.declared.shape.Shape.TheVariants.{Alone, One, Two, Three, Field0, Field1, Field2, Coded, Memory};
+ghost use Rattle.asm_layout.specs.Draft.{code_in, load_of, nothing_in, shaped, value_in};
+ghost use Rattle.asm_layout.specs.Seen.{draft_seen, operands_seen};
 
-use crate::operand::{as_based, as_register, as_value};
+use crate::operand::as_value;
 use crate::word::{Word, with_one, with_three, with_two};
-use asm_parse::{Arg, AsmWhy, Expression, Register};
+use asm_parse::{Arg, AsmWhy, Expression, Operand, Register};
 use mips_text::{Field, Shape, Slot, Text};
 
 /// An instruction with its registers, and the expression that isn't a value yet.
@@ -46,60 +46,194 @@ impl<'a> Draft<'a> {
         requires { text.0 < 0xc0000000 }
         ensures { ok_seen draft_seen result ≡ draft_of text (operands_seen operands.now) }
     {
-        let word = text.0;
-        match text.1 {
-            Shape::Alone => {
-                nothing(operands)?;
-                Ok(Draft::Fixed(Word { value: word }))
-            }
-            Shape::One(slot) => {
-                let register = register(operands)?;
-                Ok(Draft::Fixed(with_one(word, slot, register)))
-            }
-            Shape::Two(first, second) => {
-                let (a, b) = two_registers(operands)?;
-                Ok(Draft::Fixed(with_two(word, first, a, second, b)))
-            }
-            Shape::Three(first, second, third) => {
-                let (a, b, c) = three_registers(operands)?;
-                let registers = with_three(word, first, a, second, b, third, c);
-                Ok(Draft::Fixed(registers))
-            }
-            Shape::Field0(field) => {
-                let value = value(operands)?;
-                Ok(Draft::Filled(field, Word { value: word }, value))
-            }
-            Shape::Field1(slot, field) => {
-                let (a, value) = register_and_value(operands)?;
-                Ok(Draft::Filled(field, with_one(word, slot, a), value))
-            }
-            Shape::Field2(first, second, field) => {
-                let (a, b, value) = two_registers_and_value(operands)?;
-                let registers = with_two(word, first, a, second, b);
-                Ok(Draft::Filled(field, registers, value))
-            }
-            Shape::Coded => {
-                let code = code(operands)?;
-                Ok(Draft::Filled(Field::Code, Word { value: word }, code))
-            }
-            Shape::Memory => {
-                let (a, b, offset) = based(operands)?;
-                let registers = with_two(word, Slot::Rt, a, Slot::Rs, b);
-                Ok(Draft::Filled(Field::Signed, registers, offset))
-            }
-            Shape::Load => {
-                let (a, value) = register_and_value(operands)?;
-                Ok(Draft::Halves(a, value))
-            }
+        let Text(word, shape) = text;
+        match shape {
+            Shape::Alone => alone(word, operands),
+            Shape::One(slot) => one(word, slot, operands),
+            Shape::Two(first, second) => two(word, first, second, operands),
+            Shape::Three(first, second, third) => three(word, first, second, third, operands),
+            Shape::Field0(field) => field0(word, field, operands),
+            Shape::Field1(slot, field) => field1(word, slot, field, operands),
+            Shape::Field2(first, second, field) => field2(word, first, second, field, operands),
+            Shape::Coded => coded(word, operands),
+            Shape::Memory => memory(word, operands),
+            Shape::Load => load(operands),
         }
     }
 }
 
-/// A register that there is.
-fn known(register: Option<Register>) -> Result<Register, AsmWhy>
-    ensures { ok_seen number_seen result ≡ known (option_map number_seen register) }
+/// An instruction without operands.
+#[tactic(auto, unfolding(crate::specs::Draft::shaped))]
+fn alone<'a>(word: u32, operands: &[Arg<'a>]) -> Result<Draft<'a>, AsmWhy>
+    requires { word < 0xc0000000 }
+    ensures { ok_seen draft_seen result ≡ shaped Alone word (operands_seen operands.now) }
 {
-    register.ok_or(AsmWhy::UnknownName)
+    match operands {
+        [] => Ok(Draft::Fixed(Word { value: word })),
+        _ => Err(AsmWhy::Syntax),
+    }
+}
+
+/// An instruction with one register.
+#[tactic(auto, unfolding(crate::specs::Draft::shaped))]
+fn one<'a>(word: u32, slot: Slot, operands: &[Arg<'a>]) -> Result<Draft<'a>, AsmWhy>
+    requires { word < 0xc0000000 }
+    ensures { ok_seen draft_seen result ≡ shaped (One slot) word (operands_seen operands.now) }
+{
+    let [a] = operands else {
+        return Err(AsmWhy::Syntax);
+    };
+    match &a.operand {
+        Operand::Register(Some(a)) => Ok(Draft::Fixed(with_one(word, slot, *a))),
+        Operand::Register(None) => Err(AsmWhy::UnknownName),
+        _ => Err(AsmWhy::Syntax),
+    }
+}
+
+/// An instruction with two registers.
+#[tactic(auto, unfolding(crate::specs::Draft::shaped))]
+fn two<'a>(word: u32, first: Slot, second: Slot, operands: &[Arg<'a>]) -> Result<Draft<'a>, AsmWhy>
+    requires { word < 0xc0000000 }
+    ensures { ok_seen draft_seen result ≡ shaped (Two first second) word (operands_seen operands.now) }
+{
+    let [a, b] = operands else {
+        return Err(AsmWhy::Syntax);
+    };
+    match (&a.operand, &b.operand) {
+        (Operand::Register(Some(a)), Operand::Register(Some(b))) => {
+            Ok(Draft::Fixed(with_two(word, first, *a, second, *b)))
+        }
+        (Operand::Register(_), Operand::Register(_)) => Err(AsmWhy::UnknownName),
+        _ => Err(AsmWhy::Syntax),
+    }
+}
+
+/// An instruction with three registers.
+#[tactic(auto, unfolding(crate::specs::Draft::shaped))]
+fn three<'a>(
+    word: u32,
+    first: Slot,
+    second: Slot,
+    third: Slot,
+    operands: &[Arg<'a>],
+) -> Result<Draft<'a>, AsmWhy>
+    requires { word < 0xc0000000 }
+    ensures { ok_seen draft_seen result ≡ shaped (Three first second third) word (operands_seen operands.now) }
+{
+    let [a, b, c] = operands else {
+        return Err(AsmWhy::Syntax);
+    };
+    match (&a.operand, &b.operand, &c.operand) {
+        (Operand::Register(Some(a)), Operand::Register(Some(b)), Operand::Register(Some(c))) => Ok(
+            Draft::Fixed(with_three(word, first, *a, second, *b, third, *c)),
+        ),
+        (Operand::Register(_), Operand::Register(_), Operand::Register(_)) => {
+            Err(AsmWhy::UnknownName)
+        }
+        _ => Err(AsmWhy::Syntax),
+    }
+}
+
+/// An instruction with an expression.
+#[tactic(auto, unfolding(crate::specs::Draft::shaped))]
+fn field0<'a>(word: u32, field: Field, operands: &[Arg<'a>]) -> Result<Draft<'a>, AsmWhy>
+    requires { word < 0xc0000000 }
+    ensures { ok_seen draft_seen result ≡ shaped (Field0 field) word (operands_seen operands.now) }
+{
+    let value = value(operands)?;
+    Ok(Draft::Filled(field, Word { value: word }, value))
+}
+
+/// An instruction with a register and an expression.
+#[tactic(auto, unfolding(crate::specs::Draft::shaped))]
+fn field1<'a>(
+    word: u32,
+    slot: Slot,
+    field: Field,
+    operands: &[Arg<'a>],
+) -> Result<Draft<'a>, AsmWhy>
+    requires { word < 0xc0000000 }
+    ensures { ok_seen draft_seen result ≡ shaped (Field1 slot field) word (operands_seen operands.now) }
+{
+    let [a, b] = operands else {
+        return Err(AsmWhy::Syntax);
+    };
+    match (&a.operand, &b.operand) {
+        (Operand::Register(Some(a)), Operand::Value(value)) => {
+            Ok(Draft::Filled(field, with_one(word, slot, *a), *value))
+        }
+        (Operand::Register(None), Operand::Value(_)) => Err(AsmWhy::UnknownName),
+        _ => Err(AsmWhy::Syntax),
+    }
+}
+
+/// An instruction with two registers and an expression.
+#[tactic(auto, unfolding(crate::specs::Draft::shaped))]
+fn field2<'a>(
+    word: u32,
+    first: Slot,
+    second: Slot,
+    field: Field,
+    operands: &[Arg<'a>],
+) -> Result<Draft<'a>, AsmWhy>
+    requires { word < 0xc0000000 }
+    ensures { ok_seen draft_seen result ≡ shaped (Field2 first second field) word (operands_seen operands.now) }
+{
+    let [a, b, c] = operands else {
+        return Err(AsmWhy::Syntax);
+    };
+    match (&a.operand, &b.operand, &c.operand) {
+        (Operand::Register(Some(a)), Operand::Register(Some(b)), Operand::Value(value)) => Ok(
+            Draft::Filled(field, with_two(word, first, *a, second, *b), *value),
+        ),
+        (Operand::Register(_), Operand::Register(_), Operand::Value(_)) => {
+            Err(AsmWhy::UnknownName)
+        }
+        _ => Err(AsmWhy::Syntax),
+    }
+}
+
+/// A trap with its code, or with 0.
+#[tactic(auto, unfolding(crate::specs::Draft::shaped))]
+fn coded<'a>(word: u32, operands: &[Arg<'a>]) -> Result<Draft<'a>, AsmWhy>
+    requires { word < 0xc0000000 }
+    ensures { ok_seen draft_seen result ≡ shaped Coded word (operands_seen operands.now) }
+{
+    let code = code(operands)?;
+    Ok(Draft::Filled(Field::Code, Word { value: word }, code))
+}
+
+/// An instruction with a register, and with an offset and a register in brackets.
+#[tactic(auto, unfolding(crate::specs::Draft::shaped))]
+fn memory<'a>(word: u32, operands: &[Arg<'a>]) -> Result<Draft<'a>, AsmWhy>
+    requires { word < 0xc0000000 }
+    ensures { ok_seen draft_seen result ≡ shaped Memory word (operands_seen operands.now) }
+{
+    let [a, b] = operands else {
+        return Err(AsmWhy::Syntax);
+    };
+    match (&a.operand, &b.operand) {
+        (Operand::Register(Some(a)), Operand::Based(offset, Some(b))) => {
+            let registers = with_two(word, Slot::Rt, *a, Slot::Rs, *b);
+            Ok(Draft::Filled(Field::Signed, registers, *offset))
+        }
+        (Operand::Register(_), Operand::Based(_, _)) => Err(AsmWhy::UnknownName),
+        _ => Err(AsmWhy::Syntax),
+    }
+}
+
+/// Two instructions that load an expression into a register.
+fn load<'a>(operands: &[Arg<'a>]) -> Result<Draft<'a>, AsmWhy>
+    ensures { ok_seen draft_seen result ≡ load_of (operands_seen operands.now) }
+{
+    let [a, b] = operands else {
+        return Err(AsmWhy::Syntax);
+    };
+    match (&a.operand, &b.operand) {
+        (Operand::Register(Some(a)), Operand::Value(value)) => Ok(Draft::Halves(*a, *value)),
+        (Operand::Register(None), Operand::Value(_)) => Err(AsmWhy::UnknownName),
+        _ => Err(AsmWhy::Syntax),
+    }
 }
 
 /// No operands.
@@ -112,42 +246,6 @@ pub(crate) fn nothing(operands: &[Arg<'_>]) -> Result<(), AsmWhy>
     }
 }
 
-/// One register.
-fn register(operands: &[Arg<'_>]) -> Result<Register, AsmWhy>
-    ensures { ok_seen number_seen result ≡ register_in (operands_seen operands.now) }
-{
-    let [a] = operands else {
-        return Err(AsmWhy::Syntax);
-    };
-    known(as_register(&a.operand)?)
-}
-
-/// Two registers.
-fn two_registers(operands: &[Arg<'_>]) -> Result<(Register, Register), AsmWhy>
-    ensures { ok_seen (λ r. (number_seen r.0, number_seen r.1)) result ≡ two_registers_in (operands_seen operands.now) }
-{
-    let [a, b] = operands else {
-        return Err(AsmWhy::Syntax);
-    };
-    let (a, b) = (as_register(&a.operand)?, as_register(&b.operand)?);
-    Ok((known(a)?, known(b)?))
-}
-
-/// Three registers.
-fn three_registers(operands: &[Arg<'_>]) -> Result<(Register, Register, Register), AsmWhy>
-    ensures { ok_seen (λ r. (number_seen r.0, number_seen r.1, number_seen r.2)) result ≡ three_registers_in (operands_seen operands.now) }
-{
-    let [a, b, c] = operands else {
-        return Err(AsmWhy::Syntax);
-    };
-    let (a, b, c) = (
-        as_register(&a.operand)?,
-        as_register(&b.operand)?,
-        as_register(&c.operand)?,
-    );
-    Ok((known(a)?, known(b)?, known(c)?))
-}
-
 /// An expression.
 pub(crate) fn value<'a>(operands: &[Arg<'a>]) -> Result<Expression<'a>, AsmWhy>
     ensures { ok_seen expression_seen result ≡ value_in (operands_seen operands.now) }
@@ -156,45 +254,6 @@ pub(crate) fn value<'a>(operands: &[Arg<'a>]) -> Result<Expression<'a>, AsmWhy>
         return Err(AsmWhy::Syntax);
     };
     as_value(&a.operand)
-}
-
-/// A register and an expression.
-fn register_and_value<'a>(operands: &[Arg<'a>]) -> Result<(Register, Expression<'a>), AsmWhy>
-    ensures { ok_seen (λ r. (number_seen r.0, expression_seen r.1)) result ≡ register_and_value_in (operands_seen operands.now) }
-{
-    let [a, b] = operands else {
-        return Err(AsmWhy::Syntax);
-    };
-    let (a, value) = (as_register(&a.operand)?, as_value(&b.operand)?);
-    Ok((known(a)?, value))
-}
-
-/// Two registers and an expression.
-fn two_registers_and_value<'a>(
-    operands: &[Arg<'a>],
-) -> Result<(Register, Register, Expression<'a>), AsmWhy>
-    ensures { ok_seen (λ r. (number_seen r.0, number_seen r.1, expression_seen r.2)) result ≡ two_registers_and_value_in (operands_seen operands.now) }
-{
-    let [a, b, c] = operands else {
-        return Err(AsmWhy::Syntax);
-    };
-    let (a, b, value) = (
-        as_register(&a.operand)?,
-        as_register(&b.operand)?,
-        as_value(&c.operand)?,
-    );
-    Ok((known(a)?, known(b)?, value))
-}
-
-/// A register, the register in brackets, and the offset before them.
-fn based<'a>(operands: &[Arg<'a>]) -> Result<(Register, Register, Expression<'a>), AsmWhy>
-    ensures { ok_seen (λ r. (number_seen r.0, number_seen r.1, expression_seen r.2)) result ≡ based_in (operands_seen operands.now) }
-{
-    let [a, b] = operands else {
-        return Err(AsmWhy::Syntax);
-    };
-    let (a, (offset, b)) = (as_register(&a.operand)?, as_based(&b.operand)?);
-    Ok((known(a)?, known(b)?, offset))
 }
 
 /// An expression, or 0 where there is none.

@@ -6,7 +6,7 @@ ghost use Rattle.asm_layout.specs.Layout.{laid};
 ghost use Rattle.asm_layout.specs.Seen.{layout_seen};
 
 use crate::layout::Layout;
-use asm_parse::{AsmFault, parse_line};
+use asm_parse::AsmFault;
 use line_text::cut;
 use std::alloc::Global;
 
@@ -29,9 +29,7 @@ fn laid<'a>(alloc: Global, source: &'a [u8]) -> Result<Layout<'a>, AsmFault>
 {
     let mut layout = Layout::new(alloc);
     for line in cut(source) {
-        if let Some(statement) = parse_line(alloc, &line)? {
-            layout.add(alloc, &statement)?;
-        }
+        layout.add(alloc, &line)?;
     }
     Ok(layout)
 }

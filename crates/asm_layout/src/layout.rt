@@ -10,7 +10,8 @@ use crate::padding::padding;
 use crate::section::{SECTION_LIMIT, Section};
 use crate::start::is_start;
 use crate::value::defined;
-use asm_parse::{AsmFault, AsmLine, AsmWhy, Expression, Name};
+use asm_parse::{AsmFault, AsmLine, AsmWhy, Expression, Name, parse_line};
+use line_text::Line;
 use std::alloc::Global;
 
 /// What a statement puts, and where.
@@ -52,14 +53,15 @@ pub struct Layout<'a> {
 const LARGEST_ALIGNMENT: u32 = 12;
 
 impl<'a> Layout<'a> {
-    ghost use Rattle.std.specs.Prelude.{◌≡◌, ◌+◌, ◌≤◌, ◌<◌, ◌++◌, ◌∷◌, [], None, OnOk, IfOk};
+    ghost use Rattle.std.specs.Prelude.{◌≡◌, ◌+◌, ◌≤◌, ◌<◌, ◌^◌, ◌++◌, ◌∷◌, [], None, OnOk, IfOk, length};
     ghost use Rattle.std.specs.Option.{option_copied, option_map};
     ghost use Rattle.std.specs.List.{AllByRecursion};
     ghost use Rattle.asm_parse.specs.Form.{Gives};
     ghost use Rattle.asm_parse.specs.Seen.{expression_seen};
-    ghost use Rattle.asm_layout.specs.Layout.{acted, appended, equated, is_start, labelled, named, nothing_placed, padded, place_of, put, stated, used_by};
+    ghost use Rattle.asm_layout.specs.Layout.{acted, appended, equated, is_start, labelled, line_added, named, nothing_placed, padded, place_of, put, stated, used_by};
     ghost use Rattle.asm_layout.specs.Content.{content_length};
-    ghost use Rattle.asm_layout.specs.Outcome.{in_line, Means};
+    ghost use Rattle.asm_layout.specs.Outcome.{Means};
+    ghost use Rattle.line_text.specs.LineView.{line_value};
     ghost use Rattle.asm_layout.specs.Seen.{action_seen, content_seen, layout_seen, placed_seen};
 
     /// No lines yet.
@@ -95,12 +97,15 @@ impl<'a> Layout<'a> {
         self.section.base() + self.used()
     }
 
-    /// Adds a line's statement.
-    pub(crate) fn add(&mut self, alloc: Global, statement: &AsmLine<'a>) -> Result<(), AsmFault>
-        ensures { Gives (λ _. layout_seen self.new) result (in_line statement.now.line (stated statement.now (layout_seen self.old))) }
+    /// Adds what a line says.
+    pub(crate) fn add(&mut self, alloc: Global, line: &Line<'a>) -> Result<(), AsmFault>
+        requires { line.now.start + length line.now.text.now < 2 ^ 32 }
+        ensures { Gives (λ _. layout_seen self.new) result (line_added (line_value line.now) (layout_seen self.old)) }
     {
-        let stated = self.state(alloc, statement);
-        at_line(statement.line, stated)
+        match parse_line(alloc, line)? {
+            Some(statement) => at_line(statement.line, self.state(alloc, &statement)),
+            None => Ok(()),
+        }
     }
 
     /// Reads a statement's operation, gives its label a value, and does what it asks for.

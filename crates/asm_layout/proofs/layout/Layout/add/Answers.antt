@@ -1,6 +1,7 @@
-use Rattle.asm_layout.proofs.OutcomeLemmas.{line_gives}
+use Rattle.std.proofs.Common.{Ok, ap, ◌∙◌}
+use Rattle.asm_layout.proofs.LineLemmas.{statement_gives}
 use Rattle.asm_layout.proofs.layout.Layout.add.Goals as goal
 
-pub returns : goal.returns
-returns c =
-    line_gives _ c.args.statement.now.line c.state-stated.result c.at_line.result _ c.state-stated.ensures c.at_line.ensures
+pub returns-in-Some : goal.returns-in-Some
+returns-in-Some c =
+    statement_gives _ _ c.in-Some.statement _ c.state.result c.at_line.result (c.in_ok-statement.ensures.said ∙ ap Ok c.in-Some.is) c.state.ensures c.at_line.ensures
