@@ -71,6 +71,12 @@ abbrev pub quoted_in : List OperandValue → Result (List ℕ) AsmWhy
 quoted_in (a ∷ []) = quoted_form a
 quoted_in _ = Err Syntax
 
+-- these bytes, and an ending behind them
+abbrev pub text_in : List ℕ → List OperandValue → Result Action AsmWhy
+text_in ending operands = do
+  bs ← quoted_in operands
+  Ok (Put (Given (bs ++ ending)))
+
 -- a number without openings
 abbrev pub number_alone : List ℕ → InnerValue → Result ℕ AsmWhy
 number_alone [] (Number n) = Ok n

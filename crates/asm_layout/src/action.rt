@@ -1,17 +1,20 @@
 //! What statements ask for.
 ghost use Rattle.std.specs.Prelude.{◌≡◌};
 ghost use Rattle.asm_parse.specs.Seen.{expression_seen};
-ghost use Rattle.asm_layout.specs.Action.{action_of, definition_in, directed, in_text, number_in, quoted_in, some_values_in, values_in, written_name, written_number};
+ghost use Rattle.asm_layout.specs.Action.{action_of, directed, number_in, quoted_in, text_in, values_in, written_name};
+ghost use Rattle.asm_parse.specs.declared.syntax.AsmBody.TheVariants.{Op};
+ghost use Rattle.asm_layout.specs.declared.directive.Directive.TheVariants.{Enter, Equ, Numbers};
 ghost use Rattle.asm_layout.specs.Outcome.{Means, ok_seen};
 ghost use Rattle.asm_layout.specs.Seen.{action_seen, expressions_seen, operands_seen};
 
 use crate::cause::Cause;
 use crate::content::Content;
 use crate::directive::Directive;
-use crate::draft::{Draft, nothing, value};
-use crate::operand::{as_quoted, as_value, operands};
+use crate::draft::Draft;
+use crate::number::NumberSize;
+use crate::operand::{as_value, operands};
 use crate::section::Section;
-use asm_parse::{Arg, AsmBody, AsmWhy, Expression, Inner};
+use asm_parse::{Arg, Args, AsmBody, AsmWhy, Expression, Inner, Name, Operand};
 use mips_text::find_text;
 use std::alloc::Global;
 
@@ -40,27 +43,24 @@ pub(crate) fn read_action<'a>(
 {
     match body {
         AsmBody::Nothing => Ok(Action::Put(Content::Zeros(0))),
-        AsmBody::Op { name, args } => {
-            let Some(text) = find_text(name.bytes()) else {
-                return Err(Cause::Why(AsmWhy::UnknownName));
-            };
-            in_text(section)?;
-            let draft = Draft::new(text, operands(args))?;
-            Ok(Action::Put(Content::Instruction(draft)))
-        }
-        AsmBody::Directive { name, args } => {
-            let directive = Directive::named(name.bytes()).ok_or(AsmWhy::UnknownName)?;
-            directed(alloc, directive, operands(args))
-        }
+        AsmBody::Op { name, args } => Ok(instruction(section, name, args)?),
+        AsmBody::Directive { name, args } => match Directive::named(name.bytes()) {
+            Some(directive) => directed(alloc, directive, operands(args)),
+            None => Err(Cause::Why(AsmWhy::UnknownName)),
+        },
     }
 }
 
-/// Instructions stand in the text.
-fn in_text(section: Section) -> Result<(), AsmWhy>
-    ensures { ok_seen (λ _. tt) result ≡ in_text section }
+/// The instruction that an operation in a section asks for.
+#[tactic(auto, unfolding(crate::specs::Action::action_of))]
+fn instruction<'a>(section: Section, name: &Name, args: &Args<'a>) -> Result<Action<'a>, AsmWhy>
+    ensures { ok_seen action_seen result ≡ action_of section (Op name.now args.now) }
 {
+    let Some(text) = find_text(name.bytes()) else {
+        return Err(AsmWhy::UnknownName);
+    };
     match section {
-        Section::Text => Ok(()),
+        Section::Text => Ok(Action::Put(Content::Instruction(Draft::new(text, operands(args))?))),
         Section::Data => Err(AsmWhy::Syntax),
     }
 }
@@ -75,40 +75,37 @@ fn directed<'a>(
     ensures { Means action_seen result (directed directive (operands_seen operands.now)) }
 {
     match directive {
-        Directive::Enter(section) => {
-            nothing(operands)?;
-            Ok(Action::Enter(section))
-        }
-        Directive::Numbers(size) => {
-            let expressions = some_values(alloc, operands)?;
-            Ok(Action::Put(Content::Numbers(size, expressions)))
-        }
-        Directive::Ascii => Ok(Action::Put(Content::Bytes(text(alloc, operands)?))),
-        Directive::Asciiz => {
-            let mut bytes = text(alloc, operands)?;
-            bytes.push(0)?;
-            Ok(Action::Put(Content::Bytes(bytes)))
-        }
-        Directive::Space => {
-            let count = number(operands)?;
-            Ok(Action::Put(Content::Zeros(count)))
-        }
+        Directive::Enter(section) => enter(section, operands),
+        Directive::Numbers(size) => numbers(alloc, size, operands),
+        Directive::Ascii => text(alloc, b"", operands),
+        Directive::Asciiz => text(alloc, b"\0", operands),
+        Directive::Space => Ok(Action::Put(Content::Zeros(number(operands)?))),
         Directive::Align => Ok(Action::Align(number(operands)?)),
-        Directive::Equ => {
-            let (name, value) = definition(operands)?;
-            Ok(Action::Define(name, value))
-        }
+        Directive::Equ => define(operands),
     }
 }
 
-/// One expression or more.
-fn some_values<'a>(alloc: Global, operands: &[Arg<'a>]) -> Result<Vec<Expression<'a>>, Cause>
-    ensures { Means (λ v. expressions_seen v.items) result (some_values_in (operands_seen operands.now)) }
+/// To go on in a section.
+#[tactic(auto, unfolding(crate::specs::Action::directed))]
+fn enter<'a>(section: Section, operands: &[Arg<'a>]) -> Result<Action<'a>, Cause>
+    ensures { Means action_seen result (directed (Enter section) (operands_seen operands.now)) }
+{
+    match operands {
+        [] => Ok(Action::Enter(section)),
+        _ => Err(Cause::Why(AsmWhy::Syntax)),
+    }
+}
+
+/// To put one number or more.
+#[tactic(auto, unfolding(crate::specs::Action::directed))]
+fn numbers<'a>(alloc: Global, size: NumberSize, operands: &[Arg<'a>]) -> Result<Action<'a>, Cause>
+    ensures { Means action_seen result (directed (Numbers size) (operands_seen operands.now)) }
 {
     if operands.is_empty() {
         return Err(Cause::Why(AsmWhy::Syntax));
     }
-    values(alloc, operands)
+    let expressions = values(alloc, operands)?;
+    Ok(Action::Put(Content::Numbers(size, expressions)))
 }
 
 /// Each operand an expression.
@@ -122,12 +119,13 @@ fn values<'a>(alloc: Global, operands: &[Arg<'a>]) -> Result<Vec<Expression<'a>>
     Ok(values)
 }
 
-/// The bytes that a quoted text means.
-fn text(alloc: Global, operands: &[Arg<'_>]) -> Result<Vec<u8>, Cause>
-    ensures { Means (λ v. v.items) result (quoted_in (operands_seen operands.now)) }
+/// To put the bytes that a quoted text means, and an ending behind them.
+fn text<'a>(alloc: Global, ending: &[u8], operands: &[Arg<'a>]) -> Result<Action<'a>, Cause>
+    ensures { Means action_seen result (text_in ending.now (operands_seen operands.now)) }
 {
-    let text = quoted(operands)?;
-    Ok(Vec::from_slice(alloc, text)?)
+    let mut bytes = Vec::from_slice(alloc, quoted(operands)?)?;
+    bytes.extend_from_slice(ending)?;
+    Ok(Action::Put(Content::Bytes(bytes)))
 }
 
 /// The bytes that a quoted text means.
@@ -137,23 +135,43 @@ fn quoted<'b>(operands: &'b [Arg<'_>]) -> Result<&'b [u8], AsmWhy>
     let [a] = operands else {
         return Err(AsmWhy::Syntax);
     };
-    as_quoted(&a.operand)
+    match &a.operand {
+        Operand::Quoted(text) => Ok(text.as_slice()),
+        _ => Err(AsmWhy::Syntax),
+    }
 }
 
 /// An expression that is written as a number.
 fn number(operands: &[Arg<'_>]) -> Result<u32, AsmWhy>
     ensures { result ≡ number_in (operands_seen operands.now) }
 {
-    written_number(value(operands)?)
+    let [a] = operands else {
+        return Err(AsmWhy::Syntax);
+    };
+    match &a.operand {
+        Operand::Value(
+            Expression {
+                openings: [],
+                inner: Inner::Number(number),
+            },
+        ) => Ok(*number),
+        _ => Err(AsmWhy::Syntax),
+    }
 }
 
-/// The number that an expression is written as.
-fn written_number(expression: Expression<'_>) -> Result<u32, AsmWhy>
-    ensures { result ≡ written_number (expression_seen expression.entry) }
+/// To give a name the value of an expression.
+#[tactic(auto, unfolding(crate::specs::Action::directed))]
+fn define<'a>(operands: &[Arg<'a>]) -> Result<Action<'a>, Cause>
+    ensures { Means action_seen result (directed Equ (operands_seen operands.now)) }
 {
-    match expression.inner {
-        Inner::Number(number) if expression.openings.is_empty() => Ok(number),
-        _ => Err(AsmWhy::Syntax),
+    let [a, b] = operands else {
+        return Err(Cause::Why(AsmWhy::Syntax));
+    };
+    match (&a.operand, &b.operand) {
+        (Operand::Value(name), Operand::Value(value)) => {
+            Ok(Action::Define(written_name(*name)?, *value))
+        }
+        _ => Err(Cause::Why(AsmWhy::Syntax)),
     }
 }
 
@@ -165,15 +183,4 @@ fn written_name(expression: Expression<'_>) -> Result<&[u8], AsmWhy>
         Inner::Name(name) if expression.openings.is_empty() => Ok(name),
         _ => Err(AsmWhy::Syntax),
     }
-}
-
-/// A name and an expression.
-fn definition<'a>(operands: &[Arg<'a>]) -> Result<(&'a [u8], Expression<'a>), AsmWhy>
-    ensures { ok_seen (λ d. (d.0.now, expression_seen d.1)) result ≡ definition_in (operands_seen operands.now) }
-{
-    let [a, b] = operands else {
-        return Err(AsmWhy::Syntax);
-    };
-    let (name, value) = (as_value(&a.operand)?, as_value(&b.operand)?);
-    Ok((written_name(name)?, value))
 }

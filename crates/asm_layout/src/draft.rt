@@ -3,7 +3,7 @@ ghost use Rattle.std.specs.Prelude.{◌≡◌, ◌<◌};
 ghost use Rattle.asm_layout.specs.Outcome.{ok_seen};
 ghost use Rattle.asm_parse.specs.Seen.{expression_seen};
 ghost use Rattle.mips_text.specs.declared.shape.Shape.TheVariants.{Alone, One, Two, Three, Field0, Field1, Field2, Coded, Memory};
-ghost use Rattle.asm_layout.specs.Draft.{code_in, load_of, nothing_in, shaped, value_in};
+ghost use Rattle.asm_layout.specs.Draft.{code_in, load_of, shaped, value_in};
 ghost use Rattle.asm_layout.specs.Seen.{draft_seen, operands_seen};
 
 use crate::operand::as_value;
@@ -236,24 +236,14 @@ fn load<'a>(operands: &[Arg<'a>]) -> Result<Draft<'a>, AsmWhy>
     }
 }
 
-/// No operands.
-pub(crate) fn nothing(operands: &[Arg<'_>]) -> Result<(), AsmWhy>
-    ensures { ok_seen (λ _. tt) result ≡ nothing_in (operands_seen operands.now) }
-{
-    match operands {
-        [] => Ok(()),
-        _ => Err(AsmWhy::Syntax),
-    }
-}
-
 /// An expression.
-pub(crate) fn value<'a>(operands: &[Arg<'a>]) -> Result<Expression<'a>, AsmWhy>
+fn value<'a>(operands: &[Arg<'a>]) -> Result<Expression<'a>, AsmWhy>
     ensures { ok_seen expression_seen result ≡ value_in (operands_seen operands.now) }
 {
-    let [a] = operands else {
-        return Err(AsmWhy::Syntax);
-    };
-    as_value(&a.operand)
+    match operands {
+        [a] => as_value(&a.operand),
+        _ => Err(AsmWhy::Syntax),
+    }
 }
 
 /// An expression, or 0 where there is none.
