@@ -20,6 +20,13 @@ parts_of sections =
 abbrev pub program_of : Layout → Sections → ObjectValue
 program_of layout sections = record { entry = unwrap_or layout.start (base_of Text); parts = parts_of sections }
 
+-- that there is no text; the first fault of the second pass; or the program
+abbrev pub linked : Layout → Result ObjectValue AsmFault
+linked layout =
+    if layout.text == 0 then Err (At 1 Empty) else do
+      sections ← filled layout
+      Ok (program_of layout sections)
+
 -- The first fault of the first pass; that there is no text; the first fault of the second pass; or the program.
 unfoldable pub assembled : List ℕ → Result ObjectValue AsmFault
 assembled source = do

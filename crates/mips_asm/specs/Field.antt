@@ -36,6 +36,12 @@ field_of Branch place v = aligned_target v (ranged (lies (2 ^ 17) (2 ^ 17 - 4) (
 -- a jump reaches what has bits 31:28 of the word after it
 field_of Jump place v = aligned_target v (ranged (v / 2 ^ 28 == (place + 4) / 2 ^ 28) (v % 2 ^ 28 / 4))
 
+-- and its bits of the word
+abbrev pub bits_of : Field → ℕ → ℕ → Result ℕ AsmWhy
+bits_of field place v = do
+  n ← field_of field place v
+  Ok (field_word field n)
+
 -- the field of an expression, in an instruction at a place
 abbrev pub field_in : Names → Field → ℕ → ExpressionValue → Result ℕ AsmWhy
 field_in names field place e = do

@@ -4,7 +4,7 @@ ghost use Rattle.asm_parse.specs.Form.{Gives};
 ghost use Rattle.elf_static.specs.Seen.{object_seen};
 ghost use Rattle.elf_static.specs.Writable.{IsWritable};
 ghost use Rattle.asm_layout.specs.Seen.{layout_seen};
-ghost use Rattle.mips_asm.specs.Assembled.{IsDue, assembled, parts_of, program_of};
+ghost use Rattle.mips_asm.specs.Assembled.{IsDue, assembled, linked, parts_of, program_of};
 ghost use Rattle.mips_asm.specs.Seen.{sections_seen};
 
 use crate::second::Sections;
@@ -38,14 +38,21 @@ fn assembly(alloc: Global, source: &[u8]) -> Result<Object, AsmFault>
     ensures { Gives object_seen result (assembled source.now) }
 {
     let layout = lay_out(alloc, source)?;
+    linked(alloc, &layout)
+}
+
+/// The program of what the first pass has placed.
+fn linked(alloc: Global, layout: &Layout<'_>) -> Result<Object, AsmFault>
+    ensures { Gives object_seen result (linked (layout_seen layout.now)) }
+{
     if layout.text == 0 {
         return Err(AsmFault::At {
             line: EMPTY_LINE,
             why: AsmWhy::Empty,
         });
     }
-    let sections = Sections::of(alloc, &layout)?;
-    Ok(program(alloc, &layout, sections)?)
+    let sections = Sections::of(alloc, layout)?;
+    Ok(program(alloc, layout, sections)?)
 }
 
 /// The program of sections.

@@ -2,14 +2,14 @@
 ghost use Rattle.std.specs.Prelude.{◌≡◌, ◌+◌, ◌<◌, ◌^◌, ◌++◌, OnOk, replicate};
 ghost use Rattle.std.specs.List.{flat_map, list_all};
 ghost use Rattle.asm_layout.specs.Outcome.{Means};
-ghost use Rattle.asm_layout.specs.Seen.{content_seen, expressions_seen, placed_seen};
-ghost use Rattle.mips_asm.specs.Emission.{bytes_of, values_of};
+ghost use Rattle.asm_layout.specs.Seen.{content_seen, draft_seen, expressions_seen, placed_seen};
+ghost use Rattle.mips_asm.specs.Emission.{bytes_of, draft_bytes, expressions_bytes, values_of};
 ghost use Rattle.mips_asm.specs.Number.{number_bytes, number_fits, numbers_bytes};
 ghost use Rattle.mips_asm.specs.Second.{earlier, emitted, onto, start_fault, start_fault_of, unless_start_cause};
 
 use crate::number::{fits, push_number};
 use crate::words::{draft_words, push_words};
-use asm_layout::{Cause, Content, Names, NumberSize, Placed, Section, defined};
+use asm_layout::{Cause, Content, Draft, Names, NumberSize, Placed, Section, defined};
 use asm_parse::{AsmWhy, Expression};
 use std::alloc::{AllocError, Global};
 
@@ -90,18 +90,35 @@ fn push_content(
     ensures { Means (λ _. out.new.items) result (onto out.old.items (bytes_of names.now placed.now.place (content_seen placed.now.content))) }
 {
     match &placed.content {
-        Content::Instruction(draft) => {
-            let words = draft_words(*draft, names, placed.place)?;
-            push_words(out, words)?;
-        }
-        Content::Numbers(size, numbers) => {
-            let values = values(alloc, names, numbers)?;
-            push_numbers(out, *size, &values)?;
-        }
-        Content::Bytes(bytes) => out.extend_from_slice(bytes)?,
-        Content::Zeros(count) => push_zeros(out, *count)?,
+        Content::Instruction(draft) => push_draft(out, names, placed.place, *draft),
+        Content::Numbers(size, numbers) => push_expressions(out, alloc, names, *size, numbers),
+        Content::Bytes(bytes) => Ok(out.extend_from_slice(bytes)?),
+        Content::Zeros(count) => Ok(push_zeros(out, *count)?),
     }
+}
+
+/// Puts the words of an instruction at a place at the end. The fault is Undefined, Unaligned or OutOfRange.
+fn push_draft(out: &mut Vec<u8>, names: &Names, place: u32, draft: Draft<'_>) -> Result<(), Cause>
+    requires { place + 4 < 2 ^ 32 }
+    ensures { Means (λ _. out.new.items) result (onto out.old.items (draft_bytes names.now place (draft_seen draft.entry))) }
+{
+    let words = draft_words(draft, names, place)?;
+    push_words(out, words)?;
     Ok(())
+}
+
+/// Puts the values of expressions at the end. The fault is Undefined or OutOfRange.
+fn push_expressions(
+    out: &mut Vec<u8>,
+    alloc: Global,
+    names: &Names,
+    size: NumberSize,
+    expressions: &[Expression<'_>],
+) -> Result<(), Cause>
+    ensures { Means (λ _. out.new.items) result (onto out.old.items (expressions_bytes names.now size (expressions_seen expressions.now))) }
+{
+    let values = values(alloc, names, expressions)?;
+    push_numbers(out, size, &values)
 }
 
 /// The values of expressions. The fault is Undefined.

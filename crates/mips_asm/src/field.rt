@@ -2,7 +2,7 @@
 ghost use Rattle.std.specs.Prelude.{◌≡◌, ◌<◌, ◌^◌, ◌+◌, IfOk};
 ghost use Rattle.asm_parse.specs.Seen.{expression_seen};
 ghost use Rattle.mips_text.specs.declared.shape.Field.TheVariants.{Amount, Branch, Code, Jump, Signed, Unsigned};
-ghost use Rattle.mips_asm.specs.Field.{distance, field_bits_in, field_in, lies};
+ghost use Rattle.mips_asm.specs.Field.{bits_of, distance, field_bits_in, lies};
 
 use asm_layout::{Names, defined};
 use asm_parse::{AsmWhy, Expression};
@@ -27,48 +27,48 @@ pub(crate) fn field_bits(
     ensures value { result ≡ field_bits_in names.now field place (expression_seen expression.entry) }
     ensures within { IfOk result (λ bits. bits < 2 ^ 26) }
 {
+    let value = defined(names, expression)?;
     match field {
-        Field::Amount => Ok(u32::from(amount(names, expression)?) << 6),
-        Field::Signed => Ok(u32::from(signed(names, expression)?)),
-        Field::Unsigned => Ok(u32::from(unsigned(names, expression)?)),
-        Field::Code => Ok(code(names, expression)? << 6),
-        Field::Branch => Ok(u32::from(branch(names, place, expression)?)),
-        Field::Jump => jump(names, place, expression),
+        Field::Amount => amount(value),
+        Field::Signed => signed(value),
+        Field::Unsigned => unsigned(value),
+        Field::Code => code(value),
+        Field::Branch => branch(place, value),
+        Field::Jump => jump(place, value),
     }
 }
 
 /// A shift amount.
-fn amount(names: &Names, expression: Expression<'_>) -> Result<u8, AsmWhy>
-    ensures value { result ≡ field_in names.now Amount 0 (expression_seen expression.entry) }
-    ensures within { IfOk result (λ n. n < 32) }
+fn amount(value: u32) -> Result<u32, AsmWhy>
+    ensures value { result ≡ bits_of Amount 0 value }
+    ensures within { IfOk result (λ bits. bits < 2 ^ 26) }
 {
-    let value = defined(names, expression)?;
     if lies(0, 31, value) {
-        Ok(value as u8)
+        Ok(value << 6)
     } else {
         Err(AsmWhy::OutOfRange)
     }
 }
 
 /// A half that is extended with its sign.
-fn signed(names: &Names, expression: Expression<'_>) -> Result<u16, AsmWhy>
-    ensures { result ≡ field_in names.now Signed 0 (expression_seen expression.entry) }
+fn signed(value: u32) -> Result<u32, AsmWhy>
+    ensures value { result ≡ bits_of Signed 0 value }
+    ensures within { IfOk result (λ bits. bits < 2 ^ 26) }
 {
-    let value = defined(names, expression)?;
     if lies(32768, 32767, value) {
-        Ok((value & 0xffff) as u16)
+        Ok(value & 0xffff)
     } else {
         Err(AsmWhy::OutOfRange)
     }
 }
 
 /// A half that is extended with zeros.
-fn unsigned(names: &Names, expression: Expression<'_>) -> Result<u16, AsmWhy>
-    ensures { result ≡ field_in names.now Unsigned 0 (expression_seen expression.entry) }
+fn unsigned(value: u32) -> Result<u32, AsmWhy>
+    ensures value { result ≡ bits_of Unsigned 0 value }
+    ensures within { IfOk result (λ bits. bits < 2 ^ 26) }
 {
-    let value = defined(names, expression)?;
     if lies(0, 65535, value) {
-        Ok(value as u16)
+        Ok(value)
     } else {
         Err(AsmWhy::OutOfRange)
     }
@@ -78,13 +78,12 @@ fn unsigned(names: &Names, expression: Expression<'_>) -> Result<u16, AsmWhy>
 const LAST_CODE: u32 = (1 << 20) - 1;
 
 /// The code of a trap.
-fn code(names: &Names, expression: Expression<'_>) -> Result<u32, AsmWhy>
-    ensures value { result ≡ field_in names.now Code 0 (expression_seen expression.entry) }
-    ensures within { IfOk result (λ n. n < 2 ^ 20) }
+fn code(value: u32) -> Result<u32, AsmWhy>
+    ensures value { result ≡ bits_of Code 0 value }
+    ensures within { IfOk result (λ bits. bits < 2 ^ 26) }
 {
-    let value = defined(names, expression)?;
     if lies(0, LAST_CODE, value) {
-        Ok(value)
+        Ok(value << 6)
     } else {
         Err(AsmWhy::OutOfRange)
     }
@@ -97,17 +96,17 @@ const BRANCH_BACK: u32 = 1 << 17;
 const BRANCH_ON: u32 = BRANCH_BACK - 4;
 
 /// How many words a branch at a place goes on from the word after it, modulo 2^16.
-fn branch(names: &Names, place: u32, expression: Expression<'_>) -> Result<u16, AsmWhy>
+fn branch(place: u32, target: u32) -> Result<u32, AsmWhy>
     requires { place + 4 < 2 ^ 32 }
-    ensures { result ≡ field_in names.now Branch place (expression_seen expression.entry) }
+    ensures value { result ≡ bits_of Branch place target }
+    ensures within { IfOk result (λ bits. bits < 2 ^ 26) }
 {
-    let target = defined(names, expression)?;
     if target % 4 != 0 {
         return Err(AsmWhy::Unaligned);
     }
     let distance = distance(place, target);
     if lies(BRANCH_BACK, BRANCH_ON, distance) {
-        Ok((distance / 4 % (1 << 16)) as u16)
+        Ok(distance / 4 % (1 << 16))
     } else {
         Err(AsmWhy::OutOfRange)
     }
@@ -125,12 +124,11 @@ fn distance(place: u32, address: u32) -> u32
 const JUMP_REGION: u32 = 1 << 28;
 
 /// The target of a jump at a place.
-fn jump(names: &Names, place: u32, expression: Expression<'_>) -> Result<u32, AsmWhy>
+fn jump(place: u32, target: u32) -> Result<u32, AsmWhy>
     requires { place + 4 < 2 ^ 32 }
-    ensures value { result ≡ field_in names.now Jump place (expression_seen expression.entry) }
-    ensures within { IfOk result (λ n. n < 2 ^ 26) }
+    ensures value { result ≡ bits_of Jump place target }
+    ensures within { IfOk result (λ bits. bits < 2 ^ 26) }
 {
-    let target = defined(names, expression)?;
     if target % 4 != 0 {
         return Err(AsmWhy::Unaligned);
     }

@@ -3,7 +3,7 @@
 use crate::emission::emit;
 use asm_layout::{Layout, Names, Placed, Section, at_line};
 use asm_parse::AsmFault;
-use std::alloc::Global;
+use std::alloc::{AllocError, Global};
 
 /// The bytes of the sections.
 #[derive(Drop)]
@@ -15,10 +15,10 @@ pub(crate) struct Sections {
 }
 
 impl Sections {
-    ghost use Rattle.std.specs.Prelude.{◌≡◌};
+    ghost use Rattle.std.specs.Prelude.{◌≡◌, [], IfOk};
     ghost use Rattle.asm_parse.specs.Form.{Gives};
-    ghost use Rattle.asm_layout.specs.Seen.{layout_seen, placed_seen};
-    ghost use Rattle.mips_asm.specs.Second.{filled, widened};
+    ghost use Rattle.asm_layout.specs.Seen.{all_placed_seen, layout_seen, placed_seen};
+    ghost use Rattle.mips_asm.specs.Second.{filled, filled_from, widened};
     ghost use Rattle.mips_asm.specs.Seen.{sections_seen};
 
     /// The sections of what the first pass has placed.
@@ -26,14 +26,28 @@ impl Sections {
     pub(crate) fn of(alloc: Global, layout: &Layout<'_>) -> Result<Sections, AsmFault>
         ensures { Gives sections_seen result (filled (layout_seen layout.now)) }
     {
-        let mut sections = Sections {
-            text: Vec::with_capacity(alloc, layout.text as usize)?,
-            data_bytes: Vec::with_capacity(alloc, layout.data_bytes as usize)?,
-        };
-        for placed in &layout.placed {
-            sections.add(alloc, &layout.names, layout.text, placed)?;
-        }
+        let mut sections = Sections::empty(alloc, layout)?;
+        sections.fill(alloc, layout)?;
         Ok(sections)
+    }
+
+    /// No bytes yet, with room for those of a layout.
+    fn empty(alloc: Global, layout: &Layout<'_>) -> Result<Sections, AllocError>
+        ensures { IfOk result (λ sections. sections_seen sections ≡ record { text = []; data_bytes = [] }) }
+    {
+        let text = Vec::with_capacity(alloc, layout.text as usize)?;
+        let data_bytes = Vec::with_capacity(alloc, layout.data_bytes as usize)?;
+        Ok(Sections { text, data_bytes })
+    }
+
+    /// Adds the bytes of each statement of a layout.
+    fn fill(&mut self, alloc: Global, layout: &Layout<'_>) -> Result<(), AsmFault>
+        ensures { Gives (λ _. sections_seen self.new) result (filled_from layout.now.names layout.now.text (sections_seen self.old) (all_placed_seen layout.now.placed.items)) }
+    {
+        for placed in &layout.placed {
+            self.add(alloc, &layout.names, layout.text, placed)?;
+        }
+        Ok(())
     }
 
     /// Adds the bytes of a statement, in a text of so many bytes.
