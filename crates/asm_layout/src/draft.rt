@@ -1,12 +1,10 @@
 //! Instructions as they are read.
 ghost use Rattle.std.specs.Prelude.{◌≡◌, ◌<◌};
 ghost use Rattle.asm_layout.specs.Outcome.{ok_seen};
-ghost use Rattle.asm_parse.specs.Seen.{expression_seen};
 ghost use Rattle.mips_text.specs.declared.shape.Shape.TheVariants.{Alone, One, Two, Three, Field0, Field1, Field2, Coded, Memory};
-ghost use Rattle.asm_layout.specs.Draft.{code_in, load_of, shaped, value_in};
+ghost use Rattle.asm_layout.specs.Draft.{load_of, shaped};
 ghost use Rattle.asm_layout.specs.Seen.{draft_seen, operands_seen};
 
-use crate::operand::as_value;
 use crate::word::{Word, with_one, with_three, with_two};
 use asm_parse::{Arg, AsmWhy, Expression, Operand, Register};
 use mips_text::{Field, Shape, Slot, Text};
@@ -140,8 +138,13 @@ fn field0<'a>(word: u32, field: Field, operands: &[Arg<'a>]) -> Result<Draft<'a>
     requires { word < 0xc0000000 }
     ensures { ok_seen draft_seen result ≡ shaped (Field0 field) word (operands_seen operands.now) }
 {
-    let value = value(operands)?;
-    Ok(Draft::Filled(field, Word { value: word }, value))
+    let [a] = operands else {
+        return Err(AsmWhy::Syntax);
+    };
+    match &a.operand {
+        Operand::Value(value) => Ok(Draft::Filled(field, Word { value: word }, *value)),
+        _ => Err(AsmWhy::Syntax),
+    }
 }
 
 /// An instruction with a register and an expression.
@@ -199,8 +202,11 @@ fn coded<'a>(word: u32, operands: &[Arg<'a>]) -> Result<Draft<'a>, AsmWhy>
     requires { word < 0xc0000000 }
     ensures { ok_seen draft_seen result ≡ shaped Coded word (operands_seen operands.now) }
 {
-    let code = code(operands)?;
-    Ok(Draft::Filled(Field::Code, Word { value: word }, code))
+    if operands.is_empty() {
+        let word = Word { value: word };
+        return Ok(Draft::Filled(Field::Code, word, Expression::ZERO));
+    }
+    field0(word, Field::Code, operands)
 }
 
 /// An instruction with a register, and with an offset and a register in brackets.
@@ -233,26 +239,5 @@ fn load<'a>(operands: &[Arg<'a>]) -> Result<Draft<'a>, AsmWhy>
         (Operand::Register(Some(a)), Operand::Value(value)) => Ok(Draft::Halves(*a, *value)),
         (Operand::Register(None), Operand::Value(_)) => Err(AsmWhy::UnknownName),
         _ => Err(AsmWhy::Syntax),
-    }
-}
-
-/// An expression.
-fn value<'a>(operands: &[Arg<'a>]) -> Result<Expression<'a>, AsmWhy>
-    ensures { ok_seen expression_seen result ≡ value_in (operands_seen operands.now) }
-{
-    match operands {
-        [a] => as_value(&a.operand),
-        _ => Err(AsmWhy::Syntax),
-    }
-}
-
-/// An expression, or 0 where there is none.
-fn code<'a>(operands: &[Arg<'a>]) -> Result<Expression<'a>, AsmWhy>
-    ensures { ok_seen expression_seen result ≡ code_in (operands_seen operands.now) }
-{
-    if operands.is_empty() {
-        Ok(Expression::ZERO)
-    } else {
-        value(operands)
     }
 }

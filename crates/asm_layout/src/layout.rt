@@ -98,6 +98,7 @@ impl<'a> Layout<'a> {
     }
 
     /// Adds what a line says.
+    #[tactic(auto, using(crate::proofs::LineLemmas::statement_gives))]
     pub(crate) fn add(&mut self, alloc: Global, line: &Line<'a>) -> Result<(), AsmFault>
         requires { line.now.start + length line.now.text.now < 2 ^ 32 }
         ensures { Gives (λ _. layout_seen self.new) result (line_added (line_value line.now) (layout_seen self.old)) }
