@@ -58,7 +58,7 @@ impl<'a> Layout<'a> {
     ghost use Rattle.std.specs.List.{AllByRecursion};
     ghost use Rattle.asm_parse.specs.Form.{Gives};
     ghost use Rattle.asm_parse.specs.Seen.{expression_seen};
-    ghost use Rattle.asm_layout.specs.Layout.{acted, appended, equated, is_start, labelled, line_added, named, nothing_placed, padded, place_of, put, stated, used_by};
+    ghost use Rattle.asm_layout.specs.Layout.{acted, appended, equated, is_start, labelled, line_added, nothing_placed, padded, place_of, put, stated, used_by};
     ghost use Rattle.asm_layout.specs.Content.{content_length};
     ghost use Rattle.asm_layout.specs.Outcome.{Means};
     ghost use Rattle.line_text.specs.LineView.{line_value};
@@ -126,22 +126,14 @@ impl<'a> Layout<'a> {
         let Some(name) = label else {
             return Ok(());
         };
+        if self.names.value(name.bytes()).is_some() {
+            return Err(Cause::Why(AsmWhy::Redefined));
+        }
         let place = self.place();
-        self.name(alloc, name.bytes(), place)?;
+        self.names.add(alloc, name.bytes(), place)?;
         if is_start(label) {
             self.start = Some(place);
         }
-        Ok(())
-    }
-
-    /// Gives a name its value, where it has none yet.
-    fn name(&mut self, alloc: Global, name: &[u8], value: u32) -> Result<(), Cause>
-        ensures { Means (λ _. layout_seen self.new) result (named name.now value (layout_seen self.old)) }
-    {
-        if self.names.value(name).is_some() {
-            return Err(Cause::Why(AsmWhy::Redefined));
-        }
-        self.names.add(alloc, name, value)?;
         Ok(())
     }
 
@@ -195,7 +187,8 @@ impl<'a> Layout<'a> {
             return Err(Cause::Why(AsmWhy::Redefined));
         }
         let value = defined(&self.names, expression)?;
-        self.name(alloc, constant, value)
+        self.names.add(alloc, constant, value)?;
+        Ok(())
     }
 
     /// Puts a content at the place, where it is aligned and the section has room.
