@@ -1,5 +1,5 @@
 -- What a line says.
-use Rattle.std.proofs.Common.{◌≡◌, Option, Some, Result, Ok, ◌∙◌, ap, subst, sym}
+use Rattle.std.proofs.Common.{◌≡◌, Option, Some, Result, Ok, subst, sym}
 use Rattle.asm_parse.specs.Form.{Gives, due_of}
 use Rattle.asm_parse.specs.declared.fault.AsmFault.{AsmFault}
 use Rattle.asm_parse.specs.declared.syntax.AsmLine.{AsmLine}

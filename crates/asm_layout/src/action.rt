@@ -4,7 +4,7 @@ ghost use Rattle.asm_parse.specs.Seen.{expression_seen};
 ghost use Rattle.asm_layout.specs.Action.{action_of, directed, number_in, quoted_in, text_in, values_in, written_name};
 ghost use Rattle.asm_parse.specs.declared.syntax.AsmBody.TheVariants.{Op};
 ghost use Rattle.asm_layout.specs.declared.directive.Directive.TheVariants.{Enter, Equ, Numbers};
-ghost use Rattle.asm_layout.specs.Outcome.{Means, ok_seen};
+ghost use Rattle.asm_layout.specs.Outcome.{Means};
 ghost use Rattle.asm_layout.specs.Seen.{action_seen, expressions_seen, operands_seen};
 
 use crate::cause::Cause;
@@ -43,7 +43,7 @@ pub(crate) fn read_action<'a>(
 {
     match body {
         AsmBody::Nothing => Ok(Action::Put(Content::Zeros(0))),
-        AsmBody::Op { name, args } => Ok(instruction(section, name, args)?),
+        AsmBody::Op { name, args } => instruction(section, name, args),
         AsmBody::Directive { name, args } => match Directive::named(name.bytes()) {
             Some(directive) => directed(alloc, directive, operands(args)),
             None => Err(Cause::Why(AsmWhy::UnknownName)),
@@ -53,15 +53,15 @@ pub(crate) fn read_action<'a>(
 
 /// The instruction that an operation in a section asks for.
 #[tactic(auto, unfolding(crate::specs::Action::action_of))]
-fn instruction<'a>(section: Section, name: &Name, args: &Args<'a>) -> Result<Action<'a>, AsmWhy>
-    ensures { ok_seen action_seen result ≡ action_of section (Op name.now args.now) }
+fn instruction<'a>(section: Section, name: &Name, args: &Args<'a>) -> Result<Action<'a>, Cause>
+    ensures { Means action_seen result (action_of section (Op name.now args.now)) }
 {
     let Some(text) = find_text(name.bytes()) else {
-        return Err(AsmWhy::UnknownName);
+        return Err(Cause::Why(AsmWhy::UnknownName));
     };
     match section {
         Section::Text => Ok(Action::Put(Content::Instruction(Draft::new(text, operands(args))?))),
-        Section::Data => Err(AsmWhy::Syntax),
+        Section::Data => Err(Cause::Why(AsmWhy::Syntax)),
     }
 }
 
@@ -129,24 +129,24 @@ fn text<'a>(alloc: Global, ending: &[u8], operands: &[Arg<'a>]) -> Result<Action
 }
 
 /// The bytes that a quoted text means.
-fn quoted<'b>(operands: &'b [Arg<'_>]) -> Result<&'b [u8], AsmWhy>
-    ensures { ok_seen (λ text. text.now) result ≡ quoted_in (operands_seen operands.now) }
+fn quoted<'b>(operands: &'b [Arg<'_>]) -> Result<&'b [u8], Cause>
+    ensures { Means (λ text. text.now) result (quoted_in (operands_seen operands.now)) }
 {
     let [a] = operands else {
-        return Err(AsmWhy::Syntax);
+        return Err(Cause::Why(AsmWhy::Syntax));
     };
     match &a.operand {
         Operand::Quoted(text) => Ok(text.as_slice()),
-        _ => Err(AsmWhy::Syntax),
+        _ => Err(Cause::Why(AsmWhy::Syntax)),
     }
 }
 
 /// An expression that is written as a number.
-fn number(operands: &[Arg<'_>]) -> Result<u32, AsmWhy>
-    ensures { result ≡ number_in (operands_seen operands.now) }
+fn number(operands: &[Arg<'_>]) -> Result<u32, Cause>
+    ensures { Means (λ number. number) result (number_in (operands_seen operands.now)) }
 {
     let [a] = operands else {
-        return Err(AsmWhy::Syntax);
+        return Err(Cause::Why(AsmWhy::Syntax));
     };
     match &a.operand {
         Operand::Value(
@@ -155,7 +155,7 @@ fn number(operands: &[Arg<'_>]) -> Result<u32, AsmWhy>
                 inner: Inner::Number(number),
             },
         ) => Ok(*number),
-        _ => Err(AsmWhy::Syntax),
+        _ => Err(Cause::Why(AsmWhy::Syntax)),
     }
 }
 
@@ -176,11 +176,11 @@ fn define<'a>(operands: &[Arg<'a>]) -> Result<Action<'a>, Cause>
 }
 
 /// The name that an expression is written as.
-fn written_name(expression: Expression<'_>) -> Result<&[u8], AsmWhy>
-    ensures { ok_seen (λ name. name.now) result ≡ written_name (expression_seen expression.entry) }
+fn written_name(expression: Expression<'_>) -> Result<&[u8], Cause>
+    ensures { Means (λ name. name.now) result (written_name (expression_seen expression.entry)) }
 {
     match expression.inner {
         Inner::Name(name) if expression.openings.is_empty() => Ok(name),
-        _ => Err(AsmWhy::Syntax),
+        _ => Err(Cause::Why(AsmWhy::Syntax)),
     }
 }
