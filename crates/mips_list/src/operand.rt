@@ -1,5 +1,5 @@
 //! The operands of instructions, as the bits of a word say them.
-ghost use Rattle.std.specs.Prelude.{◌≡◌, ◌++◌, ◌∷◌, [], ◌≤◌, OnOk, ◌<◌, ◌^◌};
+ghost use Rattle.std.specs.Prelude.{◌≡◌, ◌++◌, ◌∷◌, ◌≤◌, OnOk, ◌<◌, ◌^◌};
 ghost use Rattle.mips_list.specs.Growth.{Keeps};
 ghost use Rattle.mips_list.specs.WordText.{based_text, branch_target, field_text, hexadecimal, jump_target, operand_texts, signed_text, slot_text, spaced};
 
@@ -26,15 +26,23 @@ pub(crate) fn push_operands(
     match shape {
         Shape::Alone => Ok(()),
         Shape::One(a) => push_slot(FIRST, a, word, out),
-        Shape::Two(a, b) => push_slots(a, b, word, out),
+        Shape::Two(a, b) => {
+            push_slot(FIRST, a, word, out)?;
+            push_slot(NEXT, b, word, out)
+        }
         Shape::Three(a, b, c) => {
-            push_slots(a, b, word, out)?;
+            push_slot(FIRST, a, word, out)?;
+            push_slot(NEXT, b, word, out)?;
             push_slot(NEXT, c, word, out)
         }
         Shape::Field0(field) => push_field(FIRST, field, word, address, out),
-        Shape::Field1(a, field) => push_slot_and_field(a, field, word, address, out),
+        Shape::Field1(a, field) => {
+            push_slot(FIRST, a, word, out)?;
+            push_field(NEXT, field, word, address, out)
+        }
         Shape::Field2(a, b, field) => {
-            push_slots(a, b, word, out)?;
+            push_slot(FIRST, a, word, out)?;
+            push_slot(NEXT, b, word, out)?;
             push_field(NEXT, field, word, address, out)
         }
         Shape::Coded => push_code(word, address, out),
@@ -42,32 +50,11 @@ pub(crate) fn push_operands(
             push_slot(FIRST, Slot::Rt, word, out)?;
             push_based(NEXT, word, address, out)
         }
-        Shape::Load => push_slot_and_field(Slot::Rt, Field::Unsigned, word, address, out),
+        Shape::Load => {
+            push_slot(FIRST, Slot::Rt, word, out)?;
+            push_field(NEXT, Field::Unsigned, word, address, out)
+        }
     }
-}
-
-/// Appends the first two operands of a word, which are registers.
-fn push_slots(a: Slot, b: Slot, word: u32, out: &mut Vec<u8>) -> Result<(), OutOfMemory>
-    ensures ok { OnOk result (out.new.items ≡ out.old.items ++ spaced (slot_text a word ∷ slot_text b word ∷ [])) }
-    ensures keeps { Keeps out.old.items out.new.items }
-{
-    push_slot(FIRST, a, word, out)?;
-    push_slot(NEXT, b, word, out)
-}
-
-/// Appends the operands of a word that stands at an address, where these are a register and a number in a field.
-fn push_slot_and_field(
-    slot: Slot,
-    field: Field,
-    word: u32,
-    address: u32,
-    out: &mut Vec<u8>,
-) -> Result<(), OutOfMemory>
-    ensures ok { OnOk result (out.new.items ≡ out.old.items ++ spaced (slot_text slot word ∷ field_text field word address ∷ [])) }
-    ensures keeps { Keeps out.old.items out.new.items }
-{
-    push_slot(FIRST, slot, word, out)?;
-    push_field(NEXT, field, word, address, out)
 }
 
 /// Appends a mark and a register of a word.
