@@ -1,9 +1,13 @@
 //! Quoted texts.
-ghost use Rattle.std.specs.Prelude.{◌≡◌, false, IfOk};
+ghost use Rattle.std.specs.Prelude.{◌≡◌, ◌<◌, [], ◌∷◌, Some, None, true, false, if◌then◌else◌, length, codes, IfOk, IfSome, IfNone};
+ghost use Rattle.std.specs.Str.{bytes_eq};
 ghost use Rattle.std.specs.Option.{option_map};
 ghost use Rattle.asm_parse.specs.Words.{escaped, unquoted, unquoted_from};
 
 use std::alloc::{AllocError, Global};
+
+/// What a quoted text ends with.
+const CLOSING: &[u8] = b"\"";
 
 /// The bytes that a quoted text means, if bytes are one.
 pub(crate) fn unquoted(alloc: Global, text: &[u8]) -> Result<Option<Vec<u8>>, AllocError>
@@ -20,26 +24,29 @@ fn meant(alloc: Global, quoted: &[u8]) -> Result<Option<Vec<u8>>, AllocError>
     ensures { IfOk result (λ found. option_map (λ v. v.items) found ≡ unquoted_from false quoted.now) }
 {
     let mut text = Vec::new(alloc);
-    let mut escape = false;
-    for (place, byte) in quoted.iter().enumerate() {
-        if escape {
-            match escaped(*byte) {
-                Some(meaning) => text.push(meaning)?,
-                None => return Ok(None),
-            }
-            escape = false;
-        } else if *byte == b'"' {
-            if place + 1 == quoted.len() {
-                return Ok(Some(text));
-            }
-            return Ok(None);
-        } else if *byte == b'\\' {
-            escape = true;
-        } else {
-            text.push(*byte)?;
-        }
+    let mut rest = quoted;
+    while let Some((byte, behind)) = first_meant(rest) {
+        text.push(byte)?;
+        rest = behind;
     }
-    Ok(None)
+    if rest == CLOSING {
+        Ok(Some(text))
+    } else {
+        Ok(None)
+    }
+}
+
+/// The first byte that is meant, where one is, and what stands behind it.
+fn first_meant(quoted: &[u8]) -> Option<(u8, &[u8])>
+    ensures some { IfSome result (λ first. unquoted_from false quoted.now ≡ option_map (λ text. first.0 ∷ text) (unquoted_from false first.1.now)) }
+    ensures shorter { IfSome result (λ first. length first.1.now < length quoted.now) }
+    ensures none { IfNone result (unquoted_from false quoted.now ≡ (if bytes_eq quoted.now (codes "\"") then Some [] else None)) }
+{
+    match quoted {
+        [b'\\', byte, behind @ ..] => Some((escaped(*byte)?, behind)),
+        [b'"' | b'\\', ..] | [] => None,
+        [byte, behind @ ..] => Some((*byte, behind)),
+    }
 }
 
 /// The byte that an escape stands for, by the byte behind its backslash.
