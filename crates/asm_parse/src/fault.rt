@@ -6,7 +6,7 @@ ghost use Rattle.std.specs.Prelude.{◌≡◌};
 use std::alloc::{AllocError, AllocFailed};
 
 /// What is wrong in a line. The faults are described in `docs/ASSEMBLER.md`.
-#[derive(Clone, Copy, Debug, PartialEq, Eq)]
+#[derive(Clone, Copy)]
 pub enum AsmWhy {
     /// The line, or an operand, has another form.
     Syntax,
@@ -42,7 +42,7 @@ impl AsmWhy {
 }
 
 /// Why there is no answer.
-#[derive(Clone, Copy, Debug, PartialEq, Eq)]
+#[derive(Clone, Copy)]
 pub enum AsmFault {
     /// A line is at fault, by its number from 1.
     At {

@@ -87,7 +87,7 @@ pub(crate) fn operands(alloc: Global, piece: Piece<'_>) -> Result<Option<Args<'_
     ensures { IfOk result (λ args. args ≡ operands_of (piece_seen piece.entry)) }
 {
     if piece.bytes.is_empty() {
-        return Ok(Some(Args::new(alloc)));
+        return Ok(Some(Args::of(Vec::new(alloc))));
     }
     if blanks_before(piece.bytes) == 0 {
         return Ok(None);
@@ -99,16 +99,16 @@ pub(crate) fn operands(alloc: Global, piece: Piece<'_>) -> Result<Option<Args<'_
 fn operand_list(alloc: Global, piece: Piece<'_>) -> Result<Option<Args<'_>>, AllocError>
     ensures { IfOk result (λ args. args ≡ args_at (piece_seen piece.entry)) }
 {
-    let mut args = Args::new(alloc);
+    let mut list = Vec::new(alloc);
     let mut rest = piece;
     loop {
         let place = mark_place(rest.bytes, b',');
         match arg(alloc, rest.front(place))? {
-            Some(arg) => args.push(arg)?,
+            Some(arg) => list.push(arg)?,
             None => return Ok(None),
         }
         if place == rest.bytes.len() {
-            return Ok(Some(args));
+            return Ok(Some(Args::of(list)));
         }
         rest = rest.skip(place + 1);
     }

@@ -114,25 +114,14 @@ impl<'a> Model for Args<'a> {
 }
 
 impl<'a> Args<'a> {
-    ghost use Rattle.std.specs.Prelude.{◌≡◌, ◌++◌, ◌∷◌, [], map, OnOk, OnErr};
+    ghost use Rattle.std.specs.Prelude.{◌≡◌, map};
     ghost use Rattle.asm_parse.specs.Seen.{arg_seen};
 
-    /// No operands.
-    pub(crate) fn new(alloc: Global) -> Args<'a>
-        ensures { result ≡ [] }
+    /// These operands.
+    pub(crate) fn of(list: Vec<Arg<'a>>) -> Args<'a>
+        ensures { result ≡ map arg_seen list.entry.items }
     {
-        Args {
-            list: Vec::new(alloc),
-        }
-    }
-
-    /// Adds an operand behind the others.
-    pub(crate) fn push(&mut self, arg: Arg<'a>) -> Result<(), AllocError>
-        ensures ok { OnOk result (self.new ≡ self.old ++ arg_seen arg.entry ∷ []) }
-        ensures err { OnErr result (self.new ≡ self.old) }
-    {
-        self.list.push(arg)?;
-        Ok(())
+        Args { list }
     }
 
     /// The operands in order.

@@ -6,7 +6,7 @@ ghost use Rattle.std.specs.Prelude.{◌≡◌};
 use std::alloc::{AllocError, AllocFailed};
 
 /// Which rule of a manifest a line breaks. `docs/FORMATS.md`, "Manifest", has the rules.
-#[derive(Clone, Copy, Debug, PartialEq, Eq)]
+#[derive(Clone, Copy)]
 pub enum ManifestWhy {
     /// The line has another form or order, or the text ends too early.
     Syntax,
@@ -30,7 +30,7 @@ impl ManifestWhy {
 }
 
 /// Why there is no manifest.
-#[derive(Clone, Copy, Debug, PartialEq, Eq)]
+#[derive(Clone, Copy)]
 pub enum ManifestFault {
     /// A line is at fault, by its number from 1.
     At {

@@ -12,7 +12,7 @@ const ELF: u32 = 1;
 const NO_BASE: u32 = 0;
 
 /// How a program's body stands in its file.
-#[derive(Clone, Copy, Debug, PartialEq, Eq)]
+#[derive(Clone, Copy)]
 pub enum EntryBody {
     /// As the bytes that the program has in memory from its base on.
     Flat {
