@@ -10,6 +10,9 @@ use itoa::Buffer;
 /// The most hexadecimal digits that `push_hex` writes.
 const MAX_HEX_DIGITS: usize = 8;
 
+/// The most glyphs that a byte takes between quotation marks.
+const QUOTED_GLYPHS: usize = 4;
+
 /// Appends a number in decimal, without leading zeros.
 #[tactic(auto, unfolding(crate::specs::Text::dec_text))]
 pub fn push_dec(out: &mut Vec<u8>, n: u64) -> Result<(), OutOfMemory>
@@ -72,27 +75,26 @@ fn push_each_quoted(out: &mut Vec<u8>, bytes: &[u8]) -> Result<(), OutOfMemory>
     ensures err { OnErr result (take (length out.old.items) out.new.items ≡ out.old.items) }
 {
     for byte in bytes {
-        push_quoted_byte(out, *byte)?;
+        let (glyphs, count) = quoted_glyphs(*byte);
+        out.extend_from_slice(&glyphs[..count])?;
     }
     Ok(())
 }
 
-/// Appends a byte as it stands between quotation marks.
+/// The glyphs of a byte as it stands between quotation marks, and how many of them it takes.
 #[tactic(auto, unfolding(crate::specs::Text::hex_text))]
-fn push_quoted_byte(out: &mut Vec<u8>, byte: u8) -> Result<(), OutOfMemory>
-    ensures ok { OnOk result (out.new.items ≡ out.old.items ++ quoted_byte byte) }
-    ensures err { OnErr result (out.new.items ≡ out.old.items) }
+fn quoted_glyphs(byte: u8) -> ([u8; QUOTED_GLYPHS], usize)
+    ensures text { take result.1 result.0 ≡ quoted_byte byte }
+    ensures most { result.1 ≤ QUOTED_GLYPHS }
 {
     match byte {
-        b'"' => out.extend_from_slice(b"\\\"")?,
-        b'\\' => out.extend_from_slice(b"\\\\")?,
-        b'\n' => out.extend_from_slice(b"\\n")?,
-        b' '..=b'~' => out.push(byte)?,
+        b'"' | b'\\' => ([b'\\', byte, 0, 0], 2),
+        b'\n' => ([b'\\', b'n', 0, 0], 2),
+        b' '..=b'~' => ([byte, 0, 0, 0], 1),
         _ => {
             let high = hex_glyph(u32::from(byte / 16));
             let low = hex_glyph(u32::from(byte % 16));
-            out.extend_from_slice(&[b'\\', b'x', high, low])?;
+            ([b'\\', b'x', high, low], 4)
         }
     }
-    Ok(())
 }
