@@ -1,6 +1,7 @@
 pub mod Bodies
 pub mod FormLemmas
 pub mod LineLemmas
+pub mod OwnerLemmas
 pub mod ReadingLemmas
 pub mod Sizes
 pub mod TextLemmas
