@@ -110,33 +110,27 @@ fn env_form<'a>(words: &[&'a [u8]]) -> Option<EnvParts<'a>>
     ensures parts { option_map parts_seen result ≡ env_form (words_seen words.now) }
     ensures bytes { list_all (list_all is_text_byte) (words_seen words.now) ≡ true → IfSome result (λ parts. list_all is_text_byte parts.file.now ≡ true) }
 {
-    match words {
-        [first, name, kind, base, stack, accept, file] => {
-            if *first == ENV && *kind == FLAT {
-                Some(EnvParts {
-                    name,
-                    base: Some(base),
-                    stack,
-                    accept,
-                    file,
-                })
-            } else {
-                None
-            }
-        }
-        [first, name, kind, stack, accept, file] => {
-            if *first == ENV && *kind == ELF {
-                Some(EnvParts {
-                    name,
-                    base: None,
-                    stack,
-                    accept,
-                    file,
-                })
-            } else {
-                None
-            }
-        }
+    let [first, name, kind, rest @ ..] = words else {
+        return None;
+    };
+    if *first != ENV {
+        return None;
+    }
+    match rest {
+        [base, stack, accept, file] if *kind == FLAT => Some(EnvParts {
+            name,
+            base: Some(base),
+            stack,
+            accept,
+            file,
+        }),
+        [stack, accept, file] if *kind == ELF => Some(EnvParts {
+            name,
+            base: None,
+            stack,
+            accept,
+            file,
+        }),
         _ => None,
     }
 }
