@@ -67,7 +67,7 @@ pub(crate) fn owners_of(
     ensures below { IfOk result (λ found. IfSome found (λ owners. AllByRecursion (IsOwnerBelow most_environments) owners.items)) }
     ensures count { IfOk result (λ found. IfSome found (λ owners. length owners.items ≡ length words.now)) }
 {
-    let mut owners = Vec::with_capacity(alloc, words.len())?;
+    let mut owners = Vec::new(alloc);
     for word in words {
         match owner_of(word) {
             Some(owner) => owners.push(owner)?,

@@ -110,7 +110,7 @@ fn read_entries(
     ensures most { IfOk result (λ entries. length entries.items ≤ most_environments) }
     ensures limits { IfOk result (λ entries. AllByRecursion IsEntry entries.items) }
 {
-    let mut entries = Vec::with_capacity(alloc, MOST_ENVIRONMENTS)?;
+    let mut entries = Vec::new(alloc);
     for line in lines {
         let entry = read_entry(alloc, &line)?;
         if entries.len() == MOST_ENVIRONMENTS {
