@@ -7,9 +7,14 @@ ghost use Rattle.line_text.specs.Characters.{is_blank, is_text_byte};
 pub fn is_text(bytes: &[u8]) -> bool
     ensures { result ≡ list_all is_text_byte bytes.now }
 {
-    bytes
-        .iter()
-        .all(|byte| matches!(byte, b'\t' | b'\n' | b'\r' | b' '..=b'~'))
+    bytes.iter().all(|byte| is_text_byte(*byte))
+}
+
+/// Whether it may stand in a text.
+fn is_text_byte(byte: u8) -> bool
+    ensures { result ≡ is_text_byte byte }
+{
+    matches!(byte, b'\t' | b'\n' | b'\r' | b' '..=b'~')
 }
 
 /// Whether it is a space or a tab.
