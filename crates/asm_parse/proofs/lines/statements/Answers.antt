@@ -1,5 +1,3 @@
-use Rattle.std.proofs.Common.{arith}
-use Rattle.std.proofs.lemmas.Grind.{common_steps}
 use Rattle.line_text.specs.Lines.{lines_of}
 use Rattle.asm_parse.specs.Form.{parsed, statements_of}
 use Rattle.asm_parse.proofs.StatementLemmas.{before_rest_none}
@@ -13,6 +11,3 @@ loop-line-init c = record {
   placed = rw c.into_iter-line-iterator.ensures.into_iter_gives c.cut-line-items.ensures.placed;
   told = rw (c.into_iter-line-iterator.ensures.into_iter_gives, c.cut-line-items.ensures.lines, c.new-statements.ensures.items) (before_rest_none (statements_of (lines_of c.args.source.now)));
 }
-
-pub loop-line-preserved : goal.loop-line-preserved
-loop-line-preserved c = grind (arith, common_steps)
