@@ -21,11 +21,15 @@ impl Board {
         ensures may { IfOk result (λ to. (to ≡ target) × (refusal_of_transfer_to self.now env target kind ≡ None)) }
         ensures refused { IfErr result (λ why. refusal_of_transfer_to self.now env target kind ≡ Some why) }
     {
-        let to = self.receiver(env, target, kind.hands_slot())?;
-        if self.roster.frame(to).handler(kind.context()) == 0 {
-            return Err(Code::NotAccepted);
+        match self.receiver(env, target, kind.hands_slot()) {
+            Ok(to) => {
+                if self.roster.frame(to).handler(kind.context()) == 0 {
+                    return Err(Code::NotAccepted);
+                }
+                Ok(to)
+            }
+            Err(why) => Err(why),
         }
-        Ok(to)
     }
 
     /// The target goes on at its entry with the caller's registers as they stand at its call; the call is answered

@@ -1,11 +1,41 @@
--- A call is made of the board as it was.
-use Rattle.std.proofs.Common.{sym, ap, ◌∙◌}
+-- What follows a step is done to the board after it, and is what the step came to.
+use Rattle.std.proofs.Common.{◌≡◌, ◌<◌, ℕ, refl, sym, ap, ◌∙◌, subst}
 use Rattle.mips_exec.specs.Cpu.{reg}
+use Rattle.mips_exec.specs.declared.exception.Exc.{Exc}
+use Rattle.mips_exec.specs.declared.exception.Outcome.TheVariants as outcome
+use Rattle.mips_exec.specs.Step.{Step, Retired, Called, Trapped, outcome_of}
+use Rattle.world_model.specs.Book.{running}
 use Rattle.world_model.specs.Call.{call_named, called}
 use Rattle.board_world.specs.Shown.{Shown}
-use Rattle.board_world.specs.Doing.{served, step_seen}
+use Rattle.board_world.specs.Doing.{came_to, ran, served, step_seen, trapped}
 use Rattle.board_world.proofs.Stepping.{came_called}
 use Rattle.aegis_calls.proofs.board.Board.run_step.Goals as goal
+
+came_retired : (b : Shown) (e : ℕ) (step : Step) → outcome_of step ≡ outcome.Retired → ran b e step ≡ came_to b e step
+came_retired b e (Retired cpu write) is = refl
+came_retired b e Called is = cc
+came_retired b e (Trapped exc) is = cc
+
+-- a step that trapped changed nothing yet
+came_trapped : (b : Shown) (e : ℕ) (step : Step) (exc : Exc) → outcome_of step ≡ outcome.Trap exc → trapped (ran b e step) e exc ≡ came_to b e step
+came_trapped b e (Retired cpu write) exc is = cc
+came_trapped b e Called exc is = cc
+came_trapped b e (Trapped raised) exc is = let same : exc ≡ raised = cc in ap (trapped b e) same
+
+pub serve-requires-clause-runs : goal.serve-requires-clause-runs
+serve-requires-clause-runs c = ap (λ (s : Shown). running s.slots.runner) c.run_machine.ensures.shown ∙ c.requires.runs
+
+pub serve-requires-clause-room : goal.serve-requires-clause-room
+serve-requires-clause-room c = subst (λ (s : Shown). 64 < s.ledger.spare) (sym c.run_machine.ensures.shown) c.requires.room
+
+pub trap-requires-clause-runs : goal.trap-requires-clause-runs
+trap-requires-clause-runs c = ap (λ (s : Shown). running s.slots.runner) c.run_machine.ensures.shown ∙ c.requires.runs
+
+pub trap-requires-clause-room : goal.trap-requires-clause-room
+trap-requires-clause-room c = subst (λ (s : Shown). 64 < s.ledger.spare) (sym c.run_machine.ensures.shown) c.requires.room
+
+pub returns-in-Retired : goal.returns-in-Retired
+returns-in-Retired c = c.run_machine.ensures.shown ∙ came_retired c.args.self.now c.args.env (step_seen c.args.self.now c.args.env) (sym c.run_machine.ensures.outcome ∙ c.in-Retired.is)
 
 pub returns-in-Call : goal.returns-in-Call
 returns-in-Call c =
@@ -13,3 +43,9 @@ returns-in-Call c =
     ∙ ap (served c.run_machine.new.self c.args.env) (c.named.ensures ∙ ap call_named (c.reg-number.ensures ∙ ap (λ (b : Shown). reg b.cpu 2) c.self.view_is))
     ∙ ap (λ (b : Shown). served b c.args.env (called b.cpu)) c.run_machine.ensures.shown
     ∙ came_called c.args.self.now c.args.env (step_seen c.args.self.now c.args.env) (sym c.run_machine.ensures.outcome ∙ c.in-Call.is)
+
+pub returns-in-Trap : goal.returns-in-Trap
+returns-in-Trap c =
+    c.trap.ensures
+    ∙ ap (λ (s : Shown). trapped s c.args.env c.in-Trap.exc) c.run_machine.ensures.shown
+    ∙ came_trapped c.args.self.now c.args.env (step_seen c.args.self.now c.args.env) c.in-Trap.exc (sym c.run_machine.ensures.outcome ∙ c.in-Trap.is)
