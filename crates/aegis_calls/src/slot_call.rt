@@ -1,7 +1,7 @@
 //! Kernel calls on slices and slots, and questions about the kernel's book: what they do to the board's parts.
-ghost use Rattle.std.specs.Prelude.{◌≡◌, ◌<◌, ◌==◌, true, None, Some, OnOk, OnErr, IfOk, IfErr, slice_get};
+ghost use Rattle.std.specs.Prelude.{◌≡◌, ◌<◌, ◌==◌, true, None, Some, IfOk, IfErr, slice_get};
 ghost use Rattle.mips_exec.specs.Cpu.{reg};
-ghost use Rattle.slot_vector.specs.Slices.{hold_at, refusal_of_drop, refusal_of_take, unless};
+ghost use Rattle.slot_vector.specs.Slices.{hold_at, refusal_of_drop, refusal_of_take};
 ghost use Rattle.world_model.specs.declared.code.Code.TheVariants as code;
 ghost use Rattle.world_model.specs.Book.{own_hold, running};
 ghost use Rattle.world_model.specs.Call.{any};
@@ -9,7 +9,7 @@ ghost use Rattle.world_model.specs.SlotCalls.{accepts, dropped, holder_answer, o
 
 use crate::board::Board;
 use crate::death::push_slot;
-use crate::registers::{ANY, FIRST_ARGUMENT, SECOND_ARGUMENT};
+use crate::registers::{ANY, FIRST_ARGUMENT, SECOND_ARGUMENT, answer};
 use kernel_journal::Row;
 use world_model::{Code, Life, Question};
 
@@ -22,7 +22,7 @@ fn accepts(mask: u32, env: u8) -> bool
 }
 
 impl Board {
-    ghost use Rattle.board_world.specs.Doing.{accepted, answer_in, answered, death_answer_in, given, is_other_in, lives_in, query_if, refusal_of_handing, slot_if, with_slot, yield_if};
+    ghost use Rattle.board_world.specs.Doing.{accepted, answer_in, answered, death_answer_in, given, is_other_in, lives_in, query_if, refusal_of_handing, slot_if, yield_if};
 
     /// Whether a number is that of another environment that lives.
     fn is_other(&self, env: u8, target: u32) -> bool
@@ -91,71 +91,44 @@ impl Board {
         }
     }
 
-    /// The runner accepts the yields and transfers of those in the mask that it names, and of no others.
-    fn set_accept(&mut self, env: u8)
-        requires { running self.old.slots.runner ≡ Some env }
-        ensures { self.new ≡ accepted self.old env (reg self.old.cpu 4) }
-    {
-        let mask = self.cpu.reg(FIRST_ARGUMENT);
-        self.roster.accept(env, mask);
-    }
-
-    /// Sets whose yields and transfers the runner accepts.
+    /// Sets whose yields and transfers the runner accepts: those of the mask that it names, and of no others.
     pub(crate) fn accept(&mut self, env: u8)
         requires { running self.old.slots.runner ≡ Some env }
         ensures { self.new ≡ answered (accepted self.old env (reg self.old.cpu 4)) code.Ok 0 }
     {
-        self.set_accept(env);
-        self.answer(Code::Ok, 0);
+        let mask = self.cpu.reg(FIRST_ARGUMENT);
+        self.roster.accept(env, mask);
+        answer(&mut self.cpu, Code::Ok, 0);
     }
 
-    /// The empty slot that the runner names is its own, and the ledger says so.
-    fn own_slot(&mut self, env: u8) -> Result<(), Code>
-        requires runs { running self.old.slots.runner ≡ Some env }
-        requires room { 0 < self.old.ledger.spare }
-        ensures answer { result ≡ unless (refusal_of_take self.old.slots (reg self.old.cpu 4)) }
-        ensures taken { OnOk result (self.new ≡ with_slot self.old (reg self.old.cpu 4) (Some (own_hold env))) }
-        ensures left { OnErr result (self.new ≡ self.old) }
-    {
-        let slot = self.cpu.reg(FIRST_ARGUMENT);
-        self.slots.take(env, slot)?;
-        push_slot(&mut self.journal, &self.slots, self.time, slot);
-        Ok(())
-    }
-
-    /// Takes an empty slot.
+    /// Takes an empty slot, which is the runner's own from now on, and the ledger says so.
     pub(crate) fn take_slot(&mut self, env: u8)
         requires runs { running self.old.slots.runner ≡ Some env }
         requires room { 0 < self.old.ledger.spare }
         ensures { self.new ≡ slot_if self.old (reg self.old.cpu 4) (Some (own_hold env)) (refusal_of_take self.old.slots (reg self.old.cpu 4)) }
     {
-        match self.own_slot(env) {
-            Ok(()) => self.answer(Code::Ok, 0),
-            Err(why) => self.answer(why, 0),
+        let slot = self.cpu.reg(FIRST_ARGUMENT);
+        match self.slots.take(env, slot) {
+            Ok(()) => {
+                push_slot(&mut self.journal, &self.slots, self.time, slot);
+                answer(&mut self.cpu, Code::Ok, 0);
+            }
+            Err(why) => answer(&mut self.cpu, why, 0),
         }
     }
 
-    /// The slot that the runner names and holds is empty, or its owner's again, and the ledger says so.
-    fn leave_slot(&mut self, env: u8) -> Result<(), Code>
-        requires { 0 < self.old.ledger.spare }
-        ensures answer { result ≡ unless (refusal_of_drop env self.old.slots (reg self.old.cpu 4)) }
-        ensures dropped { OnOk result (self.new ≡ with_slot self.old (reg self.old.cpu 4) (dropped env (hold_at self.old.slots.slots (reg self.old.cpu 4)))) }
-        ensures left { OnErr result (self.new ≡ self.old) }
-    {
-        let slot = self.cpu.reg(FIRST_ARGUMENT);
-        self.slots.drop_slot(env, slot)?;
-        push_slot(&mut self.journal, &self.slots, self.time, slot);
-        Ok(())
-    }
-
-    /// Drops a slot that the runner holds.
+    /// Drops a slot that the runner holds: it is empty, or its owner's again, and the ledger says so.
     pub(crate) fn drop_slot(&mut self, env: u8)
         requires { 0 < self.old.ledger.spare }
         ensures { self.new ≡ slot_if self.old (reg self.old.cpu 4) (dropped env (hold_at self.old.slots.slots (reg self.old.cpu 4))) (refusal_of_drop env self.old.slots (reg self.old.cpu 4)) }
     {
-        match self.leave_slot(env) {
-            Ok(()) => self.answer(Code::Ok, 0),
-            Err(why) => self.answer(why, 0),
+        let slot = self.cpu.reg(FIRST_ARGUMENT);
+        match self.slots.drop_slot(env, slot) {
+            Ok(()) => {
+                push_slot(&mut self.journal, &self.slots, self.time, slot);
+                answer(&mut self.cpu, Code::Ok, 0);
+            }
+            Err(why) => answer(&mut self.cpu, why, 0),
         }
     }
 

@@ -4,7 +4,7 @@ use Rattle.board_world.proofs.Lists.{length-changed}
 use Rattle.board_world.proofs.Booked.{keep_booked}
 use Rattle.board_world.proofs.Parted.{keep_parted}
 use Rattle.board_world.proofs.Sound.{keep_manned, keeps_accepting, same_consoles}
-use Rattle.aegis_calls.proofs.board.Board.set_accept.Goals as goal
+use Rattle.aegis_calls.proofs.board.Board.accept.Goals as goal
 
 pub invariant_of-self : goal.invariant_of-self
 invariant_of-self c =
