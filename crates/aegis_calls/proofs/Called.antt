@@ -1,13 +1,14 @@
 -- What the board shows after a kernel call, by its parts.
 use Rattle.std.proofs.Common.{◌≡◌, ◌<◌, ℕ, List, length, Option, Some, None, Ok, sym, ap, ◌∙◌}
-use Rattle.std.specs.Prelude.{slice_get, slice_set}
+use Rattle.std.specs.Prelude.{◌++◌, [], slice_get, slice_set, unwrap_or}
 use Rattle.bind_book.specs.declared.binding.Binding.{Binding}
-use Rattle.bind_book.specs.Stripe.{breaks_page, swept}
+use Rattle.bind_book.specs.Stripe.{breaks_page, place_of, row_of, swept}
 use Rattle.frame_store.specs.Pages.{with_page, zero_page}
 use Rattle.page_book.specs.declared.row.PageRow.{PageRow}
 use Rattle.page_book.specs.declared.row.PageRow.TheVariants.{Owned}
 use Rattle.page_book.specs.Row.{change_refusal}
-use Rattle.world_model.specs.Call.{words_of}
+use Rattle.world_model.specs.Call.{binding_of, put_bytes, put_refusal, words_of}
+use Rattle.world_model.specs.Page.{Mapped}
 use Rattle.kernel_journal.specs.Ledger.{Ledger, with_row}
 use Rattle.mips_exec.specs.declared.registers.Cpu.{Cpu}
 use Rattle.mips_exec.specs.Cpu.{reg}
@@ -17,8 +18,8 @@ use Rattle.world_model.specs.declared.code.Code.TheVariants as code
 use Rattle.world_model.specs.declared.slot.Hold.{Hold}
 use Rattle.world_model.specs.Item.{answered_cpu}
 use Rattle.world_model.specs.Verdict.{slot_row}
-use Rattle.board_world.specs.Shown.{Shown}
-use Rattle.board_world.specs.Doing.{allocated, changed_page, chosen_in, refusal_of_change, slot_if}
+use Rattle.board_world.specs.Shown.{Shown, changed, console_of}
+use Rattle.board_world.specs.Doing.{allocated, answered, bind_if, changed_page, chosen_in, look_of, put_if, refusal_of_binding, refusal_of_change, refusal_of_put, slot_if, with_bound}
 use Rattle.board_world.proofs.Slots.{hold_here}
 use Rattle.board_world.proofs.Slotted.{done_for_none}
 
@@ -57,3 +58,32 @@ page_changed row but e b now page its pages binds cpu same named given allowed c
     ∙ ap (λ (r : PageRow). changed_page b page r but (change_refusal e (slice_get b.pages page))) given
     ∙ ap (λ (n : ℕ). changed_page b n (row b.cpu) but (change_refusal e (slice_get b.pages n))) named
     ∙ ap (λ (s : Shown). changed_page s (reg s.cpu 4) (row s.cpu) but (refusal_of_change s e)) same
+
+-- the bytes of the runner's put stand in its console, and the call is answered
+pub bytes_put : (e : ℕ) (b now : Shown) (seen : ℕ → Option Mapped) (held size : ℕ) (bytes : List ℕ) (consoles : List (List ℕ)) (cpu : Cpu) → b ≡ now → seen ≡ look_of b e → held ≡ length (console_of b.consoles e)
+    → put_bytes b.cpu seen ≡ Some bytes → put_refusal b.cpu seen held ≡ None → consoles ≡ changed (λ before. before ++ bytes) b.consoles e → size ≡ reg b.cpu 5 → cpu ≡ answered_cpu code.Ok size b.cpu
+    → record b { consoles = consoles; cpu = cpu } ≡ put_if now e (refusal_of_put now e)
+bytes_put e b now seen held size bytes consoles cpu same looks holds named may put sized replied =
+    let found : put_bytes b.cpu (look_of b e) ≡ Some bytes = ap (put_bytes b.cpu) (sym looks) ∙ named in
+    let allowed : refusal_of_put b e ≡ None = ap (put_refusal b.cpu (look_of b e)) (sym holds) ∙ ap (λ (l : ℕ → Option Mapped). put_refusal b.cpu l held) (sym looks) ∙ may in
+    (λ i. record b { consoles = put i; cpu = replied i })
+    ∙ ap (λ (n : ℕ). record b { consoles = changed (λ before. before ++ bytes) b.consoles e; cpu = answered_cpu code.Ok n b.cpu }) sized
+    ∙ ap (λ (o : Option (List ℕ)). record b { consoles = changed (λ before. before ++ unwrap_or o []) b.consoles e; cpu = answered_cpu code.Ok (reg b.cpu 5) b.cpu }) (sym found)
+    ∙ ap (put_if b e) (sym allowed)
+    ∙ ap (λ (s : Shown). put_if s e (refusal_of_put s e)) same
+
+-- the runner's put is refused
+pub put_refused : (e : ℕ) (b now : Shown) (seen : ℕ → Option Mapped) (held : ℕ) (why : Code) (cpu : Cpu) → b ≡ now → seen ≡ look_of b e → held ≡ length (console_of b.consoles e)
+    → put_refusal b.cpu seen held ≡ Some why → cpu ≡ answered_cpu why 0 b.cpu → record b { cpu = cpu } ≡ put_if now e (refusal_of_put now e)
+put_refused e b now seen held why cpu same looks holds refused replied =
+    let is : refusal_of_put b e ≡ Some why = ap (put_refusal b.cpu (look_of b e)) (sym holds) ∙ ap (λ (l : ℕ → Option Mapped). put_refusal b.cpu l held) (sym looks) ∙ refused in
+    (λ i. record b { cpu = replied i }) ∙ ap (put_if b e) (sym is) ∙ ap (λ (s : Shown). put_if s e (refusal_of_put s e)) same
+
+-- the binding that the runner named stands in its row, and the call is answered
+pub binding_put : (e : ℕ) (b now : Shown) (x : Binding) (binds : List (Option Binding)) (cpu : Cpu) → b ≡ now → x ≡ binding_of b.cpu → refusal_of_binding now e ≡ None
+    → binds ≡ slice_set b.binds (place_of e (row_of x.vpn)) (Some x) → cpu ≡ answered_cpu code.Ok 0 b.cpu → record b { binds = binds; cpu = cpu } ≡ bind_if now e (refusal_of_binding now e)
+binding_put e b now x binds cpu same named allowed bound replied =
+    (λ i. record b { binds = bound i; cpu = replied i })
+    ∙ ap (λ (y : Binding). answered (with_bound b e y) code.Ok 0) named
+    ∙ ap (λ (s : Shown). answered (with_bound s e (binding_of s.cpu)) code.Ok 0) same
+    ∙ ap (bind_if now e) (sym allowed)

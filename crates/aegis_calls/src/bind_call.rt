@@ -1,11 +1,10 @@
 //! Kernel calls on bindings: what they do to the board's parts.
-ghost use Rattle.std.specs.Prelude.{◌≡◌, ◌<◌, None, Some, is_some};
-ghost use Rattle.mips_exec.specs.Cpu.{reg};
+ghost use Rattle.std.specs.Prelude.{◌≡◌, Some};
 ghost use Rattle.world_model.specs.Book.{running};
-ghost use Rattle.world_model.specs.Call.{binding_of, number_refusal};
+ghost use Rattle.world_model.specs.Call.{number_refusal};
 
 use crate::board::Board;
-use crate::registers::{FIRST_ARGUMENT, binding, presented};
+use crate::registers::{FIRST_ARGUMENT, answer, binding, presented};
 use world_model::Code;
 
 /// The first page number that isn't of a user's address.
@@ -25,7 +24,7 @@ fn refuse_number(guaranteed: bool, vpn: u32) -> Option<Code>
 }
 
 impl Board {
-    ghost use Rattle.board_world.specs.Doing.{bind_if, has_bound, is_number_guaranteed, refusal_of_binding, refusal_of_unbinding, unbind_if, with_bound, with_unbound};
+    ghost use Rattle.board_world.specs.Doing.{bind_if, refusal_of_binding, refusal_of_unbinding, unbind_if};
 
     /// Why the runner's unbind is refused, or its bind, by the page number that it names.
     fn refuse_unbind(&self, env: u8) -> Option<Code>
@@ -53,18 +52,7 @@ impl Board {
         }
     }
 
-    /// The binding that the runner names stands in its row.
-    fn put_binding(&mut self, env: u8)
-        requires runs { running self.old.slots.runner ≡ Some env }
-        requires may { refusal_of_binding self.old env ≡ None }
-        ensures { self.new ≡ with_bound self.old env (binding_of self.old.cpu) }
-    {
-        let named = binding(&self.cpu);
-        self.bindings
-            .bind(env, named.vpn, named.page, named.writable);
-    }
-
-    /// Binds a page to a page number.
+    /// Binds a page to a page number: the binding that the runner names stands in its row.
     pub(crate) fn bind(&mut self, env: u8)
         requires { running self.old.slots.runner ≡ Some env }
         ensures { self.new ≡ bind_if self.old env (refusal_of_binding self.old env) }
@@ -72,21 +60,13 @@ impl Board {
         if let Some(why) = self.refuse_bind(env) {
             return self.answer(why, 0);
         }
-        self.put_binding(env);
-        self.answer(Code::Ok, 0);
+        let named = binding(&self.cpu);
+        self.bindings
+            .bind(env, named.vpn, named.page, named.writable);
+        answer(&mut self.cpu, Code::Ok, 0);
     }
 
-    /// The binding of the page number that the runner names is gone; the answer is whether there was one.
-    fn take_binding(&mut self, env: u8) -> bool
-        requires { running self.old.slots.runner ≡ Some env }
-        ensures answer { result ≡ has_bound self.old env (reg self.old.cpu 4) }
-        ensures after { self.new ≡ with_unbound self.old env (reg self.old.cpu 4) }
-    {
-        let vpn = self.cpu.reg(FIRST_ARGUMENT);
-        self.bindings.unbind(env, vpn)
-    }
-
-    /// Takes the binding of a page number away.
+    /// Takes the binding of a page number away; the answer is whether there was one.
     pub(crate) fn unbind(&mut self, env: u8)
         requires { running self.old.slots.runner ≡ Some env }
         ensures { self.new ≡ unbind_if self.old env (refusal_of_unbinding self.old env) }
@@ -94,7 +74,8 @@ impl Board {
         if let Some(why) = self.refuse_unbind(env) {
             return self.answer(why, 0);
         }
-        let bound = self.take_binding(env);
-        self.answer(Code::Ok, u32::from(bound));
+        let vpn = self.cpu.reg(FIRST_ARGUMENT);
+        let bound = self.bindings.unbind(env, vpn);
+        answer(&mut self.cpu, Code::Ok, u32::from(bound));
     }
 }

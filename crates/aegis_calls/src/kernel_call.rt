@@ -1,10 +1,11 @@
 //! Kernel calls: what they do to the board's parts.
-ghost use Rattle.std.specs.Prelude.{◌≡◌, ◌<◌, None, Some, length};
+ghost use Rattle.std.specs.Prelude.{◌≡◌, ◌<◌, ◌≤◌, ◌+◌, None, Some, IfOk, IfErr, length};
+ghost use Rattle.aegis_limits.specs.Limits.{console_size};
 ghost use Rattle.std.specs.Option.{option_map};
 ghost use Rattle.guest_memory.specs.Look.{look};
 ghost use Rattle.guest_memory.specs.Space.{lookup};
 ghost use Rattle.world_model.specs.Book.{running};
-ghost use Rattle.world_model.specs.Call.{put_bytes as put_bytes_of};
+ghost use Rattle.world_model.specs.Call.{put_bytes as put_bytes_of, put_refusal};
 
 use crate::board::Board;
 use crate::registers::{FIRST_ARGUMENT, SECOND_ARGUMENT, answer};
@@ -25,8 +26,30 @@ fn put_bytes<'a>(cpu: &Cpu, frames: &'a Frames, space: &Space<'_>) -> Option<&'a
     guest_range(frames, space, cpu.reg(FIRST_ARGUMENT), size)
 }
 
+/// The bytes of a put of a caller with these registers, whose console holds so many; or why the put is refused.
+fn allowed_bytes<'a>(
+    cpu: &Cpu,
+    frames: &'a Frames,
+    space: &Space<'_>,
+    held: usize,
+) -> Result<&'a [u8], Code>
+    requires { held ≤ console_size }
+    ensures bytes { IfOk result (λ r. put_bytes_of cpu.now (look frames.now (lookup space.now)) ≡ Some r.now) }
+    ensures room { IfOk result (λ r. held + length r.now ≤ console_size) }
+    ensures may { IfOk result (λ r. put_refusal cpu.now (look frames.now (lookup space.now)) held ≡ None) }
+    ensures refused { IfErr result (λ why. put_refusal cpu.now (look frames.now (lookup space.now)) held ≡ Some why) }
+{
+    let Some(bytes) = put_bytes(cpu, frames, space) else {
+        return Err(Code::BadPointer);
+    };
+    if held + cpu.reg(SECOND_ARGUMENT) as usize > CONSOLE_SIZE {
+        return Err(Code::ConsoleFull);
+    }
+    Ok(bytes)
+}
+
 impl Board {
-    ghost use Rattle.board_world.specs.Doing.{answered, appended, put_if, refusal_of_put, served};
+    ghost use Rattle.board_world.specs.Doing.{answered, put_if, refusal_of_put, served};
 
     /// A call is answered.
     pub(crate) fn answer(&mut self, code: Code, value: u32)
@@ -35,38 +58,25 @@ impl Board {
         answer(&mut self.cpu, code, value);
     }
 
-    /// Appends the bytes of a put to its caller's console, unless it is refused; the result says why.
-    fn append(&mut self, env: u8) -> Option<Code>
-        requires runs { running self.old.slots.runner ≡ Some env }
-        ensures refusal { result ≡ refusal_of_put self.old env }
-        ensures after { self.new ≡ appended self.old env result }
+    /// Appends bytes to the console.
+    fn put(&mut self, env: u8)
+        requires { running self.old.slots.runner ≡ Some env }
+        ensures { self.new ≡ put_if self.old env (refusal_of_put self.old env) }
     {
         let space = Space {
             env: self.roster.frame(env),
             bindings: &self.bindings,
             number: env,
         };
-        let Some(bytes) = put_bytes(&self.cpu, &self.frames, &space) else {
-            return Some(Code::BadPointer);
-        };
-        let size = self.cpu.reg(SECOND_ARGUMENT) as usize;
-        if self.consoles.at(env).len() + size > CONSOLE_SIZE {
-            return Some(Code::ConsoleFull);
+        let held = self.consoles.at(env).len();
+        match allowed_bytes(&self.cpu, &self.frames, &space, held) {
+            Ok(bytes) => {
+                let size = self.cpu.reg(SECOND_ARGUMENT);
+                self.consoles.put(env, bytes);
+                answer(&mut self.cpu, Code::Ok, size);
+            }
+            Err(why) => answer(&mut self.cpu, why, 0),
         }
-        self.consoles.put(env, bytes);
-        None
-    }
-
-    /// Appends to the console.
-    fn put(&mut self, env: u8)
-        requires { running self.old.slots.runner ≡ Some env }
-        ensures { self.new ≡ put_if self.old env (refusal_of_put self.old env) }
-    {
-        if let Some(refusal) = self.append(env) {
-            return self.answer(refusal, 0);
-        }
-        let size = self.cpu.reg(SECOND_ARGUMENT);
-        self.answer(Code::Ok, size);
     }
 
     /// A kernel call of the runner.

@@ -44,7 +44,9 @@ impl Board {
         if !self.is_other(env, target) {
             return Err(Code::NoEnv);
         }
-        self.slots.may_donate(later)?;
+        if let Err(why) = self.slots.may_donate(later) {
+            return Err(why);
+        }
         let to = target as u8;
         if !accepts(self.roster.frame(to).accept(), env) {
             return Err(Code::NotAccepted);

@@ -65,22 +65,14 @@ impl Board {
         });
     }
 
-    /// Whether an environment has a handler of the ends of its slices.
-    fn handles_end(&self, env: u8) -> bool
-        requires { env < length self.now.roster.list }
-        ensures { result ≡ has_end self.now env }
-    {
-        self.roster.frame(env).handler(Context::End) != 0
-    }
-
     /// The ticks left of the runner's quantum fall by one; the result is what that brings.
     fn use_tick(&mut self, env: u8) -> Timer
         requires { env < length self.old.roster.list }
         ensures answer { result ≡ timer_answer self.old.slots (has_end self.old env) }
         ensures after { self.new ≡ record self.old { slots = after_timer self.old.slots result } }
     {
-        let handles = self.handles_end(env);
-        self.slots.timer(handles)
+        let end = self.roster.frame(env).handler(Context::End);
+        self.slots.timer(end != 0)
     }
 
     /// A tick of the runner's quantum is over: after the last one it is told, or it is stopped, and in time of
