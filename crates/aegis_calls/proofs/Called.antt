@@ -1,4 +1,4 @@
--- What the board shows after a kernel call, by its parts.
+-- What the board shows after a kernel call or a turn, by its parts.
 use Rattle.std.proofs.Common.{◌≡◌, ◌<◌, ℕ, List, length, Option, Some, None, Ok, sym, ap, ◌∙◌}
 use Rattle.std.specs.Prelude.{◌++◌, [], slice_get, slice_set, unwrap_or}
 use Rattle.bind_book.specs.declared.binding.Binding.{Binding}
@@ -12,14 +12,17 @@ use Rattle.world_model.specs.Page.{Mapped}
 use Rattle.kernel_journal.specs.Ledger.{Ledger, with_row}
 use Rattle.mips_exec.specs.declared.registers.Cpu.{Cpu}
 use Rattle.mips_exec.specs.Cpu.{reg}
-use Rattle.slot_vector.specs.Slices.{Slices, hold_at, unless, with_hold}
+use Rattle.slot_vector.specs.Slices.{Slices, after_turn, hold_at, unless, with_hold}
+use Rattle.slot_vector.specs.declared.turn.NextTurn.TheVariants as next
+use Rattle.kernel_journal.specs.declared.row.Row.TheVariants as row
+use Rattle.world_model.specs.declared.slot.Turn.{Turn}
 use Rattle.world_model.specs.declared.code.Code.{Code}
 use Rattle.world_model.specs.declared.code.Code.TheVariants as code
 use Rattle.world_model.specs.declared.slot.Hold.{Hold}
 use Rattle.world_model.specs.Item.{answered_cpu}
 use Rattle.world_model.specs.Verdict.{slot_row}
 use Rattle.board_world.specs.Shown.{Shown, changed, console_of}
-use Rattle.board_world.specs.Doing.{allocated, answered, bind_if, changed_page, chosen_in, look_of, put_if, refusal_of_binding, refusal_of_change, refusal_of_put, slot_if, with_bound}
+use Rattle.board_world.specs.Doing.{allocated, answered, bind_if, changed_page, chosen_in, look_of, paid, put_if, refusal_of_binding, refusal_of_change, refusal_of_put, slot_if, start_frames, start_registers, started, with_bound}
 use Rattle.board_world.proofs.Slots.{hold_here}
 use Rattle.board_world.proofs.Slotted.{done_for_none}
 
@@ -87,3 +90,16 @@ binding_put e b now x binds cpu same named allowed bound replied =
     ∙ ap (λ (y : Binding). answered (with_bound b e y) code.Ok 0) named
     ∙ ap (λ (s : Shown). answered (with_bound s e (binding_of s.cpu)) code.Ok 0) same
     ∙ ap (bind_if now e) (sym allowed)
+
+-- a slot is forfeited, and that is told
+pub turn_paid : (b now : Shown) (t : Turn) (slots : Slices) (ledger : Ledger) → b ≡ now → slots ≡ after_turn b.slots (next.Pay t) → ledger ≡ with_row b.ledger (row.Pay b.time t.slot t.env)
+    → record b { slots = slots; ledger = ledger } ≡ paid now t
+turn_paid b now t slots ledger same turned told = (λ i. record b { slots = turned i; ledger = told i }) ∙ ap (λ (s : Shown). paid s t) same
+
+-- a slot's holder starts, and that is told
+pub turn_run : (b now new : Shown) (t : Turn) (slots : Slices) (ledger : Ledger) → b ≡ now → slots ≡ after_turn b.slots (next.Run t) → ledger ≡ with_row b.ledger (row.Run b.time t.slot t.env)
+    → new ≡ record b { slots = slots; ledger = ledger; frames = start_frames b t.env; cpu = start_registers b.roster.list t.env } → new ≡ started now t
+turn_run b now new t slots ledger same turned told starts =
+    starts
+    ∙ (λ i. record b { slots = turned i; ledger = told i; frames = start_frames b t.env; cpu = start_registers b.roster.list t.env })
+    ∙ ap (λ (s : Shown). started s t) same

@@ -63,7 +63,7 @@ impl Board {
     {
         let kept = self.cpu;
         self.slots.donate(target, false);
-        self.start(target);
+        self.cpu = self.roster.frame(target).start(&mut self.frames);
         self.roster.keep(env, &kept);
         self.journal.push(Row::Give {
             time: self.time,

@@ -34,12 +34,12 @@ impl Board {
                 env: turn.env,
             }),
             NextTurn::Run(turn) => {
-                self.start(turn.env);
                 self.journal.push(Row::Run {
                     time: self.time,
                     slot: turn.slot,
                     env: turn.env,
                 });
+                self.start(turn.env);
             }
             NextTurn::Idle => {}
         }

@@ -1,5 +1,5 @@
 -- Whoever is called lives; and a call is the slice handed on, then the entry.
-use Rattle.std.proofs.Common.{◌≡◌, ℕ, None, Some, sym, ap, ◌∙◌}
+use Rattle.std.proofs.Common.{◌≡◌, ℕ, sym, ap, ◌∙◌}
 use Rattle.std.specs.Prelude.{slice_get}
 use Rattle.mips_exec.specs.Cpu.{reg}
 use Rattle.board_world.specs.Shown.{Shown}

@@ -1,8 +1,17 @@
 -- Whoever starts lives.
 use Rattle.std.proofs.Common.{sym, ap, ◌∙◌}
 use Rattle.board_world.specs.Shown.{Shown}
-use Rattle.board_world.proofs.Sound.{run_manned, turn_live}
+use Rattle.board_world.proofs.Sound.{pay_manned, run_manned, turn_live}
+use Rattle.aegis_calls.proofs.Called.{turn_paid, turn_run}
 use Rattle.aegis_calls.proofs.board.Board.next.Goals as goal
+
+pub invariant_of-self : goal.invariant_of-self
+invariant_of-self c = record {
+  book = rw (c.next_turn-next.ensures.after, c.in-Pay.is) (pay_manned c.self.inside.slots c.self.inside.roster c.in-Pay.turn c.self.invariant.book);
+  consoles = c.self.invariant.consoles;
+  memory = c.self.invariant.memory;
+  books = c.self.invariant.books;
+}
 
 pub start-requires : goal.start-requires
 start-requires c = (turn_live c.self.inside.slots c.self.inside.roster c.in-Run.turn c.self.invariant.book (ap (λ (b : Shown). b.roster.spare) c.self.view_is ∙ c.requires.whole) (sym c.next_turn-next.ensures.turn ∙ c.in-Run.is)).0
@@ -17,3 +26,9 @@ invariant_of-self-in-Run c =
       memory = c.self.invariant.memory;
       books = c.self.invariant.books;
     }
+
+pub returns-in-Run-clause-after : goal.returns-in-Run-clause-after
+returns-in-Run-clause-after c = turn_run _ _ _ c.in-Run.turn _ _ c.self.view_is c.in-Run.ensures.after c.push-in-Run.ensures c.start.ensures
+
+pub returns-in-Pay-clause-after : goal.returns-in-Pay-clause-after
+returns-in-Pay-clause-after c = turn_paid _ _ c.in-Pay.turn _ _ c.self.view_is c.in-Pay.ensures.after c.push.ensures

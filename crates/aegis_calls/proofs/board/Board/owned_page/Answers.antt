@@ -1,6 +1,6 @@
 -- The bytes of a page are seen by whom it is owned.
 use Rattle.std.proofs.Common.{◌≡◌, ◌<◌, ℕ, Bool, true, false, Option, Some, None, List, length, refl, sym, ap, ◌∙◌, inl, inr, arith}
-use Rattle.std.specs.Prelude.{if◌then◌else◌, slice_get, unwrap_or}
+use Rattle.std.specs.Prelude.{if◌then◌else◌, unwrap_or}
 use Rattle.std.proofs.lemmas.Option.{get_or_from_slice_get, slice_get_cases, unwrap_or-slice_get}
 use Rattle.frame_store.specs.Pages.{page_at}
 use Rattle.page_book.specs.declared.row.PageRow.{PageRow}
