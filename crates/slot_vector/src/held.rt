@@ -1,10 +1,11 @@
 //! Which slots an environment may take, drop or hand on, and what becomes of one.
 ghost use Rattle.std.specs.Option.{option_map};
-ghost use Rattle.std.specs.Prelude.{◌≡◌, ◌<◌, All, IsNone, length, slice_get, slice_set};
-ghost use Rattle.world_model.specs.SlotCalls.{drop_refusal, dropped, gift_refusal, held_by, holds, take_refusal};
-ghost use Rattle.slot_vector.specs.Slices.{IsNumbered, hold_at, most_numbers};
+ghost use Rattle.std.specs.Prelude.{◌≡◌, ◌<◌, All, IsNone, None, if◌then◌else◌, length, slice_get, slice_set};
+ghost use Rattle.world_model.specs.SlotCalls.{drop_refusal, dropped, gift_refusal, handed, held_by, holds, take_refusal};
+ghost use Rattle.world_model.specs.Book.{is_runner};
+ghost use Rattle.slot_vector.specs.Slices.{HasTicks, IsNumbered, RunsByNumber, hold_at, most_numbers};
 
-use crate::search::own_hold;
+use crate::search::{Row, own_hold};
 use world_model::{Code, Hold, Phase, Runner};
 
 /// Why the slot can't be taken: `NoSlice` where there is no such slot, and `SlotTaken` where it isn't
@@ -81,10 +82,32 @@ pub(crate) fn held_by(slot: Option<Hold>, env: u8) -> Option<Hold>
 }
 
 /// The slot has this hold now.
-pub(crate) fn put(slots: &mut [Option<Hold>], slot: usize, hold: Option<Hold>)
-    requires { slot < length slots.old }
-    ensures put { slots.new ≡ slice_set slots.old slot hold }
-    ensures numbered { All IsNumbered slots.old → IsNumbered hold → All IsNumbered slots.new }
+pub(crate) fn put(slots: &mut Row, slot: usize, hold: Option<Hold>)
+    requires { slot < length slots.old.items }
+    ensures put { slots.new.items ≡ slice_set slots.old.items slot hold }
+    ensures numbered { All IsNumbered slots.old.items → IsNumbered hold → All IsNumbered slots.new.items }
 {
-    slots[slot] = hold;
+    slots.as_mut_slice()[slot] = hold;
+}
+
+/// The runner's turn, with which another environment goes on.
+pub(crate) fn handed(runner: Option<Runner>, to: u8) -> Option<Runner>
+    ensures turn { result ≡ handed to runner }
+    ensures ticks { HasTicks runner → HasTicks result }
+    ensures numbered { to < most_numbers → RunsByNumber result }
+{
+    let runner = runner?;
+    Some(Runner { env: to, ..runner })
+}
+
+/// The runner, unless it is the environment.
+pub(crate) fn another(runner: Option<Runner>, env: u8) -> Option<Runner>
+    ensures turn { result ≡ (if is_runner env runner then None else runner) }
+    ensures ticks { HasTicks runner → HasTicks result }
+    ensures numbered { RunsByNumber runner → RunsByNumber result }
+{
+    match runner {
+        Some(running) if running.env == env => None,
+        _ => runner,
+    }
 }

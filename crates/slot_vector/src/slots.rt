@@ -9,7 +9,9 @@ ghost use Rattle.world_model.specs.SlotCalls.{dropped};
 ghost use Rattle.slot_vector.specs.Slices.{IsWithin, after_timer, after_turn, excess_of, first_slices, given_to, hold_at, in_grace_again, is_idle, mask_of, most_numbers, next_turn, refusal_of_drop, refusal_of_gift, refusal_of_take, timer_answer, timer_at_end, turn_ended, unless, with_hold, without_env};
 
 use crate::excess::{EXCESS_LIMIT, Excess};
-use crate::held::{drop_refusal, dropped, gift_refusal, held_by, put, take_refusal};
+use crate::held::{
+    another, drop_refusal, dropped, gift_refusal, handed, held_by, put, take_refusal,
+};
 use crate::search::{Row, first_turn, hold_at, mask_of, own_hold, own_holds, release};
 use crate::timer::Timer;
 use crate::turn::NextTurn;
@@ -178,12 +180,10 @@ impl Slots {
         requires number { to < most_numbers }
         ensures { self.new ≡ given_to to later self.old }
     {
-        if let Some(runner) = self.runner {
-            self.runner = Some(Runner { env: to, ..runner });
-        }
+        self.runner = handed(self.runner, to);
         if later {
             let slot = hold_at(self.slots.as_slice(), self.cursor);
-            put(self.slots.as_mut_slice(), self.cursor, held_by(slot, to));
+            put(&mut self.slots, self.cursor, held_by(slot, to));
         }
     }
 
@@ -198,11 +198,7 @@ impl Slots {
         if let Some(why) = take_refusal(self.slots.as_slice(), slot as usize) {
             return Err(why);
         }
-        put(
-            self.slots.as_mut_slice(),
-            slot as usize,
-            own_hold(Some(env)),
-        );
+        put(&mut self.slots, slot as usize, own_hold(Some(env)));
         Ok(())
     }
 
@@ -219,7 +215,7 @@ impl Slots {
             return Err(why);
         }
         let hold = hold_at(self.slots.as_slice(), place);
-        put(self.slots.as_mut_slice(), place, dropped(hold, env));
+        put(&mut self.slots, place, dropped(hold, env));
         Ok(())
     }
 
@@ -234,9 +230,7 @@ impl Slots {
         let mask = mask_of(self.slots.as_slice(), env);
         release(self.slots.as_mut_slice(), env);
         self.excess.set(env, 0);
-        if self.runner() == Some(env) {
-            self.give_up();
-        }
+        self.runner = another(self.runner, env);
         mask
     }
 

@@ -1,6 +1,6 @@
 //! What the timer brings.
 /// What the timer brings at the end of a tick.
-#[derive(Clone, Copy, Debug, PartialEq, Eq)]
+#[derive(Clone, Copy)]
 pub enum Timer {
     /// The runner goes on.
     Nothing,
