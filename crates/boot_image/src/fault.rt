@@ -6,7 +6,7 @@ use elf_static::ElfWhy;
 
 /// Which rule of an image is broken. `docs/FORMATS.md`, "Image", has the rules in the order in which
 /// they are tested.
-#[derive(Clone, Copy, Debug, PartialEq, Eq)]
+#[derive(Clone, Copy)]
 pub enum ImageWhy {
     /// The header, the slot bytes, a program's header or its body pass the file's end.
     Short,
@@ -44,7 +44,7 @@ pub enum ImageWhy {
 }
 
 /// The first broken rule of an image, and the byte of the file where it is broken.
-#[derive(Clone, Copy, Debug, PartialEq, Eq)]
+#[derive(Clone, Copy)]
 pub struct ImageFault {
     /// A byte's place in the file, counted from 0.
     pub place: u32,
@@ -53,14 +53,14 @@ pub struct ImageFault {
 }
 
 /// Which rule of a text is broken.
-#[derive(Clone, Copy, Debug, PartialEq, Eq)]
+#[derive(Clone, Copy)]
 pub enum TextWhy {
     /// The line asks for what this stage doesn't have.
     NotBuilt,
 }
 
 /// The first broken rule of a text, and its line.
-#[derive(Clone, Copy, Debug, PartialEq, Eq)]
+#[derive(Clone, Copy)]
 pub struct TextFault {
     /// The line's number, counted from 1.
     pub line: u32,
