@@ -1,11 +1,11 @@
 -- The parts of a file, as the reader takes them one after another.
-use Rattle.std.specs.Prelude.{ℕ, ◌≡◌, List, map, Option, None, Some, nat_lt, if◌then◌else◌}
+use Rattle.std.specs.Prelude.{ℕ, ◌≡◌, ◌<◌, ◌≤◌, true, IsTrue, List, map, Option, None, Some, nat_lt, if◌then◌else◌}
 use Rattle.boot_image.specs.declared.header.Header.{Header}
 use Rattle.boot_image.specs.declared.program.Placed.{Placed}
 use Rattle.boot_image.specs.declared.program.Programs.{Programs}
-use Rattle.aegis_limits.specs.Limits.{most_mappings}
-use Rattle.boot_image.specs.ImageValue.{ProgramValue, pages_in, quantum_in, environments_in, slots_in, headers_from, bodies_end, body_end, program_at, guaranteed_mappings}
-use Rattle.boot_image.specs.ImageFaults.{first_fault, mappings_fault}
+use Rattle.aegis_limits.specs.Limits.{most_mappings, most_stack_pages}
+use Rattle.boot_image.specs.ImageValue.{ProgramValue, pages_in, quantum_in, environments_in, slots_in, headers_from, bodies_end, body_end, name_in, base_in, stack_in, kind_in, length_in, program_at, guaranteed_mappings}
+use Rattle.boot_image.specs.ImageFaults.{first_fault, is_base, is_name, mappings_fault}
 
 -- the header's numbers
 pub record HeaderValue : Type 0 where
@@ -19,6 +19,13 @@ header_of file = record { pages = pages_in file; quantum = quantum_in file; envi
 
 abbrev pub header_seen : Header → HeaderValue
 header_seen header = record { pages = header.pages; quantum = header.quantum; environments = header.environments; slots = header.slots }
+
+-- the name and the numbers of a program's header keep the rules
+pub record IsSoundHeader (file : List ℕ) (header : ℕ) : Type 0 where
+  pub base : is_base (kind_in file header) (base_in file header) (length_in file header) ≡ true
+  pub filled : kind_in file header ≡ 0 → 0 < length_in file header
+  pub stack : stack_in file header ≤ most_stack_pages
+  pub name : IsTrue (is_name (name_in file header))
 
 -- a program, if it needs no more mappings than an environment may have
 abbrev pub if_fitting : ProgramValue → Option ProgramValue

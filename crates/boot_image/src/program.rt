@@ -1,11 +1,11 @@
 //! The programs of an image.
-ghost use Rattle.std.specs.Prelude.{◌≡◌, ◌+◌, ◌<◌, ◌≤◌, ◌^◌, ◌||◌, IfOk, IfErr, OnOk, IsTrue, length, sum_by, true};
+ghost use Rattle.std.specs.Prelude.{◌≡◌, ◌+◌, ◌<◌, ◌≤◌, ◌^◌, ◌||◌, IfOk, IfErr, OnOk, length, sum_by, true};
 ghost use Rattle.std.specs.Prelude.{drop, ◌==◌, position};
 ghost use Rattle.std.specs.List.{list_all};
-ghost use Rattle.aegis_limits.specs.Limits.{most_environments, most_stack_pages};
-ghost use Rattle.boot_image.specs.ImageValue.{body_end, body_of, bytes_in, flat_body, base_in, kind_in, stack_in, name_in, length_in, headers_from, name_text, guaranteed_mappings};
+ghost use Rattle.aegis_limits.specs.Limits.{most_environments};
+ghost use Rattle.boot_image.specs.ImageValue.{body_end, body_of, bytes_in, flat_body, base_in, kind_in, length_in, headers_from, name_text, guaranteed_mappings};
 ghost use Rattle.boot_image.specs.ImageFaults.{is_name, is_name_byte, is_base, is_flat_base, program_fault, program_header_fault, body_fault, first_fault};
-ghost use Rattle.boot_image.specs.Parts.{ArePrograms, placed_at, placed_seen};
+ghost use Rattle.boot_image.specs.Parts.{ArePrograms, IsSoundHeader, placed_at, placed_seen};
 ghost use Rattle.boot_image.specs.Seen.{Answers};
 
 use crate::fault::{ImageFault, ImageWhy};
@@ -67,10 +67,7 @@ fn check_program(file: &[u8], header: usize) -> Result<usize, ImageFault>
     requires start { header ≤ length file.now }
     ensures answer { Answers (λ end. end) result (program_header_fault file.now header) (body_end file.now header) }
     ensures whole { IfOk result (λ end. end ≤ length file.now) }
-    ensures base { OnOk result (is_base (kind_in file.now header) (base_in file.now header) (length_in file.now header) ≡ true) }
-    ensures filled { OnOk result (kind_in file.now header ≡ 0 → 0 < length_in file.now header) }
-    ensures stack { OnOk result (stack_in file.now header ≤ most_stack_pages) }
-    ensures name { OnOk result (IsTrue (is_name (name_in file.now header))) }
+    ensures sound { OnOk result (IsSoundHeader file.now header) }
 {
     let body = header + HEADER_SIZE;
     if file.len() < body {
@@ -124,8 +121,7 @@ fn is_flat_base(base: u32, length: u32) -> bool
 fn read_body(file: &[u8], header: usize) -> Result<Elf<'_>, ImageFault>
     requires small { length file.now < 2 ^ 27 }
     requires whole { body_end file.now header ≤ length file.now }
-    requires base { is_base (kind_in file.now header) (base_in file.now header) (length_in file.now header) ≡ true }
-    requires filled { kind_in file.now header ≡ 0 → 0 < length_in file.now header }
+    requires sound { IsSoundHeader file.now header }
     ensures { Answers (λ body. body) result (body_fault file.now header) (body_of (kind_in file.now header) (base_in file.now header) (bytes_in file.now header)) }
 {
     let start = header + HEADER_SIZE;
