@@ -1,8 +1,10 @@
 -- What the board shows after a kernel call or a turn, by its parts.
 use Rattle.std.proofs.Common.{◌≡◌, ◌<◌, ℕ, List, length, Option, Some, None, Ok, sym, ap, ◌∙◌}
-use Rattle.std.specs.Prelude.{◌++◌, [], slice_get, slice_set, unwrap_or}
+use Rattle.std.specs.Prelude.{false, ◌==◌, if◌then◌else◌, ◌++◌, [], slice_get, slice_set, unwrap_or}
 use Rattle.bind_book.specs.declared.binding.Binding.{Binding}
-use Rattle.bind_book.specs.Stripe.{breaks_page, place_of, row_of, swept}
+use Rattle.bind_book.specs.Stripe.{breaks_page, place_of, row_of, swept, unbound}
+use Rattle.env_frames.specs.Context.{context_number, start_area, start_bytes, started_cpu}
+use Rattle.env_frames.specs.Frame.{EnvValue, left_in, page_of}
 use Rattle.frame_store.specs.Pages.{with_page, zero_page}
 use Rattle.page_book.specs.declared.row.PageRow.{PageRow}
 use Rattle.page_book.specs.declared.row.PageRow.TheVariants.{Owned}
@@ -12,7 +14,7 @@ use Rattle.world_model.specs.Page.{Mapped}
 use Rattle.kernel_journal.specs.Ledger.{Ledger, with_row}
 use Rattle.mips_exec.specs.declared.registers.Cpu.{Cpu}
 use Rattle.mips_exec.specs.Cpu.{reg}
-use Rattle.slot_vector.specs.Slices.{Slices, after_turn, hold_at, unless, with_hold}
+use Rattle.slot_vector.specs.Slices.{Slices, after_turn, given_to, hold_at, unless, with_hold}
 use Rattle.slot_vector.specs.declared.turn.NextTurn.TheVariants as next
 use Rattle.kernel_journal.specs.declared.row.Row.TheVariants as row
 use Rattle.world_model.specs.declared.slot.Turn.{Turn}
@@ -21,8 +23,8 @@ use Rattle.world_model.specs.declared.code.Code.TheVariants as code
 use Rattle.world_model.specs.declared.slot.Hold.{Hold}
 use Rattle.world_model.specs.Item.{answered_cpu}
 use Rattle.world_model.specs.Verdict.{slot_row}
-use Rattle.board_world.specs.Shown.{Shown, changed, console_of}
-use Rattle.board_world.specs.Doing.{allocated, answered, bind_if, changed_page, chosen_in, look_of, paid, put_if, refusal_of_binding, refusal_of_change, refusal_of_put, slot_if, start_frames, start_registers, started, with_bound}
+use Rattle.board_world.specs.Shown.{Shown, Environments, changed, console_of, handlers_of, mappings_of, registers_of, with_list}
+use Rattle.board_world.specs.Doing.{allocated, answered, bind_if, changed_page, chosen_in, given, has_bound, look_of, paid, put_if, refusal_of_binding, refusal_of_change, refusal_of_put, refusal_of_unbinding, slot_if, start_frames, start_registers, started, unbind_if, with_bound, with_registers, with_unbound}
 use Rattle.board_world.proofs.Slots.{hold_here}
 use Rattle.board_world.proofs.Slotted.{done_for_none}
 
@@ -103,3 +105,31 @@ turn_run b now new t slots ledger same turned told starts =
     starts
     ∙ (λ i. record b { slots = turned i; ledger = told i; frames = start_frames b t.env; cpu = start_registers b.roster.list t.env })
     ∙ ap (λ (s : Shown). started s t) same
+
+-- the binding that the runner named is gone, if there was one, and the call is answered
+pub binding_taken : (e : ℕ) (b now : Shown) (vpn bound : ℕ) (binds : List (Option Binding)) (cpu : Cpu) → b ≡ now → vpn ≡ reg b.cpu 4 → refusal_of_unbinding now e ≡ None
+    → bound ≡ (if has_bound b e vpn then 1 else 0) → binds ≡ unbound b.binds e vpn → cpu ≡ answered_cpu code.Ok bound b.cpu → record b { binds = binds; cpu = cpu } ≡ unbind_if now e (refusal_of_unbinding now e)
+binding_taken e b now vpn bound binds cpu same named allowed had taken replied =
+    (λ i. record b { binds = taken i; cpu = replied i })
+    ∙ ap (λ (n : ℕ). record b { binds = unbound b.binds e vpn; cpu = answered_cpu code.Ok n b.cpu }) had
+    ∙ ap (λ (v : ℕ). record b { binds = unbound b.binds e v; cpu = answered_cpu code.Ok (if has_bound b e v then 1 else 0) b.cpu }) named
+    ∙ ap (λ (s : Shown). answered (with_unbound s e (reg s.cpu 4)) code.Ok (if has_bound s e (reg s.cpu 4) then 1 else 0)) same
+    ∙ ap (unbind_if now e) (sym allowed)
+
+-- another goes on with the rest of the runner's slice, whose registers are kept, and that is told
+pub slice_given : (e t : ℕ) (b now : Shown) (env : EnvValue) (frames : List (List ℕ)) (slots : Slices) (cpu : Cpu) (roster : Environments) (ledger : Ledger) (k : ℕ) → b ≡ now
+    → env.mappings ≡ mappings_of b.roster.list t → env.cpu ≡ registers_of b.roster.list t → env.handlers ≡ handlers_of b.roster.list t → slots ≡ given_to t false b.slots
+    → frames ≡ (if env.handlers.start == 0 then b.frames else left_in start_area (start_bytes env.cpu) (page_of env.mappings context_number) b.frames) → cpu ≡ started_cpu env.handlers.start env.cpu
+    → roster ≡ with_list b.roster (changed (with_registers b.cpu) b.roster.list e) → k ≡ slots.cursor → ledger ≡ with_row b.ledger (row.Give b.time k e t)
+    → record b { slots = slots; frames = frames; cpu = cpu; roster = roster; ledger = ledger } ≡ given now e t
+slice_given e t b now env frames slots cpu roster ledger k same maps registers handles handed starts started kept here told =
+    let cursor : k ≡ b.slots.cursor = here ∙ ap (λ (v : Slices). v.cursor) handed in
+    (λ i. record b { slots = handed i; frames = starts i; cpu = started i; roster = kept i; ledger = told i })
+    ∙ (λ i. record b {
+      slots = given_to t false b.slots;
+      frames = if (handles i).start == 0 then b.frames else left_in start_area (start_bytes (registers i)) (page_of (maps i) context_number) b.frames;
+      cpu = started_cpu (handles i).start (registers i);
+      roster = with_list b.roster (changed (with_registers b.cpu) b.roster.list e);
+      ledger = with_row b.ledger (row.Give b.time (cursor i) e t);
+    })
+    ∙ ap (λ (s : Shown). given s e t) same

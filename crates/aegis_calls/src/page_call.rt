@@ -23,10 +23,8 @@ fn take(pages: &mut Pages, env: u8, page: u32, words: Capabilities) -> Result<u3
     if page == ANY {
         return pages.alloc_any(env, words);
     }
-    match pages.alloc_at(env, page, words) {
-        Ok(()) => Ok(page),
-        Err(why) => Err(why),
-    }
+    pages.alloc_at(env, page, words)?;
+    Ok(page)
 }
 
 impl Board {

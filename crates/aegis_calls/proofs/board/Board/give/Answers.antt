@@ -9,6 +9,7 @@ use Rattle.board_world.proofs.Booked.{keep_booked}
 use Rattle.board_world.proofs.Parted.{context_there, keep_parted}
 use Rattle.board_world.proofs.Slotted.{lives_alive}
 use Rattle.board_world.proofs.Sound.{given_manned, keep_manned, keeps_registers, same_consoles}
+use Rattle.aegis_calls.proofs.Called.{slice_given}
 use Rattle.aegis_calls.proofs.board.Board.give.Goals as goal
 
 pub start-self-inside-requires : goal.start-self-inside-requires
@@ -30,3 +31,6 @@ invariant_of-self c =
       memory = rw c.keep.ensures (record { same = size ∙ parted.same; most = omega (arith, size, parted.most); mapped = parted.mapped });
       books = rw c.keep.ensures (keep_booked f keeps b.pages b.bindings b.roster e c.self.invariant.books);
     }
+
+pub returns : goal.returns
+returns c = slice_given c.args.env c.args.target _ _ c.frame.result.now _ _ _ _ _ _ c.self.view_is c.frame.ensures.mappings c.frame.ensures.registers c.frame.ensures.handlers c.donate.ensures c.start-self-inside.ensures.frames c.start-self-inside.ensures.cpu c.keep.ensures c.slot.ensures.cursor c.push.ensures
