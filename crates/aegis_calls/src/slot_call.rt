@@ -44,9 +44,7 @@ impl Board {
         if !self.is_other(env, target) {
             return Err(Code::NoEnv);
         }
-        if let Err(why) = self.slots.may_donate(later) {
-            return Err(why);
-        }
+        self.slots.may_donate(later)?;
         let to = target as u8;
         if !accepts(self.roster.frame(to).accept(), env) {
             return Err(Code::NotAccepted);
