@@ -4,7 +4,6 @@ ghost use Rattle.mips_exec.specs.Cpu.{reg};
 ghost use Rattle.page_book.specs.declared.row.PageRow.TheVariants.{Free, Owned};
 ghost use Rattle.page_book.specs.Rows.{row_in};
 ghost use Rattle.world_model.specs.Book.{running};
-ghost use Rattle.world_model.specs.Call.{words_of};
 ghost use Rattle.board_world.specs.Doing.{chosen_in};
 
 use crate::board::Board;
@@ -28,7 +27,7 @@ fn take(pages: &mut Pages, env: u8, page: u32, words: Capabilities) -> Result<u3
 }
 
 impl Board {
-    ghost use Rattle.board_world.specs.Doing.{allocated, changed_page, refusal_of_change};
+    ghost use Rattle.board_world.specs.Doing.{allocated, free_if, recap_if};
 
     /// Allocates a page, which is the runner's own from now on and holds zeros.
     pub(crate) fn alloc(&mut self, env: u8)
@@ -47,7 +46,7 @@ impl Board {
 
     /// Frees a page, which nobody has bound any more.
     pub(crate) fn free(&mut self, env: u8)
-        ensures { self.new ≡ changed_page self.old (reg self.old.cpu 4) Free None (refusal_of_change self.old env) }
+        ensures { self.new ≡ free_if self.old env (reg self.old.cpu 4) }
     {
         let page = self.cpu.reg(FIRST_ARGUMENT);
         match self.pages.free(env, page) {
@@ -62,7 +61,7 @@ impl Board {
     /// Gives a page other words; nobody else has it bound any more.
     pub(crate) fn recap(&mut self, env: u8)
         requires { running self.old.slots.runner ≡ Some env }
-        ensures { self.new ≡ changed_page self.old (reg self.old.cpu 4) (Owned env (words_of self.old.cpu)) (Some env) (refusal_of_change self.old env) }
+        ensures { self.new ≡ recap_if self.old env (reg self.old.cpu 4) }
     {
         let page = self.cpu.reg(FIRST_ARGUMENT);
         match self.pages.recap(env, page, words(&self.cpu)) {

@@ -1,11 +1,10 @@
 //! Kernel calls on slices and slots, and questions about the kernel's book: what they do to the board's parts.
 ghost use Rattle.std.specs.Prelude.{◌≡◌, ◌<◌, ◌==◌, true, None, Some, IfOk, IfErr, slice_get};
 ghost use Rattle.mips_exec.specs.Cpu.{reg};
-ghost use Rattle.slot_vector.specs.Slices.{hold_at, refusal_of_drop, refusal_of_take};
 ghost use Rattle.world_model.specs.declared.code.Code.TheVariants as code;
-ghost use Rattle.world_model.specs.Book.{own_hold, running};
+ghost use Rattle.world_model.specs.Book.{running};
 ghost use Rattle.world_model.specs.Call.{any};
-ghost use Rattle.world_model.specs.SlotCalls.{accepts, dropped, holder_answer, owner_answer, question_numbered};
+ghost use Rattle.world_model.specs.SlotCalls.{accepts, holder_answer, owner_answer, question_numbered};
 
 use crate::board::Board;
 use crate::death::push_slot;
@@ -22,7 +21,7 @@ fn accepts(mask: u32, env: u8) -> bool
 }
 
 impl Board {
-    ghost use Rattle.board_world.specs.Doing.{accepted, answer_in, answered, death_answer_in, given, is_other_in, lives_in, query_if, refusal_of_handing, slot_if, yield_if};
+    ghost use Rattle.board_world.specs.Doing.{accepted, answer_in, answered, death_answer_in, drop_if, given, is_other_in, lives_in, query_if, refusal_of_handing, take_if, yield_if};
 
     /// Whether a number is that of another environment that lives.
     fn is_other(&self, env: u8, target: u32) -> bool
@@ -105,7 +104,7 @@ impl Board {
     pub(crate) fn take_slot(&mut self, env: u8)
         requires runs { running self.old.slots.runner ≡ Some env }
         requires room { 0 < self.old.ledger.spare }
-        ensures { self.new ≡ slot_if self.old (reg self.old.cpu 4) (Some (own_hold env)) (refusal_of_take self.old.slots (reg self.old.cpu 4)) }
+        ensures { self.new ≡ take_if self.old env (reg self.old.cpu 4) }
     {
         let slot = self.cpu.reg(FIRST_ARGUMENT);
         match self.slots.take(env, slot) {
@@ -120,7 +119,7 @@ impl Board {
     /// Drops a slot that the runner holds: it is empty, or its owner's again, and the ledger says so.
     pub(crate) fn drop_slot(&mut self, env: u8)
         requires { 0 < self.old.ledger.spare }
-        ensures { self.new ≡ slot_if self.old (reg self.old.cpu 4) (dropped env (hold_at self.old.slots.slots (reg self.old.cpu 4))) (refusal_of_drop env self.old.slots (reg self.old.cpu 4)) }
+        ensures { self.new ≡ drop_if self.old env (reg self.old.cpu 4) }
     {
         let slot = self.cpu.reg(FIRST_ARGUMENT);
         match self.slots.drop_slot(env, slot) {

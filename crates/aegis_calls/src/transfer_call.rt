@@ -1,8 +1,7 @@
 //! Transfers of control: what they do to the board's parts.
 ghost use Rattle.std.specs.Prelude.{◌≡◌, ◌<◌, true, None, Some, IfOk, IfErr, length, slice_get};
 ghost use Rattle.mips_exec.specs.Cpu.{reg};
-ghost use Rattle.env_frames.specs.Transfer.{hands_slot, transfer_numbered};
-ghost use Rattle.slot_vector.specs.Slices.{given_to};
+ghost use Rattle.env_frames.specs.Transfer.{transfer_numbered};
 ghost use Rattle.world_model.specs.Book.{running};
 
 use crate::board::Board;
@@ -13,7 +12,7 @@ use kernel_journal::Row;
 use world_model::Code;
 
 impl Board {
-    ghost use Rattle.board_world.specs.Doing.{is_open_in, ledger_entered, lives_in, refusal_of_transfer_to, transferred, transfer_by, transfer_if};
+    ghost use Rattle.board_world.specs.Doing.{entered, handed_on, is_open_in, lives_in, refusal_of_transfer_to, transfer_by, transfer_if};
 
     /// The environment of this number, which the runner may call by a transfer of this kind; or why it may not.
     fn callee(&self, env: u8, target: u32, kind: TransferKind) -> Result<u8, Code>
@@ -38,7 +37,7 @@ impl Board {
         requires there { env < length self.old.roster.list }
         requires lives { lives_in (slice_get self.old.roster.list target) ≡ true }
         requires open { is_open_in self.old target kind ≡ true }
-        ensures { self.new ≡ record (transferred self.old env target kind) { slots = self.old.slots; ledger = self.old.ledger } }
+        ensures { self.new ≡ entered self.old env target kind }
     {
         let entered = self
             .roster
@@ -53,7 +52,7 @@ impl Board {
         requires runs { running self.old.slots.runner ≡ Some env }
         requires lives { lives_in (slice_get self.old.roster.list target) ≡ true }
         requires room { 1 < self.old.ledger.spare }
-        ensures { self.new ≡ record self.old { slots = given_to target (hands_slot kind) self.old.slots; ledger = ledger_entered self.old env target kind } }
+        ensures { self.new ≡ handed_on self.old env target kind }
     {
         self.slots.donate(target, kind.hands_slot());
         let time = self.time;

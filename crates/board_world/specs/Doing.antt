@@ -236,14 +236,20 @@ ledger_entered b e target kind.Asynchronous = with_row b.ledger (row.Async b.tim
 ledger_entered b e target kind.Synchronous =
     with_row (with_row b.ledger (row.Sync b.time b.slots.cursor e target)) (slot_row b.time b.slots.cursor (option_map (held_by target) (hold_at b.slots.slots b.slots.cursor)))
 
-abbrev pub transferred : Shown → ℕ → ℕ → TransferKind → Shown
-transferred b e target kind = record b {
-  slots = given_to target (hands_slot kind) b.slots;
+-- The target runs for the rest of the runner's slice, and holds the slot, if that is handed on; the ledger says so.
+abbrev pub handed_on : Shown → ℕ → ℕ → TransferKind → Shown
+handed_on b e target kind = record b { slots = given_to target (hands_slot kind) b.slots; ledger = ledger_entered b e target kind }
+
+-- The runner's registers are kept behind its call, and the target goes on at its entry.
+abbrev pub entered : Shown → ℕ → ℕ → TransferKind → Shown
+entered b e target kind = record b {
   frames = entered_frames b e target kind;
   cpu = entered_registers b target kind;
   roster = with_list b.roster (roster_entered b e target);
-  ledger = ledger_entered b e target kind;
 }
+
+abbrev pub transferred : Shown → ℕ → ℕ → TransferKind → Shown
+transferred b e target kind = entered (handed_on b e target kind) e target kind
 
 -- whether an environment has an entry for transfers of a kind
 abbrev pub is_open_in : Shown → ℕ → TransferKind → Bool
@@ -272,6 +278,12 @@ with_slot b k hold = record b { slots = with_hold b.slots k hold; ledger = with_
 abbrev pub slot_if : Shown → ℕ → Option Hold → Option Code → Shown
 slot_if b k hold None = answered (with_slot b k hold) code.Ok 0
 slot_if b k hold (Some why) = answered b why 0
+
+abbrev pub take_if : Shown → ℕ → ℕ → Shown
+take_if b e k = slot_if b k (Some (own_hold e)) (refusal_of_take b.slots k)
+
+abbrev pub drop_if : Shown → ℕ → ℕ → Shown
+drop_if b e k = slot_if b k (dropped e (hold_at b.slots.slots k)) (refusal_of_drop e b.slots k)
 
 -- Query.
 abbrev pub death_answer_in : Option Environment → Result ℕ Code
@@ -339,6 +351,12 @@ changed_page b page row but (Some why) = answered b (code_of why) 0
 abbrev pub refusal_of_change : Shown → ℕ → Option PageNo
 refusal_of_change b e = change_refusal e (slice_get b.pages (reg b.cpu 4))
 
+abbrev pub free_if : Shown → ℕ → ℕ → Shown
+free_if b e page = changed_page b page Free None (refusal_of_change b e)
+
+abbrev pub recap_if : Shown → ℕ → ℕ → Shown
+recap_if b e page = changed_page b page (Owned e (words_of b.cpu)) (Some e) (refusal_of_change b e)
+
 -- whether a page number of an environment is guaranteed
 abbrev pub is_number_guaranteed : Shown → ℕ → ℕ → Bool
 is_number_guaranteed b e vpn = is_some (mapping_at (mappings_of b.roster.list e) vpn)
@@ -384,15 +402,15 @@ served b e (Some call.Yield) = yield_if b e (reg b.cpu 4 == any)
 served b e (Some call.Put) = put_if b e (refusal_of_put b e)
 served b e (Some call.Exit) = died b e (cause.Exit (reg b.cpu 4))
 served b e (Some call.Alloc) = allocated b e (chosen_in b.pages (reg b.cpu 4))
-served b e (Some call.Free) = changed_page b (reg b.cpu 4) Free None (refusal_of_change b e)
-served b e (Some call.Recap) = changed_page b (reg b.cpu 4) (Owned e (words_of b.cpu)) (Some e) (refusal_of_change b e)
+served b e (Some call.Free) = free_if b e (reg b.cpu 4)
+served b e (Some call.Recap) = recap_if b e (reg b.cpu 4)
 served b e (Some call.Bind) = bind_if b e (refusal_of_binding b e)
 served b e (Some call.Unbind) = unbind_if b e (refusal_of_unbinding b e)
 served b e (Some call.Context) = context_if b e (refusal_of_context b.cpu)
 served b e (Some call.Accept) = answered (accepted b e (reg b.cpu 4)) code.Ok 0
 served b e (Some call.Transfer) = transfer_if b e (reg b.cpu 4) (transfer_numbered (reg b.cpu 5))
-served b e (Some call.SlotTake) = slot_if b (reg b.cpu 4) (Some (own_hold e)) (refusal_of_take b.slots (reg b.cpu 4))
-served b e (Some call.SlotDrop) = slot_if b (reg b.cpu 4) (dropped e (hold_at b.slots.slots (reg b.cpu 4))) (refusal_of_drop e b.slots (reg b.cpu 4))
+served b e (Some call.SlotTake) = take_if b e (reg b.cpu 4)
+served b e (Some call.SlotDrop) = drop_if b e (reg b.cpu 4)
 served b e (Some call.Query) = query_if b (answer_in b e (question_numbered (reg b.cpu 4)) (reg b.cpu 5))
 served b e (Some call.OwnNumber) = answered b code.Ok e
 served b e (Some call.Clock) = answered b code.Ok b.time

@@ -162,7 +162,7 @@ impl Slots {
 
     /// Whether the runner may give the rest of its slice away, and for a later the slot with its later slices too.
     /// `NoSlice` says that it runs in time of grace, which isn't its own; and `NotHolder` that the slot, which is
-    /// asked for too, isn't its own to give, since another holds it.
+    /// asked for too, isn't its own to give, since another holds it or nobody does.
     pub fn may_donate(&self, later: bool) -> Result<(), Code>
         ensures { result ≡ unless (refusal_of_gift later self.now) }
     {

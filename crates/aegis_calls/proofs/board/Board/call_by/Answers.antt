@@ -3,7 +3,7 @@ use Rattle.std.proofs.Common.{◌≡◌, ℕ, sym, ap, ◌∙◌}
 use Rattle.std.specs.Prelude.{slice_get}
 use Rattle.mips_exec.specs.Cpu.{reg}
 use Rattle.board_world.specs.Shown.{Shown}
-use Rattle.board_world.specs.Doing.{lives_in, refusal_of_transfer_to, transferred, transfer_by}
+use Rattle.board_world.specs.Doing.{entered, lives_in, refusal_of_transfer_to, transferred, transfer_by}
 use Rattle.board_world.proofs.Slotted.{called_lives}
 use Rattle.aegis_calls.proofs.board.Board.call_by.Goals as goal
 
@@ -19,7 +19,7 @@ returns-in-Ok c =
     let kind = c.args.kind in
     let named : c.reg-target.result ≡ reg b.cpu 4 = c.reg-target.ensures ∙ ap (λ (s : Shown). reg s.cpu 4) c.self.view_is in
     c.enter.ensures
-    ∙ ap (λ (s : Shown). record (transferred s e c.in-Ok.to kind) { slots = s.slots; ledger = s.ledger }) c.hand_on.ensures
+    ∙ ap (λ (s : Shown). entered s e c.in-Ok.to kind) c.hand_on.ensures
     ∙ ap (λ (n : ℕ). transferred b e n kind) (c.in-Ok.ensures.may.0 ∙ named)
     ∙ ap (transfer_by b e (reg b.cpu 4) kind) (sym (ap (λ (n : ℕ). refusal_of_transfer_to b e n kind) (sym named) ∙ c.in-Ok.ensures.may.1))
 

@@ -11,7 +11,7 @@ use Rattle.world_model.specs.Verdict.{slot_row}
 use Rattle.world_model.specs.SlotCalls.{held_by}
 use Rattle.slot_vector.specs.Slices.{Slices, given_to, hold_at, slots_given}
 use Rattle.board_world.specs.Shown.{Shown}
-use Rattle.board_world.specs.Doing.{ledger_entered, lives_in}
+use Rattle.board_world.specs.Doing.{handed_on, ledger_entered, lives_in}
 use Rattle.board_world.proofs.Slots.{handed_here}
 use Rattle.board_world.proofs.Slotted.{lives_alive}
 use Rattle.board_world.proofs.Sound.{given_manned}
@@ -77,4 +77,4 @@ returns-in-Synchronous c =
       time = b.time;
       ledger = ledger i;
     })
-    ∙ ap (λ (s : Shown). record s { slots = given_to t (hands_slot c.args.kind) s.slots; ledger = ledger_entered s e t c.args.kind }) c.self.view_is
+    ∙ ap (λ (s : Shown). handed_on s e t c.args.kind) c.self.view_is
