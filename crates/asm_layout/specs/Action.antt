@@ -71,7 +71,7 @@ abbrev pub quoted_in : List OperandValue → Result (List ℕ) AsmWhy
 quoted_in (a ∷ []) = quoted_form a
 quoted_in _ = Err Syntax
 
--- these bytes, and an ending behind them
+-- to put the bytes that a quoted text means, and an ending behind them
 abbrev pub text_in : List ℕ → List OperandValue → Result Action AsmWhy
 text_in ending operands = do
   bs ← quoted_in operands

@@ -128,7 +128,7 @@ fn text<'a>(alloc: Global, ending: &[u8], operands: &[Arg<'a>]) -> Result<Action
     Ok(Action::Put(Content::Bytes(bytes)))
 }
 
-/// The bytes that a quoted text means.
+/// The bytes of the quoted text that the one operand is.
 fn quoted<'b>(operands: &'b [Arg<'_>]) -> Result<&'b [u8], Cause>
     ensures { Means (λ text. text.now) result (quoted_in (operands_seen operands.now)) }
 {
@@ -141,7 +141,7 @@ fn quoted<'b>(operands: &'b [Arg<'_>]) -> Result<&'b [u8], Cause>
     }
 }
 
-/// An expression that is written as a number.
+/// The number that the one operand is written as.
 fn number(operands: &[Arg<'_>]) -> Result<u32, Cause>
     ensures { Means (λ number. number) result (number_in (operands_seen operands.now)) }
 {

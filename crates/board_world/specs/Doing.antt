@@ -248,6 +248,7 @@ entered b e target kind = record b {
   roster = with_list b.roster (roster_entered b e target);
 }
 
+-- both: the transfer that isn't refused
 abbrev pub transferred : Shown → ℕ → ℕ → TransferKind → Shown
 transferred b e target kind = entered (handed_on b e target kind) e target kind
 
@@ -279,9 +280,11 @@ abbrev pub slot_if : Shown → ℕ → Option Hold → Option Code → Shown
 slot_if b k hold None = answered (with_slot b k hold) code.Ok 0
 slot_if b k hold (Some why) = answered b why 0
 
+-- the runner takes a slot, unless that is refused
 abbrev pub take_if : Shown → ℕ → ℕ → Shown
 take_if b e k = slot_if b k (Some (own_hold e)) (refusal_of_take b.slots k)
 
+-- the runner drops a slot, unless that is refused
 abbrev pub drop_if : Shown → ℕ → ℕ → Shown
 drop_if b e k = slot_if b k (dropped e (hold_at b.slots.slots k)) (refusal_of_drop e b.slots k)
 
@@ -351,9 +354,11 @@ changed_page b page row but (Some why) = answered b (code_of why) 0
 abbrev pub refusal_of_change : Shown → ℕ → Option PageNo
 refusal_of_change b e = change_refusal e (slice_get b.pages (reg b.cpu 4))
 
+-- the runner frees a page, unless that is refused
 abbrev pub free_if : Shown → ℕ → ℕ → Shown
 free_if b e page = changed_page b page Free None (refusal_of_change b e)
 
+-- the runner gives a page other words, unless that is refused
 abbrev pub recap_if : Shown → ℕ → ℕ → Shown
 recap_if b e page = changed_page b page (Owned e (words_of b.cpu)) (Some e) (refusal_of_change b e)
 

@@ -36,7 +36,7 @@ field_of Branch place v = aligned_target v (ranged (lies (2 ^ 17) (2 ^ 17 - 4) (
 -- a jump reaches what has bits 31:28 of the word after it
 field_of Jump place v = aligned_target v (ranged (v / 2 ^ 28 == (place + 4) / 2 ^ 28) (v % 2 ^ 28 / 4))
 
--- and its bits of the word
+-- the bits of the word that a value's field fills, in an instruction at a place
 abbrev pub bits_of : Field → ℕ → ℕ → Result ℕ AsmWhy
 bits_of field place v = do
   n ← field_of field place v
@@ -48,7 +48,7 @@ field_in names field place e = do
   v ← defined names e
   field_of field place v
 
--- and its bits of the word
+-- the bits of the word that it fills
 abbrev pub field_bits_in : Names → Field → ℕ → ExpressionValue → Result ℕ AsmWhy
 field_bits_in names field place e = do
   n ← field_in names field place e

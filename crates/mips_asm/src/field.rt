@@ -38,7 +38,7 @@ pub(crate) fn field_bits(
     }
 }
 
-/// A shift amount.
+/// The bits of a shift amount, in the word.
 fn amount(value: u32) -> Result<u32, AsmWhy>
     ensures value { result ≡ bits_of Amount 0 value }
     ensures within { IfOk result (λ bits. bits < 2 ^ 26) }
@@ -50,7 +50,7 @@ fn amount(value: u32) -> Result<u32, AsmWhy>
     }
 }
 
-/// A half that is extended with its sign.
+/// The bits of a half that is extended with its sign.
 fn signed(value: u32) -> Result<u32, AsmWhy>
     ensures value { result ≡ bits_of Signed 0 value }
     ensures within { IfOk result (λ bits. bits < 2 ^ 26) }
@@ -62,7 +62,7 @@ fn signed(value: u32) -> Result<u32, AsmWhy>
     }
 }
 
-/// A half that is extended with zeros.
+/// The bits of a half that is extended with zeros.
 fn unsigned(value: u32) -> Result<u32, AsmWhy>
     ensures value { result ≡ bits_of Unsigned 0 value }
     ensures within { IfOk result (λ bits. bits < 2 ^ 26) }
@@ -77,7 +77,7 @@ fn unsigned(value: u32) -> Result<u32, AsmWhy>
 /// The most that a code can be.
 const LAST_CODE: u32 = (1 << 20) - 1;
 
-/// The code of a trap.
+/// The bits of a trap's code, in the word.
 fn code(value: u32) -> Result<u32, AsmWhy>
     ensures value { result ≡ bits_of Code 0 value }
     ensures within { IfOk result (λ bits. bits < 2 ^ 26) }
@@ -95,7 +95,7 @@ const BRANCH_BACK: u32 = 1 << 17;
 /// How far a branch reaches on, in bytes.
 const BRANCH_ON: u32 = BRANCH_BACK - 4;
 
-/// How many words a branch at a place goes on from the word after it, modulo 2^16.
+/// The bits of a branch at a place: how many words it goes on from the word after it, modulo 2^16.
 fn branch(place: u32, target: u32) -> Result<u32, AsmWhy>
     requires { place + 4 < 2 ^ 32 }
     ensures value { result ≡ bits_of Branch place target }
@@ -123,7 +123,7 @@ fn distance(place: u32, address: u32) -> u32
 /// How many bytes a jump may reach.
 const JUMP_REGION: u32 = 1 << 28;
 
-/// The target of a jump at a place.
+/// The bits of a jump's target, for a jump at a place.
 fn jump(place: u32, target: u32) -> Result<u32, AsmWhy>
     requires { place + 4 < 2 ^ 32 }
     ensures value { result ≡ bits_of Jump place target }

@@ -1,4 +1,4 @@
-//! Which slots an environment may take, drop or hand on, and what becomes of one.
+//! Which slots an environment may take, drop or hand on, what becomes of one, and who runs after a gift or a death.
 ghost use Rattle.std.specs.Option.{option_map};
 ghost use Rattle.std.specs.Prelude.{◌≡◌, ◌<◌, All, IsNone, None, if◌then◌else◌, length, slice_get, slice_set};
 ghost use Rattle.world_model.specs.SlotCalls.{drop_refusal, dropped, gift_refusal, handed, held_by, holds, take_refusal};
