@@ -9,7 +9,8 @@ use crate::place::{PAGE_BYTES, bytes_from, locate};
 use crate::space::Space;
 use byteorder::{ByteOrder, LittleEndian};
 use frame_store::Frames;
-use mips_exec::{Bus, Cpu, Exc, Outcome, step_user};
+use mips_exec::{Cpu, Exc, Outcome};
+use mips_step::{Bus, step_user};
 use world_model::Purpose;
 
 /// Physical memory, lent for the accesses of an environment.

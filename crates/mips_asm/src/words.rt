@@ -11,7 +11,8 @@ use crate::field::field_bits;
 use asm_layout::{Draft, Names, defined};
 use asm_parse::{AsmWhy, Expression, Register};
 use byte_numbers::push_word;
-use mips_isa::{Insn, encode};
+use mips_codec::encode;
+use mips_isa::Insn;
 use std::alloc::AllocError;
 
 /// The words that a draft makes: one, or two.

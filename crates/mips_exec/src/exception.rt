@@ -68,7 +68,7 @@ pub struct Exc {
 
 impl Exc {
     /// An exception that has no address.
-    pub(crate) fn plain(code: ExcCode) -> Self
+    pub fn plain(code: ExcCode) -> Self
         ensures { result ≡ plain code }
     {
         Exc {
@@ -79,7 +79,7 @@ impl Exc {
     }
 
     /// A coprocessor that may not be used.
-    pub(crate) fn unusable(unit: u8) -> Self
+    pub fn unusable(unit: u8) -> Self
         ensures { result ≡ unusable unit }
     {
         Exc {
@@ -90,7 +90,7 @@ impl Exc {
     }
 
     /// The same exception at an address.
-    pub(crate) fn at(self, address: u32) -> Self
+    pub fn at(self, address: u32) -> Self
         ensures { result ≡ at_address self address }
     {
         Exc {

@@ -1,13 +1,7 @@
 //! The bytes that loads and stores name.
 ghost use Rattle.std.specs.Prelude.{◌≡◌};
-ghost use Rattle.std.specs.Option.{ForSome};
-ghost use Rattle.mips_exec.specs.Access.{access, at, below, place_of, is_aligned, left_store, right_store, IsSized};
-ghost use Rattle.mips_exec.specs.Step.{answered, named_by, write_if, Wrote};
-
-use crate::exception::{Exc, ExcCode};
-use crate::memory::Bus;
-use crate::registers::Cpu;
-use mips_isa::Insn;
+ghost use Rattle.mips_exec.specs.Access.{at, below, place_of, is_aligned};
+ghost use Rattle.mips_exec.specs.Step.{named_by};
 
 /// The bytes that a load or store names, all in one aligned word.
 #[derive(Clone, Copy)]
@@ -22,7 +16,7 @@ pub struct Spot {
 
 impl Spot {
     /// So many bytes at the address.
-    fn at(address: u32, width: u8) -> Self
+    pub fn at(address: u32, width: u8) -> Self
         ensures { result ≡ at address width }
     {
         Spot {
@@ -33,7 +27,7 @@ impl Spot {
     }
 
     /// So many bytes from the beginning of the aligned word that has the address.
-    fn below(address: u32, width: u8) -> Self
+    pub fn below(address: u32, width: u8) -> Self
         ensures { result ≡ below address width }
     {
         Spot {
@@ -44,7 +38,7 @@ impl Spot {
     }
 
     /// Where the bytes begin.
-    fn place(self) -> u32
+    pub fn place(self) -> u32
         ensures { result ≡ place_of self }
     {
         if self.down {
@@ -55,7 +49,7 @@ impl Spot {
     }
 
     /// Two bytes begin at a multiple of 2, and four at a multiple of 4.
-    fn is_aligned(self) -> bool
+    pub fn is_aligned(self) -> bool
         ensures { result ≡ is_aligned self }
     {
         if self.width == 4 {
@@ -77,93 +71,12 @@ pub enum Access {
 }
 
 impl Access {
-    /// SWL of the register's value.
-    fn store_left(address: u32, value: u32) -> Self
-        ensures value { result ≡ left_store address value }
-        ensures sized { IsSized result }
-    {
-        let n = address % 4;
-        Access::Store(Spot::below(address, (n + 1) as u8), value >> (24 - 8 * n))
-    }
-
-    /// SWR of the register's value.
-    fn store_right(address: u32, value: u32) -> Self
-        ensures value { result ≡ right_store address value }
-        ensures sized { IsSized result }
-    {
-        Access::Store(Spot::at(address, (4 - address % 4) as u8), value)
-    }
-
-    /// The load or store of the instruction, if it has one.
-    #[tactic(auto, unfolding(crate::specs::Access::access))]
-    pub(crate) fn of(insn: Insn, cpu: &Cpu) -> Option<Access>
-        ensures value { result ≡ access insn cpu.now }
-        ensures sized { ForSome result IsSized }
-    {
-        let found = match insn {
-            Insn::Lb { imm, rs, .. } | Insn::Lbu { imm, rs, .. } => Access::Load(Spot::at(
-                cpu.address(rs, imm),
-                1,
-            )),
-            Insn::Lh { imm, rs, .. } | Insn::Lhu { imm, rs, .. } => Access::Load(Spot::at(
-                cpu.address(rs, imm),
-                2,
-            )),
-            Insn::Lw { imm, rs, .. } => Access::Load(Spot::at(cpu.address(rs, imm), 4)),
-            Insn::Lwl { imm, rs, .. } | Insn::Lwr { imm, rs, .. } => Access::Load(Spot::below(
-                cpu.address(rs, imm),
-                4,
-            )),
-            Insn::Sb { rt, imm, rs } => Access::Store(
-                Spot::at(cpu.address(rs, imm), 1),
-                cpu.reg(rt),
-            ),
-            Insn::Sh { rt, imm, rs } => Access::Store(
-                Spot::at(cpu.address(rs, imm), 2),
-                cpu.reg(rt),
-            ),
-            Insn::Sw { rt, imm, rs } => Access::Store(
-                Spot::at(cpu.address(rs, imm), 4),
-                cpu.reg(rt),
-            ),
-            Insn::Swl { rt, imm, rs } => Access::store_left(cpu.address(rs, imm), cpu.reg(rt)),
-            Insn::Swr { rt, imm, rs } => Access::store_right(cpu.address(rs, imm), cpu.reg(rt)),
-            _ => return None,
-        };
-        Some(found)
-    }
-
     /// The address that the instruction names.
-    pub(crate) fn address(self) -> u32
+    pub fn address(self) -> u32
         ensures { result ≡ named_by self }
     {
         match self {
             Access::Load(spot) | Access::Store(spot, _) => spot.address,
-        }
-    }
-
-    /// Asks the bus for it: what it loads, and 0 for a store.
-    pub(crate) fn perform<B: Bus>(self, bus: &mut B) -> Result<u32, Exc>
-        requires { IsSized self }
-        ensures answer { result ≡ answered (B.answers bus.old) self }
-        ensures memory { Wrote B.Kept B.Stored bus.old (write_if self result) bus.new }
-    {
-        match self {
-            Access::Load(spot) => {
-                if !spot.is_aligned() {
-                    return Err(Exc::plain(ExcCode::Adel));
-                }
-                bus.load(spot.place(), spot.width)
-            }
-            Access::Store(spot, value) => {
-                if !spot.is_aligned() {
-                    return Err(Exc::plain(ExcCode::Ades));
-                }
-                match bus.store(spot.place(), spot.width, value) {
-                    Ok(()) => Ok(0),
-                    Err(exc) => Err(exc),
-                }
-            }
         }
     }
 }

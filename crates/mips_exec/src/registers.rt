@@ -1,8 +1,6 @@
 //! The registers of the processor.
 ghost use Rattle.std.specs.Prelude.{◌≡◌};
-ghost use Rattle.mips_exec.specs.Cpu.{address_of, blank_cpu, reg, rested, restart_of, with_reg};
-
-use mips_isa::sign16;
+ghost use Rattle.mips_exec.specs.Cpu.{blank_cpu, reg, rested, restart_of, with_reg};
 
 /// The registers of the processor (`docs/MACHINE.md`, "Registers").
 #[derive(Clone, Copy)]
@@ -67,13 +65,6 @@ impl Cpu {
         if 0 < n && n < 32 {
             self.regs[usize::from(n)] = value;
         }
-    }
-
-    /// The address of a load or store: a base register plus the signed `imm`, modulo 2^32.
-    pub(crate) fn address(&self, base: u8, imm: u16) -> u32
-        ensures { result ≡ address_of self.now base imm }
-    {
-        self.reg(base).wrapping_add(sign16(imm))
     }
 }
 

@@ -1,19 +1,7 @@
-//! The user and coprocessor 0 instructions of MIPS I: what each word spells (`docs/MACHINE.md`,
-//! "Encoding").
-//!
-//! Every word below 2^32 spells exactly one instruction, and no two words spell the same one. `decode`
-//! answers the instruction of a word and `encode` the word of an instruction, each with the table of
-//! the encoding as its contract; they undo each other. Beside them stand the formulas by which words
-//! are sign-extended, merged and cut into bytes.
+//! The user and coprocessor 0 instructions of MIPS I, and what each word spells (`docs/MACHINE.md`,
+//! "Encoding"): the type, and the definitions. `mips_codec` has the code that reads and writes words.
 #![tactic(auto)]
 
-mod fields;
 mod insn;
-mod laws;
-mod words;
 
-pub use insn::{Insn, decode, encode};
-pub use laws::{
-    each_word_spells_one_instruction, one_word_spells_each_instruction, only_word_spells,
-};
-pub use words::{le_bytes, le_word, merge_left, merge_right, sign16, store_left, store_right};
+pub use insn::Insn;

@@ -5,7 +5,7 @@ ghost use Rattle.mips_list.specs.WordText.{based_text, branch_target, field_text
 
 use crate::piece::{push_bytes, push_decimal, push_digits};
 use edge_io::OutOfMemory;
-use mips_isa::sign16;
+use mips_codec::sign16;
 use mips_text::{Field, Shape, Slot};
 
 /// What stands before the first operand.

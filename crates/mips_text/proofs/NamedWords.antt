@@ -9,9 +9,9 @@ use Rattle.std.specs.Option.{is_some, is_none, unwrap_or}
 use Rattle.mips_isa.specs.declared.insn.Insn.{Insn}
 use Rattle.mips_isa.specs.declared.insn.Insn.TheVariants.{Cop, Reserved}
 use Rattle.mips_isa.specs.Encoding.{Spells, Whole, form_of, insn_of, special_of, regimm_of, system_of, system_operation_of}
-use Rattle.mips_isa.proofs.RowsRead.{insn_of-row}
-use Rattle.mips_isa.proofs.RowsFound.{Key, Special, Regimm, System, Operation, Opcode, key_of, has_row, row_for}
-use Rattle.mips_isa.proofs.Spelling.{spells_insn_of}
+use Rattle.mips_codec.proofs.RowsRead.{insn_of-row}
+use Rattle.mips_codec.proofs.RowsFound.{Key, Special, Regimm, System, Operation, Opcode, key_of, has_row, row_for}
+use Rattle.mips_codec.proofs.Spelling.{spells_insn_of}
 use Rattle.mips_text.specs.WordRows.{is_nameless, main_rows, operand_bits, row_of, spells}
 use Rattle.mips_text.specs.declared.shape.Shape.TheVariants.{Alone}
 use Rattle.mips_text.specs.declared.text.Text.{Text}

@@ -1,0 +1,64 @@
+//! What becomes of the registers by what an instruction does.
+ghost use Rattle.std.specs.Prelude.{◌≡◌};
+ghost use Rattle.mips_exec.specs.Effect.{changed, effect};
+ghost use Rattle.mips_exec.specs.Step.{report_of};
+ghost use Rattle.mips_exec.specs.declared.change.Change.TheVariants.{Jumps, Passes};
+
+use crate::effect::effect;
+use mips_exec::{Change, Cpu, Outcome};
+use mips_isa::Insn;
+
+/// Goes on to the next instruction.
+fn advance(cpu: &mut Cpu)
+    ensures { cpu.new ≡ changed cpu.old Passes }
+{
+    cpu.pc = cpu.next;
+    cpu.next = cpu.next.wrapping_add(4);
+    cpu.slot = false;
+}
+
+/// Goes on to the delay slot, and from there to the target.
+fn jump(cpu: &mut Cpu, target: u32)
+    ensures { cpu.new ≡ changed cpu.old (Jumps target) }
+{
+    cpu.pc = cpu.next;
+    cpu.next = target;
+    cpu.slot = true;
+}
+
+/// Does what an instruction does. A call and an exception leave the registers.
+fn apply(cpu: &mut Cpu, change: Change) -> Outcome
+    ensures cpu { cpu.new ≡ changed cpu.old change }
+    ensures outcome { result ≡ report_of change }
+{
+    match change {
+        Change::Puts(n, value) => {
+            cpu.set_reg(n, value);
+            advance(cpu);
+        }
+        Change::PutsHiLo(high, low) => {
+            cpu.hi = high;
+            cpu.lo = low;
+            advance(cpu);
+        }
+        Change::Passes => advance(cpu),
+        Change::Jumps(target) => jump(cpu, target),
+        Change::JumpsAndLinks(n, target) => {
+            let back = cpu.pc.wrapping_add(8);
+            jump(cpu, target);
+            cpu.set_reg(n, back);
+        }
+        Change::Calls => return Outcome::Call,
+        Change::Raises(exc) => return Outcome::Trap(exc),
+    }
+    Outcome::Retired
+}
+
+/// Does what the instruction does, where `loaded` is what its load was answered.
+pub(crate) fn execute(cpu: &mut Cpu, insn: Insn, loaded: u32) -> Outcome
+    ensures cpu { cpu.new ≡ changed cpu.old (effect insn cpu.old loaded) }
+    ensures outcome { result ≡ report_of (effect insn cpu.old loaded) }
+{
+    let change = effect(cpu, insn, loaded);
+    apply(cpu, change)
+}
