@@ -8,7 +8,7 @@ ghost use Rattle.aegis_limits.specs.Limits.{least_pages, most_pages, least_quant
 ghost use Rattle.frame_store.specs.Pages.{zero_page};
 ghost use Rattle.page_book.specs.declared.row.PageRow.TheVariants.{Free, Guaranteed};
 ghost use Rattle.page_book.specs.Rows.{first_free, free_pages, row_in};
-ghost use Rattle.world_model.specs.Boot.{open_page, body_page, kept_of, own_row, own_rows, bare_world, added};
+ghost use Rattle.run_model.specs.Boot.{open_page, body_page, kept_of, own_row, own_rows, bare_world, added};
 ghost use Rattle.world_model.specs.Book.{own_hold};
 ghost use Rattle.std.specs.Option.{option_map};
 ghost use Rattle.world_model.specs.Item.{boot_cpu as boot_registers};
@@ -21,7 +21,7 @@ use crate::board::Board;
 use bind_book::Bindings;
 use board_world::{Consoles, Environment, Roster};
 use boot_image::Program;
-use edge_io::OutOfMemory;
+use aegis_limits::OutOfMemory;
 use elf_static::Elf;
 use env_frames::Env;
 use frame_store::Frames;

@@ -11,7 +11,7 @@ ghost use Rattle.board_world.specs.Showing.{owned_bytes, view_seen, page_seen};
 use crate::board::Board;
 use bind_book::Binding;
 use board_world::PageView;
-use edge_io::OutOfMemory;
+use aegis_limits::OutOfMemory;
 use env_frames::Mapping;
 use kernel_journal::Row;
 use mips_exec::Cpu;

@@ -2,7 +2,8 @@
 #![tactic(auto)]
 
 use aegis_command::{Status, aegis};
-use edge_io::{HostShelf, HostSink, OutOfMemory};
+use aegis_limits::OutOfMemory;
+use edge_io::{HostShelf, HostSink};
 use std::io::ErrorKind;
 use std::process::ExitCode;
 use std::rt::Env;

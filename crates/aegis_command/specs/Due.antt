@@ -14,7 +14,7 @@ use Rattle.boot_image.specs.Names.{image_why_text, text_why_text}
 use Rattle.boot_image.specs.ScheduleFaults.{schedule_fault}
 use Rattle.line_text.specs.Text.{dec_text}
 use Rattle.run_report.specs.Report.{report_text}
-use Rattle.world_model.specs.Run.{world_after, end_of_run}
+use Rattle.run_model.specs.Run.{world_after, end_of_run}
 use Rattle.aegis_command.specs.declared.status.Status.{Status}
 use Rattle.aegis_command.specs.declared.status.Status.TheVariants as status
 use Rattle.elf_static.specs.declared.fault.ElfFault.{ElfFault}

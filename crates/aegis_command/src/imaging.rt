@@ -15,7 +15,8 @@ use crate::status::Status;
 use crate::work::{Answer, Stop};
 use boot_image::{ImageWhy, read_image};
 use boot_manifest::{Entry, Manifest, ManifestFault, image_length, read_manifest, write_image};
-use edge_io::{OutOfMemory, Shelf};
+use aegis_limits::OutOfMemory;
+use edge_io::Shelf;
 use std::alloc::Global;
 
 /// A made image has fewer bytes than this.

@@ -12,7 +12,8 @@ use crate::words::RunWords;
 use crate::work::{Answer, Stop};
 use aegis_tick::{boot, run};
 use boot_image::{Image, check_schedule, read_image};
-use edge_io::{OutOfMemory, Shelf};
+use aegis_limits::OutOfMemory;
+use edge_io::Shelf;
 use run_report::report;
 use std::alloc::Global;
 

@@ -11,7 +11,8 @@ use crate::one_file::perform_file;
 use crate::reporting::perform_run;
 use crate::status::Status;
 use crate::words::Words;
-use edge_io::{OutOfMemory, ReadFail, Shelf};
+use aegis_limits::OutOfMemory;
+use edge_io::{ReadFail, Shelf};
 use line_text::push_dec;
 use std::alloc::{AllocFailed, Global};
 

@@ -1,10 +1,15 @@
 //! The limits of the machine and of the kernel (`docs/FORMATS.md`, "Limits"). Each stands once as its number, in
 //! `specs/Limits.antt`, by which the contracts speak; the constants here are for code, and `constants_are_the_limits`
-//! says that they are those numbers.
+//! says that they are those numbers. Beside them stands `OutOfMemory`, by which a call says that the host's memory is
+//! at its limit.
 #![tactic(auto)]
+
+mod memory;
 
 ghost use Rattle.std.specs.Prelude.{◌≡◌};
 ghost use Rattle.aegis_limits.specs.Limits.{page_size, least_pages, most_pages, least_quantum, most_quantum, most_environments, most_slots, most_mappings, most_stack_pages, console_size, most_ticks};
+
+pub use memory::OutOfMemory;
 
 /// The bytes of a page.
 pub const PAGE_SIZE: usize = 4096;

@@ -8,7 +8,7 @@ use Rattle.world_model.specs.Book.{Book}
 use Rattle.world_model.specs.Solo.{Solo, absent}
 use Rattle.world_model.specs.Item.{Item, absorb_all}
 use Rattle.world_model.specs.World.{World, only}
-use Rattle.world_model.specs.Boot.{record_items, bare_world, added, boot_world, with_kept, with_all_kept, boot_book}
+use Rattle.run_model.specs.Boot.{record_items, bare_world, added, boot_world, with_kept, with_all_kept, boot_book}
 use Rattle.board_world.proofs.Lists.{last_get, other_get, past_get}
 
 -- an environment of so many programs

@@ -3,7 +3,7 @@ use Rattle.std.proofs.Common.{◌≡◌, ℕ, zero, suc, ◌+◌, true, false, r
 use Rattle.world_model.specs.Book.{is_idle_book}
 use Rattle.world_model.specs.World.{World}
 use Rattle.world_model.specs.Tick.{tick_step}
-use Rattle.world_model.specs.Run.{run_on, next_world}
+use Rattle.run_model.specs.Run.{run_on, next_world}
 
 next_idle : (w : World) → is_idle_book w.book ≡ true → next_world w ≡ w
 next_idle w idle = rw idle refl

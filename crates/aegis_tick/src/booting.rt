@@ -3,12 +3,12 @@ ghost use Rattle.std.specs.Prelude.{◌≡◌, ◌≤◌, IfOk, fold, length, su
 ghost use Rattle.board_world.specs.Showing.{world_of};
 ghost use Rattle.boot_image.specs.ImageValue.{guaranteed_mappings};
 ghost use Rattle.page_book.specs.Rows.{free_pages};
-ghost use Rattle.world_model.specs.Boot.{added, boot_world};
-ghost use Rattle.world_model.specs.Excess.{IsAccounted};
+ghost use Rattle.run_model.specs.Boot.{added, boot_world};
+ghost use Rattle.run_model.specs.Excess.{IsAccounted};
 
 use aegis_calls::Board;
 use boot_image::{Image, Program};
-use edge_io::OutOfMemory;
+use aegis_limits::OutOfMemory;
 use std::alloc::Global;
 
 /// Makes an environment for each program, in their order, on a board that has room for just so many.

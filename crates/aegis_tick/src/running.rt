@@ -4,12 +4,12 @@ ghost use Rattle.aegis_limits.specs.Limits.{most_ticks};
 ghost use Rattle.board_world.specs.Shown.{with_spare};
 ghost use Rattle.board_world.specs.Showing.{world_of};
 ghost use Rattle.world_model.specs.Book.{is_idle_book};
-ghost use Rattle.world_model.specs.Excess.{IsAccounted};
-ghost use Rattle.world_model.specs.Run.{run_on, end_of_run};
+ghost use Rattle.run_model.specs.Excess.{IsAccounted};
+ghost use Rattle.run_model.specs.Run.{run_on, end_of_run};
 ghost use Rattle.world_model.specs.Tick.{tick_step};
 
 use aegis_calls::Board;
-use edge_io::OutOfMemory;
+use aegis_limits::OutOfMemory;
 use kernel_journal::RunEnd;
 
 /// The most rows of the ledger that a tick may write.

@@ -6,7 +6,7 @@ ghost use Rattle.bind_book.specs.Stripe.{stripe_rows, page_numbers, row_of, plac
 
 use crate::binding::Binding;
 use crate::sweep::{break_page, clear_env};
-use edge_io::OutOfMemory;
+use aegis_limits::OutOfMemory;
 use page_book::Pages;
 use std::alloc::Global;
 use std::marker::Model;

@@ -20,7 +20,7 @@ use Rattle.boot_image.specs.ImageValue.{ProgramValue, guaranteed_mappings}
 use Rattle.world_model.specs.declared.life.Life.TheVariants.{Live}
 use Rattle.world_model.specs.declared.slot.Runner.{Runner}
 use Rattle.world_model.specs.Book.{is_runner, own_hold}
-use Rattle.world_model.specs.Boot.{boot_slot, bare_world, added, kept_of, own_rows, record_items}
+use Rattle.run_model.specs.Boot.{boot_slot, bare_world, added, kept_of, own_rows, record_items}
 use Rattle.world_model.specs.Item.{Item, absorb_all, boot_cpu}
 use Rattle.world_model.specs.Solo.{absent}
 use Rattle.world_model.specs.World.{only}

@@ -17,7 +17,8 @@ use Rattle.kernel_journal.specs.Ledger.{Ledger}
 use Rattle.kernel_journal.specs.declared.row.Row.{Row}
 use Rattle.world_model.specs.Page.{KeptPage}
 use Rattle.world_model.specs.Book.{own_hold}
-use Rattle.world_model.specs.Boot.{listed, boot_slot, own_row, own_rows}
+use Rattle.world_model.specs.Table.{listed}
+use Rattle.run_model.specs.Boot.{boot_slot, own_row, own_rows}
 use Rattle.board_world.specs.Doing.{with_rows}
 use Rattle.board_world.specs.Loading.{HasPages}
 use Rattle.board_world.specs.Showing.{page_seen, pages_seen}

@@ -7,7 +7,7 @@ use Rattle.page_book.specs.declared.row.PageRow.{PageRow}
 use Rattle.page_book.specs.declared.row.PageRow.TheVariants.{Free, Guaranteed}
 use Rattle.page_book.specs.Rows.{first_free, free_pages, lowest_free, row_in, IsLowest}
 use Rattle.page_book.proofs.Free.{is_lowest}
-use Rattle.world_model.specs.Boot.{keep_lowest, keep_pages}
+use Rattle.run_model.specs.Boot.{keep_lowest, keep_pages}
 use Rattle.page_sight.proofs.Tables.{by_number, set_here, set_else}
 use Rattle.board_world.specs.Loading.{AreGiven}
 

@@ -5,7 +5,8 @@ use Rattle.page_book.specs.declared.row.PageRow.{PageRow}
 use Rattle.page_book.specs.declared.row.PageRow.TheVariants.{Free}
 use Rattle.page_book.specs.Rows.{free_pages, row_in}
 use Rattle.world_model.specs.Page.{KeptPage}
-use Rattle.world_model.specs.Boot.{keep_pages, listed, open_page}
+use Rattle.world_model.specs.Table.{listed}
+use Rattle.run_model.specs.Boot.{keep_pages, open_page}
 use Rattle.board_world.specs.Shown.{Shown}
 
 -- physical memory has a page for each row

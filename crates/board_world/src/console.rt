@@ -3,8 +3,7 @@ ghost use Rattle.std.specs.Prelude.{◌≡◌, ◌+◌, ◌≤◌, ◌<◌, ℕ,
 ghost use Rattle.aegis_limits.specs.Limits.{console_size};
 ghost use Rattle.board_world.specs.Shown.{changed, console_of};
 
-use aegis_limits::CONSOLE_SIZE;
-use edge_io::OutOfMemory;
+use aegis_limits::{CONSOLE_SIZE, OutOfMemory};
 use std::alloc::Global;
 use std::marker::Model;
 

@@ -7,7 +7,7 @@ ghost use Rattle.std.specs.Option.{option_map};
 ghost use Rattle.board_world.specs.Shown.{changed, handlers_of, mappings_of, registers_of, with_list};
 ghost use Rattle.board_world.specs.Doing.{with_registers, accepting, handling, dead_frame, mask_of};
 
-use edge_io::OutOfMemory;
+use aegis_limits::OutOfMemory;
 use env_frames::{Context, Env, TransferKind};
 use frame_store::Frames;
 use mips_exec::Cpu;

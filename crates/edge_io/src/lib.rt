@@ -10,7 +10,6 @@
 mod folder;
 mod host_shelf;
 mod host_sink;
-mod memory;
 mod shelf;
 mod sink;
 #[cfg(test)]
@@ -20,7 +19,6 @@ mod whole;
 pub use folder::{Folder, Opened};
 pub use host_shelf::HostShelf;
 pub use host_sink::HostSink;
-pub use memory::OutOfMemory;
 pub use shelf::{FILE_LIMIT, ReadFail, Shelf};
 pub use sink::{Sink, WriteFail};
 pub use whole::write_whole;

@@ -1,7 +1,8 @@
 //! A sink in memory.
 ghost use Rattle.std.specs.Prelude.{◌≡◌, ◌≤◌, [], IfOk, vec_len, vec_capacity};
 
-use edge_io::{OutOfMemory, Sink, WriteFail};
+use aegis_limits::OutOfMemory;
+use edge_io::{Sink, WriteFail};
 use std::alloc::Global;
 
 /// A sink that keeps in memory what is written, up to its room. Each write has a number, counted

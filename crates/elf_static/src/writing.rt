@@ -6,7 +6,7 @@ ghost use Rattle.elf_static.specs.Writable.{IsWritable};
 
 use crate::object::{Object, Part};
 use byte_numbers::{push_half, push_word};
-use edge_io::OutOfMemory;
+use aegis_limits::OutOfMemory;
 use std::alloc::Global;
 
 /// The bytes of a file header.

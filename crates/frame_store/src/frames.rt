@@ -4,9 +4,8 @@ ghost use Rattle.aegis_limits.specs.Limits.{page_size};
 ghost use Rattle.std.specs.Borrow.{sem};
 ghost use Rattle.frame_store.specs.Pages.{least_frames, most_frames, zero_page, zeroed, page_at, with_page, after_put, word_at, word_bytes};
 
-use aegis_limits::PAGE_SIZE;
+use aegis_limits::{OutOfMemory, PAGE_SIZE};
 use byteorder::{ByteOrder, LittleEndian};
-use edge_io::OutOfMemory;
 use std::alloc::Global;
 use std::marker::Model;
 

@@ -3,7 +3,7 @@ ghost use Rattle.std.specs.Prelude.{◌≡◌, ◌<◌, ◌≤◌, IsOk, OnOk, O
 ghost use Rattle.kernel_journal.specs.Ledger.{empty_ledger, with_row};
 
 use crate::row::Row;
-use edge_io::OutOfMemory;
+use aegis_limits::OutOfMemory;
 use std::alloc::Global;
 use std::marker::Model;
 

@@ -4,7 +4,7 @@ ghost use Rattle.std.specs.Prelude.{◌≡◌, ◌+◌, ◌*◌, ◌^◌, ◌<�
 ghost use Rattle.std.specs.Char.{digit_char};
 ghost use Rattle.line_text.specs.Text.{dec_text, hex_text, quoted_byte, quoted_text};
 
-use edge_io::OutOfMemory;
+use aegis_limits::OutOfMemory;
 use itoa::Buffer;
 
 /// The most hexadecimal digits that `push_hex` writes.

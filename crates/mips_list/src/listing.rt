@@ -7,7 +7,7 @@ ghost use Rattle.mips_list.specs.Listed.{lead, line_text, listed, segment_lines,
 
 use crate::word::push_word_text;
 use byte_numbers::word_at;
-use edge_io::OutOfMemory;
+use aegis_limits::OutOfMemory;
 use elf_static::{Elf, Segment};
 use line_text::push_hex;
 use std::alloc::Global;

@@ -4,7 +4,7 @@ ghost use Rattle.mips_list.specs.Growth.{Keeps};
 ghost use Rattle.mips_list.specs.WordText.{based_text, branch_target, field_text, hexadecimal, jump_target, operand_texts, signed_text, slot_text, spaced};
 
 use crate::piece::{push_bytes, push_decimal, push_digits};
-use edge_io::OutOfMemory;
+use aegis_limits::OutOfMemory;
 use mips_codec::sign16;
 use mips_text::{Field, Shape, Slot};
 

@@ -4,7 +4,7 @@ ghost use Rattle.std.specs.Prelude.{◌≡◌, ◌++◌, ◌∷◌, ◌≤◌, O
 ghost use Rattle.line_text.specs.Text.{dec_text, hex_text};
 ghost use Rattle.mips_list.specs.Growth.{Keeps};
 
-use edge_io::OutOfMemory;
+use aegis_limits::OutOfMemory;
 use line_text::{push_dec, push_hex};
 
 /// Appends bytes.

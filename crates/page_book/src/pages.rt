@@ -10,7 +10,7 @@ ghost use Rattle.page_book.specs.Rows.{most_rows, row_in, first_free, free_pages
 use crate::refusal::PageNo;
 use crate::row::{Capabilities, PageRow};
 use crate::search::{count_free, first_free, release};
-use edge_io::OutOfMemory;
+use aegis_limits::OutOfMemory;
 use std::alloc::Global;
 use std::marker::Model;
 

@@ -3,7 +3,7 @@ use Rattle.std.proofs.Common.{◌≡◌, ℕ, ◌+◌, List, ◌++◌, refl, add
 use Rattle.std.proofs.lemmas.Grind.{flat_map-append}
 use Rattle.std.proofs.lemmas.List.{append-nil}
 use Rattle.std.specs.List.{flat_map}
-use Rattle.world_model.specs.Boot.{listed}
+use Rattle.world_model.specs.Table.{listed}
 use Rattle.run_report.specs.Report.{spaced}
 
 pub words_more : (f : ℕ → List ℕ) (i : ℕ) → flat_map spaced (listed f (i + 1)) ≡ flat_map spaced (listed f i) ++ spaced (f i)

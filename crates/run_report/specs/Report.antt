@@ -22,8 +22,8 @@ use Rattle.world_model.specs.Page.{KeptPage}
 use Rattle.world_model.specs.Solo.{Solo, Seen}
 use Rattle.world_model.specs.Book.{is_runner}
 use Rattle.world_model.specs.World.{World}
-use Rattle.world_model.specs.Boot.{listed}
-use Rattle.world_model.specs.Excess.{is_over_of, is_pay_of, is_run_of}
+use Rattle.world_model.specs.Table.{listed}
+use Rattle.run_model.specs.Excess.{is_over_of, is_pay_of, is_run_of}
 
 -- the texts of 0, 1 and so on, so many
 abbrev pub for_each : (ℕ → List ℕ) → ℕ → List ℕ

@@ -12,7 +12,7 @@ use crate::words::{
     end_line, env, number, push_number, push_numbers_line, push_quotation, push_text, push_word,
 };
 use aegis_calls::Board;
-use edge_io::OutOfMemory;
+use aegis_limits::OutOfMemory;
 use mips_exec::ExcCode;
 use std::alloc::Global;
 use world_model::{Cause, Life};

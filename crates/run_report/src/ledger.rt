@@ -4,7 +4,7 @@ ghost use Rattle.std.specs.List.{flat_map};
 ghost use Rattle.run_report.specs.Report.{numbers_line, row_line};
 
 use crate::words::{env, env_or_none, number, number_or_none, push_numbers_line};
-use edge_io::OutOfMemory;
+use aegis_limits::OutOfMemory;
 use kernel_journal::Row;
 
 /// Appends the rows.

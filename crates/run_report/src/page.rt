@@ -6,7 +6,7 @@ ghost use Rattle.run_report.specs.Report.{fingerprint, keep_line, keep_lines, pa
 use crate::words::{end_line, push_digits, push_number, push_text, push_word};
 use aegis_calls::Board;
 use board_world::PageView;
-use edge_io::OutOfMemory;
+use aegis_limits::OutOfMemory;
 use sha2::{Digest, Sha256};
 
 /// The hexadecimal digits of a page number.

@@ -2,12 +2,12 @@
 ghost use Rattle.std.specs.Prelude.{◌≡◌, ◌++◌, ◌<◌, OnOk};
 ghost use Rattle.std.specs.List.{flat_map};
 ghost use Rattle.board_world.specs.Showing.{world_of};
-ghost use Rattle.world_model.specs.Boot.{listed};
+ghost use Rattle.world_model.specs.Table.{listed};
 ghost use Rattle.run_report.specs.Report.{spaced, shown_cpu, cpu_line, word_text, register_text, regs_line};
 
 use crate::words::{end_line, push_digits, push_flag, push_number, push_text};
 use aegis_calls::Board;
-use edge_io::OutOfMemory;
+use aegis_limits::OutOfMemory;
 use mips_exec::Cpu;
 
 /// The hexadecimal digits of a word.

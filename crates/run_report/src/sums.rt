@@ -1,11 +1,11 @@
 //! The last lines of a report but one: how often each environment had a turn, forfeited one, or ran a
 //! quantum of excess.
 ghost use Rattle.std.specs.Prelude.{◌≡◌, ◌++◌, count_by, OnOk};
-ghost use Rattle.world_model.specs.Excess.{is_run_of, is_pay_of, is_over_of};
+ghost use Rattle.run_model.specs.Excess.{is_run_of, is_pay_of, is_over_of};
 ghost use Rattle.run_report.specs.Report.{sum_line};
 
 use crate::words::{env, push_numbers_line};
-use edge_io::OutOfMemory;
+use aegis_limits::OutOfMemory;
 use kernel_journal::Row;
 
 /// Whether a row is a turn of the environment.

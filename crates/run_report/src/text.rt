@@ -8,7 +8,7 @@ use crate::ledger::push_rows;
 use crate::sums::push_sum_line;
 use crate::words::{end_line, push_number, push_text, push_word};
 use aegis_calls::Board;
-use edge_io::OutOfMemory;
+use aegis_limits::OutOfMemory;
 use kernel_journal::RunEnd;
 use std::alloc::Global;
 

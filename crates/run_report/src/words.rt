@@ -5,7 +5,7 @@ ghost use Rattle.line_text.specs.Text.{dec_text, hex_text};
 ghost use Rattle.std.specs.List.{flat_map};
 ghost use Rattle.run_report.specs.Report.{spaced, or_dash, flag_text, numbers_line, quotation};
 
-use edge_io::OutOfMemory;
+use aegis_limits::OutOfMemory;
 use line_text::{push_dec, push_hex, push_quoted};
 
 /// Appends bytes as they are.

@@ -16,8 +16,8 @@ use Rattle.world_model.specs.PageCalls.{page_bytes}
 use Rattle.world_model.specs.Step.{act_of, step_alone, stepped}
 use Rattle.world_model.specs.World.{World, after}
 use Rattle.world_model.specs.Tick.{brings, step, step_when, tick_step, turn}
-use Rattle.world_model.specs.Boot.{boot_book, boot_world, keep_lowest, keep_pages, record_items, with_all_kept, with_kept}
-use Rattle.world_model.specs.Run.{world_after}
+use Rattle.run_model.specs.Boot.{boot_book, boot_world, keep_lowest, keep_pages, record_items, with_all_kept, with_kept}
+use Rattle.run_model.specs.Run.{world_after}
 use Rattle.page_sight.proofs.Tables.{set_else}
 use Rattle.sharing_law.specs.Agreement.{AreBoundAllocated, BooksAgree, BoundIsAllocated}
 use Rattle.sharing_law.proofs.Sound.{HasNone, Sound, sees_nothing}

@@ -11,7 +11,7 @@ use Rattle.world_model.specs.Call.{binding_of, presented}
 use Rattle.world_model.specs.World.{World, after}
 use Rattle.world_model.specs.Step.{Calls, act_of, step_alone}
 use Rattle.world_model.specs.Tick.{tick_step, timer, turn, step, step_when}
-use Rattle.world_model.specs.Run.{next_world}
+use Rattle.run_model.specs.Run.{next_world}
 use Rattle.sharing_law.specs.Agreement.{IsAllocated, AreBoundAllocated}
 use Rattle.sharing_law.proofs.Replies.{IsCarried, MayBind, IsPut, WasListed, Remains, act_carries, carried_allocated}
 use Rattle.sharing_law.proofs.Turning.{IsAlike, allocated_alike, turn_alike}

@@ -22,7 +22,7 @@ use Rattle.world_model.specs.Solo.{Solo, Store, Key, Kept, Physical, bytes_in, i
 use Rattle.world_model.specs.Step.{Act, Nothing, Stores, Calls, Raises, Dies, act_of, acted, step_alone, stepped}
 use Rattle.world_model.specs.World.{World, after, only}
 use Rattle.world_model.specs.Tick.{brings, step_when, tick_items, tick_step, timer, turn}
-use Rattle.world_model.specs.Run.{next_items, world_after}
+use Rattle.run_model.specs.Run.{next_items, world_after}
 use Rattle.sharing_law.specs.Acting.{Acts, at_step, cpu_at_step}
 use Rattle.sharing_law.specs.Agreement.{AreBoundAllocated, BoundIsAllocated}
 use Rattle.sharing_law.specs.Change.{AllocatedChange, AllocatedZeros, GuaranteedChange, IsAllocatedByCall, IsStartedOrEntered, IsStoredThroughABinding, IsToldByTheKernel, RaisesAnException, StoresToItsOwn, bytes_after, kept_bytes}

@@ -10,8 +10,8 @@ use Rattle.bind_book.specs.declared.binding.Binding.{Binding}
 use Rattle.bind_book.specs.Stripe.{row_of}
 use Rattle.world_model.specs.Call.{presented}
 use Rattle.world_model.specs.Book.{Book}
-use Rattle.world_model.specs.Boot.{boot_book, with_all_kept, with_kept}
-use Rattle.world_model.specs.Run.{world_after}
+use Rattle.run_model.specs.Boot.{boot_book, with_all_kept, with_kept}
+use Rattle.run_model.specs.Run.{world_after}
 use Rattle.sharing_law.specs.Acting.{at_step, cpu_at_step}
 use Rattle.sharing_law.specs.Agreement.{IsAllocated, AreBoundAllocated, BoundIsAllocated}
 use Rattle.sharing_law.specs.Right.{row_after, Since, HasWord, IsLive, EachIsLive}

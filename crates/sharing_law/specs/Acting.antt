@@ -6,7 +6,7 @@ use Rattle.world_model.specs.Book.{running}
 use Rattle.world_model.specs.Step.{Act, act_of, step_alone}
 use Rattle.world_model.specs.World.{World, after}
 use Rattle.world_model.specs.Tick.{step, turn}
-use Rattle.world_model.specs.Run.{world_after}
+use Rattle.run_model.specs.Run.{world_after}
 
 -- the world in which the step of a tick is made: that before the tick, after its turn
 abbrev pub at_step : ImageValue → ℕ → World

@@ -6,7 +6,7 @@ use Rattle.page_book.specs.declared.row.PageRow.TheVariants.{Free, Guaranteed, O
 use Rattle.bind_book.specs.declared.binding.Binding.{Binding}
 use Rattle.world_model.specs.World.{World}
 use Rattle.world_model.specs.PageCalls.{page_bytes}
-use Rattle.world_model.specs.Run.{world_after}
+use Rattle.run_model.specs.Run.{world_after}
 use Rattle.page_sight.specs.Sight.{Sees}
 
 -- each environment has just the bindings that the book lists for it, and sees just the pages that by the book it owns or has bound, with the bytes that their owner sees

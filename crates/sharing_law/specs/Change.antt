@@ -16,7 +16,7 @@ use Rattle.world_model.specs.Step.{Stores, Calls, Raises}
 use Rattle.world_model.specs.PageCalls.{page_bytes}
 use Rattle.world_model.specs.SlotCalls.{accepts}
 use Rattle.world_model.specs.Item.{Start, End, Transfer}
-use Rattle.world_model.specs.Run.{next_items, world_after}
+use Rattle.run_model.specs.Run.{next_items, world_after}
 use Rattle.sharing_law.specs.Acting.{Acts, at_step, at_timer, cpu_at_step}
 use Rattle.sharing_law.specs.Right.{IsLive, row_after}
 

@@ -10,7 +10,7 @@ use Rattle.bind_book.specs.Stripe.{row_of}
 use Rattle.world_model.specs.declared.call.Call.TheVariants as call
 use Rattle.world_model.specs.Call.{binding_of, presented}
 use Rattle.world_model.specs.Step.{Calls}
-use Rattle.world_model.specs.Run.{world_after}
+use Rattle.run_model.specs.Run.{world_after}
 use Rattle.sharing_law.specs.Acting.{Acts, cpu_at_step}
 
 -- whose a page is after so many ticks

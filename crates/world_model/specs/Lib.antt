@@ -7,7 +7,6 @@ pub mod Call
 pub mod Step
 pub mod Item
 pub mod Book
-pub mod NextTurn
 pub mod World
 pub mod Answer
 pub mod PageCalls
@@ -15,6 +14,3 @@ pub mod SlotCalls
 pub mod Transfers
 pub mod Verdict
 pub mod Tick
-pub mod Boot
-pub mod Run
-pub mod Excess

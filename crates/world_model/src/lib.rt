@@ -4,7 +4,6 @@
 
 mod call;
 mod code;
-mod laws;
 mod life;
 mod page;
 mod question;
@@ -12,7 +11,6 @@ mod slot;
 
 pub use call::Call;
 pub use code::Code;
-pub use laws::{law_balance, law_fold, law_ledger, law_next_turn, law_turn};
 pub use life::{Cause, Life};
 pub use page::Purpose;
 pub use question::Question;

@@ -1,7 +1,7 @@
 -- One page more, and one fewer that is left.
 use Rattle.std.proofs.Common.{◌≡◌, ℕ, ◌+◌, ◌-◌, ◌∙◌, length, ap, arith, subst, sym}
 use Rattle.env_frames.specs.Frame.{EnvValue}
-use Rattle.world_model.specs.Boot.{body_page}
+use Rattle.run_model.specs.Boot.{body_page}
 use Rattle.board_world.specs.Loading.{AreGiven}
 use Rattle.board_world.proofs.Giving.{one_moved}
 use Rattle.board_world.proofs.Keeping.{given_both}

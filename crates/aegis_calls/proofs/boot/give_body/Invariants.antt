@@ -3,7 +3,7 @@ use Rattle.std.proofs.Common.{◌≡◌, ◌≤◌, ◌+◌, ◌-◌, ◌++◌, 
 use Rattle.std.specs.Prelude.{max}
 use Rattle.env_frames.specs.Frame.{IsAbove}
 use Rattle.segment_pages.specs.Pages.{pages_from, page_numbers}
-use Rattle.world_model.specs.Boot.{body_page}
+use Rattle.run_model.specs.Boot.{body_page}
 use Rattle.board_world.specs.Loading.{AreGiven, HasPages}
 use Rattle.board_world.specs.Showing.{pages_seen}
 use Rattle.board_world.specs.Sound.{AreGuaranteed}

@@ -1,7 +1,7 @@
 -- One page more.
 use Rattle.std.proofs.Common.{◌+◌, ◌∙◌, ap, arith, refl, sym}
 use Rattle.env_frames.specs.Frame.{EnvValue}
-use Rattle.world_model.specs.Boot.{open_page}
+use Rattle.run_model.specs.Boot.{open_page}
 use Rattle.frame_store.specs.Pages.{zero_page}
 use Rattle.board_world.proofs.Giving.{one_more}
 use Rattle.board_world.proofs.Keeping.{given_both}

@@ -1,7 +1,8 @@
 -- The pages so far.
 use Rattle.std.proofs.Common.{◌≡◌, ◌+◌, ◌++◌, length}
 use Rattle.env_frames.specs.Frame.{IsAbove}
-use Rattle.world_model.specs.Boot.{listed, open_page}
+use Rattle.world_model.specs.Table.{listed}
+use Rattle.run_model.specs.Boot.{open_page}
 use Rattle.frame_store.specs.Pages.{zero_page}
 use Rattle.board_world.specs.Loading.{AreGiven, HasPages}
 use Rattle.board_world.specs.Showing.{pages_seen}

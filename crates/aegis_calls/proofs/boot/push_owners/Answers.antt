@@ -4,7 +4,7 @@ use Rattle.std.specs.Prelude.{slice_index_or}
 use Rattle.std.specs.Option.{option_map}
 use Rattle.kernel_journal.specs.Ledger.{Ledger}
 use Rattle.world_model.specs.Book.{own_hold}
-use Rattle.world_model.specs.Boot.{own_row}
+use Rattle.run_model.specs.Boot.{own_row}
 use Rattle.board_world.specs.Doing.{with_rows}
 use Rattle.board_world.proofs.Giving.{more_owners}
 use Rattle.aegis_calls.proofs.boot.push_owners.Goals as goal

@@ -1,6 +1,6 @@
 -- The rows so far, and room for the rest.
 use Rattle.std.proofs.Common.{◌≡◌, ◌≤◌, ◌+◌, length}
-use Rattle.world_model.specs.Boot.{own_rows}
+use Rattle.run_model.specs.Boot.{own_rows}
 use Rattle.board_world.specs.Doing.{with_rows}
 use Rattle.aegis_calls.proofs.boot.push_owners.Given as goal
 

@@ -1,7 +1,7 @@
 -- What is reported is the world after so many ticks of the boot.
 use Rattle.std.proofs.Common.{◌≡◌, ap, ◌∙◌}
 use Rattle.world_model.specs.World.{World}
-use Rattle.world_model.specs.Run.{run_on, world_after, end_of_run}
+use Rattle.run_model.specs.Run.{run_on, world_after, end_of_run}
 use Rattle.run_report.specs.Report.{report_text}
 use Rattle.board_world.specs.Showing.{world_of}
 use Rattle.kernel_journal.specs.declared.row.RunEnd.{RunEnd}

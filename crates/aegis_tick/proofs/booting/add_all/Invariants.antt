@@ -3,7 +3,7 @@ use Rattle.std.proofs.Common.{◌≡◌, ◌+◌, length, take}
 use Rattle.std.specs.Prelude.{fold, sum_by}
 use Rattle.page_book.specs.Rows.{free_pages}
 use Rattle.boot_image.specs.ImageValue.{guaranteed_mappings}
-use Rattle.world_model.specs.Boot.{added}
+use Rattle.run_model.specs.Boot.{added}
 use Rattle.board_world.specs.Showing.{world_of}
 use Rattle.aegis_tick.proofs.booting.add_all.Given as goal
 

@@ -3,9 +3,9 @@ use Rattle.std.proofs.Common.{◌≡◌, ℕ, List, Option, ap, sym, subst, ◌�
 use Rattle.std.specs.Prelude.{fold}
 use Rattle.boot_image.specs.ImageValue.{ProgramValue}
 use Rattle.world_model.specs.World.{World}
-use Rattle.world_model.specs.Boot.{bare_world, added, boot_world}
-use Rattle.world_model.specs.Excess.{IsAccounted}
-use Rattle.world_model.proofs.Balance.{boots_accounted}
+use Rattle.run_model.specs.Boot.{bare_world, added, boot_world}
+use Rattle.run_model.specs.Excess.{IsAccounted}
+use Rattle.run_model.proofs.Balance.{boots_accounted}
 use Rattle.board_world.specs.Showing.{world_of}
 use Rattle.aegis_tick.proofs.Booted.{added_boot, boot_time}
 use Rattle.aegis_tick.proofs.booting.boot.Goals as goal

@@ -3,11 +3,11 @@ use Rattle.std.proofs.Common.{◌≡◌, ◌+◌, ◌-◌, ℕ, sym, subst, ◌�
 use Rattle.board_world.specs.Shown.{Shown}
 use Rattle.board_world.specs.Showing.{world_of}
 use Rattle.world_model.specs.Book.{is_idle_book}
-use Rattle.world_model.specs.Excess.{IsAccounted}
+use Rattle.run_model.specs.Excess.{IsAccounted}
 use Rattle.world_model.specs.World.{World}
-use Rattle.world_model.specs.Run.{run_on}
+use Rattle.run_model.specs.Run.{run_on}
 use Rattle.world_model.specs.Tick.{tick_step}
-use Rattle.world_model.proofs.Balance.{ticks_keep_accounts}
+use Rattle.run_model.proofs.Balance.{ticks_keep_accounts}
 use Rattle.aegis_tick.proofs.Whole.{stays, goes_on}
 use Rattle.aegis_tick.proofs.running.run_ticks.Goals as goal
 

@@ -1,8 +1,8 @@
 -- The world is that after the ticks so far.
 use Rattle.std.proofs.Common.{◌≡◌, ◌≤◌, ◌-◌, ◌*◌}
 use Rattle.board_world.specs.Showing.{world_of}
-use Rattle.world_model.specs.Excess.{IsAccounted}
-use Rattle.world_model.specs.Run.{run_on}
+use Rattle.run_model.specs.Excess.{IsAccounted}
+use Rattle.run_model.specs.Run.{run_on}
 use Rattle.aegis_tick.proofs.running.run_ticks.Given as goal
 
 abbrev pub invariant-loop-done : goal.invariant-loop-done

@@ -1,6 +1,6 @@
 use Rattle.std.proofs.Common.{◌≡◌, ◌++◌}
 use Rattle.std.specs.List.{flat_map}
-use Rattle.world_model.specs.Boot.{listed}
+use Rattle.world_model.specs.Table.{listed}
 use Rattle.run_report.specs.Report.{spaced, register_text}
 use Rattle.run_report.proofs.processor.push_registers.Given as goal
 

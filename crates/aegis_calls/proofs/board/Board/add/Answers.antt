@@ -2,7 +2,7 @@
 use Rattle.std.proofs.Common.{refl, ap, ◌∙◌, ◌<◌, ℕ, arith, length, subst}
 use Rattle.boot_image.specs.ImageValue.{ProgramValue, guaranteed_mappings}
 use Rattle.world_model.specs.declared.life.Life.TheVariants.{Live}
-use Rattle.world_model.specs.Boot.{added}
+use Rattle.run_model.specs.Boot.{added}
 use Rattle.board_world.specs.declared.roster.Environment.{Environment}
 use Rattle.board_world.specs.Loading.{AreGiven}
 use Rattle.board_world.specs.Sound.{AreGuaranteed}

@@ -6,7 +6,7 @@ use Rattle.std.proofs.Math.Nat.{mod-add-mod, add-mod_right, mod-eq_of_lt}
 use Rattle.world_model.specs.declared.slot.Hold.{Hold}
 use Rattle.world_model.specs.declared.slot.Turn.{Turn}
 use Rattle.world_model.specs.Book.{Book, turn_or, first_turn, next_turn}
-use Rattle.world_model.specs.NextTurn.{IsNextTurn}
+use Rattle.run_model.specs.NextTurn.{IsNextTurn}
 
 abbrev pub holder_in : Option Hold → Option ℕ
 holder_in hold = option_map (λ (h : Hold). h.holder) hold

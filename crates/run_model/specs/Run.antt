@@ -8,7 +8,7 @@ use Rattle.world_model.specs.Solo.{absent}
 use Rattle.world_model.specs.Item.{Item, absorb_all}
 use Rattle.world_model.specs.World.{World}
 use Rattle.world_model.specs.Tick.{tick_step, tick_items}
-use Rattle.world_model.specs.Boot.{boot_world, boot_items}
+use Rattle.run_model.specs.Boot.{boot_world, boot_items}
 
 -- an idle world stays as it is
 abbrev pub next_world : World → World

@@ -1,9 +1,9 @@
 //! The laws of the model.
 ghost use Rattle.std.specs.Prelude.{◌<◌};
 ghost use Rattle.world_model.specs.Book.{Book, next_turn};
-ghost use Rattle.world_model.specs.NextTurn.{IsNextTurn};
-ghost use Rattle.world_model.specs.Excess.{BalanceHolds, LedgersAreLawful, TurnsGoByRule};
-ghost use Rattle.world_model.specs.Run.{IsFoldOfFeed};
+ghost use Rattle.run_model.specs.NextTurn.{IsNextTurn};
+ghost use Rattle.run_model.specs.Excess.{BalanceHolds, LedgersAreLawful, TurnsGoByRule};
+ghost use Rattle.run_model.specs.Run.{IsFoldOfFeed};
 
 /// Each environment is what it makes alone of what it is given: for every image, number of ticks and
 /// environment, its registers, pages and console are the fold of its feed.

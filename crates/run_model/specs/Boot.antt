@@ -10,7 +10,7 @@ use Rattle.page_book.specs.declared.row.PageRow.TheVariants.{Free, Guaranteed}
 use Rattle.page_book.specs.Rows.{lowest_free}
 use Rattle.kernel_journal.specs.declared.row.Row.{Row}
 use Rattle.world_model.specs.declared.slot.Hold.{Hold}
-use Rattle.world_model.specs.Table.{set_at}
+use Rattle.world_model.specs.Table.{listed, set_at}
 use Rattle.world_model.specs.Verdict.{slot_row}
 use Rattle.world_model.specs.Book.{Book, own_hold}
 use Rattle.world_model.specs.Page.{KeptPage}
@@ -21,11 +21,6 @@ use Rattle.world_model.specs.World.{World, only}
 -- a guaranteed page that may be stored to
 abbrev pub open_page : ℕ → List ℕ → KeptPage
 open_page vpn bytes = record { vpn = vpn; writable = true; bytes = bytes }
-
--- f 0, f 1 and so on, so many
-abbrev pub listed : {A : Type 0} → (ℕ → A) → ℕ → List A
-listed f zero = []
-listed f (suc n) = listed f n ++ f n ∷ []
 
 -- the page of a program's body at a page number
 abbrev pub body_page : ElfValue → ℕ → KeptPage

@@ -6,9 +6,9 @@ use Rattle.std.proofs.Math.Nat.{mod-lt}
 use Rattle.world_model.specs.declared.slot.Hold.{Hold}
 use Rattle.world_model.specs.declared.slot.Turn.{Turn}
 use Rattle.world_model.specs.Book.{Book, first_turn, lowered, owed, owed_in, pays_first, told_at, told_turn}
-use Rattle.world_model.specs.NextTurn.{IsNextTurn}
-use Rattle.world_model.specs.Excess.{GoesByRule, TurnsGoByRule}
-use Rattle.world_model.proofs.NextTurn.{holder_in, next_is_found}
+use Rattle.run_model.specs.NextTurn.{IsNextTurn}
+use Rattle.run_model.specs.Excess.{GoesByRule, TurnsGoByRule}
+use Rattle.run_model.proofs.NextTurn.{holder_in, next_is_found}
 
 -- where one's excess is lowered nobody owes more, and the holder of a slot owes less
 lowered_most : (e : ℕ) (excess : ℕ → ℕ) (i : ℕ) → lowered e excess i ≤ excess i

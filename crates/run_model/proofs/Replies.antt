@@ -31,7 +31,7 @@ use Rattle.world_model.specs.Table.{set_at}
 use Rattle.world_model.specs.Book.{broken, own_hold, page_row, released}
 use Rattle.world_model.specs.Call.{any, binding_of, called, number_refusal, put_refusal, refusal_of_bind, refusal_of_context, words_of}
 use Rattle.world_model.specs.Code.{code_of}
-use Rattle.world_model.specs.Excess.{pays, AreSlotsLive, IsAccounted, IsRunnerLive, Lives}
+use Rattle.run_model.specs.Excess.{pays, AreSlotsLive, IsAccounted, IsRunnerLive, Lives}
 use Rattle.world_model.specs.Item.{Item, Step, Start, Transfer, Granted, Refused, Gained, Lost, absorb, absorb_all}
 use Rattle.world_model.specs.PageCalls.{alloc_by, bind_by, breaks, chosen_page, context_by, free_by, is_guaranteed, left_by, lost_with, page_bytes, recap_by, unbind_by, with_binding, without_number}
 use Rattle.world_model.specs.Transfers.{is_open, refusal_of_transfer, slots_handed, transfer_by, transfer_of, transfer_rows}
@@ -41,8 +41,8 @@ use Rattle.world_model.specs.Step.{Act, Nothing, Stores, Calls, Raises, Dies, ac
 use Rattle.world_model.specs.Tick.{brings, no_change, with_step}
 use Rattle.world_model.specs.Verdict.{death, grant, put_if, refusal, reply_of, reply_to}
 use Rattle.world_model.specs.World.{World, Reply, after, no_items, only}
-use Rattle.world_model.proofs.Lives.{Keeps, if_living, keep_none, keep_set, keep_only, keep_start, keep_transfer, keep_granted, keep_refused, keep_gained, keep_freed, breaks_keep, left_by_keeps, lost_with_keeps}
-use Rattle.world_model.proofs.Rows.{AreQuiet, Adds, adds_quiet, lawful_both, set_other, quiet_async, quiet_dead, quiet_give, quiet_releases, quiet_stop, quiet_slot, quiet_sync}
+use Rattle.run_model.proofs.Lives.{Keeps, if_living, keep_none, keep_set, keep_only, keep_start, keep_transfer, keep_granted, keep_refused, keep_gained, keep_freed, breaks_keep, left_by_keeps, lost_with_keeps}
+use Rattle.run_model.proofs.Rows.{AreQuiet, Adds, adds_quiet, lawful_both, set_other, quiet_async, quiet_dead, quiet_give, quiet_releases, quiet_stop, quiet_slot, quiet_sync}
 
 -- After a reply who lives lived before, with this excess, and who has slots or runs lives.
 pub record Calm (w : World) (r : Reply) (excess : ℕ → ℕ) : Type 0 where

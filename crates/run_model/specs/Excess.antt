@@ -8,10 +8,10 @@ use Rattle.world_model.specs.declared.slot.Hold.{Hold}
 use Rattle.world_model.specs.declared.slot.Runner.{Runner}
 use Rattle.world_model.specs.declared.slot.Turn.{Turn}
 use Rattle.world_model.specs.Book.{Book, lowered, whole_turn}
-use Rattle.world_model.specs.NextTurn.{IsNextTurn}
+use Rattle.run_model.specs.NextTurn.{IsNextTurn}
 use Rattle.world_model.specs.World.{World}
-use Rattle.world_model.specs.Boot.{boot_world}
-use Rattle.world_model.specs.Run.{run_on, world_after}
+use Rattle.run_model.specs.Boot.{boot_world}
+use Rattle.run_model.specs.Run.{run_on, world_after}
 
 -- Who runs at last in a turn owes nothing.
 abbrev pub OwesNothing : (ℕ → ℕ) → Option Turn → Type 0

@@ -8,7 +8,7 @@ use Rattle.world_model.specs.Solo.{Solo, absent}
 use Rattle.world_model.specs.Item.{Item, absorb, absorb_all}
 use Rattle.world_model.specs.World.{World, Reply, after, run_phases, phase_items}
 use Rattle.world_model.specs.Tick.{tick_step, tick_items, phases}
-use Rattle.world_model.specs.Run.{next_items, world_after, feed, IsFoldOfFeed}
+use Rattle.run_model.specs.Run.{next_items, world_after, feed, IsFoldOfFeed}
 
 -- what is absorbed in two parts is absorbed in one
 absorb-append : (s : Solo) (xs ys : List Item) → absorb_all s (xs ++ ys) ≡ absorb_all (absorb_all s xs) ys

@@ -13,21 +13,21 @@ use Rattle.world_model.specs.declared.slot.Phase.TheVariants as phase
 use Rattle.world_model.specs.declared.slot.Runner.{Runner}
 use Rattle.world_model.specs.declared.slot.Turn.{Turn}
 use Rattle.world_model.specs.Book.{Book, Told, excess_limit, first_turn, is_idle_book, lowered, owed, pays_first, told_at, told_turn, whole_turn}
-use Rattle.world_model.specs.Boot.{boot_book, boot_slot, boot_world, own_row, own_rows, record_items, with_all_kept, with_kept}
-use Rattle.world_model.specs.Excess.{pays, AreSlotsLive, BalanceHolds, BootsAccounted, IsAccounted, IsBalanced, LedgersAreLawful, Lives, TicksKeepAccounts}
+use Rattle.run_model.specs.Boot.{boot_book, boot_slot, boot_world, own_row, own_rows, record_items, with_all_kept, with_kept}
+use Rattle.run_model.specs.Excess.{pays, AreSlotsLive, BalanceHolds, BootsAccounted, IsAccounted, IsBalanced, LedgersAreLawful, Lives, TicksKeepAccounts}
 use Rattle.world_model.specs.Item.{End, Killed, Start, absorb_all}
 use Rattle.world_model.specs.PageCalls.{lost_with}
-use Rattle.world_model.specs.Run.{next_world, run_on}
+use Rattle.run_model.specs.Run.{next_world, run_on}
 use Rattle.world_model.specs.Solo.{absent, dead, is_dead}
 use Rattle.world_model.specs.Step.{act_of, step_alone}
 use Rattle.world_model.specs.Table.{set_at}
 use Rattle.world_model.specs.Tick.{count_down, grace_end, killed, later, no_change, pay_row, run_out, slice_end, step, step_when, take_turn, tick_step, timed, timer_when, turn, turn_when, with_row}
 use Rattle.world_model.specs.Verdict.{stop_row}
 use Rattle.world_model.specs.World.{World, Reply, after, no_items, only}
-use Rattle.world_model.proofs.Lives.{keep_end, keep_none, keep_only, keep_start, lost_with_keeps}
-use Rattle.world_model.proofs.NextTurn.{Found, holder_in, search_finds}
-use Rattle.world_model.proofs.Replies.{Calm, accounts, act_accounts, death_is_quiet, dies, mild_accounts, mourning_is_calm}
-use Rattle.world_model.proofs.Rows.{Adds, AreQuiet, Balances, adds_over, adds_pay, adds_quiet, adds_run, quiet_both, quiet_end, quiet_slot, quiet_stop, set_other}
+use Rattle.run_model.proofs.Lives.{keep_end, keep_none, keep_only, keep_start, lost_with_keeps}
+use Rattle.run_model.proofs.NextTurn.{Found, holder_in, search_finds}
+use Rattle.run_model.proofs.Replies.{Calm, accounts, act_accounts, death_is_quiet, dies, mild_accounts, mourning_is_calm}
+use Rattle.run_model.proofs.Rows.{Adds, AreQuiet, Balances, adds_over, adds_pay, adds_quiet, adds_run, quiet_both, quiet_end, quiet_slot, quiet_stop, set_other}
 
 -- nothing happens
 no_change_accounts : (w : World) → IsAccounted w → IsAccounted (after w (no_change w))

@@ -1,0 +1,4 @@
+pub mod Boot
+pub mod Run
+pub mod NextTurn
+pub mod Excess

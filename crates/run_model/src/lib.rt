@@ -1,0 +1,7 @@
+//! The model of whole runs: the world that an image boots, the world after so many ticks, and what each environment is
+//! given in them; and the laws of turns and of whole runs. The definitions stand in `specs/` (`docs/MODEL.md`).
+#![tactic(auto)]
+
+mod laws;
+
+pub use laws::{law_balance, law_fold, law_ledger, law_next_turn, law_turn};

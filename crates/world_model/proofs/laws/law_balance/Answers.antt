@@ -1,5 +1,0 @@
-use Rattle.world_model.proofs.Balance.{balance_holds}
-use Rattle.world_model.proofs.laws.law_balance.Goals as goal
-
-pub returns : goal.returns
-returns c = balance_holds

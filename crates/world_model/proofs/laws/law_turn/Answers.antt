@@ -1,5 +1,0 @@
-use Rattle.world_model.proofs.Turns.{turns_go_by_rule}
-use Rattle.world_model.proofs.laws.law_turn.Goals as goal
-
-pub returns : goal.returns
-returns c = turns_go_by_rule
