@@ -18,10 +18,10 @@ ghost use Rattle.board_world.specs.Sound.{AreGuaranteed};
 ghost use Rattle.board_world.specs.Doing.{with_rows};
 
 use crate::board::Board;
+use aegis_limits::OutOfMemory;
 use bind_book::Bindings;
 use board_world::{Consoles, Environment, Roster};
 use boot_image::Program;
-use aegis_limits::OutOfMemory;
 use elf_static::Elf;
 use env_frames::Env;
 use frame_store::Frames;

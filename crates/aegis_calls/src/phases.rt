@@ -7,7 +7,7 @@ ghost use Rattle.world_model.specs.Tick.{turn as turn_phase, step as step_phase,
 
 use crate::board::Board;
 use crate::registers::CODE_REGISTER;
-use world_model::{Call, Cause};
+use world_model::{Call, Cause, WorldView};
 
 /// The most rows that a turn may write: a start, and a forfeit for each quantum that the holders of 64 slots owe, at
 /// most eight each.

@@ -7,7 +7,7 @@ use crate::board::Board;
 use env_frames::Context;
 use kernel_journal::Row;
 use slot_vector::Timer;
-use world_model::Cause;
+use world_model::{Cause, WorldView};
 
 impl Board {
     ghost use Rattle.board_world.specs.Doing.{brought, counted, ended, has_end, kept_stopped, over_row, stopped};

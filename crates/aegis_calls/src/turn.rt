@@ -6,6 +6,7 @@ ghost use Rattle.slot_vector.specs.Slices.{next_turn};
 use crate::board::Board;
 use kernel_journal::Row;
 use slot_vector::NextTurn;
+use world_model::WorldView;
 
 impl Board {
     ghost use Rattle.board_world.specs.Doing.{came_next, start_frames, start_registers, turned};

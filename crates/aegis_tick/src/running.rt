@@ -11,6 +11,7 @@ ghost use Rattle.world_model.specs.Tick.{tick_step};
 use aegis_calls::Board;
 use aegis_limits::OutOfMemory;
 use kernel_journal::RunEnd;
+use world_model::WorldView;
 
 /// The most rows of the ledger that a tick may write.
 pub const TICK_ROWS: u32 = 2048;

@@ -11,7 +11,6 @@ use Rattle.world_model.specs.Book.{Book, is_runner}
 use Rattle.world_model.specs.Solo.{Seen, Solo, absent}
 use Rattle.world_model.specs.World.{World}
 use Rattle.page_sight.specs.Sight.{seen_in}
-use Rattle.board_world.specs.declared.view.PageView.{PageView}
 use Rattle.board_world.specs.declared.roster.Environment.{Environment}
 use Rattle.board_world.specs.Shown.{Shown, console_of}
 
@@ -64,12 +63,3 @@ book_of b = record {
 
 abbrev pub world_of : Shown → World
 world_of b = record { book = book_of b; count = length b.roster.list; solos = solo_of b; rows = b.ledger.rows }
-
--- a page that is lent
-abbrev pub view_seen : PageView → KeptPage
-view_seen v = record { vpn = v.vpn; writable = v.writable; bytes = v.bytes.now }
-
--- the bytes of a page that an environment sees, if it owns the page
-abbrev pub owned_bytes : Option Seen → Option (List ℕ)
-owned_bytes None = None
-owned_bytes (Some x) = if x.owned then Some x.bytes else None

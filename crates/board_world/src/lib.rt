@@ -6,9 +6,7 @@
 mod console;
 mod laws;
 mod roster;
-mod view;
 
 pub use console::{Console, Consoles};
 pub use laws::{law_call, law_death, law_idle, law_refusal, law_step, law_timer, law_turn};
 pub use roster::{Environment, Roster};
-pub use view::PageView;

@@ -2,7 +2,6 @@
 ghost use Rattle.std.specs.Prelude.{◌≡◌, ◌++◌, ◌<◌, ◌==◌, OnOk, IfOk, position};
 ghost use Rattle.std.specs.List.{flat_map};
 ghost use Rattle.boot_image.specs.ImageValue.{name_text};
-ghost use Rattle.board_world.specs.Showing.{world_of};
 ghost use Rattle.run_report.specs.Report.{spaced, life_words, exception_text, env_line, out_line, excess_line, living_lines, env_text};
 
 use crate::binding::push_bind_lines;
@@ -11,17 +10,16 @@ use crate::processor::{push_cpu_line, push_regs_line, shown_cpu};
 use crate::words::{
     end_line, env, number, push_number, push_numbers_line, push_quotation, push_text, push_word,
 };
-use aegis_calls::Board;
 use aegis_limits::OutOfMemory;
 use mips_exec::ExcCode;
 use std::alloc::Global;
-use world_model::{Cause, Life};
+use world_model::{Cause, Life, WorldView};
 
 /// The lines that a report has of an environment, below `envs()` of the board
 /// (`docs/PROGRAM.md`, "The report").
-pub fn env_lines(alloc: Global, board: &Board, env: u8) -> Result<Vec<u8>, OutOfMemory>
-    requires { env < (world_of board.now).count }
-    ensures { IfOk result (λ v. v.items ≡ env_text (world_of board.now) env) }
+pub fn env_lines<B: WorldView>(alloc: Global, board: &B, env: u8) -> Result<Vec<u8>, OutOfMemory>
+    requires { env < (B.world board.now).count }
+    ensures { IfOk result (λ v. v.items ≡ env_text (B.world board.now) env) }
 {
     let mut out = Vec::new(alloc);
     push_env(&mut out, board, env)?;
@@ -30,9 +28,13 @@ pub fn env_lines(alloc: Global, board: &Board, env: u8) -> Result<Vec<u8>, OutOf
 
 /// Appends the lines of an environment.
 #[tactic(auto, unfolding(crate::specs::Report::env_text))]
-pub(crate) fn push_env(out: &mut Vec<u8>, board: &Board, env: u8) -> Result<(), OutOfMemory>
-    requires { env < (world_of board.now).count }
-    ensures { OnOk result (out.new.items ≡ out.old.items ++ env_text (world_of board.now) env) }
+pub(crate) fn push_env<B: WorldView>(
+    out: &mut Vec<u8>,
+    board: &B,
+    env: u8,
+) -> Result<(), OutOfMemory>
+    requires { env < (B.world board.now).count }
+    ensures { OnOk result (out.new.items ≡ out.old.items ++ env_text (B.world board.now) env) }
 {
     push_env_line(out, board, env)?;
     push_out_line(out, board, env)?;
@@ -44,9 +46,9 @@ pub(crate) fn push_env(out: &mut Vec<u8>, board: &Board, env: u8) -> Result<(), 
 
 /// Appends the line of an environment's name and life.
 #[tactic(auto, unfolding(crate::specs::Report::env_line))]
-fn push_env_line(out: &mut Vec<u8>, board: &Board, env: u8) -> Result<(), OutOfMemory>
-    requires { env < (world_of board.now).count }
-    ensures { OnOk result (out.new.items ≡ out.old.items ++ env_line env ((world_of board.now).solos env)) }
+fn push_env_line<B: WorldView>(out: &mut Vec<u8>, board: &B, env: u8) -> Result<(), OutOfMemory>
+    requires { env < (B.world board.now).count }
+    ensures { OnOk result (out.new.items ≡ out.old.items ++ env_line env ((B.world board.now).solos env)) }
 {
     push_text(out, b"env")?;
     push_number(out, u64::from(env))?;
@@ -117,9 +119,9 @@ fn exception_text(code: ExcCode) -> &'static [u8]
 
 /// Appends the line of an environment's console.
 #[tactic(auto, unfolding(crate::specs::Report::out_line))]
-fn push_out_line(out: &mut Vec<u8>, board: &Board, env: u8) -> Result<(), OutOfMemory>
-    requires { env < (world_of board.now).count }
-    ensures { OnOk result (out.new.items ≡ out.old.items ++ out_line env ((world_of board.now).solos env)) }
+fn push_out_line<B: WorldView>(out: &mut Vec<u8>, board: &B, env: u8) -> Result<(), OutOfMemory>
+    requires { env < (B.world board.now).count }
+    ensures { OnOk result (out.new.items ≡ out.old.items ++ out_line env ((B.world board.now).solos env)) }
 {
     let console = board.console(env);
     push_text(out, b"out")?;
@@ -138,9 +140,9 @@ fn push_excess_line(out: &mut Vec<u8>, who: u8, excess: u32) -> Result<(), OutOf
 
 /// Appends what is shown of an environment while it lives.
 #[tactic(auto, unfolding(crate::specs::Report::living_lines))]
-fn push_living_lines(out: &mut Vec<u8>, board: &Board, env: u8) -> Result<(), OutOfMemory>
-    requires { env < (world_of board.now).count }
-    ensures { OnOk result (out.new.items ≡ out.old.items ++ living_lines (world_of board.now) env) }
+fn push_living_lines<B: WorldView>(out: &mut Vec<u8>, board: &B, env: u8) -> Result<(), OutOfMemory>
+    requires { env < (B.world board.now).count }
+    ensures { OnOk result (out.new.items ≡ out.old.items ++ living_lines (B.world board.now) env) }
 {
     let cpu = shown_cpu(board, env);
     push_cpu_line(out, env, &cpu)?;

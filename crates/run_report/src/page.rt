@@ -1,13 +1,12 @@
 //! The pages that a report shows, each by the fingerprint of its bytes.
 ghost use Rattle.std.specs.Prelude.{◌≡◌, ◌++◌, ◌<◌, OnOk};
-ghost use Rattle.board_world.specs.Showing.{world_of, owned_bytes, view_seen};
+ghost use Rattle.world_model.specs.View.{view_seen};
 ghost use Rattle.run_report.specs.Report.{fingerprint, keep_line, keep_lines, page_line, owned_line, page_lines};
 
 use crate::words::{end_line, push_digits, push_number, push_text, push_word};
-use aegis_calls::Board;
-use board_world::PageView;
 use aegis_limits::OutOfMemory;
 use sha2::{Digest, Sha256};
+use world_model::{PageView, WorldView};
 
 /// The hexadecimal digits of a page number.
 pub(crate) const PAGE_NUMBER_DIGITS: u8 = 5;
@@ -38,9 +37,13 @@ fn push_keep_line(out: &mut Vec<u8>, env: u8, page: PageView<'_>) -> Result<(), 
 }
 
 /// Appends the lines of an environment's pages.
-pub(crate) fn push_keep_lines(out: &mut Vec<u8>, board: &Board, env: u8) -> Result<(), OutOfMemory>
-    requires { env < (world_of board.now).count }
-    ensures { OnOk result (out.new.items ≡ out.old.items ++ keep_lines env ((world_of board.now).solos env).kept) }
+pub(crate) fn push_keep_lines<B: WorldView>(
+    out: &mut Vec<u8>,
+    board: &B,
+    env: u8,
+) -> Result<(), OutOfMemory>
+    requires { env < (B.world board.now).count }
+    ensures { OnOk result (out.new.items ≡ out.old.items ++ keep_lines env ((B.world board.now).solos env).kept) }
 {
     for place in 0..board.kept_count(env) {
         if let Some(page) = board.kept_page(env, place) {
@@ -63,10 +66,15 @@ fn push_page_line(out: &mut Vec<u8>, env: u8, page: u32, bytes: &[u8]) -> Result
 }
 
 /// Appends the line of a page, where the environment owns it.
-fn push_if_owned(out: &mut Vec<u8>, board: &Board, env: u8, page: u32) -> Result<(), OutOfMemory>
-    requires there { env < (world_of board.now).count }
-    requires page { page < (world_of board.now).book.page_count }
-    ensures { OnOk result (out.new.items ≡ out.old.items ++ owned_line env page (((world_of board.now).solos env).seen page)) }
+fn push_if_owned<B: WorldView>(
+    out: &mut Vec<u8>,
+    board: &B,
+    env: u8,
+    page: u32,
+) -> Result<(), OutOfMemory>
+    requires there { env < (B.world board.now).count }
+    requires page { page < (B.world board.now).book.page_count }
+    ensures { OnOk result (out.new.items ≡ out.old.items ++ owned_line env page (((B.world board.now).solos env).seen page)) }
 {
     match board.owned_page(env, page) {
         Some(bytes) => push_page_line(out, env, page, bytes),
@@ -75,9 +83,13 @@ fn push_if_owned(out: &mut Vec<u8>, board: &Board, env: u8, page: u32) -> Result
 }
 
 /// Appends the lines of the pages that an environment owns, by rising number.
-pub(crate) fn push_page_lines(out: &mut Vec<u8>, board: &Board, env: u8) -> Result<(), OutOfMemory>
-    requires { env < (world_of board.now).count }
-    ensures { OnOk result (out.new.items ≡ out.old.items ++ page_lines env ((world_of board.now).solos env).seen (world_of board.now).book.page_count) }
+pub(crate) fn push_page_lines<B: WorldView>(
+    out: &mut Vec<u8>,
+    board: &B,
+    env: u8,
+) -> Result<(), OutOfMemory>
+    requires { env < (B.world board.now).count }
+    ensures { OnOk result (out.new.items ≡ out.old.items ++ page_lines env ((B.world board.now).solos env).seen (B.world board.now).book.page_count) }
 {
     for page in 0..board.page_count() {
         push_if_owned(out, board, env, page)?;

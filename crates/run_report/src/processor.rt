@@ -1,14 +1,13 @@
 //! The registers that a report shows of a living environment.
 ghost use Rattle.std.specs.Prelude.{◌≡◌, ◌++◌, ◌<◌, OnOk};
 ghost use Rattle.std.specs.List.{flat_map};
-ghost use Rattle.board_world.specs.Showing.{world_of};
 ghost use Rattle.world_model.specs.Table.{listed};
 ghost use Rattle.run_report.specs.Report.{spaced, shown_cpu, cpu_line, word_text, register_text, regs_line};
 
 use crate::words::{end_line, push_digits, push_flag, push_number, push_text};
-use aegis_calls::Board;
 use aegis_limits::OutOfMemory;
 use mips_exec::Cpu;
+use world_model::WorldView;
 
 /// The hexadecimal digits of a word.
 const WORD_DIGITS: u8 = 8;
@@ -19,9 +18,9 @@ const SHOWN_REGISTERS: u8 = 31;
 /// The registers that are shown of an environment: the runner's as they stand, and a stopped one's at
 /// rest.
 #[tactic(auto, unfolding(crate::specs::Report::shown_cpu))]
-pub(crate) fn shown_cpu(board: &Board, env: u8) -> Cpu
-    requires { env < (world_of board.now).count }
-    ensures { result ≡ shown_cpu (world_of board.now) env }
+pub(crate) fn shown_cpu<B: WorldView>(board: &B, env: u8) -> Cpu
+    requires { env < (B.world board.now).count }
+    ensures { result ≡ shown_cpu (B.world board.now) env }
 {
     let cpu = board.cpu(env);
     match board.runner() {

@@ -1,21 +1,20 @@
 //! The whole report.
 ghost use Rattle.std.specs.Prelude.{◌≡◌, ◌++◌, OnOk, IfOk};
-ghost use Rattle.board_world.specs.Showing.{world_of};
 ghost use Rattle.run_report.specs.Report.{env_text, sum_line, for_each, end_text, end_line as end_line_of, report_text};
 
 use crate::environment::push_env;
 use crate::ledger::push_rows;
 use crate::sums::push_sum_line;
 use crate::words::{end_line, push_number, push_text, push_word};
-use aegis_calls::Board;
 use aegis_limits::OutOfMemory;
 use kernel_journal::RunEnd;
 use std::alloc::Global;
+use world_model::WorldView;
 
 /// The report of a board whose run ended in this way (`docs/PROGRAM.md`, "The report").
 #[tactic(auto, unfolding(crate::specs::Report::report_text))]
-pub fn report(alloc: Global, board: &Board, end: RunEnd) -> Result<Vec<u8>, OutOfMemory>
-    ensures { IfOk result (λ v. v.items ≡ report_text (world_of board.now) end) }
+pub fn report<B: WorldView>(alloc: Global, board: &B, end: RunEnd) -> Result<Vec<u8>, OutOfMemory>
+    ensures { IfOk result (λ v. v.items ≡ report_text (B.world board.now) end) }
 {
     let mut out = Vec::new(alloc);
     push_text(&mut out, b"aegis run\n")?;
@@ -29,8 +28,8 @@ pub fn report(alloc: Global, board: &Board, end: RunEnd) -> Result<Vec<u8>, OutO
 
 /// Appends the line of how the run ended, and when.
 #[tactic(auto, unfolding(crate::specs::Report::end_line))]
-fn push_end_line(out: &mut Vec<u8>, board: &Board, end: RunEnd) -> Result<(), OutOfMemory>
-    ensures { OnOk result (out.new.items ≡ out.old.items ++ end_line_of (world_of board.now) end) }
+fn push_end_line<B: WorldView>(out: &mut Vec<u8>, board: &B, end: RunEnd) -> Result<(), OutOfMemory>
+    ensures { OnOk result (out.new.items ≡ out.old.items ++ end_line_of (B.world board.now) end) }
 {
     push_text(out, b"end")?;
     push_word(out, end_text(end))?;
@@ -49,8 +48,8 @@ fn end_text(end: RunEnd) -> &'static [u8]
 }
 
 /// Appends the lines of each environment.
-fn push_envs(out: &mut Vec<u8>, board: &Board) -> Result<(), OutOfMemory>
-    ensures { OnOk result (out.new.items ≡ out.old.items ++ for_each (env_text (world_of board.now)) (world_of board.now).count) }
+fn push_envs<B: WorldView>(out: &mut Vec<u8>, board: &B) -> Result<(), OutOfMemory>
+    ensures { OnOk result (out.new.items ≡ out.old.items ++ for_each (env_text (B.world board.now)) (B.world board.now).count) }
 {
     for env in 0..board.envs() {
         push_env(out, board, env)?;
@@ -59,8 +58,8 @@ fn push_envs(out: &mut Vec<u8>, board: &Board) -> Result<(), OutOfMemory>
 }
 
 /// Appends the sums of each environment.
-fn push_sums(out: &mut Vec<u8>, board: &Board) -> Result<(), OutOfMemory>
-    ensures { OnOk result (out.new.items ≡ out.old.items ++ for_each (sum_line (world_of board.now).rows) (world_of board.now).count) }
+fn push_sums<B: WorldView>(out: &mut Vec<u8>, board: &B) -> Result<(), OutOfMemory>
+    ensures { OnOk result (out.new.items ≡ out.old.items ++ for_each (sum_line (B.world board.now).rows) (B.world board.now).count) }
 {
     for env in 0..board.envs() {
         push_sum_line(out, board.journal(), env)?;

@@ -14,3 +14,4 @@ pub mod SlotCalls
 pub mod Transfers
 pub mod Verdict
 pub mod Tick
+pub mod View

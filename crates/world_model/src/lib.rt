@@ -8,6 +8,7 @@ mod life;
 mod page;
 mod question;
 mod slot;
+mod view;
 
 pub use call::Call;
 pub use code::Code;
@@ -15,3 +16,4 @@ pub use life::{Cause, Life};
 pub use page::Purpose;
 pub use question::Question;
 pub use slot::{Hold, Phase, Runner, Turn};
+pub use view::{PageView, WorldView};

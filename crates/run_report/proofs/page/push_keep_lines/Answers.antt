@@ -1,15 +1,15 @@
 -- The page at each place below the count is there, and its line is one more.
 use Rattle.std.proofs.Common.{Vec, Global, ◌<◌, ◌++◌, ◌∙◌, ap, sym, ℕ, length, append_assoc, arith}
 use Rattle.std.specs.Option.{option_map}
-use Rattle.board_world.specs.Showing.{world_of, view_seen}
+use Rattle.world_model.specs.View.{view_seen}
 use Rattle.run_report.specs.Report.{keep_line}
 use Rattle.run_report.proofs.Pages.{line_more, is_there}
 use Rattle.run_report.proofs.page.push_keep_lines.Goals as goal
 use Rattle.run_report.proofs.page.push_keep_lines.Goals.{in-Some+in_ok-push_keep_line, in_default}
 
 pub loop-place-preserved : goal.loop-place-preserved
-loop-place-preserved c =
-    let kept = ((world_of c.args.board.now).solos c.args.env).kept in
+loop-place-preserved g c =
+    let kept = ((g.B.WorldView.world c.args.board.now).solos c.args.env).kept in
     let place = c.loop-place.place in
     elim c.match-kept_page.branch [
       | in-Some+in_ok-push_keep_line w ↦

@@ -5,7 +5,7 @@ use Rattle.std.proofs.lemmas.Option.{slice_get-get_or}
 use Rattle.env_frames.specs.declared.mapping.Mapping.{Mapping}
 use Rattle.board_world.specs.Shown.{Shown}
 use Rattle.board_world.proofs.Seen.{guaranteed_there}
-use Rattle.aegis_calls.proofs.board.Board.kept_page.Goals as goal
+use Rattle.aegis_calls.proofs.readers.BoardWorldView.kept_page.Goals as goal
 
 abbrev pub no_mapping : Mapping
 no_mapping = record { vpn = 0; page = 0; writable = false }

@@ -11,8 +11,9 @@ use Rattle.page_sight.specs.Sight.{seen_if}
 use Rattle.bind_book.specs.Stripe.{is_bound, stripes}
 use Rattle.board_world.specs.declared.roster.Environment.{Environment}
 use Rattle.board_world.specs.Shown.{Shown}
-use Rattle.board_world.specs.Showing.{owned_bytes, solo_of, solo_or_absent}
-use Rattle.aegis_calls.proofs.board.Board.owned_page.Goals as goal
+use Rattle.board_world.specs.Showing.{solo_of, solo_or_absent}
+use Rattle.world_model.specs.View.{owned_bytes}
+use Rattle.aegis_calls.proofs.readers.BoardWorldView.owned_page.Goals as goal
 
 -- the bytes of a page that is owned or not
 abbrev bytes_if : Bool → List ℕ → Option (List ℕ)

@@ -1,0 +1,95 @@
+//! What can be read of a world.
+ghost use Rattle.std.specs.Prelude.{◌≡◌, ◌<◌, ◌≤◌, length, slice_get};
+ghost use Rattle.std.specs.Option.{option_map};
+ghost use Rattle.bind_book.specs.Stripe.{stripe_rows};
+ghost use Rattle.world_model.specs.Book.{excess_limit, running};
+ghost use Rattle.world_model.specs.View.{owned_bytes, view_seen};
+ghost use Rattle.world_model.specs.World.{World};
+
+use crate::life::Life;
+use bind_book::Binding;
+use kernel_journal::Row;
+use mips_exec::Cpu;
+
+/// A guaranteed page: its page number, whether it may be stored to, and its 4,096 bytes.
+#[derive(Clone, Copy)]
+pub struct PageView<'a> {
+    pub vpn: u32,
+    pub writable: bool,
+    pub bytes: &'a [u8],
+}
+
+/// What shows a world of the model, to be read. Environments are named by number; there are `envs()` of them, from 0
+/// on.
+pub trait WorldView {
+    // The world that it shows.
+    ghost world: { Self → World };
+
+    /// How many environments there are.
+    fn envs(&self) -> u8
+        ensures { result ≡ (world self.now).count };
+
+    /// Ticks since the boot.
+    fn time(&self) -> u32
+        ensures { result ≡ (world self.now).book.time };
+
+    /// The eight bytes of an environment's name.
+    fn name(&self, env: u8) -> [u8; 8]
+        requires { env < (world self.now).count }
+        ensures { result ≡ ((world self.now).solos env).name };
+
+    /// Whether an environment lives, or why it died.
+    fn life(&self, env: u8) -> Life
+        requires { env < (world self.now).count }
+        ensures { result ≡ ((world self.now).solos env).life };
+
+    /// An environment's registers as they stand: the machine's, if it runs, and else those that are kept.
+    fn cpu(&self, env: u8) -> Cpu
+        requires { env < (world self.now).count }
+        ensures { result ≡ ((world self.now).solos env).cpu };
+
+    /// What an environment wrote to its console.
+    fn console(&self, env: u8) -> &[u8]
+        requires { env < (world self.now).count }
+        ensures { result.now ≡ ((world self.now).solos env).console };
+
+    /// How many guaranteed pages an environment has, at most 256.
+    fn kept_count(&self, env: u8) -> usize
+        requires { env < (world self.now).count }
+        ensures { result ≡ length ((world self.now).solos env).kept };
+
+    /// The guaranteed page at this place of an environment's, by rising page number; none past the last.
+    fn kept_page(&self, env: u8, place: usize) -> Option<PageView<'_>>
+        requires { env < (world self.now).count }
+        ensures { option_map view_seen result ≡ slice_get ((world self.now).solos env).kept place };
+
+    /// How many pages of physical memory there are, from 16 to 4,096.
+    fn page_count(&self) -> u32
+        ensures { result ≡ (world self.now).book.page_count };
+
+    /// The 4,096 bytes of a page that an environment owns; none of one that is guaranteed to it, or that it has
+    /// merely bound.
+    fn owned_page(&self, env: u8, page: u32) -> Option<&[u8]>
+        requires env { env < (world self.now).count }
+        requires page { page < (world self.now).book.page_count }
+        ensures { option_map (λ r. r.now) result ≡ owned_bytes (((world self.now).solos env).seen page) };
+
+    /// The binding that stands in this row, below 256, of an environment's, if one does.
+    fn binding(&self, env: u8, row: u32) -> Option<Binding>
+        requires env { env < (world self.now).count }
+        requires row { row < stripe_rows }
+        ensures { result ≡ ((world self.now).solos env).binds row };
+
+    /// Who runs, if anybody does.
+    fn runner(&self) -> Option<u8>
+        ensures { result ≡ running (world self.now).book.runner };
+
+    /// An environment's excess: the quanta that it ran past its slices and hasn't forfeited yet, 0 to 8.
+    fn excess(&self, env: u8) -> u32
+        ensures excess { result ≡ (world self.now).book.excess env }
+        ensures most { result ≤ excess_limit };
+
+    /// The rows of the ledger.
+    fn journal(&self) -> &[Row]
+        ensures { result.now ≡ (world self.now).rows };
+}
