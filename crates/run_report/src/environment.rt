@@ -1,15 +1,13 @@
 //! What a report shows of an environment.
-ghost use Rattle.std.specs.Prelude.{◌≡◌, ◌++◌, ◌<◌, ◌==◌, OnOk, IfOk, position};
-ghost use Rattle.std.specs.List.{flat_map};
+ghost use Rattle.std.specs.Prelude.{◌≡◌, ◌++◌, ◌∷◌, [], ◌<◌, ◌==◌, codes, OnOk, IfOk, position};
+ghost use Rattle.line_text.specs.Text.{dec_text};
 ghost use Rattle.boot_image.specs.ImageValue.{name_text};
-ghost use Rattle.run_report.specs.Report.{spaced, life_words, exception_text, env_line, out_line, excess_line, living_lines, env_text};
+ghost use Rattle.run_report.specs.Report.{line, life_words, exception_text, env_line, out_line, excess_line, living_lines, env_text};
 
 use crate::binding::push_bind_lines;
 use crate::page::{push_keep_lines, push_page_lines};
 use crate::processor::{push_cpu_line, push_regs_line, shown_cpu};
-use crate::words::{
-    end_line, env, number, push_number, push_numbers_line, push_quotation, push_text, push_word,
-};
+use crate::words::{Word, env, number, push_line};
 use aegis_limits::OutOfMemory;
 use mips_exec::ExcCode;
 use std::alloc::Global;
@@ -50,11 +48,7 @@ fn push_env_line<B: WorldView>(out: &mut Vec<u8>, board: &B, env: u8) -> Result<
     requires { env < (B.world board.now).count }
     ensures { OnOk result (out.new.items ≡ out.old.items ++ env_line env ((B.world board.now).solos env)) }
 {
-    push_text(out, b"env")?;
-    push_number(out, u64::from(env))?;
-    push_word(out, name_text(&board.name(env)))?;
-    push_life(out, board.life(env))?;
-    end_line(out)
+    push_life_line(out, env, name_text(&board.name(env)), board.life(env))
 }
 
 /// Where the first zero of a name stands, if it has one.
@@ -75,24 +69,29 @@ fn name_text(name: &[u8]) -> &[u8]
     name.split_at(length).0
 }
 
-/// Appends how an environment lives, or why it died.
-fn push_life(out: &mut Vec<u8>, life: Life) -> Result<(), OutOfMemory>
-    ensures { OnOk result (out.new.items ≡ out.old.items ++ flat_map spaced (life_words life)) }
+/// Appends the line of an environment of this name that lives or died so.
+#[tactic(auto, unfolding(crate::specs::Words::line_of))]
+fn push_life_line(out: &mut Vec<u8>, who: u8, name: &[u8], life: Life) -> Result<(), OutOfMemory>
+    ensures { OnOk result (out.new.items ≡ out.old.items ++ line (codes "env" ∷ dec_text who ∷ name.now ∷ life_words life)) }
 {
+    let (who, name, dead) = (env(who), Word::Text(name), Word::Text(b"dead"));
     match life {
-        Life::Live => push_word(out, b"live"),
-        Life::Dead(Cause::Exit(code)) => {
-            push_word(out, b"exit")?;
-            push_number(out, u64::from(code))
-        }
-        Life::Dead(Cause::Trapped(code)) => {
-            push_word(out, b"dead")?;
-            push_word(out, exception_text(code))
-        }
-        Life::Dead(Cause::Excess) => {
-            push_word(out, b"dead")?;
-            push_word(out, b"excess")
-        }
+        Life::Live => push_line(out, b"env", &[who, name, Word::Text(b"live")]),
+        Life::Dead(Cause::Exit(code)) => push_line(
+            out,
+            b"env",
+            &[who, name, Word::Text(b"exit"), number(code)],
+        ),
+        Life::Dead(Cause::Trapped(code)) => push_line(
+            out,
+            b"env",
+            &[who, name, dead, Word::Text(exception_text(code))],
+        ),
+        Life::Dead(Cause::Excess) => push_line(
+            out,
+            b"env",
+            &[who, name, dead, Word::Text(b"excess")],
+        ),
     }
 }
 
@@ -118,24 +117,26 @@ fn exception_text(code: ExcCode) -> &'static [u8]
 }
 
 /// Appends the line of an environment's console.
-#[tactic(auto, unfolding(crate::specs::Report::out_line))]
-fn push_out_line<B: WorldView>(out: &mut Vec<u8>, board: &B, env: u8) -> Result<(), OutOfMemory>
-    requires { env < (B.world board.now).count }
-    ensures { OnOk result (out.new.items ≡ out.old.items ++ out_line env ((B.world board.now).solos env)) }
+#[tactic(auto, unfolding(crate::specs::Report::out_line, crate::specs::Words::line_of))]
+fn push_out_line<B: WorldView>(out: &mut Vec<u8>, board: &B, who: u8) -> Result<(), OutOfMemory>
+    requires { who < (B.world board.now).count }
+    ensures { OnOk result (out.new.items ≡ out.old.items ++ out_line who ((B.world board.now).solos who)) }
 {
-    let console = board.console(env);
-    push_text(out, b"out")?;
-    push_number(out, u64::from(env))?;
-    push_number(out, console.len() as u64)?;
-    push_quotation(out, console)?;
-    end_line(out)
+    let console = board.console(who);
+    let words = [
+        env(who),
+        Word::Number(console.len() as u64),
+        Word::Quotation(console),
+    ];
+    push_line(out, b"out", &words)
 }
 
 /// Appends the line of an environment's excess.
+#[tactic(auto, unfolding(crate::specs::Report::numbers_line, crate::specs::Words::line_of))]
 fn push_excess_line(out: &mut Vec<u8>, who: u8, excess: u32) -> Result<(), OutOfMemory>
     ensures { OnOk result (out.new.items ≡ out.old.items ++ excess_line who excess) }
 {
-    push_numbers_line(out, b"excess", &[env(who), number(excess)])
+    push_line(out, b"excess", &[env(who), number(excess)])
 }
 
 /// Appends what is shown of an environment while it lives.

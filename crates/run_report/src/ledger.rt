@@ -3,7 +3,7 @@ ghost use Rattle.std.specs.Prelude.{◌≡◌, ◌++◌, [], ◌∷◌, Some, On
 ghost use Rattle.std.specs.List.{flat_map};
 ghost use Rattle.run_report.specs.Report.{numbers_line, row_line};
 
-use crate::words::{env, env_or_none, number, number_or_none, push_numbers_line};
+use crate::words::{env, env_or_dash, number, number_or_dash, push_line};
 use aegis_limits::OutOfMemory;
 use kernel_journal::Row;
 
@@ -18,6 +18,7 @@ pub(crate) fn push_rows(out: &mut Vec<u8>, rows: &[Row]) -> Result<(), OutOfMemo
 }
 
 /// Appends the row of what befell an environment in a slot.
+#[tactic(auto, unfolding(crate::specs::Report::numbers_line, crate::specs::Words::line_of))]
 fn push_turn(
     out: &mut Vec<u8>,
     name: &[u8],
@@ -27,10 +28,11 @@ fn push_turn(
 ) -> Result<(), OutOfMemory>
     ensures { OnOk result (out.new.items ≡ out.old.items ++ numbers_line name.now (Some time ∷ Some slot ∷ Some who ∷ [])) }
 {
-    push_numbers_line(out, name, &[number(time), number(slot), env(who)])
+    push_line(out, name, &[number(time), number(slot), env(who)])
 }
 
 /// Appends the row of what went from one environment to another in a slot.
+#[tactic(auto, unfolding(crate::specs::Report::numbers_line, crate::specs::Words::line_of))]
 fn push_move(
     out: &mut Vec<u8>,
     name: &[u8],
@@ -41,10 +43,11 @@ fn push_move(
 ) -> Result<(), OutOfMemory>
     ensures { OnOk result (out.new.items ≡ out.old.items ++ numbers_line name.now (Some time ∷ Some slot ∷ Some from ∷ Some to ∷ [])) }
 {
-    push_numbers_line(out, name, &[number(time), number(slot), env(from), env(to)])
+    push_line(out, name, &[number(time), number(slot), env(from), env(to)])
 }
 
 /// Appends a row: its time, and its numbers in their order.
+#[tactic(auto, unfolding(crate::specs::Report::numbers_line, crate::specs::Words::line_of))]
 fn push_row(out: &mut Vec<u8>, row: Row) -> Result<(), OutOfMemory>
     ensures { OnOk result (out.new.items ≡ out.old.items ++ row_line row) }
 {
@@ -58,10 +61,10 @@ fn push_row(out: &mut Vec<u8>, row: Row) -> Result<(), OutOfMemory>
             let numbers = [
                 number(time),
                 number(slot),
-                env_or_none(owner),
-                env_or_none(holder),
+                env_or_dash(owner),
+                env_or_dash(holder),
             ];
-            push_numbers_line(out, b"own", &numbers)
+            push_line(out, b"own", &numbers)
         }
         Row::Run { time, slot, env } => push_turn(out, b"run", time, slot, env),
         Row::Pay { time, slot, env } => push_turn(out, b"pay", time, slot, env),
@@ -90,7 +93,7 @@ fn push_row(out: &mut Vec<u8>, row: Row) -> Result<(), OutOfMemory>
             env: who,
             excess,
         } => {
-            push_numbers_line(
+            push_line(
                 out,
                 b"over",
                 &[number(time), number(slot), env(who), number(excess)],
@@ -110,7 +113,7 @@ fn push_row(out: &mut Vec<u8>, row: Row) -> Result<(), OutOfMemory>
                 number(outstanding),
                 number(deadline),
             ];
-            push_numbers_line(out, b"asked", &numbers)
+            push_line(out, b"asked", &numbers)
         }
         Row::Take {
             time,
@@ -118,11 +121,11 @@ fn push_row(out: &mut Vec<u8>, row: Row) -> Result<(), OutOfMemory>
             page,
             backup,
         } => {
-            let numbers = [number(time), env(who), number(page), number_or_none(backup)];
-            push_numbers_line(out, b"take", &numbers)
+            let numbers = [number(time), env(who), number(page), number_or_dash(backup)];
+            push_line(out, b"take", &numbers)
         }
         Row::Unclaimed { time, length } => {
-            push_numbers_line(out, b"drop", &[number(time), number(length)])
+            push_line(out, b"drop", &[number(time), number(length)])
         }
     }
 }

@@ -3,13 +3,10 @@ ghost use Rattle.std.specs.Prelude.{◌≡◌, ◌++◌, ◌<◌, OnOk};
 ghost use Rattle.world_model.specs.View.{view_seen};
 ghost use Rattle.run_report.specs.Report.{fingerprint, keep_line, keep_lines, page_line, owned_line, page_lines};
 
-use crate::words::{end_line, push_digits, push_number, push_text, push_word};
+use crate::words::{Word, env, number, push_line};
 use aegis_limits::OutOfMemory;
 use sha2::{Digest, Sha256};
 use world_model::{PageView, WorldView};
-
-/// The hexadecimal digits of a page number.
-pub(crate) const PAGE_NUMBER_DIGITS: u8 = 5;
 
 /// The characters of a fingerprint: two for each byte of a digest.
 const FINGERPRINT_SIZE: usize = 64;
@@ -25,15 +22,17 @@ fn fingerprint(bytes: &[u8]) -> [u8; FINGERPRINT_SIZE]
 }
 
 /// Appends the line of a page.
-#[tactic(auto, unfolding(crate::specs::Report::keep_line))]
-fn push_keep_line(out: &mut Vec<u8>, env: u8, page: PageView<'_>) -> Result<(), OutOfMemory>
-    ensures { OnOk result (out.new.items ≡ out.old.items ++ keep_line env (view_seen page.entry)) }
+#[tactic(auto, unfolding(crate::specs::Report::keep_line, crate::specs::Words::line_of))]
+fn push_keep_line(out: &mut Vec<u8>, who: u8, page: PageView<'_>) -> Result<(), OutOfMemory>
+    ensures { OnOk result (out.new.items ≡ out.old.items ++ keep_line who (view_seen page.entry)) }
 {
-    push_text(out, b"keep")?;
-    push_number(out, u64::from(env))?;
-    push_digits(out, page.vpn, PAGE_NUMBER_DIGITS)?;
-    push_word(out, &fingerprint(page.bytes))?;
-    end_line(out)
+    let fingerprint = fingerprint(page.bytes);
+    let words = [
+        env(who),
+        Word::PageNumber(page.vpn),
+        Word::Text(&fingerprint),
+    ];
+    push_line(out, b"keep", &words)
 }
 
 /// Appends the lines of an environment's pages.
@@ -54,15 +53,16 @@ pub(crate) fn push_keep_lines<B: WorldView>(
 }
 
 /// Appends the line of a page that an environment owns.
-#[tactic(auto, unfolding(crate::specs::Report::page_line))]
-fn push_page_line(out: &mut Vec<u8>, env: u8, page: u32, bytes: &[u8]) -> Result<(), OutOfMemory>
-    ensures { OnOk result (out.new.items ≡ out.old.items ++ page_line env page bytes.now) }
+#[tactic(auto, unfolding(crate::specs::Report::page_line, crate::specs::Words::line_of))]
+fn push_page_line(out: &mut Vec<u8>, who: u8, page: u32, bytes: &[u8]) -> Result<(), OutOfMemory>
+    ensures { OnOk result (out.new.items ≡ out.old.items ++ page_line who page bytes.now) }
 {
-    push_text(out, b"page")?;
-    push_number(out, u64::from(env))?;
-    push_number(out, u64::from(page))?;
-    push_word(out, &fingerprint(bytes))?;
-    end_line(out)
+    let fingerprint = fingerprint(bytes);
+    push_line(
+        out,
+        b"page",
+        &[env(who), number(page), Word::Text(&fingerprint)],
+    )
 }
 
 /// Appends the line of a page, where the environment owns it.

@@ -4,13 +4,10 @@ ghost use Rattle.std.specs.List.{flat_map};
 ghost use Rattle.world_model.specs.Table.{listed};
 ghost use Rattle.run_report.specs.Report.{spaced, shown_cpu, cpu_line, word_text, register_text, regs_line};
 
-use crate::words::{end_line, push_digits, push_flag, push_number, push_text};
+use crate::words::{Word, end_line, env, push_line, push_text, push_word};
 use aegis_limits::OutOfMemory;
 use mips_exec::Cpu;
 use world_model::WorldView;
-
-/// The hexadecimal digits of a word.
-const WORD_DIGITS: u8 = 8;
 
 /// The registers behind register 0.
 const SHOWN_REGISTERS: u8 = 31;
@@ -30,33 +27,28 @@ pub(crate) fn shown_cpu<B: WorldView>(board: &B, env: u8) -> Cpu
 }
 
 /// Appends the line of the program counters, the slot flag, HI and LO.
-#[tactic(auto, unfolding(crate::specs::Report::cpu_line))]
-pub(crate) fn push_cpu_line(out: &mut Vec<u8>, env: u8, cpu: &Cpu) -> Result<(), OutOfMemory>
-    ensures { OnOk result (out.new.items ≡ out.old.items ++ cpu_line env cpu.now) }
+#[tactic(auto, unfolding(crate::specs::Report::cpu_line, crate::specs::Words::line_of))]
+pub(crate) fn push_cpu_line(out: &mut Vec<u8>, who: u8, cpu: &Cpu) -> Result<(), OutOfMemory>
+    ensures { OnOk result (out.new.items ≡ out.old.items ++ cpu_line who cpu.now) }
 {
-    push_text(out, b"cpu")?;
-    push_number(out, u64::from(env))?;
-    push_pair(out, cpu.pc, cpu.next)?;
-    push_flag(out, cpu.slot)?;
-    push_pair(out, cpu.hi, cpu.lo)?;
-    end_line(out)
-}
-
-/// Appends two words of the processor, eight digits each.
-fn push_pair(out: &mut Vec<u8>, first: u32, second: u32) -> Result<(), OutOfMemory>
-    ensures { OnOk result (out.new.items ≡ out.old.items ++ spaced (word_text first) ++ spaced (word_text second)) }
-{
-    push_digits(out, first, WORD_DIGITS)?;
-    push_digits(out, second, WORD_DIGITS)
+    let words = [
+        env(who),
+        Word::Register(cpu.pc),
+        Word::Register(cpu.next),
+        Word::Flag(cpu.slot),
+        Word::Register(cpu.hi),
+        Word::Register(cpu.lo),
+    ];
+    push_line(out, b"cpu", &words)
 }
 
 /// Appends the line of registers 1 to 31.
 #[tactic(auto, unfolding(crate::specs::Report::regs_line))]
-pub(crate) fn push_regs_line(out: &mut Vec<u8>, env: u8, cpu: &Cpu) -> Result<(), OutOfMemory>
-    ensures { OnOk result (out.new.items ≡ out.old.items ++ regs_line env cpu.now) }
+pub(crate) fn push_regs_line(out: &mut Vec<u8>, who: u8, cpu: &Cpu) -> Result<(), OutOfMemory>
+    ensures { OnOk result (out.new.items ≡ out.old.items ++ regs_line who cpu.now) }
 {
     push_text(out, b"regs")?;
-    push_number(out, u64::from(env))?;
+    push_word(out, env(who))?;
     push_registers(out, cpu)?;
     end_line(out)
 }
@@ -67,7 +59,7 @@ fn push_registers(out: &mut Vec<u8>, cpu: &Cpu) -> Result<(), OutOfMemory>
     ensures { OnOk result (out.new.items ≡ out.old.items ++ flat_map spaced (listed (register_text cpu.now) 31)) }
 {
     for behind in 0..SHOWN_REGISTERS {
-        push_digits(out, cpu.reg(behind + 1), WORD_DIGITS)?;
+        push_word(out, Word::Register(cpu.reg(behind + 1)))?;
     }
     Ok(())
 }

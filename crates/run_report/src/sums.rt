@@ -4,7 +4,7 @@ ghost use Rattle.std.specs.Prelude.{◌≡◌, ◌++◌, count_by, OnOk};
 ghost use Rattle.run_model.specs.Excess.{is_run_of, is_pay_of, is_over_of};
 ghost use Rattle.run_report.specs.Report.{sum_line};
 
-use crate::words::{env, push_numbers_line};
+use crate::words::{Word, env, push_line};
 use aegis_limits::OutOfMemory;
 use kernel_journal::Row;
 
@@ -60,15 +60,18 @@ fn overs_of(rows: &[Row], env: u8) -> usize
 }
 
 /// Appends the line of an environment's sums.
+#[tactic(auto, unfolding(crate::specs::Report::numbers_line, crate::specs::Words::line_of))]
 pub(crate) fn push_sum_line(out: &mut Vec<u8>, rows: &[Row], who: u8) -> Result<(), OutOfMemory>
     ensures { OnOk result (out.new.items ≡ out.old.items ++ sum_line rows.now who) }
 {
     let runs = runs_of(rows, who) as u64;
     let pays = pays_of(rows, who) as u64;
     let overs = overs_of(rows, who) as u64;
-    push_numbers_line(
-        out,
-        b"sum",
-        &[env(who), Some(runs), Some(pays), Some(overs)],
-    )
+    let counts = [
+        env(who),
+        Word::Number(runs),
+        Word::Number(pays),
+        Word::Number(overs),
+    ];
+    push_line(out, b"sum", &counts)
 }

@@ -1,11 +1,11 @@
 //! The whole report.
 ghost use Rattle.std.specs.Prelude.{◌≡◌, ◌++◌, OnOk, IfOk};
-ghost use Rattle.run_report.specs.Report.{env_text, sum_line, for_each, end_text, end_line as end_line_of, report_text};
+ghost use Rattle.run_report.specs.Report.{env_text, sum_line, for_each, end_text, end_line, report_text};
 
 use crate::environment::push_env;
 use crate::ledger::push_rows;
 use crate::sums::push_sum_line;
-use crate::words::{end_line, push_number, push_text, push_word};
+use crate::words::{Word, number, push_line, push_text};
 use aegis_limits::OutOfMemory;
 use kernel_journal::RunEnd;
 use std::alloc::Global;
@@ -27,14 +27,15 @@ pub fn report<B: WorldView>(alloc: Global, board: &B, end: RunEnd) -> Result<Vec
 }
 
 /// Appends the line of how the run ended, and when.
-#[tactic(auto, unfolding(crate::specs::Report::end_line))]
+#[tactic(auto, unfolding(crate::specs::Report::end_line, crate::specs::Words::line_of))]
 fn push_end_line<B: WorldView>(out: &mut Vec<u8>, board: &B, end: RunEnd) -> Result<(), OutOfMemory>
-    ensures { OnOk result (out.new.items ≡ out.old.items ++ end_line_of (B.world board.now) end) }
+    ensures { OnOk result (out.new.items ≡ out.old.items ++ end_line (B.world board.now) end) }
 {
-    push_text(out, b"end")?;
-    push_word(out, end_text(end))?;
-    push_number(out, u64::from(board.time()))?;
-    end_line(out)
+    push_line(
+        out,
+        b"end",
+        &[Word::Text(end_text(end)), number(board.time())],
+    )
 }
 
 /// The name of how a run ended.

@@ -1,12 +1,37 @@
-//! The words of a line. A line begins with a word of its own, each word after it stands behind a
-//! space, and a line feed ends it.
-ghost use Rattle.std.specs.Prelude.{◌≡◌, ◌++◌, ◌∷◌, [], ◌≤◌, OnOk, Some};
-ghost use Rattle.line_text.specs.Text.{dec_text, hex_text};
+//! The words of a line. A line begins with a name, each word after it stands behind a space, and a line feed ends it.
+ghost use Rattle.std.specs.Prelude.{◌≡◌, ◌++◌, ◌∷◌, [], OnOk, map};
 ghost use Rattle.std.specs.List.{flat_map};
-ghost use Rattle.run_report.specs.Report.{spaced, or_dash, flag_text, numbers_line, quotation};
+ghost use Rattle.run_report.specs.Report.{quotation, spaced};
+ghost use Rattle.run_report.specs.Words.{number_word, word_text, line_of};
+ghost use Rattle.run_report.specs.declared.words.Word.TheVariants.{Number};
 
 use aegis_limits::OutOfMemory;
 use line_text::{push_dec, push_hex, push_quoted};
+
+/// The hexadecimal digits of a page number.
+const PAGE_NUMBER_DIGITS: u8 = 5;
+
+/// The hexadecimal digits of a word of the processor.
+const REGISTER_DIGITS: u8 = 8;
+
+/// A word of a line.
+#[derive(Clone, Copy)]
+pub(crate) enum Word<'a> {
+    /// Bytes as they are.
+    Text(&'a [u8]),
+    /// A number in decimal.
+    Number(u64),
+    /// A dash, in place of a number that there isn't.
+    Dash,
+    /// A page number, in five hexadecimal digits.
+    PageNumber(u32),
+    /// A word of the processor, in eight hexadecimal digits.
+    Register(u32),
+    /// 1 or 0.
+    Flag(bool),
+    /// Bytes between quotation marks.
+    Quotation(&'a [u8]),
+}
 
 /// Appends bytes as they are.
 pub(crate) fn push_text(out: &mut Vec<u8>, text: &[u8]) -> Result<(), OutOfMemory>
@@ -24,108 +49,87 @@ pub(crate) fn end_line(out: &mut Vec<u8>) -> Result<(), OutOfMemory>
     Ok(())
 }
 
+/// Appends bytes between quotation marks.
+fn push_quotation(out: &mut Vec<u8>, bytes: &[u8]) -> Result<(), OutOfMemory>
+    ensures { OnOk result (out.new.items ≡ out.old.items ++ quotation bytes.now) }
+{
+    out.push(b'"')?;
+    push_quoted(out, bytes)?;
+    out.push(b'"')?;
+    Ok(())
+}
+
+/// Appends the text of a word.
+fn push_word_text(out: &mut Vec<u8>, word: Word<'_>) -> Result<(), OutOfMemory>
+    ensures { OnOk result (out.new.items ≡ out.old.items ++ word_text word.entry) }
+{
+    match word {
+        Word::Text(bytes) => push_text(out, bytes),
+        Word::Number(n) => push_dec(out, n),
+        Word::Dash => push_text(out, b"-"),
+        Word::PageNumber(n) => push_hex(out, n, PAGE_NUMBER_DIGITS),
+        Word::Register(n) => push_hex(out, n, REGISTER_DIGITS),
+        Word::Flag(flag) => push_text(out, if flag { b"1" } else { b"0" }),
+        Word::Quotation(bytes) => push_quotation(out, bytes),
+    }
+}
+
 /// Appends a word.
-pub(crate) fn push_word(out: &mut Vec<u8>, word: &[u8]) -> Result<(), OutOfMemory>
-    ensures { OnOk result (out.new.items ≡ out.old.items ++ spaced word.now) }
+pub(crate) fn push_word(out: &mut Vec<u8>, word: Word<'_>) -> Result<(), OutOfMemory>
+    ensures { OnOk result (out.new.items ≡ out.old.items ++ spaced (word_text word.entry)) }
 {
     out.push(b' ')?;
-    out.extend_from_slice(word)?;
-    Ok(())
+    push_word_text(out, word)
 }
 
-/// Appends a number in decimal as a word.
-pub(crate) fn push_number(out: &mut Vec<u8>, n: u64) -> Result<(), OutOfMemory>
-    ensures { OnOk result (out.new.items ≡ out.old.items ++ spaced (dec_text n)) }
+/// Appends words.
+fn push_words(out: &mut Vec<u8>, words: &[Word<'_>]) -> Result<(), OutOfMemory>
+    ensures { OnOk result (out.new.items ≡ out.old.items ++ flat_map (λ w. spaced (word_text w)) words.now) }
 {
-    out.push(b' ')?;
-    push_dec(out, n)
-}
-
-/// Appends so many hexadecimal digits of a number as a word.
-pub(crate) fn push_digits(out: &mut Vec<u8>, n: u32, digits: u8) -> Result<(), OutOfMemory>
-    requires { (1 ≤ digits) × (digits ≤ 8) }
-    ensures { OnOk result (out.new.items ≡ out.old.items ++ spaced (hex_text digits n)) }
-{
-    out.push(b' ')?;
-    push_hex(out, n, digits)
-}
-
-/// Appends a number in decimal as a word, or a dash where there is none.
-fn push_number_or_dash(out: &mut Vec<u8>, n: Option<u64>) -> Result<(), OutOfMemory>
-    ensures { OnOk result (out.new.items ≡ out.old.items ++ spaced (or_dash n)) }
-{
-    match n {
-        Some(n) => push_number(out, n),
-        None => push_word(out, b"-"),
-    }
-}
-
-/// Appends numbers in decimal as words, a dash where there is none.
-fn push_numbers(out: &mut Vec<u8>, numbers: &[Option<u64>]) -> Result<(), OutOfMemory>
-    ensures { OnOk result (out.new.items ≡ out.old.items ++ flat_map (λ n. spaced (or_dash n)) numbers.now) }
-{
-    for n in numbers {
-        push_number_or_dash(out, *n)?;
+    for word in words {
+        push_word(out, *word)?;
     }
     Ok(())
 }
 
-/// Appends a line of a name and numbers.
-#[tactic(auto, unfolding(crate::specs::Report::numbers_line))]
-pub(crate) fn push_numbers_line(
+/// Appends a line of a name and words.
+#[tactic(auto, unfolding(crate::specs::Words::line_of))]
+pub(crate) fn push_line(
     out: &mut Vec<u8>,
     name: &[u8],
-    numbers: &[Option<u64>],
+    words: &[Word<'_>],
 ) -> Result<(), OutOfMemory>
-    ensures { OnOk result (out.new.items ≡ out.old.items ++ numbers_line name.now numbers.now) }
+    ensures { OnOk result (out.new.items ≡ out.old.items ++ line_of name.now words.now) }
 {
     push_text(out, name)?;
-    push_numbers(out, numbers)?;
+    push_words(out, words)?;
     end_line(out)
 }
 
-/// A number of a line.
-pub(crate) fn number(n: u32) -> Option<u64>
-    ensures { result ≡ Some n }
+/// A number as a word.
+pub(crate) fn number(n: u32) -> Word<'static>
+    ensures { result ≡ Number n }
 {
-    Some(u64::from(n))
+    Word::Number(u64::from(n))
 }
 
-/// A number of a line, or none.
-pub(crate) fn number_or_none(n: Option<u32>) -> Option<u64>
-    ensures { result ≡ n }
+/// A number as a word, or a dash where there is none.
+pub(crate) fn number_or_dash(n: Option<u32>) -> Word<'static>
+    ensures { result ≡ number_word n }
 {
-    let n = n?;
-    number(n)
+    n.map_or(Word::Dash, number)
 }
 
-/// An environment's number in a line.
-pub(crate) fn env(env: u8) -> Option<u64>
-    ensures { result ≡ Some env }
+/// An environment's number as a word.
+pub(crate) fn env(env: u8) -> Word<'static>
+    ensures { result ≡ Number env }
 {
-    Some(u64::from(env))
+    Word::Number(u64::from(env))
 }
 
-/// An environment's number in a line, or none.
-pub(crate) fn env_or_none(who: Option<u8>) -> Option<u64>
-    ensures { result ≡ who }
+/// An environment's number as a word, or a dash where there is none.
+pub(crate) fn env_or_dash(who: Option<u8>) -> Word<'static>
+    ensures { result ≡ number_word who }
 {
-    let who = who?;
-    env(who)
-}
-
-/// Appends 1 or 0 as a word.
-pub(crate) fn push_flag(out: &mut Vec<u8>, flag: bool) -> Result<(), OutOfMemory>
-    ensures { OnOk result (out.new.items ≡ out.old.items ++ spaced (flag_text flag)) }
-{
-    push_word(out, if flag { b"1" } else { b"0" })
-}
-
-/// Appends bytes between quotation marks as a word.
-pub(crate) fn push_quotation(out: &mut Vec<u8>, bytes: &[u8]) -> Result<(), OutOfMemory>
-    ensures { OnOk result (out.new.items ≡ out.old.items ++ spaced (quotation bytes.now)) }
-{
-    push_text(out, b" \"")?;
-    push_quoted(out, bytes)?;
-    push_text(out, b"\"")
+    who.map_or(Word::Dash, env)
 }
