@@ -1,3 +1,4 @@
 pub mod Registers
 pub mod Pages
 pub mod Inserting
+pub mod Lines
