@@ -1,11 +1,12 @@
 //! The board before it runs: without programs, and with one more.
-ghost use Rattle.std.specs.Prelude.{◌≡◌, ◌≤◌, ◌<◌, ◌+◌, ◌-◌, ◌++◌, Some, IfOk, IfSome, All, length, map, [], ◌∷◌, slice_set};
+ghost use Rattle.std.specs.Prelude.{◌≡◌, ◌≤◌, ◌<◌, ◌+◌, ◌-◌, ◌*◌, ◌++◌, None, Some, IfOk, IfSome, All, length, map, replicate, [], ◌∷◌, slice_set};
 ghost use Rattle.segment_pages.specs.Pages.{page_numbers};
 ghost use Rattle.boot_image.specs.ImageValue.{guaranteed_mappings};
 ghost use Rattle.env_frames.specs.Context.{no_handlers};
 ghost use Rattle.env_frames.specs.Frame.{IsAbove};
 ghost use Rattle.aegis_limits.specs.Limits.{least_pages, most_pages, least_quantum, most_quantum, most_slots, most_environments, most_mappings};
-ghost use Rattle.frame_store.specs.Pages.{zero_page};
+ghost use Rattle.frame_store.specs.Pages.{zero_page, zeroed};
+ghost use Rattle.bind_book.specs.Stripe.{stripe_rows};
 ghost use Rattle.page_book.specs.declared.row.PageRow.TheVariants.{Free, Guaranteed};
 ghost use Rattle.page_book.specs.Rows.{first_free, free_pages, row_in};
 ghost use Rattle.run_model.specs.Boot.{open_page, body_page, kept_of, own_row, own_rows, bare_world, added};
@@ -235,6 +236,32 @@ fn boot_journal(alloc: Global, slots: &[Option<u8>]) -> Result<Journal, OutOfMem
     Ok(journal)
 }
 
+/// So many pages of zeros, of which nobody owns one and none of so many environments has bound one.
+fn bare_memory(
+    alloc: Global,
+    pages: u32,
+    envs: u8,
+) -> Result<(Frames, Pages, Bindings), OutOfMemory>
+    requires pages { least_pages ≤ pages × pages ≤ most_pages }
+    requires envs { envs ≤ most_environments }
+    ensures { IfOk result (λ m. (m.0 ≡ zeroed pages) × (m.1 ≡ replicate pages Free) × (m.2 ≡ replicate (envs * stripe_rows) None)) }
+{
+    let frames = Frames::new(alloc, pages)?;
+    let rows = Pages::new(alloc, pages)?;
+    let bindings = Bindings::new(alloc, envs)?;
+    Ok((frames, rows, bindings))
+}
+
+/// Room for so many environments, and for what they write.
+fn room_for(alloc: Global, envs: u8) -> Result<(Roster, Consoles), OutOfMemory>
+    requires { envs ≤ most_environments }
+    ensures { IfOk result (λ m. (m.0 ≡ record { list = []; spare = envs }) × (m.1 ≡ replicate envs [])) }
+{
+    let roster = Roster::new(alloc, envs)?;
+    let consoles = Consoles::new(alloc, envs)?;
+    Ok((roster, consoles))
+}
+
 impl Board {
     ghost use Rattle.board_world.specs.Loading.{IsBare};
 
@@ -256,16 +283,19 @@ impl Board {
         ensures world { IfOk result (λ b. world_of b ≡ bare_world pages quantum slots.now) }
         ensures bare { IfOk result (IsBare pages envs) }
     {
+        let (frames, pages, bindings) = bare_memory(alloc, pages, envs)?;
+        let (roster, consoles) = room_for(alloc, envs)?;
+        let journal = boot_journal(alloc, slots)?;
         Ok(Board {
-            frames: Frames::new(alloc, pages)?,
-            pages: Pages::new(alloc, pages)?,
-            bindings: Bindings::new(alloc, envs)?,
+            frames,
+            pages,
+            bindings,
             slots: Slots::new(quantum, slots),
             cpu: Cpu::blank(),
-            roster: Roster::new(alloc, envs)?,
-            consoles: Consoles::new(alloc, envs)?,
+            roster,
+            consoles,
             time: 0,
-            journal: boot_journal(alloc, slots)?,
+            journal,
         })
     }
 

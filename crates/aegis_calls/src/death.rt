@@ -1,5 +1,5 @@
 //! Deaths: what they do to the board's parts.
-ghost use Rattle.std.specs.Prelude.{◌≡◌, ◌≤◌, ◌<◌, ◌+◌, length, Some};
+ghost use Rattle.std.specs.Prelude.{◌≡◌, ◌≤◌, ◌<◌, length, Some};
 ghost use Rattle.kernel_journal.specs.Ledger.{with_row};
 ghost use Rattle.world_model.specs.Book.{running};
 ghost use Rattle.world_model.specs.Verdict.{slot_row};

@@ -1,5 +1,5 @@
 //! Exceptions of the runner, and its handlers: what they do to the board's parts.
-ghost use Rattle.std.specs.Prelude.{◌≡◌, ◌<◌, ◌==◌, if◌then◌else◌, not, None, Some};
+ghost use Rattle.std.specs.Prelude.{◌≡◌, ◌<◌, ◌==◌, if◌then◌else◌, not, Some};
 ghost use Rattle.mips_exec.specs.Cpu.{reg};
 ghost use Rattle.world_model.specs.Book.{running};
 ghost use Rattle.env_frames.specs.Context.{context_numbered};

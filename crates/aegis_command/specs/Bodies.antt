@@ -1,5 +1,5 @@
 -- The bodies of an image, read one after another by the names that its manifest has.
-use Rattle.std.specs.Prelude.{◌≡◌, ◌⊎◌, ℕ, ◌+◌, List, Option, Some, length, map, take, slice_get}
+use Rattle.std.specs.Prelude.{◌≡◌, ◌⊎◌, ℕ, ◌+◌, List, Some, length, map, take, slice_get}
 use Rattle.edge_io.specs.Faults.{one_more}
 use Rattle.boot_manifest.specs.declared.fault.ManifestFault.{ManifestFault}
 use Rattle.boot_manifest.specs.declared.fault.ManifestFault.TheVariants.{At, OutOfMemory}

@@ -1,5 +1,5 @@
 //! The work of `image MANIFEST`.
-ghost use Rattle.std.specs.Prelude.{◌≡◌, ◌<◌, ◌^◌, ◌∷◌, List, IfOk, IfErr, length};
+ghost use Rattle.std.specs.Prelude.{◌≡◌, ◌<◌, ◌^◌, IfOk, IfErr, length};
 ghost use Rattle.std.specs.List.{AllByRecursion};
 ghost use Rattle.boot_manifest.specs.Layout.{IsShort, bodies_seen};
 ghost use Rattle.boot_manifest.specs.ManifestValue.{plan_in};

@@ -1,5 +1,5 @@
 //! The work of a command on one file: `asm SOURCE` and `list ELF`.
-ghost use Rattle.std.specs.Prelude.{◌≡◌, ◌<◌, ◌^◌, [], ◌∷◌, IfOk, IfErr, length};
+ghost use Rattle.std.specs.Prelude.{◌<◌, ◌^◌, [], ◌∷◌, IfOk, IfErr, length};
 ghost use Rattle.aegis_command.specs.Asked.{file_seen};
 ghost use Rattle.aegis_command.specs.Words.{Asm, ListElf};
 ghost use Rattle.aegis_command.specs.Edges.{shelf_edge};

@@ -8,7 +8,7 @@ use Rattle.bind_book.specs.Stripe.{stripes}
 use Rattle.slot_vector.specs.Slices.{excess_of, hold_at}
 use Rattle.world_model.specs.Page.{KeptPage}
 use Rattle.world_model.specs.Book.{Book, is_runner}
-use Rattle.world_model.specs.Solo.{Seen, Solo, absent}
+use Rattle.world_model.specs.Solo.{Solo, absent}
 use Rattle.world_model.specs.World.{World}
 use Rattle.page_sight.specs.Sight.{seen_in}
 use Rattle.board_world.specs.declared.roster.Environment.{Environment}

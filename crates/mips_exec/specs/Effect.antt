@@ -8,7 +8,6 @@ use Rattle.mips_isa.specs.Word.{sign16_of, merged_left, merged_right}
 use Rattle.mips_exec.specs.declared.registers.Cpu.{Cpu}
 use Rattle.mips_exec.specs.declared.change.Change.{Change}
 use Rattle.mips_exec.specs.declared.change.Change.TheVariants.{Puts, PutsHiLo, Passes, Jumps, JumpsAndLinks, Calls, Raises}
-use Rattle.mips_exec.specs.declared.exception.Exc.{Exc}
 use Rattle.mips_exec.specs.declared.exception.ExcCode.TheVariants.{Sys, Bp, Ri, Ov}
 use Rattle.mips_exec.specs.Word.{word_of, signed, fits_signed, is_negative, shifted_with_sign, sign_extended, flag}
 use Rattle.mips_exec.specs.Cpu.{reg, with_reg, with_hi_lo, advanced, jumped, branch_target, jump_target, address_of}

@@ -1,5 +1,5 @@
 //! What a report shows of an environment.
-ghost use Rattle.std.specs.Prelude.{◌≡◌, ◌++◌, ◌∷◌, [], ◌<◌, ◌==◌, codes, OnOk, IfOk, position};
+ghost use Rattle.std.specs.Prelude.{◌≡◌, ◌++◌, ◌∷◌, ◌<◌, ◌==◌, codes, OnOk, IfOk, position};
 ghost use Rattle.line_text.specs.Text.{dec_text};
 ghost use Rattle.boot_image.specs.ImageValue.{name_text};
 ghost use Rattle.run_report.specs.Report.{line, life_words, exception_text, env_line, out_line, excess_line, living_lines, env_text};

@@ -2,7 +2,7 @@
 ghost use Rattle.std.specs.Prelude.{◌≡◌, ◌++◌, ◌<◌, OnOk};
 ghost use Rattle.std.specs.List.{flat_map};
 ghost use Rattle.world_model.specs.Table.{listed};
-ghost use Rattle.run_report.specs.Report.{spaced, shown_cpu, cpu_line, word_text, register_text, regs_line};
+ghost use Rattle.run_report.specs.Report.{spaced, shown_cpu, cpu_line, register_text, regs_line};
 
 use crate::words::{Word, end_line, env, push_line, push_text, push_word};
 use aegis_limits::OutOfMemory;

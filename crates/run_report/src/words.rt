@@ -1,5 +1,5 @@
 //! The words of a line. A line begins with a name, each word after it stands behind a space, and a line feed ends it.
-ghost use Rattle.std.specs.Prelude.{◌≡◌, ◌++◌, ◌∷◌, [], OnOk, map};
+ghost use Rattle.std.specs.Prelude.{◌≡◌, ◌++◌, ◌∷◌, [], OnOk};
 ghost use Rattle.std.specs.List.{flat_map};
 ghost use Rattle.run_report.specs.Report.{quotation, spaced};
 ghost use Rattle.run_report.specs.Words.{number_word, word_text, line_of};

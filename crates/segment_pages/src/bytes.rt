@@ -1,5 +1,5 @@
 //! The bytes of a program's pages.
-ghost use Rattle.std.specs.Prelude.{◌≡◌, ◌<◌, ℕ, ◌+◌, ◌≤◌, fold, slice_index};
+ghost use Rattle.std.specs.Prelude.{◌≡◌, ◌<◌, ℕ, ◌+◌, fold, slice_index};
 ghost use Rattle.aegis_limits.specs.Limits.{page_size};
 ghost use Rattle.elf_static.specs.SegmentSeen.{segment_seen, segments_seen};
 ghost use Rattle.segment_pages.specs.Pages.{page_bytes, byte_over};

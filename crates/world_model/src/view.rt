@@ -63,7 +63,7 @@ pub trait WorldView {
         requires { env < (world self.now).count }
         ensures { option_map view_seen result ≡ slice_get ((world self.now).solos env).kept place };
 
-    /// How many pages of physical memory there are, from 16 to 4,096.
+    /// How many pages of physical memory there are, from 16 to 1,024.
     fn page_count(&self) -> u32
         ensures { result ≡ (world self.now).book.page_count };
 
