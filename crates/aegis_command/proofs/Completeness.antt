@@ -15,16 +15,16 @@ use Rattle.boot_image.specs.Spelling.{image_text}
 use Rattle.boot_manifest.specs.ManifestValue.{files_in, plan_in}
 use Rattle.boot_manifest.specs.Reading.{manifest_fault, manifest_of}
 use Rattle.mips_asm.specs.Assembled.{assembled}
-use Rattle.aegis_command.specs.declared.status.Status.{Status}
-use Rattle.aegis_command.specs.declared.status.Status.TheVariants as status
-use Rattle.aegis_command.specs.declared.work.Answer.{Answer}
-use Rattle.aegis_command.specs.Edges.{ShelfEdge, SinkEdge}
-use Rattle.aegis_command.specs.Words.{Form, Run, Asm, ListElf, MakeImage}
-use Rattle.aegis_command.specs.Files.{names_of, files_named, body_names, AreRead, AreTold}
-use Rattle.aegis_command.specs.Due.{Due, Refusal, Whole, Found, due_of, run_due, asm_due, list_due, image_due, sized_due, made_due, report_after, text_of, status_of}
-use Rattle.aegis_command.specs.Outcome.{Decided, IsWhole, IsPart, Outcome, Finished}
+use Rattle.command_work.specs.declared.status.Status.{Status}
+use Rattle.command_work.specs.declared.status.Status.TheVariants as status
+use Rattle.command_work.specs.declared.work.Answer.{Answer}
+use Rattle.command_work.specs.Edges.{ShelfEdge, SinkEdge}
+use Rattle.command_work.specs.Words.{Form, Run, Asm, ListElf, MakeImage}
+use Rattle.command_work.specs.Files.{names_of, files_named, body_names, AreRead, AreTold}
+use Rattle.command_work.specs.Due.{Due, Refusal, Whole, Found, due_of, run_due, asm_due, list_due, image_due, sized_due, made_due, report_after, text_of, status_of}
+use Rattle.command_work.specs.Outcome.{Decided, IsWhole, IsPart, Outcome, Finished}
 use Rattle.aegis_command.specs.Headline.{NoFault, Ends, IsComplete, IsHeadline, IsAssembler, IsLister, IsImager, IsTaken}
-use Rattle.aegis_command.specs.Work.{Performed}
+use Rattle.command_work.specs.Work.{Performed}
 
 -- what is read of told files is what is told
 same_contents : (files : List ℕ → Option (List ℕ)) (names xs ys : List (List ℕ)) → AreRead (Some files) names xs → AreRead (Some files) names ys → xs ≡ ys

@@ -1,5 +1,2 @@
 pub mod Texts
 pub mod Completeness
-pub mod Decisions
-pub mod Stops
-pub mod InOrder

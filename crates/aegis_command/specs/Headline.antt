@@ -14,12 +14,12 @@ use Rattle.boot_image.specs.ImageValue.{image_of}
 use Rattle.boot_image.specs.ScheduleFaults.{schedule_fault}
 use Rattle.edge_io.specs.Faults.{Rose}
 use Rattle.edge_io.specs.Written.{Appends}
-use Rattle.aegis_command.specs.declared.status.Status.{Status}
-use Rattle.aegis_command.specs.declared.status.Status.TheVariants as status
-use Rattle.aegis_command.specs.Edges.{ShelfEdge, SinkEdge}
-use Rattle.aegis_command.specs.Words.{Form, Run, Asm, ListElf, MakeImage}
-use Rattle.aegis_command.specs.Files.{names_of, AreRead, AreTold, IsServed}
-use Rattle.aegis_command.specs.Due.{Due, due_of, report_after, status_of, text_of, usage_text}
+use Rattle.command_work.specs.declared.status.Status.{Status}
+use Rattle.command_work.specs.declared.status.Status.TheVariants as status
+use Rattle.command_work.specs.Edges.{ShelfEdge, SinkEdge}
+use Rattle.command_work.specs.Words.{Form, Run, Asm, ListElf, MakeImage}
+use Rattle.command_work.specs.Files.{names_of, AreRead, AreTold, IsServed}
+use Rattle.command_work.specs.Due.{Due, due_of, report_after, status_of, text_of, usage_text}
 
 -- neither count of faults rose in the call
 pub record NoFault (s : ShelfEdge) (k : SinkEdge) : Type 0 where

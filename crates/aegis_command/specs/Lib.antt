@@ -1,11 +1,1 @@
-pub mod Exit
-pub mod Words
-pub mod Asked
-pub mod Edges
-pub mod Files
-pub mod Due
-pub mod Outcome
-pub mod Work
-pub mod Bodies
-pub mod Stopping
 pub mod Headline

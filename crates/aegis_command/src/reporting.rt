@@ -1,24 +1,21 @@
 //! The work of `run IMAGE SCHEDULE TICKS`.
 ghost use Rattle.std.specs.Prelude.{◌≡◌, ◌≤◌, ◌<◌, ◌^◌, [], ◌∷◌, IfOk, IfErr, length};
-ghost use Rattle.aegis_command.specs.Asked.{run_seen};
+ghost use Rattle.command_work.specs.Asked.{run_seen};
 ghost use Rattle.aegis_limits.specs.Limits.{most_ticks};
-ghost use Rattle.aegis_command.specs.Edges.{shelf_edge};
-ghost use Rattle.aegis_command.specs.Due.{due_of, report_after as report_text_after};
-ghost use Rattle.aegis_command.specs.Work.{IsSettled, Performed, RunRead, Stopped, StopsByWantAlone};
-ghost use Rattle.edge_io.specs.Limits.{file_limit};
+ghost use Rattle.command_work.specs.Edges.{shelf_edge};
+ghost use Rattle.command_work.specs.Due.{due_of, report_after as report_text_after};
+ghost use Rattle.command_work.specs.Work.{IsSettled, Performed, Stopped, StopsByWantAlone};
 
-use crate::status::Status;
-use crate::words::RunWords;
-use crate::work::{Answer, Stop};
+use aegis_limits::OutOfMemory;
 use aegis_tick::{boot, run};
 use boot_image::{Image, check_schedule, read_image};
-use aegis_limits::OutOfMemory;
+use command_work::{Answer, RunWords, Status, Stop, read_run};
 use edge_io::Shelf;
 use run_report::report;
 use std::alloc::Global;
 
 /// The report of a run of so many ticks.
-#[tactic(auto, unfolding(crate::specs::Due::report_after))]
+#[tactic(auto, unfolding(command_work::specs::Due::report_after))]
 fn report_after(alloc: Global, image: &Image<'_>, ticks: u32) -> Result<Vec<u8>, OutOfMemory>
     requires { ticks ≤ most_ticks }
     ensures { IfOk result (λ text. text.items ≡ report_text_after image.now ticks) }
@@ -53,25 +50,6 @@ fn due_run(
         text,
         status: Status::Done,
     })
-}
-
-/// What the files of a run hold.
-#[derive(Drop)]
-struct RunFiles {
-    image: Vec<u8>,
-    schedule: Vec<u8>,
-}
-
-/// Reads the files of a run.
-fn read_run<S: Shelf>(alloc: Global, words: RunWords<'_>, shelf: &mut S) -> Result<RunFiles, Stop>
-    ensures ok { IfOk result (RunRead (run_seen words.entry) (shelf_edge S.Shelf shelf.old shelf.new)) }
-    ensures err { IfErr result (Stopped (run_seen words.entry) (shelf_edge S.Shelf shelf.old shelf.new)) }
-    ensures sure { S.Serves shelf.old words.entry.image.now → S.Serves shelf.old words.entry.schedule.now → StopsByWantAlone result }
-    ensures within_limit { IfOk result (λ files. length files.image.items ≤ file_limit) }
-{
-    let image = shelf.read(alloc, words.image)?;
-    let schedule = shelf.read(alloc, words.schedule)?;
-    Ok(RunFiles { image, schedule })
 }
 
 /// Reads the files of a run, and does its work.

@@ -1,13 +1,12 @@
 //! The top call.
 ghost use Rattle.std.specs.Prelude.{◌≡◌, IfNone, length};
-ghost use Rattle.aegis_command.specs.Asked.{form_of_words};
-ghost use Rattle.aegis_command.specs.Edges.{shelf_edge, sink_edge};
-ghost use Rattle.aegis_command.specs.Outcome.{Finished, IsOutcome, IsUsage};
+ghost use Rattle.command_work.specs.Asked.{form_of_words};
+ghost use Rattle.command_work.specs.Edges.{shelf_edge, sink_edge};
+ghost use Rattle.command_work.specs.Outcome.{Finished, IsOutcome, IsUsage};
 ghost use Rattle.aegis_command.specs.Headline.{IsAssembler, IsComplete, IsGiven, IsHeadline, IsImager, IsLister, IsTaken};
 
-use crate::status::Status;
-use crate::words::parse;
-use crate::work::{Stop, perform};
+use crate::work::perform;
+use command_work::{Status, Stop, parse};
 use edge_io::{Shelf, Sink, write_whole};
 use std::alloc::Global;
 

@@ -1,10 +1,10 @@
 -- The answer is what is due for what was read.
 use Rattle.std.proofs.Common.{◌≡◌, ℕ, List, [], ◌∷◌, subst}
-use Rattle.aegis_command.specs.Asked.{run_seen}
-use Rattle.aegis_command.specs.Due.{due_of}
-use Rattle.aegis_command.specs.Work.{IsSettled}
-use Rattle.aegis_command.proofs.Decisions.{performed}
-use Rattle.aegis_command.proofs.Stops.{stopped_by_want}
+use Rattle.command_work.specs.Asked.{run_seen}
+use Rattle.command_work.specs.Due.{due_of}
+use Rattle.command_work.specs.Work.{IsSettled}
+use Rattle.command_work.proofs.Decisions.{performed}
+use Rattle.command_work.proofs.Stops.{stopped_by_want}
 use Rattle.aegis_command.proofs.reporting.perform_run.Goals as goal
 
 pub returns-clause-ok : goal.returns-clause-ok

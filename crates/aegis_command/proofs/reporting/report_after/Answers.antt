@@ -5,7 +5,7 @@ use Rattle.run_model.specs.Run.{run_on, world_after, end_of_run}
 use Rattle.run_report.specs.Report.{report_text}
 use Rattle.board_world.specs.Showing.{world_of}
 use Rattle.kernel_journal.specs.declared.row.RunEnd.{RunEnd}
-use Rattle.aegis_command.specs.Due.{report_after}
+use Rattle.command_work.specs.Due.{report_after}
 use Rattle.aegis_command.proofs.Texts.{same_text}
 use Rattle.aegis_command.proofs.reporting.report_after.Goals as goal
 

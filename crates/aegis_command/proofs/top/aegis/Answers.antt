@@ -1,5 +1,5 @@
 -- Completeness, the headline and what asm writes follow from what holds by the status.
-use Rattle.aegis_command.specs.Asked.{form_of_words}
+use Rattle.command_work.specs.Asked.{form_of_words}
 use Rattle.aegis_command.proofs.Completeness.{is_complete, is_headline, is_assembler, is_lister, is_imager}
 use Rattle.aegis_command.proofs.top.aegis.Goals as goal
 

@@ -1,10 +1,10 @@
 -- What is written is what is due, and a sink that takes that gives no fault.
 use Rattle.std.proofs.Common.{Option, Some, IfSome, subst}
-use Rattle.aegis_command.specs.Edges.{ShelfEdge, SinkEdge, shelf_edge, sink_edge}
-use Rattle.aegis_command.specs.Words.{Form}
-use Rattle.aegis_command.specs.Asked.{form_seen}
+use Rattle.command_work.specs.Edges.{ShelfEdge, SinkEdge, shelf_edge, sink_edge}
+use Rattle.command_work.specs.Words.{Form}
+use Rattle.command_work.specs.Asked.{form_seen}
 use Rattle.aegis_command.specs.Headline.{IsTaken}
-use Rattle.aegis_command.specs.Outcome.{Outcome}
+use Rattle.command_work.specs.Outcome.{Outcome}
 use Rattle.aegis_command.proofs.Completeness.{is_taken, is_outcome}
 use Rattle.aegis_command.proofs.top.respond.Goals as goal
 

@@ -5,13 +5,13 @@ use Rattle.boot_manifest.specs.declared.fault.ManifestFault.{ManifestFault}
 use Rattle.boot_manifest.specs.declared.fault.ManifestFault.TheVariants.{At, OutOfMemory}
 use Rattle.boot_manifest.specs.ManifestValue.{ManifestEntry}
 use Rattle.boot_manifest.specs.Names.{manifest_why_text}
-use Rattle.aegis_command.specs.declared.work.Answer.{Answer}
-use Rattle.aegis_command.specs.declared.work.Stop.{Stop}
-use Rattle.aegis_command.specs.declared.work.Stop.TheVariants as stop
-use Rattle.aegis_command.specs.Due.{Refusal, refusal_text}
-use Rattle.aegis_command.specs.Edges.{ShelfEdge}
-use Rattle.aegis_command.specs.Files.{AreRead}
-use Rattle.aegis_command.specs.Work.{Settles}
+use Rattle.command_work.specs.declared.work.Answer.{Answer}
+use Rattle.command_work.specs.declared.work.Stop.{Stop}
+use Rattle.command_work.specs.declared.work.Stop.TheVariants as stop
+use Rattle.command_work.specs.Due.{Refusal, refusal_text}
+use Rattle.command_work.specs.Edges.{ShelfEdge}
+use Rattle.command_work.specs.Files.{AreRead}
+use Rattle.command_work.specs.Work.{Settles}
 
 -- the files of entries
 abbrev pub entry_files : List ManifestEntry → List (List ℕ)

@@ -1,13 +1,10 @@
 -- What was read is what the shelf tells, and the answer is what is due for it.
-use Rattle.std.proofs.Common.{◌≡◌, ℕ, List, [], ◌∷◌, sym, subst, refl}
+use Rattle.std.proofs.Common.{[], ◌∷◌, sym, subst, refl}
 use Rattle.edge_io.specs.Reads.{Tells}
-use Rattle.aegis_command.specs.declared.words.FileCommand.{FileCommand}
-use Rattle.aegis_command.specs.declared.words.FileCommand.TheVariants.{Assemble, List as ListFile}
-use Rattle.aegis_command.specs.Asked.{file_seen}
-use Rattle.aegis_command.specs.Files.{names_of}
-use Rattle.aegis_command.proofs.Decisions.{performed}
-use Rattle.aegis_command.proofs.Stops.{stopped_by_read, stopped_by_want, one_read, one_asked}
-use Rattle.aegis_command.proofs.one_file.perform_file.Goals as goal
+use Rattle.command_work.specs.Asked.{file_seen}
+use Rattle.command_work.proofs.Decisions.{performed}
+use Rattle.command_work.proofs.Stops.{stopped_by_read, stopped_by_want, one_read, one_asked}
+use Rattle.command_work.proofs.one_file.perform_file.Goals as goal
 
 pub returns-clause-ok : goal.returns-clause-ok
 returns-clause-ok g c =

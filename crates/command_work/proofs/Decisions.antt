@@ -1,11 +1,11 @@
 -- What was decided, of what was read and what is due for it.
-use Rattle.std.proofs.Common.{◌≡◌, List, ℕ, Option, Some, None, refl}
-use Rattle.aegis_command.specs.declared.work.Answer.{Answer}
-use Rattle.aegis_command.specs.Edges.{ShelfEdge}
-use Rattle.aegis_command.specs.Words.{Form}
-use Rattle.aegis_command.specs.Files.{WereRead}
-use Rattle.aegis_command.specs.Due.{due_of}
-use Rattle.aegis_command.specs.Work.{IsSettled, Performed}
+use Rattle.std.proofs.Common.{◌≡◌, List, ℕ, Some, None, refl}
+use Rattle.command_work.specs.declared.work.Answer.{Answer}
+use Rattle.command_work.specs.Edges.{ShelfEdge}
+use Rattle.command_work.specs.Words.{Form}
+use Rattle.command_work.specs.Files.{WereRead}
+use Rattle.command_work.specs.Due.{due_of}
+use Rattle.command_work.specs.Work.{IsSettled, Performed}
 
 -- the answer to all files is what is due for them
 pub performed : (form : Form) (s : ShelfEdge) (contents : List (List ℕ)) (answer : Answer) → WereRead form s contents → IsSettled (due_of form contents) answer → Performed form s answer

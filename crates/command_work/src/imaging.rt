@@ -4,18 +4,18 @@ ghost use Rattle.std.specs.List.{AllByRecursion};
 ghost use Rattle.boot_manifest.specs.Layout.{IsShort, bodies_seen};
 ghost use Rattle.boot_manifest.specs.ManifestValue.{plan_in};
 ghost use Rattle.boot_image.specs.Spelling.{image_text};
-ghost use Rattle.aegis_command.specs.Bodies.{BodiesRead, BodiesStopped, IsManifestRefused, entry_files};
-ghost use Rattle.aegis_command.specs.Words.{MakeImage};
-ghost use Rattle.aegis_command.specs.Edges.{shelf_edge};
-ghost use Rattle.aegis_command.specs.Due.{sized_due};
-ghost use Rattle.aegis_command.specs.Files.{IsServed};
-ghost use Rattle.aegis_command.specs.Work.{Performed, Settles, Stopped, StopsByWantAlone};
+ghost use Rattle.command_work.specs.Bodies.{BodiesRead, BodiesStopped, IsManifestRefused, entry_files};
+ghost use Rattle.command_work.specs.Words.{MakeImage};
+ghost use Rattle.command_work.specs.Edges.{shelf_edge};
+ghost use Rattle.command_work.specs.Due.{sized_due};
+ghost use Rattle.command_work.specs.Files.{IsServed};
+ghost use Rattle.command_work.specs.Work.{Performed, Settles, Stopped, StopsByWantAlone};
 
 use crate::status::Status;
 use crate::work::{Answer, Stop};
+use aegis_limits::OutOfMemory;
 use boot_image::{ImageWhy, read_image};
 use boot_manifest::{Entry, Manifest, ManifestFault, image_length, read_manifest, write_image};
-use aegis_limits::OutOfMemory;
 use edge_io::Shelf;
 use std::alloc::Global;
 

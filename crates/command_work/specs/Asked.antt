@@ -1,13 +1,13 @@
 -- What the words ask for, as the code holds it.
 use Rattle.std.specs.Prelude.{◌≤◌, ℕ, List, Option, String, map, string_bytes}
 use Rattle.std.specs.Global.{Global}
-use Rattle.aegis_command.specs.declared.words.RunWords.{RunWords}
-use Rattle.aegis_command.specs.declared.words.Words.{Words}
-use Rattle.aegis_command.specs.declared.words.Words.TheVariants as words
-use Rattle.aegis_command.specs.declared.words.FileCommand.{FileCommand}
-use Rattle.aegis_command.specs.declared.words.FileCommand.TheVariants.{Assemble, List as ListFile}
+use Rattle.command_work.specs.declared.words.RunWords.{RunWords}
+use Rattle.command_work.specs.declared.words.Words.{Words}
+use Rattle.command_work.specs.declared.words.Words.TheVariants as words
+use Rattle.command_work.specs.declared.words.FileCommand.{FileCommand}
+use Rattle.command_work.specs.declared.words.FileCommand.TheVariants.{Assemble, List as ListFile}
 use Rattle.aegis_limits.specs.Limits.{most_ticks}
-use Rattle.aegis_command.specs.Words.{Form, Run, Asm, ListElf, MakeImage, form_of}
+use Rattle.command_work.specs.Words.{Form, Run, Asm, ListElf, MakeImage, form_of}
 
 -- the form of the words after the program's name, if they are one
 abbrev pub form_of_words : List (String Global) → Option Form

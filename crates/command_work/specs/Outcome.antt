@@ -2,12 +2,12 @@
 use Rattle.std.specs.Prelude.{◌≡◌, ◌⊎◌, ℕ, List, Option, Some, IfSome, IfNone}
 use Rattle.edge_io.specs.Faults.{one_more}
 use Rattle.edge_io.specs.Written.{Appends, AppendsPart}
-use Rattle.aegis_command.specs.declared.status.Status.{Status}
-use Rattle.aegis_command.specs.declared.status.Status.TheVariants as status
-use Rattle.aegis_command.specs.Edges.{ShelfEdge, SinkEdge}
-use Rattle.aegis_command.specs.Words.{Form}
-use Rattle.aegis_command.specs.Files.{WereRead, FailedAt, CameFar}
-use Rattle.aegis_command.specs.Due.{Due, due_of, text_of, status_of, usage_text}
+use Rattle.command_work.specs.declared.status.Status.{Status}
+use Rattle.command_work.specs.declared.status.Status.TheVariants as status
+use Rattle.command_work.specs.Edges.{ShelfEdge, SinkEdge}
+use Rattle.command_work.specs.Words.{Form}
+use Rattle.command_work.specs.Files.{WereRead, FailedAt, CameFar}
+use Rattle.command_work.specs.Due.{Due, due_of, text_of, status_of, usage_text}
 
 -- All files were read, and this is due for what they hold.
 pub record Decided (form : Form) (s : ShelfEdge) : Type 0 where

@@ -3,9 +3,9 @@ use Rattle.std.proofs.Common.{◌≡◌, ℕ, List, length, take}
 use Rattle.std.specs.List.{AllByRecursion}
 use Rattle.edge_io.specs.Reads.{AreAsked}
 use Rattle.boot_manifest.specs.Layout.{IsShort, bodies_seen}
-use Rattle.aegis_command.specs.Bodies.{entry_files}
-use Rattle.aegis_command.specs.Files.{AreRead}
-use Rattle.aegis_command.proofs.imaging.read_bodies.Given as goal
+use Rattle.command_work.specs.Bodies.{entry_files}
+use Rattle.command_work.specs.Files.{AreRead}
+use Rattle.command_work.proofs.imaging.read_bodies.Given as goal
 
 abbrev pub invariant-loop-entry : goal.invariant-loop-entry
 invariant-loop-entry g l = record {

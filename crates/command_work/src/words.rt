@@ -1,8 +1,8 @@
 //! The words of the command line.
 ghost use Rattle.std.specs.Prelude.{◌≡◌, IfSome};
 ghost use Rattle.std.specs.Option.{option_map};
-ghost use Rattle.aegis_command.specs.Words.{one_file_form, ticks_of};
-ghost use Rattle.aegis_command.specs.Asked.{form_of_words, form_seen, IsWithin};
+ghost use Rattle.command_work.specs.Words.{one_file_form, ticks_of};
+ghost use Rattle.command_work.specs.Asked.{form_of_words, form_seen, IsWithin};
 
 use aegis_limits::MOST_TICKS;
 use line_text::decimal;

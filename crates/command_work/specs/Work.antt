@@ -1,14 +1,14 @@
 -- What the work of a form gives, before anything is written.
 use Rattle.std.specs.Prelude.{◌≡◌, [], ◌∷◌, Option, IsSomeAnd, Result, IfErr}
-use Rattle.aegis_command.specs.declared.work.Answer.{Answer}
-use Rattle.aegis_command.specs.declared.work.Stop.{Stop}
-use Rattle.aegis_command.specs.declared.work.Stop.TheVariants as stop
-use Rattle.aegis_command.specs.declared.reporting.RunFiles.{RunFiles}
-use Rattle.aegis_command.specs.Edges.{ShelfEdge}
-use Rattle.aegis_command.specs.Words.{Form}
-use Rattle.aegis_command.specs.Files.{WereRead, FailedAt, CameFar}
-use Rattle.aegis_command.specs.Due.{Due, text_of, status_of}
-use Rattle.aegis_command.specs.Outcome.{Decided}
+use Rattle.command_work.specs.declared.work.Answer.{Answer}
+use Rattle.command_work.specs.declared.work.Stop.{Stop}
+use Rattle.command_work.specs.declared.work.Stop.TheVariants as stop
+use Rattle.command_work.specs.declared.run_files.RunFiles.{RunFiles}
+use Rattle.command_work.specs.Edges.{ShelfEdge}
+use Rattle.command_work.specs.Words.{Form}
+use Rattle.command_work.specs.Files.{WereRead, FailedAt, CameFar}
+use Rattle.command_work.specs.Due.{Due, text_of, status_of}
+use Rattle.command_work.specs.Outcome.{Decided}
 
 -- the answer is what is due, with its status
 pub record Settles (due : Due) (answer : Answer) : Type 0 where

@@ -1,5 +1,5 @@
 -- Reads one after another.
-use Rattle.std.proofs.Common.{◌≡◌, ℕ, zero, suc, ◌+◌, ◌<◌, List, [], ◌∷◌, ◌++◌, Option, Some, None, length, map, take, Result, Ok, Err, IfErr, IsErrAnd, inl, inr, refl, sym, ◌∙◌, ap, subst, arith, add-one}
+use Rattle.std.proofs.Common.{◌≡◌, ℕ, zero, suc, ◌+◌, ◌<◌, List, [], ◌∷◌, ◌++◌, Option, Some, None, length, take, Result, Ok, Err, IfErr, IsErrAnd, inl, inr, refl, sym, ◌∙◌, ap, subst, arith, add-one}
 use Rattle.std.specs.Prelude.{Vec, slice_get, slice_index_or}
 use Rattle.std.proofs.lemmas.List.{length-append}
 use Rattle.boot_manifest.specs.ManifestValue.{ManifestEntry}
@@ -13,19 +13,19 @@ use Rattle.edge_io.specs.declared.shelf.Shelf.{Ghosts as OfShelf}
 use Rattle.boot_manifest.specs.declared.fault.ManifestFault.{ManifestFault}
 use Rattle.boot_manifest.specs.declared.fault.ManifestFault.TheVariants as manifest
 use Rattle.boot_manifest.specs.Layout.{IsShort}
-use Rattle.boot_manifest.specs.ManifestValue.{ManifestValue, files_in, plan_in}
+use Rattle.boot_manifest.specs.ManifestValue.{ManifestValue, plan_in}
 use Rattle.boot_manifest.specs.Reading.{IsFirst, manifest_fault, manifest_of}
 use Rattle.boot_image.specs.Spelling.{image_text}
-use Rattle.aegis_command.specs.declared.work.Answer.{Answer}
-use Rattle.aegis_command.specs.declared.work.Stop.{Stop}
-use Rattle.aegis_command.specs.declared.work.Stop.TheVariants as stop
-use Rattle.aegis_command.specs.Bodies.{BodiesRead, BodiesSoFar, BodyFailed, BodyWanting, BodiesStopped, IsManifestRefused, entry_files}
-use Rattle.aegis_command.specs.Due.{Due, Refusal, image_due, sized_due}
-use Rattle.aegis_command.specs.Edges.{ShelfEdge, shelf_edge}
-use Rattle.aegis_command.specs.Files.{AreRead, CameFar, FailedAt, WereRead, files_named}
-use Rattle.aegis_command.specs.Stopping.{stop_of}
-use Rattle.aegis_command.specs.Words.{MakeImage}
-use Rattle.aegis_command.specs.Work.{Performed, Settles, Stopped, StopsByWantAlone}
+use Rattle.command_work.specs.declared.work.Answer.{Answer}
+use Rattle.command_work.specs.declared.work.Stop.{Stop}
+use Rattle.command_work.specs.declared.work.Stop.TheVariants as stop
+use Rattle.command_work.specs.Bodies.{BodiesRead, BodiesSoFar, BodiesStopped, IsManifestRefused, entry_files}
+use Rattle.command_work.specs.Due.{Refusal, image_due, sized_due}
+use Rattle.command_work.specs.Edges.{ShelfEdge, shelf_edge}
+use Rattle.command_work.specs.Files.{AreRead, CameFar, WereRead, files_named}
+use Rattle.command_work.specs.Stopping.{stop_of}
+use Rattle.command_work.specs.Words.{MakeImage}
+use Rattle.command_work.specs.Work.{Performed, Settles, Stopped, StopsByWantAlone}
 
 -- one name more of a list
 take_next : (names : List (List ℕ)) (i : ℕ) (name : List ℕ) → slice_get names i ≡ Some name → take (i + 1) names ≡ take i names ++ name ∷ []

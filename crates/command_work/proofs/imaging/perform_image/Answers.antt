@@ -1,20 +1,19 @@
 -- The manifest was read first, then its bodies, and the answer is what is due for them.
-use Rattle.std.proofs.Common.{◌≡◌, ℕ, List, [], ◌∷◌, Option, map, sym, ◌∙◌, ap, subst, refl}
+use Rattle.std.proofs.Common.{◌≡◌, ℕ, List, [], ◌∷◌, sym, ◌∙◌, ap, subst, refl}
 use Rattle.std.specs.List.{AllByRecursion}
 use Rattle.edge_io.specs.Reads.{Tells}
 use Rattle.boot_manifest.specs.Layout.{bodies_seen}
-use Rattle.boot_manifest.specs.ManifestValue.{ManifestEntry, ManifestValue, files_in, plan_in}
+use Rattle.boot_manifest.specs.ManifestValue.{ManifestValue, files_in, plan_in}
 use Rattle.boot_manifest.specs.Reading.{manifest_fault}
 use Rattle.boot_image.specs.Spelling.{image_text}
-use Rattle.aegis_command.specs.Bodies.{entry_files}
-use Rattle.aegis_command.specs.Due.{sized_due}
-use Rattle.aegis_command.specs.Edges.{ShelfEdge, shelf_edge}
-use Rattle.aegis_command.specs.Files.{files_named}
-use Rattle.aegis_command.specs.Words.{MakeImage}
-use Rattle.aegis_command.specs.Work.{Settles}
-use Rattle.aegis_command.proofs.InOrder.{all_serve, bodies_stopped, bodies_were_read, image_settled, manifest_refused, manifest_wants, stops_alike, stops_by_want}
-use Rattle.aegis_command.proofs.Stops.{stopped_by_read, stopped_by_want, wanting}
-use Rattle.aegis_command.proofs.imaging.perform_image.Goals as goal
+use Rattle.command_work.specs.Bodies.{entry_files}
+use Rattle.command_work.specs.Due.{sized_due}
+use Rattle.command_work.specs.Files.{files_named}
+use Rattle.command_work.specs.Words.{MakeImage}
+use Rattle.command_work.specs.Work.{Settles}
+use Rattle.command_work.proofs.InOrder.{all_serve, bodies_stopped, bodies_were_read, image_settled, manifest_refused, manifest_wants, stops_alike, stops_by_want}
+use Rattle.command_work.proofs.Stops.{stopped_by_read, stopped_by_want, wanting}
+use Rattle.command_work.proofs.imaging.perform_image.Goals as goal
 
 pub returns-in_err-text-clause-err : goal.returns-in_err-text-clause-err
 returns-in_err-text-clause-err g c =

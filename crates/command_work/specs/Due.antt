@@ -15,8 +15,8 @@ use Rattle.boot_image.specs.ScheduleFaults.{schedule_fault}
 use Rattle.line_text.specs.Text.{dec_text}
 use Rattle.run_report.specs.Report.{report_text}
 use Rattle.run_model.specs.Run.{world_after, end_of_run}
-use Rattle.aegis_command.specs.declared.status.Status.{Status}
-use Rattle.aegis_command.specs.declared.status.Status.TheVariants as status
+use Rattle.command_work.specs.declared.status.Status.{Status}
+use Rattle.command_work.specs.declared.status.Status.TheVariants as status
 use Rattle.elf_static.specs.declared.fault.ElfFault.{ElfFault}
 use Rattle.elf_static.specs.ElfFaults.{elf_fault}
 use Rattle.elf_static.specs.ElfNames.{elf_why_text}
@@ -29,7 +29,7 @@ use Rattle.boot_manifest.specs.declared.fault.ManifestFault.TheVariants as manif
 use Rattle.boot_manifest.specs.ManifestValue.{plan_in}
 use Rattle.boot_manifest.specs.Names.{manifest_why_text}
 use Rattle.boot_manifest.specs.Reading.{manifest_fault, manifest_of}
-use Rattle.aegis_command.specs.Words.{Form, Run, Asm, ListElf, MakeImage}
+use Rattle.command_work.specs.Words.{Form, Run, Asm, ListElf, MakeImage}
 
 -- what is due: a refusal, the output, or an output that says that something was found
 pub data Due : Type 0 where

@@ -1,7 +1,7 @@
 -- The statuses with which the program ends.
 use Rattle.std.specs.Prelude.{ℕ}
-use Rattle.aegis_command.specs.declared.status.Status.{Status}
-use Rattle.aegis_command.specs.declared.status.Status.TheVariants.{Done, Found, Usage, Refused, ReadFault, WriteFault, OutOfMemory}
+use Rattle.command_work.specs.declared.status.Status.{Status}
+use Rattle.command_work.specs.declared.status.Status.TheVariants.{Done, Found, Usage, Refused, ReadFault, WriteFault, OutOfMemory}
 
 abbrev pub exit_code : Status → ℕ
 exit_code Done = 0

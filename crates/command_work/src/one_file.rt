@@ -1,16 +1,16 @@
 //! The work of a command on one file: `asm SOURCE` and `list ELF`.
 ghost use Rattle.std.specs.Prelude.{◌<◌, ◌^◌, [], ◌∷◌, IfOk, IfErr, length};
-ghost use Rattle.aegis_command.specs.Asked.{file_seen};
-ghost use Rattle.aegis_command.specs.Words.{Asm, ListElf};
-ghost use Rattle.aegis_command.specs.Edges.{shelf_edge};
-ghost use Rattle.aegis_command.specs.Due.{due_of};
-ghost use Rattle.aegis_command.specs.Work.{IsSettled, Performed, Stopped, StopsByWantAlone};
+ghost use Rattle.command_work.specs.Asked.{file_seen};
+ghost use Rattle.command_work.specs.Words.{Asm, ListElf};
+ghost use Rattle.command_work.specs.Edges.{shelf_edge};
+ghost use Rattle.command_work.specs.Due.{due_of};
+ghost use Rattle.command_work.specs.Work.{IsSettled, Performed, Stopped, StopsByWantAlone};
 
 use crate::status::Status;
 use crate::words::FileCommand;
 use crate::work::{Answer, Stop};
-use asm_parse::AsmFault;
 use aegis_limits::OutOfMemory;
+use asm_parse::AsmFault;
 use edge_io::Shelf;
 use elf_static::{read, write};
 use mips_asm::assemble;

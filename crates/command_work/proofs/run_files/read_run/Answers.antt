@@ -1,9 +1,9 @@
 -- What was read is what the shelf tells, and a read that gave nothing was the last.
-use Rattle.std.proofs.Common.{◌≡◌, ℕ, List, [], ◌∷◌, Option, ◌∙◌, subst, refl}
+use Rattle.std.proofs.Common.{ℕ, List, [], ◌∷◌, Option, ◌∙◌, subst, refl}
 use Rattle.edge_io.specs.Reads.{Tells}
-use Rattle.aegis_command.specs.Asked.{run_seen}
-use Rattle.aegis_command.proofs.Stops.{stopped_by_read}
-use Rattle.aegis_command.proofs.reporting.read_run.Goals as goal
+use Rattle.command_work.specs.Asked.{run_seen}
+use Rattle.command_work.proofs.Stops.{stopped_by_read}
+use Rattle.command_work.proofs.run_files.read_run.Goals as goal
 
 pub returns-clause-ok : goal.returns-clause-ok
 returns-clause-ok g c =

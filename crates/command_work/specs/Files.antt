@@ -6,8 +6,8 @@ use Rattle.edge_io.specs.Reads.{Tells}
 use Rattle.boot_manifest.specs.declared.fault.ManifestFault.{ManifestFault}
 use Rattle.boot_manifest.specs.ManifestValue.{files_in}
 use Rattle.boot_manifest.specs.Reading.{manifest_fault, manifest_of}
-use Rattle.aegis_command.specs.Edges.{ShelfEdge}
-use Rattle.aegis_command.specs.Words.{Form, Run, Asm, ListElf, MakeImage}
+use Rattle.command_work.specs.Edges.{ShelfEdge}
+use Rattle.command_work.specs.Words.{Form, Run, Asm, ListElf, MakeImage}
 
 -- the files that a manifest without fault names
 abbrev pub files_named : List ℕ → Option ManifestFault → List (List ℕ)

@@ -1,21 +1,21 @@
 -- Where the work of a form stops.
-use Rattle.std.proofs.Common.{◌≡◌, ℕ, List, [], ◌∷◌, refl, Option, Some, Result, Ok, Err, IfErr, IsErrAnd, inl, inr, sym, ◌∙◌, ap, subst}
+use Rattle.std.proofs.Common.{◌≡◌, ℕ, List, [], ◌∷◌, refl, Some, Result, Ok, Err, IfErr, IsErrAnd, inl, inr, sym, ◌∙◌, ap, subst}
 use Rattle.std.specs.Prelude.{Vec}
 use Rattle.std.specs.Global.{Global}
 use Rattle.edge_io.specs.Faults.{one_more}
 use Rattle.edge_io.specs.Reads.{OnFailed, Tells, UnlessFailed}
-use Rattle.aegis_command.specs.declared.words.FileCommand.{FileCommand}
-use Rattle.aegis_command.specs.declared.words.FileCommand.TheVariants.{Assemble, List as ListFile}
-use Rattle.aegis_command.specs.Asked.{file_seen}
+use Rattle.command_work.specs.declared.words.FileCommand.{FileCommand}
+use Rattle.command_work.specs.declared.words.FileCommand.TheVariants.{Assemble, List as ListFile}
+use Rattle.command_work.specs.Asked.{file_seen}
 use Rattle.edge_io.specs.declared.shelf.ReadFail.{ReadFail}
 use Rattle.edge_io.specs.declared.shelf.ReadFail.TheVariants.{Failed, OutOfMemory}
-use Rattle.aegis_command.specs.declared.work.Stop.{Stop}
-use Rattle.aegis_command.specs.declared.work.Stop.TheVariants as stop
-use Rattle.aegis_command.specs.Edges.{ShelfEdge}
-use Rattle.aegis_command.specs.Words.{Form}
-use Rattle.aegis_command.specs.Files.{CameFar, CameTo, WereRead}
-use Rattle.aegis_command.specs.Stopping.{stop_of}
-use Rattle.aegis_command.specs.Work.{Stopped}
+use Rattle.command_work.specs.declared.work.Stop.{Stop}
+use Rattle.command_work.specs.declared.work.Stop.TheVariants as stop
+use Rattle.command_work.specs.Edges.{ShelfEdge}
+use Rattle.command_work.specs.Words.{Form}
+use Rattle.command_work.specs.Files.{CameFar, CameTo, WereRead}
+use Rattle.command_work.specs.Stopping.{stop_of}
+use Rattle.command_work.specs.Work.{Stopped}
 
 -- a read that gave nothing stops the work at its name
 pub stopped_by_read : {U : Type 0} (form : Form) (s : ShelfEdge) (name : List ℕ) (e : ReadFail) (r : Result U Stop) (before : ℕ) → CameTo form s name → before ≡ s.faults_before → OnFailed {T = Vec ℕ Global} (Err e) (s.faults_after ≡ one_more before) → OnFailed {T = Vec ℕ Global} (Err e) (s.failed ≡ Some name) → UnlessFailed {T = Vec ℕ Global} (Err e) (s.faults_after ≡ before) → IsErrAnd r (λ why. why ≡ stop_of e) → IfErr r (Stopped form s)

@@ -20,7 +20,7 @@ pub enum Status {
 
 impl Status {
     ghost use Rattle.std.specs.Prelude.{◌≡◌};
-    ghost use Rattle.aegis_command.specs.Exit.{exit_code};
+    ghost use Rattle.command_work.specs.Exit.{exit_code};
 
     /// The status with which the program ends.
     pub fn code(self) -> u8

@@ -1,16 +1,16 @@
 -- One body more is read by the next name, and a read that gave nothing was the last.
-use Rattle.std.proofs.Common.{◌≡◌, ℕ, List, [], ◌∷◌, ◌++◌, ◌+◌, ◌<◌, Option, Some, length, map, take, sym, ◌∙◌, ap, subst, arith}
+use Rattle.std.proofs.Common.{◌≡◌, ℕ, List, [], ◌∷◌, ◌++◌, ◌+◌, Option, Some, length, take, sym, ◌∙◌, ap, subst, arith}
 use Rattle.std.specs.Prelude.{slice_get}
 use Rattle.std.specs.List.{AllByRecursion}
 use Rattle.std.proofs.lemmas.List.{map_push, length-map}
 use Rattle.edge_io.specs.Reads.{AreAsked, Tells}
 use Rattle.boot_manifest.specs.Layout.{IsShort, bodies_seen}
 use Rattle.boot_manifest.specs.ManifestValue.{ManifestEntry}
-use Rattle.aegis_command.specs.Bodies.{BodiesSoFar, entry_files}
-use Rattle.aegis_command.specs.Edges.{ShelfEdge, shelf_edge}
-use Rattle.aegis_command.specs.Files.{AreRead}
-use Rattle.aegis_command.proofs.InOrder.{asked_more, body_stops, body_wants, file_at, longer, read_more, serves_at, short_more, stops_by_want}
-use Rattle.aegis_command.proofs.imaging.read_bodies.Goals as goal
+use Rattle.command_work.specs.Bodies.{BodiesSoFar, entry_files}
+use Rattle.command_work.specs.Edges.{ShelfEdge, shelf_edge}
+use Rattle.command_work.specs.Files.{AreRead}
+use Rattle.command_work.proofs.InOrder.{asked_more, body_stops, body_wants, file_at, longer, read_more, serves_at, short_more, stops_by_want}
+use Rattle.command_work.proofs.imaging.read_bodies.Goals as goal
 
 pub returns-in_err-body-clause-err : goal.returns-in_err-body-clause-err
 returns-in_err-body-clause-err g c =

@@ -1,0 +1,3 @@
+pub mod Decisions
+pub mod Stops
+pub mod InOrder
