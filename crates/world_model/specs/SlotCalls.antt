@@ -139,7 +139,7 @@ drop_by w e k (Some why) = Refuses why 0
 abbrev pub slot_drop : World → ℕ → Verdict
 slot_drop w e = let k = reg (w.solos e).cpu 4 in drop_by w e k (drop_refusal e (slot_at w.book k))
 
--- Query: a number of the book, by what is asked and of which page, slot or environment. There is none of what isn't there.
+-- Query: what is asked, by its number.
 abbrev pub question_numbered : ℕ → Option Question
 question_numbered number =
     if number == 0 then Some question.FreePages else
@@ -166,6 +166,7 @@ holder_answer (Some slot) = Ok (or_any (option_map (λ (hold : Hold). hold.holde
 abbrev pub death_answer : World → ℕ → Result ℕ Code
 death_answer w e = if nat_lt e w.count then Ok (if is_dead (w.solos e).life then 1 else 0) else Err code.NoEnv
 
+-- the answer: a number of the book, of this page, slot or environment; there is none of what isn't there
 abbrev pub answer_to : World → ℕ → Option Question → ℕ → Result ℕ Code
 answer_to w e None index = Err code.BadCall
 answer_to w e (Some question.FreePages) index = Ok (free_below w.book.pages w.book.page_count)
