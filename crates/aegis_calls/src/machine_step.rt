@@ -5,7 +5,8 @@ ghost use Rattle.world_model.specs.Book.{running};
 
 use crate::board::Board;
 use crate::registers::CODE_REGISTER;
-use guest_memory::{Space, step_guest};
+use guest_memory::Space;
+use guest_step::step_guest;
 use mips_exec::Outcome;
 use world_model::Call;
 

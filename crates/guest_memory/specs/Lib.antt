@@ -1,4 +1,3 @@
 pub mod Look
 pub mod Space
 pub mod Place
-pub mod Lent

@@ -1,15 +1,14 @@
 //! What an environment's accesses reach: its guaranteed mappings and its bindings over the pages of physical memory.
 //!
 //! A page number leads to the page of its guaranteed mapping, else of its binding, where physical memory has that
-//! page; else the access is a miss. `step_guest` is a step of the processor over them, and `guest_range` the bytes that a kernel
-//! call names.
+//! page; else the access is a miss. `locate` finds the page of an access, or what the access raises, and `guest_range`
+//! the bytes that a kernel call names.
 #![tactic(auto)]
 
-mod bus;
 mod place;
 mod range;
 mod space;
 
-pub use bus::step_guest;
+pub use place::{PAGE_BYTES, bytes_from, locate};
 pub use range::guest_range;
 pub use space::Space;

@@ -15,7 +15,7 @@ use mips_exec::{Exc, ExcCode};
 use world_model::Purpose;
 
 /// The bytes of a page, as a difference of addresses.
-pub(crate) const PAGE_BYTES: u32 = PAGE_SIZE as u32;
+pub const PAGE_BYTES: u32 = PAGE_SIZE as u32;
 
 /// The first address that isn't a user's.
 pub(crate) const USER_END: u32 = 0x8000_0000;
@@ -72,12 +72,7 @@ pub(crate) fn mapping_of(frames: &Frames, space: &Space<'_>, vpn: u32) -> Option
 }
 
 /// The mapping that serves an access, or what the access raises.
-pub(crate) fn locate(
-    frames: &Frames,
-    space: &Space<'_>,
-    purpose: Purpose,
-    va: u32,
-) -> Result<Mapping, Exc>
+pub fn locate(frames: &Frames, space: &Space<'_>, purpose: Purpose, va: u32) -> Result<Mapping, Exc>
     ensures { Located frames.now (lookup space.now) (va / page_size) (reach (look frames.now (lookup space.now)) purpose va) result }
 {
     if va >= USER_END {
@@ -93,7 +88,7 @@ pub(crate) fn locate(
 }
 
 /// The bytes of a page of physical memory from an address on.
-pub(crate) fn bytes_from(frames: &Frames, page: u32, va: u32) -> &[u8]
+pub fn bytes_from(frames: &Frames, page: u32, va: u32) -> &[u8]
     requires { page < length frames.now }
     ensures bytes { result.now ≡ drop (va % page_size) (page_at frames.now page) }
     ensures rest { length result.now + va % page_size ≡ page_size }

@@ -3,7 +3,7 @@ use Rattle.std.specs.Prelude.{◌≡◌, ℕ, List, Some}
 use Rattle.mips_exec.specs.Step.{Answers}
 use Rattle.guest_memory.specs.Space.{SpaceValue, lookup}
 use Rattle.world_model.specs.Page.{answers_by}
-use Rattle.guest_memory.specs.declared.bus.GuestBus.{GuestBus}
+use Rattle.guest_step.specs.declared.bus.GuestBus.{GuestBus}
 use Rattle.guest_memory.specs.Look.{look, frames_after}
 
 -- what an environment's accesses are answered

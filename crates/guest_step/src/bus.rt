@@ -5,10 +5,9 @@ ghost use Rattle.mips_exec.specs.Step.{cpu_after, outcome_of, write_after};
 ghost use Rattle.guest_memory.specs.Space.{lookup};
 ghost use Rattle.guest_memory.specs.Look.{frames_after, guest_step};
 
-use crate::place::{PAGE_BYTES, bytes_from, locate};
-use crate::space::Space;
 use byteorder::{ByteOrder, LittleEndian};
 use frame_store::Frames;
+use guest_memory::{PAGE_BYTES, Space, bytes_from, locate};
 use mips_exec::{Cpu, Exc, Outcome};
 use mips_step::{Bus, step_user};
 use world_model::Purpose;
@@ -22,7 +21,7 @@ struct GuestBus<'a> {
 
 impl Bus for GuestBus<'_> {
     ghost use Rattle.std.proofs.Common.{refl, sym, ◌∙◌, ap};
-    ghost use Rattle.guest_memory.specs.Lent.{IsKept, IsStored, answers_of, stored};
+    ghost use Rattle.guest_step.specs.Lent.{IsKept, IsStored, answers_of, stored};
 
     ghost answers = { λ b. answers_of b.frames.now b.space.now };
 
