@@ -1,20 +1,20 @@
 //! What statements ask for.
-ghost use Rattle.std.specs.Prelude.{◌≡◌};
-ghost use Rattle.asm_parse.specs.Seen.{expression_seen};
-ghost use Rattle.asm_layout.specs.Action.{action_of, directed, number_in, quoted_in, text_in, values_in, written_name};
+ghost use Rattle.std.specs.Prelude.{◌≡◌, map};
+ghost use Rattle.asm_parse.specs.Seen.{arg_seen, expression_seen};
+ghost use Rattle.asm_layout.specs.Action.{Put, action_of, definition_in, directed, number_in, quoted_in, text_in, values_in};
+ghost use Rattle.asm_layout.specs.Content.{Instruction};
 ghost use Rattle.asm_parse.specs.declared.syntax.AsmBody.TheVariants.{Op};
-ghost use Rattle.asm_layout.specs.declared.directive.Directive.TheVariants.{Enter, Equ, Numbers};
-ghost use Rattle.asm_layout.specs.Outcome.{Means};
-ghost use Rattle.asm_layout.specs.Seen.{action_seen, expressions_seen, operands_seen};
+ghost use Rattle.asm_layout.specs.declared.directive.Directive.TheVariants.{Enter, Numbers};
+ghost use Rattle.asm_layout.specs.Outcome.{Means, ok_seen};
+ghost use Rattle.asm_layout.specs.Seen.{action_seen, draft_seen, expressions_seen, operands_seen};
 
 use crate::cause::Cause;
 use crate::content::Content;
 use crate::directive::Directive;
 use crate::draft::Draft;
 use crate::number::NumberSize;
-use crate::operand::{as_value, operands};
 use crate::section::Section;
-use asm_parse::{Arg, Args, AsmBody, AsmWhy, Expression, Inner, Name, Operand};
+use asm_parse::{Arg, AsmBody, AsmWhy, Expression, Inner, Name, Operand};
 use mips_text::find_text;
 use std::alloc::Global;
 
@@ -43,9 +43,12 @@ pub(crate) fn read_action<'a>(
 {
     match body {
         AsmBody::Nothing => Ok(Action::Put(Content::Zeros(0))),
-        AsmBody::Op { name, args } => instruction(section, name, args),
+        AsmBody::Op { name, args } => {
+            let draft = instruction(section, name, args.list())?;
+            Ok(Action::Put(Content::Instruction(draft)))
+        }
         AsmBody::Directive { name, args } => match Directive::named(name.bytes()) {
-            Some(directive) => directed(alloc, directive, operands(args)),
+            Some(directive) => directed(alloc, directive, args.list()),
             None => Err(Cause::Why(AsmWhy::UnknownName)),
         },
     }
@@ -53,15 +56,13 @@ pub(crate) fn read_action<'a>(
 
 /// The instruction that an operation in a section asks for.
 #[tactic(auto, unfolding(crate::specs::Action::action_of))]
-fn instruction<'a>(section: Section, name: &Name, args: &Args<'a>) -> Result<Action<'a>, Cause>
-    ensures { Means action_seen result (action_of section (Op name.now args.now)) }
+fn instruction<'a>(section: Section, name: &Name, operands: &[Arg<'a>]) -> Result<Draft<'a>, AsmWhy>
+    ensures { ok_seen (λ draft. Put (Instruction (draft_seen draft))) result ≡ action_of section (Op name.now (map arg_seen operands.now)) }
 {
-    let Some(text) = find_text(name.bytes()) else {
-        return Err(Cause::Why(AsmWhy::UnknownName));
-    };
+    let text = find_text(name.bytes()).ok_or(AsmWhy::UnknownName)?;
     match section {
-        Section::Text => Ok(Action::Put(Content::Instruction(Draft::new(text, operands(args))?))),
-        Section::Data => Err(Cause::Why(AsmWhy::Syntax)),
+        Section::Text => Draft::new(text, operands),
+        Section::Data => Err(AsmWhy::Syntax),
     }
 }
 
@@ -81,7 +82,10 @@ fn directed<'a>(
         Directive::Asciiz => text(alloc, b"\0", operands),
         Directive::Space => Ok(Action::Put(Content::Zeros(number(operands)?))),
         Directive::Align => Ok(Action::Align(number(operands)?)),
-        Directive::Equ => define(operands),
+        Directive::Equ => {
+            let (name, value) = definition(operands)?;
+            Ok(Action::Define(name, value))
+        }
     }
 }
 
@@ -114,7 +118,10 @@ fn values<'a>(alloc: Global, operands: &[Arg<'a>]) -> Result<Vec<Expression<'a>>
 {
     let mut values = Vec::with_capacity(alloc, operands.len())?;
     for arg in operands {
-        values.push(as_value(&arg.operand)?)?;
+        match &arg.operand {
+            Operand::Value(value) => values.push(*value)?,
+            _ => return Err(Cause::Why(AsmWhy::Syntax)),
+        }
     }
     Ok(values)
 }
@@ -159,28 +166,23 @@ fn number(operands: &[Arg<'_>]) -> Result<u32, Cause>
     }
 }
 
-/// To give a name the value of an expression.
-#[tactic(auto, unfolding(crate::specs::Action::directed))]
-fn define<'a>(operands: &[Arg<'a>]) -> Result<Action<'a>, Cause>
-    ensures { Means action_seen result (directed Equ (operands_seen operands.now)) }
+/// A name, and the expression whose value it gets.
+fn definition<'a>(operands: &[Arg<'a>]) -> Result<(&'a [u8], Expression<'a>), AsmWhy>
+    ensures { ok_seen (λ d. (d.0.now, expression_seen d.1)) result ≡ definition_in (operands_seen operands.now) }
 {
     let [a, b] = operands else {
-        return Err(Cause::Why(AsmWhy::Syntax));
+        return Err(AsmWhy::Syntax);
     };
     match (&a.operand, &b.operand) {
-        (Operand::Value(name), Operand::Value(value)) => {
-            Ok(Action::Define(written_name(*name)?, *value))
-        }
-        _ => Err(Cause::Why(AsmWhy::Syntax)),
-    }
-}
-
-/// The name that an expression is written as.
-fn written_name(expression: Expression<'_>) -> Result<&[u8], Cause>
-    ensures { Means (λ name. name.now) result (written_name (expression_seen expression.entry)) }
-{
-    match expression.inner {
-        Inner::Name(name) if expression.openings.is_empty() => Ok(name),
-        _ => Err(Cause::Why(AsmWhy::Syntax)),
+        (
+            Operand::Value(
+                Expression {
+                    openings: [],
+                    inner: Inner::Name(name),
+                },
+            ),
+            Operand::Value(value),
+        ) => Ok((*name, *value)),
+        _ => Err(AsmWhy::Syntax),
     }
 }

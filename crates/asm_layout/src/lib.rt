@@ -15,7 +15,6 @@ mod layout;
 mod line;
 mod names;
 mod number;
-mod operand;
 mod padding;
 mod room;
 mod section;
