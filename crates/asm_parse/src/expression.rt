@@ -1,5 +1,5 @@
 //! Expressions, read without recursion.
-ghost use Rattle.std.specs.Prelude.{◌≡◌, ◌+◌, ◌*◌, ◌/◌, ◌^◌, ◌<◌, ◌≤◌, ◌==◌, length, take, IsTrue};
+ghost use Rattle.std.specs.Prelude.{◌≡◌, ◌∷◌, ◌+◌, ◌*◌, ◌/◌, ◌^◌, ◌<◌, ◌≤◌, ◌==◌, length, take, IsTrue};
 ghost use Rattle.std.specs.List.{list_all};
 ghost use Rattle.std.specs.Str.{byte};
 ghost use Rattle.std.specs.Option.{option_map, option_copied};
@@ -114,13 +114,20 @@ fn read_inner(bytes: &[u8]) -> Option<Inner<'_>>
     let (name, rest) = bytes.split_at(name_length(bytes));
     match rest {
         [] => Some(Inner::Name(name)),
-        [b'+', digits @ ..] => Some(Inner::Sum {
+        [sign, digits @ ..] => sum(name, *sign, digits),
+    }
+}
+
+/// A name, and behind it a sign and a number.
+fn sum<'a>(name: &'a [u8], sign: u8, digits: &[u8]) -> Option<Inner<'a>>
+    ensures { option_map inner_seen result ≡ named name.now (sign ∷ digits.now) }
+{
+    let number = number(digits)?;
+    match sign {
+        b'+' => Some(Inner::Sum { name, number }),
+        b'-' => Some(Inner::Sum {
             name,
-            number: number(digits)?,
-        }),
-        [b'-', digits @ ..] => Some(Inner::Sum {
-            name,
-            number: number(digits)?.wrapping_neg(),
+            number: number.wrapping_neg(),
         }),
         _ => None,
     }
