@@ -53,16 +53,14 @@ pub struct Layout<'a> {
 const LARGEST_ALIGNMENT: u32 = 12;
 
 impl<'a> Layout<'a> {
-    ghost use Rattle.std.specs.Prelude.{◌≡◌, ◌+◌, ◌≤◌, ◌<◌, ◌^◌, ◌++◌, ◌∷◌, [], None, OnOk, IfOk, length};
-    ghost use Rattle.std.specs.Option.{option_copied, option_map};
-    ghost use Rattle.std.specs.List.{AllByRecursion};
+    ghost use Rattle.std.specs.Prelude.{◌≡◌, ◌+◌, ◌≤◌, ◌<◌, ◌^◌, None, length};
     ghost use Rattle.asm_parse.specs.Form.{Gives};
     ghost use Rattle.asm_parse.specs.Seen.{expression_seen};
     ghost use Rattle.asm_layout.specs.Layout.{acted, appended, equated, is_start, labelled, line_added, nothing_placed, padded, place_of, put, stated, used_by};
     ghost use Rattle.asm_layout.specs.Content.{content_length};
     ghost use Rattle.asm_layout.specs.Outcome.{Means};
     ghost use Rattle.line_text.specs.LineView.{line_value};
-    ghost use Rattle.asm_layout.specs.Seen.{action_seen, content_seen, layout_seen, placed_seen};
+    ghost use Rattle.asm_layout.specs.Seen.{action_seen, content_seen, layout_seen};
 
     /// No lines yet.
     pub(crate) fn new(alloc: Global) -> Layout<'a>

@@ -2,7 +2,7 @@
 ghost use Rattle.std.specs.Prelude.{◌≡◌, ℕ, ◌+◌, ◌^◌, ◌<◌, ◌≤◌, List, length, IfOk, IfSome};
 ghost use Rattle.std.specs.Option.{option_copied};
 ghost use Rattle.line_text.specs.LineView.{line_value};
-ghost use Rattle.asm_parse.specs.Form.{body_named, body_of, due_of, label_of, after_label, before_mark, parsed, said, statement_of, Gives};
+ghost use Rattle.asm_parse.specs.Form.{body_named, body_of, due_of, label_of, before_mark, parsed, said, statement_of, Gives};
 ghost use Rattle.asm_parse.specs.declared.quoting.Quoting.TheVariants.{Outside};
 ghost use Rattle.asm_parse.specs.PieceSeen.{piece_seen};
 ghost use Rattle.std.specs.List.{AllByRecursion};

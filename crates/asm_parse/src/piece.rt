@@ -13,7 +13,7 @@ pub(crate) struct Piece<'a> {
 
 impl<'a> Piece<'a> {
     ghost use Rattle.std.specs.Prelude.{◌≡◌, ◌+◌, ◌≤◌, length};
-    ghost use Rattle.asm_parse.specs.Form.{after_blanks, before_blanks, front, skip, trimmed};
+    ghost use Rattle.asm_parse.specs.Form.{after_blanks, front, skip, trimmed};
     ghost use Rattle.asm_parse.specs.PieceSeen.{piece_seen};
 
     /// The place behind its last byte.

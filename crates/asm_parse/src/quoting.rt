@@ -1,5 +1,5 @@
 //! Quoted texts, inside of which no comment begins and no comma parts operands.
-ghost use Rattle.std.specs.Prelude.{◌≡◌, ◌<◌, ◌≤◌, length};
+ghost use Rattle.std.specs.Prelude.{◌≡◌};
 
 /// Where a byte of a line stands.
 #[derive(Clone, Copy)]
