@@ -5,8 +5,8 @@ ghost use Rattle.elf_static.specs.Seen.{part_seen, parts_seen, object_seen};
 ghost use Rattle.elf_static.specs.Writable.{IsWritable};
 
 use crate::object::{Object, Part};
-use byte_numbers::{push_half, push_word};
 use aegis_limits::OutOfMemory;
+use byte_numbers::{push_half, push_word};
 use std::alloc::Global;
 
 /// The bytes of a file header.
@@ -82,12 +82,10 @@ fn push_file_header(file: &mut Vec<u8>, object: &Object) -> Result<(), OutOfMemo
     push_halves(
         file,
         &[FILE_HEADER_SIZE, PROGRAM_HEADER_SIZE, count, 0, 0, 0],
-    )?;
-    Ok(())
+    )
 }
 
 /// The headers of all parts, whose bytes follow the last of them.
-#[tactic(auto, using(crate::proofs::Rest::bodies_length_left, crate::proofs::Rest::program_headers_left))]
 fn push_program_headers(file: &mut Vec<u8>, parts: &[Part]) -> Result<(), OutOfMemory>
     requires count { length parts.now ≤ 64 }
     requires room { file_length (parts_seen parts.now) < 2 ^ 27 }
@@ -102,7 +100,7 @@ fn push_program_headers(file: &mut Vec<u8>, parts: &[Part]) -> Result<(), OutOfM
 }
 
 /// The header of a part whose bytes stand at an offset of the file.
-#[tactic(auto, unfolding(crate::specs::Layout::program_header))]
+#[tactic(auto, unfolding(crate::specs::Layout::program_header, crate::specs::Layout::words))]
 fn push_program_header(file: &mut Vec<u8>, offset: u32, part: &Part) -> Result<(), OutOfMemory>
     requires { length part.now.bytes.items < 2 ^ 32 }
     ensures { OnOk result (file.new.items ≡ file.old.items ++ program_header offset (part_seen part.now)) }
@@ -113,11 +111,12 @@ fn push_program_header(file: &mut Vec<u8>, offset: u32, part: &Part) -> Result<(
     } else {
         READ_EXECUTE
     };
-    push_words(file, &[LOADABLE, offset])?;
-    push_words(file, &[part.vaddr, part.vaddr])?;
-    push_words(file, &[size, size])?;
-    push_words(file, &[flags, UNALIGNED])?;
-    Ok(())
+    push_words(
+        file,
+        &[
+            LOADABLE, offset, part.vaddr, part.vaddr, size, size, flags, UNALIGNED,
+        ],
+    )
 }
 
 /// The bytes of all parts.
