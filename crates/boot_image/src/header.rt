@@ -1,7 +1,7 @@
 //! The header of an image and its slot bytes.
 ghost use Rattle.std.specs.Prelude.{◌≡◌, ◌+◌, ◌<◌, ◌≤◌, ◌^◌, IfOk, OnOk, length, map};
 ghost use Rattle.aegis_limits.specs.Limits.{most_environments, most_slots};
-ghost use Rattle.boot_image.specs.ImageValue.{pages_in, quantum_in, environments_in, slots_in, owner_of, slot_bytes};
+ghost use Rattle.boot_image.specs.ImageValue.{environments_in, slots_in, owner_of, slot_bytes};
 ghost use Rattle.boot_image.specs.ImageFaults.{is_within, header_fault, slots_fault, slot_fault, owners_fault};
 ghost use Rattle.boot_image.specs.Seen.{Answers};
 ghost use Rattle.boot_image.specs.Parts.{header_of, header_seen};

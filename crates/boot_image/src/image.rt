@@ -102,8 +102,7 @@ impl<'a> Program<'a> {
 
 /// The smallest program: it has one byte of memory, of value 0, and is named `a`.
 impl Default for Program<'_> {
-    ghost use Rattle.std.specs.Prelude.{[], ◌∷◌, codes, replicate};
-    ghost use Rattle.elf_static.specs.ElfValue.{ElfValue};
+    ghost use Rattle.std.specs.Prelude.{◌∷◌, replicate};
     ghost use Rattle.elf_static.specs.Smallest.{smallest};
 
     ghost is_default = { λ program. program ≡ record { name = 97 ∷ replicate 7 0; stack = 0; accept = 0; body = smallest } };

@@ -1,9 +1,9 @@
 //! The programs of an image.
-ghost use Rattle.std.specs.Prelude.{◌≡◌, ◌+◌, ◌<◌, ◌≤◌, ◌^◌, ◌||◌, IfOk, IfErr, OnOk, length, sum_by, true};
+ghost use Rattle.std.specs.Prelude.{◌≡◌, ◌+◌, ◌<◌, ◌≤◌, ◌^◌, IfOk, IfErr, OnOk, length, sum_by, true};
 ghost use Rattle.std.specs.Prelude.{drop, ◌==◌, position};
 ghost use Rattle.std.specs.List.{list_all};
 ghost use Rattle.aegis_limits.specs.Limits.{most_environments};
-ghost use Rattle.boot_image.specs.ImageValue.{body_end, body_of, bytes_in, flat_body, base_in, kind_in, length_in, headers_from, name_text, guaranteed_mappings};
+ghost use Rattle.boot_image.specs.ImageValue.{body_end, body_of, bytes_in, flat_body, base_in, kind_in, headers_from, name_text, guaranteed_mappings};
 ghost use Rattle.boot_image.specs.ImageFaults.{is_name, is_name_byte, is_base, is_flat_base, program_fault, program_header_fault, body_fault, first_fault};
 ghost use Rattle.boot_image.specs.Parts.{ArePrograms, IsSoundHeader, placed_at, placed_seen};
 ghost use Rattle.boot_image.specs.Seen.{Answers};

@@ -1,5 +1,5 @@
 //! What the words of a manifest's lines mean, if they are in their ranges.
-ghost use Rattle.std.specs.Prelude.{◌≡◌, ℕ, ◌≤◌, ◌<◌, ◌^◌, List, Option, length, true, map, IfOk, IfSome, IsTrue};
+ghost use Rattle.std.specs.Prelude.{◌≡◌, ◌≤◌, ◌<◌, Option, length, true, IfOk, IfSome, IsTrue};
 ghost use Rattle.std.specs.List.{AllByRecursion, list_all};
 ghost use Rattle.std.specs.Option.{option_copied, option_map};
 ghost use Rattle.aegis_limits.specs.Limits.{most_environments, most_stack_pages};

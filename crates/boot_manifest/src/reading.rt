@@ -1,6 +1,6 @@
 //! The reader of manifests, line by line.
-ghost use Rattle.std.specs.Prelude.{◌≡◌, ℕ, zero, suc, ◌+◌, ◌<◌, ◌≤◌, ◌^◌, List, [], ◌∷◌, Option, None, length, IfErr, IfOk, OnOk};
-ghost use Rattle.std.specs.List.{AllByRecursion, filter_map};
+ghost use Rattle.std.specs.Prelude.{◌≡◌, ◌<◌, ◌≤◌, ◌^◌, [], ◌∷◌, Option, None, length, IfErr, IfOk, OnOk};
+ghost use Rattle.std.specs.List.{AllByRecursion};
 ghost use Rattle.aegis_limits.specs.Limits.{most_environments, most_slots};
 ghost use Rattle.boot_image.specs.Accepted.{IsOwnerBelow};
 ghost use Rattle.line_text.specs.LineView.{line_value};

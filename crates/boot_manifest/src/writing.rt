@@ -1,7 +1,7 @@
 //! The image of a manifest and its bodies, written in one pass into a list of its length.
-ghost use Rattle.std.specs.Prelude.{◌≡◌, ◌<◌, ◌≤◌, ◌^◌, ◌++◌, ◌+◌, ◌*◌, length, map, sum_by, vec_len, IfOk, OnOk};
+ghost use Rattle.std.specs.Prelude.{◌≡◌, ◌<◌, ◌≤◌, ◌^◌, ◌++◌, ◌+◌, ◌*◌, length, map, sum_by, IfOk, OnOk};
 ghost use Rattle.std.specs.List.{AllByRecursion};
-ghost use Rattle.aegis_limits.specs.Limits.{most_slots, most_environments};
+ghost use Rattle.aegis_limits.specs.Limits.{most_environments};
 ghost use Rattle.boot_image.specs.Spelling.{image_text, program_text, programs_text, slot_byte};
 ghost use Rattle.boot_manifest.specs.ManifestValue.{plan_in, entries_in};
 ghost use Rattle.boot_manifest.specs.Layout.{bodies_seen, IsShort, header_text};
