@@ -1,3 +1,4 @@
 pub mod WordText
 pub mod Listed
 pub mod Growth
+pub mod Operands

@@ -1,13 +1,13 @@
 //! The lines of a program.
-ghost use Rattle.std.specs.Prelude.{◌≡◌, ◌+◌, ◌<◌, ◌≤◌, ◌^◌, ◌++◌, OnOk, IfOk, length};
+ghost use Rattle.std.specs.Prelude.{◌≡◌, ◌+◌, ◌<◌, ◌++◌, OnOk, IfOk};
 ghost use Rattle.std.specs.List.{AllByRecursion, flat_map};
 ghost use Rattle.elf_static.specs.AcceptedElf.{IsSegment};
 ghost use Rattle.elf_static.specs.SegmentSeen.{segment_seen, segments_seen};
 ghost use Rattle.mips_list.specs.Listed.{lead, line_text, listed, segment_lines, word_lines};
 
 use crate::word::push_word_text;
-use byte_numbers::word_at;
 use aegis_limits::OutOfMemory;
+use byte_numbers::word_at;
 use elf_static::{Elf, Segment};
 use line_text::push_hex;
 use std::alloc::Global;

@@ -1,5 +1,8 @@
 //! The operands of instructions, as the bits of a word say them.
 ghost use Rattle.std.specs.Prelude.{◌≡◌, ◌++◌, ◌∷◌, ◌≤◌, OnOk, ◌<◌, ◌^◌};
+ghost use Rattle.std.specs.List.{flat_map};
+ghost use Rattle.std.specs.Str.{byte};
+ghost use Rattle.mips_list.specs.Operands.{further_text, operand_text};
 ghost use Rattle.mips_list.specs.Growth.{Keeps};
 ghost use Rattle.mips_list.specs.WordText.{based_text, branch_target, field_text, hexadecimal, jump_target, operand_texts, signed_text, slot_text, spaced};
 
@@ -13,6 +16,17 @@ const FIRST: u8 = b' ';
 /// What stands before each further one.
 const NEXT: u8 = b',';
 
+/// An operand of an instruction.
+#[derive(Clone, Copy)]
+enum Operand {
+    /// The register in a slot.
+    Register(Slot),
+    /// The number in a field.
+    Number(Field),
+    /// A signed half, and `rs` in brackets.
+    Based,
+}
+
 /// Appends the operands of a word that stands at an address, with a space before them where there are any.
 pub(crate) fn push_operands(
     shape: Shape,
@@ -23,37 +37,85 @@ pub(crate) fn push_operands(
     ensures ok { OnOk result (out.new.items ≡ out.old.items ++ spaced (operand_texts shape word address)) }
     ensures keeps { Keeps out.old.items out.new.items }
 {
+    use Operand::{Based, Number, Register};
     match shape {
         Shape::Alone => Ok(()),
-        Shape::One(a) => push_slot(FIRST, a, word, out),
-        Shape::Two(a, b) => {
-            push_slot(FIRST, a, word, out)?;
-            push_slot(NEXT, b, word, out)
-        }
-        Shape::Three(a, b, c) => {
-            push_slot(FIRST, a, word, out)?;
-            push_slot(NEXT, b, word, out)?;
-            push_slot(NEXT, c, word, out)
-        }
-        Shape::Field0(field) => push_field(FIRST, field, word, address, out),
-        Shape::Field1(a, field) => {
-            push_slot(FIRST, a, word, out)?;
-            push_field(NEXT, field, word, address, out)
-        }
-        Shape::Field2(a, b, field) => {
-            push_slot(FIRST, a, word, out)?;
-            push_slot(NEXT, b, word, out)?;
-            push_field(NEXT, field, word, address, out)
-        }
+        Shape::One(a) => push_list(Register(a), &[], word, address, out),
+        Shape::Two(a, b) => push_list(Register(a), &[Register(b)], word, address, out),
+        Shape::Three(a, b, c) => push_list(
+            Register(a),
+            &[Register(b), Register(c)],
+            word,
+            address,
+            out,
+        ),
+        Shape::Field0(field) => push_list(Number(field), &[], word, address, out),
+        Shape::Field1(a, field) => push_list(Register(a), &[Number(field)], word, address, out),
+        Shape::Field2(a, b, field) => push_list(
+            Register(a),
+            &[Register(b), Number(field)],
+            word,
+            address,
+            out,
+        ),
         Shape::Coded => push_code(word, address, out),
-        Shape::Memory => {
-            push_slot(FIRST, Slot::Rt, word, out)?;
-            push_based(NEXT, word, address, out)
-        }
-        Shape::Load => {
-            push_slot(FIRST, Slot::Rt, word, out)?;
-            push_field(NEXT, Field::Unsigned, word, address, out)
-        }
+        Shape::Memory => push_list(Register(Slot::Rt), &[Based], word, address, out),
+        Shape::Load => push_list(
+            Register(Slot::Rt),
+            &[Number(Field::Unsigned)],
+            word,
+            address,
+            out,
+        ),
+    }
+}
+
+/// Appends operands, a space before the first and a comma before each further one.
+fn push_list(
+    first: Operand,
+    further: &[Operand],
+    word: u32,
+    address: u32,
+    out: &mut Vec<u8>,
+) -> Result<(), OutOfMemory>
+    ensures ok { OnOk result (out.new.items ≡ out.old.items ++ byte " " ∷ operand_text word address first ++ flat_map (further_text word address) further.now) }
+    ensures keeps { Keeps out.old.items out.new.items }
+{
+    push_operand(FIRST, first, word, address, out)?;
+    push_further(further, word, address, out)
+}
+
+/// Appends operands, a comma before each.
+fn push_further(
+    operands: &[Operand],
+    word: u32,
+    address: u32,
+    out: &mut Vec<u8>,
+) -> Result<(), OutOfMemory>
+    ensures ok { OnOk result (out.new.items ≡ out.old.items ++ flat_map (further_text word address) operands.now) }
+    ensures keeps { Keeps out.old.items out.new.items }
+{
+    for operand in operands {
+        push_operand(NEXT, *operand, word, address, out)?;
+    }
+    Ok(())
+}
+
+/// Appends a mark and an operand.
+fn push_operand(
+    mark: u8,
+    operand: Operand,
+    word: u32,
+    address: u32,
+    out: &mut Vec<u8>,
+) -> Result<(), OutOfMemory>
+    ensures ok { OnOk result (out.new.items ≡ out.old.items ++ mark ∷ operand_text word address operand) }
+    ensures keeps { Keeps out.old.items out.new.items }
+{
+    match operand {
+        Operand::Register(slot) => push_slot(mark, slot, word, out),
+        Operand::Number(field) => push_field(mark, field, word, address, out),
+        Operand::Based => push_based(mark, word, address, out),
     }
 }
 
@@ -99,6 +161,14 @@ fn push_field(
     ensures keeps { Keeps out.old.items out.new.items }
 {
     push_bytes(&[mark], out)?;
+    push_value(field, word, address, out)
+}
+
+/// Appends the number in a field of a word that stands at an address.
+fn push_value(field: Field, word: u32, address: u32, out: &mut Vec<u8>) -> Result<(), OutOfMemory>
+    ensures ok { OnOk result (out.new.items ≡ out.old.items ++ field_text field word address) }
+    ensures keeps { Keeps out.old.items out.new.items }
+{
     let number = field.get(word);
     match field {
         Field::Amount | Field::Code => push_decimal(number, out),

@@ -1,6 +1,6 @@
 //! The pieces of a text. Each push appends its piece whole, or answers that memory ran out; what the list
 //! had before stays.
-ghost use Rattle.std.specs.Prelude.{◌≡◌, ◌++◌, ◌∷◌, ◌≤◌, OnOk};
+ghost use Rattle.std.specs.Prelude.{◌≡◌, ◌++◌, ◌≤◌, OnOk};
 ghost use Rattle.line_text.specs.Text.{dec_text, hex_text};
 ghost use Rattle.mips_list.specs.Growth.{Keeps};
 

@@ -6,8 +6,8 @@ ghost use Rattle.mips_list.specs.WordText.{data_text, row_text, word_text};
 
 use crate::operand::{push_hexadecimal, push_operands};
 use crate::piece::push_bytes;
-use asm_parse::Row;
 use aegis_limits::OutOfMemory;
+use asm_parse::Row;
 use mips_text::{Text, find_word};
 
 /// Appends the text of a word that stands at an address: the instruction that it spells, as the assembler
