@@ -1,5 +1,5 @@
 //! Where files are opened.
-ghost use Rattle.std.specs.Prelude.{◌≡◌, ℕ, ◌≤◌, List, Option, None, IfSome};
+ghost use Rattle.std.specs.Prelude.{ℕ, ◌≤◌, List, Option, None, IfSome};
 ghost use Rattle.edge_io.specs.Limits.{file_limit};
 ghost use Rattle.edge_io.specs.Reads.{IsFileOf};
 
@@ -35,9 +35,9 @@ pub trait Folder {
 fn told_length<F: OpenFile>(file: &F) -> Option<usize>
     ensures { IfSome result (λ n. n ≤ file_limit) }
 {
-    let length = usize::try_from(file.metadata().ok()?.len()).ok()?;
-    if length <= FILE_LIMIT {
-        Some(length)
+    let length = file.metadata().ok()?.len();
+    if length <= FILE_LIMIT as u64 {
+        Some(length as usize)
     } else {
         None
     }

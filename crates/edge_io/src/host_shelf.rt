@@ -46,8 +46,10 @@ fn read_rest<F: Read + Drop>(alloc: Global, opened: Opened<F>) -> Result<Vec<u8>
     ensures too_long { IfSome (F.remaining opened.file) (λ rest. file_limit < length rest → IsErr result) }
 {
     let mut bytes = Vec::with_capacity(alloc, opened.forecast + 1)?;
-    let mut first = opened.file.take(FILE_LIMIT as u64 + 1);
-    first.read_to_end(&mut bytes)?;
+    opened
+        .file
+        .take(FILE_LIMIT as u64 + 1)
+        .read_to_end(&mut bytes)?;
     if bytes.len() <= FILE_LIMIT {
         Ok(bytes)
     } else {

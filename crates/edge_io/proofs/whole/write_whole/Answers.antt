@@ -1,14 +1,15 @@
-use Rattle.std.proofs.Common.{arith, length-drop, length-take, ◌≡◌, ◌+◌, ◌-◌, length, subst, ℕ}
-use Rattle.edge_io.proofs.AppendsLemmas.{Appends-rest}
+use Rattle.std.proofs.Common.{◌∙◌, length}
+use Rattle.edge_io.proofs.AppendsLemmas.{Appends-rest, sure-rest, within-rest}
 use Rattle.edge_io.proofs.whole.write_whole.Goals as goal
 
 pub loop-done-preserved : goal.loop-done-preserved
-loop-done-preserved g c = record {
-  within = omega (arith, length-drop {A = ℕ}, length-take {A = ℕ}, c.in_ok-done.ensures.within_piece);
-  appended = Appends-rest _ _ _ c.args.bytes.now _ _ c.loop-done.invariant.appended c.in_ok-done.ensures.appended;
-  no_fault = cc (c.in_ok-done.ensures.no_fault);
-  sure = λ takes.
-      let rest : length c.args.bytes.now - c.loop-done.done - c.in_ok-done.field-0 ≡ length c.args.bytes.now - (c.loop-done.done + c.in_ok-done.field-0) = omega arith in
-      let P : ℕ → Type 0 = g.K.Sink.Takes c.write.new.self in
-      subst P rest (c.in_ok-done.ensures.sure_of_rest _ (c.loop-done.invariant.sure takes));
-}
+loop-done-preserved g c =
+    let bytes = c.args.bytes.now in
+    let taken = c.in_ok-done.ensures in
+    let before = c.loop-done.invariant in
+    record {
+      within = within-rest bytes c.loop-done.done c.in_ok-done.field-0 before.within taken.within_piece;
+      appended = Appends-rest _ _ _ bytes _ _ before.appended taken.appended;
+      no_fault = taken.no_fault ∙ before.no_fault;
+      sure = λ takes. sure-rest (g.K.Sink.Takes c.write.new.self) (length bytes) c.loop-done.done c.in_ok-done.field-0 (taken.sure_of_rest _ (before.sure takes));
+    }
