@@ -1,5 +1,7 @@
 -- What stands after a statement's bytes are put, or a fault.
-use Rattle.std.proofs.Common.{◌≡◌, ℕ, List, Option, Some, None, Result, Ok, Err, refl, ap, sym, subst}
+use Rattle.std.proofs.Common.{◌≡◌, ◌∙◌, ℕ, ◌+◌, ◌<◌, List, ◌++◌, length, get_or, take, Option, Some, None, Result, Ok, Err, refl, ap, sym, subst}
+use Rattle.std.proofs.lemmas.List.{flat_map_more, take_more}
+use Rattle.std.specs.List.{flat_map}
 use Rattle.asm_parse.specs.declared.fault.AsmWhy.{AsmWhy}
 use Rattle.asm_layout.specs.declared.cause.Cause.{Cause}
 use Rattle.asm_layout.specs.declared.cause.Cause.TheVariants.{Why, OutOfMemory}
@@ -25,3 +27,12 @@ emit_means start cause pushed answer old new due same is means =
     let P : Option AsmWhy → Type 0 = λ s. Means (λ _. new) (unless_start_cause start pushed) (onto old (unless_start s due)) in
     let Q : Result (Unit {0}) Cause → Type 0 = λ r. Means (λ _. new) r (onto old (unless_start cause due)) in
     subst Q (sym is) (subst P same (start_means start pushed old new due means))
+
+-- the bytes of one more value behind those of the first ones
+pub one_more : (bytes : ℕ → List ℕ) (old before after values : List ℕ) (i d : ℕ) → before ≡ old ++ flat_map bytes (take i values) → after ≡ before ++ bytes (get_or values i d) → i < length values →
+    after ≡ old ++ flat_map bytes (take (i + 1) values)
+one_more bytes old before after values i d was is within =
+    is
+    ∙ ap (λ xs. xs ++ bytes (get_or values i d)) was
+    ∙ flat_map_more bytes old (take i values) (get_or values i d)
+    ∙ ap (λ first. old ++ flat_map bytes first) (sym (take_more values i d within))

@@ -4,7 +4,7 @@ ghost use Rattle.asm_parse.specs.Form.{Gives};
 ghost use Rattle.elf_static.specs.Seen.{object_seen};
 ghost use Rattle.elf_static.specs.Writable.{IsWritable};
 ghost use Rattle.asm_layout.specs.Seen.{layout_seen};
-ghost use Rattle.mips_asm.specs.Assembled.{IsDue, assembled, linked, parts_of, program_of};
+ghost use Rattle.mips_asm.specs.Assembled.{IsDue, assembled, linked, program_of};
 ghost use Rattle.mips_asm.specs.Seen.{sections_seen};
 
 use crate::second::Sections;
@@ -37,8 +37,7 @@ fn assembly(alloc: Global, source: &[u8]) -> Result<Object, AsmFault>
     requires { length source.now < 2 ^ 27 }
     ensures { Gives object_seen result (assembled source.now) }
 {
-    let layout = lay_out(alloc, source)?;
-    linked(alloc, &layout)
+    linked(alloc, &lay_out(alloc, source)?)
 }
 
 /// The program of what the first pass has placed.
