@@ -1,20 +1,28 @@
 //! Which slots an environment may take, drop or hand on, what becomes of one, and who runs after a gift or a death.
 ghost use Rattle.std.specs.Option.{option_map};
-ghost use Rattle.std.specs.Prelude.{◌≡◌, ◌<◌, All, IsNone, None, if◌then◌else◌, length, slice_get, slice_set};
+ghost use Rattle.std.specs.Prelude.{◌≡◌, ◌<◌, All, IsNone, IsSome, None, if◌then◌else◌, length, slice_get, slice_set};
 ghost use Rattle.world_model.specs.SlotCalls.{drop_refusal, dropped, gift_refusal, handed, held_by, holds, take_refusal};
 ghost use Rattle.world_model.specs.Book.{is_runner};
-ghost use Rattle.slot_vector.specs.Slices.{HasTicks, IsNumbered, RunsByNumber, hold_at, most_numbers};
+ghost use Rattle.slot_vector.specs.Slices.{HasTicks, IsNumbered, RunsByNumber, most_numbers};
 
 use crate::search::{Row, own_hold};
 use world_model::{Code, Hold, Phase, Runner};
 
+/// The slot at this place, where there is one.
+pub(crate) fn slot_at(slots: &[Option<Hold>], place: usize) -> Option<Option<Hold>>
+    ensures slot { result ≡ slice_get slots.now place }
+    ensures there { IsSome result → place < length slots.now }
+{
+    slots.get(place).copied()
+}
+
 /// Why the slot can't be taken: `NoSlice` where there is no such slot, and `SlotTaken` where it isn't
 /// empty.
-pub(crate) fn take_refusal(slots: &[Option<Hold>], slot: usize) -> Option<Code>
-    ensures why { result ≡ take_refusal (slice_get slots.now slot) }
-    ensures there { IsNone result → slot < length slots.now }
+pub(crate) fn take_refusal(slot: Option<Option<Hold>>) -> Option<Code>
+    ensures why { result ≡ take_refusal slot }
+    ensures there { IsNone result → IsSome slot }
 {
-    match slots.get(slot) {
+    match slot {
         None => Some(Code::NoSlice),
         Some(None) => None,
         Some(Some(_)) => Some(Code::SlotTaken),
@@ -23,11 +31,11 @@ pub(crate) fn take_refusal(slots: &[Option<Hold>], slot: usize) -> Option<Code>
 
 /// Why the environment can't drop the slot: `NoSlice` where there is no such slot, and `NotHolder` where
 /// it doesn't hold it.
-pub(crate) fn drop_refusal(slots: &[Option<Hold>], env: u8, slot: usize) -> Option<Code>
-    ensures why { result ≡ drop_refusal env (slice_get slots.now slot) }
-    ensures there { IsNone result → slot < length slots.now }
+pub(crate) fn drop_refusal(slot: Option<Option<Hold>>, env: u8) -> Option<Code>
+    ensures why { result ≡ drop_refusal env slot }
+    ensures there { IsNone result → IsSome slot }
 {
-    match slots.get(slot) {
+    match slot {
         None => Some(Code::NoSlice),
         Some(Some(hold)) if hold.holder == env => None,
         Some(_) => Some(Code::NotHolder),

@@ -1,5 +1,5 @@
 //! What is found in, and done to, the slots as a list.
-ghost use Rattle.std.specs.Prelude.{◌≡◌, ◌<◌, ◌≤◌, ◌^◌, All, IfSome, length, map};
+ghost use Rattle.std.specs.Prelude.{◌≡◌, ◌<◌, ◌≤◌, All, IfSome, length, map};
 ghost use Rattle.std.specs.Option.{option_map};
 ghost use Rattle.aegis_limits.specs.Limits.{most_slots};
 ghost use Rattle.world_model.specs.Book.{first_turn, has_part, own_hold, released};

@@ -1,5 +1,5 @@
 //! The vector of slots, by the calls of the kernel.
-ghost use Rattle.std.specs.Prelude.{◌≡◌, ◌<◌, ◌≤◌, ◌↔◌, true, false, IsSome, IfSome, IsNone, Some, OnErr, OnOk, length, All};
+ghost use Rattle.std.specs.Prelude.{◌≡◌, ◌<◌, ◌≤◌, true, IsSome, IfSome, IsNone, Some, OnErr, OnOk, length, All};
 ghost use Rattle.std.specs.Option.{option_map};
 ghost use Rattle.aegis_limits.specs.Limits.{least_quantum, most_quantum, most_slots};
 ghost use Rattle.world_model.specs.declared.slot.Hold.{Hold as Held};
@@ -10,7 +10,7 @@ ghost use Rattle.slot_vector.specs.Slices.{IsWithin, after_timer, after_turn, ex
 
 use crate::excess::{EXCESS_LIMIT, Excess};
 use crate::held::{
-    another, drop_refusal, dropped, gift_refusal, handed, held_by, put, take_refusal,
+    another, drop_refusal, dropped, gift_refusal, handed, held_by, put, slot_at, take_refusal,
 };
 use crate::search::{Row, first_turn, hold_at, mask_of, own_hold, own_holds, release};
 use crate::timer::Timer;
@@ -195,7 +195,7 @@ impl Slots {
         ensures taken { OnOk result (self.new ≡ with_hold self.old slot (Some (own_hold env))) }
         ensures left { OnErr result (self.new ≡ self.old) }
     {
-        if let Some(why) = take_refusal(self.slots.as_slice(), slot as usize) {
+        if let Some(why) = take_refusal(slot_at(self.slots.as_slice(), slot as usize)) {
             return Err(why);
         }
         put(&mut self.slots, slot as usize, own_hold(Some(env)));
@@ -211,7 +211,7 @@ impl Slots {
         ensures left { OnErr result (self.new ≡ self.old) }
     {
         let place = slot as usize;
-        if let Some(why) = drop_refusal(self.slots.as_slice(), env, place) {
+        if let Some(why) = drop_refusal(slot_at(self.slots.as_slice(), place), env) {
             return Err(why);
         }
         let hold = hold_at(self.slots.as_slice(), place);
