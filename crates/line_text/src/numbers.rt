@@ -1,5 +1,5 @@
 //! The numbers that are read in texts.
-ghost use Rattle.std.specs.Prelude.{◌≡◌, ◌+◌, ◌*◌, ◌^◌, ◌<◌, ◌≤◌, length, IfSome};
+ghost use Rattle.std.specs.Prelude.{◌≡◌, ◌+◌, ◌*◌, ◌≤◌, IfSome};
 ghost use Rattle.line_text.specs.Number.{digits_number, number_of, numeral_of};
 
 /// The number of decimal digits that a number has at most.
@@ -51,11 +51,20 @@ pub fn numeral(digits: &[u8], base: u32, most: u32) -> Option<u32>
     let mut value: u32 = 0;
     for byte in digits {
         let digit = char::from(*byte).to_digit(base)?;
-        let next = u64::from(value) * u64::from(base) + u64::from(digit);
+        let next = with_digit(value, base, digit);
         if next > u64::from(most) {
             return None;
         }
         value = next as u32;
     }
     Some(value)
+}
+
+/// A number with one more digit of a base behind it.
+#[tactic(auto, using(crate::proofs::NumeralLemmas::product_fits))]
+fn with_digit(value: u32, base: u32, digit: u32) -> u64
+    requires { base ≤ 16 }
+    ensures { result ≡ value * base + digit }
+{
+    u64::from(value) * u64::from(base) + u64::from(digit)
 }

@@ -1,6 +1,6 @@
 //! What is written into texts: numbers and quoted bytes. Each push appends its text whole, or answers
 //! that memory ran out and leaves the list as it was.
-ghost use Rattle.std.specs.Prelude.{◌≡◌, ◌+◌, ◌*◌, ◌^◌, ◌<◌, ◌≤◌, ◌++◌, length, take, OnOk, OnErr};
+ghost use Rattle.std.specs.Prelude.{◌≡◌, ◌+◌, ◌*◌, ◌<◌, ◌≤◌, ◌++◌, length, take, OnOk, OnErr};
 ghost use Rattle.std.specs.Char.{digit_char};
 ghost use Rattle.line_text.specs.Text.{dec_text, hex_text, quoted_byte, quoted_text};
 

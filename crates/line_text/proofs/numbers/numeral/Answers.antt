@@ -2,7 +2,7 @@ use Rattle.std.proofs.lemmas.Grind.{common_steps}
 use Rattle.std.proofs.Common.{arith, lt-ltb, sym, ◌≡◌, ◌+◌, ◌*◌, take}
 use Rattle.std.proofs.lemmas.Int.Digits.{digits_value_more}
 use Rattle.std.specs.Str.Parse.{digits_value}
-use Rattle.line_text.proofs.NumeralLemmas.{all_digits_more, product_fits, too_large}
+use Rattle.line_text.proofs.NumeralLemmas.{all_digits_more, too_large}
 use Rattle.line_text.proofs.numbers.numeral.Goals as goal
 
 pub returns-then-next-from-clause-value : goal.returns-then-next-from-clause-value
@@ -10,7 +10,7 @@ returns-then-next-from-clause-value c =
     let more = digits_value_more c.args.base c.args.digits.now c.loop-byte.byte-index c.loop-byte-test.true in
     let digit = c.in_ok-digit.ensures.value in
     let total : c.loop-byte.value * c.args.base + c.in_ok-digit.digit ≡ digits_value c.args.base (take (c.loop-byte.byte-index + 1) c.args.digits.now) = cc in
-    let over = rw (c.from-in-loop-byte.ensures, c.from-in-loop-byte-2.ensures, c.from-in-loop-byte-3.ensures, c.from-in-loop-byte-4.ensures) at c.if-next-from.true in
+    let over = rw (c.with_digit-next.ensures, c.from-in-loop-byte.ensures) at c.if-next-from.true in
     sym (too_large c.args.base c.args.most (c.loop-byte.byte-index + 1) c.args.digits.now (omega arith) (rw (← total) over))
 
 pub loop-byte-preserved : goal.loop-byte-preserved
@@ -21,16 +21,6 @@ loop-byte-preserved c =
       digits = all_digits_more c.args.base c.args.digits.now c.loop-byte.byte-index c.loop-byte-test.true c.loop-byte.invariant.digits (rw (← c.from.ensures) (lt-ltb _ _ digit.0));
       small = omega arith;
     }
-
-pub overflow_mul-next : goal.overflow_mul-next
-overflow_mul-next c =
-    let fits = product_fits c.loop-byte.value c.args.base (omega arith) c.requires.1 in
-    rw (c.from-in-loop-byte.ensures, c.from-in-loop-byte-2.ensures) (omega (arith, fits))
-
-pub overflow_add-next : goal.overflow_add-next
-overflow_add-next c =
-    let fits = product_fits c.loop-byte.value c.args.base (omega arith) c.requires.1 in
-    rw (c.from-in-loop-byte.ensures, c.from-in-loop-byte-2.ensures) (omega (arith, fits))
 
 pub returns-in_err-digit-clause-value : goal.returns-in_err-digit-clause-value
 returns-in_err-digit-clause-value c = grind (arith, common_steps)
