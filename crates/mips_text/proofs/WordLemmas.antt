@@ -1,5 +1,11 @@
 -- Rows that spell words.
-use Rattle.std.proofs.Common.{◌≡◌, List, [], ◌∷◌, Option, Some, Bool, true, false, refl, map, ap, ◌∙◌, cond}
+use Rattle.std.proofs.Common.{◌≡◌, ◌-◌, List, [], ◌∷◌, Option, Some, Bool, true, false, refl, map, length, take, sym, ap, ◌∙◌, cond}
+use Rattle.std.proofs.lemmas.List.{length-map, take-map}
+use Rattle.asm_parse.specs.Table.{row_seen, rows_seen}
+use Rattle.asm_parse.specs.declared.table.Row.{Row}
+use Rattle.mips_text.specs.Texts.{rows}
+use Rattle.mips_text.specs.WordRows.{main_rows}
+use Rattle.mips_text.specs.declared.text.Text.{Text}
 use Rattle.std.specs.List.{find}
 use Rattle.std.specs.Option.{option_map}
 
@@ -13,3 +19,9 @@ find_seen view test [] = refl
 find_seen view test (x ∷ xs) =
     find_cond view (test (view x)) x (find (λ y. test (view y)) xs)
     ∙ ap (cond (test (view x)) (Some (view x))) (find_seen view test xs)
+
+-- the rows of all texts without the last five are the main ones
+pub main_seen : (texts : List (Row Text)) → rows_seen texts ≡ rows → rows_seen (take (length texts - 5) texts) ≡ main_rows
+main_seen texts is =
+    let count : length texts ≡ length rows = sym (length-map texts row_seen) ∙ ap length is in
+    sym (take-map row_seen (length texts - 5) texts) ∙ ap (take (length texts - 5)) is ∙ ap (λ n. take (n - 5) rows) count

@@ -3,7 +3,7 @@ ghost use Rattle.std.specs.Prelude.{◌≡◌, ◌<◌, IfSome};
 ghost use Rattle.std.specs.List.{find};
 ghost use Rattle.std.specs.Option.{option_copied, option_map};
 ghost use Rattle.asm_parse.specs.Table.{row_seen, rows_seen};
-ghost use Rattle.mips_text.specs.Texts.{text_of};
+ghost use Rattle.mips_text.specs.Texts.{rows, text_of};
 ghost use Rattle.mips_text.specs.WordRows.{row_of, spells};
 
 use crate::shape::{Field, Shape, Slot};
@@ -236,13 +236,21 @@ const TEXTS: [Row<Text>; 70] = [
     Row(b"la", Text(0x3c00_0000, Shape::Load)),
 ];
 
+/// The rows of all texts.
+#[tactic(auto, unfolding(mips_isa::specs::Encoding::form_of))]
+fn texts() -> &'static [Row<Text>]
+    ensures { rows_seen result.now ≡ rows }
+{
+    &TEXTS
+}
+
 /// The text of a name, if an instruction has it.
-#[tactic(auto, unfolding(crate::specs::Texts::text_of, mips_isa::specs::Encoding::form_of))]
+#[tactic(auto, unfolding(crate::specs::Texts::text_of))]
 pub fn find_text(name: &[u8]) -> Option<Text>
     ensures value { result ≡ text_of name.now }
     ensures small { IfSome result (λ text. text.0 < 0xc0000000) }
 {
-    find(&TEXTS, name)
+    find(texts(), name)
 }
 
 /// The first of these rows whose text is that of a word.
@@ -261,9 +269,10 @@ fn row_in(rows: &[Row<Text>], word: u32) -> Option<Row<Text>>
 
 /// The name and the text of the instruction that a word spells. None where it spells one for another
 /// coprocessor, or is a reserved word. Further forms, as `nop`, are of no word.
-#[tactic(auto, unfolding(crate::specs::WordRows::row_of, mips_isa::specs::Encoding::form_of))]
+#[tactic(auto, unfolding(crate::specs::WordRows::row_of))]
 pub fn find_word(word: u32) -> Option<Row<Text>>
     ensures { option_map row_seen result ≡ row_of word }
 {
-    row_in(&TEXTS[..TEXTS.len() - FURTHER_ROWS], word)
+    let rows = texts();
+    row_in(&rows[..rows.len() - FURTHER_ROWS], word)
 }
