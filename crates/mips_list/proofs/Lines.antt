@@ -1,10 +1,11 @@
 -- Lines, one after another.
 use Rattle.std.proofs.Common.{◌≡◌, ℕ, ◌+◌, ◌<◌, List, [], ◌∷◌, ◌++◌, zero, suc, length, get_or, take, append_assoc, sym, ap, ◌∙◌, arith}
-use Rattle.std.proofs.lemmas.List.{flat_map_more, map-id, take_more}
+use Rattle.std.proofs.lemmas.List.{flat_map_more, map-append, map-id, take_more}
 use Rattle.std.proofs.lemmas.List.FromFn.{map-range_with_len_more}
 use Rattle.std.specs.List.{AllByRecursion, flat_map, range_with_len}
 use Rattle.elf_static.specs.AcceptedElf.{IsSegment}
 use Rattle.mips_list.specs.Growth.{Keeps}
+use Rattle.mips_list.specs.Listed.{segment_lines}
 use Rattle.mips_list.specs.declared.operand.Operand.{Operand}
 use Rattle.elf_static.specs.SegmentSeen.{segment_seen, segments_seen}
 use Rattle.elf_static.specs.declared.segment.Segment.{Segment}
@@ -42,3 +43,13 @@ operand_more f old before after operands i d was is within =
 -- what begins as a list that begins as another
 pub keeps_on : (old text before after : List ℕ) → before ≡ old ++ text → Keeps before after → Keeps old after
 keeps_on old text before after was keeps = record { more = text ++ keeps.more; is = keeps.is ∙ ap (λ xs. xs ++ keeps.more) was ∙ append_assoc old text keeps.more }
+
+-- the lines of one more segment behind those of the first ones
+pub segment_more : (old before after : List ℕ) (segments : List Segment) (i : ℕ) (d : Segment) → before ≡ old ++ flat_map segment_lines (segments_seen (take i segments)) → after ≡ before ++ segment_lines (segment_seen (get_or segments i d)) → i < length segments
+    → after ≡ old ++ flat_map segment_lines (segments_seen (take (i + 1) segments))
+segment_more old before after segments i d was is within =
+    let here = get_or segments i d in
+    is
+    ∙ ap (λ xs. xs ++ segment_lines (segment_seen here)) was
+    ∙ flat_map_more segment_lines old (segments_seen (take i segments)) (segment_seen here)
+    ∙ ap (λ seen. old ++ flat_map segment_lines seen) (sym (map-append segment_seen (take i segments) (here ∷ [])) ∙ ap segments_seen (sym (take_more segments i d within)))
