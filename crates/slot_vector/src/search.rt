@@ -17,10 +17,7 @@ pub(crate) fn hold_at(slots: &[Option<Hold>], place: usize) -> Option<Hold>
     ensures hold { result ≡ hold_at slots.now place }
     ensures numbered { All IsNumbered slots.now → IsNumbered result }
 {
-    match slots.get(place) {
-        Some(hold) => *hold,
-        None => None,
-    }
+    *slots.get(place)?
 }
 
 /// The turn in the first slot after the place, all around, that has a holder.
