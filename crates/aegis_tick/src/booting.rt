@@ -7,8 +7,8 @@ ghost use Rattle.run_model.specs.Boot.{added, boot_world};
 ghost use Rattle.run_model.specs.Excess.{IsAccounted};
 
 use aegis_calls::Board;
-use boot_image::{Image, Program};
 use aegis_limits::OutOfMemory;
+use boot_image::{Image, Program};
 use std::alloc::Global;
 
 /// Makes an environment for each program, in their order, on a board that has room for just so many.

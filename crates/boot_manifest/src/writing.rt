@@ -7,8 +7,8 @@ ghost use Rattle.boot_manifest.specs.ManifestValue.{plan_in, entries_in};
 ghost use Rattle.boot_manifest.specs.Layout.{bodies_seen, IsShort, header_text};
 
 use crate::manifest::{Entry, Manifest};
-use byte_numbers::{push_half, push_word};
 use aegis_limits::OutOfMemory;
+use byte_numbers::{push_half, push_word};
 use std::alloc::Global;
 
 /// What an image begins with.
