@@ -148,9 +148,7 @@ shaped Coded w operands = do
 shaped Memory w operands = do
   r ← based_in operands
   Ok (Filled Signed (w + slot_word Rt r.0 + slot_word Rs r.1) r.2)
-shaped Load w operands = do
-  r ← register_and_value_in operands
-  Ok (Halves r.0 r.1)
+shaped Load w operands = load_of operands
 
 -- an instruction of a text, with these operands
 abbrev pub draft_of : Text → List OperandValue → Result Draft AsmWhy

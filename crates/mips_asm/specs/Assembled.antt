@@ -27,13 +27,11 @@ linked layout =
       sections ← filled layout
       Ok (program_of layout sections)
 
--- The first fault of the first pass; that there is no text; the first fault of the second pass; or the program.
+-- The first fault of the first pass, or what the second pass makes of it.
 unfoldable pub assembled : List ℕ → Result ObjectValue AsmFault
 assembled source = do
   layout ← laid source
-  if layout.text == 0 then Err (At 1 Empty) else do
-    sections ← filled layout
-    Ok (program_of layout sections)
+  linked layout
 
 -- an answer that is a fault is the one that is due, unless memory ran out
 abbrev pub IsDue : Result ObjectValue AsmFault → AsmFault → Type 0

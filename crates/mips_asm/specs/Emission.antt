@@ -32,10 +32,6 @@ expressions_bytes names size es = do
 
 -- the bytes of a content at a place
 unfoldable pub bytes_of : Names → ℕ → Content → Result (List ℕ) AsmWhy
-bytes_of names place (Instruction draft) = do
-  words ← words_of names place draft
-  Ok (words_bytes words)
-bytes_of names place (Numbers size es) = do
-  vs ← values_of names es
-  numbers_bytes size vs
+bytes_of names place (Instruction draft) = draft_bytes names place draft
+bytes_of names place (Numbers size es) = expressions_bytes names size es
 bytes_of names place (Given bs) = Ok bs
