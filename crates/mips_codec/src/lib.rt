@@ -6,14 +6,12 @@
 //! are sign-extended, merged and cut into bytes.
 #![tactic(auto)]
 
-mod decoding;
-mod encoding;
+mod coding;
 mod fields;
 mod laws;
 mod words;
 
-pub use decoding::decode;
-pub use encoding::encode;
+pub use coding::{decode, encode};
 pub use laws::{
     each_word_spells_one_instruction, one_word_spells_each_instruction, only_word_spells,
 };

@@ -3,7 +3,7 @@ use Rattle.std.proofs.Common.{◌≡◌, ℕ, Option, Some, None, refl, Bool, tr
 use mathlib.Core.Path.{ap}
 use Rattle.mips_isa.specs.Encoding.{insn_of}
 use Rattle.mips_isa.specs.declared.insn.Insn.{Insn}
-use Rattle.mips_isa.specs.declared.insn.Insn.TheVariants.{Lb, Lh, Lwl, Lw, Lbu, Lhu, Lwr, Sb, Sh, Swl, Sw, Swr}
+use Rattle.mips_isa.specs.declared.insn.Insn.TheVariants.{Reserved}
 use Rattle.mips_exec.specs.declared.registers.Cpu.{Cpu}
 use Rattle.mips_exec.specs.declared.reach.Access.{Access}
 use Rattle.mips_exec.specs.Access.{access, write_of, Write}
@@ -19,18 +19,7 @@ completes _ = true
 
 completes-effect : (i : Insn) (c : Cpu) (x : ℕ) (a : Access) → access i c ≡ Some a → completes (effect i c x) ≡ true
 unfolding access effect
-completes-effect (Lb rt imm rs) c x a e = refl
-completes-effect (Lh rt imm rs) c x a e = refl
-completes-effect (Lwl rt imm rs) c x a e = refl
-completes-effect (Lw rt imm rs) c x a e = refl
-completes-effect (Lbu rt imm rs) c x a e = refl
-completes-effect (Lhu rt imm rs) c x a e = refl
-completes-effect (Lwr rt imm rs) c x a e = refl
-completes-effect (Sb rt imm rs) c x a e = refl
-completes-effect (Sh rt imm rs) c x a e = refl
-completes-effect (Swl rt imm rs) c x a e = refl
-completes-effect (Sw rt imm rs) c x a e = refl
-completes-effect (Swr rt imm rs) c x a e = refl
+completes-effect (Reserved w) c x a e = cc
 completes-effect _ c x a e = cc
 
 write_after-completed : (c : Cpu) (e : Change) (w : Option Write) → completes e ≡ true → write_after (ended c e w) ≡ w

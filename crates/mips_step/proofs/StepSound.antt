@@ -8,7 +8,7 @@ use Rattle.std.proofs.lemmas.List.Elements.{All-set, All-take}
 use mathlib.Core.Path.{ap, subst}
 use Rattle.mips_isa.specs.Encoding.{insn_of}
 use Rattle.mips_isa.specs.declared.insn.Insn.{Insn}
-use Rattle.mips_isa.specs.declared.insn.Insn.TheVariants.{Sb, Sh, Swl, Sw, Swr}
+use Rattle.mips_isa.specs.declared.insn.Insn.TheVariants.{Reserved}
 use Rattle.mips_exec.specs.declared.registers.Cpu.{Cpu}
 use Rattle.mips_exec.specs.declared.exception.Exc.{Exc}
 use Rattle.mips_exec.specs.declared.reach.Spot.{Spot}
@@ -94,12 +94,8 @@ StoreFits (Store spot value) = IsStore spot
 
 StoreFits-access : (i : Insn) (c : Cpu) → IfSome (access i c) StoreFits
 unfolding access
-StoreFits-access (Sb rt imm rs) c = record { sized = record { some = omega arith; within = λ h. omega arith }; most = omega arith; in_range = omega arith }
-StoreFits-access (Sh rt imm rs) c = record { sized = record { some = omega arith; within = λ h. grind arith }; most = omega arith; in_range = omega arith }
-StoreFits-access (Swl rt imm rs) c = record { sized = record { some = omega arith; within = λ h. omega arith }; most = omega arith; in_range = omega arith }
-StoreFits-access (Sw rt imm rs) c = record { sized = record { some = omega arith; within = λ h. grind arith }; most = omega arith; in_range = omega arith }
-StoreFits-access (Swr rt imm rs) c = record { sized = record { some = omega arith; within = λ h. omega arith }; most = omega arith; in_range = omega arith }
-StoreFits-access _ c = tt
+StoreFits-access (Reserved w) c = tt
+StoreFits-access _ c = search arith
 
 length-low_bytes : (n v : ℕ) → n ≤ 4 → length (low_bytes n v) ≡ n
 length-low_bytes n v h = length-take-le n (to_le_bytes w32 v) h

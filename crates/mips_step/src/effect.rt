@@ -1,14 +1,15 @@
-//! What each instruction does.
+//! What each instruction does, and what it loads or stores.
 ghost use Rattle.std.specs.Prelude.{◌≡◌, ◌+◌, ◌<◌, ◌+ℤ◌, ◌-ℤ◌, ◌*ℤ◌, ◌||◌, ◌==◌};
 ghost use Rattle.std.specs.Int.{cast_unsigned, w64};
 ghost use Rattle.mips_exec.specs.Word.{is_negative, shifted_with_sign, sign_extended, signed, word_of};
-ghost use Rattle.mips_exec.specs.Cpu.{branch_target, jump_target};
+ghost use Rattle.std.specs.Option.{ForSome};
+ghost use Rattle.mips_exec.specs.Access.{access, left_store, right_store, IsSized};
+ghost use Rattle.mips_exec.specs.Cpu.{address_of, branch_target, jump_target};
 ghost use Rattle.mips_exec.specs.declared.change.Change.TheVariants.{Jumps, JumpsAndLinks};
 ghost use Rattle.mips_exec.specs.Effect.{divides, divides_signed, effect, puts_fitting, puts_product};
 
-use crate::reach::address;
 use mips_codec::{merge_left, merge_right, sign16};
-use mips_exec::{Change, Cpu, Exc, ExcCode};
+use mips_exec::{Access, Change, Cpu, Exc, ExcCode, Spot};
 use mips_isa::Insn;
 
 /// The register that calls link through.
@@ -156,6 +157,60 @@ fn jump_target(cpu: &Cpu, target: u32) -> u32
 {
     let region = cpu.pc.wrapping_add(4) >> 28;
     region * 0x1000_0000 + target % 0x0400_0000 * 4
+}
+
+/// The address of a load or store: a base register plus the signed `imm`, modulo 2^32.
+pub(crate) fn address(cpu: &Cpu, base: u8, imm: u16) -> u32
+    ensures { result ≡ address_of cpu.now base imm }
+{
+    cpu.reg(base).wrapping_add(sign16(imm))
+}
+
+/// SWL of the register's value.
+fn store_left(address: u32, value: u32) -> Access
+    ensures value { result ≡ left_store address value }
+    ensures sized { IsSized result }
+{
+    let n = address % 4;
+    Access::Store(Spot::below(address, (n + 1) as u8), value >> (24 - 8 * n))
+}
+
+/// SWR of the register's value.
+fn store_right(address: u32, value: u32) -> Access
+    ensures value { result ≡ right_store address value }
+    ensures sized { IsSized result }
+{
+    Access::Store(Spot::at(address, (4 - address % 4) as u8), value)
+}
+
+/// The load or store of the instruction, if it has one.
+#[tactic(auto, unfolding(mips_exec::specs::Access::access))]
+pub(crate) fn access_of(insn: Insn, cpu: &Cpu) -> Option<Access>
+    ensures value { result ≡ access insn cpu.now }
+    ensures sized { ForSome result IsSized }
+{
+    let found = match insn {
+        Insn::Lb { imm, rs, .. } | Insn::Lbu { imm, rs, .. } => Access::Load(Spot::at(
+            address(cpu, rs, imm),
+            1,
+        )),
+        Insn::Lh { imm, rs, .. } | Insn::Lhu { imm, rs, .. } => Access::Load(Spot::at(
+            address(cpu, rs, imm),
+            2,
+        )),
+        Insn::Lw { imm, rs, .. } => Access::Load(Spot::at(address(cpu, rs, imm), 4)),
+        Insn::Lwl { imm, rs, .. } | Insn::Lwr { imm, rs, .. } => Access::Load(Spot::below(
+            address(cpu, rs, imm),
+            4,
+        )),
+        Insn::Sb { rt, imm, rs } => Access::Store(Spot::at(address(cpu, rs, imm), 1), cpu.reg(rt)),
+        Insn::Sh { rt, imm, rs } => Access::Store(Spot::at(address(cpu, rs, imm), 2), cpu.reg(rt)),
+        Insn::Sw { rt, imm, rs } => Access::Store(Spot::at(address(cpu, rs, imm), 4), cpu.reg(rt)),
+        Insn::Swl { rt, imm, rs } => store_left(address(cpu, rs, imm), cpu.reg(rt)),
+        Insn::Swr { rt, imm, rs } => store_right(address(cpu, rs, imm), cpu.reg(rt)),
+        _ => return None,
+    };
+    Some(found)
 }
 
 /// What the instruction does, where `loaded` is what its load was answered.

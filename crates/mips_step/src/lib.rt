@@ -6,7 +6,6 @@ mod change;
 mod effect;
 mod laws;
 mod memory;
-mod reach;
 mod step;
 
 pub use laws::steps_are_sound;

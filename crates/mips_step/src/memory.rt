@@ -1,9 +1,9 @@
 //! Memory as a step asks it.
 ghost use Rattle.std.specs.Prelude.{◌≡◌, ◌≢◌, ◌+◌, ◌%◌, ◌<◌, ◌≤◌, ℕ, List, OnOk, OnErr};
-ghost use Rattle.mips_exec.specs.Access.{low_bytes};
-ghost use Rattle.mips_exec.specs.Step.{Answers};
+ghost use Rattle.mips_exec.specs.Access.{IsSized, low_bytes};
+ghost use Rattle.mips_exec.specs.Step.{Answers, Wrote, answered, write_if};
 
-use mips_exec::Exc;
+use mips_exec::{Access, Exc, ExcCode};
 
 /// Memory as a step asks it, by virtual addresses. It tests range and mapping; the step has tested the
 /// alignment, and asks for no bytes of two aligned words. What it answers to a fetch or load stays the
@@ -49,4 +49,29 @@ pub trait Bus {
 
     /// A store counts from any earlier state since which nothing was stored.
     ghost stores_on: { (a : Self) (b : Self) (c : Self) (address : ℕ) (bytes : List ℕ) → Kept a b → Stored b address bytes c → Stored a address bytes c };
+}
+
+/// Asks the bus for a load or store: what it loads, and 0 for a store.
+pub(crate) fn perform<B: Bus>(access: Access, bus: &mut B) -> Result<u32, Exc>
+    requires { IsSized access }
+    ensures answer { result ≡ answered (B.answers bus.old) access }
+    ensures memory { Wrote B.Kept B.Stored bus.old (write_if access result) bus.new }
+{
+    match access {
+        Access::Load(spot) => {
+            if !spot.is_aligned() {
+                return Err(Exc::plain(ExcCode::Adel));
+            }
+            bus.load(spot.place(), spot.width)
+        }
+        Access::Store(spot, value) => {
+            if !spot.is_aligned() {
+                return Err(Exc::plain(ExcCode::Ades));
+            }
+            match bus.store(spot.place(), spot.width, value) {
+                Ok(()) => Ok(0),
+                Err(exc) => Err(exc),
+            }
+        }
+    }
 }

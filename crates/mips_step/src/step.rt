@@ -3,8 +3,8 @@ ghost use Rattle.std.specs.Prelude.{◌≡◌};
 ghost use Rattle.mips_exec.specs.Step.{cpu_after, outcome_of, step_of, view_of, write_after, Wrote};
 
 use crate::change::execute;
-use crate::memory::Bus;
-use crate::reach::{access_of, perform};
+use crate::effect::access_of;
+use crate::memory::{Bus, perform};
 use mips_codec::decode;
 use mips_exec::{Cpu, Exc, ExcCode, Outcome};
 

@@ -3,7 +3,7 @@ use Rattle.mips_isa.specs.declared.insn.Insn.{Insn}
 use Rattle.mips_isa.specs.declared.insn.Insn.TheVariants.{Reserved}
 use Rattle.mips_isa.specs.Encoding.{form_of, IsRow}
 use Rattle.mips_codec.proofs.Spelling.{insn_of-spelled}
-use Rattle.mips_codec.proofs.encoding.reserved.Goals as goal
+use Rattle.mips_codec.proofs.coding.reserved.Goals as goal
 
 pub returns-in-Reserved : goal.returns-in-Reserved
 unfolding form_of

@@ -4,7 +4,7 @@ use Rattle.std.specs.Option.{SomeIff}
 use Rattle.mips_isa.specs.declared.insn.Insn.{Insn}
 use Rattle.mips_isa.specs.Encoding.{IsEncodable, Spells, word_of, insn_of}
 use Rattle.mips_codec.proofs.Spelling.{insn_of-spelled, spells_insn_of}
-use Rattle.mips_codec.proofs.encoding.encode.Goals as goal
+use Rattle.mips_codec.proofs.coding.encode.Goals as goal
 
 module _ (insn : Insn) where
   spells : (found : Option ℕ) → SomeIff found (IsEncodable insn) (word_of insn) → IfSome found (λ w. Spells w insn)
