@@ -24,6 +24,7 @@ use Rattle.world_model.specs.PageCalls.{death_items, left_at, left_if, lost_with
 use Rattle.world_model.specs.Solo.{Solo, Store, Key, Kept, Physical, dead, is_physical, stored, stored_sight}
 use Rattle.world_model.specs.Step.{Act, Stores, Calls, Dies}
 use Rattle.world_model.specs.SlotCalls.{accepts}
+use Rattle.world_model.specs.Transfers.{is_open}
 use Rattle.world_model.specs.Tick as tick
 use Rattle.world_model.specs.Verdict.{death}
 use Rattle.world_model.specs.World.{World, Reply}
@@ -49,7 +50,7 @@ pub data Fortune (w : World) (e : ℕ) (s : Solo) (b : Book) : Type 0 where
 pub data Gives (w : World) (e : ℕ) (act : Act) (i : ℕ) (items : List Item) : Type 0 where
   Tells : Keeps items → Gives w e act i items
   Starts : e ≢ i → items ≡ Start ∷ [] → Gives w e act i items
-  Enters : (kind : TransferKind) → e ≢ i → act ≡ Calls (Some call.Transfer) → accepts (w.solos i).mask e ≡ true → items ≡ Transfer e kind (carried (w.solos e).cpu) ∷ [] → Gives w e act i items
+  Enters : (kind : TransferKind) → e ≢ i → act ≡ Calls (Some call.Transfer) → accepts (w.solos i).mask e ≡ true → is_open (w.solos i) kind ≡ true → items ≡ Transfer e kind (carried (w.solos e).cpu) ∷ [] → Gives w e act i items
 
 -- what the act of a runner, which is s after it, brings to each environment: the book after it, and what each is given
 pub record Brings (w : World) (e : ℕ) (s : Solo) (act : Act) (b : Book) (items : ℕ → List Item) : Type 0 where

@@ -483,7 +483,7 @@ module _ (w : World) (e : ℕ) (sound : Sound w) (lives : (w.solos e).life ≡ L
       let its = target_lives target (given_other (is_other w e target) gift accepted is) in
       let may = both_true (accepts s.mask e) (is_open s kind) (given_accepted (is_other w e target) gift accepted is) in
       let registers = carried (w.solos e).cpu in
-      hands_brings call.Transfer target (Transfer e kind registers) (enter_rests e kind registers) its.0 its.1 named refl (Enters kind its.0 refl may.0 refl)
+      hands_brings call.Transfer target (Transfer e kind registers) (enter_rests e kind registers) its.0 its.1 named refl (Enters kind its.0 refl may.0 may.1 refl)
       (slots_handed (hands_slot kind) target w.book) (slots_handed_live (hands_slot kind) target its.1)
 
   transfer_named : (target : ℕ) (kind : Option TransferKind) → called (w.solos e).cpu ≡ Some call.Transfer → BringsIn w e (w.solos e) (Calls (Some call.Transfer)) (reply_of w e (transfer_of w e target kind))

@@ -239,6 +239,7 @@ module _ (image : ImageValue) (t : ℕ) (sound : Sound (world_after image t)) (a
         acts = acts_so (Calls (Some call.Transfer)) is.acts;
         accepted = is.accepted;
         kind = is.kind;
+        has_entry = is.has_entry;
         given = step_gives busy e (Transfer r.env is.kind (carried runner.cpu)) is.given;
         words = subst (λ (n : ℕ). bytes_at u vpn ≡ with_bytes (kept_bytes image t e n) entry_area (entry_bytes r.env is.kind (cpu_at_step image t e))) is.entry.context
             (is.entry.words ∙ ap (λ (x : Solo). with_bytes (bytes_at x vpn) entry_area (entry_bytes r.env is.kind (cpu_at_step image t e))) same);

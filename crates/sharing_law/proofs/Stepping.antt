@@ -25,6 +25,7 @@ use Rattle.world_model.specs.PageCalls.{page_bytes}
 use Rattle.world_model.specs.Solo.{Solo, Store, kept_at, store_of}
 use Rattle.world_model.specs.Step.{Act, Nothing, Calls, Raises, Dies, acted, act_of, call_act, step_alone, stepped, store_act}
 use Rattle.world_model.specs.SlotCalls.{accepts}
+use Rattle.world_model.specs.Transfers.{is_open}
 use Rattle.world_model.specs.Tick as tick
 use Rattle.world_model.specs.World.{World, after}
 use Rattle.page_sight.specs.Sight.{Sees}
@@ -135,6 +136,7 @@ pub record IsEnteredBy (w : World) (e : ℕ) (act : Act) (i vpn : ℕ) (items : 
   pub another : e ≢ i
   pub acts : act ≡ Calls (Some call.Transfer)
   pub accepted : accepts (w.solos i).mask e ≡ true
+  pub has_entry : is_open (w.solos i) kind ≡ true
   pub given : items ≡ Transfer e kind (carried (w.solos e).cpu) ∷ []
   pub entry : HasWords entry_area (entry_bytes e kind (w.solos i).cpu) (w.solos i) now vpn
 
@@ -153,12 +155,12 @@ module _ (w : World) (e : ℕ) (act : Act) (i : ℕ) (items : List Item) where
   gives_own : Gives w e act i items → e ≡ i → Keeps items
   gives_own (Tells keeps) own = keeps
   gives_own (Starts another given) own = absurd (another own)
-  gives_own (Enters kind another acts accepted given) own = absurd (another own)
+  gives_own (Enters kind another acts accepted opens given) own = absurd (another own)
 
   gives_life : Gives w e act i items → (s : Solo) → (absorb_all s items).life ≡ s.life
   gives_life (Tells keeps) s = keeps.life s
   gives_life (Starts another given) s = ap (λ (its : List Item). (absorb_all s its).life) given ∙ (start_rests s).life
-  gives_life (Enters kind another acts accepted given) s = ap (λ (its : List Item). (absorb_all s its).life) given ∙ (enter_rests e kind (carried (w.solos e).cpu) s).life
+  gives_life (Enters kind another acts accepted opens given) s = ap (λ (its : List Item). (absorb_all s its).life) given ∙ (enter_rests e kind (carried (w.solos e).cpu) s).life
 
   gives_kept : Gives w e act i items → (vpn : ℕ) → OtherKept w e act i vpn items (absorb_all (w.solos i) items)
   gives_kept (Tells keeps) vpn = inl (ap (λ ps. kept_at ps vpn) (keeps.kept (w.solos i)))
@@ -171,7 +173,7 @@ module _ (w : World) (e : ℕ) (act : Act) (i : ℕ) (items : List Item) where
       by_start : (kept_at started.kept vpn ≡ kept_at (w.solos i).kept vpn) ⊎ HasStart (w.solos i) started vpn → OtherKept w e act i vpn (Start ∷ []) started
       by_start (inl same) = inl same
       by_start (inr start) = inr (inl (record { another = another; given = refl; start = start }))
-  gives_kept (Enters kind another acts accepted given) vpn =
+  gives_kept (Enters kind another acts accepted opens given) vpn =
       subst (λ (xs : List Item). OtherKept w e act i vpn xs (absorb_all (w.solos i) xs)) (sym given) (by_entry (entered_kept e kind (carried (w.solos e).cpu) (w.solos i) vpn))
     where
       entered : Solo
@@ -179,7 +181,7 @@ module _ (w : World) (e : ℕ) (act : Act) (i : ℕ) (items : List Item) where
 
       by_entry : StaysOrHas entry_area (entry_bytes e kind (w.solos i).cpu) (w.solos i) entered vpn → OtherKept w e act i vpn (Transfer e kind (carried (w.solos e).cpu) ∷ []) entered
       by_entry (inl same) = inl same
-      by_entry (inr entry) = inr (inr (record { kind = kind; another = another; acts = acts; accepted = accepted; given = refl; entry = entry }))
+      by_entry (inr entry) = inr (inr (record { kind = kind; another = another; acts = acts; accepted = accepted; has_entry = opens; given = refl; entry = entry }))
 
 module _ (w : World) (e : ℕ) (s : Solo) (act : Act) (now : World) (items : ℕ → List Item) (sound : Sound w) (follows : Follows w e s act now items) where
   abbrev brings : Brings w e s act now.book items

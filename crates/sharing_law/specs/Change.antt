@@ -15,6 +15,7 @@ use Rattle.world_model.specs.Solo.{Store, Kept, Physical, bytes_in, is_dead, kep
 use Rattle.world_model.specs.Step.{Stores, Calls, Raises}
 use Rattle.world_model.specs.PageCalls.{page_bytes}
 use Rattle.world_model.specs.SlotCalls.{accepts}
+use Rattle.world_model.specs.Transfers.{is_open}
 use Rattle.world_model.specs.Item.{Start, End, Transfer}
 use Rattle.run_model.specs.Run.{next_items, world_after}
 use Rattle.sharing_law.specs.Acting.{Acts, at_step, at_timer, cpu_at_step}
@@ -52,13 +53,14 @@ pub record IsStarted (image : ImageValue) (t e : ℕ) (bytes : List ℕ) : Type 
   pub handles : ((world_after image t).solos e).handlers.start ≢ 0
   pub words : bytes ≡ with_bytes (kept_bytes image t e context_number) start_area (start_bytes ((world_after image t).solos e).cpu)
 
--- in a tick the environment is entered by a transfer of another's, whom it accepts: these are the bytes of its context page before, but for the entry area, which has the words of this transfer
+-- in a tick the environment is entered by a transfer of another's, whom it accepts, and it has an entry for such transfers: these are the bytes of its context page before, but for the entry area, which has the words of this transfer
 pub record IsEntered (image : ImageValue) (t e : ℕ) (bytes : List ℕ) : Type 0 where
   pub caller : ℕ
   pub another : caller ≢ e
   pub acts : Acts image t caller (Calls (Some call.Transfer))
   pub accepted : accepts ((at_step image t).solos e).mask caller ≡ true
   pub kind : TransferKind
+  pub has_entry : is_open ((at_step image t).solos e) kind ≡ true
   pub given : Contains (next_items (world_after image t) e) (Transfer caller kind (carried (cpu_at_step image t caller)))
   pub words : bytes ≡ with_bytes (kept_bytes image t e context_number) entry_area (entry_bytes caller kind (cpu_at_step image t e))
 
