@@ -1,13 +1,10 @@
 //! Operands.
-ghost use Rattle.std.specs.Prelude.{◌≡◌, ◌+◌, ◌<◌, ◌≤◌, ◌==◌, length, IfOk, Some, if◌then◌else◌};
+ghost use Rattle.std.specs.Prelude.{◌≡◌, ◌+◌, ◌<◌, ◌≤◌, ◌==◌, length, IfOk};
 ghost use Rattle.std.specs.List.{position_or_len};
 ghost use Rattle.std.specs.Str.{byte};
-ghost use Rattle.std.specs.Option.{option_map, option_or};
+ghost use Rattle.std.specs.Option.{option_map};
 ghost use Rattle.asm_parse.specs.Form.{arg_of, args_at, operands_of};
-ghost use Rattle.asm_parse.specs.Operand.{Register as IsRegister, Value, based_of, offset_of, operand_of};
-ghost use Rattle.asm_parse.specs.Expression.{expression_of};
-ghost use Rattle.asm_parse.specs.Register.{register_of};
-ghost use Rattle.asm_parse.specs.Words.{is_register};
+ghost use Rattle.asm_parse.specs.Operand.{based_of, offset_of, operand_of};
 ghost use Rattle.asm_parse.specs.PieceSeen.{piece_seen};
 ghost use Rattle.asm_parse.specs.Seen.{arg_seen, expression_seen, operand_seen};
 
@@ -26,25 +23,18 @@ use std::alloc::{AllocError, Global};
 fn read_operand(alloc: Global, bytes: &[u8]) -> Result<Option<Operand<'_>>, AllocError>
     ensures { IfOk result (λ found. option_map operand_seen found ≡ operand_of bytes.now) }
 {
-    if let Some(operand) = read_unquoted(bytes) {
-        return Ok(Some(operand));
+    if is_register(bytes) {
+        return Ok(Some(Operand::Register(Register::read(bytes))));
+    }
+    if let Some(value) = read_expression(bytes) {
+        return Ok(Some(Operand::Value(value)));
+    }
+    if let Some(based) = read_based(bytes) {
+        return Ok(Some(based));
     }
     match unquoted(alloc, bytes)? {
         Some(text) => Ok(Some(Operand::Quoted(text))),
         None => Ok(None),
-    }
-}
-
-/// The operand that bytes are, if they are one that isn't quoted.
-fn read_unquoted(bytes: &[u8]) -> Option<Operand<'_>>
-    ensures { option_map operand_seen result ≡ (if is_register bytes.now then Some (IsRegister (register_of bytes.now)) else option_or (option_map (λ e. Value e) (expression_of bytes.now)) (based_of bytes.now)) }
-{
-    if is_register(bytes) {
-        return Some(Operand::Register(Register::read(bytes)));
-    }
-    match read_expression(bytes) {
-        Some(value) => Some(Operand::Value(value)),
-        None => read_based(bytes),
     }
 }
 

@@ -44,8 +44,8 @@ fn first_meant(quoted: &[u8]) -> Option<(u8, &[u8])>
 {
     match quoted {
         [b'\\', byte, behind @ ..] => Some((escaped(*byte)?, behind)),
-        [byte, behind @ ..] if *byte != b'"' && *byte != b'\\' => Some((*byte, behind)),
-        _ => None,
+        [b'"' | b'\\', ..] | [] => None,
+        [byte, behind @ ..] => Some((*byte, behind)),
     }
 }
 

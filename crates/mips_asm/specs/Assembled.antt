@@ -27,7 +27,7 @@ linked layout =
       sections ← filled layout
       Ok (program_of layout sections)
 
--- The first fault of the first pass, or what the second pass makes of it.
+-- The first fault of the first pass, or what the second makes of its layout.
 unfoldable pub assembled : List ℕ → Result ObjectValue AsmFault
 assembled source = do
   layout ← laid source

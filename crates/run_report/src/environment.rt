@@ -13,42 +13,42 @@ use mips_exec::ExcCode;
 use std::alloc::Global;
 use world_model::{Cause, Life, WorldView};
 
-/// The lines that a report has of an environment, below `envs()` of the board
+/// The lines that a report has of an environment, below `envs()` of the view
 /// (`docs/PROGRAM.md`, "The report").
-pub fn env_lines<B: WorldView>(alloc: Global, board: &B, env: u8) -> Result<Vec<u8>, OutOfMemory>
-    requires { env < (B.world board.now).count }
-    ensures { IfOk result (λ v. v.items ≡ env_text (B.world board.now) env) }
+pub fn env_lines<V: WorldView>(alloc: Global, view: &V, env: u8) -> Result<Vec<u8>, OutOfMemory>
+    requires { env < (V.world view.now).count }
+    ensures { IfOk result (λ v. v.items ≡ env_text (V.world view.now) env) }
 {
     let mut out = Vec::new(alloc);
-    push_env(&mut out, board, env)?;
+    push_env(&mut out, view, env)?;
     Ok(out)
 }
 
 /// Appends the lines of an environment.
 #[tactic(auto, unfolding(crate::specs::Report::env_text))]
-pub(crate) fn push_env<B: WorldView>(
+pub(crate) fn push_env<V: WorldView>(
     out: &mut Vec<u8>,
-    board: &B,
+    view: &V,
     env: u8,
 ) -> Result<(), OutOfMemory>
-    requires { env < (B.world board.now).count }
-    ensures { OnOk result (out.new.items ≡ out.old.items ++ env_text (B.world board.now) env) }
+    requires { env < (V.world view.now).count }
+    ensures { OnOk result (out.new.items ≡ out.old.items ++ env_text (V.world view.now) env) }
 {
-    push_env_line(out, board, env)?;
-    push_out_line(out, board, env)?;
-    match board.life(env) {
-        Life::Live => push_living_lines(out, board, env),
+    push_env_line(out, view, env)?;
+    push_out_line(out, view, env)?;
+    match view.life(env) {
+        Life::Live => push_living_lines(out, view, env),
         Life::Dead(_) => Ok(()),
     }
 }
 
 /// Appends the line of an environment's name and life.
 #[tactic(auto, unfolding(crate::specs::Report::env_line))]
-fn push_env_line<B: WorldView>(out: &mut Vec<u8>, board: &B, env: u8) -> Result<(), OutOfMemory>
-    requires { env < (B.world board.now).count }
-    ensures { OnOk result (out.new.items ≡ out.old.items ++ env_line env ((B.world board.now).solos env)) }
+fn push_env_line<V: WorldView>(out: &mut Vec<u8>, view: &V, env: u8) -> Result<(), OutOfMemory>
+    requires { env < (V.world view.now).count }
+    ensures { OnOk result (out.new.items ≡ out.old.items ++ env_line env ((V.world view.now).solos env)) }
 {
-    push_life_line(out, env, name_text(&board.name(env)), board.life(env))
+    push_life_line(out, env, name_text(&view.name(env)), view.life(env))
 }
 
 /// Where the first zero of a name stands, if it has one.
@@ -118,11 +118,11 @@ fn exception_text(code: ExcCode) -> &'static [u8]
 
 /// Appends the line of an environment's console.
 #[tactic(auto, unfolding(crate::specs::Report::out_line, crate::specs::Words::line_of))]
-fn push_out_line<B: WorldView>(out: &mut Vec<u8>, board: &B, who: u8) -> Result<(), OutOfMemory>
-    requires { who < (B.world board.now).count }
-    ensures { OnOk result (out.new.items ≡ out.old.items ++ out_line who ((B.world board.now).solos who)) }
+fn push_out_line<V: WorldView>(out: &mut Vec<u8>, view: &V, who: u8) -> Result<(), OutOfMemory>
+    requires { who < (V.world view.now).count }
+    ensures { OnOk result (out.new.items ≡ out.old.items ++ out_line who ((V.world view.now).solos who)) }
 {
-    let console = board.console(who);
+    let console = view.console(who);
     let words = [
         env(who),
         Word::Number(console.len() as u64),
@@ -141,15 +141,15 @@ fn push_excess_line(out: &mut Vec<u8>, who: u8, excess: u32) -> Result<(), OutOf
 
 /// Appends what is shown of an environment while it lives.
 #[tactic(auto, unfolding(crate::specs::Report::living_lines))]
-fn push_living_lines<B: WorldView>(out: &mut Vec<u8>, board: &B, env: u8) -> Result<(), OutOfMemory>
-    requires { env < (B.world board.now).count }
-    ensures { OnOk result (out.new.items ≡ out.old.items ++ living_lines (B.world board.now) env) }
+fn push_living_lines<V: WorldView>(out: &mut Vec<u8>, view: &V, env: u8) -> Result<(), OutOfMemory>
+    requires { env < (V.world view.now).count }
+    ensures { OnOk result (out.new.items ≡ out.old.items ++ living_lines (V.world view.now) env) }
 {
-    let cpu = shown_cpu(board, env);
+    let cpu = shown_cpu(view, env);
     push_cpu_line(out, env, &cpu)?;
     push_regs_line(out, env, &cpu)?;
-    push_excess_line(out, env, board.excess(env))?;
-    push_keep_lines(out, board, env)?;
-    push_page_lines(out, board, env)?;
-    push_bind_lines(out, board, env)
+    push_excess_line(out, env, view.excess(env))?;
+    push_keep_lines(out, view, env)?;
+    push_page_lines(out, view, env)?;
+    push_bind_lines(out, view, env)
 }

@@ -36,16 +36,16 @@ fn push_keep_line(out: &mut Vec<u8>, who: u8, page: PageView<'_>) -> Result<(), 
 }
 
 /// Appends the lines of an environment's pages.
-pub(crate) fn push_keep_lines<B: WorldView>(
+pub(crate) fn push_keep_lines<V: WorldView>(
     out: &mut Vec<u8>,
-    board: &B,
+    view: &V,
     env: u8,
 ) -> Result<(), OutOfMemory>
-    requires { env < (B.world board.now).count }
-    ensures { OnOk result (out.new.items ≡ out.old.items ++ keep_lines env ((B.world board.now).solos env).kept) }
+    requires { env < (V.world view.now).count }
+    ensures { OnOk result (out.new.items ≡ out.old.items ++ keep_lines env ((V.world view.now).solos env).kept) }
 {
-    for place in 0..board.kept_count(env) {
-        if let Some(page) = board.kept_page(env, place) {
+    for place in 0..view.kept_count(env) {
+        if let Some(page) = view.kept_page(env, place) {
             push_keep_line(out, env, page)?;
         }
     }
@@ -66,33 +66,33 @@ fn push_page_line(out: &mut Vec<u8>, who: u8, page: u32, bytes: &[u8]) -> Result
 }
 
 /// Appends the line of a page, where the environment owns it.
-fn push_if_owned<B: WorldView>(
+fn push_if_owned<V: WorldView>(
     out: &mut Vec<u8>,
-    board: &B,
+    view: &V,
     env: u8,
     page: u32,
 ) -> Result<(), OutOfMemory>
-    requires there { env < (B.world board.now).count }
-    requires page { page < (B.world board.now).book.page_count }
-    ensures { OnOk result (out.new.items ≡ out.old.items ++ owned_line env page (((B.world board.now).solos env).seen page)) }
+    requires there { env < (V.world view.now).count }
+    requires page { page < (V.world view.now).book.page_count }
+    ensures { OnOk result (out.new.items ≡ out.old.items ++ owned_line env page (((V.world view.now).solos env).seen page)) }
 {
-    match board.owned_page(env, page) {
+    match view.owned_page(env, page) {
         Some(bytes) => push_page_line(out, env, page, bytes),
         None => Ok(()),
     }
 }
 
 /// Appends the lines of the pages that an environment owns, by rising number.
-pub(crate) fn push_page_lines<B: WorldView>(
+pub(crate) fn push_page_lines<V: WorldView>(
     out: &mut Vec<u8>,
-    board: &B,
+    view: &V,
     env: u8,
 ) -> Result<(), OutOfMemory>
-    requires { env < (B.world board.now).count }
-    ensures { OnOk result (out.new.items ≡ out.old.items ++ page_lines env ((B.world board.now).solos env).seen (B.world board.now).book.page_count) }
+    requires { env < (V.world view.now).count }
+    ensures { OnOk result (out.new.items ≡ out.old.items ++ page_lines env ((V.world view.now).solos env).seen (V.world view.now).book.page_count) }
 {
-    for page in 0..board.page_count() {
-        push_if_owned(out, board, env, page)?;
+    for page in 0..view.page_count() {
+        push_if_owned(out, view, env, page)?;
     }
     Ok(())
 }

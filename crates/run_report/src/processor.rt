@@ -15,12 +15,12 @@ const SHOWN_REGISTERS: u8 = 31;
 /// The registers that are shown of an environment: the runner's as they stand, and a stopped one's at
 /// rest.
 #[tactic(auto, unfolding(crate::specs::Report::shown_cpu))]
-pub(crate) fn shown_cpu<B: WorldView>(board: &B, env: u8) -> Cpu
-    requires { env < (B.world board.now).count }
-    ensures { result ≡ shown_cpu (B.world board.now) env }
+pub(crate) fn shown_cpu<V: WorldView>(view: &V, env: u8) -> Cpu
+    requires { env < (V.world view.now).count }
+    ensures { result ≡ shown_cpu (V.world view.now) env }
 {
-    let cpu = board.cpu(env);
-    match board.runner() {
+    let cpu = view.cpu(env);
+    match view.runner() {
         Some(runner) if runner == env => cpu,
         _ => cpu.rested(),
     }

@@ -11,30 +11,30 @@ use kernel_journal::RunEnd;
 use std::alloc::Global;
 use world_model::WorldView;
 
-/// The report of a board whose run ended in this way (`docs/PROGRAM.md`, "The report").
+/// The report of whatever shows a world, whose run ended in this way (`docs/PROGRAM.md`, "The report").
 #[tactic(auto, unfolding(crate::specs::Report::report_text))]
-pub fn report<B: WorldView>(alloc: Global, board: &B, end: RunEnd) -> Result<Vec<u8>, OutOfMemory>
-    ensures { IfOk result (λ v. v.items ≡ report_text (B.world board.now) end) }
+pub fn report<V: WorldView>(alloc: Global, view: &V, end: RunEnd) -> Result<Vec<u8>, OutOfMemory>
+    ensures { IfOk result (λ v. v.items ≡ report_text (V.world view.now) end) }
 {
     let mut out = Vec::new(alloc);
     push_text(&mut out, b"aegis run\n")?;
-    push_end_line(&mut out, board, end)?;
-    push_envs(&mut out, board)?;
-    push_rows(&mut out, board.journal())?;
-    push_sums(&mut out, board)?;
+    push_end_line(&mut out, view, end)?;
+    push_envs(&mut out, view)?;
+    push_rows(&mut out, view.journal())?;
+    push_sums(&mut out, view)?;
     push_text(&mut out, b"done\n")?;
     Ok(out)
 }
 
 /// Appends the line of how the run ended, and when.
 #[tactic(auto, unfolding(crate::specs::Report::end_line, crate::specs::Words::line_of))]
-fn push_end_line<B: WorldView>(out: &mut Vec<u8>, board: &B, end: RunEnd) -> Result<(), OutOfMemory>
-    ensures { OnOk result (out.new.items ≡ out.old.items ++ end_line (B.world board.now) end) }
+fn push_end_line<V: WorldView>(out: &mut Vec<u8>, view: &V, end: RunEnd) -> Result<(), OutOfMemory>
+    ensures { OnOk result (out.new.items ≡ out.old.items ++ end_line (V.world view.now) end) }
 {
     push_line(
         out,
         b"end",
-        &[Word::Text(end_text(end)), number(board.time())],
+        &[Word::Text(end_text(end)), number(view.time())],
     )
 }
 
@@ -49,21 +49,21 @@ fn end_text(end: RunEnd) -> &'static [u8]
 }
 
 /// Appends the lines of each environment.
-fn push_envs<B: WorldView>(out: &mut Vec<u8>, board: &B) -> Result<(), OutOfMemory>
-    ensures { OnOk result (out.new.items ≡ out.old.items ++ for_each (env_text (B.world board.now)) (B.world board.now).count) }
+fn push_envs<V: WorldView>(out: &mut Vec<u8>, view: &V) -> Result<(), OutOfMemory>
+    ensures { OnOk result (out.new.items ≡ out.old.items ++ for_each (env_text (V.world view.now)) (V.world view.now).count) }
 {
-    for env in 0..board.envs() {
-        push_env(out, board, env)?;
+    for env in 0..view.envs() {
+        push_env(out, view, env)?;
     }
     Ok(())
 }
 
 /// Appends the sums of each environment.
-fn push_sums<B: WorldView>(out: &mut Vec<u8>, board: &B) -> Result<(), OutOfMemory>
-    ensures { OnOk result (out.new.items ≡ out.old.items ++ for_each (sum_line (B.world board.now).rows) (B.world board.now).count) }
+fn push_sums<V: WorldView>(out: &mut Vec<u8>, view: &V) -> Result<(), OutOfMemory>
+    ensures { OnOk result (out.new.items ≡ out.old.items ++ for_each (sum_line (V.world view.now).rows) (V.world view.now).count) }
 {
-    for env in 0..board.envs() {
-        push_sum_line(out, board.journal(), env)?;
+    for env in 0..view.envs() {
+        push_sum_line(out, view.journal(), env)?;
     }
     Ok(())
 }

@@ -2,7 +2,7 @@
 ghost use Rattle.std.specs.Prelude.{◌≡◌, ◌++◌, ◌∷◌, [], OnOk};
 ghost use Rattle.std.specs.List.{flat_map};
 ghost use Rattle.run_report.specs.Report.{quotation, spaced};
-ghost use Rattle.run_report.specs.Words.{number_word, word_text, line_of};
+ghost use Rattle.run_report.specs.Words.{number_word, text_of, line_of};
 ghost use Rattle.run_report.specs.declared.words.Word.TheVariants.{Number};
 
 use aegis_limits::OutOfMemory;
@@ -61,7 +61,7 @@ fn push_quotation(out: &mut Vec<u8>, bytes: &[u8]) -> Result<(), OutOfMemory>
 
 /// Appends the text of a word.
 fn push_word_text(out: &mut Vec<u8>, word: Word<'_>) -> Result<(), OutOfMemory>
-    ensures { OnOk result (out.new.items ≡ out.old.items ++ word_text word.entry) }
+    ensures { OnOk result (out.new.items ≡ out.old.items ++ text_of word.entry) }
 {
     match word {
         Word::Text(bytes) => push_text(out, bytes),
@@ -76,7 +76,7 @@ fn push_word_text(out: &mut Vec<u8>, word: Word<'_>) -> Result<(), OutOfMemory>
 
 /// Appends a word.
 pub(crate) fn push_word(out: &mut Vec<u8>, word: Word<'_>) -> Result<(), OutOfMemory>
-    ensures { OnOk result (out.new.items ≡ out.old.items ++ spaced (word_text word.entry)) }
+    ensures { OnOk result (out.new.items ≡ out.old.items ++ spaced (text_of word.entry)) }
 {
     out.push(b' ')?;
     push_word_text(out, word)
@@ -84,7 +84,7 @@ pub(crate) fn push_word(out: &mut Vec<u8>, word: Word<'_>) -> Result<(), OutOfMe
 
 /// Appends words.
 fn push_words(out: &mut Vec<u8>, words: &[Word<'_>]) -> Result<(), OutOfMemory>
-    ensures { OnOk result (out.new.items ≡ out.old.items ++ flat_map (λ w. spaced (word_text w)) words.now) }
+    ensures { OnOk result (out.new.items ≡ out.old.items ++ flat_map (λ w. spaced (text_of w)) words.now) }
 {
     for word in words {
         push_word(out, *word)?;

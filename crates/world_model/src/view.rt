@@ -11,7 +11,7 @@ use bind_book::Binding;
 use kernel_journal::Row;
 use mips_exec::Cpu;
 
-/// A guaranteed page: its page number, whether it may be stored to, and its 4,096 bytes.
+/// A guaranteed page: its page number, whether it may be stored to, and its bytes.
 #[derive(Clone, Copy)]
 pub struct PageView<'a> {
     pub vpn: u32,
@@ -22,7 +22,7 @@ pub struct PageView<'a> {
 /// What shows a world of the model, to be read. Environments are named by number; there are `envs()` of them, from 0
 /// on.
 pub trait WorldView {
-    // The world that it shows.
+    /// The world that it shows.
     ghost world: { Self → World };
 
     /// How many environments there are.
@@ -43,7 +43,7 @@ pub trait WorldView {
         requires { env < (world self.now).count }
         ensures { result ≡ ((world self.now).solos env).life };
 
-    /// An environment's registers as they stand: the machine's, if it runs, and else those that are kept.
+    /// An environment's registers as they stand.
     fn cpu(&self, env: u8) -> Cpu
         requires { env < (world self.now).count }
         ensures { result ≡ ((world self.now).solos env).cpu };
@@ -53,7 +53,7 @@ pub trait WorldView {
         requires { env < (world self.now).count }
         ensures { result.now ≡ ((world self.now).solos env).console };
 
-    /// How many guaranteed pages an environment has, at most 256.
+    /// How many guaranteed pages an environment has.
     fn kept_count(&self, env: u8) -> usize
         requires { env < (world self.now).count }
         ensures { result ≡ length ((world self.now).solos env).kept };
@@ -63,11 +63,11 @@ pub trait WorldView {
         requires { env < (world self.now).count }
         ensures { option_map view_seen result ≡ slice_get ((world self.now).solos env).kept place };
 
-    /// How many pages of physical memory there are, from 16 to 1,024.
+    /// How many pages of physical memory there are.
     fn page_count(&self) -> u32
         ensures { result ≡ (world self.now).book.page_count };
 
-    /// The 4,096 bytes of a page that an environment owns; none of one that is guaranteed to it, or that it has
+    /// The bytes of a page that an environment owns; none of one that is guaranteed to it, or that it has
     /// merely bound.
     fn owned_page(&self, env: u8, page: u32) -> Option<&[u8]>
         requires env { env < (world self.now).count }

@@ -9,7 +9,7 @@ use Rattle.run_report.proofs.page.push_keep_lines.Goals.{in-Some+in_ok-push_keep
 
 pub loop-place-preserved : goal.loop-place-preserved
 loop-place-preserved g c =
-    let kept = ((g.B.WorldView.world c.args.board.now).solos c.args.env).kept in
+    let kept = ((g.V.WorldView.world c.args.view.now).solos c.args.env).kept in
     let place = c.loop-place.place in
     elim c.match-kept_page.branch [
       | in-Some+in_ok-push_keep_line w ↦

@@ -3,4 +3,4 @@ use Rattle.run_report.specs.Report.{keep_lines}
 use Rattle.run_report.proofs.page.push_keep_lines.Given as goal
 
 abbrev pub invariant-loop-place : goal.invariant-loop-place
-invariant-loop-place g l = l.out.items ≡ l.fn.out.items ++ keep_lines l.env (take l.place ((g.B.WorldView.world l.board).solos l.env).kept)
+invariant-loop-place g l = l.out.items ≡ l.fn.out.items ++ keep_lines l.env (take l.place ((g.V.WorldView.world l.view).solos l.env).kept)

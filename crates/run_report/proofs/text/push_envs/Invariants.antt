@@ -3,4 +3,4 @@ use Rattle.run_report.specs.Report.{env_text, for_each}
 use Rattle.run_report.proofs.text.push_envs.Given as goal
 
 abbrev pub invariant-loop-env : goal.invariant-loop-env
-invariant-loop-env g l = l.out.items ≡ l.fn.out.items ++ for_each (env_text (g.B.WorldView.world l.board)) l.env
+invariant-loop-env g l = l.out.items ≡ l.fn.out.items ++ for_each (env_text (g.V.WorldView.world l.view)) l.env

@@ -3,4 +3,4 @@ use Rattle.run_report.specs.Report.{sum_line, for_each}
 use Rattle.run_report.proofs.text.push_sums.Given as goal
 
 abbrev pub invariant-loop-env : goal.invariant-loop-env
-invariant-loop-env g l = l.out.items ≡ l.fn.out.items ++ for_each (sum_line (g.B.WorldView.world l.board).rows) l.env
+invariant-loop-env g l = l.out.items ≡ l.fn.out.items ++ for_each (sum_line (g.V.WorldView.world l.view).rows) l.env
