@@ -26,7 +26,7 @@ pub fn read_run<S: Shelf>(
     ensures ok { IfOk result (RunRead (run_seen words.entry) (shelf_edge S.Shelf shelf.old shelf.new)) }
     ensures err { IfErr result (Stopped (run_seen words.entry) (shelf_edge S.Shelf shelf.old shelf.new)) }
     ensures sure { S.Serves shelf.old words.entry.image.now → S.Serves shelf.old words.entry.schedule.now → StopsByWantAlone result }
-    ensures within_limit { IfOk result (λ files. length files.image.items ≤ file_limit) }
+    ensures within_limit { IfOk result (λ files. (length files.image.items ≤ file_limit) × (length files.schedule.items ≤ file_limit)) }
 {
     let image = shelf.read(alloc, words.image)?;
     let schedule = shelf.read(alloc, words.schedule)?;
