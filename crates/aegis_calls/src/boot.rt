@@ -13,7 +13,7 @@ ghost use Rattle.run_model.specs.Boot.{open_page, body_page, kept_of, own_row, o
 ghost use Rattle.world_model.specs.Book.{own_hold};
 ghost use Rattle.std.specs.Option.{option_map};
 ghost use Rattle.world_model.specs.Item.{boot_cpu as boot_registers};
-ghost use Rattle.board_world.specs.Loading.{AreGiven, HasPages, zeros_from};
+ghost use Rattle.board_world.specs.Loading.{AreGiven, HasPages, with_mapped, zeros_from};
 ghost use Rattle.board_world.specs.Showing.{pages_seen, world_of};
 ghost use Rattle.board_world.specs.Sound.{AreGuaranteed};
 ghost use Rattle.board_world.specs.Doing.{with_rows};
@@ -83,6 +83,7 @@ fn give_page(
     requires within { vpn < 0x80000 }
     ensures guaranteed { AreGuaranteed pages.new number env.new.mappings }
     ensures given { AreGiven number 1 pages.old pages.new frames.old frames.new }
+    ensures mapped { env.new.mappings ≡ with_mapped number pages.old (body_page body.now vpn ∷ []) env.old.mappings }
     ensures seen { pages_seen frames.new env.new.mappings ≡ pages_seen frames.old env.old.mappings ++ body_page body.now vpn ∷ [] }
     ensures above { IsAbove env.new.mappings (vpn + 1) }
     ensures count { length env.new.mappings ≡ length env.old.mappings + 1 }
@@ -103,6 +104,7 @@ fn give_zero_page(frames: &mut Frames, pages: &mut Pages, number: u8, env: &mut 
     requires above { IsAbove env.old.mappings vpn }
     ensures guaranteed { AreGuaranteed pages.new number env.new.mappings }
     ensures given { AreGiven number 1 pages.old pages.new frames.old frames.new }
+    ensures mapped { env.new.mappings ≡ with_mapped number pages.old (open_page vpn zero_page ∷ []) env.old.mappings }
     ensures seen { pages_seen frames.new env.new.mappings ≡ pages_seen frames.old env.old.mappings ++ open_page vpn zero_page ∷ [] }
     ensures above { IsAbove env.new.mappings (vpn + 1) }
     ensures count { length env.new.mappings ≡ length env.old.mappings + 1 }
@@ -122,6 +124,7 @@ fn give_body(frames: &mut Frames, pages: &mut Pages, number: u8, env: &mut Env, 
     requires above { IsAbove env.old.mappings 2 }
     ensures guaranteed { AreGuaranteed pages.new number env.new.mappings }
     ensures given { AreGiven number (length (page_numbers body.now)) pages.old pages.new frames.old frames.new }
+    ensures mapped { env.new.mappings ≡ with_mapped number pages.old (map (body_page body.now) (page_numbers body.now)) env.old.mappings }
     ensures seen { pages_seen frames.new env.new.mappings ≡ pages_seen frames.old env.old.mappings ++ map (body_page body.now) (page_numbers body.now) }
     ensures above { IsAbove env.new.mappings 0x7FF00 }
     ensures count { length env.new.mappings ≡ length env.old.mappings + length (page_numbers body.now) }
@@ -151,6 +154,7 @@ fn give_zeros(
     requires numbers { vpn + zeros ≤ 0x80000 }
     ensures guaranteed { AreGuaranteed pages.new number env.new.mappings }
     ensures given { AreGiven number zeros pages.old pages.new frames.old frames.new }
+    ensures mapped { env.new.mappings ≡ with_mapped number pages.old (zeros_from vpn zeros) env.old.mappings }
     ensures seen { pages_seen frames.new env.new.mappings ≡ pages_seen frames.old env.old.mappings ++ zeros_from vpn zeros }
     ensures count { length env.new.mappings ≡ length env.old.mappings + zeros }
     ensures rest { env.new ≡ record env.old { mappings = env.new.mappings } }
@@ -168,6 +172,7 @@ fn enter(frames: &mut Frames, pages: &mut Pages, number: u8, program: &Program<'
     ensures cpu { result.cpu ≡ boot_registers program.now.body.entry }
     ensures handlers { result.handlers ≡ no_handlers }
     ensures mask { result.mask ≡ program.now.accept }
+    ensures mapped { result.mappings ≡ with_mapped number pages.old (open_page 1 zero_page ∷ []) [] }
     ensures seen { pages_seen frames.new result.mappings ≡ open_page 1 zero_page ∷ [] }
     ensures guaranteed { AreGuaranteed pages.new number result.mappings }
     ensures given { AreGiven number 1 pages.old pages.new frames.old frames.new }
@@ -187,6 +192,7 @@ fn load(frames: &mut Frames, pages: &mut Pages, number: u8, program: &Program<'_
     ensures cpu { result.cpu ≡ boot_registers program.now.body.entry }
     ensures handlers { result.handlers ≡ no_handlers }
     ensures mask { result.mask ≡ program.now.accept }
+    ensures mapped { result.mappings ≡ with_mapped number pages.old (kept_of program.now) [] }
     ensures seen { pages_seen frames.new result.mappings ≡ kept_of program.now }
     ensures guaranteed { AreGuaranteed pages.new number result.mappings }
     ensures given { AreGiven number (guaranteed_mappings program.now) pages.old pages.new frames.old frames.new }

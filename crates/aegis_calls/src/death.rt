@@ -3,8 +3,9 @@ ghost use Rattle.std.specs.Prelude.{◌≡◌, ◌≤◌, ◌<◌, length, Some}
 ghost use Rattle.kernel_journal.specs.Ledger.{with_row};
 ghost use Rattle.world_model.specs.Book.{running};
 ghost use Rattle.world_model.specs.Verdict.{slot_row};
-ghost use Rattle.slot_vector.specs.Slices.{hold_at};
-ghost use Rattle.board_world.specs.Doing.{mask_rows, with_rows};
+ghost use Rattle.slot_vector.specs.Slices.{hold_at, most_numbers, without_env};
+ghost use Rattle.board_world.specs.Doing.{ledger_released, mask_rows, with_rows};
+ghost use Rattle.board_world.specs.Sound.{HasNoPart};
 
 use crate::board::Board;
 use kernel_journal::{Journal, Row};
@@ -38,25 +39,45 @@ fn push_slots(journal: &mut Journal, slots: &Slots, time: u32, mask: u64)
     }
 }
 
-impl Board {
-    ghost use Rattle.board_world.specs.Doing.{died};
+/// Releases the slots of an environment that dies: its own are empty, and those that it held for others are theirs
+/// again. The ledger tells its death, and what becomes of each slot.
+pub(crate) fn release_slots(slots: &mut Slots, journal: &mut Journal, time: u32, env: u8)
+    requires number { env < most_numbers }
+    requires room { length slots.old.slots < journal.old.spare }
+    ensures slots { slots.new ≡ without_env env slots.old }
+    ensures journal { journal.new ≡ ledger_released time env slots.old journal.old }
+{
+    journal.push(Row::Dead {
+        time,
+        slot: slots.slot(),
+        env,
+    });
+    let mask = slots.release_env(env);
+    push_slots(journal, slots, time, mask);
+}
 
-    /// The runner dies: its pages are free, and neither its bindings nor those of its pages are left; its
-    /// slots are empty, and those that it held for others are theirs again.
+impl Board {
+    ghost use Rattle.board_world.specs.Doing.{buried, died};
+
+    /// What an environment has whose slots are released goes: its pages are free, neither its bindings nor those of
+    /// its pages are left, and it is dead.
+    pub(crate) fn bury(&mut self, env: u8, cause: Cause)
+        requires there { env < length self.old.roster.list }
+        requires released { HasNoPart env self.old.slots }
+        ensures { self.new ≡ buried self.old env cause }
+    {
+        self.bindings.clear_env(env, &self.pages);
+        self.pages.release_env(env);
+        self.roster.die(env, cause);
+    }
+
+    /// The runner dies: its slots are released, and then all else that it has.
     pub(crate) fn die(&mut self, env: u8, cause: Cause)
         requires runs { running self.old.slots.runner ≡ Some env }
         requires room { 64 < self.old.ledger.spare }
         ensures { self.new ≡ died self.old env cause }
     {
-        self.journal.push(Row::Dead {
-            time: self.time,
-            slot: self.slots.slot(),
-            env,
-        });
-        self.bindings.clear_env(env, &self.pages);
-        self.pages.release_env(env);
-        let mask = self.slots.release_env(env);
-        push_slots(&mut self.journal, &self.slots, self.time, mask);
-        self.roster.die(env, cause);
+        release_slots(&mut self.slots, &mut self.journal, self.time, env);
+        self.bury(env, cause);
     }
 }

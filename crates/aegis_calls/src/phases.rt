@@ -9,9 +9,9 @@ use crate::board::Board;
 use crate::registers::CODE_REGISTER;
 use world_model::{Call, Cause, WorldView};
 
-/// The most rows that a turn may write: a start, and a forfeit for each quantum that the holders of 64 slots owe, at
-/// most eight each.
-pub const TURN_ROWS: usize = 513;
+/// Rows enough for a turn, which writes a start, and a forfeit for each quantum that the environments owe: 32 of them
+/// at most eight each.
+pub const TURN_ROWS: usize = 512;
 
 /// The most rows that a step, or the timer, may write.
 pub const STEP_ROWS: usize = 256;

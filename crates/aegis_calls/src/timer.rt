@@ -1,16 +1,52 @@
 //! The timer, and the stop of a runner: what they do to the board's parts.
-ghost use Rattle.std.specs.Prelude.{◌≡◌, ◌<◌, ◌^◌, ◌-◌, length, true, Some};
-ghost use Rattle.slot_vector.specs.Slices.{after_timer, timer_answer};
+ghost use Rattle.std.specs.Prelude.{◌≡◌, ◌<◌, ◌+◌, ◌^◌, ◌-◌, length, true, Some};
+ghost use Rattle.kernel_journal.specs.Ledger.{with_row};
+ghost use Rattle.kernel_journal.specs.declared.row.Row.TheVariants as row;
+ghost use Rattle.slot_vector.specs.Slices.{most_numbers, timer_answer};
 ghost use Rattle.world_model.specs.Book.{running};
+ghost use Rattle.board_world.specs.Doing.{ledger_settled, settled};
 
 use crate::board::Board;
+use crate::death::release_slots;
 use env_frames::Context;
-use kernel_journal::Row;
-use slot_vector::Timer;
+use kernel_journal::{Journal, Row};
+use slot_vector::{Slots, Timer};
 use world_model::{Cause, WorldView};
 
+/// The ledger says that a quantum of grace is over, and what the environment's excess is now.
+fn push_over(journal: &mut Journal, slots: &Slots, time: u32, env: u8, excess: u32)
+    requires { 0 < journal.old.spare }
+    ensures { journal.new ≡ with_row journal.old (row.Over time slots.now.cursor env excess) }
+{
+    journal.push(Row::Over {
+        time,
+        slot: slots.slot(),
+        env,
+        excess,
+    });
+}
+
+/// Settles what the timer brought to a runner, before anything else happens: the ledger tells of a quantum of grace
+/// that is over, and the slots of a runner that is to die are released.
+fn settle(slots: &mut Slots, journal: &mut Journal, time: u32, env: u8, timer: Timer)
+    requires number { env < most_numbers }
+    requires room { length slots.old.slots + 1 < journal.old.spare }
+    ensures slots { slots.new ≡ settled env slots.old timer }
+    ensures journal { journal.new ≡ ledger_settled time env slots.old journal.old timer }
+{
+    match timer {
+        Timer::Nothing | Timer::End | Timer::Stop => {}
+        Timer::Over(excess) => push_over(journal, slots, time, env, excess),
+        Timer::Kill => {
+            let excess = slots.excess(env);
+            push_over(journal, slots, time, env, excess);
+            release_slots(slots, journal, time, env);
+        }
+    }
+}
+
 impl Board {
-    ghost use Rattle.board_world.specs.Doing.{brought, counted, ended, has_end, kept_stopped, over_row, stopped};
+    ghost use Rattle.board_world.specs.Doing.{brought, counted, ended, has_end, kept_stopped, stopped, used};
 
     /// The registers of an environment that is stopped are kept, and the ledger says so.
     fn keep_stopped(&mut self, env: u8)
@@ -52,27 +88,17 @@ impl Board {
         });
     }
 
-    /// The ledger says that a quantum of grace is over, and what the environment's excess is now.
-    fn tell_over(&mut self, env: u8, excess: u32)
-        requires { 0 < self.old.ledger.spare }
-        ensures { self.new ≡ record self.old { ledger = over_row self.old env excess } }
-    {
-        self.journal.push(Row::Over {
-            time: self.time,
-            slot: self.slots.slot(),
-            env,
-            excess,
-        });
-    }
-
-    /// The ticks left of the runner's quantum fall by one; the result is what that brings.
+    /// The ticks left of the runner's quantum fall by one; the result is what that brings, which is settled.
     fn use_tick(&mut self, env: u8) -> Timer
-        requires { env < length self.old.roster.list }
+        requires runs { running self.old.slots.runner ≡ Some env }
+        requires room { 65 < self.old.ledger.spare }
         ensures answer { result ≡ timer_answer self.old.slots (has_end self.old env) }
-        ensures after { self.new ≡ record self.old { slots = after_timer self.old.slots result } }
+        ensures after { self.new ≡ used self.old env result }
     {
         let end = self.roster.frame(env).handler(Context::End);
-        self.slots.timer(end != 0)
+        let timer = self.slots.timer(end != 0);
+        settle(&mut self.slots, &mut self.journal, self.time, env, timer);
+        timer
     }
 
     /// A tick of the runner's quantum is over: after the last one it is told, or it is stopped, and in time of
@@ -85,15 +111,10 @@ impl Board {
         // Reads a part, and with it that the board is sound.
         let _ = &self.time;
         match self.use_tick(env) {
-            Timer::Nothing => {}
+            Timer::Nothing | Timer::Over(_) => {}
             Timer::End => self.tell_end(env),
             Timer::Stop => self.keep_stopped(env),
-            Timer::Over(excess) => self.tell_over(env, excess),
-            Timer::Kill => {
-                let excess = self.excess(env) + 1;
-                self.tell_over(env, excess);
-                self.die(env, Cause::Excess);
-            }
+            Timer::Kill => self.bury(env, Cause::Excess),
         }
     }
 

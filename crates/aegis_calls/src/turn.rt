@@ -1,6 +1,6 @@
 //! Turns: what they do to the board's parts.
 ghost use Rattle.std.specs.Prelude.{◌≡◌, ◌<◌, ◌≤◌, ◌+◌, IsNone, length};
-ghost use Rattle.slot_vector.specs.Laws.{owed_of};
+ghost use Rattle.slot_vector.specs.Laws.{owed_by_all};
 ghost use Rattle.slot_vector.specs.Slices.{next_turn};
 
 use crate::board::Board;
@@ -51,11 +51,11 @@ impl Board {
     /// starts with a full quantum.
     pub(crate) fn take_turn(&mut self)
         requires whole { self.old.roster.spare ≡ 0 }
-        requires room { owed_of self.old.slots < self.old.ledger.spare }
+        requires room { owed_by_all self.old.slots < self.old.ledger.spare }
         ensures after { self.new ≡ turned self.old }
         ensures time { self.new.time ≡ self.old.time }
         ensures whole { self.new.roster.spare ≡ 0 }
-        ensures room { self.old.ledger.spare ≤ self.new.ledger.spare + owed_of self.old.slots + 1 }
+        ensures room { self.old.ledger.spare ≤ self.new.ledger.spare + owed_by_all self.old.slots + 1 }
     {
         if self.runner().is_some() {
             return;

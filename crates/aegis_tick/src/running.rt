@@ -1,9 +1,10 @@
 //! Ticks and whole runs of a board.
-ghost use Rattle.std.specs.Prelude.{◌≡◌, ◌≤◌, ◌<◌, ◌+◌, ◌*◌, ℕ, false, IfOk, IsOk, OnOk, OnErr};
+ghost use Rattle.std.specs.Prelude.{◌≡◌, ◌≤◌, ◌<◌, ◌+◌, ◌*◌, ℕ, [], false, IfOk, IsOk, OnOk, OnErr};
 ghost use Rattle.aegis_limits.specs.Limits.{most_ticks};
 ghost use Rattle.board_world.specs.Shown.{with_spare};
 ghost use Rattle.board_world.specs.Showing.{world_of};
 ghost use Rattle.world_model.specs.Book.{is_idle_book};
+ghost use Rattle.world_model.specs.Event.{schedule_of};
 ghost use Rattle.run_model.specs.Excess.{IsAccounted};
 ghost use Rattle.run_model.specs.Run.{run_on, end_of_run};
 ghost use Rattle.world_model.specs.Tick.{tick_step};
@@ -44,13 +45,13 @@ pub fn tick(board: &mut Board)
     board.timer();
 }
 
-/// So many ticks, or fewer where the board is idle before.
+/// So many ticks, in which nothing happens from outside, or fewer where the board is idle before.
 fn run_ticks(board: &mut Board, ticks: u32) -> Result<(), OutOfMemory>
     requires whole { board.old.roster.spare ≡ 0 }
     requires fresh { board.old.time ≡ 0 }
     requires limit { ticks ≤ most_ticks }
-    ensures world { OnOk result (world_of board.new ≡ run_on (world_of board.old) ticks) }
-    ensures whole { OnErr result ((t : ℕ) × (t < ticks) × (world_of board.new ≡ run_on (world_of board.old) t)) }
+    ensures world { OnOk result (world_of board.new ≡ run_on (schedule_of []) (world_of board.old) ticks) }
+    ensures whole { OnErr result ((t : ℕ) × (t < ticks) × (world_of board.new ≡ run_on (schedule_of []) (world_of board.old) t)) }
     ensures balance { IsAccounted (world_of board.old) → IsAccounted (world_of board.new) }
     ensures sure { TICK_ROWS * ticks ≤ board.old.ledger.spare → IsOk result }
 {
@@ -64,7 +65,7 @@ fn run_ticks(board: &mut Board, ticks: u32) -> Result<(), OutOfMemory>
     Ok(())
 }
 
-/// Runs a freshly booted board for so many ticks. It ends at the limit exactly where the time reached
+/// Runs a freshly booted board for so many ticks, in which nothing happens from outside. It ends at the limit exactly where the time reached
 /// it, else because the board is idle. After a refusal the board is that of a whole number of ticks. What
 /// environments ran past their slices by the ledger, they forfeited by it or still owe, as before.
 /// Where `TICK_ROWS` rows are spare for each tick it takes no memory and isn't refused.
@@ -72,9 +73,9 @@ pub fn run(board: &mut Board, ticks: u32) -> Result<RunEnd, OutOfMemory>
     requires whole { board.old.roster.spare ≡ 0 }
     requires fresh { board.old.time ≡ 0 }
     requires limit { ticks ≤ most_ticks }
-    ensures world { OnOk result (world_of board.new ≡ run_on (world_of board.old) ticks) }
+    ensures world { OnOk result (world_of board.new ≡ run_on (schedule_of []) (world_of board.old) ticks) }
     ensures end { IfOk result (λ end. end ≡ end_of_run (world_of board.new) ticks) }
-    ensures whole { OnErr result ((t : ℕ) × (t < ticks) × (world_of board.new ≡ run_on (world_of board.old) t)) }
+    ensures whole { OnErr result ((t : ℕ) × (t < ticks) × (world_of board.new ≡ run_on (schedule_of []) (world_of board.old) t)) }
     ensures balance { IsAccounted (world_of board.old) → IsAccounted (world_of board.new) }
     ensures sure { TICK_ROWS * ticks ≤ board.old.ledger.spare → IsOk result }
 {

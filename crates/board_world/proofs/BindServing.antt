@@ -38,11 +38,13 @@ use Rattle.board_world.specs.Sound.{IsSound, IsOwned}
 use Rattle.board_world.specs.Doing as doing
 use Rattle.board_world.proofs.Losing.{resighted}
 use Rattle.board_world.proofs.Lists.{changed_here, changed_else, length-changed, get_within}
+use Rattle.board_world.proofs.Mappings.{kept_mappings}
 use Rattle.board_world.proofs.PageServing.{its_reg, own_sees}
 use Rattle.board_world.proofs.Pages.{seen_kept}
 use Rattle.board_world.proofs.Parts.{append_nothing, set_here, set_else}
 use Rattle.board_world.proofs.Replying.{Serves, all_given, granted_first, grants, refuses}
 use Rattle.board_world.proofs.Seen.{same_solo, Runs, runner_solo, runner_seen, its_mappings, live_record, stripe_of}
+use Rattle.board_world.proofs.Sound.{keeps_handling}
 use Rattle.board_world.proofs.Tables.{row_got, stripe_set, stripe_without}
 
 -- who unbinds_number a page number keeps all but its bindings and what it sees
@@ -214,7 +216,7 @@ module _ (b : Shown) (e : ℕ) (x : Environment) (r : Runs b e x) (sound : IsSou
       let now = doing.answered (doing.with_handling b e (Some kind) (reg b.cpu 5)) code.Ok 0 in
       let still : Runs now e (f x) = record { at = changed_here f b.roster.list e ∙ ap (option_map f) r.at; lives = r.lives; runs = r.runs } in
       record {
-        book = refl;
+        book = λ k. record (book_of now) { kept = λ i. kept_mappings f (keeps_handling kind (reg b.cpu 5)) b.roster.list e i k };
         count = length-changed f b.roster.list e;
         solos = all_given (solo_of b) (solo_of now) e (solo_of b e) (Granted 0 ∷ []) no_items
             (runner_seen now e (f x) still

@@ -20,7 +20,7 @@ use Rattle.boot_image.specs.ImageValue.{ProgramValue, guaranteed_mappings}
 use Rattle.world_model.specs.declared.life.Life.TheVariants.{Live}
 use Rattle.world_model.specs.declared.slot.Runner.{Runner}
 use Rattle.world_model.specs.Book.{is_runner, own_hold}
-use Rattle.run_model.specs.Boot.{boot_slot, bare_world, added, kept_of, own_rows, record_items}
+use Rattle.run_model.specs.Boot.{boot_slot, bare_world, added, kept_of, mappings_over, own_rows, record_items}
 use Rattle.world_model.specs.Item.{Item, absorb_all, boot_cpu}
 use Rattle.world_model.specs.Solo.{absent}
 use Rattle.world_model.specs.World.{only}
@@ -35,6 +35,7 @@ use Rattle.board_world.specs.Loading.{AreGiven, AreLeft}
 use Rattle.board_world.proofs.Giving.{none_guaranteed}
 use Rattle.board_world.proofs.Keeping.{IsGivenRow, given_row, taken_row}
 use Rattle.board_world.proofs.Lists.{last_get, other_get, past_get}
+use Rattle.board_world.proofs.Mappings.{last_mappings, more_mappings, other_mappings}
 use Rattle.board_world.proofs.Parts.{worlds, by_env, only_here, only_else}
 use Rattle.board_world.proofs.Sound.{if_both}
 use Rattle.board_world.proofs.Seen.{like_solo, owned_taken, sights_of}
@@ -122,6 +123,7 @@ built_world pages envs quantum owners b free unbound slots none start rows =
       excess = λ e. (ap (λ v. vector.excess_of v.excess e) slots ∙ nothing_owed vector.most_numbers e) i;
       page_count = page_count i;
       pages = λ page. (ap (λ rows. row_in rows page) free ∙ all_free pages page) i;
+      kept = λ e. ap (λ list. mappings_of list e) none i;
       binds = λ e row. (ap (λ rows. stripes rows e row) unbound ∙ empty_row (envs * stripe_rows) e row) i;
       time = start i;
     })
@@ -166,13 +168,6 @@ module _ (r : Environments) (x : Environment) (lives : x.life ≡ Live) (room : 
     count = omega (arith, are.count, one_longer, room);
     unwritten = λ e past. are.unwritten e (omega (arith, past, one_longer));
   }
-
--- the mappings of the last, and of the others
-last_mappings : (list : List Environment) (x : Environment) → mappings_of (list ++ x ∷ []) (length list) ≡ x.env.mappings
-last_mappings list x = ap mappings_in (last_get list x)
-
-other_mappings : (list : List Environment) (x : Environment) (i : ℕ) → i ≢ length list → mappings_of (list ++ x ∷ []) i ≡ mappings_of list i
-other_mappings list x i ne = ap mappings_in (other_get list x i ne)
 
 -- Pages are given to the environment that is added.
 module _ (r : Environments) (x : Environment) (count : ℕ) (pages given : List PageRow) (frames new : List (List ℕ)) (binds : List (Option Binding)) (gives : AreGiven (length r.list) count pages given frames new) where
@@ -239,7 +234,8 @@ abbrev pub with_one : Shown → Environment → List (List ℕ) → List PageRow
 with_one b x frames pages = record b { frames = frames; pages = pages; roster = record { list = b.roster.list ++ x ∷ []; spare = b.roster.spare - 1 } }
 
 module _ (b : Shown) (x : Environment) (frames : List (List ℕ)) (pages : List PageRow) (p : ProgramValue) (sound : IsSound b) (gives : AreGiven (length b.roster.list) (guaranteed_mappings p) b.pages pages b.frames frames)
-    (name : x.name ≡ p.name) (lives : x.life ≡ Live) (cpu : x.env.cpu ≡ boot_cpu p.body.entry) (handlers : x.env.handlers ≡ no_handlers) (mask : x.env.mask ≡ p.accept) (kept : pages_seen frames x.env.mappings ≡ kept_of p) where
+    (name : x.name ≡ p.name) (lives : x.life ≡ Live) (cpu : x.env.cpu ≡ boot_cpu p.body.entry) (handlers : x.env.handlers ≡ no_handlers) (mask : x.env.mask ≡ p.accept) (kept : pages_seen frames x.env.mappings ≡ kept_of p)
+    (maps : x.env.mappings ≡ mappings_over (length b.roster.list) (length b.pages) (row_in b.pages) (kept_of p)) where
   its_items : List Item
   its_items = record_items (length b.roster.list) (Some p)
 
@@ -343,7 +339,11 @@ module _ (b : Shown) (x : Environment) (frames : List (List ℕ)) (pages : List 
   pub added_world : world_of (with_one b x frames pages) ≡ added (world_of b) p
   added_world =
       worlds (world_of (with_one b x frames pages)) (added (world_of b) p)
-      (λ k. record (book_of b) { page_count = gives.size k; pages = gives.rows k })
+      (λ k. record (book_of b) {
+        page_count = gives.size k;
+        pages = gives.rows k;
+        kept = λ i. more_mappings b.roster.list x (mappings_over (length b.roster.list) (length b.pages) (row_in b.pages) (kept_of p)) maps i k;
+      })
       (length-append b.roster.list (x ∷ []))
       (by_env (solo_of (with_one b x frames pages)) (added (world_of b) p).solos (length b.roster.list) added_here added_others)
       refl

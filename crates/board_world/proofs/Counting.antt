@@ -1,15 +1,14 @@
 -- What the timer leaves: all environments stay, and it writes few rows.
-use Rattle.std.proofs.Common.{◌≡◌, ◌≤◌, ◌+◌, ℕ, Option, Some, None, refl, ap, arith}
+use Rattle.std.proofs.Common.{◌≡◌, ◌≤◌, ◌+◌, ℕ, Option, Some, None, length, refl, ap, arith}
 use Rattle.slot_vector.specs.declared.timer.Timer.{Timer}
 use Rattle.slot_vector.specs.declared.timer.Timer.TheVariants as timer
-use Rattle.slot_vector.specs.Slices.{excess_of, timer_answer}
-use Rattle.world_model.specs.declared.life.Cause.TheVariants as cause
+use Rattle.slot_vector.specs.Slices.{hold_at, timer_answer}
 use Rattle.world_model.specs.declared.slot.Runner.{Runner}
 use Rattle.world_model.specs.Book.{running}
 use Rattle.board_world.specs.Shown.{Shown}
 use Rattle.board_world.specs.Sound.{IsSound}
-use Rattle.board_world.specs.Doing.{brought, counted, counted_down, has_end, over_row, ticked}
-use Rattle.board_world.proofs.Serving.{death_serves}
+use Rattle.board_world.specs.Doing.{brought, counted, counted_down, has_end, ticked}
+use Rattle.board_world.proofs.Dying.{few_rows}
 
 pub record Counts (b new : Shown) : Type 0 where
   pub room : b.ledger.spare ≤ new.ledger.spare + 256
@@ -21,10 +20,7 @@ brought_counts b e timer.Nothing sound runs = record { room = omega arith; spare
 brought_counts b e timer.Stop sound runs = record { room = omega arith; spare = refl; time = refl }
 brought_counts b e timer.End sound runs = record { room = omega arith; spare = refl; time = refl }
 brought_counts b e (timer.Over excess) sound runs = record { room = omega arith; spare = refl; time = refl }
-brought_counts b e timer.Kill sound runs =
-    let told : Shown = record b { ledger = over_row b e (excess_of b.slots.excess e + 1) } in
-    let dies = death_serves told e cause.Excess (record { book = sound.book; consoles = sound.consoles; memory = sound.memory; books = sound.books }) runs in
-    record { room = omega (arith, dies.room); spare = dies.spare; time = ap (λ (n : ℕ). n + 1) dies.time }
+brought_counts b e timer.Kill sound runs = record { room = omega (arith, few_rows b.time e (hold_at b.slots.slots) (length b.slots.slots), sound.book.count); spare = refl; time = refl }
 
 pub counted_counts : (b : Shown) → IsSound b → Counts b (counted b)
 counted_counts b sound = by_runner b.slots.runner refl

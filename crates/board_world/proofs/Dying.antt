@@ -5,6 +5,7 @@ use Rattle.std.proofs.lemmas.List.{length-map, length-append}
 use Rattle.std.specs.Prelude.{◌==◌, if◌then◌else◌, slice_get}
 use Rattle.std.specs.Option.{option_map}
 use Rattle.frame_store.specs.Pages.{page_at}
+use Rattle.aegis_limits.specs.Limits.{most_slots}
 use Rattle.kernel_journal.specs.declared.row.Row.TheVariants as row
 use Rattle.page_book.specs.declared.row.PageRow.{PageRow}
 use Rattle.page_book.specs.declared.row.PageRow.TheVariants.{Free, Guaranteed, Owned}
@@ -29,10 +30,11 @@ use Rattle.world_model.specs.Table.{set_at}
 use Rattle.board_world.specs.declared.roster.Environment.{Environment}
 use Rattle.board_world.specs.Shown.{Shown}
 use Rattle.board_world.specs.Showing.{world_of, book_of, solo_of, solo_or_absent, solo_seen}
-use Rattle.board_world.specs.Sound.{IsSound}
+use Rattle.board_world.specs.Sound.{AreBooked, IsSound}
 use Rattle.board_world.specs.Doing as doing
 use Rattle.board_world.proofs.Lists.{changed_here, changed_else, get_within, length-changed}
 use Rattle.board_world.proofs.Losing.{dropped, HasNone, losses_keep, no_losses, nothing_seen, sees_by}
+use Rattle.board_world.proofs.Mappings.{dead_mappings}
 use Rattle.board_world.proofs.Parts.{by_env, set_here, set_else}
 use Rattle.board_world.proofs.Replying.{Serves}
 use Rattle.board_world.proofs.Seen.{Runs, runner_seen, stripe_of}
@@ -47,7 +49,7 @@ hold_at-map e (hold ∷ slots) (suc k) = hold_at-map e slots k
 one_row : (t e k : ℕ) (hold : Option Hold) → length (released_row t e k hold) ≤ 1
 one_row t e k hold = elim (has_part e hold) as (λ part. length (if part then slot_row t k (released e hold) ∷ [] else []) ≤ 1) [ true ↦ omega arith | false ↦ omega arith ]
 
-few_rows : (t e : ℕ) (slots : ℕ → Option Hold) (k : ℕ) → length (released_rows t e slots k) ≤ k
+pub few_rows : (t e : ℕ) (slots : ℕ → Option Hold) (k : ℕ) → length (released_rows t e slots k) ≤ k
 few_rows t e slots zero = omega arith
 few_rows t e slots (suc k) = let so_far = few_rows t e slots k in let row = one_row t e k (slots k) in omega (arith, so_far, row, length-append (released_rows t e slots k) (released_row t e k (slots k)))
 
@@ -78,11 +80,20 @@ own_goes : (pages : ℕ → PageRow) (e : ℕ) (x : Option Binding) → without 
 own_goes pages e None = refl
 own_goes pages e (Some x) = rw (eq-eqb e e refl) refl
 
+-- What a death reads of a sound board.
+pub record MayDie (b : Shown) (e : ℕ) : Type 0 where
+  pub numbered : e < length b.slots.excess
+  pub count : length b.slots.slots ≤ most_slots
+  pub books : AreBooked b.pages b.binds b.roster
+
 -- each environment of the board has an excess
 pub numbered_within : (b : Shown) (e : ℕ) (x : Environment) → slice_get b.roster.list e ≡ Some x → IsSound b → e < length b.slots.excess
 numbered_within b e x at sound = omega (arith, get_within b.roster.list e x at, sound.consoles.most, sound.book.numbered)
 
-module _ (b : Shown) (e : ℕ) (x : Environment) (r : Runs b e x) (sound : IsSound b) (cause : Cause) where
+pub may_die : (b : Shown) (e : ℕ) (x : Environment) → slice_get b.roster.list e ≡ Some x → IsSound b → MayDie b e
+may_die b e x at sound = record { numbered = numbered_within b e x at sound; count = sound.book.count; books = sound.books }
+
+module _ (b : Shown) (e : ℕ) (x : Environment) (r : Runs b e x) (may : MayDie b e) (cause : Cause) where
   abbrev after_death : Shown
   after_death = doing.died b e cause
 
@@ -121,13 +132,13 @@ module _ (b : Shown) (e : ℕ) (x : Environment) (r : Runs b e x) (sound : IsSou
       owns = λ page. ap (is_owned_by i) (row_released e b.pages page) ∙ released_none e i (row_in b.pages page) (none.owns page);
     };
     nothing = λ none. no_losses (book_of b) e i (length b.pages) none.binds;
-  }) sound
+  }) may.books
 
   pub dies : Serves b e (Dies cause) (death (world_of b) e) after_death
   dies = record {
     book =
         let ended : (without_env e b.slots).runner ≡ None = rw r.runs.its refl in
-        let forgiven : excess_of (without_env e b.slots).excess ≡ set_at e 0 (excess_of b.slots.excess) = excess_set b.slots.excess e 0 (numbered_within b e x r.at sound) in
+        let forgiven : excess_of (without_env e b.slots).excess ≡ set_at e 0 (excess_of b.slots.excess) = excess_set b.slots.excess e 0 may.numbered in
         λ k. record {
           slot_count = length-map b.slots.slots (released e) k;
           slots = λ n. hold_at-map e b.slots.slots n k;
@@ -137,6 +148,7 @@ module _ (b : Shown) (e : ℕ) (x : Environment) (r : Runs b e x) (sound : IsSou
           excess = forgiven k;
           page_count = length-map b.pages (released_page e) k;
           pages = λ page. row_released e b.pages page k;
+          kept = λ i. dead_mappings cause b.roster.list e i k;
           binds = λ i row. swept_stripe i row k;
           time = b.time;
         };
@@ -148,10 +160,10 @@ module _ (b : Shown) (e : ℕ) (x : Environment) (r : Runs b e x) (sound : IsSou
         (λ i ne. dead_others i ne
         ∙ (λ k. absorb_all (sym (set_else e i (dead cause (solo_of b e)) (solo_of b) ne) k) (if sym (ne_eqb i e ne) k then [] else lost_with (book_of b) e i (length b.pages))));
     rows = append_assoc b.ledger.rows (row.Dead b.time b.slots.cursor e ∷ []) (released_rows b.time e (hold_at b.slots.slots) (length b.slots.slots));
-    room = omega (arith, few_rows b.time e (hold_at b.slots.slots) (length b.slots.slots), sound.book.count);
+    room = omega (arith, few_rows b.time e (hold_at b.slots.slots) (length b.slots.slots), may.count);
     spare = refl;
     time = refl;
   }
 
 pub died_serves : (b : Shown) (e : ℕ) (x : Environment) → Runs b e x → IsSound b → (cause : Cause) → Serves b e (Dies cause) (death (world_of b) e) (doing.died b e cause)
-died_serves b e x r sound cause = dies b e x r sound cause
+died_serves b e x r sound cause = dies b e x r (may_die b e x r.at sound) cause

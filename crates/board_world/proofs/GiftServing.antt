@@ -27,12 +27,14 @@ use Rattle.board_world.specs.Sound.{IsSound}
 use Rattle.board_world.specs.Doing as doing
 use Rattle.board_world.proofs.Contexts.{start_others, start_seen, start_sights, waiting}
 use Rattle.board_world.proofs.Lists.{changed_here, changed_else, length-changed}
+use Rattle.board_world.proofs.Mappings.{kept_mappings}
 use Rattle.board_world.proofs.Parts.{set_here, set_else, only_here, only_else, one_acted}
 use Rattle.board_world.proofs.Replying.{Serves, answered_others, answered_seen, granted_first, refuses}
 use Rattle.board_world.proofs.Seen.{same_solo, IsNamed, Runs, runner_seen, runner_solo}
 use Rattle.board_world.proofs.Slots.{is_there}
+use Rattle.board_world.proofs.Sound.{keeps_registers}
 use Rattle.board_world.proofs.Slotted.{both_true, differs, giving_parts}
-use Rattle.board_world.proofs.Turning.{stopped_solo, stopped_others, stopped_count}
+use Rattle.board_world.proofs.Turning.{stopped_solo, stopped_others, stopped_count, stopped_mappings}
 
 -- who has the slice runs
 pub handed_named : (e t : ℕ) (o : Option Runner) → is_runner e o ≡ true → IsNamed t (handed t o)
@@ -142,7 +144,7 @@ module _ (b : Shown) (e : ℕ) (x : Environment) (r : Runs b e x) (sound : IsSou
 
     gives_to : called b.cpu ≡ Some call.Yield → Serves b e (Calls (Some call.Yield)) (reply_of (world_of b) e (give_by (world_of b) e t None)) new
     gives_to named = record {
-      book = refl;
+      book = λ k. record (book_of new) { kept = λ i. kept_mappings (doing.with_registers now.cpu) (keeps_registers now.cpu) b.roster.list e i k };
       count = length-changed (doing.with_registers now.cpu) b.roster.list e;
       solos = two_given (solo_of b) (solo_of new) e t (solo_of b e) (Granted 0 ∷ []) (Start ∷ []) other
           (caller_solo ∙ answered_seen b e x r code.Ok 0 ∙ granted_first b e x r (Some call.Yield) 0 [] named)
@@ -167,7 +169,7 @@ module _ (b : Shown) (e : ℕ) (x : Environment) (r : Runs b e x) (sound : IsSou
       let now = doing.answered b code.Ok 0 in
       let still : Runs now e x = record { at = r.at; lives = r.lives; runs = r.runs } in
       record {
-        book = refl;
+        book = λ k. record (book_of (doing.stopped now e)) { kept = λ i. stopped_mappings now e x still i k };
         count = stopped_count now e x still;
         solos = one_acted (solo_of b) (solo_of (doing.yield_if b e true)) e (Calls (Some call.Yield)) (Granted 0 ∷ [])
             (stopped_solo now e x still ∙ answered_seen b e x r code.Ok 0 ∙ granted_first b e x r (Some call.Yield) 0 [] named)

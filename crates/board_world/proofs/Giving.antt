@@ -1,5 +1,5 @@
 -- A page that is given to an environment.
-use Rattle.std.proofs.Common.{◌≡◌, ◌≢◌, ℕ, suc, ◌+◌, ◌-◌, ◌<◌, List, [], ◌∷◌, ◌++◌, length, map, Bool, true, false, Some, ◌⊎◌, inl, inr, refl, sym, append_assoc, add-one, ◌∙◌, ap, arith, get_or-set_same, get_or-set_other}
+use Rattle.std.proofs.Common.{◌≡◌, ◌≢◌, ℕ, zero, suc, ◌+◌, ◌-◌, ◌<◌, List, [], ◌∷◌, ◌++◌, length, map, Bool, true, false, Some, ◌⊎◌, inl, inr, refl, sym, append_assoc, add-one, ◌∙◌, ap, arith, get_or-set_same, get_or-set_other}
 use Rattle.std.specs.Prelude.{◌==◌, slice_get, slice_index, slice_index_or, slice_set, Option}
 use Rattle.std.specs.Option.{option_map, option_flatten}
 use Rattle.std.proofs.Math.ListN.{get_or-append}
@@ -118,6 +118,13 @@ one_moved old now next f vpn left later all longer begins so_far =
     ∙ ap (λ (vpns : List ℕ). now ++ map f vpns) (sym begins)
     ∙ so_far
 
+pub listed_more : (f : ℕ → KeptPage) (i : ℕ) → listed f (i + 1) ≡ listed f i ++ f i ∷ []
+listed_more f i = rw add-one refl
+
+pub length-listed : (f : ℕ → KeptPage) (i : ℕ) → length (listed f i) ≡ i
+length-listed f zero = refl
+length-listed f (suc i) = length-append (listed f i) (f i ∷ []) ∙ ap (λ n. n + 1) (length-listed f i) ∙ add-one i
+
 -- the pages so far and one more
 pub one_more : (old now next : List KeptPage) (f : ℕ → KeptPage) (i : ℕ) (page : KeptPage) → next ≡ now ++ page ∷ [] → now ≡ old ++ listed f i → page ≡ f i → next ≡ old ++ listed f (i + 1)
 one_more old now next f i page longer so_far is =
@@ -126,9 +133,6 @@ one_more old now next f i page longer so_far is =
     ∙ append_assoc old (listed f i) (page ∷ [])
     ∙ ap (λ p. old ++ (listed f i ++ p ∷ [])) is
     ∙ ap (λ ps. old ++ ps) (sym (listed_more f i))
-  where
-    listed_more : (f : ℕ → KeptPage) (i : ℕ) → listed f (i + 1) ≡ listed f i ++ f i ∷ []
-    listed_more f i = rw add-one refl
 
 -- the rows of the owners so far and one more
 pub more_owners : (j : Ledger) (owners : List (Option ℕ)) (k : ℕ) (d : Option ℕ) → k < length owners → with_rows (with_rows j (own_rows owners k)) (own_row k (option_map own_hold (slice_index_or owners k d))) ≡ with_rows j (own_rows owners (k + 1))

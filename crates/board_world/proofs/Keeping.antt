@@ -1,15 +1,17 @@
 -- The lowest free pages are guaranteed to an environment, one after another.
-use Rattle.std.proofs.Common.{◌≡◌, ◌≢◌, ℕ, zero, suc, ◌+◌, List, [], length, Bool, true, false, Option, Some, None, ◌⊎◌, inl, inr, refl, sym, ◌∙◌, ap, arith, add-zero, add-suc, length-set, get_or-set_same, get_or-set_other}
+use Rattle.std.proofs.Common.{◌≡◌, ◌≢◌, ℕ, zero, suc, ◌+◌, List, [], ◌∷◌, ◌++◌, length, Bool, true, false, Option, Some, None, ◌⊎◌, inl, inr, refl, sym, ◌∙◌, ap, arith, add-zero, add-suc, append_assoc, length-set, get_or-set_same, get_or-set_other}
 use Rattle.std.specs.Prelude.{◌==◌, if◌then◌else◌, slice_set}
 use Rattle.std.proofs.lemmas.Bool.{eqb-true}
 use Rattle.frame_store.specs.Pages.{with_page}
+use Rattle.env_frames.specs.declared.mapping.Mapping.{Mapping}
 use Rattle.page_book.specs.declared.row.PageRow.{PageRow}
 use Rattle.page_book.specs.declared.row.PageRow.TheVariants.{Free, Guaranteed}
 use Rattle.page_book.specs.Rows.{first_free, free_pages, lowest_free, row_in, IsLowest}
 use Rattle.page_book.proofs.Free.{is_lowest}
-use Rattle.run_model.specs.Boot.{keep_lowest, keep_pages}
+use Rattle.world_model.specs.Page.{KeptPage}
+use Rattle.run_model.specs.Boot.{keep_lowest, keep_pages, mapped_to, mappings_over}
 use Rattle.page_sight.proofs.Tables.{by_number, set_here, set_else}
-use Rattle.board_world.specs.Loading.{AreGiven}
+use Rattle.board_world.specs.Loading.{AreGiven, with_mapped}
 
 -- a row stays, or it was that of a free page, which is guaranteed to the environment
 abbrev pub IsGivenRow : ℕ → PageRow → PageRow → Type 0
@@ -45,6 +47,18 @@ kept_both e count m (suc n) rows =
     ap (λ (f : ℕ → PageRow). keep_lowest e (lowest_free f count) f) (kept_both e count m n rows)
     ∙ ap (λ k. keep_pages e count k rows) (sym (add-suc m n))
 
+-- the mappings of some pages, and then of some more
+mapped_both : (e count : ℕ) (rows : ℕ → PageRow) (xs ys : List KeptPage) → mappings_over e count rows (xs ++ ys) ≡ mappings_over e count rows xs ++ mappings_over e count (keep_pages e count (length xs) rows) ys
+mapped_both e count rows [] ys = refl
+mapped_both e count rows (x ∷ xs) ys =
+    let lowest = lowest_free rows count in
+    let after = keep_lowest e lowest rows in
+    let one_more : 1 + length xs ≡ suc (length xs) = omega arith in
+    ap (λ ms. mapped_to x lowest ++ ms)
+    (mapped_both e count after xs ys
+    ∙ ap (λ f. mappings_over e count after xs ++ mappings_over e count f ys) (kept_both e count 1 (length xs) rows ∙ ap (λ n. keep_pages e count n rows) one_more))
+    ∙ sym (append_assoc (mapped_to x lowest) (mappings_over e count after xs) (mappings_over e count (keep_pages e count (suc (length xs)) rows) ys))
+
 -- what becomes of a row where pages are given
 pub given_row : (e n : ℕ) (old new : List PageRow) (before after : List (List ℕ)) → AreGiven e n old new before after → (p : ℕ) → IsGivenRow e (row_in old p) (row_in new p)
 given_row e n old new before after given p = rw (ap (λ (f : ℕ → PageRow). f p) given.rows) (kept_row e (length old) n (row_in old) p)
@@ -75,6 +89,15 @@ given_both e m n old mid new before between after first second = record {
   };
 }
 
+-- the mappings that an environment has then
+pub mapped_more : (e n : ℕ) (old mid : List PageRow) (before between : List (List ℕ)) (xs ys : List KeptPage) (ms : List Mapping) → AreGiven e n old mid before between → length xs ≡ n → with_mapped e mid ys (with_mapped e old xs ms) ≡ with_mapped e old (xs ++ ys) ms
+mapped_more e n old mid before between xs ys ms given size =
+    let first = mappings_over e (length old) (row_in old) xs in
+    append_assoc ms first (mappings_over e (length mid) (row_in mid) ys)
+    ∙ (λ k. ms ++ (first ++ mappings_over e (given.size k) (given.rows k) ys))
+    ∙ (λ k. ms ++ (first ++ mappings_over e (length old) (keep_pages e (length old) (sym size k) (row_in old)) ys))
+    ∙ ap (λ all. ms ++ all) (sym (mapped_both e (length old) (row_in old) xs ys))
+
 -- One page given: the lowest free one, which got some bytes.
 module _ (e page : ℕ) (pages : List PageRow) (frames : List (List ℕ)) (bytes : List ℕ) (lowest : first_free pages ≡ Some page) where
   is_one : IsLowest (row_in pages) (length pages) page
@@ -87,6 +110,10 @@ module _ (e page : ℕ) (pages : List PageRow) (frames : List (List ℕ)) (bytes
       (λ i ne. get_or-set_other pages page i (Guaranteed e) Free ne ∙ sym (set_else page i (Guaranteed e) (row_in pages) ne))
       p
       ∙ ap (λ o. keep_lowest e o (row_in pages) p) (sym lowest)
+
+  -- its mapping
+  pub mapped_one : (p : KeptPage) (ms : List Mapping) → ms ++ record { vpn = p.vpn; page = page; writable = p.writable } ∷ [] ≡ with_mapped e pages (p ∷ []) ms
+  mapped_one p ms = ap (λ o. ms ++ (mapped_to p o ++ [])) (sym lowest)
 
   pub given_one : free_pages pages ≡ free_pages (slice_set pages page (Guaranteed e)) + 1 → AreGiven e 1 pages (slice_set pages page (Guaranteed e)) frames (with_page frames page bytes)
   given_one less = record {

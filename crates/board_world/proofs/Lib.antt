@@ -11,11 +11,13 @@ pub mod Keeping
 pub mod Lists
 pub mod Looks
 pub mod Losing
+pub mod Mappings
 pub mod Masks
 pub mod PageServing
 pub mod Pages
 pub mod Parted
 pub mod Parts
+pub mod Phases
 pub mod Replying
 pub mod Seen
 pub mod Serving

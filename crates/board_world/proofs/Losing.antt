@@ -23,7 +23,7 @@ use Rattle.world_model.specs.Solo.{Solo, is_dead}
 use Rattle.board_world.specs.declared.roster.Environment.{Environment}
 use Rattle.board_world.specs.Shown.{Shown, mappings_in, mappings_of, console_of}
 use Rattle.board_world.specs.Showing.{solo_of, solo_or_absent, solo_seen, cpu_seen, pages_seen}
-use Rattle.board_world.specs.Sound.{IsSound, IsAlive, IsLive}
+use Rattle.board_world.specs.Sound.{AreBooked, IsAlive, IsLive}
 use Rattle.board_world.proofs.Seen.{same_solo, stripe_of}
 
 -- Books with the same tables serve alike.
@@ -106,15 +106,15 @@ lives_or_not list i = by_record (slice_get list i) refl
     by_record (Some x) is = by_life x x.life is refl
 
 -- one that doesn't live has no bindings and owns no page
-pub has_none : (b : Shown) (i : ℕ) → IsSound b → (IsLive b.roster.list i → ⊥) → HasNone i (row_in b.pages) (stripe_of b i)
-has_none b i sound dead = record { binds = λ row. by_binding row (stripe_of b i row) refl; owns = λ page. by_row page (row_in b.pages page) refl }
+pub has_none : (b : Shown) (i : ℕ) → AreBooked b.pages b.binds b.roster → (IsLive b.roster.list i → ⊥) → HasNone i (row_in b.pages) (stripe_of b i)
+has_none b i books dead = record { binds = λ row. by_binding row (stripe_of b i row) refl; owns = λ page. by_row page (row_in b.pages page) refl }
   where
     by_binding : (row : ℕ) (x : Option Binding) → stripe_of b i row ≡ x → x ≡ None
     by_binding row None is = refl
-    by_binding row (Some x) is = absurd (dead (sound.books.binders i row x is))
+    by_binding row (Some x) is = absurd (dead (books.binders i row x is))
 
     by_test : (page owner : ℕ) (t : Bool) → (owner == i) ≡ t → owner_of (row_in b.pages page) ≡ Some owner → t ≡ false
-    by_test page owner true same is = absurd (dead (sound.books.owners page i (is ∙ ap Some (eqb-true owner i same))))
+    by_test page owner true same is = absurd (dead (books.owners page i (is ∙ ap Some (eqb-true owner i same))))
     by_test page owner false other is = refl
 
     by_row : (page : ℕ) (row : PageRow) → row_in b.pages page ≡ row → is_owned_by i row ≡ false
@@ -168,8 +168,8 @@ module _ (i : ℕ) (old new : Shown) (its : List Item) (drops : Drops i old new 
       })
       ∙ ap (absorb_all (solo_of old i)) (sym (drops.nothing none))
 
-  pub dropped : IsSound old → solo_of new i ≡ absorb_all (solo_of old i) its
-  dropped sound = elim (lives_or_not old.roster.list i) [
+  pub dropped : AreBooked old.pages old.binds old.roster → solo_of new i ≡ absorb_all (solo_of old i) its
+  dropped books = elim (lives_or_not old.roster.list i) [
     | inl lives ↦ live_drops lives.0 lives.1.0 lives.1.1
-    | inr dead ↦ dead_drops (has_none old i sound dead)
+    | inr dead ↦ dead_drops (has_none old i books dead)
   ]

@@ -189,7 +189,7 @@ module _ (b : Shown) (e : ℕ) (x : Environment) (r : Runs b e x) (sound : IsSou
         owns = λ p. ap (is_owned_by i) (taken_rows p) ∙ set_owns i page (Owned e (words_of b.cpu)) (row_in b.pages) (ne_eqb e i (λ same. ne (sym same))) none.owns p;
       };
       nothing = λ none. refl;
-    }) sound
+    }) sound.books
 
     takes : called b.cpu ≡ Some call.Alloc → Serves b e (Calls (Some call.Alloc)) taken_reply taken
     takes named =
@@ -254,7 +254,7 @@ module _ (b : Shown) (e : ℕ) (x : Environment) (r : Runs b e x) (sound : IsSou
         owns = λ p. ap (is_owned_by i) (changed_rows p) ∙ set_owns i page row (row_in b.pages) after none.owns p;
       };
       nothing = λ none. nothing_lost (stripe_of b i) none.binds page;
-    }) sound
+    }) sound.books
 
     -- what the runner sees, if the page's law says so
     changed_own : (s : Solo) → Sees e (set_at page row (row_in b.pages)) (λ n. without (breaks_page page but e) (stripe_of b e n)) (page_at b.frames) s → Sees e (row_in changed.pages) (stripe_of changed e) (page_at b.frames) s

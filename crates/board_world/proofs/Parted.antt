@@ -18,6 +18,7 @@ use Rattle.board_world.specs.Shown.{mappings_in, mappings_of, changed}
 use Rattle.board_world.specs.Sound.{AreGuaranteed, IsParted}
 use Rattle.board_world.specs.Doing.{dead_frame}
 use Rattle.board_world.proofs.Lists.{changed_else}
+use Rattle.board_world.proofs.Mappings.{kept_mappings, lost_mappings}
 use Rattle.board_world.proofs.Pages.{placed}
 use Rattle.board_world.proofs.Seen.{guaranteed_there}
 use Rattle.board_world.proofs.Sound.{Keeps}
@@ -30,13 +31,6 @@ alike_parted frames pages list new parted alike = record {
   most = parted.most;
   mapped = λ i. subst (AreGuaranteed pages i) (sym (alike i)) (parted.mapped i);
 }
-
-kept_mappings : (f : Environment → Environment) → Keeps f → (list : List Environment) (e i : ℕ) → mappings_of (changed f list e) i ≡ mappings_of list i
-kept_mappings f keeps [] e i = refl
-kept_mappings f keeps (x ∷ list) zero zero = keeps.mappings x
-kept_mappings f keeps (x ∷ list) zero (suc i) = refl
-kept_mappings f keeps (x ∷ list) (suc e) zero = refl
-kept_mappings f keeps (x ∷ list) (suc e) (suc i) = kept_mappings f keeps list e i
 
 pub keep_parted : (f : Environment → Environment) → Keeps f → (frames : List (List ℕ)) (pages : List PageRow) (list : List Environment) (e : ℕ) → IsParted frames pages list → IsParted frames pages (changed f list e)
 keep_parted f keeps frames pages list e parted = alike_parted frames pages list _ parted (λ i. kept_mappings f keeps list e i)
@@ -80,11 +74,6 @@ row_parted frames pages list page row nobody parted = record {
 -- an environment that dies
 still_guaranteed : (e i : ℕ) → i ≢ e → released e (Guaranteed i) ≡ Guaranteed i
 still_guaranteed e i other = rw (ne_eqb i e other) refl
-
-lost_mappings : (cause : Cause) (list : List Environment) (e : ℕ) → mappings_of (changed (dead_frame cause) list e) e ≡ []
-lost_mappings cause [] e = refl
-lost_mappings cause (x ∷ list) zero = refl
-lost_mappings cause (x ∷ list) (suc e) = lost_mappings cause list e
 
 pub death_parted : (cause : Cause) (frames : List (List ℕ)) (pages : List PageRow) (list : List Environment) (e : ℕ) → IsParted frames pages list → IsParted frames (map (released e) pages) (changed (dead_frame cause) list e)
 death_parted cause frames pages list e parted = record {

@@ -1,22 +1,22 @@
 -- What an act of the runner leaves, where it brings a reply.
 use Rattle.std.proofs.Common.{◌≡◌, ◌≢◌, ◌≤◌, ℕ, ◌+◌, List, [], ◌∷◌, ◌++◌, length, Option, refl, sym, ◌∙◌, ap, arith}
-use Rattle.std.proofs.lemmas.List.Sums.{fold-append}
 use Rattle.world_model.specs.declared.call.Call.{Call}
 use Rattle.world_model.specs.declared.code.Code.{Code}
 use Rattle.world_model.specs.declared.code.Code.TheVariants as code
 use Rattle.world_model.specs.Call.{called}
-use Rattle.world_model.specs.Item.{Item, Step as AStep, Granted, Refused, absorb, absorb_all, answered_cpu, own_part}
+use Rattle.world_model.specs.Item.{Item, Granted, Refused, absorb, absorb_all, answered_cpu, own_part}
 use Rattle.world_model.specs.Solo.{Solo}
 use Rattle.world_model.specs.Step.{Act, Calls, acted}
 use Rattle.world_model.specs.Verdict.{grant, refusal}
-use Rattle.world_model.specs.World.{Reply, after, only}
+use Rattle.world_model.specs.World.{Reply, after, in_turn, tells}
 use Rattle.world_model.specs.Table.{set_at}
 use Rattle.world_model.specs.Tick as tick
 use Rattle.board_world.specs.declared.roster.Environment.{Environment}
 use Rattle.board_world.specs.Shown.{Shown}
 use Rattle.board_world.specs.Showing.{world_of, book_of, solo_of}
 use Rattle.board_world.specs.Doing as doing
-use Rattle.board_world.proofs.Parts.{append_nothing, worlds, by_env, set_here, set_else, only_here, only_else, one_acted}
+use Rattle.board_world.proofs.Parts.{append_nothing, worlds, by_env, set_here, set_else, one_acted}
+use Rattle.board_world.proofs.Phases.{acted_brings, acted_world, told_first}
 use Rattle.board_world.proofs.Seen.{same_solo, Runs, runner_solo, runner_seen}
 
 -- Each environment has absorbed what it is given, and few rows are written.
@@ -30,23 +30,16 @@ pub record Serves (b : Shown) (e : ℕ) (act : Act) (reply : Reply) (new : Shown
   pub time : new.time ≡ b.time
 
 -- apart from a tick it is the world once the act is served
-pub alone : (b : Shown) (e : ℕ) (act : Act) (new : Shown) → Serves b e act (tick.brings (world_of b) e act) new → world_of new ≡ tick.act_world (world_of b) e act
-alone b e act new serves = worlds (world_of new) (tick.act_world (world_of b) e act) serves.book serves.count serves.solos serves.rows
+pub alone : (b : Shown) (e : ℕ) (act : Act) (new : Shown) → Serves b e act (tick.brings e act (world_of b)) new → world_of new ≡ tick.act_world (world_of b) e act
+alone b e act new serves =
+    let w = world_of b in
+    worlds (world_of new) (after (acted_world w e act) (tick.brings e act w)) serves.book serves.count serves.solos serves.rows
+    ∙ ap (after (acted_world w e act)) (sym (acted_brings w e act))
 
--- and where the runner's step came to the act it is the world after that phase
-pub in_step : (b : Shown) (e : ℕ) (act : Act) (reply : Reply) (new : Shown) → Serves b e act reply new → absorb (solo_of b e) AStep ≡ acted act (solo_of b e) → world_of new ≡ after (world_of b) (tick.with_step e reply)
-in_step b e act reply new serves steps =
-    worlds (world_of new) (after (world_of b) (tick.with_step e reply)) serves.book serves.count
-    (λ i. serves.solos i
-    ∙ ap (λ s. absorb_all s (reply.items i)) (sym (stepped_first i))
-    ∙ sym (fold-append absorb (solo_of b i) (only e (AStep ∷ []) i) (reply.items i)))
-    serves.rows
-  where
-    stepped_first : (i : ℕ) → absorb_all (solo_of b i) (only e (AStep ∷ []) i) ≡ set_at e (acted act (solo_of b e)) (solo_of b) i
-    stepped_first =
-        by_env (λ i. absorb_all (solo_of b i) (only e (AStep ∷ []) i)) (set_at e (acted act (solo_of b e)) (solo_of b)) e
-        (ap (absorb_all (solo_of b e)) (only_here e (AStep ∷ [])) ∙ steps ∙ sym (set_here e (acted act (solo_of b e)) (solo_of b)))
-        (λ i ne. ap (absorb_all (solo_of b i)) (only_else e i (AStep ∷ []) ne) ∙ sym (set_else e i (acted act (solo_of b e)) (solo_of b) ne))
+-- and where what the runner is told makes it do the act it is the world after both
+pub told : (b : Shown) (e : ℕ) (item : Item) (act : Act) (new : Shown) → Serves b e act (tick.brings e act (world_of b)) new → absorb (solo_of b e) item ≡ acted act (solo_of b e) →
+    world_of new ≡ after (world_of b) (in_turn (tells e item ∷ tick.brings e act ∷ []) (world_of b))
+told b e item act new serves acts = alone b e act new serves ∙ sym (told_first (world_of b) e item act acts)
 
 -- where one did something itself, and each is given something
 pub all_given : (old new : ℕ → Solo) (e : ℕ) (first : Solo) (its : List Item) (theirs : ℕ → List Item) → new e ≡ absorb_all first its → ((i : ℕ) → i ≢ e → new i ≡ absorb_all (old i) (theirs i)) → (i : ℕ) → new i ≡ absorb_all (set_at e first old i) (set_at e its theirs i)

@@ -32,8 +32,9 @@ use Rattle.board_world.proofs.Parts.{append_nothing, worlds, by_env, set_here, s
 use Rattle.board_world.proofs.Seen.{same_solo, Runs, runner_solo, runner_seen, runner_runs, its_look, console_changed, console_elsewhere}
 use Rattle.board_world.proofs.BindServing.{bind_same, binds, context_same, sets_handler, unbind_same, unbinds}
 use Rattle.board_world.proofs.PageServing.{alloc_same, allocates, change_same, frees, recaps, its_reg}
+use Rattle.board_world.proofs.Phases.{called_still}
 use Rattle.board_world.proofs.Replying.{alone, granted_first, grants, refuses}
-pub use Rattle.board_world.proofs.Replying.{Serves, in_step}
+pub use Rattle.board_world.proofs.Replying.{Serves, told}
 pub use Rattle.board_world.proofs.Dying.{died_serves, hold_at-map}
 use Rattle.board_world.proofs.GiftServing.{yields}
 use Rattle.board_world.proofs.SlotServing.{takes, drops, queries, query_same, sets_mask}
@@ -77,7 +78,7 @@ module _ (b : Shown) (e : ℕ) (x : Environment) (r : Runs b e x) (sound : IsSou
       ∙ ap (λ (s : Solo). put_refusal s.cpu (sight s) (length s.console)) (sym (runner_seen b e x r))
 
   -- Each call; exit is a death.
-  pub call_serves : (c : Option Call) → called b.cpu ≡ c → Serves b e (call_act b.cpu c) (tick.brings (world_of b) e (call_act b.cpu c)) (doing.served b e c)
+  pub call_serves : (c : Option Call) → called b.cpu ≡ c → Serves b e (call_act b.cpu c) (tick.brings e (call_act b.cpu c) (world_of b)) (doing.served b e c)
   call_serves None named = refuses b e x r None code.BadCall 0
   call_serves (Some call.Yield) named =
       subst (λ n. Serves b e (Calls (Some call.Yield)) (reply_of (world_of b) e (yield_by (world_of b) e n (n == any))) (doing.served b e (Some call.Yield))) (its_reg b e x r 4)
@@ -122,7 +123,7 @@ module _ (b : Shown) (e : ℕ) (x : Environment) (r : Runs b e x) (sound : IsSou
   call_serves (Some call.Clock) named = grants b e x r (Some call.Clock) b.time named refl
 
 -- What is shown after a call, apart from a tick.
-pub called_serves : (b : Shown) (e : ℕ) → IsSound b → running b.slots.runner ≡ Some e → Serves b e (call_act b.cpu (called b.cpu)) (tick.brings (world_of b) e (call_act b.cpu (called b.cpu))) (doing.served b e (called b.cpu))
+pub called_serves : (b : Shown) (e : ℕ) → IsSound b → running b.slots.runner ≡ Some e → Serves b e (call_act b.cpu (called b.cpu)) (tick.brings e (call_act b.cpu (called b.cpu)) (world_of b)) (doing.served b e (called b.cpu))
 called_serves b e sound runs = let x = runner_runs b e sound runs in call_serves b e x.0 x.1 sound (called b.cpu) refl
 
 pub called_world : (b : Shown) (e : ℕ) → IsSound b → running b.slots.runner ≡ Some e → world_of (doing.served b e (called b.cpu)) ≡ tick.called_world (world_of b) e
@@ -142,11 +143,12 @@ died_world b e cause sound runs = alone b e (Dies cause) (doing.died b e cause) 
 module _ (w : World) (e : ℕ) (lives : (w.solos e).life ≡ Live) (why : Code) (v : ℕ) where
   refusal_world : (c : Option Call) → verdict w e c ≡ Refuses why v → tick.act_world w e (Calls c) ≡ tick.refused_world w e why v
   refusal_world c is =
-      ap (λ d. after (record w { solos = set_at e (w.solos e) w.solos }) (reply_of w e d)) is
-      ∙ worlds (after (record w { solos = set_at e (w.solos e) w.solos }) (refusal w e why v)) (tick.refused_world w e why v) refl refl
-      (by_env (λ i. absorb_all (set_at e (w.solos e) w.solos i) (only e (Refused why v ∷ []) i)) (set_at e (refused why v (w.solos e)) w.solos) e
-      (ap (λ s. absorb_all s (only e (Refused why v ∷ []) e)) (set_here e (w.solos e) w.solos) ∙ ap (absorb_all (w.solos e)) (only_here e (Refused why v ∷ [])) ∙ rw lives refl ∙ sym (set_here e (refused why v (w.solos e)) w.solos))
-      (λ i ne. ap (λ s. absorb_all s (only e (Refused why v ∷ []) i)) (set_else e i (w.solos e) w.solos ne) ∙ ap (absorb_all (w.solos i)) (only_else e i (Refused why v ∷ []) ne) ∙ sym (set_else e i (refused why v (w.solos e)) w.solos ne)))
+      ap (λ u. after u (reply_of u e (verdict u e c))) (called_still w e c)
+      ∙ ap (λ d. after w (reply_of w e d)) is
+      ∙ worlds (after w (refusal w e why v)) (tick.refused_world w e why v) refl refl
+      (by_env (λ i. absorb_all (w.solos i) (only e (Refused why v ∷ []) i)) (set_at e (refused why v (w.solos e)) w.solos) e
+      (ap (absorb_all (w.solos e)) (only_here e (Refused why v ∷ [])) ∙ rw lives refl ∙ sym (set_here e (refused why v (w.solos e)) w.solos))
+      (λ i ne. ap (absorb_all (w.solos i)) (only_else e i (Refused why v ∷ []) ne) ∙ sym (set_else e i (refused why v (w.solos e)) w.solos ne)))
       (append_nothing w.rows)
 
   refused_call : (c : Option Call) → verdict w e c ≡ Refuses why v → call_act (w.solos e).cpu c ≡ Calls c

@@ -23,10 +23,12 @@ use Rattle.board_world.specs.Shown.{Shown}
 use Rattle.board_world.specs.Showing.{world_of, book_of, solo_of, solo_or_absent}
 use Rattle.board_world.specs.Doing as doing
 use Rattle.board_world.proofs.Lists.{changed_here, changed_else, length-changed, get_within}
+use Rattle.board_world.proofs.Mappings.{kept_mappings}
 use Rattle.board_world.proofs.Parts.{append_nothing, one_acted}
 use Rattle.board_world.proofs.Replying.{Serves, answered_others, answered_seen, granted_first, grants, refuses}
 use Rattle.board_world.proofs.Seen.{same_solo, Runs, runner_solo, runner_seen}
 use Rattle.board_world.proofs.Slots.{hold_set, is_there, slot_got}
+use Rattle.board_world.proofs.Sound.{keeps_accepting}
 use Rattle.board_world.proofs.Tables.{row_got}
 
 -- a slot that may be taken is there
@@ -125,7 +127,7 @@ module _ (b : Shown) (e : ℕ) (x : Environment) (r : Runs b e x) where
       let now = doing.answered (doing.accepted b e (reg b.cpu 4)) code.Ok 0 in
       let still : Runs now e (f x) = record { at = changed_here f b.roster.list e ∙ ap (option_map f) r.at; lives = r.lives; runs = r.runs } in
       record {
-        book = refl;
+        book = λ k. record (book_of now) { kept = λ i. kept_mappings f (keeps_accepting (reg b.cpu 4)) b.roster.list e i k };
         count = length-changed f b.roster.list e;
         solos = one_acted (solo_of b) (solo_of now) e (Calls (Some call.Accept)) (Granted 0 ∷ [])
             (runner_seen now e (f x) still ∙ granted_first b e x r (Some call.Accept) 0 [] named)

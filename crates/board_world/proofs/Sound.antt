@@ -1,16 +1,18 @@
 -- The slots and the consoles of a board go on being sound.
 use Rattle.std.proofs.Common.{◌≡◌, ◌≢◌, ℕ, zero, suc, ◌+◌, ◌-◌, ◌%◌, ◌<◌, ◌≤◌, List, [], ◌∷◌, length, map, Bool, true, false, Option, Some, None, IfSome, refl, sym, ◌∙◌, ap, subst, arith}
 use Rattle.std.specs.Option.{option_map}
-use Rattle.std.specs.Prelude.{◌==◌, ◌*◌, ◌-◌, if◌then◌else◌, nat_lt, slice_get, slice_index_or, slice_set}
+use Rattle.std.specs.Prelude.{◌==◌, ◌*◌, ◌-◌, ◌||◌, if◌then◌else◌, nat_lt, All, slice_get, slice_index_or, slice_set, sum_by}
 use Rattle.std.proofs.Common.{length-set}
-use Rattle.std.proofs.lemmas.Bool.{eqb-false, ltb-false}
+use Rattle.std.proofs.lemmas.Bool.{eq-eqb, eqb-false, ltb-false}
 use Rattle.std.proofs.lemmas.List.{length-map}
+use Rattle.std.proofs.lemmas.List.Sums.{sum_by-le}
 use Rattle.aegis_limits.specs.Limits.{most_slots}
 use Rattle.mips_exec.specs.declared.registers.Cpu.{Cpu}
 use Rattle.slot_vector.specs.declared.turn.NextTurn.TheVariants as next
+use Rattle.slot_vector.specs.declared.timer.Timer.{Timer}
 use Rattle.slot_vector.specs.declared.timer.Timer.TheVariants as timer
 use Rattle.slot_vector.specs.Slices.{Slices, HasTicks, after_timer, after_turn, excess_of, given_to, hold_at, next_held, in_grace_again, next_turn, slots_given, timer_answer, timer_at_end, timer_by, turn_ended, with_hold, without_env}
-use Rattle.slot_vector.specs.Laws.{owed_of}
+use Rattle.slot_vector.specs.Laws.{owed_by_all}
 use Rattle.slot_vector.proofs.Whole.{ran_is}
 use Rattle.env_frames.specs.declared.context.Context.{Context}
 use Rattle.world_model.specs.declared.slot.Hold.{Hold}
@@ -18,16 +20,21 @@ use Rattle.world_model.specs.declared.slot.Runner.{Runner}
 use Rattle.world_model.specs.declared.slot.Turn.{Turn}
 use Rattle.world_model.specs.declared.slot.Phase.{Phase}
 use Rattle.world_model.specs.declared.slot.Phase.TheVariants as phase
-use Rattle.world_model.specs.Book.{excess_limit, first_turn, is_runner, owed, owed_in, own_hold, released, running, turn_or}
+use Rattle.world_model.specs.Book.{excess_limit, first_turn, has_part, is_runner, own_hold, released, running, turn_or}
 use Rattle.world_model.specs.SlotCalls.{dropped, handed, held_by}
 use Rattle.world_model.specs.declared.life.Life.TheVariants.{Live}
 use Rattle.world_model.specs.declared.life.Cause.{Cause}
 use Rattle.board_world.specs.declared.roster.Environment.{Environment}
 use Rattle.board_world.specs.Shown.{Environments, changed, with_list}
-use Rattle.board_world.specs.Sound.{IsAlive, IsLive, IsUndead, IsManned, AreConsoles}
-use Rattle.board_world.specs.Doing.{accepting, with_registers, handling, dead_frame}
+use Rattle.board_world.specs.Sound.{HasNoPart, IsAlive, IsLive, IsUndead, IsManned, AreConsoles}
+use Rattle.board_world.specs.Doing.{accepting, settled, with_registers, handling, dead_frame}
 use Rattle.board_world.proofs.Lists.{changed_else, length-changed}
 use Rattle.board_world.proofs.Seen.{runner_live}
+
+-- neither of two
+pub neither : (x y : Bool) → (x || y) ≡ false → (x ≡ false) × (y ≡ false)
+neither true y is = cc
+neither false y is = (refl, is)
 
 -- whoever will live lives, once all are there
 undead_alive : (list : List Environment) (e : ℕ) → e < length list → IfSome (slice_get list e) (λ x. x.life ≡ Live) → IsAlive (slice_get list e)
@@ -103,17 +110,14 @@ pay_manned v r t manned = owing_manned (record v { cursor = t.slot }) r t.env (e
   owes = manned.owes;
 })
 
--- what the holders of the slots owe all together
-slot_owes : (excess : ℕ → ℕ) (hold : Option Hold) → ((e : ℕ) → excess e ≤ excess_limit) → owed_in excess hold ≤ excess_limit
-slot_owes excess None most = omega arith
-slot_owes excess (Some hold) most = most hold.holder
+-- what all environments owe together
+each_owes : (excess : List ℕ) → ((e : ℕ) → excess_of excess e ≤ excess_limit) → All (λ n. n ≤ excess_limit) excess
+each_owes [] most k d within = absurd (omega arith)
+each_owes (n ∷ excess) most zero d within = most 0
+each_owes (n ∷ excess) most (suc k) d within = each_owes excess (λ e. most (suc e)) k d (omega arith)
 
-all_owe : (excess : ℕ → ℕ) (slots : ℕ → Option Hold) (count : ℕ) → ((e : ℕ) → excess e ≤ excess_limit) → owed excess slots count ≤ 8 * count
-all_owe excess slots zero most = omega arith
-all_owe excess slots (suc k) most = omega (arith, all_owe excess slots k most, slot_owes excess (slots k) most)
-
-pub owed_most : (v : Slices) (r : Environments) → IsManned v r → owed_of v ≤ 512
-owed_most v r manned = omega (arith, all_owe (excess_of v.excess) (hold_at v.slots) (length v.slots) manned.owes, manned.count)
+pub owed_most : (v : Slices) (r : Environments) → IsManned v r → owed_by_all v ≤ 256
+owed_most v r manned = omega (arith, sum_by-le (λ n. n) excess_limit v.excess (each_owes v.excess manned.owes), manned.numbered)
 
 -- numbers that neither live nor die by the change of one record
 module _ (r : Environments) (f : Environment → Environment) (e : ℕ) where
@@ -181,6 +185,116 @@ runner_alive v r e manned runs = runner_live r.list e v.runner manned.runner run
 pub runner_within : (v : Slices) (r : Environments) (e : ℕ) → IsManned v r → running v.runner ≡ Some e → e < length r.list
 runner_within v r e manned runs = (runner_alive v r e manned runs).0
 
+-- the slots once one is gone
+pub hold_at-released : (e : ℕ) (slots : List (Option Hold)) (k : ℕ) → hold_at (map (released e) slots) k ≡ released e (hold_at slots k)
+hold_at-released e [] k = refl
+hold_at-released e (hold ∷ slots) zero = refl
+hold_at-released e (hold ∷ slots) (suc k) = hold_at-released e slots k
+
+-- a release leaves it none
+module _ (v : Slices) (r : Environments) (e : ℕ) where
+  released_part : (hold : Option Hold) → has_part e (released e hold) ≡ false
+  released_part None = refl
+  released_part (Some h) = by_owner (h.owner == e) refl
+    where
+      by_holder : (holds : Bool) → (h.holder == e) ≡ holds → (h.owner == e) ≡ false → has_part e (if holds then Some (own_hold h.owner) else Some h) ≡ false
+      by_holder true is other = rw other refl
+      by_holder false is other = rw other is
+
+      by_owner : (owns : Bool) → (h.owner == e) ≡ owns → has_part e (if owns then None else (if h.holder == e then Some (own_hold h.owner) else Some h)) ≡ false
+      by_owner true is = refl
+      by_owner false is = by_holder (h.holder == e) refl is
+
+  ended : (o : Option Runner) → is_runner e (if is_runner e o then None else o) ≡ false
+  ended None = refl
+  ended (Some x) = by_test (x.env == e) refl
+    where
+      by_test : (its : Bool) → (x.env == e) ≡ its → is_runner e (if its then None else Some x) ≡ false
+      by_test true is = refl
+      by_test false is = is
+
+  pub none_left : HasNoPart e (without_env e v)
+  none_left = record { runs = ended v.runner; parts = λ k. rw (hold_at-released e v.slots k) (released_part (hold_at v.slots k)) }
+
+  released_undead : (hold : Option Hold) → IfSome hold (λ h. IsUndead r h.owner × IsUndead r h.holder) → IfSome (released e hold) (λ h. IsUndead r h.owner × IsUndead r h.holder)
+  released_undead None undead = undead
+  released_undead (Some h) undead = by_owner (h.owner == e)
+    where
+      by_holder : (holds : Bool) → IfSome (if holds then Some (own_hold h.owner) else Some h) (λ h. IsUndead r h.owner × IsUndead r h.holder)
+      by_holder true = (undead.0, undead.0)
+      by_holder false = undead
+
+      by_owner : (owns : Bool) → IfSome (if owns then None else (if h.holder == e then Some (own_hold h.owner) else Some h)) (λ h. IsUndead r h.owner × IsUndead r h.holder)
+      by_owner true = tt
+      by_owner false = by_holder (h.holder == e)
+
+  pub release_manned : is_runner e v.runner ≡ true → IsManned v r → IsManned (without_env e v) r
+  release_manned runs manned = rw runs (record {
+    quantum = manned.quantum;
+    ticks = tt;
+    runner = tt;
+    holds = λ k. rw (hold_at-released e v.slots k) (released_undead (hold_at v.slots k) (manned.holds k));
+    count = omega (arith, length-map v.slots (released e), manned.count);
+    numbered = length-set v.excess e 0 ∙ manned.numbered;
+    owes = λ i. set_all (λ n. n ≤ excess_limit) v.excess e i 0 0 (omega arith) (manned.owes i);
+  })
+
+-- and then it may die
+module _ (v : Slices) (r : Environments) (e : ℕ) (cause : Cause) (none : HasNoPart e v) where
+  gone : Environments
+  gone = with_list r (changed (dead_frame cause) r.list e)
+
+  still_undead : (hold : Option Hold) → has_part e hold ≡ false → IfSome hold (λ h. IsUndead r h.owner × IsUndead r h.holder) → IfSome hold (λ h. IsUndead (with_list r (changed (dead_frame cause) r.list e)) h.owner × IsUndead (with_list r (changed (dead_frame cause) r.list e)) h.holder)
+  still_undead None apart undead = tt
+  still_undead (Some h) apart undead =
+      let others = neither (h.owner == e) (h.holder == e) apart in (
+        changed_undead r (dead_frame cause) e h.owner (eqb-false h.owner e others.0) undead.0,
+        changed_undead r (dead_frame cause) e h.holder (eqb-false h.holder e others.1) undead.1,
+      )
+
+  still_live : (o : Option Runner) → is_runner e o ≡ false → IfSome o (λ x. IsLive r.list x.env) → IfSome o (λ x. IsLive (changed (dead_frame cause) r.list e) x.env)
+  still_live None apart live = tt
+  still_live (Some x) apart live = (omega (arith, live.0, length-changed (dead_frame cause) r.list e), rw (changed_else (dead_frame cause) r.list e x.env (eqb-false x.env e apart)) live.1)
+
+  pub burial_manned : IsManned v r → IsManned v (with_list r (changed (dead_frame cause) r.list e))
+  burial_manned manned = record {
+    quantum = manned.quantum;
+    ticks = manned.ticks;
+    runner = still_live v.runner none.runs manned.runner;
+    holds = λ k. still_undead (hold_at v.slots k) (none.parts k) (manned.holds k);
+    count = manned.count;
+    numbered = manned.numbered;
+    owes = manned.owes;
+  }
+
+-- what was written once is written over
+set_again : (xs : List ℕ) (k x y : ℕ) → slice_set (slice_set xs k x) k y ≡ slice_set xs k y
+set_again [] k x y = refl
+set_again (z ∷ xs) zero x y = refl
+set_again (z ∷ xs) (suc k) x y = ap (λ ys. z ∷ ys) (set_again xs k x y)
+
+-- the vector once what the timer brought is settled
+abbrev use_of : ℕ → Slices → Timer → Slices
+use_of e v answer = settled e (after_timer v answer) answer
+
+-- a runner of too much excess is released at once
+killed_is : (v : Slices) (x : Runner) → v.runner ≡ Some x → without_env x.env (after_timer v timer.Kill) ≡ without_env x.env v
+killed_is v x is = λ k. record (without_env x.env v) { runner = ends k; excess = owes k }
+  where
+    here : is_runner x.env (Some x) ≡ true
+    here = eq-eqb x.env x.env refl
+
+    ends : (without_env x.env (after_timer v timer.Kill)).runner ≡ (without_env x.env v).runner
+    ends = rw is (rw here refl)
+
+    owes : (without_env x.env (after_timer v timer.Kill)).excess ≡ (without_env x.env v).excess
+    owes = rw is (set_again v.excess x.env (excess_of v.excess x.env + 1) 0)
+
+killed_manned : (v : Slices) (r : Environments) (x : Runner) → IsManned v r → v.runner ≡ Some x → IsManned (without_env x.env (after_timer v timer.Kill)) r
+killed_manned v r x manned is =
+    let runs : is_runner x.env v.runner ≡ true = ap (is_runner x.env) is ∙ eq-eqb x.env x.env refl in
+    rw (killed_is v x is) (release_manned v r x.env runs manned)
+
 -- the timer
 module _ (v : Slices) (r : Environments) (manned : IsManned v r) where
   -- the runner, with as many ticks and in this phase
@@ -203,25 +317,28 @@ module _ (v : Slices) (r : Environments) (manned : IsManned v r) where
   overrun : (x : Runner) (excess : ℕ) → v.runner ≡ Some x → IsLive r.list x.env → excess ≤ excess_limit → IsManned (after_timer v (timer.Over excess)) r
   overrun x excess is live most = rw is (owing_manned (record v { runner = Some (record x { left = v.quantum; phase = phase.Grace }) }) r x.env excess most (again x v.quantum phase.Grace live manned.quantum))
 
-  by_limit : (x : Runner) (excess : ℕ) (over : Bool) → v.runner ≡ Some x → IsLive r.list x.env → nat_lt excess_limit excess ≡ over → IsManned (after_timer v (if over then timer.Kill else timer.Over excess)) r
-  by_limit x excess true is live test = manned
+  by_limit : (x : Runner) (excess : ℕ) (over : Bool) → v.runner ≡ Some x → IsLive r.list x.env → nat_lt excess_limit excess ≡ over → IsManned (use_of x.env v (if over then timer.Kill else timer.Over excess)) r
+  by_limit x excess true is live test = killed_manned v r x manned is
   by_limit x excess false is live test = overrun x excess is live (ltb-false excess_limit excess test)
 
-  by_phase : (x : Runner) (p : Phase) (has_end : Bool) (excess : ℕ) → v.runner ≡ Some x → IsLive r.list x.env → IsManned (after_timer v (timer_at_end p has_end excess)) r
+  by_phase : (x : Runner) (p : Phase) (has_end : Bool) (excess : ℕ) → v.runner ≡ Some x → IsLive r.list x.env → IsManned (use_of x.env v (timer_at_end p has_end excess)) r
   by_phase x phase.Own true excess is live = graced x is live
   by_phase x phase.Own false excess is live = end_manned v r manned
   by_phase x phase.Grace has_end excess is live = by_limit x (excess + 1) (nat_lt excess_limit (excess + 1)) is live refl
 
-  by_left : (x : Runner) (has_end last : Bool) (excess : ℕ) → v.runner ≡ Some x → IsLive r.list x.env → 1 ≤ x.left → (x.left == 1) ≡ last → IsManned (after_timer v (if last then timer_at_end x.phase has_end excess else timer.Nothing)) r
+  by_left : (x : Runner) (has_end last : Bool) (excess : ℕ) → v.runner ≡ Some x → IsLive r.list x.env → 1 ≤ x.left → (x.left == 1) ≡ last → IsManned (use_of x.env v (if last then timer_at_end x.phase has_end excess else timer.Nothing)) r
   by_left x has_end true excess is live some last = by_phase x x.phase has_end excess is live
   by_left x has_end false excess is live some last = rw is (again x (x.left - 1) x.phase live (let more = eqb-false x.left 1 last in omega (arith, some, more)))
 
-  by_runner : (o : Option Runner) (has_end : Bool) → v.runner ≡ o → IfSome o (λ x. IsLive r.list x.env) → HasTicks o → IsManned (after_timer v (timer_by o has_end (excess_of v.excess))) r
-  by_runner None has_end is live some = rw is (record { quantum = manned.quantum; ticks = tt; runner = tt; holds = manned.holds; count = manned.count; numbered = manned.numbered; owes = manned.owes })
-  by_runner (Some x) has_end is live some = by_left x has_end (x.left == 1) (excess_of v.excess x.env) is live some refl
+  by_runner : (o : Option Runner) (e : ℕ) (has_end : Bool) → v.runner ≡ o → running o ≡ Some e → IfSome o (λ x. IsLive r.list x.env) → HasTicks o → IsManned (use_of e v (timer_by o has_end (excess_of v.excess))) r
+  by_runner None e has_end is its live some = cc
+  by_runner (Some x) e has_end is its live some =
+      let same : x.env ≡ e = cc in
+      subst (λ n. IsManned (use_of n v (timer_by (Some x) has_end (excess_of v.excess))) r) same
+      (by_left x has_end (x.left == 1) (excess_of v.excess x.env) is live some refl)
 
-  pub timer_manned : (has_end : Bool) → IsManned (after_timer v (timer_answer v has_end)) r
-  timer_manned has_end = by_runner v.runner has_end refl manned.runner manned.ticks
+  pub timer_manned : (e : ℕ) (has_end : Bool) → running v.runner ≡ Some e → IsManned (use_of e v (timer_answer v has_end)) r
+  timer_manned e has_end runs = by_runner v.runner e has_end refl runs manned.runner manned.ticks
 
 -- what holds of a slot's new hold, and of the others, holds of all
 hold_all : (P : Option Hold → Type 0) (slots : List (Option Hold)) (k i : ℕ) (hold : Option Hold) → P hold → P (hold_at slots i) → P (hold_at (slice_set slots k hold) i)
@@ -302,40 +419,6 @@ drop_manned v r e k manned = hold_manned v r k (dropped e (hold_at v.slots k)) m
     by_hold : (o : Option Hold) → IfSome o (λ h. IsUndead r h.owner × IsUndead r h.holder) → IfSome (dropped e o) (λ h. IsUndead r h.owner × IsUndead r h.holder)
     by_hold None undead = tt
     by_hold (Some h) undead = by_owner h (h.owner == e) undead.0
-
--- the slots once one is gone
-pub hold_at-released : (e : ℕ) (slots : List (Option Hold)) (k : ℕ) → hold_at (map (released e) slots) k ≡ released e (hold_at slots k)
-hold_at-released e [] k = refl
-hold_at-released e (hold ∷ slots) zero = refl
-hold_at-released e (hold ∷ slots) (suc k) = hold_at-released e slots k
-
--- a death
-module _ (v : Slices) (r : Environments) (e : ℕ) (cause : Cause) (manned : IsManned v r) where
-  gone : Environments
-  gone = with_list r (changed (dead_frame cause) r.list e)
-
-  released_undead : (hold : Option Hold) → IfSome hold (λ h. IsUndead r h.owner × IsUndead r h.holder) → IfSome (released e hold) (λ h. IsUndead (with_list r (changed (dead_frame cause) r.list e)) h.owner × IsUndead (with_list r (changed (dead_frame cause) r.list e)) h.holder)
-  released_undead None undead = undead
-  released_undead (Some h) undead = by_owner (h.owner == e) refl
-    where
-      by_holder : (holds : Bool) → (h.holder == e) ≡ holds → h.owner ≢ e → IfSome (if holds then Some (own_hold h.owner) else Some h) (λ h. IsUndead (with_list r (changed (dead_frame cause) r.list e)) h.owner × IsUndead (with_list r (changed (dead_frame cause) r.list e)) h.holder)
-      by_holder true is other = (changed_undead r (dead_frame cause) e h.owner other undead.0, changed_undead r (dead_frame cause) e h.owner other undead.0)
-      by_holder false is other = (changed_undead r (dead_frame cause) e h.owner other undead.0, changed_undead r (dead_frame cause) e h.holder (eqb-false h.holder e is) undead.1)
-
-      by_owner : (owns : Bool) → (h.owner == e) ≡ owns → IfSome (if owns then None else (if h.holder == e then Some (own_hold h.owner) else Some h)) (λ h. IsUndead (with_list r (changed (dead_frame cause) r.list e)) h.owner × IsUndead (with_list r (changed (dead_frame cause) r.list e)) h.holder)
-      by_owner true is = tt
-      by_owner false is = by_holder (h.holder == e) refl (eqb-false h.owner e is)
-
-  pub death_manned : is_runner e v.runner ≡ true → IsManned (without_env e v) (with_list r (changed (dead_frame cause) r.list e))
-  death_manned runs = rw runs (record {
-    quantum = manned.quantum;
-    ticks = tt;
-    runner = tt;
-    holds = λ k. rw (hold_at-released e v.slots k) (released_undead (hold_at v.slots k) (manned.holds k));
-    count = omega (arith, length-map v.slots (released e), manned.count);
-    numbered = length-set v.excess e 0 ∙ manned.numbered;
-    owes = λ i. set_all (λ n. n ≤ excess_limit) v.excess e i 0 0 (omega arith) (manned.owes i);
-  })
 
 -- the consoles
 pub same_consoles : (consoles : List (List ℕ)) (r : Environments) (list : List Environment) → AreConsoles consoles r → length list ≡ length r.list → AreConsoles consoles (with_list r list)

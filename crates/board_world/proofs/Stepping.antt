@@ -32,8 +32,8 @@ use Rattle.world_model.specs.Holding.{raise}
 use Rattle.world_model.specs.Item.{Item, Step as AStep, absorb, absorb_all}
 use Rattle.world_model.specs.PageCalls.{left_at, left_if}
 use Rattle.world_model.specs.Solo.{Solo, Store, Key, Kept, Physical, bound_place, kept_after, place_at, store_of, store_through, stored}
-use Rattle.world_model.specs.Step.{Raises, act_of, acted, call_act, step_alone, stepped, store_act, trap_act}
-use Rattle.world_model.specs.World.{World, after, only}
+use Rattle.world_model.specs.Step.{Act, Raises, act_of, acted, call_act, step_alone, stepped, store_act, trap_act}
+use Rattle.world_model.specs.World.{World, after, in_turn, no_change, only, run_phases, tells}
 use Rattle.world_model.specs.Tick as tick
 use Rattle.page_sight.specs.Sight.{Sees, seen_in}
 use Rattle.page_sight.proofs.Sights.{readers_see, writer_sees}
@@ -47,19 +47,16 @@ use Rattle.board_world.proofs.Contexts.{left_by, left_others, left_own, left_sig
 use Rattle.board_world.proofs.Looks.{leads_by}
 use Rattle.board_world.proofs.Pages.{its_store}
 use Rattle.board_world.proofs.Parts.{append_nothing, worlds, by_env, set_here, set_else, only_here, only_else}
+use Rattle.board_world.proofs.Phases.{each_in_turn}
 use Rattle.board_world.proofs.Seen.{same_solo, stripe_of, sights_of, Runs, runner_solo, runner_seen, runner_runs, its_mappings, its_step, live_record, found_in_row, bound_there}
-use Rattle.board_world.proofs.Serving.{Serves, in_step, call_serves, died_serves, called_serves}
+use Rattle.board_world.proofs.Serving.{Serves, told, call_serves, died_serves, called_serves}
+use Rattle.board_world.proofs.Sound.{neither}
 use Rattle.board_world.proofs.Stores.{own_kept, other_kept, guaranteed_sights, sights_stay, put_table, kept_as_was, bound_kept}
 
 -- the mapping that a page number has, by the parts of what an environment sees
 opened_lookup : (b : Shown) (e v : ℕ) → lookup_of b e v ≡ mapping_in (mappings_of b.roster.list e) (stripe_of b e) v
 unfolding lookup
 opened_lookup b e v = refl
-
--- neither of two
-neither : (x y : Bool) → (x || y) ≡ false → (x ≡ false) × (y ≡ false)
-neither true y is = cc
-neither false y is = (refl, is)
 
 either : (x y : Bool) → (x || y) ≡ true → (x ≡ true) ⊎ (y ≡ true)
 either true y is = inl refl
@@ -90,7 +87,7 @@ came_called b e Called is = refl
 came_called b e (Trapped exc) is = cc
 
 -- nothing is left to the writer
-writer_left : (w : World) (e : ℕ) (x : Option Store) → (tick.brings w e (store_act x)).items e ≡ []
+writer_left : (w : World) (e : ℕ) (x : Option Store) → (tick.brings e (store_act x) w).items e ≡ []
 writer_left w e None = refl
 writer_left w e (Some x) = by_key x.key
   where
@@ -112,7 +109,7 @@ memory_after b w page = after_put b.frames page (w.address % page_size) w.bytes
 record Strikes (b : Shown) (e : ℕ) (x : Environment) (cpu : Cpu) (frames : List (List ℕ)) (store : Option Store) : Type 0 where
   own_pages : pages_seen frames x.env.mappings ≡ (acted (store_act store) (runner_solo b e x)).kept
   own_sights : seen_in e (row_in b.pages) (stripe_of b e) (page_at frames) ≡ (acted (store_act store) (runner_solo b e x)).seen
-  others : (i : ℕ) → i ≢ e → solo_of (struck b cpu frames) i ≡ absorb_all (solo_of b i) ((tick.brings (world_of b) e (store_act store)).items i)
+  others : (i : ℕ) → i ≢ e → solo_of (struck b cpu frames) i ≡ absorb_all (solo_of b i) ((tick.brings e (store_act store) (world_of b)).items i)
 
 module _ (b : Shown) (e : ℕ) (x : Environment) (r : Runs b e x) (sound : IsSound b) (cpu : Cpu) (w : Write) where
   ms_are : mappings_of b.roster.list e ≡ x.env.mappings
@@ -224,6 +221,10 @@ wrote_strikes b e x r sound cpu None = record { own_pages = refl; own_sights = r
 wrote_strikes b e x r sound cpu (Some w) = strikes b e x r sound cpu w
 
 module _ (b : Shown) (e : ℕ) (x : Environment) (r : Runs b e x) (sound : IsSound b) where
+  -- the world after the runner's step, which comes to this
+  abbrev stepping : Act → World
+  stepping act = after (world_of b) (in_turn (tells e AStep ∷ tick.brings e act ∷ []) (world_of b))
+
   -- absorbing the step is what it comes to
   absorbs : (st : Step) → step_alone (runner_solo b e x) ≡ st → absorb (solo_of b e) AStep ≡ stepped (runner_solo b e x) st
   absorbs st at = ap (λ s. absorb s AStep) (runner_seen b e x r) ∙ ap (stepped (runner_solo b e x)) at
@@ -244,29 +245,34 @@ module _ (b : Shown) (e : ℕ) (x : Environment) (r : Runs b e x) (sound : IsSou
 
   -- each environment once the runner stored
   struck_solos : (cpu : Cpu) (frames : List (List ℕ)) (y : Option Store) → Strikes b e x cpu frames y → absorb (solo_of b e) AStep ≡ acted (store_act y) (record (runner_solo b e x) { cpu = cpu }) →
-      (i : ℕ) → solo_of (struck b cpu frames) i ≡ absorb_all (solo_of b i) (only e (AStep ∷ []) i ++ (tick.brings (world_of b) e (store_act y)).items i)
+      (i : ℕ) → solo_of (struck b cpu frames) i ≡ absorb_all (absorb_all (solo_of b i) (only e (AStep ∷ []) i)) ((tick.brings e (store_act y) (world_of b)).items i)
   struck_solos cpu frames y strikes steps =
-      let left = (tick.brings (world_of b) e (store_act y)).items in
-      by_env (solo_of (struck b cpu frames)) (λ i. absorb_all (solo_of b i) (only e (AStep ∷ []) i ++ left i)) e
+      let left = (tick.brings e (store_act y) (world_of b)).items in
+      by_env (solo_of (struck b cpu frames)) (λ i. absorb_all (absorb_all (solo_of b i) (only e (AStep ∷ []) i)) (left i)) e
       (after_write cpu frames y strikes ∙ sym steps
-      ∙ ap (λ (its : List Item). absorb_all (solo_of b e) (its ++ [])) (sym (only_here e (AStep ∷ [])))
-      ∙ ap (λ (more : List Item). absorb_all (solo_of b e) (only e (AStep ∷ []) e ++ more)) (sym (writer_left (world_of b) e y)))
-      (λ i ne. strikes.others i ne ∙ ap (λ (its : List Item). absorb_all (solo_of b i) (its ++ left i)) (sym (only_else e i (AStep ∷ []) ne)))
+      ∙ ap (λ (its : List Item). absorb_all (solo_of b e) its) (sym (only_here e (AStep ∷ [])))
+      ∙ ap (λ (more : List Item). absorb_all (absorb_all (solo_of b e) (only e (AStep ∷ []) e)) more) (sym (writer_left (world_of b) e y)))
+      (λ i ne. strikes.others i ne ∙ ap (λ (its : List Item). absorb_all (absorb_all (solo_of b i) its) (left i)) (sym (only_else e i (AStep ∷ []) ne)))
 
-  retired : (cpu : Cpu) (w : Option Write) → step_alone (runner_solo b e x) ≡ Retired cpu w → world_of (ran b e (Retired cpu w)) ≡ after (world_of b) (tick.with_step e (tick.brings (world_of b) e (act_of (runner_solo b e x) (Retired cpu w))))
+  retired : (cpu : Cpu) (w : Option Write) → step_alone (runner_solo b e x) ≡ Retired cpu w → world_of (ran b e (Retired cpu w)) ≡ stepping (act_of (runner_solo b e x) (Retired cpu w))
   retired cpu w at = by_store (store_of (runner_solo b e x) w) (wrote_strikes b e x r sound cpu w) (absorbs (Retired cpu w) at)
     where
+      rows : (b.ledger.rows ++ []) ++ [] ≡ b.ledger.rows
+      rows = append_nothing (b.ledger.rows ++ []) ∙ append_nothing b.ledger.rows
+
       by_store : (y : Option Store) → Strikes b e x cpu (frames_after b.frames (lookup_of b e) w) y → absorb (solo_of b e) AStep ≡ acted (store_act y) (record (runner_solo b e x) { cpu = cpu }) →
-          world_of (ran b e (Retired cpu w)) ≡ after (world_of b) (tick.with_step e (tick.brings (world_of b) e (store_act y)))
+          world_of (ran b e (Retired cpu w)) ≡ stepping (store_act y)
       by_store None strikes steps =
-          worlds (world_of (ran b e (Retired cpu w))) (after (world_of b) (tick.with_step e (tick.brings (world_of b) e (store_act None)))) refl refl
-          (struck_solos cpu (frames_after b.frames (lookup_of b e) w) None strikes steps) (sym (append_nothing b.ledger.rows))
+          worlds (world_of (ran b e (Retired cpu w))) (run_phases (world_of b) (tells e AStep ∷ tick.brings e (store_act None) ∷ [])) refl refl
+          (struck_solos cpu (frames_after b.frames (lookup_of b e) w) None strikes steps) (sym rows)
+          ∙ sym (each_in_turn (world_of b) (tells e AStep ∷ tick.brings e (store_act None) ∷ []))
       by_store (Some y) strikes steps =
-          worlds (world_of (ran b e (Retired cpu w))) (after (world_of b) (tick.with_step e (tick.brings (world_of b) e (store_act (Some y))))) refl refl
-          (struck_solos cpu (frames_after b.frames (lookup_of b e) w) (Some y) strikes steps) (sym (append_nothing b.ledger.rows))
+          worlds (world_of (ran b e (Retired cpu w))) (run_phases (world_of b) (tells e AStep ∷ tick.brings e (store_act (Some y)) ∷ [])) refl refl
+          (struck_solos cpu (frames_after b.frames (lookup_of b e) w) (Some y) strikes steps) (sym rows)
+          ∙ sym (each_in_turn (world_of b) (tells e AStep ∷ tick.brings e (store_act (Some y)) ∷ []))
 
   -- The runner's exception goes to its handler: the words stand in its context page, and nobody else's page changes.
-  raised_serves : (exc : Exc) → Serves b e (Raises exc) (tick.no_change (world_of b)) (raised b e (handlers_of b.roster.list e).exception exc)
+  raised_serves : (exc : Exc) → Serves b e (Raises exc) (no_change (world_of b)) (raised b e (handlers_of b.roster.list e).exception exc)
   raised_serves exc =
       let w : Write = record { address = page_size; bytes = exception_bytes exc b.cpu } in
       let now = raised b e (handlers_of b.roster.list e).exception exc in
@@ -297,34 +303,34 @@ module _ (b : Shown) (e : ℕ) (x : Environment) (r : Runs b e x) (sound : IsSou
         time = refl;
       }
 
-  trapped_serves : (exc : Exc) → Serves b e (trap_act x.env.handlers.exception exc) (tick.brings (world_of b) e (trap_act x.env.handlers.exception exc)) (trapped b e exc)
+  trapped_serves : (exc : Exc) → Serves b e (trap_act x.env.handlers.exception exc) (tick.brings e (trap_act x.env.handlers.exception exc) (world_of b)) (trapped b e exc)
   trapped_serves exc =
       let handler : (handlers_of b.roster.list e).exception ≡ x.env.handlers.exception = ap (λ o. (handlers_in o).exception) r.at in
-      subst (λ h. Serves b e (trap_act h exc) (tick.brings (world_of b) e (trap_act h exc)) (trapped b e exc)) handler
+      subst (λ h. Serves b e (trap_act h exc) (tick.brings e (trap_act h exc) (world_of b)) (trapped b e exc)) handler
       (by_test ((handlers_of b.roster.list e).exception == 0) refl)
     where
-      by_test : (none : Bool) → ((handlers_of b.roster.list e).exception == 0) ≡ none → Serves b e (trap_act (handlers_of b.roster.list e).exception exc) (tick.brings (world_of b) e (trap_act (handlers_of b.roster.list e).exception exc)) (trapped b e exc)
+      by_test : (none : Bool) → ((handlers_of b.roster.list e).exception == 0) ≡ none → Serves b e (trap_act (handlers_of b.roster.list e).exception exc) (tick.brings e (trap_act (handlers_of b.roster.list e).exception exc) (world_of b)) (trapped b e exc)
       by_test true none = rw none (died_serves b e x r sound (cause.Trapped exc.code))
       by_test false some = rw some (raised_serves exc)
 
   -- whatever the step comes to
-  came : (st : Step) → step_alone (runner_solo b e x) ≡ st → world_of (came_to b e st) ≡ after (world_of b) (tick.with_step e (tick.brings (world_of b) e (act_of (runner_solo b e x) st)))
+  came : (st : Step) → step_alone (runner_solo b e x) ≡ st → world_of (came_to b e st) ≡ stepping (act_of (runner_solo b e x) st)
   came (Retired cpu w) at = retired cpu w at
   came Called at =
       let act = call_act b.cpu (called b.cpu) in
-      in_step b e act (tick.brings (world_of b) e act) (served b e (called b.cpu)) (call_serves b e x r sound (called b.cpu) refl) (acts Called at refl)
+      told b e AStep act (served b e (called b.cpu)) (call_serves b e x r sound (called b.cpu) refl) (acts Called at refl)
   came (Trapped exc) at =
       let act = trap_act x.env.handlers.exception exc in
-      in_step b e act (tick.brings (world_of b) e act) (trapped b e exc) (trapped_serves exc) (acts (Trapped exc) at refl)
+      told b e AStep act (trapped b e exc) (trapped_serves exc) (acts (Trapped exc) at refl)
 
   stepped_alone : (o : Option Runner) → running o ≡ Some e → world_of (came_to b e (step_seen b e)) ≡ after (world_of b) (tick.step_when (world_of b) o)
   stepped_alone None is = cc
   stepped_alone (Some runner) is =
       let same : e ≡ runner.env = cc in
       came (step_seen b e) (sym (its_step b e x r sound))
-      ∙ ap (λ st. after (world_of b) (tick.with_step e (tick.brings (world_of b) e (act_of (runner_solo b e x) st)))) (its_step b e x r sound)
-      ∙ ap (λ (s : Solo). after (world_of b) (tick.with_step e (tick.brings (world_of b) e (act_of s (step_alone s))))) (sym (runner_seen b e x r))
-      ∙ ap (λ n. after (world_of b) (tick.with_step n (tick.brings (world_of b) n (act_of (solo_of b n) (step_alone (solo_of b n)))))) same
+      ∙ ap (λ st. stepping (act_of (runner_solo b e x) st)) (its_step b e x r sound)
+      ∙ ap (λ (s : Solo). stepping (act_of s (step_alone s))) (sym (runner_seen b e x r))
+      ∙ ap (λ n. after (world_of b) (in_turn (tells n AStep ∷ tick.brings n (tick.act_now (world_of b) n) ∷ []) (world_of b))) same
 
 -- The same of any board.
 pub stepped_world : (b : Shown) (e : ℕ) → IsSound b → running b.slots.runner ≡ Some e → world_of (came_to b e (step_seen b e)) ≡ after (world_of b) (tick.step (world_of b))

@@ -30,10 +30,12 @@ use Rattle.board_world.specs.Doing as doing
 use Rattle.board_world.proofs.Contexts.{left_others, left_own, left_sights, left_store, waiting}
 use Rattle.board_world.proofs.GiftServing.{IsThere, handed_named, mask_same, other_same, there_in, two_given, waiting_seen}
 use Rattle.board_world.proofs.Lists.{changed_here, changed_else, length-changed}
+use Rattle.board_world.proofs.Mappings.{kept_mappings}
 use Rattle.board_world.proofs.Replying.{Serves, granted_first, refuses}
 use Rattle.board_world.proofs.Seen.{same_solo, Runs, runner_seen, runner_solo}
 use Rattle.board_world.proofs.Slots.{hold_changed}
 use Rattle.board_world.proofs.Slotted.{both_true, called_lives, differs, giving_parts}
+use Rattle.board_world.proofs.Sound.{keeps_accepting, keeps_registers}
 
 -- The book: there are as many slots, and the cursor's has another holder, where it is handed on.
 given_count : (later : Bool) (target : ℕ) (v : Slices) → length (slots_given later target v) ≡ length v.slots
@@ -151,9 +153,14 @@ module _ (b : Shown) (e : ℕ) (x : Environment) (r : Runs b e x) (sound : IsSou
           console = refl;
         })
 
+    entered_mappings : (i : ℕ) → mappings_of new.roster.list i ≡ mappings_of b.roster.list i
+    entered_mappings i =
+        kept_mappings keeping (keeps_registers (answered_cpu code.Ok 0 b.cpu)) closed_list e i
+        ∙ kept_mappings (doing.accepting 0) (keeps_accepting 0) b.roster.list t i
+
     transfers_to : called b.cpu ≡ Some call.Transfer → Serves b e (Calls (Some call.Transfer)) (transfer_reply (world_of b) e t kind) new
     transfers_to named = record {
-      book = λ k. record (book_of new) { slot_count = given_count (hands_slot kind) t b.slots k; slots = λ i. given_holds (hands_slot kind) t b i k };
+      book = λ k. record (book_of new) { slot_count = given_count (hands_slot kind) t b.slots k; slots = λ i. given_holds (hands_slot kind) t b i k; kept = λ i. entered_mappings i k };
       count = length-changed keeping closed_list e ∙ length-changed (doing.accepting 0) b.roster.list t;
       solos = two_given (solo_of b) (solo_of new) e t (solo_of b e) (Granted 0 ∷ []) (Transfer e kind (carried (solo_of b e).cpu) ∷ []) other
           (caller_solo ∙ granted_first b e x r (Some call.Transfer) 0 [] named)

@@ -1,6 +1,6 @@
 -- The turn and the timer, on the world that is shown.
-use Rattle.std.proofs.Common.{◌≡◌, ◌≢◌, ℕ, zero, suc, ◌+◌, ◌-◌, ◌<◌, ◌≤◌, [], ◌∷◌, ◌++◌, length, map, Bool, true, false, not, Option, Some, None, IsSome, refl, sym, ◌∙◌, ap, subst, arith, append_assoc}
-use Rattle.std.specs.Prelude.{◌==◌, nat_lt, if◌then◌else◌, slice_get}
+use Rattle.std.proofs.Common.{◌≡◌, ◌≢◌, ℕ, zero, suc, ◌+◌, ◌-◌, ◌<◌, ◌≤◌, [], ◌∷◌, ◌++◌, length, map, length-set, get_or-set_same, Bool, true, false, not, Option, Some, None, IsSome, refl, sym, ◌∙◌, ap, subst, arith, append_assoc}
+use Rattle.std.specs.Prelude.{◌==◌, nat_lt, if◌then◌else◌, slice_get, slice_set}
 use Rattle.std.specs.Option.{option_map}
 use Rattle.std.proofs.lemmas.Bool.{ne_eqb, eq-eqb, eqb-true, eqb-false}
 use Rattle.aegis_limits.specs.Limits.{page_size}
@@ -9,8 +9,8 @@ use Rattle.env_frames.specs.Context.{end_area, end_bytes, resumed_cpu}
 use Rattle.kernel_journal.specs.declared.row.Row.TheVariants as row
 use Rattle.slot_vector.specs.declared.turn.NextTurn.{NextTurn}
 use Rattle.slot_vector.specs.declared.turn.NextTurn.TheVariants as next
-use Rattle.slot_vector.specs.Laws.{owed_of}
-use Rattle.slot_vector.specs.Slices.{HasTicks, after_turn, counted as counted_runner, excess_of, in_grace_again, next_held, next_turn, raised_for, timer_at_end, timer_by, told_of}
+use Rattle.slot_vector.specs.Laws.{owed_by_all}
+use Rattle.slot_vector.specs.Slices.{HasTicks, after_turn, counted as counted_runner, excess_of, in_grace_again, next_held, next_turn, raised_for, raised_once, spent, timer_at_end, timer_by, told_of, without_env}
 use Rattle.slot_vector.specs.declared.timer.Timer.TheVariants as timer
 use Rattle.slot_vector.proofs.Owed.{excess_set}
 use Rattle.slot_vector.proofs.Whole.{idle_step, is_idle, paid_is, pay_lowers, pay_step, ran_is, run_step}
@@ -21,25 +21,26 @@ use Rattle.world_model.specs.declared.slot.Phase.{Phase}
 use Rattle.world_model.specs.declared.slot.Phase.TheVariants as phase
 use Rattle.world_model.specs.declared.slot.Runner.{Runner}
 use Rattle.world_model.specs.declared.slot.Turn.{Turn}
-use Rattle.world_model.specs.Book.{Book, Told, excess_limit, is_idle_book, is_runner, pays_first, running}
+use Rattle.world_model.specs.Book.{Told, excess_limit, is_idle_book, is_runner, pays_first, running}
 use Rattle.world_model.specs.Item.{End, Killed, Start, absorb_all}
-use Rattle.world_model.specs.PageCalls.{lost_with}
 use Rattle.world_model.specs.Solo.{Solo, dead, is_dead, kept_after}
-use Rattle.world_model.specs.Table.{set_at}
-use Rattle.world_model.specs.Verdict.{death}
-use Rattle.world_model.specs.World.{World, after, no_items, only}
+use Rattle.world_model.specs.Step.{Dies}
+use Rattle.world_model.specs.World.{World, Reply, after, in_turn, no_change, only}
 use Rattle.world_model.specs.Tick as tick
 use Rattle.board_world.specs.declared.roster.Environment.{Environment}
-use Rattle.board_world.specs.Shown.{Shown, handlers_in, handlers_of}
+use Rattle.board_world.specs.Shown.{Shown, handlers_in, handlers_of, mappings_of}
 use Rattle.board_world.specs.Showing.{world_of, book_of, solo_of, solo_or_absent, solo_seen, cpu_seen, pages_seen}
 use Rattle.board_world.specs.Sound.{IsSound}
-use Rattle.board_world.specs.Doing.{brought, counted, counted_down, died, ended, has_end, over_row, paid, start_registers, started, stopped, ticked, turned, turned_by, turned_to, turned_when, with_registers}
+use Rattle.board_world.specs.Doing.{brought, counted, counted_down, died, ended, has_end, ledger_released, over_row, overrun, paid, start_registers, started, stopped, ticked, turned, turned_by, turned_to, turned_when, with_registers}
 use Rattle.board_world.proofs.Contexts.{left_by, left_others, left_own, left_sights, left_store, start_others, start_seen, start_sights, waiting}
-use Rattle.board_world.proofs.Dying.{died_serves, numbered_within}
+use Rattle.board_world.proofs.Dying.{MayDie, dies as dying, numbered_within}
 use Rattle.board_world.proofs.Lists.{changed_here, changed_else, length-changed}
-use Rattle.board_world.proofs.Parts.{append_nothing, by_env, worlds, one_absorbed, set_here, set_else}
+use Rattle.board_world.proofs.Mappings.{kept_mappings}
+use Rattle.board_world.proofs.Parts.{append_nothing, by_env, worlds, one_absorbed}
+use Rattle.board_world.proofs.Phases.{each_in_turn, quiet_world}
+use Rattle.board_world.proofs.Replying.{told}
 use Rattle.board_world.proofs.Seen.{like_solo, same_solo, named, Runs, its_mappings, live_record, runner_runs, runner_seen, runner_solo}
-use Rattle.board_world.proofs.Sound.{held_live}
+use Rattle.board_world.proofs.Sound.{held_live, keeps_registers}
 use Rattle.board_world.proofs.Turns.{paid_sound}
 
 -- nobody runs
@@ -78,10 +79,6 @@ module _ (b : Shown) (sound : IsSound b) (t : Turn) (x : Environment) (at : slic
       worlds (world_of (started b t)) (after (world_of b) (tick.take_turn (world_of b) (record { pays = []; runs = Some t; excess = excess_of b.slots.excess; cursor = t.slot }) (Some t))) refl refl
       (one_absorbed (solo_of b) (solo_of (started b t)) t.env (Start ∷ []) starts others)
       refl
-
--- a world in which nothing happens
-pub quiet_world : (w : World) → w ≡ after w (tick.no_change w)
-quiet_world w = worlds w (after w (tick.no_change w)) refl refl (λ i. refl) (sym (append_nothing w.rows))
 
 -- a forfeit changes no environment
 paid_solo : (b : Shown) (t : Turn) (i : ℕ) → solo_of (paid b t) i ≡ solo_of b i
@@ -129,7 +126,7 @@ module _ (b : Shown) (sound : IsSound b) (whole : b.roster.spare ≡ 0) (none : 
       rw (pay_step b.slots t is) (later t is ∙ forfeit_first b t rest rest.runs refl (pays_runs b t is))
 
 -- so it is with fewer than so much owed
-told_within : (n : ℕ) (b : Shown) → owed_of b.slots < n → IsSound b → b.roster.spare ≡ 0 → b.slots.runner ≡ None → IsTold b
+told_within : (n : ℕ) (b : Shown) → owed_by_all b.slots < n → IsSound b → b.roster.spare ≡ 0 → b.slots.runner ≡ None → IsTold b
 told_within zero b enough sound whole none = absurd (omega arith)
 told_within (suc n) b enough sound whole none =
     told_next b sound whole none
@@ -141,7 +138,7 @@ turned_world b sound whole = by_runner b.slots.runner refl
   where
     by_runner : (r : Option Runner) → b.slots.runner ≡ r → world_of (turned_when b r) ≡ after (world_of b) (tick.turn_when (world_of b) r)
     by_runner (Some r) is = quiet_world (world_of b)
-    by_runner None is = told_within (suc (owed_of b.slots)) b (omega arith) sound whole is
+    by_runner None is = told_within (suc (owed_by_all b.slots)) b (omega arith) sound whole is
 
 -- after the turn of a board that isn't idle somebody runs
 pub turned_runs : (b : Shown) → is_idle_book (book_of b) ≡ false → IsSome (turned b).slots.runner
@@ -179,6 +176,9 @@ module _ (b : Shown) (e : ℕ) (x : Environment) (r : Runs b e x) where
         console = refl;
       })
 
+  pub stopped_mappings : (i : ℕ) → mappings_of (stopped b e).roster.list i ≡ mappings_of b.roster.list i
+  stopped_mappings i = kept_mappings (with_registers b.cpu) (keeps_registers b.cpu) b.roster.list e i
+
   pub stopped_count : (world_of (stopped b e)).count ≡ (world_of b).count
   stopped_count = length-changed (with_registers b.cpu) b.roster.list e
 
@@ -186,63 +186,75 @@ module _ (b : Shown) (e : ℕ) (x : Environment) (r : Runs b e x) where
 ticked_solo : (b : Shown) (i : ℕ) → solo_of (ticked b) i ≡ solo_of b i
 ticked_solo b i = like_solo i (ticked b) b (record { record_is = refl; cpu = λ kept. refl; pages = refl; binds = refl; sights = refl; console = refl })
 
+ticked_world : (b : Shown) → world_of (ticked b) ≡ after (world_of b) (tick.clock (world_of b))
+ticked_world b = worlds (world_of (ticked b)) (after (world_of b) (tick.clock (world_of b))) refl refl (ticked_solo b) (sym (append_nothing b.ledger.rows))
+
+-- a runner goes on, with other ticks left
+abbrev going_on : Shown → Runner → Shown
+going_on b r = record b { slots = record b.slots { runner = Some r } }
+
+same_runner : (o : Option Runner) (r : Runner) (i : ℕ) → running o ≡ Some r.env → is_runner i (Some r) ≡ is_runner i o
+same_runner None r i is = cc
+same_runner (Some old) r i is = let same : old.env ≡ r.env = cc in ap (λ n. n == i) (sym same)
+
+goes_on : (b : Shown) (r : Runner) → running b.slots.runner ≡ Some r.env → world_of (going_on b r) ≡ after (world_of b) (tick.goes_on r (world_of b))
+goes_on b r runs =
+    worlds (world_of (going_on b r)) (after (world_of b) (tick.goes_on r (world_of b))) refl refl
+    (λ i. like_solo i (going_on b r) b (record {
+      record_is = refl;
+      cpu = λ kept. ap (λ (t : Bool). if t then b.cpu else kept) (same_runner b.slots.runner r i runs);
+      pages = refl;
+      binds = refl;
+      sights = refl;
+      console = refl;
+    }))
+    (sym (append_nothing b.ledger.rows))
+
 -- by its runner, who has ticks left
 module _ (b : Shown) (sound : IsSound b) (r : Runner) (is : b.slots.runner ≡ Some r) (x : Environment) (runs : Runs b r.env x) where
-  same_runner : (left : ℕ) (p : Phase) (i : ℕ) → is_runner i (Some (record { env = r.env; left = left; phase = p })) ≡ is_runner i b.slots.runner
-  same_runner left p i = ap (is_runner i) (sym is)
-
   -- nothing
-  goes_on : r.left ≢ 1 → 1 ≤ r.left → world_of (ticked (brought b r.env timer.Nothing)) ≡ after (world_of b) (tick.count_down (world_of b) r (r.left - 1))
-  goes_on more some =
-      let left : option_map counted_runner b.slots.runner ≡ Some (record r { left = r.left - 1 }) = ap (option_map counted_runner) is in
-      let now = brought b r.env timer.Nothing in
-      worlds (world_of (ticked now)) (after (world_of b) (tick.timed (world_of b) (Some (record r { left = r.left - 1 })) no_items []))
-      (λ k. record (book_of (ticked now)) { runner = left k })
-      refl
-      (λ i. like_solo i (ticked now) b (record {
-        record_is = refl;
-        cpu = λ kept. ap (λ (t : Bool). if t then b.cpu else kept) (ap (is_runner i) left ∙ same_runner (r.left - 1) r.phase i);
-        pages = refl;
-        binds = refl;
-        sights = refl;
-        console = refl;
-      }))
-      (sym (append_nothing b.ledger.rows))
+  counts_on : r.left ≢ 1 → 1 ≤ r.left → world_of (brought b r.env timer.Nothing) ≡ after (world_of b) (tick.count_down r (r.left - 1) (world_of b))
+  counts_on more some =
+      ap (λ o. world_of (record b { slots = record b.slots { runner = option_map counted_runner o } })) is
+      ∙ goes_on b (record r { left = r.left - 1 }) (ap running is)
       ∙ rw (ne_eqb (r.left - 1) 0 (λ zero. more (omega (arith, some, zero)))) refl
 
   -- the end of its slice, where it has no handler of ends
-  stops : world_of (ticked (brought b r.env timer.Stop)) ≡ after (world_of b) (tick.slice_end (world_of b) r.env 0)
+  stops : world_of (brought b r.env timer.Stop) ≡ after (world_of b) (tick.slice_end r.env 0 (world_of b))
   stops =
       let now = stopped b r.env in
-      worlds (world_of (ticked now)) (after (world_of b) (tick.slice_end (world_of b) r.env 0)) refl (stopped_count b r.env x runs)
-      (by_env (solo_of (ticked now)) (solo_of b) r.env
-      (ticked_solo now r.env ∙ stopped_solo b r.env x runs)
-      (λ i ne. ticked_solo now i ∙ stopped_others b r.env x runs i ne))
+      worlds (world_of now) (after (world_of b) (tick.slice_end r.env 0 (world_of b)))
+      (λ k. record (book_of now) { kept = λ i. stopped_mappings b r.env x runs i k })
+      (stopped_count b r.env x runs)
+      (by_env (solo_of now) (solo_of b) r.env (stopped_solo b r.env x runs) (stopped_others b r.env x runs))
       refl
 
-  in_grace : in_grace_again b.slots b.slots.runner ≡ Some (record { env = r.env; left = b.slots.quantum; phase = phase.Grace })
+  in_grace : in_grace_again b.slots b.slots.runner ≡ Some (tick.grace_of (world_of b) r.env)
   in_grace = ap (in_grace_again b.slots) is
 
   -- and where it has one
-  ends : (h : ℕ) → (h == 0) ≡ false → (handlers_of b.roster.list r.env).end ≡ h → world_of (ticked (brought b r.env timer.End)) ≡ after (world_of b) (tick.slice_end (world_of b) r.env h)
+  ends : (h : ℕ) → (h == 0) ≡ false → (handlers_of b.roster.list r.env).end ≡ h → world_of (brought b r.env timer.End) ≡ after (world_of b) (tick.slice_end r.env h (world_of b))
   ends h some handler =
       let e = r.env in
       let now = ended b e in
       let w : Write = record { address = page_size + end_area; bytes = end_bytes b.cpu } in
-      let told = tick.timed (world_of b) (Some (record { env = e; left = b.slots.quantum; phase = phase.Grace })) (only e (End ∷ [])) (row.End b.time b.slots.cursor e ∷ []) in
+      let reply : Reply = record {
+        book = record (book_of b) { runner = Some (tick.grace_of (world_of b) e) };
+        items = only e (End ∷ []);
+        rows = row.End b.time b.slots.cursor e ∷ [];
+      } in
       let maps = its_mappings b e x runs in
       let pages : pages_seen now.frames x.env.mappings ≡ kept_after (pages_seen b.frames x.env.mappings) (left_store w) =
       ap (pages_seen (left_by b e w)) (sym maps) ∙ left_own b sound e w refl ∙ ap (λ ms. kept_after (pages_seen b.frames ms) (left_store w)) maps in
       let still : Runs now e x = record { at = runs.at; lives = runs.lives; runs = named e now.slots.runner (ap running in_grace) } in
-      worlds (world_of (ticked now)) (after (world_of b) told)
-      (λ k. record (book_of (ticked now)) { runner = in_grace k })
+      worlds (world_of now) (after (world_of b) reply)
+      (λ k. record (book_of now) { runner = in_grace k })
       refl
-      (one_absorbed (solo_of b) (solo_of (ticked now)) e (End ∷ [])
-      (ticked_solo now e
-      ∙ runner_seen now e x still
+      (one_absorbed (solo_of b) (solo_of now) e (End ∷ [])
+      (runner_seen now e x still
       ∙ (λ k. record (runner_solo b e x) { cpu = resumed_cpu (handlers_in (runs.at k)).end b.cpu; kept = pages k; seen = λ p. left_sights b sound e w refl e p k })
       ∙ ap (λ s. absorb_all s (End ∷ [])) (sym (runner_seen b e x runs)))
-      (λ i ne. ticked_solo now i ∙ same_solo i now b (record {
+      (λ i ne. same_solo i now b (record {
         record_is = refl;
         idles = still.runs.others i ne;
         idled = runs.runs.others i ne;
@@ -254,99 +266,102 @@ module _ (b : Shown) (sound : IsSound b) (r : Runner) (is : b.slots.runner ≡ S
       refl
       ∙ rw some refl
 
-  -- another quantum of grace
-  goes_over : (excess : ℕ) → world_of (ticked (brought b r.env (timer.Over excess))) ≡ after (world_of b) (tick.with_row (row.Over b.time b.slots.cursor r.env excess) (tick.later (record {
-    book = record (book_of b) { runner = Some (record { env = r.env; left = b.slots.quantum; phase = phase.Grace }); excess = set_at r.env excess (excess_of b.slots.excess) };
-    items = no_items;
-    rows = [];
-  })))
-  goes_over excess =
-      let now = brought b r.env (timer.Over excess) in
-      let told = tick.with_row (row.Over b.time b.slots.cursor r.env excess) (tick.later (record {
-        book = record (book_of b) { runner = Some (record { env = r.env; left = b.slots.quantum; phase = phase.Grace }); excess = set_at r.env excess (excess_of b.slots.excess) };
-        items = no_items;
-        rows = [];
-      })) in
-      let owes : excess_of (raised_for b.slots.runner excess b.slots.excess) ≡ set_at r.env excess (excess_of b.slots.excess) =
-      ap (λ o. excess_of (raised_for o excess b.slots.excess)) is ∙ excess_set b.slots.excess r.env excess (numbered_within b r.env x runs.at sound) in
-      worlds (world_of (ticked now)) (after (world_of b) told)
-      (λ k. record (book_of (ticked now)) { runner = in_grace k; excess = owes k })
-      refl
-      (λ i. like_solo i (ticked now) b (record {
-        record_is = refl;
-        cpu = λ kept. ap (λ (t : Bool). if t then b.cpu else kept) (ap (is_runner i) in_grace ∙ same_runner b.slots.quantum phase.Grace i);
-        pages = refl;
-        binds = refl;
-        sights = refl;
-        console = refl;
-      }))
-      refl
+  -- A quantum of grace is over: the runner owes one more, and the ledger says so.
+  abbrev owing : ℕ
+  owing = excess_of b.slots.excess r.env + 1
 
-  -- death of too much excess, on the board whose ledger says so
   abbrev over : Shown
-  over = record b { ledger = over_row b r.env (excess_of b.slots.excess r.env + 1) }
+  over = record b { slots = record b.slots { excess = slice_set b.slots.excess r.env owing }; ledger = over_row b r.env owing }
 
-  over_solo : (i : ℕ) → solo_of over i ≡ solo_of b i
-  over_solo i = like_solo i over b (record { record_is = refl; cpu = λ kept. refl; pages = refl; binds = refl; sights = refl; console = refl })
+  within : r.env < length b.slots.excess
+  within = numbered_within b r.env x runs.at sound
 
-  over_sound : IsSound over
-  over_sound = record { book = sound.book; consoles = sound.consoles; memory = sound.memory; books = sound.books }
+  over_world : world_of over ≡ after (world_of b) (tick.owes_more r.env (world_of b))
+  over_world =
+      worlds (world_of over) (after (world_of b) (tick.owes_more r.env (world_of b)))
+      (λ k. record (book_of over) { excess = excess_set b.slots.excess r.env owing within k })
+      refl
+      (λ i. like_solo i over b (record { record_is = refl; cpu = λ kept. refl; pages = refl; binds = refl; sights = refl; console = refl }))
+      refl
 
-  dies : world_of (ticked (brought b r.env timer.Kill)) ≡ after (world_of b) (tick.with_row (row.Over b.time b.slots.cursor r.env (excess_of b.slots.excess r.env + 1)) (tick.later (tick.killed (world_of b) r.env)))
+  -- what it owes then
+  owes : excess_of over.slots.excess r.env ≡ owing
+  owes = get_or-set_same b.slots.excess r.env owing 0 within
+
+  -- another quantum of grace
+  goes_over : world_of (brought b r.env (timer.Over owing)) ≡ after (world_of over) (tick.goes_on (tick.grace_of (world_of over) r.env) (world_of over))
+  goes_over =
+      ap (λ o. world_of (record over { slots = record b.slots { runner = in_grace_again b.slots o; excess = raised_for o owing b.slots.excess } })) is
+      ∙ goes_on over (tick.grace_of (world_of over) r.env) (ap running is)
+
+  -- death of too much excess
+  over_runs : Runs over r.env x
+  over_runs = record { at = runs.at; lives = runs.lives; runs = runs.runs }
+
+  may : MayDie over r.env
+  may = record { numbered = omega (arith, within, length-set b.slots.excess r.env owing); count = sound.book.count; books = sound.books }
+
+  spent_ends : (o : Option Runner) → o ≡ Some r → (if is_runner r.env (option_map spent o) then None else option_map spent o) ≡ (if is_runner r.env o then None else o)
+  spent_ends o is = rw is (rw (eq-eqb r.env r.env refl) refl)
+
+  same_death : died (overrun b r.env) r.env cause.Excess ≡ died over r.env cause.Excess
+  same_death =
+      let once : raised_once b.slots.runner b.slots.excess ≡ over.slots.excess = ap (λ o. raised_once o b.slots.excess) is in
+      λ k. record (died over r.env cause.Excess) {
+        slots = record (without_env r.env over.slots) { runner = spent_ends b.slots.runner is k; excess = slice_set (once k) r.env 0 };
+        ledger = ledger_released b.time r.env b.slots (over_row b r.env ((ap (λ all. excess_of all r.env) once ∙ owes) k));
+      }
+
+  dies : world_of (brought b r.env timer.Kill) ≡ after (world_of over) (tick.kill r.env (world_of over))
   dies =
       let e = r.env in
-      let now = died over e cause.Excess in
-      let first = row.Over b.time b.slots.cursor e (excess_of b.slots.excess e + 1) in
-      let last = death (world_of b) e in
-      let old = solo_of over in
-      let gone = dead cause.Excess (solo_of over e) in
-      let serves = died_serves over e x (record { at = runs.at; lives = runs.lives; runs = runs.runs }) over_sound cause.Excess in
-      let lives : (solo_of b e).life ≡ Live = ap (λ (s : Solo). s.life) (runner_seen b e x runs) in
-      worlds (world_of (ticked now)) (after (world_of b) (tick.with_row first (tick.later (tick.killed (world_of b) e))))
-      (ap (λ (k : Book). record k { time = k.time + 1 }) serves.book)
-      serves.count
-      (by_env (solo_of (ticked now)) (λ i. absorb_all (solo_of b i) (set_at e (Killed ∷ []) last.items i)) e
-      (ticked_solo now e ∙ serves.solos e
-      ∙ (λ k. absorb_all (set_here e gone old k) (if eq-eqb e e refl k then [] else lost_with (book_of b) e e (length b.pages)))
-      ∙ ap (dead cause.Excess) (over_solo e)
-      ∙ sym (ap (λ (life : Life). if is_dead life then solo_of b e else dead cause.Excess (solo_of b e)) lives)
-      ∙ ap (absorb_all (solo_of b e)) (sym (set_here e (Killed ∷ []) last.items)))
-      (λ i ne. ticked_solo now i ∙ serves.solos i
-      ∙ ap (λ s. absorb_all s (last.items i)) (set_else e i gone old ne ∙ over_solo i)
-      ∙ ap (absorb_all (solo_of b i)) (sym (set_else e i (Killed ∷ []) last.items ne))))
-      (serves.rows ∙ append_assoc b.ledger.rows (first ∷ []) last.rows)
+      let lives : (solo_of over e).life ≡ Live = ap (λ (s : Solo). s.life) (runner_seen over e x over_runs) in
+      ap world_of same_death
+      ∙ told over e Killed (Dies cause.Excess) (died over e cause.Excess) (dying over e x over_runs may cause.Excess)
+      (ap (λ (life : Life). if is_dead life then solo_of over e else dead cause.Excess (solo_of over e)) lives)
+
+  -- which of both
+  judged : (much : Bool) → nat_lt excess_limit owing ≡ much
+      → world_of (brought b r.env (if much then timer.Kill else timer.Over owing)) ≡ after (world_of over) (tick.judged r.env (world_of over))
+  judged true is_much = dies ∙ rw (ap (nat_lt excess_limit) owes ∙ is_much) refl
+  judged false is_little = goes_over ∙ rw (ap (nat_lt excess_limit) owes ∙ is_little) refl
 
   -- by the phase of what it used up
-  runs_out : (p : Phase) → world_of (ticked (brought b r.env (timer_at_end p (has_end b r.env) (excess_of b.slots.excess r.env)))) ≡ after (world_of b) (tick.run_out (world_of b) r.env p)
+  runs_out : (p : Phase) → world_of (brought b r.env (timer_at_end p (has_end b r.env) (excess_of b.slots.excess r.env))) ≡ after (world_of b) (tick.run_out r.env p (world_of b))
   runs_out phase.Own =
       let handler : (handlers_of b.roster.list r.env).end ≡ (solo_of b r.env).handlers.end = ap (λ o. (handlers_in o).end) runs.at ∙ ap (λ (s : Solo). s.handlers.end) (sym (runner_seen b r.env x runs)) in
-      subst (λ h. world_of (ticked (brought b r.env (timer_at_end phase.Own (has_end b r.env) (excess_of b.slots.excess r.env)))) ≡ after (world_of b) (tick.slice_end (world_of b) r.env h)) handler
+      subst (λ h. world_of (brought b r.env (timer_at_end phase.Own (has_end b r.env) (excess_of b.slots.excess r.env))) ≡ after (world_of b) (tick.slice_end r.env h (world_of b))) handler
       (by_test ((handlers_of b.roster.list r.env).end == 0) refl)
     where
-      by_test : (none : Bool) → ((handlers_of b.roster.list r.env).end == 0) ≡ none → world_of (ticked (brought b r.env (timer_at_end phase.Own (not none) (excess_of b.slots.excess r.env)))) ≡ after (world_of b) (tick.slice_end (world_of b) r.env (handlers_of b.roster.list r.env).end)
+      by_test : (none : Bool) → ((handlers_of b.roster.list r.env).end == 0) ≡ none →
+          world_of (brought b r.env (timer_at_end phase.Own (not none) (excess_of b.slots.excess r.env))) ≡ after (world_of b) (tick.slice_end r.env (handlers_of b.roster.list r.env).end (world_of b))
       by_test true none = rw (eqb-true (handlers_of b.roster.list r.env).end 0 none) stops
       by_test false some = ends (handlers_of b.roster.list r.env).end some refl
-  runs_out phase.Grace = by_test (nat_lt excess_limit (excess_of b.slots.excess r.env + 1)) refl
-    where
-      by_test : (much : Bool) → nat_lt excess_limit (excess_of b.slots.excess r.env + 1) ≡ much
-          → world_of (ticked (brought b r.env (if much then timer.Kill else timer.Over (excess_of b.slots.excess r.env + 1)))) ≡ after (world_of b) (tick.grace_end (world_of b) r.env (excess_of b.slots.excess r.env + 1))
-      by_test true much = dies ∙ rw much refl
-      by_test false little = goes_over (excess_of b.slots.excess r.env + 1) ∙ rw little refl
+  runs_out phase.Grace =
+      judged (nat_lt excess_limit owing) refl
+      ∙ ap (λ v. after v (tick.judged r.env v)) over_world
+      ∙ sym (each_in_turn (world_of b) (tick.owes_more r.env ∷ tick.judged r.env ∷ []))
 
   -- by whether it has one tick left
   counts : (last : Bool) → (r.left == 1) ≡ last → 1 ≤ r.left
-      → world_of (ticked (brought b r.env (if last then timer_at_end r.phase (has_end b r.env) (excess_of b.slots.excess r.env) else timer.Nothing))) ≡ after (world_of b) (tick.count_down (world_of b) r (r.left - 1))
+      → world_of (brought b r.env (if last then timer_at_end r.phase (has_end b r.env) (excess_of b.slots.excess r.env) else timer.Nothing)) ≡ after (world_of b) (tick.count_down r (r.left - 1) (world_of b))
   counts true one some =
       let none : r.left - 1 ≡ 0 = omega (arith, eqb-true r.left 1 one) in
       runs_out r.phase ∙ rw (eq-eqb (r.left - 1) 0 none) refl
-  counts false more some = goes_on (eqb-false r.left 1 more) some
+  counts false more some = counts_on (eqb-false r.left 1 more) some
 
 pub counted_world : (b : Shown) → IsSound b → world_of (counted b) ≡ after (world_of b) (tick.timer (world_of b))
 counted_world b sound = by_runner b.slots.runner refl sound.book.ticks
   where
-    by_runner : (o : Option Runner) → b.slots.runner ≡ o → HasTicks o → world_of (ticked (counted_down b o)) ≡ after (world_of b) (tick.timer_when (world_of b) o)
-    by_runner None is some = worlds (world_of (ticked b)) (after (world_of b) (tick.timer_when (world_of b) None)) (λ k. record (book_of (ticked b)) { runner = is k }) refl (ticked_solo b) (sym (append_nothing b.ledger.rows))
-    by_runner (Some r) is some =
+    counted : (o : Option Runner) → b.slots.runner ≡ o → HasTicks o → world_of (counted_down b o) ≡ after (world_of b) (tick.count_when o (world_of b))
+    counted None is some = quiet_world (world_of b)
+    counted (Some r) is some =
         let x = runner_runs b r.env sound (ap running is) in
-        ap (λ o. world_of (ticked (brought b r.env (timer_by o (has_end b r.env) (excess_of b.slots.excess))))) is
+        ap (λ o. world_of (brought b r.env (timer_by o (has_end b r.env) (excess_of b.slots.excess)))) is
         ∙ counts b sound r is x.0 x.1 (r.left == 1) refl some
+
+    by_runner : (o : Option Runner) → b.slots.runner ≡ o → HasTicks o → world_of (ticked (counted_down b o)) ≡ after (world_of b) (in_turn (tick.count_when o ∷ tick.clock ∷ []) (world_of b))
+    by_runner o is some =
+        ticked_world (counted_down b o)
+        ∙ ap (λ v. after v (tick.clock v)) (counted o is some)
+        ∙ sym (each_in_turn (world_of b) (tick.count_when o ∷ tick.clock ∷ []))

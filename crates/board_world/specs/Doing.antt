@@ -29,7 +29,7 @@ use Rattle.slot_vector.specs.declared.turn.NextTurn.{NextTurn}
 use Rattle.slot_vector.specs.declared.turn.NextTurn.TheVariants as next
 use Rattle.slot_vector.specs.declared.timer.Timer.{Timer}
 use Rattle.slot_vector.specs.declared.timer.Timer.TheVariants as timer
-use Rattle.slot_vector.specs.Slices.{after_timer, after_turn, excess_of, given_to, hold_at, refusal_of_drop, refusal_of_gift, refusal_of_take, timer_answer, told_of, turn_ended, with_hold, without_env}
+use Rattle.slot_vector.specs.Slices.{Slices, after_timer, after_turn, excess_of, given_to, hold_at, refusal_of_drop, refusal_of_gift, refusal_of_take, timer_answer, told_of, turn_ended, with_hold, without_env}
 use Rattle.world_model.specs.declared.slot.Hold.{Hold}
 use Rattle.world_model.specs.declared.slot.Runner.{Runner}
 use Rattle.world_model.specs.declared.slot.Turn.{Turn}
@@ -146,15 +146,24 @@ abbrev pub mask_rows : ℕ → ℕ → (ℕ → Option Hold) → ℕ → List Ro
 mask_rows t mask slots zero = []
 mask_rows t mask slots (suc k) = mask_rows t mask slots k ++ (if shifted mask k % 2 == 1 then slot_row t k (slots k) ∷ [] else [])
 
--- an environment's death
-abbrev pub died : Shown → ℕ → Cause → Shown
-died b e cause = record b {
+-- An environment's death. Its slots are released, and the ledger tells its death and what becomes of them.
+abbrev pub ledger_released : ℕ → ℕ → Slices → Ledger → Ledger
+ledger_released t e v ledger = with_rows (with_row ledger (row.Dead t v.cursor e)) (released_rows t e (hold_at v.slots) (length v.slots))
+
+abbrev pub slots_released : Shown → ℕ → Shown
+slots_released b e = record b { slots = without_env e b.slots; ledger = ledger_released b.time e b.slots b.ledger }
+
+-- Its pages are free, neither its bindings nor those of its pages are left, and its registers and mappings go.
+abbrev pub buried : Shown → ℕ → Cause → Shown
+buried b e cause = record b {
   pages = map (released e) b.pages;
   binds = swept (goes_with (row_in b.pages) e) b.binds;
-  slots = without_env e b.slots;
   roster = with_list b.roster (changed (dead_frame cause) b.roster.list e);
-  ledger = with_rows (with_row b.ledger (row.Dead b.time b.slots.cursor e)) (released_rows b.time e (hold_at b.slots.slots) (length b.slots.slots));
 }
+
+-- both
+abbrev pub died : Shown → ℕ → Cause → Shown
+died b e cause = buried (slots_released b e) e cause
 
 -- the registers of an environment that is stopped are kept
 abbrev pub kept_stopped : Shown → ℕ → Shown
@@ -443,13 +452,36 @@ ended b e = record b {
 abbrev pub over_row : Shown → ℕ → ℕ → Ledger
 over_row b e excess = with_row b.ledger (row.Over b.time b.slots.cursor e excess)
 
+-- What the timer brought is settled at once: the ledger tells of a quantum of grace that is over, and the slots of a runner that is to die are released.
+abbrev pub settled : ℕ → Slices → Timer → Slices
+settled e v timer.Nothing = v
+settled e v timer.Stop = v
+settled e v timer.End = v
+settled e v (timer.Over excess) = v
+settled e v timer.Kill = without_env e v
+
+abbrev pub ledger_settled : ℕ → ℕ → Slices → Ledger → Timer → Ledger
+ledger_settled t e v ledger timer.Nothing = ledger
+ledger_settled t e v ledger timer.Stop = ledger
+ledger_settled t e v ledger timer.End = ledger
+ledger_settled t e v ledger (timer.Over excess) = with_row ledger (row.Over t v.cursor e excess)
+ledger_settled t e v ledger timer.Kill = ledger_released t e v (with_row ledger (row.Over t v.cursor e (excess_of v.excess e)))
+
+-- a tick of the runner's slice is used
+abbrev pub used : Shown → ℕ → Timer → Shown
+used b e answer = let v = after_timer b.slots answer in record b { slots = settled e v answer; ledger = ledger_settled b.time e v b.ledger answer }
+
+-- a runner with too much excess, which is to die
+abbrev pub overrun : Shown → ℕ → Shown
+overrun b e = let v = after_timer b.slots timer.Kill in record b { slots = v; ledger = over_row b e (excess_of v.excess e) }
+
 -- what the timer brings to the runner
 abbrev pub brought : Shown → ℕ → Timer → Shown
 brought b e timer.Nothing = record b { slots = after_timer b.slots timer.Nothing }
 brought b e timer.Stop = stopped b e
 brought b e timer.End = ended b e
 brought b e (timer.Over excess) = record b { slots = after_timer b.slots (timer.Over excess); ledger = over_row b e excess }
-brought b e timer.Kill = died (record b { ledger = over_row b e (excess_of b.slots.excess e + 1) }) e cause.Excess
+brought b e timer.Kill = died (overrun b e) e cause.Excess
 
 abbrev pub has_end : Shown → ℕ → Bool
 has_end b e = not ((handlers_of b.roster.list e).end == 0)

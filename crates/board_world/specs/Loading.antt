@@ -1,12 +1,13 @@
 -- An environment whose pages are being given to it, one after another.
-use Rattle.std.specs.Prelude.{◌≡◌, ◌≢◌, ◌+◌, ℕ, List, length}
+use Rattle.std.specs.Prelude.{◌≡◌, ◌≢◌, ◌+◌, ℕ, List, ◌++◌, length}
 use Rattle.frame_store.specs.Pages.{page_at, zero_page}
+use Rattle.env_frames.specs.declared.mapping.Mapping.{Mapping}
 use Rattle.page_book.specs.declared.row.PageRow.{PageRow}
 use Rattle.page_book.specs.declared.row.PageRow.TheVariants.{Free}
 use Rattle.page_book.specs.Rows.{free_pages, row_in}
 use Rattle.world_model.specs.Page.{KeptPage}
 use Rattle.world_model.specs.Table.{listed}
-use Rattle.run_model.specs.Boot.{keep_pages, open_page}
+use Rattle.run_model.specs.Boot.{keep_pages, mappings_over, open_page}
 use Rattle.board_world.specs.Shown.{Shown}
 
 -- physical memory has a page for each row
@@ -24,6 +25,10 @@ pub record AreGiven (e count : ℕ) (old new : List PageRow) (before after : Lis
   pub size : length new ≡ length old
   pub free : free_pages old ≡ free_pages new + count
   pub left : AreLeft old before after
+
+-- the guaranteed mappings of an environment, once these pages were given to it behind those that it had
+abbrev pub with_mapped : ℕ → List PageRow → List KeptPage → List Mapping → List Mapping
+with_mapped e pages given mappings = mappings ++ mappings_over e (length pages) (row_in pages) given
 
 -- so many pages of zeros, from a page number on
 abbrev pub zeros_from : ℕ → ℕ → List KeptPage

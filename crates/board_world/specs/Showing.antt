@@ -12,7 +12,7 @@ use Rattle.world_model.specs.Solo.{Solo, absent}
 use Rattle.world_model.specs.World.{World}
 use Rattle.page_sight.specs.Sight.{seen_in}
 use Rattle.board_world.specs.declared.roster.Environment.{Environment}
-use Rattle.board_world.specs.Shown.{Shown, console_of}
+use Rattle.board_world.specs.Shown.{Shown, console_of, mappings_of}
 
 -- a mapping with the bytes of its page
 abbrev pub page_seen : List (List ℕ) → Mapping → KeptPage
@@ -57,6 +57,7 @@ book_of b = record {
   excess = excess_of b.slots.excess;
   page_count = length b.pages;
   pages = row_in b.pages;
+  kept = mappings_of b.roster.list;
   binds = stripes b.binds;
   time = b.time;
 }

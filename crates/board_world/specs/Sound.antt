@@ -1,5 +1,5 @@
 -- What holds of every board.
-use Rattle.std.specs.Prelude.{◌≡◌, ◌≤◌, ◌<◌, ◌+◌, ◌*◌, ℕ, List, [], length, Option, Some, None, IfSome, slice_get}
+use Rattle.std.specs.Prelude.{◌≡◌, ◌≤◌, ◌<◌, ◌+◌, ◌*◌, ℕ, false, List, [], length, Option, Some, None, IfSome, slice_get}
 use Rattle.aegis_limits.specs.Limits.{most_environments, most_slots}
 use Rattle.frame_store.specs.Pages.{most_frames}
 use Rattle.page_book.specs.declared.row.PageRow.{PageRow}
@@ -11,7 +11,7 @@ use Rattle.bind_book.specs.Stripe.{stripe_rows, stripes}
 use Rattle.env_frames.specs.declared.mapping.Mapping.{Mapping}
 use Rattle.env_frames.specs.Frame.{IsRising, numbers}
 use Rattle.slot_vector.specs.Slices.{Slices, HasTicks, excess_of, hold_at, most_numbers}
-use Rattle.world_model.specs.Book.{excess_limit}
+use Rattle.world_model.specs.Book.{excess_limit, has_part, is_runner}
 use Rattle.world_model.specs.declared.life.Life.TheVariants.{Live}
 use Rattle.board_world.specs.declared.roster.Environment.{Environment}
 use Rattle.board_world.specs.Shown.{Shown, Environments, mappings_of, console_of}
@@ -61,6 +61,11 @@ pub record IsManned (v : Slices) (r : Environments) : Type 0 where
   pub count : length v.slots ≤ most_slots
   pub numbered : length v.excess ≡ most_numbers
   pub owes : (e : ℕ) → excess_of v.excess e ≤ excess_limit
+
+-- no slot is an environment's, and it doesn't run
+pub record HasNoPart (e : ℕ) (v : Slices) : Type 0 where
+  pub runs : is_runner e v.runner ≡ false
+  pub parts : (k : ℕ) → has_part e (hold_at v.slots k) ≡ false
 
 -- The consoles: there is one for each environment, and what isn't there yet wrote nothing.
 pub record AreConsoles (consoles : List (List ℕ)) (r : Environments) : Type 0 where

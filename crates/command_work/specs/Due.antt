@@ -14,6 +14,7 @@ use Rattle.boot_image.specs.Names.{image_why_text, text_why_text}
 use Rattle.boot_image.specs.ScheduleFaults.{schedule_fault}
 use Rattle.line_text.specs.Text.{dec_text}
 use Rattle.run_report.specs.Report.{report_text}
+use Rattle.world_model.specs.Event.{schedule_of}
 use Rattle.run_model.specs.Run.{world_after, end_of_run}
 use Rattle.command_work.specs.declared.status.Status.{Status}
 use Rattle.command_work.specs.declared.status.Status.TheVariants as status
@@ -58,7 +59,7 @@ refusal_text name why place = codes "aegis: " ++ name ++ codes ": " ++ why ++ co
 
 -- the report of an image's world after so many ticks
 unfoldable pub report_after : ImageValue → ℕ → List ℕ
-report_after image ticks = let w = world_after image ticks in report_text w (end_of_run w ticks)
+report_after image ticks = let w = world_after (record { image = image; schedule = schedule_of [] }) ticks in report_text w (end_of_run w ticks)
 
 -- the first file with a fault is refused, in the order of the words
 abbrev pub run_due : (image_name schedule_name : List ℕ) → ℕ → List ℕ → Option ImageFault → Option TextFault → Due

@@ -1,7 +1,7 @@
 -- The balance of excess, and lawful ledgers.
 use Rattle.std.proofs.Common.{arith, refl, sym, ◌∙◌, ap, subst, ◌≡◌, ◌<◌, ◌+◌, ◌-◌, ℕ, zero, suc, List, [], ◌∷◌, ◌++◌, map, length, Bool, true, false, Option, None, Some}
 use Rattle.std.specs.Prelude.{◌==◌, nat_lt, if◌then◌else◌, slice_get}
-use Rattle.std.proofs.lemmas.Bool.{eqb-true, eqb-false, eq-eqb}
+use Rattle.std.proofs.lemmas.Bool.{eqb-true, eqb-false}
 use Rattle.boot_image.specs.ImageValue.{ProgramValue}
 use Rattle.kernel_journal.specs.declared.row.Row.{Row}
 use Rattle.kernel_journal.specs.declared.row.Row.TheVariants as row
@@ -14,24 +14,39 @@ use Rattle.world_model.specs.declared.slot.Runner.{Runner}
 use Rattle.world_model.specs.declared.slot.Turn.{Turn}
 use Rattle.world_model.specs.Book.{Book, Told, excess_limit, first_turn, is_idle_book, lowered, owed, pays_first, told_at, told_turn, whole_turn}
 use Rattle.run_model.specs.Boot.{boot_book, boot_slot, boot_world, own_row, own_rows, record_items, with_all_kept, with_kept}
-use Rattle.run_model.specs.Excess.{pays, AreSlotsLive, BalanceHolds, BootsAccounted, IsAccounted, IsBalanced, LedgersAreLawful, Lives, TicksKeepAccounts}
+use Rattle.run_model.specs.Excess.{pays, AreSlotsLive, BalanceHolds, BootsAccounted, IsAccounted, LedgersAreLawful, Lives, TicksKeepAccounts}
 use Rattle.world_model.specs.Item.{End, Killed, Start, absorb_all}
-use Rattle.world_model.specs.PageCalls.{lost_with}
-use Rattle.run_model.specs.Run.{next_world, run_on}
+use Rattle.run_model.specs.Run.{happens_in, next_phases, next_world, run_on}
 use Rattle.world_model.specs.Solo.{absent, dead, is_dead}
-use Rattle.world_model.specs.Step.{act_of, step_alone}
 use Rattle.world_model.specs.Table.{set_at}
-use Rattle.world_model.specs.Tick.{count_down, grace_end, killed, later, no_change, pay_row, run_out, slice_end, step, step_when, take_turn, tick_step, timed, timer_when, turn, turn_when, with_row}
+use Rattle.world_model.specs.Event.{Occurrence, Schedule, happen}
+use Rattle.world_model.specs.Tick.{act_now, clock, count_when, goes_on, grace_of, judged, kill, owes_more, pay_row, phases_after, run_out, slice_end, step_when, take_turn, tick_phases, timer, turn_when}
 use Rattle.world_model.specs.Verdict.{stop_row}
-use Rattle.world_model.specs.World.{World, Reply, after, no_items, only}
-use Rattle.run_model.proofs.Lives.{keep_end, keep_none, keep_only, keep_start, lost_with_keeps}
+use Rattle.world_model.specs.World.{World, Reply, after, no_change, no_items, only, run_phases}
+use Rattle.run_model.proofs.Lives.{keep_end, keep_none, keep_only, keep_start}
 use Rattle.run_model.proofs.NextTurn.{Found, holder_in, search_finds}
-use Rattle.run_model.proofs.Replies.{Calm, accounts, act_accounts, death_is_quiet, dies, mild_accounts, mourning_is_calm}
-use Rattle.run_model.proofs.Rows.{Adds, AreQuiet, Balances, adds_over, adds_pay, adds_quiet, adds_run, quiet_both, quiet_end, quiet_slot, quiet_stop, set_other}
+use Rattle.run_model.proofs.Replies.{accounts, act_accounts, death_accounts, dies, in_turn_accounts, mild_accounts, no_change_is_mild}
+use Rattle.run_model.proofs.Rows.{Adds, AreQuiet, Balances, adds_over, adds_pay, adds_quiet, adds_run, quiet_both, quiet_end, quiet_slot, quiet_stop}
+
+-- A phase that keeps the accounts, and phases that do.
+abbrev KeepsAccounts : (World → Reply) → Type 0
+KeepsAccounts phase = (w : World) → IsAccounted w → IsAccounted (after w (phase w))
+
+abbrev KeepAccounts : List (World → Reply) → Type 0
+KeepAccounts [] = Unit {0}
+KeepAccounts (phase ∷ phases) = KeepsAccounts phase × KeepAccounts phases
+
+run_accounts : (phases : List (World → Reply)) → KeepAccounts phases → (w : World) → IsAccounted w → IsAccounted (run_phases w phases)
+run_accounts [] keep w good = good
+run_accounts (phase ∷ phases) (keeps, rest) w good = run_accounts phases rest (after w (phase w)) (keeps w good)
 
 -- nothing happens
-no_change_accounts : (w : World) → IsAccounted w → IsAccounted (after w (no_change w))
-no_change_accounts w good = mild_accounts w (no_change w) good (record { excess = refl; quiet = tt; keeps = λ i. keep_none; slots = good.slots_live; runner = good.runner_lives })
+no_change_accounts : KeepsAccounts no_change
+no_change_accounts w good = mild_accounts w (no_change w) good (no_change_is_mild w good)
+
+-- What happens from outside.
+happen_accounts : (what : Occurrence) → KeepsAccounts (happen what)
+happen_accounts what w good = no_change_accounts w good
 
 -- The turn. Each forfeit is of one that lives and owes, and who runs lives and owes nothing.
 abbrev Forfeits : World → (ℕ → ℕ) → List Turn → Option Turn → (ℕ → ℕ) → Type 0
@@ -103,131 +118,104 @@ turn_accounts w (Some r) good = no_change_accounts w good
 -- The step.
 step_accounts : (w : World) (runner : Option Runner) → w.book.runner ≡ runner → IsAccounted w → IsAccounted (after w (step_when w runner))
 step_accounts w None is good = no_change_accounts w good
-step_accounts w (Some r) is good = let s = w.solos r.env in act_accounts w r.env good (good.runner_lives r is) (act_of s (step_alone s)) refl
+step_accounts w (Some r) is good = act_accounts w r.env good (good.runner_lives r is) (act_now w r.env) refl
 
--- The timer. At the end of its slice a runner is stopped or told.
-slice_end_accounts : (w : World) (e handler : ℕ) → IsAccounted w → Lives w e → IsAccounted (after w (slice_end w e handler))
+-- The timer. Time rises by one.
+clock_accounts : KeepsAccounts clock
+clock_accounts w good = mild_accounts w (clock w) good (record { excess = refl; quiet = tt; keeps = λ i. keep_none; slots = good.slots_live; runner = good.runner_lives })
+
+-- who lives runs on
+goes_on_accounts : (w : World) (r : Runner) → IsAccounted w → Lives w r.env → IsAccounted (after w (goes_on r w))
+goes_on_accounts w r good lives = mild_accounts w (goes_on r w) good (record {
+  excess = refl;
+  quiet = tt;
+  keeps = λ i. keep_none;
+  slots = good.slots_live;
+  runner = λ x is. let same : r.env ≡ x.env = cc in subst (λ (n : ℕ). Lives w n) same lives;
+})
+
+-- at the end of its slice a runner is stopped or told
+slice_end_accounts : (w : World) (e handler : ℕ) → IsAccounted w → Lives w e → IsAccounted (after w (slice_end e handler w))
 slice_end_accounts w e handler good lives = by_test (handler == 0)
   where
-    stops : IsAccounted (after w (timed w None no_items (stop_row w.book e ∷ [])))
-    stops = mild_accounts w (timed w None no_items (stop_row w.book e ∷ [])) good (record {
+    stops : Reply
+    stops = record { book = record w.book { runner = None }; items = no_items; rows = stop_row w.book e ∷ [] }
+
+    ends : Reply
+    ends = record { book = record w.book { runner = Some (grace_of w e) }; items = only e (End ∷ []); rows = row.End w.book.time w.book.cursor e ∷ [] }
+
+    by_test : (t : Bool) → IsAccounted (after w (if t then stops else ends))
+    by_test true = mild_accounts w stops good (record {
       excess = refl;
       quiet = (quiet_stop w.book.time w.book.cursor e, tt);
       keeps = λ i. keep_none;
       slots = good.slots_live;
       runner = λ x is. cc;
     })
-
-    by_test : (t : Bool)
-        → IsAccounted
-        (after w
-        (if t then timed w None no_items (stop_row w.book e ∷ [])
-        else timed w (Some (record { env = e; left = w.book.quantum; phase = phase.Grace })) (only e (End ∷ [])) (row.End w.book.time w.book.cursor e ∷ [])))
-    by_test true = stops
-    by_test false =
-        mild_accounts w (timed w (Some (record { env = e; left = w.book.quantum; phase = phase.Grace })) (only e (End ∷ [])) (row.End w.book.time w.book.cursor e ∷ [])) good (record {
-          excess = refl;
-          quiet = (quiet_end w.book.time w.book.cursor e, tt);
-          keeps = keep_only e (End ∷ []) keep_end;
-          slots = good.slots_live;
-          runner = λ x is. let same : e ≡ x.env = cc in subst (λ (n : ℕ). Lives w n) same lives;
-        })
-
--- the runner dies of its excess
-killed_is_calm : (w : World) (e excess : ℕ) (first : Row) → IsAccounted w → Calm w (with_row first (later (killed w e))) (set_at e excess w.book.excess)
-killed_is_calm w e excess first good = mourning_is_calm w e (with_row first (later (killed w e))) (set_at e excess w.book.excess) good.slots_live (record {
-  gone = ends (e == e) (eq-eqb e e refl);
-  others = λ i other. stays i (i == e) other;
-  excess = λ i other. set_other e 0 w.book.excess i (eqb-false i e other) ∙ sym (set_other e excess w.book.excess i (eqb-false i e other));
-  slots = λ k. refl;
-  runner = refl;
-})
-  where
-    ends : (t : Bool) → t ≡ true → (absorb_all (w.solos e) (if t then Killed ∷ [] else (if t then [] else lost_with w.book e e w.book.page_count))).life ≡ Live → ⊥
-    ends true own lives = let s = w.solos e in dies (is_dead s.life) s (dead cause.Excess s) refl (λ never. cc) lives
-    ends false own lives = cc
-
-    stays : (i : ℕ) (t : Bool) → t ≡ false
-        → (absorb_all (w.solos i) (if t then Killed ∷ [] else (if t then [] else lost_with w.book e i w.book.page_count))).life ≡ (w.solos i).life
-    stays i true other = cc
-    stays i false other = lost_with_keeps w.book e i w.book.page_count (w.solos i)
-
--- another quantum of grace
-abbrev more_grace : World → ℕ → ℕ → Reply
-more_grace w e excess = record {
-  book = record w.book { runner = Some (record { env = e; left = w.book.quantum; phase = phase.Grace }); excess = set_at e excess w.book.excess };
-  items = no_items;
-  rows = [];
-}
-
-grace_is_calm : (w : World) (e excess : ℕ) (first : Row) → IsAccounted w → Lives w e → Calm w (with_row first (later (more_grace w e excess))) (set_at e excess w.book.excess)
-grace_is_calm w e excess first good lives = record {
-  living = λ i alive. (alive, refl);
-  slots = good.slots_live;
-  runner = λ x is. let same : e ≡ x.env = cc in subst (λ (n : ℕ). Lives w n) same lives;
-}
-
-grace_end_accounts : (w : World) (e : ℕ) → IsAccounted w → Lives w e → IsAccounted (after w (grace_end w e (w.book.excess e + 1)))
-grace_end_accounts w e good lives = by_test (nat_lt excess_limit (w.book.excess e + 1))
-  where
-    by_test : (t : Bool)
-        → IsAccounted
-        (after w
-        (with_row (row.Over w.book.time w.book.cursor e (w.book.excess e + 1)) (if t then later (killed w e) else later (more_grace w e (w.book.excess e + 1)))))
-    by_test true =
-        let excess = w.book.excess e + 1 in
-        let first = row.Over w.book.time w.book.cursor e excess in
-        accounts w (with_row first (later (killed w e))) (set_at e excess w.book.excess) good
-        (adds_over w w.rows (killed w e).rows w.book.time w.book.cursor e w.book.excess lives (death_is_quiet w e) good.balanced) (killed_is_calm w e excess first good)
-    by_test false =
-        let excess = w.book.excess e + 1 in
-        let first = row.Over w.book.time w.book.cursor e excess in
-        accounts w (with_row first (later (more_grace w e excess))) (set_at e excess w.book.excess) good
-        (adds_over w w.rows [] w.book.time w.book.cursor e w.book.excess lives tt good.balanced) (grace_is_calm w e excess first good lives)
-
-run_out_accounts : (w : World) (e : ℕ) (p : Phase) → IsAccounted w → Lives w e → IsAccounted (after w (run_out w e p))
-run_out_accounts w e phase.Own good lives = slice_end_accounts w e (w.solos e).handlers.end good lives
-run_out_accounts w e phase.Grace good lives = grace_end_accounts w e good lives
-
-count_down_accounts : (w : World) (r : Runner) (left : ℕ) → IsAccounted w → Lives w r.env → IsAccounted (after w (count_down w r left))
-count_down_accounts w r left good lives = by_test (left == 0)
-  where
-    by_test : (t : Bool) → IsAccounted (after w (if t then run_out w r.env r.phase else timed w (Some (record r { left = left })) no_items []))
-    by_test true = run_out_accounts w r.env r.phase good lives
-    by_test false = mild_accounts w (timed w (Some (record r { left = left })) no_items []) good (record {
+    by_test false = mild_accounts w ends good (record {
       excess = refl;
-      quiet = tt;
-      keeps = λ i. keep_none;
+      quiet = (quiet_end w.book.time w.book.cursor e, tt);
+      keeps = keep_only e (End ∷ []) keep_end;
       slots = good.slots_live;
-      runner = λ x is. let same : r.env ≡ x.env = cc in subst (λ (n : ℕ). Lives w n) same lives;
+      runner = λ x is. let same : e ≡ x.env = cc in subst (λ (n : ℕ). Lives w n) same lives;
     })
 
-timer_accounts : (w : World) (runner : Option Runner) → w.book.runner ≡ runner → IsAccounted w → IsAccounted (after w (timer_when w runner))
-timer_accounts w None is good =
-    mild_accounts w (timed w None no_items []) good (record { excess = refl; quiet = tt; keeps = λ i. keep_none; slots = good.slots_live; runner = λ x is. cc })
-timer_accounts w (Some r) is good = count_down_accounts w r (r.left - 1) good (good.runner_lives r is)
+-- a quantum that it ran past its slice is its excess
+owes_accounts : (w : World) (e : ℕ) → IsAccounted w → Lives w e → IsAccounted (after w (owes_more e w))
+owes_accounts w e good lives =
+    accounts w (owes_more e w) (set_at e (w.book.excess e + 1) w.book.excess) good (adds_over w w.rows [] w.book.time w.book.cursor e w.book.excess lives tt good.balanced)
+    (record { living = λ i alive. (alive, refl); slots = good.slots_live; runner = good.runner_lives })
 
--- a tick, and ticks
-tick_accounts : (w : World) → IsAccounted w → IsAccounted (tick_step w)
-tick_accounts w good =
-    let turned = after w (turn w) in
-    let stepped = after turned (step turned) in
-    timer_accounts stepped stepped.book.runner refl (step_accounts turned turned.book.runner refl (turn_accounts w w.book.runner good))
+-- above the limit it dies of it
+kill_accounts : (w : World) (e : ℕ) → IsAccounted w → IsAccounted (after w (kill e w))
+kill_accounts w e good =
+    let s = w.solos e in
+    death_accounts w e Killed cause.Excess good (dies (is_dead s.life) s (dead cause.Excess s) refl (λ never. cc))
 
-next_accounts : (w : World) → IsAccounted w → IsAccounted (next_world w)
-next_accounts w good = by_test (is_idle_book w.book)
+judged_accounts : (w : World) (e : ℕ) → IsAccounted w → Lives w e → IsAccounted (after w (judged e w))
+judged_accounts w e good lives = by_test (nat_lt excess_limit (w.book.excess e))
   where
-    by_test : (idle : Bool) → IsAccounted (if idle then w else tick_step w)
+    by_test : (t : Bool) → IsAccounted (after w (if t then kill e w else goes_on (grace_of w e) w))
+    by_test true = kill_accounts w e good
+    by_test false = goes_on_accounts w (grace_of w e) good lives
+
+run_out_accounts : (w : World) (e : ℕ) (p : Phase) → IsAccounted w → Lives w e → IsAccounted (after w (run_out e p w))
+run_out_accounts w e phase.Own good lives = slice_end_accounts w e (w.solos e).handlers.end good lives
+run_out_accounts w e phase.Grace good lives =
+    in_turn_accounts (owes_more e ∷ judged e ∷ []) w (judged_accounts (after w (owes_more e w)) e (owes_accounts w e good lives) lives)
+
+count_accounts : (w : World) (runner : Option Runner) → w.book.runner ≡ runner → IsAccounted w → IsAccounted (after w (count_when runner w))
+count_accounts w None is good = no_change_accounts w good
+count_accounts w (Some r) is good = by_test (r.left - 1 == 0)
+  where
+    by_test : (t : Bool) → IsAccounted (after w (if t then run_out r.env r.phase w else goes_on (record r { left = r.left - 1 }) w))
+    by_test true = run_out_accounts w r.env r.phase good (good.runner_lives r is)
+    by_test false = goes_on_accounts w (record r { left = r.left - 1 }) good (good.runner_lives r is)
+
+timer_accounts : KeepsAccounts timer
+timer_accounts w good =
+    let count = count_when w.book.runner in
+    in_turn_accounts (count ∷ clock ∷ []) w (clock_accounts (after w (count w)) (count_accounts w w.book.runner refl good))
+
+-- a tick is what happens in it, and then its phases
+tick_accounts : KeepAccounts tick_phases
+tick_accounts = (λ w good. turn_accounts w w.book.runner good, (λ w good. step_accounts w w.book.runner refl good, (timer_accounts, tt)))
+
+all_account : (happens : List Occurrence) → KeepAccounts (phases_after happens)
+all_account [] = tick_accounts
+all_account (what ∷ happens) = (happen_accounts what, all_account happens)
+
+next_accounts : (schedule : Schedule) (w : World) → IsAccounted w → IsAccounted (next_world schedule w)
+next_accounts schedule w good = by_test (is_idle_book w.book)
+  where
+    by_test : (idle : Bool) → IsAccounted (if idle then w else run_phases w (next_phases schedule w))
     by_test true = good
-    by_test false = tick_accounts w good
+    by_test false = run_accounts (next_phases schedule w) (all_account (happens_in schedule w)) w good
 
 -- more ticks keep the accounts, and so the balance
 pub ticks_keep_accounts : TicksKeepAccounts
-ticks_keep_accounts w good zero = good
-ticks_keep_accounts w good (suc t) = next_accounts (run_on w t) (ticks_keep_accounts w good t)
-
-pub ticks_keep_balance : (w : World) → IsAccounted w → (t : ℕ) → IsBalanced (run_on w t)
-ticks_keep_balance w good t = (ticks_keep_accounts w good t).balanced
+ticks_keep_accounts schedule w good zero = good
+ticks_keep_accounts schedule w good (suc t) = next_accounts schedule (run_on schedule w t) (ticks_keep_accounts schedule w good t)
 
 -- At boot all live, nobody owes, and only slots have rows.
 none_owes : (e : ℕ) (programs : List ProgramValue) (b : Book) → (with_all_kept e programs b).excess ≡ b.excess
@@ -264,7 +252,7 @@ boots_accounted image = record {
     adds = adds_quiet (boot_world image) [] (boot_world image).rows (λ e. 0) (quiet_own_rows image.slots (length image.slots)) (λ e lives. refl)
 
 pub balance_holds : BalanceHolds
-balance_holds image t = (ticks_keep_accounts (boot_world image) (boots_accounted image) t).balanced
+balance_holds system t = (ticks_keep_accounts system.schedule (boot_world system.image) (boots_accounted system.image) t).balanced
 
 pub ledgers_are_lawful : LedgersAreLawful
-ledgers_are_lawful image t = (ticks_keep_accounts (boot_world image) (boots_accounted image) t).lawful
+ledgers_are_lawful system t = (ticks_keep_accounts system.schedule (boot_world system.image) (boots_accounted system.image) t).lawful

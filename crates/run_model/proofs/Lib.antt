@@ -1,3 +1,5 @@
+pub mod Phases
+pub mod Telling
 mod Fold
 mod NextTurn
 mod Turns

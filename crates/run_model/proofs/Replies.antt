@@ -4,7 +4,6 @@ use Rattle.std.specs.Prelude.{◌==◌, not, nat_lt, if◌then◌else◌, is_som
 use Rattle.std.proofs.lemmas.Bool.{and_parts, eqb-true, eqb-false, eq-eqb, not-true}
 use Rattle.frame_store.specs.Pages.{zero_page}
 use Rattle.mips_exec.specs.declared.registers.Cpu.{Cpu}
-use Rattle.mips_exec.specs.declared.exception.Exc.{Exc}
 use Rattle.mips_exec.specs.Cpu.{reg}
 use Rattle.mips_exec.specs.Step.{Step as MachineStep, Retired, Called, Trapped, cpu_after}
 use Rattle.std.specs.Option.{option_map}
@@ -24,7 +23,6 @@ use Rattle.world_model.specs.declared.code.Code.TheVariants as code
 use Rattle.world_model.specs.declared.life.Life.{Life}
 use Rattle.world_model.specs.declared.life.Life.TheVariants.{Live, Dead}
 use Rattle.world_model.specs.declared.life.Cause.{Cause}
-use Rattle.world_model.specs.declared.life.Cause.TheVariants as cause
 use Rattle.world_model.specs.declared.slot.Hold.{Hold}
 use Rattle.world_model.specs.declared.slot.Runner.{Runner}
 use Rattle.world_model.specs.Table.{set_at}
@@ -36,13 +34,15 @@ use Rattle.world_model.specs.Item.{Item, Step, Start, Transfer, Granted, Refused
 use Rattle.world_model.specs.PageCalls.{alloc_by, bind_by, breaks, chosen_page, context_by, free_by, is_guaranteed, left_by, lost_with, page_bytes, recap_by, unbind_by, with_binding, without_number}
 use Rattle.world_model.specs.Transfers.{is_open, refusal_of_transfer, slots_handed, transfer_by, transfer_of, transfer_rows}
 use Rattle.world_model.specs.SlotCalls.{accepts, answer_to, drop_by, drop_refusal, dropped, gift_refusal, give_by, handed, held_by, is_other, query_by, question_numbered, refusal_of_giving, slot_at, turn_slot, take_by, take_refusal, with_slot, yield_by}
-use Rattle.world_model.specs.Solo.{Solo, Store, is_dead, sight, store_of}
-use Rattle.world_model.specs.Step.{Act, Nothing, Stores, Calls, Raises, Dies, act_of, acted, call_act, step_alone, stepped, store_act, trap_act}
-use Rattle.world_model.specs.Tick.{brings, no_change, with_step}
+use Rattle.world_model.specs.Solo.{Solo, is_dead, sight, store_of}
+use Rattle.world_model.specs.Step.{Act, Nothing, Stores, Calls, Raises, Dies, act_of, acted, call_act, step_alone, stepped}
+use Rattle.world_model.specs.Tick.{act_now, brings}
 use Rattle.world_model.specs.Verdict.{death, grant, put_if, refusal, reply_of, reply_to}
-use Rattle.world_model.specs.World.{World, Reply, after, no_items, only}
-use Rattle.run_model.proofs.Lives.{Keeps, if_living, keep_none, keep_set, keep_only, keep_start, keep_transfer, keep_granted, keep_refused, keep_gained, keep_freed, breaks_keep, left_by_keeps, lost_with_keeps}
-use Rattle.run_model.proofs.Rows.{AreQuiet, Adds, adds_quiet, lawful_both, set_other, quiet_async, quiet_dead, quiet_give, quiet_releases, quiet_stop, quiet_slot, quiet_sync}
+use Rattle.world_model.specs.World.{World, Reply, after, in_turn, no_change, only, run_phases, tells}
+use Rattle.run_model.proofs.Phases.{in_turn_is_each}
+use Rattle.run_model.proofs.Telling.{store_calls_not, told_own, trap_calls_not}
+use Rattle.run_model.proofs.Lives.{Keeps, if_living, keep_both, keep_none, keep_set, keep_only, keep_start, keep_transfer, keep_granted, keep_refused, keep_gained, keep_freed, breaks_keep, left_by_keeps, lost_with_keeps}
+use Rattle.run_model.proofs.Rows.{AreQuiet, Adds, adds_quiet, lawful_both, set_other, quiet_async, quiet_both, quiet_dead, quiet_give, quiet_releases, quiet_stop, quiet_slot, quiet_sync}
 
 -- After a reply who lives lived before, with this excess, and who has slots or runs lives.
 pub record Calm (w : World) (r : Reply) (excess : ℕ → ℕ) : Type 0 where
@@ -134,50 +134,61 @@ steps_on (Calls c) s lives = refl
 steps_on (Raises exc) s lives = refl
 steps_on (Dies cause) s lives = absurd (lives cause refl)
 
--- the step of one that lives, in a reply that is mild
-step_accounts : (w : World) (e : ℕ) (r : Reply) (act : Act) → IsAccounted w → act_of (w.solos e) (step_alone (w.solos e)) ≡ act → ((cause : Cause) → act ≡ Dies cause → ⊥) → Mild w r
-    → IsAccounted (after w (with_step e r))
-step_accounts w e r act good is lives mild =
-    accounts w (with_step e r) w.book.excess good (adds_quiet w w.rows r.rows w.book.excess mild.quiet good.balanced)
-    (calm_with w r (λ i. only e (Step ∷ []) i ++ r.items i) mild (λ i. by_test i (i == e) refl))
+step_leaves : (s : Solo) (act : Act) → act_of s (step_alone s) ≡ act → ((cause : Cause) → act ≡ Dies cause → ⊥) → (absorb s Step).life ≡ s.life
+step_leaves s act is lives = if_living (is_dead s.life) s (stepped s (step_alone s)) (rw is (steps_on act (record s { cpu = cpu_after s.cpu (step_alone s) }) lives))
+
+-- nothing happens
+pub no_change_is_mild : (w : World) → IsAccounted w → Mild w (no_change w)
+no_change_is_mild w good = record { excess = refl; quiet = tt; keeps = λ i. keep_none; slots = good.slots_live; runner = good.runner_lives }
+
+-- an environment is told something that leaves its life
+tells_accounts : (w : World) (e : ℕ) (item : Item) → IsAccounted w → (absorb (w.solos e) item).life ≡ (w.solos e).life → IsAccounted (after w (tells e item w))
+tells_accounts w e item good same =
+    accounts w (tells e item w) w.book.excess good (adds_quiet w w.rows [] w.book.excess tt good.balanced)
+    (calm_with w (no_change w) (only e (item ∷ [])) (no_change_is_mild w good) (λ i. by_test i (i == e) refl))
   where
-    step_same : (s : Solo) → act_of s (step_alone s) ≡ act → (absorb s Step).life ≡ s.life
-    step_same s is = if_living (is_dead s.life) s (stepped s (step_alone s)) (rw is (steps_on act (record s { cpu = cpu_after s.cpu (step_alone s) }) lives))
+    by_test : (i : ℕ) (mine : Bool) → (i == e) ≡ mine → (absorb_all (w.solos i) (if mine then item ∷ [] else [])).life ≡ (w.solos i).life
+    by_test i true own = subst (λ (n : ℕ). (absorb (w.solos n) item).life ≡ (w.solos n).life) (sym (eqb-true i e own)) same
+    by_test i false other = refl
 
-    by_test : (i : ℕ) (t : Bool) → (i == e) ≡ t → (absorb_all (w.solos i) ((if t then Step ∷ [] else []) ++ r.items i)).life ≡ (w.solos i).life
-    by_test i true own =
-        let same : w.solos i ≡ w.solos e = ap w.solos (eqb-true i e own) in
-        mild.keeps i (absorb (w.solos i) Step) ∙ step_same (w.solos i) (ap (λ (s : Solo). act_of s (step_alone s)) same ∙ is)
-    by_test i false other = mild.keeps i (w.solos i)
+-- phases in turn keep the accounts if they do so one after another
+pub in_turn_accounts : (phases : List (World → Reply)) (w : World) → IsAccounted (run_phases w phases) → IsAccounted (after w (in_turn phases w))
+in_turn_accounts phases w good = subst IsAccounted (sym (in_turn_is_each w phases)) good
 
--- the step at which one dies
-dead_lives_not : (act : Act) (s : Solo) (cause : Cause) → act ≡ Dies cause → (acted act s).life ≡ Live → ⊥
-dead_lives_not act s cause is lives = let never : Dead cause ≡ Live = subst (λ (a : Act). (acted a s).life ≡ Live) is lives in cc
+-- an environment is told something that is its death
+abbrev pub told_death : ℕ → Item → Cause → World → Reply
+told_death e item cause w = in_turn (tells e item ∷ brings e (Dies cause) ∷ []) w
 
-death_accounts : (w : World) (e : ℕ) (cause : Cause) → IsAccounted w → act_of (w.solos e) (step_alone (w.solos e)) ≡ Dies cause → IsAccounted (after w (with_step e (death w e)))
-death_accounts w e cause good is =
-    accounts w (with_step e (death w e)) w.book.excess good (adds_quiet w w.rows (death w e).rows w.book.excess (death_is_quiet w e) good.balanced)
-    (mourning_is_calm w e (with_step e (death w e)) w.book.excess good.slots_live mourns)
+pub death_accounts : (w : World) (e : ℕ) (item : Item) (cause : Cause) → IsAccounted w → ((absorb (w.solos e) item).life ≡ Live → ⊥) → IsAccounted (after w (told_death e item cause w))
+death_accounts w e item cause good ends =
+    accounts w (told_death e item cause w) w.book.excess good
+    (adds_quiet w w.rows ((death w e).rows ++ []) w.book.excess (quiet_both (death w e).rows [] (death_is_quiet w e) tt) good.balanced)
+    (mourning_is_calm w e (told_death e item cause w) w.book.excess good.slots_live mourns)
   where
-    ends : (t : Bool) → t ≡ true → (absorb_all (w.solos e) ((if t then Step ∷ [] else []) ++ (if t then [] else lost_with w.book e e w.book.page_count))).life ≡ Live → ⊥
-    ends true own lives =
-        let s = w.solos e in
-        dies (is_dead s.life) s (stepped s (step_alone s)) refl (dead_lives_not (act_of s (step_alone s)) (record s { cpu = cpu_after s.cpu (step_alone s) }) cause is) lives
-    ends false own lives = cc
+    gone : (t : Bool) → t ≡ true → (absorb_all (w.solos e) ((if t then item ∷ [] else []) ++ ((if t then [] else lost_with w.book e e w.book.page_count) ++ []))).life ≡ Live → ⊥
+    gone true own lives = ends lives
+    gone false own lives = cc
 
     stays : (i : ℕ) (t : Bool) → t ≡ false
-        → (absorb_all (w.solos i) ((if t then Step ∷ [] else []) ++ (if t then [] else lost_with w.book e i w.book.page_count))).life ≡ (w.solos i).life
+        → (absorb_all (w.solos i) ((if t then item ∷ [] else []) ++ ((if t then [] else lost_with w.book e i w.book.page_count) ++ []))).life ≡ (w.solos i).life
     stays i true other = cc
-    stays i false other = lost_with_keeps w.book e i w.book.page_count (w.solos i)
+    stays i false other = keep_both (lost_with w.book e i w.book.page_count) [] (lost_with_keeps w.book e i w.book.page_count) keep_none (w.solos i)
 
-    mourns : Mourns w e (with_step e (death w e)) w.book.excess
+    mourns : Mourns w e (told_death e item cause w) w.book.excess
     mourns = record {
-      gone = ends (e == e) (eq-eqb e e refl);
+      gone = gone (e == e) (eq-eqb e e refl);
       others = λ i other. stays i (i == e) other;
       excess = λ i other. set_other e 0 w.book.excess i (eqb-false i e other);
       slots = λ k. refl;
       runner = refl;
     }
+
+-- the step at which one dies
+dead_lives_not : (act : Act) (s : Solo) (cause : Cause) → act ≡ Dies cause → (acted act s).life ≡ Live → ⊥
+dead_lives_not act s cause is lives = let never : Dead cause ≡ Live = subst (λ (a : Act). (acted a s).life ≡ Live) is lives in cc
+
+step_ends : (s : Solo) (cause : Cause) → act_of s (step_alone s) ≡ Dies cause → (absorb s Step).life ≡ Live → ⊥
+step_ends s cause is = dies (is_dead s.life) s (stepped s (step_alone s)) refl (dead_lives_not (act_of s (step_alone s)) (record s { cpu = cpu_after s.cpu (step_alone s) }) cause is)
 
 -- the slots once one of them has another holder
 with_slot_live : (w : World) (k : ℕ) (new : Option Hold) → AreSlotsLive w w.book.slots → ((hold : Hold) → new ≡ Some hold → Lives w hold.owner × Lives w hold.holder)
@@ -388,29 +399,29 @@ exit_dies cpu (Some call.Exit) is = cc
 exit_dies cpu None is = cc
 exit_dies cpu (Some c) is = cc
 
-store_calls_not : (x : Option Store) (c : Option Call) → store_act x ≡ Calls c → ⊥
-store_calls_not None c is = cc
-store_calls_not (Some x) c is = cc
-
-trap_calls_not : (handler : ℕ) (exc : Exc) (c : Option Call) → trap_act handler exc ≡ Calls c → ⊥
-trap_calls_not handler exc c is = by_test (handler == 0) is
-  where
-    by_test : (t : Bool) → (if t then Dies (cause.Trapped exc.code) else Raises exc) ≡ Calls c → ⊥
-    by_test true is = cc
-    by_test false is = cc
-
 never_exits : (s : Solo) (step : MachineStep) → act_of s step ≡ Calls (Some call.Exit) → ⊥
 never_exits s (Retired cpu write) is = store_calls_not (store_of s write) (Some call.Exit) is
 never_exits s Called is = exit_dies s.cpu (called s.cpu) is
 never_exits s (Trapped exc) is = trap_calls_not s.handlers.exception exc (Some call.Exit) is
 
--- what an act of the runner brings, with its step
-pub act_accounts : (w : World) (e : ℕ) → IsAccounted w → Lives w e → (act : Act) → act_of (w.solos e) (step_alone (w.solos e)) ≡ act → IsAccounted (after w (with_step e (brings w e act)))
-act_accounts w e good lives Nothing is = step_accounts w e (no_change w) Nothing good is (λ cause dies. cc) (unmoved w e good no_items (λ i. keep_none))
-act_accounts w e good lives (Stores x) is =
-    step_accounts w e (brings w e (Stores x)) (Stores x) good is (λ cause dies. cc) (unmoved w e good (left_by w.book e x) (left_by_keeps w.book e x))
+-- The runner's step, and then what its act brings.
+abbrev stepping : ℕ → Act → List (World → Reply)
+stepping e act = tells e Step ∷ brings e act ∷ []
+
+-- where it isn't its death, and the act brings what is mild
+goes_on : (w : World) (e : ℕ) (act : Act) → IsAccounted w → Lives w e → act_now w e ≡ act → ((cause : Cause) → act ≡ Dies cause → ⊥)
+    → ((v : World) → IsAccounted v → Lives v e → Mild v (brings e act v)) → IsAccounted (after w (in_turn (stepping e act) w))
+goes_on w e act good lives is stays mild =
+    let v = after w (tells e Step w) in
+    let same = step_leaves (w.solos e) act is stays in
+    let still = tells_accounts w e Step good same in
+    in_turn_accounts (stepping e act) w (mild_accounts v (brings e act v) still (mild v still (ap (λ (s : Solo). s.life) (told_own w e Step) ∙ same ∙ lives)))
+
+pub act_accounts : (w : World) (e : ℕ) → IsAccounted w → Lives w e → (act : Act) → act_now w e ≡ act → IsAccounted (after w (in_turn (stepping e act) w))
+act_accounts w e good lives Nothing is = goes_on w e Nothing good lives is (λ cause dies. cc) (λ v good lives. no_change_is_mild v good)
+act_accounts w e good lives (Stores x) is = goes_on w e (Stores x) good lives is (λ cause dies. cc) (λ v good lives. unmoved v e good (left_by v.book e x) (left_by_keeps v.book e x))
 act_accounts w e good lives (Calls c) is =
     let stays : c ≡ Some call.Exit → ⊥ = λ exits. never_exits (w.solos e) (step_alone (w.solos e)) (is ∙ ap Calls exits) in
-    step_accounts w e (reply_to w e c) (Calls c) good is (λ cause dies. cc) (call_is_mild w e good lives c stays)
-act_accounts w e good lives (Raises exc) is = step_accounts w e (no_change w) (Raises exc) good is (λ cause dies. cc) (unmoved w e good no_items (λ i. keep_none))
-act_accounts w e good lives (Dies cause) is = death_accounts w e cause good is
+    goes_on w e (Calls c) good lives is (λ cause dies. cc) (λ v good lives. call_is_mild v e good lives c stays)
+act_accounts w e good lives (Raises exc) is = goes_on w e (Raises exc) good lives is (λ cause dies. cc) (λ v good lives. no_change_is_mild v good)
+act_accounts w e good lives (Dies cause) is = death_accounts w e Step cause good (step_ends (w.solos e) cause is)

@@ -5,6 +5,7 @@ use Rattle.frame_store.specs.Pages.{zero_page}
 use Rattle.elf_static.specs.ElfValue.{ElfValue}
 use Rattle.segment_pages.specs.Pages.{is_writable, page_bytes, page_numbers}
 use Rattle.boot_image.specs.ImageValue.{ImageValue, ProgramValue, guaranteed_mappings}
+use Rattle.env_frames.specs.declared.mapping.Mapping.{Mapping}
 use Rattle.page_book.specs.declared.row.PageRow.{PageRow}
 use Rattle.page_book.specs.declared.row.PageRow.TheVariants.{Free, Guaranteed}
 use Rattle.page_book.specs.Rows.{lowest_free}
@@ -66,6 +67,7 @@ boot_book pages quantum owners = record {
   excess = λ e. 0;
   page_count = pages;
   pages = λ page. Free;
+  kept = λ e. [];
   binds = λ e. nothing_bound;
   time = 0;
 }
@@ -84,9 +86,24 @@ abbrev pub keep_pages : ℕ → ℕ → ℕ → (ℕ → PageRow) → ℕ → Pa
 keep_pages e count zero pages = pages
 keep_pages e count (suc n) pages = keep_lowest e (lowest_free (keep_pages e count n pages) count) (keep_pages e count n pages)
 
--- the book once the pages of a program are guaranteed to an environment
+-- the mapping of a guaranteed page, which gets the lowest free page, if there is one
+abbrev pub mapped_to : KeptPage → Option ℕ → List Mapping
+mapped_to p None = []
+mapped_to p (Some page) = record { vpn = p.vpn; page = page; writable = p.writable } ∷ []
+
+-- the mappings of guaranteed pages: each gets the page that is the lowest free one once those before it have theirs
+abbrev pub mappings_over : ℕ → ℕ → (ℕ → PageRow) → List KeptPage → List Mapping
+mappings_over e count pages [] = []
+mappings_over e count pages (p ∷ kept) =
+    let lowest = lowest_free pages count in
+    mapped_to p lowest ++ mappings_over e count (keep_lowest e lowest pages) kept
+
+-- the book once the pages of a program are guaranteed to an environment, by rising VPN
 abbrev pub with_kept : ℕ → ProgramValue → Book → Book
-with_kept e p b = record b { pages = keep_pages e b.page_count (guaranteed_mappings p) b.pages }
+with_kept e p b = record b {
+  pages = keep_pages e b.page_count (guaranteed_mappings p) b.pages;
+  kept = set_at e (mappings_over e b.page_count b.pages (kept_of p)) b.kept;
+}
 
 -- the book once those of environments from this one on are
 abbrev pub with_all_kept : ℕ → List ProgramValue → Book → Book

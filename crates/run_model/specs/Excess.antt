@@ -11,7 +11,8 @@ use Rattle.world_model.specs.Book.{Book, lowered, whole_turn}
 use Rattle.run_model.specs.NextTurn.{IsNextTurn}
 use Rattle.world_model.specs.World.{World}
 use Rattle.run_model.specs.Boot.{boot_world}
-use Rattle.run_model.specs.Run.{run_on, world_after}
+use Rattle.world_model.specs.Event.{Schedule}
+use Rattle.run_model.specs.Run.{System, run_on, world_after}
 
 -- Who runs at last in a turn owes nothing.
 abbrev pub OwesNothing : (ℕ → ℕ) → Option Turn → Type 0
@@ -55,9 +56,9 @@ Lives w e = (w.solos e).life ≡ Live
 abbrev pub IsBalanced : World → Type 0
 IsBalanced w = (e : ℕ) → Lives w e → overs e w.rows ≡ pays e w.rows + w.book.excess e
 
--- so it is after every number of ticks of every image
+-- so it is after every number of ticks of every system
 abbrev pub BalanceHolds : Type 0
-BalanceHolds = (image : ImageValue) (t : ℕ) → IsBalanced (world_after image t)
+BalanceHolds = (system : System) (t : ℕ) → IsBalanced (world_after system t)
 
 -- A row after others is lawful: who owes runs in no slot that it holds; only who owes forfeits one; and an excess that is written is what was run past and not forfeited.
 abbrev pub IsLawful : List Row → Row → Type 0
@@ -72,7 +73,7 @@ AreLawfulAfter before (r ∷ rows) = IsLawful before r × AreLawfulAfter (before
 
 -- every row of every ledger is lawful after those before it
 abbrev pub LedgersAreLawful : Type 0
-LedgersAreLawful = (image : ImageValue) (t : ℕ) → AreLawfulAfter [] (world_after image t).rows
+LedgersAreLawful = (system : System) (t : ℕ) → AreLawfulAfter [] (world_after system t).rows
 
 -- whoever owns or holds one of these slots lives
 abbrev pub AreSlotsLive : World → (ℕ → Option Hold) → Type 0
@@ -94,4 +95,4 @@ abbrev pub BootsAccounted : Type 0
 BootsAccounted = (image : ImageValue) → IsAccounted (boot_world image)
 
 abbrev pub TicksKeepAccounts : Type 0
-TicksKeepAccounts = (w : World) → IsAccounted w → (t : ℕ) → IsAccounted (run_on w t)
+TicksKeepAccounts = (schedule : Schedule) (w : World) → IsAccounted w → (t : ℕ) → IsAccounted (run_on schedule w t)

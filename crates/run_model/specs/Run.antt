@@ -1,39 +1,100 @@
--- Whole runs: the world after so many ticks, and what each environment was given.
-use Rattle.std.specs.Prelude.{ℕ, zero, suc, List, [], ◌++◌, ◌==◌, if◌then◌else◌, ◌≡◌}
+-- Whole runs: the world after so many ticks and at each moment of a tick, and what each environment was given.
+use Rattle.std.specs.Prelude.{ℕ, zero, suc, ◌+◌, List, [], ◌++◌, false, ◌==◌, if◌then◌else◌, ◌≡◌, length, map, take}
 use Rattle.boot_image.specs.ImageValue.{ImageValue}
 use Rattle.kernel_journal.specs.declared.row.RunEnd.{RunEnd}
 use Rattle.kernel_journal.specs.declared.row.RunEnd.TheVariants as end
 use Rattle.world_model.specs.Book.{is_idle_book}
 use Rattle.world_model.specs.Solo.{absent}
 use Rattle.world_model.specs.Item.{Item, absorb_all}
-use Rattle.world_model.specs.World.{World}
-use Rattle.world_model.specs.Tick.{tick_step, tick_items}
+use Rattle.world_model.specs.World.{World, Reply, after, in_turn, run_phases}
+use Rattle.world_model.specs.Event.{Occurrence, Schedule, happen}
+use Rattle.world_model.specs.Tick.{phases_after, step, timer, turn}
 use Rattle.run_model.specs.Boot.{boot_world, boot_items}
 
+-- what a run goes by: an image, and what happens from outside
+pub record System : Type 0 where
+  pub image : ImageValue
+  pub schedule : Schedule
+
+-- what happens in the next tick
+abbrev pub happens_in : Schedule → World → List Occurrence
+happens_in schedule w = schedule w.book.time
+
+-- the phases of the next tick
+abbrev pub next_phases : Schedule → World → List (World → Reply)
+next_phases schedule w = phases_after (happens_in schedule w)
+
 -- an idle world stays as it is
-abbrev pub next_world : World → World
-next_world w = if is_idle_book w.book then w else tick_step w
+abbrev pub next_world : Schedule → World → World
+next_world schedule w = if is_idle_book w.book then w else run_phases w (next_phases schedule w)
 
 -- the world after so many ticks more
-abbrev pub run_on : World → ℕ → World
-run_on w zero = w
-run_on w (suc t) = next_world (run_on w t)
+abbrev pub run_on : Schedule → World → ℕ → World
+run_on schedule w zero = w
+run_on schedule w (suc t) = next_world schedule (run_on schedule w t)
 
-abbrev pub world_after : ImageValue → ℕ → World
-world_after image t = run_on (boot_world image) t
+abbrev pub world_after : System → ℕ → World
+world_after system t = run_on system.schedule (boot_world system.image) t
+
+-- The moments of a tick: the world before its phase of this number, once so many phases are over.
+abbrev pub moment : System → ℕ → ℕ → World
+moment system t k = let w = world_after system t in run_phases w (take k (next_phases system.schedule w))
+
+-- how much happens in a tick before its turn
+abbrev pub events_in : System → ℕ → ℕ
+events_in system t = length (happens_in system.schedule (world_after system t))
+
+-- once the events of a tick are over, its turn is taken; then the step is made, and then the timer counts
+abbrev pub at_turn : System → ℕ → World
+at_turn system t = moment system t (events_in system t)
+
+abbrev pub at_step : System → ℕ → World
+at_step system t = moment system t (events_in system t + 1)
+
+abbrev pub at_timer : System → ℕ → World
+at_timer system t = moment system t (events_in system t + 2)
+
+-- the world after a phase
+abbrev pub after_phase : (World → Reply) → World → World
+after_phase phase w = after w (phase w)
 
 -- what an environment is given in the next tick
-abbrev pub next_items : World → ℕ → List Item
-next_items w e = if is_idle_book w.book then [] else tick_items w e
+abbrev pub next_items : Schedule → World → ℕ → List Item
+next_items schedule w e = if is_idle_book w.book then [] else (in_turn (next_phases schedule w) w).items e
+
+-- what an environment is given in a tick
+abbrev pub items_in : System → ℕ → ℕ → List Item
+items_in system t e = next_items system.schedule (world_after system t) e
+
+-- what it is given by the events of a tick, and by its phases behind them
+abbrev pub items_of_events : System → ℕ → ℕ → List Item
+items_of_events system t e = let w = world_after system t in (in_turn (map happen (happens_in system.schedule w)) w).items e
+
+abbrev pub items_of_phases : System → ℕ → ℕ → List Item
+items_of_phases system t e = (turn (at_turn system t)).items e ++ ((step (at_step system t)).items e ++ (timer (at_timer system t)).items e)
+
+-- The moments of a tick come in their order, and an environment is given what its phases give, one after another.
+pub record IsInOrder (system : System) (t : ℕ) : Type 0 where
+  pub turned : at_step system t ≡ after_phase turn (at_turn system t)
+  pub stepped : at_timer system t ≡ after_phase step (at_step system t)
+  pub timed : is_idle_book (world_after system t).book ≡ false → world_after system (suc t) ≡ after_phase timer (at_timer system t)
+  pub given : (e : ℕ) → is_idle_book (world_after system t).book ≡ false → items_in system t e ≡ items_of_events system t e ++ items_of_phases system t e
+
+abbrev pub MomentsAreInOrder : Type 0
+MomentsAreInOrder = (system : System) (t : ℕ) → IsInOrder system t
 
 -- all that an environment is given before a tick: its record in the image, and then what each tick brings
-abbrev pub feed : ImageValue → ℕ → ℕ → List Item
-feed image e zero = boot_items image e
-feed image e (suc t) = feed image e t ++ next_items (world_after image t) e
+abbrev pub feed : System → ℕ → ℕ → List Item
+feed system e zero = boot_items system.image e
+feed system e (suc t) = feed system e t ++ items_in system t e
 
 -- each environment is what it makes of its feed alone
 abbrev pub IsFoldOfFeed : Type 0
-IsFoldOfFeed = (image : ImageValue) (t e : ℕ) → (world_after image t).solos e ≡ absorb_all (absent e) (feed image e t)
+IsFoldOfFeed = (system : System) (t e : ℕ) → (world_after system t).solos e ≡ absorb_all (absent e) (feed system e t)
+
+-- phases in turn are the phases one after another
+abbrev pub InTurnIsEach : Type 0
+InTurnIsEach = (w : World) (phases : List (World → Reply)) → after w (in_turn phases w) ≡ run_phases w phases
 
 -- a run ends at its limit exactly where the time reached it
 abbrev pub end_of_run : World → ℕ → RunEnd

@@ -3,9 +3,21 @@ ghost use Rattle.std.specs.Prelude.{◌<◌};
 ghost use Rattle.world_model.specs.Book.{Book, next_turn};
 ghost use Rattle.run_model.specs.NextTurn.{IsNextTurn};
 ghost use Rattle.run_model.specs.Excess.{BalanceHolds, LedgersAreLawful, TurnsGoByRule};
-ghost use Rattle.run_model.specs.Run.{IsFoldOfFeed};
+ghost use Rattle.run_model.specs.Run.{InTurnIsEach, IsFoldOfFeed, MomentsAreInOrder};
 
-/// Each environment is what it makes alone of what it is given: for every image, number of ticks and
+/// Phases in turn are the phases one after another, each in the world that the one before it leaves.
+pub fn law_in_turn()
+    ensures { InTurnIsEach }
+{}
+
+/// The moments of a tick come in their order: the step is made after the turn, the timer counts after the step, and
+/// where the board isn't idle the next tick begins after the timer, and each environment is given what events, turn,
+/// step and timer give to it, in this order.
+pub fn law_moments()
+    ensures { MomentsAreInOrder }
+{}
+
+/// Each environment is what it makes alone of what it is given: for every image and schedule, number of ticks and
 /// environment, its registers, pages and console are the fold of its feed.
 pub fn law_fold()
     ensures { IsFoldOfFeed }

@@ -1,5 +1,5 @@
 -- The book and the environments agree after every number of ticks.
-use Rattle.std.proofs.Common.{◌≡◌, ◌≤◌, ℕ, zero, suc, ◌+◌, List, [], ◌∷◌, Bool, true, false, Option, Some, None, refl, ◌∙◌, arith}
+use Rattle.std.proofs.Common.{◌≡◌, ◌≤◌, ℕ, zero, suc, ◌+◌, List, [], ◌∷◌, Bool, true, false, Option, Some, None, refl, sym, ◌∙◌, subst, arith}
 use Rattle.std.specs.Prelude.{◌==◌, if◌then◌else◌, slice_get}
 use Rattle.boot_image.specs.ImageValue.{ImageValue, ProgramValue, guaranteed_mappings}
 use Rattle.page_book.specs.declared.row.PageRow.{PageRow}
@@ -13,17 +13,19 @@ use Rattle.world_model.specs.Book.{Book, is_idle_book}
 use Rattle.world_model.specs.Solo.{Solo, absent}
 use Rattle.world_model.specs.Item.{absorb_all}
 use Rattle.world_model.specs.PageCalls.{page_bytes}
-use Rattle.world_model.specs.Step.{act_of, step_alone, stepped}
+use Rattle.world_model.specs.Step.{step_alone, stepped}
 use Rattle.world_model.specs.World.{World, after}
-use Rattle.world_model.specs.Tick.{brings, step, step_when, tick_step, turn}
+use Rattle.world_model.specs.Tick.{act_now, brings, step_when}
 use Rattle.run_model.specs.Boot.{boot_book, boot_world, keep_lowest, keep_pages, record_items, with_all_kept, with_kept}
-use Rattle.run_model.specs.Run.{world_after}
+use Rattle.run_model.specs.Run.{System, at_step, at_timer, world_after}
+use Rattle.run_model.proofs.Phases.{moments_in_order}
 use Rattle.page_sight.proofs.Tables.{set_else}
 use Rattle.sharing_law.specs.Agreement.{AreBoundAllocated, BooksAgree, BoundIsAllocated}
 use Rattle.sharing_law.proofs.Sound.{HasNone, Sound, sees_nothing}
 use Rattle.sharing_law.proofs.Books.{step_allocated}
-use Rattle.sharing_law.proofs.Turning.{allocated_alike, sound_alike, sound_turned, turn_alike, unchanged}
-use Rattle.sharing_law.proofs.Stepping.{sound_following, step_brings, step_follows}
+use Rattle.sharing_law.proofs.Turning.{allocated_alike, sound_alike, sound_turned, unchanged}
+use Rattle.sharing_law.proofs.Moments.{after_turn, stays_idle, turned_alike}
+use Rattle.sharing_law.proofs.Stepping.{sound_following, step_brings, step_follows, told_step}
 use Rattle.sharing_law.proofs.Timing.{sound_timed}
 
 -- At boot no page is allocated, and none behind the last one is anybody's.
@@ -102,39 +104,38 @@ stepped_by : (w : World) (o : Option Runner) → w.book.runner ≡ o → Sound w
 stepped_by w None is sound allocated next = sound_alike w (after w (step_when w None)) (unchanged w) sound.runs sound
 stepped_by w (Some r) is sound allocated next =
     let s = w.solos r.env in
-    let act = act_of s (step_alone s) in
+    let act = act_now w r.env in
     let lives = sound.runs r is in
-    let follows = step_follows w r.env act lives (step_brings w r.env sound lives allocated (step_alone s)) in
-    sound_following w r.env (stepped s (step_alone s)) act (after w (step_when w (Some r))) (brings w r.env act).items sound follows next
+    let follows = step_follows w r.env act lives refl (step_brings w r.env sound lives allocated (step_alone s)) in
+    sound_following w r.env (stepped s (step_alone s)) act (after w (step_when w (Some r))) (brings r.env act (told_step w r.env)).items sound follows next
 
 -- A tick.
-module _ (w : World) (sound : Sound w) (allocated : AreBoundAllocated w) where
-  abbrev at_turn : World
-  at_turn = after w (turn w)
+module _ (system : System) (t : ℕ) (sound : Sound (world_after system t)) (allocated : AreBoundAllocated (world_after system t)) where
+  pub sound_turned_in : Sound (at_step system t)
+  sound_turned_in = subst Sound (sym (after_turn system t)) (sound_turned (world_after system t) sound)
 
-  abbrev at_timer : World
-  at_timer = after at_turn (step at_turn)
+  pub allocated_turned_in : AreBoundAllocated (at_step system t)
+  allocated_turned_in = allocated_alike (world_after system t) (at_step system t) (turned_alike system t) allocated
 
-  pub allocated_turned : AreBoundAllocated at_turn
-  allocated_turned = allocated_alike w at_turn (turn_alike w) allocated
+  pub allocated_stepped_in : AreBoundAllocated (at_timer system t)
+  allocated_stepped_in = subst AreBoundAllocated (sym (moments_in_order system t).stepped) (step_allocated (at_step system t) allocated_turned_in)
 
-  pub allocated_stepped : AreBoundAllocated at_timer
-  allocated_stepped = step_allocated at_turn allocated_turned
+  pub sound_stepped_in : Sound (at_timer system t)
+  sound_stepped_in =
+      let mid = at_step system t in
+      subst Sound (sym (moments_in_order system t).stepped) (stepped_by mid mid.book.runner refl sound_turned_in allocated_turned_in (step_allocated mid allocated_turned_in))
 
-  pub sound_stepped : Sound at_timer
-  sound_stepped = stepped_by at_turn at_turn.book.runner refl (sound_turned w sound) allocated_turned allocated_stepped
+  sound_by : (idle : Bool) → is_idle_book (world_after system t).book ≡ idle → Sound (world_after system (suc t))
+  sound_by true idle = subst Sound (sym (stays_idle system t idle)) sound
+  sound_by false busy = subst Sound (sym ((moments_in_order system t).timed busy)) (sound_timed (at_timer system t) sound_stepped_in allocated_stepped_in)
 
-  pub sound_ticked : Sound (tick_step w)
-  sound_ticked = sound_timed at_timer sound_stepped allocated_stepped
-
-sound_next : (w : World) (idle : Bool) → Sound w → AreBoundAllocated w → Sound (if idle then w else tick_step w)
-sound_next w true sound allocated = sound
-sound_next w false sound allocated = sound_ticked w sound allocated
+  sound_next : Sound (world_after system (suc t))
+  sound_next = sound_by (is_idle_book (world_after system t).book) refl
 
 -- Every world is so, where no page is bound that isn't allocated.
-pub all_sound : BoundIsAllocated → (image : ImageValue) (t : ℕ) → Sound (world_after image t)
-all_sound bound image zero = sound_boot image
-all_sound bound image (suc t) = sound_next (world_after image t) (is_idle_book (world_after image t).book) (all_sound bound image t) (bound image t)
+pub all_sound : BoundIsAllocated → (system : System) (t : ℕ) → Sound (world_after system t)
+all_sound bound system zero = sound_boot system.image
+all_sound bound system (suc t) = sound_next system t (all_sound bound system t) (bound system t)
 
 pub books_agree : BoundIsAllocated → BooksAgree
-books_agree bound image t = (all_sound bound image t).agreed
+books_agree bound system t = (all_sound bound system t).agreed

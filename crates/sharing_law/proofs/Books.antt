@@ -1,6 +1,6 @@
 -- What a tick does to a binding that is listed, and to its page.
-use Rattle.std.proofs.Common.{◌≡◌, ℕ, Bool, true, false, Option, Some, None, refl, sym, ◌∙◌, ap, subst, inl, inr}
-use Rattle.std.specs.Prelude.{◌⊎◌, if◌then◌else◌}
+use Rattle.std.proofs.Common.{◌≡◌, ℕ, suc, Bool, true, false, Option, Some, None, refl, sym, ◌∙◌, ap, subst, inl, inr}
+use Rattle.std.specs.Prelude.{◌⊎◌}
 use Rattle.page_book.specs.declared.row.PageRow.{PageRow}
 use Rattle.bind_book.specs.declared.binding.Binding.{Binding}
 use Rattle.bind_book.specs.Stripe.{row_of}
@@ -10,11 +10,13 @@ use Rattle.world_model.specs.Book.{Book, is_idle_book, running}
 use Rattle.world_model.specs.Call.{binding_of, presented}
 use Rattle.world_model.specs.World.{World, after}
 use Rattle.world_model.specs.Step.{Calls, act_of, step_alone}
-use Rattle.world_model.specs.Tick.{tick_step, timer, turn, step, step_when}
-use Rattle.run_model.specs.Run.{next_world}
+use Rattle.world_model.specs.Tick.{act_now, timer, step, step_when}
+use Rattle.run_model.specs.Run.{System, at_step, world_after}
+use Rattle.run_model.proofs.Phases.{moments_in_order}
 use Rattle.sharing_law.specs.Agreement.{IsAllocated, AreBoundAllocated}
-use Rattle.sharing_law.proofs.Replies.{IsCarried, MayBind, IsPut, WasListed, Remains, act_carries, carried_allocated}
-use Rattle.sharing_law.proofs.Turning.{IsAlike, allocated_alike, turn_alike}
+use Rattle.sharing_law.proofs.Replies.{IsCarried, MayBind, IsPut, WasListed, Remains, carried_allocated, told_carries}
+use Rattle.sharing_law.proofs.Turning.{IsAlike, allocated_alike}
+use Rattle.sharing_law.proofs.Moments.{stays_idle, turned_alike}
 use Rattle.sharing_law.proofs.Timing.{timer_remains}
 
 -- the binding was put by the step of this world
@@ -35,7 +37,7 @@ step_carries : (v : World) → AreBoundAllocated v → (runner : Option Runner) 
     → IsPutBy v (step_when v runner).book.pages e row b ⊎ WasListed v (step_when v runner).book.pages e row b
 step_carries v allocated None runs e row b is = inr (record { listed = is; carried = inl refl })
 step_carries v allocated (Some r) runs e row b is =
-    elim ((act_carries v r.env allocated (act_of (v.solos r.env) (step_alone (v.solos r.env)))).each e row b is) [
+    elim ((told_carries v r.env allocated (act_now v r.env) refl).each e row b is) [
       | inl put ↦ inl (put_by v r (step_when v (Some r)).book.pages e row b runs put)
       | inr was ↦ inr was
     ]
@@ -68,24 +70,33 @@ put_timed v old new e row b left put = record {
 listed_timed : (w : World) (old new : Book) (e row : ℕ) (b : Binding) → Remains old new e row b → WasListed w old.pages e row b → WasListed w new.pages e row b
 listed_timed w old new e row b left was = record { listed = was.listed; carried = subst (λ (one : PageRow). IsCarried e (w.book.pages b.page) one) (sym left.page) was.carried }
 
-abbrev Carried : World → Book → ℕ → ℕ → Binding → Type 0
-Carried w new e row b = IsPutBy (after w (turn w)) new.pages e row b ⊎ WasListed w new.pages e row b
+-- A binding that is listed after a tick was put by its step, made in this world, or listed before the tick.
+abbrev Carried : World → World → World → ℕ → ℕ → Binding → Type 0
+Carried w mid next e row b = IsPutBy mid next.book.pages e row b ⊎ WasListed w next.book.pages e row b
 
-tick_carries : (w : World) → AreBoundAllocated w → (e row : ℕ) (b : Binding) → (tick_step w).book.binds e row ≡ Some b → Carried w (tick_step w).book e row b
-tick_carries w allocated e row b is =
-    let v = after w (turn w) in
-    let u = after v (step v) in
+abbrev timed : World → World
+timed u = after u (timer u)
+
+tick_carries : (w mid : World) → IsAlike w mid → AreBoundAllocated mid → (e row : ℕ) (b : Binding)
+    → (timed (after mid (step mid))).book.binds e row ≡ Some b → Carried w mid (timed (after mid (step mid))) e row b
+tick_carries w mid alike allocated e row b is =
+    let u = after mid (step mid) in
     let left = timer_remains u e row b is in
-    elim (step_carries v (allocated_alike w v (turn_alike w) allocated) v.book.runner refl e row b left.listed) [
-      | inl put ↦ inl (put_timed v u.book (timer u).book e row b left put)
-      | inr was ↦ inr (listed_timed w u.book (timer u).book e row b left (turned_listed w v u.book.pages e row b (turn_alike w) was))
+    elim (step_carries mid allocated mid.book.runner refl e row b left.listed) [
+      | inl put ↦ inl (put_timed mid u.book (timer u).book e row b left put)
+      | inr was ↦ inr (listed_timed w u.book (timer u).book e row b left (turned_listed w mid u.book.pages e row b alike was))
     ]
 
--- in the next world a binding was put by the step of the tick, or was listed before
-pub next_carries : (w : World) → AreBoundAllocated w → (e row : ℕ) (b : Binding) → (next_world w).book.binds e row ≡ Some b
-    → IsPutBy (after w (turn w)) (next_world w).book.pages e row b ⊎ WasListed w (next_world w).book.pages e row b
-next_carries w allocated e row b = by_test (is_idle_book w.book)
-  where
-    by_test : (idle : Bool) → (if idle then w else tick_step w).book.binds e row ≡ Some b → Carried w (if idle then w else tick_step w).book e row b
-    by_test true is = inr (record { listed = is; carried = inl refl })
-    by_test false is = tick_carries w allocated e row b is
+module _ (system : System) (t : ℕ) (allocated : AreBoundAllocated (world_after system t)) where
+  abbrev CarriedInto : World → ℕ → ℕ → Binding → Type 0
+  CarriedInto next e row b = next.book.binds e row ≡ Some b → Carried (world_after system t) (at_step system t) next e row b
+
+  by_idle : (idle : Bool) → is_idle_book (world_after system t).book ≡ idle → (e row : ℕ) (b : Binding) → CarriedInto (world_after system (suc t)) e row b
+  by_idle true idle e row b =
+      subst (λ (next : World). CarriedInto next e row b) (sym (stays_idle system t idle)) (λ is. inr (record { listed = is; carried = inl refl }))
+  by_idle false busy e row b =
+      subst (λ (next : World). CarriedInto next e row b) (sym ((moments_in_order system t).timed busy ∙ ap timed ((moments_in_order system t).stepped)))
+      (tick_carries (world_after system t) (at_step system t) (turned_alike system t) (allocated_alike (world_after system t) (at_step system t) (turned_alike system t) allocated) e row b)
+
+  pub next_carries : (e row : ℕ) (b : Binding) → CarriedInto (world_after system (suc t)) e row b
+  next_carries = by_idle (is_idle_book (world_after system t).book) refl

@@ -27,7 +27,7 @@ use Rattle.world_model.specs.SlotCalls.{accepts}
 use Rattle.world_model.specs.Transfers.{is_open}
 use Rattle.world_model.specs.Tick as tick
 use Rattle.world_model.specs.Verdict.{death}
-use Rattle.world_model.specs.World.{World, Reply}
+use Rattle.world_model.specs.World.{World, Reply, no_change}
 use Rattle.page_sight.specs.Sight.{IsStripe, Sees}
 use Rattle.page_sight.proofs.Mourning.{mourners_lose}
 use Rattle.page_sight.proofs.Sights.{readers_see, writer_sees}
@@ -129,7 +129,7 @@ module _ (w : World) (e : ℕ) (sound : Sound w) (lives : (w.solos e).life ≡ L
   }
 
   -- one that brings nothing
-  pub silent : (s : Solo) (act : Act) → s.life ≡ Live → s.binds ≡ (w.solos e).binds → s.seen ≡ (w.solos e).seen → BringsIn w e s act (tick.no_change w)
+  pub silent : (s : Solo) (act : Act) → s.life ≡ Live → s.binds ≡ (w.solos e).binds → s.seen ≡ (w.solos e).seen → BringsIn w e s act (no_change w)
   silent s act alive binds sights =
       quiet s act w.book.slots sound.holders w.book.runner sound.runs (λ i. []) alive (λ i ne. refl) (λ i. keeps_none)
       (as_before e w.book.pages (w.book.binds e) (page_bytes w) (w.solos e) s binds sights (sound.agreed e))
@@ -175,7 +175,7 @@ module _ (w : World) (e : ℕ) (sound : Sound w) (lives : (w.solos e).life ≡ L
         (as_before e w.book.pages (w.book.binds e) (page_bytes w) (w.solos e) (stored x writer) refl (kept_sights v is) (sound.agreed e))
     by_key (Physical page) is = to_bound page is
 
-    pub store_brings : BringsIn w e (stored x writer) (Stores x) (tick.brings w e (Stores x))
+    pub store_brings : BringsIn w e (stored x writer) (Stores x) (tick.brings e (Stores x) w)
     store_brings = by_key x.key refl
 
   -- A death.
@@ -186,7 +186,7 @@ module _ (w : World) (e : ℕ) (sound : Sound w) (lives : (w.solos e).life ≡ L
     nothing_left : HasNone e (death w e).book.pages ((death w e).book.binds e)
     nothing_left = record { binds = λ row. gone_row w.book.pages e (w.book.binds e row); owns = λ page. released_own e (w.book.pages page) }
 
-    pub death_brings : BringsIn w e corpse (Dies cause) (tick.brings w e (Dies cause))
+    pub death_brings : BringsIn w e corpse (Dies cause) (tick.brings e (Dies cause) w)
     death_brings = record {
       bytes = page_bytes w;
       own = subst (λ (s : Solo). Sees e (death w e).book.pages ((death w e).book.binds e) (page_bytes w) s) (sym (dead_absorbs corpse cause (death_items w.book e e) refl))
@@ -205,13 +205,13 @@ module _ (w : World) (e : ℕ) (sound : Sound w) (lives : (w.solos e).life ≡ L
       fortune = Ends refl refl nothing_left;
     }
 
-  -- time may rise, too
-  later_fortune : (b : Book) (s : Solo) (time : ℕ) → Fortune w e s b → Fortune w e s (record b { time = time })
-  later_fortune b s time (GoesOn alive holders runs) = GoesOn alive holders runs
-  later_fortune b s time (Ends slots runs nothing) = Ends slots runs nothing
+  -- the same with other excess, at another time
+  owing_fortune : (b : Book) (s : Solo) (excess : ℕ → ℕ) (time : ℕ) → Fortune w e s b → Fortune w e s (record b { excess = excess; time = time })
+  owing_fortune b s excess time (GoesOn alive holders runs) = GoesOn alive holders runs
+  owing_fortune b s excess time (Ends slots runs nothing) = Ends slots runs nothing
 
-  pub later_brings : (b : Book) (s : Solo) (act : Act) (items : ℕ → List Item) (time : ℕ) → Brings w e s act b items → Brings w e s act (record b { time = time }) items
-  later_brings b s act items time brings = record {
+  pub owing_brings : (b : Book) (s : Solo) (act : Act) (items : ℕ → List Item) (excess : ℕ → ℕ) (time : ℕ) → Brings w e s act b items → Brings w e s act (record b { excess = excess; time = time }) items
+  owing_brings b s act items excess time brings = record {
     bytes = brings.bytes;
     own = brings.own;
     others = brings.others;
@@ -220,5 +220,5 @@ module _ (w : World) (e : ℕ) (sound : Sound w) (lives : (w.solos e).life ≡ L
     behind = brings.behind;
     fate = brings.fate;
     gives = brings.gives;
-    fortune = later_fortune b s time brings.fortune;
+    fortune = owing_fortune b s excess time brings.fortune;
   }

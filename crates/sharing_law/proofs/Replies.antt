@@ -28,9 +28,11 @@ use Rattle.world_model.specs.PageCalls.{chosen_page, named_page, alloc_by, free_
 use Rattle.world_model.specs.SlotCalls.{accepts, answer_to, drop_by, drop_refusal, gift_refusal, give_by, is_other, query_by, question_numbered, refusal_of_giving, slot_at, take_by, take_refusal, turn_slot, yield_by}
 use Rattle.world_model.specs.Transfers.{refusal_of_transfer, transfer_by, transfer_of}
 use Rattle.world_model.specs.Verdict.{death, put_if, reply_of, reply_to}
-use Rattle.world_model.specs.World.{World, Reply}
+use Rattle.world_model.specs.World.{World, Reply, after, tells}
 use Rattle.world_model.specs.Step.{Act, Nothing, Stores, Calls, Raises, Dies}
-use Rattle.world_model.specs.Tick.{brings}
+use Rattle.world_model.specs.Item.{Step}
+use Rattle.world_model.specs.Tick.{act_now, brings}
+use Rattle.run_model.proofs.Telling.{call_stands}
 use Rattle.sharing_law.specs.Agreement.{IsAllocated, AreBoundAllocated}
 
 -- the row of a page is as it was, or the environment owned the page before and after
@@ -343,9 +345,17 @@ call_carries w e allocated (Some call.OwnNumber) = stays w e (Calls (Some call.O
 call_carries w e allocated (Some call.Clock) = stays w e (Calls (Some call.Clock))
 
 -- what an act of the runner brings
-pub act_carries : (w : World) (e : ℕ) → AreBoundAllocated w → (act : Act) → CarriesInto w e act (brings w e act)
+pub act_carries : (w : World) (e : ℕ) → AreBoundAllocated w → (act : Act) → CarriesInto w e act (brings e act w)
 act_carries w e allocated Nothing = stays w e Nothing
 act_carries w e allocated (Stores x) = stays w e (Stores x)
 act_carries w e allocated (Calls c) = call_carries w e allocated c
 act_carries w e allocated (Raises exc) = stays w e (Raises exc)
 act_carries w e allocated (Dies cause) = mourns w e (Dies cause)
+
+-- once the runner's step is made, too, which a call isn't changed by
+pub told_carries : (w : World) (e : ℕ) → AreBoundAllocated w → (act : Act) → act_now w e ≡ act → CarriesInto w e act (brings e act (after w (tells e Step w)))
+told_carries w e allocated Nothing is = act_carries w e allocated Nothing
+told_carries w e allocated (Stores x) is = act_carries w e allocated (Stores x)
+told_carries w e allocated (Calls c) is = subst (λ (v : World). CarriesInto w e (Calls c) (brings e (Calls c) v)) (sym (call_stands w e c is)) (act_carries w e allocated (Calls c))
+told_carries w e allocated (Raises exc) is = act_carries w e allocated (Raises exc)
+told_carries w e allocated (Dies cause) is = act_carries w e allocated (Dies cause)

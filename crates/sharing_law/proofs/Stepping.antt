@@ -1,5 +1,5 @@
 -- The phase of a tick in which the runner makes its step.
-use Rattle.std.proofs.Common.{◌≡◌, ◌≢◌, ℕ, List, [], ◌∷◌, ◌++◌, Bool, true, false, Option, Some, None, ◌⊎◌, inl, inr, refl, sym, ◌∙◌, ap, subst}
+use Rattle.std.proofs.Common.{◌≡◌, ◌≢◌, ℕ, List, [], ◌∷◌, Bool, true, false, Option, Some, None, ◌⊎◌, inl, inr, refl, sym, ◌∙◌, ap, subst}
 use Rattle.std.specs.Prelude.{◌==◌, if◌then◌else◌}
 use Rattle.std.proofs.lemmas.Bool.{cases_eq, eqb-false}
 use Rattle.mips_exec.specs.declared.registers.Cpu.{Cpu}
@@ -23,13 +23,14 @@ use Rattle.world_model.specs.Holding.{raise}
 use Rattle.world_model.specs.Item.{Item, Step, Start, Transfer, absorb_all}
 use Rattle.world_model.specs.PageCalls.{page_bytes}
 use Rattle.world_model.specs.Solo.{Solo, Store, kept_at, store_of}
-use Rattle.world_model.specs.Step.{Act, Nothing, Calls, Raises, Dies, acted, act_of, call_act, step_alone, stepped, store_act}
+use Rattle.world_model.specs.Step.{Act, Nothing, Stores, Calls, Raises, Dies, acted, act_of, call_act, step_alone, stepped, store_act}
 use Rattle.world_model.specs.SlotCalls.{accepts}
 use Rattle.world_model.specs.Transfers.{is_open}
 use Rattle.world_model.specs.Tick as tick
-use Rattle.world_model.specs.World.{World, after}
+use Rattle.world_model.specs.World.{World, after, in_turn, tells}
 use Rattle.page_sight.specs.Sight.{Sees}
-use Rattle.page_sight.proofs.Tables.{set_here, set_else}
+use Rattle.run_model.proofs.Phases.{in_turn_is_each}
+use Rattle.run_model.proofs.Telling.{call_stands, told_other, told_own}
 use Rattle.sharing_law.specs.Agreement.{AreBoundAllocated}
 use Rattle.sharing_law.proofs.Given.{HasStart, HasWords, Keeps, StaysOrHas, absorbs, dead_absorbs, enter_rests, entered_kept, start_rests, started_kept}
 use Rattle.sharing_law.proofs.Sound.{AreLive, HasNone, Sound, agreed, still_nothing}
@@ -38,11 +39,11 @@ use Rattle.sharing_law.proofs.Calling.{call_brings}
 
 -- What the runner's step brings, whatever it comes to.
 module _ (w : World) (e : ℕ) (sound : Sound w) (lives : (w.solos e).life ≡ Live) (allocated : AreBoundAllocated w) where
-  by_store : (cpu : Cpu) (o : Option Store) → BringsIn w e (acted (store_act o) (record (w.solos e) { cpu = cpu })) (store_act o) (tick.brings w e (store_act o))
+  by_store : (cpu : Cpu) (o : Option Store) → BringsIn w e (acted (store_act o) (record (w.solos e) { cpu = cpu })) (store_act o) (tick.brings e (store_act o) w)
   by_store cpu None = silent w e sound lives (record (w.solos e) { cpu = cpu }) Nothing lives refl refl
   by_store cpu (Some x) = store_brings w e sound lives cpu x
 
-  by_call : (c : Option Call) → called (w.solos e).cpu ≡ c → BringsIn w e (acted (call_act (w.solos e).cpu c) (w.solos e)) (call_act (w.solos e).cpu c) (tick.brings w e (call_act (w.solos e).cpu c))
+  by_call : (c : Option Call) → called (w.solos e).cpu ≡ c → BringsIn w e (acted (call_act (w.solos e).cpu c) (w.solos e)) (call_act (w.solos e).cpu c) (tick.brings e (call_act (w.solos e).cpu c) w)
   by_call None named = call_brings w e sound lives allocated None named (λ is. none_exits is)
     where
       none_exits : None ≡ Some call.Exit → ⊥
@@ -64,11 +65,11 @@ module _ (w : World) (e : ℕ) (sound : Sound w) (lives : (w.solos e).life ≡ L
   by_call (Some call.OwnNumber) named = call_brings w e sound lives allocated (Some call.OwnNumber) named (λ is. cc)
   by_call (Some call.Clock) named = call_brings w e sound lives allocated (Some call.Clock) named (λ is. cc)
 
-  by_handler : (exc : Exc) (none : Bool) → BringsIn w e (acted (if none then Dies (cause.Trapped exc.code) else Raises exc) (w.solos e)) (if none then Dies (cause.Trapped exc.code) else Raises exc) (tick.brings w e (if none then Dies (cause.Trapped exc.code) else Raises exc))
+  by_handler : (exc : Exc) (none : Bool) → BringsIn w e (acted (if none then Dies (cause.Trapped exc.code) else Raises exc) (w.solos e)) (if none then Dies (cause.Trapped exc.code) else Raises exc) (tick.brings e (if none then Dies (cause.Trapped exc.code) else Raises exc) w)
   by_handler exc true = death_brings w e sound lives (w.solos e).cpu (cause.Trapped exc.code)
   by_handler exc false = silent w e sound lives (raise exc (w.solos e)) (Raises exc) lives refl refl
 
-  pub step_brings : (st : mips.Step) → BringsIn w e (stepped (w.solos e) st) (act_of (w.solos e) st) (tick.brings w e (act_of (w.solos e) st))
+  pub step_brings : (st : mips.Step) → BringsIn w e (stepped (w.solos e) st) (act_of (w.solos e) st) (tick.brings e (act_of (w.solos e) st) w)
   step_brings (Retired cpu write) = by_store cpu (store_of (w.solos e) write)
   step_brings Called = by_call (called (w.solos e).cpu) refl
   step_brings (Trapped exc) = by_handler exc ((w.solos e).handlers.exception == 0)
@@ -119,15 +120,26 @@ pub record Follows (w : World) (e : ℕ) (s : Solo) (act : Act) (now : World) (i
   pub own : now.solos e ≡ absorb_all s (items e)
   pub others : (i : ℕ) → i ≢ e → now.solos i ≡ absorb_all (w.solos i) (items i)
 
--- so does the world after the runner's step
-pub step_follows : (w : World) (e : ℕ) (act : Act) → (w.solos e).life ≡ Live → BringsIn w e (stepped (w.solos e) (step_alone (w.solos e))) act (tick.brings w e act)
-    → Follows w e (stepped (w.solos e) (step_alone (w.solos e))) act (after w (tick.with_step e (tick.brings w e act))) (tick.brings w e act).items
-step_follows w e act lives brings =
-    let items = (tick.brings w e act).items in
+-- so does the world after the runner's step, in which a call finds its caller as it was
+abbrev pub told_step : World → ℕ → World
+told_step w e = after w (tells e Step w)
+
+told_brings : (w : World) (e : ℕ) (s : Solo) (act : Act) → tick.act_now w e ≡ act → BringsIn w e s act (tick.brings e act w) → BringsIn w e s act (tick.brings e act (told_step w e))
+told_brings w e s Nothing is brings = brings
+told_brings w e s (Stores x) is brings = brings
+told_brings w e s (Calls c) is brings = subst (λ (v : World). BringsIn w e s (Calls c) (tick.brings e (Calls c) v)) (sym (call_stands w e c is)) brings
+told_brings w e s (Raises exc) is brings = brings
+told_brings w e s (Dies cause) is brings = brings
+
+pub step_follows : (w : World) (e : ℕ) (act : Act) → (w.solos e).life ≡ Live → tick.act_now w e ≡ act → BringsIn w e (stepped (w.solos e) (step_alone (w.solos e))) act (tick.brings e act w)
+    → Follows w e (stepped (w.solos e) (step_alone (w.solos e))) act (after w (in_turn (tells e Step ∷ tick.brings e act ∷ []) w)) (tick.brings e act (told_step w e)).items
+step_follows w e act lives is brings =
+    let phases = tells e Step ∷ tick.brings e act ∷ [] in
+    let items = (tick.brings e act (told_step w e)).items in
     record {
-      brings = brings;
-      own = ap (λ (its : List Item). absorb_all (w.solos e) (its ++ items e)) (set_here e (Step ∷ []) (λ i. [])) ∙ absorbs (w.solos e) Step (items e) lives;
-      others = λ i ne. ap (λ (its : List Item). absorb_all (w.solos i) (its ++ items i)) (set_else e i (Step ∷ []) (λ j. []) ne);
+      brings = told_brings w e (stepped (w.solos e) (step_alone (w.solos e))) act is brings;
+      own = ap (λ (v : World). v.solos e) (in_turn_is_each w phases) ∙ ap (λ (s : Solo). absorb_all s (items e)) (told_own w e Step ∙ absorbs (w.solos e) Step [] lives);
+      others = λ i ne. ap (λ (v : World). v.solos i) (in_turn_is_each w phases) ∙ ap (λ (s : Solo). absorb_all s (items i)) (told_other w e Step i ne);
     }
 
 -- an environment is entered by the runner's transfer, which it accepts, and this page has the words of that

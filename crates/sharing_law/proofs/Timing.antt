@@ -1,11 +1,12 @@
 -- The timer: a runner is told of its end, has grace, or dies of its excess.
-use Rattle.std.proofs.Common.{◌≡◌, ◌≢◌, ℕ, ◌+◌, List, [], ◌∷◌, Bool, true, false, Option, Some, None, ◌⊎◌, inl, inr, refl, sym, ◌∙◌, ap, subst}
-use Rattle.std.proofs.lemmas.Bool.{cases_eq, eqb-false, eqb-true}
+use Rattle.std.proofs.Common.{◌≡◌, ◌≢◌, ℕ, zero, suc, ◌+◌, List, [], ◌∷◌, ◌++◌, Bool, true, false, Option, Some, None, ◌⊎◌, inl, inr, refl, sym, ◌∙◌, ap, subst}
+use Rattle.std.proofs.lemmas.Bool.{cases_eq, eq-eqb, eqb-false, eqb-true}
+use Rattle.std.proofs.lemmas.List.{append-nil}
 use Rattle.std.specs.Prelude.{◌==◌, ◌-◌, nat_lt, if◌then◌else◌}
 use Rattle.kernel_journal.specs.declared.row.Row.{Row}
 use Rattle.kernel_journal.specs.declared.row.Row.TheVariants as row
 use Rattle.env_frames.specs.Context.{end_area, end_bytes}
-use Rattle.page_book.specs.Row.{is_owned_by}
+use Rattle.page_book.specs.Row.{belongs_to, is_owned_by}
 use Rattle.bind_book.specs.declared.binding.Binding.{Binding}
 use Rattle.world_model.specs.declared.life.Life.TheVariants.{Live}
 use Rattle.world_model.specs.declared.life.Cause.TheVariants as cause
@@ -13,19 +14,20 @@ use Rattle.world_model.specs.declared.slot.Phase.{Phase}
 use Rattle.world_model.specs.declared.slot.Phase.TheVariants as phase
 use Rattle.world_model.specs.declared.slot.Runner.{Runner}
 use Rattle.world_model.specs.Table.{set_at}
-use Rattle.world_model.specs.Book.{excess_limit, running}
+use Rattle.world_model.specs.Book.{Book, excess_limit, running}
 use Rattle.world_model.specs.Solo.{Solo, dead, is_dead, kept_at}
-use Rattle.world_model.specs.Item.{Item, End, Killed, absorb_all}
-use Rattle.world_model.specs.PageCalls.{death_items, page_bytes}
+use Rattle.world_model.specs.Item.{Item, End, Killed, absorb, absorb_all}
+use Rattle.world_model.specs.PageCalls.{breaks, death_items, lost_with, page_bytes}
 use Rattle.world_model.specs.Step.{Dies}
-use Rattle.world_model.specs.Tick.{killed, later, run_out, timed, timer, timer_when, with_row}
+use Rattle.world_model.specs.Tick.{brings, clock, count_when, goes_on, grace_of, kill, owes_more, run_out, timer}
 use Rattle.world_model.specs.Verdict.{death, stop_row}
-use Rattle.world_model.specs.World.{World, Reply, after, no_items, only}
-use Rattle.page_sight.proofs.Tables.{set_here, set_else}
+use Rattle.world_model.specs.World.{World, Reply, after, in_turn, no_items, only, tells}
+use Rattle.run_model.proofs.Phases.{in_turn_is_each}
+use Rattle.run_model.proofs.Telling.{told_other, told_own}
 use Rattle.sharing_law.specs.Agreement.{AreBoundAllocated, IsAllocated}
 use Rattle.sharing_law.proofs.Given.{HasWords, IsRested, Keeps, StaysOrHas, absorbs, dead_absorbs, end_rests, ended_kept, keeps_death, keeps_none, rests_same}
 use Rattle.sharing_law.proofs.Sound.{Sound, owner_bytes}
-use Rattle.sharing_law.proofs.Brings.{Fate, Stays, Taken, Written, death_brings, later_brings, released_owned}
+use Rattle.sharing_law.proofs.Brings.{Brings, Fate, Stays, Taken, Written, death_brings, owing_brings, released_owned}
 use Rattle.sharing_law.proofs.Replies.{Remains, mourned}
 use Rattle.sharing_law.proofs.Stepping.{Follows, all_see, own_life, sound_following}
 use Rattle.sharing_law.proofs.Turning.{IsAlike, bytes_alike, sound_alike}
@@ -41,14 +43,30 @@ pub record Passes (w : World) (r : Reply) : Type 0 where
   pub runs : (x : Runner) → r.book.runner ≡ Some x → running w.book.runner ≡ Some x.env
   pub gets : (i : ℕ) → Gets w i (r.items i)
 
+-- The runner is killed: it is dead, the others lose what they had bound of its pages, and the book is that after its death, at some time.
+pub record IsKilled (w : World) (e : ℕ) (r : Reply) : Type 0 where
+  pub excess : ℕ → ℕ
+  pub time : ℕ
+  pub book : r.book ≡ record (death w e).book { excess = excess; time = time }
+  pub own : (after w r).solos e ≡ absorb (w.solos e) Killed
+  pub others : (i : ℕ) → i ≢ e → (after w r).solos i ≡ absorb_all (w.solos i) (death_items w.book e i)
+
 -- What comes of the timer: all goes on, or the runner dies of its excess.
 pub data Comes (w : World) (r : Reply) : Type 0 where
   Passed : Passes w r → Comes w r
-  Died : (e : ℕ) → running w.book.runner ≡ Some e → (first : Row) → r ≡ with_row first (later (killed w e)) → Comes w r
+  Died : (e : ℕ) → running w.book.runner ≡ Some e → IsKilled w e r → Comes w r
+
+-- what the others lose with an environment is the same whatever is owed
+lost_owing : (b : Book) (excess : ℕ → ℕ) (gone i n : ℕ) → lost_with (record b { excess = excess }) gone i n ≡ lost_with b gone i n
+lost_owing b excess gone i zero = refl
+lost_owing b excess gone i (suc n) = ap (λ items. items ++ (if belongs_to gone (b.pages n) then breaks b n i else [])) (lost_owing b excess gone i n)
+
+death_owing : (b : Book) (excess : ℕ → ℕ) (gone i : ℕ) → death_items (record b { excess = excess }) gone i ≡ death_items b gone i
+death_owing b excess gone i = ap (λ items. if i == gone then [] else items) (lost_owing b excess gone i b.page_count)
 
 module _ (w : World) where
   passes : (runner : Option Runner) (items : ℕ → List Item) (rows : List Row) → ((x : Runner) → runner ≡ Some x → running w.book.runner ≡ Some x.env)
-      → ((i : ℕ) → IsRested (w.solos i) (absorb_all (w.solos i) (items i))) → ((i : ℕ) → Gets w i (items i)) → Comes w (timed w runner items rows)
+      → ((i : ℕ) → IsRested (w.solos i) (absorb_all (w.solos i) (items i))) → ((i : ℕ) → Gets w i (items i)) → Comes w (record { book = record w.book { runner = runner }; items = items; rows = rows })
   passes runner items rows runs rests gets = Passed (record { alike = record { solos = rests; pages = refl; binds = refl; count = refl; slots = refl }; runs = runs; gets = gets })
 
   nobody : (x : Runner) → None ≡ Some x → running w.book.runner ≡ Some x.env
@@ -70,53 +88,95 @@ module _ (w : World) where
     gets_end handles i true is = Ends (subst (λ (n : ℕ). (w.solos n).handlers.end ≢ 0) (sym (eqb-true i r.env is)) handles) refl
     gets_end handles i false is = Rests keeps_none
 
-    slice_comes : (none : Bool) → ((w.solos r.env).handlers.end == 0) ≡ none
-        → Comes w (if none then timed w None no_items (stop_row w.book r.env ∷ []) else timed w (Some (record { env = r.env; left = w.book.quantum; phase = phase.Grace })) (only r.env (End ∷ [])) (row.End w.book.time w.book.cursor r.env ∷ []))
+    abbrev stops : Reply
+    stops = record { book = record w.book { runner = None }; items = no_items; rows = stop_row w.book r.env ∷ [] }
+
+    abbrev ends : Reply
+    ends = record { book = record w.book { runner = Some (grace_of w r.env) }; items = only r.env (End ∷ []); rows = row.End w.book.time w.book.cursor r.env ∷ [] }
+
+    slice_comes : (none : Bool) → ((w.solos r.env).handlers.end == 0) ≡ none → Comes w (if none then stops else ends)
     slice_comes true is = passes None no_items (stop_row w.book r.env ∷ []) nobody (λ i. rests_same (w.solos i)) (λ i. Rests keeps_none)
     slice_comes false is =
-        passes (Some (record { env = r.env; left = w.book.quantum; phase = phase.Grace })) (only r.env (End ∷ [])) (row.End w.book.time w.book.cursor r.env ∷ [])
+        passes (Some (grace_of w r.env)) (only r.env (End ∷ [])) (row.End w.book.time w.book.cursor r.env ∷ [])
         (next_runs w.book.quantum phase.Grace) (λ i. given_end (w.solos i) (i == r.env)) (λ i. gets_end (eqb-false (w.solos r.env).handlers.end 0 is) i (i == r.env) refl)
 
-    -- another quantum of grace
-    abbrev again : ℕ → Reply
-    again excess = record {
-      book = record w.book { runner = Some (record { env = r.env; left = w.book.quantum; phase = phase.Grace }); excess = set_at r.env excess w.book.excess };
-      items = no_items;
-      rows = [];
-    }
+    -- the world once its excess has risen, and once it is told that it is killed
+    abbrev owing : World
+    owing = after w (owes_more r.env w)
 
-    grace_comes : (excess : ℕ) (over : Bool) → Comes w (with_row (row.Over w.book.time w.book.cursor r.env excess) (if over then later (killed w r.env) else later (again excess)))
-    grace_comes excess true = Died r.env (ap running runs) (row.Over w.book.time w.book.cursor r.env excess) refl
-    grace_comes excess false = Passed (record {
+    abbrev doomed : World
+    doomed = after owing (tells r.env Killed owing)
+
+    abbrev judges : Bool → World → Reply
+    judges over v = if over then kill r.env v else goes_on (grace_of v r.env) v
+
+    abbrev grace : Bool → Reply
+    grace over = in_turn (owes_more r.env ∷ judges over ∷ []) w
+
+    killed : after w (grace true) ≡ after doomed (death doomed r.env)
+    killed = in_turn_is_each w (owes_more r.env ∷ judges true ∷ []) ∙ in_turn_is_each owing (tells r.env Killed ∷ brings r.env (Dies cause.Excess) ∷ [])
+
+    grace_comes : (over : Bool) → Comes w (grace over)
+    grace_comes true = Died r.env (ap running runs) (record {
+      excess = set_at r.env 0 owing.book.excess;
+      time = w.book.time;
+      book = refl;
+      own = ap (λ (v : World). v.solos r.env) killed
+          ∙ ap (λ (own : Bool). absorb_all (doomed.solos r.env) (if own then [] else lost_with doomed.book r.env r.env doomed.book.page_count)) (eq-eqb r.env r.env refl)
+          ∙ told_own owing r.env Killed;
+      others = λ i ne.
+          ap (λ (v : World). v.solos i) killed
+          ∙ ap (λ (s : Solo). absorb_all s (death_items doomed.book r.env i)) (told_other owing r.env Killed i ne)
+          ∙ ap (absorb_all (w.solos i)) (death_owing w.book owing.book.excess r.env i);
+    })
+    grace_comes false = Passed (record {
       alike = record { solos = λ i. rests_same (w.solos i); pages = refl; binds = refl; count = refl; slots = refl };
       runs = next_runs w.book.quantum phase.Grace;
       gets = λ i. Rests keeps_none;
     })
 
-    out_comes : (p : Phase) → Comes w (run_out w r.env p)
+    out_comes : (p : Phase) → Comes w (run_out r.env p w)
     out_comes phase.Own = slice_comes ((w.solos r.env).handlers.end == 0) refl
-    out_comes phase.Grace = grace_comes (w.book.excess r.env + 1) (nat_lt excess_limit (w.book.excess r.env + 1))
+    out_comes phase.Grace = grace_comes (nat_lt excess_limit (owing.book.excess r.env))
 
-    count_comes : (left : ℕ) (out : Bool) → Comes w (if out then run_out w r.env r.phase else timed w (Some (record r { left = left })) no_items [])
-    count_comes left true = out_comes r.phase
-    count_comes left false = passes (Some (record r { left = left })) no_items [] (next_runs left r.phase) (λ i. rests_same (w.solos i)) (λ i. Rests keeps_none)
+    left_comes : (left : ℕ) (out : Bool) → Comes w (if out then run_out r.env r.phase w else goes_on (record r { left = left }) w)
+    left_comes left true = out_comes r.phase
+    left_comes left false = passes (Some (record r { left = left })) no_items [] (next_runs left r.phase) (λ i. rests_same (w.solos i)) (λ i. Rests keeps_none)
 
-  comes_by : (o : Option Runner) → w.book.runner ≡ o → Comes w (timer_when w o)
-  comes_by None is = passes None no_items [] nobody (λ i. rests_same (w.solos i)) (λ i. Rests keeps_none)
-  comes_by (Some r) is = count_comes r is (r.left - 1) (r.left - 1 == 0)
+  comes_by : (o : Option Runner) → w.book.runner ≡ o → Comes w (count_when o w)
+  comes_by None is = passes w.book.runner no_items [] (λ x runs. ap running runs) (λ i. rests_same (w.solos i)) (λ i. Rests keeps_none)
+  comes_by (Some r) is = left_comes r is (r.left - 1) (r.left - 1 == 0)
+
+  -- and then time rises
+  clocked : (count : World → Reply) → Comes w (count w) → Comes w (in_turn (count ∷ clock ∷ []) w)
+  clocked count (Passed passes) = Passed (record {
+    alike = record {
+      solos = λ i. subst (λ (items : List Item). IsRested (w.solos i) (absorb_all (w.solos i) items)) (sym (append-nil ((count w).items i))) (passes.alike.solos i);
+      pages = passes.alike.pages;
+      binds = passes.alike.binds;
+      count = passes.alike.count;
+      slots = passes.alike.slots;
+    };
+    runs = passes.runs;
+    gets = λ i. subst (λ (items : List Item). Gets w i items) (sym (append-nil ((count w).items i))) (passes.gets i);
+  })
+  clocked count (Died e runs killed) = Died e runs (record {
+    excess = killed.excess;
+    time = killed.time + 1;
+    book = ap (λ (b : Book). record b { time = b.time + 1 }) killed.book;
+    own = ap (absorb_all (w.solos e)) (append-nil ((count w).items e)) ∙ killed.own;
+    others = λ i ne. ap (absorb_all (w.solos i)) (append-nil ((count w).items i)) ∙ killed.others i ne;
+  })
 
   pub timer_comes : Comes w (timer w)
-  timer_comes = comes_by w.book.runner refl
+  timer_comes = clocked (count_when w.book.runner) (comes_by w.book.runner refl)
 
   -- each binding that is listed after it was before, and its page has the row that it had
   remains_by : (r : Reply) → Comes w r → (i n : ℕ) (b : Binding) → r.book.binds i n ≡ Some b → Remains w.book r.book i n b
   remains_by r (Passed passes) i n b is = record { listed = (λ k. sym passes.alike.binds k i n) ∙ is; page = λ k. passes.alike.pages k b.page }
-  remains_by r (Died e runs first same) i n b is =
-      subst (λ (x : Reply). Remains w.book x.book i n b) (sym same)
-      (by_death (mourned w e i n b (subst (λ (x : Reply). x.book.binds i n ≡ Some b) same is)))
-    where
-      by_death : Remains w.book (death w e).book i n b → Remains w.book (with_row first (later (killed w e))).book i n b
-      by_death left = record { listed = left.listed; page = left.page }
+  remains_by r (Died e runs killed) i n b is =
+      let left = mourned w e i n b (ap (λ (x : Book). x.binds i n) (sym killed.book) ∙ is) in
+      record { listed = left.listed; page = ap (λ (x : Book). x.pages b.page) killed.book ∙ left.page }
 
   pub timer_remains : (i n : ℕ) (b : Binding) → (timer w).book.binds i n ≡ Some b → Remains w.book (timer w).book i n b
   timer_remains = remains_by (timer w) timer_comes
@@ -135,24 +195,22 @@ abbrev pub TimedKept : Solo → List Item → Solo → ℕ → Type 0
 TimedKept s items now vpn = (kept_at now.kept vpn ≡ kept_at s.kept vpn) ⊎ (IsEndedBy s items now vpn ⊎ (is_dead now.life ≡ true))
 
 -- The death of a runner by its excess.
-module _ (w : World) (sound : Sound w) (e : ℕ) (lives : (w.solos e).life ≡ Live) (first : Row) where
-  abbrev gone : World
-  gone = after w (with_row first (later (killed w e)))
-
+module _ (w : World) (sound : Sound w) (e : ℕ) (lives : (w.solos e).life ≡ Live) (r : Reply) (killed : IsKilled w e r) where
   abbrev corpse : Solo
   corpse = dead cause.Excess (w.solos e)
 
-  pub death_follows : Follows w e corpse (Dies cause.Excess) gone (death_items w.book e)
+  pub death_follows : Follows w e corpse (Dies cause.Excess) (after w r) (death_items w.book e)
   death_follows = record {
-    brings = later_brings w e sound lives (death w e).book corpse (Dies cause.Excess) (death_items w.book e) (w.book.time + 1) (death_brings w e sound lives (w.solos e).cpu cause.Excess);
-    own = ap (absorb_all (w.solos e)) (set_here e (Killed ∷ []) (death_items w.book e)) ∙ absorbs (w.solos e) Killed [] lives ∙ sym (dead_absorbs corpse cause.Excess (death_items w.book e e) refl);
-    others = λ i ne. ap (absorb_all (w.solos i)) (set_else e i (Killed ∷ []) (death_items w.book e) ne);
+    brings = subst (λ (b : Book). Brings w e corpse (Dies cause.Excess) b (death_items w.book e)) (sym killed.book)
+        (owing_brings w e sound lives (death w e).book corpse (Dies cause.Excess) (death_items w.book e) killed.excess killed.time (death_brings w e sound lives (w.solos e).cpu cause.Excess));
+    own = killed.own ∙ absorbs (w.solos e) Killed [] lives ∙ sym (dead_absorbs corpse cause.Excess (death_items w.book e e) refl);
+    others = killed.others;
   }
 
   -- it is dead, and all others keep their pages
-  pub death_kept : (i vpn : ℕ) → TimedKept (w.solos i) (set_at e (Killed ∷ []) (death_items w.book e) i) (gone.solos i) vpn
+  pub death_kept : (i vpn : ℕ) → TimedKept (w.solos i) (r.items i) ((after w r).solos i) vpn
   death_kept i vpn = elim (cases_eq i e) [
-    | inl own ↦ inr (inr (ap (λ (n : ℕ). is_dead (gone.solos n).life) own ∙ ap is_dead (own_life w e corpse (Dies cause.Excess) gone (death_items w.book e) sound death_follows)))
+    | inl own ↦ inr (inr (ap (λ (n : ℕ). is_dead ((after w r).solos n).life) own ∙ ap is_dead (own_life w e corpse (Dies cause.Excess) (after w r) (death_items w.book e) sound death_follows)))
     | inr ne ↦ inl (ap (λ (s : Solo). kept_at s.kept vpn) (death_follows.others i ne) ∙ ap (λ ps. kept_at ps vpn) ((keeps_death w.book e i).kept (w.solos i)))
   ]
 
@@ -167,11 +225,8 @@ running_lives w sound e is = by_runner w.book.runner refl is
 module _ (w : World) (sound : Sound w) where
   sound_by : (r : Reply) → Comes w r → AreBoundAllocated (after w r) → Sound (after w r)
   sound_by r (Passed passes) allocated = sound_alike w (after w r) passes.alike (λ x is. running_lives w sound x.env (passes.runs x is)) sound
-  sound_by r (Died e runs first same) allocated =
-      let lives = running_lives w sound e runs in
-      subst (λ (x : Reply). Sound (after w x)) (sym same)
-      (sound_following w e (dead cause.Excess (w.solos e)) (Dies cause.Excess) (after w (with_row first (later (killed w e)))) (death_items w.book e) sound (death_follows w sound e lives first)
-      (subst (λ (x : Reply). AreBoundAllocated (after w x)) same allocated))
+  sound_by r (Died e runs killed) allocated =
+      sound_following w e (dead cause.Excess (w.solos e)) (Dies cause.Excess) (after w r) (death_items w.book e) sound (death_follows w sound e (running_lives w sound e runs) r killed) allocated
 
   pub sound_timed : AreBoundAllocated w → Sound (after w (timer w))
   sound_timed allocated = sound_by (timer w) (timer_comes w) (allocated_timed w allocated)
@@ -187,9 +242,7 @@ module _ (w : World) (sound : Sound w) where
       by_gets : (items : List Item) → Gets w i items → TimedKept (w.solos i) items (absorb_all (w.solos i) items) vpn
       by_gets items (Rests keeps) = inl (ap (λ ps. kept_at ps vpn) (keeps.kept (w.solos i)))
       by_gets items (Ends handles given) = subst (λ (xs : List Item). TimedKept (w.solos i) xs (absorb_all (w.solos i) xs) vpn) (sym given) (by_words handles (ended_kept (w.solos i) vpn))
-  kept_by r (Died e runs first same) i vpn =
-      subst (λ (x : Reply). TimedKept (w.solos i) (x.items i) ((after w x).solos i) vpn) (sym same)
-      (death_kept w sound e (running_lives w sound e runs) first i vpn)
+  kept_by r (Died e runs killed) i vpn = death_kept w sound e (running_lives w sound e runs) r killed i vpn
 
   pub timer_kept : (i vpn : ℕ) → TimedKept (w.solos i) ((timer w).items i) ((after w (timer w)).solos i) vpn
   timer_kept = kept_by (timer w) (timer_comes w)
@@ -206,17 +259,11 @@ module _ (w : World) (sound : Sound w) where
 
   owned_by : (r : Reply) → Comes w r → (owner page : ℕ) → is_owned_by owner (r.book.pages page) ≡ true → WasSo owner page (after w r)
   owned_by r (Passed passes) owner page owns = (ap (is_owned_by owner) (λ k. sym passes.alike.pages k page) ∙ owns, bytes_alike w (after w r) passes.alike page)
-  owned_by r (Died e runs first same) owner page owns =
-      subst (λ (x : Reply). WasSo owner page (after w x)) (sym same)
-      (by_death (subst (λ (x : Reply). is_owned_by owner (x.book.pages page) ≡ true) same owns))
-    where
-      by_death : is_owned_by owner ((death w e).book.pages page) ≡ true → WasSo owner page (after w (with_row first (later (killed w e))))
-      by_death its =
-          let now = after w (with_row first (later (killed w e))) in
-          let follows = death_follows w sound e (running_lives w sound e runs) first in
-          let was = released_owned e owner (w.book.pages page) its in
-          let bytes = owner_bytes now follows.brings.bytes (all_see w e (dead cause.Excess (w.solos e)) (Dies cause.Excess) now (death_items w.book e) sound follows) owner page its in
-          (was, bytes ∙ left_by e owner page (follows.brings.bytes page) was (follows.brings.fate owner page its))
+  owned_by r (Died e runs killed) owner page owns =
+      let follows = death_follows w sound e (running_lives w sound e runs) r killed in
+      let was = released_owned e owner (w.book.pages page) (ap (λ (x : Book). is_owned_by owner (x.pages page)) (sym killed.book) ∙ owns) in
+      let bytes = owner_bytes (after w r) follows.brings.bytes (all_see w e (dead cause.Excess (w.solos e)) (Dies cause.Excess) (after w r) (death_items w.book e) sound follows) owner page owns in
+      (was, bytes ∙ left_by e owner page (follows.brings.bytes page) was (follows.brings.fate owner page owns))
 
   pub timer_owned : (owner page : ℕ) → is_owned_by owner ((timer w).book.pages page) ≡ true → WasSo owner page (after w (timer w))
   timer_owned = owned_by (timer w) (timer_comes w)

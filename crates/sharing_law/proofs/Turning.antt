@@ -13,8 +13,8 @@ use Rattle.world_model.specs.Book.{Told, first_turn, lowered, owed, pays_first, 
 use Rattle.world_model.specs.Solo.{Solo, bytes_seen}
 use Rattle.world_model.specs.Item.{Start, absorb_all}
 use Rattle.world_model.specs.PageCalls.{bytes_owned, page_bytes}
-use Rattle.world_model.specs.World.{World, Reply, after}
-use Rattle.world_model.specs.Tick.{no_change, take_turn, turn, turn_when}
+use Rattle.world_model.specs.World.{World, Reply, after, no_change}
+use Rattle.world_model.specs.Tick.{take_turn, turn, turn_when}
 use Rattle.page_sight.specs.Sight.{seen_in}
 use Rattle.sharing_law.specs.Agreement.{AreBoundAllocated, IsAllocated}
 use Rattle.sharing_law.proofs.Given.{IsRested, rests_same, start_rests}

@@ -1,12 +1,11 @@
 -- The book and the environments agree.
 use Rattle.std.specs.Prelude.{◌≡◌, ℕ, Some}
-use Rattle.boot_image.specs.ImageValue.{ImageValue}
 use Rattle.page_book.specs.declared.row.PageRow.{PageRow}
 use Rattle.page_book.specs.declared.row.PageRow.TheVariants.{Free, Guaranteed, Owned}
 use Rattle.bind_book.specs.declared.binding.Binding.{Binding}
 use Rattle.world_model.specs.World.{World}
 use Rattle.world_model.specs.PageCalls.{page_bytes}
-use Rattle.run_model.specs.Run.{world_after}
+use Rattle.run_model.specs.Run.{System, world_after}
 use Rattle.page_sight.specs.Sight.{Sees}
 
 -- each environment has just the bindings that the book lists for it, and sees just the pages that by the book it owns or has bound, with the bytes that their owner sees
@@ -22,9 +21,9 @@ IsAllocated (Owned owner words) = Unit {0}
 abbrev pub AreBoundAllocated : World → Type 0
 AreBoundAllocated w = (e row : ℕ) (b : Binding) → w.book.binds e row ≡ Some b → IsAllocated (w.book.pages b.page)
 
--- so it is after every number of ticks of every image
+-- so it is after every number of ticks of every system
 abbrev pub BooksAgree : Type 0
-BooksAgree = (image : ImageValue) (t : ℕ) → AreAgreed (world_after image t)
+BooksAgree = (system : System) (t : ℕ) → AreAgreed (world_after system t)
 
 abbrev pub BoundIsAllocated : Type 0
-BoundIsAllocated = (image : ImageValue) (t : ℕ) → AreBoundAllocated (world_after image t)
+BoundIsAllocated = (system : System) (t : ℕ) → AreBoundAllocated (world_after system t)

@@ -1,4 +1,4 @@
-//! The laws of shared pages, for every image and number of ticks: by what right each binding stands, that the
+//! The laws of shared pages, for every image, schedule and number of ticks: by what right each binding stands, that the
 //! kernel's book and the environments agree, and why the bytes of a page change.
 #![tactic(auto)]
 

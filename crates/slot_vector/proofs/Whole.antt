@@ -1,13 +1,14 @@
 -- The whole turn, which is told at once, taken by what comes next, again and again.
-use Rattle.std.proofs.Common.{arith, refl, ap, sym, subst, ◌∙◌, inl, inr, ◌≡◌, ◌≢◌, ◌<◌, ◌-◌, ℕ, zero, suc, [], length, Option, None, Some, IsSome, slice_set}
+use Rattle.std.proofs.Common.{arith, refl, ap, sym, subst, ◌∙◌, inl, inr, ◌≡◌, ◌≢◌, ◌<◌, ◌+◌, ◌-◌, ℕ, zero, suc, [], length, Option, None, Some, IsSome, slice_set}
 use Rattle.std.specs.Prelude.{◌↔◌}
 use Rattle.std.proofs.lemmas.Bool.{cases_eq, eq-eqb, ne_eqb}
+use Rattle.std.proofs.lemmas.List.Sums.{sum_by-set}
 use Rattle.world_model.specs.declared.slot.Hold.{Hold}
 use Rattle.world_model.specs.declared.slot.Turn.{Turn}
 use Rattle.world_model.specs.Book.{first_turn, lowered, nobodys, owed, pays_first, told_at, told_turn}
 use Rattle.slot_vector.specs.declared.turn.NextTurn.TheVariants as next
 use Rattle.slot_vector.specs.Slices.{Slices, after_turn, excess_of, hold_at, next_held, next_turn, told_of, turn_of}
-use Rattle.slot_vector.specs.Laws.{owed_of}
+use Rattle.slot_vector.specs.Laws.{owed_by_all}
 use Rattle.slot_vector.proofs.Around.{turn_held, found_around}
 use Rattle.slot_vector.proofs.Owed.{excess_set, owes_within, forfeit_falls}
 
@@ -87,12 +88,11 @@ pay_step v t is =
     ∙ ap (pays_first t) (enough_fuel slots count (owed excess slots count) (suc (owed (lowered t.env excess) slots count)) t.slot (lowered t.env excess) falls (omega arith))
     ∙ ap (λ (left : ℕ → ℕ). pays_first t (told_turn slots count (suc (owed left slots count)) t.slot left)) (sym (lowered_of v t paid.1))
 
-pub pay_lowers : (v : Slices) (t : Turn) → next_turn v ≡ next.Pay t → owed_of (after_turn v (next.Pay t)) < owed_of v
+-- who pays owes one quantum less, and nobody else another
+pub pay_lowers : (v : Slices) (t : Turn) → next_turn v ≡ next.Pay t → owed_by_all v ≡ owed_by_all (after_turn v (next.Pay t)) + 1
 pay_lowers v t is =
-    let slots = hold_at v.slots in
-    let paid = paid_is (excess_of v.excess) (next_held v) t is in
-    let Falls : (ℕ → ℕ) → Type 0 = λ left. owed left slots (length v.slots) < owed_of v in
-    subst Falls (sym (lowered_of v t paid.1)) (forfeit_falls (excess_of v.excess) slots (length v.slots) v.cursor t paid.0 paid.1)
+    let owes = (paid_is (excess_of v.excess) (next_held v) t is).1 in
+    omega (arith, owes, sum_by-set (λ n. n) v.excess t.env (excess_of v.excess t.env - 1) 0 (owes_within v.excess t.env owes))
 
 -- A run ends the turn, and nothing is forfeited before it.
 pub run_step : (v : Slices) (t : Turn) → next_turn v ≡ next.Run t → told_of v ≡ record { pays = []; runs = Some t; excess = excess_of v.excess; cursor = t.slot }

@@ -1,22 +1,22 @@
 -- How the whole turn, which the model tells at once, is made of what comes next, again and again.
-use Rattle.std.specs.Prelude.{◌≡◌, ◌↔◌, ◌<◌, ℕ, List, [], length, Some, None, slice_set}
+use Rattle.std.specs.Prelude.{◌≡◌, ◌↔◌, ◌<◌, ◌+◌, ℕ, List, [], length, Some, None, slice_set, sum_by}
 use Rattle.world_model.specs.declared.slot.Turn.{Turn}
 use Rattle.world_model.specs.Table.{set_at}
-use Rattle.world_model.specs.Book.{nobodys, owed, pays_first}
+use Rattle.world_model.specs.Book.{nobodys, pays_first}
 use Rattle.slot_vector.specs.declared.turn.NextTurn.TheVariants as next
-use Rattle.slot_vector.specs.Slices.{Slices, after_turn, excess_of, hold_at, next_held, next_turn, told_of}
+use Rattle.slot_vector.specs.Slices.{Slices, after_turn, excess_of, next_held, next_turn, told_of}
 
 -- A forfeit comes first in the turn, and the rest of the turn is that of the vector after it.
 abbrev pub ForfeitComesFirst : Type 0
 ForfeitComesFirst = (v : Slices) (t : Turn) → next_turn v ≡ next.Pay t → told_of v ≡ pays_first t (told_of (after_turn v (next.Pay t)))
 
--- what the holders of a vector's slots owe
-abbrev pub owed_of : Slices → ℕ
-owed_of v = owed (excess_of v.excess) (hold_at v.slots) (length v.slots)
+-- what all environments owe together
+abbrev pub owed_by_all : Slices → ℕ
+owed_by_all v = sum_by (λ n. n) v.excess
 
--- With each forfeit the holders owe less.
+-- With each forfeit they owe one quantum less.
 abbrev pub ForfeitLowersOwed : Type 0
-ForfeitLowersOwed = (v : Slices) (t : Turn) → next_turn v ≡ next.Pay t → owed_of (after_turn v (next.Pay t)) < owed_of v
+ForfeitLowersOwed = (v : Slices) (t : Turn) → next_turn v ≡ next.Pay t → owed_by_all v ≡ owed_by_all (after_turn v (next.Pay t)) + 1
 
 -- A run ends the turn, and nothing is forfeited before it.
 abbrev pub RunEndsTurn : Type 0

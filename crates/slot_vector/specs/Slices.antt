@@ -97,21 +97,35 @@ abbrev pub raised_for : Option Runner → ℕ → List ℕ → List ℕ
 raised_for None excess all = all
 raised_for (Some r) excess all = slice_set all r.env excess
 
+-- the runner's excess, once it is one more
+abbrev pub raised_once : Option Runner → List ℕ → List ℕ
+raised_once None all = all
+raised_once (Some r) all = slice_set all r.env (excess_of all r.env + 1)
+
 abbrev pub counted : Runner → Runner
 counted r = record r { left = r.left - 1 }
 
--- the vector once the timer brought that; a runner with too much excess is left to its death
+-- a runner without ticks
+abbrev pub spent : Runner → Runner
+spent r = record r { left = 0 }
+
+-- the vector once the timer brought that; a runner with too much excess has no ticks left, and is to die
 abbrev pub after_timer : Slices → Timer → Slices
 after_timer v timer.Nothing = record v { runner = option_map counted v.runner }
 after_timer v timer.Stop = turn_ended v
 after_timer v timer.End = record v { runner = in_grace_again v v.runner }
 after_timer v (timer.Over excess) = record v { runner = in_grace_again v v.runner; excess = raised_for v.runner excess v.excess }
-after_timer v timer.Kill = v
+after_timer v timer.Kill = record v { runner = option_map spent v.runner; excess = raised_once v.runner v.excess }
 
 -- a runner has ticks left
 abbrev pub HasTicks : Option Runner → Type 0
 HasTicks None = Unit {0}
 HasTicks (Some r) = 1 ≤ r.left
+
+-- a runner owes no more than the limit
+abbrev pub OwesWithin : (ℕ → ℕ) → Option Runner → Type 0
+OwesWithin excess None = Unit {0}
+OwesWithin excess (Some r) = excess r.env ≤ excess_limit
 
 -- the numbers of a slot's owner and holder are below most_numbers
 abbrev pub IsNumbered : Option Hold → Type 0

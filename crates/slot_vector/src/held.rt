@@ -3,7 +3,7 @@ ghost use Rattle.std.specs.Option.{option_map};
 ghost use Rattle.std.specs.Prelude.{◌≡◌, ◌<◌, All, IsNone, IsSome, None, if◌then◌else◌, length, slice_get, slice_set};
 ghost use Rattle.world_model.specs.SlotCalls.{drop_refusal, dropped, gift_refusal, handed, held_by, holds, take_refusal};
 ghost use Rattle.world_model.specs.Book.{is_runner};
-ghost use Rattle.slot_vector.specs.Slices.{HasTicks, IsNumbered, RunsByNumber, most_numbers};
+ghost use Rattle.slot_vector.specs.Slices.{IsNumbered, RunsByNumber, most_numbers};
 
 use crate::search::{Row, own_hold};
 use world_model::{Code, Hold, Phase, Runner};
@@ -101,7 +101,6 @@ pub(crate) fn put(slots: &mut Row, slot: usize, hold: Option<Hold>)
 /// The runner's turn, with which another environment goes on.
 pub(crate) fn handed(runner: Option<Runner>, to: u8) -> Option<Runner>
     ensures turn { result ≡ handed to runner }
-    ensures ticks { HasTicks runner → HasTicks result }
     ensures numbered { to < most_numbers → RunsByNumber result }
 {
     let runner = runner?;
@@ -111,7 +110,6 @@ pub(crate) fn handed(runner: Option<Runner>, to: u8) -> Option<Runner>
 /// The runner, unless it is the environment.
 pub(crate) fn another(runner: Option<Runner>, env: u8) -> Option<Runner>
     ensures turn { result ≡ (if is_runner env runner then None else runner) }
-    ensures ticks { HasTicks runner → HasTicks result }
     ensures numbered { RunsByNumber runner → RunsByNumber result }
 {
     match runner {

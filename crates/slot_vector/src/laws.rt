@@ -6,7 +6,7 @@ pub fn law_pay()
     ensures { ForfeitComesFirst }
 {}
 
-/// With each forfeit the holders owe less, so that a turn ends.
+/// With each forfeit the environments owe one quantum less all together, so that a turn ends.
 pub fn law_pay_lowers()
     ensures { ForfeitLowersOwed }
 {}

@@ -1,12 +1,12 @@
 //! The vector of slots, by the calls of the kernel.
-ghost use Rattle.std.specs.Prelude.{◌≡◌, ◌<◌, ◌≤◌, true, IsSome, IfSome, IsNone, Some, OnErr, OnOk, length, All};
+ghost use Rattle.std.specs.Prelude.{◌≡◌, ◌<◌, ◌≤◌, ◌+◌, true, IsSome, IfSome, IsNone, Some, OnErr, OnOk, length, All};
 ghost use Rattle.std.specs.Option.{option_map};
 ghost use Rattle.aegis_limits.specs.Limits.{least_quantum, most_quantum, most_slots};
 ghost use Rattle.world_model.specs.declared.slot.Hold.{Hold as Held};
 ghost use Rattle.world_model.specs.declared.slot.Phase.TheVariants as phase;
 ghost use Rattle.world_model.specs.Book.{excess_limit, own_hold, running};
 ghost use Rattle.world_model.specs.SlotCalls.{dropped};
-ghost use Rattle.slot_vector.specs.Slices.{IsWithin, after_timer, after_turn, excess_of, first_slices, given_to, hold_at, in_grace_again, is_idle, mask_of, most_numbers, next_turn, refusal_of_drop, refusal_of_gift, refusal_of_take, timer_answer, timer_at_end, turn_ended, unless, with_hold, without_env};
+ghost use Rattle.slot_vector.specs.Slices.{HasTicks, IsWithin, OwesWithin, after_timer, after_turn, excess_of, first_slices, given_to, hold_at, in_grace_again, is_idle, mask_of, most_numbers, next_turn, refusal_of_drop, refusal_of_gift, refusal_of_take, timer_answer, timer_at_end, turn_ended, unless, with_hold, without_env};
 
 use crate::excess::{EXCESS_LIMIT, Excess};
 use crate::held::{
@@ -18,8 +18,7 @@ use crate::turn::NextTurn;
 use std::marker::Model;
 use world_model::{Code, Phase, Runner};
 
-/// The vector of slots, what each environment owes, and the runner with the ticks left of its quantum, at
-/// least one.
+/// The vector of slots, what each environment owes, and the runner with the ticks left of its quantum.
 #[derive(Drop)]
 pub struct Slots {
     slots: Row,
@@ -32,13 +31,13 @@ pub struct Slots {
 impl Model for Slots {
     ghost use Rattle.std.specs.Prelude.{◌<◌, ◌≤◌, All, length};
     ghost use Rattle.aegis_limits.specs.Limits.{most_slots};
-    ghost use Rattle.slot_vector.specs.Slices.{Slices, HasTicks, IsNumbered, RunsByNumber};
+    ghost use Rattle.slot_vector.specs.Slices.{Slices, IsNumbered, RunsByNumber};
 
     ghost Value = { Slices };
 
     ghost view = { λ s. record { slots = s.slots.items; quantum = s.quantum; cursor = s.cursor; runner = s.runner; excess = s.excess } };
 
-    ghost invariant = { λ s. (s.cursor < length s.slots.items) × (length s.slots.items ≤ most_slots) × (0 < s.quantum) × HasTicks s.runner × RunsByNumber s.runner × All IsNumbered s.slots.items };
+    ghost invariant = { λ s. (s.cursor < length s.slots.items) × (length s.slots.items ≤ most_slots) × (0 < s.quantum) × RunsByNumber s.runner × All IsNumbered s.slots.items };
 }
 
 impl Slots {
@@ -89,8 +88,11 @@ impl Slots {
     /// A tick of the runner's quantum is over, and it has a handler of the ends of its slices or not.
     /// The ticks left fall by one, and at none the quantum is over: a slice ends the turn, or begins
     /// the time of grace of a runner with a handler; a quantum of grace raises the runner's excess by
-    /// one, and another begins. `Kill` changes nothing: the runner is to die.
+    /// one, and another begins. After `Kill` no ticks are left, and the excess is above the limit: the
+    /// runner is to die, before another tick.
     pub fn timer(&mut self, has_end: bool) -> Timer
+        requires ticks { HasTicks self.old.runner }
+        requires owes { OwesWithin (excess_of self.old.excess) self.old.runner }
         ensures answer { result ≡ timer_answer self.old has_end }
         ensures after { self.new ≡ after_timer self.old result }
     {
@@ -110,6 +112,7 @@ impl Slots {
     /// The runner's quantum is over.
     fn end_quantum(&mut self, runner: Runner, has_end: bool) -> Timer
         requires runs { self.old.runner ≡ Some runner }
+        requires owes { excess_of self.old.excess runner.env ≤ excess_limit }
         ensures answer { result ≡ timer_at_end runner.phase has_end (excess_of self.old.excess runner.env) }
         ensures after { self.new ≡ after_timer self.old result }
     {
@@ -129,14 +132,16 @@ impl Slots {
     /// A quantum of grace is over.
     fn count_grace(&mut self, runner: Runner) -> Timer
         requires runs { self.old.runner ≡ Some runner }
+        requires owes { excess_of self.old.excess runner.env ≤ excess_limit }
         ensures answer { result ≡ timer_at_end phase.Grace true (excess_of self.old.excess runner.env) }
         ensures after { self.new ≡ after_timer self.old result }
     {
         let excess = self.excess.of(runner.env) + 1;
+        self.excess.set(runner.env, excess);
         if excess > EXCESS_LIMIT {
+            self.runner = Some(Runner { left: 0, ..runner });
             return Timer::Kill;
         }
-        self.excess.set(runner.env, excess);
         self.begin_grace(runner);
         Timer::Over(excess)
     }
@@ -234,10 +239,11 @@ impl Slots {
         mask
     }
 
-    /// The environment's excess: the quanta that it ran past its slices and hasn't forfeited yet, 0 to 8.
+    /// The environment's excess: the quanta that it ran past its slices and hasn't forfeited yet, 0 to 8, or
+    /// 9 of a runner that is to die.
     pub fn excess(&self, env: u8) -> u32
         ensures excess { result ≡ excess_of self.now.excess env }
-        ensures most { result ≤ excess_limit }
+        ensures most { result ≤ excess_limit + 1 }
     {
         self.excess.of(env)
     }

@@ -10,6 +10,6 @@ pub enum Timer {
     Stop,
     /// A quantum of grace is used up: the runner's excess is this now, and it has another one.
     Over(u32),
-    /// A quantum of grace is used up, and the runner's excess passes the limit.
+    /// A quantum of grace is used up, and the runner's excess passes the limit: it is to die.
     Kill,
 }

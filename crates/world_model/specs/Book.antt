@@ -1,6 +1,7 @@
--- The kernel's one book: the vector of slots, whose the pages are, and who has bound them.
+-- The kernel's one book: the vector of slots, whose the pages are, and where they are mapped.
 use Rattle.std.specs.Prelude.{ℕ, zero, suc, ◌+◌, ◌-◌, ◌%◌, List, [], ◌∷◌, Bool, false, ◌==◌, ◌&&◌, ◌||◌, nat_lt, if◌then◌else◌, Option, Some, None, is_none}
 use Rattle.std.specs.Option.{option_map}
+use Rattle.env_frames.specs.declared.mapping.Mapping.{Mapping}
 use Rattle.page_book.specs.declared.row.PageRow.{PageRow}
 use Rattle.page_book.specs.Row.{is_owned_by}
 use Rattle.bind_book.specs.declared.binding.Binding.{Binding}
@@ -10,8 +11,9 @@ use Rattle.world_model.specs.declared.slot.Hold.{Hold}
 use Rattle.world_model.specs.declared.slot.Runner.{Runner}
 use Rattle.world_model.specs.declared.slot.Turn.{Turn}
 
--- Slots from slot_count on are empty; a runner, if one runs, runs in the cursor's slot. Each environment has its excess: the quanta that it ran past its slices and hasn't forfeited yet. Pages are numbered below page_count; from there on
--- each is as if free. The bindings stand by environment, in the rows of its stripe.
+-- A runner, if one runs, runs in the cursor's slot. Each environment has its excess: the quanta that it ran past its slices
+-- and hasn't forfeited yet. Pages are numbered below page_count; from there on each is as if free. Each environment has its
+-- guaranteed mappings, by rising VPN, and its bindings, in the rows of its stripe.
 pub record Book : Type 0 where
   pub slot_count : ℕ
   pub slots : ℕ → Option Hold
@@ -21,6 +23,7 @@ pub record Book : Type 0 where
   pub excess : ℕ → ℕ
   pub page_count : ℕ
   pub pages : ℕ → PageRow
+  pub kept : ℕ → List Mapping
   pub binds : ℕ → ℕ → Option Binding
   pub time : ℕ
 

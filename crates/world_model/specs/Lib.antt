@@ -8,6 +8,7 @@ pub mod Step
 pub mod Item
 pub mod Book
 pub mod World
+pub mod Event
 pub mod Answer
 pub mod PageCalls
 pub mod SlotCalls

@@ -159,9 +159,10 @@ lost_with b gone e (suc page) = lost_with b gone e page ++ (if belongs_to gone (
 abbrev pub death_items : Book → ℕ → ℕ → List Item
 death_items b gone e = if e == gone then [] else lost_with b gone e b.page_count
 
--- the book without an environment's pages, the bindings of these, and its own
+-- the book without an environment's pages and mappings, the bindings of these pages, and its own
 abbrev pub without_pages_of : ℕ → Book → Book
 without_pages_of gone b = record b {
   pages = λ page. released gone (b.pages page);
+  kept = set_at gone [] b.kept;
   binds = λ e row. without (goes_with b.pages gone e) (b.binds e row);
 }

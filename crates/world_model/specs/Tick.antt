@@ -1,9 +1,10 @@
--- The tick: the turn, the runner's step with its call or death, and the timer.
+-- The tick: what happens from outside, the turn, the runner's step with its call or death, and the timer.
 use Rattle.std.specs.Prelude.{◌≡◌, ℕ, ◌+◌, ◌-◌, List, [], ◌∷◌, ◌++◌, map, ◌==◌, nat_lt, if◌then◌else◌, Option, Some, None}
 use Rattle.kernel_journal.specs.declared.row.Row.{Row}
 use Rattle.kernel_journal.specs.declared.row.Row.TheVariants as row
 use Rattle.world_model.specs.declared.code.Code.{Code}
 use Rattle.world_model.specs.declared.life.Cause.{Cause}
+use Rattle.world_model.specs.declared.life.Cause.TheVariants as cause
 use Rattle.world_model.specs.declared.slot.Phase.{Phase}
 use Rattle.world_model.specs.declared.slot.Phase.TheVariants as phase
 use Rattle.world_model.specs.declared.slot.Runner.{Runner}
@@ -15,10 +16,8 @@ use Rattle.world_model.specs.Step.{Act, Nothing, Stores, Calls, Raises, Dies, st
 use Rattle.world_model.specs.Verdict.{Refuses, reply_to, death, stop_row, verdict_now}
 use Rattle.world_model.specs.Table.{set_at}
 use Rattle.world_model.specs.PageCalls.{left_by}
-use Rattle.world_model.specs.World.{World, Reply, only, no_items, after, run_phases, phase_items}
-
-abbrev pub no_change : World → Reply
-no_change w = record { book = w.book; items = no_items; rows = [] }
+use Rattle.world_model.specs.World.{World, Reply, only, no_items, after, run_phases, no_change, tells, in_turn}
+use Rattle.world_model.specs.Event.{Occurrence, happen}
 
 -- The turn: where nobody runs, slots are forfeited whose holders owe, and the first holder that owes nothing starts with a full quantum.
 abbrev pub pay_row : ℕ → Turn → Row
@@ -40,85 +39,86 @@ abbrev pub turn : World → Reply
 turn w = turn_when w w.book.runner
 
 -- what an act of the runner brings
-abbrev pub brings : World → ℕ → Act → Reply
-brings w e Nothing = no_change w
-brings w e (Stores x) = record { book = w.book; items = left_by w.book e x; rows = [] }
-brings w e (Calls call) = reply_to w e call
-brings w e (Raises exc) = no_change w
-brings w e (Dies cause) = death w e
+abbrev pub brings : ℕ → Act → World → Reply
+brings e Nothing w = no_change w
+brings e (Stores x) w = record { book = w.book; items = left_by w.book e x; rows = [] }
+brings e (Calls call) w = reply_to w e call
+brings e (Raises exc) w = no_change w
+brings e (Dies cause) w = death w e
 
--- the runner absorbs its step, and then what its act brings
-abbrev pub with_step : ℕ → Reply → Reply
-with_step e r = record r { items = λ i. only e (Step ∷ []) i ++ r.items i }
+-- The step: the runner absorbs it, and then comes what its act brings.
+abbrev pub act_now : World → ℕ → Act
+act_now w e = let s = w.solos e in act_of s (step_alone s)
 
 abbrev pub step_when : World → Option Runner → Reply
 step_when w None = no_change w
-step_when w (Some r) = let s = w.solos r.env in with_step r.env (brings w r.env (act_of s (step_alone s)))
+step_when w (Some r) = in_turn (tells r.env Step ∷ brings r.env (act_now w r.env) ∷ []) w
 
 abbrev pub step : World → Reply
 step w = step_when w w.book.runner
 
 -- The timer: the ticks left of a runner's slice fall by one, and time rises by one.
-abbrev pub timed : World → Option Runner → (ℕ → List Item) → List Row → Reply
-timed w runner items rows = record { book = record w.book { runner = runner; time = w.book.time + 1 }; items = items; rows = rows }
+abbrev pub clock : World → Reply
+clock w = record { book = record w.book { time = w.book.time + 1 }; items = no_items; rows = [] }
+
+-- a runner with so many ticks left, in a phase
+abbrev pub goes_on : Runner → World → Reply
+goes_on r w = record { book = record w.book { runner = Some r }; items = no_items; rows = [] }
+
+-- a full quantum of grace
+abbrev pub grace_of : World → ℕ → Runner
+grace_of w e = record { env = e; left = w.book.quantum; phase = phase.Grace }
 
 -- At the end of its slice a runner is told, and has a quantum of grace, if it has a handler of ends; else it is stopped.
-abbrev pub slice_end : World → ℕ → ℕ → Reply
-slice_end w e handler =
-    if handler == 0 then timed w None no_items (stop_row w.book e ∷ [])
-    else timed w (Some (record { env = e; left = w.book.quantum; phase = phase.Grace })) (only e (End ∷ [])) (row.End w.book.time w.book.cursor e ∷ [])
+abbrev pub slice_end : ℕ → ℕ → World → Reply
+slice_end e handler w =
+    if handler == 0 then record { book = record w.book { runner = None }; items = no_items; rows = stop_row w.book e ∷ [] }
+    else record { book = record w.book { runner = Some (grace_of w e) }; items = only e (End ∷ []); rows = row.End w.book.time w.book.cursor e ∷ [] }
 
--- a reply after which time has risen, too
-abbrev pub later : Reply → Reply
-later r = record r { book = record r.book { time = r.book.time + 1 } }
-
--- a reply with a row before its own
-abbrev pub with_row : Row → Reply → Reply
-with_row first r = record r { rows = first ∷ r.rows }
+-- the runner's excess rises by one
+abbrev pub owes_more : ℕ → World → Reply
+owes_more e w = let excess = w.book.excess e + 1 in record {
+  book = record w.book { excess = set_at e excess w.book.excess };
+  items = no_items;
+  rows = row.Over w.book.time w.book.cursor e excess ∷ [];
+}
 
 -- the runner dies of its excess
-abbrev pub killed : World → ℕ → Reply
-killed w e = let r = death w e in record r { items = set_at e (Killed ∷ []) r.items }
+abbrev pub kill : ℕ → World → Reply
+kill e w = in_turn (tells e Killed ∷ brings e (Dies cause.Excess) ∷ []) w
 
--- At the end of a quantum of grace its excess rises to this; above the limit it dies, else it has another quantum.
-abbrev pub grace_end : World → ℕ → ℕ → Reply
-grace_end w e excess =
-    with_row (row.Over w.book.time w.book.cursor e excess)
-    (if nat_lt excess_limit excess then later (killed w e)
-    else later (record {
-      book = record w.book { runner = Some (record { env = e; left = w.book.quantum; phase = phase.Grace }); excess = set_at e excess w.book.excess };
-      items = no_items;
-      rows = [];
-    }))
+-- above the limit of excess a runner dies, else it has another quantum of grace
+abbrev pub judged : ℕ → World → Reply
+judged e w = if nat_lt excess_limit (w.book.excess e) then kill e w else goes_on (grace_of w e) w
 
-abbrev pub run_out : World → ℕ → Phase → Reply
-run_out w e phase.Own = slice_end w e (w.solos e).handlers.end
-run_out w e phase.Grace = grace_end w e (w.book.excess e + 1)
+abbrev pub run_out : ℕ → Phase → World → Reply
+run_out e phase.Own w = slice_end e (w.solos e).handlers.end w
+run_out e phase.Grace w = in_turn (owes_more e ∷ judged e ∷ []) w
 
-abbrev pub count_down : World → Runner → ℕ → Reply
-count_down w r left = if left == 0 then run_out w r.env r.phase else timed w (Some (record r { left = left })) no_items []
+abbrev pub count_down : Runner → ℕ → World → Reply
+count_down r left w = if left == 0 then run_out r.env r.phase w else goes_on (record r { left = left }) w
 
-abbrev pub timer_when : World → Option Runner → Reply
-timer_when w None = timed w None no_items []
-timer_when w (Some r) = count_down w r (r.left - 1)
+abbrev pub count_when : Option Runner → World → Reply
+count_when None w = no_change w
+count_when (Some r) w = count_down r (r.left - 1) w
 
 abbrev pub timer : World → Reply
-timer w = timer_when w w.book.runner
+timer w = in_turn (count_when w.book.runner ∷ clock ∷ []) w
 
 -- a tick in its order
-abbrev pub phases : List (World → Reply)
-phases = turn ∷ step ∷ timer ∷ []
+abbrev pub tick_phases : List (World → Reply)
+tick_phases = turn ∷ step ∷ timer ∷ []
 
 abbrev pub tick_step : World → World
-tick_step w = run_phases w phases
+tick_step w = run_phases w tick_phases
 
--- what an environment is given in a tick
-abbrev pub tick_items : World → ℕ → List Item
-tick_items w e = phase_items w phases e
+-- the phases of a tick with what happens in it, which comes first
+abbrev pub phases_after : List Occurrence → List (World → Reply)
+phases_after happens = map happen happens ++ tick_phases
 
 -- Apart from a tick. The world after an act of the runner: what it does to the runner itself, and then what it brings
 abbrev pub act_world : World → ℕ → Act → World
-act_world w e act = after (record w { solos = set_at e (acted act (w.solos e)) w.solos }) (brings w e act)
+act_world w e act = let v = record w { solos = set_at e (acted act (w.solos e)) w.solos } in after v (brings e act v)
 
 -- the world after the runner's death of this cause
 abbrev pub died : World → ℕ → Cause → World

@@ -30,11 +30,24 @@ only e items = set_at e items no_items
 abbrev pub after : World → Reply → World
 after w r = record { book = r.book; count = w.count; solos = λ i. absorb_all (w.solos i) (r.items i); rows = w.rows ++ r.rows }
 
+-- the world after phases, one after another
 abbrev pub run_phases : World → List (World → Reply) → World
 run_phases w [] = w
 run_phases w (phase ∷ phases) = run_phases (after w (phase w)) phases
 
--- all that an environment is given in the phases, in order
-abbrev pub phase_items : World → List (World → Reply) → ℕ → List Item
-phase_items w [] e = []
-phase_items w (phase ∷ phases) e = (phase w).items e ++ phase_items (after w (phase w)) phases e
+-- nothing happens
+abbrev pub no_change : World → Reply
+no_change w = record { book = w.book; items = no_items; rows = [] }
+
+-- an environment is given an item, and nothing else happens
+abbrev pub tells : ℕ → Item → World → Reply
+tells e item w = record { book = w.book; items = only e (item ∷ []); rows = [] }
+
+-- a reply, and then another
+abbrev pub followed : Reply → Reply → Reply
+followed r s = record { book = s.book; items = λ e. r.items e ++ s.items e; rows = r.rows ++ s.rows }
+
+-- phases as one: each in the world that those before it leave
+abbrev pub in_turn : List (World → Reply) → World → Reply
+in_turn [] w = no_change w
+in_turn (phase ∷ phases) w = followed (phase w) (in_turn phases (after w (phase w)))

@@ -4,7 +4,7 @@ use Rattle.std.specs.Prelude.{max}
 use Rattle.env_frames.specs.Frame.{IsAbove}
 use Rattle.segment_pages.specs.Pages.{pages_from, page_numbers}
 use Rattle.run_model.specs.Boot.{body_page}
-use Rattle.board_world.specs.Loading.{AreGiven, HasPages}
+use Rattle.board_world.specs.Loading.{AreGiven, HasPages, with_mapped}
 use Rattle.board_world.specs.Showing.{pages_seen}
 use Rattle.board_world.specs.Sound.{AreGuaranteed}
 use Rattle.aegis_calls.proofs.boot.give_body.Given as goal
@@ -14,6 +14,7 @@ invariant-loop-vpn l = record {
   guaranteed : AreGuaranteed l.pages l.number l.env.mappings;
   same : HasPages l.frames l.pages;
   given : AreGiven l.number (length l.env.mappings - length l.fn.env.mappings) l.fn.pages l.pages l.fn.frames l.frames;
+  mapped : with_mapped l.number l.pages (map (body_page l.body) (pages_from l.body l.from)) l.env.mappings ≡ with_mapped l.number l.fn.pages (map (body_page l.body) (page_numbers l.body)) l.fn.env.mappings;
   seen : pages_seen l.frames l.env.mappings ++ map (body_page l.body) (pages_from l.body l.from) ≡ pages_seen l.fn.frames l.fn.env.mappings ++ map (body_page l.body) (page_numbers l.body);
   above : IsAbove l.env.mappings (max 2 l.from);
   numbers : l.from ≤ 0x7FF00;

@@ -1,9 +1,12 @@
 -- The context page, then those of the body, then those of the stack.
-use Rattle.std.proofs.Common.{◌+◌, length, subst}
+use Rattle.std.proofs.Common.{◌≡◌, ◌+◌, ◌-◌, ◌∙◌, [], ◌∷◌, ◌++◌, length, map, ap, arith, refl, subst}
+use Rattle.std.proofs.lemmas.List.{length-map}
+use Rattle.frame_store.specs.Pages.{zero_page}
 use Rattle.boot_image.specs.ImageValue.{ProgramValue, guaranteed_mappings}
 use Rattle.segment_pages.specs.Pages.{page_numbers}
-use Rattle.board_world.specs.Loading.{AreGiven}
-use Rattle.board_world.proofs.Keeping.{given_both}
+use Rattle.run_model.specs.Boot.{body_page, kept_of, open_page}
+use Rattle.board_world.specs.Loading.{AreGiven, with_mapped, zeros_from}
+use Rattle.board_world.proofs.Keeping.{given_both, mapped_more}
 use Rattle.aegis_calls.proofs.boot.load.Goals as goal
 
 pub returns-clause-given : goal.returns-clause-given
@@ -15,3 +18,22 @@ returns-clause-given c =
     (given_both c.args.number (1 + body) p.stack _ _ _ _ _ _
     (given_both c.args.number 1 body _ _ _ _ _ _ c.enter-env.ensures.given c.give_body.ensures.given)
     c.give_zeros.ensures.given)
+
+pub returns-clause-mapped : goal.returns-clause-mapped
+returns-clause-mapped c =
+    let p = c.program.inside in
+    let n = c.args.number in
+    let context = open_page 1 zero_page ∷ [] in
+    let bodies = map (body_page p.body) (page_numbers p.body) in
+    let zeros = zeros_from (0x7FFF0 - p.stack) p.stack in
+    let body = length (page_numbers p.body) in
+    let entered = c.enter-env.ensures in
+    let filled = c.give_body.ensures in
+    let longer : length (context ++ bodies) ≡ 1 + body = omega (arith, length-map (page_numbers p.body) (body_page p.body)) in
+    subst (λ (q : ProgramValue). c.give_zeros.new.env.mappings ≡ with_mapped n c.args.pages.now (kept_of q) []) c.program.view_is
+    (c.give_zeros.ensures.mapped
+    ∙ ap (with_mapped n c.give_body.new.pages zeros)
+    (filled.mapped
+    ∙ ap (with_mapped n c.enter-env.new.pages bodies) entered.mapped
+    ∙ mapped_more n 1 _ _ _ _ context bodies [] entered.given refl)
+    ∙ mapped_more n (1 + body) _ _ _ _ (context ++ bodies) zeros [] (given_both n 1 body _ _ _ _ _ _ entered.given filled.given) longer)

@@ -1,10 +1,10 @@
 -- One environment more.
-use Rattle.std.proofs.Common.{refl, ap, ◌∙◌, ◌<◌, ℕ, arith, length, subst}
+use Rattle.std.proofs.Common.{◌≡◌, refl, ap, ◌∙◌, ◌<◌, ℕ, [], arith, length, subst}
 use Rattle.boot_image.specs.ImageValue.{ProgramValue, guaranteed_mappings}
 use Rattle.world_model.specs.declared.life.Life.TheVariants.{Live}
-use Rattle.run_model.specs.Boot.{added}
+use Rattle.run_model.specs.Boot.{added, kept_of}
 use Rattle.board_world.specs.declared.roster.Environment.{Environment}
-use Rattle.board_world.specs.Loading.{AreGiven}
+use Rattle.board_world.specs.Loading.{AreGiven, with_mapped}
 use Rattle.board_world.specs.Sound.{AreGuaranteed}
 use Rattle.board_world.specs.Shown.{Shown}
 use Rattle.board_world.specs.Showing.{world_of}
@@ -47,6 +47,7 @@ returns-clause-world c =
     let frames = c.load-env.new.frames in
     let loaded = c.load-env.ensures in
     let given : AreGiven (length b.roster.list) (guaranteed_mappings p) b.pages pages b.frames frames = subst (λ (n : ℕ). AreGiven n (guaranteed_mappings p) b.pages pages b.frames frames) c.len-number.ensures loaded.given in
+    let mapped = subst (λ (n : ℕ). x.env.mappings ≡ with_mapped n b.pages (kept_of p) []) c.len-number.ensures loaded.mapped in
     rw c.push.ensures
-    (added_world b x frames pages p c.self.invariant given (ap (λ (q : ProgramValue). q.name) c.program.view_is) refl loaded.cpu loaded.handlers loaded.mask loaded.seen
+    (added_world b x frames pages p c.self.invariant given (ap (λ (q : ProgramValue). q.name) c.program.view_is) refl loaded.cpu loaded.handlers loaded.mask loaded.seen mapped
     ∙ ap (λ (s : Shown). added (world_of s) p) c.self.view_is)

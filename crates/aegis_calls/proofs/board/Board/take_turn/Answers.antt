@@ -1,6 +1,6 @@
 -- Each forfeit comes first in the rest of the turn, and lowers what is owed.
 use Rattle.std.proofs.Common.{◌<◌, sym, ap, ◌∙◌, subst, arith}
-use Rattle.slot_vector.specs.Laws.{owed_of}
+use Rattle.slot_vector.specs.Laws.{owed_by_all}
 use Rattle.slot_vector.specs.Slices.{told_of}
 use Rattle.slot_vector.proofs.Whole.{pay_lowers}
 use Rattle.board_world.specs.Shown.{Shown}
@@ -9,7 +9,7 @@ use Rattle.board_world.proofs.Turns.{pay_turned}
 use Rattle.aegis_calls.proofs.board.Board.take_turn.Goals as goal
 
 pub loop-smaller : goal.loop-smaller
-loop-smaller c = subst (λ (b : Shown). owed_of b.slots < owed_of c.loop.self.slots) (sym c.in-Pay.ensures.after) (pay_lowers c.loop.self.slots c.in-Pay.field-0 (sym c.in-Pay.ensures.turn))
+loop-smaller c = omega (arith, pay_lowers c.loop.self.slots c.in-Pay.field-0 (sym c.in-Pay.ensures.turn), ap (λ (b : Shown). owed_by_all b.slots) c.in-Pay.ensures.after)
 
 pub loop-preserved : goal.loop-preserved
 loop-preserved c =
@@ -23,5 +23,5 @@ loop-preserved c =
       nobody = ap (λ (s : Shown). s.slots.runner) after ∙ so_far.nobody;
       time = ap (λ (s : Shown). s.time) after ∙ so_far.time;
       whole = ap (λ (s : Shown). s.roster.spare) after ∙ so_far.whole;
-      room = omega (arith, pay_lowers b.slots t pays, ap (λ (s : Shown). owed_of s.slots) after, ap (λ (s : Shown). s.ledger.spare) after, so_far.room, c.requires.room);
+      room = omega (arith, pay_lowers b.slots t pays, ap (λ (s : Shown). owed_by_all s.slots) after, ap (λ (s : Shown). s.ledger.spare) after, so_far.room, c.requires.room);
     }

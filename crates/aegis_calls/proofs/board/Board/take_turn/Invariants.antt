@@ -1,6 +1,6 @@
 -- The rest of the turn makes the whole of it, and there is room for all that is owed.
 use Rattle.std.proofs.Common.{◌≡◌, ◌≤◌, ◌+◌, None}
-use Rattle.slot_vector.specs.Laws.{owed_of}
+use Rattle.slot_vector.specs.Laws.{owed_by_all}
 use Rattle.slot_vector.specs.Slices.{told_of}
 use Rattle.board_world.specs.Doing.{turned_by}
 use Rattle.aegis_calls.proofs.board.Board.take_turn.Given as goal
@@ -11,8 +11,8 @@ invariant-loop l = record {
   nobody : l.self.slots.runner ≡ None;
   time : l.self.time ≡ l.fn.self.time;
   whole : l.self.roster.spare ≡ 0;
-  room : l.fn.self.ledger.spare + owed_of l.self.slots ≤ l.self.ledger.spare + owed_of l.fn.self.slots;
+  room : l.fn.self.ledger.spare + owed_by_all l.self.slots ≤ l.self.ledger.spare + owed_by_all l.fn.self.slots;
 }
 
 abbrev pub decreases-loop : goal.decreases-loop
-decreases-loop l = owed_of l.self.slots
+decreases-loop l = owed_by_all l.self.slots

@@ -1,11 +1,17 @@
--- The slots once the timer counted.
-use Rattle.board_world.proofs.Sound.{timer_manned}
+-- The slots once the timer counted, and what it brought is settled.
+use Rattle.std.proofs.Common.{◌≡◌, ap, ◌∙◌, arith, length}
+use Rattle.world_model.specs.Book.{running}
+use Rattle.board_world.specs.Shown.{Shown}
+use Rattle.board_world.proofs.Sound.{runner_within, timer_manned}
 use Rattle.aegis_calls.proofs.board.Board.use_tick.Goals as goal
 
 pub invariant_of-self : goal.invariant_of-self
-invariant_of-self c = record {
-  book = rw (c.timer.ensures.after, c.timer.ensures.answer) (timer_manned c.self.inside.slots c.self.inside.roster c.self.invariant.book _);
-  consoles = c.self.invariant.consoles;
-  memory = c.self.invariant.memory;
-  books = c.self.invariant.books;
-}
+invariant_of-self c =
+    let b = c.self.inside in
+    let runs = ap (λ (s : Shown). running s.slots.runner) c.self.view_is ∙ c.requires.runs in
+    record {
+      book = rw (c.settle.ensures.slots, c.timer-timer.ensures.after, c.timer-timer.ensures.answer) (timer_manned b.slots b.roster c.self.invariant.book c.args.env _ runs);
+      consoles = c.self.invariant.consoles;
+      memory = c.self.invariant.memory;
+      books = c.self.invariant.books;
+    }

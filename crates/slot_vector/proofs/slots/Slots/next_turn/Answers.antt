@@ -30,9 +30,8 @@ invariant_of-self c = (
   rw (← c.as_slice.ensures.value) c.in-Some.ensures.within,
   c.self.invariant.1,
   c.self.invariant.2,
-  c.self.invariant.2,
   c.in-Some.ensures.numbered,
-  c.self.invariant.5,
+  c.self.invariant.4,
 )
 
 pub returns-then-owed-eq0-clause-turn : goal.returns-then-owed-eq0-clause-turn
@@ -50,7 +49,6 @@ invariant_of-self-2 c = (
   c.self.invariant.2,
   c.self.invariant.3,
   c.self.invariant.4,
-  c.self.invariant.5,
 )
 
 pub returns-clause-turn : goal.returns-clause-turn

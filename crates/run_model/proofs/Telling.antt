@@ -1,0 +1,60 @@
+-- What an environment is told, and that a call leaves it as it is until it is answered.
+use Rattle.std.proofs.Common.{◌≡◌, ◌≢◌, ℕ, [], ◌∷◌, Bool, true, false, Option, Some, None, refl, ◌∙◌, ap}
+use Rattle.std.specs.Prelude.{◌==◌, if◌then◌else◌}
+use Rattle.std.proofs.lemmas.Bool.{eq-eqb, eqb-true, ne_eqb}
+use Rattle.std.proofs.lemmas.List.{append-nil}
+use Rattle.mips_exec.specs.declared.registers.Cpu.{Cpu}
+use Rattle.mips_exec.specs.declared.exception.Exc.{Exc}
+use Rattle.mips_exec.specs.Step.{Step as MachineStep, Retired, Called, Trapped, cpu_after}
+use Rattle.world_model.specs.declared.call.Call.{Call}
+use Rattle.world_model.specs.declared.life.Cause.TheVariants as cause
+use Rattle.world_model.specs.Item.{Item, Step, absorb, absorb_all}
+use Rattle.world_model.specs.Solo.{Solo, Store, is_dead, store_of}
+use Rattle.world_model.specs.Step.{Act, Calls, Raises, Dies, act_of, acted, step_alone, stepped, store_act, trap_act}
+use Rattle.world_model.specs.Tick.{act_now}
+use Rattle.world_model.specs.World.{World, after, tells}
+
+-- who is given an item absorbs it, and all others stay as they are
+pub told_own : (w : World) (e : ℕ) (item : Item) → (after w (tells e item w)).solos e ≡ absorb (w.solos e) item
+told_own w e item = ap (λ (mine : Bool). absorb_all (w.solos e) (if mine then item ∷ [] else [])) (eq-eqb e e refl)
+
+pub told_other : (w : World) (e : ℕ) (item : Item) (i : ℕ) → i ≢ e → (after w (tells e item w)).solos i ≡ w.solos i
+told_other w e item i other = ap (λ (mine : Bool). absorb_all (w.solos i) (if mine then item ∷ [] else [])) (ne_eqb i e other)
+
+-- neither a store nor a trap is a call
+pub store_calls_not : (x : Option Store) (c : Option Call) → store_act x ≡ Calls c → ⊥
+store_calls_not None c is = cc
+store_calls_not (Some x) c is = cc
+
+pub trap_calls_not : (handler : ℕ) (exc : Exc) (c : Option Call) → trap_act handler exc ≡ Calls c → ⊥
+trap_calls_not handler exc c is = by_test (handler == 0) is
+  where
+    by_test : (t : Bool) → (if t then Dies (cause.Trapped exc.code) else Raises exc) ≡ Calls c → ⊥
+    by_test true is = cc
+    by_test false is = cc
+
+-- a call leaves its caller's registers
+call_cpu : (s : Solo) (st : MachineStep) (c : Option Call) → act_of s st ≡ Calls c → cpu_after s.cpu st ≡ s.cpu
+call_cpu s (Retired cpu write) c is = absurd (store_calls_not (store_of s write) c is)
+call_cpu s Called c is = refl
+call_cpu s (Trapped exc) c is = refl
+
+call_stepped : (s : Solo) (c : Option Call) → act_of s (step_alone s) ≡ Calls c → stepped s (step_alone s) ≡ s
+call_stepped s c is =
+    ap (λ (act : Act). acted act (record s { cpu = cpu_after s.cpu (step_alone s) })) is
+    ∙ ap (λ (cpu : Cpu). record s { cpu = cpu }) (call_cpu s (step_alone s) c is)
+
+call_absorbed : (s : Solo) (c : Option Call) → act_of s (step_alone s) ≡ Calls c → absorb s Step ≡ s
+call_absorbed s c is = by_life (is_dead s.life)
+  where
+    by_life : (gone : Bool) → (if gone then s else stepped s (step_alone s)) ≡ s
+    by_life true = refl
+    by_life false = call_stepped s c is
+
+-- and so the whole world
+pub call_stands : (w : World) (e : ℕ) (c : Option Call) → act_now w e ≡ Calls c → after w (tells e Step w) ≡ w
+call_stands w e c is = λ k. record { book = w.book; count = w.count; solos = λ i. by_test i (i == e) refl k; rows = append-nil w.rows k }
+  where
+    by_test : (i : ℕ) (mine : Bool) → (i == e) ≡ mine → absorb_all (w.solos i) (if mine then Step ∷ [] else []) ≡ w.solos i
+    by_test i true own = call_absorbed (w.solos i) c (ap (λ (n : ℕ). act_now w n) (eqb-true i e own) ∙ is)
+    by_test i false other = refl
