@@ -1,0 +1,286 @@
+"""What the names of refusals mean, each in a sentence, and what is usually wrong. docs/REFUSALS.md is the same as a page."""
+
+from __future__ import annotations
+
+import difflib
+import re
+from typing import Dict, Optional
+
+from source import JUMPS, LOADS, NAME, OPERANDS, Source, Statement, read_statement, register
+
+SOURCE = {
+    "Syntax": "the line has a form that the assembler doesn't know",
+    "UnknownName": "there is no such instruction, directive or register",
+    "Redefined": "the name has a value already",
+    "Undefined": "a name in this line has no value",
+    "Unaligned": "this doesn't stand at an address that is a multiple of its size",
+    "OutOfRange": "a number doesn't fit into its place",
+    "Empty": "the source has no instruction in `.text`",
+}
+MANIFEST = {
+    "Syntax": "the line isn't of the form that is due here",
+    "Range": "a word isn't a number, or a number or a name is outside its limits",
+    "Many": "there are more than sixteen environments",
+}
+IMAGE = {
+    "Short": "the file ends too early",
+    "Magic": "the file doesn't begin with `AEG1`, so it isn't an image",
+    "Pages": "a machine has 16 to 1,024 pages",
+    "Quantum": "a slice has 16 to 65,536 ticks",
+    "Envs": "an image has 1 to 16 environments",
+    "Slots": "an image has 1 to 64 slots",
+    "SlotOwner": "a slot is owned by an environment that there isn't",
+    "Name": "a name is one to eight of `a` to `z`, `0` to `9` and `_`",
+    "Kind": "a program is flat or ELF",
+    "Stack": "a program has at most 16 pages of stack",
+    "Base": "a flat program begins at the address of a page, from 0x2000 on, and ends below 0x7FF00000; an ELF program has base 0",
+    "Empty": "a flat program has no byte",
+    "Trailing": "something follows the last program",
+    "TooMany": "a program needs more than 256 pages",
+    "TooBig": "the environments need more pages than the machine has",
+}
+ELF = {
+    "Short": "the file is too short for an ELF file",
+    "NotElf": "the file doesn't begin as an ELF file does",
+    "WrongClass": "it is an ELF file of 64 bits, and the machine has 32",
+    "WrongOrder": "its numbers stand with the highest byte first: it was made for a big-endian MIPS",
+    "WrongKind": "it isn't an executable file: an object file, say, which was compiled and not linked",
+    "WrongMachine": "it was made for another processor than MIPS",
+    "WrongArch": "it was made for a later MIPS: the compiler wants `-march=mips1`",
+    "BadHeaders": "its program headers are of another form, or missing",
+    "Dynamic": "it was linked for a dynamic linker: the linker wants `-static`",
+    "BadRange": "a segment lies outside the file, or outside the addresses from 0x2000 to 0x7FEFFFFF",
+    "Overlap": "two segments have a byte at one address",
+    "BadEntry": "its entry isn't the address of an instruction in it",
+}
+SCHEDULE = {"NotBuilt": "a schedule has to be empty: `/dev/null` is one"}
+KINDS: Dict[str, Dict[str, str]] = {"source": SOURCE, "manifest": MANIFEST, "image": IMAGE, "ELF file": ELF, "schedule": SCHEDULE}
+
+# What is written elsewhere, and what to write here. A, B are the operands as they stand.
+INSTEAD = {
+    "blt": "slt $1,{0},{1}` and `bne $1,$0,{2}", "bge": "slt $1,{0},{1}` and `beq $1,$0,{2}",
+    "bgt": "slt $1,{1},{0}` and `bne $1,$0,{2}", "ble": "slt $1,{1},{0}` and `beq $1,$0,{2}",
+    "bltu": "sltu $1,{0},{1}` and `bne $1,$0,{2}", "bgeu": "sltu $1,{0},{1}` and `beq $1,$0,{2}",
+    "bgtu": "sltu $1,{1},{0}` and `bne $1,$0,{2}", "bleu": "sltu $1,{1},{0}` and `beq $1,$0,{2}",
+    "beqz": "beq {0},$0,{1}", "bnez": "bne {0},$0,{1}", "bal": "bgezal $0,{0}",
+    "mul": "mult {1},{2}` and `mflo {0}", "mulo": "mult {1},{2}` and `mflo {0}", "rem": "div {1},{2}` and `mfhi {0}",
+    "neg": "subu {0},$0,{1}", "negu": "subu {0},$0,{1}", "not": "nor {0},{1},$0",
+    "subi": "addi` with the number's negative: `addi {0},{1},-{2}", "subiu": "addiu` with the number's negative: `addiu {0},{1},-{2}",
+    "seq": "xor {0},{1},{2}` and `sltiu {0},{0},1", "sne": "xor {0},{1},{2}` and `sltu {0},$0,{0}",
+    "sgt": "slt {0},{2},{1}", "sgtu": "sltu {0},{2},{1}", "sge": "slt {0},{1},{2}` and `xori {0},{0},1",
+    "sle": "slt {0},{2},{1}` and `xori {0},{0},1", "clear": "move {0},$0", "ret": "jr $31", "call": "jal {0}",
+    ".string": ".asciiz", ".long": ".word", ".int": ".word", ".short": ".half", ".zero": ".space", ".skip": ".space",
+    ".rodata": ".text` or `.data", ".bss": ".data` and `.space", ".set": ".equ NAME,VALUE", ".equiv": ".equ NAME,VALUE",
+}
+LEFT_OUT = frozenset(".globl .global .extern .ent .end .type .size .file .option .frame .mask .section .p2align".split())
+FORMS = {"r": "a register", "n": "a number or a name", "b": "an address such as `0($8)`", "q": "a text in quotation marks", ".": "a name"}
+
+
+def meaning(kind: str, why: str) -> str:
+    """What a refusal's name means, of a file of this kind."""
+    return KINDS[kind].get(why, "this name isn't known here")
+
+
+def advice(why: str, source: Source, line: str) -> str:
+    """What is wrong with a line of a source that is refused for `why`, as far as it can be told."""
+    said = read_statement(0, line)
+    found = {"UnknownName": unknown, "Syntax": syntax, "OutOfRange": too_large, "Undefined": undefined, "Unaligned": unaligned}.get(why)
+    if found:
+        return found(source, said) or ""
+    if why == "Redefined":
+        name = said.label or (said.operands or [""])[0]
+        first = source.labels.get(name)
+        return f"`{name}` stands in line {first.line} already." if first else f"`{name}` has a value already."
+    if why == "Empty":
+        return "Instructions stand in `.text`, where a source begins."
+    return ""
+
+
+def bad_registers(said: Statement):
+    """The registers that there aren't, as they are written."""
+    words = re.findall(r"\$\w*", " ".join(it for it in said.operands if not it.startswith('"')))
+    return [it for it in words if register(it[1:]) is None]
+
+
+def unknown(_source: Source, said: Statement) -> Optional[str]:
+    """An operation or a register that there isn't."""
+    name = said.operation
+    if name not in OPERANDS:
+        if name.lower() in OPERANDS:
+            return f"Operations are lower case: `{name.lower()}`."
+        if name in INSTEAD:
+            operands = said.operands + ["..."] * 3
+            return f"`{name}` isn't built in: write `{INSTEAD[name].format(*operands)}`."
+        if name in LEFT_OUT:
+            return f"`{name}` isn't needed here: leave the line out."
+        if re.fullmatch(r"(\w+\.[sd]|[ls]wc1|mt?fc1|mtc1|c\..*|bc1.)", name) or name in (".float", ".double"):
+            return "The machine has no floating point unit."
+        near = difflib.get_close_matches(name, OPERANDS, 1)
+        what = "directive" if name.startswith(".") else "instruction"
+        return f"There is no {what} `{name}`." + (f" Did you mean `{near[0]}`?" if near else "")
+    bad = bad_registers(said)
+    if bad:
+        if re.fullmatch(r"\$f[0-9]+", bad[0]):
+            return f"`{bad[0]}` is a register of the floating point unit, which the machine lacks."
+        if bad[0].lower() != bad[0]:
+            return f"Registers are lower case: `{bad[0].lower()}`."
+        return f"There is no register `{bad[0]}`: they are `$0` to `$31`, or `$zero`, `$at`, `$v0`, `$a0`, `$t0`, `$s0`, `$sp`, `$ra` and so on."
+    return None
+
+
+def syntax(source: Source, said: Statement) -> Optional[str]:
+    """A line of another form."""
+    return of_the_line(said) or of_the_operands(source, said)
+
+
+def of_the_line(said: Statement) -> Optional[str]:
+    """What no line may have."""
+    line = said.text.split("#")[0]
+    odd = re.search(r"[^\t\r -~]", said.text)
+    if odd:
+        return f"The line has the character {odd[0]!r}: a source is plain ASCII, in comments too."
+    if line.count('"') % 2 and not line.count('\\"') % 2:
+        return "The quoted text doesn't end in this line."
+    bare = re.sub(r'"(?:[^"\\]|\\.)*"', '""', line)
+    if ";" in bare:
+        return "`;` has no meaning here: a comment begins with `#`, and each statement has a line of its own."
+    if "//" in bare or "/*" in bare:
+        return "A comment begins with `#`."
+    if re.search(r"'(.|\\.)'", bare):
+        return f"A character is written as its number: `{ord(re.search(chr(39) + '(.)', bare)[1])}`."
+    if re.match(rf"\s*{NAME}[ \t]+:", bare):
+        return "The colon stands directly behind the label."
+    if re.match(r"\s*[0-9]\w*:", bare):
+        return "A label begins with a letter, `_` or `.`."
+    if re.match(rf"\s*{NAME}:\s*{NAME}:", bare):
+        return "A line has one label: give the second a line of its own."
+    equal = re.match(rf"\s*({NAME})\s*=\s*(\S+)", bare)
+    if equal:
+        return f"A constant is written `.equ {equal[1]}, {equal[2]}`."
+    if re.search(r"\\[^nt0\\\"]", line):
+        return 'In a quoted text only `\\n`, `\\t`, `\\0`, `\\\\` and `\\"` have a backslash.'
+    return None
+
+
+def of_the_operands(source: Source, said: Statement) -> Optional[str]:
+    """What a known operation can't have."""
+    name, operands = said.operation, said.operands
+    form = OPERANDS.get(name)
+    if form is None:
+        return None
+    if said.is_instruction and in_data(source, said):
+        return "An instruction stands in `.text`, and this is `.data`: write `.text` above it."
+    wanted = len(form.rstrip("*?"))
+    missing = next((it for it in operands if re.search(r'[\w)"]\s+[\w$"(-]', re.sub(r'"(?:[^"\\]|\\.)*"', '""', it))), None)
+    if missing:
+        return f"A comma is missing: `{name} {', '.join(re.split(r'[, ]+', ' '.join(operands)))}`."
+    if name in ("div", "divu") and len(operands) == 3:
+        return f"`{name}` has two operands: `{name} {operands[1]},{operands[2]}` and `mflo {operands[0]}` for the quotient, `mfhi` for the rest."
+    if name == "jalr" and len(operands) == 1:
+        return f"`jalr` has two operands: `jalr $31,{operands[0]}`."
+    if name in JUMPS and operands and operands[0].startswith("$") and name in ("j", "jal"):
+        return f"To jump to the address in a register write `{'jr' if name == 'j' else 'jalr $31,'}{' ' if name == 'j' else ''}{operands[0]}`."
+    if not form.endswith(("*", "?")) and len(operands) != wanted:
+        return f"`{name}` has {['no operands', 'one operand', 'two operands', 'three operands'][wanted]}{': ' + ', '.join(FORMS[it] for it in form) if wanted else ''}."
+    if not operands and form.endswith("*"):
+        return f"`{name}` has one value or more."
+    for kind, operand in zip(form.rstrip("*?") + form[-1:] * 99 if form.endswith("*") else form, operands):
+        found = of_an_operand(name, kind, operand, operands)
+        if found:
+            return found
+    return None
+
+
+def of_an_operand(name: str, kind: str, operand: str, operands) -> Optional[str]:
+    """What is wrong with one operand where another form is due."""
+    if kind == "r" and not operand.startswith("$"):
+        if register(operand) is not None and not operand.isdigit():
+            return f"A register is written with `$`: `${operand}`."
+        if name == "move":
+            return f"`move` copies a register: for a number or an address write `li {operands[0]}, {operand}`."
+        if name in OPERANDS and name + "i" in OPERANDS or name in ("addu", "sltu"):
+            with_number = {"addu": "addiu", "sltu": "sltiu"}.get(name, name + "i")
+            return f"`{name}` adds registers alone: with a number it is `{with_number}`." if name.startswith("add") else f"`{name}` has registers alone: with a number it is `{with_number}`."
+        if name in ("sub", "subu"):
+            return f"With a number it is `addi` or `addiu`, and the number's negative."
+        return f"`{operand}` should be a register, such as `$8`."
+    if kind == "n" and operand.startswith("$"):
+        if name in ("li", "la"):
+            return f"To copy a register write `move {operands[0]}, {operand}`."
+        if name in ("sll", "srl", "sra"):
+            return f"`{name}` shifts by a number: by a register it is `{name}v`."
+        if name.endswith(("i", "iu")):
+            return f"`{name}` has a number last: for a register write `{name.replace('i', '', 1) if name != 'sltiu' else 'sltu'}`."
+        return f"`{operand}` should be a number or a name."
+    if kind == "n" and "(" in operand and not re.match(r"(hi|lo)\(", operand):
+        return f"`{name}` takes no register in brackets: add it by `addu` afterwards."
+    if kind == "b" and not operand.endswith(")"):
+        if name in LOADS and re.fullmatch(rf"{NAME}([+-].*)?", operand):
+            return f"A load or store names a register in brackets: `la $1, {operand}` and `{name} {operands[0]}, 0($1)`."
+        return f"An address is an offset and a register in brackets, as in `{name} {operands[0]}, 0($8)`."
+    if kind == "q" and not operand.startswith('"'):
+        return "A text stands in quotation marks."
+    if kind in "nb" and re.search(r"0b[01]+|[0-9]_[0-9]", operand):
+        return f"`{operand}` isn't a number here: numbers are decimal, or hexadecimal with `0x`."
+    if kind in "nb" and re.match(r"-0x", operand):
+        return "A hexadecimal number has no sign: write it in decimal, or as its 32 bits."
+    if kind in "nb" and re.search(r"[*/|&<>]|[0-9]\s*[+]|\+\s*[A-Za-z_]", operand):
+        return f"`{operand}` isn't an expression here: that is a number, a name, or a name and `+` or `-` and a number."
+    return None
+
+
+def in_data(source: Source, said: Statement) -> bool:
+    """Whether the statement stands in the data, by its text."""
+    return next((not it.in_text for it in source.statements if it.text == said.text), False)
+
+
+def too_large(source: Source, said: Statement) -> Optional[str]:
+    """A number that doesn't fit."""
+    name, operands = said.operation, said.operands
+    if name in LOADS and len(operands) == 2:
+        offset = operands[1].rpartition("(")[0]
+        if offset.startswith("lo("):
+            return f"Bit 15 of the address is set, so its low half doesn't fit: `la $1, {offset[3:-1]}` and `{name} {operands[0]}, 0($1)`."
+        return f"An offset lies between -32768 and 32767: put the address into a register by `la $1, {offset}`, and write `0($1)`."
+    if name in ("addi", "addiu", "slti", "sltiu", "andi", "ori", "xori"):
+        limits = "0 and 65535" if name in ("andi", "ori", "xori") else "-32768 and 32767"
+        return f"The number of `{name}` lies between {limits}: put a larger one into a register by `li`."
+    if name in ("sll", "srl", "sra"):
+        return "A shift amount lies between 0 and 31."
+    if name in (".byte", ".half"):
+        return f"A value of `{name}` lies between {'-128 and 255' if name == '.byte' else '-32768 and 65535'}."
+    if name == ".align":
+        return "`.align N` is for a multiple of 2 to the power of N: `.align 2` for words. N is at most 12."
+    if name == "lui":
+        return "`lui` has a half word, 0 to 65535: `li` takes a whole word."
+    if name in ("j", "jal") or name.startswith("b"):
+        return "The target is too far away for a branch, or not in this program."
+    if said.label == "start":
+        return "The label `start` isn't the address of an instruction."
+    if name == ".space":
+        return "A section has at most 1,048,576 bytes."
+    return None
+
+
+def undefined(source: Source, said: Statement) -> Optional[str]:
+    """A name without a value."""
+    words = re.findall(NAME, " ".join(re.sub(r'\$\w+|"[^"]*"|0x\w+', " ", it) for it in said.operands))
+    missing = next((it for it in words if it not in source.names and it not in ("hi", "lo")), None)
+    if said.operation == ".equ":
+        return f"`.equ` uses names that have a value already: `{missing or words[-1] if words else ''}` gets none in a line above."
+    if missing is None:
+        return None
+    if register(missing) is not None:
+        return f"A register is written with `$`: `${missing}`."
+    near = difflib.get_close_matches(missing, source.names, 1)
+    return f"There is no label or constant `{missing}`." + (f" Did you mean `{near[0]}`?" if near else "")
+
+
+def unaligned(_source: Source, said: Statement) -> Optional[str]:
+    """What doesn't stand at a multiple of its size."""
+    if said.operation in (".word", ".half"):
+        power = 2 if said.operation == ".word" else 1
+        return f"Write `.align {power}` in a line above, and the label behind it."
+    if said.operation in JUMPS or said.operation.startswith("b"):
+        return "The target isn't the address of an instruction, which is a multiple of 4."
+    return "Text or bytes stand before it: write `.align 2` above, or put them into `.data`."
