@@ -1,5 +1,5 @@
-/* Kernel calls of up to three arguments. The number is in $2 and the arguments are in $4 to $6; the code comes in $2 and the
-   value in $3. docs/KERNEL.md says what each does. */
+/* Kernel calls. The number is in $2 and the arguments are in $4 to $8; the answer's code is in $2 and its value in $3.
+   docs/KERNEL.md says what each does. */
 #ifndef AEGIS_H
 #define AEGIS_H
 
@@ -7,6 +7,11 @@ enum aegis_number {
     AEGIS_YIELD = 0,
     AEGIS_PUT = 1,
     AEGIS_EXIT = 2,
+    AEGIS_ALLOC = 3,
+    AEGIS_FREE = 4,
+    AEGIS_RECAP = 5,
+    AEGIS_BIND = 6,
+    AEGIS_UNBIND = 7,
     AEGIS_CONTEXT = 8,
     AEGIS_ACCEPT = 9,
     AEGIS_TRANSFER = 10,
@@ -19,6 +24,13 @@ enum aegis_number {
 
 enum aegis_code {
     AEGIS_OK = 0,
+    AEGIS_NO_PAGE = 1,
+    AEGIS_TAKEN = 2,
+    AEGIS_NONE_FREE = 3,
+    AEGIS_NOT_OWNER = 4,
+    AEGIS_NO_RIGHT = 5,
+    AEGIS_BAD_VPN = 6,
+    AEGIS_GUARANTEED = 7,
     AEGIS_NO_ENV = 8,
     AEGIS_NOT_ACCEPTED = 9,
     AEGIS_NO_SLICE = 10,
@@ -48,7 +60,7 @@ enum aegis_question {
 /* A transfer hands on the rest of the slice, or the slot too. */
 enum aegis_kind { AEGIS_ASYNCHRONOUS, AEGIS_SYNCHRONOUS };
 
-#define AEGIS_ANY 0xffffffffu /* for whoever is next */
+#define AEGIS_ANY 0xffffffffu /* whoever is next, or the lowest free page */
 #define AEGIS_PAGE 4096u
 
 struct aegis_answer {
@@ -64,6 +76,53 @@ static inline struct aegis_answer aegis_call(enum aegis_number number, unsigned 
     register unsigned second __asm__("$5") = b;
     __asm__ volatile("syscall" : "+r"(code), "=r"(value) : "r"(first), "r"(second) : "memory");
     return (struct aegis_answer){code, value};
+}
+
+/* A call with five arguments, of which the last two pairs may be words of 64 bits, low half first. */
+static inline struct aegis_answer aegis_call5(enum aegis_number number, unsigned a, unsigned b, unsigned c, unsigned d, unsigned e)
+{
+    register unsigned code __asm__("$2") = number;
+    register unsigned value __asm__("$3");
+    register unsigned first __asm__("$4") = a;
+    register unsigned second __asm__("$5") = b;
+    register unsigned third __asm__("$6") = c;
+    register unsigned fourth __asm__("$7") = d;
+    register unsigned fifth __asm__("$8") = e;
+    __asm__ volatile("syscall" : "+r"(code), "=r"(value) : "r"(first), "r"(second), "r"(third), "r"(fourth), "r"(fifth) : "memory");
+    return (struct aegis_answer){code, value};
+}
+
+/* Allocates a page, or the lowest free one by AEGIS_ANY: the value is its number. Who presents the read word may bind it to
+   read it, and who presents the write word to store to it; 0 gives nobody a right. */
+static inline struct aegis_answer aegis_alloc(unsigned page, unsigned long long read, unsigned long long write)
+{
+    return aegis_call5(AEGIS_ALLOC, page, (unsigned)read, (unsigned)(read >> 32), (unsigned)write, (unsigned)(write >> 32));
+}
+
+/* Frees a page of one's own. */
+static inline unsigned aegis_free(unsigned page)
+{
+    return aegis_call(AEGIS_FREE, page, 0).code;
+}
+
+/* Gives a page of one's own other words; all bindings of others go. */
+static inline unsigned aegis_recap(unsigned page, unsigned long long read, unsigned long long write)
+{
+    return aegis_call5(AEGIS_RECAP, page, (unsigned)read, (unsigned)(read >> 32), (unsigned)write, (unsigned)(write >> 32)).code;
+}
+
+/* Sees a page at an address, which is a multiple of AEGIS_PAGE, to read it or to store to it too. The word is that which its
+   owner gave it; for a page of one's own it isn't read. */
+static inline unsigned aegis_bind(void *address, unsigned page, int stores, unsigned long long word)
+{
+    unsigned vpn = (unsigned)address / AEGIS_PAGE;
+    return aegis_call5(AEGIS_BIND, vpn, page, stores, (unsigned)word, (unsigned)(word >> 32)).code;
+}
+
+/* Sees no page there any more: the value is 1 if it did. */
+static inline struct aegis_answer aegis_unbind(void *address)
+{
+    return aegis_call(AEGIS_UNBIND, (unsigned)address / AEGIS_PAGE, 0);
 }
 
 /* Gives up the rest of the slice. */
