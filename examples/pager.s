@@ -34,7 +34,7 @@ handler: andi $1, $1, 0x7c      # the exception's code, times 4
         sw   $4, 0x1808($0)
         sw   $5, 0x180c($0)
         sw   $6, 0x1810($0)
-        li   $2, 6              # bind: at the page number of the bad address
+        li   $2, 6              # bind: at the VPN of the bad address
         srl  $4, $27, 12
         move $5, $16            # the page, whose owner needs no word
         li   $6, 1              # to store to it too
