@@ -2,7 +2,7 @@
 # and puts on its console what it finds.
 .equ    page, 12                # its number, which both know
 .equ    word, 0x5eed            # who presents this word may read the page
-.equ    place, 0x500            # the page number at which both see it
+.equ    place, 0x500            # the VPN at which both see it
 
 start:  li   $2, 20             # self
         syscall
