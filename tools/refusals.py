@@ -124,7 +124,8 @@ def unknown(_source: Source, said: Statement) -> Optional[str]:
             return f"`{bad[0]}` is a register of the floating point unit, which the machine lacks."
         if bad[0].lower() != bad[0]:
             return f"Registers are lower case: `{bad[0].lower()}`."
-        return f"There is no register `{bad[0]}`: they are `$0` to `$31`, or `$zero`, `$at`, `$v0`, `$a0`, `$t0`, `$s0`, `$sp`, `$ra` and so on."
+        return (f"There is no register `{bad[0]}`: they are `$0` to `$31`, or `$zero`, `$at`, `$v0`, `$a0`, `$t0`, `$s0`, `$sp`, "
+                "`$ra` and so on.")
     return None
 
 
@@ -175,13 +176,15 @@ def of_the_operands(source: Source, said: Statement) -> Optional[str]:
     if missing:
         return f"A comma is missing: `{name} {', '.join(re.split(r'[, ]+', ' '.join(operands)))}`."
     if name in ("div", "divu") and len(operands) == 3:
-        return f"`{name}` has two operands: `{name} {operands[1]},{operands[2]}` and `mflo {operands[0]}` for the quotient, `mfhi` for the rest."
+        return (f"`{name}` has two operands: `{name} {operands[1]},{operands[2]}` and `mflo {operands[0]}` for the quotient, "
+                "`mfhi` for the rest.")
     if name == "jalr" and len(operands) == 1:
         return f"`jalr` has two operands: `jalr $31,{operands[0]}`."
     if name in JUMPS and operands and operands[0].startswith("$") and name in ("j", "jal"):
-        return f"To jump to the address in a register write `{'jr' if name == 'j' else 'jalr $31,'}{' ' if name == 'j' else ''}{operands[0]}`."
+        return f"To jump to the address in a register write `{'jr ' if name == 'j' else 'jalr $31,'}{operands[0]}`."
     if not form.endswith(("*", "?")) and len(operands) != wanted:
-        return f"`{name}` has {['no operands', 'one operand', 'two operands', 'three operands'][wanted]}{': ' + ', '.join(FORMS[it] for it in form) if wanted else ''}."
+        counts = ("no operands", "one operand", "two operands", "three operands")
+        return f"`{name}` has {': '.join([counts[wanted], ', '.join(FORMS[it] for it in form)] if wanted else counts[:1])}."
     if not operands and form.endswith("*"):
         return f"`{name}` has one value or more."
     for kind, operand in zip(form.rstrip("*?") + form[-1:] * 99 if form.endswith("*") else form, operands):
@@ -200,7 +203,7 @@ def of_an_operand(name: str, kind: str, operand: str, operands) -> Optional[str]
             return f"`move` copies a register: for a number or an address write `li {operands[0]}, {operand}`."
         if name in OPERANDS and name + "i" in OPERANDS or name in ("addu", "sltu"):
             with_number = {"addu": "addiu", "sltu": "sltiu"}.get(name, name + "i")
-            return f"`{name}` adds registers alone: with a number it is `{with_number}`." if name.startswith("add") else f"`{name}` has registers alone: with a number it is `{with_number}`."
+            return f"`{name}` {'adds' if name.startswith('add') else 'has'} registers alone: with a number it is `{with_number}`."
         if name in ("sub", "subu"):
             return f"With a number it is `addi` or `addiu`, and the number's negative."
         return f"`{operand}` should be a register, such as `$8`."
