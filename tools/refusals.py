@@ -267,10 +267,12 @@ def too_large(source: Source, said: Statement) -> Optional[str]:
 
 def undefined(source: Source, said: Statement) -> Optional[str]:
     """A name without a value."""
-    words = re.findall(NAME, " ".join(re.sub(r'\$\w+|"[^"]*"|0x\w+', " ", it) for it in said.operands))
-    missing = next((it for it in words if it not in source.names and it not in ("hi", "lo")), None)
-    if said.operation == ".equ":
-        return f"`.equ` uses names that have a value already: `{missing or words[-1] if words else ''}` gets none in a line above."
+    is_equ = said.operation == ".equ"
+    words = re.findall(NAME, " ".join(re.sub(r'\$\w+|"[^"]*"|0x\w+', " ", it) for it in said.operands[is_equ:]))
+    words = [it for it in words if it not in ("hi", "lo")]
+    missing = next((it for it in words if it not in source.names), None)
+    if is_equ and words:
+        return f"`.equ` uses names that have a value already: `{missing or words[0]}` gets none in a line above."
     if missing is None:
         return None
     if register(missing) is not None:
