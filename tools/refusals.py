@@ -215,7 +215,7 @@ def of_an_operand(name: str, kind: str, operand: str, operands) -> Optional[str]
         if name.endswith(("i", "iu")):
             return f"`{name}` has a number last: for a register write `{name.replace('i', '', 1) if name != 'sltiu' else 'sltu'}`."
         return f"`{operand}` should be a number or a name."
-    if kind == "n" and "(" in operand and not re.match(r"(hi|lo)\(", operand):
+    if kind == "n" and "($" in operand:
         return f"`{name}` takes no register in brackets: add it by `addu` afterwards."
     if kind == "b" and not operand.endswith(")"):
         if name in LOADS and re.fullmatch(rf"{NAME}([+-].*)?", operand):
