@@ -1,7 +1,7 @@
 //! The board and what it shows.
 
 use bind_book::Bindings;
-use board_world::{Consoles, Roster};
+use board_world::Roster;
 use frame_store::Frames;
 use kernel_journal::Journal;
 use mips_exec::Cpu;
@@ -18,18 +18,17 @@ pub struct Board {
     pub(crate) slots: Slots,
     pub(crate) cpu: Cpu,
     pub(crate) roster: Roster,
-    pub(crate) consoles: Consoles,
     pub(crate) time: u32,
     pub(crate) journal: Journal,
 }
 
 impl Model for Board {
-    ghost use Rattle.board_world.specs.Shown.{Shown};
+    ghost use Rattle.board_world.specs.Shown.{Shown, shown};
     ghost use Rattle.board_world.specs.Sound.{IsSound};
 
     ghost Value = { Shown };
 
-    ghost view = { λ b. record { frames = b.frames; pages = b.pages; binds = b.bindings; slots = b.slots; cpu = b.cpu; roster = b.roster; consoles = b.consoles; time = b.time; ledger = b.journal } };
+    ghost view = { λ b. shown b.frames b.pages b.bindings b.slots b.cpu b.roster b.time b.journal };
 
-    ghost invariant = { λ b. IsSound (record { frames = b.frames; pages = b.pages; binds = b.bindings; slots = b.slots; cpu = b.cpu; roster = b.roster; consoles = b.consoles; time = b.time; ledger = b.journal }) };
+    ghost invariant = { λ b. IsSound (shown b.frames b.pages b.bindings b.slots b.cpu b.roster b.time b.journal) };
 }

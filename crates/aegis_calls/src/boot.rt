@@ -21,7 +21,7 @@ ghost use Rattle.board_world.specs.Doing.{with_rows};
 use crate::board::Board;
 use aegis_limits::OutOfMemory;
 use bind_book::Bindings;
-use board_world::{Consoles, Environment, Roster};
+use board_world::Roster;
 use boot_image::Program;
 use elf_static::Elf;
 use env_frames::Env;
@@ -32,7 +32,6 @@ use page_book::Pages;
 use segment_pages::{fill_page, is_writable, next_page};
 use slot_vector::Slots;
 use std::alloc::Global;
-use world_model::Life;
 
 /// The page number above the stack.
 const STACK_END: u32 = 0x7fff0;
@@ -258,16 +257,6 @@ fn bare_memory(
     Ok((frames, rows, bindings))
 }
 
-/// Room for so many environments, and for what they write.
-fn room_for(alloc: Global, envs: u8) -> Result<(Roster, Consoles), OutOfMemory>
-    requires { envs ≤ most_environments }
-    ensures { IfOk result (λ m. (m.0 ≡ record { list = []; spare = envs }) × (m.1 ≡ replicate envs [])) }
-{
-    let roster = Roster::new(alloc, envs)?;
-    let consoles = Consoles::new(alloc, envs)?;
-    Ok((roster, consoles))
-}
-
 impl Board {
     ghost use Rattle.board_world.specs.Loading.{IsBare};
 
@@ -290,7 +279,7 @@ impl Board {
         ensures bare { IfOk result (IsBare pages envs) }
     {
         let (frames, pages, bindings) = bare_memory(alloc, pages, envs)?;
-        let (roster, consoles) = room_for(alloc, envs)?;
+        let roster = Roster::new(alloc, envs)?;
         let journal = boot_journal(alloc, slots)?;
         Ok(Board {
             frames,
@@ -299,7 +288,6 @@ impl Board {
             slots: Slots::new(quantum, slots),
             cpu: Cpu::blank(),
             roster,
-            consoles,
             time: 0,
             journal,
         })
@@ -317,10 +305,6 @@ impl Board {
     {
         let number = self.roster.len() as u8;
         let env = load(&mut self.frames, &mut self.pages, number, program);
-        self.roster.push(Environment {
-            name: program.name,
-            life: Life::Live,
-            env,
-        });
+        self.roster.push(program.name, env);
     }
 }

@@ -2,7 +2,7 @@
 ghost use Rattle.std.specs.Prelude.{◌≡◌, ◌≤◌, ◌<◌, length, Some};
 ghost use Rattle.kernel_journal.specs.Ledger.{with_row};
 ghost use Rattle.world_model.specs.Book.{running};
-ghost use Rattle.world_model.specs.Verdict.{slot_row};
+ghost use Rattle.world_model.specs.SlotCalls.{slot_row};
 ghost use Rattle.slot_vector.specs.Slices.{hold_at, most_numbers, without_env};
 ghost use Rattle.board_world.specs.Doing.{ledger_released, mask_rows, with_rows};
 ghost use Rattle.board_world.specs.Sound.{HasNoPart};

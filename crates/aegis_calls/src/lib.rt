@@ -5,21 +5,20 @@
 //! files change the board's parts, each by one equation.
 #![tactic(auto)]
 
-mod bind_call;
 mod board;
 mod boot;
+mod calls;
 mod death;
 mod exception;
-mod kernel_call;
 mod machine_step;
-mod page_call;
+mod own_deeds;
+mod page_deeds;
 mod phases;
 mod readers;
-mod registers;
-mod slot_call;
+mod slot_deeds;
 mod timer;
-mod transfer_call;
 mod turn;
+mod views;
 
 pub use board::Board;
 pub use phases::{CALL_ROWS, STEP_ROWS, TURN_ROWS};

@@ -4,11 +4,9 @@ ghost use Rattle.mips_exec.specs.Step.{outcome_of};
 ghost use Rattle.world_model.specs.Book.{running};
 
 use crate::board::Board;
-use crate::registers::CODE_REGISTER;
 use guest_memory::Space;
 use guest_step::step_guest;
 use mips_exec::Outcome;
-use world_model::Call;
 
 impl Board {
     ghost use Rattle.board_world.specs.Doing.{came_to, ran, step_seen};
@@ -35,10 +33,7 @@ impl Board {
     {
         match self.run_machine(env) {
             Outcome::Retired => {}
-            Outcome::Call => {
-                let number = self.cpu.reg(CODE_REGISTER);
-                self.serve(env, Call::named(number));
-            }
+            Outcome::Call => self.take_call(env),
             Outcome::Trap(exc) => self.trap(env, &exc),
         }
     }

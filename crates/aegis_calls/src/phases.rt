@@ -6,8 +6,8 @@ ghost use Rattle.world_model.specs.World.{after};
 ghost use Rattle.world_model.specs.Tick.{turn as turn_phase, step as step_phase, timer as timer_phase, died, IsCalled, IsRefused};
 
 use crate::board::Board;
-use crate::registers::CODE_REGISTER;
-use world_model::{Call, Cause, WorldView};
+use board_world::{law_call, law_refusal, law_step};
+use world_model::{Cause, WorldView};
 
 /// Rows enough for a turn, which writes a start, and a forfeit for each quantum that the environments owe: 32 of them
 /// at most eight each.
@@ -55,6 +55,7 @@ impl Board {
         ensures room { self.old.ledger.spare ≤ self.new.ledger.spare + STEP_ROWS }
     {
         let _ = &self.time;
+        law_step();
         if let Some(env) = self.runner() {
             self.run_step(env);
         }
@@ -86,9 +87,10 @@ impl Board {
         ensures room { self.old.ledger.spare ≤ self.new.ledger.spare + CALL_ROWS }
     {
         let _ = &self.time;
+        law_call();
+        law_refusal();
         if let Some(env) = self.runner() {
-            let number = self.cpu.reg(CODE_REGISTER);
-            self.serve(env, Call::named(number));
+            self.take_call(env);
         }
     }
 

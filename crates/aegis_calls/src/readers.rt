@@ -82,7 +82,7 @@ impl WorldView for Board {
     }
 
     fn console(&self, env: u8) -> &[u8] {
-        self.consoles.at(env).bytes()
+        self.roster.console(env).bytes()
     }
 
     fn kept_count(&self, env: u8) -> usize {

@@ -12,6 +12,7 @@ ghost use Rattle.world_model.specs.Tick.{tick_step};
 use aegis_calls::Board;
 use aegis_limits::OutOfMemory;
 use kernel_journal::RunEnd;
+use run_model::law_accounts;
 use world_model::WorldView;
 
 /// The most rows of the ledger that a tick may write.
@@ -55,6 +56,7 @@ fn run_ticks(board: &mut Board, ticks: u32) -> Result<(), OutOfMemory>
     ensures balance { IsAccounted (world_of board.old) → IsAccounted (world_of board.new) }
     ensures sure { TICK_ROWS * ticks ≤ board.old.ledger.spare → IsOk result }
 {
+    law_accounts();
     for done in 0..ticks {
         if board.idle() {
             return Ok(());

@@ -1,57 +1,45 @@
--- What is known of a page where a call on it isn't refused.
-use Rattle.std.proofs.Common.{◌≡◌, ◌≢◌, ℕ, ◌<◌, List, length, Bool, Option, Some, None, Ok, Err, refl, sym, ◌∙◌, subst}
-use Rattle.std.specs.Prelude.{slice_get, slice_set}
-use Rattle.std.specs.Option.{option_map, option_or}
-use Rattle.std.proofs.lemmas.Option.{get_or_from_slice_get, slice_get_within}
+-- What is known of a page that may be allocated or changed, and of a slot that may be dropped.
+use Rattle.std.proofs.Common.{◌≡◌, ◌≢◌, ◌<◌, ℕ, List, length, Bool, true, false, Option, Some, None, sym, ◌∙◌, ap}
+use Rattle.std.specs.Prelude.{◌==◌, if◌then◌else◌, nat_lt, slice_get}
+use Rattle.std.proofs.lemmas.Bool.{eq-eqb, lt-ltb}
 use Rattle.page_book.specs.declared.row.PageRow.{PageRow}
 use Rattle.page_book.specs.declared.row.PageRow.TheVariants.{Free, Guaranteed, Owned}
-use Rattle.page_book.specs.declared.refusal.PageNo.{PageNo}
-use Rattle.page_book.specs.Row.{bind_refusal, change_refusal, unless}
-use Rattle.page_book.specs.Rows.{changed_unless, row_in}
-use Rattle.board_world.specs.Sound.{IsOwned}
+use Rattle.page_book.specs.declared.refusal.PageNo.TheVariants as no
+use Rattle.page_book.specs.Row.{alloc_refusal, change_refusal, is_owned_by}
+use Rattle.page_book.specs.Rows.{row_in}
+use Rattle.slot_vector.specs.Slices.{Slices, hold_at, refusal_of_drop}
+use Rattle.world_model.specs.declared.code.Code.TheVariants as code
+use Rattle.world_model.specs.declared.slot.Hold.{Hold}
+use Rattle.world_model.specs.SlotCalls.{drop_refusal}
+use Rattle.board_world.proofs.Slots.{slot_got}
+use Rattle.board_world.proofs.Tables.{row_got}
 
 -- neither a free page nor one that is owned is guaranteed
 pub free_to_all : (row : PageRow) → row ≡ Free → (i : ℕ) → row ≢ Guaranteed i
 free_to_all row free i guaranteed = let both : Free ≡ Guaranteed i = sym free ∙ guaranteed in cc
 
--- a page that an environment may change is its own
-pub record IsTheirs (pages : List PageRow) (e page : ℕ) : Type 0 where
-  pub within : page < length pages
-  pub nobody : (i : ℕ) → row_in pages page ≢ Guaranteed i
+pub owned_by_none : (e : ℕ) (row : PageRow) → is_owned_by e row ≡ true → (i : ℕ) → row ≢ Guaranteed i
+owned_by_none e row owned i guaranteed = let never : false ≡ true = sym (ap (is_owned_by e) guaranteed) ∙ owned in cc
 
-pub their_page : (pages : List PageRow) (e page : ℕ) → change_refusal e (slice_get pages page) ≡ None → IsTheirs pages e page
-their_page pages e page allowed = by_row (slice_get pages page) refl allowed
+-- the row of a page that is there
+row_of_there : (pages : List PageRow) (page : ℕ) → page < length pages → slice_get pages page ≡ Some (row_in pages page)
+row_of_there pages page there = row_got pages page ∙ ap (λ (t : Bool). if t then Some (row_in pages page) else None) (lt-ltb page (length pages) there)
+
+-- a free page may be allocated
+pub allocable : (pages : List PageRow) (page : ℕ) → page < length pages → row_in pages page ≡ Free → alloc_refusal (slice_get pages page) ≡ None
+allocable pages page there free = ap alloc_refusal (row_of_there pages page there) ∙ ap (λ (row : PageRow). alloc_refusal (Some row)) free
+
+-- a page that one owns may be changed by it
+pub changeable : (e : ℕ) (pages : List PageRow) (page : ℕ) → page < length pages → is_owned_by e (row_in pages page) ≡ true → change_refusal e (slice_get pages page) ≡ None
+changeable e pages page there owned = ap (change_refusal e) (row_of_there pages page there) ∙ by_row (row_in pages page) owned
   where
-    by_row : (o : Option PageRow) → slice_get pages page ≡ o → change_refusal e o ≡ None → IsTheirs pages e page
-    by_row None found allowed = cc
-    by_row (Some Free) found allowed = cc
-    by_row (Some (Guaranteed owner)) found allowed = cc
-    by_row (Some (Owned owner words)) found allowed = record {
-      within = slice_get_within pages page (Owned owner words) found;
-      nobody = λ i guaranteed. let both : Owned owner words ≡ Guaranteed i = sym (get_or_from_slice_get pages page (Owned owner words) Free found) ∙ guaranteed in cc;
-    }
+    by_row : (row : PageRow) → is_owned_by e row ≡ true → change_refusal e (Some row) ≡ None
+    by_row Free owned = cc
+    by_row (Guaranteed owner) owned = cc
+    by_row (Owned owner words) owned = ap (λ (t : Bool). if t then None else Some no.NotOwner) owned
 
--- the book after a call that isn't refused, and after one that is
-pub done : (why : Option PageNo) (pages new : List PageRow) (page : ℕ) (row : PageRow) (u : Unit {0}) → Ok u ≡ unless why → new ≡ changed_unless why pages page row → (why ≡ None) × (new ≡ slice_set pages page row)
-done None pages new page row u ok after = (refl, after)
-done (Some why) pages new page row u ok after = cc
-
-pub not_done : (why : Option PageNo) (pages new : List PageRow) (page : ℕ) (row : PageRow) (told : PageNo) → Err told ≡ unless why → new ≡ changed_unless why pages page row → new ≡ pages
-not_done None pages new page row told err after = cc
-not_done (Some why) pages new page row told err after = after
-
--- a page that may be bound is owned
-pub bindable : (pages : List PageRow) (e page : ℕ) (writable : Bool) (word : ℕ) → bind_refusal e writable word (slice_get pages page) ≡ None → IsOwned (row_in pages page)
-bindable pages e page writable word allowed = by_row (slice_get pages page) refl allowed
-  where
-    by_row : (o : Option PageRow) → slice_get pages page ≡ o → bind_refusal e writable word o ≡ None → IsOwned (row_in pages page)
-    by_row None found allowed = cc
-    by_row (Some Free) found allowed = cc
-    by_row (Some (Guaranteed owner)) found allowed = cc
-    by_row (Some (Owned owner words)) found allowed = subst IsOwned (sym (get_or_from_slice_get pages page (Owned owner words) Free found)) tt
-
--- where there is no cause of two kinds there is none of the second
-pub no_second : {A B : Type 0} (f : A → B) (x : Option B) (y : Option A) → option_or x (option_map f y) ≡ None → y ≡ None
-no_second f None None none = refl
-no_second f None (Some y) none = cc
-no_second f (Some x) y none = cc
+-- a slot that one holds may be dropped by it
+pub droppable : (v : Slices) (e k : ℕ) (hold : Hold) → k < length v.slots → hold_at v.slots k ≡ Some hold → hold.holder ≡ e → refusal_of_drop e v k ≡ None
+droppable v e k hold there stands holder =
+    ap (drop_refusal e) (slot_got v.slots k ∙ ap (λ (t : Bool). if t then Some (hold_at v.slots k) else None) (lt-ltb k (length v.slots) there) ∙ ap Some stands)
+    ∙ ap (λ (t : Bool). if t then None else Some code.NotHolder) (eq-eqb hold.holder e holder)

@@ -4,6 +4,8 @@ use Rattle.std.specs.Prelude.{◌==◌, slice_get, All}
 use Rattle.std.specs.Option.{option_map}
 use Rattle.std.proofs.lemmas.List.{length-append, length-map, length-replicate}
 use Rattle.std.proofs.lemmas.Bool.{ne_eqb, eqb-true, eqb-false}
+use Rattle.kernel_journal.specs.Ledger.{Ledger}
+use Rattle.mips_exec.specs.declared.registers.Cpu.{Cpu}
 use Rattle.frame_store.specs.Pages.{page_at, zero_page, zeroed}
 use Rattle.page_book.specs.declared.row.PageRow.{PageRow}
 use Rattle.page_book.specs.declared.row.PageRow.TheVariants.{Free, Guaranteed, Owned}
@@ -28,9 +30,9 @@ use Rattle.page_sight.specs.Sight.{seen_if}
 use Rattle.page_sight.proofs.Sights.{nothing_of}
 use Rattle.page_sight.proofs.Stripes.{bound_nowhere}
 use Rattle.board_world.specs.declared.roster.Environment.{Environment}
-use Rattle.board_world.specs.Shown.{Shown, Environments, mappings_of, mappings_in, console_of}
+use Rattle.board_world.specs.Shown.{Shown, Environments, mappings_of, shown}
 use Rattle.board_world.specs.Showing.{book_of, world_of, solo_of, solo_or_absent, cpu_seen, pages_seen, page_seen}
-use Rattle.board_world.specs.Sound.{AreBooked, AreGuaranteed, IsSound, IsManned, AreConsoles, IsParted, IsLive, IsUndead}
+use Rattle.board_world.specs.Sound.{AreBooked, AreGuaranteed, IsSound, IsManned, IsParted, IsLive, IsUndead}
 use Rattle.board_world.specs.Loading.{AreGiven, AreLeft}
 use Rattle.board_world.proofs.Giving.{none_guaranteed}
 use Rattle.board_world.proofs.Keeping.{IsGivenRow, given_row, taken_row}
@@ -63,14 +65,6 @@ built_manned quantum envs owners long few all = record {
   numbered = length-replicate {A = ℕ} vector.most_numbers 0;
   owes = λ e. omega (arith, nothing_owed vector.most_numbers e);
 }
-
-empty_consoles : (envs e : ℕ) → console_of (replicate envs []) e ≡ []
-empty_consoles zero e = refl
-empty_consoles (suc envs) zero = refl
-empty_consoles (suc envs) (suc e) = empty_consoles envs e
-
-pub built_consoles : (envs : ℕ) → envs ≤ most_environments → AreConsoles (replicate envs []) (record { list = []; spare = envs })
-built_consoles envs few = record { most = omega arith; count = omega (arith, length-replicate {A = List ℕ} envs []); unwritten = λ e past. empty_consoles envs e }
 
 pub built_parted : (pages : ℕ) → pages ≤ most_pages → IsParted (zeroed pages) (replicate pages Free) []
 built_parted pages few =
@@ -162,12 +156,16 @@ module _ (r : Environments) (x : Environment) (lives : x.life ≡ Live) (room : 
     owes = manned.owes;
   }
 
-  pub added_consoles : (consoles : List (List ℕ)) → AreConsoles consoles r → AreConsoles consoles (record { list = r.list ++ x ∷ []; spare = r.spare - 1 })
-  added_consoles consoles are = record {
-    most = omega (arith, are.most, one_longer, room);
-    count = omega (arith, are.count, one_longer, room);
-    unwritten = λ e past. are.unwritten e (omega (arith, past, one_longer));
-  }
+-- A board without programs is sound.
+pub built_sound : (pages quantum envs : ℕ) (owners : List (Option ℕ)) (cpu : Cpu) (ledger : Ledger) → pages ≤ most_pages → least_quantum ≤ quantum → length owners ≤ most_slots → envs ≤ most_environments
+    → All (λ owner. IfSome owner (λ e. e < envs)) owners
+    → IsSound (shown (zeroed pages) (replicate pages Free) (replicate (envs * stripe_rows) None) (vector.first_slices quantum owners) cpu (record { list = []; spare = envs }) 0 ledger)
+built_sound pages quantum envs owners cpu ledger few long slots most all = record {
+  few = omega arith;
+  book = built_manned quantum envs owners long slots all;
+  memory = built_parted pages few;
+  books = built_booked pages envs;
+}
 
 -- Pages are given to the environment that is added.
 module _ (r : Environments) (x : Environment) (count : ℕ) (pages given : List PageRow) (frames new : List (List ℕ)) (binds : List (Option Binding)) (gives : AreGiven (length r.list) count pages given frames new) where
@@ -233,8 +231,17 @@ left_pages pages frames new e (m ∷ ms) left its =
 abbrev pub with_one : Shown → Environment → List (List ℕ) → List PageRow → Shown
 with_one b x frames pages = record b { frames = frames; pages = pages; roster = record { list = b.roster.list ++ x ∷ []; spare = b.roster.spare - 1 } }
 
+pub added_sound : (b : Shown) (x : Environment) (count : ℕ) (frames : List (List ℕ)) (pages : List PageRow) → IsSound b → AreGiven (length b.roster.list) count b.pages pages b.frames frames → AreGuaranteed pages (length b.roster.list) x.env.mappings → x.life ≡ Live → 0 < b.roster.spare
+    → IsSound (with_one b x frames pages)
+added_sound b x count frames pages sound gives its lives room = record {
+  few = omega (arith, sound.few, room, length-append b.roster.list (x ∷ []));
+  book = added_manned b.roster x lives room b.slots sound.book;
+  memory = added_parted b.roster x count b.pages pages b.frames frames b.binds gives sound.memory its;
+  books = added_booked b.roster x count b.pages pages b.frames frames b.binds gives sound.books lives room;
+}
+
 module _ (b : Shown) (x : Environment) (frames : List (List ℕ)) (pages : List PageRow) (p : ProgramValue) (sound : IsSound b) (gives : AreGiven (length b.roster.list) (guaranteed_mappings p) b.pages pages b.frames frames)
-    (name : x.name ≡ p.name) (lives : x.life ≡ Live) (cpu : x.env.cpu ≡ boot_cpu p.body.entry) (handlers : x.env.handlers ≡ no_handlers) (mask : x.env.mask ≡ p.accept) (kept : pages_seen frames x.env.mappings ≡ kept_of p)
+    (name : x.name ≡ p.name) (lives : x.life ≡ Live) (cpu : x.env.cpu ≡ boot_cpu p.body.entry) (handlers : x.env.handlers ≡ no_handlers) (mask : x.env.mask ≡ p.accept) (console : x.console ≡ []) (kept : pages_seen frames x.env.mappings ≡ kept_of p)
     (maps : x.env.mappings ≡ mappings_over (length b.roster.list) (length b.pages) (row_in b.pages) (kept_of p)) where
   its_items : List Item
   its_items = record_items (length b.roster.list) (Some p)
@@ -319,7 +326,7 @@ module _ (b : Shown) (x : Environment) (frames : List (List ℕ)) (pages : List 
         kept = kept k;
         binds = λ row. unbound row k;
         seen = λ page. unseen page k;
-        console = sound.consoles.unwritten n (omega arith) k;
+        console = console k;
       })
       ∙ ap (absorb_all (absent n)) (sym (only_here n (record_items n (Some p))))
       ∙ ap (λ s. absorb_all s (only n (record_items n (Some p)) n)) (sym (ap (solo_or_absent b n) (past_get b.roster.list)))
@@ -332,7 +339,6 @@ module _ (b : Shown) (x : Environment) (frames : List (List ℕ)) (pages : List 
         pages = left_pages b.pages b.frames frames i (mappings_of b.roster.list i) gives.left (sound.memory.mapped i).its;
         binds = refl;
         sights = λ k page. seen_alike i page k;
-        console = refl;
       })
       ∙ ap (absorb_all (solo_of b i)) (sym (only_else (length b.roster.list) i (record_items (length b.roster.list) (Some p)) ne))
 

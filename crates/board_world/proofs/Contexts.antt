@@ -14,7 +14,7 @@ use Rattle.env_frames.specs.Frame.{left_in, mapping_at, page_of}
 use Rattle.guest_memory.specs.Look.{written_through}
 use Rattle.page_sight.specs.Sight.{seen_in}
 use Rattle.world_model.specs.declared.life.Life.TheVariants.{Live}
-use Rattle.world_model.specs.Holding.{start, start_by, with_context}
+use Rattle.world_model.specs.Upcalls.{start, start_by, with_context}
 use Rattle.world_model.specs.Solo.{Solo, Store, Kept, kept_after}
 use Rattle.board_world.specs.declared.roster.Environment.{Environment}
 use Rattle.board_world.specs.Shown.{Shown, handlers_in, handlers_of, mappings_in, mappings_of, registers_in}

@@ -22,10 +22,9 @@ use Rattle.world_model.specs.declared.slot.Hold.{Hold}
 use Rattle.world_model.specs.declared.life.Cause.{Cause}
 use Rattle.world_model.specs.Book.{released, has_part}
 use Rattle.world_model.specs.Item.{absorb_all}
-use Rattle.world_model.specs.PageCalls.{death_items, lost_with}
 use Rattle.world_model.specs.Solo.{dead}
-use Rattle.world_model.specs.Step.{Dies}
-use Rattle.world_model.specs.Verdict.{death, slot_row, released_row, released_rows}
+use Rattle.world_model.specs.Death.{death, death_items, lost_with, released_row, released_rows}
+use Rattle.world_model.specs.SlotCalls.{slot_row}
 use Rattle.world_model.specs.Table.{set_at}
 use Rattle.board_world.specs.declared.roster.Environment.{Environment}
 use Rattle.board_world.specs.Shown.{Shown}
@@ -88,7 +87,7 @@ pub record MayDie (b : Shown) (e : ℕ) : Type 0 where
 
 -- each environment of the board has an excess
 pub numbered_within : (b : Shown) (e : ℕ) (x : Environment) → slice_get b.roster.list e ≡ Some x → IsSound b → e < length b.slots.excess
-numbered_within b e x at sound = omega (arith, get_within b.roster.list e x at, sound.consoles.most, sound.book.numbered)
+numbered_within b e x at sound = omega (arith, get_within b.roster.list e x at, sound.few, sound.book.numbered)
 
 pub may_die : (b : Shown) (e : ℕ) (x : Environment) → slice_get b.roster.list e ≡ Some x → IsSound b → MayDie b e
 may_die b e x at sound = record { numbered = numbered_within b e x at sound; count = sound.book.count; books = sound.books }
@@ -121,7 +120,6 @@ module _ (b : Shown) (e : ℕ) (x : Environment) (r : Runs b e x) (may : MayDie 
     idles = rw r.runs.its refl;
     idled = r.runs.others i ne;
     pages = refl;
-    console = refl;
     sees = λ s lives seen.
         sees_by i (λ page. released_page e (row_in b.pages page)) (row_in after_death.pages) (λ row. without (goes_with (row_in b.pages) e i) (stripe_of b i row)) (stripe_of after_death i) (page_at b.frames) (page_at b.frames)
         (absorb_all s (lost_with (book_of b) e i (length b.pages))) (row_released e b.pages) (swept_stripe i) (λ page. refl)
@@ -134,7 +132,7 @@ module _ (b : Shown) (e : ℕ) (x : Environment) (r : Runs b e x) (may : MayDie 
     nothing = λ none. no_losses (book_of b) e i (length b.pages) none.binds;
   }) may.books
 
-  pub dies : Serves b e (Dies cause) (death (world_of b) e) after_death
+  pub dies : Serves b e (dead cause (solo_of b e)) (death (world_of b) e) after_death
   dies = record {
     book =
         let ended : (without_env e b.slots).runner ≡ None = rw r.runs.its refl in
@@ -165,5 +163,5 @@ module _ (b : Shown) (e : ℕ) (x : Environment) (r : Runs b e x) (may : MayDie 
     time = refl;
   }
 
-pub died_serves : (b : Shown) (e : ℕ) (x : Environment) → Runs b e x → IsSound b → (cause : Cause) → Serves b e (Dies cause) (death (world_of b) e) (doing.died b e cause)
+pub died_serves : (b : Shown) (e : ℕ) (x : Environment) → Runs b e x → IsSound b → (cause : Cause) → Serves b e (dead cause (solo_of b e)) (death (world_of b) e) (doing.died b e cause)
 died_serves b e x r sound cause = dies b e x r (may_die b e x r.at sound) cause

@@ -18,6 +18,7 @@ pub mod Pages
 pub mod Parted
 pub mod Parts
 pub mod Phases
+pub mod Reading
 pub mod Replying
 pub mod Seen
 pub mod Serving
@@ -25,6 +26,7 @@ pub mod SlotServing
 pub mod Slots
 pub mod Slotted
 pub mod Sound
+pub mod Staying
 pub mod Stepping
 pub mod Stores
 pub mod Tables

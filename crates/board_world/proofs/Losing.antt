@@ -18,10 +18,11 @@ use Rattle.world_model.specs.declared.life.Life.TheVariants.{Live, Dead}
 use Rattle.world_model.specs.Book.{Book, is_runner}
 use Rattle.world_model.specs.Item.{Item, absorb, absorb_all}
 use Rattle.world_model.specs.Holding.{lost}
-use Rattle.world_model.specs.PageCalls.{lost_if, lost_with}
+use Rattle.world_model.specs.Death.{lost_with}
+use Rattle.world_model.specs.PageCalls.{lost_if}
 use Rattle.world_model.specs.Solo.{Solo, is_dead}
 use Rattle.board_world.specs.declared.roster.Environment.{Environment}
-use Rattle.board_world.specs.Shown.{Shown, mappings_in, mappings_of, console_of}
+use Rattle.board_world.specs.Shown.{Shown, mappings_in, mappings_of}
 use Rattle.board_world.specs.Showing.{solo_of, solo_or_absent, solo_seen, cpu_seen, pages_seen}
 use Rattle.board_world.specs.Sound.{AreBooked, IsAlive, IsLive}
 use Rattle.board_world.proofs.Seen.{same_solo, stripe_of}
@@ -128,7 +129,6 @@ pub record Drops (i : ℕ) (old new : Shown) (its : List Item) : Type 0 where
   pub idles : is_runner i new.slots.runner ≡ false
   pub idled : is_runner i old.slots.runner ≡ false
   pub pages : pages_seen new.frames (mappings_of old.roster.list i) ≡ pages_seen old.frames (mappings_of old.roster.list i)
-  pub console : console_of new.consoles i ≡ console_of old.consoles i
   pub sees : (s : Solo) → s.life ≡ Live → Sees i (row_in old.pages) (stripe_of old i) (page_at old.frames) s → Sees i (row_in new.pages) (stripe_of new i) (page_at new.frames) (absorb_all s its)
   pub keeps : (s : Solo) → absorb_all s its ≡ resighted s (absorb_all s its)
   pub none : HasNone i (row_in old.pages) (stripe_of old i) → HasNone i (row_in new.pages) (stripe_of new i)
@@ -150,7 +150,7 @@ module _ (i : ℕ) (old new : Shown) (its : List Item) (drops : Drops i old new 
       let pages : pages_seen new.frames x.env.mappings ≡ pages_seen old.frames x.env.mappings =
       ap (λ y. pages_seen new.frames (mappings_in y)) (sym at) ∙ drops.pages ∙ ap (λ y. pages_seen old.frames (mappings_in y)) at in
       idle_seen new x (drops.record_is ∙ at) lives drops.idles
-      ∙ (λ k. record s { kept = pages k; console = drops.console k; binds = λ row. sym (sees.binds row) k; seen = λ page. sym (sees.seen page) k })
+      ∙ (λ k. record s { kept = pages k; binds = λ row. sym (sees.binds row) k; seen = λ page. sym (sees.seen page) k })
       ∙ sym (drops.keeps s)
       ∙ ap (λ t. absorb_all t its) (sym (idle_seen old x at lives drops.idled))
 
@@ -164,7 +164,6 @@ module _ (i : ℕ) (old new : Shown) (its : List Item) (drops : Drops i old new 
         pages = drops.pages;
         binds = λ k row. (still.binds row ∙ sym (none.binds row)) k;
         sights = λ k page. (nothing_seen i (row_in new.pages) (stripe_of new i) (page_at new.frames) still page ∙ sym (nothing_seen i (row_in old.pages) (stripe_of old i) (page_at old.frames) none page)) k;
-        console = drops.console;
       })
       ∙ ap (absorb_all (solo_of old i)) (sym (drops.nothing none))
 

@@ -8,7 +8,8 @@ use Rattle.kernel_journal.specs.declared.row.Row.{Row}
 use Rattle.slot_vector.specs.Slices.{bit, hold_at, mask_of}
 use Rattle.world_model.specs.declared.slot.Hold.{Hold}
 use Rattle.world_model.specs.Book.{released, has_part}
-use Rattle.world_model.specs.Verdict.{slot_row, released_rows}
+use Rattle.world_model.specs.Death.{released_rows}
+use Rattle.world_model.specs.SlotCalls.{slot_row}
 use Rattle.board_world.specs.Doing.{mask_rows, shifted, with_rows}
 use Rattle.board_world.proofs.Parts.{append_nothing}
 use Rattle.board_world.proofs.Sound.{hold_at-released}

@@ -1,5 +1,5 @@
 -- Physical memory stays parted: what is mapped is guaranteed.
-use Rattle.std.proofs.Common.{◌≡◌, ◌≢◌, ℕ, zero, suc, ◌<◌, List, [], ◌∷◌, length, map, Option, Some, None, IfSome, inl, inr, refl, sym, ◌∙◌, ap, subst, arith, length-set, get_or-set_other}
+use Rattle.std.proofs.Common.{◌≡◌, ◌≢◌, ℕ, ◌<◌, List, length, map, Option, Some, None, IfSome, inl, inr, refl, sym, ◌∙◌, ap, subst, arith, length-set, get_or-set_other}
 use Rattle.std.specs.Prelude.{slice_set}
 use Rattle.std.specs.Option.{option_map}
 use Rattle.std.proofs.lemmas.Bool.{cases_eq, ne_eqb}

@@ -1,7 +1,6 @@
 -- Worlds are equal by their parts, and environments one by one.
 use Rattle.std.proofs.Common.{◌≡◌, ◌≢◌, ℕ, List, [], ◌∷◌, ◌++◌, refl, sym, ◌∙◌, ap}
 use Rattle.world_model.specs.Solo.{Solo}
-use Rattle.world_model.specs.Step.{Act, acted}
 use Rattle.world_model.specs.Item.{Item, absorb_all}
 use Rattle.world_model.specs.Table.{set_at}
 use Rattle.world_model.specs.World.{World, only}
@@ -27,9 +26,13 @@ one_absorbed old new e its here others =
     (here ∙ ap (absorb_all (old e)) (sym (only_here e its)))
     (λ i ne. others i ne ∙ ap (absorb_all (old i)) (sym (only_else e i its ne)))
 
--- where one did something itself first
-pub one_acted : (old new : ℕ → Solo) (e : ℕ) (act : Act) (its : List Item) → new e ≡ absorb_all (acted act (old e)) its → ((i : ℕ) → i ≢ e → new i ≡ old i) → (i : ℕ) → new i ≡ absorb_all (set_at e (acted act (old e)) old i) (only e its i)
-one_acted old new e act its here others =
-    one_absorbed (set_at e (acted act (old e)) old) new e its
-    (here ∙ ap (λ s. absorb_all s its) (sym (set_here e (acted act (old e)) old)))
-    (λ i ne. others i ne ∙ sym (set_else e i (acted act (old e)) old ne))
+-- where one is another, and nobody else
+pub one_changed : (old new : ℕ → Solo) (e : ℕ) (first : Solo) → new e ≡ first → ((i : ℕ) → i ≢ e → new i ≡ old i) → (i : ℕ) → new i ≡ set_at e first old i
+one_changed old new e first here others = by_env new (set_at e first old) e (here ∙ sym (set_here e first old)) (λ i ne. others i ne ∙ sym (set_else e i first old ne))
+
+-- where one is another, and is given something itself
+pub one_given : (old new : ℕ → Solo) (e : ℕ) (first : Solo) (its : List Item) → new e ≡ absorb_all first its → ((i : ℕ) → i ≢ e → new i ≡ old i) → (i : ℕ) → new i ≡ absorb_all (set_at e first old i) (only e its i)
+one_given old new e first its here others =
+    one_absorbed (set_at e first old) new e its
+    (here ∙ ap (λ s. absorb_all s its) (sym (set_here e first old)))
+    (λ i ne. others i ne ∙ sym (set_else e i first old ne))

@@ -1,5 +1,5 @@
 -- Phases in turn are phases one after another, and what an environment does after it was told something.
-use Rattle.std.proofs.Common.{◌≡◌, ℕ, List, [], ◌∷◌, ◌++◌, Option, refl, sym, ◌∙◌, ap, append_assoc}
+use Rattle.std.proofs.Common.{◌≡◌, ℕ, List, [], ◌∷◌, Option, refl, sym, ◌∙◌, ap, append_assoc}
 use Rattle.std.proofs.lemmas.List.Sums.{fold-append}
 use Rattle.world_model.specs.declared.call.Call.{Call}
 use Rattle.world_model.specs.Item.{Item, absorb, absorb_all}

@@ -1,43 +1,45 @@
--- What an act of the runner leaves, where it brings a reply.
-use Rattle.std.proofs.Common.{◌≡◌, ◌≢◌, ◌≤◌, ℕ, ◌+◌, List, [], ◌∷◌, ◌++◌, length, Option, refl, sym, ◌∙◌, ap, arith}
-use Rattle.world_model.specs.declared.call.Call.{Call}
+-- What an act or a call of the runner leaves, where it brings a reply.
+use Rattle.std.proofs.Common.{◌≡◌, ◌≢◌, ◌≤◌, ℕ, ◌+◌, List, [], ◌∷◌, ◌++◌, length, refl, sym, ◌∙◌, ap, arith}
+use Rattle.std.proofs.lemmas.List.Sums.{fold-append}
 use Rattle.world_model.specs.declared.code.Code.{Code}
-use Rattle.world_model.specs.declared.code.Code.TheVariants as code
-use Rattle.world_model.specs.Call.{called}
-use Rattle.world_model.specs.Item.{Item, Granted, Refused, absorb, absorb_all, answered_cpu, own_part}
+use Rattle.world_model.specs.declared.deed.Deed.{Deed}
+use Rattle.world_model.specs.declared.deed.Deed.TheVariants.{Answers}
+use Rattle.world_model.specs.declared.verdict.Verdict.{Verdict}
+use Rattle.world_model.specs.declared.verdict.Verdict.TheVariants.{Refuse, Grant}
+use Rattle.world_model.specs.Item.{Item, Answer, absorb, absorb_all, answered_cpu, deed_at, own_part}
 use Rattle.world_model.specs.Solo.{Solo}
-use Rattle.world_model.specs.Step.{Act, Calls, acted}
-use Rattle.world_model.specs.Verdict.{grant, refusal}
-use Rattle.world_model.specs.World.{Reply, after, in_turn, tells}
+use Rattle.world_model.specs.Step.{Act, acted}
 use Rattle.world_model.specs.Table.{set_at}
 use Rattle.world_model.specs.Tick as tick
+use Rattle.world_model.specs.Verdict.{done, reply_of}
+use Rattle.world_model.specs.World.{Reply, after, in_turn, no_change, only, tells}
 use Rattle.board_world.specs.declared.roster.Environment.{Environment}
 use Rattle.board_world.specs.Shown.{Shown}
 use Rattle.board_world.specs.Showing.{world_of, book_of, solo_of}
 use Rattle.board_world.specs.Doing as doing
-use Rattle.board_world.proofs.Parts.{append_nothing, worlds, by_env, set_here, set_else, one_acted}
+use Rattle.board_world.proofs.Parts.{append_nothing, worlds, by_env, set_here, set_else, one_changed, one_given}
 use Rattle.board_world.proofs.Phases.{acted_brings, acted_world, told_first}
 use Rattle.board_world.proofs.Seen.{same_solo, Runs, runner_solo, runner_seen}
 
--- Each environment has absorbed what it is given, and few rows are written.
-pub record Serves (b : Shown) (e : ℕ) (act : Act) (reply : Reply) (new : Shown) : Type 0 where
+-- One environment has come to be another, each has absorbed then what it is given, and few rows are written.
+pub record Serves (b : Shown) (e : ℕ) (first : Solo) (reply : Reply) (new : Shown) : Type 0 where
   pub book : book_of new ≡ reply.book
   pub count : length new.roster.list ≡ length b.roster.list
-  pub solos : (i : ℕ) → solo_of new i ≡ absorb_all (set_at e (acted act (solo_of b e)) (solo_of b) i) (reply.items i)
+  pub solos : (i : ℕ) → solo_of new i ≡ absorb_all (set_at e first (solo_of b) i) (reply.items i)
   pub rows : new.ledger.rows ≡ b.ledger.rows ++ reply.rows
   pub room : b.ledger.spare ≤ new.ledger.spare + 128
   pub spare : new.roster.spare ≡ b.roster.spare
   pub time : new.time ≡ b.time
 
 -- apart from a tick it is the world once the act is served
-pub alone : (b : Shown) (e : ℕ) (act : Act) (new : Shown) → Serves b e act (tick.brings e act (world_of b)) new → world_of new ≡ tick.act_world (world_of b) e act
+pub alone : (b : Shown) (e : ℕ) (act : Act) (new : Shown) → Serves b e (acted act (solo_of b e)) (tick.brings e act (world_of b)) new → world_of new ≡ tick.act_world (world_of b) e act
 alone b e act new serves =
     let w = world_of b in
     worlds (world_of new) (after (acted_world w e act) (tick.brings e act w)) serves.book serves.count serves.solos serves.rows
     ∙ ap (after (acted_world w e act)) (sym (acted_brings w e act))
 
 -- and where what the runner is told makes it do the act it is the world after both
-pub told : (b : Shown) (e : ℕ) (item : Item) (act : Act) (new : Shown) → Serves b e act (tick.brings e act (world_of b)) new → absorb (solo_of b e) item ≡ acted act (solo_of b e) →
+pub told : (b : Shown) (e : ℕ) (item : Item) (act : Act) (new : Shown) → Serves b e (acted act (solo_of b e)) (tick.brings e act (world_of b)) new → absorb (solo_of b e) item ≡ acted act (solo_of b e) →
     world_of new ≡ after (world_of b) (in_turn (tells e item ∷ tick.brings e act ∷ []) (world_of b))
 told b e item act new serves acts = alone b e act new serves ∙ sym (told_first (world_of b) e item act acts)
 
@@ -48,44 +50,70 @@ all_given old new e first its theirs here others =
     (here ∙ (λ k. absorb_all (sym (set_here e first old) k) (sym (set_here e its theirs) k)))
     (λ i ne. others i ne ∙ (λ k. absorb_all (sym (set_else e i first old ne) k) (sym (set_else e i its theirs ne) k)))
 
+-- an environment whose call is granted with a value, once it has done its own part
+abbrev pub deeded : Deed → ℕ → Solo → Solo
+deeded d v s = record (own_part d s) { cpu = answered_cpu (Grant v) s.cpu }
+
 module _ (b : Shown) (e : ℕ) (x : Environment) (r : Runs b e x) where
-  -- A call that its reply answers alone: the machine's registers change, and what is given is the answer.
-  pub answered_others : (c : Code) (v i : ℕ) → i ≢ e → solo_of (doing.answered b c v) i ≡ solo_of b i
-  answered_others c v i ne = same_solo i (doing.answered b c v) b (record { record_is = refl; idles = r.runs.others i ne; idled = r.runs.others i ne; pages = refl; binds = refl; sights = refl; console = refl })
+  pub answered_others : (verdict : Verdict) (i : ℕ) → i ≢ e → solo_of (doing.answered b verdict) i ≡ solo_of b i
+  answered_others verdict i ne = same_solo i (doing.answered b verdict) b (record { record_is = refl; idles = r.runs.others i ne; idled = r.runs.others i ne; pages = refl; binds = refl; sights = refl })
 
-  pub answered_seen : (c : Code) (v : ℕ) → solo_of (doing.answered b c v) e ≡ record (runner_solo b e x) { cpu = answered_cpu c v b.cpu }
-  answered_seen c v = runner_seen (doing.answered b c v) e x (record { at = r.at; lives = r.lives; runs = r.runs })
+  pub answered_seen : (verdict : Verdict) → solo_of (doing.answered b verdict) e ≡ record (runner_solo b e x) { cpu = answered_cpu verdict b.cpu }
+  answered_seen verdict = runner_seen (doing.answered b verdict) e x (record { at = r.at; lives = r.lives; runs = r.runs })
 
-  -- the caller of a granted call, which is given more after the answer
-  pub granted_first : (c : Option Call) (v : ℕ) (more : List Item) → called b.cpu ≡ c → absorb_all (record (own_part c v (runner_solo b e x)) { cpu = answered_cpu code.Ok v b.cpu }) more ≡ absorb_all (solo_of b e) (Granted v ∷ more)
-  granted_first c v more named =
-      ap (λ d. absorb_all (record (own_part d v (runner_solo b e x)) { cpu = answered_cpu code.Ok v b.cpu }) more) (sym named)
-      ∙ ap (λ s. absorb_all s (Granted v ∷ more)) (sym (runner_seen b e x r))
+  -- what the runner does is what is done of it as it is shown
+  pub deeded_seen : (d : Deed) (v : ℕ) → deeded d v (runner_solo b e x) ≡ deeded d v (solo_of b e)
+  deeded_seen d v = ap (deeded d v) (sym (runner_seen b e x r))
 
-  -- a refused call
-  pub refuses : (c : Option Call) (why : Code) (v : ℕ) → Serves b e (Calls c) (refusal (world_of b) e why v) (doing.answered b why v)
-  refuses c why v = record {
+  -- a call is refused
+  pub refuses : (why : Code) (v : ℕ) → Serves b e (solo_of b e) (reply_of (world_of b) e (Refuse why v)) (doing.answered b (Refuse why v))
+  refuses why v = record {
     book = refl;
     count = refl;
-    solos = one_acted (solo_of b) (solo_of (doing.answered b why v)) e (Calls c) (Refused why v ∷ []) (answered_seen why v ∙ ap (λ s. absorb_all s (Refused why v ∷ [])) (sym (runner_seen b e x r))) (answered_others why v);
+    solos = one_given (solo_of b) (solo_of (doing.answered b (Refuse why v))) e (solo_of b e) (Answer (Refuse why v) ∷ [])
+        (answered_seen (Refuse why v) ∙ ap (λ s. absorb_all s (Answer (Refuse why v) ∷ [])) (sym (runner_seen b e x r)))
+        (answered_others (Refuse why v));
     rows = sym (append_nothing b.ledger.rows);
     room = omega arith;
     spare = refl;
     time = refl;
   }
 
-  -- what a granted call that changes registers alone leaves of its caller, where it has no part of its own
-  pub grants : (c : Option Call) (v : ℕ) → called b.cpu ≡ c → own_part c v (runner_solo b e x) ≡ runner_solo b e x → Serves b e (Calls c) (grant (world_of b) e v) (doing.answered b code.Ok v)
-  grants c v named own = record {
+  -- a call is answered, and that is all
+  pub answers : (v : ℕ) → Serves b e (deeded Answers v (solo_of b e)) (no_change (world_of b)) (doing.answered b (Grant v))
+  answers v = record {
     book = refl;
     count = refl;
-    solos = one_acted (solo_of b) (solo_of (doing.answered b code.Ok v)) e (Calls c) (Granted v ∷ [])
-        (answered_seen code.Ok v
-        ∙ ap (λ (s : Solo). record s { cpu = answered_cpu code.Ok v b.cpu }) (sym own)
-        ∙ granted_first c v [] named)
-        (answered_others code.Ok v);
+    solos = one_changed (solo_of b) (solo_of (doing.answered b (Grant v))) e (deeded Answers v (solo_of b e)) (answered_seen (Grant v) ∙ deeded_seen Answers v) (answered_others (Grant v));
     rows = sym (append_nothing b.ledger.rows);
     room = omega arith;
     spare = refl;
     time = refl;
   }
+
+  -- a call is granted: what it does comes behind the answer
+  pub granted_serves : (v : ℕ) (new : Shown) → Serves b e (deeded (deed_at (solo_of b e) v) v (solo_of b e)) (done (world_of b) e (deed_at (solo_of b e) v)) new → Serves b e (solo_of b e) (reply_of (world_of b) e (Grant v)) new
+  granted_serves v new serves = record {
+    book = serves.book;
+    count = serves.count;
+    solos = λ i. serves.solos i ∙ ap (λ s. absorb_all s (items i)) (answers_first i) ∙ sym (fold-append absorb (set_at e (solo_of b e) (solo_of b) i) (only e (answer ∷ []) i) (items i));
+    rows = serves.rows;
+    room = serves.room;
+    spare = serves.spare;
+    time = serves.time;
+  }
+    where
+      answer : Item
+      answer = Answer (Grant v)
+
+      items : ℕ → List Item
+      items = (done (world_of b) e (deed_at (solo_of b e) v)).items
+
+      answers_it : deeded (deed_at (solo_of b e) v) v (solo_of b e) ≡ absorb (solo_of b e) answer
+      answers_it = ap (λ s. deeded (deed_at s v) v s) (runner_seen b e x r) ∙ ap (λ s. absorb s answer) (sym (runner_seen b e x r))
+
+      answers_first : (i : ℕ) → set_at e (deeded (deed_at (solo_of b e) v) v (solo_of b e)) (solo_of b) i ≡ absorb_all (set_at e (solo_of b e) (solo_of b) i) (only e (answer ∷ []) i)
+      answers_first =
+          one_given (solo_of b) (set_at e (deeded (deed_at (solo_of b e) v) v (solo_of b e)) (solo_of b)) e (solo_of b e) (answer ∷ [])
+          (set_here e (deeded (deed_at (solo_of b e) v) v (solo_of b e)) (solo_of b) ∙ answers_it)
+          (λ i ne. set_else e i (deeded (deed_at (solo_of b e) v) v (solo_of b e)) (solo_of b) ne)

@@ -1,6 +1,6 @@
 -- What a board shows of its environments.
 use Rattle.std.proofs.Common.{◌≡◌, ◌≢◌, ℕ, zero, suc, ◌<◌, List, [], ◌∷◌, length, Bool, true, false, Option, Some, None, IfSome, refl, sym, ◌∙◌, ap, subst, arith}
-use Rattle.std.specs.Prelude.{◌==◌, if◌then◌else◌, slice_get, unwrap_or}
+use Rattle.std.specs.Prelude.{◌==◌, if◌then◌else◌, slice_get}
 use Rattle.std.specs.Option.{option_map}
 use Rattle.std.proofs.lemmas.Bool.{ne_eqb, eq-eqb}
 use Rattle.mips_exec.specs.declared.registers.Cpu.{Cpu}
@@ -23,11 +23,10 @@ use Rattle.world_model.specs.Book.{is_runner, running}
 use Rattle.world_model.specs.Solo.{Solo, Seen as Sight, sight}
 use Rattle.world_model.specs.Step.{step_alone}
 use Rattle.board_world.specs.declared.roster.Environment.{Environment}
-use Rattle.board_world.specs.Shown.{Shown, mappings_in, mappings_of, console_of, changed}
+use Rattle.board_world.specs.Shown.{Shown, mappings_in, mappings_of}
 use Rattle.board_world.specs.Showing.{solo_of, solo_or_absent, solo_seen, cpu_seen, page_seen, pages_seen}
 use Rattle.board_world.specs.Sound.{IsSound, IsParted, IsAlive, IsLive, IsOwned}
 use Rattle.board_world.specs.Doing.{step_seen, look_of}
-use Rattle.board_world.proofs.Lists.{changed_else}
 use Rattle.board_world.proofs.Looks.{seen_look}
 
 -- the bindings of an environment, and what it sees of the pages that it owns or has bound
@@ -37,14 +36,13 @@ stripe_of b e = stripes b.binds e
 abbrev pub sights_of : Shown → ℕ → ℕ → Option Sight
 sights_of b e = seen_in e (row_in b.pages) (stripes b.binds e) (page_at b.frames)
 
--- an environment whose record, registers, pages, bindings and console are as they were
+-- an environment whose record, registers, pages and bindings are as they were
 pub record IsLike (i : ℕ) (new old : Shown) : Type 0 where
   pub record_is : slice_get new.roster.list i ≡ slice_get old.roster.list i
   pub cpu : (kept : Cpu) → cpu_seen new i kept ≡ cpu_seen old i kept
   pub pages : pages_seen new.frames (mappings_of old.roster.list i) ≡ pages_seen old.frames (mappings_of old.roster.list i)
   pub binds : stripe_of new i ≡ stripe_of old i
   pub sights : sights_of new i ≡ sights_of old i
-  pub console : console_of new.consoles i ≡ console_of old.consoles i
 
 pub like_solo : (i : ℕ) (new old : Shown) → IsLike i new old → solo_of new i ≡ solo_of old i
 like_solo i new old like = ap (solo_or_absent new i) like.record_is ∙ by_record (slice_get old.roster.list i) refl
@@ -54,9 +52,9 @@ like_solo i new old like = ap (solo_or_absent new i) like.record_is ∙ by_recor
     by_record (Some x) is =
         let pages : pages_seen new.frames x.env.mappings ≡ pages_seen old.frames x.env.mappings =
         ap (λ y. pages_seen new.frames (mappings_in y)) (sym is) ∙ like.pages ∙ ap (λ y. pages_seen old.frames (mappings_in y)) is in
-        λ k. record (solo_seen old i x) { cpu = like.cpu x.env.cpu k; kept = pages k; binds = like.binds k; seen = like.sights k; console = like.console k }
+        λ k. record (solo_seen old i x) { cpu = like.cpu x.env.cpu k; kept = pages k; binds = like.binds k; seen = like.sights k }
 
--- an environment that neither runs before nor after, and whose pages, bindings and console are as they were
+-- an environment that neither runs before nor after, and whose record, pages and bindings are as they were
 pub record IsSame (i : ℕ) (new old : Shown) : Type 0 where
   pub record_is : slice_get new.roster.list i ≡ slice_get old.roster.list i
   pub idles : is_runner i new.slots.runner ≡ false
@@ -64,10 +62,9 @@ pub record IsSame (i : ℕ) (new old : Shown) : Type 0 where
   pub pages : pages_seen new.frames (mappings_of old.roster.list i) ≡ pages_seen old.frames (mappings_of old.roster.list i)
   pub binds : stripe_of new i ≡ stripe_of old i
   pub sights : sights_of new i ≡ sights_of old i
-  pub console : console_of new.consoles i ≡ console_of old.consoles i
 
 pub same_solo : (i : ℕ) (new old : Shown) → IsSame i new old → solo_of new i ≡ solo_of old i
-same_solo i new old same = like_solo i new old (record { record_is = same.record_is; cpu = λ kept. rw (same.idles, same.idled) refl; pages = same.pages; binds = same.binds; sights = same.sights; console = same.console })
+same_solo i new old same = like_solo i new old (record { record_is = same.record_is; cpu = λ kept. rw (same.idles, same.idled) refl; pages = same.pages; binds = same.binds; sights = same.sights })
 
 -- a runner with a number
 pub record IsNamed (e : ℕ) (runner : Option Runner) : Type 0 where
@@ -173,15 +170,6 @@ module _ (b : Shown) (e : ℕ) (x : Environment) (r : Runs b e x) where
   -- the machine's step is what the environment does alone
   pub its_step : IsSound b → step_seen b e ≡ step_alone (runner_solo b e x)
   its_step sound = ap (λ (l : ℕ → Option Mapped). step_of b.cpu (view_of (answers_by l) b.cpu)) (λ k v. its_look sound v k)
-
--- a console that is appended to, and the others
-pub console_changed : (f : List ℕ → List ℕ) (consoles : List (List ℕ)) (e : ℕ) → e < length consoles → console_of (changed f consoles e) e ≡ f (console_of consoles e)
-console_changed f [] e within = absurd (omega arith)
-console_changed f (c ∷ consoles) zero within = refl
-console_changed f (c ∷ consoles) (suc e) within = console_changed f consoles e (omega arith)
-
-pub console_elsewhere : (f : List ℕ → List ℕ) (consoles : List (List ℕ)) (e i : ℕ) → i ≢ e → console_of (changed f consoles e) i ≡ console_of consoles i
-console_elsewhere f consoles e i ne = ap (λ c. unwrap_or c []) (changed_else f consoles e i ne)
 
 -- the pages that an environment of the board sees
 pub kept_seen : (b : Shown) (e : ℕ) → (solo_of b e).kept ≡ pages_seen b.frames (mappings_of b.roster.list e)

@@ -1,7 +1,7 @@
--- The slots and the consoles of a board go on being sound.
-use Rattle.std.proofs.Common.{◌≡◌, ◌≢◌, ℕ, zero, suc, ◌+◌, ◌-◌, ◌%◌, ◌<◌, ◌≤◌, List, [], ◌∷◌, length, map, Bool, true, false, Option, Some, None, IfSome, refl, sym, ◌∙◌, ap, subst, arith}
+-- The slots of a board go on being sound.
+use Rattle.std.proofs.Common.{◌≡◌, ◌≢◌, ℕ, zero, suc, ◌+◌, ◌-◌, ◌%◌, ◌<◌, ◌≤◌, List, [], ◌∷◌, length, map, Bool, true, false, Option, Some, None, IfSome, refl, ◌∙◌, ap, subst, arith}
 use Rattle.std.specs.Option.{option_map}
-use Rattle.std.specs.Prelude.{◌==◌, ◌*◌, ◌-◌, ◌||◌, if◌then◌else◌, nat_lt, All, slice_get, slice_index_or, slice_set, sum_by}
+use Rattle.std.specs.Prelude.{◌==◌, ◌-◌, ◌||◌, if◌then◌else◌, nat_lt, All, slice_get, slice_index_or, slice_set}
 use Rattle.std.proofs.Common.{length-set}
 use Rattle.std.proofs.lemmas.Bool.{eq-eqb, eqb-false, ltb-false}
 use Rattle.std.proofs.lemmas.List.{length-map}
@@ -26,8 +26,8 @@ use Rattle.world_model.specs.declared.life.Life.TheVariants.{Live}
 use Rattle.world_model.specs.declared.life.Cause.{Cause}
 use Rattle.board_world.specs.declared.roster.Environment.{Environment}
 use Rattle.board_world.specs.Shown.{Environments, changed, with_list}
-use Rattle.board_world.specs.Sound.{HasNoPart, IsAlive, IsLive, IsUndead, IsManned, AreConsoles}
-use Rattle.board_world.specs.Doing.{accepting, settled, with_registers, handling, dead_frame}
+use Rattle.board_world.specs.Sound.{HasNoPart, IsAlive, IsLive, IsUndead, IsManned}
+use Rattle.board_world.specs.Doing.{accepting, putting, settled, with_registers, handling, dead_frame}
 use Rattle.board_world.proofs.Lists.{changed_else, length-changed}
 use Rattle.board_world.proofs.Seen.{runner_live}
 
@@ -137,6 +137,9 @@ keeps_handling context address = record { life = λ x. refl; mappings = λ x. re
 
 pub keeps_accepting : (mask : ℕ) → Keeps (accepting mask)
 keeps_accepting mask = record { life = λ x. refl; mappings = λ x. refl }
+
+pub keeps_putting : (bytes : List ℕ) → Keeps (putting bytes)
+keeps_putting bytes = record { life = λ x. refl; mappings = λ x. refl }
 
 pub if_both : {A : Type 0} {P Q : A → Type 0} (x : Option A) → ((a : A) → x ≡ Some a → P a → Q a) → IfSome x P → IfSome x Q
 if_both None f holds = holds
@@ -419,14 +422,3 @@ drop_manned v r e k manned = hold_manned v r k (dropped e (hold_at v.slots k)) m
     by_hold : (o : Option Hold) → IfSome o (λ h. IsUndead r h.owner × IsUndead r h.holder) → IfSome (dropped e o) (λ h. IsUndead r h.owner × IsUndead r h.holder)
     by_hold None undead = tt
     by_hold (Some h) undead = by_owner h (h.owner == e) undead.0
-
--- the consoles
-pub same_consoles : (consoles : List (List ℕ)) (r : Environments) (list : List Environment) → AreConsoles consoles r → length list ≡ length r.list → AreConsoles consoles (with_list r list)
-same_consoles consoles r list are same = record { most = omega (arith, same, are.most); count = are.count ∙ ap (λ n. n + r.spare) (sym same); unwritten = λ e past. are.unwritten e (omega (arith, same)) }
-
-pub put_consoles : (f : List ℕ → List ℕ) (consoles : List (List ℕ)) (r : Environments) (e : ℕ) → e < length r.list → AreConsoles consoles r → AreConsoles (changed f consoles e) r
-put_consoles f consoles r e within are = record {
-  most = are.most;
-  count = length-changed f consoles e ∙ are.count;
-  unwritten = λ i past. rw (changed_else f consoles e i (λ same. omega (arith, same, within, past))) (are.unwritten i past);
-}

@@ -4,6 +4,7 @@ use Rattle.std.specs.Prelude.{◌==◌, ◌||◌, if◌then◌else◌, slice_get
 use Rattle.std.specs.Option.{option_map, option_or}
 use Rattle.std.proofs.lemmas.Bool.{ne_eqb, eq-eqb, eqb-true}
 use Rattle.aegis_limits.specs.Limits.{page_size}
+use Rattle.mips_exec.specs.Cpu.{reg}
 use Rattle.mips_exec.specs.declared.registers.Cpu.{Cpu}
 use Rattle.mips_exec.specs.declared.exception.Exc.{Exc}
 use Rattle.mips_exec.specs.declared.exception.Outcome.TheVariants as outcome
@@ -27,12 +28,20 @@ use Rattle.world_model.specs.declared.life.Cause.TheVariants as cause
 use Rattle.world_model.specs.declared.slot.Runner.{Runner}
 use Rattle.world_model.specs.Table.{set_at}
 use Rattle.world_model.specs.Book.{running, sees}
-use Rattle.world_model.specs.Call.{called}
-use Rattle.world_model.specs.Holding.{raise}
+use Rattle.world_model.specs.declared.call.Call.{Call}
+use Rattle.world_model.specs.declared.deed.Deed.{Deed}
+use Rattle.world_model.specs.declared.deed.Deed.TheVariants.{Answers, Stops, Gives, Puts, Allocates, Frees, Recaps, Binds, Unbinds, Handles, Accepts, Transfers, TakesSlot, DropsSlot}
+use Rattle.world_model.specs.declared.verdict.Verdict.{Verdict}
+use Rattle.world_model.specs.declared.verdict.Verdict.TheVariants.{Refuse, Grant}
+use Rattle.world_model.specs.Call.{called, exit_number}
+use Rattle.world_model.specs.Deed.{deed_of}
+use Rattle.world_model.specs.Upcalls.{raise}
+use Rattle.world_model.specs.Verdict.{verdict}
+use Rattle.call_verdicts.specs.Granted.{GrantedMay}
 use Rattle.world_model.specs.Item.{Item, Step as AStep, absorb, absorb_all}
 use Rattle.world_model.specs.PageCalls.{left_at, left_if}
 use Rattle.world_model.specs.Solo.{Solo, Store, Key, Kept, Physical, bound_place, kept_after, place_at, store_of, store_through, stored}
-use Rattle.world_model.specs.Step.{Act, Raises, act_of, acted, call_act, step_alone, stepped, store_act, trap_act}
+use Rattle.world_model.specs.Step.{Act, act_of, acted, call_act, step_alone, stepped, store_act, trap_act}
 use Rattle.world_model.specs.World.{World, after, in_turn, no_change, only, run_phases, tells}
 use Rattle.world_model.specs.Tick as tick
 use Rattle.page_sight.specs.Sight.{Sees, seen_in}
@@ -42,15 +51,16 @@ use Rattle.board_world.specs.declared.roster.Environment.{Environment}
 use Rattle.board_world.specs.Shown.{Shown, handlers_in, handlers_of, mappings_in, mappings_of}
 use Rattle.board_world.specs.Showing.{world_of, book_of, solo_of, solo_or_absent, solo_seen, cpu_seen, page_seen, pages_seen}
 use Rattle.board_world.specs.Sound.{IsSound, IsLive, IsOwned}
-use Rattle.board_world.specs.Doing.{step_seen, lookup_of, ran, raised, trapped, served, came_to}
+use Rattle.board_world.specs.Doing.{step_seen, lookup_of, ran, raised, trapped, called_by, called_when, granted, served_by, came_to}
 use Rattle.board_world.proofs.Contexts.{left_by, left_others, left_own, left_sights, left_store}
 use Rattle.board_world.proofs.Looks.{leads_by}
 use Rattle.board_world.proofs.Pages.{its_store}
 use Rattle.board_world.proofs.Parts.{append_nothing, worlds, by_env, set_here, set_else, only_here, only_else}
 use Rattle.board_world.proofs.Phases.{each_in_turn}
 use Rattle.board_world.proofs.Seen.{same_solo, stripe_of, sights_of, Runs, runner_solo, runner_seen, runner_runs, its_mappings, its_step, live_record, found_in_row, bound_there}
-use Rattle.board_world.proofs.Serving.{Serves, told, call_serves, died_serves, called_serves}
+use Rattle.board_world.proofs.Serving.{Serves, told, call_serves, death_serves, died_serves}
 use Rattle.board_world.proofs.Sound.{neither}
+use Rattle.board_world.proofs.TransferServing.{entered_room}
 use Rattle.board_world.proofs.Stores.{own_kept, other_kept, guaranteed_sights, sights_stay, put_table, kept_as_was, bound_kept}
 
 -- the mapping that a page number has, by the parts of what an environment sees
@@ -81,7 +91,7 @@ seer_live b i page sound is = by_cause (either (is_owned_by i (row_in b.pages pa
     by_cause (inr binds) = let there = bound_row page (stripe_of b i) binds in by_row there.0 (stripe_of b i there.0) refl there.1
 
 -- a step that is a call changed nothing yet
-pub came_called : (b : Shown) (e : ℕ) (st : Step) → outcome_of st ≡ outcome.Call → served (ran b e st) e (called (ran b e st).cpu) ≡ came_to b e st
+pub came_called : (b : Shown) (e : ℕ) (st : Step) → outcome_of st ≡ outcome.Call → called_by (ran b e st) e ≡ came_to b e st
 came_called b e (Retired cpu write) is = cc
 came_called b e Called is = refl
 came_called b e (Trapped exc) is = cc
@@ -118,7 +128,7 @@ module _ (b : Shown) (e : ℕ) (x : Environment) (r : Runs b e x) (sound : IsSou
   -- an environment that goes on as it is
   as_was : (i : ℕ) (frames : List (List ℕ)) → i ≢ e → pages_seen frames (mappings_of b.roster.list i) ≡ pages_seen b.frames (mappings_of b.roster.list i)
       → ((p : ℕ) → seen_in i (row_in b.pages) (stripe_of b i) (page_at frames) p ≡ sights_of b i p) → solo_of (struck b cpu frames) i ≡ solo_of b i
-  as_was i frames ne pages sights = same_solo i (struck b cpu frames) b (record { record_is = refl; idles = r.runs.others i ne; idled = r.runs.others i ne; pages = pages; binds = refl; sights = λ k p. sights p k; console = refl })
+  as_was i frames ne pages sights = same_solo i (struck b cpu frames) b (record { record_is = refl; idles = r.runs.others i ne; idled = r.runs.others i ne; pages = pages; binds = refl; sights = λ k p. sights p k })
 
   -- through a guaranteed mapping
   kept_strikes : (m : Mapping) → mapping_at (mappings_of b.roster.list e) (w.address / page_size) ≡ Some m → Strikes b e x cpu (written_through b.frames w (Some m)) (Some (its_store w))
@@ -217,7 +227,7 @@ module _ (b : Shown) (e : ℕ) (x : Environment) (r : Runs b e x) (sound : IsSou
 
 -- whatever the step writes
 wrote_strikes : (b : Shown) (e : ℕ) (x : Environment) → Runs b e x → IsSound b → (cpu : Cpu) (w : Option Write) → Strikes b e x cpu (frames_after b.frames (lookup_of b e) w) (store_of (runner_solo b e x) w)
-wrote_strikes b e x r sound cpu None = record { own_pages = refl; own_sights = refl; others = λ i ne. same_solo i (struck b cpu b.frames) b (record { record_is = refl; idles = r.runs.others i ne; idled = r.runs.others i ne; pages = refl; binds = refl; sights = refl; console = refl }) }
+wrote_strikes b e x r sound cpu None = record { own_pages = refl; own_sights = refl; others = λ i ne. same_solo i (struck b cpu b.frames) b (record { record_is = refl; idles = r.runs.others i ne; idled = r.runs.others i ne; pages = refl; binds = refl; sights = refl }) }
 wrote_strikes b e x r sound cpu (Some w) = strikes b e x r sound cpu w
 
 module _ (b : Shown) (e : ℕ) (x : Environment) (r : Runs b e x) (sound : IsSound b) where
@@ -272,7 +282,7 @@ module _ (b : Shown) (e : ℕ) (x : Environment) (r : Runs b e x) (sound : IsSou
           ∙ sym (each_in_turn (world_of b) (tells e AStep ∷ tick.brings e (store_act (Some y)) ∷ []))
 
   -- The runner's exception goes to its handler: the words stand in its context page, and nobody else's page changes.
-  raised_serves : (exc : Exc) → Serves b e (Raises exc) (no_change (world_of b)) (raised b e (handlers_of b.roster.list e).exception exc)
+  raised_serves : (exc : Exc) → Serves b e (raise exc (solo_of b e)) (no_change (world_of b)) (raised b e (handlers_of b.roster.list e).exception exc)
   raised_serves exc =
       let w : Write = record { address = page_size; bytes = exception_bytes exc b.cpu } in
       let now = raised b e (handlers_of b.roster.list e).exception exc in
@@ -294,7 +304,6 @@ module _ (b : Shown) (e : ℕ) (x : Environment) (r : Runs b e x) (sound : IsSou
               pages = left_others b sound e w refl i ne;
               binds = refl;
               sights = λ k p. left_sights b sound e w refl i p k;
-              console = refl;
             })
             ∙ sym (set_else e i (raise exc (solo_of b e)) (solo_of b) ne));
         rows = sym (append_nothing b.ledger.rows);
@@ -303,38 +312,38 @@ module _ (b : Shown) (e : ℕ) (x : Environment) (r : Runs b e x) (sound : IsSou
         time = refl;
       }
 
-  trapped_serves : (exc : Exc) → Serves b e (trap_act x.env.handlers.exception exc) (tick.brings e (trap_act x.env.handlers.exception exc) (world_of b)) (trapped b e exc)
+  trapped_serves : (exc : Exc) → Serves b e (acted (trap_act x.env.handlers.exception exc) (solo_of b e)) (tick.brings e (trap_act x.env.handlers.exception exc) (world_of b)) (trapped b e exc)
   trapped_serves exc =
       let handler : (handlers_of b.roster.list e).exception ≡ x.env.handlers.exception = ap (λ o. (handlers_in o).exception) r.at in
-      subst (λ h. Serves b e (trap_act h exc) (tick.brings e (trap_act h exc) (world_of b)) (trapped b e exc)) handler
+      subst (λ h. Serves b e (acted (trap_act h exc) (solo_of b e)) (tick.brings e (trap_act h exc) (world_of b)) (trapped b e exc)) handler
       (by_test ((handlers_of b.roster.list e).exception == 0) refl)
     where
-      by_test : (none : Bool) → ((handlers_of b.roster.list e).exception == 0) ≡ none → Serves b e (trap_act (handlers_of b.roster.list e).exception exc) (tick.brings e (trap_act (handlers_of b.roster.list e).exception exc) (world_of b)) (trapped b e exc)
+      by_test : (none : Bool) → ((handlers_of b.roster.list e).exception == 0) ≡ none → Serves b e (acted (trap_act (handlers_of b.roster.list e).exception exc) (solo_of b e)) (tick.brings e (trap_act (handlers_of b.roster.list e).exception exc) (world_of b)) (trapped b e exc)
       by_test true none = rw none (died_serves b e x r sound (cause.Trapped exc.code))
       by_test false some = rw some (raised_serves exc)
 
   -- whatever the step comes to
-  came : (st : Step) → step_alone (runner_solo b e x) ≡ st → world_of (came_to b e st) ≡ stepping (act_of (runner_solo b e x) st)
-  came (Retired cpu w) at = retired cpu w at
-  came Called at =
-      let act = call_act b.cpu (called b.cpu) in
-      told b e AStep act (served b e (called b.cpu)) (call_serves b e x r sound (called b.cpu) refl) (acts Called at refl)
-  came (Trapped exc) at =
+  came : GrantedMay → (st : Step) → step_alone (runner_solo b e x) ≡ st → world_of (came_to b e st) ≡ stepping (act_of (runner_solo b e x) st)
+  came law (Retired cpu w) at = retired cpu w at
+  came law Called at =
+      let act = call_act b.cpu in
+      told b e AStep act (called_by b e) (call_serves b e x r sound law (reg b.cpu 2 == exit_number)) (acts Called at refl)
+  came law (Trapped exc) at =
       let act = trap_act x.env.handlers.exception exc in
       told b e AStep act (trapped b e exc) (trapped_serves exc) (acts (Trapped exc) at refl)
 
-  stepped_alone : (o : Option Runner) → running o ≡ Some e → world_of (came_to b e (step_seen b e)) ≡ after (world_of b) (tick.step_when (world_of b) o)
-  stepped_alone None is = cc
-  stepped_alone (Some runner) is =
+  stepped_alone : GrantedMay → (o : Option Runner) → running o ≡ Some e → world_of (came_to b e (step_seen b e)) ≡ after (world_of b) (tick.step_when (world_of b) o)
+  stepped_alone law None is = cc
+  stepped_alone law (Some runner) is =
       let same : e ≡ runner.env = cc in
-      came (step_seen b e) (sym (its_step b e x r sound))
+      came law (step_seen b e) (sym (its_step b e x r sound))
       ∙ ap (λ st. stepping (act_of (runner_solo b e x) st)) (its_step b e x r sound)
       ∙ ap (λ (s : Solo). stepping (act_of s (step_alone s))) (sym (runner_seen b e x r))
       ∙ ap (λ n. after (world_of b) (in_turn (tells n AStep ∷ tick.brings n (tick.act_now (world_of b) n) ∷ []) (world_of b))) same
 
 -- The same of any board.
-pub stepped_world : (b : Shown) (e : ℕ) → IsSound b → running b.slots.runner ≡ Some e → world_of (came_to b e (step_seen b e)) ≡ after (world_of b) (tick.step (world_of b))
-stepped_world b e sound runs = let x = runner_runs b e sound runs in stepped_alone b e x.0 x.1 sound b.slots.runner runs
+pub stepped_world : GrantedMay → (b : Shown) (e : ℕ) → IsSound b → running b.slots.runner ≡ Some e → world_of (came_to b e (step_seen b e)) ≡ after (world_of b) (tick.step (world_of b))
+stepped_world law b e sound runs = let x = runner_runs b e sound runs in stepped_alone b e x.0 x.1 sound law b.slots.runner runs
 
 -- how many rows a step writes, and that all environments stay
 pub record Leaves (b new : Shown) : Type 0 where
@@ -342,9 +351,33 @@ pub record Leaves (b new : Shown) : Type 0 where
   pub spare : new.roster.spare ≡ b.roster.spare
   pub time : new.time ≡ b.time
 
+deed_leaves : (b : Shown) (e v : ℕ) (d : Deed) → Leaves b (granted b e v d)
+deed_leaves b e v Answers = record { room = omega arith; spare = refl; time = refl }
+deed_leaves b e v Stops = record { room = omega arith; spare = refl; time = refl }
+deed_leaves b e v (Gives target) = record { room = omega arith; spare = refl; time = refl }
+deed_leaves b e v (Puts address size) = record { room = omega arith; spare = refl; time = refl }
+deed_leaves b e v (Allocates page words) = record { room = omega arith; spare = refl; time = refl }
+deed_leaves b e v (Frees page) = record { room = omega arith; spare = refl; time = refl }
+deed_leaves b e v (Recaps page words) = record { room = omega arith; spare = refl; time = refl }
+deed_leaves b e v (Binds binding word) = record { room = omega arith; spare = refl; time = refl }
+deed_leaves b e v (Unbinds vpn) = record { room = omega arith; spare = refl; time = refl }
+deed_leaves b e v (Handles kind address) = record { room = omega arith; spare = refl; time = refl }
+deed_leaves b e v (Accepts mask) = record { room = omega arith; spare = refl; time = refl }
+deed_leaves b e v (Transfers target kind) = record { room = entered_room b e target kind; spare = refl; time = refl }
+deed_leaves b e v (TakesSlot slot) = record { room = omega arith; spare = refl; time = refl }
+deed_leaves b e v (DropsSlot slot) = record { room = omega arith; spare = refl; time = refl }
+
+verdict_leaves : (b : Shown) (e : ℕ) (c : Option Call) (which : Verdict) → Leaves b (served_by b e c which)
+verdict_leaves b e c (Refuse why v) = record { room = omega arith; spare = refl; time = refl }
+verdict_leaves b e c (Grant v) = deed_leaves b e v (deed_of c v b.cpu)
+
+pub called_leaves : (b : Shown) (e : ℕ) (exits : Bool) → IsSound b → running b.slots.runner ≡ Some e → Leaves b (called_when b e exits)
+called_leaves b e true sound runs = let s = death_serves b e (cause.Exit (reg b.cpu 4)) sound runs in record { room = s.room; spare = s.spare; time = s.time }
+called_leaves b e false sound runs = verdict_leaves b e (called b.cpu) (verdict (world_of b) e (called b.cpu))
+
 pub came_leaves : (b : Shown) (e : ℕ) (st : Step) → IsSound b → running b.slots.runner ≡ Some e → Leaves b (came_to b e st)
 came_leaves b e (Retired cpu w) sound runs = record { room = omega arith; spare = refl; time = refl }
-came_leaves b e Called sound runs = let s = called_serves b e sound runs in record { room = s.room; spare = s.spare; time = s.time }
+came_leaves b e Called sound runs = called_leaves b e (reg b.cpu 2 == exit_number) sound runs
 came_leaves b e (Trapped exc) sound runs =
     let x = runner_runs b e sound runs in
     let s = trapped_serves b e x.0 x.1 sound exc in record { room = s.room; spare = s.spare; time = s.time }

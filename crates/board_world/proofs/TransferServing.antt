@@ -1,6 +1,6 @@
 -- The runner's transfers of control, on the world that is shown.
-use Rattle.std.proofs.Common.{◌≡◌, ◌≢◌, ◌≤◌, ℕ, ◌+◌, List, [], ◌∷◌, ◌++◌, length, Bool, true, false, Option, Some, None, refl, sym, ◌∙◌, ap, arith, subst, append_assoc, length-set}
-use Rattle.std.specs.Prelude.{◌==◌, ◌&&◌, not, slice_get}
+use Rattle.std.proofs.Common.{◌≡◌, ◌≢◌, ◌≤◌, ℕ, ◌+◌, List, [], ◌∷◌, ◌++◌, length, Bool, true, false, Some, refl, sym, ◌∙◌, ap, arith, append_assoc, length-set}
+use Rattle.std.specs.Prelude.{slice_get}
 use Rattle.std.specs.Option.{option_map}
 use Rattle.aegis_limits.specs.Limits.{page_size}
 use Rattle.mips_exec.specs.declared.registers.Cpu.{Cpu}
@@ -10,31 +10,28 @@ use Rattle.env_frames.specs.declared.transfer.TransferKind.TheVariants as kind
 use Rattle.env_frames.specs.Context.{handler_of}
 use Rattle.env_frames.specs.Transfer.{carried, entered_cpu, entry_area, entry_bytes, entry_context, hands_slot}
 use Rattle.kernel_journal.specs.declared.row.Row.TheVariants as row
-use Rattle.slot_vector.specs.Slices.{Slices, hold_at, refusal_of_gift, slots_given}
-use Rattle.world_model.specs.declared.call.Call.TheVariants as call
-use Rattle.world_model.specs.declared.code.Code.{Code}
-use Rattle.world_model.specs.declared.code.Code.TheVariants as code
-use Rattle.world_model.specs.Call.{called}
-use Rattle.world_model.specs.Holding.{enter}
-use Rattle.world_model.specs.Item.{Granted, Transfer, absorb_all, answered_cpu}
-use Rattle.world_model.specs.SlotCalls.{accepts, held_by, refusal_of_giving, slot_row}
+use Rattle.slot_vector.specs.Slices.{Slices, hold_at, slots_given}
+use Rattle.world_model.specs.declared.deed.Deed.TheVariants.{Transfers}
+use Rattle.world_model.specs.declared.verdict.Verdict.TheVariants.{Grant}
+use Rattle.world_model.specs.May.{MayEnter}
+use Rattle.world_model.specs.Upcalls.{enter}
+use Rattle.world_model.specs.Item.{Transfer, absorb_all, answered_cpu}
+use Rattle.world_model.specs.SlotCalls.{held_by, slot_row}
 use Rattle.world_model.specs.Solo.{Solo, kept_after}
-use Rattle.world_model.specs.Step.{Calls}
-use Rattle.world_model.specs.Transfers.{refusal_of_transfer, slots_handed, transfer_by, transfer_of, transfer_rows, transfers as transfer_reply}
-use Rattle.world_model.specs.Verdict.{reply_of}
+use Rattle.world_model.specs.Transfers.{slots_handed, transfer_rows}
+use Rattle.world_model.specs.Verdict.{done}
 use Rattle.board_world.specs.declared.roster.Environment.{Environment}
-use Rattle.board_world.specs.Shown.{Shown, changed, handlers_in, handlers_of, mappings_in, mappings_of, registers_in, registers_of}
+use Rattle.board_world.specs.Shown.{Shown, changed, handlers_in, mappings_in, mappings_of, registers_in, registers_of}
 use Rattle.board_world.specs.Showing.{world_of, book_of, solo_of, solo_or_absent, solo_seen, cpu_seen, pages_seen}
 use Rattle.board_world.specs.Sound.{IsSound}
 use Rattle.board_world.specs.Doing as doing
 use Rattle.board_world.proofs.Contexts.{left_others, left_own, left_sights, left_store, waiting}
-use Rattle.board_world.proofs.GiftServing.{IsThere, handed_named, mask_same, other_same, there_in, two_given, waiting_seen}
+use Rattle.board_world.proofs.GiftServing.{IsThere, handed_named, other_given, other_in, waiting_seen}
 use Rattle.board_world.proofs.Lists.{changed_here, changed_else, length-changed}
 use Rattle.board_world.proofs.Mappings.{kept_mappings}
-use Rattle.board_world.proofs.Replying.{Serves, granted_first, refuses}
+use Rattle.board_world.proofs.Replying.{Serves, deeded, deeded_seen}
 use Rattle.board_world.proofs.Seen.{same_solo, Runs, runner_seen, runner_solo}
 use Rattle.board_world.proofs.Slots.{hold_changed}
-use Rattle.board_world.proofs.Slotted.{both_true, called_lives, differs, giving_parts}
 use Rattle.board_world.proofs.Sound.{keeps_accepting, keeps_registers}
 
 -- The book: there are as many slots, and the cursor's has another holder, where it is handed on.
@@ -52,22 +49,9 @@ entered_rows b e t kind.Asynchronous = refl
 entered_rows b e t kind.Synchronous =
     append_assoc b.ledger.rows (row.Sync b.time b.slots.cursor e t ∷ []) (slot_row b.time b.slots.cursor (option_map (held_by t) (hold_at b.slots.slots b.slots.cursor)) ∷ [])
 
-entered_room : (b : Shown) (e t : ℕ) (kind : TransferKind) → b.ledger.spare ≤ (doing.ledger_entered b e t kind).spare + 128
+pub entered_room : (b : Shown) (e t : ℕ) (kind : TransferKind) → b.ledger.spare ≤ (doing.ledger_entered b e t kind).spare + 128
 entered_room b e t kind.Asynchronous = omega arith
 entered_room b e t kind.Synchronous = omega arith
-
--- The test of the target is the world's.
-handlers_same : (b : Shown) (t : ℕ) → handlers_of b.roster.list t ≡ (solo_of b t).handlers
-handlers_same b t = by_record (slice_get b.roster.list t)
-  where
-    by_record : (o : Option Environment) → handlers_in o ≡ (solo_or_absent b t o).handlers
-    by_record None = refl
-    by_record (Some y) = refl
-
-transfer_same : (b : Shown) (e t : ℕ) (kind : TransferKind) → doing.refusal_of_transfer_to b e t kind ≡ refusal_of_transfer (world_of b) e t kind
-transfer_same b e t kind = λ k.
-    refusal_of_giving (other_same b e t k) (refusal_of_gift (hands_slot kind) b.slots)
-    (accepts (mask_same b t k) e && not (handler_of (handlers_same b t k) (entry_context kind) == 0))
 
 -- what a transfer stores to the context page of its target, of whom these registers were kept
 abbrev entry_write : ℕ → TransferKind → Cpu → Write
@@ -75,12 +59,12 @@ entry_write e kind cpu = record { address = page_size + entry_area; bytes = entr
 
 module _ (b : Shown) (e : ℕ) (x : Environment) (r : Runs b e x) (sound : IsSound b) where
   -- The target is entered.
-  module _ (t : ℕ) (y : Environment) (there : IsThere b.roster.list t y) (other : t ≢ e) (kind : TransferKind) where
+  module _ (t : ℕ) (y : Environment) (there : IsThere b.roster.list t y) (other : t ≢ e) (kind : TransferKind) (v : ℕ) where
     abbrev new : Shown
-    new = doing.transferred b e t kind
+    new = doing.transferred b e v t kind
 
     abbrev keeping : Environment → Environment
-    keeping = doing.with_registers (answered_cpu code.Ok 0 b.cpu)
+    keeping = doing.with_registers (answered_cpu (Grant v) b.cpu)
 
     abbrev closed_list : List Environment
     closed_list = changed (doing.accepting 0) b.roster.list t
@@ -125,7 +109,7 @@ module _ (b : Shown) (e : ℕ) (x : Environment) (r : Runs b e x) (sound : IsSou
         runner_seen new t (doing.accepting 0 y) runs_next
         ∙ (λ k. record (runner_solo new t (doing.accepting 0 y)) { seen = λ p. left_sights b sound t write refl t p k })
         ∙ entered
-        ∙ ap (λ s. absorb_all s (Transfer e kind (carried b.cpu) ∷ [])) (sym (waiting_seen b e x r sound t y there other))
+        ∙ ap (λ s. absorb_all s (Transfer e kind (carried b.cpu) ∷ [])) (sym (waiting_seen b e x r sound t y there other v))
         ∙ ap (λ (s : Solo). absorb_all (solo_of b t) (Transfer e kind (carried s.cpu) ∷ [])) (sym (runner_seen b e x r))
 
     -- The caller keeps its registers behind its call, and its pages are as they were.
@@ -135,9 +119,9 @@ module _ (b : Shown) (e : ℕ) (x : Environment) (r : Runs b e x) (sound : IsSou
         ∙ left_others b sound t write refl e not_target
         ∙ (λ k. pages_seen b.frames (mappings_in (r.at k)))
 
-    caller_solo : solo_of new e ≡ record (runner_solo b e x) { cpu = answered_cpu code.Ok 0 b.cpu }
+    caller_solo : solo_of new e ≡ record (runner_solo b e x) { cpu = answered_cpu (Grant v) b.cpu }
     caller_solo =
-        let after : cpu_seen new e (answered_cpu code.Ok 0 b.cpu) ≡ answered_cpu code.Ok 0 b.cpu = rw (runs_next.runs.others e not_target) refl in
+        let after : cpu_seen new e (answered_cpu (Grant v) b.cpu) ≡ answered_cpu (Grant v) b.cpu = rw (runs_next.runs.others e not_target) refl in
         ap (solo_or_absent new e) caller_at
         ∙ (λ k. record (solo_seen b e x) { life = r.lives k; cpu = after k; kept = caller_pages k; seen = λ p. left_sights b sound t write refl e p k })
 
@@ -150,20 +134,19 @@ module _ (b : Shown) (e : ℕ) (x : Environment) (r : Runs b e x) (sound : IsSou
           pages = left_others b sound t write refl i ne_t;
           binds = refl;
           sights = λ k p. left_sights b sound t write refl i p k;
-          console = refl;
         })
 
     entered_mappings : (i : ℕ) → mappings_of new.roster.list i ≡ mappings_of b.roster.list i
     entered_mappings i =
-        kept_mappings keeping (keeps_registers (answered_cpu code.Ok 0 b.cpu)) closed_list e i
+        kept_mappings keeping (keeps_registers (answered_cpu (Grant v) b.cpu)) closed_list e i
         ∙ kept_mappings (doing.accepting 0) (keeps_accepting 0) b.roster.list t i
 
-    transfers_to : called b.cpu ≡ Some call.Transfer → Serves b e (Calls (Some call.Transfer)) (transfer_reply (world_of b) e t kind) new
-    transfers_to named = record {
+    transfers_to : Serves b e (deeded (Transfers t kind) v (solo_of b e)) (done (world_of b) e (Transfers t kind)) new
+    transfers_to = record {
       book = λ k. record (book_of new) { slot_count = given_count (hands_slot kind) t b.slots k; slots = λ i. given_holds (hands_slot kind) t b i k; kept = λ i. entered_mappings i k };
       count = length-changed keeping closed_list e ∙ length-changed (doing.accepting 0) b.roster.list t;
-      solos = two_given (solo_of b) (solo_of new) e t (solo_of b e) (Granted 0 ∷ []) (Transfer e kind (carried (solo_of b e).cpu) ∷ []) other
-          (caller_solo ∙ granted_first b e x r (Some call.Transfer) 0 [] named)
+      solos = other_given (solo_of b) (solo_of new) e t (deeded (Transfers t kind) v (solo_of b e)) (Transfer e kind (carried (solo_of b e).cpu) ∷ []) other
+          (caller_solo ∙ deeded_seen b e x r (Transfers t kind) v)
           target_solo
           others;
       rows = entered_rows b e t kind;
@@ -172,18 +155,5 @@ module _ (b : Shown) (e : ℕ) (x : Environment) (r : Runs b e x) (sound : IsSou
       time = refl;
     }
 
-  transfers_by : (t : ℕ) (kind : TransferKind) (why : Option Code) → doing.refusal_of_transfer_to b e t kind ≡ why → called b.cpu ≡ Some call.Transfer →
-      Serves b e (Calls (Some call.Transfer)) (reply_of (world_of b) e (transfer_by (world_of b) e t kind why)) (doing.transfer_by b e t kind why)
-  transfers_by t kind (Some why) is named = refuses b e x r (Some call.Transfer) why 0
-  transfers_by t kind None is named =
-      let other = giving_parts (doing.is_other_in b e t) (refusal_of_gift (hands_slot kind) b.slots) (accepts (doing.mask_of b.roster.list t) e && doing.is_open_in b t kind) is in
-      let target = there_in b.roster.list t (slice_get b.roster.list t) refl (called_lives b e t kind is) in
-      transfers_to t target.0 target.1 (differs t e (both_true (doing.lives_in (slice_get b.roster.list t)) (not (t == e)) other).1) kind named
-
-  -- by the number that names the kind
-  pub transfers : (t : ℕ) (kind : Option TransferKind) → called b.cpu ≡ Some call.Transfer →
-      Serves b e (Calls (Some call.Transfer)) (reply_of (world_of b) e (transfer_of (world_of b) e t kind)) (doing.transfer_if b e t kind)
-  transfers t None named = refuses b e x r (Some call.Transfer) code.BadCall 0
-  transfers t (Some kind) named =
-      subst (λ why. Serves b e (Calls (Some call.Transfer)) (reply_of (world_of b) e (transfer_by (world_of b) e t kind why)) (doing.transfer_if b e t (Some kind))) (transfer_same b e t kind)
-      (transfers_by t kind (doing.refusal_of_transfer_to b e t kind) refl named)
+  pub transfers : (t : ℕ) (kind : TransferKind) (v : ℕ) → MayEnter (world_of b) e t kind → Serves b e (deeded (Transfers t kind) v (solo_of b e)) (done (world_of b) e (Transfers t kind)) (doing.granted b e v (Transfers t kind))
+  transfers t kind v may = let target = other_in b e t may.reach.other in transfers_to t target.its target.there target.other kind v

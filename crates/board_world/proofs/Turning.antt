@@ -25,7 +25,7 @@ use Rattle.world_model.specs.Book.{Told, excess_limit, is_idle_book, is_runner, 
 use Rattle.world_model.specs.Item.{End, Killed, Start, absorb_all}
 use Rattle.world_model.specs.Solo.{Solo, dead, is_dead, kept_after}
 use Rattle.world_model.specs.Step.{Dies}
-use Rattle.world_model.specs.World.{World, Reply, after, in_turn, no_change, only}
+use Rattle.world_model.specs.World.{World, Reply, after, in_turn, only}
 use Rattle.world_model.specs.Tick as tick
 use Rattle.board_world.specs.declared.roster.Environment.{Environment}
 use Rattle.board_world.specs.Shown.{Shown, handlers_in, handlers_of, mappings_of}
@@ -71,7 +71,6 @@ module _ (b : Shown) (sound : IsSound b) (t : Turn) (x : Environment) (at : slic
     pages = start_others b sound t.env i ne;
     binds = refl;
     sights = λ k p. start_sights b sound t.env i p k;
-    console = refl;
   })
 
   pub started_world : world_of (started b t) ≡ after (world_of b) (tick.take_turn (world_of b) (record { pays = []; runs = Some t; excess = excess_of b.slots.excess; cursor = t.slot }) (Some t))
@@ -82,7 +81,7 @@ module _ (b : Shown) (sound : IsSound b) (t : Turn) (x : Environment) (at : slic
 
 -- a forfeit changes no environment
 paid_solo : (b : Shown) (t : Turn) (i : ℕ) → solo_of (paid b t) i ≡ solo_of b i
-paid_solo b t i = like_solo i (paid b t) b (record { record_is = refl; cpu = λ kept. refl; pages = refl; binds = refl; sights = refl; console = refl })
+paid_solo b t i = like_solo i (paid b t) b (record { record_is = refl; cpu = λ kept. refl; pages = refl; binds = refl; sights = refl })
 
 -- the turn as the model tells it
 abbrev told_world : Shown → Told → World
@@ -173,7 +172,6 @@ module _ (b : Shown) (e : ℕ) (x : Environment) (r : Runs b e x) where
         pages = refl;
         binds = refl;
         sights = refl;
-        console = refl;
       })
 
   pub stopped_mappings : (i : ℕ) → mappings_of (stopped b e).roster.list i ≡ mappings_of b.roster.list i
@@ -184,7 +182,7 @@ module _ (b : Shown) (e : ℕ) (x : Environment) (r : Runs b e x) where
 
 -- The timer. A board at the next time is the same to everybody.
 ticked_solo : (b : Shown) (i : ℕ) → solo_of (ticked b) i ≡ solo_of b i
-ticked_solo b i = like_solo i (ticked b) b (record { record_is = refl; cpu = λ kept. refl; pages = refl; binds = refl; sights = refl; console = refl })
+ticked_solo b i = like_solo i (ticked b) b (record { record_is = refl; cpu = λ kept. refl; pages = refl; binds = refl; sights = refl })
 
 ticked_world : (b : Shown) → world_of (ticked b) ≡ after (world_of b) (tick.clock (world_of b))
 ticked_world b = worlds (world_of (ticked b)) (after (world_of b) (tick.clock (world_of b))) refl refl (ticked_solo b) (sym (append_nothing b.ledger.rows))
@@ -206,7 +204,6 @@ goes_on b r runs =
       pages = refl;
       binds = refl;
       sights = refl;
-      console = refl;
     }))
     (sym (append_nothing b.ledger.rows))
 
@@ -261,7 +258,6 @@ module _ (b : Shown) (sound : IsSound b) (r : Runner) (is : b.slots.runner ≡ S
         pages = left_others b sound e w refl i ne;
         binds = refl;
         sights = λ k p. left_sights b sound e w refl i p k;
-        console = refl;
       })))
       refl
       ∙ rw some refl
@@ -281,7 +277,7 @@ module _ (b : Shown) (sound : IsSound b) (r : Runner) (is : b.slots.runner ≡ S
       worlds (world_of over) (after (world_of b) (tick.owes_more r.env (world_of b)))
       (λ k. record (book_of over) { excess = excess_set b.slots.excess r.env owing within k })
       refl
-      (λ i. like_solo i over b (record { record_is = refl; cpu = λ kept. refl; pages = refl; binds = refl; sights = refl; console = refl }))
+      (λ i. like_solo i over b (record { record_is = refl; cpu = λ kept. refl; pages = refl; binds = refl; sights = refl }))
       refl
 
   -- what it owes then

@@ -1,5 +1,5 @@
 -- What the parts of a board's tick do to what it shows.
-use Rattle.std.specs.Prelude.{ℕ, zero, suc, ◌+◌, ◌-◌, ◌/◌, ◌%◌, Bool, true, false, not, ◌&&◌, fold, List, [], ◌∷◌, ◌++◌, length, map, ◌==◌, if◌then◌else◌, Option, Some, None, is_some, unwrap_or, Result, Ok, Err, ok_or, slice_get, slice_set}
+use Rattle.std.specs.Prelude.{ℕ, zero, suc, ◌+◌, ◌-◌, ◌/◌, ◌%◌, Bool, true, false, not, fold, List, [], ◌∷◌, ◌++◌, length, map, ◌==◌, if◌then◌else◌, Option, Some, None, unwrap_or, slice_set}
 use Rattle.kernel_journal.specs.Ledger.{Ledger, with_row}
 use Rattle.kernel_journal.specs.declared.row.Row.{Row}
 use Rattle.kernel_journal.specs.declared.row.Row.TheVariants as row
@@ -11,48 +11,47 @@ use Rattle.env_frames.specs.declared.mapping.Mapping.{Mapping}
 use Rattle.env_frames.specs.declared.context.Context.{Context}
 use Rattle.env_frames.specs.declared.transfer.TransferKind.{TransferKind}
 use Rattle.env_frames.specs.declared.transfer.TransferKind.TheVariants as kind
-use Rattle.env_frames.specs.Transfer.{carried, entered_cpu, entry_area, entry_bytes, entry_context, hands_slot, transfer_numbered}
-use Rattle.env_frames.specs.Context.{context_number, context_numbered, end_area, end_bytes, handler_of, raised_cpu, resumed_cpu, start_area, start_bytes, started_cpu, with_handler}
-use Rattle.env_frames.specs.Frame.{gone_env, left_in, mapping_at, page_of, raised_in}
+use Rattle.env_frames.specs.Transfer.{carried, entered_cpu, entry_area, entry_bytes, entry_context, hands_slot}
+use Rattle.env_frames.specs.Context.{context_number, end_area, end_bytes, handler_of, raised_cpu, resumed_cpu, start_area, start_bytes, started_cpu, with_handler}
+use Rattle.env_frames.specs.Frame.{gone_env, left_in, page_of, raised_in}
 use Rattle.frame_store.specs.Pages.{with_page, zero_page}
 use Rattle.page_book.specs.declared.row.PageRow.{PageRow}
 use Rattle.page_book.specs.declared.row.PageRow.TheVariants.{Free, Owned}
-use Rattle.page_book.specs.declared.refusal.PageNo.{PageNo}
-use Rattle.page_book.specs.declared.refusal.PageNo.TheVariants as no
-use Rattle.page_book.specs.Row.{alloc_refusal, change_refusal, released}
-use Rattle.page_book.specs.Rows.{first_free, free_pages, row_in}
+use Rattle.page_book.specs.declared.row.Capabilities.{Capabilities}
+use Rattle.page_book.specs.Row.{released}
+use Rattle.page_book.specs.Rows.{row_in}
 use Rattle.bind_book.specs.declared.binding.Binding.{Binding}
-use Rattle.bind_book.specs.Stripe.{binding_at, breaks_page, goes_with, place_of, row_of, stripes, swept}
+use Rattle.bind_book.specs.Stripe.{breaks_page, goes_with, place_of, row_of, swept, unbound}
 use Rattle.guest_memory.specs.Look.{look, frames_after, guest_step}
 use Rattle.guest_memory.specs.Space.{lookup}
 use Rattle.slot_vector.specs.declared.turn.NextTurn.{NextTurn}
 use Rattle.slot_vector.specs.declared.turn.NextTurn.TheVariants as next
 use Rattle.slot_vector.specs.declared.timer.Timer.{Timer}
 use Rattle.slot_vector.specs.declared.timer.Timer.TheVariants as timer
-use Rattle.slot_vector.specs.Slices.{Slices, after_timer, after_turn, excess_of, given_to, hold_at, refusal_of_drop, refusal_of_gift, refusal_of_take, timer_answer, told_of, turn_ended, with_hold, without_env}
+use Rattle.slot_vector.specs.Slices.{Slices, after_timer, after_turn, excess_of, given_to, hold_at, timer_answer, told_of, turn_ended, with_hold, without_env}
 use Rattle.world_model.specs.declared.slot.Hold.{Hold}
 use Rattle.world_model.specs.declared.slot.Runner.{Runner}
 use Rattle.world_model.specs.declared.slot.Turn.{Turn}
 use Rattle.world_model.specs.declared.call.Call.{Call}
-use Rattle.world_model.specs.declared.call.Call.TheVariants as call
-use Rattle.world_model.specs.declared.code.Code.{Code}
-use Rattle.world_model.specs.declared.code.Code.TheVariants as code
-use Rattle.world_model.specs.declared.question.Question.{Question}
-use Rattle.world_model.specs.declared.question.Question.TheVariants as question
 use Rattle.world_model.specs.declared.life.Life.TheVariants.{Dead}
 use Rattle.world_model.specs.declared.life.Cause.{Cause}
 use Rattle.world_model.specs.declared.life.Cause.TheVariants as cause
 use Rattle.world_model.specs.Page.{Mapped}
-use Rattle.world_model.specs.Item.{answered_cpu}
+use Rattle.world_model.specs.declared.deed.Deed.{Deed}
+use Rattle.world_model.specs.declared.deed.Deed.TheVariants.{Answers, Stops, Gives, Puts, Allocates, Frees, Recaps, Binds, Unbinds, Handles, Accepts, Transfers, TakesSlot, DropsSlot}
+use Rattle.world_model.specs.declared.verdict.Verdict.{Verdict}
+use Rattle.world_model.specs.declared.verdict.Verdict.TheVariants.{Refuse, Grant}
+use Rattle.world_model.specs.Item.{answered_cpu, put_bytes}
+use Rattle.world_model.specs.Deed.{deed_of}
 use Rattle.std.specs.Option.{option_map}
-use Rattle.world_model.specs.Verdict.{released_rows, slot_row}
-use Rattle.world_model.specs.Code.{code_of}
+use Rattle.world_model.specs.Death.{released_rows}
+use Rattle.world_model.specs.Verdict.{verdict}
 use Rattle.world_model.specs.Book.{Told, own_hold}
-use Rattle.world_model.specs.Solo.{is_dead}
-use Rattle.world_model.specs.SlotCalls.{accepts, dropped, held_by, holder_answer, owner_answer, question_numbered, refusal_of_giving}
-use Rattle.world_model.specs.Call.{any, binding_of, called, number_refusal, put_bytes, put_refusal, refusal_of_bind, refusal_of_context, words_of}
+use Rattle.world_model.specs.SlotCalls.{dropped, held_by, slot_row}
+use Rattle.world_model.specs.Call.{called, exit_number}
 use Rattle.board_world.specs.declared.roster.Environment.{Environment}
-use Rattle.board_world.specs.Shown.{Shown, mappings_of, handlers_of, registers_of, console_of, changed, with_list}
+use Rattle.board_world.specs.Shown.{Shown, mappings_of, handlers_of, registers_of, changed, with_list}
+use Rattle.board_world.specs.Showing.{world_of}
 
 -- The start of an environment's slice: the registers with which it starts, and physical memory with what its handler of starts finds.
 abbrev pub start_registers : List Environment → ℕ → Cpu
@@ -128,6 +127,10 @@ handling kind address x = record x { env = record x.env { handlers = with_handle
 abbrev pub accepting : ℕ → Environment → Environment
 accepting mask x = record x { env = record x.env { mask = mask } }
 
+-- an environment that wrote these bytes more to its console
+abbrev pub putting : List ℕ → Environment → Environment
+putting bytes x = record x { console = x.console ++ bytes }
+
 -- an environment after its death
 abbrev pub dead_frame : Cause → Environment → Environment
 dead_frame cause x = record x { life = Dead cause; env = gone_env }
@@ -177,21 +180,12 @@ abbrev pub stopped : Shown → ℕ → Shown
 stopped b e = kept_stopped (record b { slots = turn_ended b.slots }) e
 
 -- an answer to a call
-abbrev pub answered : Shown → Code → ℕ → Shown
-answered b code value = record b { cpu = answered_cpu code value b.cpu }
+abbrev pub answered : Shown → Verdict → Shown
+answered b verdict = record b { cpu = answered_cpu verdict b.cpu }
 
--- why the runner's put is refused
-abbrev pub refusal_of_put : Shown → ℕ → Option Code
-refusal_of_put b e = put_refusal b.cpu (look_of b e) (length (console_of b.consoles e))
-
--- the bytes of a put that isn't refused stand behind those of the console
-abbrev pub appended : Shown → ℕ → Option Code → Shown
-appended b e None = record b { consoles = changed (λ bytes. bytes ++ unwrap_or (put_bytes b.cpu (look_of b e)) []) b.consoles e }
-appended b e (Some code) = b
-
-abbrev pub put_if : Shown → ℕ → Option Code → Shown
-put_if b e None = answered (appended b e None) code.Ok (reg b.cpu 5)
-put_if b e (Some code) = answered b code 0
+-- the bytes that a put names stand behind those of the console
+abbrev pub appended : Shown → ℕ → ℕ → ℕ → Shown
+appended b e address size = record b { roster = with_list b.roster (changed (putting (unwrap_or (put_bytes (look_of b e) address size) [])) b.roster.list e) }
 
 -- the rest of the runner's slice goes to another environment, which is started
 abbrev pub given : Shown → ℕ → ℕ → Shown
@@ -203,32 +197,6 @@ given b e target = record b {
   ledger = with_row b.ledger (row.Give b.time b.slots.cursor e target);
 }
 
--- whether a number is that of another environment that lives
-abbrev pub lives_in : Option Environment → Bool
-lives_in None = false
-lives_in (Some x) = not (is_dead x.life)
-
-abbrev pub is_other_in : Shown → ℕ → ℕ → Bool
-is_other_in b e target = lives_in (slice_get b.roster.list target) && not (target == e)
-
-abbrev pub mask_of : List Environment → ℕ → ℕ
-mask_of list e = unwrap_or (option_map (λ (x : Environment). x.env.mask) (slice_get list e)) 0
-
--- why the runner can't hand on the rest of its slice to another, or for a later its slot too
-abbrev pub refusal_of_handing : Bool → Shown → ℕ → ℕ → Option Code
-refusal_of_handing later b e target = refusal_of_giving (is_other_in b e target) (refusal_of_gift later b.slots) (accepts (mask_of b.roster.list target) e)
-
-abbrev pub refusal_of_gift_to : Shown → ℕ → ℕ → Option Code
-refusal_of_gift_to b e target = refusal_of_handing false b e target
-
-abbrev pub give_if : Shown → ℕ → ℕ → Option Code → Shown
-give_if b e target None = given (answered b code.Ok 0) e target
-give_if b e target (Some why) = answered b why 0
-
-abbrev pub yield_if : Shown → ℕ → Bool → Shown
-yield_if b e true = stopped (answered b code.Ok 0) e
-yield_if b e false = give_if b e (reg b.cpu 4) (refusal_of_gift_to b e (reg b.cpu 4))
-
 -- Transfer: the runner's registers are kept behind its call, which is answered; another environment goes on at its entry with those that the runner had at the call, for the rest of the slice, and holds the slot or not.
 abbrev pub entered_frames : Shown → ℕ → ℕ → TransferKind → List (List ℕ)
 entered_frames b e target kind =
@@ -237,8 +205,8 @@ entered_frames b e target kind =
 abbrev pub entered_registers : Shown → ℕ → TransferKind → Cpu
 entered_registers b target kind = entered_cpu (handler_of (handlers_of b.roster.list target) (entry_context kind)) (carried b.cpu)
 
-abbrev pub roster_entered : Shown → ℕ → ℕ → List Environment
-roster_entered b e target = changed (with_registers (answered_cpu code.Ok 0 b.cpu)) (changed (accepting 0) b.roster.list target) e
+abbrev pub roster_entered : Shown → ℕ → ℕ → ℕ → List Environment
+roster_entered b e value target = changed (with_registers (answered_cpu (Grant value) b.cpu)) (changed (accepting 0) b.roster.list target) e
 
 abbrev pub ledger_entered : Shown → ℕ → ℕ → TransferKind → Ledger
 ledger_entered b e target kind.Asynchronous = with_row b.ledger (row.Async b.time b.slots.cursor e target)
@@ -249,33 +217,17 @@ ledger_entered b e target kind.Synchronous =
 abbrev pub handed_on : Shown → ℕ → ℕ → TransferKind → Shown
 handed_on b e target kind = record b { slots = given_to target (hands_slot kind) b.slots; ledger = ledger_entered b e target kind }
 
--- The runner's registers are kept behind its call, and the target goes on at its entry.
-abbrev pub entered : Shown → ℕ → ℕ → TransferKind → Shown
-entered b e target kind = record b {
+-- The runner's registers are kept behind its call, which is granted with a value, and the target goes on at its entry.
+abbrev pub entered : Shown → ℕ → ℕ → ℕ → TransferKind → Shown
+entered b e value target kind = record b {
   frames = entered_frames b e target kind;
   cpu = entered_registers b target kind;
-  roster = with_list b.roster (roster_entered b e target);
+  roster = with_list b.roster (roster_entered b e value target);
 }
 
--- both: the transfer that isn't refused
-abbrev pub transferred : Shown → ℕ → ℕ → TransferKind → Shown
-transferred b e target kind = entered (handed_on b e target kind) e target kind
-
--- whether an environment has an entry for transfers of a kind
-abbrev pub is_open_in : Shown → ℕ → TransferKind → Bool
-is_open_in b target kind = not (handler_of (handlers_of b.roster.list target) (entry_context kind) == 0)
-
-abbrev pub refusal_of_transfer_to : Shown → ℕ → ℕ → TransferKind → Option Code
-refusal_of_transfer_to b e target kind =
-    refusal_of_giving (is_other_in b e target) (refusal_of_gift (hands_slot kind) b.slots) (accepts (mask_of b.roster.list target) e && is_open_in b target kind)
-
-abbrev pub transfer_by : Shown → ℕ → ℕ → TransferKind → Option Code → Shown
-transfer_by b e target kind None = transferred b e target kind
-transfer_by b e target kind (Some why) = answered b why 0
-
-abbrev pub transfer_if : Shown → ℕ → ℕ → Option TransferKind → Shown
-transfer_if b e target None = answered b code.BadCall 0
-transfer_if b e target (Some kind) = transfer_by b e target kind (refusal_of_transfer_to b e target kind)
+-- both
+abbrev pub transferred : Shown → ℕ → ℕ → ℕ → TransferKind → Shown
+transferred b e value target kind = entered (handed_on b e target kind) e value target kind
 
 -- Accept: the runner has another mask.
 abbrev pub accepted : Shown → ℕ → ℕ → Shown
@@ -284,39 +236,6 @@ accepted b e mask = record b { roster = with_list b.roster (changed (accepting m
 -- Take and drop: a slot has another hold.
 abbrev pub with_slot : Shown → ℕ → Option Hold → Shown
 with_slot b k hold = record b { slots = with_hold b.slots k hold; ledger = with_row b.ledger (slot_row b.time k hold) }
-
-abbrev pub slot_if : Shown → ℕ → Option Hold → Option Code → Shown
-slot_if b k hold None = answered (with_slot b k hold) code.Ok 0
-slot_if b k hold (Some why) = answered b why 0
-
--- the runner takes a slot, unless that is refused
-abbrev pub take_if : Shown → ℕ → ℕ → Shown
-take_if b e k = slot_if b k (Some (own_hold e)) (refusal_of_take b.slots k)
-
--- the runner drops a slot, unless that is refused
-abbrev pub drop_if : Shown → ℕ → ℕ → Shown
-drop_if b e k = slot_if b k (dropped e (hold_at b.slots.slots k)) (refusal_of_drop e b.slots k)
-
--- Query.
-abbrev pub death_answer_in : Option Environment → Result ℕ Code
-death_answer_in None = Err code.NoEnv
-death_answer_in (Some x) = Ok (if is_dead x.life then 1 else 0)
-
-abbrev pub answer_in : Shown → ℕ → Option Question → ℕ → Result ℕ Code
-answer_in b e None index = Err code.BadCall
-answer_in b e (Some question.FreePages) index = Ok (free_pages b.pages)
-answer_in b e (Some question.Pages) index = Ok (length b.pages)
-answer_in b e (Some question.Environments) index = Ok (length b.roster.list)
-answer_in b e (Some question.Slots) index = Ok (length b.slots.slots)
-answer_in b e (Some question.Quantum) index = Ok b.slots.quantum
-answer_in b e (Some question.PageOwner) index = owner_answer (slice_get b.pages index)
-answer_in b e (Some question.SlotHolder) index = holder_answer (slice_get b.slots.slots index)
-answer_in b e (Some question.Excess) index = Ok (excess_of b.slots.excess e)
-answer_in b e (Some question.Death) index = death_answer_in (slice_get b.roster.list index)
-
-abbrev pub query_if : Shown → Result ℕ Code → Shown
-query_if b (Ok value) = answered b code.Ok value
-query_if b (Err why) = answered b why 0
 
 -- The runner's exception goes to its handler, which stands at this address.
 abbrev pub raised : Shown → ℕ → ℕ → Exc → Shown
@@ -332,107 +251,64 @@ trapped_when b e handler exc = if handler == 0 then died b e (cause.Trapped exc.
 abbrev pub trapped : Shown → ℕ → Exc → Shown
 trapped b e exc = trapped_when b e (handlers_of b.roster.list e).exception exc
 
--- Allocation: the page that is chosen, if one is, is the runner's and holds zeros.
-abbrev pub chosen_named : ℕ → Option PageNo → Result ℕ PageNo
-chosen_named page None = Ok page
-chosen_named page (Some why) = Err why
-
-abbrev pub chosen_in : List PageRow → ℕ → Result ℕ PageNo
-chosen_in pages page = if page == any then ok_or (first_free pages) no.NoneFree else chosen_named page (alloc_refusal (slice_get pages page))
-
-abbrev pub with_taken : Shown → ℕ → Result ℕ PageNo → Shown
-with_taken b e (Ok page) = record b { frames = with_page b.frames page zero_page; pages = slice_set b.pages page (Owned e (words_of b.cpu)) }
-with_taken b e (Err why) = b
-
-abbrev pub alloc_answer : Shown → Result ℕ PageNo → Shown
-alloc_answer b (Ok page) = answered b code.Ok page
-alloc_answer b (Err why) = answered b (code_of why) 0
-
-abbrev pub allocated : Shown → ℕ → Result ℕ PageNo → Shown
-allocated b e chosen = alloc_answer (with_taken b e chosen) chosen
+-- Allocation: the page is the runner's and holds zeros.
+abbrev pub with_taken : Shown → ℕ → ℕ → Capabilities → Shown
+with_taken b e page words = record b { frames = with_page b.frames page zero_page; pages = slice_set b.pages page (Owned e words) }
 
 -- Free and recap: the page has another row, and the bindings of it are broken, but for those of one environment.
 abbrev pub with_broken : Shown → ℕ → PageRow → Option ℕ → Shown
 with_broken b page row but = record b { pages = slice_set b.pages page row; binds = swept (breaks_page page but) b.binds }
 
-abbrev pub changed_page : Shown → ℕ → PageRow → Option ℕ → Option PageNo → Shown
-changed_page b page row but None = answered (with_broken b page row but) code.Ok 0
-changed_page b page row but (Some why) = answered b (code_of why) 0
-
--- why the runner can't change the page that it names
-abbrev pub refusal_of_change : Shown → ℕ → Option PageNo
-refusal_of_change b e = change_refusal e (slice_get b.pages (reg b.cpu 4))
-
--- the runner frees a page, unless that is refused
-abbrev pub free_if : Shown → ℕ → ℕ → Shown
-free_if b e page = changed_page b page Free None (refusal_of_change b e)
-
--- the runner gives a page other words, unless that is refused
-abbrev pub recap_if : Shown → ℕ → ℕ → Shown
-recap_if b e page = changed_page b page (Owned e (words_of b.cpu)) (Some e) (refusal_of_change b e)
-
--- whether a page number of an environment is guaranteed
-abbrev pub is_number_guaranteed : Shown → ℕ → ℕ → Bool
-is_number_guaranteed b e vpn = is_some (mapping_at (mappings_of b.roster.list e) vpn)
-
 -- Bind: the binding stands in its row.
-abbrev pub refusal_of_binding : Shown → ℕ → Option Code
-refusal_of_binding b e = refusal_of_bind e b.cpu (is_number_guaranteed b e (reg b.cpu 4)) (slice_get b.pages (reg b.cpu 5))
-
 abbrev pub with_bound : Shown → ℕ → Binding → Shown
 with_bound b e x = record b { binds = slice_set b.binds (place_of e (row_of x.vpn)) (Some x) }
 
-abbrev pub bind_if : Shown → ℕ → Option Code → Shown
-bind_if b e None = answered (with_bound b e (binding_of b.cpu)) code.Ok 0
-bind_if b e (Some why) = answered b why 0
-
--- Unbind: the row of the page number is empty, if its binding stood there.
-abbrev pub refusal_of_unbinding : Shown → ℕ → Option Code
-refusal_of_unbinding b e = number_refusal (is_number_guaranteed b e (reg b.cpu 4)) (reg b.cpu 4)
-
-abbrev pub has_bound : Shown → ℕ → ℕ → Bool
-has_bound b e vpn = is_some (binding_at (stripes b.binds e) vpn)
-
+-- Unbind: the row of the VPN is empty, if its binding stood there.
 abbrev pub with_unbound : Shown → ℕ → ℕ → Shown
-with_unbound b e vpn = record b { binds = if has_bound b e vpn then slice_set b.binds (place_of e (row_of vpn)) None else b.binds }
+with_unbound b e vpn = record b { binds = unbound b.binds e vpn }
 
-abbrev pub unbind_if : Shown → ℕ → Option Code → Shown
-unbind_if b e None = answered (with_unbound b e (reg b.cpu 4)) code.Ok (if has_bound b e (reg b.cpu 4) then 1 else 0)
-unbind_if b e (Some why) = answered b why 0
+-- Context: the runner's handler of a context stands at an address.
+abbrev pub with_handling : Shown → ℕ → Context → ℕ → Shown
+with_handling b e kind address = record b { roster = with_list b.roster (changed (handling kind address) b.roster.list e) }
 
--- Context: the runner's handler of a context, if it is one, stands at an address.
-abbrev pub with_handling : Shown → ℕ → Option Context → ℕ → Shown
-with_handling b e None address = b
-with_handling b e (Some kind) address = record b { roster = with_list b.roster (changed (handling kind address) b.roster.list e) }
+-- a call of the runner that is granted with a value, once this is done
+abbrev pub granted : Shown → ℕ → ℕ → Deed → Shown
+granted b e value Answers = answered b (Grant value)
+granted b e value Stops = stopped (answered b (Grant value)) e
+granted b e value (Gives target) = given (answered b (Grant value)) e target
+granted b e value (Puts address size) = answered (appended b e address size) (Grant value)
+granted b e value (Allocates page words) = answered (with_taken b e page words) (Grant value)
+granted b e value (Frees page) = answered (with_broken b page Free None) (Grant value)
+granted b e value (Recaps page words) = answered (with_broken b page (Owned e words) (Some e)) (Grant value)
+granted b e value (Binds binding word) = answered (with_bound b e binding) (Grant value)
+granted b e value (Unbinds vpn) = answered (with_unbound b e vpn) (Grant value)
+granted b e value (Handles kind address) = answered (with_handling b e kind address) (Grant value)
+granted b e value (Accepts mask) = answered (accepted b e mask) (Grant value)
+granted b e value (Transfers target kind) = transferred b e value target kind
+granted b e value (TakesSlot slot) = answered (with_slot b slot (Some (own_hold e))) (Grant value)
+granted b e value (DropsSlot slot) = answered (with_slot b slot (dropped e (hold_at b.slots.slots slot))) (Grant value)
 
-abbrev pub context_if : Shown → ℕ → Option Code → Shown
-context_if b e None = answered (with_handling b e (context_numbered (reg b.cpu 4)) (reg b.cpu 5)) code.Ok 0
-context_if b e (Some why) = answered b why 0
+-- a call of the runner on which this is the verdict
+abbrev pub served_by : Shown → ℕ → Option Call → Verdict → Shown
+served_by b e call (Refuse why value) = answered b (Refuse why value)
+served_by b e call (Grant value) = granted b e value (deed_of call value b.cpu)
 
--- a kernel call of the runner
 abbrev pub served : Shown → ℕ → Option Call → Shown
-served b e None = answered b code.BadCall 0
-served b e (Some call.Yield) = yield_if b e (reg b.cpu 4 == any)
-served b e (Some call.Put) = put_if b e (refusal_of_put b e)
-served b e (Some call.Exit) = died b e (cause.Exit (reg b.cpu 4))
-served b e (Some call.Alloc) = allocated b e (chosen_in b.pages (reg b.cpu 4))
-served b e (Some call.Free) = free_if b e (reg b.cpu 4)
-served b e (Some call.Recap) = recap_if b e (reg b.cpu 4)
-served b e (Some call.Bind) = bind_if b e (refusal_of_binding b e)
-served b e (Some call.Unbind) = unbind_if b e (refusal_of_unbinding b e)
-served b e (Some call.Context) = context_if b e (refusal_of_context b.cpu)
-served b e (Some call.Accept) = answered (accepted b e (reg b.cpu 4)) code.Ok 0
-served b e (Some call.Transfer) = transfer_if b e (reg b.cpu 4) (transfer_numbered (reg b.cpu 5))
-served b e (Some call.SlotTake) = take_if b e (reg b.cpu 4)
-served b e (Some call.SlotDrop) = drop_if b e (reg b.cpu 4)
-served b e (Some call.Query) = query_if b (answer_in b e (question_numbered (reg b.cpu 4)) (reg b.cpu 5))
-served b e (Some call.OwnNumber) = answered b code.Ok e
-served b e (Some call.Clock) = answered b code.Ok b.time
+served b e call = served_by b e call (verdict (world_of b) e call)
+
+-- exit is the runner's death
+abbrev pub called_when : Shown → ℕ → Bool → Shown
+called_when b e true = died b e (cause.Exit (reg b.cpu 4))
+called_when b e false = served b e (called b.cpu)
+
+-- the runner stands at a call
+abbrev pub called_by : Shown → ℕ → Shown
+called_by b e = called_when b e (reg b.cpu 2 == exit_number)
 
 -- what the runner's step came to, and its call or death
 abbrev pub came_to : Shown → ℕ → Step → Shown
 came_to b e (Retired cpu write) = ran b e (Retired cpu write)
-came_to b e Called = served b e (called b.cpu)
+came_to b e Called = called_by b e
 came_to b e (Trapped exc) = trapped b e exc
 
 -- the board at the next time

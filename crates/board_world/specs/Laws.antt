@@ -4,14 +4,14 @@ use Rattle.slot_vector.specs.Slices.{is_idle}
 use Rattle.world_model.specs.declared.code.Code.{Code}
 use Rattle.world_model.specs.declared.life.Cause.{Cause}
 use Rattle.world_model.specs.Book.{is_idle_book, running}
-use Rattle.world_model.specs.Call.{called}
-use Rattle.world_model.specs.Verdict.{Refuses, verdict_now}
+use Rattle.world_model.specs.declared.verdict.Verdict.TheVariants.{Refuse}
+use Rattle.world_model.specs.Verdict.{verdict_now}
 use Rattle.world_model.specs.World.{after}
 use Rattle.world_model.specs.Tick as tick
 use Rattle.board_world.specs.Shown.{Shown}
 use Rattle.board_world.specs.Showing.{book_of, world_of}
 use Rattle.board_world.specs.Sound.{IsSound}
-use Rattle.board_world.specs.Doing.{turned, step_seen, came_to, counted, served, died}
+use Rattle.board_world.specs.Doing.{turned, step_seen, came_to, counted, called_by, died}
 
 abbrev pub IdleIsIdle : Type 0
 IdleIsIdle = (b : Shown) → is_idle b.slots ≡ is_idle_book (book_of b)
@@ -27,11 +27,11 @@ abbrev pub TimerIsTimer : Type 0
 TimerIsTimer = (b : Shown) → IsSound b → world_of (counted b) ≡ after (world_of b) (tick.timer (world_of b))
 
 abbrev pub CallIsCall : Type 0
-CallIsCall = (b : Shown) (e : ℕ) → IsSound b → running b.slots.runner ≡ Some e → world_of (served b e (called b.cpu)) ≡ tick.called_world (world_of b) e
+CallIsCall = (b : Shown) (e : ℕ) → IsSound b → running b.slots.runner ≡ Some e → world_of (called_by b e) ≡ tick.called_world (world_of b) e
 
 -- a call that the rule refuses is answered so, and nothing else happens
 abbrev pub RefusalIsRefusal : Type 0
-RefusalIsRefusal = (b : Shown) (e : ℕ) (why : Code) (v : ℕ) → IsSound b → running b.slots.runner ≡ Some e → verdict_now (world_of b) e ≡ Refuses why v → world_of (served b e (called b.cpu)) ≡ tick.refused_world (world_of b) e why v
+RefusalIsRefusal = (b : Shown) (e : ℕ) (why : Code) (v : ℕ) → IsSound b → running b.slots.runner ≡ Some e → verdict_now (world_of b) e ≡ Some (Refuse why v) → world_of (called_by b e) ≡ tick.refused_world (world_of b) e why v
 
 abbrev pub DeathIsDeath : Type 0
 DeathIsDeath = (b : Shown) (e : ℕ) (cause : Cause) → IsSound b → running b.slots.runner ≡ Some e → world_of (died b e cause) ≡ tick.died (world_of b) e cause

@@ -12,7 +12,7 @@ use Rattle.world_model.specs.Solo.{Solo, absent}
 use Rattle.world_model.specs.World.{World}
 use Rattle.page_sight.specs.Sight.{seen_in}
 use Rattle.board_world.specs.declared.roster.Environment.{Environment}
-use Rattle.board_world.specs.Shown.{Shown, console_of, mappings_of}
+use Rattle.board_world.specs.Shown.{Shown, mappings_of}
 
 -- a mapping with the bytes of its page
 abbrev pub page_seen : List (List ℕ) → Mapping → KeptPage
@@ -36,7 +36,7 @@ solo_seen b e x = record {
   kept = pages_seen b.frames x.env.mappings;
   binds = stripes b.binds e;
   seen = seen_in e (row_in b.pages) (stripes b.binds e) (page_at b.frames);
-  console = console_of b.consoles e;
+  console = x.console;
 }
 
 abbrev pub solo_or_absent : Shown → ℕ → Option Environment → Solo

@@ -1,5 +1,5 @@
 -- What a board shows: its parts as plain data.
-use Rattle.std.specs.Prelude.{ℕ, zero, suc, List, [], ◌∷◌, Option, Some, None, unwrap_or, slice_get}
+use Rattle.std.specs.Prelude.{ℕ, zero, suc, List, [], ◌∷◌, Option, Some, None, slice_get}
 use Rattle.kernel_journal.specs.Ledger.{Ledger}
 use Rattle.mips_exec.specs.declared.registers.Cpu.{Cpu}
 use Rattle.mips_exec.specs.Cpu.{blank_cpu}
@@ -17,7 +17,7 @@ pub record Environments : Type 0 where
   pub spare : ℕ
 
 -- The pages of physical memory; whose each of them is; the rows of all stripes of bindings; the vector of slots;
--- the registers of the machine; the environments; what each wrote to its console; the time; and the ledger.
+-- the registers of the machine; the environments; the time; and the ledger.
 pub record Shown : Type 0 where
   pub frames : List (List ℕ)
   pub pages : List PageRow
@@ -25,9 +25,12 @@ pub record Shown : Type 0 where
   pub slots : Slices
   pub cpu : Cpu
   pub roster : Environments
-  pub consoles : List (List ℕ)
   pub time : ℕ
   pub ledger : Ledger
+
+-- a board of these parts
+abbrev pub shown : List (List ℕ) → List PageRow → List (Option Binding) → Slices → Cpu → Environments → ℕ → Ledger → Shown
+shown frames pages binds slots cpu roster time ledger = record { frames = frames; pages = pages; binds = binds; slots = slots; cpu = cpu; roster = roster; time = time; ledger = ledger }
 
 abbrev pub mappings_in : Option Environment → List Mapping
 mappings_in None = []
@@ -53,9 +56,21 @@ registers_in (Some x) = x.env.cpu
 abbrev pub registers_of : List Environment → ℕ → Cpu
 registers_of list e = registers_in (slice_get list e)
 
--- what an environment wrote
-abbrev pub console_of : List (List ℕ) → ℕ → List ℕ
-console_of consoles e = unwrap_or (slice_get consoles e) []
+abbrev pub mask_in : Option Environment → ℕ
+mask_in None = 0
+mask_in (Some x) = x.env.mask
+
+-- the mask of those whom an environment accepts
+abbrev pub mask_of : List Environment → ℕ → ℕ
+mask_of list e = mask_in (slice_get list e)
+
+abbrev pub console_in : Option Environment → List ℕ
+console_in None = []
+console_in (Some x) = x.console
+
+-- what an environment wrote to its console
+abbrev pub console_of : List Environment → ℕ → List ℕ
+console_of list e = console_in (slice_get list e)
 
 -- a list with the element at one place changed
 abbrev pub changed : {A : Type 0} → (A → A) → List A → ℕ → List A

@@ -1,5 +1,5 @@
 -- What holds of every board.
-use Rattle.std.specs.Prelude.{◌≡◌, ◌≤◌, ◌<◌, ◌+◌, ◌*◌, ℕ, false, List, [], length, Option, Some, None, IfSome, slice_get}
+use Rattle.std.specs.Prelude.{◌≡◌, ◌≤◌, ◌<◌, ◌+◌, ◌*◌, ℕ, false, List, length, Option, Some, None, IfSome, slice_get}
 use Rattle.aegis_limits.specs.Limits.{most_environments, most_slots}
 use Rattle.frame_store.specs.Pages.{most_frames}
 use Rattle.page_book.specs.declared.row.PageRow.{PageRow}
@@ -14,7 +14,7 @@ use Rattle.slot_vector.specs.Slices.{Slices, HasTicks, excess_of, hold_at, most_
 use Rattle.world_model.specs.Book.{excess_limit, has_part, is_runner}
 use Rattle.world_model.specs.declared.life.Life.TheVariants.{Live}
 use Rattle.board_world.specs.declared.roster.Environment.{Environment}
-use Rattle.board_world.specs.Shown.{Shown, Environments, mappings_of, console_of}
+use Rattle.board_world.specs.Shown.{Shown, Environments, mappings_of}
 
 abbrev pub IsAlive : Option Environment → Type 0
 IsAlive None = ⊥
@@ -67,15 +67,9 @@ pub record HasNoPart (e : ℕ) (v : Slices) : Type 0 where
   pub runs : is_runner e v.runner ≡ false
   pub parts : (k : ℕ) → has_part e (hold_at v.slots k) ≡ false
 
--- The consoles: there is one for each environment, and what isn't there yet wrote nothing.
-pub record AreConsoles (consoles : List (List ℕ)) (r : Environments) : Type 0 where
-  pub most : length r.list + r.spare ≤ most_environments
-  pub count : length consoles ≡ length r.list + r.spare
-  pub unwritten : (e : ℕ) → length r.list ≤ e → console_of consoles e ≡ []
-
 -- what holds of every board
 pub record IsSound (b : Shown) : Type 0 where
+  pub few : length b.roster.list + b.roster.spare ≤ most_environments
   pub book : IsManned b.slots b.roster
-  pub consoles : AreConsoles b.consoles b.roster
   pub memory : IsParted b.frames b.pages b.roster.list
   pub books : AreBooked b.pages b.binds b.roster

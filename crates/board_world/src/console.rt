@@ -1,7 +1,6 @@
-//! What the environments wrote.
-ghost use Rattle.std.specs.Prelude.{◌≡◌, ◌+◌, ◌≤◌, ◌<◌, ℕ, List, [], ◌++◌, length, replicate, IfOk};
+//! What an environment writes.
+ghost use Rattle.std.specs.Prelude.{◌≡◌, ◌+◌, ◌≤◌, [], ◌++◌, length, IfOk};
 ghost use Rattle.aegis_limits.specs.Limits.{console_size};
-ghost use Rattle.board_world.specs.Shown.{changed, console_of};
 
 use aegis_limits::{CONSOLE_SIZE, OutOfMemory};
 use std::alloc::Global;
@@ -55,57 +54,4 @@ impl Console {
     {
         self.bytes.extend_from_slice(bytes).unwrap();
     }
-}
-
-/// A console for each environment, by number.
-#[derive(Drop)]
-pub struct Consoles {
-    list: Vec<Console>,
-}
-
-impl Model for Consoles {
-    ghost use Rattle.std.specs.Prelude.{ℕ, List};
-
-    ghost Value = { List (List ℕ) };
-
-    ghost view = { λ c. c.list.items };
-}
-
-impl Consoles {
-    /// So many empty consoles.
-    pub fn new(alloc: Global, envs: u8) -> Result<Consoles, OutOfMemory>
-        ensures { IfOk result (λ c. c ≡ replicate envs []) }
-    {
-        let mut list = Vec::with_capacity(alloc, usize::from(envs))?;
-        for _ in 0..envs {
-            list.push(Console::new(alloc)?)?;
-        }
-        Ok(Consoles { list })
-    }
-
-    /// The console of the environment of this number.
-    pub fn at(&self, env: u8) -> &Console
-        requires { env < length self.now }
-        ensures { result.now ≡ console_of self.now env }
-    {
-        &self.list[usize::from(env)]
-    }
-
-    /// Appends bytes to an environment's console, for which there must be room.
-    pub fn put(&mut self, env: u8, bytes: &[u8])
-        requires there { env < length self.old }
-        requires room { length (console_of self.old env) + length bytes.now ≤ console_size }
-        ensures { self.new ≡ changed (λ held. held ++ bytes.now) self.old env }
-    {
-        put_in(&mut self.list, usize::from(env), bytes);
-    }
-}
-
-/// Appends bytes to the console at a place.
-fn put_in(list: &mut [Console], place: usize, bytes: &[u8])
-    requires there { place < length list.old }
-    requires room { length (console_of list.old place) + length bytes.now ≤ console_size }
-    ensures { list.new ≡ changed (λ held. held ++ bytes.now) list.old place }
-{
-    list[place].put(bytes);
 }

@@ -1,6 +1,8 @@
 //! The laws of what a board shows: each part of a tick is that part of the model's.
 ghost use Rattle.board_world.specs.Laws.{CallIsCall, DeathIsDeath, IdleIsIdle, RefusalIsRefusal, StepIsStep, TimerIsTimer, TurnIsTurn};
 
+use call_verdicts::law_granted;
+
 /// A board is idle exactly where its world is.
 pub fn law_idle()
     ensures { IdleIsIdle }
@@ -14,7 +16,9 @@ pub fn law_turn()
 /// The runner's step, with its call or death, is the model's.
 pub fn law_step()
     ensures { StepIsStep }
-{}
+{
+    law_granted();
+}
 
 /// The timer is the model's.
 pub fn law_timer()
@@ -24,12 +28,16 @@ pub fn law_timer()
 /// A kernel call apart from a tick is the model's.
 pub fn law_call()
     ensures { CallIsCall }
-{}
+{
+    law_granted();
+}
 
 /// A refused call changes its caller's registers 2 and 3 and where it stands, and nothing else.
 pub fn law_refusal()
     ensures { RefusalIsRefusal }
-{}
+{
+    law_granted();
+}
 
 /// A death apart from a tick is the model's.
 pub fn law_death()

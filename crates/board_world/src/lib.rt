@@ -7,6 +7,6 @@ mod console;
 mod laws;
 mod roster;
 
-pub use console::{Console, Consoles};
+pub use console::Console;
 pub use laws::{law_call, law_death, law_idle, law_refusal, law_step, law_timer, law_turn};
 pub use roster::{Environment, Roster};

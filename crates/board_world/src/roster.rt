@@ -1,12 +1,15 @@
 //! The environments of a board.
-ghost use Rattle.std.specs.Prelude.{◌≡◌, ◌≢◌, ◌<◌, ◌≤◌, ◌-◌, [], ◌∷◌, ◌++◌, length, slice_get, Some, IfOk, IfSome};
+ghost use Rattle.std.specs.Prelude.{◌≡◌, ◌≢◌, ◌<◌, ◌≤◌, ◌+◌, ◌-◌, [], ◌∷◌, ◌++◌, length, replicate, slice_get, Some, IfOk, IfSome};
+ghost use Rattle.aegis_limits.specs.Limits.{console_size};
 ghost use Rattle.env_frames.specs.Context.{context_number, handler_of};
 ghost use Rattle.env_frames.specs.Frame.{left_in, page_of};
 ghost use Rattle.env_frames.specs.Transfer.{carried, entered_cpu, entry_area, entry_bytes, entry_context};
 ghost use Rattle.std.specs.Option.{option_map};
-ghost use Rattle.board_world.specs.Shown.{changed, handlers_of, mappings_of, registers_of, with_list};
-ghost use Rattle.board_world.specs.Doing.{with_registers, accepting, handling, dead_frame, mask_of};
+ghost use Rattle.board_world.specs.Shown.{changed, console_of, handlers_of, mappings_of, mask_of, registers_of, with_list};
+ghost use Rattle.board_world.specs.Doing.{with_registers, accepting, handling, dead_frame, putting};
+ghost use Rattle.world_model.specs.declared.life.Life.TheVariants.{Live};
 
+use crate::console::Console;
 use aegis_limits::OutOfMemory;
 use env_frames::{Context, Env, TransferKind};
 use frame_store::Frames;
@@ -15,7 +18,7 @@ use std::alloc::Global;
 use std::marker::Model;
 use world_model::{Cause, Life};
 
-/// An environment: its name, whether it lives, and its frame.
+/// An environment: its name, whether it lives, its frame, and its console.
 #[derive(Drop)]
 pub struct Environment {
     /// One to eight characters, then zeros.
@@ -23,24 +26,27 @@ pub struct Environment {
     pub life: Life,
     /// Its registers while it doesn't run, its handlers, and its guaranteed mappings.
     pub env: Env,
+    /// What it wrote, which stays when it dies.
+    pub console: Console,
 }
 
-/// The environments by number. The memory for all is taken when the roster is made.
+/// The environments by number, and consoles for those that will come. The memory for all is taken when the roster is
+/// made.
 #[derive(Drop)]
 pub struct Roster {
     list: Vec<Environment>,
-    spare: usize,
+    spare: Vec<Console>,
 }
 
 impl Model for Roster {
-    ghost use Rattle.std.specs.Prelude.{◌+◌, ◌≤◌, vec_len, vec_capacity};
+    ghost use Rattle.std.specs.Prelude.{◌≡◌, ◌+◌, ◌≤◌, [], All, vec_len, vec_capacity};
     ghost use Rattle.board_world.specs.Shown.{Environments};
 
     ghost Value = { Environments };
 
-    ghost view = { λ r. record { list = r.list.items; spare = r.spare } };
+    ghost view = { λ r. record { list = r.list.items; spare = vec_len r.spare } };
 
-    ghost invariant = { λ r. vec_len r.list + r.spare ≤ vec_capacity r.list };
+    ghost invariant = { λ r. (vec_len r.list + vec_len r.spare ≤ vec_capacity r.list) × All (λ console. console ≡ []) r.spare.items };
 }
 
 impl Roster {
@@ -49,10 +55,8 @@ impl Roster {
         ensures { IfOk result (λ r. r ≡ record { list = []; spare = envs }) }
     {
         let list = Vec::with_capacity(alloc, usize::from(envs))?;
-        Ok(Roster {
-            list,
-            spare: usize::from(envs),
-        })
+        let spare = empty_consoles(alloc, envs)?;
+        Ok(Roster { list, spare })
     }
 
     /// How many environments there are.
@@ -89,13 +93,38 @@ impl Roster {
         Some(environment.life)
     }
 
-    /// Adds the next environment, for which there must be room.
-    pub fn push(&mut self, environment: Environment)
+    /// Adds the next environment, for which there must be room: it lives, has this name and this frame, and wrote
+    /// nothing.
+    pub fn push(&mut self, name: [u8; 8], env: Env)
         requires { 0 < self.old.spare }
-        ensures { self.new ≡ record { list = self.old.list ++ environment ∷ []; spare = self.old.spare - 1 } }
+        ensures { self.new ≡ record { list = self.old.list ++ record { name = name; life = Live; env = env; console = [] } ∷ []; spare = self.old.spare - 1 } }
     {
-        self.list.push(environment).unwrap();
-        self.spare -= 1;
+        let console = self.spare.pop().unwrap();
+        self.list
+            .push(Environment {
+                name,
+                life: Life::Live,
+                env,
+                console,
+            })
+            .unwrap();
+    }
+
+    /// The console of the environment of this number.
+    pub fn console(&self, env: u8) -> &Console
+        requires { env < length self.now.list }
+        ensures { result.now ≡ console_of self.now.list env }
+    {
+        &self.at(env).console
+    }
+
+    /// Appends bytes to the console of the environment of this number, which must have room for them.
+    pub fn put(&mut self, env: u8, bytes: &[u8])
+        requires there { env < length self.old.list }
+        requires room { length (console_of self.old.list env) + length bytes.now ≤ console_size }
+        ensures { self.new ≡ with_list self.old (changed (putting bytes.now) self.old.list env) }
+    {
+        put_in(&mut self.list, usize::from(env), bytes);
     }
 
     /// Keeps the registers of the environment of this number.
@@ -150,6 +179,27 @@ impl Roster {
     {
         die_in(&mut self.list, usize::from(env), cause);
     }
+}
+
+/// So many empty consoles.
+fn empty_consoles(alloc: Global, count: u8) -> Result<Vec<Console>, OutOfMemory>
+    ensures { IfOk result (λ consoles. consoles.items ≡ replicate count []) }
+{
+    let mut consoles = Vec::with_capacity(alloc, usize::from(count))?;
+    for _ in 0..count {
+        consoles.push(Console::new(alloc)?)?;
+    }
+    Ok(consoles)
+}
+
+/// Appends bytes to the console of the environment at a place.
+fn put_in(list: &mut [Environment], place: usize, bytes: &[u8])
+    requires there { place < length list.old }
+    requires room { length (console_of list.old place) + length bytes.now ≤ console_size }
+    ensures { list.new ≡ changed (putting bytes.now) list.old place }
+{
+    let environment = &mut list[place];
+    environment.console.put(bytes);
 }
 
 /// Keeps the registers of the environment at a place.

@@ -90,6 +90,13 @@ impl Pages {
         count_free(&self.rows)
     }
 
+    /// The lowest free page, if one is free.
+    pub fn lowest_free(&self) -> Option<u32>
+        ensures { result ≡ first_free self.now }
+    {
+        first_free(&self.rows)
+    }
+
     /// The lowest free page becomes a guaranteed page of the environment, and its number is the answer. `NoneFree`
     /// comes where no page is free, and changes nothing.
     pub fn keep(&mut self, env: u8) -> Result<u32, PageNo>

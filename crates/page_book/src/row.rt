@@ -71,7 +71,7 @@ impl PageRow {
     }
 
     /// Why the page can't be allocated.
-    pub(crate) fn alloc_refusal(self) -> Option<PageNo>
+    pub fn alloc_refusal(self) -> Option<PageNo>
         ensures { result ≡ alloc_refusal (Some self) }
     {
         if self.is_free() {
@@ -82,7 +82,7 @@ impl PageRow {
     }
 
     /// Why the environment can't free the page, or give it other words.
-    pub(crate) fn change_refusal(self, env: u8) -> Option<PageNo>
+    pub fn change_refusal(self, env: u8) -> Option<PageNo>
         ensures { result ≡ change_refusal env (Some self) }
     {
         match self {
@@ -93,7 +93,7 @@ impl PageRow {
     }
 
     /// Why the environment, which presents a word, can't bind the page.
-    pub(crate) fn bind_refusal(self, env: u8, writable: bool, word: u64) -> Option<PageNo>
+    pub fn bind_refusal(self, env: u8, writable: bool, word: u64) -> Option<PageNo>
         ensures { result ≡ bind_refusal env writable word (Some self) }
     {
         match self {

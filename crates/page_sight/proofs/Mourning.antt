@@ -13,7 +13,8 @@ use Rattle.world_model.specs.declared.life.Life.TheVariants.{Live}
 use Rattle.world_model.specs.Solo.{Solo}
 use Rattle.world_model.specs.Item.{Item, absorb, absorb_all}
 use Rattle.world_model.specs.Book.{Book}
-use Rattle.world_model.specs.PageCalls.{lost_if, lost_with}
+use Rattle.world_model.specs.Death.{lost_with}
+use Rattle.world_model.specs.PageCalls.{lost_if}
 use Rattle.page_sight.specs.Sight.{IsStripe, Sees, seen_if}
 use Rattle.page_sight.specs.Laws.{MournersLose, broken_stripe, with_row}
 use Rattle.page_sight.proofs.Tables.{set_same}

@@ -13,7 +13,8 @@ use Rattle.world_model.specs.Solo.{Solo, Store, Physical, stored}
 use Rattle.world_model.specs.Holding.{owning, gained, lost, bound, unbound}
 use Rattle.world_model.specs.Item.{absorb_all}
 use Rattle.world_model.specs.Book.{Book, sees}
-use Rattle.world_model.specs.PageCalls.{lost_if, lost_with, left_if, without_number}
+use Rattle.world_model.specs.Death.{lost_with}
+use Rattle.world_model.specs.PageCalls.{lost_if, left_if, without_number}
 use Rattle.page_sight.specs.Sight.{IsStripe, Sees}
 
 -- the pages, once one of them has another row

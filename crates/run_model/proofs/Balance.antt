@@ -21,7 +21,8 @@ use Rattle.world_model.specs.Solo.{absent, dead, is_dead}
 use Rattle.world_model.specs.Table.{set_at}
 use Rattle.world_model.specs.Event.{Occurrence, Schedule, happen}
 use Rattle.world_model.specs.Tick.{act_now, clock, count_when, goes_on, grace_of, judged, kill, owes_more, pay_row, phases_after, run_out, slice_end, step_when, take_turn, tick_phases, timer, turn_when}
-use Rattle.world_model.specs.Verdict.{stop_row}
+use Rattle.world_model.specs.SlotCalls.{stop_row}
+use Rattle.call_verdicts.specs.Granted.{GrantedMay}
 use Rattle.world_model.specs.World.{World, Reply, after, no_change, no_items, only, run_phases}
 use Rattle.run_model.proofs.Lives.{keep_end, keep_none, keep_only, keep_start}
 use Rattle.run_model.proofs.NextTurn.{Found, holder_in, search_finds}
@@ -116,9 +117,9 @@ turn_accounts w None good =
 turn_accounts w (Some r) good = no_change_accounts w good
 
 -- The step.
-step_accounts : (w : World) (runner : Option Runner) → w.book.runner ≡ runner → IsAccounted w → IsAccounted (after w (step_when w runner))
-step_accounts w None is good = no_change_accounts w good
-step_accounts w (Some r) is good = act_accounts w r.env good (good.runner_lives r is) (act_now w r.env) refl
+step_accounts : GrantedMay → (w : World) (runner : Option Runner) → w.book.runner ≡ runner → IsAccounted w → IsAccounted (after w (step_when w runner))
+step_accounts granted w None is good = no_change_accounts w good
+step_accounts granted w (Some r) is good = act_accounts granted w r.env good (good.runner_lives r is) (act_now w r.env) refl
 
 -- The timer. Time rises by one.
 clock_accounts : KeepsAccounts clock
@@ -198,24 +199,24 @@ timer_accounts w good =
     in_turn_accounts (count ∷ clock ∷ []) w (clock_accounts (after w (count w)) (count_accounts w w.book.runner refl good))
 
 -- a tick is what happens in it, and then its phases
-tick_accounts : KeepAccounts tick_phases
-tick_accounts = (λ w good. turn_accounts w w.book.runner good, (λ w good. step_accounts w w.book.runner refl good, (timer_accounts, tt)))
+tick_accounts : GrantedMay → KeepAccounts tick_phases
+tick_accounts granted = (λ w good. turn_accounts w w.book.runner good, (λ w good. step_accounts granted w w.book.runner refl good, (timer_accounts, tt)))
 
-all_account : (happens : List Occurrence) → KeepAccounts (phases_after happens)
-all_account [] = tick_accounts
-all_account (what ∷ happens) = (happen_accounts what, all_account happens)
+all_account : GrantedMay → (happens : List Occurrence) → KeepAccounts (phases_after happens)
+all_account granted [] = tick_accounts granted
+all_account granted (what ∷ happens) = (happen_accounts what, all_account granted happens)
 
-next_accounts : (schedule : Schedule) (w : World) → IsAccounted w → IsAccounted (next_world schedule w)
-next_accounts schedule w good = by_test (is_idle_book w.book)
+next_accounts : GrantedMay → (schedule : Schedule) (w : World) → IsAccounted w → IsAccounted (next_world schedule w)
+next_accounts granted schedule w good = by_test (is_idle_book w.book)
   where
     by_test : (idle : Bool) → IsAccounted (if idle then w else run_phases w (next_phases schedule w))
     by_test true = good
-    by_test false = run_accounts (next_phases schedule w) (all_account (happens_in schedule w)) w good
+    by_test false = run_accounts (next_phases schedule w) (all_account granted (happens_in schedule w)) w good
 
 -- more ticks keep the accounts, and so the balance
-pub ticks_keep_accounts : TicksKeepAccounts
-ticks_keep_accounts schedule w good zero = good
-ticks_keep_accounts schedule w good (suc t) = next_accounts schedule (run_on schedule w t) (ticks_keep_accounts schedule w good t)
+pub ticks_keep_accounts : GrantedMay → TicksKeepAccounts
+ticks_keep_accounts granted schedule w good zero = good
+ticks_keep_accounts granted schedule w good (suc t) = next_accounts granted schedule (run_on schedule w t) (ticks_keep_accounts granted schedule w good t)
 
 -- At boot all live, nobody owes, and only slots have rows.
 none_owes : (e : ℕ) (programs : List ProgramValue) (b : Book) → (with_all_kept e programs b).excess ≡ b.excess
@@ -251,8 +252,8 @@ boots_accounted image = record {
     adds : Adds (boot_world image) [] (boot_world image).rows (λ e. 0)
     adds = adds_quiet (boot_world image) [] (boot_world image).rows (λ e. 0) (quiet_own_rows image.slots (length image.slots)) (λ e lives. refl)
 
-pub balance_holds : BalanceHolds
-balance_holds system t = (ticks_keep_accounts system.schedule (boot_world system.image) (boots_accounted system.image) t).balanced
+pub balance_holds : GrantedMay → BalanceHolds
+balance_holds granted system t = (ticks_keep_accounts granted system.schedule (boot_world system.image) (boots_accounted system.image) t).balanced
 
-pub ledgers_are_lawful : LedgersAreLawful
-ledgers_are_lawful system t = (ticks_keep_accounts system.schedule (boot_world system.image) (boots_accounted system.image) t).lawful
+pub ledgers_are_lawful : GrantedMay → LedgersAreLawful
+ledgers_are_lawful granted system t = (ticks_keep_accounts granted system.schedule (boot_world system.image) (boots_accounted system.image) t).lawful

@@ -1,22 +1,23 @@
 -- What leaves an environment's life as it is.
-use Rattle.std.proofs.Common.{◌≡◌, ℕ, zero, suc, List, [], ◌∷◌, ◌++◌, Bool, true, false, refl, ◌∙◌, ap, Option, Some, None}
+use Rattle.std.proofs.Common.{◌≡◌, ℕ, zero, suc, List, [], ◌∷◌, ◌++◌, Bool, true, false, refl, ◌∙◌, ap, None}
 use Rattle.std.specs.Prelude.{◌==◌, if◌then◌else◌, is_some}
 use Rattle.std.proofs.lemmas.List.Sums.{fold-append}
-use Rattle.env_frames.specs.declared.context.Context.{Context}
 use Rattle.env_frames.specs.declared.transfer.TransferKind.{TransferKind}
 use Rattle.env_frames.specs.Transfer.{Registers}
-use Rattle.env_frames.specs.Context.{context_numbered, resumed_cpu, start_area, start_bytes}
+use Rattle.env_frames.specs.Context.{resumed_cpu, start_area, start_bytes}
 use Rattle.bind_book.specs.Stripe.{binding_at, is_bound, row_of}
-use Rattle.mips_exec.specs.Cpu.{reg, rested}
+use Rattle.mips_exec.specs.Cpu.{rested}
 use Rattle.page_book.specs.Row.{belongs_to}
-use Rattle.world_model.specs.declared.call.Call.{Call}
-use Rattle.world_model.specs.declared.call.Call.TheVariants as call
-use Rattle.world_model.specs.declared.code.Code.{Code}
+use Rattle.world_model.specs.declared.deed.Deed.{Deed}
+use Rattle.world_model.specs.declared.deed.Deed.TheVariants.{Unbinds}
+use Rattle.world_model.specs.declared.verdict.Verdict.{Verdict}
+use Rattle.world_model.specs.declared.verdict.Verdict.TheVariants.{Refuse, Grant}
 use Rattle.world_model.specs.Book.{Book, sees}
-use Rattle.world_model.specs.Call.{called}
-use Rattle.world_model.specs.Holding.{start_by, with_binds, with_context}
-use Rattle.world_model.specs.Item.{Item, Start, End, Transfer, Granted, Refused, Gained, Lost, Left, absorb, absorb_all, absorbed, own_part, with_handlers}
-use Rattle.world_model.specs.PageCalls.{breaks, left_at, left_by, left_if, lost_if, lost_with}
+use Rattle.world_model.specs.Death.{lost_with}
+use Rattle.world_model.specs.Holding.{with_binds}
+use Rattle.world_model.specs.Upcalls.{start_by, with_context}
+use Rattle.world_model.specs.Item.{Item, Start, End, Transfer, Answer, Gained, Lost, Left, absorb, absorb_all, absorbed, answered, deed_at, own_part}
+use Rattle.world_model.specs.PageCalls.{breaks, left_at, left_by, left_if, lost_if}
 use Rattle.world_model.specs.Solo.{Solo, Store, Key, Kept, Physical, is_dead}
 use Rattle.world_model.specs.Table.{set_at}
 use Rattle.world_model.specs.World.{only}
@@ -49,19 +50,17 @@ pub keep_only : (e : ℕ) (xs : List Item) → Keeps xs → (i : ℕ) → Keeps 
 keep_only e xs first i = keep_if (i == e) xs [] first keep_none
 
 -- item by item
-handlers_same : (context : Option Context) (address : ℕ) (s : Solo) → (with_handlers context address s).life ≡ s.life
-handlers_same None address s = refl
-handlers_same (Some kind) address s = refl
-
 if_bound : (b : Bool) (s t : Solo) → t.life ≡ s.life → (if b then t else s).life ≡ s.life
 if_bound true s t same = same
 if_bound false s t same = refl
 
-own_part_same : (c : Option Call) (value : ℕ) (s : Solo) → (own_part c value s).life ≡ s.life
-own_part_same (Some call.Context) value s = handlers_same (context_numbered (reg s.cpu 4)) (reg s.cpu 5) s
-own_part_same (Some call.Unbind) value s =
-    if_bound (is_some (binding_at s.binds (reg s.cpu 4))) s (with_binds (set_at (row_of (reg s.cpu 4)) None s.binds) s) refl
-own_part_same c value s = refl
+own_part_same : (d : Deed) (s : Solo) → (own_part d s).life ≡ s.life
+own_part_same (Unbinds vpn) s = if_bound (is_some (binding_at s.binds vpn)) s (with_binds (set_at (row_of vpn) None s.binds) s) refl
+own_part_same d s = refl
+
+answered_same : (verdict : Verdict) (s : Solo) → (answered verdict s).life ≡ s.life
+answered_same (Refuse code value) s = refl
+answered_same (Grant value) s = own_part_same (deed_at s value) s
 
 start_same : (handler : ℕ) (s : Solo) → (start_by handler s).life ≡ s.life
 start_same handler s = by_test (handler == 0)
@@ -79,21 +78,14 @@ keep_end = keep_one End (λ s. refl)
 pub keep_transfer : (from : ℕ) (kind : TransferKind) (registers : Registers) → Keeps (Transfer from kind registers ∷ [])
 keep_transfer from kind registers = keep_one (Transfer from kind registers) (λ s. refl)
 
-pub keep_granted : (value : ℕ) → Keeps (Granted value ∷ [])
-keep_granted value = keep_one (Granted value) (λ s. own_part_same (called s.cpu) value s)
+pub keep_answer : (verdict : Verdict) → Keeps (Answer verdict ∷ [])
+keep_answer verdict = keep_one (Answer verdict) (answered_same verdict)
 
-pub keep_refused : (code : Code) (value : ℕ) → Keeps (Refused code value ∷ [])
-keep_refused code value = keep_one (Refused code value) (λ s. refl)
-
-pub keep_gained : (value page : ℕ) (writable : Bool) (bytes : List ℕ) → Keeps (Granted value ∷ Gained page writable bytes ∷ [])
-keep_gained value page writable bytes =
-    keep_both (Granted value ∷ []) (Gained page writable bytes ∷ []) (keep_granted value) (keep_one (Gained page writable bytes) (λ s. refl))
+pub keep_gained : (page : ℕ) (writable : Bool) (bytes : List ℕ) → Keeps (Gained page writable bytes ∷ [])
+keep_gained page writable bytes = keep_one (Gained page writable bytes) (λ s. refl)
 
 pub keep_lost : (page : ℕ) → Keeps (Lost page ∷ [])
 keep_lost page = keep_one (Lost page) (λ s. refl)
-
-pub keep_freed : (page : ℕ) → Keeps (Granted 0 ∷ Lost page ∷ [])
-keep_freed page = keep_both (Granted 0 ∷ []) (Lost page ∷ []) (keep_granted 0) (keep_lost page)
 
 -- what a break, a store or a death of another brings
 lost_keeps : (bound : Bool) (page : ℕ) → Keeps (lost_if bound page)

@@ -1,16 +1,16 @@
 -- Phases in turn, and the moments of a tick.
-use Rattle.std.proofs.Common.{◌≡◌, ℕ, suc, ◌+◌, List, [], ◌∷◌, ◌++◌, length, map, take, Bool, false, refl, sym, ◌∙◌, ap, append_assoc}
-use Rattle.std.specs.Prelude.{if◌then◌else◌}
+use Rattle.std.proofs.Common.{◌≡◌, ℕ, zero, suc, ◌+◌, List, [], ◌∷◌, ◌++◌, length, map, take, Bool, false, refl, sym, ◌∙◌, ap, subst, append_assoc, Option, None, Some}
+use Rattle.std.specs.Prelude.{if◌then◌else◌, slice_get}
 use Rattle.std.proofs.lemmas.List.{append-nil, length-map}
 use Rattle.std.proofs.lemmas.List.Sums.{fold-append}
-use Rattle.std.proofs.Math.Seq.{take-append-add, take-append_seam}
+use Rattle.std.proofs.Math.Seq.{take-append-add, take-append_seam, take-length}
 use Rattle.world_model.specs.Solo.{Solo}
 use Rattle.world_model.specs.Book.{is_idle_book}
 use Rattle.world_model.specs.Item.{Item, absorb, absorb_all}
 use Rattle.world_model.specs.World.{World, Reply, after, followed, in_turn, no_change, run_phases}
 use Rattle.world_model.specs.Event.{Occurrence, happen}
 use Rattle.world_model.specs.Tick.{phases_after, step, tick_phases, timer, turn}
-use Rattle.run_model.specs.Run.{InTurnIsEach, MomentsAreInOrder, System, at_step, at_timer, at_turn, happens_in, items_in, items_of_events, items_of_phases, next_phases, world_after}
+use Rattle.run_model.specs.Run.{InTurnIsEach, MomentsAreInOrder, System, at_step, at_timer, at_turn, happens_in, items_in, items_of_events, items_of_phases, moment, next_phases, phases_in, world_after}
 
 -- what is absorbed in two parts is absorbed in one
 pub absorb-append : (s : Solo) (xs ys : List Item) → absorb_all s (xs ++ ys) ≡ absorb_all (absorb_all s xs) ys
@@ -117,3 +117,49 @@ moments_in_order system t = record {
   timed = next_after_timer system t;
   given = items_in_order system t;
 }
+
+-- The world after one phase more, if there is one.
+abbrev pub once_more : World → Option (World → Reply) → World
+once_more w None = w
+once_more w (Some phase) = after w (phase w)
+
+more_phases : (phases : List (World → Reply)) (w : World) (k : ℕ) → run_phases w (take (suc k) phases) ≡ once_more (run_phases w (take k phases)) (slice_get phases k)
+more_phases [] w zero = refl
+more_phases [] w (suc k) = refl
+more_phases (phase ∷ phases) w zero = refl
+more_phases (phase ∷ phases) w (suc k) = more_phases phases (after w (phase w)) k
+
+pub next_moment : (system : System) (t k : ℕ) → moment system t (suc k) ≡ once_more (moment system t k) (slice_get (next_phases system.schedule (world_after system t)) k)
+next_moment system t k = let w = world_after system t in more_phases (next_phases system.schedule w) w k
+
+-- the world after a tick is that behind its last phase
+pub tick_moment : (system : System) (t : ℕ) → is_idle_book (world_after system t).book ≡ false → world_after system (suc t) ≡ moment system t (phases_in system t)
+tick_moment system t busy =
+    let w = world_after system t in
+    let phases = next_phases system.schedule w in
+    ap (λ (idle : Bool). if idle then w else run_phases w phases) busy ∙ ap (run_phases w) (sym (take-length phases))
+
+-- Each phase of a tick is an event, the turn, the step or the timer.
+module _ (P : (World → Reply) → Type 0) (events : (what : Occurrence) → P (happen what)) (turns : P turn) (steps : P step) (times : P timer) where
+  of_phases : (k : ℕ) (phase : World → Reply) → slice_get tick_phases k ≡ Some phase → P phase
+  of_phases zero phase is = subst P (one turn phase is) turns
+    where
+      one : (p q : World → Reply) → Some p ≡ Some q → p ≡ q
+      one p q same = cc
+  of_phases (suc zero) phase is = subst P (one step phase is) steps
+    where
+      one : (p q : World → Reply) → Some p ≡ Some q → p ≡ q
+      one p q same = cc
+  of_phases (suc (suc zero)) phase is = subst P (one timer phase is) times
+    where
+      one : (p q : World → Reply) → Some p ≡ Some q → p ≡ q
+      one p q same = cc
+  of_phases (suc (suc (suc k))) phase is = cc
+
+  pub of_each : (happens : List Occurrence) (k : ℕ) (phase : World → Reply) → slice_get (phases_after happens) k ≡ Some phase → P phase
+  of_each [] k phase is = of_phases k phase is
+  of_each (what ∷ happens) zero phase is = subst P (one (happen what) phase is) (events what)
+    where
+      one : (p q : World → Reply) → Some p ≡ Some q → p ≡ q
+      one p q same = cc
+  of_each (what ∷ happens) (suc k) phase is = of_each happens k phase is

@@ -1,47 +1,47 @@
 -- What the reply to the runner's step leaves of lives and slots.
-use Rattle.std.proofs.Common.{◌≡◌, ◌+◌, ℕ, List, [], ◌∷◌, ◌++◌, length, Bool, true, false, ◌&&◌, refl, sym, ◌∙◌, ap, subst, Option, Some, None, Result, Ok, Err}
-use Rattle.std.specs.Prelude.{◌==◌, not, nat_lt, if◌then◌else◌, is_some}
+use Rattle.std.proofs.Common.{◌≡◌, ◌+◌, ℕ, List, [], ◌∷◌, ◌++◌, Bool, true, false, ◌&&◌, refl, sym, ◌∙◌, ap, subst, Option, Some, None}
+use Rattle.std.specs.Prelude.{◌==◌, not, nat_lt, if◌then◌else◌}
+use Rattle.std.specs.Option.{option_map}
 use Rattle.std.proofs.lemmas.Bool.{and_parts, eqb-true, eqb-false, eq-eqb, not-true}
 use Rattle.frame_store.specs.Pages.{zero_page}
-use Rattle.mips_exec.specs.declared.registers.Cpu.{Cpu}
-use Rattle.mips_exec.specs.Cpu.{reg}
-use Rattle.mips_exec.specs.Step.{Step as MachineStep, Retired, Called, Trapped, cpu_after}
-use Rattle.std.specs.Option.{option_map}
+use Rattle.kernel_journal.specs.declared.row.Row.{Row}
+use Rattle.kernel_journal.specs.declared.row.Row.TheVariants as row
+use Rattle.mips_exec.specs.Step.{cpu_after}
 use Rattle.env_frames.specs.declared.transfer.TransferKind.{TransferKind}
 use Rattle.env_frames.specs.declared.transfer.TransferKind.TheVariants as kind
-use Rattle.env_frames.specs.Transfer.{carried, hands_slot, transfer_numbered}
+use Rattle.env_frames.specs.Transfer.{carried, hands_slot}
 use Rattle.page_book.specs.declared.row.PageRow.{PageRow}
 use Rattle.page_book.specs.declared.row.PageRow.TheVariants.{Free, Owned}
-use Rattle.page_book.specs.declared.refusal.PageNo.{PageNo}
-use Rattle.page_book.specs.Row.{change_refusal}
 use Rattle.bind_book.specs.declared.binding.Binding.{Binding}
-use Rattle.bind_book.specs.Stripe.{binding_at}
 use Rattle.world_model.specs.declared.call.Call.{Call}
-use Rattle.world_model.specs.declared.call.Call.TheVariants as call
-use Rattle.world_model.specs.declared.code.Code.{Code}
-use Rattle.world_model.specs.declared.code.Code.TheVariants as code
 use Rattle.world_model.specs.declared.life.Life.{Life}
 use Rattle.world_model.specs.declared.life.Life.TheVariants.{Live, Dead}
 use Rattle.world_model.specs.declared.life.Cause.{Cause}
 use Rattle.world_model.specs.declared.slot.Hold.{Hold}
 use Rattle.world_model.specs.declared.slot.Runner.{Runner}
+use Rattle.world_model.specs.declared.deed.Deed.{Deed}
+use Rattle.world_model.specs.declared.deed.Deed.TheVariants.{Answers, Stops, Gives, Puts, Allocates, Frees, Recaps, Binds, Unbinds, Handles, Accepts, Transfers, TakesSlot, DropsSlot}
+use Rattle.world_model.specs.declared.verdict.Verdict.{Verdict}
+use Rattle.world_model.specs.declared.verdict.Verdict.TheVariants.{Refuse, Grant}
 use Rattle.world_model.specs.Table.{set_at}
-use Rattle.world_model.specs.Book.{broken, own_hold, page_row, released}
-use Rattle.world_model.specs.Call.{any, binding_of, called, number_refusal, put_refusal, refusal_of_bind, refusal_of_context, words_of}
-use Rattle.world_model.specs.Code.{code_of}
-use Rattle.run_model.specs.Excess.{pays, AreSlotsLive, IsAccounted, IsRunnerLive, Lives}
-use Rattle.world_model.specs.Item.{Item, Step, Start, Transfer, Granted, Refused, Gained, Lost, absorb, absorb_all}
-use Rattle.world_model.specs.PageCalls.{alloc_by, bind_by, breaks, chosen_page, context_by, free_by, is_guaranteed, left_by, lost_with, page_bytes, recap_by, unbind_by, with_binding, without_number}
-use Rattle.world_model.specs.Transfers.{is_open, refusal_of_transfer, slots_handed, transfer_by, transfer_of, transfer_rows}
-use Rattle.world_model.specs.SlotCalls.{accepts, answer_to, drop_by, drop_refusal, dropped, gift_refusal, give_by, handed, held_by, is_other, query_by, question_numbered, refusal_of_giving, slot_at, turn_slot, take_by, take_refusal, with_slot, yield_by}
-use Rattle.world_model.specs.Solo.{Solo, is_dead, sight, store_of}
-use Rattle.world_model.specs.Step.{Act, Nothing, Stores, Calls, Raises, Dies, act_of, acted, call_act, step_alone, stepped}
+use Rattle.world_model.specs.Book.{broken, own_hold, released}
+use Rattle.world_model.specs.Call.{called}
+use Rattle.world_model.specs.Death.{death, lost_with}
+use Rattle.world_model.specs.Item.{Item, Step, Start, Transfer, Answer, Gained, Lost, absorb, absorb_all, deed_at}
+use Rattle.world_model.specs.May.{May}
+use Rattle.world_model.specs.PageCalls.{breaks, left_by, page_bytes, with_binding, without_number}
+use Rattle.world_model.specs.SlotCalls.{dropped, handed, held_by, is_other, turn_slot, with_slot}
+use Rattle.world_model.specs.Solo.{Solo, is_dead}
+use Rattle.world_model.specs.Step.{Act, Nothing, Stores, Calls, Raises, Dies, act_of, acted, step_alone, stepped}
 use Rattle.world_model.specs.Tick.{act_now, brings}
-use Rattle.world_model.specs.Verdict.{death, grant, put_if, refusal, reply_of, reply_to}
-use Rattle.world_model.specs.World.{World, Reply, after, in_turn, no_change, only, run_phases, tells}
+use Rattle.world_model.specs.Transfers.{slots_handed, transfer_rows}
+use Rattle.world_model.specs.Verdict.{done, reply_of, reply_to, verdict}
+use Rattle.world_model.specs.World.{World, Reply, after, followed, in_turn, no_change, no_items, only, run_phases, tells}
+use Rattle.call_verdicts.specs.Granted.{GrantedMay}
+use Rattle.run_model.specs.Excess.{pays, AreSlotsLive, IsAccounted, IsRunnerLive, Lives}
 use Rattle.run_model.proofs.Phases.{in_turn_is_each}
-use Rattle.run_model.proofs.Telling.{store_calls_not, told_own, trap_calls_not}
-use Rattle.run_model.proofs.Lives.{Keeps, if_living, keep_both, keep_none, keep_set, keep_only, keep_start, keep_transfer, keep_granted, keep_refused, keep_gained, keep_freed, breaks_keep, left_by_keeps, lost_with_keeps}
+use Rattle.run_model.proofs.Telling.{deed_may, told_named, told_own}
+use Rattle.run_model.proofs.Lives.{Keeps, if_living, keep_answer, keep_both, keep_none, keep_set, keep_only, keep_start, keep_transfer, keep_gained, keep_lost, breaks_keep, left_by_keeps, lost_with_keeps}
 use Rattle.run_model.proofs.Rows.{AreQuiet, Adds, adds_quiet, lawful_both, set_other, quiet_async, quiet_both, quiet_dead, quiet_give, quiet_releases, quiet_stop, quiet_slot, quiet_sync}
 
 -- After a reply who lives lived before, with this excess, and who has slots or runs lives.
@@ -218,10 +218,6 @@ is_live : (life : Life) → is_dead life ≡ false → life ≡ Live
 is_live Live is = refl
 is_live (Dead cause) is = cc
 
-not_refused : (other : Bool) (gift : Option Code) (accepted : Bool) → refusal_of_giving other gift accepted ≡ None → other ≡ true
-not_refused true gift accepted none = refl
-not_refused false gift accepted none = cc
-
 target_lives : (w : World) (e target : ℕ) → is_other w e target ≡ true → Lives w target
 target_lives w e target is =
     let alive = not (is_dead (w.solos target).life) in
@@ -251,8 +247,8 @@ transfer_is_quiet w e target kind.Asynchronous = (quiet_async w.book.time w.book
 transfer_is_quiet w e target kind.Synchronous =
     (quiet_sync w.book.time w.book.cursor e target, (quiet_slot w.book.time w.book.cursor (option_map (held_by target) (turn_slot w.book)), tt))
 
--- The calls, by why they are refused
-module _ (w : World) (e : ℕ) (good : IsAccounted w) where
+-- The deeds of a caller that lives.
+module _ (w : World) (e : ℕ) (good : IsAccounted w) (lives : Lives w e) where
   -- items alone
   unmoved : (items : ℕ → List Item) → ((i : ℕ) → Keeps (items i)) → Mild w (record { book = w.book; items = items; rows = [] })
   unmoved items keeps = record { excess = refl; quiet = tt; keeps = keeps; slots = good.slots_live; runner = good.runner_lives }
@@ -262,147 +258,68 @@ module _ (w : World) (e : ℕ) (good : IsAccounted w) where
       → Mild w (record { book = record w.book { pages = pages; binds = binds }; items = items; rows = [] })
   repaged pages binds items keeps = record { excess = refl; quiet = tt; keeps = keeps; slots = good.slots_live; runner = good.runner_lives }
 
-  refuses : (code : Code) (value : ℕ) → Mild w (refusal w e code value)
-  refuses code value = unmoved (only e (Refused code value ∷ [])) (keep_only e (Refused code value ∷ []) (keep_refused code value))
-
-  grants : (value : ℕ) → Mild w (grant w e value)
-  grants value = unmoved (only e (Granted value ∷ [])) (keep_only e (Granted value ∷ []) (keep_granted value))
-
   -- another slot
-  reslotted : (k : ℕ) (hold : Option Hold) → ((new : Hold) → hold ≡ Some new → Lives w new.owner × Lives w new.holder) → Mild w (with_slot w e k hold)
+  reslotted : (k : ℕ) (hold : Option Hold) → ((new : Hold) → hold ≡ Some new → Lives w new.owner × Lives w new.holder) → Mild w (with_slot w k hold)
   reslotted k hold now = record {
     excess = refl;
     quiet = (quiet_slot w.book.time k hold, tt);
-    keeps = keep_only e (Granted 0 ∷ []) (keep_granted 0);
+    keeps = λ i. keep_none;
     slots = with_slot_live w k hold good.slots_live now;
     runner = good.runner_lives;
   }
 
-  gives_by : (target : ℕ) (why : Option Code) → refusal_of_giving (is_other w e target) (gift_refusal false w.book.runner (turn_slot w.book)) (accepts (w.solos target).mask e) ≡ why → Mild w (reply_of w e (give_by w e target why))
-  gives_by target None none = record {
+  -- the rest of the slice, and with it the slot or not, to one that lives
+  hands_on : (target : ℕ) (item : Item) (later : Bool) (rows : List Row) → Lives w target → Keeps (item ∷ []) → AreQuiet rows
+      → Mild w (record { book = record w.book { slots = slots_handed later target w.book; runner = handed target w.book.runner }; items = only target (item ∷ []); rows = rows })
+  hands_on target item later rows its keeps quiet = record {
     excess = refl;
-    quiet = (quiet_give w.book.time w.book.cursor e target, tt);
-    keeps = keep_set target (Start ∷ []) (only e (Granted 0 ∷ [])) keep_start (keep_only e (Granted 0 ∷ []) (keep_granted 0));
-    slots = good.slots_live;
-    runner = handed_lives w target (target_lives w e target (not_refused (is_other w e target) (gift_refusal false w.book.runner (turn_slot w.book)) (accepts (w.solos target).mask e) none)) w.book.runner;
+    quiet = quiet;
+    keeps = keep_only target (item ∷ []) keeps;
+    slots = slots_handed_live w later target its good.slots_live;
+    runner = handed_lives w target its w.book.runner;
   }
-  gives_by target (Some why) is = refuses why 0
 
-  transfers_by : (target : ℕ) (kind : TransferKind) (why : Option Code) → refusal_of_transfer w e target kind ≡ why → Mild w (reply_of w e (transfer_by w e target kind why))
-  transfers_by target kind None none =
-      let s = w.solos target in
-      let accepted = accepts s.mask e && is_open s kind in
-      let lives = target_lives w e target (not_refused (is_other w e target) (gift_refusal (hands_slot kind) w.book.runner (turn_slot w.book)) accepted none) in
+  deed_is_mild : (d : Deed) → May w e d → Mild w (done w e d)
+  deed_is_mild Answers may = no_change_is_mild w good
+  deed_is_mild Stops may = record { excess = refl; quiet = (quiet_stop w.book.time w.book.cursor e, tt); keeps = λ i. keep_none; slots = good.slots_live; runner = λ x is. cc }
+  deed_is_mild (Gives target) may = hands_on target Start false (row.Give w.book.time w.book.cursor e target ∷ []) (target_lives w e target may.other) keep_start (quiet_give w.book.time w.book.cursor e target, tt)
+  deed_is_mild (Puts address size) may = no_change_is_mild w good
+  deed_is_mild (Allocates page words) may =
+      let items = Gained page true zero_page ∷ [] in
+      repaged (set_at page (Owned e words) w.book.pages) w.book.binds (only e items) (keep_only e items (keep_gained page true zero_page))
+  deed_is_mild (Frees page) may =
+      let items = Lost page ∷ [] in
+      repaged (set_at page Free w.book.pages) (broken page None w.book).binds (set_at e items (breaks w.book page)) (keep_set e items (breaks w.book page) (keep_lost page) (breaks_keep w.book page))
+  deed_is_mild (Recaps page words) may =
+      repaged (set_at page (Owned e words) w.book.pages) (broken page (Some e) w.book).binds (set_at e [] (breaks w.book page)) (keep_set e [] (breaks w.book page) keep_none (breaks_keep w.book page))
+  deed_is_mild (Binds b word) may =
+      let items = Gained b.page b.writable (page_bytes w b.page) ∷ [] in
+      repaged w.book.pages (with_binding e b w.book.binds) (only e items) (keep_only e items (keep_gained b.page b.writable (page_bytes w b.page)))
+  deed_is_mild (Unbinds vpn) may = repaged w.book.pages (set_at e (without_number vpn (w.book.binds e)) w.book.binds) no_items (λ i. keep_none)
+  deed_is_mild (Handles kind address) may = no_change_is_mild w good
+  deed_is_mild (Accepts mask) may = no_change_is_mild w good
+  deed_is_mild (Transfers target kind) may =
       let registers = carried (w.solos e).cpu in
-      record {
-        excess = refl;
-        quiet = transfer_is_quiet w e target kind;
-        keeps = keep_set target (Transfer e kind registers ∷ []) (only e (Granted 0 ∷ [])) (keep_transfer e kind registers) (keep_only e (Granted 0 ∷ []) (keep_granted 0));
-        slots = slots_handed_live w (hands_slot kind) target lives good.slots_live;
-        runner = handed_lives w target lives w.book.runner;
-      }
-  transfers_by target kind (Some why) is = refuses why 0
+      hands_on target (Transfer e kind registers) (hands_slot kind) (transfer_rows w.book e target kind) (target_lives w e target may.reach.other) (keep_transfer e kind registers) (transfer_is_quiet w e target kind)
+  deed_is_mild (TakesSlot k) may = reslotted k (Some (own_hold e)) (own_lives w e lives)
+  deed_is_mild (DropsSlot k) may = reslotted k (dropped e (w.book.slots k)) (dropped_lives w e (w.book.slots k) (good.slots_live k))
 
-  transfers_of : (target : ℕ) (kind : Option TransferKind) → Mild w (reply_of w e (transfer_of w e target kind))
-  transfers_of target None = refuses code.BadCall 0
-  transfers_of target (Some kind) = transfers_by target kind (refusal_of_transfer w e target kind) refl
-
-  yields_by : (target : ℕ) (stops : Bool) → Mild w (reply_of w e (yield_by w e target stops))
-  yields_by target true = record {
-    excess = refl;
-    quiet = (quiet_stop w.book.time w.book.cursor e, tt);
-    keeps = keep_only e (Granted 0 ∷ []) (keep_granted 0);
-    slots = good.slots_live;
-    runner = λ x is. cc;
+  -- behind an answer
+  answer_is_mild : (verdict : Verdict) (r : Reply) → Mild w r → Mild w (followed (tells e (Answer verdict) w) r)
+  answer_is_mild verdict r mild = record {
+    excess = mild.excess;
+    quiet = mild.quiet;
+    keeps = λ i. keep_both (only e (Answer verdict ∷ []) i) (r.items i) (keep_only e (Answer verdict ∷ []) (keep_answer verdict) i) (mild.keeps i);
+    slots = mild.slots;
+    runner = mild.runner;
   }
-  yields_by target false = gives_by target (refusal_of_giving (is_other w e target) (gift_refusal false w.book.runner (turn_slot w.book)) (accepts (w.solos target).mask e)) refl
 
-  puts_by : (why : Option Code) → Mild w (reply_of w e (put_if w e why))
-  puts_by None = grants (reg (w.solos e).cpu 5)
-  puts_by (Some why) = refuses why 0
+  reply_is_mild : (v : Verdict) → ((value : ℕ) → v ≡ Grant value → May w e (deed_at (w.solos e) value)) → Mild w (reply_of w e v)
+  reply_is_mild (Refuse code value) may = unmoved (only e (Answer (Refuse code value) ∷ [])) (keep_only e (Answer (Refuse code value) ∷ []) (keep_answer (Refuse code value)))
+  reply_is_mild (Grant value) may = let d = deed_at (w.solos e) value in answer_is_mild (Grant value) (done w e d) (deed_is_mild d (may value refl))
 
-  allocs_by : (chosen : Result ℕ PageNo) → Mild w (reply_of w e (alloc_by w e chosen))
-  allocs_by (Ok page) =
-      let items = Granted page ∷ Gained page true zero_page ∷ [] in
-      repaged (set_at page (Owned e (words_of (w.solos e).cpu)) w.book.pages) w.book.binds (only e items) (keep_only e items (keep_gained page page true zero_page))
-  allocs_by (Err why) = refuses (code_of why) 0
-
-  frees_by : (why : Option PageNo) → Mild w (reply_of w e (free_by w e why))
-  frees_by None =
-      let page = reg (w.solos e).cpu 4 in
-      let items = Granted 0 ∷ Lost page ∷ [] in
-      repaged (set_at page Free w.book.pages) (broken page None w.book).binds (set_at e items (breaks w.book page)) (keep_set e items (breaks w.book page) (keep_freed page) (breaks_keep w.book page))
-  frees_by (Some why) = refuses (code_of why) 0
-
-  recaps_by : (why : Option PageNo) → Mild w (reply_of w e (recap_by w e why))
-  recaps_by None =
-      let page = reg (w.solos e).cpu 4 in
-      let items = Granted 0 ∷ [] in
-      repaged (set_at page (Owned e (words_of (w.solos e).cpu)) w.book.pages) (broken page (Some e) w.book).binds (set_at e items (breaks w.book page))
-      (keep_set e items (breaks w.book page) (keep_granted 0) (breaks_keep w.book page))
-  recaps_by (Some why) = refuses (code_of why) 0
-
-  binds_by : (why : Option Code) → Mild w (reply_of w e (bind_by w e why))
-  binds_by None =
-      let b = binding_of (w.solos e).cpu in
-      let items = Granted 0 ∷ Gained b.page b.writable (page_bytes w b.page) ∷ [] in
-      repaged w.book.pages (with_binding e b w.book.binds) (only e items) (keep_only e items (keep_gained 0 b.page b.writable (page_bytes w b.page)))
-  binds_by (Some why) = refuses why 0
-
-  unbinds_by : (why : Option Code) → Mild w (reply_of w e (unbind_by w e why))
-  unbinds_by None =
-      let vpn = reg (w.solos e).cpu 4 in
-      let value = if is_some (binding_at (w.solos e).binds vpn) then 1 else 0 in
-      repaged w.book.pages (set_at e (without_number vpn (w.book.binds e)) w.book.binds) (only e (Granted value ∷ [])) (keep_only e (Granted value ∷ []) (keep_granted value))
-  unbinds_by (Some why) = refuses why 0
-
-  contexts_by : (why : Option Code) → Mild w (reply_of w e (context_by w e why))
-  contexts_by None = grants 0
-  contexts_by (Some why) = refuses why 0
-
-  takes_by : (k : ℕ) → Lives w e → (why : Option Code) → Mild w (reply_of w e (take_by w e k why))
-  takes_by k lives None = reslotted k (Some (own_hold e)) (own_lives w e lives)
-  takes_by k lives (Some why) = refuses why 0
-
-  drops_by : (k : ℕ) (why : Option Code) → Mild w (reply_of w e (drop_by w e k why))
-  drops_by k None = reslotted k (dropped e (w.book.slots k)) (dropped_lives w e (w.book.slots k) (good.slots_live k))
-  drops_by k (Some why) = refuses why 0
-
-  queries_by : (answer : Result ℕ Code) → Mild w (reply_of w e (query_by w e answer))
-  queries_by (Ok value) = grants value
-  queries_by (Err why) = refuses why 0
-
-  call_is_mild : Lives w e → (c : Option Call) → (c ≡ Some call.Exit → ⊥) → Mild w (reply_to w e c)
-  call_is_mild lives None stays = refuses code.BadCall 0
-  call_is_mild lives (Some call.Yield) stays = let target = reg (w.solos e).cpu 4 in yields_by target (target == any)
-  call_is_mild lives (Some call.Put) stays = let s = w.solos e in puts_by (put_refusal s.cpu (sight s) (length s.console))
-  call_is_mild lives (Some call.Exit) stays = absurd (stays refl)
-  call_is_mild lives (Some call.Alloc) stays = allocs_by (chosen_page w.book (reg (w.solos e).cpu 4))
-  call_is_mild lives (Some call.Free) stays = frees_by (change_refusal e (page_row w.book (reg (w.solos e).cpu 4)))
-  call_is_mild lives (Some call.Recap) stays = recaps_by (change_refusal e (page_row w.book (reg (w.solos e).cpu 4)))
-  call_is_mild lives (Some call.Bind) stays =
-      let s = w.solos e in
-      binds_by (refusal_of_bind e s.cpu (is_guaranteed s (reg s.cpu 4)) (page_row w.book (reg s.cpu 5)))
-  call_is_mild lives (Some call.Unbind) stays = let s = w.solos e in unbinds_by (number_refusal (is_guaranteed s (reg s.cpu 4)) (reg s.cpu 4))
-  call_is_mild lives (Some call.Context) stays = contexts_by (refusal_of_context (w.solos e).cpu)
-  call_is_mild lives (Some call.Accept) stays = grants 0
-  call_is_mild lives (Some call.Transfer) stays = let cpu = (w.solos e).cpu in transfers_of (reg cpu 4) (transfer_numbered (reg cpu 5))
-  call_is_mild lives (Some call.SlotTake) stays = let k = reg (w.solos e).cpu 4 in takes_by k lives (take_refusal (slot_at w.book k))
-  call_is_mild lives (Some call.SlotDrop) stays = let k = reg (w.solos e).cpu 4 in drops_by k (drop_refusal e (slot_at w.book k))
-  call_is_mild lives (Some call.Query) stays = let cpu = (w.solos e).cpu in queries_by (answer_to w e (question_numbered (reg cpu 4)) (reg cpu 5))
-  call_is_mild lives (Some call.OwnNumber) stays = grants (w.solos e).number
-  call_is_mild lives (Some call.Clock) stays = grants w.book.time
-
--- exit is no call that is answered
-exit_dies : (cpu : Cpu) (c : Option Call) → call_act cpu c ≡ Calls (Some call.Exit) → ⊥
-exit_dies cpu (Some call.Exit) is = cc
-exit_dies cpu None is = cc
-exit_dies cpu (Some c) is = cc
-
-never_exits : (s : Solo) (step : MachineStep) → act_of s step ≡ Calls (Some call.Exit) → ⊥
-never_exits s (Retired cpu write) is = store_calls_not (store_of s write) (Some call.Exit) is
-never_exits s Called is = exit_dies s.cpu (called s.cpu) is
-never_exits s (Trapped exc) is = trap_calls_not s.handlers.exception exc (Some call.Exit) is
+  call_is_mild : GrantedMay → (c : Option Call) → called (w.solos e).cpu ≡ c → Mild w (reply_to w e c)
+  call_is_mild granted c named = reply_is_mild (verdict w e c) (deed_may granted w e c named)
 
 -- The runner's step, and then what its act brings.
 abbrev stepping : ℕ → Act → List (World → Reply)
@@ -410,18 +327,20 @@ stepping e act = tells e Step ∷ brings e act ∷ []
 
 -- where it isn't its death, and the act brings what is mild
 goes_on : (w : World) (e : ℕ) (act : Act) → IsAccounted w → Lives w e → act_now w e ≡ act → ((cause : Cause) → act ≡ Dies cause → ⊥)
-    → ((v : World) → IsAccounted v → Lives v e → Mild v (brings e act v)) → IsAccounted (after w (in_turn (stepping e act) w))
+    → (let v = after w (tells e Step w) in IsAccounted v → Lives v e → Mild v (brings e act v)) → IsAccounted (after w (in_turn (stepping e act) w))
 goes_on w e act good lives is stays mild =
     let v = after w (tells e Step w) in
     let same = step_leaves (w.solos e) act is stays in
     let still = tells_accounts w e Step good same in
-    in_turn_accounts (stepping e act) w (mild_accounts v (brings e act v) still (mild v still (ap (λ (s : Solo). s.life) (told_own w e Step) ∙ same ∙ lives)))
+    in_turn_accounts (stepping e act) w (mild_accounts v (brings e act v) still (mild still (ap (λ (s : Solo). s.life) (told_own w e Step) ∙ same ∙ lives)))
 
-pub act_accounts : (w : World) (e : ℕ) → IsAccounted w → Lives w e → (act : Act) → act_now w e ≡ act → IsAccounted (after w (in_turn (stepping e act) w))
-act_accounts w e good lives Nothing is = goes_on w e Nothing good lives is (λ cause dies. cc) (λ v good lives. no_change_is_mild v good)
-act_accounts w e good lives (Stores x) is = goes_on w e (Stores x) good lives is (λ cause dies. cc) (λ v good lives. unmoved v e good (left_by v.book e x) (left_by_keeps v.book e x))
-act_accounts w e good lives (Calls c) is =
-    let stays : c ≡ Some call.Exit → ⊥ = λ exits. never_exits (w.solos e) (step_alone (w.solos e)) (is ∙ ap Calls exits) in
-    goes_on w e (Calls c) good lives is (λ cause dies. cc) (λ v good lives. call_is_mild v e good lives c stays)
-act_accounts w e good lives (Raises exc) is = goes_on w e (Raises exc) good lives is (λ cause dies. cc) (λ v good lives. no_change_is_mild v good)
-act_accounts w e good lives (Dies cause) is = death_accounts w e Step cause good (step_ends (w.solos e) cause is)
+pub act_accounts : GrantedMay → (w : World) (e : ℕ) → IsAccounted w → Lives w e → (act : Act) → act_now w e ≡ act → IsAccounted (after w (in_turn (stepping e act) w))
+act_accounts granted w e good lives Nothing is = goes_on w e Nothing good lives is (λ cause dies. cc) (λ good lives. no_change_is_mild (after w (tells e Step w)) good)
+act_accounts granted w e good lives (Stores x) is =
+    let v = after w (tells e Step w) in
+    goes_on w e (Stores x) good lives is (λ cause dies. cc) (λ good lives. unmoved v e good lives (left_by v.book e x) (left_by_keeps v.book e x))
+act_accounts granted w e good lives (Calls c) is =
+    let v = after w (tells e Step w) in
+    goes_on w e (Calls c) good lives is (λ cause dies. cc) (λ good lives. call_is_mild v e good lives granted c (told_named w e c is))
+act_accounts granted w e good lives (Raises exc) is = goes_on w e (Raises exc) good lives is (λ cause dies. cc) (λ good lives. no_change_is_mild (after w (tells e Step w)) good)
+act_accounts granted w e good lives (Dies cause) is = death_accounts w e Step cause good (step_ends (w.solos e) cause is)

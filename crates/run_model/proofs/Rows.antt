@@ -10,7 +10,8 @@ use Rattle.world_model.specs.declared.slot.Hold.{Hold}
 use Rattle.world_model.specs.Book.{has_part, lowered, released}
 use Rattle.run_model.specs.Excess.{AreLawfulAfter, IsLawful, Lives, is_over_of, is_pay_of, overs, pays}
 use Rattle.world_model.specs.Table.{set_at}
-use Rattle.world_model.specs.Verdict.{released_row, released_rows, slot_row}
+use Rattle.world_model.specs.Death.{released_row, released_rows}
+use Rattle.world_model.specs.SlotCalls.{slot_row}
 use Rattle.world_model.specs.World.{World}
 
 -- the balance of those who live in a world, over rows and excess

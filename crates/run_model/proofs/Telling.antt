@@ -1,16 +1,24 @@
 -- What an environment is told, and that a call leaves it as it is until it is answered.
-use Rattle.std.proofs.Common.{◌≡◌, ◌≢◌, ℕ, [], ◌∷◌, Bool, true, false, Option, Some, None, refl, ◌∙◌, ap}
+use Rattle.std.proofs.Common.{◌≡◌, ◌≢◌, ℕ, [], ◌∷◌, Bool, true, false, Option, Some, None, refl, sym, ◌∙◌, ap, subst}
 use Rattle.std.specs.Prelude.{◌==◌, if◌then◌else◌}
 use Rattle.std.proofs.lemmas.Bool.{eq-eqb, eqb-true, ne_eqb}
 use Rattle.std.proofs.lemmas.List.{append-nil}
 use Rattle.mips_exec.specs.declared.registers.Cpu.{Cpu}
 use Rattle.mips_exec.specs.declared.exception.Exc.{Exc}
+use Rattle.mips_exec.specs.Cpu.{reg}
 use Rattle.mips_exec.specs.Step.{Step as MachineStep, Retired, Called, Trapped, cpu_after}
 use Rattle.world_model.specs.declared.call.Call.{Call}
 use Rattle.world_model.specs.declared.life.Cause.TheVariants as cause
-use Rattle.world_model.specs.Item.{Item, Step, absorb, absorb_all}
+use Rattle.world_model.specs.declared.verdict.Verdict.TheVariants.{Grant}
+use Rattle.world_model.specs.Deed.{deed_of}
+use Rattle.world_model.specs.Item.{Item, Step, absorb, absorb_all, deed_at}
+use Rattle.world_model.specs.May.{May}
+use Rattle.world_model.specs.Verdict.{verdict}
+use Rattle.call_verdicts.specs.Granted.{GrantedMay}
+use Rattle.run_model.specs.Acting.{Acts, Does}
 use Rattle.world_model.specs.Solo.{Solo, Store, is_dead, store_of}
-use Rattle.world_model.specs.Step.{Act, Calls, Raises, Dies, act_of, acted, step_alone, stepped, store_act, trap_act}
+use Rattle.world_model.specs.Call.{called, exit_number}
+use Rattle.world_model.specs.Step.{Act, Calls, Raises, Dies, act_at_call, act_of, acted, step_alone, stepped, store_act, trap_act}
 use Rattle.world_model.specs.Tick.{act_now}
 use Rattle.world_model.specs.World.{World, after, tells}
 
@@ -32,6 +40,19 @@ trap_calls_not handler exc c is = by_test (handler == 0) is
     by_test : (t : Bool) → (if t then Dies (cause.Trapped exc.code) else Raises exc) ≡ Calls c → ⊥
     by_test true is = cc
     by_test false is = cc
+
+-- a call is that which the registers name
+call_names : (cpu : Cpu) (c : Option Call) (exits : Bool) → act_at_call cpu exits ≡ Calls c → called cpu ≡ c
+call_names cpu c true is = cc
+call_names cpu c false is = cc
+
+step_names : (s : Solo) (st : MachineStep) (c : Option Call) → act_of s st ≡ Calls c → called s.cpu ≡ c
+step_names s (Retired cpu write) c is = absurd (store_calls_not (store_of s write) c is)
+step_names s Called c is = call_names s.cpu c (reg s.cpu 2 == exit_number) is
+step_names s (Trapped exc) c is = absurd (trap_calls_not s.handlers.exception exc c is)
+
+pub call_named : (w : World) (e : ℕ) (c : Option Call) → act_now w e ≡ Calls c → called (w.solos e).cpu ≡ c
+call_named w e c is = let s = w.solos e in step_names s (step_alone s) c is
 
 -- a call leaves its caller's registers
 call_cpu : (s : Solo) (st : MachineStep) (c : Option Call) → act_of s st ≡ Calls c → cpu_after s.cpu st ≡ s.cpu
@@ -58,3 +79,14 @@ call_stands w e c is = λ k. record { book = w.book; count = w.count; solos = λ
     by_test : (i : ℕ) (mine : Bool) → (i == e) ≡ mine → absorb_all (w.solos i) (if mine then Step ∷ [] else []) ≡ w.solos i
     by_test i true own = call_absorbed (w.solos i) c (ap (λ (n : ℕ). act_now w n) (eqb-true i e own) ∙ is)
     by_test i false other = refl
+
+pub told_named : (w : World) (e : ℕ) (c : Option Call) → act_now w e ≡ Calls c → called ((after w (tells e Step w)).solos e).cpu ≡ c
+told_named w e c is = ap (λ (v : World). called (v.solos e).cpu) (call_stands w e c is) ∙ call_named w e c is
+
+-- what the deed of a granted call presupposes the world has
+pub deed_may : GrantedMay → (w : World) (e : ℕ) (c : Option Call) → called (w.solos e).cpu ≡ c → (value : ℕ) → verdict w e c ≡ Grant value → May w e (deed_at (w.solos e) value)
+deed_may granted w e c named value is = subst (λ (call : Option Call). May w e (deed_of call value (w.solos e).cpu)) (sym named) (granted w e c value is)
+
+-- and it is done
+pub call_does : (w : World) (e : ℕ) (c : Option Call) → Acts w e (Calls c) → (value : ℕ) → verdict w e c ≡ Grant value → Does w e (deed_at (w.solos e) value)
+call_does w e c acts value is = record { call = c; acts = acts; value = value; granted = is; done = ap (λ (call : Option Call). deed_of call value (w.solos e).cpu) (sym (call_named w e c acts.comes)) }

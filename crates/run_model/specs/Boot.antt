@@ -12,7 +12,7 @@ use Rattle.page_book.specs.Rows.{lowest_free}
 use Rattle.kernel_journal.specs.declared.row.Row.{Row}
 use Rattle.world_model.specs.declared.slot.Hold.{Hold}
 use Rattle.world_model.specs.Table.{listed, set_at}
-use Rattle.world_model.specs.Verdict.{slot_row}
+use Rattle.world_model.specs.SlotCalls.{slot_row}
 use Rattle.world_model.specs.Book.{Book, own_hold}
 use Rattle.world_model.specs.Page.{KeptPage}
 use Rattle.world_model.specs.Solo.{absent, nothing_bound}

@@ -2,3 +2,4 @@ pub mod Boot
 pub mod Run
 pub mod NextTurn
 pub mod Excess
+pub mod Acting

@@ -1,5 +1,5 @@
 -- Whole runs: the world after so many ticks and at each moment of a tick, and what each environment was given.
-use Rattle.std.specs.Prelude.{ℕ, zero, suc, ◌+◌, List, [], ◌++◌, false, ◌==◌, if◌then◌else◌, ◌≡◌, length, map, take}
+use Rattle.std.specs.Prelude.{ℕ, zero, suc, ◌+◌, List, [], ◌++◌, false, ◌==◌, if◌then◌else◌, ◌≡◌, length, map, take, Option, None, Some, slice_get}
 use Rattle.boot_image.specs.ImageValue.{ImageValue}
 use Rattle.kernel_journal.specs.declared.row.RunEnd.{RunEnd}
 use Rattle.kernel_journal.specs.declared.row.RunEnd.TheVariants as end
@@ -40,6 +40,10 @@ world_after system t = run_on system.schedule (boot_world system.image) t
 abbrev pub moment : System → ℕ → ℕ → World
 moment system t k = let w = world_after system t in run_phases w (take k (next_phases system.schedule w))
 
+-- how many phases a tick has
+abbrev pub phases_in : System → ℕ → ℕ
+phases_in system t = length (next_phases system.schedule (world_after system t))
+
 -- how much happens in a tick before its turn
 abbrev pub events_in : System → ℕ → ℕ
 events_in system t = length (happens_in system.schedule (world_after system t))
@@ -65,6 +69,14 @@ next_items schedule w e = if is_idle_book w.book then [] else (in_turn (next_pha
 -- what an environment is given in a tick
 abbrev pub items_in : System → ℕ → ℕ → List Item
 items_in system t e = next_items system.schedule (world_after system t) e
+
+-- what an environment is given in a phase of a tick; behind the last phase nothing is given
+abbrev pub given_by : World → Option (World → Reply) → ℕ → List Item
+given_by w None e = []
+given_by w (Some phase) e = (phase w).items e
+
+abbrev pub given_at : System → ℕ → ℕ → ℕ → List Item
+given_at system t k e = given_by (moment system t k) (slice_get (next_phases system.schedule (world_after system t)) k) e
 
 -- what it is given by the events of a tick, and by its phases behind them
 abbrev pub items_of_events : System → ℕ → ℕ → List Item

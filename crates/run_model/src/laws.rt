@@ -2,8 +2,10 @@
 ghost use Rattle.std.specs.Prelude.{◌<◌};
 ghost use Rattle.world_model.specs.Book.{Book, next_turn};
 ghost use Rattle.run_model.specs.NextTurn.{IsNextTurn};
-ghost use Rattle.run_model.specs.Excess.{BalanceHolds, LedgersAreLawful, TurnsGoByRule};
+ghost use Rattle.run_model.specs.Excess.{BalanceHolds, LedgersAreLawful, TicksKeepAccounts, TurnsGoByRule};
 ghost use Rattle.run_model.specs.Run.{InTurnIsEach, IsFoldOfFeed, MomentsAreInOrder};
+
+use call_verdicts::law_granted;
 
 /// Phases in turn are the phases one after another, each in the world that the one before it leaves.
 pub fn law_in_turn()
@@ -38,9 +40,20 @@ pub fn law_turn()
 /// What an environment that lives ran past its slices it has forfeited, or still owes.
 pub fn law_balance()
     ensures { BalanceHolds }
-{}
+{
+    law_granted();
+}
 
 /// Every row of every ledger is lawful after those before it, by the rule of excess.
 pub fn law_ledger()
     ensures { LedgersAreLawful }
-{}
+{
+    law_granted();
+}
+
+/// Ticks keep the accounts of every world in which they are in order.
+pub fn law_accounts()
+    ensures { TicksKeepAccounts }
+{
+    law_granted();
+}

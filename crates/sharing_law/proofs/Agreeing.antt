@@ -1,5 +1,5 @@
--- The book and the environments agree after every number of ticks.
-use Rattle.std.proofs.Common.{◌≡◌, ◌≤◌, ℕ, zero, suc, ◌+◌, List, [], ◌∷◌, Bool, true, false, Option, Some, None, refl, sym, ◌∙◌, subst, arith}
+-- The book and the environments agree, at each moment.
+use Rattle.std.proofs.Common.{◌≡◌, ◌≤◌, ℕ, zero, suc, ◌+◌, List, [], ◌∷◌, Bool, true, false, Option, Some, None, refl, sym, ◌∙◌, ap, subst, arith}
 use Rattle.std.specs.Prelude.{◌==◌, if◌then◌else◌, slice_get}
 use Rattle.boot_image.specs.ImageValue.{ImageValue, ProgramValue, guaranteed_mappings}
 use Rattle.page_book.specs.declared.row.PageRow.{PageRow}
@@ -7,26 +7,28 @@ use Rattle.page_book.specs.declared.row.PageRow.TheVariants.{Free, Guaranteed}
 use Rattle.page_book.specs.Row.{is_owned_by}
 use Rattle.page_book.specs.Rows.{lowest_free}
 use Rattle.page_book.proofs.Free.{is_lowest}
+use Rattle.bind_book.specs.declared.binding.Binding.{Binding}
 use Rattle.world_model.specs.declared.life.Life.TheVariants.{Live}
 use Rattle.world_model.specs.declared.slot.Runner.{Runner}
-use Rattle.world_model.specs.Book.{Book, is_idle_book}
+use Rattle.world_model.specs.Book.{Book, is_idle_book, running}
+use Rattle.world_model.specs.Event.{Occurrence, happen}
 use Rattle.world_model.specs.Solo.{Solo, absent}
 use Rattle.world_model.specs.Item.{absorb_all}
 use Rattle.world_model.specs.PageCalls.{page_bytes}
-use Rattle.world_model.specs.Step.{step_alone, stepped}
-use Rattle.world_model.specs.World.{World, after}
-use Rattle.world_model.specs.Tick.{act_now, brings, step_when}
+use Rattle.world_model.specs.World.{World, Reply, after}
+use Rattle.world_model.specs.Tick.{phases_after, step, step_when, timer, turn}
+use Rattle.call_verdicts.specs.Granted.{GrantedMay}
 use Rattle.run_model.specs.Boot.{boot_book, boot_world, keep_lowest, keep_pages, record_items, with_all_kept, with_kept}
-use Rattle.run_model.specs.Run.{System, at_step, at_timer, world_after}
-use Rattle.run_model.proofs.Phases.{moments_in_order}
+use Rattle.run_model.specs.Run.{System, happens_in, moment, phases_in, world_after}
+use Rattle.run_model.proofs.Phases.{next_moment, of_each, once_more, tick_moment}
 use Rattle.page_sight.proofs.Tables.{set_else}
 use Rattle.sharing_law.specs.Agreement.{AreBoundAllocated, BooksAgree, BoundIsAllocated}
 use Rattle.sharing_law.proofs.Sound.{HasNone, Sound, sees_nothing}
 use Rattle.sharing_law.proofs.Books.{step_allocated}
-use Rattle.sharing_law.proofs.Turning.{allocated_alike, sound_alike, sound_turned, unchanged}
-use Rattle.sharing_law.proofs.Moments.{after_turn, stays_idle, turned_alike}
-use Rattle.sharing_law.proofs.Stepping.{sound_following, step_brings, step_follows, told_step}
-use Rattle.sharing_law.proofs.Timing.{sound_timed}
+use Rattle.sharing_law.proofs.Turning.{IsAlike, allocated_alike, sound_alike, sound_turned, turn_alike, unchanged}
+use Rattle.sharing_law.proofs.Moments.{stays_idle}
+use Rattle.sharing_law.proofs.Stepping.{sound_following, step_follows}
+use Rattle.sharing_law.proofs.Timing.{allocated_timed, sound_timed}
 
 -- At boot no page is allocated, and none behind the last one is anybody's.
 record AreFresh (count : ℕ) (pages : ℕ → PageRow) : Type 0 where
@@ -89,6 +91,9 @@ module _ (image : ImageValue) where
   none_yet : (i : ℕ) → HasNone i (boot_world image).book.pages ((boot_world image).book.binds i)
   none_yet i = record { binds = book_fresh.binds i; owns = book_fresh.pages.owns i }
 
+  pub none_bound : (e row : ℕ) (b : Binding) → (boot_world image).book.binds e row ≡ Some b → ⊥
+  none_bound e row b is = let never : None ≡ Some b = sym (book_fresh.binds e row) ∙ is in cc
+
   sound_boot : Sound (boot_world image)
   sound_boot = record {
     agreed = λ e. sees_nothing e (boot_world image).book.pages ((boot_world image).book.binds e) (page_bytes (boot_world image)) ((boot_world image).solos e) (none_yet e) (booted e).binds (booted e).seen;
@@ -99,43 +104,61 @@ module _ (image : ImageValue) where
     runs = λ r is. (booted r.env).lives;
   }
 
--- The step, whoever runs.
-stepped_by : (w : World) (o : Option Runner) → w.book.runner ≡ o → Sound w → AreBoundAllocated w → AreBoundAllocated (after w (step_when w o)) → Sound (after w (step_when w o))
-stepped_by w None is sound allocated next = sound_alike w (after w (step_when w None)) (unchanged w) sound.runs sound
-stepped_by w (Some r) is sound allocated next =
-    let s = w.solos r.env in
-    let act = act_now w r.env in
-    let lives = sound.runs r is in
-    let follows = step_follows w r.env act lives refl (step_brings w r.env sound lives allocated (step_alone s)) in
-    sound_following w r.env (stepped s (step_alone s)) act (after w (step_when w (Some r))) (brings r.env act (told_step w r.env)).items sound follows next
+-- A world that is sound, where no page is bound that isn't allocated: each phase of a tick leaves such a one.
+pub record Fine (w : World) : Type 0 where
+  pub sound : Sound w
+  pub allocated : AreBoundAllocated w
 
--- A tick.
-module _ (system : System) (t : ℕ) (sound : Sound (world_after system t)) (allocated : AreBoundAllocated (world_after system t)) where
-  pub sound_turned_in : Sound (at_step system t)
-  sound_turned_in = subst Sound (sym (after_turn system t)) (sound_turned (world_after system t) sound)
+abbrev KeepsFine : (World → Reply) → Type 0
+KeepsFine phase = (w : World) → Fine w → Fine (after w (phase w))
 
-  pub allocated_turned_in : AreBoundAllocated (at_step system t)
-  allocated_turned_in = allocated_alike (world_after system t) (at_step system t) (turned_alike system t) allocated
+fine_alike : (w v : World) → IsAlike w v → ((r : Runner) → v.book.runner ≡ Some r → (w.solos r.env).life ≡ Live) → Fine w → Fine v
+fine_alike w v alike runs fine = record { sound = sound_alike w v alike runs fine.sound; allocated = allocated_alike w v alike fine.allocated }
 
-  pub allocated_stepped_in : AreBoundAllocated (at_timer system t)
-  allocated_stepped_in = subst AreBoundAllocated (sym (moments_in_order system t).stepped) (step_allocated (at_step system t) allocated_turned_in)
+fine_turn : KeepsFine turn
+fine_turn w fine = record { sound = sound_turned w fine.sound; allocated = allocated_alike w (after w (turn w)) (turn_alike w) fine.allocated }
 
-  pub sound_stepped_in : Sound (at_timer system t)
-  sound_stepped_in =
-      let mid = at_step system t in
-      subst Sound (sym (moments_in_order system t).stepped) (stepped_by mid mid.book.runner refl sound_turned_in allocated_turned_in (step_allocated mid allocated_turned_in))
+fine_timer : KeepsFine timer
+fine_timer w fine = record { sound = sound_timed w fine.sound fine.allocated; allocated = allocated_timed w fine.allocated }
 
-  sound_by : (idle : Bool) → is_idle_book (world_after system t).book ≡ idle → Sound (world_after system (suc t))
-  sound_by true idle = subst Sound (sym (stays_idle system t idle)) sound
-  sound_by false busy = subst Sound (sym ((moments_in_order system t).timed busy)) (sound_timed (at_timer system t) sound_stepped_in allocated_stepped_in)
+module _ (granted : GrantedMay) where
+  -- the step, whoever runs
+  sound_step : (w : World) (o : Option Runner) → w.book.runner ≡ o → Fine w → AreBoundAllocated (after w (step_when w o)) → Sound (after w (step_when w o))
+  sound_step w None is fine next = sound_alike w (after w (step_when w None)) (unchanged w) fine.sound.runs fine.sound
+  sound_step w (Some r) is fine next =
+      let stepped = step_follows granted w r.env fine.sound fine.allocated (fine.sound.runs r is) (ap running is) in
+      sound_following w r.env stepped.came_to (after w (step_when w (Some r))) stepped.items fine.sound stepped.follows next
 
-  sound_next : Sound (world_after system (suc t))
-  sound_next = sound_by (is_idle_book (world_after system t).book) refl
+  fine_step : KeepsFine step
+  fine_step w fine = let next = step_allocated granted w fine.allocated in record { sound = sound_step w w.book.runner refl fine next; allocated = next }
 
--- Every world is so, where no page is bound that isn't allocated.
-pub all_sound : BoundIsAllocated → (system : System) (t : ℕ) → Sound (world_after system t)
-all_sound bound system zero = sound_boot system.image
-all_sound bound system (suc t) = sound_next system t (all_sound bound system t) (bound system t)
+  fine_phase : (happens : List Occurrence) (k : ℕ) (phase : World → Reply) → slice_get (phases_after happens) k ≡ Some phase → KeepsFine phase
+  fine_phase = of_each KeepsFine (λ what w fine. fine_alike w (after w (happen what w)) (unchanged w) fine.sound.runs fine) fine_turn fine_step fine_timer
 
-pub books_agree : BoundIsAllocated → BooksAgree
-books_agree bound system t = (all_sound bound system t).agreed
+  -- at each moment of a tick
+  module _ (system : System) (t : ℕ) (fine : Fine (world_after system t)) where
+    abbrev happens : List Occurrence
+    happens = happens_in system.schedule (world_after system t)
+
+    once_fine : (k : ℕ) (o : Option (World → Reply)) → slice_get (phases_after happens) k ≡ o → Fine (moment system t k) → Fine (once_more (moment system t k) o)
+    once_fine k None is before = before
+    once_fine k (Some phase) is before = fine_phase happens k phase is (moment system t k) before
+
+    pub moment_fine : (k : ℕ) → Fine (moment system t k)
+    moment_fine zero = fine
+    moment_fine (suc k) = subst Fine (sym (next_moment system t k)) (once_fine k (slice_get (phases_after happens) k) refl (moment_fine k))
+
+    fine_by : (idle : Bool) → is_idle_book (world_after system t).book ≡ idle → Fine (world_after system (suc t))
+    fine_by true idle = subst Fine (sym (stays_idle system t idle)) fine
+    fine_by false busy = subst Fine (sym (tick_moment system t busy)) (moment_fine (phases_in system t))
+
+  -- and after every number of ticks
+  pub all_fine : (system : System) (t : ℕ) → Fine (world_after system t)
+  all_fine system zero = record { sound = sound_boot system.image; allocated = λ e row b is. absurd (none_bound system.image e row b is) }
+  all_fine system (suc t) = fine_by system t (all_fine system t) (is_idle_book (world_after system t).book) refl
+
+pub books_agree : GrantedMay → BooksAgree
+books_agree granted system t = (all_fine granted system t).sound.agreed
+
+pub bound_is_allocated : GrantedMay → BoundIsAllocated
+bound_is_allocated granted system t = (all_fine granted system t).allocated

@@ -1,71 +1,58 @@
--- What the runner's act brings: what each environment sees after it.
-use Rattle.std.proofs.Common.{◌≡◌, ◌≢◌, ◌≤◌, ℕ, List, [], ◌∷◌, Bool, true, false, Option, Some, None, refl, sym, ◌∙◌, ap, subst}
+-- What comes of the runner's act: what each environment sees after it.
+use Rattle.std.proofs.Common.{◌≡◌, ◌≢◌, ◌≤◌, ℕ, List, [], Bool, true, false, Option, Some, None, refl, sym, ◌∙◌, ap, subst}
 use Rattle.std.specs.Prelude.{◌==◌, ◌||◌, if◌then◌else◌}
 use Rattle.std.specs.Option.{option_map}
 use Rattle.std.proofs.lemmas.Bool.{eq-eqb, eqb-true, ne_eqb}
 use Rattle.frame_store.specs.Pages.{with_bytes, zero_page}
 use Rattle.mips_exec.specs.declared.registers.Cpu.{Cpu}
-use Rattle.env_frames.specs.declared.transfer.TransferKind.{TransferKind}
-use Rattle.env_frames.specs.Transfer.{carried}
-use Rattle.world_model.specs.declared.call.Call.TheVariants as call
+use Rattle.page_book.specs.declared.row.Capabilities.{Capabilities}
 use Rattle.page_book.specs.declared.row.PageRow.{PageRow}
 use Rattle.page_book.specs.declared.row.PageRow.TheVariants.{Free, Guaranteed, Owned}
 use Rattle.page_book.specs.Row.{belongs_to, is_owned_by, released as released_row}
 use Rattle.bind_book.specs.declared.binding.Binding.{Binding}
 use Rattle.bind_book.specs.Stripe.{goes_with, without}
+use Rattle.world_model.specs.declared.deed.Deed.TheVariants.{Allocates}
 use Rattle.world_model.specs.declared.life.Life.TheVariants.{Live}
 use Rattle.world_model.specs.declared.life.Cause.{Cause}
 use Rattle.world_model.specs.declared.slot.Hold.{Hold}
 use Rattle.world_model.specs.declared.slot.Runner.{Runner}
 use Rattle.world_model.specs.Table.{set_at}
 use Rattle.world_model.specs.Book.{Book, released, sees}
-use Rattle.world_model.specs.Item.{Item, Start, Transfer, absorb_all}
-use Rattle.world_model.specs.PageCalls.{death_items, left_at, left_if, lost_with, page_bytes}
+use Rattle.world_model.specs.Death.{death, death_items, lost_with}
+use Rattle.world_model.specs.Item.{Item, absorb_all}
+use Rattle.world_model.specs.PageCalls.{left_at, left_by, left_if, page_bytes}
 use Rattle.world_model.specs.Solo.{Solo, Store, Key, Kept, Physical, dead, is_physical, stored, stored_sight}
-use Rattle.world_model.specs.Step.{Act, Stores, Calls, Dies}
-use Rattle.world_model.specs.SlotCalls.{accepts}
-use Rattle.world_model.specs.Transfers.{is_open}
-use Rattle.world_model.specs.Tick as tick
-use Rattle.world_model.specs.Verdict.{death}
-use Rattle.world_model.specs.World.{World, Reply, no_change}
+use Rattle.world_model.specs.Step.{Stores}
+use Rattle.world_model.specs.World.{World, no_items}
+use Rattle.run_model.specs.Acting.{Acts, Does}
 use Rattle.page_sight.specs.Sight.{IsStripe, Sees}
 use Rattle.page_sight.proofs.Mourning.{mourners_lose}
 use Rattle.page_sight.proofs.Sights.{readers_see, writer_sees}
 use Rattle.page_sight.proofs.Stripes.{without_ends}
-use Rattle.sharing_law.proofs.Given.{Keeps, keeps_none, keeps_left, keeps_death, dead_absorbs}
+use Rattle.sharing_law.proofs.Given.{dead_absorbs}
 use Rattle.sharing_law.proofs.Sound.{AreLive, HasNone, Sound, sees_nothing}
 
--- What becomes of an allocated page and of its bytes: it was its owner's and has them still, the runner stored to it, or it was free and has zeros, since its owner is the runner, who called for it.
-pub data Fate (w : World) (e : ℕ) (act : Act) (o page : ℕ) (bytes : List ℕ) : Type 0 where
-  Stays : is_owned_by o (w.book.pages page) ≡ true → bytes ≡ page_bytes w page → Fate w e act o page bytes
-  Written : is_owned_by o (w.book.pages page) ≡ true → (x : Store) → act ≡ Stores x → x.key ≡ Physical page → Fate w e act o page bytes
-  Taken : o ≡ e → act ≡ Calls (Some call.Alloc) → w.book.pages page ≡ Free → bytes ≡ zero_page → Fate w e act o page bytes
+-- What becomes of an allocated page and of its bytes: it was its owner's and has them still; a runner stored to it; or it was free, and its owner called for it, and it has zeros.
+pub data Fate (w : World) (o page : ℕ) (bytes : List ℕ) : Type 0 where
+  Stays : is_owned_by o (w.book.pages page) ≡ true → bytes ≡ page_bytes w page → Fate w o page bytes
+  Written : is_owned_by o (w.book.pages page) ≡ true → (e : ℕ) → (x : Store) → Acts w e (Stores x) → x.key ≡ Physical page → bytes ≡ with_bytes (page_bytes w page) x.offset x.bytes → Fate w o page bytes
+  Taken : (words : Capabilities) → Does w o (Allocates page words) → w.book.pages page ≡ Free → bytes ≡ zero_page → Fate w o page bytes
 
 -- the runner goes on, or it dies
 pub data Fortune (w : World) (e : ℕ) (s : Solo) (b : Book) : Type 0 where
   GoesOn : s.life ≡ Live → ((k : ℕ) (h : Hold) → b.slots k ≡ Some h → AreLive w.solos h) → ((r : Runner) → b.runner ≡ Some r → (w.solos r.env).life ≡ Live) → Fortune w e s b
   Ends : b.slots ≡ (λ k. released e (w.book.slots k)) → b.runner ≡ None → HasNone e b.pages (b.binds e) → Fortune w e s b
 
--- What the act of a runner gives to an environment: what leaves its guaranteed pages, or the start of a slice or a transfer that it accepts, of the runner, which is another.
-pub data Gives (w : World) (e : ℕ) (act : Act) (i : ℕ) (items : List Item) : Type 0 where
-  Tells : Keeps items → Gives w e act i items
-  Starts : e ≢ i → items ≡ Start ∷ [] → Gives w e act i items
-  Enters : (kind : TransferKind) → e ≢ i → act ≡ Calls (Some call.Transfer) → accepts (w.solos i).mask e ≡ true → is_open (w.solos i) kind ≡ true → items ≡ Transfer e kind (carried (w.solos e).cpu) ∷ [] → Gives w e act i items
-
--- what the act of a runner, which is s after it, brings to each environment: the book after it, and what each is given
-pub record Brings (w : World) (e : ℕ) (s : Solo) (act : Act) (b : Book) (items : ℕ → List Item) : Type 0 where
+-- what comes of a runner, which is s after its act and its answer, to each environment: the book after it, and what each is given
+pub record Brings (w : World) (e : ℕ) (s : Solo) (b : Book) (items : ℕ → List Item) : Type 0 where
   pub bytes : ℕ → List ℕ
   pub own : Sees e b.pages (b.binds e) bytes (absorb_all s (items e))
   pub others : (i : ℕ) → i ≢ e → (w.solos i).life ≡ Live → Sees i b.pages (b.binds i) bytes (absorb_all (w.solos i) (items i))
   pub none : (i : ℕ) → i ≢ e → HasNone i w.book.pages (w.book.binds i) → HasNone i b.pages (b.binds i)
   pub stripes : (i : ℕ) → IsStripe (b.binds i)
   pub behind : (page : ℕ) → b.page_count ≤ page → b.pages page ≡ Free
-  pub fate : (o page : ℕ) → is_owned_by o (b.pages page) ≡ true → Fate w e act o page (bytes page)
-  pub gives : (i : ℕ) → Gives w e act i (items i)
+  pub fate : (o page : ℕ) → is_owned_by o (b.pages page) ≡ true → Fate w o page (bytes page)
   pub fortune : Fortune w e s b
-
-abbrev pub BringsIn : World → ℕ → Solo → Act → Reply → Type 0
-BringsIn w e s act r = Brings w e s act r.book r.items
 
 -- who has the same bindings and sees the same
 pub as_before : (e : ℕ) (pages : ℕ → PageRow) (stripe : ℕ → Option Binding) (bytes : ℕ → List ℕ) (s t : Solo) → t.binds ≡ s.binds → t.seen ≡ s.seen → Sees e pages stripe bytes s → Sees e pages stripe bytes t
@@ -112,11 +99,10 @@ module _ (w : World) (e : ℕ) (sound : Sound w) (lives : (w.solos e).life ≡ L
   idle i items none = subst (λ its. Sees i w.book.pages (w.book.binds i) (page_bytes w) (absorb_all (w.solos i) its)) (sym none) (sound.agreed i)
 
   -- An act that changes nobody else.
-  pub quiet : (s : Solo) (act : Act) (slots : ℕ → Option Hold) → ((k : ℕ) (h : Hold) → slots k ≡ Some h → AreLive w.solos h) → (runner : Option Runner) → ((r : Runner) → runner ≡ Some r → (w.solos r.env).life ≡ Live)
-      → (items : ℕ → List Item) → s.life ≡ Live
-      → ((i : ℕ) → i ≢ e → items i ≡ []) → ((i : ℕ) → Keeps (items i)) → Sees e w.book.pages (w.book.binds e) (page_bytes w) (absorb_all s (items e))
-      → Brings w e s act (record w.book { slots = slots; runner = runner }) items
-  quiet s act slots holders runner runs items alive none keeps own = record {
+  pub quiet : (s : Solo) (slots : ℕ → Option Hold) → ((k : ℕ) (h : Hold) → slots k ≡ Some h → AreLive w.solos h) → (runner : Option Runner) → ((r : Runner) → runner ≡ Some r → (w.solos r.env).life ≡ Live)
+      → (items : ℕ → List Item) → s.life ≡ Live → ((i : ℕ) → i ≢ e → items i ≡ []) → Sees e w.book.pages (w.book.binds e) (page_bytes w) (absorb_all s (items e))
+      → Brings w e s (record w.book { slots = slots; runner = runner }) items
+  quiet s slots holders runner runs items alive none own = record {
     bytes = page_bytes w;
     own = own;
     others = λ i ne live. idle i (items i) (none i ne);
@@ -124,18 +110,21 @@ module _ (w : World) (e : ℕ) (sound : Sound w) (lives : (w.solos e).life ≡ L
     stripes = sound.stripes;
     behind = sound.behind;
     fate = λ o page owns. Stays owns refl;
-    gives = λ i. Tells (keeps i);
     fortune = GoesOn alive holders runs;
   }
 
-  -- one that brings nothing
-  pub silent : (s : Solo) (act : Act) → s.life ≡ Live → s.binds ≡ (w.solos e).binds → s.seen ≡ (w.solos e).seen → BringsIn w e s act (no_change w)
-  silent s act alive binds sights =
-      quiet s act w.book.slots sound.holders w.book.runner sound.runs (λ i. []) alive (λ i ne. refl) (λ i. keeps_none)
+  -- one that brings nothing, but to slots and to who runs
+  pub silent_but : (s : Solo) (slots : ℕ → Option Hold) → ((k : ℕ) (h : Hold) → slots k ≡ Some h → AreLive w.solos h) → (runner : Option Runner) → ((r : Runner) → runner ≡ Some r → (w.solos r.env).life ≡ Live)
+      → s.life ≡ Live → s.binds ≡ (w.solos e).binds → s.seen ≡ (w.solos e).seen → Brings w e s (record w.book { slots = slots; runner = runner }) no_items
+  silent_but s slots holders runner runs alive binds sights =
+      quiet s slots holders runner runs no_items alive (λ i ne. refl)
       (as_before e w.book.pages (w.book.binds e) (page_bytes w) (w.solos e) s binds sights (sound.agreed e))
 
+  pub silent : (s : Solo) → s.life ≡ Live → s.binds ≡ (w.solos e).binds → s.seen ≡ (w.solos e).seen → Brings w e s w.book no_items
+  silent s alive binds sights = silent_but s w.book.slots sound.holders w.book.runner sound.runs alive binds sights
+
   -- A store.
-  module _ (cpu : Cpu) (x : Store) where
+  module _ (cpu : Cpu) (x : Store) (acts : Acts w e (Stores x)) where
     abbrev writer : Solo
     writer = record (w.solos e) { cpu = cpu }
 
@@ -146,7 +135,7 @@ module _ (w : World) (e : ℕ) (sound : Sound w) (lives : (w.solos e).life ≡ L
     abbrev written : ℕ → ℕ → List ℕ
     written page = set_at page (with_bytes (page_bytes w page) x.offset x.bytes) (page_bytes w)
 
-    to_bound : (page : ℕ) → x.key ≡ Physical page → Brings w e (stored x writer) (Stores x) w.book (left_at w.book e x (Physical page))
+    to_bound : (page : ℕ) → x.key ≡ Physical page → Brings w e (stored x writer) w.book (left_at w.book e x (Physical page))
     to_bound page is = record {
       bytes = written page;
       own = subst (λ its. Sees e w.book.pages (w.book.binds e) (written page) (absorb_all (stored x writer) its)) (ap (λ t. if t then [] else left_if (sees w.book e page) page x) (sym (eq-eqb e e refl)))
@@ -157,25 +146,19 @@ module _ (w : World) (e : ℕ) (sound : Sound w) (lives : (w.solos e).life ≡ L
       none = λ i ne before. before;
       stripes = sound.stripes;
       behind = sound.behind;
-      fate = fate;
-      gives = λ i. Tells (keeps_left (sees w.book i page) e i page x);
+      fate = λ o p owns. by_page o p owns (p == page) refl;
       fortune = GoesOn lives sound.holders sound.runs;
     }
       where
-        by_page : (o p : ℕ) → is_owned_by o (w.book.pages p) ≡ true → (t : Bool) → (p == page) ≡ t → Fate w e (Stores x) o p (if t then with_bytes (page_bytes w page) x.offset x.bytes else page_bytes w p)
-        by_page o p owns true same = Written owns x refl (is ∙ ap Physical (sym (eqb-true p page same)))
+        by_page : (o p : ℕ) → is_owned_by o (w.book.pages p) ≡ true → (t : Bool) → (p == page) ≡ t → Fate w o p (if t then with_bytes (page_bytes w page) x.offset x.bytes else page_bytes w p)
+        by_page o p owns true same = Written owns e x acts (is ∙ ap Physical (sym (eqb-true p page same))) (ap (λ (n : ℕ). with_bytes (page_bytes w n) x.offset x.bytes) (sym (eqb-true p page same)))
         by_page o p owns false other = Stays owns refl
 
-        fate : (o p : ℕ) → is_owned_by o (w.book.pages p) ≡ true → Fate w e (Stores x) o p (written page p)
-        fate o p owns = by_page o p owns (p == page) refl
-
-    by_key : (key : Key) → x.key ≡ key → Brings w e (stored x writer) (Stores x) w.book (left_at w.book e x key)
-    by_key (Kept v) is =
-        quiet (stored x writer) (Stores x) w.book.slots sound.holders w.book.runner sound.runs (left_at w.book e x (Kept v)) lives (λ i ne. refl) (λ i. keeps_none)
-        (as_before e w.book.pages (w.book.binds e) (page_bytes w) (w.solos e) (stored x writer) refl (kept_sights v is) (sound.agreed e))
+    by_key : (key : Key) → x.key ≡ key → Brings w e (stored x writer) w.book (left_at w.book e x key)
+    by_key (Kept v) is = silent (stored x writer) lives refl (kept_sights v is)
     by_key (Physical page) is = to_bound page is
 
-    pub store_brings : BringsIn w e (stored x writer) (Stores x) (tick.brings e (Stores x) w)
+    pub store_brings : Brings w e (stored x writer) w.book (left_by w.book e x)
     store_brings = by_key x.key refl
 
   -- A death.
@@ -186,39 +169,48 @@ module _ (w : World) (e : ℕ) (sound : Sound w) (lives : (w.solos e).life ≡ L
     nothing_left : HasNone e (death w e).book.pages ((death w e).book.binds e)
     nothing_left = record { binds = λ row. gone_row w.book.pages e (w.book.binds e row); owns = λ page. released_own e (w.book.pages page) }
 
-    pub death_brings : BringsIn w e corpse (Dies cause) (tick.brings e (Dies cause) w)
-    death_brings = record {
-      bytes = page_bytes w;
-      own = subst (λ (s : Solo). Sees e (death w e).book.pages ((death w e).book.binds e) (page_bytes w) s) (sym (dead_absorbs corpse cause (death_items w.book e e) refl))
-          (sees_nothing e (death w e).book.pages ((death w e).book.binds e) (page_bytes w) corpse nothing_left (λ row. refl) (λ page. refl));
-      others = λ i ne live.
-          subst (λ its. Sees i (death w e).book.pages ((death w e).book.binds i) (page_bytes w) (absorb_all (w.solos i) its)) (ap (λ t. if t then [] else lost_with w.book e i w.book.page_count) (sym (ne_eqb i e ne)))
-          (mourners_lose e i w.book (page_bytes w) (w.solos i) (sound.agreed i) live ne sound.behind (sound.stripes i));
-      none = λ i ne before. record {
-        binds = λ row. ap (without (goes_with w.book.pages e i)) (before.binds row);
-        owns = λ page. released_none e i (w.book.pages page) (before.owns page);
-      };
-      stripes = λ i. without_ends (goes_with w.book.pages e i) (w.book.binds i) (sound.stripes i);
-      behind = λ page there. ap (released_row e) (sound.behind page there);
-      fate = λ o page owns. Stays (released_owned e o (w.book.pages page) owns) refl;
-      gives = λ i. Tells (keeps_death w.book e i);
-      fortune = Ends refl refl nothing_left;
-    }
+    -- the pages of the others keep their bytes
+    pub death_keeps : (brings : Brings w e corpse (death w e).book (death_items w.book e)) × (brings.bytes ≡ page_bytes w)
+    death_keeps = (
+      record {
+        bytes = page_bytes w;
+        own = subst (λ (s : Solo). Sees e (death w e).book.pages ((death w e).book.binds e) (page_bytes w) s) (sym (dead_absorbs corpse cause (death_items w.book e e) refl))
+            (sees_nothing e (death w e).book.pages ((death w e).book.binds e) (page_bytes w) corpse nothing_left (λ row. refl) (λ page. refl));
+        others = λ i ne live.
+            subst (λ its. Sees i (death w e).book.pages ((death w e).book.binds i) (page_bytes w) (absorb_all (w.solos i) its)) (ap (λ t. if t then [] else lost_with w.book e i w.book.page_count) (sym (ne_eqb i e ne)))
+            (mourners_lose e i w.book (page_bytes w) (w.solos i) (sound.agreed i) live ne sound.behind (sound.stripes i));
+        none = λ i ne before. record {
+          binds = λ row. ap (without (goes_with w.book.pages e i)) (before.binds row);
+          owns = λ page. released_none e i (w.book.pages page) (before.owns page);
+        };
+        stripes = λ i. without_ends (goes_with w.book.pages e i) (w.book.binds i) (sound.stripes i);
+        behind = λ page there. ap (released_row e) (sound.behind page there);
+        fate = λ o page owns. Stays (released_owned e o (w.book.pages page) owns) refl;
+        fortune = Ends refl refl nothing_left;
+      },
+      refl,
+    )
+
+    pub death_brings : Brings w e corpse (death w e).book (death_items w.book e)
+    death_brings = death_keeps.0
 
   -- the same with other excess, at another time
   owing_fortune : (b : Book) (s : Solo) (excess : ℕ → ℕ) (time : ℕ) → Fortune w e s b → Fortune w e s (record b { excess = excess; time = time })
   owing_fortune b s excess time (GoesOn alive holders runs) = GoesOn alive holders runs
   owing_fortune b s excess time (Ends slots runs nothing) = Ends slots runs nothing
 
-  pub owing_brings : (b : Book) (s : Solo) (act : Act) (items : ℕ → List Item) (excess : ℕ → ℕ) (time : ℕ) → Brings w e s act b items → Brings w e s act (record b { excess = excess; time = time }) items
-  owing_brings b s act items excess time brings = record {
-    bytes = brings.bytes;
-    own = brings.own;
-    others = brings.others;
-    none = brings.none;
-    stripes = brings.stripes;
-    behind = brings.behind;
-    fate = brings.fate;
-    gives = brings.gives;
-    fortune = owing_fortune b s excess time brings.fortune;
-  }
+  pub owing_keeps : (b : Book) (s : Solo) (items : ℕ → List Item) (excess : ℕ → ℕ) (time : ℕ) (brings : Brings w e s b items)
+      → (now : Brings w e s (record b { excess = excess; time = time }) items) × (now.bytes ≡ brings.bytes)
+  owing_keeps b s items excess time brings = (
+    record {
+      bytes = brings.bytes;
+      own = brings.own;
+      others = brings.others;
+      none = brings.none;
+      stripes = brings.stripes;
+      behind = brings.behind;
+      fate = brings.fate;
+      fortune = owing_fortune b s excess time brings.fortune;
+    },
+    refl,
+  )

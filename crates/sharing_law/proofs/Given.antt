@@ -1,52 +1,31 @@
--- What is given to an environment leaves its guaranteed pages and its life.
-use Rattle.std.proofs.Common.{◌≡◌, ◌≢◌, ℕ, zero, suc, List, [], ◌∷◌, ◌++◌, Bool, true, false, Option, Some, None, is_some, ◌⊎◌, inl, inr, refl, sym, ◌∙◌, ap, arith}
+-- What an environment is given: items that leave its guaranteed pages and its life, and others.
+use Rattle.std.proofs.Common.{◌≡◌, ◌≢◌, ℕ, zero, suc, List, [], ◌∷◌, ◌++◌, Bool, true, false, Option, Some, None, is_some, refl, sym, ◌∙◌, ap}
 use Rattle.std.specs.Prelude.{◌==◌, if◌then◌else◌}
 use Rattle.std.specs.Option.{option_map}
-use Rattle.std.specs.List.{Contains}
-use Rattle.std.proofs.lemmas.Bool.{cases_eq, eqb-false, eqb-true, ne_eqb}
-use Rattle.std.proofs.lemmas.List.Sums.{fold-append}
-use Rattle.frame_store.specs.Pages.{with_bytes}
-use Rattle.env_frames.specs.declared.context.Context.{Context}
+use Rattle.std.proofs.lemmas.Bool.{eqb-true, ne_eqb}
 use Rattle.env_frames.specs.declared.transfer.TransferKind.{TransferKind}
-use Rattle.env_frames.specs.Context.{context_number, context_numbered, end_area, end_bytes, resumed_cpu, start_area, start_bytes}
-use Rattle.env_frames.specs.Transfer.{Registers, entry_area, entry_bytes}
+use Rattle.env_frames.specs.Context.{resumed_cpu, start_area, start_bytes}
+use Rattle.env_frames.specs.Transfer.{Registers}
 use Rattle.page_book.specs.Row.{belongs_to}
 use Rattle.bind_book.specs.declared.binding.Binding.{Binding}
 use Rattle.bind_book.specs.Stripe.{binding_at, is_bound, row_of}
-use Rattle.mips_exec.specs.Cpu.{reg, rested}
-use Rattle.world_model.specs.declared.call.Call.{Call}
-use Rattle.world_model.specs.declared.call.Call.TheVariants as call
-use Rattle.world_model.specs.declared.code.Code.{Code}
+use Rattle.mips_exec.specs.Cpu.{rested}
+use Rattle.world_model.specs.declared.deed.Deed.{Deed}
+use Rattle.world_model.specs.declared.deed.Deed.TheVariants.{Unbinds}
 use Rattle.world_model.specs.declared.life.Life.TheVariants.{Live, Dead}
 use Rattle.world_model.specs.declared.life.Cause.{Cause}
+use Rattle.world_model.specs.declared.verdict.Verdict.{Verdict}
+use Rattle.world_model.specs.declared.verdict.Verdict.TheVariants.{Refuse, Grant}
 use Rattle.world_model.specs.Page.{KeptPage}
 use Rattle.world_model.specs.Table.{set_at}
 use Rattle.world_model.specs.Book.{Book}
-use Rattle.world_model.specs.Solo.{Solo, Store, Key, Kept, Physical, bytes_in, is_dead, is_key_of, kept_after, kept_at, stored_page}
-use Rattle.world_model.specs.Holding.{end_slice, enter, start_by, with_binds, with_context}
-use Rattle.world_model.specs.Item.{Item, Boot, Step, Start, End, Transfer, Killed, Granted, Refused, Gained, Lost, Left, absorb, absorb_all, absorbed, own_part, with_handlers}
-use Rattle.world_model.specs.Call.{called}
-use Rattle.world_model.specs.PageCalls.{left_if, lost_if, lost_with, death_items}
+use Rattle.world_model.specs.Solo.{Solo, Store, Key, Kept, Physical, is_dead, is_key_of, kept_after, kept_at, stored_page}
+use Rattle.world_model.specs.Holding.{with_binds}
+use Rattle.world_model.specs.Upcalls.{enter, start_by, with_context}
+use Rattle.world_model.specs.Item.{Item, Boot, Step, Start, End, Transfer, Killed, Answer, Gained, Lost, Left, absorb, absorb_all, absorbed, answered, deed_at, own_part}
+use Rattle.world_model.specs.Death.{death_items, lost_with}
+use Rattle.world_model.specs.PageCalls.{left_if, lost_if}
 use Rattle.world_model.specs.World.{only}
-
--- whoever is given these items keeps its guaranteed pages and its life
-pub record Keeps (items : List Item) : Type 0 where
-  pub kept : (s : Solo) → (absorb_all s items).kept ≡ s.kept
-  pub life : (s : Solo) → (absorb_all s items).life ≡ s.life
-
--- an item that comes from outside while an environment stands, and doesn't enter it
-abbrev IsGiven : Item → Type 0
-IsGiven (Boot number name entry accept kept) = ⊥
-IsGiven Step = ⊥
-IsGiven Start = ⊥
-IsGiven End = ⊥
-IsGiven (Transfer from kind registers) = ⊥
-IsGiven Killed = ⊥
-IsGiven (Granted value) = Unit {0}
-IsGiven (Refused code value) = Unit {0}
-IsGiven (Gained page writable bytes) = Unit {0}
-IsGiven (Lost page) = Unit {0}
-IsGiven (Left page offset bytes) = Unit {0}
 
 -- a store into a page that isn't guaranteed leaves those that are
 pub kept_as_was : (kept : List KeptPage) (page offset : ℕ) (bytes : List ℕ) → kept_after kept (record { key = Physical page; offset = offset; bytes = bytes }) ≡ kept
@@ -67,7 +46,7 @@ kept_else (p ∷ kept) x v vpn key ne =
     by_page false is rest = λ k. if p.vpn == vpn then Some p else rest k
 
 -- and has its bytes in the page there
-kept_here : (kept : List KeptPage) (x : Store) (v : ℕ) → x.key ≡ Kept v → kept_at (kept_after kept x) v ≡ option_map (stored_page x) (kept_at kept v)
+pub kept_here : (kept : List KeptPage) (x : Store) (v : ℕ) → x.key ≡ Kept v → kept_at (kept_after kept x) v ≡ option_map (stored_page x) (kept_at kept v)
 kept_here [] x v key = refl
 kept_here (p ∷ kept) x v key =
     ap (λ (k : Key). kept_at ((if is_key_of p k then stored_page x p else p) ∷ kept_after kept x) v) key
@@ -77,8 +56,22 @@ kept_here (p ∷ kept) x v key =
     by_page true is rest = (λ k. if is k then Some (stored_page x p) else kept_at (kept_after kept x) v) ∙ (λ k. option_map (stored_page x) (if sym is k then Some p else kept_at kept v))
     by_page false is rest = (λ k. if is k then Some p else kept_at (kept_after kept x) v) ∙ rest ∙ (λ k. option_map (stored_page x) (if sym is k then Some p else kept_at kept v))
 
-pub is_first : (item : Item) → Contains (item ∷ []) item
-is_first item = (0, omega arith, refl)
+-- an item that leaves guaranteed pages and life
+abbrev pub IsTold : Item → Type 0
+IsTold (Boot number name entry accept kept) = ⊥
+IsTold Step = ⊥
+IsTold Start = ⊥
+IsTold End = ⊥
+IsTold (Transfer from kind registers) = ⊥
+IsTold Killed = ⊥
+IsTold (Answer verdict) = Unit {0}
+IsTold (Gained page writable bytes) = Unit {0}
+IsTold (Lost page) = Unit {0}
+IsTold (Left page offset bytes) = Unit {0}
+
+abbrev pub AreTold : List Item → Type 0
+AreTold [] = Unit {0}
+AreTold (item ∷ items) = IsTold item × AreTold items
 
 -- an environment that differs in its registers, its mask and its guaranteed pages alone
 pub record IsRested (s t : Solo) : Type 0 where
@@ -111,15 +104,6 @@ end_rests s = either_rests (is_dead s.life) s (absorbed s End) (record { binds =
 pub enter_rests : (from : ℕ) (kind : TransferKind) (registers : Registers) (s : Solo) → IsRested s (absorb_all s (Transfer from kind registers ∷ []))
 enter_rests from kind registers s = either_rests (is_dead s.life) s (enter from kind registers s) (record { binds = refl; seen = refl; life = refl })
 
--- a handler changes neither pages, bindings nor life
-pub handlers_rest : (context : Option Context) (address : ℕ) (s : Solo) → IsRested s (with_handlers context address s)
-handlers_rest None address s = rests_same s
-handlers_rest (Some kind) address s = record { binds = refl; seen = refl; life = refl }
-
-handlers_kept : (context : Option Context) (address : ℕ) (s : Solo) → (with_handlers context address s).kept ≡ s.kept
-handlers_kept None address s = refl
-handlers_kept (Some kind) address s = refl
-
 module _ (s : Solo) where
   unbound_kept : (t : Bool) (binds : ℕ → Option Binding) → (if t then with_binds binds s else s).kept ≡ s.kept
   unbound_kept true binds = refl
@@ -129,69 +113,45 @@ module _ (s : Solo) where
   unbound_life true binds = refl
   unbound_life false binds = refl
 
-  own_kept : (call : Option Call) (value : ℕ) → (own_part call value s).kept ≡ s.kept
-  own_kept None value = refl
-  own_kept (Some call.Yield) value = refl
-  own_kept (Some call.Put) value = refl
-  own_kept (Some call.Exit) value = refl
-  own_kept (Some call.Alloc) value = refl
-  own_kept (Some call.Free) value = refl
-  own_kept (Some call.Recap) value = refl
-  own_kept (Some call.Bind) value = refl
-  own_kept (Some call.Unbind) value = unbound_kept (is_some (binding_at s.binds (reg s.cpu 4))) (set_at (row_of (reg s.cpu 4)) None s.binds)
-  own_kept (Some call.Context) value = handlers_kept (context_numbered (reg s.cpu 4)) (reg s.cpu 5) s
-  own_kept (Some call.Accept) value = refl
-  own_kept (Some call.Transfer) value = refl
-  own_kept (Some call.SlotTake) value = refl
-  own_kept (Some call.SlotDrop) value = refl
-  own_kept (Some call.Query) value = refl
-  own_kept (Some call.OwnNumber) value = refl
-  own_kept (Some call.Clock) value = refl
+  own_kept : (d : Deed) → (own_part d s).kept ≡ s.kept
+  own_kept (Unbinds vpn) = unbound_kept (is_some (binding_at s.binds vpn)) (set_at (row_of vpn) None s.binds)
+  own_kept d = refl
 
-  own_life : (call : Option Call) (value : ℕ) → (own_part call value s).life ≡ s.life
-  own_life None value = refl
-  own_life (Some call.Yield) value = refl
-  own_life (Some call.Put) value = refl
-  own_life (Some call.Exit) value = refl
-  own_life (Some call.Alloc) value = refl
-  own_life (Some call.Free) value = refl
-  own_life (Some call.Recap) value = refl
-  own_life (Some call.Bind) value = refl
-  own_life (Some call.Unbind) value = unbound_life (is_some (binding_at s.binds (reg s.cpu 4))) (set_at (row_of (reg s.cpu 4)) None s.binds)
-  own_life (Some call.Context) value = (handlers_rest (context_numbered (reg s.cpu 4)) (reg s.cpu 5) s).life
-  own_life (Some call.Accept) value = refl
-  own_life (Some call.Transfer) value = refl
-  own_life (Some call.SlotTake) value = refl
-  own_life (Some call.SlotDrop) value = refl
-  own_life (Some call.Query) value = refl
-  own_life (Some call.OwnNumber) value = refl
-  own_life (Some call.Clock) value = refl
+  pub own_life : (d : Deed) → (own_part d s).life ≡ s.life
+  own_life (Unbinds vpn) = unbound_life (is_some (binding_at s.binds vpn)) (set_at (row_of vpn) None s.binds)
+  own_life d = refl
 
-  absorbed_kept : (item : Item) → IsGiven item → (absorbed s item).kept ≡ s.kept
-  absorbed_kept (Boot number name entry accept kept) given = absurd given
-  absorbed_kept Step given = absurd given
-  absorbed_kept Start given = absurd given
-  absorbed_kept End given = absurd given
-  absorbed_kept (Transfer from kind registers) given = absurd given
-  absorbed_kept Killed given = absurd given
-  absorbed_kept (Granted value) given = own_kept (called s.cpu) value
-  absorbed_kept (Refused code value) given = refl
-  absorbed_kept (Gained page writable bytes) given = refl
-  absorbed_kept (Lost page) given = refl
-  absorbed_kept (Left page offset bytes) given = kept_as_was s.kept page offset bytes
+  answered_kept : (verdict : Verdict) → (answered verdict s).kept ≡ s.kept
+  answered_kept (Refuse code value) = refl
+  answered_kept (Grant value) = own_kept (deed_at s value)
 
-  absorbed_life : (item : Item) → IsGiven item → (absorbed s item).life ≡ s.life
-  absorbed_life (Boot number name entry accept kept) given = absurd given
-  absorbed_life Step given = absurd given
-  absorbed_life Start given = absurd given
-  absorbed_life End given = absurd given
-  absorbed_life (Transfer from kind registers) given = absurd given
-  absorbed_life Killed given = absurd given
-  absorbed_life (Granted value) given = own_life (called s.cpu) value
-  absorbed_life (Refused code value) given = refl
-  absorbed_life (Gained page writable bytes) given = refl
-  absorbed_life (Lost page) given = refl
-  absorbed_life (Left page offset bytes) given = refl
+  answered_life : (verdict : Verdict) → (answered verdict s).life ≡ s.life
+  answered_life (Refuse code value) = refl
+  answered_life (Grant value) = own_life (deed_at s value)
+
+  pub absorbed_kept : (item : Item) → IsTold item → (absorbed s item).kept ≡ s.kept
+  absorbed_kept (Boot number name entry accept kept) told = absurd told
+  absorbed_kept Step told = absurd told
+  absorbed_kept Start told = absurd told
+  absorbed_kept End told = absurd told
+  absorbed_kept (Transfer from kind registers) told = absurd told
+  absorbed_kept Killed told = absurd told
+  absorbed_kept (Answer verdict) told = answered_kept verdict
+  absorbed_kept (Gained page writable bytes) told = refl
+  absorbed_kept (Lost page) told = refl
+  absorbed_kept (Left page offset bytes) told = kept_as_was s.kept page offset bytes
+
+  absorbed_life : (item : Item) → IsTold item → (absorbed s item).life ≡ s.life
+  absorbed_life (Boot number name entry accept kept) told = absurd told
+  absorbed_life Step told = absurd told
+  absorbed_life Start told = absurd told
+  absorbed_life End told = absurd told
+  absorbed_life (Transfer from kind registers) told = absurd told
+  absorbed_life Killed told = absurd told
+  absorbed_life (Answer verdict) told = answered_life verdict
+  absorbed_life (Gained page writable bytes) told = refl
+  absorbed_life (Lost page) told = refl
+  absorbed_life (Left page offset bytes) told = refl
 
 -- whether it lives or not
 either_kept : (gone : Bool) (s t : Solo) → t.kept ≡ s.kept → (if gone then s else t).kept ≡ s.kept
@@ -202,132 +162,106 @@ either_life : (gone : Bool) (s t : Solo) → t.life ≡ s.life → (if gone then
 either_life true s t same = refl
 either_life false s t same = same
 
-pub keeps_none : Keeps []
-keeps_none = record { kept = λ s. refl; life = λ s. refl }
+pub told_kept : (items : List Item) → AreTold items → (s : Solo) → (absorb_all s items).kept ≡ s.kept
+told_kept [] told s = refl
+told_kept (item ∷ items) (told, rest) s = told_kept items rest (absorb s item) ∙ either_kept (is_dead s.life) s (absorbed s item) (absorbed_kept s item told)
 
-keeps_more : (item : Item) (items : List Item) → IsGiven item → Keeps items → Keeps (item ∷ items)
-keeps_more item items given keeps = record {
-  kept = λ s. keeps.kept (absorb s item) ∙ either_kept (is_dead s.life) s (absorbed s item) (absorbed_kept s item given);
-  life = λ s. keeps.life (absorb s item) ∙ either_life (is_dead s.life) s (absorbed s item) (absorbed_life s item given);
-}
+pub told_life : (items : List Item) → AreTold items → (s : Solo) → (absorb_all s items).life ≡ s.life
+told_life [] told s = refl
+told_life (item ∷ items) (told, rest) s = told_life items rest (absorb s item) ∙ either_life (is_dead s.life) s (absorbed s item) (absorbed_life s item told)
 
-keeps_both : (xs ys : List Item) → Keeps xs → Keeps ys → Keeps (xs ++ ys)
-keeps_both xs ys first next = record {
-  kept = λ s. ap (λ (t : Solo). t.kept) (fold-append absorb s xs ys) ∙ next.kept (absorb_all s xs) ∙ first.kept s;
-  life = λ s. ap (λ (t : Solo). t.life) (fold-append absorb s xs ys) ∙ next.life (absorb_all s xs) ∙ first.life s;
-}
+pub told_both : (xs ys : List Item) → AreTold xs → AreTold ys → AreTold (xs ++ ys)
+told_both [] ys first next = next
+told_both (x ∷ xs) ys (told, rest) next = (told, told_both xs ys rest next)
 
-keeps_if : (t : Bool) (xs ys : List Item) → Keeps xs → Keeps ys → Keeps (if t then xs else ys)
-keeps_if true xs ys first next = first
-keeps_if false xs ys first next = next
-
--- the answers of calls, and what comes with them
-pub keeps_refused : (code : Code) (value : ℕ) → Keeps (Refused code value ∷ [])
-keeps_refused code value = keeps_more (Refused code value) [] tt keeps_none
-
-pub keeps_granted : (value : ℕ) → Keeps (Granted value ∷ [])
-keeps_granted value = keeps_more (Granted value) [] tt keeps_none
-
-pub keeps_gained : (value page : ℕ) (writable : Bool) (bytes : List ℕ) → Keeps (Granted value ∷ Gained page writable bytes ∷ [])
-keeps_gained value page writable bytes = keeps_more (Granted value) (Gained page writable bytes ∷ []) tt (keeps_more (Gained page writable bytes) [] tt keeps_none)
-
-pub keeps_lost : (value page : ℕ) → Keeps (Granted value ∷ Lost page ∷ [])
-keeps_lost value page = keeps_more (Granted value) (Lost page ∷ []) tt (keeps_more (Lost page) [] tt keeps_none)
+pub told_if : (t : Bool) (xs ys : List Item) → AreTold xs → AreTold ys → AreTold (if t then xs else ys)
+told_if true xs ys first next = first
+told_if false xs ys first next = next
 
 -- what one is given, and what the others are
-pub keeps_at : (e i : ℕ) (items : List Item) (others : ℕ → List Item) → Keeps items → Keeps (others i) → Keeps (set_at e items others i)
-keeps_at e i items others its rest = keeps_if (i == e) items (others i) its rest
+pub told_at : (e i : ℕ) (items : List Item) (others : ℕ → List Item) → AreTold items → AreTold (others i) → AreTold (set_at e items others i)
+told_at e i items others its rest = told_if (i == e) items (others i) its rest
 
-pub keeps_only : (e i : ℕ) (items : List Item) → Keeps items → Keeps (only e items i)
-keeps_only e i items its = keeps_at e i items (λ j. []) its keeps_none
+pub told_only : (e i : ℕ) (items : List Item) → AreTold items → AreTold (only e items i)
+told_only e i items its = told_at e i items (λ j. []) its tt
 
-pub keeps_lost_if : (t : Bool) (page : ℕ) → Keeps (lost_if t page)
-keeps_lost_if true page = keeps_more (Lost page) [] tt keeps_none
-keeps_lost_if false page = keeps_none
+pub told_lost_if : (t : Bool) (page : ℕ) → AreTold (lost_if t page)
+told_lost_if true page = (tt, tt)
+told_lost_if false page = tt
 
-keeps_left_if : (t : Bool) (page : ℕ) (x : Store) → Keeps (left_if t page x)
-keeps_left_if true page x = keeps_more (Left page x.offset x.bytes) [] tt keeps_none
-keeps_left_if false page x = keeps_none
+told_left_if : (t : Bool) (page : ℕ) (x : Store) → AreTold (left_if t page x)
+told_left_if true page x = (tt, tt)
+told_left_if false page x = tt
 
-pub keeps_left : (seen : Bool) (e i page : ℕ) (x : Store) → Keeps (if i == e then [] else left_if seen page x)
-keeps_left seen e i page x = keeps_if (i == e) [] (left_if seen page x) keeps_none (keeps_left_if seen page x)
+pub told_left : (seen : Bool) (e i page : ℕ) (x : Store) → AreTold (if i == e then [] else left_if seen page x)
+told_left seen e i page x = told_if (i == e) [] (left_if seen page x) tt (told_left_if seen page x)
 
-keeps_losses : (b : Book) (gone i n : ℕ) → Keeps (lost_with b gone i n)
-keeps_losses b gone i zero = keeps_none
-keeps_losses b gone i (suc n) =
-    keeps_both (lost_with b gone i n) (if belongs_to gone (b.pages n) then lost_if (is_bound n (b.binds i)) n else []) (keeps_losses b gone i n)
-    (keeps_if (belongs_to gone (b.pages n)) (lost_if (is_bound n (b.binds i)) n) [] (keeps_lost_if (is_bound n (b.binds i)) n) keeps_none)
+told_losses : (b : Book) (gone i n : ℕ) → AreTold (lost_with b gone i n)
+told_losses b gone i zero = tt
+told_losses b gone i (suc n) =
+    told_both (lost_with b gone i n) (if belongs_to gone (b.pages n) then lost_if (is_bound n (b.binds i)) n else []) (told_losses b gone i n)
+    (told_if (belongs_to gone (b.pages n)) (lost_if (is_bound n (b.binds i)) n) [] (told_lost_if (is_bound n (b.binds i)) n) tt)
 
-pub keeps_death : (b : Book) (gone i : ℕ) → Keeps (death_items b gone i)
-keeps_death b gone i = keeps_if (i == gone) [] (lost_with b gone i b.page_count) keeps_none (keeps_losses b gone i b.page_count)
+pub told_death : (b : Book) (gone i : ℕ) → AreTold (death_items b gone i)
+told_death b gone i = told_if (i == gone) [] (lost_with b gone i b.page_count) tt (told_losses b gone i b.page_count)
 
--- these words are in an area of the context page, which is as it was else
-pub record HasWords (area : ℕ) (bytes : List ℕ) (s t : Solo) (vpn : ℕ) : Type 0 where
-  pub context : vpn ≡ context_number
-  pub words : bytes_in (kept_at t.kept vpn) ≡ with_bytes (bytes_in (kept_at s.kept vpn)) area bytes
+-- At most the first of these items changes guaranteed pages, or life.
+pub data Led (items : List Item) : Type 0 where
+  Rests : AreTold items → Led items
+  Leads : (item : Item) (rest : List Item) → AreTold rest → items ≡ item ∷ rest → Led items
 
--- a guaranteed page stays, or has such words
-abbrev pub StaysOrHas : ℕ → List ℕ → Solo → Solo → ℕ → Type 0
-StaysOrHas area bytes s t vpn = (kept_at t.kept vpn ≡ kept_at s.kept vpn) ⊎ HasWords area bytes s t vpn
+pub led_more : (xs ys : List Item) → Led xs → AreTold ys → Led (xs ++ ys)
+led_more xs ys (Rests told) more = Rests (told_both xs ys told more)
+led_more xs ys (Leads item rest told is) more = Leads item (rest ++ ys) (told_both rest ys told more) (ap (λ items. items ++ ys) is)
 
--- so do all where words go into the context page
-context_kept : (area : ℕ) (bytes : List ℕ) (s t : Solo) (vpn : ℕ) → t.kept ≡ (with_context area bytes s).kept → StaysOrHas area bytes s t vpn
-context_kept area bytes s t vpn same = elim (cases_eq vpn context_number) [
-  | inl here ↦ by_page (kept_at s.kept vpn) refl here (now ∙ kept_here s.kept x vpn (ap Kept (sym here)))
-  | inr other ↦ inl (now ∙ kept_else s.kept x context_number vpn refl other)
-]
+pub led_only : (e i : ℕ) (item : Item) → Led (only e (item ∷ []) i)
+led_only e i item = by_test (i == e)
   where
-    x : Store
-    x = record { key = Kept context_number; offset = area; bytes = bytes }
+    by_test : (mine : Bool) → Led (if mine then item ∷ [] else [])
+    by_test true = Leads item [] tt refl
+    by_test false = Rests tt
 
-    now : kept_at t.kept vpn ≡ kept_at (kept_after s.kept x) vpn
-    now = ap (λ ps. kept_at ps vpn) same
+-- What the act of a runner gives to an environment: items that leave guaranteed pages and life, or to another the start of a slice, or a transfer.
+abbrev pub IsHanded : Item → Type 0
+IsHanded (Boot number name entry accept kept) = ⊥
+IsHanded Step = ⊥
+IsHanded Start = Unit {0}
+IsHanded End = ⊥
+IsHanded (Transfer from kind registers) = Unit {0}
+IsHanded Killed = ⊥
+IsHanded (Answer verdict) = ⊥
+IsHanded (Gained page writable bytes) = ⊥
+IsHanded (Lost page) = ⊥
+IsHanded (Left page offset bytes) = ⊥
 
-    by_page : (o : Option KeptPage) → kept_at s.kept vpn ≡ o → vpn ≡ context_number → kept_at t.kept vpn ≡ option_map (stored_page x) o → StaysOrHas area bytes s t vpn
-    by_page None is here now = inl (now ∙ sym is)
-    by_page (Some p) is here now = inr (record { context = here; words = ap bytes_in now ∙ ap (λ o. with_bytes (bytes_in o) area bytes) (sym is) })
+pub data Gives (e i : ℕ) (items : List Item) : Type 0 where
+  Tells : AreTold items → Gives e i items
+  Hands : e ≢ i → (item : Item) → IsHanded item → items ≡ item ∷ [] → Gives e i items
 
--- those of whoever is entered
-pub entered_kept : (from : ℕ) (kind : TransferKind) (registers : Registers) (s : Solo) (vpn : ℕ) → StaysOrHas entry_area (entry_bytes from kind s.cpu) s (absorb_all s (Transfer from kind registers ∷ [])) vpn
-entered_kept from kind registers s vpn = by_life (is_dead s.life)
-  where
-    by_life : (gone : Bool) → StaysOrHas entry_area (entry_bytes from kind s.cpu) s (if gone then s else enter from kind registers s) vpn
-    by_life true = inl refl
-    by_life false = context_kept entry_area (entry_bytes from kind s.cpu) s (enter from kind registers s) vpn refl
+pub gives_led : (e i : ℕ) (items : List Item) → Gives e i items → Led items
+gives_led e i items (Tells told) = Rests told
+gives_led e i items (Hands another item handed is) = Leads item [] tt is
 
--- or is told of its end
-pub ended_kept : (s : Solo) (vpn : ℕ) → StaysOrHas end_area (end_bytes s.cpu) s (absorb_all s (End ∷ [])) vpn
-ended_kept s vpn = by_life (is_dead s.life)
-  where
-    by_life : (gone : Bool) → StaysOrHas end_area (end_bytes s.cpu) s (if gone then s else end_slice s) vpn
-    by_life true = inl refl
-    by_life false = context_kept end_area (end_bytes s.cpu) s (end_slice s) vpn refl
+pub gives_own : (e i : ℕ) (items : List Item) → Gives e i items → e ≡ i → AreTold items
+gives_own e i items (Tells told) own = told
+gives_own e i items (Hands another item handed is) own = absurd (another own)
 
--- or starts, where words are left only if it handles that
-pub record HasStart (s t : Solo) (vpn : ℕ) : Type 0 where
-  pub handles : s.handlers.start ≢ 0
-  pub has : HasWords start_area (start_bytes s.cpu) s t vpn
+-- an environment that is started or entered
+pub handed_rests : (item : Item) → IsHanded item → (s : Solo) → IsRested s (absorb_all s (item ∷ []))
+handed_rests (Boot number name entry accept kept) handed s = absurd handed
+handed_rests Step handed s = absurd handed
+handed_rests Start handed s = start_rests s
+handed_rests End handed s = absurd handed
+handed_rests (Transfer from kind registers) handed s = enter_rests from kind registers s
+handed_rests Killed handed s = absurd handed
+handed_rests (Answer verdict) handed s = absurd handed
+handed_rests (Gained page writable bytes) handed s = absurd handed
+handed_rests (Lost page) handed s = absurd handed
+handed_rests (Left page offset bytes) handed s = absurd handed
 
-pub started_kept : (s : Solo) (vpn : ℕ) → (kept_at (absorb_all s (Start ∷ [])).kept vpn ≡ kept_at s.kept vpn) ⊎ HasStart s (absorb_all s (Start ∷ [])) vpn
-started_kept s vpn = by_life (is_dead s.life)
-  where
-    StaysOrStarts : Solo → Type 0
-    StaysOrStarts t = (kept_at t.kept vpn ≡ kept_at s.kept vpn) ⊎ HasStart s t vpn
-
-    handled : Solo
-    handled = record (with_context start_area (start_bytes s.cpu) s) { cpu = resumed_cpu s.handlers.start s.cpu }
-
-    by_words : s.handlers.start ≢ 0 → StaysOrHas start_area (start_bytes s.cpu) s handled vpn → StaysOrStarts handled
-    by_words handles (inl same) = inl same
-    by_words handles (inr has) = inr (record { handles = handles; has = has })
-
-    by_test : (none : Bool) → (s.handlers.start == 0) ≡ none → StaysOrStarts (if none then record s { cpu = rested s.cpu } else handled)
-    by_test true is = inl refl
-    by_test false is = by_words (eqb-false s.handlers.start 0 is) (context_kept start_area (start_bytes s.cpu) s handled vpn refl)
-
-    by_life : (gone : Bool) → StaysOrStarts (if gone then s else start_by s.handlers.start s)
-    by_life true = inl refl
-    by_life false = by_test (s.handlers.start == 0) refl
+pub gives_life : (e i : ℕ) (items : List Item) → Gives e i items → (s : Solo) → (absorb_all s items).life ≡ s.life
+gives_life e i items (Tells told) s = told_life items told s
+gives_life e i items (Hands another item handed is) s = ap (λ (xs : List Item). (absorb_all s xs).life) is ∙ (handed_rests item handed s).life
 
 -- Who lives absorbs what it is given, and who doesn't nothing.
 pub absorbs : (s : Solo) (item : Item) (items : List Item) → s.life ≡ Live → absorb_all s (item ∷ items) ≡ absorb_all (absorbed s item) items
@@ -336,7 +270,3 @@ absorbs s item items lives = ap (λ life. absorb_all (if is_dead life then s els
 pub dead_absorbs : (s : Solo) (cause : Cause) (items : List Item) → s.life ≡ Dead cause → absorb_all s items ≡ s
 dead_absorbs s cause [] died = refl
 dead_absorbs s cause (item ∷ items) died = ap (λ life. absorb_all (if is_dead life then s else absorbed s item) items) died ∙ dead_absorbs s cause items died
-
-pub gone_absorbs : (s : Solo) (items : List Item) → is_dead s.life ≡ true → absorb_all s items ≡ s
-gone_absorbs s [] gone = refl
-gone_absorbs s (item ∷ items) gone = ap (λ (t : Bool). absorb_all (if t then s else absorbed s item) items) gone ∙ gone_absorbs s items gone

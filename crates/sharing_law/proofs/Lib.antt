@@ -1,7 +1,7 @@
+mod Given
+mod Giving
 mod Replies
 mod Books
-mod Live
-mod Given
 mod Sound
 mod Brings
 mod Calling
@@ -10,5 +10,7 @@ mod Moments
 mod Stepping
 mod Timing
 mod Agreeing
+mod Live
 mod Writing
-mod Changing
+mod Guaranteed
+mod Allocated

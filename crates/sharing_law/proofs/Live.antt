@@ -1,22 +1,18 @@
 -- Every binding that the book lists is live.
-use Rattle.std.proofs.Common.{◌≡◌, ◌<◌, ℕ, zero, suc, List, [], ◌∷◌, true, Option, Some, None, refl, sym, ◌∙◌, ap, subst, inl, inr, arith}
-use Rattle.std.specs.Prelude.{◌+◌, ◌⊎◌}
+use Rattle.std.proofs.Common.{◌≡◌, ◌<◌, ℕ, zero, suc, true, Some, refl, sym, ◌∙◌, ap, subst, inl, inr, arith}
+use Rattle.std.specs.Prelude.{◌⊎◌}
 use Rattle.std.proofs.lemmas.Bool.{cases_eq, eqb-true, eq-eqb}
-use Rattle.boot_image.specs.ImageValue.{ProgramValue}
 use Rattle.page_book.specs.declared.row.PageRow.{PageRow}
 use Rattle.page_book.specs.declared.row.PageRow.TheVariants.{Free, Guaranteed, Owned}
 use Rattle.page_book.specs.Row.{gives_right, is_owned_by}
 use Rattle.bind_book.specs.declared.binding.Binding.{Binding}
 use Rattle.bind_book.specs.Stripe.{row_of}
-use Rattle.world_model.specs.Call.{presented}
-use Rattle.world_model.specs.Book.{Book}
-use Rattle.run_model.specs.Boot.{boot_book, with_all_kept, with_kept}
 use Rattle.run_model.specs.Run.{System, at_step, world_after}
-use Rattle.sharing_law.specs.Acting.{cpu_at_step}
-use Rattle.sharing_law.specs.Agreement.{IsAllocated, AreBoundAllocated, BoundIsAllocated}
+use Rattle.call_verdicts.specs.Granted.{GrantedMay}
 use Rattle.sharing_law.specs.Right.{row_after, Since, HasWord, IsLive, EachIsLive}
-use Rattle.sharing_law.proofs.Replies.{IsCarried, WasListed, owned_allocated}
-use Rattle.sharing_law.proofs.Books.{IsPutBy, next_carries}
+use Rattle.sharing_law.proofs.Replies.{IsCarried, IsPut, WasListed}
+use Rattle.sharing_law.proofs.Agreeing.{all_fine, none_bound}
+use Rattle.sharing_law.proofs.Books.{next_carries}
 
 -- what holds since then holds after one tick more, if it holds there
 since_more : (first last : ℕ) (P : ℕ → Type 0) → Since first last P → P (suc last) → Since first (suc last) P
@@ -37,15 +33,15 @@ still_owned owner e old new (inl same) is = ap (is_owned_by owner) same ∙ is
 still_owned owner e old new (inr (before, now)) is = ap (λ (n : ℕ). is_owned_by n new) (owned_by owner e old is before) ∙ now
 
 -- the right that an environment had it has after one tick more
-right_more : (system : System) (since t e owner : ℕ) (b : Binding) → since < t → is_owned_by owner (row_after system t b.page) ≡ true → IsCarried e (row_after system t b.page) (row_after system (suc t) b.page)
-    → (owner ≡ e) ⊎ HasWord system since t e owner b → (owner ≡ e) ⊎ HasWord system since (suc t) e owner b
-right_more system since t e owner b earlier owned carried (inl own) = inl own
-right_more system since t e owner b earlier owned (inl same) (inr word) = inr (record {
-  words = word.words;
-  gives = word.gives;
-  kept = since_more since t (λ s. row_after system s b.page ≡ Owned owner word.words) word.kept (same ∙ word.kept t earlier (omega arith));
+right_more : (system : System) (since t e owner : ℕ) (b : Binding) (word : ℕ) → since < t → is_owned_by owner (row_after system t b.page) ≡ true → IsCarried e (row_after system t b.page) (row_after system (suc t) b.page)
+    → (owner ≡ e) ⊎ HasWord system since t owner b word → (owner ≡ e) ⊎ HasWord system since (suc t) owner b word
+right_more system since t e owner b word earlier owned carried (inl own) = inl own
+right_more system since t e owner b word earlier owned (inl same) (inr has) = inr (record {
+  words = has.words;
+  gives = has.gives;
+  kept = since_more since t (λ s. row_after system s b.page ≡ Owned owner has.words) has.kept (same ∙ has.kept t earlier (omega arith));
 })
-right_more system since t e owner b earlier owned (inr (before, now)) (inr word) = inl (owned_by owner e (row_after system t b.page) owned before)
+right_more system since t e owner b word earlier owned (inr (before, now)) (inr has) = inl (owned_by owner e (row_after system t b.page) owned before)
 
 -- a live binding that is still listed is live
 still_live : (system : System) (t e : ℕ) (b : Binding) → IsLive system t e b → (world_after system (suc t)).book.binds e (row_of b.vpn) ≡ Some b
@@ -55,34 +51,34 @@ still_live system t e b live listed carried =
     record {
       since = live.since;
       earlier = omega (arith, live.earlier);
-      called = live.called;
-      named = live.named;
+      word = live.word;
+      bound = live.bound;
       listed = since_more live.since t (λ s. (world_after system s).book.binds e (row_of b.vpn) ≡ Some b) live.listed listed;
       owner = live.owner;
       owned = since_more live.since t (λ s. is_owned_by live.owner (row_after system s b.page) ≡ true) live.owned (still_owned live.owner e (row_after system t b.page) (row_after system (suc t) b.page) carried owned);
-      right = right_more system live.since t e live.owner b live.earlier owned carried live.right;
+      right = right_more system live.since t e live.owner b live.word live.earlier owned carried live.right;
     }
 
 -- a binding that is put is live
-put_lives : (system : System) (t e row : ℕ) (b : Binding) → IsPutBy (at_step system t) (world_after system (suc t)).book.pages e row b
+put_lives : (system : System) (t e row : ℕ) (b : Binding) → IsPut (at_step system t) (world_after system (suc t)).book.pages e row b
     → (world_after system (suc t)).book.binds e (row_of b.vpn) ≡ Some b → IsLive system (suc t) e b
 put_lives system t e row b put listed = record {
   since = t;
   earlier = omega arith;
-  called = record { runs = put.runs; comes = put.comes };
-  named = put.named;
+  word = put.word;
+  bound = put.bound;
   listed = since_first t (λ s. (world_after system s).book.binds e (row_of b.vpn) ≡ Some b) listed;
-  owner = put.may.owner;
-  owned = since_first t (λ s. is_owned_by put.may.owner (row_after system s b.page) ≡ true) (ap (is_owned_by put.may.owner) put.may.owned ∙ eq-eqb put.may.owner put.may.owner refl);
-  right = by_right put.may.right;
+  owner = put.right.owner;
+  owned = since_first t (λ s. is_owned_by put.right.owner (row_after system s b.page) ≡ true) (ap (is_owned_by put.right.owner) put.right.owned ∙ eq-eqb put.right.owner put.right.owner refl);
+  right = by_right put.right.right;
 }
   where
-    by_right : (put.may.owner ≡ e) ⊎ (gives_right put.may.words b.writable (presented (cpu_at_step system t e)) ≡ true) → (put.may.owner ≡ e) ⊎ HasWord system t (suc t) e put.may.owner b
+    by_right : (put.right.owner ≡ e) ⊎ (gives_right put.right.words b.writable put.word ≡ true) → (put.right.owner ≡ e) ⊎ HasWord system t (suc t) put.right.owner b put.word
     by_right (inl own) = inl own
     by_right (inr gives) = inr (record {
-      words = put.may.words;
+      words = put.right.words;
       gives = gives;
-      kept = since_first t (λ s. row_after system s b.page ≡ Owned put.may.owner put.may.words) put.may.owned;
+      kept = since_first t (λ s. row_after system s b.page ≡ Owned put.right.owner put.right.words) put.right.owned;
     })
 
 -- a listed binding stands in its row, and is live
@@ -92,18 +88,6 @@ record Stands (system : System) (t e row : ℕ) (b : Binding) : Type 0 where
 
 abbrev EachStands : System → ℕ → Type 0
 EachStands system t = (e row : ℕ) (b : Binding) → (world_after system t).book.binds e row ≡ Some b → Stands system t e row b
-
--- the page of a live binding is allocated
-live_allocated : (system : System) (t e : ℕ) (b : Binding) → IsLive system t e b → IsAllocated (row_after system t b.page)
-live_allocated system t e b live = owned_allocated live.owner (row_after system t b.page) (live.owned t live.earlier (omega arith))
-
-each_allocated : (system : System) (t : ℕ) → EachStands system t → AreBoundAllocated (world_after system t)
-each_allocated system t each e row b listed = live_allocated system t e b (each e row b listed).live
-
--- at boot nothing is bound
-none_bound : (e : ℕ) (programs : List ProgramValue) (b : Book) → (with_all_kept e programs b).binds ≡ b.binds
-none_bound e [] b = refl
-none_bound e (p ∷ programs) b = none_bound (e + 1) programs (with_kept e p b)
 
 in_its_row : (system : System) (t e row : ℕ) (b : Binding) → row ≡ row_of b.vpn → (world_after system t).book.binds e row ≡ Some b → (world_after system t).book.binds e (row_of b.vpn) ≡ Some b
 in_its_row system t e row b stands listed = subst (λ (r : ℕ). (world_after system t).book.binds e r ≡ Some b) stands listed
@@ -115,21 +99,13 @@ was_stands system t e row b was before listed = record {
   live = still_live system t e b before.live (in_its_row system (suc t) e row b before.stands listed) was.carried;
 }
 
-each_stands : (system : System) (t : ℕ) → EachStands system t
-each_stands system zero e row b listed =
-    let image = system.image in
-    let none = none_bound 0 image.programs (boot_book image.pages image.quantum image.slots) in
-    let never : None ≡ Some b = sym (ap (λ (f : ℕ → ℕ → Option Binding). f e row) none) ∙ listed in
-    cc
-each_stands system (suc t) e row b listed =
-    let before = each_stands system t in
-    elim (next_carries system t (each_allocated system t before) e row b listed) [
+each_stands : GrantedMay → (system : System) (t : ℕ) → EachStands system t
+each_stands granted system zero e row b listed = absurd (none_bound system.image e row b listed)
+each_stands granted system (suc t) e row b listed =
+    elim (next_carries granted system t (all_fine granted system t).allocated e row b listed) [
       | inl put ↦ record { stands = put.stands; live = put_lives system t e row b put (in_its_row system (suc t) e row b put.stands listed) }
-      | inr was ↦ was_stands system t e row b was (before e row b was.listed) listed
+      | inr was ↦ was_stands system t e row b was (each_stands granted system t e row b was.listed) listed
     ]
 
-pub each_is_live : EachIsLive
-each_is_live system t e row b listed = (each_stands system t e row b listed).live
-
-pub bound_is_allocated : BoundIsAllocated
-bound_is_allocated system t = each_allocated system t (each_stands system t)
+pub each_is_live : GrantedMay → EachIsLive
+each_is_live granted system t e row b listed = (each_stands granted system t e row b listed).live

@@ -1,78 +1,117 @@
 -- The phase of a tick in which the runner makes its step.
-use Rattle.std.proofs.Common.{◌≡◌, ◌≢◌, ℕ, List, [], ◌∷◌, Bool, true, false, Option, Some, None, ◌⊎◌, inl, inr, refl, sym, ◌∙◌, ap, subst}
+use Rattle.std.proofs.Common.{◌≡◌, ◌≢◌, ℕ, List, [], ◌∷◌, ◌++◌, Bool, true, false, Option, Some, None, ◌⊎◌, inl, inr, refl, sym, ◌∙◌, ap, subst}
 use Rattle.std.specs.Prelude.{◌==◌, if◌then◌else◌}
 use Rattle.std.proofs.lemmas.Bool.{cases_eq, eqb-false}
-use Rattle.mips_exec.specs.declared.registers.Cpu.{Cpu}
-use Rattle.mips_exec.specs.declared.exception.Exc.{Exc}
-use Rattle.mips_exec.specs.Cpu.{reg}
-use Rattle.env_frames.specs.declared.transfer.TransferKind.{TransferKind}
-use Rattle.env_frames.specs.Transfer.{carried, entry_area, entry_bytes}
-use Rattle.mips_exec.specs.Step as mips
-use Rattle.mips_exec.specs.Step.{Retired, Called, Trapped}
+use Rattle.mips_exec.specs.Step.{cpu_after}
 use Rattle.world_model.specs.declared.call.Call.{Call}
-use Rattle.world_model.specs.declared.call.Call.TheVariants as call
 use Rattle.world_model.specs.declared.life.Life.{Life}
 use Rattle.world_model.specs.declared.life.Life.TheVariants.{Live, Dead}
 use Rattle.world_model.specs.declared.life.Cause.{Cause}
-use Rattle.world_model.specs.declared.life.Cause.TheVariants as cause
 use Rattle.world_model.specs.declared.slot.Hold.{Hold}
 use Rattle.world_model.specs.declared.slot.Runner.{Runner}
-use Rattle.world_model.specs.Book.{own_hold, released}
-use Rattle.world_model.specs.Call.{called}
-use Rattle.world_model.specs.Holding.{raise}
-use Rattle.world_model.specs.Item.{Item, Step, Start, Transfer, absorb_all}
+use Rattle.world_model.specs.declared.verdict.Verdict.{Verdict}
+use Rattle.world_model.specs.declared.verdict.Verdict.TheVariants.{Refuse, Grant}
+use Rattle.world_model.specs.Book.{own_hold, released, running}
+use Rattle.world_model.specs.Item.{Item, Step, Answer, absorb_all, answered, answered_cpu, deed_at}
 use Rattle.world_model.specs.PageCalls.{page_bytes}
-use Rattle.world_model.specs.Solo.{Solo, Store, kept_at, store_of}
-use Rattle.world_model.specs.Step.{Act, Nothing, Stores, Calls, Raises, Dies, acted, act_of, call_act, step_alone, stepped, store_act}
-use Rattle.world_model.specs.SlotCalls.{accepts}
-use Rattle.world_model.specs.Transfers.{is_open}
+use Rattle.world_model.specs.Solo.{Solo}
+use Rattle.world_model.specs.Step.{Act, Nothing, Stores, Calls, Raises, Dies, acted, step_alone}
 use Rattle.world_model.specs.Tick as tick
-use Rattle.world_model.specs.World.{World, after, in_turn, tells}
-use Rattle.page_sight.specs.Sight.{Sees}
+use Rattle.world_model.specs.Tick.{act_now}
+use Rattle.world_model.specs.Verdict.{done, reply_of, reply_to, verdict}
+use Rattle.world_model.specs.World.{World, Reply, after, in_turn, no_items, tells}
+use Rattle.call_verdicts.specs.Granted.{GrantedMay}
+use Rattle.run_model.specs.Acting.{Acts}
 use Rattle.run_model.proofs.Phases.{in_turn_is_each}
-use Rattle.run_model.proofs.Telling.{call_stands, told_other, told_own}
+use Rattle.run_model.proofs.Telling.{call_does, call_named, call_stands, deed_may, told_other, told_own}
+use Rattle.page_sight.specs.Sight.{Sees}
+use Rattle.page_sight.proofs.Tables.{set_here, set_else}
 use Rattle.sharing_law.specs.Agreement.{AreBoundAllocated}
-use Rattle.sharing_law.proofs.Given.{HasStart, HasWords, Keeps, StaysOrHas, absorbs, dead_absorbs, enter_rests, entered_kept, start_rests, started_kept}
+use Rattle.sharing_law.proofs.Given.{Gives, Tells, absorbs, dead_absorbs, gives_life, told_death}
+use Rattle.sharing_law.proofs.Giving.{deed_gives, store_gives}
 use Rattle.sharing_law.proofs.Sound.{AreLive, HasNone, Sound, agreed, still_nothing}
-use Rattle.sharing_law.proofs.Brings.{Brings, BringsIn, Gives, Tells, Starts, Enters, Fortune, GoesOn, Ends, death_brings, silent, store_brings}
-use Rattle.sharing_law.proofs.Calling.{call_brings}
+use Rattle.sharing_law.proofs.Brings.{Brings, Fortune, GoesOn, Ends, death_brings, silent, store_brings}
+use Rattle.sharing_law.proofs.Calling.{caller, deed_brings}
 
--- What the runner's step brings, whatever it comes to.
-module _ (w : World) (e : ℕ) (sound : Sound w) (lives : (w.solos e).life ≡ Live) (allocated : AreBoundAllocated w) where
-  by_store : (cpu : Cpu) (o : Option Store) → BringsIn w e (acted (store_act o) (record (w.solos e) { cpu = cpu })) (store_act o) (tick.brings e (store_act o) w)
-  by_store cpu None = silent w e sound lives (record (w.solos e) { cpu = cpu }) Nothing lives refl refl
-  by_store cpu (Some x) = store_brings w e sound lives cpu x
+-- A world follows on another, in which the runner came to this, whatever it was given in between.
+pub record Follows (w : World) (e : ℕ) (s : Solo) (now : World) (items : ℕ → List Item) : Type 0 where
+  pub brings : Brings w e s now.book items
+  pub own : now.solos e ≡ absorb_all s (items e)
+  pub others : (i : ℕ) → i ≢ e → now.solos i ≡ absorb_all (w.solos i) (items i)
+  pub gives : (i : ℕ) → Gives e i (items i)
 
-  by_call : (c : Option Call) → called (w.solos e).cpu ≡ c → BringsIn w e (acted (call_act (w.solos e).cpu c) (w.solos e)) (call_act (w.solos e).cpu c) (tick.brings e (call_act (w.solos e).cpu c) w)
-  by_call None named = call_brings w e sound lives allocated None named (λ is. none_exits is)
+pub record Stepped (w : World) (e : ℕ) (now : World) : Type 0 where
+  pub came_to : Solo
+  pub items : ℕ → List Item
+  pub follows : Follows w e came_to now items
+
+-- So does the world after the runner's step.
+module _ (granted : GrantedMay) (w : World) (e : ℕ) (sound : Sound w) (allocated : AreBoundAllocated w) (lives : (w.solos e).life ≡ Live) (runs : running w.book.runner ≡ Some e) where
+  -- a call, refused or granted
+  refused_follows : (v : Verdict) → (answered v (w.solos e)).life ≡ Live → (answered v (w.solos e)).binds ≡ (w.solos e).binds → (answered v (w.solos e)).seen ≡ (w.solos e).seen → Stepped w e (after w (tells e (Answer v) w))
+  refused_follows v alive binds sights = record {
+    came_to = answered v (w.solos e);
+    items = no_items;
+    follows = record {
+      brings = silent w e sound lives (answered v (w.solos e)) alive binds sights;
+      own = ap (absorb_all (w.solos e)) (set_here e (Answer v ∷ []) no_items) ∙ absorbs (w.solos e) (Answer v) [] lives;
+      others = λ i ne. ap (absorb_all (w.solos i)) (set_else e i (Answer v ∷ []) no_items ne);
+      gives = λ i. Tells tt;
+    };
+  }
+
+  call_follows : (c : Option Call) → Acts w e (Calls c) → Stepped w e (after w (reply_to w e c))
+  call_follows c acts = by_verdict (verdict w e c) refl
     where
-      none_exits : None ≡ Some call.Exit → ⊥
-      none_exits is = cc
-  by_call (Some call.Exit) named = death_brings w e sound lives (w.solos e).cpu (cause.Exit (reg (w.solos e).cpu 4))
-  by_call (Some call.Yield) named = call_brings w e sound lives allocated (Some call.Yield) named (λ is. cc)
-  by_call (Some call.Put) named = call_brings w e sound lives allocated (Some call.Put) named (λ is. cc)
-  by_call (Some call.Alloc) named = call_brings w e sound lives allocated (Some call.Alloc) named (λ is. cc)
-  by_call (Some call.Free) named = call_brings w e sound lives allocated (Some call.Free) named (λ is. cc)
-  by_call (Some call.Recap) named = call_brings w e sound lives allocated (Some call.Recap) named (λ is. cc)
-  by_call (Some call.Bind) named = call_brings w e sound lives allocated (Some call.Bind) named (λ is. cc)
-  by_call (Some call.Unbind) named = call_brings w e sound lives allocated (Some call.Unbind) named (λ is. cc)
-  by_call (Some call.Context) named = call_brings w e sound lives allocated (Some call.Context) named (λ is. cc)
-  by_call (Some call.Accept) named = call_brings w e sound lives allocated (Some call.Accept) named (λ is. cc)
-  by_call (Some call.Transfer) named = call_brings w e sound lives allocated (Some call.Transfer) named (λ is. cc)
-  by_call (Some call.SlotTake) named = call_brings w e sound lives allocated (Some call.SlotTake) named (λ is. cc)
-  by_call (Some call.SlotDrop) named = call_brings w e sound lives allocated (Some call.SlotDrop) named (λ is. cc)
-  by_call (Some call.Query) named = call_brings w e sound lives allocated (Some call.Query) named (λ is. cc)
-  by_call (Some call.OwnNumber) named = call_brings w e sound lives allocated (Some call.OwnNumber) named (λ is. cc)
-  by_call (Some call.Clock) named = call_brings w e sound lives allocated (Some call.Clock) named (λ is. cc)
+      by_verdict : (v : Verdict) → verdict w e c ≡ v → Stepped w e (after w (reply_of w e v))
+      by_verdict (Refuse code value) is = refused_follows (Refuse code value) lives refl refl
+      by_verdict (Grant value) is =
+          let d = deed_at (w.solos e) value in
+          let may = deed_may granted w e c (call_named w e c acts.comes) value is in
+          let cpu = answered_cpu (Grant value) (w.solos e).cpu in
+          let answer = Answer (Grant value) in
+          let items = (done w e d).items in
+          record {
+            came_to = caller w e sound lives allocated cpu d;
+            items = items;
+            follows = record {
+              brings = deed_brings w e sound lives allocated cpu d (call_does w e c acts value is) may;
+              own = ap (λ (its : List Item). absorb_all (w.solos e) (its ++ items e)) (set_here e (answer ∷ []) no_items) ∙ absorbs (w.solos e) answer (items e) lives;
+              others = λ i ne. ap (λ (its : List Item). absorb_all (w.solos i) (its ++ items i)) (set_else e i (answer ∷ []) no_items ne);
+              gives = deed_gives w e d may;
+            };
+          }
 
-  by_handler : (exc : Exc) (none : Bool) → BringsIn w e (acted (if none then Dies (cause.Trapped exc.code) else Raises exc) (w.solos e)) (if none then Dies (cause.Trapped exc.code) else Raises exc) (tick.brings e (if none then Dies (cause.Trapped exc.code) else Raises exc) w)
-  by_handler exc true = death_brings w e sound lives (w.solos e).cpu (cause.Trapped exc.code)
-  by_handler exc false = silent w e sound lives (raise exc (w.solos e)) (Raises exc) lives refl refl
+  -- the world once the step is made
+  abbrev told : World
+  told = after w (tells e Step w)
 
-  pub step_brings : (st : mips.Step) → BringsIn w e (stepped (w.solos e) st) (act_of (w.solos e) st) (tick.brings e (act_of (w.solos e) st) w)
-  step_brings (Retired cpu write) = by_store cpu (store_of (w.solos e) write)
-  step_brings Called = by_call (called (w.solos e).cpu) refl
-  step_brings (Trapped exc) = by_handler exc ((w.solos e).handlers.exception == 0)
+  abbrev after_act : Act → Solo
+  after_act act = acted act (record (w.solos e) { cpu = cpu_after (w.solos e).cpu (step_alone (w.solos e)) })
+
+  told_follows : (act : Act) → act_now w e ≡ act → (r : Reply) → Brings w e (after_act act) r.book r.items → ((i : ℕ) → Gives e i (r.items i)) → Stepped w e (after told r)
+  told_follows act is r brings gives = record {
+    came_to = after_act act;
+    items = r.items;
+    follows = record {
+      brings = brings;
+      own = ap (λ (s : Solo). absorb_all s (r.items e)) (told_own w e Step ∙ absorbs (w.solos e) Step [] lives ∙ ap (λ (a : Act). acted a (record (w.solos e) { cpu = cpu_after (w.solos e).cpu (step_alone (w.solos e)) })) is);
+      others = λ i ne. ap (λ (s : Solo). absorb_all s (r.items i)) (told_other w e Step i ne);
+      gives = gives;
+    };
+  }
+
+  act_follows : (act : Act) → act_now w e ≡ act → Stepped w e (after told (tick.brings e act told))
+  act_follows Nothing is = told_follows Nothing is (tick.brings e Nothing told) (silent w e sound lives (after_act Nothing) lives refl refl) (λ i. Tells tt)
+  act_follows (Stores x) is =
+      told_follows (Stores x) is (tick.brings e (Stores x) told) (store_brings w e sound lives (cpu_after (w.solos e).cpu (step_alone (w.solos e))) x (record { runs = runs; comes = is })) (store_gives w e x)
+  act_follows (Calls c) is = subst (λ (v : World). Stepped w e (after v (tick.brings e (Calls c) v))) (sym (call_stands w e c is)) (call_follows c (record { runs = runs; comes = is }))
+  act_follows (Raises exc) is = told_follows (Raises exc) is (tick.brings e (Raises exc) told) (silent w e sound lives (after_act (Raises exc)) lives refl refl) (λ i. Tells tt)
+  act_follows (Dies cause) is =
+      told_follows (Dies cause) is (tick.brings e (Dies cause) told) (death_brings w e sound lives (cpu_after (w.solos e).cpu (step_alone (w.solos e))) cause) (λ i. Tells (told_death w.book e i))
+
+  pub step_follows : Stepped w e (after w (in_turn (tells e Step ∷ tick.brings e (act_now w e) ∷ []) w))
+  step_follows = subst (Stepped w e) (sym (in_turn_is_each w (tells e Step ∷ tick.brings e (act_now w e) ∷ []))) (act_follows (act_now w e) refl)
 
 -- what a slot of the living is once one of them is gone
 record IsLeft (slots : Option Hold) (gone : ℕ) (h : Hold) : Type 0 where
@@ -114,103 +153,16 @@ left_hold gone (Some old) h is = by_owner (old.owner == gone) refl (old.holder =
           not_holder = λ same. eqb-false old.holder gone held (holder ∙ same);
         }
 
--- A world follows on another, in which this came of the runner, whatever it was given in between.
-pub record Follows (w : World) (e : ℕ) (s : Solo) (act : Act) (now : World) (items : ℕ → List Item) : Type 0 where
-  pub brings : Brings w e s act now.book items
-  pub own : now.solos e ≡ absorb_all s (items e)
-  pub others : (i : ℕ) → i ≢ e → now.solos i ≡ absorb_all (w.solos i) (items i)
-
--- so does the world after the runner's step, in which a call finds its caller as it was
-abbrev pub told_step : World → ℕ → World
-told_step w e = after w (tells e Step w)
-
-told_brings : (w : World) (e : ℕ) (s : Solo) (act : Act) → tick.act_now w e ≡ act → BringsIn w e s act (tick.brings e act w) → BringsIn w e s act (tick.brings e act (told_step w e))
-told_brings w e s Nothing is brings = brings
-told_brings w e s (Stores x) is brings = brings
-told_brings w e s (Calls c) is brings = subst (λ (v : World). BringsIn w e s (Calls c) (tick.brings e (Calls c) v)) (sym (call_stands w e c is)) brings
-told_brings w e s (Raises exc) is brings = brings
-told_brings w e s (Dies cause) is brings = brings
-
-pub step_follows : (w : World) (e : ℕ) (act : Act) → (w.solos e).life ≡ Live → tick.act_now w e ≡ act → BringsIn w e (stepped (w.solos e) (step_alone (w.solos e))) act (tick.brings e act w)
-    → Follows w e (stepped (w.solos e) (step_alone (w.solos e))) act (after w (in_turn (tells e Step ∷ tick.brings e act ∷ []) w)) (tick.brings e act (told_step w e)).items
-step_follows w e act lives is brings =
-    let phases = tells e Step ∷ tick.brings e act ∷ [] in
-    let items = (tick.brings e act (told_step w e)).items in
-    record {
-      brings = told_brings w e (stepped (w.solos e) (step_alone (w.solos e))) act is brings;
-      own = ap (λ (v : World). v.solos e) (in_turn_is_each w phases) ∙ ap (λ (s : Solo). absorb_all s (items e)) (told_own w e Step ∙ absorbs (w.solos e) Step [] lives);
-      others = λ i ne. ap (λ (v : World). v.solos i) (in_turn_is_each w phases) ∙ ap (λ (s : Solo). absorb_all s (items i)) (told_other w e Step i ne);
-    }
-
--- an environment is entered by the runner's transfer, which it accepts, and this page has the words of that
-pub record IsEnteredBy (w : World) (e : ℕ) (act : Act) (i vpn : ℕ) (items : List Item) (now : Solo) : Type 0 where
-  pub kind : TransferKind
-  pub another : e ≢ i
-  pub acts : act ≡ Calls (Some call.Transfer)
-  pub accepted : accepts (w.solos i).mask e ≡ true
-  pub has_entry : is_open (w.solos i) kind ≡ true
-  pub given : items ≡ Transfer e kind (carried (w.solos e).cpu) ∷ []
-  pub entry : HasWords entry_area (entry_bytes e kind (w.solos i).cpu) (w.solos i) now vpn
-
--- or it is started by the runner's yield
-pub record IsStartedBy (w : World) (e i vpn : ℕ) (items : List Item) (now : Solo) : Type 0 where
-  pub another : e ≢ i
-  pub given : items ≡ Start ∷ []
-  pub start : HasStart (w.solos i) now vpn
-
--- what becomes of a guaranteed page of an environment that doesn't run
-abbrev pub OtherKept : World → ℕ → Act → ℕ → ℕ → List Item → Solo → Type 0
-OtherKept w e act i vpn items now = (kept_at now.kept vpn ≡ kept_at (w.solos i).kept vpn) ⊎ (IsStartedBy w e i vpn items now ⊎ IsEnteredBy w e act i vpn items now)
-
--- What is given leaves lives, and guaranteed pages but for such words.
-module _ (w : World) (e : ℕ) (act : Act) (i : ℕ) (items : List Item) where
-  gives_own : Gives w e act i items → e ≡ i → Keeps items
-  gives_own (Tells keeps) own = keeps
-  gives_own (Starts another given) own = absurd (another own)
-  gives_own (Enters kind another acts accepted opens given) own = absurd (another own)
-
-  gives_life : Gives w e act i items → (s : Solo) → (absorb_all s items).life ≡ s.life
-  gives_life (Tells keeps) s = keeps.life s
-  gives_life (Starts another given) s = ap (λ (its : List Item). (absorb_all s its).life) given ∙ (start_rests s).life
-  gives_life (Enters kind another acts accepted opens given) s = ap (λ (its : List Item). (absorb_all s its).life) given ∙ (enter_rests e kind (carried (w.solos e).cpu) s).life
-
-  gives_kept : Gives w e act i items → (vpn : ℕ) → OtherKept w e act i vpn items (absorb_all (w.solos i) items)
-  gives_kept (Tells keeps) vpn = inl (ap (λ ps. kept_at ps vpn) (keeps.kept (w.solos i)))
-  gives_kept (Starts another given) vpn =
-      subst (λ (xs : List Item). OtherKept w e act i vpn xs (absorb_all (w.solos i) xs)) (sym given) (by_start (started_kept (w.solos i) vpn))
-    where
-      started : Solo
-      started = absorb_all (w.solos i) (Start ∷ [])
-
-      by_start : (kept_at started.kept vpn ≡ kept_at (w.solos i).kept vpn) ⊎ HasStart (w.solos i) started vpn → OtherKept w e act i vpn (Start ∷ []) started
-      by_start (inl same) = inl same
-      by_start (inr start) = inr (inl (record { another = another; given = refl; start = start }))
-  gives_kept (Enters kind another acts accepted opens given) vpn =
-      subst (λ (xs : List Item). OtherKept w e act i vpn xs (absorb_all (w.solos i) xs)) (sym given) (by_entry (entered_kept e kind (carried (w.solos e).cpu) (w.solos i) vpn))
-    where
-      entered : Solo
-      entered = absorb_all (w.solos i) (Transfer e kind (carried (w.solos e).cpu) ∷ [])
-
-      by_entry : StaysOrHas entry_area (entry_bytes e kind (w.solos i).cpu) (w.solos i) entered vpn → OtherKept w e act i vpn (Transfer e kind (carried (w.solos e).cpu) ∷ []) entered
-      by_entry (inl same) = inl same
-      by_entry (inr entry) = inr (inr (record { kind = kind; another = another; acts = acts; accepted = accepted; has_entry = opens; given = refl; entry = entry }))
-
-module _ (w : World) (e : ℕ) (s : Solo) (act : Act) (now : World) (items : ℕ → List Item) (sound : Sound w) (follows : Follows w e s act now items) where
-  abbrev brings : Brings w e s act now.book items
+module _ (w : World) (e : ℕ) (s : Solo) (now : World) (items : ℕ → List Item) (sound : Sound w) (follows : Follows w e s now items) where
+  abbrev brings : Brings w e s now.book items
   brings = follows.brings
 
-  -- lives and guaranteed pages are what became of them
+  -- lives are what became of them
   pub own_life : (now.solos e).life ≡ s.life
-  own_life = ap (λ (t : Solo). t.life) follows.own ∙ gives_life w e act e (items e) (brings.gives e) s
-
-  pub own_kept : (now.solos e).kept ≡ s.kept
-  own_kept = ap (λ (t : Solo). t.kept) follows.own ∙ (gives_own w e act e (items e) (brings.gives e) refl).kept s
+  own_life = ap (λ (t : Solo). t.life) follows.own ∙ gives_life e e (items e) (follows.gives e) s
 
   pub other_life : (i : ℕ) → i ≢ e → (now.solos i).life ≡ (w.solos i).life
-  other_life i ne = ap (λ (t : Solo). t.life) (follows.others i ne) ∙ gives_life w e act i (items i) (brings.gives i) (w.solos i)
-
-  pub other_kept : (i vpn : ℕ) → i ≢ e → OtherKept w e act i vpn (items i) (now.solos i)
-  other_kept i vpn ne = subst (λ (t : Solo). OtherKept w e act i vpn (items i) t) (sym (follows.others i ne)) (gives_kept w e act i (items i) (brings.gives i) vpn)
+  other_life i ne = ap (λ (t : Solo). t.life) (follows.others i ne) ∙ gives_life e i (items i) (follows.gives i) (w.solos i)
 
   -- what each environment sees
   other_sees : (i : ℕ) → i ≢ e → Sees i now.book.pages (now.book.binds i) brings.bytes (now.solos i)

@@ -1,11 +1,10 @@
 -- The timer: a runner is told of its end, has grace, or dies of its excess.
-use Rattle.std.proofs.Common.{◌≡◌, ◌≢◌, ℕ, zero, suc, ◌+◌, List, [], ◌∷◌, ◌++◌, Bool, true, false, Option, Some, None, ◌⊎◌, inl, inr, refl, sym, ◌∙◌, ap, subst}
-use Rattle.std.proofs.lemmas.Bool.{cases_eq, eq-eqb, eqb-false, eqb-true}
+use Rattle.std.proofs.Common.{◌≡◌, ◌≢◌, ℕ, zero, suc, ◌+◌, List, [], ◌∷◌, ◌++◌, Bool, true, false, Option, Some, None, refl, sym, ◌∙◌, ap, subst}
+use Rattle.std.proofs.lemmas.Bool.{eq-eqb}
 use Rattle.std.proofs.lemmas.List.{append-nil}
 use Rattle.std.specs.Prelude.{◌==◌, ◌-◌, nat_lt, if◌then◌else◌}
 use Rattle.kernel_journal.specs.declared.row.Row.{Row}
 use Rattle.kernel_journal.specs.declared.row.Row.TheVariants as row
-use Rattle.env_frames.specs.Context.{end_area, end_bytes}
 use Rattle.page_book.specs.Row.{belongs_to, is_owned_by}
 use Rattle.bind_book.specs.declared.binding.Binding.{Binding}
 use Rattle.world_model.specs.declared.life.Life.TheVariants.{Live}
@@ -15,33 +14,28 @@ use Rattle.world_model.specs.declared.slot.Phase.TheVariants as phase
 use Rattle.world_model.specs.declared.slot.Runner.{Runner}
 use Rattle.world_model.specs.Table.{set_at}
 use Rattle.world_model.specs.Book.{Book, excess_limit, running}
-use Rattle.world_model.specs.Solo.{Solo, dead, is_dead, kept_at}
+use Rattle.world_model.specs.Death.{death, death_items, lost_with}
+use Rattle.world_model.specs.Solo.{Solo, dead}
 use Rattle.world_model.specs.Item.{Item, End, Killed, absorb, absorb_all}
-use Rattle.world_model.specs.PageCalls.{breaks, death_items, lost_with, page_bytes}
+use Rattle.world_model.specs.PageCalls.{breaks, page_bytes}
+use Rattle.world_model.specs.SlotCalls.{stop_row}
 use Rattle.world_model.specs.Step.{Dies}
 use Rattle.world_model.specs.Tick.{brings, clock, count_when, goes_on, grace_of, kill, owes_more, run_out, timer}
-use Rattle.world_model.specs.Verdict.{death, stop_row}
 use Rattle.world_model.specs.World.{World, Reply, after, in_turn, no_items, only, tells}
 use Rattle.run_model.proofs.Phases.{in_turn_is_each}
 use Rattle.run_model.proofs.Telling.{told_other, told_own}
 use Rattle.sharing_law.specs.Agreement.{AreBoundAllocated, IsAllocated}
-use Rattle.sharing_law.proofs.Given.{HasWords, IsRested, Keeps, StaysOrHas, absorbs, dead_absorbs, end_rests, ended_kept, keeps_death, keeps_none, rests_same}
+use Rattle.sharing_law.proofs.Given.{IsRested, Tells, absorbs, dead_absorbs, end_rests, rests_same, told_death}
 use Rattle.sharing_law.proofs.Sound.{Sound, owner_bytes}
-use Rattle.sharing_law.proofs.Brings.{Brings, Fate, Stays, Taken, Written, death_brings, owing_brings, released_owned}
+use Rattle.sharing_law.proofs.Brings.{Brings, death_keeps, owing_keeps, released_owned}
 use Rattle.sharing_law.proofs.Replies.{Remains, mourned}
-use Rattle.sharing_law.proofs.Stepping.{Follows, all_see, own_life, sound_following}
+use Rattle.sharing_law.proofs.Stepping.{Follows, all_see, sound_following}
 use Rattle.sharing_law.proofs.Turning.{IsAlike, bytes_alike, sound_alike}
-
--- What the timer gives: what leaves guaranteed pages, or the end of a slice, to who handles it.
-pub data Gets (w : World) (i : ℕ) (items : List Item) : Type 0 where
-  Rests : Keeps items → Gets w i items
-  Ends : (w.solos i).handlers.end ≢ 0 → items ≡ End ∷ [] → Gets w i items
 
 -- all goes on but the runner's slice
 pub record Passes (w : World) (r : Reply) : Type 0 where
   pub alike : IsAlike w (after w r)
   pub runs : (x : Runner) → r.book.runner ≡ Some x → running w.book.runner ≡ Some x.env
-  pub gets : (i : ℕ) → Gets w i (r.items i)
 
 -- The runner is killed: it is dead, the others lose what they had bound of its pages, and the book is that after its death, at some time.
 pub record IsKilled (w : World) (e : ℕ) (r : Reply) : Type 0 where
@@ -66,8 +60,8 @@ death_owing b excess gone i = ap (λ items. if i == gone then [] else items) (lo
 
 module _ (w : World) where
   passes : (runner : Option Runner) (items : ℕ → List Item) (rows : List Row) → ((x : Runner) → runner ≡ Some x → running w.book.runner ≡ Some x.env)
-      → ((i : ℕ) → IsRested (w.solos i) (absorb_all (w.solos i) (items i))) → ((i : ℕ) → Gets w i (items i)) → Comes w (record { book = record w.book { runner = runner }; items = items; rows = rows })
-  passes runner items rows runs rests gets = Passed (record { alike = record { solos = rests; pages = refl; binds = refl; count = refl; slots = refl }; runs = runs; gets = gets })
+      → ((i : ℕ) → IsRested (w.solos i) (absorb_all (w.solos i) (items i))) → Comes w (record { book = record w.book { runner = runner }; items = items; rows = rows })
+  passes runner items rows runs rests = Passed (record { alike = record { solos = rests; pages = refl; binds = refl; count = refl; slots = refl }; runs = runs })
 
   nobody : (x : Runner) → None ≡ Some x → running w.book.runner ≡ Some x.env
   nobody x is = cc
@@ -84,21 +78,15 @@ module _ (w : World) where
     next_runs : (left : ℕ) (p : Phase) (x : Runner) → Some (record { env = r.env; left = left; phase = p }) ≡ Some x → running w.book.runner ≡ Some x.env
     next_runs left p x is = let same : record { env = r.env; left = left; phase = p } ≡ x = cc in still x (ap (λ (y : Runner). y.env) same)
 
-    gets_end : (w.solos r.env).handlers.end ≢ 0 → (i : ℕ) (mine : Bool) → (i == r.env) ≡ mine → Gets w i (if mine then End ∷ [] else [])
-    gets_end handles i true is = Ends (subst (λ (n : ℕ). (w.solos n).handlers.end ≢ 0) (sym (eqb-true i r.env is)) handles) refl
-    gets_end handles i false is = Rests keeps_none
-
     abbrev stops : Reply
     stops = record { book = record w.book { runner = None }; items = no_items; rows = stop_row w.book r.env ∷ [] }
 
     abbrev ends : Reply
     ends = record { book = record w.book { runner = Some (grace_of w r.env) }; items = only r.env (End ∷ []); rows = row.End w.book.time w.book.cursor r.env ∷ [] }
 
-    slice_comes : (none : Bool) → ((w.solos r.env).handlers.end == 0) ≡ none → Comes w (if none then stops else ends)
-    slice_comes true is = passes None no_items (stop_row w.book r.env ∷ []) nobody (λ i. rests_same (w.solos i)) (λ i. Rests keeps_none)
-    slice_comes false is =
-        passes (Some (grace_of w r.env)) (only r.env (End ∷ [])) (row.End w.book.time w.book.cursor r.env ∷ [])
-        (next_runs w.book.quantum phase.Grace) (λ i. given_end (w.solos i) (i == r.env)) (λ i. gets_end (eqb-false (w.solos r.env).handlers.end 0 is) i (i == r.env) refl)
+    slice_comes : (none : Bool) → Comes w (if none then stops else ends)
+    slice_comes true = passes None no_items (stop_row w.book r.env ∷ []) nobody (λ i. rests_same (w.solos i))
+    slice_comes false = passes (Some (grace_of w r.env)) (only r.env (End ∷ [])) (row.End w.book.time w.book.cursor r.env ∷ []) (next_runs w.book.quantum phase.Grace) (λ i. given_end (w.solos i) (i == r.env))
 
     -- the world once its excess has risen, and once it is told that it is killed
     abbrev owing : World
@@ -132,19 +120,18 @@ module _ (w : World) where
     grace_comes false = Passed (record {
       alike = record { solos = λ i. rests_same (w.solos i); pages = refl; binds = refl; count = refl; slots = refl };
       runs = next_runs w.book.quantum phase.Grace;
-      gets = λ i. Rests keeps_none;
     })
 
     out_comes : (p : Phase) → Comes w (run_out r.env p w)
-    out_comes phase.Own = slice_comes ((w.solos r.env).handlers.end == 0) refl
+    out_comes phase.Own = slice_comes ((w.solos r.env).handlers.end == 0)
     out_comes phase.Grace = grace_comes (nat_lt excess_limit (owing.book.excess r.env))
 
     left_comes : (left : ℕ) (out : Bool) → Comes w (if out then run_out r.env r.phase w else goes_on (record r { left = left }) w)
     left_comes left true = out_comes r.phase
-    left_comes left false = passes (Some (record r { left = left })) no_items [] (next_runs left r.phase) (λ i. rests_same (w.solos i)) (λ i. Rests keeps_none)
+    left_comes left false = passes (Some (record r { left = left })) no_items [] (next_runs left r.phase) (λ i. rests_same (w.solos i))
 
   comes_by : (o : Option Runner) → w.book.runner ≡ o → Comes w (count_when o w)
-  comes_by None is = passes w.book.runner no_items [] (λ x runs. ap running runs) (λ i. rests_same (w.solos i)) (λ i. Rests keeps_none)
+  comes_by None is = passes w.book.runner no_items [] (λ x runs. ap running runs) (λ i. rests_same (w.solos i))
   comes_by (Some r) is = left_comes r is (r.left - 1) (r.left - 1 == 0)
 
   -- and then time rises
@@ -158,7 +145,6 @@ module _ (w : World) where
       slots = passes.alike.slots;
     };
     runs = passes.runs;
-    gets = λ i. subst (λ (items : List Item). Gets w i items) (sym (append-nil ((count w).items i))) (passes.gets i);
   })
   clocked count (Died e runs killed) = Died e runs (record {
     excess = killed.excess;
@@ -184,35 +170,28 @@ module _ (w : World) where
   pub allocated_timed : AreBoundAllocated w → AreBoundAllocated (after w (timer w))
   allocated_timed allocated i n b is = let left = timer_remains i n b is in subst IsAllocated (sym left.page) (allocated i n b left.listed)
 
--- it is told of the end of its slice, which it handles, by words in this page
-pub record IsEndedBy (s : Solo) (items : List Item) (now : Solo) (vpn : ℕ) : Type 0 where
-  pub handles : s.handlers.end ≢ 0
-  pub given : items ≡ End ∷ []
-  pub end : HasWords end_area (end_bytes s.cpu) s now vpn
-
--- What the timer leaves of a guaranteed page.
-abbrev pub TimedKept : Solo → List Item → Solo → ℕ → Type 0
-TimedKept s items now vpn = (kept_at now.kept vpn ≡ kept_at s.kept vpn) ⊎ (IsEndedBy s items now vpn ⊎ (is_dead now.life ≡ true))
-
 -- The death of a runner by its excess.
 module _ (w : World) (sound : Sound w) (e : ℕ) (lives : (w.solos e).life ≡ Live) (r : Reply) (killed : IsKilled w e r) where
   abbrev corpse : Solo
   corpse = dead cause.Excess (w.solos e)
 
-  pub death_follows : Follows w e corpse (Dies cause.Excess) (after w r) (death_items w.book e)
+  pub death_now : (brings : Brings w e corpse r.book (death_items w.book e)) × (brings.bytes ≡ page_bytes w)
+  death_now =
+      let keeps = death_keeps w e sound lives (w.solos e).cpu cause.Excess in
+      let owing = owing_keeps w e sound lives (death w e).book corpse (death_items w.book e) killed.excess killed.time keeps.0 in
+      subst (λ (b : Book). (brings : Brings w e corpse b (death_items w.book e)) × (brings.bytes ≡ page_bytes w)) (sym killed.book) (owing.0, owing.1 ∙ keeps.1)
+
+  abbrev pub death_follows : Follows w e corpse (after w r) (death_items w.book e)
   death_follows = record {
-    brings = subst (λ (b : Book). Brings w e corpse (Dies cause.Excess) b (death_items w.book e)) (sym killed.book)
-        (owing_brings w e sound lives (death w e).book corpse (Dies cause.Excess) (death_items w.book e) killed.excess killed.time (death_brings w e sound lives (w.solos e).cpu cause.Excess));
+    brings = death_now.0;
     own = killed.own ∙ absorbs (w.solos e) Killed [] lives ∙ sym (dead_absorbs corpse cause.Excess (death_items w.book e e) refl);
     others = killed.others;
+    gives = λ i. Tells (told_death w.book e i);
   }
 
-  -- it is dead, and all others keep their pages
-  pub death_kept : (i vpn : ℕ) → TimedKept (w.solos i) (r.items i) ((after w r).solos i) vpn
-  death_kept i vpn = elim (cases_eq i e) [
-    | inl own ↦ inr (inr (ap (λ (n : ℕ). is_dead ((after w r).solos n).life) own ∙ ap is_dead (own_life w e corpse (Dies cause.Excess) (after w r) (death_items w.book e) sound death_follows)))
-    | inr ne ↦ inl (ap (λ (s : Solo). kept_at s.kept vpn) (death_follows.others i ne) ∙ ap (λ ps. kept_at ps vpn) ((keeps_death w.book e i).kept (w.solos i)))
-  ]
+  pub death_bytes : (o page : ℕ) → is_owned_by o (r.book.pages page) ≡ true → page_bytes (after w r) page ≡ page_bytes w page
+  death_bytes o page owns =
+      owner_bytes (after w r) death_now.0.bytes (all_see w e corpse (after w r) (death_items w.book e) sound death_follows) o page owns ∙ ap (λ (bytes : ℕ → List ℕ). bytes page) death_now.1
 
 -- who runs lives
 pub running_lives : (w : World) → Sound w → (e : ℕ) → running w.book.runner ≡ Some e → (w.solos e).life ≡ Live
@@ -226,44 +205,21 @@ module _ (w : World) (sound : Sound w) where
   sound_by : (r : Reply) → Comes w r → AreBoundAllocated (after w r) → Sound (after w r)
   sound_by r (Passed passes) allocated = sound_alike w (after w r) passes.alike (λ x is. running_lives w sound x.env (passes.runs x is)) sound
   sound_by r (Died e runs killed) allocated =
-      sound_following w e (dead cause.Excess (w.solos e)) (Dies cause.Excess) (after w r) (death_items w.book e) sound (death_follows w sound e (running_lives w sound e runs) r killed) allocated
+      sound_following w e (dead cause.Excess (w.solos e)) (after w r) (death_items w.book e) sound (death_follows w sound e (running_lives w sound e runs) r killed) allocated
 
   pub sound_timed : AreBoundAllocated w → Sound (after w (timer w))
   sound_timed allocated = sound_by (timer w) (timer_comes w) (allocated_timed w allocated)
-
-  -- What the timer leaves of guaranteed pages, lives, and allocated pages.
-  kept_by : (r : Reply) → Comes w r → (i vpn : ℕ) → TimedKept (w.solos i) (r.items i) ((after w r).solos i) vpn
-  kept_by r (Passed passes) i vpn = by_gets (r.items i) (passes.gets i)
-    where
-      by_words : (w.solos i).handlers.end ≢ 0 → StaysOrHas end_area (end_bytes (w.solos i).cpu) (w.solos i) (absorb_all (w.solos i) (End ∷ [])) vpn → TimedKept (w.solos i) (End ∷ []) (absorb_all (w.solos i) (End ∷ [])) vpn
-      by_words handles (inl same) = inl same
-      by_words handles (inr has) = inr (inl (record { handles = handles; given = refl; end = has }))
-
-      by_gets : (items : List Item) → Gets w i items → TimedKept (w.solos i) items (absorb_all (w.solos i) items) vpn
-      by_gets items (Rests keeps) = inl (ap (λ ps. kept_at ps vpn) (keeps.kept (w.solos i)))
-      by_gets items (Ends handles given) = subst (λ (xs : List Item). TimedKept (w.solos i) xs (absorb_all (w.solos i) xs) vpn) (sym given) (by_words handles (ended_kept (w.solos i) vpn))
-  kept_by r (Died e runs killed) i vpn = death_kept w sound e (running_lives w sound e runs) r killed i vpn
-
-  pub timer_kept : (i vpn : ℕ) → TimedKept (w.solos i) ((timer w).items i) ((after w (timer w)).solos i) vpn
-  timer_kept = kept_by (timer w) (timer_comes w)
 
   -- an allocated page was its owner's before, with the same bytes
   abbrev WasSo : ℕ → ℕ → World → Type 0
   WasSo owner page v = (is_owned_by owner (w.book.pages page) ≡ true) × (page_bytes v page ≡ page_bytes w page)
 
-  -- a death leaves them what they were
-  left_by : (e owner page : ℕ) (bytes : List ℕ) → is_owned_by owner (w.book.pages page) ≡ true → Fate w e (Dies cause.Excess) owner page bytes → bytes ≡ page_bytes w page
-  left_by e owner page bytes its (Stays owns same) = same
-  left_by e owner page bytes its (Written owns x acts into) = cc
-  left_by e owner page bytes its (Taken own acts free zeros) = let clash : false ≡ true = sym (ap (is_owned_by owner) free) ∙ its in cc
-
   owned_by : (r : Reply) → Comes w r → (owner page : ℕ) → is_owned_by owner (r.book.pages page) ≡ true → WasSo owner page (after w r)
   owned_by r (Passed passes) owner page owns = (ap (is_owned_by owner) (λ k. sym passes.alike.pages k page) ∙ owns, bytes_alike w (after w r) passes.alike page)
-  owned_by r (Died e runs killed) owner page owns =
-      let follows = death_follows w sound e (running_lives w sound e runs) r killed in
-      let was = released_owned e owner (w.book.pages page) (ap (λ (x : Book). is_owned_by owner (x.pages page)) (sym killed.book) ∙ owns) in
-      let bytes = owner_bytes (after w r) follows.brings.bytes (all_see w e (dead cause.Excess (w.solos e)) (Dies cause.Excess) (after w r) (death_items w.book e) sound follows) owner page owns in
-      (was, bytes ∙ left_by e owner page (follows.brings.bytes page) was (follows.brings.fate owner page owns))
+  owned_by r (Died e runs killed) owner page owns = (
+    released_owned e owner (w.book.pages page) (ap (λ (x : Book). is_owned_by owner (x.pages page)) (sym killed.book) ∙ owns),
+    death_bytes w sound e (running_lives w sound e runs) r killed owner page owns,
+  )
 
   pub timer_owned : (owner page : ℕ) → is_owned_by owner ((timer w).book.pages page) ≡ true → WasSo owner page (after w (timer w))
   timer_owned = owned_by (timer w) (timer_comes w)

@@ -1,7 +1,6 @@
 -- The phase of a tick in which no book changes but whose turn it is.
 use Rattle.std.proofs.Common.{◌≡◌, ◌≤◌, ℕ, zero, suc, ◌+◌, ◌%◌, [], ◌∷◌, Bool, true, false, Option, Some, None, refl, sym, ◌∙◌, ap, subst}
 use Rattle.std.specs.Prelude.{◌==◌, if◌then◌else◌}
-use Rattle.std.proofs.lemmas.Bool.{eqb-true}
 use Rattle.page_book.specs.declared.row.PageRow.{PageRow}
 use Rattle.page_book.specs.declared.row.PageRow.TheVariants.{Free, Guaranteed, Owned}
 use Rattle.page_book.specs.Row.{is_owned_by}
@@ -13,7 +12,7 @@ use Rattle.world_model.specs.Book.{Told, first_turn, lowered, owed, pays_first, 
 use Rattle.world_model.specs.Solo.{Solo, bytes_seen}
 use Rattle.world_model.specs.Item.{Start, absorb_all}
 use Rattle.world_model.specs.PageCalls.{bytes_owned, page_bytes}
-use Rattle.world_model.specs.World.{World, Reply, after, no_change}
+use Rattle.world_model.specs.World.{World, after, no_change}
 use Rattle.world_model.specs.Tick.{take_turn, turn, turn_when}
 use Rattle.page_sight.specs.Sight.{seen_in}
 use Rattle.sharing_law.specs.Agreement.{AreBoundAllocated, IsAllocated}
@@ -27,6 +26,19 @@ pub record IsAlike (w v : World) : Type 0 where
   pub binds : v.book.binds ≡ w.book.binds
   pub count : v.book.page_count ≡ w.book.page_count
   pub slots : v.book.slots ≡ w.book.slots
+
+-- and so on, one after another
+pub rested_then : (s t u : Solo) → IsRested s t → IsRested t u → IsRested s u
+rested_then s t u first next = record { binds = next.binds ∙ first.binds; seen = next.seen ∙ first.seen; life = next.life ∙ first.life }
+
+pub alike_then : (w v u : World) → IsAlike w v → IsAlike v u → IsAlike w u
+alike_then w v u first next = record {
+  solos = λ i. rested_then (w.solos i) (v.solos i) (u.solos i) (first.solos i) (next.solos i);
+  pages = next.pages ∙ first.pages;
+  binds = next.binds ∙ first.binds;
+  count = next.count ∙ first.count;
+  slots = next.slots ∙ first.slots;
+}
 
 pub bytes_alike : (w v : World) → IsAlike w v → (page : ℕ) → page_bytes v page ≡ page_bytes w page
 bytes_alike w v alike page = (λ k. bytes_owned v page (alike.pages k page)) ∙ by_row (w.book.pages page)
@@ -108,26 +120,6 @@ turn_by w (Some r) = unchanged w
 
 pub turn_alike : (w : World) → IsAlike w (after w (turn w))
 turn_alike w = turn_by w w.book.runner
-
--- What it gives to an environment: nothing, or the start of its slice, if it runs then.
-pub data IsGivenTurn (w : World) (r : Reply) (i : ℕ) : Type 0 where
-  Waits : (after w r).solos i ≡ w.solos i → IsGivenTurn w r i
-  Begins : running r.book.runner ≡ Some i → r.items i ≡ Start ∷ [] → IsGivenTurn w r i
-
-taken_given : (w : World) (told : Told) (x : Option Turn) (i : ℕ) → IsGivenTurn w (take_turn w told x) i
-taken_given w told None i = Waits refl
-taken_given w told (Some t) i = by_test (i == t.env) refl
-  where
-    by_test : (mine : Bool) → (i == t.env) ≡ mine → IsGivenTurn w (take_turn w told (Some t)) i
-    by_test true is = Begins (ap Some (sym (eqb-true i t.env is))) (ap (λ (mine : Bool). if mine then Start ∷ [] else []) is)
-    by_test false is = Waits (ap (λ (mine : Bool). absorb_all (w.solos i) (if mine then Start ∷ [] else [])) is)
-
-when_given : (w : World) (o : Option Runner) (i : ℕ) → IsGivenTurn w (turn_when w o) i
-when_given w None i = taken_given w (whole_turn w.book) (whole_turn w.book).runs i
-when_given w (Some r) i = Waits refl
-
-pub turn_given : (w : World) (i : ℕ) → IsGivenTurn w (turn w) i
-turn_given w i = when_given w w.book.runner i
 
 -- who runs after it lives
 module _ (w : World) (sound : Sound w) where

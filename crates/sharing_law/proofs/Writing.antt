@@ -20,14 +20,13 @@ use Rattle.mips_exec.specs.declared.change.Change.TheVariants as change
 use Rattle.mips_exec.specs.Step.{Answers, Step, Retired, Called, Trapped, accessed, answered, answered_if, ended, executed, access_after, decoded, fetched, step_of, view_of, without_value}
 use Rattle.bind_book.specs.declared.binding.Binding.{Binding}
 use Rattle.bind_book.specs.Stripe.{binding_at, of_number, row_of}
-use Rattle.world_model.specs.declared.call.Call.{Call}
-use Rattle.world_model.specs.declared.call.Call.TheVariants as call
 use Rattle.world_model.specs.declared.life.Cause.TheVariants as cause
 use Rattle.world_model.specs.declared.page.Purpose.TheVariants as purpose
-use Rattle.world_model.specs.Call.{called}
+use Rattle.world_model.specs.Call.{exit_number}
+use Rattle.mips_exec.specs.Cpu.{reg}
 use Rattle.world_model.specs.Page.{KeptPage, Mapped, address_error, answers_by, if_served, raised, reach, served, user_end}
 use Rattle.world_model.specs.Solo.{Solo, Store, Kept, Physical, Place, bound_place, kept_at, leads, mapped, place_at, sight, store_through}
-use Rattle.world_model.specs.Step.{Stores, Raises, Dies, act_of, call_act, step_alone, store_act}
+use Rattle.world_model.specs.Step.{Stores, Raises, Dies, act_at_call, act_of, step_alone, store_act}
 
 -- an instruction that retires writes what its access does
 ended_write : (cpu new : Cpu) (change : Change) (write o : Option Write) → ended cpu change write ≡ Retired new o → write ≡ o
@@ -139,24 +138,9 @@ module _ (s : Solo) (x : Store) where
         writable = granted_writable (sight s) w.address (mapped s place) (ap (option_map (mapped s)) led) granted.granted;
       }
 
-  by_call : (c : Option Call) → call_act s.cpu c ≡ Stores x → IsLed s x
-  by_call None acts = cc
-  by_call (Some call.Yield) acts = cc
-  by_call (Some call.Put) acts = cc
-  by_call (Some call.Exit) acts = cc
-  by_call (Some call.Alloc) acts = cc
-  by_call (Some call.Free) acts = cc
-  by_call (Some call.Recap) acts = cc
-  by_call (Some call.Bind) acts = cc
-  by_call (Some call.Unbind) acts = cc
-  by_call (Some call.Context) acts = cc
-  by_call (Some call.Accept) acts = cc
-  by_call (Some call.Transfer) acts = cc
-  by_call (Some call.SlotTake) acts = cc
-  by_call (Some call.SlotDrop) acts = cc
-  by_call (Some call.Query) acts = cc
-  by_call (Some call.OwnNumber) acts = cc
-  by_call (Some call.Clock) acts = cc
+  by_call : (exits : Bool) → act_at_call s.cpu exits ≡ Stores x → IsLed s x
+  by_call true acts = cc
+  by_call false acts = cc
 
   by_handler : (exc : Exc) (none : Bool) → (if none then Dies (cause.Trapped exc.code) else Raises exc) ≡ Stores x → IsLed s x
   by_handler exc true acts = cc
@@ -165,7 +149,7 @@ module _ (s : Solo) (x : Store) where
   by_step : (st : Step) → step_alone s ≡ st → act_of s st ≡ Stores x → IsLed s x
   by_step (Retired new None) is acts = cc
   by_step (Retired new (Some w)) is acts = by_led new w is (leads s (w.address / page_size)) refl acts
-  by_step Called is acts = by_call (called s.cpu) acts
+  by_step Called is acts = by_call (reg s.cpu 2 == exit_number) acts
   by_step (Trapped exc) is acts = by_handler exc (s.handlers.exception == 0) acts
 
   led_store : act_of s (step_alone s) ≡ Stores x → IsLed s x

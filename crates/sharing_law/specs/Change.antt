@@ -1,117 +1,123 @@
 -- Why the bytes of a page change.
-use Rattle.std.specs.Prelude.{◌≡◌, ◌≢◌, ℕ, suc, true, List, Some, ◌⊎◌, Contains}
+use Rattle.std.specs.Prelude.{◌≡◌, ◌≢◌, ℕ, suc, true, List, ◌∷◌, Some, ◌⊎◌}
 use Rattle.frame_store.specs.Pages.{with_bytes, zero_page}
-use Rattle.mips_exec.specs.declared.exception.Exc.{Exc}
+use Rattle.page_book.specs.declared.row.Capabilities.{Capabilities}
 use Rattle.page_book.specs.declared.row.PageRow.TheVariants.{Free}
 use Rattle.page_book.specs.Row.{is_owned_by}
 use Rattle.bind_book.specs.declared.binding.Binding.{Binding}
-use Rattle.env_frames.specs.declared.transfer.TransferKind.{TransferKind}
-use Rattle.env_frames.specs.Context.{context_number, end_area, end_bytes, start_area, start_bytes}
-use Rattle.env_frames.specs.Transfer.{carried, entry_area, entry_bytes}
-use Rattle.world_model.specs.declared.call.Call.TheVariants as call
+use Rattle.env_frames.specs.Context.{context_number, end_area, end_bytes, exception_area, exception_bytes, start_area, start_bytes}
+use Rattle.env_frames.specs.Transfer.{entry_area, entry_bytes}
+use Rattle.world_model.specs.declared.deed.Deed.TheVariants.{Allocates}
 use Rattle.world_model.specs.Page.{KeptPage}
-use Rattle.world_model.specs.Solo.{Store, Kept, Physical, bytes_in, is_dead, kept_at}
-use Rattle.world_model.specs.Step.{Stores, Calls, Raises}
+use Rattle.world_model.specs.Solo.{Solo, Store, Kept, Physical, bytes_in, kept_at}
+use Rattle.world_model.specs.Step.{Act, Nothing, Stores, Calls, Raises, Dies, act_of, step_alone}
 use Rattle.world_model.specs.PageCalls.{page_bytes}
-use Rattle.world_model.specs.SlotCalls.{accepts}
-use Rattle.world_model.specs.Transfers.{is_open}
-use Rattle.world_model.specs.Item.{Start, End, Transfer}
-use Rattle.run_model.specs.Run.{System, at_step, at_timer, items_in, world_after}
-use Rattle.sharing_law.specs.Acting.{Acts, cpu_at_step}
+use Rattle.world_model.specs.Item.{Item, Boot, Step, Start, End, Transfer, Killed, Answer, Gained, Lost, Left, absorb}
+use Rattle.run_model.specs.Acting.{Acts, Does}
+use Rattle.run_model.specs.Run.{System, given_at, moment, world_after}
 use Rattle.sharing_law.specs.Right.{IsLive, row_after}
 
--- the bytes of a guaranteed page of an environment after so many ticks, and those of an allocated page
-abbrev pub kept_bytes : System → ℕ → ℕ → ℕ → List ℕ
-kept_bytes system t e vpn = bytes_in (kept_at ((world_after system t).solos e).kept vpn)
+-- the bytes of a guaranteed page of an environment
+abbrev pub bytes_at : Solo → ℕ → List ℕ
+bytes_at s vpn = bytes_in (kept_at s.kept vpn)
 
-abbrev pub bytes_after : System → ℕ → ℕ → List ℕ
-bytes_after system t page = page_bytes (world_after system t) page
+-- words stand in an area of the context page, which is else as it was
+pub record HasWords (s t : Solo) (vpn area : ℕ) (words : List ℕ) : Type 0 where
+  pub context : vpn ≡ context_number
+  pub has : bytes_at t vpn ≡ with_bytes (bytes_at s vpn) area words
 
--- in a tick the environment stores to its guaranteed page at this number, and the page may be stored to
-pub record StoresToItsOwn (system : System) (t e vpn : ℕ) : Type 0 where
-  pub store : Store
-  pub acts : Acts system t e (Stores store)
+-- the bytes of a store stand in the page, which the store names and which may be stored to
+pub record HasStore (s t : Solo) (vpn : ℕ) (store : Store) : Type 0 where
   pub into : store.key ≡ Kept vpn
   pub page : KeptPage
-  pub there : kept_at ((at_step system t).solos e).kept vpn ≡ Some page
+  pub there : kept_at s.kept vpn ≡ Some page
   pub writable : page.writable ≡ true
+  pub has : bytes_at t vpn ≡ with_bytes (bytes_at s vpn) store.offset store.bytes
 
--- in a tick the environment raises an exception, whose words go into its context page, and the page is that one
-pub record RaisesAnException (system : System) (t e vpn : ℕ) : Type 0 where
-  pub exception : Exc
-  pub acts : Acts system t e (Raises exception)
-  pub context : vpn ≡ context_number
+-- How an environment's own step changes a guaranteed page, by what the step comes to.
+abbrev pub StepChanges : Solo → Solo → ℕ → Act → Type 0
+StepChanges s t vpn Nothing = ⊥
+StepChanges s t vpn (Stores store) = HasStore s t vpn store
+StepChanges s t vpn (Calls call) = ⊥
+StepChanges s t vpn (Raises exc) = HasWords s t vpn exception_area (exception_bytes exc s.cpu)
+StepChanges s t vpn (Dies cause) = Unit {0}
 
--- the bytes of the context page of an environment after the step of a tick, before its timer
-abbrev pub bytes_at_timer : System → ℕ → ℕ → List ℕ
-bytes_at_timer system t e = bytes_in (kept_at ((at_timer system t).solos e).kept context_number)
+-- How an item does that makes s to t: of what comes from outside it is the kernel's words on its slice and on who enters it, and death, alone.
+abbrev pub Changes : Solo → Solo → ℕ → Item → Type 0
+Changes s t vpn (Boot number name entry accept kept) = Unit {0}
+Changes s t vpn Step = StepChanges s t vpn (act_of s (step_alone s))
+Changes s t vpn Start = (s.handlers.start ≢ 0) × HasWords s t vpn start_area (start_bytes s.cpu)
+Changes s t vpn End = HasWords s t vpn end_area (end_bytes s.cpu)
+Changes s t vpn (Transfer from kind registers) = HasWords s t vpn entry_area (entry_bytes from kind s.cpu)
+Changes s t vpn Killed = Unit {0}
+Changes s t vpn (Answer verdict) = ⊥
+Changes s t vpn (Gained page writable bytes) = ⊥
+Changes s t vpn (Lost page) = ⊥
+Changes s t vpn (Left page offset bytes) = ⊥
 
--- in a tick the slice of the environment starts, which it handles: these are the bytes of its context page before, but for the start area, which has the words of this start
-pub record IsStarted (system : System) (t e : ℕ) (bytes : List ℕ) : Type 0 where
-  pub given : Contains (items_in system t e) Start
-  pub handles : ((world_after system t).solos e).handlers.start ≢ 0
-  pub words : bytes ≡ with_bytes (kept_bytes system t e context_number) start_area (start_bytes ((world_after system t).solos e).cpu)
+-- An item leaves the bytes of a guaranteed page, but for such a change.
+abbrev pub ItemChange : Type 0
+ItemChange = (s : Solo) (item : Item) (vpn : ℕ) → (bytes_at (absorb s item) vpn ≡ bytes_at s vpn) ⊎ Changes s (absorb s item) vpn item
 
--- in a tick the environment is entered by a transfer of another's, whom it accepts, and it has an entry for such transfers: these are the bytes of its context page before, but for the entry area, which has the words of this transfer
-pub record IsEntered (system : System) (t e : ℕ) (bytes : List ℕ) : Type 0 where
-  pub caller : ℕ
-  pub another : caller ≢ e
-  pub acts : Acts system t caller (Calls (Some call.Transfer))
-  pub accepted : accepts ((at_step system t).solos e).mask caller ≡ true
-  pub kind : TransferKind
-  pub has_entry : is_open ((at_step system t).solos e) kind ≡ true
-  pub given : Contains (items_in system t e) (Transfer caller kind (carried (cpu_at_step system t caller)))
-  pub words : bytes ≡ with_bytes (kept_bytes system t e context_number) entry_area (entry_bytes caller kind (cpu_at_step system t e))
+-- In a phase of a tick the first item that an environment is given changes a guaranteed page of it so, and nothing else does.
+pub record IsChanged (system : System) (t k e vpn : ℕ) : Type 0 where
+  pub item : Item
+  pub rest : List Item
+  pub given : given_at system t k e ≡ item ∷ rest
+  pub changes : let s = (moment system t k).solos e in Changes s (absorb s item) vpn item
+  pub has : bytes_at ((moment system t (suc k)).solos e) vpn ≡ bytes_at (absorb ((moment system t k).solos e) item) vpn
 
-abbrev pub IsStartedOrEntered : System → ℕ → ℕ → List ℕ → Type 0
-IsStartedOrEntered system t e bytes = IsStarted system t e bytes ⊎ IsEntered system t e bytes
+-- The bytes of a guaranteed page stay in a phase of a tick, but for such a change.
+abbrev pub GuaranteedChange : Type 0
+GuaranteedChange = (system : System) (t k e vpn : ℕ) →
+    (bytes_at ((moment system t (suc k)).solos e) vpn ≡ bytes_at ((moment system t k).solos e) vpn) ⊎ IsChanged system t k e vpn
 
--- in a tick the slice of the environment ends, which it handles: all that the timer changes in its context page is the end area, which has the words of this end; and up to the timer the page stays, or has the words of a start or an entry
-pub record IsEnded (system : System) (t e : ℕ) : Type 0 where
-  pub given : Contains (items_in system t e) End
-  pub handles : ((at_timer system t).solos e).handlers.end ≢ 0
-  pub first : (bytes_at_timer system t e ≡ kept_bytes system t e context_number) ⊎ IsStartedOrEntered system t e (bytes_at_timer system t e)
-  pub words : kept_bytes system (suc t) e context_number ≡ with_bytes (bytes_at_timer system t e) end_area (end_bytes ((at_timer system t).solos e).cpu)
+-- So they stay in a tick, but for such changes in its phases.
+abbrev pub GuaranteedInTick : Type 0
+GuaranteedInTick = (system : System) (t e vpn : ℕ) →
+    (bytes_at ((world_after system (suc t)).solos e) vpn ≡ bytes_at ((world_after system t).solos e) vpn) ⊎ ((k : ℕ) × IsChanged system t k e vpn)
 
--- in a tick the environment is told by the kernel that its slice starts or ends, or that it is entered, by words that go into its context page: they are all that changes there, and the page is that one
-pub record IsToldByTheKernel (system : System) (t e vpn : ℕ) : Type 0 where
-  pub told : IsStartedOrEntered system t e (kept_bytes system (suc t) e context_number) ⊎ IsEnded system t e
-  pub context : vpn ≡ context_number
+-- whether a page is an environment's at a moment
+abbrev pub IsOwnedAt : System → ℕ → ℕ → ℕ → ℕ → Type 0
+IsOwnedAt system t k page owner = is_owned_by owner ((moment system t k).book.pages page) ≡ true
 
--- in a tick an environment stores to the page through a live binding that is writable
-pub record IsStoredThroughABinding (system : System) (t page : ℕ) : Type 0 where
+-- In a phase of a tick an environment stores to the page, through a live binding that is writable.
+pub record IsStored (system : System) (t k page : ℕ) : Type 0 where
   pub writer : ℕ
   pub store : Store
-  pub acts : Acts system t writer (Stores store)
+  pub acts : Acts (moment system t k) writer (Stores store)
   pub into : store.key ≡ Physical page
   pub binding : Binding
   pub live : IsLive system t writer binding
   pub its : binding.page ≡ page
   pub writable : binding.writable ≡ true
+  pub has : page_bytes (moment system t (suc k)) page ≡ with_bytes (page_bytes (moment system t k) page) store.offset store.bytes
 
--- in a tick the environment calls alloc, and the page was free before and holds zeros after
-pub record IsAllocatedByCall (system : System) (t page owner : ℕ) : Type 0 where
-  pub acts : Acts system t owner (Calls (Some call.Alloc))
-  pub free : row_after system t page ≡ Free
-  pub zeros : bytes_after system (suc t) page ≡ zero_page
+-- In a phase of a tick the environment allocates the page, which was free before and holds zeros after.
+pub record IsAllocated (system : System) (t k page owner : ℕ) : Type 0 where
+  pub words : Capabilities
+  pub does : Does (moment system t k) owner (Allocates page words)
+  pub free : (moment system t k).book.pages page ≡ Free
+  pub zeros : page_bytes (moment system t (suc k)) page ≡ zero_page
 
--- The bytes of a guaranteed page stay in a tick, unless its environment stores there, raises an exception, is told by the kernel of its slice or of who enters it, or is dead after it.
-abbrev pub GuaranteedChange : Type 0
-GuaranteedChange = (system : System) (t e vpn : ℕ) →
-    (kept_bytes system (suc t) e vpn ≡ kept_bytes system t e vpn)
-    ⊎ (StoresToItsOwn system t e vpn
-    ⊎ (RaisesAnException system t e vpn
-    ⊎ (IsToldByTheKernel system t e vpn
-    ⊎ (is_dead ((world_after system (suc t)).solos e).life ≡ true))))
-
--- The bytes of a page that stays allocated to an environment stay in a tick, unless somebody stores there through a live writable binding.
+-- The bytes of a page that stays an environment's in a phase stay, or such a store changes them.
 abbrev pub AllocatedChange : Type 0
-AllocatedChange = (system : System) (t page owner : ℕ) →
-    is_owned_by owner (row_after system t page) ≡ true → is_owned_by owner (row_after system (suc t) page) ≡ true →
-    (bytes_after system (suc t) page ≡ bytes_after system t page) ⊎ IsStoredThroughABinding system t page
+AllocatedChange = (system : System) (t k page owner : ℕ) →
+    IsOwnedAt system t k page owner → IsOwnedAt system t (suc k) page owner →
+    (page_bytes (moment system t (suc k)) page ≡ page_bytes (moment system t k) page) ⊎ IsStored system t k page
 
--- A page that comes to be its owner's in a tick is allocated by a call of this environment in it, was free before, and holds zeros after.
+-- A page that comes to be an environment's in a phase is so allocated by it.
 abbrev pub AllocatedZeros : Type 0
-AllocatedZeros = (system : System) (t page owner : ℕ) →
-    is_owned_by owner (row_after system (suc t) page) ≡ true →
-    (is_owned_by owner (row_after system t page) ≡ true) ⊎ IsAllocatedByCall system t page owner
+AllocatedZeros = (system : System) (t k page owner : ℕ) →
+    IsOwnedAt system t (suc k) page owner → IsOwnedAt system t k page owner ⊎ IsAllocated system t k page owner
+
+-- So a page that is an environment's after a tick was so before and has the bytes that it had, or it was stored to or allocated so in a phase of the tick.
+abbrev pub AllocatedInTick : Type 0
+AllocatedInTick = (system : System) (t page owner : ℕ) → is_owned_by owner (row_after system (suc t) page) ≡ true →
+    ((is_owned_by owner (row_after system t page) ≡ true) × (page_bytes (world_after system (suc t)) page ≡ page_bytes (world_after system t) page))
+    ⊎ (((k : ℕ) × IsStored system t k page) ⊎ ((k : ℕ) × IsAllocated system t k page owner))
+
+-- and one that wasn't so before was allocated so.
+abbrev pub ZerosInTick : Type 0
+ZerosInTick = (system : System) (t page owner : ℕ) → is_owned_by owner (row_after system (suc t) page) ≡ true →
+    (is_owned_by owner (row_after system t page) ≡ true) ⊎ ((k : ℕ) × IsAllocated system t k page owner)

@@ -1,4 +1,3 @@
-pub mod Acting
 pub mod Agreement
 pub mod Right
 pub mod Change

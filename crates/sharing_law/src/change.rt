@@ -1,20 +1,57 @@
 //! The causes of change.
-ghost use Rattle.sharing_law.specs.Change.{AllocatedChange, AllocatedZeros, GuaranteedChange};
+ghost use Rattle.sharing_law.specs.Change.{AllocatedChange, AllocatedInTick, AllocatedZeros, GuaranteedChange, GuaranteedInTick, ItemChange, ZerosInTick};
 
-/// The bytes of a guaranteed page change only by a store of its own environment through that mapping, which may be stored
-/// to, or by the words of an exception of its own, or by exactly the words of the start of its slice or of a transfer to
-/// it by another that it accepts, and of the end of its slice, where it handles starts and ends, unless the environment
-/// died.
+use call_verdicts::law_granted;
+
+/// An item that an environment absorbs leaves the bytes of its guaranteed pages, but for its own store to one, which may
+/// be stored to; for the words of an exception of its own, of the start and the end of its slice, where it handles
+/// starts, and of another's transfer to it, which go into the context page; and for its record at boot and its death.
+pub fn law_item_change()
+    ensures { ItemChange }
+{}
+
+/// In a phase of a tick the bytes of a guaranteed page change by the first item that its environment is given, as this
+/// item does it, and by nothing else.
 pub fn law_guaranteed_change()
     ensures { GuaranteedChange }
-{}
+{
+    law_granted();
+}
 
-/// The bytes of a page that stays allocated to an environment change only by a store through a live writable binding.
+/// So in a tick they stay, or they change by such items in its phases.
+pub fn law_guaranteed_in_tick()
+    ensures { GuaranteedInTick }
+{
+    law_granted();
+}
+
+/// In a phase of a tick the bytes of a page that stays allocated to an environment change only by a store through a live
+/// writable binding.
 pub fn law_allocated_change()
     ensures { AllocatedChange }
-{}
+{
+    law_granted();
+}
 
-/// A page that is allocated in a tick is so by a call of its owner in it, was free before, and holds zeros after.
+/// A page that comes to be allocated in a phase is so by a call of its owner in it, was free before, and holds zeros
+/// after.
 pub fn law_zeros()
     ensures { AllocatedZeros }
-{}
+{
+    law_granted();
+}
+
+/// So a page that is allocated to an environment after a tick was so before, with the same bytes, or was stored to or
+/// allocated so in a phase of the tick.
+pub fn law_allocated_in_tick()
+    ensures { AllocatedInTick }
+{
+    law_granted();
+}
+
+/// And one that wasn't so before was allocated so in a phase of the tick.
+pub fn law_zeros_in_tick()
+    ensures { ZerosInTick }
+{
+    law_granted();
+}

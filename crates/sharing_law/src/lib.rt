@@ -7,5 +7,8 @@ mod change;
 mod right;
 
 pub use agreement::{law_agreement, law_bound};
-pub use change::{law_allocated_change, law_guaranteed_change, law_zeros};
+pub use change::{
+    law_allocated_change, law_allocated_in_tick, law_guaranteed_change, law_guaranteed_in_tick,
+    law_item_change, law_zeros, law_zeros_in_tick,
+};
 pub use right::law_live;

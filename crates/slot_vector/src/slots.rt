@@ -1,5 +1,5 @@
 //! The vector of slots, by the calls of the kernel.
-ghost use Rattle.std.specs.Prelude.{◌≡◌, ◌<◌, ◌≤◌, ◌+◌, true, IsSome, IfSome, IsNone, Some, OnErr, OnOk, length, All};
+ghost use Rattle.std.specs.Prelude.{◌≡◌, ◌<◌, ◌≤◌, ◌+◌, true, IsSome, IfSome, IsNone, Some, OnErr, OnOk, length, slice_get, All};
 ghost use Rattle.std.specs.Option.{option_map};
 ghost use Rattle.aegis_limits.specs.Limits.{least_quantum, most_quantum, most_slots};
 ghost use Rattle.world_model.specs.declared.slot.Hold.{Hold as Held};
@@ -16,7 +16,7 @@ use crate::search::{Row, first_turn, hold_at, mask_of, own_hold, own_holds, rele
 use crate::timer::Timer;
 use crate::turn::NextTurn;
 use std::marker::Model;
-use world_model::{Code, Phase, Runner};
+use world_model::{Code, Hold, Phase, Runner};
 
 /// The vector of slots, what each environment owes, and the runner with the ticks left of its quantum.
 #[derive(Drop)]
@@ -253,6 +253,13 @@ impl Slots {
         ensures { result ≡ self.now.quantum }
     {
         self.quantum
+    }
+
+    /// Who owns and holds the slot, if anybody does; none where there is no such slot.
+    pub fn hold(&self, slot: u32) -> Option<Option<Hold>>
+        ensures { result ≡ slice_get self.now.slots slot }
+    {
+        slot_at(self.slots.as_slice(), slot as usize)
     }
 
     /// The environment that owns the slot; none where it is empty, or past the last.

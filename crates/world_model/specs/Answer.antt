@@ -1,18 +1,24 @@
--- The kernel's answer to a call: a refusal, or what the call brings.
-use Rattle.std.specs.Prelude.{ℕ, [], ◌∷◌}
+-- The kernel's answer to a call.
+use Rattle.std.specs.Prelude.{ℕ, Option, Some, None, Result, Ok, Err}
 use Rattle.world_model.specs.declared.code.Code.{Code}
-use Rattle.world_model.specs.Item.{Granted, Refused}
-use Rattle.world_model.specs.World.{World, Reply, only}
+use Rattle.world_model.specs.declared.verdict.Verdict.{Verdict}
+use Rattle.world_model.specs.declared.verdict.Verdict.TheVariants.{Refuse, Grant}
+use Rattle.world_model.specs.Code.{code_number}
 
--- a refusal with a code and a value, or what the call brings, its answer with it
-pub data Verdict : Type 0 where
-  Refuses : (code : Code) (value : ℕ) → Verdict
-  Grants : (reply : Reply) → Verdict
+-- the code that the caller finds: 0 where its call is granted
+abbrev pub verdict_code : Verdict → ℕ
+verdict_code (Refuse code value) = code_number code
+verdict_code (Grant value) = 0
 
--- a refusal is answered, and changes nothing but the caller
-abbrev pub refusal : World → ℕ → Code → ℕ → Reply
-refusal w e code value = record { book = w.book; items = only e (Refused code value ∷ []); rows = [] }
+abbrev pub verdict_value : Verdict → ℕ
+verdict_value (Refuse code value) = value
+verdict_value (Grant value) = value
 
--- so is a granted call that changes nothing but its caller
-abbrev pub grant : World → ℕ → ℕ → Reply
-grant w e value = record { book = w.book; items = only e (Granted value ∷ []); rows = [] }
+-- a call is granted with a value, unless there is a reason to refuse it
+abbrev pub unless : Option Code → ℕ → Verdict
+unless None value = Grant value
+unless (Some why) value = Refuse why 0
+
+abbrev pub verdict_of : Result ℕ Code → Verdict
+verdict_of (Ok value) = Grant value
+verdict_of (Err why) = Refuse why 0

@@ -1,4 +1,4 @@
--- The answer codes of kernel calls and their numbers.
+-- Why kernel calls are refused, and the numbers of these codes; 0 is that of a call that is granted.
 use Rattle.std.specs.Prelude.{ℕ}
 use Rattle.world_model.specs.declared.code.Code.{Code}
 use Rattle.world_model.specs.declared.code.Code.TheVariants as code
@@ -6,7 +6,6 @@ use Rattle.page_book.specs.declared.refusal.PageNo.{PageNo}
 use Rattle.page_book.specs.declared.refusal.PageNo.TheVariants as no
 
 abbrev pub code_number : Code → ℕ
-code_number code.Ok = 0
 code_number code.NoPage = 1
 code_number code.Taken = 2
 code_number code.NoneFree = 3

@@ -1,27 +1,24 @@
--- The calls on slices and slots, and the questions about the book.
-use Rattle.std.specs.Prelude.{ℕ, ◌/◌, ◌%◌, ◌^◌, [], ◌∷◌, Bool, true, false, not, ◌==◌, ◌&&◌, ◌||◌, nat_lt, if◌then◌else◌, Option, Some, None, unwrap_or, Result, Ok, Err}
+-- The calls on slices and slots.
+use Rattle.std.specs.Prelude.{ℕ, ◌/◌, ◌%◌, ◌^◌, [], ◌∷◌, Bool, true, false, not, ◌==◌, ◌&&◌, ◌||◌, nat_lt, if◌then◌else◌, Option, Some, None}
 use Rattle.std.specs.Option.{option_map, option_or}
 use Rattle.kernel_journal.specs.declared.row.Row.{Row}
 use Rattle.kernel_journal.specs.declared.row.Row.TheVariants as row
 use Rattle.mips_exec.specs.Cpu.{reg}
-use Rattle.page_book.specs.declared.row.PageRow.{PageRow}
-use Rattle.page_book.specs.Row.{owner_of}
-use Rattle.page_book.specs.Rows.{free_below}
 use Rattle.world_model.specs.declared.code.Code.{Code}
 use Rattle.world_model.specs.declared.code.Code.TheVariants as code
-use Rattle.world_model.specs.declared.question.Question.{Question}
-use Rattle.world_model.specs.declared.question.Question.TheVariants as question
 use Rattle.world_model.specs.declared.slot.Hold.{Hold}
 use Rattle.world_model.specs.declared.slot.Phase.{Phase}
 use Rattle.world_model.specs.declared.slot.Phase.TheVariants as phase
 use Rattle.world_model.specs.declared.slot.Runner.{Runner}
 use Rattle.world_model.specs.Table.{set_at}
-use Rattle.world_model.specs.Book.{Book, own_hold, page_row}
+use Rattle.world_model.specs.Book.{Book, own_hold}
 use Rattle.world_model.specs.Call.{any}
 use Rattle.world_model.specs.Solo.{is_dead}
-use Rattle.world_model.specs.Item.{Granted, Start}
-use Rattle.world_model.specs.World.{World, Reply, only}
-use Rattle.world_model.specs.Answer.{Verdict, Refuses, Grants, grant}
+use Rattle.world_model.specs.Item.{Start}
+use Rattle.world_model.specs.World.{World, Reply, only, no_items}
+use Rattle.world_model.specs.declared.verdict.Verdict.{Verdict}
+use Rattle.world_model.specs.declared.verdict.Verdict.TheVariants.{Grant}
+use Rattle.world_model.specs.Answer.{unless}
 
 -- the row of a runner that is stopped
 abbrev pub stop_row : Book → ℕ → Row
@@ -34,7 +31,7 @@ slot_row t k (Some hold) = row.Own t k (Some hold.owner) (Some hold.holder)
 
 -- Yield without a target: the caller is stopped, and the rest of its slice is dropped.
 abbrev pub stops : World → ℕ → Reply
-stops w e = record { book = record w.book { runner = None }; items = only e (Granted 0 ∷ []); rows = stop_row w.book e ∷ [] }
+stops w e = record { book = record w.book { runner = None }; items = no_items; rows = stop_row w.book e ∷ [] }
 
 abbrev pub in_grace : Phase → Bool
 in_grace phase.Own = false
@@ -80,29 +77,25 @@ handed target runner = option_map (λ (r : Runner). record r { env = target }) r
 abbrev pub gives : World → ℕ → ℕ → Reply
 gives w e target = record {
   book = record w.book { runner = handed target w.book.runner };
-  items = set_at target (Start ∷ []) (only e (Granted 0 ∷ []));
+  items = only target (Start ∷ []);
   rows = row.Give w.book.time w.book.cursor e target ∷ [];
 }
 
-abbrev pub give_by : World → ℕ → ℕ → Option Code → Verdict
-give_by w e target None = Grants (gives w e target)
-give_by w e target (Some why) = Refuses why 0
-
-abbrev pub give : World → ℕ → ℕ → Verdict
-give w e target = give_by w e target (refusal_of_giving (is_other w e target) (gift_refusal false w.book.runner (turn_slot w.book)) (accepts (w.solos target).mask e))
+abbrev pub refusal_of_gift : World → ℕ → ℕ → Option Code
+refusal_of_gift w e target = refusal_of_giving (is_other w e target) (gift_refusal false w.book.runner (turn_slot w.book)) (accepts (w.solos target).mask e)
 
 abbrev pub yield_by : World → ℕ → ℕ → Bool → Verdict
-yield_by w e target true = Grants (stops w e)
-yield_by w e target false = give w e target
+yield_by w e target true = Grant 0
+yield_by w e target false = unless (refusal_of_gift w e target) 0
 
 abbrev pub yield : World → ℕ → Verdict
 yield w e = let target = reg (w.solos e).cpu 4 in yield_by w e target (target == any)
 
 -- Take: an empty slot is the caller's own.
-abbrev pub with_slot : World → ℕ → ℕ → Option Hold → Reply
-with_slot w e k hold = record {
+abbrev pub with_slot : World → ℕ → Option Hold → Reply
+with_slot w k hold = record {
   book = record w.book { slots = set_at k hold w.book.slots };
-  items = only e (Granted 0 ∷ []);
+  items = no_items;
   rows = slot_row w.book.time k hold ∷ [];
 }
 
@@ -115,12 +108,11 @@ take_refusal None = Some code.NoSlice
 take_refusal (Some None) = None
 take_refusal (Some (Some hold)) = Some code.SlotTaken
 
-abbrev pub take_by : World → ℕ → ℕ → Option Code → Verdict
-take_by w e k None = Grants (with_slot w e k (Some (own_hold e)))
-take_by w e k (Some why) = Refuses why 0
-
 abbrev pub slot_take : World → ℕ → Verdict
-slot_take w e = let k = reg (w.solos e).cpu 4 in take_by w e k (take_refusal (slot_at w.book k))
+slot_take w e = unless (take_refusal (slot_at w.book (reg (w.solos e).cpu 4))) 0
+
+abbrev pub takes_slot : World → ℕ → ℕ → Reply
+takes_slot w e k = with_slot w k (Some (own_hold e))
 
 -- Drop: a slot of the caller's own is empty, and one that it holds for another is that one's again.
 abbrev pub dropped : ℕ → Option Hold → Option Hold
@@ -132,56 +124,8 @@ drop_refusal e None = Some code.NoSlice
 drop_refusal e (Some None) = Some code.NotHolder
 drop_refusal e (Some (Some hold)) = if hold.holder == e then None else Some code.NotHolder
 
-abbrev pub drop_by : World → ℕ → ℕ → Option Code → Verdict
-drop_by w e k None = Grants (with_slot w e k (dropped e (w.book.slots k)))
-drop_by w e k (Some why) = Refuses why 0
-
 abbrev pub slot_drop : World → ℕ → Verdict
-slot_drop w e = let k = reg (w.solos e).cpu 4 in drop_by w e k (drop_refusal e (slot_at w.book k))
+slot_drop w e = unless (drop_refusal e (slot_at w.book (reg (w.solos e).cpu 4))) 0
 
--- Query: what is asked, by its number.
-abbrev pub question_numbered : ℕ → Option Question
-question_numbered number =
-    if number == 0 then Some question.FreePages else
-    if number == 1 then Some question.Pages else
-    if number == 2 then Some question.Environments else
-    if number == 3 then Some question.Slots else
-    if number == 4 then Some question.Quantum else
-    if number == 5 then Some question.PageOwner else
-    if number == 6 then Some question.SlotHolder else
-    if number == 7 then Some question.Excess else
-    if number == 8 then Some question.Death else None
-
-abbrev pub or_any : Option ℕ → ℕ
-or_any who = unwrap_or who any
-
-abbrev pub owner_answer : Option PageRow → Result ℕ Code
-owner_answer None = Err code.NoPage
-owner_answer (Some row) = Ok (or_any (owner_of row))
-
-abbrev pub holder_answer : Option (Option Hold) → Result ℕ Code
-holder_answer None = Err code.NoSlice
-holder_answer (Some slot) = Ok (or_any (option_map (λ (hold : Hold). hold.holder) slot))
-
-abbrev pub death_answer : World → ℕ → Result ℕ Code
-death_answer w e = if nat_lt e w.count then Ok (if is_dead (w.solos e).life then 1 else 0) else Err code.NoEnv
-
--- the answer: a number of the book, of this page, slot or environment; there is none of what isn't there
-abbrev pub answer_to : World → ℕ → Option Question → ℕ → Result ℕ Code
-answer_to w e None index = Err code.BadCall
-answer_to w e (Some question.FreePages) index = Ok (free_below w.book.pages w.book.page_count)
-answer_to w e (Some question.Pages) index = Ok w.book.page_count
-answer_to w e (Some question.Environments) index = Ok w.count
-answer_to w e (Some question.Slots) index = Ok w.book.slot_count
-answer_to w e (Some question.Quantum) index = Ok w.book.quantum
-answer_to w e (Some question.PageOwner) index = owner_answer (page_row w.book index)
-answer_to w e (Some question.SlotHolder) index = holder_answer (slot_at w.book index)
-answer_to w e (Some question.Excess) index = Ok (w.book.excess e)
-answer_to w e (Some question.Death) index = death_answer w index
-
-abbrev pub query_by : World → ℕ → Result ℕ Code → Verdict
-query_by w e (Ok value) = Grants (grant w e value)
-query_by w e (Err why) = Refuses why 0
-
-abbrev pub query : World → ℕ → Verdict
-query w e = let cpu = (w.solos e).cpu in query_by w e (answer_to w e (question_numbered (reg cpu 4)) (reg cpu 5))
+abbrev pub drops_slot : World → ℕ → ℕ → Reply
+drops_slot w e k = with_slot w k (dropped e (w.book.slots k))

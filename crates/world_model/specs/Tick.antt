@@ -10,10 +10,12 @@ use Rattle.world_model.specs.declared.slot.Phase.TheVariants as phase
 use Rattle.world_model.specs.declared.slot.Runner.{Runner}
 use Rattle.world_model.specs.declared.slot.Turn.{Turn}
 use Rattle.world_model.specs.Book.{Told, excess_limit, running, whole_turn}
-use Rattle.world_model.specs.Call.{called}
-use Rattle.world_model.specs.Item.{Item, Step, Start, End, Killed, refused}
+use Rattle.world_model.specs.Item.{Item, Step, Start, End, Killed, answered}
 use Rattle.world_model.specs.Step.{Act, Nothing, Stores, Calls, Raises, Dies, step_alone, act_of, acted, call_act}
-use Rattle.world_model.specs.Verdict.{Refuses, reply_to, death, stop_row, verdict_now}
+use Rattle.world_model.specs.declared.verdict.Verdict.TheVariants.{Refuse}
+use Rattle.world_model.specs.SlotCalls.{stop_row}
+use Rattle.world_model.specs.Death.{death}
+use Rattle.world_model.specs.Verdict.{reply_to, verdict_now}
 use Rattle.world_model.specs.Table.{set_at}
 use Rattle.world_model.specs.PageCalls.{left_by}
 use Rattle.world_model.specs.World.{World, Reply, only, no_items, after, run_phases, no_change, tells, in_turn}
@@ -126,11 +128,11 @@ died w e cause = act_world w e (Dies cause)
 
 -- the world after the kernel call at which the runner stands
 abbrev pub called_world : World → ℕ → World
-called_world w e = let cpu = (w.solos e).cpu in act_world w e (call_act cpu (called cpu))
+called_world w e = act_world w e (call_act (w.solos e).cpu)
 
 -- the world in which an environment's call was refused, and nothing else happened
 abbrev pub refused_world : World → ℕ → Code → ℕ → World
-refused_world w e code value = record w { solos = set_at e (refused code value (w.solos e)) w.solos }
+refused_world w e code value = record w { solos = set_at e (answered (Refuse code value) (w.solos e)) w.solos }
 
 -- The second world is the first after the kernel call at which its runner stands.
 abbrev pub IsCalled : World → World → Type 0
@@ -138,4 +140,4 @@ IsCalled old new = (e : ℕ) → running old.book.runner ≡ Some e → new ≡ 
 
 -- Where the verdict on that call is a refusal, the second world is the first with exactly that answer, and nothing else.
 abbrev pub IsRefused : World → World → Type 0
-IsRefused old new = (e : ℕ) (code : Code) (value : ℕ) → running old.book.runner ≡ Some e → verdict_now old e ≡ Refuses code value → new ≡ refused_world old e code value
+IsRefused old new = (e : ℕ) (code : Code) (value : ℕ) → running old.book.runner ≡ Some e → verdict_now old e ≡ Some (Refuse code value) → new ≡ refused_world old e code value

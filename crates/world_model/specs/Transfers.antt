@@ -14,10 +14,12 @@ use Rattle.world_model.specs.declared.slot.Hold.{Hold}
 use Rattle.world_model.specs.Table.{set_at}
 use Rattle.world_model.specs.Book.{Book}
 use Rattle.world_model.specs.Solo.{Solo}
-use Rattle.world_model.specs.Item.{Granted, Transfer}
+use Rattle.world_model.specs.Item.{Transfer}
 use Rattle.world_model.specs.SlotCalls.{accepts, gift_refusal, handed, held_by, is_other, refusal_of_giving, slot_row, turn_slot}
 use Rattle.world_model.specs.World.{World, Reply, only}
-use Rattle.world_model.specs.Answer.{Verdict, Refuses, Grants}
+use Rattle.world_model.specs.declared.verdict.Verdict.{Verdict}
+use Rattle.world_model.specs.declared.verdict.Verdict.TheVariants.{Refuse}
+use Rattle.world_model.specs.Answer.{unless}
 
 -- whether an environment has an entry for transfers of a kind
 abbrev pub is_open : Solo → TransferKind → Bool
@@ -36,7 +38,7 @@ transfer_rows b e target kind.Synchronous = row.Sync b.time b.cursor e target �
 abbrev pub transfers : World → ℕ → ℕ → TransferKind → Reply
 transfers w e target kind = record {
   book = record w.book { slots = slots_handed (hands_slot kind) target w.book; runner = handed target w.book.runner };
-  items = set_at target (Transfer e kind (carried (w.solos e).cpu) ∷ []) (only e (Granted 0 ∷ []));
+  items = only target (Transfer e kind (carried (w.solos e).cpu) ∷ []);
   rows = transfer_rows w.book e target kind;
 }
 
@@ -46,14 +48,10 @@ refusal_of_transfer w e target kind =
     let s = w.solos target in
     refusal_of_giving (is_other w e target) (gift_refusal (hands_slot kind) w.book.runner (turn_slot w.book)) (accepts s.mask e && is_open s kind)
 
-abbrev pub transfer_by : World → ℕ → ℕ → TransferKind → Option Code → Verdict
-transfer_by w e target kind None = Grants (transfers w e target kind)
-transfer_by w e target kind (Some why) = Refuses why 0
-
 -- a number that names no kind is refused first
-abbrev pub transfer_of : World → ℕ → ℕ → Option TransferKind → Verdict
-transfer_of w e target None = Refuses code.BadCall 0
-transfer_of w e target (Some kind) = transfer_by w e target kind (refusal_of_transfer w e target kind)
+abbrev pub transfer_by : World → ℕ → ℕ → Option TransferKind → Verdict
+transfer_by w e target None = Refuse code.BadCall 0
+transfer_by w e target (Some kind) = unless (refusal_of_transfer w e target kind) 0
 
 abbrev pub transfer : World → ℕ → Verdict
-transfer w e = let cpu = (w.solos e).cpu in transfer_of w e (reg cpu 4) (transfer_numbered (reg cpu 5))
+transfer w e = let cpu = (w.solos e).cpu in transfer_by w e (reg cpu 4) (transfer_numbered (reg cpu 5))

@@ -8,8 +8,6 @@ pub enum Call {
     Yield,
     /// Appends bytes to the console.
     Put,
-    /// Ends the environment.
-    Exit,
     /// Allocates a page, with its capability words.
     Alloc,
     /// Frees a page of the caller's.
@@ -38,6 +36,9 @@ pub enum Call {
     Clock,
 }
 
+/// The number of exit, which ends its caller and isn't answered (`docs/KERNEL.md`).
+pub const EXIT: u32 = 2;
+
 impl Call {
     ghost use Rattle.world_model.specs.Call.{call_named};
 
@@ -48,7 +49,6 @@ impl Call {
         match number {
             0 => Some(Call::Yield),
             1 => Some(Call::Put),
-            2 => Some(Call::Exit),
             3 => Some(Call::Alloc),
             4 => Some(Call::Free),
             5 => Some(Call::Recap),

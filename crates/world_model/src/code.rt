@@ -1,13 +1,13 @@
-//! The answer codes of kernel calls.
+//! The answers to kernel calls, and their codes.
 ghost use Rattle.std.specs.Prelude.{◌≡◌};
 
 use page_book::PageNo;
 
-/// The answer code of a kernel call, which the caller finds in register 2 (`docs/KERNEL.md`).
+/// Why a kernel call is refused: the code that the caller finds in register 2 (`docs/KERNEL.md`). The code of a call that
+/// is granted is 0.
 #[derive(Clone, Copy)]
 pub enum Code {
-    Ok,
-    NoPage,
+    NoPage = 1,
     Taken,
     NoneFree,
     NotOwner,
@@ -33,7 +33,7 @@ pub enum Code {
 impl Code {
     ghost use Rattle.world_model.specs.Code.{code_number};
 
-    /// Its number, 0 to 21.
+    /// Its number, 1 to 21.
     pub fn number(self) -> u32
         ensures { result ≡ code_number self }
     {

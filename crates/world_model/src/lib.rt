@@ -4,16 +4,20 @@
 
 mod call;
 mod code;
+mod deed;
 mod life;
 mod page;
 mod question;
 mod slot;
+mod verdict;
 mod view;
 
-pub use call::Call;
+pub use call::{Call, EXIT};
 pub use code::Code;
+pub use deed::Deed;
 pub use life::{Cause, Life};
 pub use page::Purpose;
 pub use question::Question;
 pub use slot::{Hold, Phase, Runner, Turn};
+pub use verdict::Verdict;
 pub use view::{PageView, WorldView};

@@ -25,7 +25,7 @@ pub enum Question {
 }
 
 impl Question {
-    ghost use Rattle.world_model.specs.SlotCalls.{question_numbered};
+    ghost use Rattle.world_model.specs.Queries.{question_numbered};
 
     /// The question of this number: 0 to 8 in the order of the variants. Every other number names none.
     pub fn numbered(number: u32) -> Option<Question>

@@ -2,7 +2,7 @@
 use Rattle.std.proofs.Common.{arith, ap, ◌∙◌}
 use Rattle.kernel_journal.specs.Ledger.{Ledger, with_row}
 use Rattle.slot_vector.specs.Slices.{hold_at}
-use Rattle.world_model.specs.Verdict.{slot_row}
+use Rattle.world_model.specs.SlotCalls.{slot_row}
 use Rattle.board_world.proofs.Masks.{named_on, unnamed_on, left_on}
 use Rattle.aegis_calls.proofs.death.push_slots.Goals as goal
 use Rattle.aegis_calls.proofs.death.push_slots.Goals.{then-rest-eq1, else-rest-eq1}

@@ -8,7 +8,6 @@ use Rattle.world_model.specs.Event.{schedule_of}
 use Rattle.world_model.specs.World.{World}
 use Rattle.run_model.specs.Run.{run_on}
 use Rattle.world_model.specs.Tick.{tick_step}
-use Rattle.run_model.proofs.Balance.{ticks_keep_accounts}
 use Rattle.aegis_tick.proofs.Whole.{stays, goes_on}
 use Rattle.aegis_tick.proofs.running.run_ticks.Goals as goal
 
@@ -34,7 +33,7 @@ loop-done-preserved c =
     let world = c.tick.ensures.world ∙ ap tick_step same ∙ sym (goes_on w c.loop-done.done busy) in
     record {
       world = world;
-      balance = λ good. subst IsAccounted (sym world) (ticks_keep_accounts (schedule_of []) w good (c.loop-done.done + 1));
+      balance = λ good. subst IsAccounted (sym world) (c.law_accounts.ensures (schedule_of []) w good (c.loop-done.done + 1));
       whole = c.tick.ensures.whole;
       time = c.tick.ensures.time ∙ ap (λ (v : World). v.book.time + 1) c.in_ok-make_room.ensures.world ∙ ap (λ (n : ℕ). n + 1) c.loop-done.invariant.time;
       room = λ enough.

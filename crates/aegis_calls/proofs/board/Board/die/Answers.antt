@@ -1,17 +1,18 @@
 -- The slots are released, and then the rest.
 use Rattle.std.proofs.Common.{◌≡◌, ap, ◌∙◌, arith}
 use Rattle.world_model.specs.Book.{running}
-use Rattle.board_world.specs.Shown.{Shown}
+use Rattle.board_world.specs.Shown.{Shown, shown}
 use Rattle.board_world.specs.Doing.{buried, died, slots_released}
 use Rattle.board_world.proofs.Seen.{named}
 use Rattle.board_world.proofs.Sound.{none_left, release_manned, runner_within}
+use Rattle.board_world.proofs.Staying.{sound_machine, sound_slots}
 use Rattle.aegis_calls.proofs.board.Board.die.Goals as goal
 
 pub release_slots-requires-clause-number : goal.release_slots-requires-clause-number
 release_slots-requires-clause-number c =
     let b = c.self.inside in
     let runs : running b.slots.runner ≡ running c.args.self.now.slots.runner = ap (λ (s : Shown). running s.slots.runner) c.self.view_is in
-    omega (arith, runner_within b.slots b.roster c.args.env c.self.invariant.book (runs ∙ c.requires.runs), c.self.invariant.consoles.most)
+    omega (arith, runner_within b.slots b.roster c.args.env c.self.invariant.book (runs ∙ c.requires.runs), c.self.invariant.few)
 
 pub release_slots-requires-clause-room : goal.release_slots-requires-clause-room
 release_slots-requires-clause-room c = omega (arith, c.requires.room, ap (λ (s : Shown). s.ledger.spare) c.self.view_is, c.self.invariant.book.count)
@@ -20,12 +21,7 @@ pub invariant_of-self : goal.invariant_of-self
 invariant_of-self c =
     let b = c.self.inside in
     let runs = named c.args.env b.slots.runner (ap (λ (s : Shown). running s.slots.runner) c.self.view_is ∙ c.requires.runs) in
-    record {
-      book = rw c.release_slots.ensures.slots (release_manned b.slots b.roster c.args.env runs.its c.self.invariant.book);
-      consoles = c.self.invariant.consoles;
-      memory = c.self.invariant.memory;
-      books = c.self.invariant.books;
-    }
+    rw c.release_slots.ensures.slots (sound_machine (sound_slots _ (release_manned b.slots b.roster c.args.env runs.its c.self.invariant.book) c.self.invariant))
 
 pub bury-requires-clause-there : goal.bury-requires-clause-there
 bury-requires-clause-there c =
@@ -39,15 +35,5 @@ pub returns : goal.returns
 returns c =
     let b = c.self.inside in
     c.bury.ensures
-    ∙ (λ k. buried (record {
-      frames = b.frames;
-      pages = b.pages;
-      binds = b.bindings;
-      slots = c.release_slots.ensures.slots k;
-      cpu = b.cpu;
-      roster = b.roster;
-      consoles = b.consoles;
-      time = b.time;
-      ledger = c.release_slots.ensures.journal k;
-    }) c.args.env c.args.cause)
+    ∙ (λ k. buried (shown b.frames b.pages b.bindings (c.release_slots.ensures.slots k) b.cpu b.roster b.time (c.release_slots.ensures.journal k)) c.args.env c.args.cause)
     ∙ ap (λ (s : Shown). died s c.args.env c.args.cause) c.self.view_is

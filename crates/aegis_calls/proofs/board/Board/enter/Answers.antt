@@ -5,7 +5,8 @@ use Rattle.board_world.specs.Shown.{Shown, changed, with_list}
 use Rattle.board_world.proofs.Lists.{length-changed}
 use Rattle.board_world.proofs.Booked.{keep_booked}
 use Rattle.board_world.proofs.Parted.{context_there, keep_parted}
-use Rattle.board_world.proofs.Sound.{keep_manned, keeps_accepting, keeps_registers, same_consoles}
+use Rattle.board_world.proofs.Sound.{keep_manned, keeps_accepting, keeps_registers}
+use Rattle.board_world.proofs.Staying.{sound_env, sound_frames, sound_machine}
 use Rattle.aegis_calls.proofs.board.Board.enter.Goals as goal
 
 pub enter-entered-requires-clause-page : goal.enter-entered-requires-clause-page
@@ -19,28 +20,9 @@ keep-requires c =
 
 pub invariant_of-self : goal.invariant_of-self
 invariant_of-self c =
-    let b = c.self.inside in
-    let e = c.args.env in
-    let t = c.args.target in
-    let f = accepting 0 in
-    let g = with_registers c.answer.new.cpu in
-    let r = with_list b.roster (changed f b.roster.list t) in
-    let parted = keep_parted g (keeps_registers c.answer.new.cpu) b.frames b.pages r.list e (keep_parted f (keeps_accepting 0) b.frames b.pages b.roster.list t c.self.invariant.memory) in
-    let size : length c.enter-entered.new.frames ≡ length b.frames = c.enter-entered.ensures.size in
-    record {
-      book =
-          rw c.keep.ensures
-          (rw c.enter-entered.ensures.roster
-          (keep_manned g (keeps_registers c.answer.new.cpu) b.slots r e (keep_manned f (keeps_accepting 0) b.slots b.roster t c.self.invariant.book)));
-      consoles =
-          rw c.keep.ensures
-          (rw c.enter-entered.ensures.roster
-          (same_consoles b.consoles r _ (same_consoles b.consoles b.roster _ c.self.invariant.consoles (length-changed f b.roster.list t)) (length-changed g r.list e)));
-      memory =
-          rw c.keep.ensures
-          (rw c.enter-entered.ensures.roster (record { same = size ∙ parted.same; most = omega (arith, size, parted.most); mapped = parted.mapped }));
-      books =
-          rw c.keep.ensures
-          (rw c.enter-entered.ensures.roster
-          (keep_booked g (keeps_registers c.answer.new.cpu) b.pages b.bindings r e (keep_booked f (keeps_accepting 0) b.pages b.bindings b.roster t c.self.invariant.books)));
-    }
+    rw c.keep.ensures
+    (rw c.enter-entered.ensures.roster
+    (sound_machine
+    (sound_frames _ c.enter-entered.ensures.size
+    (sound_env (with_registers c.answer.new.cpu) (keeps_registers c.answer.new.cpu) c.args.env
+    (sound_env (accepting 0) (keeps_accepting 0) c.args.target c.self.invariant)))))

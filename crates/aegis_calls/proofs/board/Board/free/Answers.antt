@@ -1,43 +1,24 @@
 -- The page was the runner's, and nobody has it bound any more.
-use Rattle.std.proofs.Common.{None, refl}
-use Rattle.std.specs.Prelude.{slice_get}
-use Rattle.mips_exec.specs.declared.registers.Cpu.{Cpu}
+use Rattle.std.proofs.Common.{Option, subst, sym, ap, ◌∙◌}
+use Rattle.page_book.specs.declared.refusal.PageNo.{PageNo}
 use Rattle.page_book.specs.declared.row.PageRow.TheVariants.{Free}
-use Rattle.page_book.specs.Row.{change_refusal}
-use Rattle.board_world.proofs.Allowed.{done, not_done, their_page}
+use Rattle.page_book.specs.Rows.{changed_unless, row_in}
+use Rattle.world_model.specs.May.{MayChange}
+use Rattle.board_world.specs.Shown.{Shown}
+use Rattle.board_world.specs.Showing.{book_of}
+use Rattle.board_world.proofs.Allowed.{changeable, owned_by_none}
 use Rattle.board_world.proofs.Booked.{free_booked}
 use Rattle.board_world.proofs.Parted.{row_parted}
-use Rattle.aegis_calls.proofs.Called.{page_changed}
+use Rattle.board_world.proofs.Staying.{sound_memory}
 use Rattle.aegis_calls.proofs.board.Board.free.Goals as goal
 
 pub invariant_of-self : goal.invariant_of-self
 invariant_of-self c =
     let b = c.self.inside in
-    let page = c.reg-page.result in
-    let freed = done (change_refusal c.args.env (slice_get b.pages page)) b.pages c.free.new.self page Free _ c.in-Ok.ensures.answer c.in-Ok.ensures.after in
-    let its = their_page b.pages c.args.env page freed.0 in
-    record {
-      book = c.self.invariant.book;
-      consoles = c.self.invariant.consoles;
-      memory = rw freed.1 (row_parted b.frames b.pages b.roster.list page Free its.nobody c.self.invariant.memory);
-      books = rw (freed.1, c.break_page.ensures.after) (free_booked b.pages b.bindings b.roster page its.within c.self.invariant.books);
-    }
-
-pub returns-in-Ok : goal.returns-in-Ok
-returns-in-Ok c =
-    let b = c.self.inside in
-    let page = c.reg-page.result in
-    let freed = done (change_refusal c.args.env (slice_get b.pages page)) b.pages c.free.new.self page Free _ c.in-Ok.ensures.answer c.in-Ok.ensures.after in
-    page_changed (λ (cpu : Cpu). Free) None c.args.env _ _ page Free _ _ _ c.self.view_is c.reg-page.ensures refl freed.0 freed.1 c.break_page.ensures.after c.answer.ensures
-
-pub invariant_of-self-in-Err : goal.invariant_of-self-in-Err
-invariant_of-self-in-Err c =
-    let b = c.self.inside in
-    let page = c.reg-page.result in
-    let same = not_done (change_refusal c.args.env (slice_get b.pages page)) b.pages c.free.new.self page Free _ c.in-Err.ensures.answer c.in-Err.ensures.after in
-    record {
-      book = c.self.invariant.book;
-      consoles = c.self.invariant.consoles;
-      memory = rw same c.self.invariant.memory;
-      books = rw same c.self.invariant.books;
-    }
+    let e = c.args.env in
+    let page = c.args.page in
+    let may = subst (λ (s : Shown). MayChange (book_of s) e page) (sym c.self.view_is) c.requires.may in
+    let freed = c.free.ensures.after ∙ ap (λ (why : Option PageNo). changed_unless why b.pages page Free) (changeable e b.pages page may.there may.owned) in
+    rw (freed, c.break_page.ensures.after)
+    (sound_memory b.frames _ _ (row_parted b.frames b.pages b.roster.list page Free (owned_by_none e (row_in b.pages page) may.owned) c.self.invariant.memory)
+    (free_booked b.pages b.bindings b.roster page may.there c.self.invariant.books) c.self.invariant)

@@ -1,20 +1,19 @@
 -- Whoever is handed the slice lives, and the slot that it holds is there.
-use Rattle.std.proofs.Common.{ℕ, Option, Bool, true, sym, ap, ◌∙◌, ◌≡◌}
-use Rattle.std.specs.Prelude.{slice_get}
+use Rattle.std.proofs.Common.{ℕ, Option, Bool, true, sym, subst, ap, ◌∙◌, ◌≡◌}
 use Rattle.std.specs.Option.{option_map}
 use Rattle.kernel_journal.specs.Ledger.{Ledger, with_row}
 use Rattle.kernel_journal.specs.declared.row.Row.TheVariants as row
 use Rattle.env_frames.specs.declared.transfer.TransferKind.{TransferKind}
 use Rattle.env_frames.specs.Transfer.{hands_slot}
 use Rattle.world_model.specs.declared.slot.Hold.{Hold}
-use Rattle.world_model.specs.Verdict.{slot_row}
-use Rattle.world_model.specs.SlotCalls.{held_by}
+use Rattle.world_model.specs.SlotCalls.{held_by, slot_row}
 use Rattle.slot_vector.specs.Slices.{Slices, given_to, hold_at, slots_given}
-use Rattle.board_world.specs.Shown.{Shown}
-use Rattle.board_world.specs.Doing.{handed_on, ledger_entered, lives_in}
+use Rattle.board_world.specs.Shown.{Shown, shown}
+use Rattle.board_world.specs.Doing.{handed_on, ledger_entered}
 use Rattle.board_world.proofs.Slots.{handed_here}
-use Rattle.board_world.proofs.Slotted.{lives_alive}
+use Rattle.board_world.specs.Sound.{IsLive}
 use Rattle.board_world.proofs.Sound.{given_manned}
+use Rattle.board_world.proofs.Staying.{sound_machine, sound_slots}
 use Rattle.aegis_calls.proofs.board.Board.hand_on.Goals as goal
 
 -- the rows of a vector of slots that was handed on
@@ -33,30 +32,15 @@ handed_rows v new ledger time e t k is here =
 pub invariant_of-self-in-Synchronous : goal.invariant_of-self-in-Synchronous
 invariant_of-self-in-Synchronous c =
     let b = c.self.inside in
-    let live = lives_alive b.roster.list c.args.target (ap (λ (s : Shown). lives_in (slice_get s.roster.list c.args.target)) c.self.view_is ∙ c.requires.lives) in
-    record {
-      book = rw c.donate.ensures (given_manned b.slots b.roster c.args.target c.hands_slot.result c.self.invariant.book live);
-      consoles = c.self.invariant.consoles;
-      memory = c.self.invariant.memory;
-      books = c.self.invariant.books;
-    }
+    let live = subst (λ (s : Shown). IsLive s.roster.list c.args.target) (sym c.self.view_is) c.requires.lives in
+    rw c.donate.ensures (sound_machine (sound_slots _ (given_manned b.slots b.roster c.args.target c.hands_slot.result c.self.invariant.book live) c.self.invariant))
 
 pub returns-in-Synchronous : goal.returns-in-Synchronous
 returns-in-Synchronous c =
     let b = c.self.inside in
     let e = c.args.env in
     let t = c.args.target in
-    let view : Shown = record {
-      frames = b.frames;
-      pages = b.pages;
-      binds = b.bindings;
-      slots = b.slots;
-      cpu = b.cpu;
-      roster = b.roster;
-      consoles = b.consoles;
-      time = b.time;
-      ledger = b.journal;
-    } in
+    let view = shown b.frames b.pages b.bindings b.slots b.cpu b.roster b.time b.journal in
     let hands : c.hands_slot.result ≡ true = c.hands_slot.ensures ∙ ap hands_slot c.in-Synchronous.is in
     let slots : c.donate.new.self ≡ given_to t (hands_slot c.args.kind) b.slots = c.donate.ensures ∙ ap (λ (later : Bool). given_to t later b.slots) c.hands_slot.ensures in
     let given : c.donate.new.self ≡ given_to t true b.slots = c.donate.ensures ∙ ap (λ (later : Bool). given_to t later b.slots) hands in
@@ -66,15 +50,5 @@ returns-in-Synchronous c =
     ∙ ap (λ (l : Ledger). with_row l (slot_row b.time k (hold_at c.donate.new.self.slots k))) c.push-in-Synchronous.ensures
     ∙ handed_rows b.slots c.donate.new.self b.journal b.time e t k given c.slot-slot.ensures.cursor
     ∙ ap (λ (x : TransferKind). ledger_entered view e t x) (sym c.in-Synchronous.is) in
-    (λ i. record {
-      frames = b.frames;
-      pages = b.pages;
-      binds = b.bindings;
-      slots = slots i;
-      cpu = b.cpu;
-      roster = b.roster;
-      consoles = b.consoles;
-      time = b.time;
-      ledger = ledger i;
-    })
+    (λ i. shown b.frames b.pages b.bindings (slots i) b.cpu b.roster b.time (ledger i))
     ∙ ap (λ (s : Shown). handed_on s e t c.args.kind) c.self.view_is

@@ -1,19 +1,12 @@
 -- A handler changes nobody's life or pages.
+use Rattle.std.proofs.Common.{arith}
 use Rattle.board_world.specs.Doing.{handling}
-use Rattle.board_world.proofs.Lists.{length-changed}
 use Rattle.board_world.proofs.Booked.{keep_booked}
+use Rattle.board_world.proofs.Lists.{length-changed}
 use Rattle.board_world.proofs.Parted.{keep_parted}
-use Rattle.board_world.proofs.Sound.{keep_manned, keeps_handling, same_consoles}
+use Rattle.board_world.proofs.Sound.{keep_manned, keeps_handling}
+use Rattle.board_world.proofs.Staying.{sound_env}
 use Rattle.aegis_calls.proofs.board.Board.handle.Goals as goal
 
 pub invariant_of-self : goal.invariant_of-self
-invariant_of-self c =
-    let b = c.self.inside in
-    let f = handling c.in-Some.context c.reg-address.result in
-    let keeps = keeps_handling c.in-Some.context c.reg-address.result in
-    record {
-      book = rw c.handle.ensures (keep_manned f keeps b.slots b.roster c.args.env c.self.invariant.book);
-      consoles = rw c.handle.ensures (same_consoles b.consoles b.roster _ c.self.invariant.consoles (length-changed f b.roster.list c.args.env));
-      memory = rw c.handle.ensures (keep_parted f keeps b.frames b.pages b.roster.list c.args.env c.self.invariant.memory);
-      books = rw c.handle.ensures (keep_booked f keeps b.pages b.bindings b.roster c.args.env c.self.invariant.books);
-    }
+invariant_of-self c = rw c.handle.ensures (sound_env (handling c.args.context c.args.address) (keeps_handling c.args.context c.args.address) c.args.env c.self.invariant)

@@ -1,13 +1,11 @@
 -- What follows a step is done to the board after it, and is what the step came to.
 use Rattle.std.proofs.Common.{◌≡◌, ◌<◌, ℕ, refl, sym, ap, ◌∙◌, subst}
-use Rattle.mips_exec.specs.Cpu.{reg}
 use Rattle.mips_exec.specs.declared.exception.Exc.{Exc}
 use Rattle.mips_exec.specs.declared.exception.Outcome.TheVariants as outcome
 use Rattle.mips_exec.specs.Step.{Step, Retired, Called, Trapped, outcome_of}
 use Rattle.world_model.specs.Book.{running}
-use Rattle.world_model.specs.Call.{call_named, called}
 use Rattle.board_world.specs.Shown.{Shown}
-use Rattle.board_world.specs.Doing.{came_to, ran, served, step_seen, trapped}
+use Rattle.board_world.specs.Doing.{called_by, came_to, ran, step_seen, trapped}
 use Rattle.board_world.proofs.Stepping.{came_called}
 use Rattle.aegis_calls.proofs.board.Board.run_step.Goals as goal
 
@@ -22,11 +20,11 @@ came_trapped b e (Retired cpu write) exc is = cc
 came_trapped b e Called exc is = cc
 came_trapped b e (Trapped raised) exc is = let same : exc ≡ raised = cc in ap (trapped b e) same
 
-pub serve-requires-clause-runs : goal.serve-requires-clause-runs
-serve-requires-clause-runs c = ap (λ (s : Shown). running s.slots.runner) c.run_machine.ensures.shown ∙ c.requires.runs
+pub take_call-requires-clause-runs : goal.take_call-requires-clause-runs
+take_call-requires-clause-runs c = ap (λ (s : Shown). running s.slots.runner) c.run_machine.ensures.shown ∙ c.requires.runs
 
-pub serve-requires-clause-room : goal.serve-requires-clause-room
-serve-requires-clause-room c = subst (λ (s : Shown). 64 < s.ledger.spare) (sym c.run_machine.ensures.shown) c.requires.room
+pub take_call-requires-clause-room : goal.take_call-requires-clause-room
+take_call-requires-clause-room c = subst (λ (s : Shown). 64 < s.ledger.spare) (sym c.run_machine.ensures.shown) c.requires.room
 
 pub trap-requires-clause-runs : goal.trap-requires-clause-runs
 trap-requires-clause-runs c = ap (λ (s : Shown). running s.slots.runner) c.run_machine.ensures.shown ∙ c.requires.runs
@@ -39,9 +37,8 @@ returns-in-Retired c = c.run_machine.ensures.shown ∙ came_retired c.args.self.
 
 pub returns-in-Call : goal.returns-in-Call
 returns-in-Call c =
-    c.serve.ensures
-    ∙ ap (served c.run_machine.new.self c.args.env) (c.named.ensures ∙ ap call_named (c.reg-number.ensures ∙ ap (λ (b : Shown). reg b.cpu 2) c.self.view_is))
-    ∙ ap (λ (b : Shown). served b c.args.env (called b.cpu)) c.run_machine.ensures.shown
+    c.take_call.ensures
+    ∙ ap (λ (b : Shown). called_by b c.args.env) c.run_machine.ensures.shown
     ∙ came_called c.args.self.now c.args.env (step_seen c.args.self.now c.args.env) (sym c.run_machine.ensures.outcome ∙ c.in-Call.is)
 
 pub returns-in-Trap : goal.returns-in-Trap

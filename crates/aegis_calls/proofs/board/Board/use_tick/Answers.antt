@@ -3,15 +3,12 @@ use Rattle.std.proofs.Common.{◌≡◌, ap, ◌∙◌, arith, length}
 use Rattle.world_model.specs.Book.{running}
 use Rattle.board_world.specs.Shown.{Shown}
 use Rattle.board_world.proofs.Sound.{runner_within, timer_manned}
+use Rattle.board_world.proofs.Staying.{sound_machine, sound_slots}
 use Rattle.aegis_calls.proofs.board.Board.use_tick.Goals as goal
 
 pub invariant_of-self : goal.invariant_of-self
 invariant_of-self c =
     let b = c.self.inside in
     let runs = ap (λ (s : Shown). running s.slots.runner) c.self.view_is ∙ c.requires.runs in
-    record {
-      book = rw (c.settle.ensures.slots, c.timer-timer.ensures.after, c.timer-timer.ensures.answer) (timer_manned b.slots b.roster c.self.invariant.book c.args.env _ runs);
-      consoles = c.self.invariant.consoles;
-      memory = c.self.invariant.memory;
-      books = c.self.invariant.books;
-    }
+    rw (c.settle.ensures.slots, c.timer-timer.ensures.after, c.timer-timer.ensures.answer)
+    (sound_machine (sound_slots _ (timer_manned b.slots b.roster c.self.invariant.book c.args.env _ runs) c.self.invariant))

@@ -1,0 +1,31 @@
+-- The page was free, and its new owner lives.
+use Rattle.std.proofs.Common.{Option, subst, sym, ap, ◌∙◌}
+use Rattle.frame_store.specs.Pages.{zero_page}
+use Rattle.page_book.specs.declared.refusal.PageNo.{PageNo}
+use Rattle.page_book.specs.declared.row.PageRow.TheVariants.{Owned}
+use Rattle.page_book.specs.Rows.{changed_unless, row_in}
+use Rattle.world_model.specs.Book.{running}
+use Rattle.world_model.specs.May.{MayAllocate}
+use Rattle.board_world.specs.Shown.{Shown}
+use Rattle.board_world.specs.Showing.{book_of}
+use Rattle.board_world.proofs.Allowed.{allocable, free_to_all}
+use Rattle.board_world.proofs.Booked.{owned_booked}
+use Rattle.board_world.proofs.Parted.{page_parted, row_parted}
+use Rattle.board_world.proofs.Sound.{runner_alive}
+use Rattle.board_world.proofs.Staying.{sound_memory}
+use Rattle.aegis_calls.proofs.board.Board.allocate.Goals as goal
+
+pub invariant_of-self : goal.invariant_of-self
+invariant_of-self c =
+    let b = c.self.inside in
+    let e = c.args.env in
+    let page = c.args.page in
+    let row = Owned e c.args.words in
+    let may = subst (λ (s : Shown). MayAllocate (book_of s) page) (sym c.self.view_is) c.requires.may in
+    let lives = runner_alive b.slots b.roster e c.self.invariant.book (ap (λ (s : Shown). running s.slots.runner) c.self.view_is ∙ c.requires.runs) in
+    let taken = c.alloc_at.ensures.after ∙ ap (λ (why : Option PageNo). changed_unless why b.pages page row) (allocable b.pages page may.there may.free) in
+    rw (c.zero.ensures, taken)
+    (sound_memory _ _ b.bindings
+    (page_parted b.frames _ b.roster.list _ zero_page
+    (row_parted b.frames b.pages b.roster.list page row (free_to_all (row_in b.pages page) may.free) c.self.invariant.memory))
+    (owned_booked b.pages b.bindings b.roster page e c.args.words may.there lives c.self.invariant.books) c.self.invariant)

@@ -1,0 +1,21 @@
+-- The bytes of a range are those that the runner sees.
+use Rattle.std.proofs.Common.{List, ℕ, Option, ap, ◌∙◌, subst}
+use Rattle.env_frames.specs.declared.mapping.Mapping.{Mapping}
+use Rattle.guest_memory.specs.Look.{look}
+use Rattle.guest_memory.specs.Space.{lookup}
+use Rattle.world_model.specs.Call.{good_range}
+use Rattle.world_model.specs.Page.{Mapped}
+use Rattle.board_world.specs.Shown.{Shown}
+use Rattle.board_world.specs.Sound.{IsSound}
+use Rattle.board_world.specs.Doing.{look_of}
+use Rattle.board_world.proofs.Reading.{runner_look}
+use Rattle.aegis_calls.proofs.views.BoardCallView.range.Goals as goal
+
+pub returns : goal.returns
+returns c =
+    let b = c.self.inside in
+    let e = c.args.env in
+    let now = c.args.self.now in
+    let sees = ap (λ (mappings : List Mapping). look b.frames (lookup (record { mappings = mappings; binds = b.bindings; number = e }))) c.frame.ensures.mappings in
+    c.guest_range.ensures
+    ∙ ap (λ (l : ℕ → Option Mapped). good_range l c.args.address c.args.size) (sees ∙ ap (λ (s : Shown). look_of s e) c.self.view_is ∙ runner_look now e (subst IsSound c.self.view_is c.self.invariant) c.requires)

@@ -1,0 +1,102 @@
+//! Kernel calls: a call is decided, answered, and what it does is done.
+ghost use Rattle.std.specs.Prelude.{◌≡◌, ◌<◌, Some};
+ghost use Rattle.world_model.specs.Book.{running};
+ghost use Rattle.world_model.specs.Item.{answered_cpu};
+ghost use Rattle.world_model.specs.May.{May};
+
+use crate::board::Board;
+use call_verdicts::{decide, deed_of, law_granted};
+use mips_exec::Cpu;
+use world_model::{Call, Cause, Deed, EXIT, Verdict};
+
+/// The register of a call's number and of an answer's code.
+const CODE_REGISTER: u8 = 2;
+
+/// The register of an answer's value.
+const VALUE_REGISTER: u8 = 3;
+
+/// The register of an exit's code.
+const EXIT_CODE: u8 = 4;
+
+/// A call's caller finds the answer, and goes on behind the call.
+pub(crate) fn answer(cpu: &mut Cpu, verdict: Verdict)
+    ensures { cpu.new ≡ answered_cpu verdict cpu.old }
+{
+    cpu.set_reg(CODE_REGISTER, verdict.code());
+    cpu.set_reg(VALUE_REGISTER, verdict.value());
+    cpu.pc = cpu.pc.wrapping_add(4);
+    cpu.next = cpu.next.wrapping_add(4);
+}
+
+impl Board {
+    ghost use Rattle.board_world.specs.Doing.{answered, called_by, granted, served};
+    ghost use Rattle.board_world.specs.Showing.{world_of};
+
+    /// The runner's call is answered.
+    fn answer(&mut self, verdict: Verdict)
+        ensures { self.new ≡ answered self.old verdict }
+    {
+        answer(&mut self.cpu, verdict);
+    }
+
+    /// The runner's call is granted with a value, and does this, which it may.
+    fn grant(&mut self, env: u8, value: u32, deed: Deed)
+        requires runs { running self.old.slots.runner ≡ Some env }
+        requires room { 64 < self.old.ledger.spare }
+        requires may { May (world_of self.old) env deed }
+        ensures { self.new ≡ granted self.old env value deed }
+    {
+        // Reads a part, and with it that the board is sound, as below.
+        let _ = &self.time;
+        if let Deed::Transfers { target, kind } = deed {
+            return self.transfer(env, value, target as u8, kind);
+        }
+        self.answer(Verdict::Grant(value));
+        match deed {
+            Deed::Answers | Deed::Transfers { .. } => {}
+            Deed::Stops => self.stop(env),
+            Deed::Gives(target) => self.give(env, target as u8),
+            Deed::Puts { address, size } => self.put(env, address, size),
+            Deed::Allocates { page, words } => self.allocate(env, page, words),
+            Deed::Frees(page) => self.free(env, page),
+            Deed::Recaps { page, words } => self.recap(env, page, words),
+            Deed::Binds { binding, .. } => self.bind(env, binding),
+            Deed::Unbinds(vpn) => self.unbind(env, vpn),
+            Deed::Handles { context, address } => self.handle(env, context, address),
+            Deed::Accepts(mask) => self.accept(env, mask),
+            Deed::TakesSlot(slot) => self.take_slot(env, slot),
+            Deed::DropsSlot(slot) => self.drop_slot(env, slot),
+        }
+    }
+
+    /// A kernel call of the runner, which isn't an exit.
+    fn serve(&mut self, env: u8, call: Option<Call>)
+        requires runs { running self.old.slots.runner ≡ Some env }
+        requires room { 64 < self.old.ledger.spare }
+        ensures { self.new ≡ served self.old env call }
+    {
+        let _ = &self.time;
+        match decide(self, env, call) {
+            Verdict::Grant(value) => {
+                law_granted();
+                let deed = deed_of(call, value, &self.cpu);
+                self.grant(env, value, deed);
+            }
+            refusal => self.answer(refusal),
+        }
+    }
+
+    /// The runner stands at a kernel call: it exits, or its call is served.
+    pub(crate) fn take_call(&mut self, env: u8)
+        requires runs { running self.old.slots.runner ≡ Some env }
+        requires room { 64 < self.old.ledger.spare }
+        ensures { self.new ≡ called_by self.old env }
+    {
+        let number = self.cpu.reg(CODE_REGISTER);
+        if number == EXIT {
+            let code = self.cpu.reg(EXIT_CODE);
+            return self.die(env, Cause::Exit(code));
+        }
+        self.serve(env, Call::named(number));
+    }
+}

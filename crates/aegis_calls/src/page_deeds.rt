@@ -1,0 +1,42 @@
+//! What granted calls do to pages.
+ghost use Rattle.std.specs.Prelude.{◌≡◌, Some, None};
+ghost use Rattle.page_book.specs.declared.row.PageRow.TheVariants.{Free, Owned};
+ghost use Rattle.world_model.specs.Book.{running};
+ghost use Rattle.world_model.specs.May.{MayAllocate, MayChange};
+ghost use Rattle.board_world.specs.Showing.{book_of};
+
+use crate::board::Board;
+use page_book::Capabilities;
+
+impl Board {
+    ghost use Rattle.board_world.specs.Doing.{with_broken, with_taken};
+
+    /// A free page is the runner's own from now on, with these words, and holds zeros.
+    pub(crate) fn allocate(&mut self, env: u8, page: u32, words: Capabilities)
+        requires runs { running self.old.slots.runner ≡ Some env }
+        requires may { MayAllocate (book_of self.old) page }
+        ensures { self.new ≡ with_taken self.old env page words }
+    {
+        self.pages.alloc_at(env, page, words).unwrap();
+        self.frames.zero(page);
+    }
+
+    /// A page of the runner's is nobody's from now on, and nobody has it bound any more.
+    pub(crate) fn free(&mut self, env: u8, page: u32)
+        requires may { MayChange (book_of self.old) env page }
+        ensures { self.new ≡ with_broken self.old page Free None }
+    {
+        self.pages.free(env, page).unwrap();
+        self.bindings.break_page(page, None);
+    }
+
+    /// A page of the runner's has other words from now on, and nobody else has it bound any more.
+    pub(crate) fn recap(&mut self, env: u8, page: u32, words: Capabilities)
+        requires runs { running self.old.slots.runner ≡ Some env }
+        requires may { MayChange (book_of self.old) env page }
+        ensures { self.new ≡ with_broken self.old page (Owned env words) (Some env) }
+    {
+        self.pages.recap(env, page, words).unwrap();
+        self.bindings.break_page(page, Some(env));
+    }
+}

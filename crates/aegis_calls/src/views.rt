@@ -1,0 +1,100 @@
+//! What the kernel reads of a board to decide on a call.
+ghost use Rattle.std.specs.Prelude.{◌≡◌, Some};
+
+use crate::board::Board;
+use call_verdicts::CallView;
+use env_frames::Context;
+use guest_memory::{Space, guest_range};
+use mips_exec::Cpu;
+use page_book::PageRow;
+use world_model::{Code, Hold, Life};
+
+impl CallView for Board {
+    ghost use Rattle.board_world.specs.Showing.{world_of};
+
+    ghost world = { world_of };
+
+    fn registers(&self, _env: u8) -> &Cpu {
+        &self.cpu
+    }
+
+    fn console_size(&self, env: u8) -> usize {
+        self.roster.console(env).len()
+    }
+
+    fn range(&self, env: u8, address: u32, size: u32) -> Option<&[u8]> {
+        let space = Space {
+            env: self.roster.frame(env),
+            bindings: &self.bindings,
+            number: env,
+        };
+        guest_range(&self.frames, &space, address, size)
+    }
+
+    fn is_guaranteed(&self, env: u8, vpn: u32) -> bool {
+        self.roster.frame(env).guaranteed(vpn).is_some()
+    }
+
+    fn is_bound(&self, env: u8, vpn: u32) -> bool {
+        self.bindings.find(env, vpn).is_some()
+    }
+
+    fn page_row(&self, page: u32) -> Option<PageRow> {
+        self.pages.row(page)
+    }
+
+    fn lowest_free(&self) -> Option<u32> {
+        self.pages.lowest_free()
+    }
+
+    fn slot(&self, slot: u32) -> Option<Option<Hold>> {
+        self.slots.hold(slot)
+    }
+
+    fn refuse_gift(&self, later: bool) -> Option<Code> {
+        match self.slots.may_donate(later) {
+            Ok(()) => None,
+            Err(why) => Some(why),
+        }
+    }
+
+    fn life_at(&self, number: u32) -> Option<Life> {
+        self.roster.life(number)
+    }
+
+    fn mask(&self, env: u8) -> u32 {
+        self.roster.frame(env).accept()
+    }
+
+    fn handler(&self, env: u8, context: Context) -> u32 {
+        self.roster.frame(env).handler(context)
+    }
+
+    fn free_pages(&self) -> u32 {
+        self.pages.free_count()
+    }
+
+    fn page_count(&self) -> u32 {
+        self.pages.pages()
+    }
+
+    fn env_count(&self) -> u32 {
+        self.roster.len() as u32
+    }
+
+    fn slot_count(&self) -> u32 {
+        self.slots.slots()
+    }
+
+    fn quantum(&self) -> u32 {
+        self.slots.quantum()
+    }
+
+    fn excess(&self, env: u8) -> u32 {
+        self.slots.excess(env)
+    }
+
+    fn time(&self) -> u32 {
+        self.time
+    }
+}

@@ -1,0 +1,57 @@
+-- What is read of a board is what its world has.
+use Rattle.std.proofs.Common.{◌≡◌, ℕ, Option, Some, None, Bool, is_some, refl, sym, ◌∙◌, ap}
+use Rattle.std.specs.Option.{option_map}
+use Rattle.std.specs.Prelude.{if◌then◌else◌, slice_get}
+use Rattle.env_frames.specs.Frame.{mapping_at}
+use Rattle.world_model.specs.declared.life.Life.{Life}
+use Rattle.world_model.specs.Book.{running}
+use Rattle.world_model.specs.Page.{Mapped}
+use Rattle.world_model.specs.PageCalls.{is_guaranteed}
+use Rattle.world_model.specs.Queries.{life_at}
+use Rattle.world_model.specs.Solo.{Solo, kept_at, sight}
+use Rattle.board_world.specs.declared.roster.Environment.{Environment}
+use Rattle.board_world.specs.Shown.{Shown, console_in, console_of, mappings_of}
+use Rattle.board_world.specs.Showing.{page_seen, solo_of, solo_or_absent, world_of}
+use Rattle.board_world.specs.Sound.{IsSound}
+use Rattle.board_world.specs.Doing.{look_of}
+use Rattle.board_world.proofs.Pages.{seen_kept}
+use Rattle.board_world.proofs.Seen.{its_look, its_mappings, runner_runs, runner_seen, kept_seen}
+use Rattle.board_world.proofs.Slots.{is_there}
+
+-- where the VPNs of the runner lead
+pub runner_look : (b : Shown) (e : ℕ) → IsSound b → running b.slots.runner ≡ Some e → look_of b e ≡ sight (solo_of b e)
+runner_look b e sound runs =
+    let x = runner_runs b e sound runs in
+    (λ k v. its_look b e x.0 x.1 sound v k) ∙ ap sight (sym (runner_seen b e x.0 x.1))
+
+-- what an environment wrote
+pub console_same : (b : Shown) (e : ℕ) → console_of b.roster.list e ≡ (solo_of b e).console
+console_same b e = by_record (slice_get b.roster.list e)
+  where
+    by_record : (o : Option Environment) → console_in o ≡ (solo_or_absent b e o).console
+    by_record None = refl
+    by_record (Some x) = refl
+
+-- the runner's registers
+pub runner_registers : (b : Shown) (e : ℕ) → IsSound b → running b.slots.runner ≡ Some e → b.cpu ≡ (solo_of b e).cpu
+runner_registers b e sound runs = let x = runner_runs b e sound runs in ap (λ (s : Solo). s.cpu) (sym (runner_seen b e x.0 x.1))
+
+is_some_mapped : {A B : Type 0} (f : A → B) (o : Option A) → is_some o ≡ is_some (option_map f o)
+is_some_mapped f None = refl
+is_some_mapped f (Some x) = refl
+
+-- the guaranteed VPNs of an environment
+pub guaranteed_same : (b : Shown) (e v : ℕ) → is_some (mapping_at (mappings_of b.roster.list e) v) ≡ is_guaranteed (solo_of b e) v
+guaranteed_same b e v =
+    let ms = mappings_of b.roster.list e in
+    is_some_mapped (page_seen b.frames) (mapping_at ms v) ∙ ap is_some (sym (seen_kept b.frames ms v)) ∙ ap (λ ps. is_some (kept_at ps v)) (sym (kept_seen b e))
+
+-- the life of an environment
+pub life_same : (b : Shown) (e : ℕ) → option_map (λ (x : Environment). x.life) (slice_get b.roster.list e) ≡ life_at (world_of b) e
+life_same b e =
+    by_record (slice_get b.roster.list e)
+    ∙ ap (λ (t : Bool). if t then Some (solo_of b e).life else None) (sym (is_there b.roster.list e))
+  where
+    by_record : (o : Option Environment) → option_map (λ (x : Environment). x.life) o ≡ (if is_some o then Some (solo_or_absent b e o).life else None)
+    by_record None = refl
+    by_record (Some x) = refl

@@ -1,0 +1,128 @@
+//! Why calls on pages and on handlers are refused.
+ghost use Rattle.std.specs.Prelude.{◌≡◌, Some};
+ghost use Rattle.std.specs.Option.{option_map};
+ghost use Rattle.mips_exec.specs.Cpu.{reg};
+ghost use Rattle.page_book.specs.Row.{alloc_refusal, bind_refusal, change_refusal};
+ghost use Rattle.world_model.specs.Code.{code_of};
+ghost use Rattle.world_model.specs.Book.{page_row, running};
+ghost use Rattle.world_model.specs.HandlerCalls.{refusal_of_context};
+ghost use Rattle.world_model.specs.PageCalls.{chosen_page, is_guaranteed, number_refusal, refusal_of_bind, refusal_of_change};
+
+use crate::arguments::{ANY, FIRST_ARGUMENT, SECOND_ARGUMENT, binding, presented};
+use crate::view::CallView;
+use env_frames::Context;
+use mips_exec::Cpu;
+use page_book::{PageNo, PageRow};
+use world_model::Code;
+
+/// The first VPN that isn't of a user's address.
+const VPN_END: u32 = 0x80000;
+
+/// The first address that isn't a user's.
+const USER_END: u32 = 0x8000_0000;
+
+/// What a caller is told of a refusal by the book of pages, if it is one.
+fn refuse(why: Option<PageNo>) -> Option<Code>
+    ensures { result ≡ option_map code_of why }
+{
+    Some(Code::from(why?))
+}
+
+/// Why the page with this row, if there is one, can't be allocated.
+fn refuse_alloc(row: Option<PageRow>) -> Option<Code>
+    ensures { result ≡ option_map code_of (alloc_refusal row) }
+{
+    match row {
+        None => Some(Code::NoPage),
+        Some(row) => refuse(row.alloc_refusal()),
+    }
+}
+
+/// The page that an allocation names, if it is free, and for any the lowest free one; or why there is none.
+pub(crate) fn choose_page<V: CallView>(view: &V, page: u32) -> Result<u32, Code>
+    ensures { result ≡ chosen_page (V.world view.now).book page }
+{
+    if page == ANY {
+        return view.lowest_free().ok_or(Code::NoneFree);
+    }
+    match refuse_alloc(view.page_row(page)) {
+        None => Ok(page),
+        Some(why) => Err(why),
+    }
+}
+
+/// Why an environment can't free the page with this row, if there is one, or give it other words.
+fn refuse_row(env: u8, row: Option<PageRow>) -> Option<Code>
+    ensures { result ≡ option_map code_of (change_refusal env row) }
+{
+    match row {
+        None => Some(Code::NoPage),
+        Some(row) => refuse(row.change_refusal(env)),
+    }
+}
+
+/// Why the runner can't free a page, or give it other words.
+pub(crate) fn refuse_change<V: CallView>(view: &V, env: u8, page: u32) -> Option<Code>
+    ensures { result ≡ refusal_of_change (V.world view.now) env page }
+{
+    refuse_row(env, view.page_row(page))
+}
+
+/// Why nothing is bound or unbound at a VPN, which is guaranteed or not.
+fn refuse_vpn(guaranteed: bool, vpn: u32) -> Option<Code>
+    ensures { result ≡ number_refusal guaranteed vpn }
+{
+    if vpn >= VPN_END {
+        Some(Code::BadVpn)
+    } else if guaranteed {
+        Some(Code::Guaranteed)
+    } else {
+        None
+    }
+}
+
+/// Why the runner's unbind is refused, or its bind, by the VPN that it names.
+pub(crate) fn refuse_unbind<V: CallView>(view: &V, env: u8, vpn: u32) -> Option<Code>
+    requires { running (V.world view.now).book.runner ≡ Some env }
+    ensures { result ≡ number_refusal (is_guaranteed ((V.world view.now).solos env) vpn) vpn }
+{
+    refuse_vpn(view.is_guaranteed(env, vpn), vpn)
+}
+
+/// Why an environment that presents a word can't bind the page with this row, if there is one.
+fn refuse_right(env: u8, writable: bool, word: u64, row: Option<PageRow>) -> Option<Code>
+    ensures { result ≡ option_map code_of (bind_refusal env writable word row) }
+{
+    match row {
+        None => Some(Code::NoPage),
+        Some(row) => refuse(row.bind_refusal(env, writable, word)),
+    }
+}
+
+/// Why the runner's bind is refused, in the order of testing.
+pub(crate) fn refuse_bind<V: CallView>(view: &V, env: u8) -> Option<Code>
+    requires { running (V.world view.now).book.runner ≡ Some env }
+    ensures { result ≡ refusal_of_bind env ((V.world view.now).solos env).cpu (is_guaranteed ((V.world view.now).solos env) (reg ((V.world view.now).solos env).cpu 4)) (page_row (V.world view.now).book (reg ((V.world view.now).solos env).cpu 5)) }
+{
+    let cpu = view.registers(env);
+    let named = binding(cpu);
+    if let Some(why) = refuse_unbind(view, env, named.vpn) {
+        return Some(why);
+    }
+    refuse_right(env, named.writable, presented(cpu), view.page_row(named.page))
+}
+
+/// Why a handler can't be set: there is no such context, or its address isn't a word's, of user space.
+pub(crate) fn refuse_context(cpu: &Cpu) -> Option<Code>
+    ensures { result ≡ refusal_of_context cpu.now }
+{
+    let address = cpu.reg(SECOND_ARGUMENT);
+    if Context::numbered(cpu.reg(FIRST_ARGUMENT)).is_some()
+        && address % 4 == 0
+        && address < USER_END
+    {
+        None
+    } else {
+        Some(Code::BadCall)
+    }
+}

@@ -1,0 +1,111 @@
+//! What is read of a world to decide on a call.
+ghost use Rattle.std.specs.Prelude.{◌≡◌, ◌<◌, ◌≤◌, Some, is_some, length};
+ghost use Rattle.std.specs.Option.{option_map};
+ghost use Rattle.aegis_limits.specs.Limits.{console_size};
+ghost use Rattle.env_frames.specs.Context.{handler_of};
+ghost use Rattle.page_book.specs.Rows.{free_below, lowest_free};
+ghost use Rattle.bind_book.specs.Stripe.{binding_at};
+ghost use Rattle.world_model.specs.Book.{page_row, running};
+ghost use Rattle.world_model.specs.Call.{good_range};
+ghost use Rattle.world_model.specs.PageCalls.{is_guaranteed};
+ghost use Rattle.world_model.specs.Queries.{life_at};
+ghost use Rattle.world_model.specs.SlotCalls.{gift_refusal, slot_at, turn_slot};
+ghost use Rattle.world_model.specs.Solo.{sight};
+ghost use Rattle.world_model.specs.World.{World};
+
+use env_frames::Context;
+use mips_exec::Cpu;
+use page_book::PageRow;
+use world_model::{Code, Hold, Life};
+
+/// What shows a world of the model to whoever decides on the runner's calls. Environments are named by number; `env` is
+/// the runner.
+pub trait CallView {
+    /// The world that it shows.
+    ghost world: { Self → World };
+
+    /// The runner's registers.
+    fn registers(&self, env: u8) -> &Cpu
+        requires { running (world self.now).book.runner ≡ Some env }
+        ensures { result.now ≡ ((world self.now).solos env).cpu };
+
+    /// How many bytes the runner's console holds.
+    fn console_size(&self, env: u8) -> usize
+        requires { running (world self.now).book.runner ≡ Some env }
+        ensures size { result ≡ length ((world self.now).solos env).console }
+        ensures most { result ≤ console_size };
+
+    /// Bytes of the runner's memory, so many from an address on, if that is a good range: it lies in one page, and the
+    /// page is mapped.
+    fn range(&self, env: u8, address: u32, size: u32) -> Option<&[u8]>
+        requires { running (world self.now).book.runner ≡ Some env }
+        ensures { option_map (λ r. r.now) result ≡ good_range (sight ((world self.now).solos env)) address size };
+
+    /// Whether a page is guaranteed to the runner at a VPN.
+    fn is_guaranteed(&self, env: u8, vpn: u32) -> bool
+        requires { running (world self.now).book.runner ≡ Some env }
+        ensures { result ≡ is_guaranteed ((world self.now).solos env) vpn };
+
+    /// Whether the runner has bound a page at a VPN.
+    fn is_bound(&self, env: u8, vpn: u32) -> bool
+        requires { running (world self.now).book.runner ≡ Some env }
+        ensures { result ≡ is_some (binding_at ((world self.now).solos env).binds vpn) };
+
+    /// Whose a page is, if there is one of this number.
+    fn page_row(&self, page: u32) -> Option<PageRow>
+        ensures { result ≡ page_row (world self.now).book page };
+
+    /// The lowest free page, if one is free.
+    fn lowest_free(&self) -> Option<u32>
+        ensures { result ≡ lowest_free (world self.now).book.pages (world self.now).book.page_count };
+
+    /// Who owns and holds a slot, if anybody does; none where there is no such slot.
+    fn slot(&self, slot: u32) -> Option<Option<Hold>>
+        ensures { result ≡ slot_at (world self.now).book slot };
+
+    /// Why the runner can't hand on the rest of its slice, or for a later its slot too.
+    fn refuse_gift(&self, later: bool) -> Option<Code>
+        ensures { result ≡ gift_refusal later (world self.now).book.runner (turn_slot (world self.now).book) };
+
+    /// Whether an environment lives, or why it died; none where there is no such environment.
+    fn life_at(&self, number: u32) -> Option<Life>
+        ensures { result ≡ life_at (world self.now) number };
+
+    /// The mask of those whom an environment accepts.
+    fn mask(&self, env: u8) -> u32
+        requires { env < (world self.now).count }
+        ensures { result ≡ ((world self.now).solos env).mask };
+
+    /// The handler of a context of an environment; 0 is none.
+    fn handler(&self, env: u8, context: Context) -> u32
+        requires { env < (world self.now).count }
+        ensures { result ≡ handler_of ((world self.now).solos env).handlers context };
+
+    /// How many pages are free.
+    fn free_pages(&self) -> u32
+        ensures { result ≡ free_below (world self.now).book.pages (world self.now).book.page_count };
+
+    /// How many pages there are.
+    fn page_count(&self) -> u32
+        ensures { result ≡ (world self.now).book.page_count };
+
+    /// How many environments there are.
+    fn env_count(&self) -> u32
+        ensures { result ≡ (world self.now).count };
+
+    /// How many slots there are.
+    fn slot_count(&self) -> u32
+        ensures { result ≡ (world self.now).book.slot_count };
+
+    /// The ticks of a quantum.
+    fn quantum(&self) -> u32
+        ensures { result ≡ (world self.now).book.quantum };
+
+    /// How many quanta an environment owes.
+    fn excess(&self, env: u8) -> u32
+        ensures { result ≡ (world self.now).book.excess env };
+
+    /// Ticks since the boot.
+    fn time(&self) -> u32
+        ensures { result ≡ (world self.now).book.time };
+}

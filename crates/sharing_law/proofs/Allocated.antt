@@ -1,0 +1,185 @@
+-- Why the bytes of an allocated page change.
+use Rattle.std.proofs.Common.{◌≡◌, ℕ, zero, suc, List, [], ◌∷◌, Bool, true, false, Option, Some, None, ◌⊎◌, inl, inr, refl, sym, ◌∙◌, ap, subst, take}
+use Rattle.std.specs.Prelude.{slice_get}
+use Rattle.page_book.specs.declared.row.PageRow.{PageRow}
+use Rattle.page_book.specs.declared.row.PageRow.TheVariants.{Free}
+use Rattle.page_book.specs.Row.{is_owned_by}
+use Rattle.world_model.specs.declared.slot.Runner.{Runner}
+use Rattle.world_model.specs.Book.{is_idle_book, running}
+use Rattle.world_model.specs.Event.{Occurrence, happen}
+use Rattle.world_model.specs.PageCalls.{page_bytes}
+use Rattle.world_model.specs.Tick.{phases_after, step, step_when, timer, turn}
+use Rattle.world_model.specs.World.{World, Reply, after, run_phases}
+use Rattle.call_verdicts.specs.Granted.{GrantedMay}
+use Rattle.run_model.specs.Run.{System, happens_in, moment, phases_in, world_after}
+use Rattle.run_model.proofs.Phases.{next_moment, once_more, tick_moment}
+use Rattle.sharing_law.specs.Change.{AllocatedChange, AllocatedInTick, AllocatedZeros, IsAllocated, IsOwnedAt, IsStored, ZerosInTick}
+use Rattle.sharing_law.specs.Right.{row_after}
+use Rattle.sharing_law.proofs.Sound.{Sound, owner_bytes}
+use Rattle.sharing_law.proofs.Brings.{Fate, Stays, Written, Taken}
+use Rattle.sharing_law.proofs.Turning.{IsAlike, alike_then, bytes_alike, turn_alike, unchanged}
+use Rattle.sharing_law.proofs.Stepping.{all_see, step_follows}
+use Rattle.sharing_law.proofs.Timing.{timer_owned}
+use Rattle.sharing_law.proofs.Agreeing.{Fine, all_fine, moment_fine}
+use Rattle.sharing_law.proofs.Moments.{stays_idle}
+use Rattle.sharing_law.proofs.Live.{each_is_live}
+use Rattle.sharing_law.proofs.Writing.{stored_through}
+
+-- What a phase makes of the pages that are owned after it.
+abbrev Fates : World → World → Type 0
+Fates w v = (o page : ℕ) → is_owned_by o (v.book.pages page) ≡ true → Fate w o page (page_bytes v page)
+
+alike_fates : (w v : World) → IsAlike w v → Fates w v
+alike_fates w v alike o page owns = Stays (ap (is_owned_by o) (λ k. sym alike.pages k page) ∙ owns) (bytes_alike w v alike page)
+
+timer_fates : (w : World) → Sound w → Fates w (after w (timer w))
+timer_fates w sound o page owns = let was = timer_owned w sound o page owns in Stays was.0 was.1
+
+step_fates : GrantedMay → (w : World) (o : Option Runner) → w.book.runner ≡ o → Fine w → Fates w (after w (step_when w o))
+step_fates granted w None is fine o page owns = alike_fates w (after w (step_when w None)) (unchanged w) o page owns
+step_fates granted w (Some r) is fine o page owns =
+    let stepped = step_follows granted w r.env fine.sound fine.allocated (fine.sound.runs r is) (ap running is) in
+    let now = after w (step_when w (Some r)) in
+    let brings = stepped.follows.brings in
+    let bytes = owner_bytes now brings.bytes (all_see w r.env stepped.came_to now stepped.items fine.sound stepped.follows) o page owns in
+    subst (λ (its : List ℕ). Fate w o page its) (sym bytes) (brings.fate o page owns)
+
+-- Up to the step the book is that before the tick, but for whose turn it is; and then nobody stores any more.
+data PhaseFates (base w v : World) : Type 0 where
+  Early : IsAlike base w → Fates w v → PhaseFates base w v
+  Late : ((o page : ℕ) → is_owned_by o (v.book.pages page) ≡ true → (is_owned_by o (w.book.pages page) ≡ true) × (page_bytes v page ≡ page_bytes w page)) → PhaseFates base w v
+
+module _ (granted : GrantedMay) where
+  one : (p q : World → Reply) → Some p ≡ Some q → p ≡ q
+  one p q same = cc
+
+  phase_fates : (happens : List Occurrence) (base w : World) (k : ℕ) (phase : World → Reply) → slice_get (phases_after happens) k ≡ Some phase → IsAlike base w
+      → (let m = run_phases w (take k (phases_after happens)) in Fine m → PhaseFates base m (after m (phase m)))
+  phase_fates [] base w zero phase is alike fine = subst (λ (p : World → Reply). PhaseFates base w (after w (p w))) (one turn phase is) (Early alike (alike_fates w (after w (turn w)) (turn_alike w)))
+  phase_fates [] base w (suc zero) phase is alike fine =
+      let m = after w (turn w) in
+      subst (λ (p : World → Reply). PhaseFates base m (after m (p m))) (one step phase is) (Early (alike_then base w m alike (turn_alike w)) (step_fates granted m m.book.runner refl fine))
+  phase_fates [] base w (suc (suc zero)) phase is alike fine =
+      let v = after w (turn w) in
+      let m = after v (step v) in
+      subst (λ (p : World → Reply). PhaseFates base m (after m (p m))) (one timer phase is) (Late (timer_owned m fine.sound))
+  phase_fates [] base w (suc (suc (suc k))) phase is alike fine = cc
+  phase_fates (what ∷ happens) base w zero phase is alike fine =
+      subst (λ (p : World → Reply). PhaseFates base w (after w (p w))) (one (happen what) phase is) (Early alike (alike_fates w (after w (happen what w)) (unchanged w)))
+  phase_fates (what ∷ happens) base w (suc k) phase is alike fine =
+      let v = after w (happen what w) in
+      phase_fates happens base v k phase is (alike_then base w v alike (unchanged w)) fine
+
+  -- In a phase of a tick
+  module _ (system : System) (t : ℕ) where
+    abbrev before : World
+    before = world_after system t
+
+    -- What becomes of a page that is owned after it.
+    abbrev Becomes : ℕ → ℕ → ℕ → Type 0
+    Becomes k page owner =
+        ((is_owned_by owner ((moment system t k).book.pages page) ≡ true) × (page_bytes (moment system t (suc k)) page ≡ page_bytes (moment system t k) page))
+        ⊎ (((is_owned_by owner ((moment system t k).book.pages page) ≡ true) × IsStored system t k page) ⊎ IsAllocated system t k page owner)
+
+    fine_at : (k : ℕ) → Fine (moment system t k)
+    fine_at k = moment_fine granted system t (all_fine granted system t) k
+
+    by_fate : (k page owner : ℕ) → IsAlike before (moment system t k) → Fate (moment system t k) owner page (page_bytes (moment system t (suc k)) page) → Becomes k page owner
+    by_fate k page owner alike (Stays owns same) = inl (owns, same)
+    by_fate k page owner alike (Written owns e x acts into has) =
+        let m = moment system t k in
+        let it = stored_through (m.solos e) x page into acts.comes in
+        let listed = (λ i. sym alike.binds i e it.row) ∙ sym (((fine_at k).sound.agreed e).binds it.row) ∙ it.found in
+        inr (inl (
+          owns,
+          record {
+            writer = e;
+            store = x;
+            acts = acts;
+            into = into;
+            binding = it.binding;
+            live = each_is_live granted system t e it.row it.binding listed;
+            its = it.its;
+            writable = it.writable;
+            has = has;
+          },
+        ))
+    by_fate k page owner alike (Taken words does free zeros) = inr (inr (record { words = words; does = does; free = free; zeros = zeros }))
+
+    by_fates : (k page owner : ℕ) (v : World) → moment system t (suc k) ≡ v → PhaseFates before (moment system t k) v → IsOwnedAt system t (suc k) page owner → Becomes k page owner
+    by_fates k page owner v next (Early alike fates) owns =
+        by_fate k page owner alike (subst (λ (u : World). Fate (moment system t k) owner page (page_bytes u page)) (sym next) (fates owner page (ap (λ (u : World). is_owned_by owner (u.book.pages page)) (sym next) ∙ owns)))
+    by_fates k page owner v next (Late was) owns =
+        let its = was owner page (ap (λ (u : World). is_owned_by owner (u.book.pages page)) (sym next) ∙ owns) in
+        inl (its.0, ap (λ (u : World). page_bytes u page) next ∙ its.1)
+
+    by_phase : (k page owner : ℕ) (o : Option (World → Reply)) → slice_get (phases_after (happens_in system.schedule before)) k ≡ o → IsOwnedAt system t (suc k) page owner → Becomes k page owner
+    by_phase k page owner None is owns =
+        let next = next_moment system t k ∙ ap (once_more (moment system t k)) is in
+        inl (ap (λ (u : World). is_owned_by owner (u.book.pages page)) (sym next) ∙ owns, ap (λ (u : World). page_bytes u page) next)
+    by_phase k page owner (Some phase) is owns =
+        let m = moment system t k in
+        by_fates k page owner (after m (phase m)) (next_moment system t k ∙ ap (once_more m) is)
+        (phase_fates (happens_in system.schedule before) before before k phase is (unchanged_alike before) (fine_at k)) owns
+      where
+        unchanged_alike : (w : World) → IsAlike w w
+        unchanged_alike w = record { solos = λ i. record { binds = refl; seen = refl; life = refl }; pages = refl; binds = refl; count = refl; slots = refl }
+
+    pub becomes : (k page owner : ℕ) → IsOwnedAt system t (suc k) page owner → Becomes k page owner
+    becomes k page owner = by_phase k page owner (slice_get (phases_after (happens_in system.schedule before)) k) refl
+
+    -- a free page is nobody's
+    free_owned : (owner : ℕ) (row : PageRow) → row ≡ Free → is_owned_by owner row ≡ true → ⊥
+    free_owned owner row free owns = let clash : false ≡ true = sym (ap (is_owned_by owner) free) ∙ owns in cc
+
+    pub change : (k page owner : ℕ) → IsOwnedAt system t k page owner → IsOwnedAt system t (suc k) page owner
+        → (page_bytes (moment system t (suc k)) page ≡ page_bytes (moment system t k) page) ⊎ IsStored system t k page
+    change k page owner had has = elim (becomes k page owner has) [
+      | inl stays ↦ inl stays.1
+      | inr other ↦ elim other [ inl stored ↦ inr stored.1 | inr taken ↦ absurd (free_owned owner ((moment system t k).book.pages page) taken.free had) ]
+    ]
+
+    pub zeros : (k page owner : ℕ) → IsOwnedAt system t (suc k) page owner → IsOwnedAt system t k page owner ⊎ IsAllocated system t k page owner
+    zeros k page owner has = elim (becomes k page owner has) [
+      | inl stays ↦ inl stays.0
+      | inr other ↦ elim other [ inl stored ↦ inl stored.0 | inr taken ↦ inr taken ]
+    ]
+
+    -- and so in the tick
+    abbrev Since : ℕ → ℕ → World → Type 0
+    Since page owner v = is_owned_by owner (v.book.pages page) ≡ true
+        → ((is_owned_by owner (row_after system t page) ≡ true) × (page_bytes v page ≡ page_bytes before page)) ⊎ (((k : ℕ) × IsStored system t k page) ⊎ ((k : ℕ) × IsAllocated system t k page owner))
+
+    since : (n page owner : ℕ) → Since page owner (moment system t n)
+    since zero page owner owns = inl (owns, refl)
+    since (suc n) page owner owns = elim (becomes n page owner owns) [
+      | inl stays ↦ elim (since n page owner stays.0) [ inl same ↦ inl (same.0, stays.1 ∙ same.1) | inr other ↦ inr other ]
+      | inr other ↦ elim other [ inl stored ↦ inr (inl (n, stored.1)) | inr taken ↦ inr (inr (n, taken)) ]
+    ]
+
+    abbrev ZerosSince : ℕ → ℕ → World → Type 0
+    ZerosSince page owner v = is_owned_by owner (v.book.pages page) ≡ true → (is_owned_by owner (row_after system t page) ≡ true) ⊎ ((k : ℕ) × IsAllocated system t k page owner)
+
+    zeros_since : (n page owner : ℕ) → ZerosSince page owner (moment system t n)
+    zeros_since zero page owner owns = inl owns
+    zeros_since (suc n) page owner owns = elim (zeros n page owner owns) [ inl had ↦ zeros_since n page owner had | inr taken ↦ inr (n, taken) ]
+
+    in_tick : (idle : Bool) → is_idle_book before.book ≡ idle → (page owner : ℕ) → Since page owner (world_after system (suc t))
+    in_tick true idle page owner = subst (Since page owner) (sym (stays_idle system t idle)) (λ owns. inl (owns, refl))
+    in_tick false busy page owner = subst (Since page owner) (sym (tick_moment system t busy)) (since (phases_in system t) page owner)
+
+    zeros_in : (idle : Bool) → is_idle_book before.book ≡ idle → (page owner : ℕ) → ZerosSince page owner (world_after system (suc t))
+    zeros_in true idle page owner = subst (ZerosSince page owner) (sym (stays_idle system t idle)) (λ owns. inl owns)
+    zeros_in false busy page owner = subst (ZerosSince page owner) (sym (tick_moment system t busy)) (zeros_since (phases_in system t) page owner)
+
+pub allocated_change : GrantedMay → AllocatedChange
+allocated_change granted system t k page owner = change granted system t k page owner
+
+pub allocated_zeros : GrantedMay → AllocatedZeros
+allocated_zeros granted system t k page owner = zeros granted system t k page owner
+
+pub allocated_in_tick : GrantedMay → AllocatedInTick
+allocated_in_tick granted system t page owner = in_tick granted system t (is_idle_book (world_after system t).book) refl page owner
+
+pub zeros_in_tick : GrantedMay → ZerosInTick
+zeros_in_tick granted system t page owner = zeros_in granted system t (is_idle_book (world_after system t).book) refl page owner

@@ -1,0 +1,178 @@
+-- What each phase of a tick gives to an environment: at most its first item changes guaranteed pages, or life.
+use Rattle.std.proofs.Common.{◌≡◌, ◌≢◌, ℕ, List, [], ◌∷◌, ◌++◌, Bool, true, false, Option, Some, None, refl, sym, ◌∙◌, subst}
+use Rattle.std.specs.Prelude.{◌==◌, ◌&&◌, ◌-◌, nat_lt, not, if◌then◌else◌}
+use Rattle.std.proofs.lemmas.Bool.{eq-eqb, eqb-true}
+use Rattle.env_frames.specs.Transfer.{carried}
+use Rattle.bind_book.specs.Stripe.{is_bound}
+use Rattle.kernel_journal.specs.declared.row.Row.TheVariants as row
+use Rattle.world_model.specs.declared.call.Call.{Call}
+use Rattle.world_model.specs.declared.deed.Deed.{Deed}
+use Rattle.world_model.specs.declared.deed.Deed.TheVariants.{Answers, Stops, Gives as Donates, Puts, Allocates, Frees, Recaps, Binds, Unbinds, Handles, Accepts, Transfers, TakesSlot, DropsSlot}
+use Rattle.world_model.specs.declared.life.Life.{Life}
+use Rattle.world_model.specs.declared.life.Life.TheVariants.{Live, Dead}
+use Rattle.world_model.specs.declared.slot.Phase.{Phase}
+use Rattle.world_model.specs.declared.slot.Phase.TheVariants as phase
+use Rattle.world_model.specs.declared.slot.Runner.{Runner}
+use Rattle.world_model.specs.declared.slot.Turn.{Turn}
+use Rattle.world_model.specs.declared.verdict.Verdict.{Verdict}
+use Rattle.world_model.specs.declared.verdict.Verdict.TheVariants.{Refuse, Grant}
+use Rattle.world_model.specs.Book.{Told, excess_limit, sees, whole_turn}
+use Rattle.world_model.specs.Call.{called}
+use Rattle.world_model.specs.Death.{death_items}
+use Rattle.world_model.specs.Event.{Occurrence, happen}
+use Rattle.world_model.specs.Item.{Item, Step, Start, End, Transfer, Killed, Answer, Gained, Lost, deed_at}
+use Rattle.world_model.specs.May.{May}
+use Rattle.world_model.specs.PageCalls.{breaks, left_at, left_by, page_bytes}
+use Rattle.world_model.specs.SlotCalls.{is_other, stop_row}
+use Rattle.world_model.specs.Solo.{Store, Key, Kept, Physical, is_dead}
+use Rattle.world_model.specs.Step.{Act, Nothing, Stores, Calls, Raises, Dies}
+use Rattle.world_model.specs.Tick.{act_now, brings, count_when, goes_on, grace_of, judged, kill, owes_more, run_out, step, step_when, take_turn, timer, turn, turn_when}
+use Rattle.world_model.specs.Verdict.{done, reply_of, reply_to, verdict}
+use Rattle.world_model.specs.World.{World, Reply, after, no_items, only, tells}
+use Rattle.frame_store.specs.Pages.{zero_page}
+use Rattle.call_verdicts.specs.Granted.{GrantedMay}
+use Rattle.run_model.proofs.Telling.{call_stands, deed_may, call_named}
+use Rattle.sharing_law.proofs.Given.{Gives, Hands, IsHanded, Led, Leads, Rests, Tells, gives_led, gives_own, led_more, led_only, told_at, told_both, told_death, told_left, told_lost_if, told_only}
+
+-- what may be reached is another that lives
+module _ (w : World) (e : ℕ) where
+  both_true : (a b : Bool) → (a && b) ≡ true → (a ≡ true) × (b ≡ true)
+  both_true true true is = (refl, refl)
+  both_true true false is = cc
+  both_true false b is = cc
+
+  not_true : (t : Bool) → not t ≡ true → t ≡ false
+  not_true true is = cc
+  not_true false is = refl
+
+  lives_if : (life : Life) → is_dead life ≡ false → life ≡ Live
+  lives_if Live is = refl
+  lives_if (Dead cause) is = cc
+
+  pub target_lives : (target : ℕ) → is_other w e target ≡ true → (e ≢ target) × ((w.solos target).life ≡ Live)
+  target_lives target its =
+      let parts = both_true (nat_lt target w.count) (not (is_dead (w.solos target).life) && not (target == e)) its in
+      let two = both_true (not (is_dead (w.solos target).life)) (not (target == e)) parts.1 in
+      ((λ same. unlike (not_true (target == e) two.1) (sym same)), lives_if (w.solos target).life (not_true (is_dead (w.solos target).life) two.0))
+    where
+      unlike : (target == e) ≡ false → target ≡ e → ⊥
+      unlike is same = let clash : false ≡ true = sym is ∙ eq-eqb target e same in cc
+
+-- what is handed to a target goes to no other
+hands : (e target : ℕ) (item : Item) → IsHanded item → e ≢ target → (i : ℕ) → Gives e i (only target (item ∷ []) i)
+hands e target item is_handed other i = by_test (i == target) refl
+  where
+    by_test : (t : Bool) → (i == target) ≡ t → Gives e i (if t then item ∷ [] else [])
+    by_test true same = Hands (subst (λ (n : ℕ). e ≢ n) (sym (eqb-true i target same)) other) item is_handed refl
+    by_test false same = Tells tt
+
+-- deed by deed
+pub deed_gives : (w : World) (e : ℕ) (d : Deed) → May w e d → (i : ℕ) → Gives e i ((done w e d).items i)
+deed_gives w e Answers may i = Tells tt
+deed_gives w e Stops may i = Tells tt
+deed_gives w e (Donates target) may i = hands e target Start tt (target_lives w e target may.other).0 i
+deed_gives w e (Puts address size) may i = Tells tt
+deed_gives w e (Allocates page words) may i = Tells (told_only e i (Gained page true zero_page ∷ []) (tt, tt))
+deed_gives w e (Frees page) may i = Tells (told_at e i (Lost page ∷ []) (breaks w.book page) (tt, tt) (told_lost_if (is_bound page (w.book.binds i)) page))
+deed_gives w e (Recaps page words) may i = Tells (told_at e i [] (breaks w.book page) tt (told_lost_if (is_bound page (w.book.binds i)) page))
+deed_gives w e (Binds b word) may i = Tells (told_only e i (Gained b.page b.writable (page_bytes w b.page) ∷ []) (tt, tt))
+deed_gives w e (Unbinds vpn) may i = Tells tt
+deed_gives w e (Handles kind address) may i = Tells tt
+deed_gives w e (Accepts mask) may i = Tells tt
+deed_gives w e (Transfers target kind) may i = hands e target (Transfer e kind (carried (w.solos e).cpu)) tt (target_lives w e target may.reach.other).0 i
+deed_gives w e (TakesSlot slot) may i = Tells tt
+deed_gives w e (DropsSlot slot) may i = Tells tt
+
+-- an answer comes first
+answers : (e i : ℕ) (v : Verdict) (items : List Item) → Gives e i items → Gives e i (only e (Answer v ∷ []) i ++ items)
+answers e i v items gives = by_test (i == e) refl
+  where
+    by_test : (t : Bool) → (i == e) ≡ t → Gives e i ((if t then Answer v ∷ [] else []) ++ items)
+    by_test true same = Tells (tt, gives_own e i items gives (sym (eqb-true i e same)))
+    by_test false same = gives
+
+pub store_gives : (w : World) (e : ℕ) (x : Store) (i : ℕ) → Gives e i (left_by w.book e x i)
+store_gives w e x i = by_key x.key
+  where
+    by_key : (key : Key) → Gives e i (left_at w.book e x key i)
+    by_key (Kept vpn) = Tells tt
+    by_key (Physical page) = Tells (told_left (sees w.book i page) e i page x)
+
+module _ (granted : GrantedMay) (w : World) (e : ℕ) where
+  call_gives : (c : Option Call) → called (w.solos e).cpu ≡ c → (i : ℕ) → Gives e i ((reply_to w e c).items i)
+  call_gives c named i = by_verdict (verdict w e c) refl
+    where
+      by_verdict : (v : Verdict) → verdict w e c ≡ v → Gives e i ((reply_of w e v).items i)
+      by_verdict (Refuse code value) is = Tells (told_only e i (Answer (Refuse code value) ∷ []) (tt, tt))
+      by_verdict (Grant value) is = let d = deed_at (w.solos e) value in answers e i (Grant value) ((done w e d).items i) (deed_gives w e d (deed_may granted w e c named value is) i)
+
+  -- what an act brings once the step is made
+  act_gives : (act : Act) → act_now w e ≡ act → (i : ℕ) → Gives e i ((brings e act (after w (tells e Step w))).items i)
+  act_gives Nothing is i = Tells tt
+  act_gives (Stores x) is i = store_gives w e x i
+  act_gives (Calls c) is i = subst (λ (v : World). Gives e i ((brings e (Calls c) v).items i)) (sym (call_stands w e c is)) (call_gives c (call_named w e c is) i)
+  act_gives (Raises exc) is i = Tells tt
+  act_gives (Dies cause) is i = Tells (told_death w.book e i)
+
+-- The phases.
+pub happen_led : (what : Occurrence) (w : World) (i : ℕ) → Led ((happen what w).items i)
+happen_led what w i = Rests tt
+
+pub turn_led : (w : World) (i : ℕ) → Led ((turn w).items i)
+turn_led w i = by_runner w.book.runner
+  where
+    by_turn : (told : Told) (o : Option Turn) → Led ((take_turn w told o).items i)
+    by_turn told None = Rests tt
+    by_turn told (Some t) = led_only t.env i Start
+
+    by_runner : (o : Option Runner) → Led ((turn_when w o).items i)
+    by_runner None = by_turn (whole_turn w.book) (whole_turn w.book).runs
+    by_runner (Some r) = Rests tt
+
+pub step_led : GrantedMay → (w : World) (i : ℕ) → Led ((step w).items i)
+step_led granted w i = by_runner w.book.runner
+  where
+    by_test : (e : ℕ) (items : List Item) → Gives e i items → (t : Bool) → (i == e) ≡ t → Led ((if t then Step ∷ [] else []) ++ (items ++ []))
+    by_test e items gives true same = Leads Step (items ++ []) (told_both items [] (gives_own e i items gives (sym (eqb-true i e same))) tt) refl
+    by_test e items gives false same = led_more items [] (gives_led e i items gives) tt
+
+    by_runner : (o : Option Runner) → Led ((step_when w o).items i)
+    by_runner None = Rests tt
+    by_runner (Some r) =
+        let act = act_now w r.env in
+        by_test r.env ((brings r.env act (after w (tells r.env Step w))).items i) (act_gives granted w r.env act refl i) (i == r.env) refl
+
+killed_led : (w : World) (e i : ℕ) → Led ((kill e w).items i)
+killed_led w e i = by_test (i == e)
+  where
+    by_test : (t : Bool) → Led ((if t then Killed ∷ [] else []) ++ (death_items w.book e i ++ []))
+    by_test true = Leads Killed (death_items w.book e i ++ []) (told_both (death_items w.book e i) [] (told_death w.book e i) tt) refl
+    by_test false = Rests (told_both (death_items w.book e i) [] (told_death w.book e i) tt)
+
+judged_led : (w : World) (e i : ℕ) → Led ((judged e w).items i)
+judged_led w e i = by_test (nat_lt excess_limit (w.book.excess e))
+  where
+    by_test : (t : Bool) → (let r : Reply = (if t then kill e w else goes_on (grace_of w e) w) in Led (r.items i))
+    by_test true = killed_led w e i
+    by_test false = Rests tt
+
+out_led : (w : World) (e i : ℕ) (p : Phase) → Led ((run_out e p w).items i)
+out_led w e i phase.Own = by_test ((w.solos e).handlers.end == 0)
+  where
+    by_test : (t : Bool)
+        → (let r : Reply = (if t then record { book = record w.book { runner = None }; items = no_items; rows = stop_row w.book e ∷ [] }
+        else record { book = record w.book { runner = Some (grace_of w e) }; items = only e (End ∷ []); rows = row.End w.book.time w.book.cursor e ∷ [] }) in Led (r.items i))
+    by_test true = Rests tt
+    by_test false = led_only e i End
+out_led w e i phase.Grace = let u = after w (owes_more e w) in led_more ((judged e u).items i) [] (judged_led u e i) tt
+
+pub timer_led : (w : World) (i : ℕ) → Led ((timer w).items i)
+timer_led w i = led_more ((count_when w.book.runner w).items i) [] (by_runner w.book.runner) tt
+  where
+    by_left : (r : Runner) (t : Bool) → (let reply : Reply = (if t then run_out r.env r.phase w else goes_on (record r { left = r.left - 1 }) w) in Led (reply.items i))
+    by_left r true = out_led w r.env i r.phase
+    by_left r false = Rests tt
+
+    by_runner : (o : Option Runner) → Led ((count_when o w).items i)
+    by_runner None = Rests tt
+    by_runner (Some r) = by_left r (r.left - 1 == 0)

@@ -1,0 +1,205 @@
+-- Why the bytes of a guaranteed page change.
+use Rattle.std.proofs.Common.{◌≡◌, ℕ, zero, suc, List, ◌∷◌, Bool, true, false, Option, Some, None, ◌⊎◌, inl, inr, refl, sym, ◌∙◌, ap, subst}
+use Rattle.std.specs.Prelude.{◌==◌, if◌then◌else◌, slice_get}
+use Rattle.std.specs.Option.{option_map}
+use Rattle.std.proofs.lemmas.Bool.{cases_eq, eqb-false}
+use Rattle.frame_store.specs.Pages.{with_bytes}
+use Rattle.mips_exec.specs.declared.registers.Cpu.{Cpu}
+use Rattle.mips_exec.specs.declared.exception.Exc.{Exc}
+use Rattle.mips_exec.specs.Cpu.{reg, rested}
+use Rattle.mips_exec.specs.Step.{Step as MachineStep, Retired, Called, Trapped, cpu_after}
+use Rattle.env_frames.specs.Context.{context_number, end_area, end_bytes, exception_area, exception_bytes, resumed_cpu, start_area, start_bytes}
+use Rattle.env_frames.specs.Transfer.{entry_area, entry_bytes}
+use Rattle.world_model.specs.Book.{is_idle_book}
+use Rattle.world_model.specs.Call.{exit_number}
+use Rattle.world_model.specs.Event.{Occurrence}
+use Rattle.world_model.specs.Item.{Item, Boot, Step, Start, End, Transfer, Killed, Answer, Gained, Lost, Left, absorb, absorb_all, absorbed}
+use Rattle.world_model.specs.Page.{KeptPage}
+use Rattle.world_model.specs.Solo.{Solo, Store, Key, Kept, Physical, bytes_in, is_dead, kept_after, kept_at, store_of, stored, stored_page}
+use Rattle.world_model.specs.Step.{Act, Nothing, Stores, Calls, Raises, Dies, act_at_call, act_of, acted, step_alone, store_act}
+use Rattle.world_model.specs.Tick.{phases_after}
+use Rattle.world_model.specs.Upcalls.{enter, end_slice, raise, with_context}
+use Rattle.world_model.specs.World.{World, Reply, after}
+use Rattle.call_verdicts.specs.Granted.{GrantedMay}
+use Rattle.run_model.specs.Run.{System, given_by, happens_in, moment, phases_in, world_after}
+use Rattle.run_model.proofs.Phases.{next_moment, of_each, once_more, tick_moment}
+use Rattle.sharing_law.specs.Change.{Changes, GuaranteedChange, GuaranteedInTick, HasStore, HasWords, IsChanged, ItemChange, StepChanges, bytes_at}
+use Rattle.sharing_law.proofs.Given.{IsTold, Led, Leads, Rests, absorbed_kept, kept_as_was, kept_else, kept_here, told_kept}
+use Rattle.sharing_law.proofs.Giving.{happen_led, step_led, timer_led, turn_led}
+use Rattle.sharing_law.proofs.Moments.{stays_idle}
+use Rattle.sharing_law.proofs.Writing.{stored_writable}
+
+-- words in the context page
+abbrev StaysOrHas : Solo → Solo → ℕ → ℕ → List ℕ → Type 0
+StaysOrHas s t vpn area words = (bytes_at t vpn ≡ bytes_at s vpn) ⊎ HasWords s t vpn area words
+
+context_kept : (area : ℕ) (words : List ℕ) (s t : Solo) (vpn : ℕ) → t.kept ≡ (with_context area words s).kept → StaysOrHas s t vpn area words
+context_kept area words s t vpn same = elim (cases_eq vpn context_number) [
+  | inl here ↦ by_page (kept_at s.kept vpn) refl here (now ∙ kept_here s.kept x vpn (ap Kept (sym here)))
+  | inr other ↦ inl (ap bytes_in (now ∙ kept_else s.kept x context_number vpn refl other))
+]
+  where
+    x : Store
+    x = record { key = Kept context_number; offset = area; bytes = words }
+
+    now : kept_at t.kept vpn ≡ kept_at (kept_after s.kept x) vpn
+    now = ap (λ ps. kept_at ps vpn) same
+
+    by_page : (o : Option KeptPage) → kept_at s.kept vpn ≡ o → vpn ≡ context_number → kept_at t.kept vpn ≡ option_map (stored_page x) o → StaysOrHas s t vpn area words
+    by_page None is here now = inl (ap bytes_in (now ∙ sym is))
+    by_page (Some p) is here now = inr (record { context = here; has = ap bytes_in now ∙ ap (λ o. with_bytes (bytes_in o) area words) (sym is) })
+
+-- What its own step does to a guaranteed page.
+module _ (s : Solo) (vpn : ℕ) where
+  abbrev Stays : Solo → Type 0
+  Stays t = bytes_at t vpn ≡ bytes_at s vpn
+
+  module _ (x : Store) (cpu : Cpu) (acts : act_of s (step_alone s) ≡ Stores x) where
+    abbrev writer : Solo
+    writer = stored x (record s { cpu = cpu })
+
+    here : x.key ≡ Kept vpn → HasStore s writer vpn x
+    here into =
+        let its = stored_writable s x vpn into acts in
+        record {
+          into = into;
+          page = its.page;
+          there = its.there;
+          writable = its.writable;
+          has = ap bytes_in (kept_here s.kept x vpn into ∙ ap (option_map (stored_page x)) its.there) ∙ ap (λ (o : Option KeptPage). with_bytes (bytes_in o) x.offset x.bytes) (sym its.there);
+        }
+
+    by_key : (key : Key) → x.key ≡ key → Stays writer ⊎ HasStore s writer vpn x
+    by_key (Kept v) is = elim (cases_eq vpn v) [
+      | inl same ↦ inr (here (is ∙ ap Kept (sym same)))
+      | inr other ↦ inl (ap bytes_in (kept_else s.kept x v vpn is other))
+    ]
+    by_key (Physical page) is =
+        inl (ap (λ kept. bytes_in (kept_at kept vpn)) ((λ k. kept_after s.kept (record { key = is k; offset = x.offset; bytes = x.bytes })) ∙ kept_as_was s.kept page x.offset x.bytes))
+
+  -- an exception finds the registers as they were
+  store_raises_not : (o : Option Store) (exc : Exc) → store_act o ≡ Raises exc → ⊥
+  store_raises_not None exc is = cc
+  store_raises_not (Some x) exc is = cc
+
+  call_raises_not : (exits : Bool) (exc : Exc) → act_at_call s.cpu exits ≡ Raises exc → ⊥
+  call_raises_not true exc is = cc
+  call_raises_not false exc is = cc
+
+  raise_cpu : (st : MachineStep) (exc : Exc) → act_of s st ≡ Raises exc → cpu_after s.cpu st ≡ s.cpu
+  raise_cpu (Retired new write) exc is = absurd (store_raises_not (store_of s write) exc is)
+  raise_cpu Called exc is = absurd (call_raises_not (reg s.cpu 2 == exit_number) exc is)
+  raise_cpu (Trapped found) exc is = refl
+
+  by_act : (act : Act) → act_of s (step_alone s) ≡ act → (cpu : Cpu) → cpu_after s.cpu (step_alone s) ≡ cpu → Stays (acted act (record s { cpu = cpu })) ⊎ StepChanges s (acted act (record s { cpu = cpu })) vpn act
+  by_act Nothing is cpu after = inl refl
+  by_act (Stores x) is cpu after = by_key x cpu is x.key refl
+  by_act (Calls call) is cpu after = inl refl
+  by_act (Raises exc) is cpu after =
+      subst (λ (c : Cpu). StaysOrHas s (raise exc (record s { cpu = c })) vpn exception_area (exception_bytes exc s.cpu)) (sym (raise_cpu (step_alone s) exc is) ∙ after)
+      (context_kept exception_area (exception_bytes exc s.cpu) s (raise exc (record s { cpu = s.cpu })) vpn refl)
+  by_act (Dies cause) is cpu after = inr tt
+
+  -- A start, where words are left only if it is handled.
+  by_start : (none : Bool) → (s.handlers.start == 0) ≡ none
+      → let t = (if none then record s { cpu = rested s.cpu } else record (with_context start_area (start_bytes s.cpu) s) { cpu = resumed_cpu s.handlers.start s.cpu }) in Stays t ⊎ Changes s t vpn Start
+  by_start true is = inl refl
+  by_start false is =
+      let t = record (with_context start_area (start_bytes s.cpu) s) { cpu = resumed_cpu s.handlers.start s.cpu } in
+      elim (context_kept start_area (start_bytes s.cpu) s t vpn refl) [ inl same ↦ inl same | inr has ↦ inr (eqb-false s.handlers.start 0 is, has) ]
+
+  -- Item by item
+  stays_told : (item : Item) → IsTold item → Stays (absorbed s item)
+  stays_told item told = ap (λ ps. bytes_in (kept_at ps vpn)) (absorbed_kept s item told)
+
+  by_item : (item : Item) → Stays (absorbed s item) ⊎ Changes s (absorbed s item) vpn item
+  by_item (Boot number name entry accept kept) = inr tt
+  by_item Step = by_act (act_of s (step_alone s)) refl (cpu_after s.cpu (step_alone s)) refl
+  by_item Start = by_start (s.handlers.start == 0) refl
+  by_item End = context_kept end_area (end_bytes s.cpu) s (end_slice s) vpn refl
+  by_item (Transfer from kind registers) = context_kept entry_area (entry_bytes from kind s.cpu) s (enter from kind registers s) vpn refl
+  by_item Killed = inr tt
+  by_item (Answer verdict) = inl (stays_told (Answer verdict) tt)
+  by_item (Gained page writable bytes) = inl (stays_told (Gained page writable bytes) tt)
+  by_item (Lost page) = inl (stays_told (Lost page) tt)
+  by_item (Left page offset bytes) = inl (stays_told (Left page offset bytes) tt)
+
+  by_life : (item : Item) (gone : Bool) → let t = (if gone then s else absorbed s item) in Stays t ⊎ Changes s t vpn item
+  by_life item true = inl refl
+  by_life item false = by_item item
+
+pub item_change : ItemChange
+item_change s item vpn = by_life s vpn item (is_dead s.life)
+
+-- What items of which at most the first changes such pages do to one.
+record FirstChanges (s : Solo) (items : List Item) (vpn : ℕ) : Type 0 where
+  item : Item
+  rest : List Item
+  given : items ≡ item ∷ rest
+  changes : Changes s (absorb s item) vpn item
+  has : bytes_at (absorb_all s items) vpn ≡ bytes_at (absorb s item) vpn
+
+led_change : (s : Solo) (items : List Item) (vpn : ℕ) → Led items → (bytes_at (absorb_all s items) vpn ≡ bytes_at s vpn) ⊎ FirstChanges s items vpn
+led_change s items vpn (Rests told) = inl (ap (λ ps. bytes_in (kept_at ps vpn)) (told_kept items told s))
+led_change s items vpn (Leads item rest told is) =
+    let has : bytes_at (absorb_all s items) vpn ≡ bytes_at (absorb s item) vpn =
+    ap (λ (its : List Item). bytes_at (absorb_all s its) vpn) is ∙ ap (λ ps. bytes_in (kept_at ps vpn)) (told_kept rest told (absorb s item)) in
+    elim (item_change s item vpn) [
+      | inl same ↦ inl (has ∙ same)
+      | inr changes ↦ inr (record { item = item; rest = rest; given = is; changes = changes; has = has })
+    ]
+
+abbrev GivesLed : (World → Reply) → Type 0
+GivesLed phase = (w : World) (e : ℕ) → Led ((phase w).items e)
+
+-- In a phase of a tick
+module _ (granted : GrantedMay) (system : System) (t : ℕ) where
+  abbrev happens : List Occurrence
+  happens = happens_in system.schedule (world_after system t)
+
+  phase_led : (k : ℕ) (phase : World → Reply) → slice_get (phases_after happens) k ≡ Some phase → GivesLed phase
+  phase_led k phase is = of_each GivesLed happen_led turn_led (step_led granted) timer_led happens k phase is
+
+  abbrev Kept_in : ℕ → ℕ → ℕ → Type 0
+  Kept_in k e vpn = (bytes_at ((moment system t (suc k)).solos e) vpn ≡ bytes_at ((moment system t k).solos e) vpn) ⊎ IsChanged system t k e vpn
+
+  by_phase : (k e vpn : ℕ) (o : Option (World → Reply)) → slice_get (phases_after happens) k ≡ o → Kept_in k e vpn
+  by_phase k e vpn None is = inl (ap (λ (v : World). bytes_at (v.solos e) vpn) (next_moment system t k ∙ ap (once_more (moment system t k)) is))
+  by_phase k e vpn (Some phase) is =
+      let m = moment system t k in
+      let next : moment system t (suc k) ≡ after m (phase m) = next_moment system t k ∙ ap (once_more m) is in
+      let bytes = ap (λ (v : World). bytes_at (v.solos e) vpn) next in
+      elim (led_change (m.solos e) ((phase m).items e) vpn (phase_led k phase is m e)) [
+        | inl same ↦ inl (bytes ∙ same)
+        | inr first ↦ inr (record {
+          item = first.item;
+          rest = first.rest;
+          given = ap (λ (o : Option (World → Reply)). given_by m o e) is ∙ first.given;
+          changes = first.changes;
+          has = bytes ∙ first.has;
+        })
+      ]
+
+  pub phase_change : (k e vpn : ℕ) → Kept_in k e vpn
+  phase_change k e vpn = by_phase k e vpn (slice_get (phases_after happens) k) refl
+
+  -- and so in the tick
+  abbrev KeptSince : ℕ → ℕ → World → Type 0
+  KeptSince e vpn v = (bytes_at (v.solos e) vpn ≡ bytes_at ((world_after system t).solos e) vpn) ⊎ ((k : ℕ) × IsChanged system t k e vpn)
+
+  kept_since : (n e vpn : ℕ) → KeptSince e vpn (moment system t n)
+  kept_since zero e vpn = inl refl
+  kept_since (suc n) e vpn = elim (kept_since n e vpn) [
+    | inl same ↦ elim (phase_change n e vpn) [ inl stays ↦ inl (stays ∙ same) | inr changed ↦ inr (n, changed) ]
+    | inr before ↦ inr before
+  ]
+
+  by_idle : (idle : Bool) → is_idle_book (world_after system t).book ≡ idle → (e vpn : ℕ) → KeptSince e vpn (world_after system (suc t))
+  by_idle true idle e vpn = subst (KeptSince e vpn) (sym (stays_idle system t idle)) (inl refl)
+  by_idle false busy e vpn = subst (KeptSince e vpn) (sym (tick_moment system t busy)) (kept_since (phases_in system t) e vpn)
+
+pub guaranteed_change : GrantedMay → GuaranteedChange
+guaranteed_change granted system t k e vpn = phase_change granted system t k e vpn
+
+pub guaranteed_in_tick : GrantedMay → GuaranteedInTick
+guaranteed_in_tick granted system t e vpn = by_idle granted system t (is_idle_book (world_after system t).book) refl e vpn

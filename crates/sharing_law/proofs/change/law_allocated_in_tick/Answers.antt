@@ -1,0 +1,5 @@
+use Rattle.sharing_law.proofs.Allocated.{allocated_in_tick}
+use Rattle.sharing_law.proofs.change.law_allocated_in_tick.Goals as goal
+
+pub returns : goal.returns
+returns c = allocated_in_tick c.law_granted.ensures

@@ -1,0 +1,92 @@
+-- What a deed presupposes of the world.
+use Rattle.std.specs.Prelude.{◌≡◌, ◌≢◌, ◌<◌, ◌≤◌, ◌+◌, ℕ, Bool, true, false, length, Option, Some, None, is_some, ◌⊎◌}
+use Rattle.aegis_limits.specs.Limits.{console_size}
+use Rattle.page_book.specs.declared.row.Capabilities.{Capabilities}
+use Rattle.page_book.specs.declared.row.PageRow.{PageRow}
+use Rattle.page_book.specs.declared.row.PageRow.TheVariants.{Free, Owned}
+use Rattle.page_book.specs.Row.{gives_right, is_owned_by}
+use Rattle.bind_book.specs.declared.binding.Binding.{Binding}
+use Rattle.env_frames.specs.declared.transfer.TransferKind.{TransferKind}
+use Rattle.env_frames.specs.Transfer.{hands_slot}
+use Rattle.world_model.specs.declared.slot.Hold.{Hold}
+use Rattle.world_model.specs.Book.{Book}
+use Rattle.world_model.specs.Call.{number_end}
+use Rattle.world_model.specs.Solo.{Solo, sight}
+use Rattle.world_model.specs.Item.{put_bytes}
+use Rattle.world_model.specs.PageCalls.{is_guaranteed}
+use Rattle.world_model.specs.SlotCalls.{accepts, gift_refusal, is_other, turn_slot}
+use Rattle.world_model.specs.Transfers.{is_open}
+use Rattle.world_model.specs.World.{World}
+use Rattle.world_model.specs.declared.deed.Deed.{Deed}
+use Rattle.world_model.specs.declared.deed.Deed.TheVariants.{Answers, Stops, Gives, Puts, Allocates, Frees, Recaps, Binds, Unbinds, Handles, Accepts, Transfers, TakesSlot, DropsSlot}
+
+-- the range of the bytes is good, and the console has room for them
+pub record MayPut (s : Solo) (address size : ℕ) : Type 0 where
+  pub good : is_some (put_bytes (sight s) address size) ≡ true
+  pub room : length s.console + size ≤ console_size
+
+-- the target is another environment, which lives and accepts the caller, and the slice may be handed on, or for a later the slot too
+pub record MayReach (w : World) (e target : ℕ) (later : Bool) : Type 0 where
+  pub other : is_other w e target ≡ true
+  pub gift : gift_refusal later w.book.runner (turn_slot w.book) ≡ None
+  pub accepted : accepts (w.solos target).mask e ≡ true
+
+-- it has an entry, too
+pub record MayEnter (w : World) (e target : ℕ) (kind : TransferKind) : Type 0 where
+  pub reach : MayReach w e target (hands_slot kind)
+  pub entry : is_open (w.solos target) kind ≡ true
+
+-- there is such a page, and it is free
+pub record MayAllocate (b : Book) (page : ℕ) : Type 0 where
+  pub there : page < b.page_count
+  pub free : b.pages page ≡ Free
+
+-- there is such a page, and it is the caller's
+pub record MayChange (b : Book) (e page : ℕ) : Type 0 where
+  pub there : page < b.page_count
+  pub owned : is_owned_by e (b.pages page) ≡ true
+
+-- the VPN is a user's, and not guaranteed
+pub record MayMap (s : Solo) (vpn : ℕ) : Type 0 where
+  pub within : vpn < number_end
+  pub other : is_guaranteed s vpn ≡ false
+
+-- the page is the caller's, or the word gives the right
+pub record HasRight (e : ℕ) (writable : Bool) (word : ℕ) (row : PageRow) : Type 0 where
+  pub owner : ℕ
+  pub words : Capabilities
+  pub owned : row ≡ Owned owner words
+  pub right : (owner ≡ e) ⊎ (gives_right words writable word ≡ true)
+
+pub record MayBind (w : World) (e : ℕ) (b : Binding) (word : ℕ) : Type 0 where
+  pub at : MayMap (w.solos e) b.vpn
+  pub there : b.page < w.book.page_count
+  pub right : HasRight e b.writable word (w.book.pages b.page)
+
+-- there is such a slot, and it is empty
+pub record MayTake (b : Book) (slot : ℕ) : Type 0 where
+  pub there : slot < b.slot_count
+  pub empty : b.slots slot ≡ None
+
+-- there is such a slot, and the caller holds it
+pub record MayDrop (b : Book) (e slot : ℕ) : Type 0 where
+  pub there : slot < b.slot_count
+  pub hold : Hold
+  pub stands : b.slots slot ≡ Some hold
+  pub holder : hold.holder ≡ e
+
+abbrev pub May : World → ℕ → Deed → Type 0
+May w e Answers = Unit {0}
+May w e Stops = Unit {0}
+May w e (Gives target) = MayReach w e target false
+May w e (Puts address size) = MayPut (w.solos e) address size
+May w e (Allocates page words) = MayAllocate w.book page
+May w e (Frees page) = MayChange w.book e page
+May w e (Recaps page words) = MayChange w.book e page
+May w e (Binds binding word) = MayBind w e binding word
+May w e (Unbinds vpn) = MayMap (w.solos e) vpn
+May w e (Handles kind address) = Unit {0}
+May w e (Accepts mask) = Unit {0}
+May w e (Transfers target kind) = MayEnter w e target kind
+May w e (TakesSlot slot) = MayTake w.book slot
+May w e (DropsSlot slot) = MayDrop w.book e slot

@@ -1,0 +1,56 @@
+//! The kernel's verdicts on calls.
+ghost use Rattle.std.specs.Prelude.{◌≡◌};
+
+use crate::code::Code;
+
+/// The kernel's verdict on a call (`docs/KERNEL.md`).
+#[derive(Clone, Copy)]
+pub enum Verdict {
+    /// The call is refused, with a code and a value, 0 where no value is named.
+    Refuse(Code, u32),
+    /// The call is granted, with a value.
+    Grant(u32),
+}
+
+impl Verdict {
+    ghost use Rattle.world_model.specs.Answer.{unless, verdict_code, verdict_of, verdict_value};
+
+    /// A call is granted with a value, unless there is a reason to refuse it.
+    pub fn unless(refusal: Option<Code>, value: u32) -> Verdict
+        ensures { result ≡ unless refusal value }
+    {
+        match refusal {
+            None => Verdict::Grant(value),
+            Some(why) => Verdict::Refuse(why, 0),
+        }
+    }
+
+    /// A call is granted with a value, or refused.
+    pub fn of(answer: Result<u32, Code>) -> Verdict
+        ensures { result ≡ verdict_of answer }
+    {
+        match answer {
+            Ok(value) => Verdict::Grant(value),
+            Err(why) => Verdict::Refuse(why, 0),
+        }
+    }
+
+    /// The code that the caller finds: 0 where its call is granted.
+    pub fn code(self) -> u32
+        ensures { result ≡ verdict_code self }
+    {
+        match self {
+            Verdict::Refuse(code, _) => code.number(),
+            Verdict::Grant(_) => 0,
+        }
+    }
+
+    /// The value that the caller finds.
+    pub fn value(self) -> u32
+        ensures { result ≡ verdict_value self }
+    {
+        match self {
+            Verdict::Refuse(_, value) | Verdict::Grant(value) => value,
+        }
+    }
+}
