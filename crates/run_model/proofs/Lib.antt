@@ -7,3 +7,4 @@ mod Lives
 mod Rows
 mod Replies
 pub mod Balance
+mod Licensing

@@ -3,3 +3,4 @@ pub mod Run
 pub mod NextTurn
 pub mod Excess
 pub mod Acting
+pub mod Licensed

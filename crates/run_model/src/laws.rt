@@ -3,6 +3,7 @@ ghost use Rattle.std.specs.Prelude.{◌<◌};
 ghost use Rattle.world_model.specs.Book.{Book, next_turn};
 ghost use Rattle.run_model.specs.NextTurn.{IsNextTurn};
 ghost use Rattle.run_model.specs.Excess.{BalanceHolds, LedgersAreLawful, TicksKeepAccounts, TurnsGoByRule};
+ghost use Rattle.run_model.specs.Licensed.{FeedIsLicensed, GivenIsLicensed};
 ghost use Rattle.run_model.specs.Run.{InTurnIsEach, IsFoldOfFeed, MomentsAreInOrder};
 
 use call_verdicts::law_granted;
@@ -54,6 +55,20 @@ pub fn law_ledger()
 /// Ticks keep the accounts of every world in which they are in order.
 pub fn law_accounts()
     ensures { TicksKeepAccounts }
+{
+    law_granted();
+}
+
+/// Every item that an environment is given in a phase of a tick has its licence in the world of that phase.
+pub fn law_licence()
+    ensures { GivenIsLicensed }
+{
+    law_granted();
+}
+
+/// Every item of every feed has its licence where it is given, at boot or in a phase of a tick.
+pub fn law_feed_licence()
+    ensures { FeedIsLicensed }
 {
     law_granted();
 }

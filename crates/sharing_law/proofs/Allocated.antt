@@ -17,13 +17,12 @@ use Rattle.sharing_law.specs.Change.{AllocatedChange, AllocatedInTick, Allocated
 use Rattle.sharing_law.specs.Right.{row_after}
 use Rattle.sharing_law.proofs.Sound.{Sound, owner_bytes}
 use Rattle.sharing_law.proofs.Brings.{Fate, Stays, Written, Taken}
-use Rattle.sharing_law.proofs.Turning.{IsAlike, alike_then, bytes_alike, turn_alike, unchanged}
+use Rattle.sharing_law.proofs.Turning.{IsAlike, alike_then, bytes_alike, same_alike, turn_alike, unchanged}
 use Rattle.sharing_law.proofs.Stepping.{all_see, step_follows}
 use Rattle.sharing_law.proofs.Timing.{timer_owned}
 use Rattle.sharing_law.proofs.Agreeing.{Fine, all_fine, moment_fine}
 use Rattle.sharing_law.proofs.Moments.{stays_idle}
-use Rattle.sharing_law.proofs.Live.{each_is_live}
-use Rattle.sharing_law.proofs.Writing.{stored_through}
+use Rattle.sharing_law.proofs.Leaving.{store_lives}
 
 -- What a phase makes of the pages that are owned after it.
 abbrev Fates : World → World → Type 0
@@ -87,23 +86,8 @@ module _ (granted : GrantedMay) where
     by_fate : (k page owner : ℕ) → IsAlike before (moment system t k) → Fate (moment system t k) owner page (page_bytes (moment system t (suc k)) page) → Becomes k page owner
     by_fate k page owner alike (Stays owns same) = inl (owns, same)
     by_fate k page owner alike (Written owns e x acts into has) =
-        let m = moment system t k in
-        let it = stored_through (m.solos e) x page into acts.comes in
-        let listed = (λ i. sym alike.binds i e it.row) ∙ sym (((fine_at k).sound.agreed e).binds it.row) ∙ it.found in
-        inr (inl (
-          owns,
-          record {
-            writer = e;
-            store = x;
-            acts = acts;
-            into = into;
-            binding = it.binding;
-            live = each_is_live granted system t e it.row it.binding listed;
-            its = it.its;
-            writable = it.writable;
-            has = has;
-          },
-        ))
+        let through = store_lives granted system t (moment system t k) (fine_at k) alike e x page acts into in
+        inr (inl (owns, record { writer = e; store = x; acts = acts; into = into; through = through; has = has }))
     by_fate k page owner alike (Taken words does free zeros) = inr (inr (record { words = words; does = does; free = free; zeros = zeros }))
 
     by_fates : (k page owner : ℕ) (v : World) → moment system t (suc k) ≡ v → PhaseFates before (moment system t k) v → IsOwnedAt system t (suc k) page owner → Becomes k page owner
@@ -120,10 +104,7 @@ module _ (granted : GrantedMay) where
     by_phase k page owner (Some phase) is owns =
         let m = moment system t k in
         by_fates k page owner (after m (phase m)) (next_moment system t k ∙ ap (once_more m) is)
-        (phase_fates (happens_in system.schedule before) before before k phase is (unchanged_alike before) (fine_at k)) owns
-      where
-        unchanged_alike : (w : World) → IsAlike w w
-        unchanged_alike w = record { solos = λ i. record { binds = refl; seen = refl; life = refl }; pages = refl; binds = refl; count = refl; slots = refl }
+        (phase_fates (happens_in system.schedule before) before before k phase is (same_alike before) (fine_at k)) owns
 
     pub becomes : (k page owner : ℕ) → IsOwnedAt system t (suc k) page owner → Becomes k page owner
     becomes k page owner = by_phase k page owner (slice_get (phases_after (happens_in system.schedule before)) k) refl

@@ -12,5 +12,6 @@ mod Timing
 mod Agreeing
 mod Live
 mod Writing
+mod Leaving
 mod Guaranteed
 mod Allocated

@@ -31,6 +31,9 @@ pub record IsAlike (w v : World) : Type 0 where
 pub rested_then : (s t u : Solo) → IsRested s t → IsRested t u → IsRested s u
 rested_then s t u first next = record { binds = next.binds ∙ first.binds; seen = next.seen ∙ first.seen; life = next.life ∙ first.life }
 
+pub same_alike : (w : World) → IsAlike w w
+same_alike w = record { solos = λ i. rests_same (w.solos i); pages = refl; binds = refl; count = refl; slots = refl }
+
 pub alike_then : (w v u : World) → IsAlike w v → IsAlike v u → IsAlike w u
 alike_then w v u first next = record {
   solos = λ i. rested_then (w.solos i) (v.solos i) (u.solos i) (first.solos i) (next.solos i);

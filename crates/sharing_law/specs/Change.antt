@@ -4,7 +4,6 @@ use Rattle.frame_store.specs.Pages.{with_bytes, zero_page}
 use Rattle.page_book.specs.declared.row.Capabilities.{Capabilities}
 use Rattle.page_book.specs.declared.row.PageRow.TheVariants.{Free}
 use Rattle.page_book.specs.Row.{is_owned_by}
-use Rattle.bind_book.specs.declared.binding.Binding.{Binding}
 use Rattle.env_frames.specs.Context.{context_number, end_area, end_bytes, exception_area, exception_bytes, start_area, start_bytes}
 use Rattle.env_frames.specs.Transfer.{entry_area, entry_bytes}
 use Rattle.world_model.specs.declared.deed.Deed.TheVariants.{Allocates}
@@ -15,7 +14,7 @@ use Rattle.world_model.specs.PageCalls.{page_bytes}
 use Rattle.world_model.specs.Item.{Item, Boot, Step, Start, End, Transfer, Killed, Answer, Gained, Lost, Left, absorb}
 use Rattle.run_model.specs.Acting.{Acts, Does}
 use Rattle.run_model.specs.Run.{System, given_at, moment, world_after}
-use Rattle.sharing_law.specs.Right.{IsLive, row_after}
+use Rattle.sharing_law.specs.Right.{HasLiveBinding, row_after}
 
 -- the bytes of a guaranteed page of an environment
 abbrev pub bytes_at : Solo → ℕ → List ℕ
@@ -87,10 +86,7 @@ pub record IsStored (system : System) (t k page : ℕ) : Type 0 where
   pub store : Store
   pub acts : Acts (moment system t k) writer (Stores store)
   pub into : store.key ≡ Physical page
-  pub binding : Binding
-  pub live : IsLive system t writer binding
-  pub its : binding.page ≡ page
-  pub writable : binding.writable ≡ true
+  pub through : HasLiveBinding system t writer page
   pub has : page_bytes (moment system t (suc k)) page ≡ with_bytes (page_bytes (moment system t k) page) store.offset store.bytes
 
 -- In a phase of a tick the environment allocates the page, which was free before and holds zeros after.

@@ -1,5 +1,6 @@
 -- By what right an environment has a binding.
-use Rattle.std.specs.Prelude.{◌≡◌, ◌<◌, ◌≤◌, ℕ, true, Some, ◌⊎◌}
+use Rattle.std.specs.Prelude.{◌≡◌, ◌≢◌, ◌<◌, ◌≤◌, ℕ, true, Some, ◌⊎◌}
+use Rattle.std.specs.List.{All}
 use Rattle.page_book.specs.declared.row.Capabilities.{Capabilities}
 use Rattle.page_book.specs.declared.row.PageRow.{PageRow}
 use Rattle.page_book.specs.declared.row.PageRow.TheVariants.{Owned}
@@ -8,7 +9,8 @@ use Rattle.bind_book.specs.declared.binding.Binding.{Binding}
 use Rattle.bind_book.specs.Stripe.{row_of}
 use Rattle.world_model.specs.declared.deed.Deed.TheVariants.{Binds}
 use Rattle.run_model.specs.Acting.{Does}
-use Rattle.run_model.specs.Run.{System, at_step, world_after}
+use Rattle.world_model.specs.Item.{Item, Left}
+use Rattle.run_model.specs.Run.{System, at_step, given_at, world_after}
 
 -- whose a page is after so many ticks
 abbrev pub row_after : System → ℕ → ℕ → PageRow
@@ -38,3 +40,18 @@ pub record IsLive (system : System) (t e : ℕ) (b : Binding) : Type 0 where
 -- every binding that the book lists is live
 abbrev pub EachIsLive : Type 0
 EachIsLive = (system : System) (t e row : ℕ) (b : Binding) → (world_after system t).book.binds e row ≡ Some b → IsLive system t e b
+
+-- an environment has bound a page, and may store to it by a live binding
+pub record HasLiveBinding (system : System) (t e page : ℕ) : Type 0 where
+  pub binding : Binding
+  pub live : IsLive system t e binding
+  pub its : binding.page ≡ page
+  pub writable : binding.writable ≡ true
+
+-- Bytes that are left to an environment in a tick are another's that has such a binding of the page.
+abbrev pub LeftIsLive : System → ℕ → ℕ → Item → Type 0
+LeftIsLive system t e (Left page offset bytes) = (writer : ℕ) × (e ≢ writer) × HasLiveBinding system t writer page
+LeftIsLive system t e item = Unit {0}
+
+abbrev pub EachLeftIsLive : Type 0
+EachLeftIsLive = (system : System) (t k e : ℕ) → All (LeftIsLive system t e) (given_at system t k e)

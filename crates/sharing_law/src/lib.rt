@@ -11,4 +11,4 @@ pub use change::{
     law_allocated_change, law_allocated_in_tick, law_guaranteed_change, law_guaranteed_in_tick,
     law_item_change, law_zeros, law_zeros_in_tick,
 };
-pub use right::law_live;
+pub use right::{law_left, law_live};

@@ -1,7 +1,8 @@
 //! The right to a binding.
-ghost use Rattle.sharing_law.specs.Right.{EachIsLive};
+ghost use Rattle.sharing_law.specs.Right.{EachIsLive, EachLeftIsLive};
 
 use call_verdicts::law_granted;
+use run_model::law_licence;
 
 /// Every binding that the book lists is live: its environment bound it, and owned the page ever since or presented a
 /// word that has given the right ever since.
@@ -9,4 +10,13 @@ pub fn law_live()
     ensures { EachIsLive }
 {
     law_granted();
+}
+
+/// Bytes that are left to an environment in a phase of a tick are another's, which has a live writable binding of the
+/// page.
+pub fn law_left()
+    ensures { EachLeftIsLive }
+{
+    law_granted();
+    law_licence();
 }

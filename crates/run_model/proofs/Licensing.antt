@@ -1,0 +1,312 @@
+-- What each phase of a tick gives is licensed.
+use Rattle.std.proofs.Common.{◌≡◌, ◌≢◌, ◌+◌, ◌-◌, ℕ, zero, suc, List, [], ◌∷◌, ◌++◌, take, Bool, true, false, Option, Some, None, inl, inr, refl, sym, ap, subst, arith}
+use Rattle.std.specs.Prelude.{◌==◌, if◌then◌else◌, nat_lt, slice_get}
+use Rattle.std.specs.List.{All}
+use Rattle.std.proofs.lemmas.Bool.{eq-eqb, eqb-true, eqb-false, ltb-true}
+use Rattle.boot_image.specs.ImageValue.{ImageValue, ProgramValue}
+use Rattle.frame_store.specs.Pages.{zero_page}
+use Rattle.env_frames.specs.Transfer.{carried}
+use Rattle.kernel_journal.specs.declared.row.Row.TheVariants as row
+use Rattle.page_book.specs.declared.row.PageRow.{PageRow}
+use Rattle.page_book.specs.declared.row.PageRow.TheVariants.{Free, Guaranteed, Owned}
+use Rattle.page_book.specs.Row.{belongs_to, is_owned_by}
+use Rattle.bind_book.specs.Stripe.{is_bound}
+use Rattle.world_model.specs.declared.call.Call.{Call}
+use Rattle.world_model.specs.declared.deed.Deed.{Deed}
+use Rattle.world_model.specs.declared.deed.Deed.TheVariants.{Answers, Stops, Gives, Puts, Allocates, Frees, Recaps, Binds, Unbinds, Handles, Accepts, Transfers, TakesSlot, DropsSlot}
+use Rattle.world_model.specs.declared.slot.Hold.{Hold}
+use Rattle.world_model.specs.declared.slot.Phase.{Phase}
+use Rattle.world_model.specs.declared.slot.Phase.TheVariants as phase
+use Rattle.world_model.specs.declared.slot.Runner.{Runner}
+use Rattle.world_model.specs.declared.slot.Turn.{Turn}
+use Rattle.world_model.specs.declared.verdict.Verdict.{Verdict}
+use Rattle.world_model.specs.declared.verdict.Verdict.TheVariants.{Refuse, Grant}
+use Rattle.world_model.specs.Table.{set_at}
+use Rattle.world_model.specs.Book.{Book, excess_limit, first_turn, is_idle_book, lowered, owed, pays_first, running, sees, told_at, told_turn, whole_turn}
+use Rattle.world_model.specs.Death.{death_items, lost_with}
+use Rattle.world_model.specs.Event.{Occurrence}
+use Rattle.world_model.specs.Item.{Item, Step, Start, End, Transfer, Killed, Answer, Gained, Lost, deed_at}
+use Rattle.world_model.specs.May.{May}
+use Rattle.world_model.specs.PageCalls.{breaks, left_at, left_by, left_if, lost_if, page_bytes}
+use Rattle.world_model.specs.SlotCalls.{stop_row}
+use Rattle.world_model.specs.Solo.{Store, Key, Kept, Physical}
+use Rattle.world_model.specs.Step.{Act, Nothing, Stores, Calls, Raises, Dies}
+use Rattle.world_model.specs.Tick.{act_now, brings, count_when, goes_on, grace_of, judged, kill, owes_more, phases_after, run_out, step, step_when, take_turn, timer, turn, turn_when}
+use Rattle.world_model.specs.Verdict.{done, reply_of, reply_to, verdict}
+use Rattle.world_model.specs.World.{World, Reply, after, in_turn, no_items, only, run_phases, tells}
+use Rattle.call_verdicts.specs.Granted.{GrantedMay}
+use Rattle.run_model.specs.Acting.{Acts, Does}
+use Rattle.run_model.specs.Boot.{boot_items, record_items}
+use Rattle.run_model.specs.Licensed.{AtBoot, AtStep, AtTimer, AtTurn, Breaks, ByDeath, ByFree, ByRecap, FeedIsLicensed, GivenIsLicensed, IsOut, IsOverdue, Licensed, LicensedAt, LicensedIn}
+use Rattle.run_model.specs.Run.{System, feed, given_at, given_by, happens_in, items_in, moment, next_phases, world_after}
+use Rattle.run_model.proofs.NextTurn.{Found, holder_in, search_finds}
+use Rattle.run_model.proofs.Telling.{call_does, call_named, call_stands, deed_may}
+
+-- each of these items is so
+abbrev Each : (Item → Type 0) → List Item → Type 0
+Each P [] = Unit {0}
+Each P (item ∷ items) = P item × Each P items
+
+each_both : (P : Item → Type 0) (xs ys : List Item) → Each P xs → Each P ys → Each P (xs ++ ys)
+each_both P [] ys first next = next
+each_both P (x ∷ xs) ys (its, rest) next = (its, each_both P xs ys rest next)
+
+each_then : (P Q : Item → Type 0) → ((item : Item) → P item → Q item) → (xs : List Item) → Each P xs → Each Q xs
+each_then P Q more [] each = tt
+each_then P Q more (x ∷ xs) (its, rest) = (more x its, each_then P Q more xs rest)
+
+each_all : (P : Item → Type 0) (xs : List Item) → Each P xs → All P xs
+each_all P [] each k d below = absurd (omega arith)
+each_all P (x ∷ xs) (its, rest) zero d below = its
+each_all P (x ∷ xs) (its, rest) (suc k) d below = each_all P xs rest k d (omega arith)
+
+-- what one is given, and what the others are
+each_at : (P : ℕ → Item → Type 0) (n : ℕ) (xs : List Item) (f : ℕ → List Item) (i : ℕ) → Each (P n) xs → (i ≢ n → Each (P i) (f i)) → Each (P i) (set_at n xs f i)
+each_at P n xs f i its others = by_test (i == n) refl
+  where
+    by_test : (t : Bool) → (i == n) ≡ t → Each (P i) (if t then xs else f i)
+    by_test true same = subst (λ (m : ℕ). Each (P m) xs) (sym (eqb-true i n same)) its
+    by_test false other = others (eqb-false i n other)
+
+each_only : (P : ℕ → Item → Type 0) (n : ℕ) (xs : List Item) (i : ℕ) → Each (P n) xs → Each (P i) (only n xs i)
+each_only P n xs i its = each_at P n xs no_items i its (λ other. tt)
+
+-- the bindings of a page that are broken
+each_break : (P : Item → Type 0) (b : Book) (page i : ℕ) → (is_bound page (b.binds i) ≡ true → P (Lost page)) → Each P (breaks b page i)
+each_break P b page i its = by_test (is_bound page (b.binds i)) refl
+  where
+    by_test : (t : Bool) → is_bound page (b.binds i) ≡ t → Each P (lost_if t page)
+    by_test true bound = (its bound, tt)
+    by_test false bound = tt
+
+each_loss : (P : Item → Type 0) (b : Book) (gone i n : ℕ) → ((page : ℕ) → belongs_to gone (b.pages page) ≡ true → is_bound page (b.binds i) ≡ true → P (Lost page)) → Each P (lost_with b gone i n)
+each_loss P b gone i zero its = tt
+each_loss P b gone i (suc n) its = each_both P (lost_with b gone i n) (if belongs_to gone (b.pages n) then breaks b n i else []) (each_loss P b gone i n its) (by_test (belongs_to gone (b.pages n)) refl)
+  where
+    by_test : (t : Bool) → belongs_to gone (b.pages n) ≡ t → Each P (if t then breaks b n i else [])
+    by_test true owned = each_break P b n i (its n owned)
+    by_test false owned = tt
+
+each_death : (P : Item → Type 0) (b : Book) (gone i : ℕ) → (i ≢ gone → (page : ℕ) → belongs_to gone (b.pages page) ≡ true → is_bound page (b.binds i) ≡ true → P (Lost page)) → Each P (death_items b gone i)
+each_death P b gone i its = by_test (i == gone) refl
+  where
+    by_test : (t : Bool) → (i == gone) ≡ t → Each P (if t then [] else lost_with b gone i b.page_count)
+    by_test true own = tt
+    by_test false other = each_loss P b gone i b.page_count (its (eqb-false i gone other))
+
+-- The turn: who runs in it holds its slot, and owes nothing.
+abbrev IsFree : (ℕ → Option Hold) → (ℕ → ℕ) → Turn → Type 0
+IsFree slots excess t = (holder_in (slots t.slot) ≡ Some t.env) × (excess t.env ≡ 0)
+
+module _ (slots : ℕ → Option Hold) (count : ℕ) where
+  found_free : (n cursor : ℕ) (excess : ℕ → ℕ) (t : Turn) → ((c : ℕ) (x : ℕ → ℕ) → (told_turn slots count n c x).runs ≡ Some t → IsFree slots (told_turn slots count n c x).excess t)
+      → (o : Option Turn) → Found slots count cursor count o → (told_at (told_turn slots count n) cursor excess o).runs ≡ Some t → IsFree slots (told_at (told_turn slots count n) cursor excess o).excess t
+  found_free n cursor excess t further None found is = cc
+  found_free n cursor excess t further (Some x) found is = by_test (excess x.env == 0) refl is
+    where
+      by_test : (free : Bool) → (excess x.env == 0) ≡ free
+          → (if free then record { pays = []; runs = Some x; excess = excess; cursor = x.slot } else pays_first x (told_turn slots count n x.slot (lowered x.env excess))).runs ≡ Some t
+          → IsFree slots (if free then record { pays = []; runs = Some x; excess = excess; cursor = x.slot } else pays_first x (told_turn slots count n x.slot (lowered x.env excess))).excess t
+      by_test true free is = let same : x ≡ t = cc in subst (λ (y : Turn). IsFree slots excess y) same (found.held, eqb-true (excess x.env) 0 free)
+      by_test false owes is = further x.slot (lowered x.env excess) is
+
+  told_free : (n cursor : ℕ) (excess : ℕ → ℕ) (t : Turn) → (told_turn slots count n cursor excess).runs ≡ Some t → IsFree slots (told_turn slots count n cursor excess).excess t
+  told_free zero cursor excess t is = cc
+  told_free (suc n) cursor excess t is =
+      found_free n cursor excess t (λ c x runs. told_free n c x t runs) (first_turn slots count cursor count) (search_finds slots count cursor count) is
+
+turn_licensed : (w : World) (i : ℕ) → Each (AtTurn w i) ((turn w).items i)
+turn_licensed w i = by_runner w.book.runner refl
+  where
+    by_turn : w.book.runner ≡ None → (o : Option Turn) → (whole_turn w.book).runs ≡ o → Each (AtTurn w i) ((take_turn w (whole_turn w.book) o).items i)
+    by_turn nobody None runs = tt
+    by_turn nobody (Some t) runs =
+        let b = w.book in
+        let is = told_free b.slots b.slot_count (suc (owed b.excess b.slots b.slot_count)) b.cursor b.excess t runs in
+        each_only (AtTurn w) t.env (Start ∷ []) i (record { nobody = nobody; turn = t; runs = runs; its = refl; holds = is.0; free = is.1 }, tt)
+
+    by_runner : (o : Option Runner) → w.book.runner ≡ o → Each (AtTurn w i) ((turn_when w o).items i)
+    by_runner None nobody = by_turn nobody (whole_turn w.book).runs refl
+    by_runner (Some r) runs = tt
+
+-- The step of a runner.
+owned_belongs : (e : ℕ) (row : PageRow) → is_owned_by e row ≡ true → belongs_to e row ≡ true
+owned_belongs e Free owned = cc
+owned_belongs e (Guaranteed owner) owned = cc
+owned_belongs e (Owned owner words) owned = owned
+
+module _ (w : World) (e : ℕ) where
+  -- what others lose of a page of the runner's
+  broken : (page : ℕ) → belongs_to e (w.book.pages page) ≡ true → Breaks w e page → (i : ℕ) → i ≢ e → Each (AtStep w i) (breaks w.book page i)
+  broken page owned why i other = each_break (AtStep w i) w.book page i (λ bound. inr (record { owner = e; has = record { another = other; owned = owned; bound = bound }; breaks = why }))
+
+  deed_licensed : (d : Deed) → Does w e d → May w e d → (i : ℕ) → Each (AtStep w i) ((done w e d).items i)
+  deed_licensed Answers does may i = tt
+  deed_licensed Stops does may i = tt
+  deed_licensed (Gives target) does may i = each_only (AtStep w) target (Start ∷ []) i (record { giver = e; does = does; may = may }, tt)
+  deed_licensed (Puts address size) does may i = tt
+  deed_licensed (Allocates page words) does may i =
+      each_only (AtStep w) e (Gained page true zero_page ∷ []) i (inl (record { words = words; does = does; may = may; mode = refl; zeros = refl }), tt)
+  deed_licensed (Frees page) does may i =
+      each_at (AtStep w) e (Lost page ∷ []) (breaks w.book page) i (inl (record { does = does; may = may }), tt) (broken page (owned_belongs e (w.book.pages page) may.owned) (ByFree does) i)
+  deed_licensed (Recaps page words) does may i =
+      each_at (AtStep w) e [] (breaks w.book page) i tt (broken page (owned_belongs e (w.book.pages page) may.owned) (ByRecap words does) i)
+  deed_licensed (Binds b word) does may i =
+      each_only (AtStep w) e (Gained b.page b.writable (page_bytes w b.page) ∷ []) i
+      (inr (record { binding = b; word = word; does = does; may = may; its = refl; mode = refl; same = refl }), tt)
+  deed_licensed (Unbinds vpn) does may i = tt
+  deed_licensed (Handles kind address) does may i = tt
+  deed_licensed (Accepts mask) does may i = tt
+  deed_licensed (Transfers target kind) does may i =
+      each_only (AtStep w) target (Transfer e kind (carried (w.solos e).cpu) ∷ []) i (record { does = does; may = may; its = refl }, tt)
+  deed_licensed (TakesSlot slot) does may i = tt
+  deed_licensed (DropsSlot slot) does may i = tt
+
+  module _ (granted : GrantedMay) where
+    call_licensed : (c : Option Call) → Acts w e (Calls c) → (i : ℕ) → Each (AtStep w i) ((reply_to w e c).items i)
+    call_licensed c acts i = by_verdict (verdict w e c) refl
+      where
+        answered : (v : Verdict) → verdict w e c ≡ v → Each (AtStep w i) (only e (Answer v ∷ []) i)
+        answered v is = each_only (AtStep w) e (Answer v ∷ []) i (record { call = c; acts = acts; its = is }, tt)
+
+        by_verdict : (v : Verdict) → verdict w e c ≡ v → Each (AtStep w i) ((reply_of w e v).items i)
+        by_verdict (Refuse code value) is = answered (Refuse code value) is
+        by_verdict (Grant value) is =
+            let d = deed_at (w.solos e) value in
+            each_both (AtStep w i) (only e (Answer (Grant value) ∷ []) i) ((done w e d).items i) (answered (Grant value) is)
+            (deed_licensed d (call_does w e c acts value is) (deed_may granted w e c (call_named w e c acts.comes) value is) i)
+
+    store_licensed : (x : Store) → Acts w e (Stores x) → (i : ℕ) → Each (AtStep w i) (left_by w.book e x i)
+    store_licensed x acts i = by_key x.key refl
+      where
+        by_sight : (page : ℕ) → x.key ≡ Physical page → i ≢ e → (t : Bool) → sees w.book i page ≡ t → Each (AtStep w i) (left_if t page x)
+        by_sight page into other true seen = (record { writer = e; another = other; store = x; acts = acts; into = into; at = refl; its = refl; seen = seen }, tt)
+        by_sight page into other false seen = tt
+
+        by_env : (page : ℕ) → x.key ≡ Physical page → (t : Bool) → (i == e) ≡ t → Each (AtStep w i) (if t then [] else left_if (sees w.book i page) page x)
+        by_env page into true own = tt
+        by_env page into false other = by_sight page into (eqb-false i e other) (sees w.book i page) refl
+
+        by_key : (key : Key) → x.key ≡ key → Each (AtStep w i) (left_at w.book e x key i)
+        by_key (Kept vpn) into = tt
+        by_key (Physical page) into = by_env page into (i == e) refl
+
+    act_licensed : (act : Act) → Acts w e act → (i : ℕ) → Each (AtStep w i) ((brings e act (after w (tells e Step w))).items i)
+    act_licensed Nothing acts i = tt
+    act_licensed (Stores x) acts i = store_licensed x acts i
+    act_licensed (Calls c) acts i = subst (λ (v : World). Each (AtStep w i) ((brings e (Calls c) v).items i)) (sym (call_stands w e c acts.comes)) (call_licensed c acts i)
+    act_licensed (Raises exc) acts i = tt
+    act_licensed (Dies cause) acts i =
+        each_death (AtStep w i) w.book e i (λ other page owned bound. inr (record { owner = e; has = record { another = other; owned = owned; bound = bound }; breaks = ByDeath cause acts }))
+
+step_licensed : GrantedMay → (w : World) (i : ℕ) → Each (AtStep w i) ((step w).items i)
+step_licensed granted w i = by_runner w.book.runner refl
+  where
+    by_runner : (o : Option Runner) → w.book.runner ≡ o → Each (AtStep w i) ((step_when w o).items i)
+    by_runner None runs = tt
+    by_runner (Some r) runs =
+        let e = r.env in
+        let act = act_now w e in
+        let items = (brings e act (after w (tells e Step w))).items i in
+        each_both (AtStep w i) (only e (Step ∷ []) i) (items ++ []) (each_only (AtStep w) e (Step ∷ []) i (ap running runs, tt))
+        (each_both (AtStep w i) items [] (act_licensed w e granted act (record { runs = ap running runs; comes = refl }) i) tt)
+
+-- The timer.
+module _ (w : World) (r : Runner) (runs : w.book.runner ≡ Some r) (last : r.left - 1 ≡ 0) (i : ℕ) where
+  abbrev e : ℕ
+  e = r.env
+
+  out : (p : Phase) → r.phase ≡ p → IsOut w e p
+  out p is = record { runner = r; runs = runs; its = refl; so = is; last = last }
+
+  end_licensed : r.phase ≡ phase.Own → (none : Bool) → ((w.solos e).handlers.end == 0) ≡ none
+      → (let reply : Reply = (if none then record { book = record w.book { runner = None }; items = no_items; rows = stop_row w.book e ∷ [] }
+      else record { book = record w.book { runner = Some (grace_of w e) }; items = only e (End ∷ []); rows = row.End w.book.time w.book.cursor e ∷ [] }) in Each (AtTimer w i) (reply.items i))
+  end_licensed own true is = tt
+  end_licensed own false is = each_only (AtTimer w) e (End ∷ []) i (record { out = out phase.Own own; handles = eqb-false (w.solos e).handlers.end 0 is }, tt)
+
+  -- the world once its excess has risen
+  abbrev owing : World
+  owing = after w (owes_more e w)
+
+  risen : owing.book.excess e ≡ w.book.excess e + 1
+  risen = ap (λ (own : Bool). if own then w.book.excess e + 1 else w.book.excess e) (eq-eqb e e refl)
+
+  kill_licensed : IsOverdue w e → Each (AtTimer w i) ((kill e owing).items i)
+  kill_licensed overdue =
+      let lost = death_items (after owing (tells e Killed owing)).book e i in
+      each_both (AtTimer w i) (only e (Killed ∷ []) i) (lost ++ []) (each_only (AtTimer w) e (Killed ∷ []) i (overdue, tt))
+      (each_both (AtTimer w i) lost []
+      (each_death (AtTimer w i) (after owing (tells e Killed owing)).book e i (λ other page owned bound. record { owner = e; has = record { another = other; owned = owned; bound = bound }; overdue = overdue })) tt)
+
+  grace_licensed : r.phase ≡ phase.Grace → (over : Bool) → nat_lt excess_limit (owing.book.excess e) ≡ over
+      → (let reply : Reply = (if over then kill e owing else goes_on (grace_of owing e) owing) in Each (AtTimer w i) (reply.items i))
+  grace_licensed grace true is = kill_licensed (record { out = out phase.Grace grace; owes = omega (arith, risen, ltb-true excess_limit (owing.book.excess e) is) })
+  grace_licensed grace false is = tt
+
+  out_licensed : (p : Phase) → r.phase ≡ p → Each (AtTimer w i) ((run_out e p w).items i)
+  out_licensed phase.Own own = end_licensed own ((w.solos e).handlers.end == 0) refl
+  out_licensed phase.Grace grace = each_both (AtTimer w i) ((judged e owing).items i) [] (grace_licensed grace (nat_lt excess_limit (owing.book.excess e)) refl) tt
+
+timer_licensed : (w : World) (i : ℕ) → Each (AtTimer w i) ((timer w).items i)
+timer_licensed w i = each_both (AtTimer w i) ((count_when w.book.runner w).items i) [] (by_runner w.book.runner refl) tt
+  where
+    by_left : (r : Runner) → w.book.runner ≡ Some r → (t : Bool) → (r.left - 1 == 0) ≡ t
+        → (let reply : Reply = (if t then run_out r.env r.phase w else goes_on (record r { left = r.left - 1 }) w) in Each (AtTimer w i) (reply.items i))
+    by_left r runs true is = out_licensed w r runs (eqb-true (r.left - 1) 0 is) i r.phase refl
+    by_left r runs false is = tt
+
+    by_runner : (o : Option Runner) → w.book.runner ≡ o → Each (AtTimer w i) ((count_when o w).items i)
+    by_runner None runs = tt
+    by_runner (Some r) runs = by_left r runs (r.left - 1 == 0) refl
+
+-- Phase by phase
+module _ (granted : GrantedMay) where
+  phase_licensed : (happens : List Occurrence) (k : ℕ) (m : World) (e : ℕ) → Each (LicensedIn happens k m e) (given_by m (slice_get (phases_after happens) k) e)
+  phase_licensed [] zero m e = turn_licensed m e
+  phase_licensed [] (suc zero) m e = step_licensed granted m e
+  phase_licensed [] (suc (suc zero)) m e = timer_licensed m e
+  phase_licensed [] (suc (suc (suc k))) m e = tt
+  phase_licensed (what ∷ happens) zero m e = tt
+  phase_licensed (what ∷ happens) (suc k) m e = phase_licensed happens k m e
+
+  pub given_is_licensed : GivenIsLicensed
+  given_is_licensed system t k e = each_all (LicensedAt system t k e) (given_at system t k e) (phase_licensed (happens_in system.schedule (world_after system t)) k (moment system t k) e)
+
+  -- and so in a tick
+  in_turn_each : (P : Item → Type 0) (phases : List (World → Reply)) (w : World) (e : ℕ) → ((k : ℕ) → Each P (given_by (run_phases w (take k phases)) (slice_get phases k) e)) → Each P ((in_turn phases w).items e)
+  in_turn_each P [] w e each = tt
+  in_turn_each P (phase ∷ phases) w e each =
+      let v = after w (phase w) in
+      each_both P ((phase w).items e) ((in_turn phases v).items e) (each 0) (in_turn_each P phases v e (λ k. each (suc k)))
+
+  tick_licensed : (system : System) (t e : ℕ) → Each (λ item. (k : ℕ) × LicensedAt system t k e item) (items_in system t e)
+  tick_licensed system t e = by_idle (is_idle_book (world_after system t).book)
+    where
+      by_idle : (idle : Bool) → Each (λ item. (k : ℕ) × LicensedAt system t k e item) (if idle then [] else (in_turn (next_phases system.schedule (world_after system t)) (world_after system t)).items e)
+      by_idle true = tt
+      by_idle false =
+          in_turn_each (λ item. (k : ℕ) × LicensedAt system t k e item) (next_phases system.schedule (world_after system t)) (world_after system t) e
+          (λ k. each_then (LicensedAt system t k e) (λ item. (n : ℕ) × LicensedAt system t n e item) (λ item its. (k, its)) (given_at system t k e) (phase_licensed (happens_in system.schedule (world_after system t)) k (moment system t k) e))
+
+  -- in a feed
+  boot_licensed : (image : ImageValue) (e : ℕ) → Each (AtBoot image e) (boot_items image e)
+  boot_licensed image e = by_program (slice_get image.programs e) refl
+    where
+      by_program : (o : Option ProgramValue) → slice_get image.programs e ≡ o → Each (AtBoot image e) (record_items e o)
+      by_program None there = tt
+      by_program (Some p) there = (record { program = p; there = there; number_is = refl; name_is = refl; entry_is = refl; accept_is = refl; kept_is = refl }, tt)
+
+  feed_licensed : (system : System) (t e : ℕ) → Each (Licensed system t e) (feed system e t)
+  feed_licensed system zero e = each_then (AtBoot system.image e) (Licensed system zero e) (λ item its. inl its) (boot_items system.image e) (boot_licensed system.image e)
+  feed_licensed system (suc t) e =
+      each_both (Licensed system (suc t) e) (feed system e t) (items_in system t e)
+      (each_then (Licensed system t e) (Licensed system (suc t) e) (λ item its. later item its) (feed system e t) (feed_licensed system t e))
+      (each_then (λ item. (k : ℕ) × LicensedAt system t k e item) (Licensed system (suc t) e) (λ item its. inr (t, omega arith, its)) (items_in system t e) (tick_licensed system t e))
+    where
+      later : (item : Item) → Licensed system t e item → Licensed system (suc t) e item
+      later item (inl boot) = inl boot
+      later item (inr its) = inr (its.0, omega (arith, its.1), its.2)
+
+  pub feed_is_licensed : FeedIsLicensed
+  feed_is_licensed system t e = each_all (Licensed system t e) (feed system e t) (feed_licensed system t e)

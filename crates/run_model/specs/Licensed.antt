@@ -1,0 +1,198 @@
+-- By what licence an environment is given an item: at boot, and for each phase of a tick, item by item, of the world before the phase.
+use Rattle.std.specs.Prelude.{◌≡◌, ◌≢◌, ◌<◌, ◌+◌, ◌-◌, ℕ, zero, suc, Bool, true, false, List, [], ◌∷◌, Option, Some, None, ◌⊎◌, slice_get}
+use Rattle.std.specs.List.{All}
+use Rattle.std.specs.Option.{option_map}
+use Rattle.boot_image.specs.ImageValue.{ImageValue, ProgramValue}
+use Rattle.env_frames.specs.declared.transfer.TransferKind.{TransferKind}
+use Rattle.env_frames.specs.Transfer.{Registers, carried}
+use Rattle.frame_store.specs.Pages.{zero_page}
+use Rattle.page_book.specs.declared.row.Capabilities.{Capabilities}
+use Rattle.page_book.specs.Row.{belongs_to}
+use Rattle.bind_book.specs.declared.binding.Binding.{Binding}
+use Rattle.bind_book.specs.Stripe.{is_bound}
+use Rattle.world_model.specs.declared.call.Call.{Call}
+use Rattle.world_model.specs.declared.deed.Deed.TheVariants.{Allocates, Binds, Frees, Gives, Recaps, Transfers}
+use Rattle.world_model.specs.declared.life.Cause.{Cause}
+use Rattle.world_model.specs.declared.slot.Hold.{Hold}
+use Rattle.world_model.specs.declared.slot.Phase.{Phase}
+use Rattle.world_model.specs.declared.slot.Phase.TheVariants as phase
+use Rattle.world_model.specs.declared.slot.Runner.{Runner}
+use Rattle.world_model.specs.declared.slot.Turn.{Turn}
+use Rattle.world_model.specs.declared.verdict.Verdict.{Verdict}
+use Rattle.world_model.specs.Book.{excess_limit, running, sees, whole_turn}
+use Rattle.world_model.specs.Event.{Occurrence}
+use Rattle.world_model.specs.Item.{Item, Boot, Step, Start, End, Transfer, Killed, Answer, Gained, Lost, Left}
+use Rattle.world_model.specs.May.{MayAllocate, MayBind, MayChange, MayEnter, MayReach}
+use Rattle.world_model.specs.Page.{KeptPage}
+use Rattle.world_model.specs.PageCalls.{page_bytes}
+use Rattle.world_model.specs.Solo.{Store, Physical}
+use Rattle.world_model.specs.Step.{Stores, Calls, Dies}
+use Rattle.world_model.specs.Verdict.{verdict}
+use Rattle.world_model.specs.World.{World}
+use Rattle.run_model.specs.Acting.{Acts, Does}
+use Rattle.run_model.specs.Boot.{kept_of}
+use Rattle.run_model.specs.Run.{System, feed, given_at, happens_in, moment, world_after}
+
+-- At boot: it is the environment's record in the image.
+pub record IsRecord (image : ImageValue) (e number : ℕ) (name : List ℕ) (entry accept : ℕ) (kept : List KeptPage) : Type 0 where
+  pub program : ProgramValue
+  pub there : slice_get image.programs e ≡ Some program
+  pub number_is : number ≡ e
+  pub name_is : name ≡ program.name
+  pub entry_is : entry ≡ program.body.entry
+  pub accept_is : accept ≡ program.accept
+  pub kept_is : kept ≡ kept_of program
+
+abbrev pub AtBoot : ImageValue → ℕ → Item → Type 0
+AtBoot image e (Boot number name entry accept kept) = IsRecord image e number name entry accept kept
+AtBoot image e item = ⊥
+
+-- The turn is the environment's: nobody runs; once those who owe have forfeited theirs, the next held slot is one that it holds; and it owes nothing.
+pub record HasTurn (w : World) (e : ℕ) : Type 0 where
+  pub nobody : w.book.runner ≡ None
+  pub turn : Turn
+  pub runs : (whole_turn w.book).runs ≡ Some turn
+  pub its : turn.env ≡ e
+  pub holds : option_map (λ (h : Hold). h.holder) (w.book.slots turn.slot) ≡ Some e
+  pub free : (whole_turn w.book).excess e ≡ 0
+
+abbrev pub AtTurn : World → ℕ → Item → Type 0
+AtTurn w e Start = HasTurn w e
+AtTurn w e item = ⊥
+
+-- The runner donates its slice to the environment, which is another, lives, and accepts it.
+pub record IsDonated (w : World) (e : ℕ) : Type 0 where
+  pub giver : ℕ
+  pub does : Does w giver (Gives e)
+  pub may : MayReach w giver e false
+
+-- The runner transfers to it: this one, by such a transfer, with these registers, which are its own at the call.
+pub record IsEntered (w : World) (e from : ℕ) (kind : TransferKind) (registers : Registers) : Type 0 where
+  pub does : Does w from (Transfers e kind)
+  pub may : MayEnter w from e kind
+  pub its : registers ≡ carried (w.solos from).cpu
+
+-- The environment's own step is a call, with this verdict.
+pub record IsAnswered (w : World) (e : ℕ) (answer : Verdict) : Type 0 where
+  pub call : Option Call
+  pub acts : Acts w e (Calls call)
+  pub its : verdict w e call ≡ answer
+
+-- It allocates the page, which is free; it may store to it, and finds zeros.
+pub record IsAllocating (w : World) (e page : ℕ) (writable : Bool) (bytes : List ℕ) : Type 0 where
+  pub words : Capabilities
+  pub does : Does w e (Allocates page words)
+  pub may : MayAllocate w.book page
+  pub mode : writable ≡ true
+  pub zeros : bytes ≡ zero_page
+
+-- It binds the page, to which it has the right, in this mode, and finds the bytes that its owner sees.
+pub record IsBinding (w : World) (e page : ℕ) (writable : Bool) (bytes : List ℕ) : Type 0 where
+  pub binding : Binding
+  pub word : ℕ
+  pub does : Does w e (Binds binding word)
+  pub may : MayBind w e binding word
+  pub its : binding.page ≡ page
+  pub mode : binding.writable ≡ writable
+  pub same : bytes ≡ page_bytes w page
+
+-- It frees the page, which is its own.
+pub record IsFreeing (w : World) (e page : ℕ) : Type 0 where
+  pub does : Does w e (Frees page)
+  pub may : MayChange w.book e page
+
+-- Why the bindings of a page are broken in a step: its owner frees it, gives it other words, or dies.
+pub data Breaks (w : World) (owner page : ℕ) : Type 0 where
+  ByFree : Does w owner (Frees page) → Breaks w owner page
+  ByRecap : (words : Capabilities) → Does w owner (Recaps page words) → Breaks w owner page
+  ByDeath : (cause : Cause) → Acts w owner (Dies cause) → Breaks w owner page
+
+-- The environment has bound a page of another's.
+pub record HasBoundOf (w : World) (e owner page : ℕ) : Type 0 where
+  pub another : e ≢ owner
+  pub owned : belongs_to owner (w.book.pages page) ≡ true
+  pub bound : is_bound page (w.book.binds e) ≡ true
+
+pub record IsBroken (w : World) (e page : ℕ) : Type 0 where
+  pub owner : ℕ
+  pub has : HasBoundOf w e owner page
+  pub breaks : Breaks w owner page
+
+-- Another that runs stores these bytes there, in a page that the environment owns or has bound.
+pub record IsLeft (w : World) (e page offset : ℕ) (bytes : List ℕ) : Type 0 where
+  pub writer : ℕ
+  pub another : e ≢ writer
+  pub store : Store
+  pub acts : Acts w writer (Stores store)
+  pub into : store.key ≡ Physical page
+  pub at : store.offset ≡ offset
+  pub its : store.bytes ≡ bytes
+  pub seen : sees w.book e page ≡ true
+
+abbrev pub AtStep : World → ℕ → Item → Type 0
+AtStep w e Step = running w.book.runner ≡ Some e
+AtStep w e Start = IsDonated w e
+AtStep w e (Transfer from kind registers) = IsEntered w e from kind registers
+AtStep w e (Answer answer) = IsAnswered w e answer
+AtStep w e (Gained page writable bytes) = IsAllocating w e page writable bytes ⊎ IsBinding w e page writable bytes
+AtStep w e (Lost page) = IsFreeing w e page ⊎ IsBroken w e page
+AtStep w e (Left page offset bytes) = IsLeft w e page offset bytes
+AtStep w e item = ⊥
+
+-- The environment runs in its last tick, in this phase of its slice.
+pub record IsOut (w : World) (e : ℕ) (p : Phase) : Type 0 where
+  pub runner : Runner
+  pub runs : w.book.runner ≡ Some runner
+  pub its : runner.env ≡ e
+  pub so : runner.phase ≡ p
+  pub last : runner.left - 1 ≡ 0
+
+-- The slice of the environment ends, which it handles.
+pub record IsEnding (w : World) (e : ℕ) : Type 0 where
+  pub out : IsOut w e phase.Own
+  pub handles : (w.solos e).handlers.end ≢ 0
+
+-- It runs out of grace, and what it owes then is above the limit.
+pub record IsOverdue (w : World) (e : ℕ) : Type 0 where
+  pub out : IsOut w e phase.Grace
+  pub owes : excess_limit < w.book.excess e + 1
+
+-- It has bound a page of another's, which dies so.
+pub record IsBrokenByEnd (w : World) (e page : ℕ) : Type 0 where
+  pub owner : ℕ
+  pub has : HasBoundOf w e owner page
+  pub overdue : IsOverdue w owner
+
+abbrev pub AtTimer : World → ℕ → Item → Type 0
+AtTimer w e End = IsEnding w e
+AtTimer w e Killed = IsOverdue w e
+AtTimer w e (Lost page) = IsBrokenByEnd w e page
+AtTimer w e item = ⊥
+
+-- No kind of event is built, and so no event gives an item.
+abbrev pub AtEvent : Occurrence → World → ℕ → Item → Type 0
+AtEvent what w e item = ⊥
+
+-- The licence for an item in the phase of this number of a tick in which this happens.
+abbrev pub LicensedIn : List Occurrence → ℕ → World → ℕ → Item → Type 0
+LicensedIn [] zero w e item = AtTurn w e item
+LicensedIn [] (suc zero) w e item = AtStep w e item
+LicensedIn [] (suc (suc zero)) w e item = AtTimer w e item
+LicensedIn [] (suc (suc (suc k))) w e item = ⊥
+LicensedIn (what ∷ happens) zero w e item = AtEvent what w e item
+LicensedIn (what ∷ happens) (suc k) w e item = LicensedIn happens k w e item
+
+abbrev pub LicensedAt : System → ℕ → ℕ → ℕ → Item → Type 0
+LicensedAt system t k e item = LicensedIn (happens_in system.schedule (world_after system t)) k (moment system t k) e item
+
+-- Every item that an environment is given in a phase of a tick has its licence in the world of that phase.
+abbrev pub GivenIsLicensed : Type 0
+GivenIsLicensed = (system : System) (t k e : ℕ) → All (LicensedAt system t k e) (given_at system t k e)
+
+-- Licensed where it is given: at boot, or in a phase of a tick before this number of ticks
+abbrev pub Licensed : System → ℕ → ℕ → Item → Type 0
+Licensed system t e item = AtBoot system.image e item ⊎ ((s : ℕ) × (s < t) × ((k : ℕ) × LicensedAt system s k e item))
+
+-- Every item of every feed is.
+abbrev pub FeedIsLicensed : Type 0
+FeedIsLicensed = (system : System) (t e : ℕ) → All (Licensed system t e) (feed system e t)

@@ -1,0 +1,51 @@
+-- A store to a page that isn't guaranteed goes through a live binding.
+use Rattle.std.proofs.Common.{◌≡◌, ℕ, zero, suc, List, [], ◌∷◌, sym, ◌∙◌, take}
+use Rattle.world_model.specs.Event.{Occurrence, happen}
+use Rattle.world_model.specs.Item.{Item, Left}
+use Rattle.world_model.specs.Solo.{Store, Physical}
+use Rattle.world_model.specs.Step.{Stores}
+use Rattle.world_model.specs.Tick.{phases_after, turn}
+use Rattle.world_model.specs.World.{World, after, run_phases}
+use Rattle.call_verdicts.specs.Granted.{GrantedMay}
+use Rattle.run_model.specs.Acting.{Acts}
+use Rattle.run_model.specs.Licensed.{GivenIsLicensed, IsLeft, LicensedAt, LicensedIn}
+use Rattle.run_model.specs.Run.{System, happens_in, moment, world_after}
+use Rattle.sharing_law.specs.Right.{EachLeftIsLive, HasLiveBinding, LeftIsLive}
+use Rattle.sharing_law.proofs.Turning.{IsAlike, alike_then, same_alike, turn_alike, unchanged}
+use Rattle.sharing_law.proofs.Agreeing.{Fine, all_fine, moment_fine}
+use Rattle.sharing_law.proofs.Live.{each_is_live}
+use Rattle.sharing_law.proofs.Writing.{stored_through}
+
+-- a store in a world whose books are those before the tick
+pub store_lives : GrantedMay → (system : System) (t : ℕ) (m : World) → Fine m → IsAlike (world_after system t) m → (e : ℕ) (x : Store) (page : ℕ) → Acts m e (Stores x) → x.key ≡ Physical page → HasLiveBinding system t e page
+store_lives granted system t m fine alike e x page acts into =
+    let it = stored_through (m.solos e) x page into acts.comes in
+    let listed = (λ k. sym alike.binds k e it.row) ∙ sym ((fine.sound.agreed e).binds it.row) ∙ it.found in
+    record { binding = it.binding; live = each_is_live granted system t e it.row it.binding listed; its = it.its; writable = it.writable }
+
+-- What is left is left in the step, up to which the books are those before the tick.
+record IsLeftSo (base m : World) (e page offset : ℕ) (bytes : List ℕ) : Type 0 where
+  is : IsLeft m e page offset bytes
+  alike : IsAlike base m
+
+left_in_step : (happens : List Occurrence) (base w : World) (k : ℕ) → IsAlike base w
+    → (let m = run_phases w (take k (phases_after happens)) in (e page offset : ℕ) (bytes : List ℕ) → LicensedIn happens k m e (Left page offset bytes) → IsLeftSo base m e page offset bytes)
+left_in_step [] base w zero alike e page offset bytes its = absurd its
+left_in_step [] base w (suc zero) alike e page offset bytes its = record { is = its; alike = alike_then base w (after w (turn w)) alike (turn_alike w) }
+left_in_step [] base w (suc (suc zero)) alike e page offset bytes its = absurd its
+left_in_step [] base w (suc (suc (suc k))) alike e page offset bytes its = absurd its
+left_in_step (what ∷ happens) base w zero alike e page offset bytes its = absurd its
+left_in_step (what ∷ happens) base w (suc k) alike e page offset bytes its =
+    let v = after w (happen what w) in
+    left_in_step happens base v k (alike_then base w v alike (unchanged w)) e page offset bytes its
+
+licensed_lives : GrantedMay → (system : System) (t k e : ℕ) (item : Item) → LicensedAt system t k e item → LeftIsLive system t e item
+licensed_lives granted system t k e (Left page offset bytes) its =
+    let w = world_after system t in
+    let m = moment system t k in
+    let left = left_in_step (happens_in system.schedule w) w w k (same_alike w) e page offset bytes its in
+    (left.is.writer, left.is.another, store_lives granted system t m (moment_fine granted system t (all_fine granted system t) k) left.alike left.is.writer left.is.store page left.is.acts left.is.into)
+licensed_lives granted system t k e item its = tt
+
+pub each_left_is_live : GrantedMay → GivenIsLicensed → EachLeftIsLive
+each_left_is_live granted licensed system t k e n d below = licensed_lives granted system t k e _ (licensed system t k e n d below)
