@@ -98,7 +98,7 @@ module _ (s : Solo) (vpn : ℕ) where
   by_act (Raises exc) is cpu after =
       subst (λ (c : Cpu). StaysOrHas s (raise exc (record s { cpu = c })) vpn exception_area (exception_bytes exc s.cpu)) (sym (raise_cpu (step_alone s) exc is) ∙ after)
       (context_kept exception_area (exception_bytes exc s.cpu) s (raise exc (record s { cpu = s.cpu })) vpn refl)
-  by_act (Dies cause) is cpu after = inr tt
+  by_act (Dies cause) is cpu after = inr refl
 
   -- A start, where words are left only if it is handled.
   by_start : (none : Bool) → (s.handlers.start == 0) ≡ none
@@ -113,12 +113,12 @@ module _ (s : Solo) (vpn : ℕ) where
   stays_told item told = ap (λ ps. bytes_in (kept_at ps vpn)) (absorbed_kept s item told)
 
   by_item : (item : Item) → Stays (absorbed s item) ⊎ Changes s (absorbed s item) vpn item
-  by_item (Boot number name entry accept kept) = inr tt
+  by_item (Boot number name entry accept kept) = inr refl
   by_item Step = by_act (act_of s (step_alone s)) refl (cpu_after s.cpu (step_alone s)) refl
   by_item Start = by_start (s.handlers.start == 0) refl
   by_item End = context_kept end_area (end_bytes s.cpu) s (end_slice s) vpn refl
   by_item (Transfer from kind registers) = context_kept entry_area (entry_bytes from kind s.cpu) s (enter from kind registers s) vpn refl
-  by_item Killed = inr tt
+  by_item Killed = inr refl
   by_item (Answer verdict) = inl (stays_told (Answer verdict) tt)
   by_item (Gained page writable bytes) = inl (stays_told (Gained page writable bytes) tt)
   by_item (Lost page) = inl (stays_told (Lost page) tt)

@@ -7,6 +7,8 @@ use Rattle.page_book.specs.Row.{is_owned_by}
 use Rattle.env_frames.specs.Context.{context_number, end_area, end_bytes, exception_area, exception_bytes, start_area, start_bytes}
 use Rattle.env_frames.specs.Transfer.{entry_area, entry_bytes}
 use Rattle.world_model.specs.declared.deed.Deed.TheVariants.{Allocates}
+use Rattle.world_model.specs.declared.life.Cause.TheVariants as cause
+use Rattle.world_model.specs.declared.life.Life.TheVariants.{Dead}
 use Rattle.world_model.specs.Page.{KeptPage}
 use Rattle.world_model.specs.Solo.{Solo, Store, Kept, Physical, bytes_in, kept_at}
 use Rattle.world_model.specs.Step.{Act, Nothing, Stores, Calls, Raises, Dies, act_of, step_alone}
@@ -39,16 +41,16 @@ StepChanges s t vpn Nothing = ⊥
 StepChanges s t vpn (Stores store) = HasStore s t vpn store
 StepChanges s t vpn (Calls call) = ⊥
 StepChanges s t vpn (Raises exc) = HasWords s t vpn exception_area (exception_bytes exc s.cpu)
-StepChanges s t vpn (Dies cause) = Unit {0}
+StepChanges s t vpn (Dies cause) = t.life ≡ Dead cause
 
 -- How an item does that makes s to t: of what comes from outside it is the kernel's words on its slice and on who enters it, and death, alone.
 abbrev pub Changes : Solo → Solo → ℕ → Item → Type 0
-Changes s t vpn (Boot number name entry accept kept) = Unit {0}
+Changes s t vpn (Boot number name entry accept kept) = t.kept ≡ kept
 Changes s t vpn Step = StepChanges s t vpn (act_of s (step_alone s))
 Changes s t vpn Start = (s.handlers.start ≢ 0) × HasWords s t vpn start_area (start_bytes s.cpu)
 Changes s t vpn End = HasWords s t vpn end_area (end_bytes s.cpu)
 Changes s t vpn (Transfer from kind registers) = HasWords s t vpn entry_area (entry_bytes from kind s.cpu)
-Changes s t vpn Killed = Unit {0}
+Changes s t vpn Killed = t.life ≡ Dead cause.Excess
 Changes s t vpn (Answer verdict) = ⊥
 Changes s t vpn (Gained page writable bytes) = ⊥
 Changes s t vpn (Lost page) = ⊥
