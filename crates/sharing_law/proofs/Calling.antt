@@ -34,7 +34,7 @@ use Rattle.page_sight.proofs.Sights.{allocator_sees, binder_sees, freer_loses, o
 use Rattle.page_sight.proofs.Stripes.{bound_nowhere, without_ends}
 use Rattle.page_sight.proofs.Tables.{set_here, set_else}
 use Rattle.sharing_law.specs.Agreement.{AreBoundAllocated, IsAllocated}
-use Rattle.sharing_law.proofs.Given.{IsHanded, absorbs, handed_rests, own_life}
+use Rattle.sharing_law.proofs.Given.{IsHanded, absorbs, handed_rests, own_leaves}
 use Rattle.sharing_law.proofs.Giving.{target_lives}
 use Rattle.sharing_law.proofs.Sound.{AreLive, HasNone, Sound}
 use Rattle.sharing_law.proofs.Brings.{Brings, Fate, Stays, Taken, GoesOn, as_before, silent, silent_but}
@@ -70,7 +70,7 @@ module _ (w : World) (e : ℕ) (sound : Sound w) (lives : (w.solos e).life ≡ L
   caller d = record (own_part d (w.solos e)) { cpu = cpu }
 
   caller_lives : (d : Deed) → (caller d).life ≡ Live
-  caller_lives d = own_life (w.solos e) d ∙ lives
+  caller_lives d = (own_leaves (w.solos e) d).life ∙ lives
 
   -- the book in what it sees
   abbrev SeesNow : ℕ → Book → (ℕ → List ℕ) → Solo → Type 0

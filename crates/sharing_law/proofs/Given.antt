@@ -104,71 +104,46 @@ end_rests s = either_rests (is_dead s.life) s (absorbed s End) (record { binds =
 pub enter_rests : (from : ℕ) (kind : TransferKind) (registers : Registers) (s : Solo) → IsRested s (absorb_all s (Transfer from kind registers ∷ []))
 enter_rests from kind registers s = either_rests (is_dead s.life) s (enter from kind registers s) (record { binds = refl; seen = refl; life = refl })
 
-module _ (s : Solo) where
-  unbound_kept : (t : Bool) (binds : ℕ → Option Binding) → (if t then with_binds binds s else s).kept ≡ s.kept
-  unbound_kept true binds = refl
-  unbound_kept false binds = refl
+-- an environment with the guaranteed pages and the life that it had
+pub record Leaves (s t : Solo) : Type 0 where
+  pub kept : t.kept ≡ s.kept
+  pub life : t.life ≡ s.life
 
-  unbound_life : (t : Bool) (binds : ℕ → Option Binding) → (if t then with_binds binds s else s).life ≡ s.life
-  unbound_life true binds = refl
-  unbound_life false binds = refl
+unbound_leaves : (s : Solo) (t : Bool) (binds : ℕ → Option Binding) → Leaves s (if t then with_binds binds s else s)
+unbound_leaves s true binds = record { kept = refl; life = refl }
+unbound_leaves s false binds = record { kept = refl; life = refl }
 
-  own_kept : (d : Deed) → (own_part d s).kept ≡ s.kept
-  own_kept (Unbinds vpn) = unbound_kept (is_some (binding_at s.binds vpn)) (set_at (row_of vpn) None s.binds)
-  own_kept d = refl
+pub own_leaves : (s : Solo) (d : Deed) → Leaves s (own_part d s)
+own_leaves s (Unbinds vpn) = unbound_leaves s (is_some (binding_at s.binds vpn)) (set_at (row_of vpn) None s.binds)
+own_leaves s d = record { kept = refl; life = refl }
 
-  pub own_life : (d : Deed) → (own_part d s).life ≡ s.life
-  own_life (Unbinds vpn) = unbound_life (is_some (binding_at s.binds vpn)) (set_at (row_of vpn) None s.binds)
-  own_life d = refl
+answered_leaves : (s : Solo) (verdict : Verdict) → Leaves s (answered verdict s)
+answered_leaves s (Refuse code value) = record { kept = refl; life = refl }
+answered_leaves s (Grant value) = let own = own_leaves s (deed_at s value) in record { kept = own.kept; life = own.life }
 
-  answered_kept : (verdict : Verdict) → (answered verdict s).kept ≡ s.kept
-  answered_kept (Refuse code value) = refl
-  answered_kept (Grant value) = own_kept (deed_at s value)
-
-  answered_life : (verdict : Verdict) → (answered verdict s).life ≡ s.life
-  answered_life (Refuse code value) = refl
-  answered_life (Grant value) = own_life (deed_at s value)
-
-  pub absorbed_kept : (item : Item) → IsTold item → (absorbed s item).kept ≡ s.kept
-  absorbed_kept (Boot number name entry accept kept) told = absurd told
-  absorbed_kept Step told = absurd told
-  absorbed_kept Start told = absurd told
-  absorbed_kept End told = absurd told
-  absorbed_kept (Transfer from kind registers) told = absurd told
-  absorbed_kept Killed told = absurd told
-  absorbed_kept (Answer verdict) told = answered_kept verdict
-  absorbed_kept (Gained page writable bytes) told = refl
-  absorbed_kept (Lost page) told = refl
-  absorbed_kept (Left page offset bytes) told = kept_as_was s.kept page offset bytes
-
-  absorbed_life : (item : Item) → IsTold item → (absorbed s item).life ≡ s.life
-  absorbed_life (Boot number name entry accept kept) told = absurd told
-  absorbed_life Step told = absurd told
-  absorbed_life Start told = absurd told
-  absorbed_life End told = absurd told
-  absorbed_life (Transfer from kind registers) told = absurd told
-  absorbed_life Killed told = absurd told
-  absorbed_life (Answer verdict) told = answered_life verdict
-  absorbed_life (Gained page writable bytes) told = refl
-  absorbed_life (Lost page) told = refl
-  absorbed_life (Left page offset bytes) told = refl
+pub absorbed_leaves : (s : Solo) (item : Item) → IsTold item → Leaves s (absorbed s item)
+absorbed_leaves s (Boot number name entry accept kept) told = absurd told
+absorbed_leaves s Step told = absurd told
+absorbed_leaves s Start told = absurd told
+absorbed_leaves s End told = absurd told
+absorbed_leaves s (Transfer from kind registers) told = absurd told
+absorbed_leaves s Killed told = absurd told
+absorbed_leaves s (Answer verdict) told = answered_leaves s verdict
+absorbed_leaves s (Gained page writable bytes) told = record { kept = refl; life = refl }
+absorbed_leaves s (Lost page) told = record { kept = refl; life = refl }
+absorbed_leaves s (Left page offset bytes) told = record { kept = kept_as_was s.kept page offset bytes; life = refl }
 
 -- whether it lives or not
-either_kept : (gone : Bool) (s t : Solo) → t.kept ≡ s.kept → (if gone then s else t).kept ≡ s.kept
-either_kept true s t same = refl
-either_kept false s t same = same
+either_leaves : (gone : Bool) (s t : Solo) → Leaves s t → Leaves s (if gone then s else t)
+either_leaves true s t leaves = record { kept = refl; life = refl }
+either_leaves false s t leaves = leaves
 
-either_life : (gone : Bool) (s t : Solo) → t.life ≡ s.life → (if gone then s else t).life ≡ s.life
-either_life true s t same = refl
-either_life false s t same = same
-
-pub told_kept : (items : List Item) → AreTold items → (s : Solo) → (absorb_all s items).kept ≡ s.kept
-told_kept [] told s = refl
-told_kept (item ∷ items) (told, rest) s = told_kept items rest (absorb s item) ∙ either_kept (is_dead s.life) s (absorbed s item) (absorbed_kept s item told)
-
-pub told_life : (items : List Item) → AreTold items → (s : Solo) → (absorb_all s items).life ≡ s.life
-told_life [] told s = refl
-told_life (item ∷ items) (told, rest) s = told_life items rest (absorb s item) ∙ either_life (is_dead s.life) s (absorbed s item) (absorbed_life s item told)
+pub told_leaves : (items : List Item) → AreTold items → (s : Solo) → Leaves s (absorb_all s items)
+told_leaves [] told s = record { kept = refl; life = refl }
+told_leaves (item ∷ items) (told, rest) s =
+    let first = either_leaves (is_dead s.life) s (absorbed s item) (absorbed_leaves s item told) in
+    let next = told_leaves items rest (absorb s item) in
+    record { kept = next.kept ∙ first.kept; life = next.life ∙ first.life }
 
 pub told_both : (xs ys : List Item) → AreTold xs → AreTold ys → AreTold (xs ++ ys)
 told_both [] ys first next = next
@@ -260,7 +235,7 @@ handed_rests (Lost page) handed s = absurd handed
 handed_rests (Left page offset bytes) handed s = absurd handed
 
 pub gives_life : (e i : ℕ) (items : List Item) → Gives e i items → (s : Solo) → (absorb_all s items).life ≡ s.life
-gives_life e i items (Tells told) s = told_life items told s
+gives_life e i items (Tells told) s = (told_leaves items told s).life
 gives_life e i items (Hands another item handed is) s = ap (λ (xs : List Item). (absorb_all s xs).life) is ∙ (handed_rests item handed s).life
 
 -- Who lives absorbs what it is given, and who doesn't nothing.

@@ -24,7 +24,7 @@ use Rattle.call_verdicts.specs.Granted.{GrantedMay}
 use Rattle.run_model.specs.Run.{System, given_by, happens_in, moment, phases_in, world_after}
 use Rattle.run_model.proofs.Phases.{next_moment, of_each, once_more, tick_moment}
 use Rattle.sharing_law.specs.Change.{Changes, GuaranteedChange, GuaranteedInTick, HasStore, HasWords, IsChanged, ItemChange, StepChanges, bytes_at}
-use Rattle.sharing_law.proofs.Given.{IsTold, Led, Leads, Rests, absorbed_kept, kept_as_was, kept_else, kept_here, told_kept}
+use Rattle.sharing_law.proofs.Given.{IsTold, Led, Leads, Rests, absorbed_leaves, kept_as_was, kept_else, kept_here, told_leaves}
 use Rattle.sharing_law.proofs.Giving.{happen_led, step_led, timer_led, turn_led}
 use Rattle.sharing_law.proofs.Moments.{stays_idle}
 use Rattle.sharing_law.proofs.Writing.{stored_writable}
@@ -110,7 +110,7 @@ module _ (s : Solo) (vpn : ℕ) where
 
   -- Item by item
   stays_told : (item : Item) → IsTold item → Stays (absorbed s item)
-  stays_told item told = ap (λ ps. bytes_in (kept_at ps vpn)) (absorbed_kept s item told)
+  stays_told item told = ap (λ ps. bytes_in (kept_at ps vpn)) (absorbed_leaves s item told).kept
 
   by_item : (item : Item) → Stays (absorbed s item) ⊎ Changes s (absorbed s item) vpn item
   by_item (Boot number name entry accept kept) = inr refl
@@ -140,10 +140,10 @@ record FirstChanges (s : Solo) (items : List Item) (vpn : ℕ) : Type 0 where
   has : bytes_at (absorb_all s items) vpn ≡ bytes_at (absorb s item) vpn
 
 led_change : (s : Solo) (items : List Item) (vpn : ℕ) → Led items → (bytes_at (absorb_all s items) vpn ≡ bytes_at s vpn) ⊎ FirstChanges s items vpn
-led_change s items vpn (Rests told) = inl (ap (λ ps. bytes_in (kept_at ps vpn)) (told_kept items told s))
+led_change s items vpn (Rests told) = inl (ap (λ ps. bytes_in (kept_at ps vpn)) (told_leaves items told s).kept)
 led_change s items vpn (Leads item rest told is) =
     let has : bytes_at (absorb_all s items) vpn ≡ bytes_at (absorb s item) vpn =
-    ap (λ (its : List Item). bytes_at (absorb_all s its) vpn) is ∙ ap (λ ps. bytes_in (kept_at ps vpn)) (told_kept rest told (absorb s item)) in
+    ap (λ (its : List Item). bytes_at (absorb_all s its) vpn) is ∙ ap (λ ps. bytes_in (kept_at ps vpn)) (told_leaves rest told (absorb s item)).kept in
     elim (item_change s item vpn) [
       | inl same ↦ inl (has ∙ same)
       | inr changes ↦ inr (record { item = item; rest = rest; given = is; changes = changes; has = has })
