@@ -1,1 +1,3 @@
+pub mod RunImage
+pub mod Words
 pub mod Headline

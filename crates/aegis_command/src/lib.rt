@@ -1,13 +1,14 @@
 //! The program's commands over any shelf of files and any sink.
 //!
 //! `aegis` is the top call. Its clauses say, for every shelf and every sink, which files are read, what is written, and
-//! with which status the program ends; the headline is that what `run` writes is the report of the world. What the words
-//! ask for and what is due for it is defined in `command_work`, on which this stands.
+//! with which status the program ends; the headline is that what `run` writes is the report of the world. What a command
+//! is, and how a call ends, is defined in `command_work`, on which this stands; `Words` here has the table of commands.
 #![tactic(auto)]
 
-mod reporting;
+mod running;
+mod ticks;
 mod top;
-mod work;
+mod words;
 
 pub use command_work::Status;
 pub use top::aegis;

@@ -1,16 +1,16 @@
 //! The top call.
 ghost use Rattle.std.specs.Prelude.{◌≡◌, IfNone, length};
-ghost use Rattle.command_work.specs.Asked.{form_of_words};
 ghost use Rattle.command_work.specs.Edges.{shelf_edge, sink_edge};
 ghost use Rattle.command_work.specs.Outcome.{Finished, IsOutcome, IsUsage};
-ghost use Rattle.aegis_command.specs.Headline.{IsAssembler, IsComplete, IsGiven, IsHeadline, IsImager, IsLister, IsTaken};
+ghost use Rattle.aegis_command.specs.Headline.{IsComplete, IsGiven, IsHeadline, IsTaken};
+ghost use Rattle.aegis_command.specs.Words.{asked_by};
 
-use crate::work::perform;
-use command_work::{Status, Stop, parse};
+use crate::words::{parse, perform_words};
+use command_work::{Status, Stop};
 use edge_io::{Shelf, Sink, write_whole};
 use std::alloc::Global;
 
-/// What is written where the words are none of the forms.
+/// What is written where the words are no command's.
 const USAGE: &[u8] = b"aegis: usage\n";
 
 /// Writes a text, and answers the intended status unless a write fails.
@@ -26,16 +26,16 @@ fn finish<K: Sink>(out: &mut K, text: &[u8], status: Status) -> Status
 
 /// Does what the words ask, and says by its status how it ended.
 fn respond<S: Shelf, K: Sink>(alloc: Global, words: &[String], shelf: &mut S, out: &mut K) -> Status
-    ensures unread { IfNone (form_of_words words.now) (shelf.new ≡ shelf.old) }
-    ensures no_form { IsUsage (form_of_words words.now) (sink_edge K.Sink out.old out.new) result }
-    ensures form { IsOutcome (form_of_words words.now) (shelf_edge S.Shelf shelf.old shelf.new) (sink_edge K.Sink out.old out.new) result }
-    ensures served { IsGiven (form_of_words words.now) (shelf_edge S.Shelf shelf.old shelf.new) result }
-    ensures taken { IsTaken (form_of_words words.now) (shelf_edge S.Shelf shelf.old shelf.new) (sink_edge K.Sink out.old out.new) result }
+    ensures unread { IfNone (asked_by words.now) (shelf.new ≡ shelf.old) }
+    ensures usage { IsUsage (asked_by words.now) (sink_edge K.Sink out.old out.new) result }
+    ensures outcome { IsOutcome (asked_by words.now) (shelf_edge S.Shelf shelf.old shelf.new) (sink_edge K.Sink out.old out.new) result }
+    ensures served { IsGiven (asked_by words.now) (shelf_edge S.Shelf shelf.old shelf.new) result }
+    ensures taken { IsTaken (asked_by words.now) (shelf_edge S.Shelf shelf.old shelf.new) (sink_edge K.Sink out.old out.new) result }
 {
     let Some(words) = parse(words) else {
         return finish(out, USAGE, Status::Usage);
     };
-    match perform(alloc, words, shelf) {
+    match perform_words(alloc, words, shelf) {
         Ok(answer) => finish(out, &answer.text, answer.status),
         Err(Stop::ReadFault) => Status::ReadFault,
         Err(Stop::OutOfMemory) => Status::OutOfMemory,
@@ -52,29 +52,24 @@ pub fn aegis<S: Shelf, K: Sink>(
     out: &mut K,
 ) -> Status
     // The headline: what run writes is the report of the world.
-    ensures headline { IsHeadline (form_of_words words.now) (shelf_edge S.Shelf shelf.old shelf.new) (sink_edge K.Sink out.old out.new) result }
-    ensures complete { IsComplete (form_of_words words.now) (shelf_edge S.Shelf shelf.old shelf.new) (sink_edge K.Sink out.old out.new) result }
+    ensures headline { IsHeadline (asked_by words.now) (shelf_edge S.Shelf shelf.old shelf.new) (sink_edge K.Sink out.old out.new) result }
 
-    // What asm writes is the ELF file of what its source assembles to.
-    ensures assembles { IsAssembler (form_of_words words.now) (shelf_edge S.Shelf shelf.old shelf.new) (sink_edge K.Sink out.old out.new) result }
+    // What any command writes is what is due for its files. The laws of `command_work` say what is due.
+    ensures complete { IsComplete (asked_by words.now) (shelf_edge S.Shelf shelf.old shelf.new) (sink_edge K.Sink out.old out.new) result }
 
-    // What list writes is the listing of its ELF file, and what image writes is the image of its manifest.
-    ensures lists { IsLister (form_of_words words.now) (shelf_edge S.Shelf shelf.old shelf.new) (sink_edge K.Sink out.old out.new) result }
-    ensures images { IsImager (form_of_words words.now) (shelf_edge S.Shelf shelf.old shelf.new) (sink_edge K.Sink out.old out.new) result }
+    // Words that are no command's are answered so, no file is read, and no memory is wanted.
+    ensures unread { IfNone (asked_by words.now) (shelf.new ≡ shelf.old) }
+    ensures usage { IsUsage (asked_by words.now) (sink_edge K.Sink out.old out.new) result }
 
-    // Words that are no form are answered so, no file is read, and no memory is wanted.
-    ensures unread { IfNone (form_of_words words.now) (shelf.new ≡ shelf.old) }
-    ensures no_form { IsUsage (form_of_words words.now) (sink_edge K.Sink out.old out.new) result }
-
-    // What holds for words of a form, by the status, of what was read and what was written; no other status
+    // What holds for words of a command, by the status, of what was read and what was written; no other status
     // comes.
-    ensures form { IsOutcome (form_of_words words.now) (shelf_edge S.Shelf shelf.old shelf.new) (sink_edge K.Sink out.old out.new) result }
+    ensures outcome { IsOutcome (asked_by words.now) (shelf_edge S.Shelf shelf.old shelf.new) (sink_edge K.Sink out.old out.new) result }
 
     // A shelf that is sure to serve the names gives no fault of reading.
-    ensures served { IsGiven (form_of_words words.now) (shelf_edge S.Shelf shelf.old shelf.new) result }
+    ensures served { IsGiven (asked_by words.now) (shelf_edge S.Shelf shelf.old shelf.new) result }
 
     // A sink that is sure to take what is due, or the usage, gives no fault of writing.
-    ensures taken { IsTaken (form_of_words words.now) (shelf_edge S.Shelf shelf.old shelf.new) (sink_edge K.Sink out.old out.new) result }
+    ensures taken { IsTaken (asked_by words.now) (shelf_edge S.Shelf shelf.old shelf.new) (sink_edge K.Sink out.old out.new) result }
 {
     respond(alloc, words, shelf, out)
 }

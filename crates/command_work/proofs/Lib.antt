@@ -1,3 +1,2 @@
-pub mod Decisions
-pub mod Stops
-pub mod InOrder
+pub mod ReadingOn
+pub mod Places

@@ -5,11 +5,12 @@ use Rattle.edge_io.specs.declared.shelf.Shelf.{Ghosts as OfShelf}
 use Rattle.edge_io.specs.declared.sink.Sink.{Ghosts as OfSink}
 
 -- Of the shelf: what it tells of its files, which names it is sure to serve, of which names the reads in the
--- call were, one after another, how many reads had failed before and after, and which was the last.
+-- call were, one after another, and what each answered, how many reads had failed before and after, and which was the
+-- last that failed.
 pub record ShelfEdge : Type 1 where
   pub told : Option (List ℕ → Option (List ℕ))
   pub Serves : List ℕ → Type 0
-  pub Asked : List (List ℕ) → Type 0
+  pub Asked : List (List ℕ) → List (Option (List ℕ)) → Type 0
   pub faults_before : ℕ
   pub faults_after : ℕ
   pub failed : Option (List ℕ)
@@ -28,7 +29,7 @@ abbrev pub shelf_edge : {S : Type 0} → OfShelf S → S → S → ShelfEdge
 shelf_edge of before after = record {
   told = of.told before;
   Serves = of.Serves before;
-  Asked = λ names. AreAsked of.Asked before names after;
+  Asked = λ names answers. AreAsked of.Asked before names answers after;
   faults_before = of.faults before;
   faults_after = of.faults after;
   failed = of.failed after;

@@ -1,10 +1,12 @@
 pub mod Exit
-pub mod Words
-pub mod Asked
 pub mod Edges
-pub mod Files
 pub mod Due
+pub mod Command
+pub mod Files
 pub mod Outcome
-pub mod Work
-pub mod Bodies
 pub mod Stopping
+pub mod Work
+pub mod Asm
+pub mod ListElf
+pub mod MakeImage
+pub mod Laws

@@ -5,16 +5,16 @@ use Rattle.edge_io.specs.Written.{Appends, AppendsPart}
 use Rattle.command_work.specs.declared.status.Status.{Status}
 use Rattle.command_work.specs.declared.status.Status.TheVariants as status
 use Rattle.command_work.specs.Edges.{ShelfEdge, SinkEdge}
-use Rattle.command_work.specs.Words.{Form}
+use Rattle.command_work.specs.Command.{CommandValue, names_of}
 use Rattle.command_work.specs.Files.{WereRead, FailedAt, CameFar}
-use Rattle.command_work.specs.Due.{Due, due_of, text_of, status_of, usage_text}
+use Rattle.command_work.specs.Due.{Due, text_of, status_of, usage_text}
 
--- All files were read, and this is due for what they hold.
-pub record Decided (form : Form) (s : ShelfEdge) : Type 0 where
+-- All files were read, and this is due for what the reads answered.
+pub record Decided (command : CommandValue) (s : ShelfEdge) : Type 0 where
   pub contents : List (List ℕ)
-  pub read : WereRead form s contents
+  pub read : WereRead (names_of command) s contents
   pub due : Due
-  pub is_due : due_of form contents ≡ Some due
+  pub is_due : command.due contents ≡ Some due
 
 -- The text was written whole, and no write failed.
 pub record IsWhole (k : SinkEdge) (text : List ℕ) : Type 0 where
@@ -32,28 +32,28 @@ pub record IsUntouched (k : SinkEdge) : Type 0 where
   pub no_fault : k.faults_after ≡ k.faults_before
 
 -- What is due was written whole, with its status.
-abbrev pub Wrote : Form → ShelfEdge → SinkEdge → Status → Type 0
-Wrote form s k result = (decided : Decided form s) × (status_of decided.due ≡ result) × IsWhole k (text_of decided.due)
+abbrev pub Wrote : CommandValue → ShelfEdge → SinkEdge → Status → Type 0
+Wrote command s k result = (decided : Decided command s) × (status_of decided.due ≡ result) × IsWhole k (text_of decided.due)
 
--- What holds after a call with words of this form, by its status. No other status comes.
-abbrev pub Outcome : Form → ShelfEdge → SinkEdge → Status → Type 0
-Outcome form s k status.Done = Wrote form s k status.Done
-Outcome form s k status.Found = Wrote form s k status.Found
-Outcome form s k status.Usage = ⊥
-Outcome form s k status.Refused = Wrote form s k status.Refused
-Outcome form s k status.ReadFault = FailedAt form s × IsUntouched k
-Outcome form s k status.WriteFault = (decided : Decided form s) × IsPart k (text_of decided.due)
-Outcome form s k status.OutOfMemory = CameFar form s × IsUntouched k
+-- What holds after a call with the words of this command, by its status. No other status comes.
+abbrev pub Outcome : CommandValue → ShelfEdge → SinkEdge → Status → Type 0
+Outcome command s k status.Done = Wrote command s k status.Done
+Outcome command s k status.Found = Wrote command s k status.Found
+Outcome command s k status.Usage = ⊥
+Outcome command s k status.Refused = Wrote command s k status.Refused
+Outcome command s k status.ReadFault = FailedAt (names_of command) s × IsUntouched k
+Outcome command s k status.WriteFault = (decided : Decided command s) × IsPart k (text_of decided.due)
+Outcome command s k status.OutOfMemory = CameFar (names_of command) s × IsUntouched k
 
--- A call with words of a form ends as this form does.
-abbrev pub IsOutcome : Option Form → ShelfEdge → SinkEdge → Status → Type 0
-IsOutcome words s k result = IfSome words (λ form. Outcome form s k result)
+-- A call with the words of a command ends as this command does.
+abbrev pub IsOutcome : Option CommandValue → ShelfEdge → SinkEdge → Status → Type 0
+IsOutcome words s k result = IfSome words (λ command. Outcome command s k result)
 
 -- A text was written with this status, or a write failed after a first part of it.
 abbrev pub Finished : Status → List ℕ → SinkEdge → Status → Type 0
 Finished intended text k result =
     ((result ≡ intended) × IsWhole k text) ⊎ ((result ≡ status.WriteFault) × IsPart k text)
 
--- A call with words of no form writes the usage.
-abbrev pub IsUsage : Option Form → SinkEdge → Status → Type 0
+-- A call with the words of no command writes the usage.
+abbrev pub IsUsage : Option CommandValue → SinkEdge → Status → Type 0
 IsUsage words k result = IfNone words (Finished status.Usage usage_text k result)

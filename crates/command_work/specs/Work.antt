@@ -1,12 +1,11 @@
--- What the work of a form gives, before anything is written.
-use Rattle.std.specs.Prelude.{◌≡◌, [], ◌∷◌, Option, IsSomeAnd, Result, IfErr}
+-- What the work of a command gives, before anything is written.
+use Rattle.std.specs.Prelude.{◌≡◌, Option, IsSomeAnd, Result, IfErr}
 use Rattle.command_work.specs.declared.work.Answer.{Answer}
 use Rattle.command_work.specs.declared.work.Stop.{Stop}
 use Rattle.command_work.specs.declared.work.Stop.TheVariants as stop
-use Rattle.command_work.specs.declared.run_files.RunFiles.{RunFiles}
 use Rattle.command_work.specs.Edges.{ShelfEdge}
-use Rattle.command_work.specs.Words.{Form}
-use Rattle.command_work.specs.Files.{WereRead, FailedAt, CameFar}
+use Rattle.command_work.specs.Command.{CommandValue}
+use Rattle.command_work.specs.Files.{Names, FailedAt, CameFar}
 use Rattle.command_work.specs.Due.{Due, text_of, status_of}
 use Rattle.command_work.specs.Outcome.{Decided}
 
@@ -20,18 +19,14 @@ abbrev pub IsSettled : Option Due → Answer → Type 0
 IsSettled due answer = IsSomeAnd due (λ one. Settles one answer)
 
 -- All files were read, and the answer is what is due.
-abbrev pub Performed : Form → ShelfEdge → Answer → Type 0
-Performed form s answer = (decided : Decided form s) × Settles decided.due answer
+abbrev pub Performed : CommandValue → ShelfEdge → Answer → Type 0
+Performed command s answer = (decided : Decided command s) × Settles decided.due answer
 
 -- There is no answer: a read of a due file failed, or no memory was found.
-abbrev pub Stopped : Form → ShelfEdge → Stop → Type 0
-Stopped form s stop.ReadFault = FailedAt form s
-Stopped form s stop.OutOfMemory = CameFar form s
+abbrev pub Stopped : Names → ShelfEdge → Stop → Type 0
+Stopped names s stop.ReadFault = FailedAt names s
+Stopped names s stop.OutOfMemory = CameFar names s
 
 -- Where there is no answer, memory was wanting and no read failed.
 abbrev pub StopsByWantAlone : {A : Type 0} → Result A Stop → Type 0
 StopsByWantAlone result = IfErr result (λ s. s ≡ stop.OutOfMemory)
-
--- the files of a run were read
-abbrev pub RunRead : Form → ShelfEdge → RunFiles → Type 0
-RunRead form s files = WereRead form s (files.image.items ∷ files.schedule.items ∷ [])

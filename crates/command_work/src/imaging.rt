@@ -1,22 +1,20 @@
-//! The work of `image MANIFEST`.
-ghost use Rattle.std.specs.Prelude.{◌≡◌, ◌<◌, ◌^◌, IfOk, IfErr, length};
+//! The command `image MANIFEST`.
+ghost use Rattle.std.specs.Prelude.{◌≡◌, ◌<◌, ◌^◌, IfOk, length, map, string_bytes};
 ghost use Rattle.std.specs.List.{AllByRecursion};
-ghost use Rattle.boot_manifest.specs.Layout.{IsShort, bodies_seen};
-ghost use Rattle.boot_manifest.specs.ManifestValue.{plan_in};
+ghost use Rattle.boot_manifest.specs.Layout.{IsShort as IsShortBody, bodies_seen};
+ghost use Rattle.boot_manifest.specs.ManifestValue.{ManifestEntry, plan_in};
+ghost use Rattle.boot_manifest.specs.Reading.{manifest_fault};
 ghost use Rattle.boot_image.specs.Spelling.{image_text};
-ghost use Rattle.command_work.specs.Bodies.{BodiesRead, BodiesStopped, IsManifestRefused, entry_files};
-ghost use Rattle.command_work.specs.Words.{MakeImage};
-ghost use Rattle.command_work.specs.Edges.{shelf_edge};
-ghost use Rattle.command_work.specs.Due.{sized_due};
-ghost use Rattle.command_work.specs.Files.{IsServed};
-ghost use Rattle.command_work.specs.Work.{Performed, Settles, Stopped, StopsByWantAlone};
+ghost use Rattle.command_work.specs.MakeImage.{image_due, make_image, files_named, sized_due};
+ghost use Rattle.command_work.specs.Work.{IsSettled, Settles};
 
+use crate::contents::{behind_first, content};
+use crate::performing::Command;
 use crate::status::Status;
-use crate::work::{Answer, Stop};
+use crate::work::Answer;
 use aegis_limits::OutOfMemory;
 use boot_image::{ImageWhy, read_image};
 use boot_manifest::{Entry, Manifest, ManifestFault, image_length, read_manifest, write_image};
-use edge_io::Shelf;
 use std::alloc::Global;
 
 /// A made image has fewer bytes than this.
@@ -24,14 +22,11 @@ const IMAGE_LIMIT: u64 = 1 << 27;
 /// Where an image has its number of pages, at which one that is too long is refused.
 const PAGES_AT: u32 = 4;
 
-/// What is due for a manifest with a fault.
-fn refuse_manifest(alloc: Global, name: &str, fault: ManifestFault) -> Result<Answer, OutOfMemory>
-    ensures { IfOk result (IsManifestRefused name.now fault) }
-{
-    match fault {
-        ManifestFault::At { line, why } => Answer::refusal(alloc, name, why.name(), line),
-        ManifestFault::OutOfMemory => Err(OutOfMemory),
-    }
+/// `image MANIFEST`: the image of a manifest and the files that it names.
+#[derive(Clone, Copy)]
+pub struct MakeImage<'a> {
+    /// The name of the manifest.
+    pub manifest: &'a str,
 }
 
 /// What is due for a made image: its first fault, or the image.
@@ -56,7 +51,7 @@ fn due_image(
     bodies: &[Vec<u8>],
 ) -> Result<Answer, OutOfMemory>
     requires count { length bodies.now ≡ length manifest.now.entries }
-    requires short { AllByRecursion IsShort (bodies_seen bodies.now) }
+    requires short { AllByRecursion IsShortBody (bodies_seen bodies.now) }
     ensures { IfOk result (Settles (sized_due name.now (image_text (plan_in manifest.now) (bodies_seen bodies.now)))) }
 {
     if image_length(manifest, bodies) >= IMAGE_LIMIT {
@@ -66,37 +61,60 @@ fn due_image(
     due_made(alloc, name, image)
 }
 
-/// Reads the bodies of entries, in order.
-fn read_bodies<S: Shelf>(
-    alloc: Global,
-    entries: &[Entry],
-    shelf: &mut S,
-) -> Result<Vec<Vec<u8>>, Stop>
-    ensures ok { IfOk result (λ bodies. BodiesRead (entry_files entries.now) (shelf_edge S.Shelf shelf.old shelf.new) (bodies_seen bodies.items)) }
-    ensures err { IfErr result (BodiesStopped (entry_files entries.now) (shelf_edge S.Shelf shelf.old shelf.new)) }
-    ensures sure { AllByRecursion (S.Serves shelf.old) (entry_files entries.now) → StopsByWantAlone result }
-    ensures count { IfOk result (λ bodies. length bodies.items ≡ length entries.now) }
-    ensures short { IfOk result (λ bodies. AllByRecursion IsShort (bodies_seen bodies.items)) }
+/// The names of the files of entries, in order.
+fn entry_files(alloc: Global, entries: &[Entry]) -> Result<Vec<String>, OutOfMemory>
+    ensures { IfOk result (λ names. map string_bytes names.items ≡ map (λ (e : ManifestEntry). e.file) entries.now) }
 {
-    let mut bodies = Vec::new(alloc);
+    let mut names = Vec::new(alloc);
     for entry in entries {
-        let body = shelf.read(alloc, entry.file.as_str())?;
-        bodies.push(body)?;
+        names.push(String::from_str(alloc, entry.file.as_str())?)?;
     }
-    Ok(bodies)
+    Ok(names)
 }
 
-/// Reads a manifest and the bodies that it names, and does its work.
-pub fn perform_image<S: Shelf>(alloc: Global, name: &str, shelf: &mut S) -> Result<Answer, Stop>
-    ensures ok { IfOk result (Performed (MakeImage name.now) (shelf_edge S.Shelf shelf.old shelf.new)) }
-    ensures err { IfErr result (Stopped (MakeImage name.now) (shelf_edge S.Shelf shelf.old shelf.new)) }
-    ensures sure { IsServed (MakeImage name.now) (shelf_edge S.Shelf shelf.old shelf.new) → StopsByWantAlone result }
+/// The names of the files that a manifest names, if it has no fault.
+fn files_named(alloc: Global, text: &[u8]) -> Result<Vec<String>, OutOfMemory>
+    requires { length text.now < 2 ^ 27 }
+    ensures { IfOk result (λ names. map string_bytes names.items ≡ files_named text.now (manifest_fault text.now)) }
 {
-    let text = shelf.read(alloc, name)?;
-    let manifest = match read_manifest(alloc, &text) {
-        Ok(manifest) => manifest,
-        Err(fault) => return Ok(refuse_manifest(alloc, name, fault)?),
-    };
-    let bodies = read_bodies(alloc, &manifest.entries, shelf)?;
-    Ok(due_image(alloc, name, &manifest, &bodies)?)
+    match read_manifest(alloc, text) {
+        Ok(manifest) => entry_files(alloc, &manifest.entries),
+        Err(ManifestFault::At { .. }) => Ok(Vec::new(alloc)),
+        Err(ManifestFault::OutOfMemory) => Err(OutOfMemory),
+    }
+}
+
+/// What is due for a manifest and the files that it names.
+fn due(alloc: Global, name: &str, text: &[u8], bodies: &[Vec<u8>]) -> Result<Answer, OutOfMemory>
+    requires text { length text.now < 2 ^ 27 }
+    requires count { length bodies.now ≡ length (files_named text.now (manifest_fault text.now)) }
+    requires short { AllByRecursion IsShortBody (bodies_seen bodies.now) }
+    ensures { IfOk result (IsSettled (image_due name.now text.now (bodies_seen bodies.now) (manifest_fault text.now))) }
+{
+    match read_manifest(alloc, text) {
+        Ok(manifest) => due_image(alloc, name, &manifest, bodies),
+        Err(ManifestFault::At { line, why }) => Answer::refusal(alloc, name, why.name(), line),
+        Err(ManifestFault::OutOfMemory) => Err(OutOfMemory),
+    }
+}
+
+impl Command for MakeImage<'_> {
+    ghost value = { λ command. make_image command.manifest.now };
+
+    fn names(&self, alloc: Global) -> Result<Vec<String>, OutOfMemory> {
+        Ok(vec![in alloc; String::from_str(alloc, self.manifest)?]?)
+    }
+
+    fn further(&self, alloc: Global, contents: &[Vec<u8>]) -> Result<Vec<String>, OutOfMemory> {
+        files_named(alloc, content(contents, 0))
+    }
+
+    fn answer(&self, alloc: Global, contents: &[Vec<u8>]) -> Result<Answer, OutOfMemory> {
+        due(
+            alloc,
+            self.manifest,
+            content(contents, 0),
+            behind_first(contents),
+        )
+    }
 }

@@ -7,7 +7,7 @@ use crate::status::Status;
 use aegis_limits::OutOfMemory;
 use edge_io::ReadFail;
 use line_text::push_dec;
-use std::alloc::{AllocFailed, Global};
+use std::alloc::{AllocError, AllocFailed, Global};
 
 /// What is to be written, and the status once it is.
 #[derive(Drop)]
@@ -48,6 +48,17 @@ impl From<ReadFail> for Stop {
             ReadFail::Failed => Stop::ReadFault,
             ReadFail::OutOfMemory => Stop::OutOfMemory,
         }
+    }
+}
+
+impl From<AllocError> for Stop {
+    ghost use Rattle.std.specs.Prelude.{◌≡◌};
+    ghost use Rattle.command_work.specs.declared.work.Stop.TheVariants as stop;
+
+    ghost from_gives = { λ e s. s ≡ stop.OutOfMemory };
+
+    fn from(_e: AllocError) -> Stop {
+        Stop::OutOfMemory
     }
 }
 

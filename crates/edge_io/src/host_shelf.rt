@@ -71,7 +71,7 @@ fn read_file<D: Folder>(folder: &D, alloc: Global, name: &str) -> Result<Vec<u8>
 impl<D: Folder> Shelf for HostShelf<D> {
     ghost told = { λ s. D.told s.folder };
 
-    ghost Asked = { λ s _ t. (t.folder ≡ s.folder) × (t.calls ≡ one_more s.calls) };
+    ghost Asked = { λ s _ _ t. (t.folder ≡ s.folder) × (t.calls ≡ one_more s.calls) };
 
     ghost faults = { λ s. s.faults };
 

@@ -2,7 +2,7 @@
 //!
 //! A `Shelf` gives the bytes of named files, and a `Sink` takes bytes. Each counts its faults, so
 //! that a caller's failure of reading or writing is one that the outside caused, and of a shelf it
-//! is known which names were asked for, in which order. `HostShelf` reads the files that a `Folder`
+//! is known which names were asked for, in which order, and what was answered. `HostShelf` reads the files that a `Folder`
 //! opens, as the host does, and `HostSink` writes to a writer, as to the standard output.
 //! `write_whole` writes all of a text.
 #![tactic(auto)]

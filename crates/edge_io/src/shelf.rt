@@ -2,7 +2,7 @@
 ghost use Rattle.std.specs.Prelude.{◌≡◌, ◌↔◌, ℕ, ◌≤◌, List, Option, Some, IfOk, length};
 ghost use Rattle.edge_io.specs.Faults.{one_more};
 ghost use Rattle.edge_io.specs.Limits.{file_limit};
-ghost use Rattle.edge_io.specs.Reads.{Tells, OnFailed, UnlessFailed};
+ghost use Rattle.edge_io.specs.Reads.{Tells, OnFailed, UnlessFailed, answered};
 ghost use Rattle.std.specs.IoError.{error_kind};
 ghost use Rattle.std.specs.declared.io.ErrorKind.TheVariants as kind;
 ghost use Rattle.edge_io.specs.declared.shelf.ReadFail.TheVariants.{OutOfMemory};
@@ -57,8 +57,8 @@ pub trait Shelf {
     // The bytes of each name, where the shelf says what it holds. No call changes it.
     ghost told: { Self → Option (List ℕ → Option (List ℕ)) };
 
-    // One read, of this name, took the shelf from the first state to the second.
-    ghost Asked: { Self → List ℕ → Self → Type 0 };
+    // One read, of this name, answered these bytes, or none, and took the shelf from the first state to the second.
+    ghost Asked: { Self → List ℕ → Option (List ℕ) → Self → Type 0 };
 
     // How many reads failed. It stays at the counter's last value.
     ghost faults: { Self → ℕ };
@@ -75,7 +75,7 @@ pub trait Shelf {
         ensures same_files { told self.new ≡ told self.old }
         ensures bytes { IfOk result (λ v. Tells (told self.old) name.now v.items) }
         ensures within_limit { IfOk result (λ v. length v.items ≤ file_limit) }
-        ensures asked { Asked self.old name.now self.new }
+        ensures asked { Asked self.old name.now (answered result) self.new }
 
         // A failure is counted and named; any other answer leaves count and name.
         ensures failed_counted { OnFailed result (faults self.new ≡ one_more (faults self.old)) }

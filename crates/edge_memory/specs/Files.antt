@@ -1,5 +1,5 @@
 -- Files by name.
-use Rattle.std.specs.Prelude.{◌≡◌, ◌⊎◌, ℕ, ◌==◌, ◌≤◌, List, [], Option, Some, None, option_map, IsSomeAnd, String, Vec, length, nat_le, if◌then◌else◌}
+use Rattle.std.specs.Prelude.{◌≡◌, ◌⊎◌, ℕ, ◌==◌, ◌≤◌, List, [], Bool, Option, Some, None, option_map, IfSome, IsSomeAnd, String, Vec, length, nat_le, if◌then◌else◌}
 use Rattle.std.specs.List.{find, list_any}
 use Rattle.std.specs.String.{string_bytes}
 use Rattle.std.specs.Str.{bytes_eq}
@@ -29,6 +29,10 @@ abbrev pub found_at : List File → List ℕ → ℕ → List ℕ → Option (Li
 found_at files fails call name =
     if list_any (λ n. n == call) fails then None else within_limit (file_named files name)
 
+-- the number of the shelf's next read is one of those that fail
+abbrev pub is_set_to_fail : MemoryShelf → Bool
+is_set_to_fail shelf = list_any (λ n. n == shelf.calls) shelf.fails.items
+
 -- the bytes that the shelf's next read finds at the name
 abbrev pub found : MemoryShelf → List ℕ → Option (List ℕ)
 found shelf name = found_at shelf.files.items shelf.fails.items shelf.calls name
@@ -39,9 +43,11 @@ IsSureOf shelf name =
     (shelf.fails.items ≡ [])
     × IsSomeAnd (file_named shelf.files.items name) (λ bytes. length bytes ≤ file_limit)
 
--- one read, of this name: a call more, over the same files, and no other name than this failed in it
-pub record WasAsked (before : MemoryShelf) (name : List ℕ) (after : MemoryShelf) : Type 0 where
+-- One read, of this name: a call more, over the same files. What it answered is what it found, and no other name than
+-- this failed in it.
+pub record WasAsked (before : MemoryShelf) (name : List ℕ) (answer : Option (List ℕ)) (after : MemoryShelf) : Type 0 where
   pub counted : after.calls ≡ one_more before.calls
   pub same_files : after.files ≡ before.files
   pub same_fails : after.fails ≡ before.fails
+  pub found : IfSome answer (λ bytes. found before name ≡ Some bytes)
   pub failed : (after.failed ≡ before.failed) ⊎ (name_bytes after.failed ≡ Some name)

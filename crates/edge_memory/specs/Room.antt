@@ -7,9 +7,13 @@ use Rattle.edge_memory.specs.declared.sink.MemorySink.{MemorySink}
 abbrev pub room_left : MemorySink → ℕ
 room_left sink = sink.room - length sink.bytes.items
 
--- the next write fails: its number is one of those that fail, or no room is left
+-- the number of the next write is one of those that fail
+abbrev pub is_set_to_fail : MemorySink → Bool
+is_set_to_fail sink = list_any (λ n. n == sink.calls) sink.fails.items
+
+-- the next write fails: it is set to fail, or no room is left
 abbrev pub is_refused : MemorySink → Bool
-is_refused sink = list_any (λ n. n == sink.calls) sink.fails.items || (room_left sink == 0)
+is_refused sink = is_set_to_fail sink || (room_left sink == 0)
 
 -- how many bytes of a piece of this length are taken: as many as one write takes and as there is room for
 abbrev pub taken_of : MemorySink → ℕ → ℕ

@@ -1,10 +1,10 @@
 //! A shelf of files in memory.
-ghost use Rattle.std.specs.Prelude.{◌≡◌, ◌≤◌, Some, None, IfOk, length};
+ghost use Rattle.std.specs.Prelude.{◌≡◌, ◌≤◌, Some, None, IfOk, IsErr, length, true};
 ghost use Rattle.std.specs.Option.{option_copied};
 ghost use Rattle.edge_io.specs.Faults.{one_more};
-ghost use Rattle.edge_memory.specs.Files.{IsSureOf, WasAsked, file_named, found, found_at};
+ghost use Rattle.edge_memory.specs.Files.{IsSureOf, WasAsked, file_named, found, found_at, is_set_to_fail};
 ghost use Rattle.edge_io.specs.Limits.{file_limit};
-ghost use Rattle.edge_io.specs.Reads.{Tells, OnFailed, UnlessFailed, name_bytes};
+ghost use Rattle.edge_io.specs.Reads.{Tells, OnFailed, UnlessFailed, answered, name_bytes};
 
 use edge_io::{FILE_LIMIT, ReadFail, Shelf};
 use std::alloc::Global;
@@ -69,6 +69,7 @@ impl Shelf for MemoryShelf {
     fn read(&mut self, alloc: Global, name: &str) -> Result<Vec<u8>, ReadFail>
         ensures bytes { IfOk result (λ v. found self.old name.now ≡ Some v.items) }
         ensures fails { OnFailed result (found self.old name.now ≡ None) }
+        ensures set_to_fail { is_set_to_fail self.old ≡ true → IsErr result }
 
         ensures call_counted { self.new.calls ≡ one_more self.old.calls }
         ensures failed_counted { OnFailed result (self.new.faults ≡ one_more self.old.faults) }
@@ -82,7 +83,7 @@ impl Shelf for MemoryShelf {
         // What every shelf ensures.
         ensures told { IfOk result (λ v. Tells (Some (file_named self.old.files.items)) name.now v.items) }
         ensures within_limit { IfOk result (λ v. length v.items ≤ file_limit) }
-        ensures asked { WasAsked self.old name.now self.new }
+        ensures asked { WasAsked self.old name.now (answered result) self.new }
         ensures never_falls { self.old.faults ≤ self.new.faults }
         ensures served { OnFailed result (¬ IsSureOf self.old name.now) }
     {

@@ -56,9 +56,9 @@ impl MemorySink {
 }
 
 impl Sink for MemorySink {
-    ghost use Rattle.std.specs.Prelude.{◌≡◌, ℕ, ◌-◌, ◌<◌, ◌≤◌, ◌++◌, true, false, Some, IsOk, IfOk, OnOk, OnErr, length, take};
+    ghost use Rattle.std.specs.Prelude.{◌≡◌, ℕ, ◌-◌, ◌<◌, ◌≤◌, ◌++◌, true, false, Some, IsOk, IsErr, IfOk, OnOk, OnErr, length, take};
     ghost use Rattle.edge_io.specs.Faults.{one_more};
-    ghost use Rattle.edge_memory.specs.Room.{HasRoomFor, is_refused, taken_of};
+    ghost use Rattle.edge_memory.specs.Room.{HasRoomFor, is_refused, is_set_to_fail, taken_of};
     ghost use Rattle.edge_io.specs.Written.{Appends};
 
     ghost written = { λ s. Some s.bytes.items };
@@ -75,6 +75,7 @@ impl Sink for MemorySink {
         ensures written { IfOk result (λ n. self.new.bytes.items ≡ self.old.bytes.items ++ take n piece.now) }
         ensures accepts { OnOk result (is_refused self.old ≡ false) }
         ensures refuses { OnErr result (is_refused self.old ≡ true) }
+        ensures set_to_fail { is_set_to_fail self.old ≡ true → IsErr result }
 
         ensures call_counted { self.new.calls ≡ one_more self.old.calls }
         ensures refusal_counted { OnErr result (self.new.faults ≡ one_more self.old.faults) }

@@ -1,0 +1,31 @@
+-- The words of the command line.
+use Rattle.std.specs.Prelude.{ℕ, List, [], ◌∷◌, Option, Some, None, String, if◌then◌else◌, codes, map, string_bytes}
+use Rattle.std.specs.Global.{Global}
+use Rattle.std.specs.Str.{bytes_eq}
+use Rattle.command_work.specs.Asm.{asm}
+use Rattle.command_work.specs.Command.{CommandValue, of_one_name}
+use Rattle.command_work.specs.ListElf.{list_elf}
+use Rattle.command_work.specs.MakeImage.{make_image}
+use Rattle.aegis_command.specs.declared.words.Words.{Words}
+use Rattle.aegis_command.specs.declared.words.Words.TheVariants.{Run, Assemble, List as ListFile, Image}
+use Rattle.aegis_command.specs.RunImage.{run_image, run_words}
+
+-- the command of these words, if they are one's: its own word first, and then those that it asks for
+abbrev pub command_of : List (List ℕ) → Option CommandValue
+command_of [] = None
+command_of (word ∷ words) =
+    if bytes_eq word (codes "run") then run_words words else
+    if bytes_eq word (codes "asm") then of_one_name asm words else
+    if bytes_eq word (codes "list") then of_one_name list_elf words else
+    if bytes_eq word (codes "image") then of_one_name make_image words else None
+
+-- the command of the words after the program's name, if they are one's
+abbrev pub asked_by : List (String Global) → Option CommandValue
+asked_by words = command_of (map string_bytes words)
+
+-- the command of the words that were taken apart
+abbrev pub command_seen : Words → CommandValue
+command_seen (Run c) = run_image c.image.now c.schedule.now c.ticks.number
+command_seen (Assemble c) = asm c.source.now
+command_seen (ListFile c) = list_elf c.elf.now
+command_seen (Image c) = make_image c.manifest.now

@@ -1,0 +1,95 @@
+//! The command `run IMAGE SCHEDULE TICKS`.
+ghost use Rattle.std.specs.Prelude.{◌≡◌, ◌≤◌, ◌<◌, ◌^◌, IfOk, length, map, option_map, string_bytes};
+ghost use Rattle.aegis_limits.specs.Limits.{most_ticks};
+ghost use Rattle.command_work.specs.Work.{Settles};
+ghost use Rattle.aegis_command.specs.RunImage.{report_after as report_text_after, run_due, run_image, run_words};
+
+use crate::ticks::Ticks;
+use aegis_limits::OutOfMemory;
+use aegis_tick::{boot, run};
+use boot_image::{Image, check_schedule, read_image};
+use command_work::{Answer, Command, Status, content};
+use run_report::report;
+use std::alloc::Global;
+
+/// `run IMAGE SCHEDULE TICKS`: the report of an image's world after so many ticks.
+#[derive(Clone, Copy)]
+pub struct RunImage<'a> {
+    /// The name of the image.
+    pub image: &'a str,
+    /// The name of the schedule.
+    pub schedule: &'a str,
+    /// How many ticks to run.
+    pub ticks: Ticks,
+}
+
+impl<'a> RunImage<'a> {
+    /// The run that the words behind `run` ask for, if they are one's.
+    pub fn parse(words: &'a [String]) -> Option<RunImage<'a>>
+        ensures { option_map (λ c. run_image c.image.now c.schedule.now c.ticks.number) result ≡ run_words (map string_bytes words.now) }
+    {
+        let [image, schedule, ticks] = words else {
+            return None;
+        };
+        let ticks = Ticks::parse(ticks.as_str())?;
+        Some(RunImage {
+            image: image.as_str(),
+            schedule: schedule.as_str(),
+            ticks,
+        })
+    }
+}
+
+/// The report of a run of so many ticks.
+#[tactic(auto, unfolding(crate::specs::RunImage::report_after))]
+fn report_after(alloc: Global, image: &Image<'_>, ticks: Ticks) -> Result<Vec<u8>, OutOfMemory>
+    ensures { IfOk result (λ text. text.items ≡ report_text_after image.now ticks.number) }
+{
+    let mut board = boot(alloc, image)?;
+    let end = run(&mut board, ticks.number)?;
+    report(alloc, &board, end)
+}
+
+/// What is due for a run of these files: the first fault, or the report.
+fn due(
+    alloc: Global,
+    call: RunImage<'_>,
+    image: &[u8],
+    schedule: &[u8],
+) -> Result<Answer, OutOfMemory>
+    requires { length image.now < 2 ^ 27 }
+    ensures { IfOk result (Settles (run_due call.entry.image.now call.entry.schedule.now call.entry.ticks.number image.now schedule.now)) }
+{
+    let image = match read_image(image) {
+        Ok(image) => image,
+        Err(fault) => {
+            return Answer::refusal(alloc, call.image, fault.why.name(), fault.place);
+        }
+    };
+    if let Err(fault) = check_schedule(schedule) {
+        return Answer::refusal(alloc, call.schedule, fault.why.name(), fault.line);
+    }
+    let text = report_after(alloc, &image, call.ticks)?;
+    Ok(Answer {
+        text,
+        status: Status::Done,
+    })
+}
+
+impl Command for RunImage<'_> {
+    ghost value = { λ command. run_image command.image.now command.schedule.now command.ticks.number };
+
+    fn names(&self, alloc: Global) -> Result<Vec<String>, OutOfMemory> {
+        let image = String::from_str(alloc, self.image)?;
+        let schedule = String::from_str(alloc, self.schedule)?;
+        Ok(vec![in alloc; image, schedule]?)
+    }
+
+    fn further(&self, alloc: Global, _contents: &[Vec<u8>]) -> Result<Vec<String>, OutOfMemory> {
+        Ok(Vec::new(alloc))
+    }
+
+    fn answer(&self, alloc: Global, contents: &[Vec<u8>]) -> Result<Answer, OutOfMemory> {
+        due(alloc, *self, content(contents, 0), content(contents, 1))
+    }
+}

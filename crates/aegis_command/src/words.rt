@@ -1,0 +1,80 @@
+//! The words of the command line, and the work that they ask for.
+ghost use Rattle.std.specs.Prelude.{◌≡◌, IfOk, IfErr, option_map, map, string_bytes};
+ghost use Rattle.std.specs.Option.{option_copied};
+ghost use Rattle.command_work.specs.Command.{names_of, only_name};
+ghost use Rattle.command_work.specs.Edges.{shelf_edge};
+ghost use Rattle.command_work.specs.Files.{IsServed};
+ghost use Rattle.command_work.specs.Work.{Performed, Stopped, StopsByWantAlone};
+ghost use Rattle.aegis_command.specs.Words.{asked_by, command_seen};
+
+use crate::running::RunImage;
+use command_work::{Answer, Asm, ListElf, MakeImage, Stop, perform};
+use edge_io::Shelf;
+use std::alloc::Global;
+
+/// What the words ask for.
+#[derive(Clone, Copy)]
+pub enum Words<'a> {
+    /// `run IMAGE SCHEDULE TICKS`.
+    Run(RunImage<'a>),
+    /// `asm SOURCE`.
+    Assemble(Asm<'a>),
+    /// `list ELF`.
+    List(ListElf<'a>),
+    /// `image MANIFEST`.
+    Image(MakeImage<'a>),
+}
+
+/// The one word that there is.
+fn only_name(words: &[String]) -> Option<&str>
+    ensures { option_copied result ≡ only_name (map string_bytes words.now) }
+{
+    let [name] = words else {
+        return None;
+    };
+    Some(name.as_str())
+}
+
+/// What the words ask for, if they are a command's: its own word first.
+pub fn parse(words: &[String]) -> Option<Words<'_>>
+    ensures { option_map command_seen result ≡ asked_by words.now }
+{
+    let [word, rest @ ..] = words else {
+        return None;
+    };
+    let word = word.as_str();
+    if word == "run" {
+        return Some(Words::Run(RunImage::parse(rest)?));
+    }
+    if word == "asm" {
+        let source = only_name(rest)?;
+        return Some(Words::Assemble(Asm { source }));
+    }
+    if word == "list" {
+        let elf = only_name(rest)?;
+        return Some(Words::List(ListElf { elf }));
+    }
+    if word == "image" {
+        let manifest = only_name(rest)?;
+        return Some(Words::Image(MakeImage { manifest }));
+    }
+    None
+}
+
+/// Does the work of the words.
+pub fn perform_words<S: Shelf>(
+    alloc: Global,
+    words: Words<'_>,
+    shelf: &mut S,
+) -> Result<Answer, Stop>
+    ensures ok { IfOk result (Performed (command_seen words.entry) (shelf_edge S.Shelf shelf.old shelf.new)) }
+    ensures err { IfErr result (Stopped (names_of (command_seen words.entry)) (shelf_edge S.Shelf shelf.old shelf.new)) }
+    ensures sure { IsServed (names_of (command_seen words.entry)) (shelf_edge S.Shelf shelf.old shelf.new) → StopsByWantAlone result }
+{
+    match words {
+        Words::Run(command) => perform(alloc, &command, shelf),
+        Words::Assemble(command) => perform(alloc, &command, shelf),
+        Words::List(command) => perform(alloc, &command, shelf),
+        Words::Image(command) => perform(alloc, &command, shelf),
+    }
+}

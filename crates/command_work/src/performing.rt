@@ -1,0 +1,68 @@
+//! A command, and its work, which touches the shelf alone.
+ghost use Rattle.std.specs.Prelude.{◌≡◌, IfOk, IfErr, length, map, string_bytes};
+ghost use Rattle.std.specs.List.{AllByRecursion};
+ghost use Rattle.command_work.specs.Command.{CommandValue, IsShort, held, names_of};
+ghost use Rattle.command_work.specs.Edges.{shelf_edge};
+ghost use Rattle.command_work.specs.Files.{IsServed, WereRead};
+ghost use Rattle.command_work.specs.Work.{IsSettled, Performed, Stopped, StopsByWantAlone};
+
+use crate::reading::read_files;
+use crate::work::{Answer, Stop};
+use aegis_limits::OutOfMemory;
+use edge_io::Shelf;
+use std::alloc::Global;
+
+/// What words ask for. `perform` reads the files of a command and answers what is due for them.
+pub trait Command {
+    // The command, as the definitions have it.
+    ghost value: { Self → CommandValue };
+
+    /// The names of files that its words give, in the order in which they are read.
+    fn names(&self, alloc: Global) -> Result<Vec<String>, OutOfMemory>
+        ensures { IfOk result (λ names. map string_bytes names.items ≡ (value self.now).names) };
+
+    /// The names that follow from what those files hold.
+    fn further(&self, alloc: Global, contents: &[Vec<u8>]) -> Result<Vec<String>, OutOfMemory>
+        requires count { length contents.now ≡ length (value self.now).names }
+        requires short { AllByRecursion IsShort (held contents.now) }
+        ensures { IfOk result (λ names. map string_bytes names.items ≡ (value self.now).further (held contents.now)) };
+
+    /// What is due for what all of its files hold.
+    fn answer(&self, alloc: Global, contents: &[Vec<u8>]) -> Result<Answer, OutOfMemory>
+        requires count { length contents.now ≡ length (names_of (value self.now) (held contents.now)) }
+        requires short { AllByRecursion IsShort (held contents.now) }
+        ensures { IfOk result (IsSettled ((value self.now).due (held contents.now))) };
+}
+
+/// Reads the files of a command: those that its words name, and those that follow from what they hold.
+fn read_all<C: Command, S: Shelf>(
+    alloc: Global,
+    command: &C,
+    shelf: &mut S,
+) -> Result<Vec<Vec<u8>>, Stop>
+    ensures ok { IfOk result (λ v. WereRead (names_of (C.value command.now)) (shelf_edge S.Shelf shelf.old shelf.new) (held v.items)) }
+    ensures short { IfOk result (λ files. AllByRecursion IsShort (held files.items)) }
+    ensures err { IfErr result (Stopped (names_of (C.value command.now)) (shelf_edge S.Shelf shelf.old shelf.new)) }
+    ensures sure { IsServed (names_of (C.value command.now)) (shelf_edge S.Shelf shelf.old shelf.new) → StopsByWantAlone result }
+{
+    let names = command.names(alloc)?;
+    let mut contents = read_files(alloc, &names, shelf)?;
+    let further = command.further(alloc, &contents)?;
+    let mut rest = read_files(alloc, &further, shelf)?;
+    contents.append(&mut rest)?;
+    Ok(contents)
+}
+
+/// Reads the files of a command, and does its work.
+pub fn perform<C: Command, S: Shelf>(
+    alloc: Global,
+    command: &C,
+    shelf: &mut S,
+) -> Result<Answer, Stop>
+    ensures ok { IfOk result (Performed (C.value command.now) (shelf_edge S.Shelf shelf.old shelf.new)) }
+    ensures err { IfErr result (Stopped (names_of (C.value command.now)) (shelf_edge S.Shelf shelf.old shelf.new)) }
+    ensures sure { IsServed (names_of (C.value command.now)) (shelf_edge S.Shelf shelf.old shelf.new) → StopsByWantAlone result }
+{
+    let contents = read_all(alloc, command, shelf)?;
+    Ok(command.answer(alloc, &contents)?)
+}
