@@ -1,0 +1,3 @@
+pub mod EventValue
+pub mod Limits
+pub mod Packet

@@ -1,0 +1,35 @@
+//! Events, each at its time.
+use crate::packet::PacketBytes;
+use std::marker::Model;
+
+/// How many interrupt lines the machine has, numbered from 0.
+pub const LINES: u8 = 8;
+
+/// What happens.
+#[derive(Drop)]
+pub enum Act {
+    /// A packet arrives.
+    Packet(PacketBytes),
+    /// The interrupt line of this number, below 8, is raised.
+    Line(u8),
+}
+
+/// Something that happens at a time. Its limits hold of every value of this type.
+#[derive(Drop)]
+pub struct Event {
+    /// The tick at whose beginning it happens, at most 4,194,304.
+    pub time: u32,
+    /// What happens.
+    pub act: Act,
+}
+
+impl Model for Event {
+    ghost use Rattle.std.specs.Prelude.{◌≡◌, true};
+    ghost use Rattle.external_event.specs.EventValue.{EventValue, is_event};
+
+    ghost Value = { EventValue };
+
+    ghost view = { λ e. record { time = e.time; act = e.act } };
+
+    ghost invariant = { λ e. is_event (record { time = e.time; act = e.act }) ≡ true };
+}

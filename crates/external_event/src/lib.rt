@@ -1,0 +1,11 @@
+//! What comes from outside while the machine runs: packets, and signals on interrupt lines, each at its time.
+//!
+//! The reader of schedules makes events, and the model and the board say what becomes of them. An event's numbers
+//! are within their limits (`docs/FORMATS.md`, "Schedule"), which hold of every value of its types.
+#![tactic(auto)]
+
+mod event;
+mod packet;
+
+pub use event::{Act, Event, LINES};
+pub use packet::{MOST_PACKET_SIZE, PacketBytes};
