@@ -1,0 +1,2 @@
+pub mod ClaimBook
+pub mod Claims

@@ -1,0 +1,138 @@
+//! The book of claims.
+ghost use Rattle.std.specs.Prelude.{◌≡◌, ◌<◌, ◌≤◌, ◌+◌, ◌^◌, [], is_some, IfOk};
+ghost use Rattle.filter_tree.specs.ClaimBook.{is_of_env};
+ghost use Rattle.filter_tree.specs.Claims.{atom_count, claim_answer, claim_for, claim_held, claim_refusal, claimed, is_claim, is_into, without};
+
+use crate::claim::{Claim, ClaimNo};
+use crate::row::Row;
+use crate::search::{claim_for, claim_held, count_of_env, in_the_way};
+use crate::steps::Steps;
+use crate::withdrawal::{withdraw, withdraw_into, withdraw_of};
+use aegis_limits::OutOfMemory;
+use filter_core::{Filter, Packet};
+use std::alloc::Global;
+use std::marker::{Brand, Model};
+use std::sync::ledger::{Blank, Ledger};
+
+/// The most claims of an environment.
+pub const MOST_CLAIMS: usize = 8;
+
+/// The claims that stand, by rising number. Room for eight of each environment is taken at the start, so that no claim
+/// takes memory.
+#[derive(Drop)]
+pub struct Claims {
+    rows: Vec<Row>,
+    next: u64,
+    envs: u8,
+}
+
+impl Model for Claims {
+    ghost use Rattle.std.specs.Prelude.{vec_capacity};
+    ghost use Rattle.filter_tree.specs.ClaimBook.{ClaimBook, HasRoom};
+
+    ghost Value = { ClaimBook };
+
+    ghost view = { λ c. record { claims = c.rows.items; next = c.next; envs = c.envs } };
+
+    ghost invariant = { λ c. HasRoom (record { claims = c.rows.items; next = c.next; envs = c.envs }) (vec_capacity c.rows) };
+}
+
+impl Claims {
+    /// No claims, with room for eight of each of so many environments. An `Err` says that there is no memory for them.
+    pub fn new(alloc: Global, envs: u8) -> Result<Claims, OutOfMemory>
+        ensures { IfOk result (λ c. c ≡ record { claims = []; next = 0; envs = envs }) }
+    {
+        let rows = Vec::with_capacity(alloc, usize::from(envs) * MOST_CLAIMS)?;
+        Ok(Claims {
+            rows,
+            next: 0,
+            envs,
+        })
+    }
+
+    /// Claims for an environment the packets that the filter matches, into a page. The answer is the claim's number. It
+    /// is refused if the environment has eight claims, and then if the filter overlaps one of another environment.
+    pub fn claim(&mut self, env: u8, filter: Filter, page: u32) -> Result<u32, ClaimNo>
+        requires env { env < self.old.envs }
+        requires numbers { self.old.next < 2 ^ 32 }
+        ensures answer { result ≡ claim_answer self.old env filter }
+        ensures after { self.new ≡ claimed self.old env filter page }
+    {
+        if let Some(no) = self.refusal(env, &filter) {
+            return Err(no);
+        }
+        let id = self.next as u32;
+        let claim = Claim { id, env, page };
+        self.rows.push(Row { claim, filter }).unwrap();
+        self.next += 1;
+        Ok(id)
+    }
+
+    /// Why the environment's filter is refused, if it is.
+    fn refusal(&self, env: u8, filter: &Filter) -> Option<ClaimNo>
+        ensures { result ≡ claim_refusal self.now env filter.now }
+    {
+        if count_of_env(&self.rows, env) >= MOST_CLAIMS {
+            return Some(ClaimNo::Full);
+        }
+        let claim = in_the_way(&self.rows, env, filter)?;
+        Some(ClaimNo::Overlap(claim.id))
+    }
+
+    /// Withdraws the environment's claim of this number. The answer is whether there was one; if not, nothing changes.
+    pub fn unclaim(&mut self, env: u8, id: u32) -> bool
+        ensures answer { result ≡ is_some (claim_held self.old env id) }
+        ensures after { self.new ≡ without (is_claim env id) self.old }
+    {
+        let stood = self.held(env, id).is_some();
+        withdraw(&mut self.rows, env, id);
+        stood
+    }
+
+    /// The environment's claim of this number, if it stands.
+    pub fn held(&self, env: u8, id: u32) -> Option<Claim>
+        ensures { result ≡ claim_held self.now env id }
+    {
+        claim_held(&self.rows, env, id)
+    }
+
+    /// The claim to which a packet goes: the lowest whose filter matches it. Each field that is read of the packet is a
+    /// step.
+    pub fn find<L: Ledger>(&self, packet: &Packet<'_>, steps: &mut Steps<L>) -> Option<Claim>
+        ensures answer { result ≡ claim_for self.now packet.now }
+        ensures steps { steps.new ≤ steps.old + atom_count self.now }
+    {
+        claim_for(&self.rows, packet, steps)
+    }
+
+    /// The same, where nobody counts the steps.
+    pub fn claim_for(&self, packet: &Packet<'_>) -> Option<Claim>
+        ensures { result ≡ claim_for self.now packet.now }
+    {
+        self.find_from::<Brand>(packet, Blank::new(1))
+    }
+
+    /// The same, with the steps in a ledger that is begun here.
+    fn find_from<L: Ledger>(&self, packet: &Packet<'_>, blank: Blank) -> Option<Claim>
+        requires name { blank.name ≡ L.name }
+        requires parts { blank.parts ≡ L.parts }
+        requires some { 0 < L.parts }
+        ensures { result ≡ claim_for self.now packet.now }
+    {
+        self.find(packet, &mut Steps::<L>::new(blank))
+    }
+
+    /// Withdraws the claims whose packets go into a page.
+    pub fn drop_page(&mut self, page: u32)
+        ensures { self.new ≡ without (is_into page) self.old }
+    {
+        withdraw_into(&mut self.rows, page);
+    }
+
+    /// Withdraws the claims of an environment.
+    pub fn clear_env(&mut self, env: u8)
+        ensures { self.new ≡ without (is_of_env env) self.old }
+    {
+        withdraw_of(&mut self.rows, env);
+    }
+}

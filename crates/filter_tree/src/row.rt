@@ -1,0 +1,76 @@
+//! A claim with its filter.
+ghost use Rattle.std.specs.Prelude.{◌≡◌, ◌+◌, ◌≤◌, length};
+ghost use Rattle.filter_tree.specs.ClaimBook.{is_of_env};
+ghost use Rattle.filter_tree.specs.Claims.{claim_seen, is_claim, is_for, is_in_the_way, is_into};
+
+use crate::claim::Claim;
+use crate::steps::Steps;
+use filter_core::{Filter, Layout, Packet};
+use std::marker::Model;
+use std::sync::ledger::Ledger;
+
+/// A claim with its filter.
+#[derive(Drop)]
+pub(crate) struct Row {
+    pub(crate) claim: Claim,
+    pub(crate) filter: Filter,
+}
+
+impl Model for Row {
+    ghost use Rattle.filter_tree.specs.ClaimBook.{ClaimValue};
+
+    ghost Value = { ClaimValue };
+
+    ghost view = { λ row. record { id = row.claim.id; env = row.claim.env; filter = row.filter; page = row.claim.page } };
+}
+
+impl Row {
+    /// The claim.
+    pub(crate) fn claim(&self) -> Claim
+        ensures { result ≡ claim_seen self.now }
+    {
+        self.claim
+    }
+
+    /// Whether it is the environment's.
+    pub(crate) fn is_of_env(&self, env: u8) -> bool
+        ensures { result ≡ is_of_env env self.now }
+    {
+        self.claim.env == env
+    }
+
+    /// Whether it is the environment's claim of this number.
+    pub(crate) fn is_claim(&self, env: u8, id: u32) -> bool
+        ensures { result ≡ is_claim env id self.now }
+    {
+        self.claim.id == id && self.claim.env == env
+    }
+
+    /// Whether its packets go into the page.
+    pub(crate) fn is_into(&self, page: u32) -> bool
+        ensures { result ≡ is_into page self.now }
+    {
+        self.claim.page == page
+    }
+
+    /// Whether it is another environment's and some packet is matched by its filter and by the one that is laid out.
+    pub(crate) fn is_in_the_way(&self, env: u8, filter: &Layout<'_>) -> bool
+        ensures { result ≡ is_in_the_way env filter.now self.now }
+    {
+        self.claim.env != env && filter.overlaps(&self.filter)
+    }
+
+    /// Whether its filter matches a packet. Each field that is read of the packet is a step.
+    pub(crate) fn is_for<L: Ledger>(&self, packet: &Packet<'_>, steps: &mut Steps<L>) -> bool
+        ensures answer { result ≡ is_for packet.now self.now }
+        ensures steps { steps.new ≤ steps.old + length self.now.filter }
+    {
+        for atom in self.filter.atoms() {
+            steps.tick();
+            if !atom.matches(packet) {
+                return false;
+            }
+        }
+        true
+    }
+}
