@@ -1,0 +1,65 @@
+-- What a line of a schedule says by itself.
+use Rattle.std.specs.Prelude.{ℕ, ◌-◌, List, Option, Some, None, Result, Ok, Err, nat_le, if◌then◌else◌}
+use Rattle.std.specs.Option.{ok_or, option_and_then}
+use Rattle.std.specs.Result.{result_ok}
+use Rattle.aegis_limits.specs.Limits.{most_ticks}
+use Rattle.hex.specs.Hex.{decode_of}
+use Rattle.line_text.specs.Number.{number_of}
+use Rattle.external_event.specs.declared.event.Act.{Act}
+use Rattle.external_event.specs.declared.event.Act.TheVariants.{Packet, Line}
+use Rattle.external_event.specs.EventValue.{EventValue}
+use Rattle.external_event.specs.Limits.{lines}
+use Rattle.external_event.specs.Packet.{packet_of}
+use Rattle.boot_schedule.specs.declared.fault.ScheduleWhy.{ScheduleWhy}
+use Rattle.boot_schedule.specs.declared.fault.ScheduleWhy.TheVariants.{Syntax, Range, Hex}
+use Rattle.boot_schedule.specs.Forms.{EventWords, PacketWords, LineWords, RevokeWords, event_form, line_words}
+
+-- the greatest number of an environment that may be asked for pages, and the most pages
+abbrev pub last_env : ℕ
+last_env = 31
+
+abbrev pub most_asked : ℕ
+most_asked = 4096
+
+-- what a line says: an event, or that an environment is asked for pages at a time
+pub data Saying : Type 0 where
+  Happens : (event : EventValue) → Saying
+  Asks : (time : ℕ) → Saying
+
+-- what is said next, unless there is a fault
+abbrev pub and_then : {X Y : Type 0} → (X → Result Y ScheduleWhy) → Result X ScheduleWhy → Result Y ScheduleWhy
+and_then next (Ok x) = next x
+and_then next (Err why) = Err why
+
+-- a number, at most so much
+abbrev pub number_within : ℕ → List ℕ → Option ℕ
+number_within most word = option_and_then (λ n. if nat_le n most then Some n else None) (number_of word)
+
+abbrev pub in_range : ℕ → List ℕ → Result ℕ ScheduleWhy
+in_range most word = ok_or (number_within most word) Range
+
+-- the bytes of a packet
+abbrev pub bytes_said : List ℕ → Result (List ℕ) ScheduleWhy
+bytes_said word = and_then (λ bytes. ok_or (packet_of bytes) Range) (ok_or (result_ok (decode_of word)) Hex)
+
+abbrev pub happens : ℕ → Act → Saying
+happens time act = Happens (record { time = time; act = act })
+
+-- what the words of each form say, the time first
+abbrev pub words_said : EventWords → Result Saying ScheduleWhy
+words_said (PacketWords time word) =
+    and_then (λ t. and_then (λ bytes. Ok (happens t (Packet bytes))) (bytes_said word)) (in_range most_ticks time)
+words_said (LineWords time number) =
+    and_then (λ t. and_then (λ n. Ok (happens t (Line n))) (in_range (lines - 1) number)) (in_range most_ticks time)
+words_said (RevokeWords time env count grace) =
+    and_then (λ t.
+    and_then (λ _.
+    and_then (λ _.
+    and_then (λ _. Ok (Asks t)) (in_range most_ticks grace))
+    (in_range most_asked count))
+    (in_range last_env env))
+    (in_range most_ticks time)
+
+-- what a line says
+abbrev pub said : List ℕ → Result Saying ScheduleWhy
+said text = and_then words_said (ok_or (option_and_then event_form (line_words text)) Syntax)

@@ -1,0 +1,78 @@
+-- The first fault of a schedule, and its events if it has none.
+use Rattle.std.specs.Prelude.{◌≡◌, ◌&&◌, ℕ, suc, Bool, true, List, [], ◌∷◌, Option, Some, None, Result, Ok, Err, nat_lt, nat_le, if◌then◌else◌}
+use Rattle.std.specs.List.{filter_map}
+use Rattle.std.specs.Option.{option_map, option_map_or, option_or}
+use Rattle.line_text.specs.Lines.{LineValue, lines_of}
+use Rattle.external_event.specs.EventValue.{EventValue}
+use Rattle.boot_schedule.specs.declared.fault.ScheduleFault.{ScheduleFault}
+use Rattle.boot_schedule.specs.declared.fault.ScheduleFault.TheVariants.{At, OutOfMemory}
+use Rattle.boot_schedule.specs.declared.fault.ScheduleWhy.{ScheduleWhy}
+use Rattle.boot_schedule.specs.declared.fault.ScheduleWhy.TheVariants.{Order, Many, NotBuilt}
+use Rattle.boot_schedule.specs.Forms.{statements_of}
+use Rattle.boot_schedule.specs.Saying.{Saying, Happens, Asks, said}
+
+-- the events of the longest schedule
+abbrev pub most_events : ℕ
+most_events = 65536
+
+abbrev pub time_of : Saying → ℕ
+time_of (Happens event) = event.time
+time_of (Asks time) = time
+
+-- to ask for pages isn't built
+abbrev pub unbuilt : Saying → Option ScheduleWhy
+unbuilt (Happens event) = None
+unbuilt (Asks time) = Some NotBuilt
+
+-- the fault of what a line says, which so many others stand before, the last of them of this time
+abbrev pub place_fault : ℕ → ℕ → Saying → Option ScheduleWhy
+place_fault before others saying =
+    if nat_lt (time_of saying) before then Some Order else
+    if nat_le most_events others then Some Many else
+    unbuilt saying
+
+-- the fault of a line
+abbrev pub fault_of : ℕ → ℕ → Result Saying ScheduleWhy → Option ScheduleWhy
+fault_of before others (Err why) = Some why
+fault_of before others (Ok saying) = place_fault before others saying
+
+abbrev pub line_fault : ℕ → ℕ → List ℕ → Option ScheduleWhy
+line_fault before others text = fault_of before others (said text)
+
+-- the event of a line, if it says one
+abbrev pub event_of : Result Saying ScheduleWhy → Option EventValue
+event_of (Err why) = None
+event_of (Ok (Happens event)) = Some event
+event_of (Ok (Asks time)) = None
+
+abbrev pub event_said : List ℕ → Option EventValue
+event_said text = event_of (said text)
+
+-- the first fault of the lines which so many others stand before, the last of them of this time
+abbrev pub lines_fault : ℕ → ℕ → List LineValue → Option ScheduleFault
+lines_fault before others [] = None
+lines_fault before others (line ∷ lines) =
+    option_or (option_map (λ why. At line.number why) (line_fault before others line.text))
+    (lines_fault (option_map_or (λ (event : EventValue). event.time) (event_said line.text) 0) (suc others) lines)
+
+-- the events that lines say
+abbrev pub events_said : List LineValue → List EventValue
+events_said lines = filter_map (λ (line : LineValue). event_said line.text) lines
+
+-- the first fault of a schedule
+unfoldable pub schedule_fault : List ℕ → Option ScheduleFault
+schedule_fault text = lines_fault 0 0 (statements_of (lines_of text))
+
+-- The events of a schedule, in their order. It is meant where schedule_fault finds nothing.
+unfoldable pub schedule_of : List ℕ → List EventValue
+schedule_of text = events_said (statements_of (lines_of text))
+
+-- whether times don't fall from one event to the next, from this time on
+abbrev pub are_in_order : ℕ → List EventValue → Bool
+are_in_order before [] = true
+are_in_order before (event ∷ events) = nat_le before event.time && are_in_order event.time events
+
+-- an answer that there is no schedule is this fault, unless memory ran out
+abbrev pub IsFirst : Option ScheduleFault → ScheduleFault → Type 0
+IsFirst fault OutOfMemory = Unit {0}
+IsFirst fault (At line why) = fault ≡ Some (At line why)

@@ -1,0 +1,69 @@
+//! Why a schedule is refused, and in which line.
+ghost use Rattle.boot_schedule.specs.declared.fault.ScheduleFault.TheVariants.{OutOfMemory as NoMemory};
+ghost use Rattle.boot_schedule.specs.Names.{schedule_why_text};
+ghost use Rattle.std.specs.Prelude.{◌≡◌};
+
+use std::alloc::{AllocError, AllocFailed};
+
+/// Which rule of a schedule a line breaks. `docs/FORMATS.md`, "Schedule", has the rules.
+#[derive(Clone, Copy)]
+pub enum ScheduleWhy {
+    /// The line has another form.
+    Syntax,
+    /// A number is none or passes its limit, or a packet is longer than 1,514 bytes.
+    Range,
+    /// The bytes of a packet aren't pairs of hexadecimal digits.
+    Hex,
+    /// The time is before that of the line before.
+    Order,
+    /// It is the line of a 65,537th event.
+    Many,
+    /// The line asks an environment for pages, which isn't built.
+    NotBuilt,
+}
+
+impl ScheduleWhy {
+    /// The name that is printed.
+    pub fn name(self) -> &'static str
+        ensures { result.now ≡ schedule_why_text self }
+    {
+        match self {
+            ScheduleWhy::Syntax => "Syntax",
+            ScheduleWhy::Range => "Range",
+            ScheduleWhy::Hex => "Hex",
+            ScheduleWhy::Order => "Order",
+            ScheduleWhy::Many => "Many",
+            ScheduleWhy::NotBuilt => "NotBuilt",
+        }
+    }
+}
+
+/// Why there is no schedule.
+#[derive(Clone, Copy)]
+pub enum ScheduleFault {
+    /// A line is at fault, by its number from 1.
+    At {
+        /// The line's number.
+        line: u32,
+        /// The rule that it breaks.
+        why: ScheduleWhy,
+    },
+    /// Memory ran out.
+    OutOfMemory,
+}
+
+impl From<AllocError> for ScheduleFault {
+    ghost from_gives = { λ _ e. e ≡ NoMemory };
+
+    fn from(_e: AllocError) -> ScheduleFault {
+        ScheduleFault::OutOfMemory
+    }
+}
+
+impl<T: Drop> From<AllocFailed<T>> for ScheduleFault {
+    ghost from_gives = { λ _ e. e ≡ NoMemory };
+
+    fn from(_e: AllocFailed<T>) -> ScheduleFault {
+        ScheduleFault::OutOfMemory
+    }
+}

@@ -1,0 +1,112 @@
+//! What the words of a schedule's lines mean, if they are in their ranges.
+ghost use Rattle.std.specs.Prelude.{◌≡◌, ◌≤◌, ◌-◌, IfOk, IfSome};
+ghost use Rattle.aegis_limits.specs.Limits.{most_ticks};
+ghost use Rattle.external_event.specs.Limits.{lines};
+ghost use Rattle.boot_schedule.specs.declared.fault.ScheduleFault.TheVariants.{At};
+ghost use Rattle.boot_schedule.specs.Answers.{Says, parts_seen, saying_seen};
+ghost use Rattle.boot_schedule.specs.Saying.{bytes_said, in_range, number_within, words_said};
+
+use crate::fault::{ScheduleFault, ScheduleWhy};
+use crate::statement::Parts;
+use aegis_limits::MOST_TICKS;
+use external_event::{Act, Event, LINES, PacketBytes};
+use hex::FromHexError;
+use line_text::{Line, number};
+use std::alloc::Global;
+
+/// The greatest number of an environment that may be asked for pages.
+const LAST_ENVIRONMENT: u32 = 31;
+/// The most pages for which an environment is asked at once.
+const MOST_ASKED: u32 = 4096;
+/// The greatest number of an interrupt line.
+const LAST_LINE: u32 = LINES as u32 - 1;
+
+/// What a line says.
+#[derive(Drop)]
+pub(crate) enum Said {
+    /// An event.
+    Event(Event),
+    /// That an environment is asked for pages, at a time.
+    Revocation(u32),
+}
+
+/// What the words of a line say.
+pub(crate) fn words_said(
+    alloc: Global,
+    line: &Line<'_>,
+    parts: Parts<'_>,
+) -> Result<Said, ScheduleFault>
+    ensures { Says saying_seen line.now.number result (words_said (parts_seen parts.entry)) }
+{
+    match parts {
+        Parts::Packet { time, bytes } => {
+            let time = in_range(line, time, MOST_TICKS)?;
+            let packet = bytes_said(alloc, line, bytes)?;
+            let act = Act::Packet(packet);
+            Ok(Said::Event(Event { time, act }))
+        }
+        Parts::Line { time, number } => {
+            let time = in_range(line, time, MOST_TICKS)?;
+            let number = in_range(line, number, LAST_LINE)?;
+            let act = Act::Line(number as u8);
+            Ok(Said::Event(Event { time, act }))
+        }
+        Parts::Revoke {
+            time,
+            env,
+            count,
+            grace,
+        } => {
+            let time = in_range(line, time, MOST_TICKS)?;
+            in_range(line, env, LAST_ENVIRONMENT)?;
+            in_range(line, count, MOST_ASKED)?;
+            in_range(line, grace, MOST_TICKS)?;
+            Ok(Said::Revocation(time))
+        }
+    }
+}
+
+/// The number of a word, at most so much.
+fn number_within(word: &[u8], most: u32) -> Option<u32>
+    ensures value { result ≡ number_within most word.now }
+    ensures within { IfSome result (λ n. n ≤ most) }
+{
+    let number = number(word)?;
+    if number <= most { Some(number) } else { None }
+}
+
+/// The number of a line's word, at most so much.
+fn in_range(line: &Line<'_>, word: &[u8], most: u32) -> Result<u32, ScheduleFault>
+    ensures said { Says (λ n. n) line.now.number result (in_range most word.now) }
+    ensures within { IfOk result (λ n. n ≤ most) }
+{
+    match number_within(word, most) {
+        Some(number) => Ok(number),
+        None => Err(at(line, ScheduleWhy::Range)),
+    }
+}
+
+/// The packet of a line's word.
+fn bytes_said(alloc: Global, line: &Line<'_>, word: &[u8]) -> Result<PacketBytes, ScheduleFault>
+    ensures { Says (λ packet. packet) line.now.number result (bytes_said word.now) }
+{
+    let bytes = match hex::decode(alloc, word) {
+        Ok(bytes) => bytes,
+        Err(FromHexError::OutOfMemory) => return Err(ScheduleFault::OutOfMemory),
+        Err(_) => return Err(at(line, ScheduleWhy::Hex)),
+    };
+    match PacketBytes::from_bytes(bytes) {
+        Some(packet) => Ok(packet),
+        None => Err(at(line, ScheduleWhy::Range)),
+    }
+}
+
+/// The fault of a line.
+pub(crate) fn at(line: &Line<'_>, why: ScheduleWhy) -> ScheduleFault
+    ensures { result ≡ At line.now.number why }
+{
+    ScheduleFault::At {
+        line: line.number,
+        why,
+    }
+}

@@ -1,0 +1,81 @@
+//! The reader of schedules, line by line.
+ghost use Rattle.std.specs.Prelude.{◌≡◌, ◌<◌, ◌≤◌, ◌^◌, None, Some, length, IfErr, IfOk};
+ghost use Rattle.std.specs.Option.{option_map};
+ghost use Rattle.boot_schedule.specs.declared.fault.ScheduleFault.TheVariants.{At};
+ghost use Rattle.boot_schedule.specs.Answers.{Says, saying_seen};
+ghost use Rattle.boot_schedule.specs.Saying.{said};
+ghost use Rattle.boot_schedule.specs.Schedule.{IsFirst, event_said, line_fault, schedule_fault, schedule_of, time_of};
+
+use crate::fault::{ScheduleFault, ScheduleWhy};
+use crate::lines::statements_of;
+use crate::ranges::{Said, at, words_said};
+use crate::statement::parts_of;
+use external_event::Event;
+use line_text::Line;
+use std::alloc::Global;
+
+/// The events of the longest schedule.
+pub const MOST_EVENTS: usize = 65_536;
+
+/// Reads a schedule, or answers its first fault, unless memory runs out. `docs/FORMATS.md`, "Schedule", has the
+/// format and the faults in their order.
+#[tactic(auto, unfolding(crate::specs::Schedule::schedule_fault, crate::specs::Schedule::schedule_of))]
+pub fn read_schedule(alloc: Global, text: &[u8]) -> Result<Vec<Event>, ScheduleFault>
+    requires { length text.now < 2 ^ 27 }
+    ensures ok { IfOk result (λ events. (schedule_fault text.now ≡ None) × (events.items ≡ schedule_of text.now)) }
+    ensures err { IfErr result (IsFirst (schedule_fault text.now)) }
+{
+    let mut events = Vec::new(alloc);
+    let mut before = 0;
+    for line in statements_of(text) {
+        let event = read_event(alloc, &line, before, events.len())?;
+        before = event.time;
+        events.push(event)?;
+    }
+    Ok(events)
+}
+
+/// The event of a line which so many others stand before, the last of them of this time.
+fn read_event(
+    alloc: Global,
+    line: &Line<'_>,
+    before: u32,
+    others: usize,
+) -> Result<Event, ScheduleFault>
+    ensures ok { IfOk result (λ event. (line_fault before others line.now.text.now ≡ None) × (event_said line.now.text.now ≡ Some event)) }
+    ensures err { IfErr result (IsFirst (option_map (λ why. At line.now.number why) (line_fault before others line.now.text.now))) }
+{
+    let said = said(alloc, line)?;
+    if said.time() < before {
+        return Err(at(line, ScheduleWhy::Order));
+    }
+    if others >= MOST_EVENTS {
+        return Err(at(line, ScheduleWhy::Many));
+    }
+    match said {
+        Said::Event(event) => Ok(event),
+        Said::Revocation(_) => Err(at(line, ScheduleWhy::NotBuilt)),
+    }
+}
+
+/// What a line says by itself.
+fn said(alloc: Global, line: &Line<'_>) -> Result<Said, ScheduleFault>
+    ensures { Says saying_seen line.now.number result (said line.now.text.now) }
+{
+    match parts_of(line.text) {
+        Some(parts) => words_said(alloc, line, parts),
+        None => Err(at(line, ScheduleWhy::Syntax)),
+    }
+}
+
+impl Said {
+    /// The time that it names.
+    fn time(&self) -> u32
+        ensures { result ≡ time_of (saying_seen self.now) }
+    {
+        match self {
+            Said::Event(event) => event.time,
+            Said::Revocation(time) => *time,
+        }
+    }
+}
