@@ -19,12 +19,7 @@ use frame_store::Frames;
 use guest_memory::{Space, guest_range};
 
 /// The bytes of a put, so many from an address on, if their range is good; none need no range.
-fn put_bytes<'a>(
-    frames: &'a Frames,
-    space: &Space<'_>,
-    address: u32,
-    size: u32,
-) -> Option<&'a [u8]>
+fn put_bytes<'a>(frames: &'a Frames, space: &Space<'_>, address: u32, size: u32) -> Option<&'a [u8]>
     ensures { option_map (λ r. r.now) result ≡ bytes_to_put (look frames.now (lookup space.now)) address size }
 {
     if size == 0 {

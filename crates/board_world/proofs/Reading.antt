@@ -3,9 +3,7 @@ use Rattle.std.proofs.Common.{◌≡◌, ℕ, Option, Some, None, Bool, is_some,
 use Rattle.std.specs.Option.{option_map}
 use Rattle.std.specs.Prelude.{if◌then◌else◌, slice_get}
 use Rattle.env_frames.specs.Frame.{mapping_at}
-use Rattle.world_model.specs.declared.life.Life.{Life}
 use Rattle.world_model.specs.Book.{running}
-use Rattle.world_model.specs.Page.{Mapped}
 use Rattle.world_model.specs.PageCalls.{is_guaranteed}
 use Rattle.world_model.specs.Queries.{life_at}
 use Rattle.world_model.specs.Solo.{Solo, kept_at, sight}
@@ -15,7 +13,7 @@ use Rattle.board_world.specs.Showing.{page_seen, solo_of, solo_or_absent, world_
 use Rattle.board_world.specs.Sound.{IsSound}
 use Rattle.board_world.specs.Doing.{look_of}
 use Rattle.board_world.proofs.Pages.{seen_kept}
-use Rattle.board_world.proofs.Seen.{its_look, its_mappings, runner_runs, runner_seen, kept_seen}
+use Rattle.board_world.proofs.Seen.{its_look, runner_runs, runner_seen, kept_seen}
 use Rattle.board_world.proofs.Slots.{is_there}
 
 -- where the VPNs of the runner lead

@@ -1,10 +1,6 @@
 -- Whom it accepts changes nobody's life or pages.
-use Rattle.std.proofs.Common.{arith}
 use Rattle.board_world.specs.Doing.{accepting}
-use Rattle.board_world.proofs.Booked.{keep_booked}
-use Rattle.board_world.proofs.Lists.{length-changed}
-use Rattle.board_world.proofs.Parted.{keep_parted}
-use Rattle.board_world.proofs.Sound.{keep_manned, keeps_accepting}
+use Rattle.board_world.proofs.Sound.{keeps_accepting}
 use Rattle.board_world.proofs.Staying.{sound_env}
 use Rattle.aegis_calls.proofs.board.Board.accept.Goals as goal
 

@@ -1,12 +1,8 @@
 -- A burial leaves the others' lives and pages.
 use Rattle.std.proofs.Common.{ap, ◌∙◌}
 use Rattle.board_world.specs.Shown.{Shown, shown}
-use Rattle.board_world.specs.Doing.{buried, dead_frame}
+use Rattle.board_world.specs.Doing.{buried}
 use Rattle.board_world.specs.Sound.{HasNoPart}
-use Rattle.board_world.proofs.Booked.{death_booked}
-use Rattle.board_world.proofs.Lists.{length-changed}
-use Rattle.board_world.proofs.Parted.{death_parted}
-use Rattle.board_world.proofs.Sound.{burial_manned}
 use Rattle.board_world.proofs.Staying.{sound_burial}
 use Rattle.aegis_calls.proofs.board.Board.bury.Goals as goal
 

@@ -1,6 +1,5 @@
 -- The runner is one of the environments, and each end of a tick is what the timer brings.
-use Rattle.std.proofs.Common.{◌≡◌, ℕ, inl, inr, sym, ap, ◌∙◌, subst, arith}
-use Rattle.slot_vector.specs.declared.timer.Timer.{Timer}
+use Rattle.std.proofs.Common.{inl, inr, sym, ap, ◌∙◌, subst, arith}
 use Rattle.slot_vector.specs.declared.timer.Timer.TheVariants as timer
 use Rattle.slot_vector.specs.Slices.{after_timer}
 use Rattle.world_model.specs.declared.life.Cause.TheVariants as cause

@@ -2,7 +2,7 @@
 use Rattle.std.proofs.Common.{◌≡◌, ap, ◌∙◌, arith}
 use Rattle.world_model.specs.Book.{running}
 use Rattle.board_world.specs.Shown.{Shown, shown}
-use Rattle.board_world.specs.Doing.{buried, died, slots_released}
+use Rattle.board_world.specs.Doing.{buried, died}
 use Rattle.board_world.proofs.Seen.{named}
 use Rattle.board_world.proofs.Sound.{none_left, release_manned, runner_within}
 use Rattle.board_world.proofs.Staying.{sound_machine, sound_slots}

@@ -1,7 +1,7 @@
 -- The slot is there and the runner's to drop, and whoever it is left to isn't dead.
-use Rattle.std.proofs.Common.{◌≡◌, ap, sym, subst, ◌∙◌, Option, Result, Ok}
+use Rattle.std.proofs.Common.{◌≡◌, ap, sym, subst, ◌∙◌, Result, Ok}
 use Rattle.std.specs.Prelude.{OnOk}
-use Rattle.slot_vector.specs.Slices.{Slices, hold_at, refusal_of_drop, unless, with_hold}
+use Rattle.slot_vector.specs.Slices.{Slices, hold_at, unless, with_hold}
 use Rattle.world_model.specs.declared.code.Code.{Code}
 use Rattle.world_model.specs.May.{MayDrop}
 use Rattle.world_model.specs.SlotCalls.{dropped}

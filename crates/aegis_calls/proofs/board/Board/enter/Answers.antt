@@ -1,11 +1,10 @@
 -- The target's context page is there; and whom it accepts, and which registers are kept, changes nobody's life or pages.
-use Rattle.std.proofs.Common.{arith, ap, sym, ◌∙◌, ◌≡◌, length}
+use Rattle.std.proofs.Common.{arith, ap, sym, ◌≡◌, length}
 use Rattle.board_world.specs.Doing.{accepting, with_registers}
-use Rattle.board_world.specs.Shown.{Shown, changed, with_list}
+use Rattle.board_world.specs.Shown.{Shown}
 use Rattle.board_world.proofs.Lists.{length-changed}
-use Rattle.board_world.proofs.Booked.{keep_booked}
-use Rattle.board_world.proofs.Parted.{context_there, keep_parted}
-use Rattle.board_world.proofs.Sound.{keep_manned, keeps_accepting, keeps_registers}
+use Rattle.board_world.proofs.Parted.{context_there}
+use Rattle.board_world.proofs.Sound.{keeps_accepting, keeps_registers}
 use Rattle.board_world.proofs.Staying.{sound_env, sound_frames, sound_machine}
 use Rattle.aegis_calls.proofs.board.Board.enter.Goals as goal
 

@@ -1,14 +1,11 @@
 -- Whoever is given the slice lives and has its context page, and kept registers change nobody's life or pages.
-use Rattle.std.proofs.Common.{◌≡◌, length, ap, sym, subst, ◌∙◌, arith}
+use Rattle.std.proofs.Common.{sym, subst}
 use Rattle.std.specs.Prelude.{false}
-use Rattle.slot_vector.specs.Slices.{given_to}
 use Rattle.board_world.specs.Doing.{with_registers}
 use Rattle.board_world.specs.Shown.{Shown}
 use Rattle.board_world.specs.Sound.{IsLive}
-use Rattle.board_world.proofs.Lists.{length-changed}
-use Rattle.board_world.proofs.Booked.{keep_booked}
-use Rattle.board_world.proofs.Parted.{context_there, keep_parted}
-use Rattle.board_world.proofs.Sound.{given_manned, keep_manned, keeps_registers}
+use Rattle.board_world.proofs.Parted.{context_there}
+use Rattle.board_world.proofs.Sound.{given_manned, keeps_registers}
 use Rattle.aegis_calls.proofs.Called.{slice_given}
 use Rattle.board_world.proofs.Staying.{sound_env, sound_frames, sound_machine, sound_slots}
 use Rattle.aegis_calls.proofs.board.Board.give.Goals as goal

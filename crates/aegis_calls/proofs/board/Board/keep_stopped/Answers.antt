@@ -1,9 +1,6 @@
 -- Kept registers change nobody's life or pages.
 use Rattle.board_world.specs.Doing.{with_registers}
-use Rattle.board_world.proofs.Lists.{length-changed}
-use Rattle.board_world.proofs.Booked.{keep_booked}
-use Rattle.board_world.proofs.Parted.{keep_parted}
-use Rattle.board_world.proofs.Sound.{keep_manned, keeps_registers}
+use Rattle.board_world.proofs.Sound.{keeps_registers}
 use Rattle.board_world.proofs.Staying.{sound_env, sound_machine}
 use Rattle.aegis_calls.proofs.board.Board.keep_stopped.Goals as goal
 

@@ -1,7 +1,4 @@
 -- The console of the runner grows alone.
-use Rattle.std.proofs.Common.{ap, ◌∙◌}
-use Rattle.world_model.specs.Book.{running}
-use Rattle.board_world.specs.Shown.{Shown}
 use Rattle.board_world.proofs.Staying.{sound_env}
 use Rattle.board_world.proofs.Sound.{keeps_putting}
 use Rattle.aegis_calls.proofs.board.Board.put.Goals as goal

@@ -1,6 +1,5 @@
 -- What a granted call does it may do.
 use Rattle.std.proofs.Common.{ap, sym, subst, ◌∙◌}
-use Rattle.mips_exec.specs.declared.registers.Cpu.{Cpu}
 use Rattle.world_model.specs.Deed.{deed_of}
 use Rattle.world_model.specs.May.{May}
 use Rattle.board_world.specs.Shown.{Shown}

@@ -1,5 +1,5 @@
 -- Each forfeit comes first in the rest of the turn, and lowers what is owed.
-use Rattle.std.proofs.Common.{◌<◌, sym, ap, ◌∙◌, subst, arith}
+use Rattle.std.proofs.Common.{sym, ap, ◌∙◌, arith}
 use Rattle.slot_vector.specs.Laws.{owed_by_all}
 use Rattle.slot_vector.specs.Slices.{told_of}
 use Rattle.slot_vector.proofs.Whole.{pay_lowers}

@@ -1,8 +1,8 @@
 -- The slots once the timer counted, and what it brought is settled.
-use Rattle.std.proofs.Common.{◌≡◌, ap, ◌∙◌, arith, length}
+use Rattle.std.proofs.Common.{ap, ◌∙◌}
 use Rattle.world_model.specs.Book.{running}
 use Rattle.board_world.specs.Shown.{Shown}
-use Rattle.board_world.proofs.Sound.{runner_within, timer_manned}
+use Rattle.board_world.proofs.Sound.{timer_manned}
 use Rattle.board_world.proofs.Staying.{sound_machine, sound_slots}
 use Rattle.aegis_calls.proofs.board.Board.use_tick.Goals as goal
 
