@@ -20,7 +20,7 @@ use Rattle.run_model.specs.Run.{happens_in, next_phases, next_world, run_on}
 use Rattle.world_model.specs.Solo.{absent, dead, is_dead}
 use Rattle.world_model.specs.Table.{set_at}
 use Rattle.world_model.specs.Event.{Occurrence, Schedule, happen}
-use Rattle.world_model.specs.Tick.{act_now, clock, count_when, goes_on, grace_of, judged, kill, owes_more, pay_row, phases_after, run_out, slice_end, step_when, take_turn, tick_phases, timer, turn_when}
+use Rattle.world_model.specs.Tick.{act_now, clock, count_when, goes_on, grace_of, judged, kill, owes_more, pay_row, phases_after, run_out, slice_end, step, step_when, take_turn, tick_phases, timer, turn, turn_when}
 use Rattle.world_model.specs.SlotCalls.{stop_row}
 use Rattle.call_verdicts.specs.Granted.{GrantedMay}
 use Rattle.world_model.specs.World.{World, Reply, after, no_change, no_items, only, run_phases}
@@ -30,7 +30,7 @@ use Rattle.run_model.proofs.Replies.{accounts, act_accounts, death_accounts, die
 use Rattle.run_model.proofs.Rows.{Adds, AreQuiet, Balances, adds_over, adds_pay, adds_quiet, adds_run, quiet_both, quiet_end, quiet_slot, quiet_stop}
 
 -- A phase that keeps the accounts, and phases that do.
-abbrev KeepsAccounts : (World → Reply) → Type 0
+abbrev pub KeepsAccounts : (World → Reply) → Type 0
 KeepsAccounts phase = (w : World) → IsAccounted w → IsAccounted (after w (phase w))
 
 abbrev KeepAccounts : List (World → Reply) → Type 0
@@ -46,7 +46,7 @@ no_change_accounts : KeepsAccounts no_change
 no_change_accounts w good = mild_accounts w (no_change w) good (no_change_is_mild w good)
 
 -- What happens from outside.
-happen_accounts : (what : Occurrence) → KeepsAccounts (happen what)
+pub happen_accounts : (what : Occurrence) → KeepsAccounts (happen what)
 happen_accounts what w good = no_change_accounts w good
 
 -- The turn. Each forfeit is of one that lives and owes, and who runs lives and owes nothing.
@@ -193,14 +193,20 @@ count_accounts w (Some r) is good = by_test (r.left - 1 == 0)
     by_test true = run_out_accounts w r.env r.phase good (good.runner_lives r is)
     by_test false = goes_on_accounts w (record r { left = r.left - 1 }) good (good.runner_lives r is)
 
-timer_accounts : KeepsAccounts timer
+pub timer_accounts : KeepsAccounts timer
 timer_accounts w good =
     let count = count_when w.book.runner in
     in_turn_accounts (count ∷ clock ∷ []) w (clock_accounts (after w (count w)) (count_accounts w w.book.runner refl good))
 
 -- a tick is what happens in it, and then its phases
+pub turn_keeps : KeepsAccounts turn
+turn_keeps w good = turn_accounts w w.book.runner good
+
+pub step_keeps : GrantedMay → KeepsAccounts step
+step_keeps granted w good = step_accounts granted w w.book.runner refl good
+
 tick_accounts : GrantedMay → KeepAccounts tick_phases
-tick_accounts granted = (λ w good. turn_accounts w w.book.runner good, (λ w good. step_accounts granted w w.book.runner refl good, (timer_accounts, tt)))
+tick_accounts granted = (turn_keeps, (step_keeps granted, (timer_accounts, tt)))
 
 all_account : GrantedMay → (happens : List Occurrence) → KeepAccounts (phases_after happens)
 all_account granted [] = tick_accounts granted

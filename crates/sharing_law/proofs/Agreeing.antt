@@ -8,7 +8,6 @@ use Rattle.page_book.specs.Row.{is_owned_by}
 use Rattle.page_book.specs.Rows.{lowest_free}
 use Rattle.page_book.proofs.Free.{is_lowest}
 use Rattle.bind_book.specs.declared.binding.Binding.{Binding}
-use Rattle.world_model.specs.declared.life.Life.TheVariants.{Live}
 use Rattle.world_model.specs.declared.slot.Runner.{Runner}
 use Rattle.world_model.specs.Book.{Book, is_idle_book, running}
 use Rattle.world_model.specs.Event.{Occurrence, happen}
@@ -20,12 +19,14 @@ use Rattle.world_model.specs.Tick.{phases_after, step, step_when, timer, turn}
 use Rattle.call_verdicts.specs.Granted.{GrantedMay}
 use Rattle.run_model.specs.Boot.{boot_book, boot_world, keep_lowest, keep_pages, record_items, with_all_kept, with_kept}
 use Rattle.run_model.specs.Run.{System, happens_in, moment, phases_in, world_after}
+use Rattle.run_model.specs.Excess.{IsAccounted}
+use Rattle.run_model.proofs.Balance.{KeepsAccounts, boots_accounted, happen_accounts, step_keeps, timer_accounts, turn_keeps}
 use Rattle.run_model.proofs.Phases.{next_moment, of_each, once_more, tick_moment}
 use Rattle.page_sight.proofs.Tables.{set_else}
 use Rattle.sharing_law.specs.Agreement.{AreBoundAllocated, BooksAgree, BoundIsAllocated}
 use Rattle.sharing_law.proofs.Sound.{HasNone, Sound, sees_nothing}
 use Rattle.sharing_law.proofs.Books.{step_allocated}
-use Rattle.sharing_law.proofs.Turning.{IsAlike, allocated_alike, sound_alike, sound_turned, turn_alike, unchanged}
+use Rattle.sharing_law.proofs.Turning.{IsAlike, allocated_alike, sound_alike, turn_alike, unchanged}
 use Rattle.sharing_law.proofs.Moments.{stays_idle}
 use Rattle.sharing_law.proofs.Stepping.{sound_following, step_follows}
 use Rattle.sharing_law.proofs.Timing.{allocated_timed, sound_timed}
@@ -53,29 +54,26 @@ fresh_pages : (e count n : ℕ) (pages : ℕ → PageRow) → AreFresh count pag
 fresh_pages e count zero pages fresh = fresh
 fresh_pages e count (suc n) pages fresh = fresh_lowest e count (keep_pages e count n pages) (lowest_free (keep_pages e count n pages) count) refl (fresh_pages e count n pages fresh)
 
--- nobody has bound anything or runs
+-- nobody has bound anything
 record IsFresh (b : Book) : Type 0 where
   pages : AreFresh b.page_count b.pages
   binds : (e row : ℕ) → b.binds e row ≡ None
-  runner : b.runner ≡ None
 
 fresh_kept : (e : ℕ) (programs : List ProgramValue) (b : Book) → IsFresh b → IsFresh (with_all_kept e programs b)
 fresh_kept e [] b fresh = fresh
 fresh_kept e (p ∷ programs) b fresh = fresh_kept (e + 1) programs (with_kept e p b) (record {
   pages = fresh_pages e b.page_count (guaranteed_mappings p) b.pages fresh.pages;
   binds = fresh.binds;
-  runner = fresh.runner;
 })
 
 -- and environments see nothing
 record IsBlank (s : Solo) : Type 0 where
   binds : (row : ℕ) → s.binds row ≡ None
   seen : (page : ℕ) → s.seen page ≡ None
-  lives : s.life ≡ Live
 
 blank : (e : ℕ) (o : Option ProgramValue) → IsBlank (absorb_all (absent e) (record_items e o))
-blank e None = record { binds = λ row. refl; seen = λ page. refl; lives = refl }
-blank e (Some p) = record { binds = λ row. refl; seen = λ page. refl; lives = refl }
+blank e None = record { binds = λ row. refl; seen = λ page. refl }
+blank e (Some p) = record { binds = λ row. refl; seen = λ page. refl }
 
 module _ (image : ImageValue) where
   booted : (e : ℕ) → IsBlank ((boot_world image).solos e)
@@ -85,7 +83,6 @@ module _ (image : ImageValue) where
   book_fresh = fresh_kept 0 image.programs (boot_book image.pages image.quantum image.slots) (record {
     pages = record { owns = λ i page. refl; behind = λ page more. refl };
     binds = λ e row. refl;
-    runner = refl;
   })
 
   none_yet : (i : ℕ) → HasNone i (boot_world image).book.pages ((boot_world image).book.binds i)
@@ -100,40 +97,40 @@ module _ (image : ImageValue) where
     none = λ i cause died. none_yet i;
     stripes = λ i row behind. book_fresh.binds i row;
     behind = book_fresh.pages.behind;
-    holders = λ k h at. record { owner = (booted h.owner).lives; holder = (booted h.holder).lives };
-    runs = λ r is. (booted r.env).lives;
   }
 
--- A world that is sound, where no page is bound that isn't allocated: each phase of a tick leaves such a one.
+-- A world that is sound and accounted, where no page is bound that isn't allocated: each phase of a tick leaves such a one.
 pub record Fine (w : World) : Type 0 where
   pub sound : Sound w
   pub allocated : AreBoundAllocated w
+  pub accounted : IsAccounted w
 
 abbrev KeepsFine : (World → Reply) → Type 0
 KeepsFine phase = (w : World) → Fine w → Fine (after w (phase w))
 
-fine_alike : (w v : World) → IsAlike w v → ((r : Runner) → v.book.runner ≡ Some r → (w.solos r.env).life ≡ Live) → Fine w → Fine v
-fine_alike w v alike runs fine = record { sound = sound_alike w v alike runs fine.sound; allocated = allocated_alike w v alike fine.allocated }
-
-fine_turn : KeepsFine turn
-fine_turn w fine = record { sound = sound_turned w fine.sound; allocated = allocated_alike w (after w (turn w)) (turn_alike w) fine.allocated }
+fine_alike : (phase : World → Reply) → ((w : World) → IsAlike w (after w (phase w))) → KeepsAccounts phase → KeepsFine phase
+fine_alike phase alike accounts w fine =
+    let v = after w (phase w) in
+    record { sound = sound_alike w v (alike w) fine.sound; allocated = allocated_alike w v (alike w) fine.allocated; accounted = accounts w fine.accounted }
 
 fine_timer : KeepsFine timer
-fine_timer w fine = record { sound = sound_timed w fine.sound fine.allocated; allocated = allocated_timed w fine.allocated }
+fine_timer w fine = record { sound = sound_timed w fine.sound fine.accounted.runner_lives fine.allocated; allocated = allocated_timed w fine.allocated; accounted = timer_accounts w fine.accounted }
 
 module _ (granted : GrantedMay) where
   -- the step, whoever runs
   sound_step : (w : World) (o : Option Runner) → w.book.runner ≡ o → Fine w → AreBoundAllocated (after w (step_when w o)) → Sound (after w (step_when w o))
-  sound_step w None is fine next = sound_alike w (after w (step_when w None)) (unchanged w) fine.sound.runs fine.sound
+  sound_step w None is fine next = sound_alike w (after w (step_when w None)) (unchanged w) fine.sound
   sound_step w (Some r) is fine next =
-      let stepped = step_follows granted w r.env fine.sound fine.allocated (fine.sound.runs r is) (ap running is) in
+      let stepped = step_follows granted w r.env fine.sound fine.allocated (fine.accounted.runner_lives r is) (ap running is) in
       sound_following w r.env stepped.came_to (after w (step_when w (Some r))) stepped.items fine.sound stepped.follows next
 
   fine_step : KeepsFine step
-  fine_step w fine = let next = step_allocated granted w fine.allocated in record { sound = sound_step w w.book.runner refl fine next; allocated = next }
+  fine_step w fine =
+      let next = step_allocated granted w fine.allocated in
+      record { sound = sound_step w w.book.runner refl fine next; allocated = next; accounted = step_keeps granted w fine.accounted }
 
   fine_phase : (happens : List Occurrence) (k : ℕ) (phase : World → Reply) → slice_get (phases_after happens) k ≡ Some phase → KeepsFine phase
-  fine_phase = of_each KeepsFine (λ what w fine. fine_alike w (after w (happen what w)) (unchanged w) fine.sound.runs fine) fine_turn fine_step fine_timer
+  fine_phase = of_each KeepsFine (λ what. fine_alike (happen what) unchanged (happen_accounts what)) (fine_alike turn turn_alike turn_keeps) fine_step fine_timer
 
   -- at each moment of a tick
   module _ (system : System) (t : ℕ) (fine : Fine (world_after system t)) where
@@ -154,7 +151,7 @@ module _ (granted : GrantedMay) where
 
   -- and after every number of ticks
   pub all_fine : (system : System) (t : ℕ) → Fine (world_after system t)
-  all_fine system zero = record { sound = sound_boot system.image; allocated = λ e row b is. absurd (none_bound system.image e row b is) }
+  all_fine system zero = record { sound = sound_boot system.image; allocated = λ e row b is. absurd (none_bound system.image e row b is); accounted = boots_accounted system.image }
   all_fine system (suc t) = fine_by system t (all_fine system t) (is_idle_book (world_after system t).book) refl
 
 pub books_agree : GrantedMay → BooksAgree

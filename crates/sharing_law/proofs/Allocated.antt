@@ -15,7 +15,7 @@ use Rattle.run_model.specs.Run.{System, happens_in, moment, phases_in, world_aft
 use Rattle.run_model.proofs.Phases.{next_moment, once_more, tick_moment}
 use Rattle.sharing_law.specs.Change.{AllocatedChange, AllocatedInTick, AllocatedZeros, IsAllocated, IsOwnedAt, IsStored, ZerosInTick}
 use Rattle.sharing_law.specs.Right.{row_after}
-use Rattle.sharing_law.proofs.Sound.{Sound, owner_bytes}
+use Rattle.sharing_law.proofs.Sound.{owner_bytes}
 use Rattle.sharing_law.proofs.Brings.{Fate, Stays, Written, Taken}
 use Rattle.sharing_law.proofs.Turning.{IsAlike, alike_then, bytes_alike, same_alike, turn_alike, unchanged}
 use Rattle.sharing_law.proofs.Stepping.{all_see, step_follows}
@@ -31,13 +31,10 @@ Fates w v = (o page : ℕ) → is_owned_by o (v.book.pages page) ≡ true → Fa
 alike_fates : (w v : World) → IsAlike w v → Fates w v
 alike_fates w v alike o page owns = Stays (ap (is_owned_by o) (λ k. sym alike.pages k page) ∙ owns) (bytes_alike w v alike page)
 
-timer_fates : (w : World) → Sound w → Fates w (after w (timer w))
-timer_fates w sound o page owns = let was = timer_owned w sound o page owns in Stays was.0 was.1
-
 step_fates : GrantedMay → (w : World) (o : Option Runner) → w.book.runner ≡ o → Fine w → Fates w (after w (step_when w o))
 step_fates granted w None is fine o page owns = alike_fates w (after w (step_when w None)) (unchanged w) o page owns
 step_fates granted w (Some r) is fine o page owns =
-    let stepped = step_follows granted w r.env fine.sound fine.allocated (fine.sound.runs r is) (ap running is) in
+    let stepped = step_follows granted w r.env fine.sound fine.allocated (fine.accounted.runner_lives r is) (ap running is) in
     let now = after w (step_when w (Some r)) in
     let brings = stepped.follows.brings in
     let bytes = owner_bytes now brings.bytes (all_see w r.env stepped.came_to now stepped.items fine.sound stepped.follows) o page owns in
@@ -61,7 +58,7 @@ module _ (granted : GrantedMay) where
   phase_fates [] base w (suc (suc zero)) phase is alike fine =
       let v = after w (turn w) in
       let m = after v (step v) in
-      subst (λ (p : World → Reply). PhaseFates base m (after m (p m))) (one timer phase is) (Late (timer_owned m fine.sound))
+      subst (λ (p : World → Reply). PhaseFates base m (after m (p m))) (one timer phase is) (Late (timer_owned m fine.sound fine.accounted.runner_lives))
   phase_fates [] base w (suc (suc (suc k))) phase is alike fine = cc
   phase_fates (what ∷ happens) base w zero phase is alike fine =
       subst (λ (p : World → Reply). PhaseFates base w (after w (p w))) (one (happen what) phase is) (Early alike (alike_fates w (after w (happen what w)) (unchanged w)))

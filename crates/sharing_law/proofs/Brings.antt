@@ -17,7 +17,7 @@ use Rattle.world_model.specs.declared.life.Cause.{Cause}
 use Rattle.world_model.specs.declared.slot.Hold.{Hold}
 use Rattle.world_model.specs.declared.slot.Runner.{Runner}
 use Rattle.world_model.specs.Table.{set_at}
-use Rattle.world_model.specs.Book.{Book, released, sees}
+use Rattle.world_model.specs.Book.{Book, sees}
 use Rattle.world_model.specs.Death.{death, death_items, lost_with}
 use Rattle.world_model.specs.Item.{Item, absorb_all}
 use Rattle.world_model.specs.PageCalls.{left_at, left_by, left_if, page_bytes}
@@ -30,7 +30,7 @@ use Rattle.page_sight.proofs.Mourning.{mourners_lose}
 use Rattle.page_sight.proofs.Sights.{readers_see, writer_sees}
 use Rattle.page_sight.proofs.Stripes.{without_ends}
 use Rattle.sharing_law.proofs.Given.{dead_absorbs}
-use Rattle.sharing_law.proofs.Sound.{AreLive, HasNone, Sound, sees_nothing}
+use Rattle.sharing_law.proofs.Sound.{HasNone, Sound, sees_nothing}
 
 -- What becomes of an allocated page and of its bytes: it was its owner's and has them still; a runner stored to it; or it was free, and its owner called for it, and it has zeros.
 pub data Fate (w : World) (o page : ℕ) (bytes : List ℕ) : Type 0 where
@@ -38,10 +38,10 @@ pub data Fate (w : World) (o page : ℕ) (bytes : List ℕ) : Type 0 where
   Written : is_owned_by o (w.book.pages page) ≡ true → (e : ℕ) → (x : Store) → Acts w e (Stores x) → x.key ≡ Physical page → bytes ≡ with_bytes (page_bytes w page) x.offset x.bytes → Fate w o page bytes
   Taken : (words : Capabilities) → Does w o (Allocates page words) → w.book.pages page ≡ Free → bytes ≡ zero_page → Fate w o page bytes
 
--- the runner goes on, or it dies
-pub data Fortune (w : World) (e : ℕ) (s : Solo) (b : Book) : Type 0 where
-  GoesOn : s.life ≡ Live → ((k : ℕ) (h : Hold) → b.slots k ≡ Some h → AreLive w.solos h) → ((r : Runner) → b.runner ≡ Some r → (w.solos r.env).life ≡ Live) → Fortune w e s b
-  Ends : b.slots ≡ (λ k. released e (w.book.slots k)) → b.runner ≡ None → HasNone e b.pages (b.binds e) → Fortune w e s b
+-- the runner goes on, or it has nothing any more
+pub data Fortune (e : ℕ) (s : Solo) (b : Book) : Type 0 where
+  GoesOn : s.life ≡ Live → Fortune e s b
+  Ends : HasNone e b.pages (b.binds e) → Fortune e s b
 
 -- what comes of a runner, which is s after its act and its answer, to each environment: the book after it, and what each is given
 pub record Brings (w : World) (e : ℕ) (s : Solo) (b : Book) (items : ℕ → List Item) : Type 0 where
@@ -52,7 +52,7 @@ pub record Brings (w : World) (e : ℕ) (s : Solo) (b : Book) (items : ℕ → L
   pub stripes : (i : ℕ) → IsStripe (b.binds i)
   pub behind : (page : ℕ) → b.page_count ≤ page → b.pages page ≡ Free
   pub fate : (o page : ℕ) → is_owned_by o (b.pages page) ≡ true → Fate w o page (bytes page)
-  pub fortune : Fortune w e s b
+  pub fortune : Fortune e s b
 
 -- who has the same bindings and sees the same
 pub as_before : (e : ℕ) (pages : ℕ → PageRow) (stripe : ℕ → Option Binding) (bytes : ℕ → List ℕ) (s t : Solo) → t.binds ≡ s.binds → t.seen ≡ s.seen → Sees e pages stripe bytes s → Sees e pages stripe bytes t
@@ -94,34 +94,21 @@ gone_row pages e None = refl
 gone_row pages e (Some b) = ap (λ own. if own || belongs_to e (pages b.page) then None else Some b) (eq-eqb e e refl)
 
 module _ (w : World) (e : ℕ) (sound : Sound w) (lives : (w.solos e).life ≡ Live) where
-  -- who is given nothing
-  idle : (i : ℕ) (items : List Item) → items ≡ [] → Sees i w.book.pages (w.book.binds i) (page_bytes w) (absorb_all (w.solos i) items)
-  idle i items none = subst (λ its. Sees i w.book.pages (w.book.binds i) (page_bytes w) (absorb_all (w.solos i) its)) (sym none) (sound.agreed i)
-
-  -- An act that changes nobody else.
-  pub quiet : (s : Solo) (slots : ℕ → Option Hold) → ((k : ℕ) (h : Hold) → slots k ≡ Some h → AreLive w.solos h) → (runner : Option Runner) → ((r : Runner) → runner ≡ Some r → (w.solos r.env).life ≡ Live)
-      → (items : ℕ → List Item) → s.life ≡ Live → ((i : ℕ) → i ≢ e → items i ≡ []) → Sees e w.book.pages (w.book.binds e) (page_bytes w) (absorb_all s (items e))
-      → Brings w e s (record w.book { slots = slots; runner = runner }) items
-  quiet s slots holders runner runs items alive none own = record {
+  -- An act that changes nothing that is seen, but slots and who runs.
+  pub silent_but : (s : Solo) (slots : ℕ → Option Hold) (runner : Option Runner) → s.life ≡ Live → s.binds ≡ (w.solos e).binds → s.seen ≡ (w.solos e).seen → Brings w e s (record w.book { slots = slots; runner = runner }) no_items
+  silent_but s slots runner alive binds sights = record {
     bytes = page_bytes w;
-    own = own;
-    others = λ i ne live. idle i (items i) (none i ne);
+    own = as_before e w.book.pages (w.book.binds e) (page_bytes w) (w.solos e) s binds sights (sound.agreed e);
+    others = λ i ne live. sound.agreed i;
     none = λ i ne before. before;
     stripes = sound.stripes;
     behind = sound.behind;
     fate = λ o page owns. Stays owns refl;
-    fortune = GoesOn alive holders runs;
+    fortune = GoesOn alive;
   }
 
-  -- one that brings nothing, but to slots and to who runs
-  pub silent_but : (s : Solo) (slots : ℕ → Option Hold) → ((k : ℕ) (h : Hold) → slots k ≡ Some h → AreLive w.solos h) → (runner : Option Runner) → ((r : Runner) → runner ≡ Some r → (w.solos r.env).life ≡ Live)
-      → s.life ≡ Live → s.binds ≡ (w.solos e).binds → s.seen ≡ (w.solos e).seen → Brings w e s (record w.book { slots = slots; runner = runner }) no_items
-  silent_but s slots holders runner runs alive binds sights =
-      quiet s slots holders runner runs no_items alive (λ i ne. refl)
-      (as_before e w.book.pages (w.book.binds e) (page_bytes w) (w.solos e) s binds sights (sound.agreed e))
-
   pub silent : (s : Solo) → s.life ≡ Live → s.binds ≡ (w.solos e).binds → s.seen ≡ (w.solos e).seen → Brings w e s w.book no_items
-  silent s alive binds sights = silent_but s w.book.slots sound.holders w.book.runner sound.runs alive binds sights
+  silent s alive binds sights = silent_but s w.book.slots w.book.runner alive binds sights
 
   -- A store.
   module _ (cpu : Cpu) (x : Store) (acts : Acts w e (Stores x)) where
@@ -147,7 +134,7 @@ module _ (w : World) (e : ℕ) (sound : Sound w) (lives : (w.solos e).life ≡ L
       stripes = sound.stripes;
       behind = sound.behind;
       fate = λ o p owns. by_page o p owns (p == page) refl;
-      fortune = GoesOn lives sound.holders sound.runs;
+      fortune = GoesOn lives;
     }
       where
         by_page : (o p : ℕ) → is_owned_by o (w.book.pages p) ≡ true → (t : Bool) → (p == page) ≡ t → Fate w o p (if t then with_bytes (page_bytes w page) x.offset x.bytes else page_bytes w p)
@@ -186,7 +173,7 @@ module _ (w : World) (e : ℕ) (sound : Sound w) (lives : (w.solos e).life ≡ L
         stripes = λ i. without_ends (goes_with w.book.pages e i) (w.book.binds i) (sound.stripes i);
         behind = λ page there. ap (released_row e) (sound.behind page there);
         fate = λ o page owns. Stays (released_owned e o (w.book.pages page) owns) refl;
-        fortune = Ends refl refl nothing_left;
+        fortune = Ends nothing_left;
       },
       refl,
     )
@@ -195,9 +182,9 @@ module _ (w : World) (e : ℕ) (sound : Sound w) (lives : (w.solos e).life ≡ L
     death_brings = death_keeps.0
 
   -- the same with other excess, at another time
-  owing_fortune : (b : Book) (s : Solo) (excess : ℕ → ℕ) (time : ℕ) → Fortune w e s b → Fortune w e s (record b { excess = excess; time = time })
-  owing_fortune b s excess time (GoesOn alive holders runs) = GoesOn alive holders runs
-  owing_fortune b s excess time (Ends slots runs nothing) = Ends slots runs nothing
+  owing_fortune : (b : Book) (s : Solo) (excess : ℕ → ℕ) (time : ℕ) → Fortune e s b → Fortune e s (record b { excess = excess; time = time })
+  owing_fortune b s excess time (GoesOn alive) = GoesOn alive
+  owing_fortune b s excess time (Ends nothing) = Ends nothing
 
   pub owing_keeps : (b : Book) (s : Solo) (items : ℕ → List Item) (excess : ℕ → ℕ) (time : ℕ) (brings : Brings w e s b items)
       → (now : Brings w e s (record b { excess = excess; time = time }) items) × (now.bytes ≡ brings.bytes)

@@ -1,7 +1,6 @@
 -- What comes of a granted call: what each environment sees once it is answered and done.
 use Rattle.std.proofs.Common.{◌≡◌, ◌≢◌, ◌≤◌, ℕ, List, [], ◌∷◌, Bool, true, false, Option, Some, None, is_some, refl, sym, ◌∙◌, ap, subst, arith}
 use Rattle.std.specs.Prelude.{◌==◌, if◌then◌else◌}
-use Rattle.std.specs.Option.{option_map}
 use Rattle.std.proofs.lemmas.Bool.{eqb-true, ne_eqb}
 use Rattle.frame_store.specs.Pages.{zero_page}
 use Rattle.mips_exec.specs.declared.registers.Cpu.{Cpu}
@@ -16,7 +15,6 @@ use Rattle.world_model.specs.declared.deed.Deed.{Deed}
 use Rattle.world_model.specs.declared.deed.Deed.TheVariants.{Answers, Stops, Gives as Donates, Puts, Allocates, Frees, Recaps, Binds, Unbinds, Handles, Accepts, Transfers, TakesSlot, DropsSlot}
 use Rattle.world_model.specs.declared.life.Life.TheVariants.{Live}
 use Rattle.world_model.specs.declared.slot.Hold.{Hold}
-use Rattle.world_model.specs.declared.slot.Runner.{Runner}
 use Rattle.world_model.specs.Table.{set_at}
 use Rattle.world_model.specs.Book.{Book, broken, own_hold}
 use Rattle.world_model.specs.Holding.{bound, gained, lost, owning, unbound}
@@ -24,7 +22,7 @@ use Rattle.world_model.specs.Item.{Item, Start, Transfer, Gained, Lost, absorb_a
 use Rattle.world_model.specs.May.{May, MayAllocate, MayChange}
 use Rattle.world_model.specs.PageCalls.{breaks, page_bytes, without_number}
 use Rattle.world_model.specs.Solo.{Solo}
-use Rattle.world_model.specs.SlotCalls.{dropped, handed, held_by, turn_slot}
+use Rattle.world_model.specs.SlotCalls.{dropped, handed}
 use Rattle.world_model.specs.Transfers.{slots_handed}
 use Rattle.world_model.specs.Verdict.{done}
 use Rattle.world_model.specs.World.{World, no_items, only}
@@ -35,8 +33,8 @@ use Rattle.page_sight.proofs.Stripes.{bound_nowhere, without_ends}
 use Rattle.page_sight.proofs.Tables.{set_here, set_else}
 use Rattle.sharing_law.specs.Agreement.{AreBoundAllocated, IsAllocated}
 use Rattle.sharing_law.proofs.Given.{IsHanded, absorbs, handed_rests, own_leaves}
-use Rattle.sharing_law.proofs.Giving.{target_lives}
-use Rattle.sharing_law.proofs.Sound.{AreLive, HasNone, Sound}
+use Rattle.sharing_law.proofs.Giving.{other_than}
+use Rattle.sharing_law.proofs.Sound.{HasNone, Sound}
 use Rattle.sharing_law.proofs.Brings.{Brings, Fate, Stays, Taken, GoesOn, as_before, silent, silent_but}
 
 -- a page that one owns no other does
@@ -124,7 +122,7 @@ module _ (w : World) (e : ℕ) (sound : Sound w) (lives : (w.solos e).life ≡ L
       stripes = sound.stripes;
       behind = λ p more. set_else page p (Owned e words) w.book.pages (λ same. behind_other p more same) ∙ sound.behind p more;
       fate = λ o p owns. taken_fate o p (p == page) refl owns;
-      fortune = GoesOn lives sound.holders sound.runs;
+      fortune = GoesOn lives;
     }
       where
         behind_other : (p : ℕ) → w.book.page_count ≤ p → p ≡ page → ⊥
@@ -150,7 +148,7 @@ module _ (w : World) (e : ℕ) (sound : Sound w) (lives : (w.solos e).life ≡ L
       stripes = λ i. without_ends (breaks_page page but i) (w.book.binds i) (sound.stripes i);
       behind = λ p more. set_else page p row w.book.pages (λ same. behind_other p more same) ∙ sound.behind p more;
       fate = λ o p owns. fate o p (p == page) refl owns;
-      fortune = GoesOn (caller_lives d) sound.holders sound.runs;
+      fortune = GoesOn (caller_lives d);
     }
       where
         fate : (o p : ℕ) (t : Bool) → (p == page) ≡ t → is_owned_by o (if t then row else w.book.pages p) ≡ true → Fate w o p (page_bytes w p)
@@ -196,7 +194,7 @@ module _ (w : World) (e : ℕ) (sound : Sound w) (lives : (w.solos e).life ≡ L
       stripes = λ i. by_test i (i == e);
       behind = sound.behind;
       fate = λ o p owns. Stays owns refl;
-      fortune = GoesOn (caller_lives d) sound.holders sound.runs;
+      fortune = GoesOn (caller_lives d);
     }
       where
         by_test : (i : ℕ) (t : Bool) → IsStripe (if t then stripe else w.book.binds i)
@@ -228,22 +226,16 @@ module _ (w : World) (e : ℕ) (sound : Sound w) (lives : (w.solos e).life ≡ L
       (unbinder_loses e vpn w.book.pages (w.book.binds e) (page_bytes w) (w.solos e) (sound.agreed e)))
 
   -- The rest of a slice goes to another, which starts or is entered.
-  module _ (target : ℕ) (item : Item) (is_handed : IsHanded item) (other : e ≢ target) (its_life : (w.solos target).life ≡ Live) where
+  module _ (target : ℕ) (item : Item) (is_handed : IsHanded item) (other : e ≢ target) where
     other_sees : (i : ℕ) → (t : Bool) → SeesNow i w.book (page_bytes w) (absorb_all (w.solos i) (if t then item ∷ [] else []))
     other_sees i true =
         let its_rests = handed_rests item is_handed (w.solos i) in
         as_before i w.book.pages (w.book.binds i) (page_bytes w) (w.solos i) (absorb_all (w.solos i) (item ∷ [])) its_rests.binds its_rests.seen (sound.agreed i)
     other_sees i false = sound.agreed i
 
-    target_runs : (o : Option Runner) (r : Runner) → handed target o ≡ Some r → (w.solos r.env).life ≡ Live
-    target_runs None r is = cc
-    target_runs (Some x) r is =
-        let same : record x { env = target } ≡ r = cc in
-        subst (λ (i : ℕ). (w.solos i).life ≡ Live) (ap (λ (y : Runner). y.env) same) its_life
-
-    hands_brings : (s : Solo) → s.life ≡ Live → s.binds ≡ (w.solos e).binds → s.seen ≡ (w.solos e).seen → (slots : ℕ → Option Hold) → ((k : ℕ) (h : Hold) → slots k ≡ Some h → AreLive w.solos h)
+    hands_brings : (s : Solo) → s.life ≡ Live → s.binds ≡ (w.solos e).binds → s.seen ≡ (w.solos e).seen → (slots : ℕ → Option Hold)
         → Brings w e s (record w.book { slots = slots; runner = handed target w.book.runner }) (only target (item ∷ []))
-    hands_brings s alive binds sights slots holders = record {
+    hands_brings s alive binds sights slots = record {
       bytes = page_bytes w;
       own = subst (λ (its : List Item). SeesNow e w.book (page_bytes w) (absorb_all s its)) (sym (set_else target e (item ∷ []) no_items other))
           (as_before e w.book.pages (w.book.binds e) (page_bytes w) (w.solos e) s binds sights (sound.agreed e));
@@ -252,52 +244,14 @@ module _ (w : World) (e : ℕ) (sound : Sound w) (lives : (w.solos e).life ≡ L
       stripes = sound.stripes;
       behind = sound.behind;
       fate = λ o page owns. Stays owns refl;
-      fortune = GoesOn alive holders (target_runs w.book.runner);
+      fortune = GoesOn alive;
     }
-
-  -- A slot changes, and whoever has it then lives.
-  slot_holders : (k : ℕ) (hold : Option Hold) → ((h : Hold) → hold ≡ Some h → AreLive w.solos h) → (j : ℕ) (h : Hold) → set_at k hold w.book.slots j ≡ Some h → AreLive w.solos h
-  slot_holders k hold live j h is = by_test (j == k) is
-    where
-      by_test : (t : Bool) → (if t then hold else w.book.slots j) ≡ Some h → AreLive w.solos h
-      by_test true is = live h is
-      by_test false is = sound.holders j h is
-
-  own_lives : (h : Hold) → Some (own_hold e) ≡ Some h → AreLive w.solos h
-  own_lives h is = let same : own_hold e ≡ h = cc in subst (AreLive w.solos) same (record { owner = lives; holder = lives })
-
-  dropped_lives : (k : ℕ) (o : Option Hold) → w.book.slots k ≡ o → (h : Hold) → dropped e o ≡ Some h → AreLive w.solos h
-  dropped_lives k None at h is = cc
-  dropped_lives k (Some x) at h is = by_test (x.owner == e) is
-    where
-      by_test : (t : Bool) → (if t then None else Some (own_hold x.owner)) ≡ Some h → AreLive w.solos h
-      by_test true is = cc
-      by_test false is =
-          let same : own_hold x.owner ≡ h = cc in
-          let owner = (sound.holders k x at).owner in
-          subst (AreLive w.solos) same (record { owner = owner; holder = owner })
-
-  -- The slot of the turn goes to another holder, if it goes.
-  handed_lives : (target : ℕ) → (w.solos target).life ≡ Live → (o : Option Hold) → w.book.slots w.book.cursor ≡ o → (h : Hold) → option_map (held_by target) o ≡ Some h → AreLive w.solos h
-  handed_lives target its_life None at h is = cc
-  handed_lives target its_life (Some x) at h is =
-      let same : held_by target x ≡ h = cc in
-      subst (AreLive w.solos) same (record { owner = (sound.holders w.book.cursor x at).owner; holder = its_life })
-
-  slots_handed_live : (later : Bool) (target : ℕ) → (w.solos target).life ≡ Live → (k : ℕ) (h : Hold) → slots_handed later target w.book k ≡ Some h → AreLive w.solos h
-  slots_handed_live true target its_life = slot_holders w.book.cursor (option_map (held_by target) (turn_slot w.book)) (handed_lives target its_life (turn_slot w.book) refl)
-  slots_handed_live false target its_life = sound.holders
-
-  nobody : (r : Runner) → None ≡ Some r → (w.solos r.env).life ≡ Live
-  nobody r is = cc
 
   -- deed by deed
   pub deed_brings : (d : Deed) → Does w e d → May w e d → Brings w e (caller d) (done w e d).book (done w e d).items
   deed_brings Answers does may = silent w e sound lives (caller Answers) lives refl refl
-  deed_brings Stops does may = silent_but w e sound lives (caller Stops) w.book.slots sound.holders None nobody lives refl refl
-  deed_brings (Donates target) does may =
-      let its = target_lives w e target may.other in
-      hands_brings target Start tt its.0 its.1 (caller (Donates target)) lives refl refl w.book.slots sound.holders
+  deed_brings Stops does may = silent_but w e sound lives (caller Stops) w.book.slots None lives refl refl
+  deed_brings (Donates target) does may = hands_brings target Start tt (other_than w e target may.other) (caller (Donates target)) lives refl refl w.book.slots
   deed_brings (Puts address size) does may = silent w e sound lives (caller (Puts address size)) lives refl refl
   deed_brings (Allocates page words) does may = alloc_brings page words zero_page refl may does
   deed_brings (Frees page) does may = free_brings page may
@@ -307,11 +261,6 @@ module _ (w : World) (e : ℕ) (sound : Sound w) (lives : (w.solos e).life ≡ L
   deed_brings (Handles kind address) does may = silent w e sound lives (caller (Handles kind address)) lives refl refl
   deed_brings (Accepts mask) does may = silent w e sound lives (caller (Accepts mask)) lives refl refl
   deed_brings (Transfers target kind) does may =
-      let its = target_lives w e target may.reach.other in
-      hands_brings target (Transfer e kind (carried (w.solos e).cpu)) tt its.0 its.1 (caller (Transfers target kind)) lives refl refl
-      (slots_handed (hands_slot kind) target w.book) (slots_handed_live (hands_slot kind) target its.1)
-  deed_brings (TakesSlot k) does may =
-      silent_but w e sound lives (caller (TakesSlot k)) (set_at k (Some (own_hold e)) w.book.slots) (slot_holders k (Some (own_hold e)) own_lives) w.book.runner sound.runs lives refl refl
-  deed_brings (DropsSlot k) does may =
-      let hold = dropped e (w.book.slots k) in
-      silent_but w e sound lives (caller (DropsSlot k)) (set_at k hold w.book.slots) (slot_holders k hold (dropped_lives k (w.book.slots k) refl)) w.book.runner sound.runs lives refl refl
+      hands_brings target (Transfer e kind (carried (w.solos e).cpu)) tt (other_than w e target may.reach.other) (caller (Transfers target kind)) lives refl refl (slots_handed (hands_slot kind) target w.book)
+  deed_brings (TakesSlot k) does may = silent_but w e sound lives (caller (TakesSlot k)) (set_at k (Some (own_hold e)) w.book.slots) w.book.runner lives refl refl
+  deed_brings (DropsSlot k) does may = silent_but w e sound lives (caller (DropsSlot k)) (set_at k (dropped e (w.book.slots k)) w.book.slots) w.book.runner lives refl refl

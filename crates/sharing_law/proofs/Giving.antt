@@ -1,5 +1,5 @@
 -- What each phase of a tick gives to an environment: at most its first item changes guaranteed pages, or life.
-use Rattle.std.proofs.Common.{◌≡◌, ◌≢◌, ℕ, List, [], ◌∷◌, ◌++◌, Bool, true, false, Option, Some, None, refl, sym, ◌∙◌, subst}
+use Rattle.std.proofs.Common.{ap, ◌≡◌, ◌≢◌, ℕ, List, [], ◌∷◌, ◌++◌, Bool, true, false, Option, Some, None, refl, sym, ◌∙◌, subst}
 use Rattle.std.specs.Prelude.{◌==◌, ◌&&◌, ◌-◌, nat_lt, not, if◌then◌else◌}
 use Rattle.std.proofs.lemmas.Bool.{eq-eqb, eqb-true}
 use Rattle.env_frames.specs.Transfer.{carried}
@@ -8,8 +8,6 @@ use Rattle.kernel_journal.specs.declared.row.Row.TheVariants as row
 use Rattle.world_model.specs.declared.call.Call.{Call}
 use Rattle.world_model.specs.declared.deed.Deed.{Deed}
 use Rattle.world_model.specs.declared.deed.Deed.TheVariants.{Answers, Stops, Gives as Donates, Puts, Allocates, Frees, Recaps, Binds, Unbinds, Handles, Accepts, Transfers, TakesSlot, DropsSlot}
-use Rattle.world_model.specs.declared.life.Life.{Life}
-use Rattle.world_model.specs.declared.life.Life.TheVariants.{Live, Dead}
 use Rattle.world_model.specs.declared.slot.Phase.{Phase}
 use Rattle.world_model.specs.declared.slot.Phase.TheVariants as phase
 use Rattle.world_model.specs.declared.slot.Runner.{Runner}
@@ -34,29 +32,17 @@ use Rattle.call_verdicts.specs.Granted.{GrantedMay}
 use Rattle.run_model.proofs.Telling.{call_stands, deed_may, call_named}
 use Rattle.sharing_law.proofs.Given.{Gives, Hands, IsHanded, Led, Leads, Rests, Tells, gives_led, gives_own, led_more, led_only, told_at, told_both, told_death, told_left, told_lost_if, told_only}
 
--- what may be reached is another that lives
-module _ (w : World) (e : ℕ) where
-  both_true : (a b : Bool) → (a && b) ≡ true → (a ≡ true) × (b ≡ true)
-  both_true true true is = (refl, refl)
-  both_true true false is = cc
-  both_true false b is = cc
+-- what may be reached is another
+both_true : (a b : Bool) → (a && b) ≡ true → (a ≡ true) × (b ≡ true)
+both_true true b is = (refl, is)
+both_true false b is = cc
 
-  not_true : (t : Bool) → not t ≡ true → t ≡ false
-  not_true true is = cc
-  not_true false is = refl
-
-  lives_if : (life : Life) → is_dead life ≡ false → life ≡ Live
-  lives_if Live is = refl
-  lives_if (Dead cause) is = cc
-
-  pub target_lives : (target : ℕ) → is_other w e target ≡ true → (e ≢ target) × ((w.solos target).life ≡ Live)
-  target_lives target its =
-      let parts = both_true (nat_lt target w.count) (not (is_dead (w.solos target).life) && not (target == e)) its in
-      let two = both_true (not (is_dead (w.solos target).life)) (not (target == e)) parts.1 in
-      ((λ same. unlike (not_true (target == e) two.1) (sym same)), lives_if (w.solos target).life (not_true (is_dead (w.solos target).life) two.0))
-    where
-      unlike : (target == e) ≡ false → target ≡ e → ⊥
-      unlike is same = let clash : false ≡ true = sym is ∙ eq-eqb target e same in cc
+pub other_than : (w : World) (e target : ℕ) → is_other w e target ≡ true → e ≢ target
+other_than w e target its same =
+    let alive = not (is_dead (w.solos target).life) in
+    let parts = both_true alive (not (target == e)) (both_true (nat_lt target w.count) (alive && not (target == e)) its).1 in
+    let clash : not true ≡ true = ap not (sym (eq-eqb target e (sym same))) ∙ parts.1 in
+    cc
 
 -- what is handed to a target goes to no other
 hands : (e target : ℕ) (item : Item) → IsHanded item → e ≢ target → (i : ℕ) → Gives e i (only target (item ∷ []) i)
@@ -70,7 +56,7 @@ hands e target item is_handed other i = by_test (i == target) refl
 pub deed_gives : (w : World) (e : ℕ) (d : Deed) → May w e d → (i : ℕ) → Gives e i ((done w e d).items i)
 deed_gives w e Answers may i = Tells tt
 deed_gives w e Stops may i = Tells tt
-deed_gives w e (Donates target) may i = hands e target Start tt (target_lives w e target may.other).0 i
+deed_gives w e (Donates target) may i = hands e target Start tt (other_than w e target may.other) i
 deed_gives w e (Puts address size) may i = Tells tt
 deed_gives w e (Allocates page words) may i = Tells (told_only e i (Gained page true zero_page ∷ []) (tt, tt))
 deed_gives w e (Frees page) may i = Tells (told_at e i (Lost page ∷ []) (breaks w.book page) (tt, tt) (told_lost_if (is_bound page (w.book.binds i)) page))
@@ -79,7 +65,7 @@ deed_gives w e (Binds b word) may i = Tells (told_only e i (Gained b.page b.writ
 deed_gives w e (Unbinds vpn) may i = Tells tt
 deed_gives w e (Handles kind address) may i = Tells tt
 deed_gives w e (Accepts mask) may i = Tells tt
-deed_gives w e (Transfers target kind) may i = hands e target (Transfer e kind (carried (w.solos e).cpu)) tt (target_lives w e target may.reach.other).0 i
+deed_gives w e (Transfers target kind) may i = hands e target (Transfer e kind (carried (w.solos e).cpu)) tt (other_than w e target may.reach.other) i
 deed_gives w e (TakesSlot slot) may i = Tells tt
 deed_gives w e (DropsSlot slot) may i = Tells tt
 

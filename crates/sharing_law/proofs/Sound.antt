@@ -6,10 +6,8 @@ use Rattle.page_book.specs.declared.row.PageRow.TheVariants.{Free, Guaranteed, O
 use Rattle.page_book.specs.Row.{is_owned_by}
 use Rattle.bind_book.specs.declared.binding.Binding.{Binding}
 use Rattle.bind_book.specs.Stripe.{is_bound, is_of_page}
-use Rattle.world_model.specs.declared.life.Life.TheVariants.{Live, Dead}
+use Rattle.world_model.specs.declared.life.Life.TheVariants.{Dead}
 use Rattle.world_model.specs.declared.life.Cause.{Cause}
-use Rattle.world_model.specs.declared.slot.Hold.{Hold}
-use Rattle.world_model.specs.declared.slot.Runner.{Runner}
 use Rattle.world_model.specs.Solo.{Solo, bytes_seen}
 use Rattle.world_model.specs.PageCalls.{bytes_owned, page_bytes}
 use Rattle.world_model.specs.World.{World}
@@ -39,19 +37,12 @@ still_nothing i pages rows stripe binds bytes now s before after seen =
     let blank : Sees i pages stripe bytes (record s { binds = λ row. None; seen = λ page. None }) = sees_nothing i pages stripe bytes (record s { binds = λ row. None; seen = λ page. None }) before (λ row. refl) (λ page. refl) in
     sees_nothing i rows binds now s after (λ row. seen.binds row ∙ sym (blank.binds row)) (λ page. seen.seen page ∙ sym (blank.seen page))
 
--- the owner and the holder of a slot live
-pub record AreLive (solos : ℕ → Solo) (h : Hold) : Type 0 where
-  pub owner : (solos h.owner).life ≡ Live
-  pub holder : (solos h.holder).life ≡ Live
-
--- The book and the environments agree; who isn't alive has nothing in the book, holds no slot and doesn't run.
+-- The book and the environments agree; and who isn't alive has nothing in the book.
 pub record Sound (w : World) : Type 0 where
   pub agreed : AreAgreed w
   pub none : (i : ℕ) (cause : Cause) → (w.solos i).life ≡ Dead cause → HasNone i w.book.pages (w.book.binds i)
   pub stripes : (i : ℕ) → IsStripe (w.book.binds i)
   pub behind : (page : ℕ) → w.book.page_count ≤ page → w.book.pages page ≡ Free
-  pub holders : (k : ℕ) (h : Hold) → w.book.slots k ≡ Some h → AreLive w.solos h
-  pub runs : (r : Runner) → w.book.runner ≡ Some r → (w.solos r.env).life ≡ Live
 
 -- The bytes of a page are those that its owner sees.
 module _ (w : World) (bytes : ℕ → List ℕ) (sees : (i : ℕ) → Sees i w.book.pages (w.book.binds i) bytes (w.solos i)) where

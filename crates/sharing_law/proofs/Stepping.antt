@@ -1,17 +1,14 @@
 -- The phase of a tick in which the runner makes its step.
-use Rattle.std.proofs.Common.{◌≡◌, ◌≢◌, ℕ, List, [], ◌∷◌, ◌++◌, Bool, true, false, Option, Some, None, ◌⊎◌, inl, inr, refl, sym, ◌∙◌, ap, subst}
-use Rattle.std.specs.Prelude.{◌==◌, if◌then◌else◌}
-use Rattle.std.proofs.lemmas.Bool.{cases_eq, eqb-false}
+use Rattle.std.proofs.Common.{◌≡◌, ◌≢◌, ℕ, List, [], ◌∷◌, ◌++◌, Option, Some, inl, inr, refl, sym, ◌∙◌, ap, subst}
+use Rattle.std.proofs.lemmas.Bool.{cases_eq}
 use Rattle.mips_exec.specs.Step.{cpu_after}
 use Rattle.world_model.specs.declared.call.Call.{Call}
 use Rattle.world_model.specs.declared.life.Life.{Life}
 use Rattle.world_model.specs.declared.life.Life.TheVariants.{Live, Dead}
 use Rattle.world_model.specs.declared.life.Cause.{Cause}
-use Rattle.world_model.specs.declared.slot.Hold.{Hold}
-use Rattle.world_model.specs.declared.slot.Runner.{Runner}
 use Rattle.world_model.specs.declared.verdict.Verdict.{Verdict}
 use Rattle.world_model.specs.declared.verdict.Verdict.TheVariants.{Refuse, Grant}
-use Rattle.world_model.specs.Book.{own_hold, released, running}
+use Rattle.world_model.specs.Book.{running}
 use Rattle.world_model.specs.Item.{Item, Step, Answer, absorb_all, answered, answered_cpu, deed_at}
 use Rattle.world_model.specs.PageCalls.{page_bytes}
 use Rattle.world_model.specs.Solo.{Solo}
@@ -29,7 +26,7 @@ use Rattle.page_sight.proofs.Tables.{set_here, set_else}
 use Rattle.sharing_law.specs.Agreement.{AreBoundAllocated}
 use Rattle.sharing_law.proofs.Given.{Gives, Tells, absorbs, dead_absorbs, gives_life, told_death}
 use Rattle.sharing_law.proofs.Giving.{deed_gives, store_gives}
-use Rattle.sharing_law.proofs.Sound.{AreLive, HasNone, Sound, agreed, still_nothing}
+use Rattle.sharing_law.proofs.Sound.{HasNone, Sound, agreed, still_nothing}
 use Rattle.sharing_law.proofs.Brings.{Brings, Fortune, GoesOn, Ends, death_brings, silent, store_brings}
 use Rattle.sharing_law.proofs.Calling.{caller, deed_brings}
 
@@ -113,46 +110,6 @@ module _ (granted : GrantedMay) (w : World) (e : ℕ) (sound : Sound w) (allocat
   pub step_follows : Stepped w e (after w (in_turn (tells e Step ∷ tick.brings e (act_now w e) ∷ []) w))
   step_follows = subst (Stepped w e) (sym (in_turn_is_each w (tells e Step ∷ tick.brings e (act_now w e) ∷ []))) (act_follows (act_now w e) refl)
 
--- what a slot of the living is once one of them is gone
-record IsLeft (slots : Option Hold) (gone : ℕ) (h : Hold) : Type 0 where
-  old : Hold
-  was : slots ≡ Some old
-  owner : h.owner ≡ old.owner
-  holder : (h.holder ≡ old.owner) ⊎ (h.holder ≡ old.holder)
-  not_owner : h.owner ≢ gone
-  not_holder : h.holder ≢ gone
-
-left_hold : (gone : ℕ) (o : Option Hold) (h : Hold) → released gone o ≡ Some h → IsLeft o gone h
-left_hold gone None h is = cc
-left_hold gone (Some old) h is = by_owner (old.owner == gone) refl (old.holder == gone) refl is
-  where
-    by_owner : (owns : Bool) → (old.owner == gone) ≡ owns → (holds : Bool) → (old.holder == gone) ≡ holds → (if owns then None else (if holds then Some (own_hold old.owner) else Some old)) ≡ Some h → IsLeft (Some old) gone h
-    by_owner true owned holds held is = cc
-    by_owner false owned true held is =
-        let hold : own_hold old.owner ≡ h = cc in
-        let owner : old.owner ≡ h.owner = ap (λ (x : Hold). x.owner) hold in
-        let holder : old.owner ≡ h.holder = ap (λ (x : Hold). x.holder) hold in
-        record {
-          old = old;
-          was = refl;
-          owner = sym owner;
-          holder = inl (sym holder);
-          not_owner = λ same. eqb-false old.owner gone owned (owner ∙ same);
-          not_holder = λ same. eqb-false old.owner gone owned (holder ∙ same);
-        }
-    by_owner false owned false held is =
-        let hold : old ≡ h = cc in
-        let owner : old.owner ≡ h.owner = ap (λ (x : Hold). x.owner) hold in
-        let holder : old.holder ≡ h.holder = ap (λ (x : Hold). x.holder) hold in
-        record {
-          old = old;
-          was = refl;
-          owner = sym owner;
-          holder = inr (sym holder);
-          not_owner = λ same. eqb-false old.owner gone owned (owner ∙ same);
-          not_holder = λ same. eqb-false old.holder gone held (holder ∙ same);
-        }
-
 module _ (w : World) (e : ℕ) (s : Solo) (now : World) (items : ℕ → List Item) (sound : Sound w) (follows : Follows w e s now items) where
   abbrev brings : Brings w e s now.book items
   brings = follows.brings
@@ -181,58 +138,21 @@ module _ (w : World) (e : ℕ) (s : Solo) (now : World) (items : ℕ → List It
     | inr ne ↦ other_sees i ne
   ]
 
-  -- whoever lives goes on, but a runner whose end it is
-  still_lives : (i : ℕ) → (i ≡ e → s.life ≡ Live) → (w.solos i).life ≡ Live → (now.solos i).life ≡ Live
-  still_lives i own before = elim (cases_eq i e) [
-    | inl same ↦ ap (λ (n : ℕ). (now.solos n).life) same ∙ own_life ∙ own same
-    | inr ne ↦ other_life i ne ∙ before
-  ]
-
   other_none : (i : ℕ) → i ≢ e → (cause : Cause) → (now.solos i).life ≡ Dead cause → HasNone i now.book.pages (now.book.binds i)
   other_none i ne cause died = brings.none i ne (sound.none i cause (sym (other_life i ne) ∙ died))
 
-  pub sound_following : AreBoundAllocated now → Sound now
-  sound_following allocated = by_fortune brings.fortune
-    where
-      by_fortune : Fortune w e s now.book → Sound now
-      by_fortune (GoesOn alive holders runs) = record {
-        agreed = agreed now brings.bytes all_see allocated;
-        none = λ i cause died. elim (cases_eq i e) [
-          | inl same ↦ absurd (clash cause (sym alive ∙ sym own_life ∙ ap (λ (n : ℕ). (now.solos n).life) (sym same) ∙ died))
-          | inr ne ↦ other_none i ne cause died
-        ];
-        stripes = brings.stripes;
-        behind = brings.behind;
-        holders = λ k h at.
-            let before = holders k h at in
-            record { owner = still_lives h.owner (λ same. alive) before.owner; holder = still_lives h.holder (λ same. alive) before.holder };
-        runs = λ r is. still_lives r.env (λ same. alive) (runs r is);
-      }
-        where
-          clash : (cause : Cause) → Live ≡ Dead cause → ⊥
-          clash cause is = cc
-      by_fortune (Ends slots runs nothing) = record {
-        agreed = agreed now brings.bytes all_see allocated;
-        none = λ i cause died. elim (cases_eq i e) [
-          | inl same ↦ subst (λ (n : ℕ). HasNone n now.book.pages (now.book.binds n)) (sym same) nothing
-          | inr ne ↦ other_none i ne cause died
-        ];
-        stripes = brings.stripes;
-        behind = brings.behind;
-        holders = λ k h at. left_live k h (left_hold e (w.book.slots k) h ((λ j. sym slots j k) ∙ at));
-        runs = λ r is. absurd (nobody r (sym runs ∙ is));
-      }
-        where
-          nobody : (r : Runner) → None ≡ Some r → ⊥
-          nobody r is = cc
+  -- who isn't alive has nothing in the book
+  own_none : Fortune e s now.book → (cause : Cause) → (now.solos e).life ≡ Dead cause → HasNone e now.book.pages (now.book.binds e)
+  own_none (GoesOn alive) cause died = let clash : Live ≡ Dead cause = sym alive ∙ sym own_life ∙ died in cc
+  own_none (Ends nothing) cause died = nothing
 
-          left_live : (k : ℕ) (h : Hold) → IsLeft (w.book.slots k) e h → AreLive now.solos h
-          left_live k h left =
-              let before = sound.holders k left.old left.was in
-              record {
-                owner = other_life h.owner left.not_owner ∙ ap (λ (n : ℕ). (w.solos n).life) left.owner ∙ before.owner;
-                holder = other_life h.holder left.not_holder ∙ elim left.holder [
-                  | inl owner ↦ ap (λ (n : ℕ). (w.solos n).life) owner ∙ before.owner
-                  | inr holder ↦ ap (λ (n : ℕ). (w.solos n).life) holder ∙ before.holder
-                ];
-              }
+  pub sound_following : AreBoundAllocated now → Sound now
+  sound_following allocated = record {
+    agreed = agreed now brings.bytes all_see allocated;
+    none = λ i cause died. elim (cases_eq i e) [
+      | inl same ↦ subst (λ (n : ℕ). HasNone n now.book.pages (now.book.binds n)) (sym same) (own_none brings.fortune cause (ap (λ (n : ℕ). (now.solos n).life) (sym same) ∙ died))
+      | inr ne ↦ other_none i ne cause died
+    ];
+    stripes = brings.stripes;
+    behind = brings.behind;
+  }

@@ -13,7 +13,7 @@ use Rattle.world_model.specs.declared.slot.Phase.{Phase}
 use Rattle.world_model.specs.declared.slot.Phase.TheVariants as phase
 use Rattle.world_model.specs.declared.slot.Runner.{Runner}
 use Rattle.world_model.specs.Table.{set_at}
-use Rattle.world_model.specs.Book.{Book, excess_limit, running}
+use Rattle.world_model.specs.Book.{Book, excess_limit}
 use Rattle.world_model.specs.Death.{death, death_items, lost_with}
 use Rattle.world_model.specs.Solo.{Solo, dead}
 use Rattle.world_model.specs.Item.{Item, End, Killed, absorb, absorb_all}
@@ -22,6 +22,7 @@ use Rattle.world_model.specs.SlotCalls.{stop_row}
 use Rattle.world_model.specs.Step.{Dies}
 use Rattle.world_model.specs.Tick.{brings, clock, count_when, goes_on, grace_of, kill, owes_more, run_out, timer}
 use Rattle.world_model.specs.World.{World, Reply, after, in_turn, no_items, only, tells}
+use Rattle.run_model.specs.Excess.{IsRunnerLive}
 use Rattle.run_model.proofs.Phases.{in_turn_is_each}
 use Rattle.run_model.proofs.Telling.{told_other, told_own}
 use Rattle.sharing_law.specs.Agreement.{AreBoundAllocated, IsAllocated}
@@ -31,11 +32,6 @@ use Rattle.sharing_law.proofs.Brings.{Brings, death_keeps, owing_keeps, released
 use Rattle.sharing_law.proofs.Replies.{Remains, mourned}
 use Rattle.sharing_law.proofs.Stepping.{Follows, all_see, sound_following}
 use Rattle.sharing_law.proofs.Turning.{IsAlike, bytes_alike, sound_alike}
-
--- all goes on but the runner's slice
-pub record Passes (w : World) (r : Reply) : Type 0 where
-  pub alike : IsAlike w (after w r)
-  pub runs : (x : Runner) → r.book.runner ≡ Some x → running w.book.runner ≡ Some x.env
 
 -- The runner is killed: it is dead, the others lose what they had bound of its pages, and the book is that after its death, at some time.
 pub record IsKilled (w : World) (e : ℕ) (r : Reply) : Type 0 where
@@ -47,8 +43,8 @@ pub record IsKilled (w : World) (e : ℕ) (r : Reply) : Type 0 where
 
 -- What comes of the timer: all goes on, or the runner dies of its excess.
 pub data Comes (w : World) (r : Reply) : Type 0 where
-  Passed : Passes w r → Comes w r
-  Died : (e : ℕ) → running w.book.runner ≡ Some e → IsKilled w e r → Comes w r
+  Passed : IsAlike w (after w r) → Comes w r
+  Died : (x : Runner) → w.book.runner ≡ Some x → IsKilled w x.env r → Comes w r
 
 -- what the others lose with an environment is the same whatever is owed
 lost_owing : (b : Book) (excess : ℕ → ℕ) (gone i n : ℕ) → lost_with (record b { excess = excess }) gone i n ≡ lost_with b gone i n
@@ -59,12 +55,9 @@ death_owing : (b : Book) (excess : ℕ → ℕ) (gone i : ℕ) → death_items (
 death_owing b excess gone i = ap (λ items. if i == gone then [] else items) (lost_owing b excess gone i b.page_count)
 
 module _ (w : World) where
-  passes : (runner : Option Runner) (items : ℕ → List Item) (rows : List Row) → ((x : Runner) → runner ≡ Some x → running w.book.runner ≡ Some x.env)
-      → ((i : ℕ) → IsRested (w.solos i) (absorb_all (w.solos i) (items i))) → Comes w (record { book = record w.book { runner = runner }; items = items; rows = rows })
-  passes runner items rows runs rests = Passed (record { alike = record { solos = rests; pages = refl; binds = refl; count = refl; slots = refl }; runs = runs })
-
-  nobody : (x : Runner) → None ≡ Some x → running w.book.runner ≡ Some x.env
-  nobody x is = cc
+  passes : (runner : Option Runner) (items : ℕ → List Item) (rows : List Row) → ((i : ℕ) → IsRested (w.solos i) (absorb_all (w.solos i) (items i)))
+      → Comes w (record { book = record w.book { runner = runner }; items = items; rows = rows })
+  passes runner items rows rests = Passed (record { solos = rests; pages = refl; binds = refl; count = refl })
 
   -- who is told of its end rests, and all others stay as they are
   given_end : (s : Solo) (t : Bool) → IsRested s (absorb_all s (if t then End ∷ [] else []))
@@ -72,12 +65,6 @@ module _ (w : World) where
   given_end s true = end_rests s
 
   module _ (r : Runner) (runs : w.book.runner ≡ Some r) where
-    still : (x : Runner) → r.env ≡ x.env → running w.book.runner ≡ Some x.env
-    still x same = ap running runs ∙ ap Some same
-
-    next_runs : (left : ℕ) (p : Phase) (x : Runner) → Some (record { env = r.env; left = left; phase = p }) ≡ Some x → running w.book.runner ≡ Some x.env
-    next_runs left p x is = let same : record { env = r.env; left = left; phase = p } ≡ x = cc in still x (ap (λ (y : Runner). y.env) same)
-
     abbrev stops : Reply
     stops = record { book = record w.book { runner = None }; items = no_items; rows = stop_row w.book r.env ∷ [] }
 
@@ -85,8 +72,8 @@ module _ (w : World) where
     ends = record { book = record w.book { runner = Some (grace_of w r.env) }; items = only r.env (End ∷ []); rows = row.End w.book.time w.book.cursor r.env ∷ [] }
 
     slice_comes : (none : Bool) → Comes w (if none then stops else ends)
-    slice_comes true = passes None no_items (stop_row w.book r.env ∷ []) nobody (λ i. rests_same (w.solos i))
-    slice_comes false = passes (Some (grace_of w r.env)) (only r.env (End ∷ [])) (row.End w.book.time w.book.cursor r.env ∷ []) (next_runs w.book.quantum phase.Grace) (λ i. given_end (w.solos i) (i == r.env))
+    slice_comes true = passes None no_items (stop_row w.book r.env ∷ []) (λ i. rests_same (w.solos i))
+    slice_comes false = passes (Some (grace_of w r.env)) (only r.env (End ∷ [])) (row.End w.book.time w.book.cursor r.env ∷ []) (λ i. given_end (w.solos i) (i == r.env))
 
     -- the world once its excess has risen, and once it is told that it is killed
     abbrev owing : World
@@ -105,7 +92,7 @@ module _ (w : World) where
     killed = in_turn_is_each w (owes_more r.env ∷ judges true ∷ []) ∙ in_turn_is_each owing (tells r.env Killed ∷ brings r.env (Dies cause.Excess) ∷ [])
 
     grace_comes : (over : Bool) → Comes w (grace over)
-    grace_comes true = Died r.env (ap running runs) (record {
+    grace_comes true = Died r runs (record {
       excess = set_at r.env 0 owing.book.excess;
       time = w.book.time;
       book = refl;
@@ -117,10 +104,7 @@ module _ (w : World) where
           ∙ ap (λ (s : Solo). absorb_all s (death_items doomed.book r.env i)) (told_other owing r.env Killed i ne)
           ∙ ap (absorb_all (w.solos i)) (death_owing w.book owing.book.excess r.env i);
     })
-    grace_comes false = Passed (record {
-      alike = record { solos = λ i. rests_same (w.solos i); pages = refl; binds = refl; count = refl; slots = refl };
-      runs = next_runs w.book.quantum phase.Grace;
-    })
+    grace_comes false = Passed (record { solos = λ i. rests_same (w.solos i); pages = refl; binds = refl; count = refl })
 
     out_comes : (p : Phase) → Comes w (run_out r.env p w)
     out_comes phase.Own = slice_comes ((w.solos r.env).handlers.end == 0)
@@ -128,29 +112,25 @@ module _ (w : World) where
 
     left_comes : (left : ℕ) (out : Bool) → Comes w (if out then run_out r.env r.phase w else goes_on (record r { left = left }) w)
     left_comes left true = out_comes r.phase
-    left_comes left false = passes (Some (record r { left = left })) no_items [] (next_runs left r.phase) (λ i. rests_same (w.solos i))
+    left_comes left false = passes (Some (record r { left = left })) no_items [] (λ i. rests_same (w.solos i))
 
   comes_by : (o : Option Runner) → w.book.runner ≡ o → Comes w (count_when o w)
-  comes_by None is = passes w.book.runner no_items [] (λ x runs. ap running runs) (λ i. rests_same (w.solos i))
+  comes_by None is = passes w.book.runner no_items [] (λ i. rests_same (w.solos i))
   comes_by (Some r) is = left_comes r is (r.left - 1) (r.left - 1 == 0)
 
   -- and then time rises
   clocked : (count : World → Reply) → Comes w (count w) → Comes w (in_turn (count ∷ clock ∷ []) w)
-  clocked count (Passed passes) = Passed (record {
-    alike = record {
-      solos = λ i. subst (λ (items : List Item). IsRested (w.solos i) (absorb_all (w.solos i) items)) (sym (append-nil ((count w).items i))) (passes.alike.solos i);
-      pages = passes.alike.pages;
-      binds = passes.alike.binds;
-      count = passes.alike.count;
-      slots = passes.alike.slots;
-    };
-    runs = passes.runs;
+  clocked count (Passed alike) = Passed (record {
+    solos = λ i. subst (λ (items : List Item). IsRested (w.solos i) (absorb_all (w.solos i) items)) (sym (append-nil ((count w).items i))) (alike.solos i);
+    pages = alike.pages;
+    binds = alike.binds;
+    count = alike.count;
   })
-  clocked count (Died e runs killed) = Died e runs (record {
+  clocked count (Died x runs killed) = Died x runs (record {
     excess = killed.excess;
     time = killed.time + 1;
     book = ap (λ (b : Book). record b { time = b.time + 1 }) killed.book;
-    own = ap (absorb_all (w.solos e)) (append-nil ((count w).items e)) ∙ killed.own;
+    own = ap (absorb_all (w.solos x.env)) (append-nil ((count w).items x.env)) ∙ killed.own;
     others = λ i ne. ap (absorb_all (w.solos i)) (append-nil ((count w).items i)) ∙ killed.others i ne;
   })
 
@@ -159,10 +139,10 @@ module _ (w : World) where
 
   -- each binding that is listed after it was before, and its page has the row that it had
   remains_by : (r : Reply) → Comes w r → (i n : ℕ) (b : Binding) → r.book.binds i n ≡ Some b → Remains w.book r.book i n b
-  remains_by r (Passed passes) i n b is = record { listed = (λ k. sym passes.alike.binds k i n) ∙ is; page = λ k. passes.alike.pages k b.page }
-  remains_by r (Died e runs killed) i n b is =
-      let left = mourned w e i n b (ap (λ (x : Book). x.binds i n) (sym killed.book) ∙ is) in
-      record { listed = left.listed; page = ap (λ (x : Book). x.pages b.page) killed.book ∙ left.page }
+  remains_by r (Passed alike) i n b is = record { listed = (λ k. sym alike.binds k i n) ∙ is; page = λ k. alike.pages k b.page }
+  remains_by r (Died x runs killed) i n b is =
+      let left = mourned w x.env i n b (ap (λ (book : Book). book.binds i n) (sym killed.book) ∙ is) in
+      record { listed = left.listed; page = ap (λ (book : Book). book.pages b.page) killed.book ∙ left.page }
 
   pub timer_remains : (i n : ℕ) (b : Binding) → (timer w).book.binds i n ≡ Some b → Remains w.book (timer w).book i n b
   timer_remains = remains_by (timer w) timer_comes
@@ -193,19 +173,12 @@ module _ (w : World) (sound : Sound w) (e : ℕ) (lives : (w.solos e).life ≡ L
   death_bytes o page owns =
       owner_bytes (after w r) death_now.0.bytes (all_see w e corpse (after w r) (death_items w.book e) sound death_follows) o page owns ∙ ap (λ (bytes : ℕ → List ℕ). bytes page) death_now.1
 
--- who runs lives
-pub running_lives : (w : World) → Sound w → (e : ℕ) → running w.book.runner ≡ Some e → (w.solos e).life ≡ Live
-running_lives w sound e is = by_runner w.book.runner refl is
-  where
-    by_runner : (o : Option Runner) → w.book.runner ≡ o → running o ≡ Some e → (w.solos e).life ≡ Live
-    by_runner None runs is = cc
-    by_runner (Some r) runs is = let same : r.env ≡ e = cc in subst (λ (i : ℕ). (w.solos i).life ≡ Live) same (sound.runs r runs)
-
-module _ (w : World) (sound : Sound w) where
+-- What the timer leaves, where who runs lives.
+module _ (w : World) (sound : Sound w) (lives : IsRunnerLive w w.book.runner) where
   sound_by : (r : Reply) → Comes w r → AreBoundAllocated (after w r) → Sound (after w r)
-  sound_by r (Passed passes) allocated = sound_alike w (after w r) passes.alike (λ x is. running_lives w sound x.env (passes.runs x is)) sound
-  sound_by r (Died e runs killed) allocated =
-      sound_following w e (dead cause.Excess (w.solos e)) (after w r) (death_items w.book e) sound (death_follows w sound e (running_lives w sound e runs) r killed) allocated
+  sound_by r (Passed alike) allocated = sound_alike w (after w r) alike sound
+  sound_by r (Died x runs killed) allocated =
+      sound_following w x.env (dead cause.Excess (w.solos x.env)) (after w r) (death_items w.book x.env) sound (death_follows w sound x.env (lives x runs) r killed) allocated
 
   pub sound_timed : AreBoundAllocated w → Sound (after w (timer w))
   sound_timed allocated = sound_by (timer w) (timer_comes w) (allocated_timed w allocated)
@@ -215,10 +188,10 @@ module _ (w : World) (sound : Sound w) where
   WasSo owner page v = (is_owned_by owner (w.book.pages page) ≡ true) × (page_bytes v page ≡ page_bytes w page)
 
   owned_by : (r : Reply) → Comes w r → (owner page : ℕ) → is_owned_by owner (r.book.pages page) ≡ true → WasSo owner page (after w r)
-  owned_by r (Passed passes) owner page owns = (ap (is_owned_by owner) (λ k. sym passes.alike.pages k page) ∙ owns, bytes_alike w (after w r) passes.alike page)
-  owned_by r (Died e runs killed) owner page owns = (
-    released_owned e owner (w.book.pages page) (ap (λ (x : Book). is_owned_by owner (x.pages page)) (sym killed.book) ∙ owns),
-    death_bytes w sound e (running_lives w sound e runs) r killed owner page owns,
+  owned_by r (Passed alike) owner page owns = (ap (is_owned_by owner) (λ k. sym alike.pages k page) ∙ owns, bytes_alike w (after w r) alike page)
+  owned_by r (Died x runs killed) owner page owns = (
+    released_owned x.env owner (w.book.pages page) (ap (λ (book : Book). is_owned_by owner (book.pages page)) (sym killed.book) ∙ owns),
+    death_bytes w sound x.env (lives x runs) r killed owner page owns,
   )
 
   pub timer_owned : (owner page : ℕ) → is_owned_by owner ((timer w).book.pages page) ≡ true → WasSo owner page (after w (timer w))
