@@ -51,19 +51,20 @@ impl Board {
         if let Deed::Transfers { target, kind } = deed {
             return self.transfer(env, value, target as u8, kind);
         }
+        if let Deed::Own(own) = deed {
+            self.do_own(env, own);
+            return self.answer(Verdict::Grant(value));
+        }
         self.answer(Verdict::Grant(value));
         match deed {
-            Deed::Answers | Deed::Transfers { .. } => {}
+            Deed::Answers | Deed::Own(_) | Deed::Transfers { .. } => {}
             Deed::Stops => self.stop(env),
             Deed::Gives(target) => self.give(env, target as u8),
-            Deed::Puts { address, size } => self.put(env, address, size),
             Deed::Allocates { page, words } => self.allocate(env, page, words),
             Deed::Frees(page) => self.free(env, page),
             Deed::Recaps { page, words } => self.recap(env, page, words),
             Deed::Binds { binding, .. } => self.bind(env, binding),
             Deed::Unbinds(vpn) => self.unbind(env, vpn),
-            Deed::Handles { context, address } => self.handle(env, context, address),
-            Deed::Accepts(mask) => self.accept(env, mask),
             Deed::TakesSlot(slot) => self.take_slot(env, slot),
             Deed::DropsSlot(slot) => self.drop_slot(env, slot),
         }

@@ -3,11 +3,12 @@ ghost use Rattle.std.specs.Prelude.{◌≡◌, ◌<◌, ◌≤◌, ◌+◌, Some
 ghost use Rattle.aegis_limits.specs.Limits.{console_size};
 ghost use Rattle.bind_book.specs.Stripe.{page_numbers};
 ghost use Rattle.page_book.specs.Rows.{row_in};
+ghost use Rattle.world_model.specs.declared.call.OwnDeed.TheVariants.{Puts, Handles, Accepts};
 ghost use Rattle.world_model.specs.Book.{running};
 ghost use Rattle.std.specs.Option.{option_map};
 ghost use Rattle.guest_memory.specs.Look.{look};
 ghost use Rattle.guest_memory.specs.Space.{lookup};
-ghost use Rattle.world_model.specs.Item.{put_bytes as bytes_to_put};
+ghost use Rattle.world_model.specs.OwnCalls.{MayOwn, put_bytes as bytes_to_put};
 ghost use Rattle.board_world.specs.Doing.{look_of};
 ghost use Rattle.board_world.specs.Shown.{console_of};
 ghost use Rattle.board_world.specs.Sound.{IsOwned};
@@ -17,6 +18,7 @@ use bind_book::Binding;
 use env_frames::Context;
 use frame_store::Frames;
 use guest_memory::{Space, guest_range};
+use world_model::OwnDeed;
 
 /// The bytes of a put, so many from an address on, if their range is good; none need no range.
 fn put_bytes<'a>(frames: &'a Frames, space: &Space<'_>, address: u32, size: u32) -> Option<&'a [u8]>
@@ -29,14 +31,15 @@ fn put_bytes<'a>(frames: &'a Frames, space: &Space<'_>, address: u32, size: u32)
 }
 
 impl Board {
-    ghost use Rattle.board_world.specs.Doing.{accepted, appended, with_bound, with_handling, with_unbound};
+    ghost use Rattle.board_world.specs.Doing.{own_done, with_bound, with_unbound};
+    ghost use Rattle.board_world.specs.Showing.{solo_of};
 
     /// Appends bytes of the runner's memory, so many from an address on, to its console.
-    pub(crate) fn put(&mut self, env: u8, address: u32, size: u32)
+    fn put(&mut self, env: u8, address: u32, size: u32)
         requires runs { running self.old.slots.runner ≡ Some env }
         requires good { is_some (bytes_to_put (look_of self.old env) address size) ≡ true }
         requires room { length (console_of self.old.roster.list env) + size ≤ console_size }
-        ensures { self.new ≡ appended self.old env address size }
+        ensures { self.new ≡ own_done self.old env (Puts address size) }
     {
         let space = Space {
             env: self.roster.frame(env),
@@ -45,6 +48,37 @@ impl Board {
         };
         let bytes = put_bytes(&self.frames, &space, address, size).unwrap();
         self.roster.put(env, bytes);
+    }
+
+    /// The runner's handler of a context stands at an address from now on; 0 is none.
+    fn handle(&mut self, env: u8, context: Context, address: u32)
+        requires { running self.old.slots.runner ≡ Some env }
+        ensures { self.new ≡ own_done self.old env (Handles context address) }
+    {
+        self.roster.handle(env, context, address);
+    }
+
+    /// The runner accepts the yields and transfers of those of a mask, and of no others.
+    fn accept(&mut self, env: u8, mask: u32)
+        requires { running self.old.slots.runner ≡ Some env }
+        ensures { self.new ≡ own_done self.old env (Accepts mask) }
+    {
+        self.roster.accept(env, mask);
+    }
+
+    /// The runner does this to itself alone, which it may.
+    pub(crate) fn do_own(&mut self, env: u8, own: OwnDeed)
+        requires runs { running self.old.slots.runner ≡ Some env }
+        requires may { MayOwn (solo_of self.old env) own }
+        ensures { self.new ≡ own_done self.old env own }
+    {
+        // Reads a part, and with it that the board is sound.
+        let _ = &self.time;
+        match own {
+            OwnDeed::Puts { address, size } => self.put(env, address, size),
+            OwnDeed::Handles { context, address } => self.handle(env, context, address),
+            OwnDeed::Accepts(mask) => self.accept(env, mask),
+        }
     }
 
     /// A binding of the runner's takes the place of the one in its row.
@@ -65,21 +99,5 @@ impl Board {
         ensures { self.new ≡ with_unbound self.old env vpn }
     {
         self.bindings.unbind(env, vpn);
-    }
-
-    /// The runner's handler of a context stands at an address from now on; 0 is none.
-    pub(crate) fn handle(&mut self, env: u8, context: Context, address: u32)
-        requires { running self.old.slots.runner ≡ Some env }
-        ensures { self.new ≡ with_handling self.old env context address }
-    {
-        self.roster.handle(env, context, address);
-    }
-
-    /// The runner accepts the yields and transfers of those of a mask, and of no others.
-    pub(crate) fn accept(&mut self, env: u8, mask: u32)
-        requires { running self.old.slots.runner ≡ Some env }
-        ensures { self.new ≡ accepted self.old env mask }
-    {
-        self.roster.accept(env, mask);
     }
 }

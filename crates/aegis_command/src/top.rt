@@ -42,7 +42,7 @@ fn respond<S: Shelf, K: Sink>(alloc: Global, words: &[String], shelf: &mut S, ou
     }
 }
 
-/// Does what the words ask, over a shelf of files and a sink for the output (`docs/PROGRAM.md`). All
+/// Does what the words ask, over a shelf of files and a sink for the output (`docs/REPORT.md`). All
 /// files that the words name are read first, in their order; then they are checked in this order;
 /// then the work is done, and last the whole output is written.
 pub fn aegis<S: Shelf, K: Sink>(

@@ -1,4 +1,4 @@
--- What the runner does to its bindings, its handlers and its mask, on the world that is shown.
+-- What the runner does to its bindings, on the world that is shown.
 use Rattle.std.proofs.Common.{◌≡◌, ◌≢◌, ◌<◌, ℕ, List, [], ◌∷◌, Bool, true, false, Option, Some, None, is_some, refl, sym, ◌∙◌, ap, arith, subst}
 use Rattle.std.specs.Prelude.{if◌then◌else◌, slice_set}
 use Rattle.std.specs.Option.{option_map}
@@ -13,8 +13,8 @@ use Rattle.bind_book.specs.declared.binding.Binding.{Binding}
 use Rattle.bind_book.specs.Stripe.{HasStripe, binding_at, is_bound, place_of, row_of, stripe_rows, stripes}
 use Rattle.page_sight.specs.Sight.{Sees, seen_if, seen_in}
 use Rattle.page_sight.proofs.Sights.{binder_sees, unbinder_loses}
-use Rattle.world_model.specs.declared.deed.Deed.{Deed}
-use Rattle.world_model.specs.declared.deed.Deed.TheVariants.{Binds, Unbinds, Handles, Accepts}
+use Rattle.world_model.specs.declared.call.Deed.{Deed}
+use Rattle.world_model.specs.declared.call.Deed.TheVariants.{Binds, Unbinds}
 use Rattle.world_model.specs.declared.verdict.Verdict.TheVariants.{Grant}
 use Rattle.world_model.specs.declared.life.Life.TheVariants.{Live}
 use Rattle.world_model.specs.Holding.{bound, gained, unbound, with_binds}
@@ -146,36 +146,3 @@ module _ (b : Shown) (e : ℕ) (x : Environment) (r : Runs b e x) (sound : IsSou
         spare = refl;
         time = refl;
       }
-
-  -- Another record of the runner's, whose mappings stay, and which shows what its deed leaves.
-  changes : (f : Environment → Environment) (keeps : Keeps f) (d : Deed) (v : ℕ) → (f x).life ≡ Live →
-      runner_solo (doing.answered (record b { roster = with_list b.roster (changed f b.roster.list e) }) (Grant v)) e (f x) ≡ deeded d v (runner_solo b e x) →
-      Serves b e (deeded d v (solo_of b e)) (no_change (world_of b)) (doing.answered (record b { roster = with_list b.roster (changed f b.roster.list e) }) (Grant v))
-  changes f keeps d v lives seen =
-      let now = doing.answered (record b { roster = with_list b.roster (changed f b.roster.list e) }) (Grant v) in
-      let still : Runs now e (f x) = record { at = changed_here f b.roster.list e ∙ ap (option_map f) r.at; lives = lives; runs = r.runs } in
-      record {
-        book = λ k. record (book_of now) { kept = λ i. kept_mappings f keeps b.roster.list e i k };
-        count = length-changed f b.roster.list e;
-        solos = one_changed (solo_of b) (solo_of now) e (deeded d v (solo_of b e))
-            (runner_seen now e (f x) still ∙ seen ∙ deeded_seen b e x r d v)
-            (λ i ne. same_solo i now b (record {
-              record_is = changed_else f b.roster.list e i ne;
-              idles = r.runs.others i ne;
-              idled = r.runs.others i ne;
-              pages = refl;
-              binds = refl;
-              sights = refl;
-            }));
-        rows = sym (append_nothing b.ledger.rows);
-        room = omega arith;
-        spare = refl;
-        time = refl;
-      }
-
-  -- Context and accept.
-  pub handles : (kind : Context) (address v : ℕ) → Serves b e (deeded (Handles kind address) v (solo_of b e)) (done (world_of b) e (Handles kind address)) (doing.granted b e v (Handles kind address))
-  handles kind address v = changes (doing.handling kind address) (keeps_handling kind address) (Handles kind address) v r.lives refl
-
-  pub accepts : (mask v : ℕ) → Serves b e (deeded (Accepts mask) v (solo_of b e)) (done (world_of b) e (Accepts mask)) (doing.granted b e v (Accepts mask))
-  accepts mask v = changes (doing.accepting mask) (keeps_accepting mask) (Accepts mask) v r.lives refl

@@ -14,6 +14,7 @@ pub mod Losing
 pub mod Mappings
 pub mod Masks
 pub mod PageServing
+pub mod OwnServing
 pub mod Pages
 pub mod Parted
 pub mod Parts

@@ -16,7 +16,7 @@ use Rattle.bind_book.proofs.Swept.{swept_row}
 use Rattle.page_sight.specs.Sight.{Sees}
 use Rattle.page_sight.proofs.Sights.{allocator_sees, others_dont, freer_loses, recapper_keeps, others_lose}
 use Rattle.page_sight.proofs.Stripes.{bound_nowhere, stripes_end}
-use Rattle.world_model.specs.declared.deed.Deed.TheVariants.{Allocates, Frees, Recaps}
+use Rattle.world_model.specs.declared.call.Deed.TheVariants.{Allocates, Frees, Recaps}
 use Rattle.world_model.specs.declared.verdict.Verdict.TheVariants.{Grant}
 use Rattle.world_model.specs.Book.{broken}
 use Rattle.world_model.specs.Holding.{gained, owning, lost}

@@ -1,11 +1,11 @@
 -- The runner's calls and its death, on the world that is shown.
-use Rattle.std.proofs.Common.{◌≡◌, ℕ, [], ◌∷◌, Bool, true, false, Option, Some, None, refl, sym, ◌∙◌, ap, subst}
+use Rattle.std.proofs.Common.{◌≡◌, ◌≤◌, ◌+◌, ℕ, arith, [], ◌∷◌, Bool, true, false, Option, Some, None, refl, sym, ◌∙◌, ap, subst}
 use Rattle.std.specs.Prelude.{◌==◌, if◌then◌else◌}
 use Rattle.mips_exec.specs.Cpu.{reg}
 use Rattle.world_model.specs.declared.call.Call.{Call}
 use Rattle.world_model.specs.declared.code.Code.{Code}
-use Rattle.world_model.specs.declared.deed.Deed.{Deed}
-use Rattle.world_model.specs.declared.deed.Deed.TheVariants.{Answers, Stops, Gives, Puts, Allocates, Frees, Recaps, Binds, Unbinds, Handles, Accepts, Transfers, TakesSlot, DropsSlot}
+use Rattle.world_model.specs.declared.call.Deed.{Deed}
+use Rattle.world_model.specs.declared.call.Deed.TheVariants.{Answers, Own, Stops, Gives, Allocates, Frees, Recaps, Binds, Unbinds, Transfers, TakesSlot, DropsSlot}
 use Rattle.world_model.specs.declared.life.Life.TheVariants.{Live}
 use Rattle.world_model.specs.declared.life.Cause.{Cause}
 use Rattle.world_model.specs.declared.life.Cause.TheVariants as cause
@@ -14,7 +14,7 @@ use Rattle.world_model.specs.declared.verdict.Verdict.TheVariants.{Refuse, Grant
 use Rattle.world_model.specs.Book.{running}
 use Rattle.world_model.specs.Call.{called, exit_number}
 use Rattle.world_model.specs.Death.{death}
-use Rattle.world_model.specs.Deed.{deed_of}
+use Rattle.world_model.specs.Call.{deed_of}
 use Rattle.world_model.specs.Item.{Answer, absorb_all, answered}
 use Rattle.world_model.specs.May.{May}
 use Rattle.world_model.specs.Solo.{Solo, dead}
@@ -31,30 +31,29 @@ use Rattle.board_world.specs.Sound.{IsSound}
 use Rattle.board_world.specs.Doing as doing
 use Rattle.board_world.proofs.Parts.{append_nothing, worlds, by_env, set_here, set_else, only_here, only_else}
 use Rattle.board_world.proofs.Seen.{Runs, runner_seen, runner_runs}
-use Rattle.board_world.proofs.BindServing.{accepts, binds, handles, unbinds}
+use Rattle.board_world.proofs.BindServing.{binds, unbinds}
+use Rattle.board_world.proofs.OwnServing.{own_serves}
 use Rattle.board_world.proofs.PageServing.{allocates, frees, recaps}
 use Rattle.board_world.proofs.Phases.{called_still}
 use Rattle.board_world.proofs.Replying.{alone, answers, deeded, granted_serves, refuses}
 pub use Rattle.board_world.proofs.Replying.{Serves, told}
 pub use Rattle.board_world.proofs.Dying.{died_serves, hold_at-map}
 use Rattle.board_world.proofs.GiftServing.{gives, stops_itself}
-use Rattle.board_world.proofs.SlotServing.{drops, puts, takes}
-use Rattle.board_world.proofs.TransferServing.{transfers}
+use Rattle.board_world.proofs.SlotServing.{drops, takes}
+use Rattle.board_world.proofs.TransferServing.{entered_room, transfers}
 
 module _ (b : Shown) (e : ℕ) (x : Environment) (r : Runs b e x) (sound : IsSound b) where
   -- each deed
   does : (d : Deed) (v : ℕ) → May (world_of b) e d → Serves b e (deeded d v (solo_of b e)) (done (world_of b) e d) (doing.granted b e v d)
   does Answers v may = answers b e x r v
+  does (Own own) v may = own_serves b e x r sound own v
   does Stops v may = stops_itself b e x r sound v
   does (Gives target) v may = gives b e x r sound target v may
-  does (Puts address size) v may = puts b e x r sound address size v
   does (Allocates page words) v may = allocates b e x r sound page words v may
   does (Frees page) v may = frees b e x r sound page v may
   does (Recaps page words) v may = recaps b e x r sound page words v may
   does (Binds binding word) v may = binds b e x r sound binding word v may
   does (Unbinds vpn) v may = unbinds b e x r sound vpn v
-  does (Handles kind address) v may = handles b e x r sound kind address v
-  does (Accepts mask) v may = accepts b e x r sound mask v
   does (Transfers target kind) v may = transfers b e x r sound target kind v may
   does (TakesSlot slot) v may = takes b e x r slot v may
   does (DropsSlot slot) v may = drops b e x r slot v may
@@ -113,3 +112,31 @@ pub refused_world : GrantedMay → (b : Shown) (e : ℕ) (why : Code) (v : ℕ) 
 refused_world law b e why v sound runs is =
     let x = runner_runs b e sound runs in
     called_world law b e sound runs ∙ refused_is (world_of b) e (ap (λ (s : Solo). s.life) (runner_seen b e x.0 x.1)) why v is
+
+-- how many rows are written, and that all environments stay
+pub record Leaves (b new : Shown) : Type 0 where
+  pub room : b.ledger.spare ≤ new.ledger.spare + 128
+  pub spare : new.roster.spare ≡ b.roster.spare
+  pub time : new.time ≡ b.time
+
+deed_leaves : (b : Shown) (e v : ℕ) (d : Deed) → Leaves b (doing.granted b e v d)
+deed_leaves b e v Answers = record { room = omega arith; spare = refl; time = refl }
+deed_leaves b e v (Own own) = record { room = omega arith; spare = refl; time = refl }
+deed_leaves b e v Stops = record { room = omega arith; spare = refl; time = refl }
+deed_leaves b e v (Gives target) = record { room = omega arith; spare = refl; time = refl }
+deed_leaves b e v (Allocates page words) = record { room = omega arith; spare = refl; time = refl }
+deed_leaves b e v (Frees page) = record { room = omega arith; spare = refl; time = refl }
+deed_leaves b e v (Recaps page words) = record { room = omega arith; spare = refl; time = refl }
+deed_leaves b e v (Binds binding word) = record { room = omega arith; spare = refl; time = refl }
+deed_leaves b e v (Unbinds vpn) = record { room = omega arith; spare = refl; time = refl }
+deed_leaves b e v (Transfers target kind) = record { room = entered_room b e target kind; spare = refl; time = refl }
+deed_leaves b e v (TakesSlot slot) = record { room = omega arith; spare = refl; time = refl }
+deed_leaves b e v (DropsSlot slot) = record { room = omega arith; spare = refl; time = refl }
+
+verdict_leaves : (b : Shown) (e : ℕ) (c : Option Call) (which : Verdict) → Leaves b (doing.served_by b e c which)
+verdict_leaves b e c (Refuse why v) = record { room = omega arith; spare = refl; time = refl }
+verdict_leaves b e c (Grant v) = deed_leaves b e v (deed_of c v b.cpu)
+
+pub called_leaves : (b : Shown) (e : ℕ) (exits : Bool) → IsSound b → running b.slots.runner ≡ Some e → Leaves b (doing.called_when b e exits)
+called_leaves b e true sound runs = let s = death_serves b e (cause.Exit (reg b.cpu 4)) sound runs in record { room = s.room; spare = s.spare; time = s.time }
+called_leaves b e false sound runs = verdict_leaves b e (called b.cpu) (verdict (world_of b) e (called b.cpu))

@@ -1,15 +1,15 @@
--- What the runner does to slots and to its console, on the world that is shown.
+-- What the runner does to slots, on the world that is shown.
 use Rattle.std.proofs.Common.{◌≡◌, ◌<◌, ℕ, ◌++◌, [], length, Option, Some, refl, sym, ◌∙◌, ap, arith}
 use Rattle.std.proofs.lemmas.List.{length-set}
 use Rattle.std.specs.Prelude.{unwrap_or}
 use Rattle.std.specs.Option.{option_map}
 use Rattle.slot_vector.specs.Slices.{hold_at}
-use Rattle.world_model.specs.declared.deed.Deed.{Deed}
-use Rattle.world_model.specs.declared.deed.Deed.TheVariants.{Puts, TakesSlot, DropsSlot}
+use Rattle.world_model.specs.declared.call.Deed.{Deed}
+use Rattle.world_model.specs.declared.call.Deed.TheVariants.{TakesSlot, DropsSlot}
 use Rattle.world_model.specs.declared.verdict.Verdict.TheVariants.{Grant}
 use Rattle.world_model.specs.declared.slot.Hold.{Hold}
 use Rattle.world_model.specs.Book.{own_hold}
-use Rattle.world_model.specs.Item.{answered_cpu, own_part, put_bytes}
+use Rattle.world_model.specs.Item.{answered_cpu, own_part}
 use Rattle.world_model.specs.May.{MayDrop, MayTake}
 use Rattle.world_model.specs.SlotCalls.{dropped, with_slot}
 use Rattle.world_model.specs.Solo.{Solo, sight}
@@ -50,27 +50,3 @@ module _ (b : Shown) (e : ℕ) (x : Environment) (r : Runs b e x) where
 
   pub drops : (k v : ℕ) → MayDrop (book_of b) e k → Serves b e (deeded (DropsSlot k) v (solo_of b e)) (done (world_of b) e (DropsSlot k)) (doing.granted b e v (DropsSlot k))
   drops k v may = sets_slot (DropsSlot k) v k (dropped e (hold_at b.slots.slots k)) may.there refl
-
-module _ (b : Shown) (e : ℕ) (x : Environment) (r : Runs b e x) (sound : IsSound b) where
-  looks : (λ v. doing.look_of b e v) ≡ sight (runner_solo b e x)
-  looks = λ k v. its_look b e x r sound v k
-
-  -- bytes that are put
-  pub puts : (address size v : ℕ) → Serves b e (deeded (Puts address size) v (solo_of b e)) (done (world_of b) e (Puts address size)) (doing.granted b e v (Puts address size))
-  puts address size v =
-      let f = doing.putting (unwrap_or (put_bytes (doing.look_of b e) address size) []) in
-      let now = doing.granted b e v (Puts address size) in
-      let still : Runs now e (f x) = record { at = changed_here f b.roster.list e ∙ ap (option_map f) r.at; lives = r.lives; runs = r.runs } in
-      record {
-        book = λ k. record (book_of now) { kept = λ i. kept_mappings f (keeps_putting (unwrap_or (put_bytes (doing.look_of b e) address size) [])) b.roster.list e i k };
-        count = length-changed f b.roster.list e;
-        solos = one_changed (solo_of b) (solo_of now) e (deeded (Puts address size) v (solo_of b e))
-            (runner_seen now e (f x) still
-            ∙ (λ k. record (runner_solo b e x) { cpu = answered_cpu (Grant v) b.cpu; console = x.console ++ unwrap_or (put_bytes (looks k) address size) [] })
-            ∙ deeded_seen b e x r (Puts address size) v)
-            (λ i ne. same_solo i now b (record { record_is = changed_else f b.roster.list e i ne; idles = r.runs.others i ne; idled = r.runs.others i ne; pages = refl; binds = refl; sights = refl }));
-        rows = sym (append_nothing b.ledger.rows);
-        room = omega arith;
-        spare = refl;
-        time = refl;
-      }

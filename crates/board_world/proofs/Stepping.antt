@@ -29,12 +29,12 @@ use Rattle.world_model.specs.declared.slot.Runner.{Runner}
 use Rattle.world_model.specs.Table.{set_at}
 use Rattle.world_model.specs.Book.{running, sees}
 use Rattle.world_model.specs.declared.call.Call.{Call}
-use Rattle.world_model.specs.declared.deed.Deed.{Deed}
-use Rattle.world_model.specs.declared.deed.Deed.TheVariants.{Answers, Stops, Gives, Puts, Allocates, Frees, Recaps, Binds, Unbinds, Handles, Accepts, Transfers, TakesSlot, DropsSlot}
+use Rattle.world_model.specs.declared.call.Deed.{Deed}
+use Rattle.world_model.specs.declared.call.Deed.TheVariants.{Answers, Own, Stops, Gives, Allocates, Frees, Recaps, Binds, Unbinds, Transfers, TakesSlot, DropsSlot}
 use Rattle.world_model.specs.declared.verdict.Verdict.{Verdict}
 use Rattle.world_model.specs.declared.verdict.Verdict.TheVariants.{Refuse, Grant}
 use Rattle.world_model.specs.Call.{called, exit_number}
-use Rattle.world_model.specs.Deed.{deed_of}
+use Rattle.world_model.specs.Call.{deed_of}
 use Rattle.world_model.specs.Upcalls.{raise}
 use Rattle.world_model.specs.Verdict.{verdict}
 use Rattle.call_verdicts.specs.Granted.{GrantedMay}
@@ -51,16 +51,15 @@ use Rattle.board_world.specs.declared.roster.Environment.{Environment}
 use Rattle.board_world.specs.Shown.{Shown, handlers_in, handlers_of, mappings_in, mappings_of}
 use Rattle.board_world.specs.Showing.{world_of, book_of, solo_of, solo_or_absent, solo_seen, cpu_seen, page_seen, pages_seen}
 use Rattle.board_world.specs.Sound.{IsSound, IsLive, IsOwned}
-use Rattle.board_world.specs.Doing.{step_seen, lookup_of, ran, raised, trapped, called_by, called_when, granted, served_by, came_to}
+use Rattle.board_world.specs.Doing.{step_seen, lookup_of, ran, raised, trapped, called_by, came_to}
 use Rattle.board_world.proofs.Contexts.{left_by, left_others, left_own, left_sights, left_store}
 use Rattle.board_world.proofs.Looks.{leads_by}
 use Rattle.board_world.proofs.Pages.{its_store}
 use Rattle.board_world.proofs.Parts.{append_nothing, worlds, by_env, set_here, set_else, only_here, only_else}
 use Rattle.board_world.proofs.Phases.{each_in_turn}
 use Rattle.board_world.proofs.Seen.{same_solo, stripe_of, sights_of, Runs, runner_solo, runner_seen, runner_runs, its_mappings, its_step, live_record, found_in_row, bound_there}
-use Rattle.board_world.proofs.Serving.{Serves, told, call_serves, death_serves, died_serves}
+use Rattle.board_world.proofs.Serving.{Leaves, Serves, told, call_serves, called_leaves, died_serves}
 use Rattle.board_world.proofs.Sound.{neither}
-use Rattle.board_world.proofs.TransferServing.{entered_room}
 use Rattle.board_world.proofs.Stores.{own_kept, other_kept, guaranteed_sights, sights_stay, put_table, kept_as_was, bound_kept}
 
 -- the mapping that a page number has, by the parts of what an environment sees
@@ -344,36 +343,6 @@ module _ (b : Shown) (e : ℕ) (x : Environment) (r : Runs b e x) (sound : IsSou
 -- The same of any board.
 pub stepped_world : GrantedMay → (b : Shown) (e : ℕ) → IsSound b → running b.slots.runner ≡ Some e → world_of (came_to b e (step_seen b e)) ≡ after (world_of b) (tick.step (world_of b))
 stepped_world law b e sound runs = let x = runner_runs b e sound runs in stepped_alone b e x.0 x.1 sound law b.slots.runner runs
-
--- how many rows a step writes, and that all environments stay
-pub record Leaves (b new : Shown) : Type 0 where
-  pub room : b.ledger.spare ≤ new.ledger.spare + 128
-  pub spare : new.roster.spare ≡ b.roster.spare
-  pub time : new.time ≡ b.time
-
-deed_leaves : (b : Shown) (e v : ℕ) (d : Deed) → Leaves b (granted b e v d)
-deed_leaves b e v Answers = record { room = omega arith; spare = refl; time = refl }
-deed_leaves b e v Stops = record { room = omega arith; spare = refl; time = refl }
-deed_leaves b e v (Gives target) = record { room = omega arith; spare = refl; time = refl }
-deed_leaves b e v (Puts address size) = record { room = omega arith; spare = refl; time = refl }
-deed_leaves b e v (Allocates page words) = record { room = omega arith; spare = refl; time = refl }
-deed_leaves b e v (Frees page) = record { room = omega arith; spare = refl; time = refl }
-deed_leaves b e v (Recaps page words) = record { room = omega arith; spare = refl; time = refl }
-deed_leaves b e v (Binds binding word) = record { room = omega arith; spare = refl; time = refl }
-deed_leaves b e v (Unbinds vpn) = record { room = omega arith; spare = refl; time = refl }
-deed_leaves b e v (Handles kind address) = record { room = omega arith; spare = refl; time = refl }
-deed_leaves b e v (Accepts mask) = record { room = omega arith; spare = refl; time = refl }
-deed_leaves b e v (Transfers target kind) = record { room = entered_room b e target kind; spare = refl; time = refl }
-deed_leaves b e v (TakesSlot slot) = record { room = omega arith; spare = refl; time = refl }
-deed_leaves b e v (DropsSlot slot) = record { room = omega arith; spare = refl; time = refl }
-
-verdict_leaves : (b : Shown) (e : ℕ) (c : Option Call) (which : Verdict) → Leaves b (served_by b e c which)
-verdict_leaves b e c (Refuse why v) = record { room = omega arith; spare = refl; time = refl }
-verdict_leaves b e c (Grant v) = deed_leaves b e v (deed_of c v b.cpu)
-
-pub called_leaves : (b : Shown) (e : ℕ) (exits : Bool) → IsSound b → running b.slots.runner ≡ Some e → Leaves b (called_when b e exits)
-called_leaves b e true sound runs = let s = death_serves b e (cause.Exit (reg b.cpu 4)) sound runs in record { room = s.room; spare = s.spare; time = s.time }
-called_leaves b e false sound runs = verdict_leaves b e (called b.cpu) (verdict (world_of b) e (called b.cpu))
 
 pub came_leaves : (b : Shown) (e : ℕ) (st : Step) → IsSound b → running b.slots.runner ≡ Some e → Leaves b (came_to b e st)
 came_leaves b e (Retired cpu w) sound runs = record { room = omega arith; spare = refl; time = refl }

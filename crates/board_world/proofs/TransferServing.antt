@@ -11,7 +11,7 @@ use Rattle.env_frames.specs.Context.{handler_of}
 use Rattle.env_frames.specs.Transfer.{carried, entered_cpu, entry_area, entry_bytes, entry_context, hands_slot}
 use Rattle.kernel_journal.specs.declared.row.Row.TheVariants as row
 use Rattle.slot_vector.specs.Slices.{Slices, hold_at, slots_given}
-use Rattle.world_model.specs.declared.deed.Deed.TheVariants.{Transfers}
+use Rattle.world_model.specs.declared.call.Deed.TheVariants.{Transfers}
 use Rattle.world_model.specs.declared.verdict.Verdict.TheVariants.{Grant}
 use Rattle.world_model.specs.May.{MayEnter}
 use Rattle.world_model.specs.Upcalls.{enter}

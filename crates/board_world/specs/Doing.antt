@@ -37,12 +37,15 @@ use Rattle.world_model.specs.declared.life.Life.TheVariants.{Dead}
 use Rattle.world_model.specs.declared.life.Cause.{Cause}
 use Rattle.world_model.specs.declared.life.Cause.TheVariants as cause
 use Rattle.world_model.specs.Page.{Mapped}
-use Rattle.world_model.specs.declared.deed.Deed.{Deed}
-use Rattle.world_model.specs.declared.deed.Deed.TheVariants.{Answers, Stops, Gives, Puts, Allocates, Frees, Recaps, Binds, Unbinds, Handles, Accepts, Transfers, TakesSlot, DropsSlot}
+use Rattle.world_model.specs.declared.call.Deed.{Deed}
+use Rattle.world_model.specs.declared.call.Deed.TheVariants.{Answers, Own, Stops, Gives, Allocates, Frees, Recaps, Binds, Unbinds, Transfers, TakesSlot, DropsSlot}
 use Rattle.world_model.specs.declared.verdict.Verdict.{Verdict}
 use Rattle.world_model.specs.declared.verdict.Verdict.TheVariants.{Refuse, Grant}
-use Rattle.world_model.specs.Item.{answered_cpu, put_bytes}
-use Rattle.world_model.specs.Deed.{deed_of}
+use Rattle.world_model.specs.declared.call.OwnDeed.{OwnDeed}
+use Rattle.world_model.specs.declared.call.OwnDeed.TheVariants.{Puts, Handles, Accepts}
+use Rattle.world_model.specs.Item.{answered_cpu}
+use Rattle.world_model.specs.OwnCalls.{put_bytes}
+use Rattle.world_model.specs.Call.{deed_of}
 use Rattle.std.specs.Option.{option_map}
 use Rattle.world_model.specs.Death.{released_rows}
 use Rattle.world_model.specs.Verdict.{verdict}
@@ -183,9 +186,14 @@ stopped b e = kept_stopped (record b { slots = turn_ended b.slots }) e
 abbrev pub answered : Shown → Verdict → Shown
 answered b verdict = record b { cpu = answered_cpu verdict b.cpu }
 
--- the bytes that a put names stand behind those of the console
-abbrev pub appended : Shown → ℕ → ℕ → ℕ → Shown
-appended b e address size = record b { roster = with_list b.roster (changed (putting (unwrap_or (put_bytes (look_of b e) address size) [])) b.roster.list e) }
+-- What the runner does to itself alone: its record, once this is done
+abbrev pub own_record : Shown → ℕ → OwnDeed → Environment → Environment
+own_record b e (Puts address size) = putting (unwrap_or (put_bytes (look_of b e) address size) [])
+own_record b e (Handles kind address) = handling kind address
+own_record b e (Accepts mask) = accepting mask
+
+abbrev pub own_done : Shown → ℕ → OwnDeed → Shown
+own_done b e own = record b { roster = with_list b.roster (changed (own_record b e own) b.roster.list e) }
 
 -- the rest of the runner's slice goes to another environment, which is started
 abbrev pub given : Shown → ℕ → ℕ → Shown
@@ -229,10 +237,6 @@ entered b e value target kind = record b {
 abbrev pub transferred : Shown → ℕ → ℕ → ℕ → TransferKind → Shown
 transferred b e value target kind = entered (handed_on b e target kind) e value target kind
 
--- Accept: the runner has another mask.
-abbrev pub accepted : Shown → ℕ → ℕ → Shown
-accepted b e mask = record b { roster = with_list b.roster (changed (accepting mask) b.roster.list e) }
-
 -- Take and drop: a slot has another hold.
 abbrev pub with_slot : Shown → ℕ → Option Hold → Shown
 with_slot b k hold = record b { slots = with_hold b.slots k hold; ledger = with_row b.ledger (slot_row b.time k hold) }
@@ -267,23 +271,17 @@ with_bound b e x = record b { binds = slice_set b.binds (place_of e (row_of x.vp
 abbrev pub with_unbound : Shown → ℕ → ℕ → Shown
 with_unbound b e vpn = record b { binds = unbound b.binds e vpn }
 
--- Context: the runner's handler of a context stands at an address.
-abbrev pub with_handling : Shown → ℕ → Context → ℕ → Shown
-with_handling b e kind address = record b { roster = with_list b.roster (changed (handling kind address) b.roster.list e) }
-
 -- a call of the runner that is granted with a value, once this is done
 abbrev pub granted : Shown → ℕ → ℕ → Deed → Shown
 granted b e value Answers = answered b (Grant value)
+granted b e value (Own own) = answered (own_done b e own) (Grant value)
 granted b e value Stops = stopped (answered b (Grant value)) e
 granted b e value (Gives target) = given (answered b (Grant value)) e target
-granted b e value (Puts address size) = answered (appended b e address size) (Grant value)
 granted b e value (Allocates page words) = answered (with_taken b e page words) (Grant value)
 granted b e value (Frees page) = answered (with_broken b page Free None) (Grant value)
 granted b e value (Recaps page words) = answered (with_broken b page (Owned e words) (Some e)) (Grant value)
 granted b e value (Binds binding word) = answered (with_bound b e binding) (Grant value)
 granted b e value (Unbinds vpn) = answered (with_unbound b e vpn) (Grant value)
-granted b e value (Handles kind address) = answered (with_handling b e kind address) (Grant value)
-granted b e value (Accepts mask) = answered (accepted b e mask) (Grant value)
 granted b e value (Transfers target kind) = transferred b e value target kind
 granted b e value (TakesSlot slot) = answered (with_slot b slot (Some (own_hold e))) (Grant value)
 granted b e value (DropsSlot slot) = answered (with_slot b slot (dropped e (hold_at b.slots.slots slot))) (Grant value)

@@ -27,11 +27,9 @@ use Rattle.world_model.specs.Answer.{unless, verdict_of}
 use Rattle.world_model.specs.Book.{Book, page_row}
 use Rattle.world_model.specs.Call.{any, binding_of, number_end, presented}
 use Rattle.world_model.specs.Code.{code_of}
-use Rattle.world_model.specs.ConsoleCalls.{put_refusal}
-use Rattle.world_model.specs.Deed.{context_deed, transfer_deed, yield_deed}
-use Rattle.world_model.specs.HandlerCalls.{refusal_of_context}
-use Rattle.world_model.specs.Item.{put_bytes}
-use Rattle.world_model.specs.May.{HasRight, May, MayAllocate, MayBind, MayChange, MayDrop, MayEnter, MayMap, MayPut, MayReach, MayTake}
+use Rattle.world_model.specs.Call.{context_deed, transfer_deed, yield_deed}
+use Rattle.world_model.specs.OwnCalls.{MayPut, put_bytes, put_refusal}
+use Rattle.world_model.specs.May.{HasRight, May, MayAllocate, MayBind, MayChange, MayDrop, MayEnter, MayMap, MayReach, MayTake}
 use Rattle.world_model.specs.PageCalls.{chosen_page, is_guaranteed, named_page, number_refusal, refusal_of_bind, refusal_of_change}
 use Rattle.world_model.specs.SlotCalls.{accepts, drop_refusal, gift_refusal, is_other, refusal_of_gift, refusal_of_giving, slot_at, take_refusal, turn_slot, yield_by}
 use Rattle.world_model.specs.Solo.{Solo, sight}

@@ -1,15 +1,18 @@
-//! The verdict on a call.
+//! The verdict on a call, and what it does where it is granted.
 ghost use Rattle.std.specs.Prelude.{◌≡◌, ◌<◌, ◌^◌, Some};
 ghost use Rattle.world_model.specs.Book.{running};
+ghost use Rattle.world_model.specs.Call.{deed_of as deed_of_call};
 ghost use Rattle.world_model.specs.Verdict.{verdict};
 
-use crate::arguments::{FIRST_ARGUMENT, SECOND_ARGUMENT};
-use crate::console_call::refuse_put;
-use crate::page_calls::{choose_page, refuse_bind, refuse_change, refuse_context, refuse_unbind};
+use crate::arguments::{ANY, FIRST_ARGUMENT, SECOND_ARGUMENT, binding, presented, words};
+use crate::own_calls::{refuse_context, refuse_put};
+use crate::page_calls::{choose_page, refuse_bind, refuse_change, refuse_unbind};
 use crate::queries::ask;
 use crate::slot_calls::{decide_transfer, decide_yield, refuse_drop, refuse_take};
 use crate::view::CallView;
-use world_model::{Call, Code, Verdict};
+use env_frames::{Context, TransferKind};
+use mips_exec::Cpu;
+use world_model::{Call, Code, Deed, OwnDeed, Verdict};
 
 /// The verdict on a call of the runner's; a number that names no call is refused. Each reader of the view is asked at
 /// most once.
@@ -44,5 +47,38 @@ pub fn decide<V: CallView>(view: &V, env: u8, call: Option<Call>) -> Verdict
         Call::Query => Verdict::of(ask(view, env, first, second)),
         Call::OwnNumber => Verdict::Grant(u32::from(env)),
         Call::Clock => Verdict::Grant(view.time()),
+    }
+}
+
+/// What a call does that is granted with a value, to a caller with these registers (`docs/KERNEL.md`).
+pub fn deed_of(call: Option<Call>, value: u32, cpu: &Cpu) -> Deed
+    ensures { result ≡ deed_of_call call value cpu.now }
+{
+    let Some(call) = call else {
+        return Deed::Answers;
+    };
+    let first = cpu.reg(FIRST_ARGUMENT);
+    let second = cpu.reg(SECOND_ARGUMENT);
+    match call {
+        Call::Yield if first == ANY => Deed::Stops,
+        Call::Yield => Deed::Gives(first),
+        Call::Put => Deed::Own(OwnDeed::Puts { address: first, size: second }),
+        Call::Alloc => Deed::Allocates { page: value, words: words(cpu) },
+        Call::Free => Deed::Frees(first),
+        Call::Recap => Deed::Recaps { page: first, words: words(cpu) },
+        Call::Bind => Deed::Binds { binding: binding(cpu), word: presented(cpu) },
+        Call::Unbind => Deed::Unbinds(first),
+        Call::Context => match Context::numbered(first) {
+            Some(context) => Deed::Own(OwnDeed::Handles { context, address: second }),
+            None => Deed::Answers,
+        },
+        Call::Accept => Deed::Own(OwnDeed::Accepts(first)),
+        Call::Transfer => match TransferKind::numbered(second) {
+            Some(kind) => Deed::Transfers { target: first, kind },
+            None => Deed::Answers,
+        },
+        Call::SlotTake => Deed::TakesSlot(first),
+        Call::SlotDrop => Deed::DropsSlot(first),
+        Call::Query | Call::OwnNumber | Call::Clock => Deed::Answers,
     }
 }

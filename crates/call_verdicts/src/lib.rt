@@ -4,16 +4,14 @@
 #![tactic(auto)]
 
 mod arguments;
-mod console_call;
 mod decision;
-mod deeds;
 mod laws;
+mod own_calls;
 mod page_calls;
 mod queries;
 mod slot_calls;
 mod view;
 
-pub use decision::decide;
-pub use deeds::deed_of;
+pub use decision::{decide, deed_of};
 pub use laws::law_granted;
 pub use view::CallView;

@@ -1,25 +1,19 @@
-//! Why calls on pages and on handlers are refused.
+//! Why calls on pages are refused.
 ghost use Rattle.std.specs.Prelude.{◌≡◌, Some};
 ghost use Rattle.std.specs.Option.{option_map};
 ghost use Rattle.mips_exec.specs.Cpu.{reg};
 ghost use Rattle.page_book.specs.Row.{alloc_refusal, bind_refusal, change_refusal};
 ghost use Rattle.world_model.specs.Code.{code_of};
 ghost use Rattle.world_model.specs.Book.{page_row, running};
-ghost use Rattle.world_model.specs.HandlerCalls.{refusal_of_context};
 ghost use Rattle.world_model.specs.PageCalls.{chosen_page, is_guaranteed, number_refusal, refusal_of_bind, refusal_of_change};
 
-use crate::arguments::{ANY, FIRST_ARGUMENT, SECOND_ARGUMENT, binding, presented};
+use crate::arguments::{ANY, binding, presented};
 use crate::view::CallView;
-use env_frames::Context;
-use mips_exec::Cpu;
 use page_book::{PageNo, PageRow};
 use world_model::Code;
 
 /// The first VPN that isn't of a user's address.
 const VPN_END: u32 = 0x80000;
-
-/// The first address that isn't a user's.
-const USER_END: u32 = 0x8000_0000;
 
 /// What a caller is told of a refusal by the book of pages, if it is one.
 fn refuse(why: Option<PageNo>) -> Option<Code>
@@ -110,19 +104,4 @@ pub(crate) fn refuse_bind<V: CallView>(view: &V, env: u8) -> Option<Code>
         return Some(why);
     }
     refuse_right(env, named.writable, presented(cpu), view.page_row(named.page))
-}
-
-/// Why a handler can't be set: there is no such context, or its address isn't a word's, of user space.
-pub(crate) fn refuse_context(cpu: &Cpu) -> Option<Code>
-    ensures { result ≡ refusal_of_context cpu.now }
-{
-    let address = cpu.reg(SECOND_ARGUMENT);
-    if Context::numbered(cpu.reg(FIRST_ARGUMENT)).is_some()
-        && address % 4 == 0
-        && address < USER_END
-    {
-        None
-    } else {
-        Some(Code::BadCall)
-    }
 }

@@ -12,8 +12,8 @@ use Rattle.page_book.specs.declared.row.PageRow.TheVariants.{Free, Guaranteed, O
 use Rattle.page_book.specs.Row.{belongs_to, is_owned_by}
 use Rattle.bind_book.specs.Stripe.{is_bound}
 use Rattle.world_model.specs.declared.call.Call.{Call}
-use Rattle.world_model.specs.declared.deed.Deed.{Deed}
-use Rattle.world_model.specs.declared.deed.Deed.TheVariants.{Answers, Stops, Gives, Puts, Allocates, Frees, Recaps, Binds, Unbinds, Handles, Accepts, Transfers, TakesSlot, DropsSlot}
+use Rattle.world_model.specs.declared.call.Deed.{Deed}
+use Rattle.world_model.specs.declared.call.Deed.TheVariants.{Answers, Stops, Gives, Allocates, Frees, Recaps, Binds, Unbinds, Own, Transfers, TakesSlot, DropsSlot}
 use Rattle.world_model.specs.declared.slot.Hold.{Hold}
 use Rattle.world_model.specs.declared.slot.Phase.{Phase}
 use Rattle.world_model.specs.declared.slot.Phase.TheVariants as phase
@@ -144,7 +144,7 @@ module _ (w : World) (e : ℕ) where
   deed_licensed Answers does may i = tt
   deed_licensed Stops does may i = tt
   deed_licensed (Gives target) does may i = each_only (AtStep w) target (Start ∷ []) i (record { giver = e; does = does; may = may }, tt)
-  deed_licensed (Puts address size) does may i = tt
+  deed_licensed (Own own) does may i = tt
   deed_licensed (Allocates page words) does may i =
       each_only (AtStep w) e (Gained page true zero_page ∷ []) i (inl (record { words = words; does = does; may = may; mode = refl; zeros = refl }), tt)
   deed_licensed (Frees page) does may i =
@@ -155,8 +155,6 @@ module _ (w : World) (e : ℕ) where
       each_only (AtStep w) e (Gained b.page b.writable (page_bytes w b.page) ∷ []) i
       (inr (record { binding = b; word = word; does = does; may = may; its = refl; mode = refl; same = refl }), tt)
   deed_licensed (Unbinds vpn) does may i = tt
-  deed_licensed (Handles kind address) does may i = tt
-  deed_licensed (Accepts mask) does may i = tt
   deed_licensed (Transfers target kind) does may i =
       each_only (AtStep w) target (Transfer e kind (carried (w.solos e).cpu) ∷ []) i (record { does = does; may = may; its = refl }, tt)
   deed_licensed (TakesSlot slot) does may i = tt

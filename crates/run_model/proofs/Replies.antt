@@ -19,8 +19,8 @@ use Rattle.world_model.specs.declared.life.Life.TheVariants.{Live, Dead}
 use Rattle.world_model.specs.declared.life.Cause.{Cause}
 use Rattle.world_model.specs.declared.slot.Hold.{Hold}
 use Rattle.world_model.specs.declared.slot.Runner.{Runner}
-use Rattle.world_model.specs.declared.deed.Deed.{Deed}
-use Rattle.world_model.specs.declared.deed.Deed.TheVariants.{Answers, Stops, Gives, Puts, Allocates, Frees, Recaps, Binds, Unbinds, Handles, Accepts, Transfers, TakesSlot, DropsSlot}
+use Rattle.world_model.specs.declared.call.Deed.{Deed}
+use Rattle.world_model.specs.declared.call.Deed.TheVariants.{Answers, Own, Stops, Gives, Allocates, Frees, Recaps, Binds, Unbinds, Transfers, TakesSlot, DropsSlot}
 use Rattle.world_model.specs.declared.verdict.Verdict.{Verdict}
 use Rattle.world_model.specs.declared.verdict.Verdict.TheVariants.{Refuse, Grant}
 use Rattle.world_model.specs.Table.{set_at}
@@ -283,7 +283,7 @@ module _ (w : World) (e : ℕ) (good : IsAccounted w) (lives : Lives w e) where
   deed_is_mild Answers may = no_change_is_mild w good
   deed_is_mild Stops may = record { excess = refl; quiet = (quiet_stop w.book.time w.book.cursor e, tt); keeps = λ i. keep_none; slots = good.slots_live; runner = λ x is. cc }
   deed_is_mild (Gives target) may = hands_on target Start false (row.Give w.book.time w.book.cursor e target ∷ []) (target_lives w e target may.other) keep_start (quiet_give w.book.time w.book.cursor e target, tt)
-  deed_is_mild (Puts address size) may = no_change_is_mild w good
+  deed_is_mild (Own own) may = no_change_is_mild w good
   deed_is_mild (Allocates page words) may =
       let items = Gained page true zero_page ∷ [] in
       repaged (set_at page (Owned e words) w.book.pages) w.book.binds (only e items) (keep_only e items (keep_gained page true zero_page))
@@ -296,8 +296,6 @@ module _ (w : World) (e : ℕ) (good : IsAccounted w) (lives : Lives w e) where
       let items = Gained b.page b.writable (page_bytes w b.page) ∷ [] in
       repaged w.book.pages (with_binding e b w.book.binds) (only e items) (keep_only e items (keep_gained b.page b.writable (page_bytes w b.page)))
   deed_is_mild (Unbinds vpn) may = repaged w.book.pages (set_at e (without_number vpn (w.book.binds e)) w.book.binds) no_items (λ i. keep_none)
-  deed_is_mild (Handles kind address) may = no_change_is_mild w good
-  deed_is_mild (Accepts mask) may = no_change_is_mild w good
   deed_is_mild (Transfers target kind) may =
       let registers = carried (w.solos e).cpu in
       hands_on target (Transfer e kind registers) (hands_slot kind) (transfer_rows w.book e target kind) (target_lives w e target may.reach.other) (keep_transfer e kind registers) (transfer_is_quiet w e target kind)

@@ -10,7 +10,7 @@ use Rattle.mips_exec.specs.Step.{Step as MachineStep, Retired, Called, Trapped, 
 use Rattle.world_model.specs.declared.call.Call.{Call}
 use Rattle.world_model.specs.declared.life.Cause.TheVariants as cause
 use Rattle.world_model.specs.declared.verdict.Verdict.TheVariants.{Grant}
-use Rattle.world_model.specs.Deed.{deed_of}
+use Rattle.world_model.specs.Call.{deed_of}
 use Rattle.world_model.specs.Item.{Item, Step, absorb, absorb_all, deed_at}
 use Rattle.world_model.specs.May.{May}
 use Rattle.world_model.specs.Verdict.{verdict}

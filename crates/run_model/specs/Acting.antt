@@ -1,10 +1,10 @@
 -- What an environment does in a step.
 use Rattle.std.specs.Prelude.{◌≡◌, ℕ, Option, Some}
 use Rattle.world_model.specs.declared.call.Call.{Call}
-use Rattle.world_model.specs.declared.deed.Deed.{Deed}
+use Rattle.world_model.specs.declared.call.Deed.{Deed}
 use Rattle.world_model.specs.declared.verdict.Verdict.TheVariants.{Grant}
 use Rattle.world_model.specs.Book.{running}
-use Rattle.world_model.specs.Deed.{deed_of}
+use Rattle.world_model.specs.Call.{deed_of}
 use Rattle.world_model.specs.Step.{Act, Calls}
 use Rattle.world_model.specs.Tick.{act_now}
 use Rattle.world_model.specs.Verdict.{verdict}

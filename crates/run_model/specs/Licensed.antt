@@ -11,7 +11,7 @@ use Rattle.page_book.specs.Row.{belongs_to}
 use Rattle.bind_book.specs.declared.binding.Binding.{Binding}
 use Rattle.bind_book.specs.Stripe.{is_bound}
 use Rattle.world_model.specs.declared.call.Call.{Call}
-use Rattle.world_model.specs.declared.deed.Deed.TheVariants.{Allocates, Binds, Frees, Gives, Recaps, Transfers}
+use Rattle.world_model.specs.declared.call.Deed.TheVariants.{Allocates, Binds, Frees, Gives, Recaps, Transfers}
 use Rattle.world_model.specs.declared.life.Cause.{Cause}
 use Rattle.world_model.specs.declared.slot.Hold.{Hold}
 use Rattle.world_model.specs.declared.slot.Phase.{Phase}

@@ -14,7 +14,7 @@ use std::alloc::Global;
 use world_model::{Cause, Life, WorldView};
 
 /// The lines that a report has of an environment, below `envs()` of the view
-/// (`docs/PROGRAM.md`, "The report").
+/// (`docs/REPORT.md`, "The report").
 pub fn env_lines<V: WorldView>(alloc: Global, view: &V, env: u8) -> Result<Vec<u8>, OutOfMemory>
     requires { env < (V.world view.now).count }
     ensures { IfOk result (λ v. v.items ≡ env_text (V.world view.now) env) }

@@ -1,5 +1,5 @@
 //! The text of a report: what is shown of a world after a run, line by line. Each line is proved to be its
-//! definition in `specs/Report.antt`, and a report to be the lines in their order (`docs/PROGRAM.md`, "The report").
+//! definition in `specs/Report.antt`, and a report to be the lines in their order (`docs/REPORT.md`, "The report").
 //! Whatever is a `WorldView` shows a world, as a board does.
 //!
 //! The lines are pushed onto one list of bytes. Where memory runs out in the midst of it, the list

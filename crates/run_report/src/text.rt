@@ -11,7 +11,7 @@ use kernel_journal::RunEnd;
 use std::alloc::Global;
 use world_model::WorldView;
 
-/// The report of whatever shows a world, whose run ended in this way (`docs/PROGRAM.md`, "The report").
+/// The report of whatever shows a world, whose run ended in this way (`docs/REPORT.md`, "The report").
 #[tactic(auto, unfolding(crate::specs::Report::report_text))]
 pub fn report<V: WorldView>(alloc: Global, view: &V, end: RunEnd) -> Result<Vec<u8>, OutOfMemory>
     ensures { IfOk result (λ v. v.items ≡ report_text (V.world view.now) end) }

@@ -11,7 +11,7 @@ use Rattle.page_book.specs.declared.row.PageRow.TheVariants.{Free, Guaranteed, O
 use Rattle.page_book.specs.Row.{belongs_to, is_owned_by, released as released_row}
 use Rattle.bind_book.specs.declared.binding.Binding.{Binding}
 use Rattle.bind_book.specs.Stripe.{goes_with, without}
-use Rattle.world_model.specs.declared.deed.Deed.TheVariants.{Allocates}
+use Rattle.world_model.specs.declared.call.Deed.TheVariants.{Allocates}
 use Rattle.world_model.specs.declared.life.Life.TheVariants.{Live}
 use Rattle.world_model.specs.declared.life.Cause.{Cause}
 use Rattle.world_model.specs.declared.slot.Hold.{Hold}

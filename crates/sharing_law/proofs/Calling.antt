@@ -11,8 +11,8 @@ use Rattle.page_book.specs.declared.row.PageRow.TheVariants.{Free, Guaranteed, O
 use Rattle.page_book.specs.Row.{is_owned_by}
 use Rattle.bind_book.specs.declared.binding.Binding.{Binding}
 use Rattle.bind_book.specs.Stripe.{binding_at, breaks_page, is_bound, is_of_page, row_of, without}
-use Rattle.world_model.specs.declared.deed.Deed.{Deed}
-use Rattle.world_model.specs.declared.deed.Deed.TheVariants.{Answers, Stops, Gives as Donates, Puts, Allocates, Frees, Recaps, Binds, Unbinds, Handles, Accepts, Transfers, TakesSlot, DropsSlot}
+use Rattle.world_model.specs.declared.call.Deed.{Deed}
+use Rattle.world_model.specs.declared.call.Deed.TheVariants.{Answers, Stops, Gives as Donates, Allocates, Frees, Recaps, Binds, Unbinds, Own, Transfers, TakesSlot, DropsSlot}
 use Rattle.world_model.specs.declared.life.Life.TheVariants.{Live}
 use Rattle.world_model.specs.declared.slot.Hold.{Hold}
 use Rattle.world_model.specs.Table.{set_at}
@@ -252,14 +252,12 @@ module _ (w : World) (e : ℕ) (sound : Sound w) (lives : (w.solos e).life ≡ L
   deed_brings Answers does may = silent w e sound lives (caller Answers) lives refl refl
   deed_brings Stops does may = silent_but w e sound lives (caller Stops) w.book.slots None lives refl refl
   deed_brings (Donates target) does may = hands_brings target Start tt (other_than w e target may.other) (caller (Donates target)) lives refl refl w.book.slots
-  deed_brings (Puts address size) does may = silent w e sound lives (caller (Puts address size)) lives refl refl
+  deed_brings (Own own) does may = silent w e sound lives (caller (Own own)) lives refl refl
   deed_brings (Allocates page words) does may = alloc_brings page words zero_page refl may does
   deed_brings (Frees page) does may = free_brings page may
   deed_brings (Recaps page words) does may = recap_brings page words may
   deed_brings (Binds b word) does may = bind_brings b word
   deed_brings (Unbinds vpn) does may = unbind_brings vpn
-  deed_brings (Handles kind address) does may = silent w e sound lives (caller (Handles kind address)) lives refl refl
-  deed_brings (Accepts mask) does may = silent w e sound lives (caller (Accepts mask)) lives refl refl
   deed_brings (Transfers target kind) does may =
       hands_brings target (Transfer e kind (carried (w.solos e).cpu)) tt (other_than w e target may.reach.other) (caller (Transfers target kind)) lives refl refl (slots_handed (hands_slot kind) target w.book)
   deed_brings (TakesSlot k) does may = silent_but w e sound lives (caller (TakesSlot k)) (set_at k (Some (own_hold e)) w.book.slots) w.book.runner lives refl refl

@@ -6,8 +6,8 @@ use Rattle.env_frames.specs.Transfer.{carried}
 use Rattle.bind_book.specs.Stripe.{is_bound}
 use Rattle.kernel_journal.specs.declared.row.Row.TheVariants as row
 use Rattle.world_model.specs.declared.call.Call.{Call}
-use Rattle.world_model.specs.declared.deed.Deed.{Deed}
-use Rattle.world_model.specs.declared.deed.Deed.TheVariants.{Answers, Stops, Gives as Donates, Puts, Allocates, Frees, Recaps, Binds, Unbinds, Handles, Accepts, Transfers, TakesSlot, DropsSlot}
+use Rattle.world_model.specs.declared.call.Deed.{Deed}
+use Rattle.world_model.specs.declared.call.Deed.TheVariants.{Answers, Stops, Gives as Donates, Allocates, Frees, Recaps, Binds, Unbinds, Own, Transfers, TakesSlot, DropsSlot}
 use Rattle.world_model.specs.declared.slot.Phase.{Phase}
 use Rattle.world_model.specs.declared.slot.Phase.TheVariants as phase
 use Rattle.world_model.specs.declared.slot.Runner.{Runner}
@@ -57,14 +57,12 @@ pub deed_gives : (w : World) (e : ℕ) (d : Deed) → May w e d → (i : ℕ) �
 deed_gives w e Answers may i = Tells tt
 deed_gives w e Stops may i = Tells tt
 deed_gives w e (Donates target) may i = hands e target Start tt (other_than w e target may.other) i
-deed_gives w e (Puts address size) may i = Tells tt
+deed_gives w e (Own own) may i = Tells tt
 deed_gives w e (Allocates page words) may i = Tells (told_only e i (Gained page true zero_page ∷ []) (tt, tt))
 deed_gives w e (Frees page) may i = Tells (told_at e i (Lost page ∷ []) (breaks w.book page) (tt, tt) (told_lost_if (is_bound page (w.book.binds i)) page))
 deed_gives w e (Recaps page words) may i = Tells (told_at e i [] (breaks w.book page) tt (told_lost_if (is_bound page (w.book.binds i)) page))
 deed_gives w e (Binds b word) may i = Tells (told_only e i (Gained b.page b.writable (page_bytes w b.page) ∷ []) (tt, tt))
 deed_gives w e (Unbinds vpn) may i = Tells tt
-deed_gives w e (Handles kind address) may i = Tells tt
-deed_gives w e (Accepts mask) may i = Tells tt
 deed_gives w e (Transfers target kind) may i = hands e target (Transfer e kind (carried (w.solos e).cpu)) tt (other_than w e target may.reach.other) i
 deed_gives w e (TakesSlot slot) may i = Tells tt
 deed_gives w e (DropsSlot slot) may i = Tells tt

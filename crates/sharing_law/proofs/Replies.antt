@@ -9,8 +9,8 @@ use Rattle.page_book.specs.Row.{belongs_to, is_owned_by}
 use Rattle.bind_book.specs.declared.binding.Binding.{Binding}
 use Rattle.bind_book.specs.Stripe.{binding_at, breaks_page, goes_with, row_of, without}
 use Rattle.world_model.specs.declared.call.Call.{Call}
-use Rattle.world_model.specs.declared.deed.Deed.{Deed}
-use Rattle.world_model.specs.declared.deed.Deed.TheVariants.{Answers, Stops, Gives, Puts, Allocates, Frees, Recaps, Binds, Unbinds, Handles, Accepts, Transfers, TakesSlot, DropsSlot}
+use Rattle.world_model.specs.declared.call.Deed.{Deed}
+use Rattle.world_model.specs.declared.call.Deed.TheVariants.{Answers, Own, Stops, Gives, Allocates, Frees, Recaps, Binds, Unbinds, Transfers, TakesSlot, DropsSlot}
 use Rattle.world_model.specs.declared.verdict.Verdict.{Verdict}
 use Rattle.world_model.specs.declared.verdict.Verdict.TheVariants.{Refuse, Grant}
 use Rattle.world_model.specs.Table.{set_at}
@@ -178,14 +178,12 @@ deed_carries : (w : World) (e : ℕ) → AreBoundAllocated w → (d : Deed) → 
 deed_carries w e allocated Answers does may = stays w
 deed_carries w e allocated Stops does may = stays w
 deed_carries w e allocated (Gives target) does may = stays w
-deed_carries w e allocated (Puts address size) does may = stays w
+deed_carries w e allocated (Own own) does may = stays w
 deed_carries w e allocated (Allocates page words) does may = allocates w e page words allocated may.free
 deed_carries w e allocated (Frees page) does may = frees w page
 deed_carries w e allocated (Recaps page words) does may = recaps w e page words may.owned
 deed_carries w e allocated (Binds b word) does may = binds_over w e b word does may.right
 deed_carries w e allocated (Unbinds vpn) does may = unbinds w e vpn
-deed_carries w e allocated (Handles kind address) does may = stays w
-deed_carries w e allocated (Accepts mask) does may = stays w
 deed_carries w e allocated (Transfers target kind) does may = stays w
 deed_carries w e allocated (TakesSlot slot) does may = stays w
 deed_carries w e allocated (DropsSlot slot) does may = stays w

@@ -6,7 +6,7 @@ use Rattle.page_book.specs.declared.row.PageRow.TheVariants.{Free}
 use Rattle.page_book.specs.Row.{is_owned_by}
 use Rattle.env_frames.specs.Context.{context_number, end_area, end_bytes, exception_area, exception_bytes, start_area, start_bytes}
 use Rattle.env_frames.specs.Transfer.{entry_area, entry_bytes}
-use Rattle.world_model.specs.declared.deed.Deed.TheVariants.{Allocates}
+use Rattle.world_model.specs.declared.call.Deed.TheVariants.{Allocates}
 use Rattle.world_model.specs.declared.life.Cause.TheVariants as cause
 use Rattle.world_model.specs.declared.life.Life.TheVariants.{Dead}
 use Rattle.world_model.specs.Page.{KeptPage}

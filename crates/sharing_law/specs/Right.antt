@@ -7,7 +7,7 @@ use Rattle.page_book.specs.declared.row.PageRow.TheVariants.{Owned}
 use Rattle.page_book.specs.Row.{gives_right, is_owned_by}
 use Rattle.bind_book.specs.declared.binding.Binding.{Binding}
 use Rattle.bind_book.specs.Stripe.{row_of}
-use Rattle.world_model.specs.declared.deed.Deed.TheVariants.{Binds}
+use Rattle.world_model.specs.declared.call.Deed.TheVariants.{Binds}
 use Rattle.run_model.specs.Acting.{Does}
 use Rattle.world_model.specs.Item.{Item, Left}
 use Rattle.run_model.specs.Run.{System, at_step, given_at, world_after}

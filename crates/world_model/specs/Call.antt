@@ -1,15 +1,20 @@
--- Kernel calls: their numbers, their arguments, and what they name in the caller's memory.
-use Rattle.std.specs.Prelude.{ℕ, ◌+◌, ◌*◌, ◌/◌, ◌%◌, ◌^◌, Bool, List, take, drop, not, ◌==◌, ◌&&◌, nat_le, nat_lt, if◌then◌else◌, Option, Some, None}
+-- Kernel calls: their numbers, their arguments, what they name in the caller's memory, and what they do where they are granted.
+use Rattle.std.specs.Prelude.{ℕ, ◌+◌, ◌*◌, ◌/◌, ◌%◌, ◌^◌, Bool, true, false, List, take, drop, not, ◌==◌, ◌&&◌, nat_le, nat_lt, if◌then◌else◌, Option, Some, None}
 use Rattle.std.specs.Option.{option_map}
 use Rattle.aegis_limits.specs.Limits.{page_size}
 use Rattle.mips_exec.specs.declared.registers.Cpu.{Cpu}
 use Rattle.mips_exec.specs.Cpu.{reg}
+use Rattle.env_frames.specs.declared.context.Context.{Context}
+use Rattle.env_frames.specs.Context.{context_numbered}
+use Rattle.env_frames.specs.declared.transfer.TransferKind.{TransferKind}
+use Rattle.env_frames.specs.Transfer.{transfer_numbered}
 use Rattle.page_book.specs.declared.row.Capabilities.{Capabilities}
 use Rattle.bind_book.specs.declared.binding.Binding.{Binding}
 use Rattle.world_model.specs.declared.call.Call.{Call}
 use Rattle.world_model.specs.declared.call.Call.TheVariants as call
-use Rattle.world_model.specs.declared.code.Code.{Code}
-use Rattle.world_model.specs.declared.code.Code.TheVariants as code
+use Rattle.world_model.specs.declared.call.Deed.{Deed}
+use Rattle.world_model.specs.declared.call.Deed.TheVariants.{Answers, Own, Stops, Gives, Allocates, Frees, Recaps, Binds, Unbinds, Transfers, TakesSlot, DropsSlot}
+use Rattle.world_model.specs.declared.call.OwnDeed.TheVariants.{Puts, Handles, Accepts}
 use Rattle.world_model.specs.Page.{Mapped, user_end}
 
 abbrev pub call_named : ℕ → Option Call
@@ -57,13 +62,9 @@ binding_of cpu = record { vpn = reg cpu 4; page = reg cpu 5; writable = not (reg
 abbrev pub presented : Cpu → ℕ
 presented cpu = word_in (reg cpu 7) (reg cpu 8)
 
--- page numbers of user addresses lie below this one
+-- the VPNs of user addresses lie below this one
 abbrev pub number_end : ℕ
 number_end = 0x80000
-
--- why nothing is bound or unbound at a page number: it is none of a user's, or guaranteed
-abbrev pub number_refusal : Bool → ℕ → Option Code
-number_refusal guaranteed vpn = if nat_le number_end vpn then Some code.BadVpn else (if guaranteed then Some code.Guaranteed else None)
 
 -- the bytes of a range, where it is good: it lies in one page, below the users' end, and its page number leads somewhere
 abbrev pub good_range : (ℕ → Option Mapped) → ℕ → ℕ → Option (List ℕ)
@@ -71,3 +72,34 @@ good_range look address size =
     if nat_lt address user_end && nat_le (address % page_size + size) page_size
     then option_map (λ m. take size (drop (address % page_size) m.bytes)) (look (address / page_size))
     else None
+
+-- What a call does that is granted with a value, by its caller's registers.
+abbrev pub yield_deed : ℕ → Bool → Deed
+yield_deed target true = Stops
+yield_deed target false = Gives target
+
+abbrev pub context_deed : Option Context → ℕ → Deed
+context_deed None address = Answers
+context_deed (Some kind) address = Own (Handles kind address)
+
+abbrev pub transfer_deed : ℕ → Option TransferKind → Deed
+transfer_deed target None = Answers
+transfer_deed target (Some kind) = Transfers target kind
+
+abbrev pub deed_of : Option Call → ℕ → Cpu → Deed
+deed_of None value cpu = Answers
+deed_of (Some call.Yield) value cpu = yield_deed (reg cpu 4) (reg cpu 4 == any)
+deed_of (Some call.Put) value cpu = Own (Puts (reg cpu 4) (reg cpu 5))
+deed_of (Some call.Alloc) value cpu = Allocates value (words_of cpu)
+deed_of (Some call.Free) value cpu = Frees (reg cpu 4)
+deed_of (Some call.Recap) value cpu = Recaps (reg cpu 4) (words_of cpu)
+deed_of (Some call.Bind) value cpu = Binds (binding_of cpu) (presented cpu)
+deed_of (Some call.Unbind) value cpu = Unbinds (reg cpu 4)
+deed_of (Some call.Context) value cpu = context_deed (context_numbered (reg cpu 4)) (reg cpu 5)
+deed_of (Some call.Accept) value cpu = Own (Accepts (reg cpu 4))
+deed_of (Some call.Transfer) value cpu = transfer_deed (reg cpu 4) (transfer_numbered (reg cpu 5))
+deed_of (Some call.SlotTake) value cpu = TakesSlot (reg cpu 4)
+deed_of (Some call.SlotDrop) value cpu = DropsSlot (reg cpu 4)
+deed_of (Some call.Query) value cpu = Answers
+deed_of (Some call.OwnNumber) value cpu = Answers
+deed_of (Some call.Clock) value cpu = Answers

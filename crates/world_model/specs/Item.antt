@@ -1,9 +1,8 @@
 -- What an environment is given from outside, and what it makes of it.
-use Rattle.std.specs.Prelude.{ℕ, ◌+◌, ◌==◌, List, [], ◌++◌, if◌then◌else◌, Option, Some, unwrap_or, fold, Bool}
+use Rattle.std.specs.Prelude.{ℕ, ◌+◌, List, [], if◌then◌else◌, fold, Bool}
 use Rattle.mips_exec.specs.declared.registers.Cpu.{Cpu}
 use Rattle.mips_exec.specs.Cpu.{blank_cpu, with_reg}
 use Rattle.mips_exec.specs.Word.{word_of}
-use Rattle.env_frames.specs.Context.{with_handler}
 use Rattle.env_frames.specs.declared.transfer.TransferKind.{TransferKind}
 use Rattle.env_frames.specs.Transfer.{Registers}
 use Rattle.world_model.specs.declared.life.Life.TheVariants.{Live}
@@ -11,14 +10,14 @@ use Rattle.world_model.specs.declared.life.Cause.TheVariants as cause
 use Rattle.world_model.specs.declared.verdict.Verdict.{Verdict}
 use Rattle.world_model.specs.declared.verdict.Verdict.TheVariants.{Refuse, Grant}
 use Rattle.world_model.specs.Answer.{verdict_code, verdict_value}
-use Rattle.world_model.specs.Page.{KeptPage, Mapped}
-use Rattle.world_model.specs.Solo.{Solo, Physical, bare_solo, dead, is_dead, sight, stored}
+use Rattle.world_model.specs.Page.{KeptPage}
+use Rattle.world_model.specs.Solo.{Solo, Physical, bare_solo, dead, is_dead, stored}
 use Rattle.world_model.specs.Holding.{bound, unbound, owning, gained, lost}
 use Rattle.world_model.specs.Upcalls.{start, end_slice, enter}
-use Rattle.world_model.specs.Call.{called, good_range}
-use Rattle.world_model.specs.declared.deed.Deed.{Deed}
-use Rattle.world_model.specs.declared.deed.Deed.TheVariants.{Answers, Stops, Gives, Puts, Allocates, Frees, Recaps, Binds, Unbinds, Handles, Accepts, Transfers, TakesSlot, DropsSlot}
-use Rattle.world_model.specs.Deed.{deed_of}
+use Rattle.world_model.specs.declared.call.Deed.{Deed}
+use Rattle.world_model.specs.declared.call.Deed.TheVariants.{Answers, Own, Stops, Gives, Allocates, Frees, Recaps, Binds, Unbinds, Transfers, TakesSlot, DropsSlot}
+use Rattle.world_model.specs.Call.{called, deed_of}
+use Rattle.world_model.specs.OwnCalls.{own_state_after, with_own_state}
 use Rattle.world_model.specs.Step.{step_alone, stepped}
 
 pub data Item : Type 0 where
@@ -50,23 +49,17 @@ boot_cpu entry = record (with_reg blank_cpu 29 0x7FFEFFF0) { pc = entry; next = 
 abbrev pub booted : ℕ → List ℕ → ℕ → ℕ → List KeptPage → Solo
 booted number name entry accept kept = record (bare_solo number name Live []) { cpu = boot_cpu entry; mask = accept; kept = kept }
 
--- the bytes that an environment puts: none need no range
-abbrev pub put_bytes : (ℕ → Option Mapped) → ℕ → ℕ → Option (List ℕ)
-put_bytes look address size = if size == 0 then Some [] else good_range look address size
-
 -- what a deed does to the caller's own state
 abbrev pub own_part : Deed → Solo → Solo
 own_part Answers s = s
+own_part (Own own) s = with_own_state (own_state_after own s) s
 own_part Stops s = s
 own_part (Gives target) s = s
-own_part (Puts address size) s = record s { console = s.console ++ unwrap_or (put_bytes (sight s) address size) [] }
 own_part (Allocates page words) s = owning page s
 own_part (Frees page) s = s
 own_part (Recaps page words) s = s
 own_part (Binds binding word) s = bound binding s
 own_part (Unbinds vpn) s = unbound vpn s
-own_part (Handles kind address) s = record s { handlers = with_handler s.handlers kind address }
-own_part (Accepts mask) s = record s { mask = mask }
 own_part (Transfers target kind) s = s
 own_part (TakesSlot slot) s = s
 own_part (DropsSlot slot) s = s

@@ -6,15 +6,13 @@ pub mod Solo
 pub mod Holding
 pub mod Upcalls
 pub mod Call
-pub mod Deed
+pub mod OwnCalls
 pub mod Step
 pub mod Item
 pub mod Book
 pub mod World
 pub mod Event
-pub mod ConsoleCalls
 pub mod PageCalls
-pub mod HandlerCalls
 pub mod SlotCalls
 pub mod Queries
 pub mod Transfers

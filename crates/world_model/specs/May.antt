@@ -1,6 +1,5 @@
 -- What a deed presupposes of the world.
 use Rattle.std.specs.Prelude.{◌≡◌, ◌≢◌, ◌<◌, ◌≤◌, ◌+◌, ℕ, Bool, true, false, length, Option, Some, None, is_some, ◌⊎◌}
-use Rattle.aegis_limits.specs.Limits.{console_size}
 use Rattle.page_book.specs.declared.row.Capabilities.{Capabilities}
 use Rattle.page_book.specs.declared.row.PageRow.{PageRow}
 use Rattle.page_book.specs.declared.row.PageRow.TheVariants.{Free, Owned}
@@ -11,19 +10,14 @@ use Rattle.env_frames.specs.Transfer.{hands_slot}
 use Rattle.world_model.specs.declared.slot.Hold.{Hold}
 use Rattle.world_model.specs.Book.{Book}
 use Rattle.world_model.specs.Call.{number_end}
-use Rattle.world_model.specs.Solo.{Solo, sight}
-use Rattle.world_model.specs.Item.{put_bytes}
+use Rattle.world_model.specs.Solo.{Solo}
+use Rattle.world_model.specs.OwnCalls.{MayOwn}
 use Rattle.world_model.specs.PageCalls.{is_guaranteed}
 use Rattle.world_model.specs.SlotCalls.{accepts, gift_refusal, is_other, turn_slot}
 use Rattle.world_model.specs.Transfers.{is_open}
 use Rattle.world_model.specs.World.{World}
-use Rattle.world_model.specs.declared.deed.Deed.{Deed}
-use Rattle.world_model.specs.declared.deed.Deed.TheVariants.{Answers, Stops, Gives, Puts, Allocates, Frees, Recaps, Binds, Unbinds, Handles, Accepts, Transfers, TakesSlot, DropsSlot}
-
--- the range of the bytes is good, and the console has room for them
-pub record MayPut (s : Solo) (address size : ℕ) : Type 0 where
-  pub good : is_some (put_bytes (sight s) address size) ≡ true
-  pub room : length s.console + size ≤ console_size
+use Rattle.world_model.specs.declared.call.Deed.{Deed}
+use Rattle.world_model.specs.declared.call.Deed.TheVariants.{Answers, Own, Stops, Gives, Allocates, Frees, Recaps, Binds, Unbinds, Transfers, TakesSlot, DropsSlot}
 
 -- the target is another environment, which lives and accepts the caller, and the slice may be handed on, or for a later the slot too
 pub record MayReach (w : World) (e target : ℕ) (later : Bool) : Type 0 where
@@ -77,16 +71,14 @@ pub record MayDrop (b : Book) (e slot : ℕ) : Type 0 where
 
 abbrev pub May : World → ℕ → Deed → Type 0
 May w e Answers = Unit {0}
+May w e (Own own) = MayOwn (w.solos e) own
 May w e Stops = Unit {0}
 May w e (Gives target) = MayReach w e target false
-May w e (Puts address size) = MayPut (w.solos e) address size
 May w e (Allocates page words) = MayAllocate w.book page
 May w e (Frees page) = MayChange w.book e page
 May w e (Recaps page words) = MayChange w.book e page
 May w e (Binds binding word) = MayBind w e binding word
 May w e (Unbinds vpn) = MayMap (w.solos e) vpn
-May w e (Handles kind address) = Unit {0}
-May w e (Accepts mask) = Unit {0}
 May w e (Transfers target kind) = MayEnter w e target kind
 May w e (TakesSlot slot) = MayTake w.book slot
 May w e (DropsSlot slot) = MayDrop w.book e slot

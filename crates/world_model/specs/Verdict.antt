@@ -7,13 +7,12 @@ use Rattle.world_model.specs.declared.code.Code.TheVariants as code
 use Rattle.world_model.specs.Call.{called, exit_number}
 use Rattle.world_model.specs.declared.verdict.Verdict.{Verdict}
 use Rattle.world_model.specs.declared.verdict.Verdict.TheVariants.{Refuse, Grant}
-use Rattle.world_model.specs.declared.deed.Deed.{Deed}
-use Rattle.world_model.specs.declared.deed.Deed.TheVariants.{Answers, Stops, Gives, Puts, Allocates, Frees, Recaps, Binds, Unbinds, Handles, Accepts, Transfers, TakesSlot, DropsSlot}
+use Rattle.world_model.specs.declared.call.Deed.{Deed}
+use Rattle.world_model.specs.declared.call.Deed.TheVariants.{Answers, Own, Stops, Gives, Allocates, Frees, Recaps, Binds, Unbinds, Transfers, TakesSlot, DropsSlot}
 use Rattle.world_model.specs.Item.{Answer, deed_at}
 use Rattle.world_model.specs.World.{World, Reply, followed, no_change, tells}
-use Rattle.world_model.specs.ConsoleCalls.{put}
 use Rattle.world_model.specs.PageCalls.{alloc, allocates, bind, binds_to, free, frees, recap, recaps, unbind, unbinds}
-use Rattle.world_model.specs.HandlerCalls.{accept, context}
+use Rattle.world_model.specs.OwnCalls.{accept, context, put}
 use Rattle.world_model.specs.SlotCalls.{drops_slot, gives, slot_drop, slot_take, stops, takes_slot, yield}
 use Rattle.world_model.specs.Queries.{query}
 use Rattle.world_model.specs.Transfers.{transfer, transfers}
@@ -40,16 +39,14 @@ verdict w e (Some call.Clock) = Grant w.book.time
 -- what a deed does to the book, what it gives to each environment behind the answer, and its rows
 abbrev pub done : World → ℕ → Deed → Reply
 done w e Answers = no_change w
+done w e (Own own) = no_change w
 done w e Stops = stops w e
 done w e (Gives target) = gives w e target
-done w e (Puts address size) = no_change w
 done w e (Allocates page words) = allocates w e page words
 done w e (Frees page) = frees w e page
 done w e (Recaps page words) = recaps w e page words
 done w e (Binds binding word) = binds_to w e binding
 done w e (Unbinds vpn) = unbinds w e vpn
-done w e (Handles kind address) = no_change w
-done w e (Accepts mask) = no_change w
 done w e (Transfers target kind) = transfers w e target kind
 done w e (TakesSlot slot) = takes_slot w e slot
 done w e (DropsSlot slot) = drops_slot w e slot

@@ -4,7 +4,6 @@
 
 mod call;
 mod code;
-mod deed;
 mod life;
 mod page;
 mod question;
@@ -12,9 +11,8 @@ mod slot;
 mod verdict;
 mod view;
 
-pub use call::{Call, EXIT};
+pub use call::{Call, Deed, EXIT, OwnDeed};
 pub use code::Code;
-pub use deed::Deed;
 pub use life::{Cause, Life};
 pub use page::Purpose;
 pub use question::Question;

@@ -7,7 +7,7 @@ use Rattle.world_model.specs.Tick as tick
 use Rattle.board_world.specs.Shown.{Shown}
 use Rattle.board_world.specs.Showing.{world_of}
 use Rattle.board_world.specs.Sound.{IsSound}
-use Rattle.board_world.proofs.Stepping.{called_leaves}
+use Rattle.board_world.proofs.Serving.{called_leaves}
 use Rattle.aegis_calls.proofs.board.Board.call.Goals as goal
 
 -- one runner is the runner

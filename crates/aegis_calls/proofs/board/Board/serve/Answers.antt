@@ -1,6 +1,6 @@
 -- What a granted call does it may do.
 use Rattle.std.proofs.Common.{ap, sym, subst, ◌∙◌}
-use Rattle.world_model.specs.Deed.{deed_of}
+use Rattle.world_model.specs.Call.{deed_of}
 use Rattle.world_model.specs.May.{May}
 use Rattle.board_world.specs.Shown.{Shown}
 use Rattle.board_world.specs.Showing.{world_of}

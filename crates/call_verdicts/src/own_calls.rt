@@ -1,13 +1,18 @@
-//! Why bytes aren't put into the console.
+//! Why calls that read and change their caller alone are refused.
 ghost use Rattle.std.specs.Prelude.{◌≡◌, Some, length};
 ghost use Rattle.world_model.specs.Book.{running};
-ghost use Rattle.world_model.specs.ConsoleCalls.{put_refusal};
+ghost use Rattle.world_model.specs.OwnCalls.{put_refusal, refusal_of_context};
 ghost use Rattle.world_model.specs.Solo.{sight};
 
 use crate::arguments::{FIRST_ARGUMENT, SECOND_ARGUMENT};
 use crate::view::CallView;
 use aegis_limits::CONSOLE_SIZE;
+use env_frames::Context;
+use mips_exec::Cpu;
 use world_model::Code;
+
+/// The first address that isn't a user's.
+const USER_END: u32 = 0x8000_0000;
 
 /// Why the runner's put is refused, in the order of testing.
 pub(crate) fn refuse_put<V: CallView>(view: &V, env: u8) -> Option<Code>
@@ -24,4 +29,19 @@ pub(crate) fn refuse_put<V: CallView>(view: &V, env: u8) -> Option<Code>
         return Some(Code::ConsoleFull);
     }
     None
+}
+
+/// Why a handler can't be set: there is no such context, or its address isn't a word's, of user space.
+pub(crate) fn refuse_context(cpu: &Cpu) -> Option<Code>
+    ensures { result ≡ refusal_of_context cpu.now }
+{
+    let address = cpu.reg(SECOND_ARGUMENT);
+    if Context::numbered(cpu.reg(FIRST_ARGUMENT)).is_some()
+        && address % 4 == 0
+        && address < USER_END
+    {
+        None
+    } else {
+        Some(Code::BadCall)
+    }
 }

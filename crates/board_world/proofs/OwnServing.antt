@@ -1,0 +1,66 @@
+-- What the runner does to itself alone, on the world that is shown.
+use Rattle.std.proofs.Common.{◌≡◌, ℕ, List, [], ◌++◌, Option, refl, sym, ◌∙◌, ap, arith}
+use Rattle.std.specs.Prelude.{slice_get, unwrap_or}
+use Rattle.std.specs.Option.{option_map}
+use Rattle.world_model.specs.declared.call.Deed.{Deed}
+use Rattle.world_model.specs.declared.call.Deed.TheVariants.{Own}
+use Rattle.world_model.specs.declared.call.OwnDeed.{OwnDeed}
+use Rattle.world_model.specs.declared.call.OwnDeed.TheVariants.{Puts, Handles, Accepts}
+use Rattle.world_model.specs.declared.verdict.Verdict.TheVariants.{Grant}
+use Rattle.world_model.specs.declared.life.Life.TheVariants.{Live}
+use Rattle.world_model.specs.Item.{answered_cpu}
+use Rattle.world_model.specs.OwnCalls.{put_bytes}
+use Rattle.world_model.specs.Solo.{sight}
+use Rattle.world_model.specs.Verdict.{done}
+use Rattle.board_world.specs.declared.roster.Environment.{Environment}
+use Rattle.board_world.specs.Shown.{Shown}
+use Rattle.board_world.specs.Showing.{world_of, book_of, solo_of}
+use Rattle.board_world.specs.Sound.{IsSound}
+use Rattle.board_world.specs.Doing as doing
+use Rattle.board_world.proofs.Lists.{changed_here, changed_else, length-changed}
+use Rattle.board_world.proofs.Mappings.{kept_mappings}
+use Rattle.board_world.proofs.Parts.{append_nothing, one_changed}
+use Rattle.board_world.proofs.Replying.{Serves, deeded, deeded_seen}
+use Rattle.board_world.proofs.Seen.{same_solo, Runs, runner_seen, runner_solo, its_look}
+use Rattle.board_world.proofs.Sound.{Keeps, keeps_accepting, keeps_handling, keeps_putting}
+
+-- its life and its guaranteed mappings stay
+pub keeps_own : (b : Shown) (e : ℕ) (own : OwnDeed) → Keeps (doing.own_record b e own)
+keeps_own b e (Puts address size) = keeps_putting (unwrap_or (put_bytes (doing.look_of b e) address size) [])
+keeps_own b e (Handles kind address) = keeps_handling kind address
+keeps_own b e (Accepts mask) = keeps_accepting mask
+
+module _ (b : Shown) (e : ℕ) (x : Environment) (r : Runs b e x) (sound : IsSound b) where
+  looks : (λ v. doing.look_of b e v) ≡ sight (runner_solo b e x)
+  looks = λ k v. its_look b e x r sound v k
+
+  -- what its record shows of each deed, once its call is answered
+  shows : (own : OwnDeed) (v : ℕ) → runner_solo (doing.answered (doing.own_done b e own) (Grant v)) e (doing.own_record b e own x) ≡ deeded (Own own) v (runner_solo b e x)
+  shows (Puts address size) v = λ k. record (runner_solo b e x) { cpu = answered_cpu (Grant v) b.cpu; console = x.console ++ unwrap_or (put_bytes (looks k) address size) [] }
+  shows (Handles kind address) v = refl
+  shows (Accepts mask) v = refl
+
+  pub own_serves : (own : OwnDeed) (v : ℕ) → Serves b e (deeded (Own own) v (solo_of b e)) (done (world_of b) e (Own own)) (doing.granted b e v (Own own))
+  own_serves own v =
+      let f = doing.own_record b e own in
+      let keeps = keeps_own b e own in
+      let now = doing.granted b e v (Own own) in
+      let still : Runs now e (f x) = record { at = changed_here f b.roster.list e ∙ ap (option_map f) r.at; lives = keeps.life x ∙ r.lives; runs = r.runs } in
+      record {
+        book = λ k. record (book_of now) { kept = λ i. kept_mappings f keeps b.roster.list e i k };
+        count = length-changed f b.roster.list e;
+        solos = one_changed (solo_of b) (solo_of now) e (deeded (Own own) v (solo_of b e))
+            (runner_seen now e (f x) still ∙ shows own v ∙ deeded_seen b e x r (Own own) v)
+            (λ i ne. same_solo i now b (record {
+              record_is = changed_else f b.roster.list e i ne;
+              idles = r.runs.others i ne;
+              idled = r.runs.others i ne;
+              pages = refl;
+              binds = refl;
+              sights = refl;
+            }));
+        rows = sym (append_nothing b.ledger.rows);
+        room = omega arith;
+        spare = refl;
+        time = refl;
+      }
