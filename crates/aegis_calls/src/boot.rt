@@ -1,10 +1,10 @@
 //! The board before it runs: without programs, and with one more.
 ghost use Rattle.std.specs.Prelude.{◌≡◌, ◌≤◌, ◌<◌, ◌+◌, ◌-◌, ◌*◌, ◌++◌, None, Some, IfOk, IfSome, All, length, map, replicate, [], ◌∷◌, slice_set};
-ghost use Rattle.segment_pages.specs.Pages.{page_numbers};
+ghost use Rattle.segment_pages.specs.Pages.{vpns};
 ghost use Rattle.boot_image.specs.ImageValue.{guaranteed_mappings};
 ghost use Rattle.env_frames.specs.Context.{no_handlers};
 ghost use Rattle.env_frames.specs.Frame.{IsAbove};
-ghost use Rattle.aegis_limits.specs.Limits.{least_pages, most_pages, least_quantum, most_quantum, most_slots, most_environments, most_mappings};
+ghost use Rattle.aegis_limits.specs.Limits.{least_pages, most_pages, least_quantum, most_quantum, most_slots, most_environments, most_mappings, vpn_end};
 ghost use Rattle.frame_store.specs.Pages.{zero_page, zeroed};
 ghost use Rattle.bind_book.specs.Stripe.{stripe_rows};
 ghost use Rattle.page_book.specs.declared.row.PageRow.TheVariants.{Free, Guaranteed};
@@ -19,7 +19,7 @@ ghost use Rattle.board_world.specs.Sound.{AreGuaranteed};
 ghost use Rattle.board_world.specs.Doing.{with_rows};
 
 use crate::board::Board;
-use aegis_limits::OutOfMemory;
+use aegis_limits::{OutOfMemory, STACK_END};
 use bind_book::Bindings;
 use board_world::Roster;
 use boot_image::Program;
@@ -32,9 +32,6 @@ use page_book::Pages;
 use segment_pages::{fill_page, is_writable, next_page};
 use slot_vector::Slots;
 use std::alloc::Global;
-
-/// The page number above the stack.
-const STACK_END: u32 = 0x7fff0;
 
 /// What the stack pointer is at boot, and its register.
 const STACK_TOP: u32 = 0x7ffe_fff0;
@@ -64,8 +61,8 @@ fn keep_page(pages: &mut Pages, number: u8) -> u32
     pages.keep(number).unwrap()
 }
 
-/// Gives an environment, which has this number, the lowest free page at a page number above all that it sees:
-/// the page of a program's body at this page number.
+/// Gives an environment, which has this number, the lowest free page at a VPN above all that it sees:
+/// the page of a program's body at this VPN.
 fn give_page(
     frames: &mut Frames,
     pages: &mut Pages,
@@ -79,7 +76,7 @@ fn give_page(
     requires free { 0 < free_pages pages.old }
     requires count { length env.old.mappings < most_mappings }
     requires above { IsAbove env.old.mappings vpn }
-    requires within { vpn < 0x80000 }
+    requires within { vpn < vpn_end }
     ensures guaranteed { AreGuaranteed pages.new number env.new.mappings }
     ensures given { AreGiven number 1 pages.old pages.new frames.old frames.new }
     ensures mapped { env.new.mappings ≡ with_mapped number pages.old (body_page body.now vpn ∷ []) env.old.mappings }
@@ -93,7 +90,7 @@ fn give_page(
     env.guarantee(vpn, page, is_writable(body, vpn));
 }
 
-/// Gives an environment, which has this number, the lowest free page at a page number above all that it sees:
+/// Gives an environment, which has this number, the lowest free page at a VPN above all that it sees:
 /// a page of zeros that it may store to.
 fn give_zero_page(frames: &mut Frames, pages: &mut Pages, number: u8, env: &mut Env, vpn: u32)
     requires guaranteed { AreGuaranteed pages.old number env.old.mappings }
@@ -114,19 +111,19 @@ fn give_zero_page(frames: &mut Frames, pages: &mut Pages, number: u8, env: &mut 
     env.guarantee(vpn, page, true);
 }
 
-/// Gives an environment, which has this number, the pages of a program's body, by rising page number.
+/// Gives an environment, which has this number, the pages of a program's body, by rising VPN.
 fn give_body(frames: &mut Frames, pages: &mut Pages, number: u8, env: &mut Env, body: &Elf<'_>)
     requires guaranteed { AreGuaranteed pages.old number env.old.mappings }
     requires same { HasPages frames.old pages.old }
-    requires free { length (page_numbers body.now) ≤ free_pages pages.old }
-    requires count { length env.old.mappings + length (page_numbers body.now) ≤ most_mappings }
+    requires free { length (vpns body.now) ≤ free_pages pages.old }
+    requires count { length env.old.mappings + length (vpns body.now) ≤ most_mappings }
     requires above { IsAbove env.old.mappings 2 }
     ensures guaranteed { AreGuaranteed pages.new number env.new.mappings }
-    ensures given { AreGiven number (length (page_numbers body.now)) pages.old pages.new frames.old frames.new }
-    ensures mapped { env.new.mappings ≡ with_mapped number pages.old (map (body_page body.now) (page_numbers body.now)) env.old.mappings }
-    ensures seen { pages_seen frames.new env.new.mappings ≡ pages_seen frames.old env.old.mappings ++ map (body_page body.now) (page_numbers body.now) }
+    ensures given { AreGiven number (length (vpns body.now)) pages.old pages.new frames.old frames.new }
+    ensures mapped { env.new.mappings ≡ with_mapped number pages.old (map (body_page body.now) (vpns body.now)) env.old.mappings }
+    ensures seen { pages_seen frames.new env.new.mappings ≡ pages_seen frames.old env.old.mappings ++ map (body_page body.now) (vpns body.now) }
     ensures above { IsAbove env.new.mappings 0x7FF00 }
-    ensures count { length env.new.mappings ≡ length env.old.mappings + length (page_numbers body.now) }
+    ensures count { length env.new.mappings ≡ length env.old.mappings + length (vpns body.now) }
     ensures rest { env.new ≡ record env.old { mappings = env.new.mappings } }
 {
     let mut from = 0;
@@ -136,7 +133,7 @@ fn give_body(frames: &mut Frames, pages: &mut Pages, number: u8, env: &mut Env, 
     }
 }
 
-/// Gives an environment, which has this number, so many pages of zeros, from a page number on.
+/// Gives an environment, which has this number, so many pages of zeros, from a VPN on.
 fn give_zeros(
     frames: &mut Frames,
     pages: &mut Pages,
@@ -150,7 +147,7 @@ fn give_zeros(
     requires free { zeros ≤ free_pages pages.old }
     requires count { length env.old.mappings + zeros ≤ most_mappings }
     requires above { IsAbove env.old.mappings vpn }
-    requires numbers { vpn + zeros ≤ 0x80000 }
+    requires numbers { vpn + zeros ≤ vpn_end }
     ensures guaranteed { AreGuaranteed pages.new number env.new.mappings }
     ensures given { AreGiven number zeros pages.old pages.new frames.old frames.new }
     ensures mapped { env.new.mappings ≡ with_mapped number pages.old (zeros_from vpn zeros) env.old.mappings }

@@ -1,7 +1,6 @@
 //! What granted calls do to their caller alone: its console, its bindings, its handlers and its mask.
 ghost use Rattle.std.specs.Prelude.{◌≡◌, ◌<◌, ◌≤◌, ◌+◌, Some, is_some, length, true};
-ghost use Rattle.aegis_limits.specs.Limits.{console_size};
-ghost use Rattle.bind_book.specs.Stripe.{page_numbers};
+ghost use Rattle.aegis_limits.specs.Limits.{console_size, vpn_end};
 ghost use Rattle.page_book.specs.Rows.{row_in};
 ghost use Rattle.world_model.specs.declared.call.OwnDeed.TheVariants.{Puts, Handles, Accepts};
 ghost use Rattle.world_model.specs.Book.{running};
@@ -84,7 +83,7 @@ impl Board {
     /// A binding of the runner's takes the place of the one in its row.
     pub(crate) fn bind(&mut self, env: u8, binding: Binding)
         requires runs { running self.old.slots.runner ≡ Some env }
-        requires within { binding.vpn < page_numbers }
+        requires within { binding.vpn < vpn_end }
         requires owned { IsOwned (row_in self.old.pages binding.page) }
         ensures { self.new ≡ with_bound self.old env binding }
     {
@@ -95,7 +94,7 @@ impl Board {
     /// The binding of a VPN of the runner's goes, if there is one.
     pub(crate) fn unbind(&mut self, env: u8, vpn: u32)
         requires runs { running self.old.slots.runner ≡ Some env }
-        requires within { vpn < page_numbers }
+        requires within { vpn < vpn_end }
         ensures { self.new ≡ with_unbound self.old env vpn }
     {
         self.bindings.unbind(env, vpn);

@@ -5,6 +5,14 @@ use Rattle.std.specs.Prelude.{ℕ}
 abbrev pub page_size : ℕ
 page_size = 4096
 
+-- VPNs of user addresses, which are these addresses over the size of a page, lie below this one
+abbrev pub vpn_end : ℕ
+vpn_end = 0x80000
+
+-- the pages of an environment's stack end below this VPN
+abbrev pub stack_end : ℕ
+stack_end = 0x7FFF0
+
 -- the pages of physical memory
 abbrev pub least_pages : ℕ
 least_pages = 16

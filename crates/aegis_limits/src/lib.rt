@@ -7,12 +7,18 @@
 mod memory;
 
 ghost use Rattle.std.specs.Prelude.{◌≡◌};
-ghost use Rattle.aegis_limits.specs.Limits.{page_size, least_pages, most_pages, least_quantum, most_quantum, most_environments, most_slots, most_mappings, most_stack_pages, console_size, most_ticks};
+ghost use Rattle.aegis_limits.specs.Limits.{page_size, vpn_end, stack_end, least_pages, most_pages, least_quantum, most_quantum, most_environments, most_slots, most_mappings, most_stack_pages, console_size, most_ticks};
 
 pub use memory::OutOfMemory;
 
 /// The bytes of a page.
 pub const PAGE_SIZE: usize = 4096;
+
+/// The VPNs of user addresses, which are these addresses over the size of a page, lie below this one.
+pub const VPN_END: u32 = 0x80000;
+
+/// The pages of an environment's stack end below this VPN.
+pub const STACK_END: u32 = 0x7FFF0;
 
 /// The fewest pages of physical memory that a board has.
 pub const LEAST_PAGES: u32 = 16;
@@ -47,6 +53,8 @@ pub const MOST_TICKS: u32 = 4_194_304;
 /// Law: the constants are the limits.
 pub fn constants_are_the_limits()
     ensures page { PAGE_SIZE ≡ page_size }
+    ensures vpns { VPN_END ≡ vpn_end }
+    ensures stack_highest { STACK_END ≡ stack_end }
     ensures pages_least { LEAST_PAGES ≡ least_pages }
     ensures pages_most { MOST_PAGES ≡ most_pages }
     ensures quantum_least { LEAST_QUANTUM ≡ least_quantum }

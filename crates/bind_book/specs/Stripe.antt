@@ -13,11 +13,7 @@ stripe_rows = 256
 abbrev pub most_places : ℕ
 most_places = most_environments * stripe_rows
 
--- the page numbers of user addresses
-abbrev pub page_numbers : ℕ
-page_numbers = 0x80000
-
--- the row of a page number in its environment's stripe
+-- the row of a VPN in its environment's stripe
 abbrev pub row_of : ℕ → ℕ
 row_of vpn = vpn % stripe_rows
 
@@ -33,16 +29,16 @@ HasStripe binds e = e * stripe_rows + stripe_rows ≤ length binds
 abbrev pub stripes : List (Option Binding) → ℕ → ℕ → Option Binding
 stripes binds e row = if nat_lt row stripe_rows then slice_index_or binds (place_of e row) None else None
 
--- the binding in a row, if it is that of this page number
+-- the binding in a row, if it is that of this VPN
 abbrev pub of_number : ℕ → Option Binding → Option Binding
 of_number vpn None = None
 of_number vpn (Some b) = if b.vpn == vpn then Some b else None
 
--- the binding of a page number in a stripe
+-- the binding of a VPN in a stripe
 abbrev pub binding_at : (ℕ → Option Binding) → ℕ → Option Binding
 binding_at stripe vpn = of_number vpn (stripe (row_of vpn))
 
--- the rows once the binding of an environment's page number, if there is one, is gone
+-- the rows once the binding of an environment's VPN, if there is one, is gone
 abbrev pub unbound : List (Option Binding) → ℕ → ℕ → List (Option Binding)
 unbound binds e vpn = if is_some (binding_at (stripes binds e) vpn) then slice_set binds (place_of e (row_of vpn)) None else binds
 

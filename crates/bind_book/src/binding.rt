@@ -1,8 +1,8 @@
 //! A binding.
-/// A page of physical memory that an environment bound to one of its page numbers (`docs/KERNEL.md`, "Bindings").
+/// A page of physical memory that an environment bound to one of its VPNs (`docs/KERNEL.md`, "Bindings").
 #[derive(Clone, Copy, Default)]
 pub struct Binding {
-    /// The page number at which the environment sees the page, below 0x80000: the addresses of its bytes over 4,096.
+    /// The VPN at which the environment sees the page, below 0x80000: the addresses of its bytes over 4,096.
     pub vpn: u32,
     /// The number of the page in physical memory, below 4,096.
     pub page: u32,

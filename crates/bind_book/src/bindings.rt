@@ -1,8 +1,8 @@
 //! The book of bindings.
 ghost use Rattle.std.specs.Prelude.{◌≡◌, ◌<◌, ◌≤◌, ◌*◌, length, replicate, is_some, slice_set, IfOk};
-ghost use Rattle.aegis_limits.specs.Limits.{most_environments};
+ghost use Rattle.aegis_limits.specs.Limits.{most_environments, vpn_end};
 ghost use Rattle.page_book.specs.Rows.{most_rows, row_in};
-ghost use Rattle.bind_book.specs.Stripe.{stripe_rows, page_numbers, row_of, place_of, HasStripe, stripes, binding_at, unbound, breaks_page, goes_with, swept};
+ghost use Rattle.bind_book.specs.Stripe.{stripe_rows, row_of, place_of, HasStripe, stripes, binding_at, unbound, breaks_page, goes_with, swept};
 
 use crate::binding::Binding;
 use crate::sweep::{break_page, clear_env};
@@ -42,11 +42,11 @@ impl Bindings {
         Ok(Bindings { rows })
     }
 
-    /// Binds a page, below 4,096, to the environment's page number, below 0x80000. What stood in the row of that
+    /// Binds a page, below 4,096, to the environment's VPN, below 0x80000. What stood in the row of that
     /// number gives way, and is the answer. All other rows stay.
     pub fn bind(&mut self, env: u8, vpn: u32, page: u32, writable: bool) -> Option<Binding>
         requires stripe { HasStripe self.old env }
-        requires number { vpn < page_numbers }
+        requires number { vpn < vpn_end }
         requires page { page < most_rows }
         ensures replaced { result ≡ stripes self.old env (row_of vpn) }
         ensures after { self.new ≡ slice_set self.old (place_of env (row_of vpn)) (Some (record { vpn = vpn; page = page; writable = writable })) }
@@ -62,7 +62,7 @@ impl Bindings {
         replaced
     }
 
-    /// Takes away the binding of the environment's page number. The answer is whether there was one; if not, nothing
+    /// Takes away the binding of the environment's VPN. The answer is whether there was one; if not, nothing
     /// changes.
     pub fn unbind(&mut self, env: u8, vpn: u32) -> bool
         ensures answer { result ≡ is_some (binding_at (stripes self.old env) vpn) }
@@ -76,7 +76,7 @@ impl Bindings {
         bound
     }
 
-    /// The binding of the environment's page number, if there is one.
+    /// The binding of the environment's VPN, if there is one.
     pub fn find(&self, env: u8, vpn: u32) -> Option<Binding>
         ensures { result ≡ binding_at (stripes self.now env) vpn }
     {

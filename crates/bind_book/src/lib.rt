@@ -1,6 +1,6 @@
-//! The book of bindings: at which of their page numbers environments see pages that they bound.
+//! The book of bindings: at which of their VPNs environments see pages that they bound.
 //!
-//! Each environment has a stripe of 256 rows, and the binding of a page number stands in the row of that number
+//! Each environment has a stripe of 256 rows, and the binding of a VPN stands in the row of that number
 //! modulo 256. The book is seen as the list of all rows, those of environment 0 first.
 #![tactic(auto)]
 

@@ -40,7 +40,7 @@ use Rattle.board_world.proofs.Seen.{same_solo, Runs, runner_solo, runner_seen, l
 use Rattle.board_world.proofs.Sound.{Keeps, keeps_accepting, keeps_handling}
 use Rattle.board_world.proofs.Tables.{stripe_set, stripe_without}
 
--- who unbinds_number a page number keeps all but its bindings and what it sees
+-- who unbinds_number a VPN keeps all but its bindings and what it sees
 unbound_keeps : (vpn : ℕ) (s : Solo) → unbound vpn s ≡ resighted s (unbound vpn s)
 unbound_keeps vpn s = by_test (is_some (binding_at s.binds vpn))
   where

@@ -105,7 +105,7 @@ module _ (pages : List PageRow) (binds : List (Option Binding)) (r : Environment
     bound = λ i at x is. here_or_before i at x is (IsOwned (row_in pages x.page)) (λ same its. owned x its) (are.bound i at x);
   }
 
--- a page number is bound, to a page that somebody owns
+-- a VPN is bound, to a page that somebody owns
 pub bind_booked : (pages : List PageRow) (binds : List (Option Binding)) (r : Environments) (e : ℕ) (x : Binding) → IsLive r.list e → IsOwned (row_in pages x.page) → AreBooked pages binds r → AreBooked pages (slice_set binds (place_of e (row_of x.vpn)) (Some x)) r
 bind_booked pages binds r e x lives owned are = row_booked pages binds r e (row_of x.vpn) (Some x) are lives (row_within x.vpn) (λ y is. let same : x ≡ y = cc in subst (λ (z : Binding). IsOwned (row_in pages z.page)) same owned)
 

@@ -1,4 +1,4 @@
--- Where page numbers lead is what an environment sees there.
+-- Where VPNs lead is what an environment sees there.
 use Rattle.std.proofs.Common.{◌≡◌, ℕ, ◌<◌, List, length, Bool, true, false, Option, Some, None, refl, sym, ◌∙◌, ap}
 use Rattle.std.specs.Option.{option_map, option_or}
 use Rattle.frame_store.specs.Pages.{page_at}
@@ -24,7 +24,7 @@ module _ (frames : List (List ℕ)) (e : ℕ) (pages : ℕ → PageRow) (stripe 
   kept_is : (v : ℕ) → kept_at s.kept v ≡ option_map (page_seen frames) (mapping_at ms v)
   kept_is v = ap (λ ps. kept_at ps v) kept ∙ seen_kept frames ms v
 
-  -- where a page number leads, by the mapping and the binding there
+  -- where a VPN leads, by the mapping and the binding there
   abbrev place_by : ℕ → Option Mapping → Option Binding → Option Place
   place_by v m y = option_or (option_map (place_at v) (option_map (page_seen frames) m)) (option_map bound_place y)
 

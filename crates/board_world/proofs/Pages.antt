@@ -21,7 +21,7 @@ page_there [] n within = absurd (omega arith)
 page_there (x ∷ frames) zero within = refl
 page_there (x ∷ frames) (suc n) within = page_there frames n (omega arith)
 
--- the page that an environment sees at a page number is that of its mapping
+-- the page that an environment sees at a VPN is that of its mapping
 pub seen_kept : (frames : List (List ℕ)) (ms : List Mapping) (v : ℕ) → kept_at (pages_seen frames ms) v ≡ option_map (page_seen frames) (mapping_at ms v)
 seen_kept frames [] v = refl
 seen_kept frames (m ∷ ms) v =
@@ -30,11 +30,11 @@ seen_kept frames (m ∷ ms) v =
       | false ↦ seen_kept frames ms v
     ]
 
--- the store of a write, at the page that its page number names
+-- the store of a write, at the page that its VPN names
 abbrev pub its_store : Write → Store
 its_store w = record { key = Kept (w.address / page_size); offset = w.address % page_size; bytes = w.bytes }
 
--- Which pages a store changes: the one that its page number leads to, and no other.
+-- Which pages a store changes: the one that its VPN leads to, and no other.
 pub record IsStruck (v p : ℕ) (m : Mapping) : Type 0 where
   pub here : m.vpn ≡ v → m.page ≡ p
   pub elsewhere : m.vpn ≢ v → m.page ≢ p
@@ -68,7 +68,7 @@ module _ (frames : List (List ℕ)) (w : Write) (p : ℕ) (within : p < length f
       let tail = stored_else ms (λ a n. other (suc a) n) in
       cc
 
--- the place of the mapping that a page number has
+-- the place of the mapping that a VPN has
 pub record IsAt (ms : List Mapping) (v k : ℕ) (m : Mapping) : Type 0 where
   pub place : slice_get ms k ≡ Some m
   pub number : m.vpn ≡ v
@@ -81,13 +81,13 @@ placed (n ∷ ms) v m is = by_test (n.vpn == v) refl is (λ found. placed ms v m
     by_test true here found further = let same : n ≡ m = cc in (0, record { place = ap Some same; number = ap (λ (x : Mapping). x.vpn) (sym same) ∙ eqb-true n.vpn v here })
     by_test false differs found further = let there = further found in (suc there.0, record { place = there.1.place; number = there.1.number })
 
--- the page number of a mapping at a place
+-- the VPN of a mapping at a place
 pub number_at : (ms : List Mapping) (a : ℕ) (m : Mapping) → slice_get ms a ≡ Some m → (a < length (numbers ms)) × (slice_index (numbers ms) a ≡ m.vpn)
 number_at [] a m is = cc
 number_at (n ∷ ms) zero m is = let same : n ≡ m = cc in (omega arith, ap (λ (x : Mapping). x.vpn) same)
 number_at (n ∷ ms) (suc a) m is = let there = number_at ms a m is in (omega (arith, there.0), there.1)
 
--- where page numbers rise, a page number has one place
+-- where VPNs rise, a VPN has one place
 pub one_place : (ms : List Mapping) (a b : ℕ) (m n : Mapping) → IsRising (numbers ms) → slice_get ms a ≡ Some m → slice_get ms b ≡ Some n → m.vpn ≡ n.vpn → a ≡ b
 one_place ms a b m n rising at_a at_b same =
     let there = number_at ms a m at_a in

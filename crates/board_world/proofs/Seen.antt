@@ -102,11 +102,11 @@ owned_taken Free owned is = owned
 owned_taken (Guaranteed owner) owned is = owned
 owned_taken (Owned owner words) owned is = cc
 
--- each page number has a row
+-- each VPN has a row
 pub row_within : (v : ℕ) → row_of v < stripe_rows
 row_within v = omega arith
 
--- the binding that is found for a page number stands in a row
+-- the binding that is found for a VPN stands in a row
 pub found_in_row : (stripe : ℕ → Option Binding) (v : ℕ) (y : Binding) → binding_at stripe v ≡ Some y → stripe (row_of v) ≡ Some y
 found_in_row stripe v y found = by_row (stripe (row_of v)) refl found
   where

@@ -62,7 +62,7 @@ use Rattle.board_world.proofs.Serving.{Leaves, Serves, told, call_serves, called
 use Rattle.board_world.proofs.Sound.{neither}
 use Rattle.board_world.proofs.Stores.{own_kept, other_kept, guaranteed_sights, sights_stay, put_table, kept_as_was, bound_kept}
 
--- the mapping that a page number has, by the parts of what an environment sees
+-- the mapping that a VPN has, by the parts of what an environment sees
 opened_lookup : (b : Shown) (e v : ℕ) → lookup_of b e v ≡ mapping_in (mappings_of b.roster.list e) (stripe_of b e) v
 unfolding lookup
 opened_lookup b e v = refl
@@ -208,7 +208,7 @@ module _ (b : Shown) (e : ℕ) (x : Environment) (r : Runs b e x) (sound : IsSou
   none_strikes : Strikes b e x cpu b.frames None
   none_strikes = record { own_pages = refl; own_sights = refl; others = λ i ne. as_was i b.frames ne refl (λ p. refl) }
 
-  -- by the mapping and the binding of the page number
+  -- by the mapping and the binding of the VPN
   strikes_by : (m : Option Mapping) (y : Option Binding) → mapping_at (mappings_of b.roster.list e) (w.address / page_size) ≡ m → binding_at (stripe_of b e) (w.address / page_size) ≡ y →
       Strikes b e x cpu (written_through b.frames w (option_or m (option_map bound_mapping y))) (option_map (store_through w) (option_or (option_map (place_at (w.address / page_size)) (option_map (page_seen b.frames) m)) (option_map bound_place y)))
   strikes_by (Some m) y is found = kept_strikes m is

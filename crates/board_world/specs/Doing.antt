@@ -99,11 +99,11 @@ turned_when b (Some r) = b
 abbrev pub turned : Shown → Shown
 turned b = turned_when b b.slots.runner
 
--- the mapping that a page number of an environment has
+-- the mapping that a VPN of an environment has
 abbrev pub lookup_of : Shown → ℕ → ℕ → Option Mapping
 lookup_of b e = lookup (record { mappings = mappings_of b.roster.list e; binds = b.binds; number = e })
 
--- where the page numbers of an environment lead
+-- where the VPNs of an environment lead
 abbrev pub look_of : Shown → ℕ → ℕ → Option Mapped
 look_of b e = look b.frames (lookup_of b e)
 

@@ -30,7 +30,7 @@ pub record AreGiven (e count : ℕ) (old new : List PageRow) (before after : Lis
 abbrev pub with_mapped : ℕ → List PageRow → List KeptPage → List Mapping → List Mapping
 with_mapped e pages given mappings = mappings ++ mappings_over e (length pages) (row_in pages) given
 
--- so many pages of zeros, from a page number on
+-- so many pages of zeros, from a VPN on
 abbrev pub zeros_from : ℕ → ℕ → List KeptPage
 zeros_from vpn count = listed (λ i. open_page (vpn + i) zero_page) count
 

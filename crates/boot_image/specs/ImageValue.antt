@@ -3,7 +3,7 @@ use Rattle.std.specs.Prelude.{ℕ, zero, suc, ◌+◌, ◌==◌, true, List, [],
 use Rattle.std.specs.List.{before_first}
 use Rattle.byte_numbers.specs.Numbers.{half_at, word_at}
 use Rattle.elf_static.specs.ElfValue.{ElfValue, elf_of}
-use Rattle.segment_pages.specs.Pages.{page_numbers}
+use Rattle.segment_pages.specs.Pages.{vpns}
 
 -- a program: its name of eight bytes, pages of stack, a bit for each environment from which it accepts
 -- transfers, and its body, which is an entry and segments
@@ -34,7 +34,7 @@ name_text name = before_first (λ byte. byte == 0) name
 
 -- the pages that an environment has from its boot on: the context page, the body's and the stack's
 abbrev pub guaranteed_mappings : ProgramValue → ℕ
-guaranteed_mappings program = 1 + length (page_numbers program.body) + program.stack
+guaranteed_mappings program = 1 + length (vpns program.body) + program.stack
 
 -- The file's header: the magic of four bytes, and four numbers.
 abbrev pub pages_in : List ℕ → ℕ

@@ -3,7 +3,7 @@ use Rattle.std.proofs.Common.{◌≡◌, ◌<◌, ◌≤◌, ◌+◌, ℕ, List,
 use Rattle.std.specs.Prelude.{◌==◌, ◌&&◌, ◌||◌, ◌%◌, not, nat_le, nat_lt, if◌then◌else◌, ok_or}
 use Rattle.std.specs.Option.{option_map, option_or}
 use Rattle.std.proofs.lemmas.Bool.{eqb-true, ltb-true, ltb-false, leb-false}
-use Rattle.aegis_limits.specs.Limits.{console_size}
+use Rattle.aegis_limits.specs.Limits.{console_size, vpn_end}
 use Rattle.mips_exec.specs.declared.registers.Cpu.{Cpu}
 use Rattle.mips_exec.specs.Cpu.{reg}
 use Rattle.env_frames.specs.declared.context.Context.{Context}
@@ -25,12 +25,12 @@ use Rattle.world_model.specs.declared.verdict.Verdict.{Verdict}
 use Rattle.world_model.specs.declared.verdict.Verdict.TheVariants.{Refuse, Grant}
 use Rattle.world_model.specs.Answer.{unless, verdict_of}
 use Rattle.world_model.specs.Book.{Book, page_row}
-use Rattle.world_model.specs.Call.{any, binding_of, number_end, presented}
+use Rattle.world_model.specs.Call.{any, binding_of, presented}
 use Rattle.world_model.specs.Code.{code_of}
 use Rattle.world_model.specs.Call.{context_deed, transfer_deed, yield_deed}
 use Rattle.world_model.specs.OwnCalls.{MayPut, put_bytes, put_refusal}
 use Rattle.world_model.specs.May.{HasRight, May, MayAllocate, MayBind, MayChange, MayDrop, MayEnter, MayMap, MayReach, MayTake}
-use Rattle.world_model.specs.PageCalls.{chosen_page, is_guaranteed, named_page, number_refusal, refusal_of_bind, refusal_of_change}
+use Rattle.world_model.specs.PageCalls.{chosen_page, is_guaranteed, named_page, vpn_refusal, refusal_of_bind, refusal_of_change}
 use Rattle.world_model.specs.SlotCalls.{accepts, drop_refusal, gift_refusal, is_other, refusal_of_gift, refusal_of_giving, slot_at, take_refusal, turn_slot, yield_by}
 use Rattle.world_model.specs.Solo.{Solo, sight}
 use Rattle.world_model.specs.Transfers.{is_open, refusal_of_transfer, transfer_by}
@@ -105,14 +105,14 @@ may_change w e page none = by_row (nat_lt page w.book.page_count) (w.book.pages 
     by_row true (Owned owner words) there stands none = record { there = ltb-true page w.book.page_count there; owned = ap (is_owned_by e) stands ∙ its owner (owner == e) none }
     by_row false row there stands none = cc
 
-may_map : (s : Solo) (vpn : ℕ) → number_refusal (is_guaranteed s vpn) vpn ≡ None → MayMap s vpn
-may_map s vpn none = by_test (nat_le number_end vpn) (is_guaranteed s vpn) refl refl none
+may_map : (s : Solo) (vpn : ℕ) → vpn_refusal (is_guaranteed s vpn) vpn ≡ None → MayMap s vpn
+may_map s vpn none = by_test (nat_le vpn_end vpn) (is_guaranteed s vpn) refl refl none
   where
-    by_test : (above guaranteed : Bool) → nat_le number_end vpn ≡ above → is_guaranteed s vpn ≡ guaranteed
+    by_test : (above guaranteed : Bool) → nat_le vpn_end vpn ≡ above → is_guaranteed s vpn ≡ guaranteed
         → (if above then Some code.BadVpn else (if guaranteed then Some code.Guaranteed else None)) ≡ None → MayMap s vpn
     by_test true guaranteed below is none = cc
     by_test false true below is none = cc
-    by_test false false below is none = record { within = omega (arith, leb-false number_end vpn below); other = is }
+    by_test false false below is none = record { within = omega (arith, leb-false vpn_end vpn below); other = is }
 
 has_right : (e : ℕ) (writable : Bool) (word : ℕ) (row : PageRow) → bind_refusal e writable word (Some row) ≡ None → HasRight e writable word row
 has_right e writable word Free none = cc
@@ -129,10 +129,10 @@ may_bind w e none =
     let s = w.solos e in
     let page = reg s.cpu 5 in
     let why = bind_refusal e (binding_of s.cpu).writable (presented s.cpu) (page_row w.book page) in
-    let parts = neither (number_refusal (is_guaranteed s (reg s.cpu 4)) (reg s.cpu 4)) (option_map code_of why) none in
+    let parts = neither (vpn_refusal (is_guaranteed s (reg s.cpu 4)) (reg s.cpu 4)) (option_map code_of why) none in
     by_there (nat_lt page w.book.page_count) refl parts.0 (unmapped code_of why parts.1)
   where
-    by_there : (t : Bool) → nat_lt (reg (w.solos e).cpu 5) w.book.page_count ≡ t → number_refusal (is_guaranteed (w.solos e) (reg (w.solos e).cpu 4)) (reg (w.solos e).cpu 4) ≡ None
+    by_there : (t : Bool) → nat_lt (reg (w.solos e).cpu 5) w.book.page_count ≡ t → vpn_refusal (is_guaranteed (w.solos e) (reg (w.solos e).cpu 4)) (reg (w.solos e).cpu 4) ≡ None
         → bind_refusal e (binding_of (w.solos e).cpu).writable (presented (w.solos e).cpu) (if t then Some (w.book.pages (reg (w.solos e).cpu 5)) else None) ≡ None
         → MayBind w e (binding_of (w.solos e).cpu) (presented (w.solos e).cpu)
     by_there true there mapped none = record {
@@ -209,7 +209,7 @@ granted_may lowest w e (Some call.Bind) value is =
 granted_may lowest w e (Some call.Unbind) value is =
     let s = w.solos e in
     let vpn = reg s.cpu 4 in
-    may_map s vpn (not_refused (number_refusal (is_guaranteed s vpn) vpn) (if is_some (binding_at s.binds vpn) then 1 else 0) value is)
+    may_map s vpn (not_refused (vpn_refusal (is_guaranteed s vpn) vpn) (if is_some (binding_at s.binds vpn) then 1 else 0) value is)
 granted_may lowest w e (Some call.Context) value is = let cpu = (w.solos e).cpu in handles w e (reg cpu 5) (context_numbered (reg cpu 4))
 granted_may lowest w e (Some call.Accept) value is = tt
 granted_may lowest w e (Some call.Transfer) value is =

@@ -5,15 +5,13 @@ ghost use Rattle.mips_exec.specs.Cpu.{reg};
 ghost use Rattle.page_book.specs.Row.{alloc_refusal, bind_refusal, change_refusal};
 ghost use Rattle.world_model.specs.Code.{code_of};
 ghost use Rattle.world_model.specs.Book.{page_row, running};
-ghost use Rattle.world_model.specs.PageCalls.{chosen_page, is_guaranteed, number_refusal, refusal_of_bind, refusal_of_change};
+ghost use Rattle.world_model.specs.PageCalls.{chosen_page, is_guaranteed, vpn_refusal, refusal_of_bind, refusal_of_change};
 
 use crate::arguments::{ANY, binding, presented};
 use crate::view::CallView;
+use aegis_limits::VPN_END;
 use page_book::{PageNo, PageRow};
 use world_model::Code;
-
-/// The first VPN that isn't of a user's address.
-const VPN_END: u32 = 0x80000;
 
 /// What a caller is told of a refusal by the book of pages, if it is one.
 fn refuse(why: Option<PageNo>) -> Option<Code>
@@ -64,7 +62,7 @@ pub(crate) fn refuse_change<V: CallView>(view: &V, env: u8, page: u32) -> Option
 
 /// Why nothing is bound or unbound at a VPN, which is guaranteed or not.
 fn refuse_vpn(guaranteed: bool, vpn: u32) -> Option<Code>
-    ensures { result ≡ number_refusal guaranteed vpn }
+    ensures { result ≡ vpn_refusal guaranteed vpn }
 {
     if vpn >= VPN_END {
         Some(Code::BadVpn)
@@ -78,7 +76,7 @@ fn refuse_vpn(guaranteed: bool, vpn: u32) -> Option<Code>
 /// Why the runner's unbind is refused, or its bind, by the VPN that it names.
 pub(crate) fn refuse_unbind<V: CallView>(view: &V, env: u8, vpn: u32) -> Option<Code>
     requires { running (V.world view.now).book.runner ≡ Some env }
-    ensures { result ≡ number_refusal (is_guaranteed ((V.world view.now).solos env) vpn) vpn }
+    ensures { result ≡ vpn_refusal (is_guaranteed ((V.world view.now).solos env) vpn) vpn }
 {
     refuse_vpn(view.is_guaranteed(env, vpn), vpn)
 }

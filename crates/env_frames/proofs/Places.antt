@@ -1,4 +1,4 @@
--- A page number leads to the one mapping that has it.
+-- A VPN leads to the one mapping that has it.
 use Rattle.std.proofs.Common.{◌≡◌, ◌≢◌, ℕ, zero, suc, ◌+◌, ◌<◌, ◌≤◌, List, [], ◌∷◌, length, Some, None, refl, ap, arith}
 use Rattle.std.specs.Prelude.{false, slice_index, slice_index_or}
 use Rattle.std.proofs.lemmas.Bool.{ne_eqb, eq-eqb}
@@ -9,19 +9,19 @@ use Rattle.env_frames.specs.Frame.{mapping_at, numbers, IsRising}
 abbrev pub no_mapping : Mapping
 no_mapping = record { vpn = 0; page = 0; writable = false }
 
--- the page number of the mapping at a place
+-- the VPN of the mapping at a place
 pub number_at : (ms : List Mapping) (i : ℕ) (d : Mapping) → i < length ms → (slice_index_or ms i d).vpn ≡ slice_index (numbers ms) i
 number_at [] i d within = absurd (omega arith)
 number_at (m ∷ ms) zero d within = refl
 number_at (m ∷ ms) (suc i) d within = number_at ms i d (omega arith)
 
--- a page number that no mapping has leads nowhere
+-- a VPN that no mapping has leads nowhere
 pub leads_nowhere : (ms : List Mapping) (v : ℕ) → ((k : ℕ) → k < length ms → slice_index (numbers ms) k ≢ v) → mapping_at ms v ≡ None
 leads_nowhere [] v differs = refl
 leads_nowhere (m ∷ ms) v differs =
     rw (ne_eqb m.vpn v (differs 0 (omega arith))) (leads_nowhere ms v (λ k h. differs (suc k) (omega arith)))
 
--- the first mapping with a page number is the one it leads to
+-- the first mapping with a VPN is the one it leads to
 first_leads : (ms : List Mapping) (v i : ℕ) (d : Mapping) → i < length ms → slice_index (numbers ms) i ≡ v → ((k : ℕ) → k < i → slice_index (numbers ms) k ≢ v) → mapping_at ms v ≡ Some (slice_index_or ms i d)
 first_leads [] v i d within here before = absurd (omega arith)
 first_leads (m ∷ ms) v zero d within here before = rw (eq-eqb m.vpn v here)
@@ -32,12 +32,12 @@ length-numbers : (ms : List Mapping) → length (numbers ms) ≡ length ms
 length-numbers [] = refl
 length-numbers (m ∷ ms) = ap suc (length-numbers ms)
 
--- where page numbers rise, a mapping with a page number is the first
+-- where VPNs rise, a mapping with a VPN is the first
 pub leads_to : (ms : List Mapping) (v i : ℕ) (d : Mapping) → IsRising (numbers ms) → i < length ms → slice_index (numbers ms) i ≡ v → mapping_at ms v ≡ Some (slice_index_or ms i d)
 leads_to ms v i d rising within here =
     first_leads ms v i d within here (λ k before same. let below = rising k i before (omega (arith, length-numbers ms)) in omega arith)
 
--- where page numbers rise, those up to a mapping below a page number are below it too
+-- where VPNs rise, those up to a mapping below a VPN are below it too
 pub below_as_far : (ms : List Mapping) (v i : ℕ) (d : Mapping) → IsRising (numbers ms) → i < length ms → (slice_index_or ms i d).vpn < v → (k : ℕ) → k < i + 1 → slice_index (numbers ms) k < v
 below_as_far ms v i d rising within below k so_far =
     let here = number_at ms i d within in

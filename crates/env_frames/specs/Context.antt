@@ -11,7 +11,7 @@ use Rattle.env_frames.specs.declared.context.Handlers.{Handlers}
 use Rattle.env_frames.specs.declared.context.Context.{Context}
 use Rattle.env_frames.specs.declared.context.Context.TheVariants as context
 
--- the page number at which each environment sees its context page
+-- the VPN at which each environment sees its context page
 abbrev pub context_number : ℕ
 context_number = 1
 

@@ -1,4 +1,4 @@
--- An environment's frame: the registers that are kept of it, and where its page numbers lead.
+-- An environment's frame: the registers that are kept of it, and where its VPNs lead.
 use Rattle.std.specs.Prelude.{ℕ, ◌<◌, List, [], length, map, find, slice_index, ◌==◌, Option, Some, None}
 use Rattle.std.specs.Option.{option_map}
 use Rattle.mips_exec.specs.declared.registers.Cpu.{Cpu}
@@ -9,18 +9,18 @@ use Rattle.env_frames.specs.declared.context.Handlers.{Handlers}
 use Rattle.env_frames.specs.Context.{exception_area, exception_bytes, no_handlers}
 use Rattle.env_frames.specs.declared.mapping.Mapping.{Mapping}
 
--- the kept registers, the handlers, the mask of those whose yields and transfers it accepts, and the guaranteed mappings by rising page number
+-- the kept registers, the handlers, the mask of those whose yields and transfers it accepts, and the guaranteed mappings by rising VPN
 pub record EnvValue : Type 0 where
   pub cpu : Cpu
   pub handlers : Handlers
   pub mask : ℕ
   pub mappings : List Mapping
 
--- the guaranteed mapping at a page number
+-- the guaranteed mapping at a VPN
 abbrev pub mapping_at : List Mapping → ℕ → Option Mapping
 mapping_at mappings vpn = find (λ m. m.vpn == vpn) mappings
 
--- the page numbers
+-- the VPNs
 abbrev pub numbers : List Mapping → List ℕ
 numbers mappings = map (λ m. m.vpn) mappings
 
@@ -45,6 +45,6 @@ gone_env = record { cpu = blank_cpu; handlers = no_handlers; mask = 0; mappings 
 abbrev pub IsRising : List ℕ → Type 0
 IsRising xs = (i j : ℕ) → i < j → j < length xs → slice_index xs i < slice_index xs j
 
--- the page number is above that of each mapping
+-- the VPN is above that of each mapping
 abbrev pub IsAbove : List Mapping → ℕ → Type 0
 IsAbove mappings vpn = (k : ℕ) → k < length (numbers mappings) → slice_index (numbers mappings) k < vpn

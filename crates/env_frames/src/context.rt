@@ -2,7 +2,7 @@
 ghost use Rattle.std.specs.Prelude.{◌≡◌};
 ghost use Rattle.env_frames.specs.Context.{context_numbered, handler_of, no_handlers, with_handler};
 
-/// The page number at which each environment sees its context page.
+/// The VPN at which each environment sees its context page.
 pub(crate) const CONTEXT_PAGE: u32 = 1;
 
 /// Where the exception area begins in the context page (`docs/KERNEL.md`, "The context page").

@@ -23,7 +23,7 @@ use std::marker::Model;
 
 /// What the kernel keeps of an environment: its registers while it doesn't run, the addresses of its
 /// handlers, the mask of those whose yields and transfers it accepts, and its guaranteed mappings by
-/// rising page number, at most 256.
+/// rising VPN, at most 256.
 #[derive(Drop)]
 pub struct Env {
     cpu: Cpu,
@@ -45,7 +45,7 @@ impl Model for Env {
 
 impl Env {
     /// An environment with these registers and this mask that handles nothing and sees one page, which
-    /// it may store to, at page number 1: its context page.
+    /// it may store to, at VPN 1: its context page.
     pub fn new(cpu: Cpu, page: u32, accept: u32) -> Env
         ensures { result ≡ record { cpu = cpu; handlers = no_handlers; mask = accept; mappings = record { vpn = 1; page = page; writable = true } ∷ [] } }
     {
@@ -63,7 +63,7 @@ impl Env {
         }
     }
 
-    /// Guarantees a mapping, at a page number above all that are guaranteed.
+    /// Guarantees a mapping, at a VPN above all that are guaranteed.
     pub fn guarantee(&mut self, vpn: u32, page: u32, writable: bool)
         requires room { length self.old.mappings < most_mappings }
         requires above { IsAbove self.old.mappings vpn }
@@ -77,7 +77,7 @@ impl Env {
         });
     }
 
-    /// The guaranteed mapping at a page number, if there is one.
+    /// The guaranteed mapping at a VPN, if there is one.
     pub fn guaranteed(&self, vpn: u32) -> Option<Mapping>
         ensures value { result ≡ mapping_at self.now.mappings vpn }
     {
@@ -86,7 +86,7 @@ impl Env {
         Some(mappings[place])
     }
 
-    /// The guaranteed mappings by rising page number, at most 256.
+    /// The guaranteed mappings by rising VPN, at most 256.
     pub fn mappings(&self) -> &[Mapping]
         ensures value { result.now ≡ self.now.mappings }
         ensures rising { IsRising (numbers self.now.mappings) }

@@ -1,10 +1,10 @@
-//! The search for the mapping of a page number.
+//! The search for the mapping of a VPN.
 ghost use Rattle.std.specs.Prelude.{◌≡◌, ◌≢◌, ◌<◌, ℕ, length, slice_index, IfSome, IfNone};
 ghost use Rattle.env_frames.specs.Frame.{IsRising, numbers};
 
 use crate::mapping::Mapping;
 
-/// The place of the mapping of a page number, found by halving.
+/// The place of the mapping of a VPN, found by halving.
 pub(crate) fn place_in(mappings: &[Mapping], vpn: u32) -> Option<usize>
     requires { IsRising (numbers mappings.now) }
     ensures within { IfSome result (λ i. i < length mappings.now) }

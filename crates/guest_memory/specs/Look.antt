@@ -1,4 +1,4 @@
--- What is seen through a look-up of page numbers, and what steps do there.
+-- What is seen through a look-up of VPNs, and what steps do there.
 use Rattle.std.specs.Prelude.{ℕ, ◌/◌, ◌%◌, List, Option, Some, None, slice_get}
 use Rattle.std.specs.Option.{option_map, option_or}
 use Rattle.mips_exec.specs.declared.registers.Cpu.{Cpu}
@@ -16,7 +16,7 @@ use Rattle.world_model.specs.Page.{Mapped, answers_by}
 abbrev pub bound_mapping : Binding → Mapping
 bound_mapping b = record { vpn = b.vpn; page = b.page; writable = b.writable }
 
--- the mapping of a page number: the guaranteed one, else that of the binding
+-- the mapping of a VPN: the guaranteed one, else that of the binding
 abbrev pub mapping_in : List Mapping → (ℕ → Option Binding) → ℕ → Option Mapping
 mapping_in mappings stripe vpn = option_or (mapping_at mappings vpn) (option_map bound_mapping (binding_at stripe vpn))
 
@@ -25,7 +25,7 @@ abbrev pub look_through : List (List ℕ) → Option Mapping → Option Mapped
 look_through frames None = None
 look_through frames (Some m) = option_map (λ bytes. record { writable = m.writable; bytes = bytes }) (slice_get frames m.page)
 
--- where a page number leads by a look-up, which gives the mapping that it has, if it has one
+-- where a VPN leads by a look-up, which gives the mapping that it has, if it has one
 abbrev pub look : List (List ℕ) → (ℕ → Option Mapping) → ℕ → Option Mapped
 look frames lookup vpn = look_through frames (lookup vpn)
 

@@ -10,7 +10,7 @@ use Rattle.guest_memory.specs.Look.{look}
 abbrev pub reached : List (List ℕ) → Mapping → Mapped
 reached frames m = record { writable = m.writable; bytes = page_at frames m.page }
 
--- the page number has this mapping, and leads to its page
+-- the VPN has this mapping, and leads to its page
 pub record LeadsThrough (frames : List (List ℕ)) (lookup : ℕ → Option Mapping) (vpn : ℕ) (m : Mapping) : Type 0 where
   pub there : m.page < length frames
   pub mapping : lookup vpn ≡ Some m

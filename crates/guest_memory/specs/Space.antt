@@ -1,4 +1,4 @@
--- What an environment sees at its page numbers.
+-- What an environment sees at its VPNs.
 use Rattle.std.specs.Prelude.{ℕ, List, Option}
 use Rattle.env_frames.specs.declared.mapping.Mapping.{Mapping}
 use Rattle.bind_book.specs.declared.binding.Binding.{Binding}
@@ -11,6 +11,6 @@ pub record SpaceValue : Type 0 where
   pub binds : List (Option Binding)
   pub number : ℕ
 
--- the mapping of a page number
+-- the mapping of a VPN
 unfoldable pub lookup : SpaceValue → ℕ → Option Mapping
 lookup s = mapping_in s.mappings (stripes s.binds s.number)

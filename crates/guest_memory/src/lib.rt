@@ -1,6 +1,6 @@
 //! What an environment's accesses reach: its guaranteed mappings and its bindings over the pages of physical memory.
 //!
-//! A page number leads to the page of its guaranteed mapping, else of its binding, where physical memory has that
+//! A VPN leads to the page of its guaranteed mapping, else of its binding, where physical memory has that
 //! page; else the access is a miss. `locate` finds the page of an access, or what the access raises, and `guest_range`
 //! the bytes that a kernel call names.
 #![tactic(auto)]

@@ -30,7 +30,7 @@ fn address_error(purpose: Purpose) -> ExcCode
     }
 }
 
-/// What a page number that leads nowhere raises.
+/// What a VPN that leads nowhere raises.
 fn miss(purpose: Purpose) -> ExcCode
     ensures { result ≡ miss_of purpose }
 {
@@ -59,7 +59,7 @@ fn raised(code: ExcCode, address: u32) -> Exc
     }
 }
 
-/// The mapping of a page number, where physical memory has its page.
+/// The mapping of a VPN, where physical memory has its page.
 pub(crate) fn mapping_of(frames: &Frames, space: &Space<'_>, vpn: u32) -> Option<Mapping>
     ensures { MatchOption result (look frames.now (lookup space.now) vpn ≡ None) (LeadsThrough frames.now (lookup space.now) vpn) }
 {

@@ -1,4 +1,4 @@
-//! What an environment sees at its page numbers.
+//! What an environment sees at its VPNs.
 ghost use Rattle.std.specs.Prelude.{◌≡◌};
 ghost use Rattle.guest_memory.specs.Look.{bound_mapping};
 ghost use Rattle.guest_memory.specs.Space.{lookup};
@@ -36,7 +36,7 @@ fn mapping_by(binding: Binding) -> Mapping
 }
 
 impl<'a> Space<'a> {
-    /// The mapping of a page number: the guaranteed one, else that of its binding.
+    /// The mapping of a VPN: the guaranteed one, else that of its binding.
     #[tactic(auto, unfolding(crate::specs::Space::lookup))]
     pub fn mapping(&self, vpn: u32) -> Option<Mapping>
         ensures { result ≡ lookup self.now vpn }

@@ -71,7 +71,7 @@ fn number_at(bytes: &[u8], width: u8) -> u32
 }
 
 /// One step of an environment: its fetch, load and store go through its guaranteed mappings and its bindings.
-/// A page number that has neither, or whose page physical memory hasn't got, is a miss.
+/// A VPN that has neither, or whose page physical memory hasn't got, is a miss.
 pub fn step_guest(cpu: &mut Cpu, frames: &mut Frames, space: &Space<'_>) -> Outcome
     ensures cpu { cpu.new ≡ cpu_after cpu.old (guest_step frames.old (lookup space.now) cpu.old) }
     ensures outcome { result ≡ outcome_of (guest_step frames.old (lookup space.now) cpu.old) }

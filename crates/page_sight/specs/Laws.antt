@@ -61,7 +61,7 @@ BinderSees = (e : ℕ) (b : Binding) (pages : ℕ → PageRow) (stripe : ℕ →
     Sees e pages stripe bytes s →
     Sees e pages (set_at (row_of b.vpn) (Some b) stripe) bytes (gained b.page (bytes b.page) (bound b s))
 
--- Who unbinds a page number sees no page any more that it neither owns nor has bound.
+-- Who unbinds a VPN sees no page any more that it neither owns nor has bound.
 abbrev pub UnbinderLoses : Type 0
 UnbinderLoses = (e vpn : ℕ) (pages : ℕ → PageRow) (stripe : ℕ → Option Binding) (bytes : ℕ → List ℕ) (s : Solo) →
     Sees e pages stripe bytes s →

@@ -31,7 +31,7 @@ pub fn law_binder()
     ensures { BinderSees }
 {}
 
-/// Who unbinds a page number sees no page any more that it neither owns nor has bound.
+/// Who unbinds a VPN sees no page any more that it neither owns nor has bound.
 pub fn law_unbinder()
     ensures { UnbinderLoses }
 {}

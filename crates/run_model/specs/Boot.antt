@@ -1,10 +1,12 @@
 -- The world that an image boots.
 use Rattle.std.specs.Prelude.{ℕ, zero, suc, ◌+◌, ◌-◌, List, [], ◌∷◌, ◌++◌, length, map, true, Option, Some, None, slice_get}
 use Rattle.std.specs.Option.{option_flatten, option_map}
+use Rattle.aegis_limits.specs.Limits.{stack_end}
 use Rattle.frame_store.specs.Pages.{zero_page}
 use Rattle.elf_static.specs.ElfValue.{ElfValue}
-use Rattle.segment_pages.specs.Pages.{is_writable, page_bytes, page_numbers}
+use Rattle.segment_pages.specs.Pages.{is_writable, page_bytes, vpns}
 use Rattle.boot_image.specs.ImageValue.{ImageValue, ProgramValue, guaranteed_mappings}
+use Rattle.env_frames.specs.Context.{context_number}
 use Rattle.env_frames.specs.declared.mapping.Mapping.{Mapping}
 use Rattle.page_book.specs.declared.row.PageRow.{PageRow}
 use Rattle.page_book.specs.declared.row.PageRow.TheVariants.{Free, Guaranteed}
@@ -23,17 +25,17 @@ use Rattle.world_model.specs.World.{World, only}
 abbrev pub open_page : ℕ → List ℕ → KeptPage
 open_page vpn bytes = record { vpn = vpn; writable = true; bytes = bytes }
 
--- the page of a program's body at a page number
+-- the page of a program's body at a VPN
 abbrev pub body_page : ElfValue → ℕ → KeptPage
 body_page body vpn = record { vpn = vpn; writable = is_writable body vpn; bytes = page_bytes body vpn }
 
--- the stack's pages end below 0x7FFF0000
+-- the page of a program's stack at this place
 abbrev pub stack_page : ProgramValue → ℕ → KeptPage
-stack_page p i = open_page (0x7FFF0 - p.stack + i) zero_page
+stack_page p i = open_page (stack_end - p.stack + i) zero_page
 
--- the context page at page number 1, then the pages of the program's body, then those of its stack
+-- the context page, then the pages of the program's body, then those of its stack
 abbrev pub kept_of : ProgramValue → List KeptPage
-kept_of p = open_page 1 zero_page ∷ map (body_page p.body) (page_numbers p.body) ++ listed (stack_page p) p.stack
+kept_of p = open_page context_number zero_page ∷ map (body_page p.body) (vpns p.body) ++ listed (stack_page p) p.stack
 
 -- what is given to an environment at boot: its record, where the image has one
 abbrev pub record_items : ℕ → Option ProgramValue → List Item

@@ -133,7 +133,7 @@ mode_text false = codes "r"
 unfoldable pub bind_line : ℕ → Binding → List ℕ
 bind_line e b = line (codes "bind" ∷ dec_text e ∷ hex_text 5 b.vpn ∷ dec_text b.page ∷ mode_text b.writable ∷ [])
 
--- a binding among others by rising page number
+-- a binding among others by rising VPN
 abbrev pub inserted : Binding → List Binding → List Binding
 inserted b [] = b ∷ []
 inserted b (x ∷ xs) = if nat_lt b.vpn x.vpn then b ∷ x ∷ xs else x ∷ inserted b xs
@@ -142,7 +142,7 @@ abbrev pub inserted_row : Option Binding → List Binding → List Binding
 inserted_row None bindings = bindings
 inserted_row (Some b) bindings = inserted b bindings
 
--- the bindings in the first rows of a stripe, so many, by rising page number
+-- the bindings in the first rows of a stripe, so many, by rising VPN
 abbrev pub rising_bindings : (ℕ → Option Binding) → ℕ → List Binding
 rising_bindings stripe zero = []
 rising_bindings stripe (suc row) = inserted_row (stripe row) (rising_bindings stripe row)

@@ -8,7 +8,7 @@ ghost use Rattle.run_report.specs.declared.words.Word.TheVariants.{Number};
 use aegis_limits::OutOfMemory;
 use line_text::{push_dec, push_hex, push_quoted};
 
-/// The hexadecimal digits of a page number.
+/// The hexadecimal digits of a VPN.
 const PAGE_NUMBER_DIGITS: u8 = 5;
 
 /// The hexadecimal digits of a word of the processor.
@@ -23,7 +23,7 @@ pub(crate) enum Word<'a> {
     Number(u64),
     /// A dash, in place of a number that there isn't.
     Dash,
-    /// A page number, in five hexadecimal digits.
+    /// A VPN, in five hexadecimal digits.
     PageNumber(u32),
     /// A word of the processor, in eight hexadecimal digits.
     Register(u32),

@@ -1,3 +1,3 @@
 mod PageBytes
-mod PageNumbers
+mod FirstPages
 pub mod Smallest

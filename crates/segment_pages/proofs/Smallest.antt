@@ -2,8 +2,8 @@
 use Rattle.std.proofs.Common.{◌≡◌, ◌≤◌, ◌<◌, ℕ, ◌+◌, ◌*◌, [], ◌∷◌, false, ap, refl, ◌∙◌, arith}
 use Rattle.std.specs.Prelude.{◌||◌, Bool, nat_lt, min, max}
 use Rattle.elf_static.specs.Smallest.{smallest}
-use Rattle.segment_pages.specs.Pages.{page_numbers}
-use Rattle.segment_pages.proofs.PageNumbers.{some_page, no_page}
+use Rattle.segment_pages.specs.Pages.{vpns}
+use Rattle.segment_pages.proofs.FirstPages.{some_page, no_page}
 
 -- its one byte stands in no page below and in none above
 not_below : (k : ℕ) → k < 2 → nat_lt (max 0x2000 (4096 * k)) (min 0x2001 (4096 * (k + 1))) ≡ false
@@ -15,7 +15,7 @@ not_above k from = let start : 0x2001 ≤ 4096 * k = omega arith in grind (arith
 alone : (found : Bool) → found ≡ false → (found || false) ≡ false
 alone found is = rw is refl
 
-pub page_of_smallest : page_numbers smallest ≡ 2 ∷ []
+pub page_of_smallest : vpns smallest ≡ 2 ∷ []
 page_of_smallest =
     some_page smallest 0 2 (record {
       from = omega arith;

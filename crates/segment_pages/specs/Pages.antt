@@ -1,7 +1,7 @@
 -- The pages that a program's segments fill.
 use Rattle.std.specs.Prelude.{ℕ, zero, suc, ◌+◌, ◌-◌, ◌*◌, nat_lt, nat_le, min, max, Bool, ◌&&◌, List, [], ◌∷◌, length, map, fold, slice_index, if◌then◌else◌}
 use Rattle.std.specs.List.{filter, list_any}
-use Rattle.aegis_limits.specs.Limits.{page_size}
+use Rattle.aegis_limits.specs.Limits.{page_size, vpn_end}
 use Rattle.elf_static.specs.ElfValue.{ElfValue, SegmentValue}
 
 -- a number and those after it, so many
@@ -9,11 +9,7 @@ abbrev pub numbers_from : ℕ → ℕ → List ℕ
 numbers_from n zero = []
 numbers_from n (suc count) = n ∷ numbers_from (n + 1) count
 
--- the end of the page numbers that a program may use
-abbrev pub page_number_limit : ℕ
-page_number_limit = 0x80000
-
--- whether the segment has a byte in the page of this number: the later start lies before the earlier end
+-- whether the segment has a byte in the page of this VPN: the later start lies before the earlier end
 abbrev pub touches : ℕ → SegmentValue → Bool
 touches vpn segment =
     nat_lt (max segment.vaddr (page_size * vpn)) (min (segment.vaddr + segment.memsz) (page_size * (vpn + 1)))
@@ -24,11 +20,11 @@ has_page program vpn = list_any (touches vpn) program.segments
 
 -- the numbers of a program's pages from a number on, rising
 unfoldable pub pages_from : ElfValue → ℕ → List ℕ
-pages_from program first = filter (has_page program) (numbers_from first (page_number_limit - first))
+pages_from program first = filter (has_page program) (numbers_from first (vpn_end - first))
 
 -- the numbers of a program's pages, rising
-abbrev pub page_numbers : ElfValue → List ℕ
-page_numbers program = pages_from program 0
+abbrev pub vpns : ElfValue → List ℕ
+vpns program = pages_from program 0
 
 -- whether stores into the page are allowed: into a segment that has a byte in it they are
 abbrev pub is_writable : ElfValue → ℕ → Bool

@@ -1,15 +1,15 @@
 //! The bytes of a program's pages.
 ghost use Rattle.std.specs.Prelude.{◌≡◌, ◌<◌, ℕ, ◌+◌, fold, slice_index};
-ghost use Rattle.aegis_limits.specs.Limits.{page_size};
+ghost use Rattle.aegis_limits.specs.Limits.{page_size, vpn_end};
 ghost use Rattle.elf_static.specs.SegmentSeen.{segment_seen, segments_seen};
 ghost use Rattle.segment_pages.specs.Pages.{page_bytes, byte_over};
 
 use aegis_limits::PAGE_SIZE;
 use elf_static::{Elf, Segment};
 
-/// Makes a page what the program has in the page of this number. Whatever stood there before goes.
+/// Makes a page what the program has in the page of this VPN. Whatever stood there before goes.
 pub fn fill_page(program: &Elf<'_>, vpn: u32, page: &mut [u8; PAGE_SIZE])
-    requires { vpn < 0x80000 }
+    requires { vpn < vpn_end }
     ensures { page.new ≡ page_bytes program.now vpn }
 {
     fill_from(program.segments.as_slice(), PAGE_SIZE as u32 * vpn, page);

@@ -7,8 +7,8 @@
 
 mod bytes;
 mod law;
-mod numbers;
+mod vpns;
 
 pub use bytes::fill_page;
 pub use law::law_smallest;
-pub use numbers::{count_pages, is_writable, next_page};
+pub use vpns::{count_pages, is_writable, next_page};

@@ -32,7 +32,7 @@ pub kept_as_was : (kept : List KeptPage) (page offset : ℕ) (bytes : List ℕ) 
 kept_as_was [] page offset bytes = refl
 kept_as_was (p ∷ kept) page offset bytes = ap (λ ps. p ∷ ps) (kept_as_was kept page offset bytes)
 
--- a store to a guaranteed page leaves those at other page numbers
+-- a store to a guaranteed page leaves those at other VPNs
 pub kept_else : (kept : List KeptPage) (x : Store) (v vpn : ℕ) → x.key ≡ Kept v → vpn ≢ v → kept_at (kept_after kept x) vpn ≡ kept_at kept vpn
 kept_else [] x v vpn key ne = refl
 kept_else (p ∷ kept) x v vpn key ne =

@@ -155,7 +155,7 @@ binds_over w e b word does right = record { each = λ i row x is. by_env i row x
     by_env i row x true own is = by_row i row x (sym (eqb-true i e own)) (row == row_of b.vpn) refl is
     by_env i row x false own is = inr (record { listed = is; carried = inl refl })
 
--- what stands in a row once the binding of a page number is gone stood there before
+-- what stands in a row once the binding of a VPN is gone stood there before
 left_of_number : (vpn : ℕ) (stripe : ℕ → Option Binding) (row : ℕ) (b : Binding) (there : Bool) → (if there then set_at (row_of vpn) None stripe else stripe) row ≡ Some b → stripe row ≡ Some b
 left_of_number vpn stripe row b true is = by_test (row == row_of vpn) is
   where

@@ -1,4 +1,4 @@
--- A store goes to where its page number leads, and only where that may be stored to.
+-- A store goes to where its VPN leads, and only where that may be stored to.
 use Rattle.std.proofs.Common.{◌≡◌, ℕ, ◌/◌, Bool, true, false, not, Option, Some, None, Result, Ok, Err, refl, sym, ◌∙◌, ap}
 use Rattle.std.specs.Prelude.{◌==◌, nat_le, if◌then◌else◌}
 use Rattle.std.specs.Option.{option_map, option_or}
@@ -82,7 +82,7 @@ module _ (answers : Answers) (cpu new : Cpu) (w : Write) where
 abbrev answer_to : Result Mapped Exc → Result (Unit {0}) Exc
 answer_to r = if_served (λ (m : Mapped). tt) r
 
--- it is granted where its page number leads to a page that may be stored to
+-- it is granted where its VPN leads to a page that may be stored to
 module _ (look : ℕ → Option Mapped) (address : ℕ) where
   by_writable : (m : Mapped) (t : Bool) → m.writable ≡ t → answer_to (if not t then Err (raised code.Mod address) else Ok m) ≡ Ok tt → t ≡ true
   by_writable m true is granted = refl
@@ -107,7 +107,7 @@ pub record IsThrough (s : Solo) (page : ℕ) : Type 0 where
   pub its : binding.page ≡ page
   pub writable : binding.writable ≡ true
 
--- what is found by a page number stands in its row
+-- what is found by a VPN stands in its row
 found_in_row : (vpn : ℕ) (o : Option Binding) (b : Binding) → of_number vpn o ≡ Some b → o ≡ Some b
 found_in_row vpn None b is = cc
 found_in_row vpn (Some x) b is = by_test (x.vpn == vpn) is
@@ -116,7 +116,7 @@ found_in_row vpn (Some x) b is = by_test (x.vpn == vpn) is
     by_test true is = is
     by_test false is = cc
 
--- a store goes to where a page number leads, and that may be stored to
+-- a store goes to where a VPN leads, and that may be stored to
 record IsLed (s : Solo) (x : Store) : Type 0 where
   vpn : ℕ
   place : Place
@@ -156,7 +156,7 @@ module _ (s : Solo) (x : Store) where
   led_store acts = by_step (step_alone s) refl acts
 
 module _ (s : Solo) (x : Store) (page : ℕ) (into : x.key ≡ Physical page) where
-  -- the page number leads to the binding
+  -- the VPN leads to the binding
   by_binding : (vpn : ℕ) (p : Option KeptPage) (b : Option Binding) (place : Place) → binding_at s.binds vpn ≡ b → option_or (option_map (place_at vpn) p) (option_map bound_place b) ≡ Some place
       → place.key ≡ Physical page → place.writable ≡ true → IsThrough s page
   by_binding vpn (Some p) b place found led key writable =
@@ -185,7 +185,7 @@ pub record IsWritable (s : Solo) (vpn : ℕ) : Type 0 where
   pub writable : page.writable ≡ true
 
 module _ (s : Solo) (x : Store) (vpn : ℕ) (into : x.key ≡ Kept vpn) where
-  -- the page number leads to it
+  -- the VPN leads to it
   by_page : (n : ℕ) (p : Option KeptPage) (b : Option Binding) (place : Place) → kept_at s.kept n ≡ p → option_or (option_map (place_at n) p) (option_map bound_place b) ≡ Some place
       → place.key ≡ Kept vpn → place.writable ≡ true → IsWritable s vpn
   by_page n (Some p) b place found led key writable =

@@ -62,11 +62,7 @@ binding_of cpu = record { vpn = reg cpu 4; page = reg cpu 5; writable = not (reg
 abbrev pub presented : Cpu → ℕ
 presented cpu = word_in (reg cpu 7) (reg cpu 8)
 
--- the VPNs of user addresses lie below this one
-abbrev pub number_end : ℕ
-number_end = 0x80000
-
--- the bytes of a range, where it is good: it lies in one page, below the users' end, and its page number leads somewhere
+-- the bytes of a range, where it is good: it lies in one page, below the users' end, and its VPN leads somewhere
 abbrev pub good_range : (ℕ → Option Mapped) → ℕ → ℕ → Option (List ℕ)
 good_range look address size =
     if nat_lt address user_end && nat_le (address % page_size + size) page_size

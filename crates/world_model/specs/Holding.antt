@@ -22,7 +22,7 @@ with_binds binds s = record s { binds = binds; seen = λ page. still_seen (is_bo
 abbrev pub bound : Binding → Solo → Solo
 bound b s = with_binds (set_at (row_of b.vpn) (Some b) s.binds) s
 
--- the binding of a page number goes, if there is one
+-- the binding of a VPN goes, if there is one
 abbrev pub unbound : ℕ → Solo → Solo
 unbound vpn s = if is_some (binding_at s.binds vpn) then with_binds (set_at (row_of vpn) None s.binds) s else s
 

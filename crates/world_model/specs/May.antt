@@ -1,5 +1,6 @@
 -- What a deed presupposes of the world.
 use Rattle.std.specs.Prelude.{◌≡◌, ◌≢◌, ◌<◌, ◌≤◌, ◌+◌, ℕ, Bool, true, false, length, Option, Some, None, is_some, ◌⊎◌}
+use Rattle.aegis_limits.specs.Limits.{vpn_end}
 use Rattle.page_book.specs.declared.row.Capabilities.{Capabilities}
 use Rattle.page_book.specs.declared.row.PageRow.{PageRow}
 use Rattle.page_book.specs.declared.row.PageRow.TheVariants.{Free, Owned}
@@ -9,7 +10,6 @@ use Rattle.env_frames.specs.declared.transfer.TransferKind.{TransferKind}
 use Rattle.env_frames.specs.Transfer.{hands_slot}
 use Rattle.world_model.specs.declared.slot.Hold.{Hold}
 use Rattle.world_model.specs.Book.{Book}
-use Rattle.world_model.specs.Call.{number_end}
 use Rattle.world_model.specs.Solo.{Solo}
 use Rattle.world_model.specs.OwnCalls.{MayOwn}
 use Rattle.world_model.specs.PageCalls.{is_guaranteed}
@@ -42,7 +42,7 @@ pub record MayChange (b : Book) (e page : ℕ) : Type 0 where
 
 -- the VPN is a user's, and not guaranteed
 pub record MayMap (s : Solo) (vpn : ℕ) : Type 0 where
-  pub within : vpn < number_end
+  pub within : vpn < vpn_end
   pub other : is_guaranteed s vpn ≡ false
 
 -- the page is the caller's, or the word gives the right

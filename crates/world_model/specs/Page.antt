@@ -1,4 +1,4 @@
--- What an access answers, given where each page number leads.
+-- What an access answers, given where each VPN leads.
 use Rattle.std.specs.Prelude.{ℕ, ◌/◌, ◌%◌, List, drop, Bool, true, false, not, ◌&&◌, nat_le, if◌then◌else◌, Option, Some, None, Result, Ok, Err}
 use Rattle.aegis_limits.specs.Limits.{page_size}
 use Rattle.byteorder.specs.Endian.{little_number}
@@ -9,13 +9,13 @@ use Rattle.mips_exec.specs.Step.{Answers}
 use Rattle.world_model.specs.declared.page.Purpose.{Purpose}
 use Rattle.world_model.specs.declared.page.Purpose.TheVariants.{Fetch, Load, Store}
 
--- a guaranteed page: its page number, whether it may be stored to, and its bytes
+-- a guaranteed page: its VPN, whether it may be stored to, and its bytes
 pub record KeptPage : Type 0 where
   pub vpn : ℕ
   pub writable : Bool
   pub bytes : List ℕ
 
--- where a page number leads: the bytes of the page, and whether they may be stored to
+-- where a VPN leads: the bytes of the page, and whether they may be stored to
 pub record Mapped : Type 0 where
   pub writable : Bool
   pub bytes : List ℕ
@@ -26,7 +26,7 @@ address_error Fetch = code.Adel
 address_error Load = code.Adel
 address_error Store = code.Ades
 
--- what a page number that leads nowhere raises
+-- what a VPN that leads nowhere raises
 abbrev pub miss : Purpose → ExcCode
 miss Fetch = code.Tlbl
 miss Load = code.Tlbl
@@ -49,7 +49,7 @@ served purpose address (Some m) = if is_store purpose && not m.writable then Err
 abbrev pub user_end : ℕ
 user_end = 0x80000000
 
--- where an access goes: the page number is the address over the size of a page
+-- where an access goes: the VPN is the address over the size of a page
 abbrev pub reach : (ℕ → Option Mapped) → Purpose → ℕ → Result Mapped Exc
 reach look purpose address = if nat_le user_end address then Err (raised (address_error purpose) address) else served purpose address (look (address / page_size))
 
@@ -66,7 +66,7 @@ if_served f (Err exc) = Err exc
 abbrev pub read_answer : Purpose → (ℕ → Option Mapped) → ℕ → ℕ → Result ℕ Exc
 read_answer purpose look address width = if_served (λ m. little_number width (bytes_from address m)) (reach look purpose address)
 
--- what the machine is answered where page numbers lead so
+-- what the machine is answered where VPNs lead so
 abbrev pub answers_by : (ℕ → Option Mapped) → Answers
 answers_by look = record {
   fetch = λ address. read_answer Fetch look address 4;

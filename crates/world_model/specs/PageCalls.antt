@@ -1,6 +1,7 @@
 -- The calls on pages: who may allocate, free and bind them, and what the others are given of it.
 use Rattle.std.specs.Prelude.{ℕ, List, [], ◌∷◌, Bool, true, false, ◌==◌, nat_le, if◌then◌else◌, Option, Some, None, is_some, Result, Ok, Err, ok_or}
 use Rattle.std.specs.Option.{option_map, option_or}
+use Rattle.aegis_limits.specs.Limits.{vpn_end}
 use Rattle.frame_store.specs.Pages.{zero_page}
 use Rattle.mips_exec.specs.declared.registers.Cpu.{Cpu}
 use Rattle.mips_exec.specs.Cpu.{reg}
@@ -16,7 +17,7 @@ use Rattle.world_model.specs.declared.code.Code.TheVariants as code
 use Rattle.world_model.specs.Table.{set_at}
 use Rattle.world_model.specs.Code.{code_of}
 use Rattle.world_model.specs.Book.{Book, broken, page_row, sees}
-use Rattle.world_model.specs.Call.{any, binding_of, number_end, presented}
+use Rattle.world_model.specs.Call.{any, binding_of, presented}
 use Rattle.world_model.specs.Solo.{Solo, Store, Key, Kept, Physical, bytes_seen, kept_at}
 use Rattle.world_model.specs.Item.{Item, Gained, Lost, Left}
 use Rattle.world_model.specs.World.{World, Reply, only, no_items}
@@ -80,8 +81,8 @@ recaps w e page words = record {
 }
 
 -- why nothing is bound or unbound at a VPN: it is none of a user's, or guaranteed
-abbrev pub number_refusal : Bool → ℕ → Option Code
-number_refusal guaranteed vpn = if nat_le number_end vpn then Some code.BadVpn else (if guaranteed then Some code.Guaranteed else None)
+abbrev pub vpn_refusal : Bool → ℕ → Option Code
+vpn_refusal guaranteed vpn = if nat_le vpn_end vpn then Some code.BadVpn else (if guaranteed then Some code.Guaranteed else None)
 
 -- whether a page is guaranteed at a VPN
 abbrev pub is_guaranteed : Solo → ℕ → Bool
@@ -90,7 +91,7 @@ is_guaranteed s vpn = is_some (kept_at s.kept vpn)
 -- Bind: why it is refused, in the order of testing, to a caller to whom the VPN is guaranteed or not, where the page has this row
 abbrev pub refusal_of_bind : ℕ → Cpu → Bool → Option PageRow → Option Code
 refusal_of_bind e cpu guaranteed row =
-    option_or (number_refusal guaranteed (reg cpu 4)) (option_map code_of (bind_refusal e (binding_of cpu).writable (presented cpu) row))
+    option_or (vpn_refusal guaranteed (reg cpu 4)) (option_map code_of (bind_refusal e (binding_of cpu).writable (presented cpu) row))
 
 abbrev pub bind : World → ℕ → Verdict
 bind w e = let s = w.solos e in unless (refusal_of_bind e s.cpu (is_guaranteed s (reg s.cpu 4)) (page_row w.book (reg s.cpu 5))) 0
@@ -117,7 +118,7 @@ binds_to w e b = record {
 
 -- Unbind: the value is 1 if the VPN was bound.
 abbrev pub unbind : Solo → Verdict
-unbind s = unless (number_refusal (is_guaranteed s (reg s.cpu 4)) (reg s.cpu 4)) (if is_some (binding_at s.binds (reg s.cpu 4)) then 1 else 0)
+unbind s = unless (vpn_refusal (is_guaranteed s (reg s.cpu 4)) (reg s.cpu 4)) (if is_some (binding_at s.binds (reg s.cpu 4)) then 1 else 0)
 
 -- a stripe without the binding of a VPN, if there is one
 abbrev pub without_number : ℕ → (ℕ → Option Binding) → ℕ → Option Binding

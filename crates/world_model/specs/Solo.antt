@@ -21,7 +21,7 @@ pub record Seen : Type 0 where
   pub bytes : List ℕ
 
 -- Number, name, life, registers, handlers, the mask of those from whom it accepts yields and transfers, guaranteed pages by rising
--- page number, the binding in each row of its stripe, each other page that it owns or has bound by its number in
+-- VPN, the binding in each row of its stripe, each other page that it owns or has bound by its number in
 -- physical memory, and console.
 pub record Solo : Type 0 where
   pub number : ℕ
@@ -68,17 +68,17 @@ abbrev pub is_dead : Life → Bool
 is_dead Live = false
 is_dead (Dead cause) = true
 
--- the name of a page among those of an environment: a guaranteed one goes by its page number, each other by its number in physical memory
+-- the name of a page among those of an environment: a guaranteed one goes by its VPN, each other by its number in physical memory
 pub data Key : Type 0 where
   Kept : (vpn : ℕ) → Key
   Physical : (page : ℕ) → Key
 
--- where a page number leads: to a page of the environment's, which may be stored to or not
+-- where a VPN leads: to a page of the environment's, which may be stored to or not
 pub record Place : Type 0 where
   pub key : Key
   pub writable : Bool
 
--- the guaranteed page at a page number
+-- the guaranteed page at a VPN
 abbrev pub kept_at : List KeptPage → ℕ → Option KeptPage
 kept_at kept vpn = find (λ p. p.vpn == vpn) kept
 
@@ -88,7 +88,7 @@ place_at vpn p = record { key = Kept vpn; writable = p.writable }
 abbrev pub bound_place : Binding → Place
 bound_place b = record { key = Physical b.page; writable = b.writable }
 
--- where a page number leads: to the guaranteed page there, else to the page that is bound there
+-- where a VPN leads: to the guaranteed page there, else to the page that is bound there
 abbrev pub leads : Solo → ℕ → Option Place
 leads s vpn = option_or (option_map (place_at vpn) (kept_at s.kept vpn)) (option_map bound_place (binding_at s.binds vpn))
 
@@ -108,7 +108,7 @@ bytes_of s (Physical page) = bytes_seen (s.seen page)
 abbrev pub mapped : Solo → Place → Mapped
 mapped s place = record { writable = place.writable; bytes = bytes_of s place.key }
 
--- what an environment sees at a page number
+-- what an environment sees at a VPN
 abbrev pub sight : Solo → ℕ → Option Mapped
 sight s vpn = option_map (mapped s) (leads s vpn)
 
@@ -121,7 +121,7 @@ pub record Store : Type 0 where
 abbrev pub store_through : Write → Place → Store
 store_through w place = record { key = place.key; offset = w.address % page_size; bytes = w.bytes }
 
--- the store of what a step writes goes to where the page number leads
+-- the store of what a step writes goes to where the VPN leads
 abbrev pub store_of : Solo → Option Write → Option Store
 store_of s None = None
 store_of s (Some w) = option_map (store_through w) (leads s (w.address / page_size))

@@ -18,9 +18,9 @@ pub enum Call {
     Free,
     /// Gives a page of the caller's other capability words.
     Recap,
-    /// Binds a page to a page number of the caller's.
+    /// Binds a page to a VPN of the caller's.
     Bind,
-    /// Takes the binding of a page number away.
+    /// Takes the binding of a VPN away.
     Unbind,
     /// Sets the address of a handler.
     Context,

@@ -11,7 +11,7 @@ use bind_book::Binding;
 use kernel_journal::Row;
 use mips_exec::Cpu;
 
-/// A guaranteed page: its page number, whether it may be stored to, and its bytes.
+/// A guaranteed page: its VPN, whether it may be stored to, and its bytes.
 #[derive(Clone, Copy)]
 pub struct PageView<'a> {
     pub vpn: u32,
@@ -58,7 +58,7 @@ pub trait WorldView {
         requires { env < (world self.now).count }
         ensures { result ≡ length ((world self.now).solos env).kept };
 
-    /// The guaranteed page at this place of an environment's, by rising page number; none past the last.
+    /// The guaranteed page at this place of an environment's, by rising VPN; none past the last.
     fn kept_page(&self, env: u8, place: usize) -> Option<PageView<'_>>
         requires { env < (world self.now).count }
         ensures { option_map view_seen result ≡ slice_get ((world self.now).solos env).kept place };

@@ -1,9 +1,10 @@
 -- The context page, then those of the body, then those of the stack.
 use Rattle.std.proofs.Common.{◌≡◌, ◌+◌, ◌-◌, ◌∙◌, [], ◌∷◌, ◌++◌, length, map, ap, arith, refl, subst}
 use Rattle.std.proofs.lemmas.List.{length-map}
+use Rattle.aegis_limits.specs.Limits.{stack_end}
 use Rattle.frame_store.specs.Pages.{zero_page}
 use Rattle.boot_image.specs.ImageValue.{ProgramValue, guaranteed_mappings}
-use Rattle.segment_pages.specs.Pages.{page_numbers}
+use Rattle.segment_pages.specs.Pages.{vpns}
 use Rattle.run_model.specs.Boot.{body_page, kept_of, open_page}
 use Rattle.board_world.specs.Loading.{AreGiven, with_mapped, zeros_from}
 use Rattle.board_world.proofs.Keeping.{given_both, mapped_more}
@@ -12,7 +13,7 @@ use Rattle.aegis_calls.proofs.boot.load.Goals as goal
 pub returns-clause-given : goal.returns-clause-given
 returns-clause-given c =
     let p = c.program.inside in
-    let body = length (page_numbers p.body) in
+    let body = length (vpns p.body) in
     subst (λ (q : ProgramValue). AreGiven c.args.number (guaranteed_mappings q) c.args.pages.now c.give_zeros.new.pages c.args.frames.now c.give_zeros.new.frames)
     c.program.view_is
     (given_both c.args.number (1 + body) p.stack _ _ _ _ _ _
@@ -24,12 +25,12 @@ returns-clause-mapped c =
     let p = c.program.inside in
     let n = c.args.number in
     let context = open_page 1 zero_page ∷ [] in
-    let bodies = map (body_page p.body) (page_numbers p.body) in
-    let zeros = zeros_from (0x7FFF0 - p.stack) p.stack in
-    let body = length (page_numbers p.body) in
+    let bodies = map (body_page p.body) (vpns p.body) in
+    let zeros = zeros_from (stack_end - p.stack) p.stack in
+    let body = length (vpns p.body) in
     let entered = c.enter-env.ensures in
     let filled = c.give_body.ensures in
-    let longer : length (context ++ bodies) ≡ 1 + body = omega (arith, length-map (page_numbers p.body) (body_page p.body)) in
+    let longer : length (context ++ bodies) ≡ 1 + body = omega (arith, length-map (vpns p.body) (body_page p.body)) in
     subst (λ (q : ProgramValue). c.give_zeros.new.env.mappings ≡ with_mapped n c.args.pages.now (kept_of q) []) c.program.view_is
     (c.give_zeros.ensures.mapped
     ∙ ap (with_mapped n c.give_body.new.pages zeros)

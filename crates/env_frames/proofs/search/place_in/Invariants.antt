@@ -1,4 +1,4 @@
--- What lies below low is below the page number, and what lies from high on is above it.
+-- What lies below low is below the VPN, and what lies from high on is above it.
 use Rattle.std.proofs.Common.{ℕ, ◌-◌, ◌<◌, ◌≤◌, length}
 use Rattle.std.specs.Prelude.{slice_index}
 use Rattle.env_frames.specs.Frame.{numbers}

@@ -5,12 +5,13 @@ use Rattle.std.specs.List.{list_any, filter, AllByRecursion}
 use Rattle.std.proofs.lemmas.Bool.{cases_lt}
 use Rattle.std.proofs.lemmas.List.{take_more, length-map, get_or-map}
 use Rattle.std.proofs.lemmas.List.Folds.{list_any-append}
+use Rattle.aegis_limits.specs.Limits.{vpn_end}
 use Rattle.elf_static.specs.declared.segment.Segment.{Segment}
 use Rattle.elf_static.specs.AcceptedElf.{IsSegment}
 use Rattle.elf_static.specs.SegmentSeen.{segment_seen, segments_seen}
 use Rattle.elf_static.specs.ElfValue.{SegmentValue, ElfValue}
 use Rattle.segment_pages.specs.FirstPage.{TouchesFirst, IsFirstPage, lesser}
-use Rattle.segment_pages.specs.Pages.{numbers_from, page_number_limit, touches, has_page, pages_from}
+use Rattle.segment_pages.specs.Pages.{numbers_from, touches, has_page, pages_from}
 
 both_fail : (a b : Bool) → a ≡ false → b ≡ false → (a || b) ≡ false
 both_fail a b x y = rw (x, y) refl
@@ -110,14 +111,14 @@ filter_none test (suc count) first fails =
 pub some_page : (program : ElfValue) (first vpn : ℕ) → TouchesFirst first program.segments vpn → pages_from program first ≡ vpn ∷ pages_from program (vpn + 1)
 unfolding pages_from
 some_page program first vpn t =
-    let within : vpn < first + (page_number_limit - first) = omega (arith, t.from, t.below) in
-    let left : first + (page_number_limit - first) - (vpn + 1) ≡ page_number_limit - (vpn + 1) = omega (arith, t.from, t.below) in
-    filter_first (has_page program) (page_number_limit - first) first vpn t.from within t.before t.touched
+    let within : vpn < first + (vpn_end - first) = omega (arith, t.from, t.below) in
+    let left : first + (vpn_end - first) - (vpn + 1) ≡ vpn_end - (vpn + 1) = omega (arith, t.from, t.below) in
+    filter_first (has_page program) (vpn_end - first) first vpn t.from within t.before t.touched
     ∙ ap (λ (n : ℕ). vpn ∷ filter (has_page program) (numbers_from (vpn + 1) n)) left
 
 pub no_page : (program : ElfValue) (first : ℕ) → IsFirstPage first program.segments None → pages_from program first ≡ []
 unfolding pages_from
-no_page program first none = filter_none (has_page program) (page_number_limit - first) first none
+no_page program first none = filter_none (has_page program) (vpn_end - first) first none
 
 -- the pages from a number on begin with the first
 pub pages_begin : (program : ElfValue) (first : ℕ) (result : Option ℕ) → IsFirstPage first program.segments result → IfSome result (λ vpn. pages_from program first ≡ vpn ∷ pages_from program (vpn + 1))

@@ -3,8 +3,8 @@ use Rattle.std.proofs.Common.{List, ap, subst, ◌∙◌}
 use Rattle.elf_static.specs.SegmentSeen.{segments_seen}
 use Rattle.elf_static.specs.ElfValue.{SegmentValue, ElfValue}
 use Rattle.segment_pages.specs.FirstPage.{IsFirstPage}
-use Rattle.segment_pages.proofs.PageNumbers.{pages_begin, pages_end}
-use Rattle.segment_pages.proofs.numbers.next_page.Goals as goal
+use Rattle.segment_pages.proofs.FirstPages.{pages_begin, pages_end}
+use Rattle.segment_pages.proofs.vpns.next_page.Goals as goal
 
 pub returns-clause-some : goal.returns-clause-some
 returns-clause-some c =

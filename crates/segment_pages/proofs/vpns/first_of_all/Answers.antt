@@ -1,6 +1,6 @@
 -- The first page of the segments so far and the next is the lesser of the two.
-use Rattle.segment_pages.proofs.PageNumbers.{first_of_more, segment_within}
-use Rattle.segment_pages.proofs.numbers.first_of_all.Goals as goal
+use Rattle.segment_pages.proofs.FirstPages.{first_of_more, segment_within}
+use Rattle.segment_pages.proofs.vpns.first_of_all.Goals as goal
 
 pub first_of-requires : goal.first_of-requires
 first_of-requires c = segment_within c.args.segments.now c.loop-segment.segment-index _ c.requires c.loop-segment-test.true
