@@ -1,34 +1,29 @@
--- The moments of a tick: what happens in it, its turn, its step and its timer.
-use Rattle.std.proofs.Common.{◌≡◌, ℕ, suc, List, [], ◌∷◌, map, Bool, true, refl, sym, ◌∙◌, ap, subst}
+-- The moments of a tick up to its step, and a tick that isn't made.
+use Rattle.std.proofs.Common.{◌≡◌, ℕ, suc, List, [], ◌∷◌, map, Bool, true, sym, ap, subst}
 use Rattle.std.specs.Prelude.{if◌then◌else◌}
 use Rattle.world_model.specs.Book.{is_idle_book}
 use Rattle.world_model.specs.World.{World, after, run_phases}
 use Rattle.world_model.specs.Event.{Occurrence, happen}
 use Rattle.world_model.specs.Tick.{turn}
-use Rattle.run_model.specs.Run.{System, after_phase, at_step, at_turn, happens_in, next_phases, world_after}
-use Rattle.run_model.proofs.Phases.{after_no_change, moments_in_order, turn_after_events}
-use Rattle.sharing_law.proofs.Turning.{IsAlike, turn_alike}
+use Rattle.run_model.specs.Run.{System, at_step, at_turn, happens_in, next_phases, world_after}
+use Rattle.run_model.proofs.Phases.{moments_in_order, turn_after_events}
+use Rattle.sharing_law.proofs.Turning.{IsAlike, alike_then, same_alike, turn_alike, unchanged}
 
--- what happens from outside leaves the world
-happen_leaves : (what : Occurrence) (w : World) → after w (happen what w) ≡ w
-happen_leaves what w = after_no_change w
-
-events_leave : (happens : List Occurrence) (w : World) → run_phases w (map happen happens) ≡ w
-events_leave [] w = refl
-events_leave (what ∷ happens) w = events_leave happens (after w (happen what w)) ∙ happen_leaves what w
+-- what happens from outside leaves pages, bindings and lives
+events_alike : (happens : List Occurrence) (w : World) → IsAlike w (run_phases w (map happen happens))
+events_alike [] w = same_alike w
+events_alike (what ∷ happens) w = let v = after w (happen what w) in alike_then w v (run_phases v (map happen happens)) (unchanged w) (events_alike happens v)
 
 module _ (system : System) (t : ℕ) where
   abbrev before : World
   before = world_after system t
 
-  pub before_turn : at_turn system t ≡ before
-  before_turn = turn_after_events system t ∙ events_leave (happens_in system.schedule before) before
-
-  pub after_turn : at_step system t ≡ after before (turn before)
-  after_turn = (moments_in_order system t).turned ∙ ap (after_phase turn) before_turn
-
+  -- and so does the turn
   pub turned_alike : IsAlike before (at_step system t)
-  turned_alike = subst (λ (v : World). IsAlike before v) (sym after_turn) (turn_alike before)
+  turned_alike =
+      let early = at_turn system t in
+      let happened = subst (λ (v : World). IsAlike before v) (sym (turn_after_events system t)) (events_alike (happens_in system.schedule before) before) in
+      subst (λ (v : World). IsAlike before v) (sym (moments_in_order system t).turned) (alike_then before early (after early (turn early)) happened (turn_alike early))
 
   -- an idle world stays as it is
   pub stays_idle : is_idle_book before.book ≡ true → world_after system (suc t) ≡ before
