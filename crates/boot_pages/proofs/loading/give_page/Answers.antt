@@ -4,7 +4,7 @@ use Rattle.std.proofs.Common.{[]}
 use Rattle.run_model.specs.Boot.{body_page}
 use Rattle.board_world.proofs.Giving.{given_guaranteed, given_page}
 use Rattle.board_world.proofs.Keeping.{mapped_one}
-use Rattle.aegis_calls.proofs.boot.give_page.Goals as goal
+use Rattle.boot_pages.proofs.loading.give_page.Goals as goal
 
 pub returns-clause-mapped : goal.returns-clause-mapped
 returns-clause-mapped c =

@@ -7,7 +7,7 @@ use Rattle.frame_store.specs.Pages.{zero_page}
 use Rattle.board_world.specs.Loading.{AreGiven, HasPages, with_mapped}
 use Rattle.board_world.specs.Showing.{pages_seen}
 use Rattle.board_world.specs.Sound.{AreGuaranteed}
-use Rattle.aegis_calls.proofs.boot.give_zeros.Given as goal
+use Rattle.boot_pages.proofs.loading.give_zeros.Given as goal
 
 abbrev pub invariant-loop-i : goal.invariant-loop-i
 invariant-loop-i l = record {

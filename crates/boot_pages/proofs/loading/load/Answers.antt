@@ -8,7 +8,7 @@ use Rattle.segment_pages.specs.Pages.{vpns}
 use Rattle.run_model.specs.Boot.{body_page, kept_of, open_page}
 use Rattle.board_world.specs.Loading.{AreGiven, with_mapped, zeros_from}
 use Rattle.board_world.proofs.Keeping.{given_both, mapped_more}
-use Rattle.aegis_calls.proofs.boot.load.Goals as goal
+use Rattle.boot_pages.proofs.loading.load.Goals as goal
 
 pub returns-clause-given : goal.returns-clause-given
 returns-clause-given c =

@@ -6,7 +6,7 @@ use Rattle.run_model.specs.Boot.{body_page}
 use Rattle.board_world.specs.Loading.{AreGiven, with_mapped}
 use Rattle.board_world.proofs.Giving.{one_moved}
 use Rattle.board_world.proofs.Keeping.{given_both, mapped_more}
-use Rattle.aegis_calls.proofs.boot.give_body.Goals as goal
+use Rattle.boot_pages.proofs.loading.give_body.Goals as goal
 
 pub loop-vpn-preserved : goal.loop-vpn-preserved
 loop-vpn-preserved c =

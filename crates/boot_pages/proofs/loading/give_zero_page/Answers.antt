@@ -4,7 +4,7 @@ use Rattle.frame_store.specs.Pages.{zero_page}
 use Rattle.run_model.specs.Boot.{open_page}
 use Rattle.board_world.proofs.Giving.{given_guaranteed, given_page}
 use Rattle.board_world.proofs.Keeping.{mapped_one}
-use Rattle.aegis_calls.proofs.boot.give_zero_page.Goals as goal
+use Rattle.boot_pages.proofs.loading.give_zero_page.Goals as goal
 
 pub returns-clause-mapped : goal.returns-clause-mapped
 returns-clause-mapped c =

@@ -8,7 +8,7 @@ use Rattle.board_world.specs.Loading.{with_mapped}
 use Rattle.frame_store.specs.Pages.{zero_page}
 use Rattle.board_world.proofs.Giving.{length-listed, listed_more, one_more}
 use Rattle.board_world.proofs.Keeping.{given_both, mapped_more}
-use Rattle.aegis_calls.proofs.boot.give_zeros.Goals as goal
+use Rattle.boot_pages.proofs.loading.give_zeros.Goals as goal
 
 pub loop-i-preserved : goal.loop-i-preserved
 loop-i-preserved c =

@@ -7,7 +7,7 @@ use Rattle.run_model.specs.Boot.{body_page}
 use Rattle.board_world.specs.Loading.{AreGiven, HasPages, with_mapped}
 use Rattle.board_world.specs.Showing.{pages_seen}
 use Rattle.board_world.specs.Sound.{AreGuaranteed}
-use Rattle.aegis_calls.proofs.boot.give_body.Given as goal
+use Rattle.boot_pages.proofs.loading.give_body.Given as goal
 
 abbrev pub invariant-loop-vpn : goal.invariant-loop-vpn
 invariant-loop-vpn l = record {
