@@ -62,19 +62,37 @@ pub fn deed_of(call: Option<Call>, value: u32, cpu: &Cpu) -> Deed
     match call {
         Call::Yield if first == ANY => Deed::Stops,
         Call::Yield => Deed::Gives(first),
-        Call::Put => Deed::Own(OwnDeed::Puts { address: first, size: second }),
-        Call::Alloc => Deed::Allocates { page: value, words: words(cpu) },
+        Call::Put => Deed::Own(OwnDeed::Puts {
+            address: first,
+            size: second,
+        }),
+        Call::Alloc => Deed::Allocates {
+            page: value,
+            words: words(cpu),
+        },
         Call::Free => Deed::Frees(first),
-        Call::Recap => Deed::Recaps { page: first, words: words(cpu) },
-        Call::Bind => Deed::Binds { binding: binding(cpu), word: presented(cpu) },
+        Call::Recap => Deed::Recaps {
+            page: first,
+            words: words(cpu),
+        },
+        Call::Bind => Deed::Binds {
+            binding: binding(cpu),
+            word: presented(cpu),
+        },
         Call::Unbind => Deed::Unbinds(first),
         Call::Context => match Context::numbered(first) {
-            Some(context) => Deed::Own(OwnDeed::Handles { context, address: second }),
+            Some(context) => Deed::Own(OwnDeed::Handles {
+                context,
+                address: second,
+            }),
             None => Deed::Answers,
         },
         Call::Accept => Deed::Own(OwnDeed::Accepts(first)),
         Call::Transfer => match TransferKind::numbered(second) {
-            Some(kind) => Deed::Transfers { target: first, kind },
+            Some(kind) => Deed::Transfers {
+                target: first,
+                kind,
+            },
             None => Deed::Answers,
         },
         Call::SlotTake => Deed::TakesSlot(first),

@@ -64,12 +64,7 @@ pub(crate) fn decide_yield<V: CallView>(view: &V, env: u8, target: u32) -> Verdi
 }
 
 /// Why the runner can't enter a target.
-fn refuse_transfer<V: CallView>(
-    view: &V,
-    env: u8,
-    target: u32,
-    kind: TransferKind,
-) -> Option<Code>
+fn refuse_transfer<V: CallView>(view: &V, env: u8, target: u32, kind: TransferKind) -> Option<Code>
     requires runs { running (V.world view.now).book.runner ≡ Some env }
     requires number { env < 32 }
     requires count { (V.world view.now).count < 256 }
@@ -90,12 +85,7 @@ fn refuse_transfer<V: CallView>(
 }
 
 /// The verdict on a transfer to a target, of the kind of this number.
-pub(crate) fn decide_transfer<V: CallView>(
-    view: &V,
-    env: u8,
-    target: u32,
-    number: u32,
-) -> Verdict
+pub(crate) fn decide_transfer<V: CallView>(view: &V, env: u8, target: u32, number: u32) -> Verdict
     requires runs { running (V.world view.now).book.runner ≡ Some env }
     requires number { env < 32 }
     requires count { (V.world view.now).count < 256 }

@@ -83,11 +83,17 @@ pub enum Deed {
     /// The caller alone is changed, in what is its own.
     Own(OwnDeed),
     /// A page is the caller's, with these words, and holds zeros.
-    Allocates { page: u32, words: Capabilities },
+    Allocates {
+        page: u32,
+        words: Capabilities,
+    },
     /// A page of the caller's is nobody's.
     Frees(u32),
     /// A page of the caller's has other words.
-    Recaps { page: u32, words: Capabilities },
+    Recaps {
+        page: u32,
+        words: Capabilities,
+    },
     /// A binding of the caller's takes the place of the one in its row.
     Binds {
         binding: Binding,
@@ -97,7 +103,10 @@ pub enum Deed {
     /// The binding of a VPN of the caller's goes, if there is one.
     Unbinds(u32),
     /// The environment of this number is entered, with the rest of the slice, and for a synchronous transfer the slot.
-    Transfers { target: u32, kind: TransferKind },
+    Transfers {
+        target: u32,
+        kind: TransferKind,
+    },
     /// An empty slot is the caller's own.
     TakesSlot(u32),
     /// A slot that the caller holds is its owner's again, or empty where that is the caller.
@@ -115,7 +124,10 @@ pub enum OwnDeed {
         size: u32,
     },
     /// The handler of a context stands at an address; 0 is none.
-    Handles { context: Context, address: u32 },
+    Handles {
+        context: Context,
+        address: u32,
+    },
     /// The caller accepts those of a mask, and no others.
     Accepts(u32),
 }
