@@ -1,6 +1,5 @@
 -- From what holds by the status to what is written where no fault is met.
 use Rattle.std.proofs.Common.{◌≡◌, ◌≢◌, ◌≤◌, length, ℕ, List, [], ◌∷◌, ◌++◌, Option, Some, None, inl, inr, sym, ◌∙◌, ap, refl, subst, take, IfSome, rules}
-use Rattle.std.specs.Prelude.{◌⊎◌}
 use Rattle.boot_image.specs.declared.fault.ImageFault.{ImageFault}
 use Rattle.boot_image.specs.declared.fault.TextFault.{TextFault}
 use Rattle.boot_image.specs.ImageFaults.{image_fault}

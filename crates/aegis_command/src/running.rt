@@ -1,6 +1,5 @@
 //! The command `run IMAGE SCHEDULE TICKS`.
-ghost use Rattle.std.specs.Prelude.{◌≡◌, ◌≤◌, ◌<◌, ◌^◌, IfOk, length, map, option_map, string_bytes};
-ghost use Rattle.aegis_limits.specs.Limits.{most_ticks};
+ghost use Rattle.std.specs.Prelude.{◌≡◌, ◌<◌, ◌^◌, IfOk, length, map, option_map, string_bytes};
 ghost use Rattle.command_work.specs.Work.{Settles};
 ghost use Rattle.aegis_command.specs.RunImage.{report_after as report_text_after, run_due, run_image, run_words};
 

@@ -9,6 +9,7 @@ ghost use Rattle.run_model.specs.Excess.{IsAccounted};
 use aegis_calls::Board;
 use aegis_limits::OutOfMemory;
 use boot_image::{Image, Program};
+use run_model::law_boot_accounts;
 use std::alloc::Global;
 
 /// Makes an environment for each program, in their order, on a board that has room for just so many.
@@ -38,5 +39,6 @@ pub fn boot(alloc: Global, image: &Image<'_>) -> Result<Board, OutOfMemory>
     let envs = programs.len() as u8;
     let mut board = Board::build(alloc, image.pages, image.quantum, slots, envs)?;
     add_all(&mut board, programs);
+    law_boot_accounts();
     Ok(board)
 }

@@ -1,10 +1,8 @@
 -- What the runner does to its bindings, on the world that is shown.
 use Rattle.std.proofs.Common.{◌≡◌, ◌≢◌, ◌<◌, ℕ, List, [], ◌∷◌, Bool, true, false, Option, Some, None, is_some, refl, sym, ◌∙◌, ap, arith, subst}
 use Rattle.std.specs.Prelude.{if◌then◌else◌, slice_set}
-use Rattle.std.specs.Option.{option_map}
 use Rattle.std.proofs.lemmas.Bool.{eq-eqb}
 use Rattle.frame_store.specs.Pages.{page_at}
-use Rattle.env_frames.specs.declared.context.Context.{Context}
 use Rattle.page_book.specs.declared.row.PageRow.{PageRow}
 use Rattle.page_book.specs.declared.row.PageRow.TheVariants.{Free, Guaranteed, Owned}
 use Rattle.page_book.specs.Row.{is_owned_by, owner_of}
@@ -13,10 +11,8 @@ use Rattle.bind_book.specs.declared.binding.Binding.{Binding}
 use Rattle.bind_book.specs.Stripe.{HasStripe, binding_at, is_bound, place_of, row_of, stripe_rows, stripes}
 use Rattle.page_sight.specs.Sight.{Sees, seen_if, seen_in}
 use Rattle.page_sight.proofs.Sights.{binder_sees, unbinder_loses}
-use Rattle.world_model.specs.declared.call.Deed.{Deed}
 use Rattle.world_model.specs.declared.call.Deed.TheVariants.{Binds, Unbinds}
 use Rattle.world_model.specs.declared.verdict.Verdict.TheVariants.{Grant}
-use Rattle.world_model.specs.declared.life.Life.TheVariants.{Live}
 use Rattle.world_model.specs.Holding.{bound, gained, unbound, with_binds}
 use Rattle.world_model.specs.Item.{Gained, absorb_all, answered_cpu}
 use Rattle.world_model.specs.PageCalls as calls
@@ -24,20 +20,17 @@ use Rattle.world_model.specs.Solo.{Solo, bytes_seen}
 use Rattle.world_model.specs.May.{MayBind}
 use Rattle.world_model.specs.Table.{set_at}
 use Rattle.world_model.specs.Verdict.{done}
-use Rattle.world_model.specs.World.{no_change}
 use Rattle.board_world.specs.declared.roster.Environment.{Environment}
-use Rattle.board_world.specs.Shown.{Shown, changed, with_list}
+use Rattle.board_world.specs.Shown.{Shown}
 use Rattle.board_world.specs.Showing.{world_of, book_of, solo_of, solo_or_absent}
 use Rattle.board_world.specs.Sound.{IsSound, IsOwned}
 use Rattle.board_world.specs.Doing as doing
 use Rattle.board_world.proofs.Losing.{resighted}
-use Rattle.board_world.proofs.Lists.{changed_here, changed_else, length-changed, get_within}
-use Rattle.board_world.proofs.Mappings.{kept_mappings}
+use Rattle.board_world.proofs.Lists.{get_within}
 use Rattle.board_world.proofs.PageServing.{own_sees}
 use Rattle.board_world.proofs.Parts.{append_nothing, one_changed, one_given, set_here, set_else}
 use Rattle.board_world.proofs.Replying.{Serves, deeded, deeded_seen}
 use Rattle.board_world.proofs.Seen.{same_solo, Runs, runner_solo, runner_seen, live_record, stripe_of}
-use Rattle.board_world.proofs.Sound.{Keeps, keeps_accepting, keeps_handling}
 use Rattle.board_world.proofs.Tables.{stripe_set, stripe_without}
 
 -- who unbinds_number a VPN keeps all but its bindings and what it sees

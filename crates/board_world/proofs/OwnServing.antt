@@ -1,13 +1,11 @@
 -- What the runner does to itself alone, on the world that is shown.
-use Rattle.std.proofs.Common.{◌≡◌, ℕ, List, [], ◌++◌, Option, refl, sym, ◌∙◌, ap, arith}
-use Rattle.std.specs.Prelude.{slice_get, unwrap_or}
+use Rattle.std.proofs.Common.{◌≡◌, ℕ, [], ◌++◌, refl, sym, ◌∙◌, ap, arith}
+use Rattle.std.specs.Prelude.{unwrap_or}
 use Rattle.std.specs.Option.{option_map}
-use Rattle.world_model.specs.declared.call.Deed.{Deed}
 use Rattle.world_model.specs.declared.call.Deed.TheVariants.{Own}
 use Rattle.world_model.specs.declared.call.OwnDeed.{OwnDeed}
 use Rattle.world_model.specs.declared.call.OwnDeed.TheVariants.{Puts, Handles, Accepts}
 use Rattle.world_model.specs.declared.verdict.Verdict.TheVariants.{Grant}
-use Rattle.world_model.specs.declared.life.Life.TheVariants.{Live}
 use Rattle.world_model.specs.Item.{answered_cpu}
 use Rattle.world_model.specs.OwnCalls.{put_bytes}
 use Rattle.world_model.specs.Solo.{sight}

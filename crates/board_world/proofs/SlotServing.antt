@@ -1,8 +1,6 @@
 -- What the runner does to slots, on the world that is shown.
-use Rattle.std.proofs.Common.{◌≡◌, ◌<◌, ℕ, ◌++◌, [], length, Option, Some, refl, sym, ◌∙◌, ap, arith}
+use Rattle.std.proofs.Common.{◌≡◌, ◌<◌, ℕ, length, Option, Some, refl, sym, ◌∙◌, ap, arith}
 use Rattle.std.proofs.lemmas.List.{length-set}
-use Rattle.std.specs.Prelude.{unwrap_or}
-use Rattle.std.specs.Option.{option_map}
 use Rattle.slot_vector.specs.Slices.{hold_at}
 use Rattle.world_model.specs.declared.call.Deed.{Deed}
 use Rattle.world_model.specs.declared.call.Deed.TheVariants.{TakesSlot, DropsSlot}
@@ -12,20 +10,16 @@ use Rattle.world_model.specs.Book.{own_hold}
 use Rattle.world_model.specs.Item.{answered_cpu, own_part}
 use Rattle.world_model.specs.May.{MayDrop, MayTake}
 use Rattle.world_model.specs.SlotCalls.{dropped, with_slot}
-use Rattle.world_model.specs.Solo.{Solo, sight}
+use Rattle.world_model.specs.Solo.{Solo}
 use Rattle.world_model.specs.Verdict.{done}
 use Rattle.board_world.specs.declared.roster.Environment.{Environment}
 use Rattle.board_world.specs.Shown.{Shown}
 use Rattle.board_world.specs.Showing.{world_of, book_of, solo_of}
-use Rattle.board_world.specs.Sound.{IsSound}
 use Rattle.board_world.specs.Doing as doing
-use Rattle.board_world.proofs.Lists.{changed_else, changed_here, length-changed}
-use Rattle.board_world.proofs.Mappings.{kept_mappings}
-use Rattle.board_world.proofs.Parts.{append_nothing, one_changed}
+use Rattle.board_world.proofs.Parts.{one_changed}
 use Rattle.board_world.proofs.Replying.{Serves, answered_others, answered_seen, deeded, deeded_seen}
-use Rattle.board_world.proofs.Seen.{same_solo, Runs, runner_seen, runner_solo, its_look}
+use Rattle.board_world.proofs.Seen.{Runs, runner_solo}
 use Rattle.board_world.proofs.Slots.{hold_set}
-use Rattle.board_world.proofs.Sound.{keeps_putting}
 
 module _ (b : Shown) (e : ℕ) (x : Environment) (r : Runs b e x) where
   -- a slot has another hold, and the runner does nothing to itself

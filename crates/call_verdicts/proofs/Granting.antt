@@ -1,10 +1,9 @@
 -- What a granted call's deed presupposes, the world has.
-use Rattle.std.proofs.Common.{◌≡◌, ◌<◌, ◌≤◌, ◌+◌, ℕ, List, [], Bool, true, false, Option, Some, None, is_none, is_some, Result, Ok, Err, arith, refl, sym, ap, subst, ◌∙◌, inl, inr, ◌⊎◌, length}
-use Rattle.std.specs.Prelude.{◌==◌, ◌&&◌, ◌||◌, ◌%◌, not, nat_le, nat_lt, if◌then◌else◌, ok_or}
+use Rattle.std.proofs.Common.{◌≡◌, ◌<◌, ◌+◌, ℕ, List, Bool, true, false, Option, Some, None, is_none, is_some, Result, Ok, Err, arith, refl, ap, subst, ◌∙◌, inl, inr, ◌⊎◌, length}
+use Rattle.std.specs.Prelude.{◌==◌, ◌&&◌, ◌||◌, nat_le, nat_lt, if◌then◌else◌, ok_or}
 use Rattle.std.specs.Option.{option_map, option_or}
 use Rattle.std.proofs.lemmas.Bool.{eqb-true, ltb-true, ltb-false, leb-false}
 use Rattle.aegis_limits.specs.Limits.{console_size, vpn_end}
-use Rattle.mips_exec.specs.declared.registers.Cpu.{Cpu}
 use Rattle.mips_exec.specs.Cpu.{reg}
 use Rattle.env_frames.specs.declared.context.Context.{Context}
 use Rattle.env_frames.specs.Context.{context_numbered}
@@ -16,13 +15,11 @@ use Rattle.page_book.specs.declared.refusal.PageNo.TheVariants as no
 use Rattle.page_book.specs.Row.{alloc_refusal, bind_refusal, change_refusal, gives_right, is_owned_by}
 use Rattle.page_book.specs.Rows.{IsLowestFree, lowest_free}
 use Rattle.bind_book.specs.Stripe.{binding_at}
-use Rattle.world_model.specs.declared.call.Call.{Call}
 use Rattle.world_model.specs.declared.call.Call.TheVariants as call
 use Rattle.world_model.specs.declared.code.Code.{Code}
 use Rattle.world_model.specs.declared.code.Code.TheVariants as code
 use Rattle.world_model.specs.declared.slot.Hold.{Hold}
-use Rattle.world_model.specs.declared.verdict.Verdict.{Verdict}
-use Rattle.world_model.specs.declared.verdict.Verdict.TheVariants.{Refuse, Grant}
+use Rattle.world_model.specs.declared.verdict.Verdict.TheVariants.{Grant}
 use Rattle.world_model.specs.Answer.{unless, verdict_of}
 use Rattle.world_model.specs.Book.{Book, page_row}
 use Rattle.world_model.specs.Call.{any, binding_of, presented}
@@ -34,7 +31,6 @@ use Rattle.world_model.specs.PageCalls.{chosen_page, is_guaranteed, named_page, 
 use Rattle.world_model.specs.SlotCalls.{accepts, drop_refusal, gift_refusal, is_other, refusal_of_gift, refusal_of_giving, slot_at, take_refusal, turn_slot, yield_by}
 use Rattle.world_model.specs.Solo.{Solo, sight}
 use Rattle.world_model.specs.Transfers.{is_open, refusal_of_transfer, transfer_by}
-use Rattle.world_model.specs.Verdict.{verdict}
 use Rattle.world_model.specs.World.{World}
 use Rattle.call_verdicts.specs.Granted.{GrantedMay}
 

@@ -1,11 +1,10 @@
 //! Why calls on slices and slots are refused, and transfers.
 ghost use Rattle.std.specs.Prelude.{◌≡◌, ◌<◌, ◌==◌, Some};
 ghost use Rattle.env_frames.specs.Transfer.{transfer_numbered};
-ghost use Rattle.mips_exec.specs.Cpu.{reg};
 ghost use Rattle.world_model.specs.Book.{running};
 ghost use Rattle.world_model.specs.Call.{any};
 ghost use Rattle.world_model.specs.SlotCalls.{accepts, drop_refusal, is_other, refusal_of_gift, take_refusal, yield_by};
-ghost use Rattle.world_model.specs.Transfers.{is_open, refusal_of_transfer, transfer_by};
+ghost use Rattle.world_model.specs.Transfers.{refusal_of_transfer, transfer_by};
 
 use crate::arguments::ANY;
 use crate::view::CallView;

@@ -16,7 +16,7 @@ use Rattle.command_work.specs.declared.work.Stop.TheVariants as stop
 use Rattle.command_work.specs.Command.{CommandValue, IsShort, names_of}
 use Rattle.command_work.specs.Due.{Due}
 use Rattle.command_work.specs.Edges.{ShelfEdge, shelf_edge}
-use Rattle.command_work.specs.Files.{Names, AreFirst, AreRead, CameFar, CameTo, IsServed, WereRead, all_answered, at_most_one, just, names_so_far, next_name, not_answered}
+use Rattle.command_work.specs.Files.{Names, AreRead, CameFar, CameTo, IsServed, WereRead, all_answered, at_most_one, just, names_so_far, next_name, not_answered}
 use Rattle.command_work.specs.Stopping.{stop_of}
 use Rattle.command_work.specs.Work.{IsSettled, Performed, Stopped, StopsByWantAlone}
 

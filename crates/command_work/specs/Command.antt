@@ -1,5 +1,5 @@
 -- What a command is.
-use Rattle.std.specs.Prelude.{ℕ, ◌<◌, ◌^◌, List, [], ◌∷◌, ◌++◌, Option, Some, None, option_map, Vec, length, map, take, slice_get, slice_index_or}
+use Rattle.std.specs.Prelude.{ℕ, ◌<◌, ◌^◌, List, [], ◌∷◌, ◌++◌, Option, Some, None, option_map, Vec, length, map, take, slice_index_or}
 use Rattle.std.specs.Global.{Global}
 use Rattle.command_work.specs.Due.{Due}
 

@@ -1,5 +1,5 @@
 -- From the clauses of the top call to what holds in memory.
-use Rattle.std.proofs.Common.{◌≡◌, ◌≢◌, ◌<◌, ◌≤◌, ℕ, zero, suc, ◌+◌, List, [], ◌∷◌, ◌++◌, Option, Some, None, IfSome, IsTrue, length, take, inl, inr, refl, sym, ◌∙◌, ap, subst, arith}
+use Rattle.std.proofs.Common.{◌≡◌, ◌≢◌, ◌<◌, ◌≤◌, ℕ, zero, suc, ◌+◌, List, [], ◌∷◌, ◌++◌, Option, Some, None, IfSome, length, take, inl, inr, refl, sym, ◌∙◌, ap, subst, arith}
 use Rattle.std.specs.Prelude.{◌⊎◌, Bool, IsSomeAnd, if◌then◌else◌, slice_get, true}
 use Rattle.std.specs.List.{AllByRecursion}
 use Rattle.std.proofs.lemmas.Bool.{cases_lt}
@@ -19,7 +19,7 @@ use Rattle.command_work.specs.Edges.{ShelfEdge, SinkEdge}
 use Rattle.command_work.specs.Files.{AreRead, AreTold, IsServed, all_answered, names_so_far, next_name}
 use Rattle.command_work.specs.Outcome.{Decided, IsOutcome, Outcome, Wrote}
 use Rattle.aegis_command.specs.Headline.{IsGiven, IsTaken, IsWanting, IsWritten}
-use Rattle.aegis_command.proofs.Completeness.{same_first, told_due}
+use Rattle.aegis_command.proofs.Completeness.{told_due}
 use Rattle.memory_runs.specs.InMemory.{HasAnswer, IsRefused, IsSure, IsWithinLimit, IsWanting as IsWantingInMemory, IsWritten as IsWrittenInMemory}
 
 -- A shelf that has a command's files is sure to serve them.

@@ -1,5 +1,5 @@
 //! One call of the program in memory.
-ghost use Rattle.std.specs.Prelude.{◌≡◌, [], IfOk};
+ghost use Rattle.std.specs.Prelude.{IfOk};
 ghost use Rattle.aegis_command.specs.Words.{asked_by};
 ghost use Rattle.memory_runs.specs.InMemory.{HasAnswer, IsRefused, IsSure};
 

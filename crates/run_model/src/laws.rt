@@ -2,7 +2,7 @@
 ghost use Rattle.std.specs.Prelude.{◌<◌};
 ghost use Rattle.world_model.specs.Book.{Book, next_turn};
 ghost use Rattle.run_model.specs.NextTurn.{IsNextTurn};
-ghost use Rattle.run_model.specs.Excess.{BalanceHolds, LedgersAreLawful, TicksKeepAccounts, TurnsGoByRule};
+ghost use Rattle.run_model.specs.Excess.{BalanceHolds, BootsAccounted, LedgersAreLawful, TicksKeepAccounts, TurnsGoByRule};
 ghost use Rattle.run_model.specs.Licensed.{FeedIsLicensed, GivenIsLicensed};
 ghost use Rattle.run_model.specs.Run.{InTurnIsEach, IsFoldOfFeed, MomentsAreInOrder};
 
@@ -51,6 +51,11 @@ pub fn law_ledger()
 {
     law_granted();
 }
+
+/// The accounts of the world that an image boots are in order, for every image.
+pub fn law_boot_accounts()
+    ensures { BootsAccounted }
+{}
 
 /// Ticks keep the accounts of every world in which they are in order.
 pub fn law_accounts()

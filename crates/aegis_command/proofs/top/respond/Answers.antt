@@ -1,5 +1,5 @@
 -- What is written is what is due, and a sink that takes that gives no fault.
-use Rattle.std.proofs.Common.{Option, Some, IfSome, subst}
+use Rattle.std.proofs.Common.{Option, IfSome, subst}
 use Rattle.command_work.specs.Command.{CommandValue}
 use Rattle.command_work.specs.Edges.{ShelfEdge, SinkEdge, shelf_edge, sink_edge}
 use Rattle.command_work.specs.Outcome.{Outcome}

@@ -5,7 +5,6 @@ use Rattle.boot_image.specs.ImageValue.{ProgramValue}
 use Rattle.world_model.specs.World.{World}
 use Rattle.run_model.specs.Boot.{bare_world, added, boot_world}
 use Rattle.run_model.specs.Excess.{IsAccounted}
-use Rattle.run_model.proofs.Balance.{boots_accounted}
 use Rattle.board_world.specs.Showing.{world_of}
 use Rattle.aegis_tick.proofs.Booted.{added_boot, boot_time}
 use Rattle.aegis_tick.proofs.booting.boot.Goals as goal
@@ -26,7 +25,7 @@ pub returns-clause-world : goal.returns-clause-world
 returns-clause-world c = booted c
 
 pub returns-clause-balance : goal.returns-clause-balance
-returns-clause-balance c = subst IsAccounted (sym (booted c)) (boots_accounted c.args.image.now)
+returns-clause-balance c = subst IsAccounted (sym (booted c)) (c.law_boot_accounts.ensures c.args.image.now)
 
 pub returns-clause-fresh : goal.returns-clause-fresh
 returns-clause-fresh c = ap (λ (w : World). w.book.time) (booted c) ∙ boot_time c.args.image.now

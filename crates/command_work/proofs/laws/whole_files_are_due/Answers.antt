@@ -1,5 +1,5 @@
 -- Each is what is due at a file without fault.
-use Rattle.std.proofs.Common.{◌≡◌, ◌<◌, ◌^◌, ◌∙◌, ℕ, List, Option, Some, None, length, ap, arith, refl}
+use Rattle.std.proofs.Common.{◌≡◌, ◌<◌, ◌^◌, ◌∙◌, ℕ, List, Some, None, length, ap, arith, refl}
 use Rattle.std.specs.Prelude.{nat_le, false}
 use Rattle.boot_image.specs.ImageFaults.{image_fault}
 use Rattle.boot_image.specs.Spelling.{image_text}

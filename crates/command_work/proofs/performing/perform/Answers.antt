@@ -4,7 +4,7 @@ use Rattle.std.specs.Prelude.{Vec}
 use Rattle.std.specs.Global.{Global}
 use Rattle.std.proofs.lemmas.List.{length-map}
 use Rattle.command_work.specs.Command.{held, names_of}
-use Rattle.command_work.specs.Edges.{ShelfEdge, shelf_edge}
+use Rattle.command_work.specs.Edges.{shelf_edge}
 use Rattle.command_work.specs.Work.{IsSettled}
 use Rattle.command_work.proofs.ReadingOn.{performed, read_length, stopped_by_want}
 use Rattle.command_work.proofs.performing.perform.Goals as goal
