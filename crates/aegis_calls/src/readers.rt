@@ -1,5 +1,6 @@
 //! What the layers above read of a board.
-ghost use Rattle.std.specs.Prelude.{◌≡◌, ◌<◌, ◌≤◌, OnOk, OnErr, IsOk, length};
+ghost use Rattle.std.specs.Prelude.{◌≡◌, ◌<◌, ◌≤◌, Some, OnOk, OnErr, IsOk, length, slice_get};
+ghost use Rattle.std.specs.Option.{option_map};
 ghost use Rattle.page_book.specs.Row.{is_owned_by};
 ghost use Rattle.board_world.specs.Shown.{with_spare};
 ghost use Rattle.board_world.specs.Showing.{page_seen};
@@ -7,11 +8,13 @@ ghost use Rattle.world_model.specs.View.{view_seen};
 
 use crate::board::Board;
 use aegis_limits::OutOfMemory;
-use bind_book::Binding;
-use env_frames::Mapping;
+use bind_book::{Binding, Bindings};
+use env_frames::{Env, Mapping};
+use frame_store::Frames;
 use kernel_journal::Row;
 use mips_exec::Cpu;
-use page_book::PageRow;
+use page_book::{PageRow, Pages};
+use slot_vector::Slots;
 use world_model::{Life, PageView, WorldView};
 
 /// Whether the page with this row is one that the environment allocated.
@@ -37,6 +40,42 @@ impl Board {
             writable: mapping.writable,
             bytes: self.frames.page(mapping.page),
         }
+    }
+
+    /// Physical memory.
+    pub fn frames(&self) -> &Frames
+        ensures { result.now ≡ self.now.frames }
+    {
+        &self.frames
+    }
+
+    /// The book of pages.
+    pub fn pages(&self) -> &Pages
+        ensures { result.now ≡ self.now.pages }
+    {
+        &self.pages
+    }
+
+    /// The book of bindings.
+    pub fn bindings(&self) -> &Bindings
+        ensures { result.now ≡ self.now.binds }
+    {
+        &self.bindings
+    }
+
+    /// The vector of slots.
+    pub fn slots(&self) -> &Slots
+        ensures { result.now ≡ self.now.slots }
+    {
+        &self.slots
+    }
+
+    /// The frame of the environment of this number.
+    pub fn env(&self, env: u8) -> &Env
+        requires { env < length self.now.roster.list }
+        ensures { option_map (λ x. x.env) (slice_get self.now.roster.list env) ≡ Some result.now }
+    {
+        &self.roster.at(env).env
     }
 
     /// Takes memory for so many rows of the ledger more, where it isn't there yet. Nothing else changes, so
