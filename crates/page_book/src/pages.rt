@@ -1,5 +1,5 @@
 //! The book of pages.
-ghost use Rattle.std.specs.Prelude.{◌≡◌, ◌<◌, ◌≤◌, ◌+◌, false, length, replicate, map, slice_get, IsNone, IsOk, OnOk, IfOk};
+ghost use Rattle.std.specs.Prelude.{◌≡◌, ◌<◌, ◌≤◌, ◌+◌, false, length, replicate, map, slice_get, slice_set, IsNone, IsSome, IsOk, OnOk, IfOk};
 ghost use Rattle.std.specs.Option.{ok_or};
 ghost use Rattle.aegis_limits.specs.Limits.{least_pages};
 ghost use Rattle.page_book.specs.declared.row.PageRow.TheVariants.{Free, Guaranteed, Owned};
@@ -168,6 +168,14 @@ impl Pages {
         ensures { self.new ≡ map (released env) self.old }
     {
         release(&mut self.rows, env);
+    }
+
+    /// Takes a page by force, whoever's it is, a guaranteed one too: it is free from now on.
+    pub fn release(&mut self, page: u32)
+        requires { IsSome (owner_of (row_in self.old page)) }
+        ensures { self.new ≡ slice_set self.old page Free }
+    {
+        self.rows[page as usize] = PageRow::Free;
     }
 
     /// Gives the lowest free page this row.
