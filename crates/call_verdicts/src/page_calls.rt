@@ -101,10 +101,6 @@ pub(crate) fn refuse_bind<V: CallView>(view: &V, env: u8) -> Option<Code>
     if let Some(why) = refuse_unbind(view, env, named.vpn) {
         return Some(why);
     }
-    refuse_right(
-        env,
-        named.writable,
-        presented(cpu),
-        view.page_row(named.page),
-    )
+    let row = view.page_row(named.page);
+    refuse_right(env, named.writable, presented(cpu), row)
 }

@@ -1,5 +1,5 @@
 -- The calls on slices and slots.
-use Rattle.std.specs.Prelude.{ℕ, ◌/◌, ◌%◌, ◌^◌, [], ◌∷◌, Bool, true, false, not, ◌==◌, ◌&&◌, ◌||◌, nat_lt, if◌then◌else◌, Option, Some, None}
+use Rattle.std.specs.Prelude.{ℕ, ◌/◌, ◌%◌, ◌^◌, [], ◌∷◌, Bool, true, false, not, ◌==◌, ◌&&◌, ◌||◌, nat_lt, if◌then◌else◌, Option, Some, None, unwrap_or}
 use Rattle.std.specs.Option.{option_map, option_or}
 use Rattle.kernel_journal.specs.declared.row.Row.{Row}
 use Rattle.kernel_journal.specs.declared.row.Row.TheVariants as row
@@ -12,7 +12,6 @@ use Rattle.world_model.specs.declared.slot.Phase.TheVariants as phase
 use Rattle.world_model.specs.declared.slot.Runner.{Runner}
 use Rattle.world_model.specs.Table.{set_at}
 use Rattle.world_model.specs.Book.{Book, own_hold}
-use Rattle.world_model.specs.Call.{any}
 use Rattle.world_model.specs.Solo.{is_dead}
 use Rattle.world_model.specs.Item.{Start}
 use Rattle.world_model.specs.World.{World, Reply, only, no_items}
@@ -84,12 +83,17 @@ gives w e target = record {
 abbrev pub refusal_of_gift : World → ℕ → ℕ → Option Code
 refusal_of_gift w e target = refusal_of_giving (is_other w e target) (gift_refusal false w.book.runner (turn_slot w.book)) (accepts (w.solos target).mask e)
 
-abbrev pub yield_by : World → ℕ → ℕ → Bool → Verdict
-yield_by w e target true = Grant 0
-yield_by w e target false = unless (refusal_of_gift w e target) 0
+-- to whoever is next: its caller alone decides it
+abbrev pub yield_alone : Bool → Option Verdict
+yield_alone true = Some (Grant 0)
+yield_alone false = None
 
-abbrev pub yield : World → ℕ → Verdict
-yield w e = let target = reg (w.solos e).cpu 4 in yield_by w e target (target == any)
+-- to an environment
+abbrev pub yield_to : World → ℕ → ℕ → Verdict
+yield_to w e target = unless (refusal_of_gift w e target) 0
+
+abbrev pub yield_by : World → ℕ → ℕ → Bool → Verdict
+yield_by w e target is_any = unwrap_or (yield_alone is_any) (yield_to w e target)
 
 -- Take: an empty slot is the caller's own.
 abbrev pub with_slot : World → ℕ → Option Hold → Reply

@@ -10,7 +10,7 @@ use Rattle.world_model.specs.declared.slot.Phase.TheVariants as phase
 use Rattle.world_model.specs.declared.slot.Runner.{Runner}
 use Rattle.world_model.specs.declared.slot.Turn.{Turn}
 use Rattle.world_model.specs.Book.{Told, excess_limit, running, whole_turn}
-use Rattle.world_model.specs.Item.{Item, Step, Start, End, Killed, answered}
+use Rattle.world_model.specs.Item.{Step, Start, End, Killed, answered}
 use Rattle.world_model.specs.Step.{Act, Nothing, Stores, Calls, Raises, Dies, step_alone, act_of, acted, call_act}
 use Rattle.world_model.specs.declared.verdict.Verdict.TheVariants.{Refuse}
 use Rattle.world_model.specs.SlotCalls.{stop_row}

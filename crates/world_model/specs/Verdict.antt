@@ -1,40 +1,49 @@
 -- The kernel calls: the verdict on each, and what is done where it is granted.
-use Rattle.std.specs.Prelude.{ℕ, ◌==◌, if◌then◌else◌, Option, Some, None}
+use Rattle.std.specs.Prelude.{ℕ, ◌==◌, if◌then◌else◌, Option, Some, None, unwrap_or}
 use Rattle.mips_exec.specs.Cpu.{reg}
 use Rattle.world_model.specs.declared.call.Call.{Call}
 use Rattle.world_model.specs.declared.call.Call.TheVariants as call
 use Rattle.world_model.specs.declared.code.Code.TheVariants as code
-use Rattle.world_model.specs.Call.{called, exit_number}
+use Rattle.world_model.specs.Call.{any, called, exit_number}
 use Rattle.world_model.specs.declared.verdict.Verdict.{Verdict}
 use Rattle.world_model.specs.declared.verdict.Verdict.TheVariants.{Refuse, Grant}
 use Rattle.world_model.specs.declared.call.Deed.{Deed}
 use Rattle.world_model.specs.declared.call.Deed.TheVariants.{Answers, Own, Stops, Gives, Allocates, Frees, Recaps, Binds, Unbinds, Transfers, TakesSlot, DropsSlot}
+use Rattle.world_model.specs.Solo.{Solo}
 use Rattle.world_model.specs.Item.{Answer, deed_at}
 use Rattle.world_model.specs.World.{World, Reply, followed, no_change, tells}
 use Rattle.world_model.specs.PageCalls.{alloc, allocates, bind, binds_to, free, frees, recap, recaps, unbind, unbinds}
 use Rattle.world_model.specs.OwnCalls.{accept, context, put}
-use Rattle.world_model.specs.SlotCalls.{drops_slot, gives, slot_drop, slot_take, stops, takes_slot, yield}
+use Rattle.world_model.specs.SlotCalls.{drops_slot, gives, slot_drop, slot_take, stops, takes_slot, yield_alone, yield_to}
 use Rattle.world_model.specs.Queries.{query}
 use Rattle.world_model.specs.Transfers.{transfer, transfers}
 
--- A number that names no call is refused. Put, unbind, context and accept are decided by their caller alone.
+-- The calls that are decided by their caller alone: put, unbind, context, accept, self, and a yield to whoever is next.
+abbrev pub verdict_alone : Solo → Option Call → Option Verdict
+verdict_alone s (Some call.Yield) = yield_alone (reg s.cpu 4 == any)
+verdict_alone s (Some call.Put) = Some (put s)
+verdict_alone s (Some call.Unbind) = Some (unbind s)
+verdict_alone s (Some call.Context) = Some (context s)
+verdict_alone s (Some call.Accept) = Some (accept s)
+verdict_alone s (Some call.OwnNumber) = Some (Grant s.number)
+verdict_alone s call = None
+
+-- The calls that are decided by the world. A number that names no call is refused.
+abbrev pub verdict_shared : World → ℕ → Option Call → Verdict
+verdict_shared w e (Some call.Yield) = yield_to w e (reg (w.solos e).cpu 4)
+verdict_shared w e (Some call.Alloc) = alloc w e
+verdict_shared w e (Some call.Free) = free w e
+verdict_shared w e (Some call.Recap) = recap w e
+verdict_shared w e (Some call.Bind) = bind w e
+verdict_shared w e (Some call.Transfer) = transfer w e
+verdict_shared w e (Some call.SlotTake) = slot_take w e
+verdict_shared w e (Some call.SlotDrop) = slot_drop w e
+verdict_shared w e (Some call.Query) = query w e
+verdict_shared w e (Some call.Clock) = Grant w.book.time
+verdict_shared w e call = Refuse code.BadCall 0
+
 abbrev pub verdict : World → ℕ → Option Call → Verdict
-verdict w e None = Refuse code.BadCall 0
-verdict w e (Some call.Yield) = yield w e
-verdict w e (Some call.Put) = put (w.solos e)
-verdict w e (Some call.Alloc) = alloc w e
-verdict w e (Some call.Free) = free w e
-verdict w e (Some call.Recap) = recap w e
-verdict w e (Some call.Bind) = bind w e
-verdict w e (Some call.Unbind) = unbind (w.solos e)
-verdict w e (Some call.Context) = context (w.solos e)
-verdict w e (Some call.Accept) = accept (w.solos e)
-verdict w e (Some call.Transfer) = transfer w e
-verdict w e (Some call.SlotTake) = slot_take w e
-verdict w e (Some call.SlotDrop) = slot_drop w e
-verdict w e (Some call.Query) = query w e
-verdict w e (Some call.OwnNumber) = Grant (w.solos e).number
-verdict w e (Some call.Clock) = Grant w.book.time
+verdict w e call = unwrap_or (verdict_alone (w.solos e) call) (verdict_shared w e call)
 
 -- what a deed does to the book, what it gives to each environment behind the answer, and its rows
 abbrev pub done : World → ℕ → Deed → Reply
