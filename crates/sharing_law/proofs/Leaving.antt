@@ -39,12 +39,13 @@ left_in_step (what ∷ happens) base w (suc k) alike e page offset bytes its =
     let v = after w (happen what w) in
     left_in_step happens base v k (alike_then base w v alike (unchanged w)) e page offset bytes its
 
-licensed_lives : GrantedMay → (system : System) (t k e : ℕ) (item : Item) → LicensedAt system t k e item → LeftIsLive system t e item
+licensed_lives : GrantedMay → (system : System) (t k e : ℕ) (item : Item) → LicensedAt system t k e item → LeftIsLive system t k e item
 licensed_lives granted system t k e (Left page offset bytes) its =
     let w = world_after system t in
     let m = moment system t k in
     let left = left_in_step (happens_in system.schedule w) w w k (same_alike w) e page offset bytes its in
-    (left.is.writer, left.is.another, store_lives granted system t m (moment_fine granted system t (all_fine granted system t) k) left.alike left.is.writer left.is.store page left.is.acts left.is.into)
+    let fine = moment_fine granted system t (all_fine granted system t) k in
+    record { left = left.is; right = store_lives granted system t m fine left.alike left.is.writer left.is.store page left.is.acts left.is.into }
 licensed_lives granted system t k e item its = tt
 
 pub each_left_is_live : GrantedMay → GivenIsLicensed → EachLeftIsLive

@@ -1,5 +1,5 @@
 -- By what right an environment has a binding.
-use Rattle.std.specs.Prelude.{◌≡◌, ◌≢◌, ◌<◌, ◌≤◌, ℕ, true, Some, ◌⊎◌}
+use Rattle.std.specs.Prelude.{◌≡◌, ◌<◌, ◌≤◌, ℕ, List, true, Some, ◌⊎◌}
 use Rattle.std.specs.List.{All}
 use Rattle.page_book.specs.declared.row.Capabilities.{Capabilities}
 use Rattle.page_book.specs.declared.row.PageRow.{PageRow}
@@ -10,7 +10,8 @@ use Rattle.bind_book.specs.Stripe.{row_of}
 use Rattle.world_model.specs.declared.call.Deed.TheVariants.{Binds}
 use Rattle.run_model.specs.Acting.{Does}
 use Rattle.world_model.specs.Item.{Item, Left}
-use Rattle.run_model.specs.Run.{System, at_step, given_at, world_after}
+use Rattle.run_model.specs.Licensed.{IsLeft}
+use Rattle.run_model.specs.Run.{System, at_step, given_at, moment, world_after}
 
 -- whose a page is after so many ticks
 abbrev pub row_after : System → ℕ → ℕ → PageRow
@@ -48,10 +49,14 @@ pub record HasLiveBinding (system : System) (t e page : ℕ) : Type 0 where
   pub its : binding.page ≡ page
   pub writable : binding.writable ≡ true
 
--- Bytes that are left to an environment in a tick are another's that has such a binding of the page.
-abbrev pub LeftIsLive : System → ℕ → ℕ → Item → Type 0
-LeftIsLive system t e (Left page offset bytes) = (writer : ℕ) × (e ≢ writer) × HasLiveBinding system t writer page
-LeftIsLive system t e item = Unit {0}
+-- Bytes that are left to an environment in a phase are stored there by another, which has such a binding of the page.
+pub record IsLeftByRight (system : System) (t k e page offset : ℕ) (bytes : List ℕ) : Type 0 where
+  pub left : IsLeft (moment system t k) e page offset bytes
+  pub right : HasLiveBinding system t left.writer page
+
+abbrev pub LeftIsLive : System → ℕ → ℕ → ℕ → Item → Type 0
+LeftIsLive system t k e (Left page offset bytes) = IsLeftByRight system t k e page offset bytes
+LeftIsLive system t k e item = Unit {0}
 
 abbrev pub EachLeftIsLive : Type 0
-EachLeftIsLive = (system : System) (t k e : ℕ) → All (LeftIsLive system t e) (given_at system t k e)
+EachLeftIsLive = (system : System) (t k e : ℕ) → All (LeftIsLive system t k e) (given_at system t k e)

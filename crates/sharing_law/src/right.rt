@@ -12,8 +12,8 @@ pub fn law_live()
     law_granted();
 }
 
-/// Bytes that are left to an environment in a phase of a tick are another's, which has a live writable binding of the
-/// page.
+/// Bytes that are left to an environment in a phase of a tick are stored there by another, which has a live writable
+/// binding of the page.
 pub fn law_left()
     ensures { EachLeftIsLive }
 {
