@@ -16,6 +16,8 @@ use Rattle.command_work.specs.Due.{Due, Refusal, Whole, Found, text_of, status_o
 use Rattle.command_work.specs.Outcome.{Decided, IsWhole, IsPart, Outcome, Finished}
 use Rattle.command_work.specs.Work.{Performed}
 use Rattle.aegis_command.specs.Headline.{NoFault, Ends, IsComplete, IsHeadline, IsTaken}
+use Rattle.std.specs.Option.{option_map}
+use Rattle.aegis_command.specs.Words.{command_of}
 use Rattle.aegis_command.specs.RunImage.{image_refused, report_after, run_due, run_image, schedule_refused}
 
 -- what is read of told files is what is told
@@ -86,11 +88,12 @@ due_whole image_name schedule_name ticks image schedule image_ok schedule_ok =
     ap (λ (f : Option ImageFault). Some (due f (schedule_fault schedule))) image_ok ∙ ap (λ (g : Option TextFault). Some (due None g)) schedule_ok
 
 -- the headline is completeness for an image and a schedule without fault
-pub is_headline : (words : Option CommandValue) (s : ShelfEdge) (k : SinkEdge) (result : Status) → IfSome words (λ c. Outcome c s k result) → IsHeadline words s k result
-is_headline words s k result outcome image_name schedule_name ticks files image schedule is told image_is schedule_is image_ok schedule_ok calm =
+pub is_headline : (words : List (List ℕ)) (s : ShelfEdge) (k : SinkEdge) (result : Status) → IfSome (command_of words) (λ c. Outcome c s k result) → IsHeadline words s k result
+is_headline words s k result outcome image_name schedule_name number ticks files image schedule are ticks_are told image_is schedule_is image_ok schedule_ok calm =
+    let is : command_of words ≡ Some (run_image image_name schedule_name ticks) = ap command_of are ∙ ap (option_map (run_image image_name schedule_name)) ticks_are in
     let due = due_whole image_name schedule_name ticks image schedule image_ok schedule_ok in
     let read : AreTold s.told (image_name ∷ schedule_name ∷ []) (image ∷ schedule ∷ []) = subst (λ (t : Option (List ℕ → Option (List ℕ))). AreTold t (image_name ∷ schedule_name ∷ []) (image ∷ schedule ∷ [])) (sym told) (image_is, (schedule_is, tt)) in
-    subst (λ (d : Option Due). Ends d k result) due (is_complete words s k result outcome (run_image image_name schedule_name ticks) (image ∷ schedule ∷ []) is read calm)
+    subst (λ (d : Option Due). Ends d k result) due (is_complete (command_of words) s k result outcome (run_image image_name schedule_name ticks) (image ∷ schedule ∷ []) is read calm)
 
 -- no due status is that of a fault of writing
 due_status : (due : Due) → status_of due ≢ status.WriteFault

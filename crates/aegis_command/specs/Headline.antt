@@ -1,5 +1,5 @@
 -- What a call of the program promises where its shelf tells its files.
-use Rattle.std.specs.Prelude.{◌≡◌, ◌≢◌, ◌⊎◌, ℕ, List, Option, Some, None, IfSome, length}
+use Rattle.std.specs.Prelude.{◌≡◌, ◌≢◌, ◌⊎◌, ℕ, List, [], ◌∷◌, Option, Some, None, IfSome, length, codes}
 use Rattle.boot_image.specs.ImageFaults.{image_fault}
 use Rattle.boot_image.specs.ImageValue.{image_of}
 use Rattle.boot_image.specs.ScheduleFaults.{schedule_fault}
@@ -11,7 +11,7 @@ use Rattle.command_work.specs.Command.{CommandValue, names_of}
 use Rattle.command_work.specs.Due.{Due, status_of, text_of, usage_text}
 use Rattle.command_work.specs.Edges.{ShelfEdge, SinkEdge}
 use Rattle.command_work.specs.Files.{AreTold, IsServed}
-use Rattle.aegis_command.specs.RunImage.{report_after, run_image}
+use Rattle.aegis_command.specs.RunImage.{report_after, ticks_of}
 
 -- neither count of faults rose in the call
 pub record NoFault (s : ShelfEdge) (k : SinkEdge) : Type 0 where
@@ -49,12 +49,13 @@ IsComplete words s k result =
     (command : CommandValue) (contents : List (List ℕ)) → words ≡ Some command → AreTold s.told (names_of command contents) contents → NoFault s k →
     Ends (command.due contents) k result
 
--- The headline: for every image and schedule without fault and every limit, where no fault is met, the
--- bytes that run writes are the report of the image's world after so many ticks, or memory was wanting.
-abbrev pub IsHeadline : Option CommandValue → ShelfEdge → SinkEdge → Status → Type 0
+-- The headline: for the words `run IMAGE SCHEDULE TICKS`, every image and schedule without fault and every number of
+-- ticks, where no fault is met, the bytes that are written are the report of the image's world after so many ticks, or
+-- memory was wanting.
+abbrev pub IsHeadline : List (List ℕ) → ShelfEdge → SinkEdge → Status → Type 0
 IsHeadline words s k result =
-    (image_name schedule_name : List ℕ) (ticks : ℕ) (files : List ℕ → Option (List ℕ)) (image schedule : List ℕ) →
-    words ≡ Some (run_image image_name schedule_name ticks) → s.told ≡ Some files →
+    (image_name schedule_name number : List ℕ) (ticks : ℕ) (files : List ℕ → Option (List ℕ)) (image schedule : List ℕ) →
+    words ≡ codes "run" ∷ image_name ∷ schedule_name ∷ number ∷ [] → ticks_of number ≡ Some ticks → s.told ≡ Some files →
     files image_name ≡ Some image → files schedule_name ≡ Some schedule →
     image_fault image ≡ None → schedule_fault schedule ≡ None → NoFault s k →
     IsWritten status.Done (report_after (image_of image) ticks) k result ⊎ IsWanting k result

@@ -1,5 +1,5 @@
 //! The top call.
-ghost use Rattle.std.specs.Prelude.{◌≡◌, IfNone, length};
+ghost use Rattle.std.specs.Prelude.{◌≡◌, IfNone, length, map, string_bytes};
 ghost use Rattle.command_work.specs.Edges.{shelf_edge, sink_edge};
 ghost use Rattle.command_work.specs.Outcome.{Finished, IsOutcome, IsUsage};
 ghost use Rattle.aegis_command.specs.Headline.{IsComplete, IsGiven, IsHeadline, IsTaken};
@@ -52,7 +52,7 @@ pub fn aegis<S: Shelf, K: Sink>(
     out: &mut K,
 ) -> Status
     // The headline: what run writes is the report of the world.
-    ensures headline { IsHeadline (asked_by words.now) (shelf_edge S.Shelf shelf.old shelf.new) (sink_edge K.Sink out.old out.new) result }
+    ensures headline { IsHeadline (map string_bytes words.now) (shelf_edge S.Shelf shelf.old shelf.new) (sink_edge K.Sink out.old out.new) result }
 
     // What any command writes is what is due for its files. The laws of `command_work` say what is due.
     ensures complete { IsComplete (asked_by words.now) (shelf_edge S.Shelf shelf.old shelf.new) (sink_edge K.Sink out.old out.new) result }

@@ -7,4 +7,4 @@ pub returns-clause-complete : goal.returns-clause-complete
 returns-clause-complete g c = is_complete (asked_by c.args.words.now) _ _ c.respond.result c.respond.ensures.outcome
 
 pub returns-clause-headline : goal.returns-clause-headline
-returns-clause-headline g c = is_headline (asked_by c.args.words.now) _ _ c.respond.result c.respond.ensures.outcome
+returns-clause-headline g c = is_headline (map string_bytes c.args.words.now) _ _ c.respond.result c.respond.ensures.outcome
