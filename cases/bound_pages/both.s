@@ -1,4 +1,4 @@
-# Binds its page at two page numbers of two rows, to store through the one and to load alone through the other.
+# Binds its page at two VPNs of two rows, to store through the one and to load alone through the other.
 start:  addiu $4, $0, -1
         ori  $2, $0, 3          # alloc
         syscall

@@ -13,7 +13,7 @@
         sw   $9, 4($9)          # at 0x2024
 stay:   beq  $0, $0, stay
         nop
-        srl  $4, $27, 12        # the handler: the page number that was missed
+        srl  $4, $27, 12        # the handler: the VPN that was missed
         or   $5, $16, $0
         ori  $6, $0, 1
         ori  $2, $0, 6          # bind

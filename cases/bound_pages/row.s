@@ -1,4 +1,4 @@
-# Binds its page at two page numbers of one row, and loads through the second and then through the first.
+# Binds its page at two VPNs of one row, and loads through the second and then through the first.
 start:  addiu $4, $0, -1
         ori  $2, $0, 3          # alloc
         syscall

@@ -1,4 +1,4 @@
-# Binds page 32 by its read word at the page numbers 0x100 to 0x1ff, and yields for ever.
+# Binds page 32 by its read word at the VPNs 0x100 to 0x1ff, and yields for ever.
         ori  $9, $0, 0x100
         ori  $5, $0, 32
         ori  $7, $0, 5

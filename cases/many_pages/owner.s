@@ -1,4 +1,4 @@
-# Allocates page 32 with the read word 5, and binds it at the page numbers 0x100 to 0x1ff; yields; gives it the same word
+# Allocates page 32 with the read word 5, and binds it at the VPNs 0x100 to 0x1ff; yields; gives it the same word
 # again; and exits.
         ori  $2, $0, 3          # alloc
         ori  $4, $0, 32

@@ -21,7 +21,7 @@ EXCEPTIONS, STARTS, ENDS, ASYNCHRONOUS, SYNCHRONOUS = CONTEXTS = range(5)
 ANY = 0xFFFFFFFF
 ZERO, AT, V0, V1, A0, A1, A2, A3, A4 = range(9)
 SCRATCH, PAGES, POINTER, COUNTER, ROUNDS, MISSES, RESUME, OLD, K0, K1, STACK = range(9, 16), range(16, 20), 20, 21, 22, 23, 24, 25, 26, 27, 29
-# the page numbers at which pages are bound: the first three share a row, and so do the next two with guaranteed ones
+# the VPNs at which pages are bound: the first three share a row, and so do the next two with guaranteed ones
 NUMBERS = (0x500, 0x600, 0x700, 0x101, 0x102, 0x000, 0x501, 0x7FF00)
 READ_WORDS, WRITE_WORDS = ((5, 0),) * 6 + ((5, 1), (0, 0)), ((9, 0),) * 6 + ((0, 1), (0, 0))
 OPCODES = {"lb": 32, "lh": 33, "lwl": 34, "lw": 35, "lbu": 36, "lhu": 37, "lwr": 38, "sb": 40, "sh": 41, "swl": 42, "sw": 43, "swr": 46}
@@ -354,7 +354,7 @@ class System:
         chance = random.Random(seed)
         count = chance.randrange(1, 7)
         stacks = [chance.choice((0, 0, 1)) for _ in range(count)]
-        # by environment, the page numbers at which pages are guaranteed; the pages themselves are the lowest, in this order
+        # by environment, the VPNs at which pages are guaranteed; the pages themselves are the lowest, in this order
         self.guaranteed = [[1, BASE // PAGE] + [0x7FFF0 - stack + place for place in range(stack)] for stack in stacks]
         self.total = sum(map(len, self.guaranteed))
         self.pages = max(16, self.total + chance.randrange(2, 10))

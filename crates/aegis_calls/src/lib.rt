@@ -1,8 +1,8 @@
 //! The board: the machine, the environments on it and the kernel's books, and the parts of a tick.
 //! What a board shows is a world of the model, and each part of a tick is that part of the model's.
 //!
-//! The methods in `phases`, `boot` and `readers` are for the layers above, and speak of that world; those in the other
-//! files change the board's parts, each by one equation.
+//! The methods in `phases`, `boot`, `readers` and `views` are for the layers above and for verdicts, and speak of that
+//! world; those in the other files change the board's parts, each by one equation.
 #![tactic(auto)]
 
 mod board;

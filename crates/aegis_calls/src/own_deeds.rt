@@ -1,4 +1,4 @@
-//! What granted calls do to their caller alone: its console, its bindings, its handlers and its mask.
+//! What granted calls do to their caller's own part: its console, handlers and mask; and its bindings.
 ghost use Rattle.std.specs.Prelude.{◌≡◌, ◌<◌, ◌≤◌, ◌+◌, Some, is_some, length, true};
 ghost use Rattle.aegis_limits.specs.Limits.{console_size, vpn_end};
 ghost use Rattle.page_book.specs.Rows.{row_in};

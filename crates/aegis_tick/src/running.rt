@@ -67,8 +67,8 @@ fn run_ticks(board: &mut Board, ticks: u32) -> Result<(), OutOfMemory>
     Ok(())
 }
 
-/// Runs a freshly booted board for so many ticks, in which nothing happens from outside. It ends at the limit exactly where the time reached
-/// it, else because the board is idle. After a refusal the board is that of a whole number of ticks. What
+/// Runs a freshly booted board for so many ticks, in which nothing happens from outside. It ends at the limit
+/// exactly where the time reached it, else because the board is idle. After a refusal the board is that of a whole number of ticks. What
 /// environments ran past their slices by the ledger, they forfeited by it or still owe, as before.
 /// Where `TICK_ROWS` rows are spare for each tick it takes no memory and isn't refused.
 pub fn run(board: &mut Board, ticks: u32) -> Result<RunEnd, OutOfMemory>

@@ -6,7 +6,7 @@ pub enum Status {
     Done,
     /// The output was written, and says that something was found.
     Found,
-    /// The words are none of the program's forms.
+    /// The words are no command's.
     Usage,
     /// A file that the words name has a fault.
     Refused,

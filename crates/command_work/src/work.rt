@@ -1,4 +1,4 @@
-//! What the work of a form gives: an answer to be written, or why there is none.
+//! What the work of a command gives: an answer to be written, or why there is none.
 ghost use Rattle.std.specs.Prelude.{◌≡◌, ◌++◌, IfOk, OnOk, OnErr};
 ghost use Rattle.command_work.specs.Due.{Refusal, refusal_text};
 ghost use Rattle.command_work.specs.Work.{Settles};
