@@ -9,7 +9,7 @@ use Rattle.board_world.specs.Showing.{world_of}
 use Rattle.aegis_tick.proofs.Booted.{added_boot, boot_time}
 use Rattle.aegis_tick.proofs.booting.boot.Goals as goal
 
-booted : (c : goal.After-add_all) → world_of c.add_all.new.board ≡ boot_world c.args.image.now
+booted : (c : goal.After-law_boot_accounts) → world_of c.add_all.new.board ≡ boot_world c.args.image.now
 booted c =
     let image = c.image.inside in
     let slots = c.as_slice-slots.result.now in
