@@ -1,4 +1,5 @@
 -- Completeness and the headline follow from what holds by the status.
+use Rattle.std.specs.Prelude.{map, string_bytes}
 use Rattle.aegis_command.specs.Words.{asked_by}
 use Rattle.aegis_command.proofs.Completeness.{is_complete, is_headline}
 use Rattle.aegis_command.proofs.top.aegis.Goals as goal
