@@ -7,7 +7,7 @@ use Rattle.external_event.specs.EventValue.{EventValue}
 use Rattle.boot_schedule.specs.declared.fault.ScheduleWhy.{ScheduleWhy}
 use Rattle.boot_schedule.specs.Forms.{statements_of}
 use Rattle.boot_schedule.specs.Saying.{Saying, Happens, Asks, said}
-use Rattle.boot_schedule.specs.Schedule.{are_in_order, events_said, fault_of, lines_fault, most_events, schedule_fault, schedule_of}
+use Rattle.boot_schedule.specs.Schedule.{are_in_order, events_said, fault_of, lines_fault, most_events, schedule_fault, events_of}
 
 -- a line without a fault is an event, not before the last, and one that there is room for
 pub record IsNext (before others : ℕ) (result : Result Saying ScheduleWhy) : Type 0 where
@@ -52,8 +52,8 @@ in_order before others (line ∷ lines) none few =
     let rest = in_order next.event.time (suc others) lines (rw next.is at both.1) next.room in
     rw next.is (and_from _ _ (le-leb before next.event.time next.later) rest.0, omega (arith, rest.1))
 
-pub schedule_in_order : (text : List ℕ) → schedule_fault text ≡ None → (are_in_order 0 (schedule_of text) ≡ true) × (length (schedule_of text) ≤ most_events)
-unfolding schedule_fault schedule_of
+pub schedule_in_order : (text : List ℕ) → schedule_fault text ≡ None → (are_in_order 0 (events_of text) ≡ true) × (length (events_of text) ≤ most_events)
+unfolding schedule_fault events_of
 schedule_in_order text none =
     let are = in_order 0 0 (statements_of (lines_of text)) none (omega arith) in
     (are.0, omega (arith, are.1))

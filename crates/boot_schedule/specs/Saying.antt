@@ -5,8 +5,8 @@ use Rattle.std.specs.Result.{result_ok}
 use Rattle.aegis_limits.specs.Limits.{most_ticks}
 use Rattle.hex.specs.Hex.{decode_of}
 use Rattle.line_text.specs.Number.{number_of}
-use Rattle.external_event.specs.declared.event.Act.{Act}
-use Rattle.external_event.specs.declared.event.Act.TheVariants.{Packet, Line}
+use Rattle.external_event.specs.declared.event.Occurrence.{Occurrence}
+use Rattle.external_event.specs.declared.event.Occurrence.TheVariants.{Packet, Line}
 use Rattle.external_event.specs.EventValue.{EventValue}
 use Rattle.external_event.specs.Limits.{lines}
 use Rattle.external_event.specs.Packet.{packet_of}
@@ -42,8 +42,8 @@ in_range most word = ok_or (number_within most word) Range
 abbrev pub bytes_said : List ℕ → Result (List ℕ) ScheduleWhy
 bytes_said word = and_then (λ bytes. ok_or (packet_of bytes) Range) (ok_or (result_ok (decode_of word)) Hex)
 
-abbrev pub happens : ℕ → Act → Saying
-happens time act = Happens (record { time = time; act = act })
+abbrev pub happens : ℕ → Occurrence → Saying
+happens time what = Happens (record { time = time; what = what })
 
 -- what the words of each form say, the time first
 abbrev pub words_said : EventWords → Result Saying ScheduleWhy

@@ -64,8 +64,8 @@ unfoldable pub schedule_fault : List ℕ → Option ScheduleFault
 schedule_fault text = lines_fault 0 0 (statements_of (lines_of text))
 
 -- The events of a schedule, in their order. It is meant where schedule_fault finds nothing.
-unfoldable pub schedule_of : List ℕ → List EventValue
-schedule_of text = events_said (statements_of (lines_of text))
+unfoldable pub events_of : List ℕ → List EventValue
+events_of text = events_said (statements_of (lines_of text))
 
 -- whether times don't fall from one event to the next, from this time on
 abbrev pub are_in_order : ℕ → List EventValue → Bool

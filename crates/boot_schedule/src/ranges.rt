@@ -9,7 +9,7 @@ ghost use Rattle.boot_schedule.specs.Saying.{bytes_said, in_range, number_within
 use crate::fault::{ScheduleFault, ScheduleWhy};
 use crate::statement::Parts;
 use aegis_limits::MOST_TICKS;
-use external_event::{Act, Event, LINES, PacketBytes};
+use external_event::{Event, LINES, Occurrence, PacketBytes};
 use hex::FromHexError;
 use line_text::{Line, number};
 use std::alloc::Global;
@@ -42,14 +42,14 @@ pub(crate) fn words_said(
         Parts::Packet { time, bytes } => {
             let time = in_range(line, time, MOST_TICKS)?;
             let packet = bytes_said(alloc, line, bytes)?;
-            let act = Act::Packet(packet);
-            Ok(Said::Event(Event { time, act }))
+            let what = Occurrence::Packet(packet);
+            Ok(Said::Event(Event { time, what }))
         }
         Parts::Line { time, number } => {
             let time = in_range(line, time, MOST_TICKS)?;
             let number = in_range(line, number, LAST_LINE)?;
-            let act = Act::Line(number as u8);
-            Ok(Said::Event(Event { time, act }))
+            let what = Occurrence::Line(number as u8);
+            Ok(Said::Event(Event { time, what }))
         }
         Parts::Revoke {
             time,

@@ -4,7 +4,7 @@ ghost use Rattle.std.specs.Option.{option_map};
 ghost use Rattle.boot_schedule.specs.declared.fault.ScheduleFault.TheVariants.{At};
 ghost use Rattle.boot_schedule.specs.Answers.{Says, saying_seen};
 ghost use Rattle.boot_schedule.specs.Saying.{said};
-ghost use Rattle.boot_schedule.specs.Schedule.{IsFirst, event_said, line_fault, schedule_fault, schedule_of, time_of};
+ghost use Rattle.boot_schedule.specs.Schedule.{IsFirst, event_said, line_fault, schedule_fault, events_of, time_of};
 
 use crate::fault::{ScheduleFault, ScheduleWhy};
 use crate::lines::statements_of;
@@ -19,10 +19,10 @@ pub const MOST_EVENTS: usize = 65_536;
 
 /// Reads a schedule, or answers its first fault, unless memory runs out. `docs/FORMATS.md`, "Schedule", has the
 /// format and the faults in their order.
-#[tactic(auto, unfolding(crate::specs::Schedule::schedule_fault, crate::specs::Schedule::schedule_of))]
+#[tactic(auto, unfolding(crate::specs::Schedule::schedule_fault, crate::specs::Schedule::events_of))]
 pub fn read_schedule(alloc: Global, text: &[u8]) -> Result<Vec<Event>, ScheduleFault>
     requires { length text.now < 2 ^ 27 }
-    ensures ok { IfOk result (λ events. (schedule_fault text.now ≡ None) × (events.items ≡ schedule_of text.now)) }
+    ensures ok { IfOk result (λ events. (schedule_fault text.now ≡ None) × (events.items ≡ events_of text.now)) }
     ensures err { IfErr result (IsFirst (schedule_fault text.now)) }
 {
     let mut events = Vec::new(alloc);

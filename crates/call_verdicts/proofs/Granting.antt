@@ -1,9 +1,10 @@
 -- What a granted call's deed presupposes, the world has.
-use Rattle.std.proofs.Common.{◌≡◌, ◌<◌, ◌+◌, ℕ, List, Bool, true, false, Option, Some, None, is_none, is_some, Result, Ok, Err, arith, refl, ap, subst, ◌∙◌, inl, inr, ◌⊎◌, length}
-use Rattle.std.specs.Prelude.{◌==◌, ◌&&◌, ◌||◌, nat_le, nat_lt, if◌then◌else◌, ok_or}
+use Rattle.std.proofs.Common.{◌≡◌, ◌<◌, ◌≤◌, ◌+◌, ℕ, List, Bool, true, false, Option, Some, None, is_none, is_some, Result, Ok, Err, arith, refl, ap, subst, ◌∙◌, inl, inr, ◌⊎◌, length}
+use Rattle.std.specs.Prelude.{not, ◌==◌, ◌&&◌, ◌||◌, nat_le, nat_lt, if◌then◌else◌, ok_or}
 use Rattle.std.specs.Option.{option_map, option_or}
-use Rattle.std.proofs.lemmas.Bool.{eqb-true, ltb-true, ltb-false, leb-false}
+use Rattle.std.proofs.lemmas.Bool.{eqb-true, ltb-true, ltb-false, leb-true, leb-false}
 use Rattle.aegis_limits.specs.Limits.{console_size, vpn_end}
+use Rattle.external_event.specs.Limits.{least_frame_size, lines, most_packet_size, most_sent}
 use Rattle.mips_exec.specs.Cpu.{reg}
 use Rattle.env_frames.specs.declared.context.Context.{Context}
 use Rattle.env_frames.specs.Context.{context_numbered}
@@ -24,8 +25,9 @@ use Rattle.world_model.specs.Answer.{unless, verdict_of}
 use Rattle.world_model.specs.Book.{Book, page_row}
 use Rattle.world_model.specs.Call.{any, binding_of, presented}
 use Rattle.world_model.specs.Code.{code_of}
-use Rattle.world_model.specs.Call.{context_deed, transfer_deed, yield_deed}
-use Rattle.world_model.specs.OwnCalls.{MayPut, put_bytes, put_refusal}
+use Rattle.world_model.specs.Call.{context_deed, good_range, line_deed, transfer_deed, yield_deed}
+use Rattle.world_model.specs.LineCalls.{is_line_of, is_line_of_other, refusal_of_line, refusal_of_line_drop, refusal_of_line_take}
+use Rattle.world_model.specs.OwnCalls.{MayPut, MaySend, is_frame_size, put_bytes, put_refusal, send_refusal}
 use Rattle.world_model.specs.May.{HasRight, May, MayAllocate, MayBind, MayChange, MayDrop, MayEnter, MayMap, MayReach, MayTake}
 use Rattle.world_model.specs.PageCalls.{chosen_page, is_guaranteed, named_page, vpn_refusal, refusal_of_bind, refusal_of_change}
 use Rattle.world_model.specs.SlotCalls.{accepts, drop_refusal, gift_refusal, is_other, refusal_of_gift, refusal_of_giving, slot_at, take_refusal, turn_slot, yield_by}
@@ -64,6 +66,29 @@ may_put s none = by_range (put_bytes (sight s) (reg s.cpu 4) (reg s.cpu 5)) (nat
     by_range None much is room none = cc
     by_range (Some bytes) true is room none = cc
     by_range (Some bytes) false is room none = record { good = ap is_some is; room = omega (arith, ltb-false console_size (length s.console + reg s.cpu 5) room) }
+
+-- a packet
+frame_size : (size : ℕ) → not (is_frame_size size) ≡ false → (least_frame_size ≤ size) × (size ≤ most_packet_size)
+frame_size size is =
+    let parts = both (nat_le least_frame_size size) (nat_le size most_packet_size) (unnegated (is_frame_size size) is) in
+    (leb-true least_frame_size size parts.0, leb-true size most_packet_size parts.1)
+  where
+    unnegated : (t : Bool) → not t ≡ false → t ≡ true
+    unnegated true is = refl
+    unnegated false is = cc
+
+may_send : (s : Solo) → send_refusal s.cpu (sight s) (length s.sent) ≡ None → MaySend s (reg s.cpu 4) (reg s.cpu 5)
+may_send s none =
+    by_tests (not (is_frame_size (reg s.cpu 5))) (good_range (sight s) (reg s.cpu 4) (reg s.cpu 5)) (nat_le most_sent (length s.sent)) refl refl refl none
+  where
+    by_tests : (bad : Bool) (o : Option (List ℕ)) (full : Bool) → not (is_frame_size (reg s.cpu 5)) ≡ bad → good_range (sight s) (reg s.cpu 4) (reg s.cpu 5) ≡ o → nat_le most_sent (length s.sent) ≡ full
+        → (if bad then Some code.BadCall else (if is_none o then Some code.BadPointer else (if full then Some code.Full else None))) ≡ None → MaySend s (reg s.cpu 4) (reg s.cpu 5)
+    by_tests true o full size is room none = cc
+    by_tests false None full size is room none = cc
+    by_tests false (Some bytes) true size is room none = cc
+    by_tests false (Some bytes) false size is room none =
+        let sizes = frame_size (reg s.cpu 5) size in
+        record { least = sizes.0; most = sizes.1; good = ap is_some is; room = omega (arith, leb-false most_sent (length s.sent) room) }
 
 -- pages
 may_allocate : (b : Book) (page value : ℕ) → IsLowestFree b.pages b.page_count (lowest_free b.pages b.page_count) → chosen_page b page ≡ Ok value → MayAllocate b value
@@ -189,6 +214,26 @@ may_drop b e k none = by_slot (nat_lt k b.slot_count) (b.slots k) refl refl none
     by_slot true None there stands none = cc
     by_slot true (Some hold) there stands none = by_holder hold (ltb-true k b.slot_count there) stands (hold.holder == e) refl none
 
+-- interrupt lines
+may_line : (w : World) (e line act value : ℕ) → unless (refusal_of_line e line act (w.book.lines line)) 0 ≡ Grant value → May w e (line_deed line (act == 1))
+may_line w e line act value is = by_tests (nat_lt line lines) (act == 1) (act == 0) refl (not_refused (refusal_of_line e line act (w.book.lines line)) 0 value is)
+  where
+    taken : (other : Bool) → (if other then Some code.LineTaken else None) ≡ None → other ≡ false
+    taken true none = cc
+    taken false none = refl
+
+    dropped : (its : Bool) → (if its then None else Some code.NotHolder) ≡ None → its ≡ true
+    dropped true none = refl
+    dropped false none = cc
+
+    by_tests : (there takes drops : Bool) → nat_lt line lines ≡ there
+        → (if there then (if takes then refusal_of_line_take e (w.book.lines line) else (if drops then refusal_of_line_drop e (w.book.lines line) else Some code.BadCall)) else Some code.BadCall) ≡ None
+        → May w e (line_deed line takes)
+    by_tests false takes drops there none = cc
+    by_tests true true drops there none = record { there = ltb-true line lines there; free = taken (is_line_of_other e (w.book.lines line)) none }
+    by_tests true false true there none = record { there = ltb-true line lines there; owned = dropped (is_line_of e (w.book.lines line)) none }
+    by_tests true false false there none = cc
+
 -- call by call
 pub granted_may : ((pages : ℕ → PageRow) (count : ℕ) → IsLowestFree pages count (lowest_free pages count)) → GrantedMay
 granted_may lowest w e None value is = tt
@@ -218,5 +263,7 @@ granted_may lowest w e (Some call.SlotDrop) value is =
     let k = reg (w.solos e).cpu 4 in
     may_drop w.book e k (not_refused (drop_refusal e (slot_at w.book k)) 0 value is)
 granted_may lowest w e (Some call.Query) value is = tt
+granted_may lowest w e (Some call.Line) value is = let cpu = (w.solos e).cpu in may_line w e (reg cpu 4) (reg cpu 5) value is
+granted_may lowest w e (Some call.Send) value is = let s = w.solos e in may_send s (not_refused (send_refusal s.cpu (sight s) (length s.sent)) 0 value is)
 granted_may lowest w e (Some call.OwnNumber) value is = tt
 granted_may lowest w e (Some call.Clock) value is = tt

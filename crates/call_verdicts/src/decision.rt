@@ -5,7 +5,8 @@ ghost use Rattle.world_model.specs.Call.{deed_of as deed_of_call};
 ghost use Rattle.world_model.specs.Verdict.{verdict};
 
 use crate::arguments::{ANY, FIRST_ARGUMENT, SECOND_ARGUMENT, binding, presented, words};
-use crate::own_calls::{refuse_context, refuse_put};
+use crate::line_calls::{TAKE, refuse_line};
+use crate::own_calls::{refuse_context, refuse_put, refuse_send};
 use crate::page_calls::{choose_page, refuse_bind, refuse_change, refuse_unbind};
 use crate::queries::ask;
 use crate::slot_calls::{decide_transfer, decide_yield, refuse_drop, refuse_take};
@@ -45,6 +46,8 @@ pub fn decide<V: CallView>(view: &V, env: u8, call: Option<Call>) -> Verdict
         Call::SlotTake => Verdict::unless(refuse_take(view.slot(first)), 0),
         Call::SlotDrop => Verdict::unless(refuse_drop(env, view.slot(first)), 0),
         Call::Query => Verdict::of(ask(view, env, first, second)),
+        Call::Line => Verdict::unless(refuse_line(view, env, first, second), 0),
+        Call::Send => Verdict::unless(refuse_send(view, env), 0),
         Call::OwnNumber => Verdict::Grant(u32::from(env)),
         Call::Clock => Verdict::Grant(view.time()),
     }
@@ -97,6 +100,12 @@ pub fn deed_of(call: Option<Call>, value: u32, cpu: &Cpu) -> Deed
         },
         Call::SlotTake => Deed::TakesSlot(first),
         Call::SlotDrop => Deed::DropsSlot(first),
+        Call::Line if second == TAKE => Deed::TakesLine(first),
+        Call::Line => Deed::DropsLine(first),
+        Call::Send => Deed::Own(OwnDeed::Sends {
+            address: first,
+            size: second,
+        }),
         Call::Query | Call::OwnNumber | Call::Clock => Deed::Answers,
     }
 }

@@ -6,6 +6,7 @@
 mod arguments;
 mod decision;
 mod laws;
+mod line_calls;
 mod own_calls;
 mod page_calls;
 mod queries;

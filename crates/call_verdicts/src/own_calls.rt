@@ -1,13 +1,14 @@
 //! Why calls that read and change their caller alone are refused.
 ghost use Rattle.std.specs.Prelude.{◌≡◌, Some, length};
 ghost use Rattle.world_model.specs.Book.{running};
-ghost use Rattle.world_model.specs.OwnCalls.{put_refusal, refusal_of_context};
+ghost use Rattle.world_model.specs.OwnCalls.{put_refusal, refusal_of_context, send_refusal};
 ghost use Rattle.world_model.specs.Solo.{sight};
 
 use crate::arguments::{FIRST_ARGUMENT, SECOND_ARGUMENT};
 use crate::view::CallView;
 use aegis_limits::CONSOLE_SIZE;
 use env_frames::Context;
+use external_event::{LEAST_FRAME_SIZE, MOST_PACKET_SIZE, MOST_SENT};
 use mips_exec::Cpu;
 use world_model::Code;
 
@@ -27,6 +28,25 @@ pub(crate) fn refuse_put<V: CallView>(view: &V, env: u8) -> Option<Code>
     }
     if view.console_size(env) + size as usize > CONSOLE_SIZE {
         return Some(Code::ConsoleFull);
+    }
+    None
+}
+
+/// Why the runner's send is refused, in the order of testing.
+pub(crate) fn refuse_send<V: CallView>(view: &V, env: u8) -> Option<Code>
+    requires { running (V.world view.now).book.runner ≡ Some env }
+    ensures { result ≡ send_refusal ((V.world view.now).solos env).cpu (sight ((V.world view.now).solos env)) (length ((V.world view.now).solos env).sent) }
+{
+    let cpu = view.registers(env);
+    let size = cpu.reg(SECOND_ARGUMENT);
+    if !(LEAST_FRAME_SIZE..=MOST_PACKET_SIZE).contains(&(size as usize)) {
+        return Some(Code::BadCall);
+    }
+    if view.range(env, cpu.reg(FIRST_ARGUMENT), size).is_none() {
+        return Some(Code::BadPointer);
+    }
+    if view.count_sent(env) >= MOST_SENT {
+        return Some(Code::Full);
     }
     None
 }

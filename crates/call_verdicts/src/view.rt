@@ -2,6 +2,7 @@
 ghost use Rattle.std.specs.Prelude.{◌≡◌, ◌<◌, ◌≤◌, Some, is_some, length};
 ghost use Rattle.std.specs.Option.{option_map};
 ghost use Rattle.aegis_limits.specs.Limits.{console_size};
+ghost use Rattle.external_event.specs.Limits.{lines};
 ghost use Rattle.env_frames.specs.Context.{handler_of};
 ghost use Rattle.page_book.specs.Rows.{free_below, lowest_free};
 ghost use Rattle.bind_book.specs.Stripe.{binding_at};
@@ -35,6 +36,11 @@ pub trait CallView {
         ensures size { result ≡ length ((world self.now).solos env).console }
         ensures most { result ≤ console_size };
 
+    /// How many packets the runner has sent.
+    fn count_sent(&self, env: u8) -> usize
+        requires { running (world self.now).book.runner ≡ Some env }
+        ensures { result ≡ length ((world self.now).solos env).sent };
+
     /// Bytes of the runner's memory, so many from an address on, if that is a good range: it lies in one page, and the
     /// page is mapped.
     fn range(&self, env: u8, address: u32, size: u32) -> Option<&[u8]>
@@ -66,6 +72,11 @@ pub trait CallView {
     /// Why the runner can't hand on the rest of its slice, or for a later its slot too.
     fn refuse_gift(&self, later: bool) -> Option<Code>
         ensures { result ≡ gift_refusal later (world self.now).book.runner (turn_slot (world self.now).book) };
+
+    /// Whose an interrupt line is, if anybody's.
+    fn line_owner(&self, line: u8) -> Option<u8>
+        requires { line < lines }
+        ensures { result ≡ (world self.now).book.lines line };
 
     /// Whether an environment lives, or why it died; none where there is no such environment.
     fn life_at(&self, number: u32) -> Option<Life>

@@ -3,6 +3,7 @@ ghost use Rattle.std.specs.Prelude.{◌≡◌, ◌≢◌, ◌<◌, ◌≤◌, �
 ghost use Rattle.aegis_limits.specs.Limits.{most_mappings, page_size};
 ghost use Rattle.mips_exec.specs.Cpu.{rested};
 ghost use Rattle.env_frames.specs.Context.{end_area, end_bytes, handler_of, no_handlers, raised_cpu, resumed_cpu, start_area, start_bytes, started_cpu, with_handler};
+ghost use Rattle.env_frames.specs.Post.{counted_in, signalled_in};
 ghost use Rattle.env_frames.specs.Transfer.{carried, entered_cpu, entry_area, entry_bytes, entry_context};
 ghost use Rattle.env_frames.specs.Frame.{IsAbove, IsRising, gone_env, left_in, mapping_at, numbers, page_of, raised_in};
 
@@ -10,6 +11,7 @@ use crate::context::{
     CONTEXT_PAGE, Context, END_AREA, ENTRY_AREA, EXCEPTION_AREA, Handlers, START_AREA,
 };
 use crate::mapping::Mapping;
+use crate::post::PostWord;
 use crate::search::place_in;
 use crate::transfer::TransferKind;
 use crate::upcall::{
@@ -161,6 +163,32 @@ impl Env {
     {
         if let Some(page) = self.context_page() {
             frames.put(page, area, bytes);
+        }
+    }
+
+    /// Counts a post word of the context page up, if the environment has one. It wraps at 2^32.
+    pub fn count(&self, frames: &mut Frames, post: PostWord)
+        requires { IfSome (page_of self.now.mappings 1) (λ page. page < length frames.old) }
+        ensures frames { frames.new ≡ counted_in post (page_of self.now.mappings 1) frames.old }
+        ensures size { length frames.new ≡ length frames.old }
+    {
+        if let Some(page) = self.context_page() {
+            let count = frames.word(page, post.offset());
+            frames.set_word(page, post.offset(), count.wrapping_add(1));
+        }
+    }
+
+    /// Sets the bit of an interrupt line, below 8, in the context page, if the environment has one.
+    pub fn signal(&self, frames: &mut Frames, line: u8)
+        requires line { line < 8 }
+        requires there { IfSome (page_of self.now.mappings 1) (λ page. page < length frames.old) }
+        ensures frames { frames.new ≡ signalled_in line (page_of self.now.mappings 1) frames.old }
+        ensures size { length frames.new ≡ length frames.old }
+    {
+        if let Some(page) = self.context_page() {
+            let offset = PostWord::Lines.offset();
+            let lines = frames.word(page, offset);
+            frames.set_word(page, offset, lines | 1 << line);
         }
     }
 

@@ -8,11 +8,14 @@
 //! its slice starts, where its slice ends, and where another calls it by a transfer. What it needs to go on
 //! as if nothing had been stands then in the context page, which is the page at VPN 1, in an area
 //! for each kind of upcall. Without a handler the context page stays as it is.
+//!
+//! Of what comes from outside an environment learns by the post words of its context page.
 #![tactic(auto)]
 
 mod context;
 mod env;
 mod mapping;
+mod post;
 mod search;
 mod transfer;
 mod upcall;
@@ -20,4 +23,5 @@ mod upcall;
 pub use context::{Context, Handlers};
 pub use env::Env;
 pub use mapping::Mapping;
+pub use post::PostWord;
 pub use transfer::TransferKind;

@@ -1,21 +1,21 @@
 -- An event, as it is seen.
 use Rattle.std.specs.Prelude.{ℕ, ◌&&◌, nat_le, nat_lt, Bool}
 use Rattle.aegis_limits.specs.Limits.{most_ticks}
-use Rattle.external_event.specs.declared.event.Act.{Act}
-use Rattle.external_event.specs.declared.event.Act.TheVariants.{Packet, Line}
+use Rattle.external_event.specs.declared.event.Occurrence.{Occurrence}
+use Rattle.external_event.specs.declared.event.Occurrence.TheVariants.{Packet, Line}
 use Rattle.external_event.specs.Limits.{lines}
 use Rattle.external_event.specs.Packet.{is_packet}
 
 -- what happens at a time
 pub record EventValue : Type 0 where
   pub time : ℕ
-  pub act : Act
+  pub what : Occurrence
 
--- the numbers of an act are within their limits
-abbrev pub is_act : Act → Bool
-is_act (Packet bytes) = is_packet bytes
-is_act (Line line) = nat_lt line lines
+-- the numbers of what happens are within their limits
+abbrev pub is_occurrence : Occurrence → Bool
+is_occurrence (Packet bytes) = is_packet bytes
+is_occurrence (Line line) = nat_lt line lines
 
 -- the numbers of an event are within their limits
 abbrev pub is_event : EventValue → Bool
-is_event e = nat_le e.time most_ticks && is_act e.act
+is_event e = nat_le e.time most_ticks && is_occurrence e.what

@@ -5,6 +5,14 @@ use Rattle.std.specs.Prelude.{ℕ}
 abbrev pub most_packet_size : ℕ
 most_packet_size = 1514
 
+-- the bytes of the shortest packet that is sent: a frame's header
+abbrev pub least_frame_size : ℕ
+least_frame_size = 14
+
+-- the packets that an environment sends at most
+abbrev pub most_sent : ℕ
+most_sent = 256
+
 -- the interrupt lines, numbered from 0
 abbrev pub lines : ℕ
 lines = 8

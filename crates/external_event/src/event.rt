@@ -7,7 +7,7 @@ pub const LINES: u8 = 8;
 
 /// What happens.
 #[derive(Drop)]
-pub enum Act {
+pub enum Occurrence {
     /// A packet arrives.
     Packet(PacketBytes),
     /// The interrupt line of this number, below 8, is raised.
@@ -20,7 +20,7 @@ pub struct Event {
     /// The tick at whose beginning it happens, at most 4,194,304.
     pub time: u32,
     /// What happens.
-    pub act: Act,
+    pub what: Occurrence,
 }
 
 impl Model for Event {
@@ -29,7 +29,7 @@ impl Model for Event {
 
     ghost Value = { EventValue };
 
-    ghost view = { λ e. record { time = e.time; act = e.act } };
+    ghost view = { λ e. record { time = e.time; what = e.what } };
 
-    ghost invariant = { λ e. is_event (record { time = e.time; act = e.act }) ≡ true };
+    ghost invariant = { λ e. is_event (record { time = e.time; what = e.what }) ≡ true };
 }

@@ -7,5 +7,5 @@
 mod event;
 mod packet;
 
-pub use event::{Act, Event, LINES};
-pub use packet::{MOST_PACKET_SIZE, PacketBytes};
+pub use event::{Event, LINES, Occurrence};
+pub use packet::{LEAST_FRAME_SIZE, MOST_PACKET_SIZE, MOST_SENT, PacketBytes};

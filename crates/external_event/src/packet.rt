@@ -10,6 +10,12 @@ use std::marker::Model;
 /// The bytes of the longest packet: a frame of the Ethernet without its checksum.
 pub const MOST_PACKET_SIZE: usize = 1514;
 
+/// The bytes of the shortest packet that is sent: a frame's header.
+pub const LEAST_FRAME_SIZE: usize = 14;
+
+/// The most packets that an environment sends.
+pub const MOST_SENT: usize = 256;
+
 /// A packet, as the list of its 1 to 1,514 bytes.
 #[derive(Drop)]
 pub struct PacketBytes {

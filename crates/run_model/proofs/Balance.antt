@@ -19,7 +19,8 @@ use Rattle.world_model.specs.Item.{End, Killed, Start, absorb_all}
 use Rattle.run_model.specs.Run.{happens_in, next_phases, next_world, run_on}
 use Rattle.world_model.specs.Solo.{absent, dead, is_dead}
 use Rattle.world_model.specs.Table.{set_at}
-use Rattle.world_model.specs.Event.{Occurrence, Schedule, happen}
+use Rattle.external_event.specs.declared.event.Occurrence.{Occurrence}
+use Rattle.world_model.specs.Event.{Schedule, happen}
 use Rattle.world_model.specs.Tick.{act_now, clock, count_when, goes_on, grace_of, judged, kill, owes_more, pay_row, phases_after, run_out, slice_end, step, step_when, take_turn, tick_phases, timer, turn, turn_when}
 use Rattle.world_model.specs.SlotCalls.{stop_row}
 use Rattle.call_verdicts.specs.Granted.{GrantedMay}

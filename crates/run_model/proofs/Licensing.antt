@@ -24,7 +24,7 @@ use Rattle.world_model.specs.declared.verdict.Verdict.TheVariants.{Refuse, Grant
 use Rattle.world_model.specs.Table.{set_at}
 use Rattle.world_model.specs.Book.{Book, excess_limit, first_turn, is_idle_book, lowered, owed, pays_first, running, sees, told_at, told_turn, whole_turn}
 use Rattle.world_model.specs.Death.{death_items, lost_with}
-use Rattle.world_model.specs.Event.{Occurrence}
+use Rattle.external_event.specs.declared.event.Occurrence.{Occurrence}
 use Rattle.world_model.specs.Item.{Item, Step, Start, End, Transfer, Killed, Answer, Gained, Lost, deed_at}
 use Rattle.world_model.specs.May.{May}
 use Rattle.world_model.specs.PageCalls.{breaks, left_at, left_by, left_if, lost_if, page_bytes}

@@ -8,7 +8,8 @@ use Rattle.world_model.specs.Solo.{Solo}
 use Rattle.world_model.specs.Book.{is_idle_book}
 use Rattle.world_model.specs.Item.{Item, absorb, absorb_all}
 use Rattle.world_model.specs.World.{World, Reply, after, followed, in_turn, no_change, run_phases}
-use Rattle.world_model.specs.Event.{Occurrence, happen}
+use Rattle.external_event.specs.declared.event.Occurrence.{Occurrence}
+use Rattle.world_model.specs.Event.{happen}
 use Rattle.world_model.specs.Tick.{phases_after, step, tick_phases, timer, turn}
 use Rattle.run_model.specs.Run.{InTurnIsEach, MomentsAreInOrder, System, at_step, at_timer, at_turn, happens_in, items_in, items_of_events, items_of_phases, moment, next_phases, phases_in, world_after}
 

@@ -71,6 +71,7 @@ boot_book pages quantum owners = record {
   pages = λ page. Free;
   kept = λ e. [];
   binds = λ e. nothing_bound;
+  lines = λ line. None;
   time = 0;
 }
 

@@ -20,8 +20,9 @@ use Rattle.world_model.specs.declared.slot.Runner.{Runner}
 use Rattle.world_model.specs.declared.slot.Turn.{Turn}
 use Rattle.world_model.specs.declared.verdict.Verdict.{Verdict}
 use Rattle.world_model.specs.Book.{excess_limit, running, sees, whole_turn}
-use Rattle.world_model.specs.Event.{Occurrence}
-use Rattle.world_model.specs.Item.{Item, Boot, Step, Start, End, Transfer, Killed, Answer, Gained, Lost, Left}
+use Rattle.external_event.specs.declared.event.Occurrence.{Occurrence}
+use Rattle.external_event.specs.declared.event.Occurrence.TheVariants as outside
+use Rattle.world_model.specs.Item.{Item, Boot, Step, Start, End, Transfer, Killed, Answer, Gained, Lost, Left, Line}
 use Rattle.world_model.specs.May.{MayAllocate, MayBind, MayChange, MayEnter, MayReach}
 use Rattle.world_model.specs.Page.{KeptPage}
 use Rattle.world_model.specs.PageCalls.{page_bytes}
@@ -169,9 +170,19 @@ AtTimer w e Killed = IsOverdue w e
 AtTimer w e (Lost page) = IsBrokenByEnd w e page
 AtTimer w e item = ⊥
 
--- No kind of event is built, and so no event gives an item.
+-- A signal comes on this line, which is the environment's.
+pub record IsSignalled (w : World) (e raised line : ℕ) : Type 0 where
+  pub its : w.book.lines raised ≡ Some e
+  pub same : line ≡ raised
+
+abbrev pub AtSignal : ℕ → World → ℕ → Item → Type 0
+AtSignal raised w e (Line line) = IsSignalled w e raised line
+AtSignal raised w e item = ⊥
+
+-- A packet that is dropped is given to nobody.
 abbrev pub AtEvent : Occurrence → World → ℕ → Item → Type 0
-AtEvent what w e item = ⊥
+AtEvent (outside.Packet packet) w e item = ⊥
+AtEvent (outside.Line line) w e item = AtSignal line w e item
 
 -- The licence for an item in the phase of this number of a tick in which this happens.
 abbrev pub LicensedIn : List Occurrence → ℕ → World → ℕ → Item → Type 0

@@ -7,7 +7,8 @@ use Rattle.world_model.specs.Book.{is_idle_book}
 use Rattle.world_model.specs.Solo.{absent}
 use Rattle.world_model.specs.Item.{Item, absorb_all}
 use Rattle.world_model.specs.World.{World, Reply, after, in_turn, run_phases}
-use Rattle.world_model.specs.Event.{Occurrence, Schedule, happen}
+use Rattle.external_event.specs.declared.event.Occurrence.{Occurrence}
+use Rattle.world_model.specs.Event.{Schedule, happen}
 use Rattle.world_model.specs.Tick.{phases_after, step, timer, turn}
 use Rattle.run_model.specs.Boot.{boot_world, boot_items}
 

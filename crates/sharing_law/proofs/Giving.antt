@@ -17,7 +17,8 @@ use Rattle.world_model.specs.declared.verdict.Verdict.TheVariants.{Refuse, Grant
 use Rattle.world_model.specs.Book.{Told, excess_limit, sees, whole_turn}
 use Rattle.world_model.specs.Call.{called}
 use Rattle.world_model.specs.Death.{death_items}
-use Rattle.world_model.specs.Event.{Occurrence, happen}
+use Rattle.external_event.specs.declared.event.Occurrence.{Occurrence}
+use Rattle.world_model.specs.Event.{happen}
 use Rattle.world_model.specs.Item.{Item, Step, Start, End, Transfer, Killed, Answer, Gained, Lost, deed_at}
 use Rattle.world_model.specs.May.{May}
 use Rattle.world_model.specs.PageCalls.{breaks, left_at, left_by, page_bytes}

@@ -12,7 +12,7 @@ use Rattle.env_frames.specs.Context.{context_number, end_area, end_bytes, except
 use Rattle.env_frames.specs.Transfer.{entry_area, entry_bytes}
 use Rattle.world_model.specs.Book.{is_idle_book}
 use Rattle.world_model.specs.Call.{exit_number}
-use Rattle.world_model.specs.Event.{Occurrence}
+use Rattle.external_event.specs.declared.event.Occurrence.{Occurrence}
 use Rattle.world_model.specs.Item.{Item, Boot, Step, Start, End, Transfer, Killed, Answer, Gained, Lost, Left, absorb, absorb_all, absorbed}
 use Rattle.world_model.specs.Page.{KeptPage}
 use Rattle.world_model.specs.Solo.{Solo, Store, Key, Kept, Physical, bytes_in, is_dead, kept_after, kept_at, store_of, stored, stored_page}

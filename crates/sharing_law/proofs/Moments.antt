@@ -3,7 +3,8 @@ use Rattle.std.proofs.Common.{◌≡◌, ℕ, suc, List, [], ◌∷◌, map, Boo
 use Rattle.std.specs.Prelude.{if◌then◌else◌}
 use Rattle.world_model.specs.Book.{is_idle_book}
 use Rattle.world_model.specs.World.{World, after, run_phases}
-use Rattle.world_model.specs.Event.{Occurrence, happen}
+use Rattle.external_event.specs.declared.event.Occurrence.{Occurrence}
+use Rattle.world_model.specs.Event.{happen}
 use Rattle.world_model.specs.Tick.{turn}
 use Rattle.run_model.specs.Run.{System, at_step, at_turn, happens_in, next_phases, world_after}
 use Rattle.run_model.proofs.Phases.{moments_in_order, turn_after_events}

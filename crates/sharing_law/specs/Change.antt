@@ -1,11 +1,13 @@
 -- Why the bytes of a page change.
-use Rattle.std.specs.Prelude.{◌≡◌, ◌≢◌, ℕ, suc, true, List, ◌∷◌, Some, ◌⊎◌}
-use Rattle.frame_store.specs.Pages.{with_bytes, zero_page}
+use Rattle.std.specs.Prelude.{◌≡◌, ◌≢◌, ◌^◌, ℕ, suc, true, List, ◌∷◌, Some, ◌⊎◌, bit_or}
+use Rattle.frame_store.specs.Pages.{with_bytes, word_bytes, zero_page}
 use Rattle.page_book.specs.declared.row.Capabilities.{Capabilities}
 use Rattle.page_book.specs.declared.row.PageRow.TheVariants.{Free}
 use Rattle.page_book.specs.Row.{is_owned_by}
 use Rattle.env_frames.specs.Context.{context_number, end_area, end_bytes, exception_area, exception_bytes, start_area, start_bytes}
 use Rattle.env_frames.specs.Transfer.{entry_area, entry_bytes}
+use Rattle.env_frames.specs.declared.post.PostWord.TheVariants as post
+use Rattle.env_frames.specs.Post.{post_offset}
 use Rattle.world_model.specs.declared.call.Deed.TheVariants.{Allocates}
 use Rattle.world_model.specs.declared.life.Cause.TheVariants as cause
 use Rattle.world_model.specs.declared.life.Life.TheVariants.{Dead}
@@ -13,7 +15,8 @@ use Rattle.world_model.specs.Page.{KeptPage}
 use Rattle.world_model.specs.Solo.{Solo, Store, Kept, Physical, bytes_in, kept_at}
 use Rattle.world_model.specs.Step.{Act, Nothing, Stores, Calls, Raises, Dies, act_of, step_alone}
 use Rattle.world_model.specs.PageCalls.{page_bytes}
-use Rattle.world_model.specs.Item.{Item, Boot, Step, Start, End, Transfer, Killed, Answer, Gained, Lost, Left, absorb}
+use Rattle.world_model.specs.Item.{Item, Boot, Step, Start, End, Transfer, Killed, Answer, Gained, Lost, Left, Line, absorb}
+use Rattle.world_model.specs.Post.{post_word}
 use Rattle.run_model.specs.Acting.{Acts, Does}
 use Rattle.run_model.specs.Run.{System, given_at, moment, world_after}
 use Rattle.sharing_law.specs.Right.{HasLiveBinding, row_after}
@@ -43,7 +46,7 @@ StepChanges s t vpn (Calls call) = ⊥
 StepChanges s t vpn (Raises exc) = HasWords s t vpn exception_area (exception_bytes exc s.cpu)
 StepChanges s t vpn (Dies cause) = t.life ≡ Dead cause
 
--- How an item does that makes s to t: of what comes from outside it is the kernel's words on its slice and on who enters it, and death, alone.
+-- How an item does that makes s to t: of what comes from outside it is the kernel's words on its slice, on who enters it and on its interrupt lines, and death, alone.
 abbrev pub Changes : Solo → Solo → ℕ → Item → Type 0
 Changes s t vpn (Boot number name entry accept kept) = t.kept ≡ kept
 Changes s t vpn Step = StepChanges s t vpn (act_of s (step_alone s))
@@ -55,6 +58,7 @@ Changes s t vpn (Answer verdict) = ⊥
 Changes s t vpn (Gained page writable bytes) = ⊥
 Changes s t vpn (Lost page) = ⊥
 Changes s t vpn (Left page offset bytes) = ⊥
+Changes s t vpn (Line line) = HasWords s t vpn (post_offset post.Lines) (word_bytes (bit_or (post_word post.Lines s) (2 ^ line)))
 
 -- An item leaves the bytes of a guaranteed page, but for such a change.
 abbrev pub ItemChange : Type 0

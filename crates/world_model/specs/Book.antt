@@ -13,7 +13,8 @@ use Rattle.world_model.specs.declared.slot.Turn.{Turn}
 
 -- A runner, if one runs, runs in the cursor's slot. Each environment has its excess: the quanta that it ran past its slices
 -- and hasn't forfeited yet. Pages are numbered below page_count; from there on each is as if free. Each environment has its
--- guaranteed mappings, by rising VPN, and its bindings, in the rows of its stripe.
+-- guaranteed mappings, by rising VPN, and its bindings, in the rows of its stripe. Each interrupt line has its owner, if anybody
+-- has taken it.
 pub record Book : Type 0 where
   pub slot_count : ℕ
   pub slots : ℕ → Option Hold
@@ -25,6 +26,7 @@ pub record Book : Type 0 where
   pub pages : ℕ → PageRow
   pub kept : ℕ → List Mapping
   pub binds : ℕ → ℕ → Option Binding
+  pub lines : ℕ → Option ℕ
   pub time : ℕ
 
 -- the row of a page, if there is one of this number

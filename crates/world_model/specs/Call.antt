@@ -13,8 +13,8 @@ use Rattle.bind_book.specs.declared.binding.Binding.{Binding}
 use Rattle.world_model.specs.declared.call.Call.{Call}
 use Rattle.world_model.specs.declared.call.Call.TheVariants as call
 use Rattle.world_model.specs.declared.call.Deed.{Deed}
-use Rattle.world_model.specs.declared.call.Deed.TheVariants.{Answers, Own, Stops, Gives, Allocates, Frees, Recaps, Binds, Unbinds, Transfers, TakesSlot, DropsSlot}
-use Rattle.world_model.specs.declared.call.OwnDeed.TheVariants.{Puts, Handles, Accepts}
+use Rattle.world_model.specs.declared.call.Deed.TheVariants.{Answers, Own, Stops, Gives, Allocates, Frees, Recaps, Binds, Unbinds, Transfers, TakesSlot, DropsSlot, TakesLine, DropsLine}
+use Rattle.world_model.specs.declared.call.OwnDeed.TheVariants.{Puts, Sends, Handles, Accepts}
 use Rattle.world_model.specs.Page.{Mapped, user_end}
 
 abbrev pub call_named : ℕ → Option Call
@@ -32,6 +32,8 @@ call_named number =
     if number == 11 then Some call.SlotTake else
     if number == 12 then Some call.SlotDrop else
     if number == 13 then Some call.Query else
+    if number == 17 then Some call.Line else
+    if number == 19 then Some call.Send else
     if number == 20 then Some call.OwnNumber else
     if number == 21 then Some call.Clock else None
 
@@ -82,6 +84,11 @@ abbrev pub transfer_deed : ℕ → Option TransferKind → Deed
 transfer_deed target None = Answers
 transfer_deed target (Some kind) = Transfers target kind
 
+-- 1 takes a line, and 0 drops it
+abbrev pub line_deed : ℕ → Bool → Deed
+line_deed line true = TakesLine line
+line_deed line false = DropsLine line
+
 abbrev pub deed_of : Option Call → ℕ → Cpu → Deed
 deed_of None value cpu = Answers
 deed_of (Some call.Yield) value cpu = yield_deed (reg cpu 4) (reg cpu 4 == any)
@@ -97,5 +104,7 @@ deed_of (Some call.Transfer) value cpu = transfer_deed (reg cpu 4) (transfer_num
 deed_of (Some call.SlotTake) value cpu = TakesSlot (reg cpu 4)
 deed_of (Some call.SlotDrop) value cpu = DropsSlot (reg cpu 4)
 deed_of (Some call.Query) value cpu = Answers
+deed_of (Some call.Line) value cpu = line_deed (reg cpu 4) (reg cpu 5 == 1)
+deed_of (Some call.Send) value cpu = Own (Sends (reg cpu 4) (reg cpu 5))
 deed_of (Some call.OwnNumber) value cpu = Answers
 deed_of (Some call.Clock) value cpu = Answers

@@ -12,6 +12,7 @@ use Rattle.world_model.specs.Item.{Item}
 use Rattle.world_model.specs.World.{World, Reply}
 use Rattle.world_model.specs.PageCalls.{breaks}
 use Rattle.world_model.specs.SlotCalls.{slot_row}
+use Rattle.world_model.specs.LineCalls.{line_without}
 
 -- A death frees all pages of the environment: whoever has bound one of those below this number loses it, by rising number.
 abbrev pub lost_with : Book → ℕ → ℕ → ℕ → List Item
@@ -38,10 +39,10 @@ abbrev pub released_rows : ℕ → ℕ → (ℕ → Option Hold) → ℕ → Lis
 released_rows t e slots zero = []
 released_rows t e slots (suc k) = released_rows t e slots k ++ released_row t e k (slots k)
 
--- the runner's death: its slots are empty, its pages free, it owes nothing, and the rest of its slice is dropped
+-- the runner's death: its slots are empty, its pages free, its lines nobody's, it owes nothing, and the rest of its slice is dropped
 abbrev pub death : World → ℕ → Reply
 death w e = record {
-  book = without_pages_of e (record w.book { slots = λ k. released e (w.book.slots k); runner = None; excess = set_at e 0 w.book.excess });
+  book = without_pages_of e (record w.book { slots = λ k. released e (w.book.slots k); runner = None; excess = set_at e 0 w.book.excess; lines = λ line. line_without e (w.book.lines line) });
   items = death_items w.book e;
   rows = row.Dead w.book.time w.book.cursor e ∷ released_rows w.book.time e w.book.slots w.book.slot_count;
 }

@@ -14,8 +14,9 @@ use Rattle.world_model.specs.Page.{KeptPage}
 use Rattle.world_model.specs.Solo.{Solo, Physical, bare_solo, dead, is_dead, stored}
 use Rattle.world_model.specs.Holding.{bound, unbound, owning, gained, lost}
 use Rattle.world_model.specs.Upcalls.{start, end_slice, enter}
+use Rattle.world_model.specs.Post.{signalled}
 use Rattle.world_model.specs.declared.call.Deed.{Deed}
-use Rattle.world_model.specs.declared.call.Deed.TheVariants.{Answers, Own, Stops, Gives, Allocates, Frees, Recaps, Binds, Unbinds, Transfers, TakesSlot, DropsSlot}
+use Rattle.world_model.specs.declared.call.Deed.TheVariants.{Answers, Own, Stops, Gives, Allocates, Frees, Recaps, Binds, Unbinds, Transfers, TakesSlot, DropsSlot, TakesLine, DropsLine}
 use Rattle.world_model.specs.Call.{called, deed_of}
 use Rattle.world_model.specs.OwnCalls.{own_state_after, with_own_state}
 use Rattle.world_model.specs.Step.{step_alone, stepped}
@@ -41,13 +42,15 @@ pub data Item : Type 0 where
   Lost : (page : ℕ) → Item
   -- bytes that another stored at an offset of a page that it owns or has bound
   Left : (page : ℕ) (offset : ℕ) (bytes : List ℕ) → Item
+  -- a signal on an interrupt line of its own
+  Line : (line : ℕ) → Item
 
 -- at boot all registers are 0 but the stack pointer, and the machine stands at the entry
 abbrev pub boot_cpu : ℕ → Cpu
 boot_cpu entry = record (with_reg blank_cpu 29 0x7FFEFFF0) { pc = entry; next = word_of (entry + 4) }
 
 abbrev pub booted : ℕ → List ℕ → ℕ → ℕ → List KeptPage → Solo
-booted number name entry accept kept = record (bare_solo number name Live []) { cpu = boot_cpu entry; mask = accept; kept = kept }
+booted number name entry accept kept = record (bare_solo number name Live [] []) { cpu = boot_cpu entry; mask = accept; kept = kept }
 
 -- what a deed does to the caller's own state
 abbrev pub own_part : Deed → Solo → Solo
@@ -63,6 +66,8 @@ own_part (Unbinds vpn) s = unbound vpn s
 own_part (Transfers target kind) s = s
 own_part (TakesSlot slot) s = s
 own_part (DropsSlot slot) s = s
+own_part (TakesLine line) s = s
+own_part (DropsLine line) s = s
 
 -- register 2 has the answer's code and register 3 its value, and the machine goes on behind the call
 abbrev pub answered_cpu : Verdict → Cpu → Cpu
@@ -88,6 +93,7 @@ absorbed s (Answer verdict) = answered verdict s
 absorbed s (Gained page writable bytes) = gained page bytes s
 absorbed s (Lost page) = lost page s
 absorbed s (Left page offset bytes) = stored (record { key = Physical page; offset = offset; bytes = bytes }) s
+absorbed s (Line line) = signalled line s
 
 -- a dead environment absorbs nothing more
 abbrev pub absorb : Solo → Item → Solo

@@ -5,6 +5,7 @@ pub mod Page
 pub mod Solo
 pub mod Holding
 pub mod Upcalls
+pub mod Post
 pub mod Call
 pub mod OwnCalls
 pub mod Step
@@ -14,6 +15,7 @@ pub mod World
 pub mod Event
 pub mod PageCalls
 pub mod SlotCalls
+pub mod LineCalls
 pub mod Queries
 pub mod Transfers
 pub mod Death

@@ -1,6 +1,7 @@
 -- What a deed presupposes of the world.
 use Rattle.std.specs.Prelude.{◌≡◌, ◌<◌, ℕ, Bool, true, false, Some, None, ◌⊎◌}
 use Rattle.aegis_limits.specs.Limits.{vpn_end}
+use Rattle.external_event.specs.Limits.{lines}
 use Rattle.page_book.specs.declared.row.Capabilities.{Capabilities}
 use Rattle.page_book.specs.declared.row.PageRow.{PageRow}
 use Rattle.page_book.specs.declared.row.PageRow.TheVariants.{Free, Owned}
@@ -13,11 +14,12 @@ use Rattle.world_model.specs.Book.{Book}
 use Rattle.world_model.specs.Solo.{Solo}
 use Rattle.world_model.specs.OwnCalls.{MayOwn}
 use Rattle.world_model.specs.PageCalls.{is_guaranteed}
+use Rattle.world_model.specs.LineCalls.{is_line_of, is_line_of_other}
 use Rattle.world_model.specs.SlotCalls.{accepts, gift_refusal, is_other, turn_slot}
 use Rattle.world_model.specs.Transfers.{is_open}
 use Rattle.world_model.specs.World.{World}
 use Rattle.world_model.specs.declared.call.Deed.{Deed}
-use Rattle.world_model.specs.declared.call.Deed.TheVariants.{Answers, Own, Stops, Gives, Allocates, Frees, Recaps, Binds, Unbinds, Transfers, TakesSlot, DropsSlot}
+use Rattle.world_model.specs.declared.call.Deed.TheVariants.{Answers, Own, Stops, Gives, Allocates, Frees, Recaps, Binds, Unbinds, Transfers, TakesSlot, DropsSlot, TakesLine, DropsLine}
 
 -- the target is another environment, which lives and accepts the caller, and the slice may be handed on, or for a later the slot too
 pub record MayReach (w : World) (e target : ℕ) (later : Bool) : Type 0 where
@@ -69,6 +71,16 @@ pub record MayDrop (b : Book) (e slot : ℕ) : Type 0 where
   pub stands : b.slots slot ≡ Some hold
   pub holder : hold.holder ≡ e
 
+-- there is such a line, and it isn't another's
+pub record MayTakeLine (b : Book) (e line : ℕ) : Type 0 where
+  pub there : line < lines
+  pub free : is_line_of_other e (b.lines line) ≡ false
+
+-- there is such a line, and it is the caller's
+pub record MayDropLine (b : Book) (e line : ℕ) : Type 0 where
+  pub there : line < lines
+  pub owned : is_line_of e (b.lines line) ≡ true
+
 abbrev pub May : World → ℕ → Deed → Type 0
 May w e Answers = Unit {0}
 May w e (Own own) = MayOwn (w.solos e) own
@@ -82,3 +94,5 @@ May w e (Unbinds vpn) = MayMap (w.solos e) vpn
 May w e (Transfers target kind) = MayEnter w e target kind
 May w e (TakesSlot slot) = MayTake w.book slot
 May w e (DropsSlot slot) = MayDrop w.book e slot
+May w e (TakesLine line) = MayTakeLine w.book e line
+May w e (DropsLine line) = MayDropLine w.book e line

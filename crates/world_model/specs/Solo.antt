@@ -22,7 +22,7 @@ pub record Seen : Type 0 where
 
 -- Number, name, life, registers, handlers, the mask of those from whom it accepts yields and transfers, guaranteed pages by rising
 -- VPN, the binding in each row of its stripe, each other page that it owns or has bound by its number in
--- physical memory, and console.
+-- physical memory, console, and the packets that it sent.
 pub record Solo : Type 0 where
   pub number : ℕ
   pub name : List ℕ
@@ -34,6 +34,7 @@ pub record Solo : Type 0 where
   pub binds : ℕ → Option Binding
   pub seen : ℕ → Option Seen
   pub console : List ℕ
+  pub sent : List (List ℕ)
 
 abbrev pub nothing_bound : ℕ → Option Binding
 nothing_bound row = None
@@ -41,9 +42,9 @@ nothing_bound row = None
 abbrev pub nothing_seen : ℕ → Option Seen
 nothing_seen page = None
 
--- an environment with this number, name, life and console that has nothing else
-abbrev pub bare_solo : ℕ → List ℕ → Life → List ℕ → Solo
-bare_solo number name life console = record {
+-- an environment with this number, name, life, console and sent packets that has nothing else
+abbrev pub bare_solo : ℕ → List ℕ → Life → List ℕ → List (List ℕ) → Solo
+bare_solo number name life console sent = record {
   number = number;
   name = name;
   life = life;
@@ -54,15 +55,16 @@ bare_solo number name life console = record {
   binds = nothing_bound;
   seen = nothing_seen;
   console = console;
+  sent = sent;
 }
 
 -- the number of an environment that the image lacks
 abbrev pub absent : ℕ → Solo
-absent e = bare_solo e [] Live []
+absent e = bare_solo e [] Live [] []
 
--- a dead environment keeps its number, name and console, and has nothing else
+-- a dead environment keeps its number, name, console and sent packets, and has nothing else
 abbrev pub dead : Cause → Solo → Solo
-dead cause s = bare_solo s.number s.name (Dead cause) s.console
+dead cause s = bare_solo s.number s.name (Dead cause) s.console s.sent
 
 abbrev pub is_dead : Life → Bool
 is_dead Live = false

@@ -19,7 +19,8 @@ use Rattle.world_model.specs.Verdict.{reply_to, verdict_now}
 use Rattle.world_model.specs.Table.{set_at}
 use Rattle.world_model.specs.PageCalls.{left_by}
 use Rattle.world_model.specs.World.{World, Reply, only, no_items, after, run_phases, no_change, tells, in_turn}
-use Rattle.world_model.specs.Event.{Occurrence, happen}
+use Rattle.external_event.specs.declared.event.Occurrence.{Occurrence}
+use Rattle.world_model.specs.Event.{happen}
 
 -- The turn: where nobody runs, slots are forfeited whose holders owe, and the first holder that owes nothing starts with a full quantum.
 abbrev pub pay_row : ℕ → Turn → Row

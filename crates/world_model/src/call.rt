@@ -34,6 +34,10 @@ pub enum Call {
     SlotDrop,
     /// Answers a number of the machine or of the kernel's book.
     Query,
+    /// Takes an interrupt line, or drops it.
+    Line,
+    /// Sends a packet.
+    Send,
     /// Answers the caller's own number.
     OwnNumber,
     /// Answers the time, in ticks since the boot.
@@ -64,6 +68,8 @@ impl Call {
             11 => Some(Call::SlotTake),
             12 => Some(Call::SlotDrop),
             13 => Some(Call::Query),
+            17 => Some(Call::Line),
+            19 => Some(Call::Send),
             20 => Some(Call::OwnNumber),
             21 => Some(Call::Clock),
             _ => None,
@@ -111,9 +117,13 @@ pub enum Deed {
     TakesSlot(u32),
     /// A slot that the caller holds is its owner's again, or empty where that is the caller.
     DropsSlot(u32),
+    /// An interrupt line is the caller's.
+    TakesLine(u32),
+    /// An interrupt line of the caller's is nobody's.
+    DropsLine(u32),
 }
 
-/// What a granted call does to its caller alone: to its console, its handlers and its mask (`docs/KERNEL.md`).
+/// What a granted call does to its caller alone: to its console, its sent packets, its handlers and its mask (`docs/KERNEL.md`).
 #[derive(Clone, Copy)]
 pub enum OwnDeed {
     /// Bytes go to the console.
@@ -121,6 +131,13 @@ pub enum OwnDeed {
         /// Where they stand in the caller's space.
         address: u32,
         /// How many they are.
+        size: u32,
+    },
+    /// Bytes are a packet that is sent.
+    Sends {
+        /// Where they stand in the caller's space.
+        address: u32,
+        /// How many they are, 14 to 1,514.
         size: u32,
     },
     /// The handler of a context stands at an address; 0 is none.

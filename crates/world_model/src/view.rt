@@ -53,6 +53,16 @@ pub trait WorldView {
         requires { env < (world self.now).count }
         ensures { result.now ≡ ((world self.now).solos env).console };
 
+    /// How many packets an environment sent.
+    fn sent_count(&self, env: u8) -> usize
+        requires { env < (world self.now).count }
+        ensures { result ≡ length ((world self.now).solos env).sent };
+
+    /// The packet of this place among those that an environment sent, in order; none past the last.
+    fn sent_packet(&self, env: u8, place: usize) -> Option<&[u8]>
+        requires { env < (world self.now).count }
+        ensures { option_map (λ r. r.now) result ≡ slice_get ((world self.now).solos env).sent place };
+
     /// How many guaranteed pages an environment has.
     fn kept_count(&self, env: u8) -> usize
         requires { env < (world self.now).count }

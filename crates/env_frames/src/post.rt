@@ -1,0 +1,29 @@
+//! The post words of the context page.
+ghost use Rattle.std.specs.Prelude.{◌≡◌};
+
+/// A word of the context page by which an environment learns of what comes from outside (`docs/KERNEL.md`, "The context
+/// page").
+#[derive(Clone, Copy)]
+pub enum PostWord {
+    /// How many packets were claimed for the environment.
+    Packets,
+    /// How many of them were lost, since the buffer that was next was full.
+    Lost,
+    /// A bit for each interrupt line of the environment's on which a signal came.
+    Lines,
+}
+
+impl PostWord {
+    ghost use Rattle.env_frames.specs.Post.{post_offset};
+
+    /// Where it stands in the context page.
+    pub(crate) fn offset(self) -> u32
+        ensures { result ≡ post_offset self }
+    {
+        match self {
+            PostWord::Packets => 0x140,
+            PostWord::Lost => 0x144,
+            PostWord::Lines => 0x148,
+        }
+    }
+}
