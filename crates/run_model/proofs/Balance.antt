@@ -15,20 +15,21 @@ use Rattle.world_model.specs.declared.slot.Turn.{Turn}
 use Rattle.world_model.specs.Book.{Book, Told, excess_limit, first_turn, is_idle_book, lowered, owed, pays_first, told_at, told_turn, whole_turn}
 use Rattle.run_model.specs.Boot.{boot_book, boot_slot, boot_world, own_row, own_rows, record_items, with_all_kept, with_kept}
 use Rattle.run_model.specs.Excess.{pays, AreSlotsLive, BalanceHolds, BootsAccounted, IsAccounted, LedgersAreLawful, Lives, TicksKeepAccounts}
-use Rattle.world_model.specs.Item.{End, Killed, Start, absorb_all}
+use Rattle.world_model.specs.Item.{End, Killed, Line, Start, absorb_all}
 use Rattle.run_model.specs.Run.{happens_in, next_phases, next_world, run_on}
 use Rattle.world_model.specs.Solo.{absent, dead, is_dead}
 use Rattle.world_model.specs.Table.{set_at}
 use Rattle.external_event.specs.declared.event.Occurrence.{Occurrence}
-use Rattle.world_model.specs.Event.{Schedule, happen}
+use Rattle.external_event.specs.declared.event.Occurrence.TheVariants as outside
+use Rattle.world_model.specs.Event.{Schedule, drops_packet, happen, signals}
 use Rattle.world_model.specs.Tick.{act_now, clock, count_when, goes_on, grace_of, judged, kill, owes_more, pay_row, phases_after, run_out, slice_end, step, step_when, take_turn, tick_phases, timer, turn, turn_when}
 use Rattle.world_model.specs.SlotCalls.{stop_row}
 use Rattle.call_verdicts.specs.Granted.{GrantedMay}
-use Rattle.world_model.specs.World.{World, Reply, after, no_change, no_items, only, run_phases}
-use Rattle.run_model.proofs.Lives.{keep_end, keep_none, keep_only, keep_start}
+use Rattle.world_model.specs.World.{World, Reply, after, no_change, no_items, only, run_phases, tells}
+use Rattle.run_model.proofs.Lives.{keep_end, keep_line, keep_none, keep_only, keep_start}
 use Rattle.run_model.proofs.NextTurn.{Found, holder_in, search_finds}
 use Rattle.run_model.proofs.Replies.{accounts, act_accounts, death_accounts, dies, in_turn_accounts, mild_accounts, no_change_is_mild}
-use Rattle.run_model.proofs.Rows.{Adds, AreQuiet, Balances, adds_over, adds_pay, adds_quiet, adds_run, quiet_both, quiet_end, quiet_slot, quiet_stop}
+use Rattle.run_model.proofs.Rows.{Adds, AreQuiet, Balances, adds_over, adds_pay, adds_quiet, adds_run, quiet_both, quiet_end, quiet_slot, quiet_stop, quiet_unclaimed}
 
 -- A phase that keeps the accounts, and phases that do.
 abbrev pub KeepsAccounts : (World → Reply) → Type 0
@@ -46,9 +47,31 @@ run_accounts (phase ∷ phases) (keeps, rest) w good = run_accounts phases rest 
 no_change_accounts : KeepsAccounts no_change
 no_change_accounts w good = mild_accounts w (no_change w) good (no_change_is_mild w good)
 
--- What happens from outside.
+-- A packet that is dropped has a row that counts for nobody.
+dropped_accounts : (packet : List ℕ) → KeepsAccounts (drops_packet packet)
+dropped_accounts packet w good = mild_accounts w (drops_packet packet w) good (record {
+  excess = refl;
+  quiet = (quiet_unclaimed w.book.time (length packet), tt);
+  keeps = λ i. keep_none;
+  slots = good.slots_live;
+  runner = good.runner_lives;
+})
+
+-- A signal leaves the life of whose line it is.
+signal_accounts : (line : ℕ) (owner : Option ℕ) → KeepsAccounts (signals line owner)
+signal_accounts line None w good = no_change_accounts w good
+signal_accounts line (Some owner) w good = mild_accounts w (tells owner (Line line) w) good (record {
+  excess = refl;
+  quiet = tt;
+  keeps = keep_only owner (Line line ∷ []) (keep_line line);
+  slots = good.slots_live;
+  runner = good.runner_lives;
+})
+
+-- What happens from outside, kind by kind.
 pub happen_accounts : (what : Occurrence) → KeepsAccounts (happen what)
-happen_accounts what w good = no_change_accounts w good
+happen_accounts (outside.Packet packet) w good = dropped_accounts packet w good
+happen_accounts (outside.Line line) w good = signal_accounts line (w.book.lines line) w good
 
 -- The turn. Each forfeit is of one that lives and owes, and who runs lives and owes nothing.
 abbrev Forfeits : World → (ℕ → ℕ) → List Turn → Option Turn → (ℕ → ℕ) → Type 0

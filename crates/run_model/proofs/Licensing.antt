@@ -13,7 +13,7 @@ use Rattle.page_book.specs.Row.{belongs_to, is_owned_by}
 use Rattle.bind_book.specs.Stripe.{is_bound}
 use Rattle.world_model.specs.declared.call.Call.{Call}
 use Rattle.world_model.specs.declared.call.Deed.{Deed}
-use Rattle.world_model.specs.declared.call.Deed.TheVariants.{Answers, Stops, Gives, Allocates, Frees, Recaps, Binds, Unbinds, Own, Transfers, TakesSlot, DropsSlot}
+use Rattle.world_model.specs.declared.call.Deed.TheVariants.{Answers, Stops, Gives, Allocates, Frees, Recaps, Binds, Unbinds, Own, Transfers, TakesSlot, DropsSlot, TakesLine, DropsLine}
 use Rattle.world_model.specs.declared.slot.Hold.{Hold}
 use Rattle.world_model.specs.declared.slot.Phase.{Phase}
 use Rattle.world_model.specs.declared.slot.Phase.TheVariants as phase
@@ -25,7 +25,9 @@ use Rattle.world_model.specs.Table.{set_at}
 use Rattle.world_model.specs.Book.{Book, excess_limit, first_turn, is_idle_book, lowered, owed, pays_first, running, sees, told_at, told_turn, whole_turn}
 use Rattle.world_model.specs.Death.{death_items, lost_with}
 use Rattle.external_event.specs.declared.event.Occurrence.{Occurrence}
-use Rattle.world_model.specs.Item.{Item, Step, Start, End, Transfer, Killed, Answer, Gained, Lost, deed_at}
+use Rattle.external_event.specs.declared.event.Occurrence.TheVariants as outside
+use Rattle.world_model.specs.Event.{happen, signals}
+use Rattle.world_model.specs.Item.{Item, Step, Start, End, Transfer, Killed, Answer, Gained, Lost, Line, deed_at}
 use Rattle.world_model.specs.May.{May}
 use Rattle.world_model.specs.PageCalls.{breaks, left_at, left_by, left_if, lost_if, page_bytes}
 use Rattle.world_model.specs.SlotCalls.{stop_row}
@@ -37,7 +39,7 @@ use Rattle.world_model.specs.World.{World, Reply, after, in_turn, no_items, only
 use Rattle.call_verdicts.specs.Granted.{GrantedMay}
 use Rattle.run_model.specs.Acting.{Acts, Does}
 use Rattle.run_model.specs.Boot.{boot_items, record_items}
-use Rattle.run_model.specs.Licensed.{AtBoot, AtStep, AtTimer, AtTurn, Breaks, ByDeath, ByFree, ByRecap, FeedIsLicensed, GivenIsLicensed, IsOut, IsOverdue, Licensed, LicensedAt, LicensedIn}
+use Rattle.run_model.specs.Licensed.{AtBoot, AtEvent, AtSignal, AtStep, AtTimer, AtTurn, Breaks, ByDeath, ByFree, ByRecap, FeedIsLicensed, GivenIsLicensed, IsOut, IsOverdue, Licensed, LicensedAt, LicensedIn}
 use Rattle.run_model.specs.Run.{System, feed, given_at, given_by, happens_in, items_in, moment, next_phases, world_after}
 use Rattle.run_model.proofs.NextTurn.{Found, holder_in, search_finds}
 use Rattle.run_model.proofs.Telling.{call_does, call_named, call_stands, deed_may}
@@ -93,6 +95,18 @@ each_death P b gone i its = by_test (i == gone) refl
     by_test : (t : Bool) → (i == gone) ≡ t → Each P (if t then [] else lost_with b gone i b.page_count)
     by_test true own = tt
     by_test false other = each_loss P b gone i b.page_count (its (eqb-false i gone other))
+
+-- What happens from outside, kind by kind.
+signal_licensed : (line : ℕ) (w : World) (i : ℕ) → Each (AtSignal line w i) ((signals line (w.book.lines line) w).items i)
+signal_licensed line w i = by_owner (w.book.lines line) refl
+  where
+    by_owner : (owner : Option ℕ) → w.book.lines line ≡ owner → Each (AtSignal line w i) ((signals line owner w).items i)
+    by_owner None its = tt
+    by_owner (Some e) its = each_only (AtSignal line w) e (Line line ∷ []) i (record { its = its; same = refl }, tt)
+
+event_licensed : (what : Occurrence) (w : World) (i : ℕ) → Each (AtEvent what w i) ((happen what w).items i)
+event_licensed (outside.Packet packet) w i = tt
+event_licensed (outside.Line line) w i = signal_licensed line w i
 
 -- The turn: who runs in it holds its slot, and owes nothing.
 abbrev IsFree : (ℕ → Option Hold) → (ℕ → ℕ) → Turn → Type 0
@@ -159,6 +173,8 @@ module _ (w : World) (e : ℕ) where
       each_only (AtStep w) target (Transfer e kind (carried (w.solos e).cpu) ∷ []) i (record { does = does; may = may; its = refl }, tt)
   deed_licensed (TakesSlot slot) does may i = tt
   deed_licensed (DropsSlot slot) does may i = tt
+  deed_licensed (TakesLine line) does may i = tt
+  deed_licensed (DropsLine line) does may i = tt
 
   module _ (granted : GrantedMay) where
     call_licensed : (c : Option Call) → Acts w e (Calls c) → (i : ℕ) → Each (AtStep w i) ((reply_to w e c).items i)
@@ -265,7 +281,7 @@ module _ (granted : GrantedMay) where
   phase_licensed [] (suc zero) m e = step_licensed granted m e
   phase_licensed [] (suc (suc zero)) m e = timer_licensed m e
   phase_licensed [] (suc (suc (suc k))) m e = tt
-  phase_licensed (what ∷ happens) zero m e = tt
+  phase_licensed (what ∷ happens) zero m e = event_licensed what m e
   phase_licensed (what ∷ happens) (suc k) m e = phase_licensed happens k m e
 
   pub given_is_licensed : GivenIsLicensed

@@ -16,7 +16,7 @@ use Rattle.world_model.specs.Book.{Book, sees}
 use Rattle.world_model.specs.Death.{lost_with}
 use Rattle.world_model.specs.Holding.{with_binds}
 use Rattle.world_model.specs.Upcalls.{start_by, with_context}
-use Rattle.world_model.specs.Item.{Item, Start, End, Transfer, Answer, Gained, Lost, Left, absorb, absorb_all, absorbed, answered, deed_at, own_part}
+use Rattle.world_model.specs.Item.{Item, Start, End, Transfer, Answer, Gained, Lost, Left, Line, absorb, absorb_all, absorbed, answered, deed_at, own_part}
 use Rattle.world_model.specs.PageCalls.{breaks, left_at, left_by, left_if, lost_if}
 use Rattle.world_model.specs.Solo.{Solo, Store, Key, Kept, Physical, is_dead}
 use Rattle.world_model.specs.Table.{set_at}
@@ -86,6 +86,9 @@ keep_gained page writable bytes = keep_one (Gained page writable bytes) (λ s. r
 
 pub keep_lost : (page : ℕ) → Keeps (Lost page ∷ [])
 keep_lost page = keep_one (Lost page) (λ s. refl)
+
+pub keep_line : (line : ℕ) → Keeps (Line line ∷ [])
+keep_line line = keep_one (Line line) (λ s. refl)
 
 -- what a break, a store or a death of another brings
 lost_keeps : (bound : Bool) (page : ℕ) → Keeps (lost_if bound page)

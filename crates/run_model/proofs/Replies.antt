@@ -20,7 +20,7 @@ use Rattle.world_model.specs.declared.life.Cause.{Cause}
 use Rattle.world_model.specs.declared.slot.Hold.{Hold}
 use Rattle.world_model.specs.declared.slot.Runner.{Runner}
 use Rattle.world_model.specs.declared.call.Deed.{Deed}
-use Rattle.world_model.specs.declared.call.Deed.TheVariants.{Answers, Own, Stops, Gives, Allocates, Frees, Recaps, Binds, Unbinds, Transfers, TakesSlot, DropsSlot}
+use Rattle.world_model.specs.declared.call.Deed.TheVariants.{Answers, Own, Stops, Gives, Allocates, Frees, Recaps, Binds, Unbinds, Transfers, TakesSlot, DropsSlot, TakesLine, DropsLine}
 use Rattle.world_model.specs.declared.verdict.Verdict.{Verdict}
 use Rattle.world_model.specs.declared.verdict.Verdict.TheVariants.{Refuse, Grant}
 use Rattle.world_model.specs.Table.{set_at}
@@ -31,6 +31,7 @@ use Rattle.world_model.specs.Item.{Item, Step, Start, Transfer, Answer, Gained, 
 use Rattle.world_model.specs.May.{May}
 use Rattle.world_model.specs.PageCalls.{breaks, left_by, page_bytes, with_binding, without_number}
 use Rattle.world_model.specs.SlotCalls.{dropped, handed, held_by, is_other, turn_slot, with_slot}
+use Rattle.world_model.specs.LineCalls.{with_line}
 use Rattle.world_model.specs.Solo.{Solo, is_dead}
 use Rattle.world_model.specs.Step.{Act, Nothing, Stores, Calls, Raises, Dies, act_of, acted, step_alone, stepped}
 use Rattle.world_model.specs.Tick.{act_now, brings}
@@ -268,6 +269,10 @@ module _ (w : World) (e : ℕ) (good : IsAccounted w) (lives : Lives w e) where
     runner = good.runner_lives;
   }
 
+  -- another owner of an interrupt line
+  relined : (line : ℕ) (owner : Option ℕ) → Mild w (with_line w line owner)
+  relined line owner = record { excess = refl; quiet = tt; keeps = λ i. keep_none; slots = good.slots_live; runner = good.runner_lives }
+
   -- the rest of the slice, and with it the slot or not, to one that lives
   hands_on : (target : ℕ) (item : Item) (later : Bool) (rows : List Row) → Lives w target → Keeps (item ∷ []) → AreQuiet rows
       → Mild w (record { book = record w.book { slots = slots_handed later target w.book; runner = handed target w.book.runner }; items = only target (item ∷ []); rows = rows })
@@ -301,6 +306,8 @@ module _ (w : World) (e : ℕ) (good : IsAccounted w) (lives : Lives w e) where
       hands_on target (Transfer e kind registers) (hands_slot kind) (transfer_rows w.book e target kind) (target_lives w e target may.reach.other) (keep_transfer e kind registers) (transfer_is_quiet w e target kind)
   deed_is_mild (TakesSlot k) may = reslotted k (Some (own_hold e)) (own_lives w e lives)
   deed_is_mild (DropsSlot k) may = reslotted k (dropped e (w.book.slots k)) (dropped_lives w e (w.book.slots k) (good.slots_live k))
+  deed_is_mild (TakesLine line) may = relined line (Some e)
+  deed_is_mild (DropsLine line) may = relined line None
 
   -- behind an answer
   answer_is_mild : (verdict : Verdict) (r : Reply) → Mild w r → Mild w (followed (tells e (Answer verdict) w) r)

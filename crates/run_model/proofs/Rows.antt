@@ -73,6 +73,9 @@ quiet_stop t k e = record { no_over = λ e. refl; no_pay = λ e. refl; lawful = 
 pub quiet_dead : (t k e : ℕ) → IsQuiet (row.Dead t k e)
 quiet_dead t k e = record { no_over = λ e. refl; no_pay = λ e. refl; lawful = λ before. tt }
 
+pub quiet_unclaimed : (t length : ℕ) → IsQuiet (row.Unclaimed t length)
+quiet_unclaimed t length = record { no_over = λ e. refl; no_pay = λ e. refl; lawful = λ before. tt }
+
 pub quiet_slot : (t k : ℕ) (hold : Option Hold) → IsQuiet (slot_row t k hold)
 quiet_slot t k None = quiet_own t k None None
 quiet_slot t k (Some hold) = quiet_own t k (Some hold.owner) (Some hold.holder)
