@@ -11,6 +11,7 @@ use Rattle.bind_book.specs.declared.binding.Binding.{Binding}
 use Rattle.world_model.specs.declared.slot.Runner.{Runner}
 use Rattle.world_model.specs.Book.{Book, is_idle_book, running}
 use Rattle.external_event.specs.declared.event.Occurrence.{Occurrence}
+use Rattle.external_event.specs.declared.event.Occurrence.TheVariants as outside
 use Rattle.world_model.specs.Event.{happen}
 use Rattle.world_model.specs.Solo.{Solo, absent}
 use Rattle.world_model.specs.Item.{absorb_all}
@@ -27,7 +28,8 @@ use Rattle.page_sight.proofs.Tables.{set_else}
 use Rattle.sharing_law.specs.Agreement.{AreBoundAllocated, BooksAgree, BoundIsAllocated}
 use Rattle.sharing_law.proofs.Sound.{HasNone, Sound, sees_nothing}
 use Rattle.sharing_law.proofs.Books.{step_allocated}
-use Rattle.sharing_law.proofs.Turning.{IsAlike, allocated_alike, sound_alike, turn_alike, unchanged}
+use Rattle.sharing_law.proofs.Happening.{dropped_alike, signalled_alike}
+use Rattle.sharing_law.proofs.Turning.{IsAlike, allocated_same, lists_alike, sound_alike, turn_alike, unchanged}
 use Rattle.sharing_law.proofs.Moments.{stays_idle}
 use Rattle.sharing_law.proofs.Stepping.{sound_following, step_follows}
 use Rattle.sharing_law.proofs.Timing.{allocated_timed, sound_timed}
@@ -112,7 +114,12 @@ KeepsFine phase = (w : World) → Fine w → Fine (after w (phase w))
 fine_alike : (phase : World → Reply) → ((w : World) → IsAlike w (after w (phase w))) → KeepsAccounts phase → KeepsFine phase
 fine_alike phase alike accounts w fine =
     let v = after w (phase w) in
-    record { sound = sound_alike w v (alike w) fine.sound; allocated = allocated_alike w v (alike w) fine.allocated; accounted = accounts w fine.accounted }
+    record { sound = sound_alike w v (alike w) fine.sound; allocated = allocated_same w v (lists_alike w v (alike w)) fine.allocated; accounted = accounts w fine.accounted }
+
+-- what happens from outside, kind by kind
+fine_event : (what : Occurrence) → KeepsFine (happen what)
+fine_event (outside.Packet packet) = fine_alike (happen (outside.Packet packet)) (dropped_alike packet) (happen_accounts (outside.Packet packet))
+fine_event (outside.Line line) = fine_alike (happen (outside.Line line)) (signalled_alike line) (happen_accounts (outside.Line line))
 
 fine_timer : KeepsFine timer
 fine_timer w fine = record { sound = sound_timed w fine.sound fine.accounted.runner_lives fine.allocated; allocated = allocated_timed w fine.allocated; accounted = timer_accounts w fine.accounted }
@@ -131,7 +138,7 @@ module _ (granted : GrantedMay) where
       record { sound = sound_step w w.book.runner refl fine next; allocated = next; accounted = step_keeps granted w fine.accounted }
 
   fine_phase : (happens : List Occurrence) (k : ℕ) (phase : World → Reply) → slice_get (phases_after happens) k ≡ Some phase → KeepsFine phase
-  fine_phase = of_each KeepsFine (λ what. fine_alike (happen what) unchanged (happen_accounts what)) (fine_alike turn turn_alike turn_keeps) fine_step fine_timer
+  fine_phase = of_each KeepsFine fine_event (fine_alike turn turn_alike turn_keeps) fine_step fine_timer
 
   -- at each moment of a tick
   module _ (system : System) (t : ℕ) (fine : Fine (world_after system t)) where

@@ -7,6 +7,7 @@ use Rattle.page_book.specs.Row.{is_owned_by}
 use Rattle.world_model.specs.declared.slot.Runner.{Runner}
 use Rattle.world_model.specs.Book.{is_idle_book, running}
 use Rattle.external_event.specs.declared.event.Occurrence.{Occurrence}
+use Rattle.external_event.specs.declared.event.Occurrence.TheVariants as outside
 use Rattle.world_model.specs.Event.{happen}
 use Rattle.world_model.specs.PageCalls.{page_bytes}
 use Rattle.world_model.specs.Tick.{phases_after, step, step_when, timer, turn}
@@ -18,7 +19,8 @@ use Rattle.sharing_law.specs.Change.{AllocatedChange, AllocatedInTick, Allocated
 use Rattle.sharing_law.specs.Right.{row_after}
 use Rattle.sharing_law.proofs.Sound.{owner_bytes}
 use Rattle.sharing_law.proofs.Brings.{Fate, Stays, Written, Taken}
-use Rattle.sharing_law.proofs.Turning.{IsAlike, alike_then, bytes_alike, same_alike, turn_alike, unchanged}
+use Rattle.sharing_law.proofs.Happening.{dropped_alike, happen_lists, signalled_alike}
+use Rattle.sharing_law.proofs.Turning.{IsAlike, ListsSame, bytes_alike, lists_alike, lists_then, same_lists, turn_alike, unchanged}
 use Rattle.sharing_law.proofs.Stepping.{all_see, step_follows}
 use Rattle.sharing_law.proofs.Timing.{timer_owned}
 use Rattle.sharing_law.proofs.Agreeing.{Fine, all_fine, moment_fine}
@@ -32,6 +34,11 @@ Fates w v = (o page : ℕ) → is_owned_by o (v.book.pages page) ≡ true → Fa
 alike_fates : (w v : World) → IsAlike w v → Fates w v
 alike_fates w v alike o page owns = Stays (ap (is_owned_by o) (λ k. sym alike.pages k page) ∙ owns) (bytes_alike w v alike page)
 
+-- what happens from outside, kind by kind
+event_fates : (what : Occurrence) (w : World) → Fates w (after w (happen what w))
+event_fates (outside.Packet packet) w = alike_fates w (after w (happen (outside.Packet packet) w)) (dropped_alike packet w)
+event_fates (outside.Line line) w = alike_fates w (after w (happen (outside.Line line) w)) (signalled_alike line w)
+
 step_fates : GrantedMay → (w : World) (o : Option Runner) → w.book.runner ≡ o → Fine w → Fates w (after w (step_when w o))
 step_fates granted w None is fine o page owns = alike_fates w (after w (step_when w None)) (unchanged w) o page owns
 step_fates granted w (Some r) is fine o page owns =
@@ -41,31 +48,32 @@ step_fates granted w (Some r) is fine o page owns =
     let bytes = owner_bytes now brings.bytes (all_see w r.env stepped.came_to now stepped.items fine.sound stepped.follows) o page owns in
     subst (λ (its : List ℕ). Fate w o page its) (sym bytes) (brings.fate o page owns)
 
--- Up to the step the book is that before the tick, but for whose turn it is; and then nobody stores any more.
+-- Up to the step the book lists what it did before the tick; and then nobody stores any more.
 data PhaseFates (base w v : World) : Type 0 where
-  Early : IsAlike base w → Fates w v → PhaseFates base w v
+  Early : ListsSame base.book w.book → Fates w v → PhaseFates base w v
   Late : ((o page : ℕ) → is_owned_by o (v.book.pages page) ≡ true → (is_owned_by o (w.book.pages page) ≡ true) × (page_bytes v page ≡ page_bytes w page)) → PhaseFates base w v
 
 module _ (granted : GrantedMay) where
   one : (p q : World → Reply) → Some p ≡ Some q → p ≡ q
   one p q same = cc
 
-  phase_fates : (happens : List Occurrence) (base w : World) (k : ℕ) (phase : World → Reply) → slice_get (phases_after happens) k ≡ Some phase → IsAlike base w
+  phase_fates : (happens : List Occurrence) (base w : World) (k : ℕ) (phase : World → Reply) → slice_get (phases_after happens) k ≡ Some phase → ListsSame base.book w.book
       → (let m = run_phases w (take k (phases_after happens)) in Fine m → PhaseFates base m (after m (phase m)))
-  phase_fates [] base w zero phase is alike fine = subst (λ (p : World → Reply). PhaseFates base w (after w (p w))) (one turn phase is) (Early alike (alike_fates w (after w (turn w)) (turn_alike w)))
-  phase_fates [] base w (suc zero) phase is alike fine =
+  phase_fates [] base w zero phase is same fine = subst (λ (p : World → Reply). PhaseFates base w (after w (p w))) (one turn phase is) (Early same (alike_fates w (after w (turn w)) (turn_alike w)))
+  phase_fates [] base w (suc zero) phase is same fine =
       let m = after w (turn w) in
-      subst (λ (p : World → Reply). PhaseFates base m (after m (p m))) (one step phase is) (Early (alike_then base w m alike (turn_alike w)) (step_fates granted m m.book.runner refl fine))
-  phase_fates [] base w (suc (suc zero)) phase is alike fine =
+      subst (λ (p : World → Reply). PhaseFates base m (after m (p m))) (one step phase is)
+      (Early (lists_then base.book w.book m.book same (lists_alike w m (turn_alike w))) (step_fates granted m m.book.runner refl fine))
+  phase_fates [] base w (suc (suc zero)) phase is same fine =
       let v = after w (turn w) in
       let m = after v (step v) in
       subst (λ (p : World → Reply). PhaseFates base m (after m (p m))) (one timer phase is) (Late (timer_owned m fine.sound fine.accounted.runner_lives))
-  phase_fates [] base w (suc (suc (suc k))) phase is alike fine = cc
-  phase_fates (what ∷ happens) base w zero phase is alike fine =
-      subst (λ (p : World → Reply). PhaseFates base w (after w (p w))) (one (happen what) phase is) (Early alike (alike_fates w (after w (happen what w)) (unchanged w)))
-  phase_fates (what ∷ happens) base w (suc k) phase is alike fine =
+  phase_fates [] base w (suc (suc (suc k))) phase is same fine = cc
+  phase_fates (what ∷ happens) base w zero phase is same fine =
+      subst (λ (p : World → Reply). PhaseFates base w (after w (p w))) (one (happen what) phase is) (Early same (event_fates what w))
+  phase_fates (what ∷ happens) base w (suc k) phase is same fine =
       let v = after w (happen what w) in
-      phase_fates happens base v k phase is (alike_then base w v alike (unchanged w)) fine
+      phase_fates happens base v k phase is (lists_then base.book w.book v.book same (happen_lists what w)) fine
 
   -- In a phase of a tick
   module _ (system : System) (t : ℕ) where
@@ -81,16 +89,16 @@ module _ (granted : GrantedMay) where
     fine_at : (k : ℕ) → Fine (moment system t k)
     fine_at k = moment_fine granted system t (all_fine granted system t) k
 
-    by_fate : (k page owner : ℕ) → IsAlike before (moment system t k) → Fate (moment system t k) owner page (page_bytes (moment system t (suc k)) page) → Becomes k page owner
-    by_fate k page owner alike (Stays owns same) = inl (owns, same)
-    by_fate k page owner alike (Written owns e x acts into has) =
-        let through = store_lives granted system t (moment system t k) (fine_at k) alike e x page acts into in
+    by_fate : (k page owner : ℕ) → ListsSame before.book (moment system t k).book → Fate (moment system t k) owner page (page_bytes (moment system t (suc k)) page) → Becomes k page owner
+    by_fate k page owner lists (Stays owns same) = inl (owns, same)
+    by_fate k page owner lists (Written owns e x acts into has) =
+        let through = store_lives granted system t (moment system t k) (fine_at k) lists e x page acts into in
         inr (inl (owns, record { writer = e; store = x; acts = acts; into = into; through = through; has = has }))
-    by_fate k page owner alike (Taken words does free zeros) = inr (inr (record { words = words; does = does; free = free; zeros = zeros }))
+    by_fate k page owner lists (Taken words does free zeros) = inr (inr (record { words = words; does = does; free = free; zeros = zeros }))
 
     by_fates : (k page owner : ℕ) (v : World) → moment system t (suc k) ≡ v → PhaseFates before (moment system t k) v → IsOwnedAt system t (suc k) page owner → Becomes k page owner
-    by_fates k page owner v next (Early alike fates) owns =
-        by_fate k page owner alike (subst (λ (u : World). Fate (moment system t k) owner page (page_bytes u page)) (sym next) (fates owner page (ap (λ (u : World). is_owned_by owner (u.book.pages page)) (sym next) ∙ owns)))
+    by_fates k page owner v next (Early lists fates) owns =
+        by_fate k page owner lists (subst (λ (u : World). Fate (moment system t k) owner page (page_bytes u page)) (sym next) (fates owner page (ap (λ (u : World). is_owned_by owner (u.book.pages page)) (sym next) ∙ owns)))
     by_fates k page owner v next (Late was) owns =
         let its = was owner page (ap (λ (u : World). is_owned_by owner (u.book.pages page)) (sym next) ∙ owns) in
         inl (its.0, ap (λ (u : World). page_bytes u page) next ∙ its.1)
@@ -102,7 +110,7 @@ module _ (granted : GrantedMay) where
     by_phase k page owner (Some phase) is owns =
         let m = moment system t k in
         by_fates k page owner (after m (phase m)) (next_moment system t k ∙ ap (once_more m) is)
-        (phase_fates (happens_in system.schedule before) before before k phase is (same_alike before) (fine_at k)) owns
+        (phase_fates (happens_in system.schedule before) before before k phase is (same_lists before.book) (fine_at k)) owns
 
     pub becomes : (k page owner : ℕ) → IsOwnedAt system t (suc k) page owner → Becomes k page owner
     becomes k page owner = by_phase k page owner (slice_get (phases_after (happens_in system.schedule before)) k) refl

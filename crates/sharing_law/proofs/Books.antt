@@ -13,8 +13,8 @@ use Rattle.run_model.specs.Run.{System, at_step, world_after}
 use Rattle.run_model.proofs.Phases.{moments_in_order}
 use Rattle.sharing_law.specs.Agreement.{IsAllocated, AreBoundAllocated}
 use Rattle.sharing_law.proofs.Replies.{IsCarried, IsPut, WasListed, Remains, carried_allocated, told_carries}
-use Rattle.sharing_law.proofs.Turning.{IsAlike, allocated_alike}
-use Rattle.sharing_law.proofs.Moments.{stays_idle, turned_alike}
+use Rattle.sharing_law.proofs.Turning.{ListsSame, allocated_same}
+use Rattle.sharing_law.proofs.Moments.{stays_idle, turned_lists}
 use Rattle.sharing_law.proofs.Timing.{timer_remains}
 
 step_carries : GrantedMay → (w : World) → AreBoundAllocated w → (runner : Option Runner) → w.book.runner ≡ runner → (e row : ℕ) (b : Binding) → (step_when w runner).book.binds e row ≡ Some b
@@ -30,11 +30,11 @@ step_allocated granted v allocated e row b is =
       | inr was ↦ carried_allocated e (v.book.pages b.page) ((step v).book.pages b.page) was.carried (allocated e row b was.listed)
     ]
 
--- what the turn leaves was there before it
-turned_listed : (w v : World) (pages : ℕ → PageRow) (e row : ℕ) (b : Binding) → IsAlike w v → WasListed v pages e row b → WasListed w pages e row b
-turned_listed w v pages e row b alike was = record {
-  listed = sym (ap (λ (f : ℕ → ℕ → Option Binding). f e row) alike.binds) ∙ was.listed;
-  carried = subst (λ (old : ℕ → PageRow). IsCarried e (old b.page) (pages b.page)) alike.pages was.carried;
+-- what is left up to the step was there before
+turned_listed : (w v : World) (pages : ℕ → PageRow) (e row : ℕ) (b : Binding) → ListsSame w.book v.book → WasListed v pages e row b → WasListed w pages e row b
+turned_listed w v pages e row b same was = record {
+  listed = sym (ap (λ (f : ℕ → ℕ → Option Binding). f e row) same.binds) ∙ was.listed;
+  carried = subst (λ (old : ℕ → PageRow). IsCarried e (old b.page) (pages b.page)) same.pages was.carried;
 }
 
 -- and the timer leaves what it doesn't unbind
@@ -56,14 +56,14 @@ Carried w mid next e row b = IsPut mid next.book.pages e row b ⊎ WasListed w n
 abbrev timed : World → World
 timed u = after u (timer u)
 
-tick_carries : GrantedMay → (w mid : World) → IsAlike w mid → AreBoundAllocated mid → (e row : ℕ) (b : Binding)
+tick_carries : GrantedMay → (w mid : World) → ListsSame w.book mid.book → AreBoundAllocated mid → (e row : ℕ) (b : Binding)
     → (timed (after mid (step mid))).book.binds e row ≡ Some b → Carried w mid (timed (after mid (step mid))) e row b
-tick_carries granted w mid alike allocated e row b is =
+tick_carries granted w mid same allocated e row b is =
     let u = after mid (step mid) in
     let left = timer_remains u e row b is in
     elim (step_carries granted mid allocated mid.book.runner refl e row b left.listed) [
       | inl put ↦ inl (put_timed mid u.book (timer u).book e row b left put)
-      | inr was ↦ inr (listed_timed w u.book (timer u).book e row b left (turned_listed w mid u.book.pages e row b alike was))
+      | inr was ↦ inr (listed_timed w u.book (timer u).book e row b left (turned_listed w mid u.book.pages e row b same was))
     ]
 
 module _ (granted : GrantedMay) (system : System) (t : ℕ) (allocated : AreBoundAllocated (world_after system t)) where
@@ -75,7 +75,7 @@ module _ (granted : GrantedMay) (system : System) (t : ℕ) (allocated : AreBoun
       subst (λ (next : World). CarriedInto next e row b) (sym (stays_idle system t idle)) (λ is. inr (record { listed = is; carried = inl refl }))
   by_idle false busy e row b =
       subst (λ (next : World). CarriedInto next e row b) (sym ((moments_in_order system t).timed busy ∙ ap timed ((moments_in_order system t).stepped)))
-      (tick_carries granted (world_after system t) (at_step system t) (turned_alike system t) (allocated_alike (world_after system t) (at_step system t) (turned_alike system t) allocated) e row b)
+      (tick_carries granted (world_after system t) (at_step system t) (turned_lists system t) (allocated_same (world_after system t) (at_step system t) (turned_lists system t) allocated) e row b)
 
   pub next_carries : (e row : ℕ) (b : Binding) → CarriedInto (world_after system (suc t)) e row b
   next_carries = by_idle (is_idle_book (world_after system t).book) refl

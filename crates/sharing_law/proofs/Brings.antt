@@ -14,8 +14,6 @@ use Rattle.bind_book.specs.Stripe.{goes_with, without}
 use Rattle.world_model.specs.declared.call.Deed.TheVariants.{Allocates}
 use Rattle.world_model.specs.declared.life.Life.TheVariants.{Live}
 use Rattle.world_model.specs.declared.life.Cause.{Cause}
-use Rattle.world_model.specs.declared.slot.Hold.{Hold}
-use Rattle.world_model.specs.declared.slot.Runner.{Runner}
 use Rattle.world_model.specs.Table.{set_at}
 use Rattle.world_model.specs.Book.{Book, sees}
 use Rattle.world_model.specs.Death.{death, death_items, lost_with}
@@ -94,9 +92,10 @@ gone_row pages e None = refl
 gone_row pages e (Some b) = ap (λ own. if own || belongs_to e (pages b.page) then None else Some b) (eq-eqb e e refl)
 
 module _ (w : World) (e : ℕ) (sound : Sound w) (lives : (w.solos e).life ≡ Live) where
-  -- An act that changes nothing that is seen, but slots and who runs.
-  pub silent_but : (s : Solo) (slots : ℕ → Option Hold) (runner : Option Runner) → s.life ≡ Live → s.binds ≡ (w.solos e).binds → s.seen ≡ (w.solos e).seen → Brings w e s (record w.book { slots = slots; runner = runner }) no_items
-  silent_but s slots runner alive binds sights = record {
+  -- An act that changes nothing that is seen: the book may be another one with the same pages and bindings.
+  pub silent_but : (s : Solo) (b : Book) → s.life ≡ Live → s.binds ≡ (w.solos e).binds → s.seen ≡ (w.solos e).seen
+      → Brings w e s (record b { page_count = w.book.page_count; pages = w.book.pages; binds = w.book.binds }) no_items
+  silent_but s b alive binds sights = record {
     bytes = page_bytes w;
     own = as_before e w.book.pages (w.book.binds e) (page_bytes w) (w.solos e) s binds sights (sound.agreed e);
     others = λ i ne live. sound.agreed i;
@@ -108,7 +107,7 @@ module _ (w : World) (e : ℕ) (sound : Sound w) (lives : (w.solos e).life ≡ L
   }
 
   pub silent : (s : Solo) → s.life ≡ Live → s.binds ≡ (w.solos e).binds → s.seen ≡ (w.solos e).seen → Brings w e s w.book no_items
-  silent s alive binds sights = silent_but s w.book.slots w.book.runner alive binds sights
+  silent s alive binds sights = silent_but s w.book alive binds sights
 
   -- A store.
   module _ (cpu : Cpu) (x : Store) (acts : Acts w e (Stores x)) where

@@ -12,17 +12,17 @@ use Rattle.page_book.specs.Row.{is_owned_by}
 use Rattle.bind_book.specs.declared.binding.Binding.{Binding}
 use Rattle.bind_book.specs.Stripe.{binding_at, breaks_page, is_bound, is_of_page, row_of, without}
 use Rattle.world_model.specs.declared.call.Deed.{Deed}
-use Rattle.world_model.specs.declared.call.Deed.TheVariants.{Answers, Stops, Gives as Donates, Allocates, Frees, Recaps, Binds, Unbinds, Own, Transfers, TakesSlot, DropsSlot}
+use Rattle.world_model.specs.declared.call.Deed.TheVariants.{Answers, Stops, Gives as Donates, Allocates, Frees, Recaps, Binds, Unbinds, Own, Transfers, TakesSlot, DropsSlot, TakesLine, DropsLine}
 use Rattle.world_model.specs.declared.life.Life.TheVariants.{Live}
 use Rattle.world_model.specs.declared.slot.Hold.{Hold}
 use Rattle.world_model.specs.Table.{set_at}
-use Rattle.world_model.specs.Book.{Book, broken, own_hold}
+use Rattle.world_model.specs.Book.{Book, broken}
 use Rattle.world_model.specs.Holding.{bound, gained, lost, owning, unbound}
 use Rattle.world_model.specs.Item.{Item, Start, Transfer, Gained, Lost, absorb_all, own_part}
 use Rattle.world_model.specs.May.{May, MayAllocate, MayChange}
 use Rattle.world_model.specs.PageCalls.{breaks, page_bytes, without_number}
 use Rattle.world_model.specs.Solo.{Solo}
-use Rattle.world_model.specs.SlotCalls.{dropped, handed}
+use Rattle.world_model.specs.SlotCalls.{handed}
 use Rattle.world_model.specs.Transfers.{slots_handed}
 use Rattle.world_model.specs.Verdict.{done}
 use Rattle.world_model.specs.World.{World, no_items, only}
@@ -250,7 +250,7 @@ module _ (w : World) (e : ℕ) (sound : Sound w) (lives : (w.solos e).life ≡ L
   -- deed by deed
   pub deed_brings : (d : Deed) → Does w e d → May w e d → Brings w e (caller d) (done w e d).book (done w e d).items
   deed_brings Answers does may = silent w e sound lives (caller Answers) lives refl refl
-  deed_brings Stops does may = silent_but w e sound lives (caller Stops) w.book.slots None lives refl refl
+  deed_brings Stops does may = silent_but w e sound lives (caller Stops) (done w e Stops).book lives refl refl
   deed_brings (Donates target) does may = hands_brings target Start tt (other_than w e target may.other) (caller (Donates target)) lives refl refl w.book.slots
   deed_brings (Own own) does may = silent w e sound lives (caller (Own own)) lives refl refl
   deed_brings (Allocates page words) does may = alloc_brings page words zero_page refl may does
@@ -260,5 +260,7 @@ module _ (w : World) (e : ℕ) (sound : Sound w) (lives : (w.solos e).life ≡ L
   deed_brings (Unbinds vpn) does may = unbind_brings vpn
   deed_brings (Transfers target kind) does may =
       hands_brings target (Transfer e kind (carried (w.solos e).cpu)) tt (other_than w e target may.reach.other) (caller (Transfers target kind)) lives refl refl (slots_handed (hands_slot kind) target w.book)
-  deed_brings (TakesSlot k) does may = silent_but w e sound lives (caller (TakesSlot k)) (set_at k (Some (own_hold e)) w.book.slots) w.book.runner lives refl refl
-  deed_brings (DropsSlot k) does may = silent_but w e sound lives (caller (DropsSlot k)) (set_at k (dropped e (w.book.slots k)) w.book.slots) w.book.runner lives refl refl
+  deed_brings (TakesSlot k) does may = silent_but w e sound lives (caller (TakesSlot k)) (done w e (TakesSlot k)).book lives refl refl
+  deed_brings (DropsSlot k) does may = silent_but w e sound lives (caller (DropsSlot k)) (done w e (DropsSlot k)).book lives refl refl
+  deed_brings (TakesLine line) does may = silent_but w e sound lives (caller (TakesLine line)) (done w e (TakesLine line)).book lives refl refl
+  deed_brings (DropsLine line) does may = silent_but w e sound lives (caller (DropsLine line)) (done w e (DropsLine line)).book lives refl refl

@@ -22,7 +22,7 @@ use Rattle.world_model.specs.Book.{Book}
 use Rattle.world_model.specs.Solo.{Solo, Store, Key, Kept, Physical, is_dead, is_key_of, kept_after, kept_at, stored_page}
 use Rattle.world_model.specs.Holding.{with_binds}
 use Rattle.world_model.specs.Upcalls.{enter, start_by, with_context}
-use Rattle.world_model.specs.Item.{Item, Boot, Step, Start, End, Transfer, Killed, Answer, Gained, Lost, Left, absorb, absorb_all, absorbed, answered, deed_at, own_part}
+use Rattle.world_model.specs.Item.{Item, Boot, Step, Start, End, Transfer, Killed, Answer, Gained, Lost, Left, Line, absorb, absorb_all, absorbed, answered, deed_at, own_part}
 use Rattle.world_model.specs.Death.{death_items, lost_with}
 use Rattle.world_model.specs.PageCalls.{left_if, lost_if}
 use Rattle.world_model.specs.World.{only}
@@ -68,6 +68,7 @@ IsTold (Answer verdict) = Unit {0}
 IsTold (Gained page writable bytes) = Unit {0}
 IsTold (Lost page) = Unit {0}
 IsTold (Left page offset bytes) = Unit {0}
+IsTold (Line line) = ⊥
 
 abbrev pub AreTold : List Item → Type 0
 AreTold [] = Unit {0}
@@ -104,6 +105,10 @@ end_rests s = either_rests (is_dead s.life) s (absorbed s End) (record { binds =
 pub enter_rests : (from : ℕ) (kind : TransferKind) (registers : Registers) (s : Solo) → IsRested s (absorb_all s (Transfer from kind registers ∷ []))
 enter_rests from kind registers s = either_rests (is_dead s.life) s (enter from kind registers s) (record { binds = refl; seen = refl; life = refl })
 
+-- or one that gets a signal
+pub line_rests : (line : ℕ) (s : Solo) → IsRested s (absorb_all s (Line line ∷ []))
+line_rests line s = either_rests (is_dead s.life) s (absorbed s (Line line)) (record { binds = refl; seen = refl; life = refl })
+
 -- an environment with the guaranteed pages and the life that it had
 pub record Leaves (s t : Solo) : Type 0 where
   pub kept : t.kept ≡ s.kept
@@ -132,6 +137,7 @@ absorbed_leaves s (Answer verdict) told = answered_leaves s verdict
 absorbed_leaves s (Gained page writable bytes) told = record { kept = refl; life = refl }
 absorbed_leaves s (Lost page) told = record { kept = refl; life = refl }
 absorbed_leaves s (Left page offset bytes) told = record { kept = kept_as_was s.kept page offset bytes; life = refl }
+absorbed_leaves s (Line line) told = absurd told
 
 -- whether it lives or not
 either_leaves : (gone : Bool) (s t : Solo) → Leaves s t → Leaves s (if gone then s else t)
@@ -208,6 +214,7 @@ IsHanded (Answer verdict) = ⊥
 IsHanded (Gained page writable bytes) = ⊥
 IsHanded (Lost page) = ⊥
 IsHanded (Left page offset bytes) = ⊥
+IsHanded (Line line) = ⊥
 
 pub data Gives (e i : ℕ) (items : List Item) : Type 0 where
   Tells : AreTold items → Gives e i items
@@ -233,6 +240,7 @@ handed_rests (Answer verdict) handed s = absurd handed
 handed_rests (Gained page writable bytes) handed s = absurd handed
 handed_rests (Lost page) handed s = absurd handed
 handed_rests (Left page offset bytes) handed s = absurd handed
+handed_rests (Line line) handed s = absurd handed
 
 pub gives_life : (e i : ℕ) (items : List Item) → Gives e i items → (s : Solo) → (absorb_all s items).life ≡ s.life
 gives_life e i items (Tells told) s = (told_leaves items told s).life

@@ -7,7 +7,7 @@ use Rattle.bind_book.specs.Stripe.{is_bound}
 use Rattle.kernel_journal.specs.declared.row.Row.TheVariants as row
 use Rattle.world_model.specs.declared.call.Call.{Call}
 use Rattle.world_model.specs.declared.call.Deed.{Deed}
-use Rattle.world_model.specs.declared.call.Deed.TheVariants.{Answers, Stops, Gives as Donates, Allocates, Frees, Recaps, Binds, Unbinds, Own, Transfers, TakesSlot, DropsSlot}
+use Rattle.world_model.specs.declared.call.Deed.TheVariants.{Answers, Stops, Gives as Donates, Allocates, Frees, Recaps, Binds, Unbinds, Own, Transfers, TakesSlot, DropsSlot, TakesLine, DropsLine}
 use Rattle.world_model.specs.declared.slot.Phase.{Phase}
 use Rattle.world_model.specs.declared.slot.Phase.TheVariants as phase
 use Rattle.world_model.specs.declared.slot.Runner.{Runner}
@@ -18,8 +18,9 @@ use Rattle.world_model.specs.Book.{Told, excess_limit, sees, whole_turn}
 use Rattle.world_model.specs.Call.{called}
 use Rattle.world_model.specs.Death.{death_items}
 use Rattle.external_event.specs.declared.event.Occurrence.{Occurrence}
-use Rattle.world_model.specs.Event.{happen}
-use Rattle.world_model.specs.Item.{Item, Step, Start, End, Transfer, Killed, Answer, Gained, Lost, deed_at}
+use Rattle.external_event.specs.declared.event.Occurrence.TheVariants as outside
+use Rattle.world_model.specs.Event.{happen, signals}
+use Rattle.world_model.specs.Item.{Item, Step, Start, End, Transfer, Killed, Answer, Gained, Lost, Line, deed_at}
 use Rattle.world_model.specs.May.{May}
 use Rattle.world_model.specs.PageCalls.{breaks, left_at, left_by, page_bytes}
 use Rattle.world_model.specs.SlotCalls.{is_other, stop_row}
@@ -67,6 +68,8 @@ deed_gives w e (Unbinds vpn) may i = Tells tt
 deed_gives w e (Transfers target kind) may i = hands e target (Transfer e kind (carried (w.solos e).cpu)) tt (other_than w e target may.reach.other) i
 deed_gives w e (TakesSlot slot) may i = Tells tt
 deed_gives w e (DropsSlot slot) may i = Tells tt
+deed_gives w e (TakesLine line) may i = Tells tt
+deed_gives w e (DropsLine line) may i = Tells tt
 
 -- an answer comes first
 answers : (e i : ℕ) (v : Verdict) (items : List Item) → Gives e i items → Gives e i (only e (Answer v ∷ []) i ++ items)
@@ -99,9 +102,14 @@ module _ (granted : GrantedMay) (w : World) (e : ℕ) where
   act_gives (Raises exc) is i = Tells tt
   act_gives (Dies cause) is i = Tells (told_death w.book e i)
 
--- The phases.
+-- The phases. What happens from outside, kind by kind
+signal_led : (line : ℕ) (owner : Option ℕ) (w : World) (i : ℕ) → Led ((signals line owner w).items i)
+signal_led line None w i = Rests tt
+signal_led line (Some owner) w i = led_only owner i (Line line)
+
 pub happen_led : (what : Occurrence) (w : World) (i : ℕ) → Led ((happen what w).items i)
-happen_led what w i = Rests tt
+happen_led (outside.Packet packet) w i = Rests tt
+happen_led (outside.Line line) w i = signal_led line (w.book.lines line) w i
 
 pub turn_led : (w : World) (i : ℕ) → Led ((turn w).items i)
 turn_led w i = by_runner w.book.runner

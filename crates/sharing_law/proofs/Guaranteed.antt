@@ -1,20 +1,23 @@
 -- Why the bytes of a guaranteed page change.
-use Rattle.std.proofs.Common.{◌≡◌, ℕ, zero, suc, List, ◌∷◌, Bool, true, false, Option, Some, None, ◌⊎◌, inl, inr, refl, sym, ◌∙◌, ap, subst}
-use Rattle.std.specs.Prelude.{◌==◌, if◌then◌else◌, slice_get}
+use Rattle.std.proofs.Common.{◌≡◌, ◌^◌, ℕ, zero, suc, List, ◌∷◌, Bool, true, false, Option, Some, None, ◌⊎◌, inl, inr, refl, sym, ◌∙◌, ap, subst}
+use Rattle.std.specs.Prelude.{◌==◌, bit_or, if◌then◌else◌, slice_get}
 use Rattle.std.specs.Option.{option_map}
 use Rattle.std.proofs.lemmas.Bool.{cases_eq, eqb-false}
-use Rattle.frame_store.specs.Pages.{with_bytes}
+use Rattle.frame_store.specs.Pages.{with_bytes, word_bytes}
 use Rattle.mips_exec.specs.declared.registers.Cpu.{Cpu}
 use Rattle.mips_exec.specs.declared.exception.Exc.{Exc}
 use Rattle.mips_exec.specs.Cpu.{reg, rested}
 use Rattle.mips_exec.specs.Step.{Step as MachineStep, Retired, Called, Trapped, cpu_after}
 use Rattle.env_frames.specs.Context.{context_number, end_area, end_bytes, exception_area, exception_bytes, resumed_cpu, start_area, start_bytes}
 use Rattle.env_frames.specs.Transfer.{entry_area, entry_bytes}
+use Rattle.env_frames.specs.declared.post.PostWord.TheVariants as post
+use Rattle.env_frames.specs.Post.{post_offset}
 use Rattle.world_model.specs.Book.{is_idle_book}
 use Rattle.world_model.specs.Call.{exit_number}
 use Rattle.external_event.specs.declared.event.Occurrence.{Occurrence}
-use Rattle.world_model.specs.Item.{Item, Boot, Step, Start, End, Transfer, Killed, Answer, Gained, Lost, Left, absorb, absorb_all, absorbed}
+use Rattle.world_model.specs.Item.{Item, Boot, Step, Start, End, Transfer, Killed, Answer, Gained, Lost, Left, Line, absorb, absorb_all, absorbed}
 use Rattle.world_model.specs.Page.{KeptPage}
+use Rattle.world_model.specs.Post.{post_word, signalled}
 use Rattle.world_model.specs.Solo.{Solo, Store, Key, Kept, Physical, bytes_in, is_dead, kept_after, kept_at, store_of, stored, stored_page}
 use Rattle.world_model.specs.Step.{Act, Nothing, Stores, Calls, Raises, Dies, act_at_call, act_of, acted, step_alone, store_act}
 use Rattle.world_model.specs.Tick.{phases_after}
@@ -123,6 +126,7 @@ module _ (s : Solo) (vpn : ℕ) where
   by_item (Gained page writable bytes) = inl (stays_told (Gained page writable bytes) tt)
   by_item (Lost page) = inl (stays_told (Lost page) tt)
   by_item (Left page offset bytes) = inl (stays_told (Left page offset bytes) tt)
+  by_item (Line line) = context_kept (post_offset post.Lines) (word_bytes (bit_or (post_word post.Lines s) (2 ^ line))) s (signalled line s) vpn refl
 
   by_life : (item : Item) (gone : Bool) → let t = (if gone then s else absorbed s item) in Stays t ⊎ Changes s t vpn item
   by_life item true = inl refl

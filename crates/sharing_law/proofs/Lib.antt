@@ -6,6 +6,7 @@ mod Sound
 mod Brings
 mod Calling
 mod Turning
+mod Happening
 mod Moments
 mod Stepping
 mod Timing

@@ -6,7 +6,7 @@ use Rattle.page_book.specs.declared.row.PageRow.TheVariants.{Free, Guaranteed, O
 use Rattle.page_book.specs.Row.{is_owned_by}
 use Rattle.world_model.specs.declared.slot.Runner.{Runner}
 use Rattle.world_model.specs.declared.slot.Turn.{Turn}
-use Rattle.world_model.specs.Book.{Told, whole_turn}
+use Rattle.world_model.specs.Book.{Book, Told, whole_turn}
 use Rattle.world_model.specs.Solo.{Solo, bytes_seen}
 use Rattle.world_model.specs.Item.{Start, absorb_all}
 use Rattle.world_model.specs.PageCalls.{bytes_owned, page_bytes}
@@ -17,27 +17,31 @@ use Rattle.sharing_law.specs.Agreement.{AreBoundAllocated, IsAllocated}
 use Rattle.sharing_law.proofs.Given.{IsRested, rests_same, start_rests}
 use Rattle.sharing_law.proofs.Sound.{Sound}
 
--- two worlds whose books differ in whose turn it is alone, and whose environments do in their registers
+-- a book that lists the pages and the bindings of another
+pub record ListsSame (old new : Book) : Type 0 where
+  pub pages : new.pages ≡ old.pages
+  pub binds : new.binds ≡ old.binds
+
+pub same_lists : (b : Book) → ListsSame b b
+same_lists b = record { pages = refl; binds = refl }
+
+pub lists_then : (a b c : Book) → ListsSame a b → ListsSame b c → ListsSame a c
+lists_then a b c first next = record { pages = next.pages ∙ first.pages; binds = next.binds ∙ first.binds }
+
+pub allocated_same : (w v : World) → ListsSame w.book v.book → AreBoundAllocated w → AreBoundAllocated v
+allocated_same w v same allocated e row b at =
+    subst (λ (pages : ℕ → PageRow). IsAllocated (pages b.page)) (sym same.pages)
+    (allocated e row b ((λ k. sym same.binds k e row) ∙ at))
+
+-- two worlds whose books list the same, and whose environments differ in their registers and their guaranteed pages alone
 pub record IsAlike (w v : World) : Type 0 where
   pub solos : (i : ℕ) → IsRested (w.solos i) (v.solos i)
   pub pages : v.book.pages ≡ w.book.pages
   pub binds : v.book.binds ≡ w.book.binds
   pub count : v.book.page_count ≡ w.book.page_count
 
--- and so on, one after another
-pub rested_then : (s t u : Solo) → IsRested s t → IsRested t u → IsRested s u
-rested_then s t u first next = record { binds = next.binds ∙ first.binds; seen = next.seen ∙ first.seen; life = next.life ∙ first.life }
-
-pub same_alike : (w : World) → IsAlike w w
-same_alike w = record { solos = λ i. rests_same (w.solos i); pages = refl; binds = refl; count = refl }
-
-pub alike_then : (w v u : World) → IsAlike w v → IsAlike v u → IsAlike w u
-alike_then w v u first next = record {
-  solos = λ i. rested_then (w.solos i) (v.solos i) (u.solos i) (first.solos i) (next.solos i);
-  pages = next.pages ∙ first.pages;
-  binds = next.binds ∙ first.binds;
-  count = next.count ∙ first.count;
-}
+pub lists_alike : (w v : World) → IsAlike w v → ListsSame w.book v.book
+lists_alike w v alike = record { pages = alike.pages; binds = alike.binds }
 
 pub bytes_alike : (w v : World) → IsAlike w v → (page : ℕ) → page_bytes v page ≡ page_bytes w page
 bytes_alike w v alike page = (λ k. bytes_owned v page (alike.pages k page)) ∙ by_row (w.book.pages page)
@@ -46,11 +50,6 @@ bytes_alike w v alike page = (λ k. bytes_owned v page (alike.pages k page)) ∙
     by_row Free = refl
     by_row (Guaranteed owner) = refl
     by_row (Owned owner words) = λ k. bytes_seen ((alike.solos owner).seen k page)
-
-pub allocated_alike : (w v : World) → IsAlike w v → AreBoundAllocated w → AreBoundAllocated v
-allocated_alike w v alike allocated e row b at =
-    subst (λ (pages : ℕ → PageRow). IsAllocated (pages b.page)) (sym alike.pages)
-    (allocated e row b ((λ k. sym alike.binds k e row) ∙ at))
 
 pub sound_alike : (w v : World) → IsAlike w v → Sound w → Sound v
 sound_alike w v alike sound = record {

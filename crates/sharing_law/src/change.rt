@@ -5,7 +5,8 @@ use call_verdicts::law_granted;
 
 /// An item that an environment absorbs leaves the bytes of its guaranteed pages, but for its own store to one, which may
 /// be stored to; for the words of an exception of its own, of the start and the end of its slice, where it handles
-/// starts, and of another's transfer to it, which go into the context page; and for its record at boot and its death.
+/// starts, of another's transfer to it, and of a signal on an interrupt line of its own, which go into the context
+/// page; and for its record at boot and its death.
 pub fn law_item_change()
     ensures { ItemChange }
 {}
