@@ -1,6 +1,6 @@
 //! Packets, as they are looked at.
 ghost use Rattle.std.specs.Prelude.{◌≡◌, ◌+◌, true, if◌then◌else◌, nat_le, length};
-ghost use Rattle.external_event.specs.Packet.{packet_of};
+ghost use Rattle.external_event.specs.Packet.{is_packet, packet_of};
 ghost use Rattle.filter_core.specs.Filters.{is_width};
 ghost use Rattle.filter_core.specs.Matching.{field};
 
@@ -48,7 +48,8 @@ impl<'a> Packet<'a> {
 
     /// Its bytes.
     pub fn bytes(&self) -> &'a [u8]
-        ensures { result.now ≡ self.now }
+        ensures bytes { result.now ≡ self.now }
+        ensures rule { is_packet self.now ≡ true }
     {
         self.bytes
     }

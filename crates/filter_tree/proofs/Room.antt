@@ -1,12 +1,16 @@
 -- Room for claims.
-use Rattle.std.proofs.Common.{◌≡◌, ℕ, zero, suc, ◌+◌, ◌*◌, ◌<◌, ◌≤◌, Bool, true, false, cond, not, List, [], ◌∷◌, ◌++◌, length, None, refl, ap, ◌∙◌, arith, inl, inr}
+use Rattle.std.proofs.Common.{◌≡◌, ℕ, zero, suc, ◌+◌, ◌*◌, ◌<◌, ◌≤◌, Bool, true, false, cond, not, List, [], ◌∷◌, ◌++◌, length, Option, Some, None, refl, sym, ap, subst, ◌∙◌, arith, inl, inr}
 use Rattle.std.proofs.lemmas.Bool.{cases_Bool, cases_eq, cases_lt, eq-eqb, le-leb, ne_eqb}
 use Rattle.std.proofs.lemmas.List.Sums.{sum_by-cons, sum_by_push}
 use Rattle.std.specs.List.{AllByRecursion}
-use Rattle.std.specs.Prelude.{filter, count_by}
+use Rattle.std.specs.Prelude.{filter, find, map, count_by, nat_le, if◌then◌else◌}
+use Rattle.std.specs.Option.{option_map}
 use Rattle.filter_core.specs.declared.atom.Atom.{Atom}
-use Rattle.filter_tree.specs.ClaimBook.{ClaimBook, ClaimValue, HasRoom, is_of_env, most_claims}
-use Rattle.filter_tree.specs.Claims.{claim_refusal, with_claim, without}
+use Rattle.filter_tree.specs.ClaimBook.{ClaimBook, ClaimValue, IsKept, RowValue, are_numbered, claim_in, claims_in, is_of_env, most_claims}
+use Rattle.filter_tree.specs.declared.claim.ClaimNo.{ClaimNo}
+use Rattle.filter_tree.specs.declared.claim.ClaimNo.TheVariants.{Full, Overlap}
+use Rattle.filter_tree.specs.Claims.{claim_refusal, is_in_the_way, row_refusal, delivered, new_row, turned_if, with_claim, without}
+use Rattle.filter_tree.proofs.Numbers.{numbered_filter, numbered_more, numbered_turned, same_claim}
 
 all_kept : {X : Type 0} (P : X → Type 0) (t : X → Bool) (xs : List X) → AllByRecursion P xs → AllByRecursion P (filter t xs)
 all_kept P t [] all = tt
@@ -48,52 +52,57 @@ fewer p t (x ∷ xs) =
       | inr other ↦ rw other (omega (arith, counted p x xs, fewer p t xs))
     ]
 
+-- whose a claim is that stands
+abbrev of : ℕ → RowValue → Bool
+of e r = is_of_env e r.claim
+
 -- without some claims there is room too
-pub room_without : (gone : ClaimValue → Bool) (book : ClaimBook) (room : ℕ) → HasRoom book room → HasRoom (without gone book) room
+pub room_without : (gone : ClaimValue → Bool) (book : ClaimBook) (room : ℕ) → IsKept book room → IsKept (without gone book) room
 room_without gone book room has = record {
-  few = λ e. omega (arith, fewer (is_of_env e) (λ c. not (gone c)) book.claims, has.few e);
-  of_envs = all_kept (λ c. c.env < book.envs) (λ c. not (gone c)) book.claims has.of_envs;
+  few = λ e. omega (arith, fewer (of e) (λ (r : RowValue). not (gone r.claim)) book.rows, has.few e);
+  of_envs = all_kept (λ (r : RowValue). r.claim.env < book.envs) (λ (r : RowValue). not (gone r.claim)) book.rows has.of_envs;
+  numbered = numbered_filter (λ (r : RowValue). not (gone r.claim)) 0 book.next book.rows has.numbered;
   enough = has.enough;
 }
 
 -- the claims of the first so many environments
-abbrev total : ℕ → List ClaimValue → ℕ
+abbrev total : ℕ → List RowValue → ℕ
 total zero claims = 0
-total (suc n) claims = total n claims + count_by (is_of_env n) claims
+total (suc n) claims = total n claims + count_by (of n) claims
 
 total_none : (n : ℕ) → total n [] ≡ 0
 total_none zero = refl
 total_none (suc n) = omega (arith, total_none n)
 
-total_other : (n : ℕ) (c : ClaimValue) (claims : List ClaimValue) → n ≤ c.env → total n (c ∷ claims) ≡ total n claims
+total_other : (n : ℕ) (c : RowValue) (claims : List RowValue) → n ≤ c.claim.env → total n (c ∷ claims) ≡ total n claims
 total_other zero c claims past = refl
 total_other (suc n) c claims past =
-    let here = counted_out (is_of_env n) c claims (ne_eqb c.env n (λ e. absurd (omega arith))) in
+    let here = counted_out (of n) c claims (ne_eqb c.claim.env n (λ e. absurd (omega arith))) in
     omega (arith, here, total_other n c claims (omega arith))
 
-total_one : (n : ℕ) (c : ClaimValue) (claims : List ClaimValue) → c.env < n → total n (c ∷ claims) ≡ total n claims + 1
+total_one : (n : ℕ) (c : RowValue) (claims : List RowValue) → c.claim.env < n → total n (c ∷ claims) ≡ total n claims + 1
 total_one zero c claims below = absurd (omega arith)
 total_one (suc n) c claims below =
-    elim (cases_eq c.env n) [
+    elim (cases_eq c.claim.env n) [
       | inl last ↦
-          let here = counted_in (is_of_env n) c claims (eq-eqb c.env n last) in
+          let here = counted_in (of n) c claims (eq-eqb c.claim.env n last) in
           omega (arith, here, total_other n c claims (omega (arith, last)))
       | inr other ↦
-          let here = counted_out (is_of_env n) c claims (ne_eqb c.env n other) in
+          let here = counted_out (of n) c claims (ne_eqb c.claim.env n other) in
           omega (arith, here, total_one n c claims (omega (arith, other)))
     ]
 
 -- all claims are those of all environments
-all_total : (n : ℕ) (claims : List ClaimValue) → AllByRecursion (λ c. c.env < n) claims → total n claims ≡ length claims
+all_total : (n : ℕ) (claims : List RowValue) → AllByRecursion (λ (c : RowValue). c.claim.env < n) claims → total n claims ≡ length claims
 all_total n [] are = total_none n
 all_total n (c ∷ claims) are = omega (arith, total_one n c claims are.0, all_total n claims are.1)
 
 -- each environment has eight at most, and one has fewer
-total_few : (n : ℕ) (claims : List ClaimValue) → ((e : ℕ) → count_by (is_of_env e) claims ≤ most_claims) → total n claims ≤ n * most_claims
+total_few : (n : ℕ) (claims : List RowValue) → ((e : ℕ) → count_by (of e) claims ≤ most_claims) → total n claims ≤ n * most_claims
 total_few zero claims few = omega arith
 total_few (suc n) claims few = omega (arith, few n, total_few n claims few)
 
-total_fewer : (n e : ℕ) (claims : List ClaimValue) → ((i : ℕ) → count_by (is_of_env i) claims ≤ most_claims) → e < n → count_by (is_of_env e) claims < most_claims → total n claims < n * most_claims
+total_fewer : (n e : ℕ) (claims : List RowValue) → ((i : ℕ) → count_by (of i) claims ≤ most_claims) → e < n → count_by (of e) claims < most_claims → total n claims < n * most_claims
 total_fewer zero e claims few below one = absurd (omega arith)
 total_fewer (suc n) e claims few below one =
     elim (cases_eq e n) [
@@ -102,28 +111,76 @@ total_fewer (suc n) e claims few below one =
     ]
 
 -- there is room for a claim of an environment that has fewer than eight
-pub has_room : (book : ClaimBook) (room e : ℕ) → HasRoom book room → e < book.envs → count_by (is_of_env e) book.claims < most_claims → length book.claims < room
+pub has_room : (book : ClaimBook) (room e : ℕ) → IsKept book room → e < book.envs → count_by (of e) book.rows < most_claims → length book.rows < room
 has_room book room e has below one =
-    omega (arith, all_total book.envs book.claims has.of_envs, total_fewer book.envs e book.claims has.few below one, has.enough)
+    omega (arith, all_total book.envs book.rows has.of_envs, total_fewer book.envs e book.rows has.few below one, has.enough)
 
 -- and for the next one after it
-pub room_with : (book : ClaimBook) (room more e : ℕ) (atoms : List Atom) (page : ℕ) → HasRoom book room → room ≤ more → e < book.envs → count_by (is_of_env e) book.claims < most_claims
-    → HasRoom (with_claim book e atoms page) more
+pub room_with : (book : ClaimBook) (room more e : ℕ) (atoms : List Atom) (page : ℕ) → IsKept book room → room ≤ more → e < book.envs → count_by (of e) book.rows < most_claims
+    → IsKept (with_claim book e atoms page) more
 room_with book room more e atoms page has grown below one = record {
   few = λ i.
-      let c : ClaimValue = record { id = book.next; env = e; filter = atoms; page = page } in
+      let c : RowValue = new_row book e atoms page in
       elim (cases_eq e i) [
-        | inl same ↦ omega (arith, counted_last (is_of_env i) book.claims c, one_if (eq-eqb e i same), rw same at one)
-        | inr other ↦ omega (arith, counted_last (is_of_env i) book.claims c, none_if (ne_eqb e i other), has.few i)
+        | inl same ↦ omega (arith, counted_last (of i) book.rows c, one_if (eq-eqb e i same), rw same at one)
+        | inr other ↦ omega (arith, counted_last (of i) book.rows c, none_if (ne_eqb e i other), has.few i)
       ];
-  of_envs = all_and_one (λ c. c.env < book.envs) book.claims _ has.of_envs below;
+  of_envs = all_and_one (λ (c : RowValue). c.claim.env < book.envs) book.rows _ has.of_envs below;
+  numbered = numbered_more 0 book.next book.rows (new_row book e atoms page) refl has.numbered;
   enough = omega (arith, has.enough);
 }
 
+-- how many of some claims, with their buffers or without
+counted_in_rows : (p : ClaimValue → Bool) (rows : List RowValue) → count_by p (map claim_in rows) ≡ count_by (λ (r : RowValue). p r.claim) rows
+counted_in_rows p [] = refl
+counted_in_rows p (r ∷ rows) =
+    counted p r.claim (map claim_in rows) ∙ ap (λ (n : ℕ). cond (p r.claim) 1 0 + n) (counted_in_rows p rows) ∙ sym (counted (λ (x : RowValue). p x.claim) r rows)
+
 -- a filter that isn't refused is of an environment that has fewer than eight
-pub has_fewer : (book : ClaimBook) (e : ℕ) (atoms : List Atom) → None ≡ claim_refusal book e atoms → count_by (is_of_env e) book.claims < most_claims
+pub has_fewer : (book : ClaimBook) (e : ℕ) (atoms : List Atom) → None ≡ claim_refusal (claims_in book) e atoms → count_by (λ (r : RowValue). is_of_env e r.claim) book.rows < most_claims
 has_fewer book e atoms none =
-    elim (cases_lt (count_by (is_of_env e) book.claims) most_claims) [
-      | inl below ↦ below
-      | inr full ↦ absurd (cc (rw (le-leb most_claims (count_by (is_of_env e) book.claims) full) at none))
+    elim (cases_lt (count_by (is_of_env e) (claims_in book)) most_claims) [
+      | inl below ↦ omega (arith, below, counted_in_rows (is_of_env e) book.rows)
+      | inr full ↦ absurd (cc (rw (le-leb most_claims (count_by (is_of_env e) (claims_in book)) full) at none))
     ]
+
+-- where a buffer takes its turn there is room as before
+turned_count : (e id : ℕ) (rows : List RowValue) → count_by (of e) (map (turned_if id) rows) ≡ count_by (of e) rows
+turned_count e id [] = refl
+turned_count e id (r ∷ rows) =
+    counted (of e) (turned_if id r) (map (turned_if id) rows)
+    ∙ ap (λ (n : ℕ). cond (of e (turned_if id r)) 1 0 + n) (turned_count e id rows)
+    ∙ ap (λ (c : ClaimValue). cond (is_of_env e c) 1 0 + count_by (of e) rows) (same_claim id r)
+    ∙ sym (counted (of e) r rows)
+
+turned_envs : (envs id : ℕ) (rows : List RowValue) → AllByRecursion (λ (r : RowValue). r.claim.env < envs) rows → AllByRecursion (λ (r : RowValue). r.claim.env < envs) (map (turned_if id) rows)
+turned_envs envs id [] are = tt
+turned_envs envs id (r ∷ rows) are = (subst (λ (c : ClaimValue). c.env < envs) (sym (same_claim id r)) are.0, turned_envs envs id rows are.1)
+
+pub room_turned : (id : ℕ) (book : ClaimBook) (room : ℕ) → IsKept book room → IsKept (delivered id book) room
+room_turned id book room has = record {
+  few = λ e. omega (arith, turned_count e id book.rows, has.few e);
+  of_envs = turned_envs book.envs id book.rows has.of_envs;
+  numbered = numbered_turned id 0 book.next book.rows has.numbered;
+  enough = has.enough;
+}
+
+-- the claims as lists of one kind or the other
+found_in_rows : (p : ClaimValue → Bool) (rows : List RowValue) → find p (map claim_in rows) ≡ option_map claim_in (find (λ (r : RowValue). p r.claim) rows)
+found_in_rows p [] = refl
+found_in_rows p (r ∷ rows) =
+    elim (cases_Bool (p r.claim)) [
+      | inl is ↦ rw is refl
+      | inr other ↦ rw other (found_in_rows p rows)
+    ]
+
+number_of : {A : Type 0} (f : ClaimValue → A) (o : Option RowValue) → option_map f (option_map claim_in o) ≡ option_map (λ (r : RowValue). f r.claim) o
+number_of f None = refl
+number_of f (Some r) = refl
+
+-- why a filter is refused, by the rows
+pub refused_by_rows : (e : ℕ) (atoms : List Atom) (rows : List RowValue) → claim_refusal (map claim_in rows) e atoms ≡ row_refusal rows e atoms
+refused_by_rows e atoms rows =
+    ap (λ (n : ℕ). if nat_le most_claims n then Some Full else option_map (λ (c : ClaimValue). Overlap c.id) (find (is_in_the_way e atoms) (map claim_in rows))) (counted_in_rows (is_of_env e) rows)
+    ∙ ap (λ (o : Option ClaimNo). if nat_le most_claims (count_by (λ (r : RowValue). is_of_env e r.claim) rows) then Some Full else o)
+      (ap (option_map (λ (c : ClaimValue). Overlap c.id)) (found_in_rows (is_in_the_way e atoms) rows) ∙ number_of (λ (c : ClaimValue). Overlap c.id) (find (λ (r : RowValue). is_in_the_way e atoms r.claim) rows))

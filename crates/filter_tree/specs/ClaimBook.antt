@@ -1,7 +1,8 @@
 -- The book of claims, as it is seen.
-use Rattle.std.specs.Prelude.{◌≤◌, ◌<◌, ℕ, ◌*◌, Bool, ◌==◌, List, count_by}
+use Rattle.std.specs.Prelude.{◌≡◌, ◌≤◌, ◌<◌, ℕ, suc, ◌*◌, Bool, true, ◌==◌, ◌&&◌, nat_le, List, [], ◌∷◌, map, count_by}
 use Rattle.std.specs.List.{AllByRecursion}
 use Rattle.filter_core.specs.declared.atom.Atom.{Atom}
+use Rattle.packet_ring.specs.declared.buffer.Buffer.{Buffer}
 
 -- the claims that an environment has at most
 abbrev pub most_claims : ℕ
@@ -14,17 +15,35 @@ pub record ClaimValue : Type 0 where
   pub filter : List Atom
   pub page : ℕ
 
+-- a claim that stands, and the buffer of its page into which its next packet goes
+pub record RowValue : Type 0 where
+  pub claim : ClaimValue
+  pub next : Buffer
+
 -- the book: the claims that stand, by rising number; the number of the next; and how many environments there are
 pub record ClaimBook : Type 0 where
-  pub claims : List ClaimValue
+  pub rows : List RowValue
   pub next : ℕ
   pub envs : ℕ
+
+abbrev pub claim_in : RowValue → ClaimValue
+claim_in r = r.claim
+
+-- the claims alone
+abbrev pub claims_in : ClaimBook → List ClaimValue
+claims_in book = map claim_in book.rows
 
 abbrev pub is_of_env : ℕ → ClaimValue → Bool
 is_of_env env c = c.env == env
 
+-- whether the numbers of claims rise, from this one on, and are below another
+abbrev pub are_numbered : ℕ → ℕ → List RowValue → Bool
+are_numbered least end [] = nat_le least end
+are_numbered least end (r ∷ rows) = nat_le least r.claim.id && are_numbered (suc r.claim.id) end rows
+
 -- a book for which so many claims can be kept
-pub record HasRoom (book : ClaimBook) (room : ℕ) : Type 0 where
-  pub few : (e : ℕ) → count_by (is_of_env e) book.claims ≤ most_claims
-  pub of_envs : AllByRecursion (λ c. c.env < book.envs) book.claims
+pub record IsKept (book : ClaimBook) (room : ℕ) : Type 0 where
+  pub few : (e : ℕ) → count_by (λ (r : RowValue). is_of_env e r.claim) book.rows ≤ most_claims
+  pub of_envs : AllByRecursion (λ (r : RowValue). r.claim.env < book.envs) book.rows
+  pub numbered : are_numbered 0 book.next book.rows ≡ true
   pub enough : book.envs * most_claims ≤ room

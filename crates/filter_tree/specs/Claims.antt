@@ -1,5 +1,5 @@
 -- What becomes of claims.
-use Rattle.std.specs.Prelude.{ℕ, ◌+◌, Bool, not, ◌==◌, ◌&&◌, nat_le, if◌then◌else◌, List, [], ◌∷◌, ◌++◌, length, filter, count_by, sum_by, find, Option, Some, None, Result, Ok, Err}
+use Rattle.std.specs.Prelude.{ℕ, ◌+◌, Bool, not, ◌==◌, ◌&&◌, nat_le, if◌then◌else◌, List, [], ◌∷◌, ◌++◌, length, filter, map, count_by, sum_by, find, Option, Some, None, Result, Ok, Err}
 use Rattle.std.specs.Option.{option_map}
 use Rattle.filter_core.specs.declared.atom.Atom.{Atom}
 use Rattle.filter_core.specs.Asking.{agree}
@@ -7,29 +7,40 @@ use Rattle.filter_core.specs.Matching.{matches}
 use Rattle.filter_tree.specs.declared.claim.Claim.{Claim}
 use Rattle.filter_tree.specs.declared.claim.ClaimNo.{ClaimNo}
 use Rattle.filter_tree.specs.declared.claim.ClaimNo.TheVariants.{Full, Overlap}
-use Rattle.filter_tree.specs.ClaimBook.{ClaimBook, ClaimValue, is_of_env, most_claims}
+use Rattle.packet_ring.specs.declared.buffer.Buffer.TheVariants.{First}
+use Rattle.packet_ring.specs.Ring.{other_buffer}
+use Rattle.filter_tree.specs.ClaimBook.{ClaimBook, ClaimValue, RowValue, claims_in, is_of_env, most_claims}
 
 -- a claim without its filter
-abbrev pub claim_seen : ClaimValue → Claim
-claim_seen c = record { id = c.id; env = c.env; page = c.page }
+abbrev pub claim_seen : RowValue → Claim
+claim_seen r = record { id = r.claim.id; env = r.claim.env; page = r.claim.page; next = r.next }
 
 abbrev pub is_into : ℕ → ClaimValue → Bool
 is_into page c = c.page == page
 
+abbrev pub is_numbered : ℕ → ClaimValue → Bool
+is_numbered id c = c.id == id
+
 -- the claim of this number, if it is the environment's
 abbrev pub is_claim : ℕ → ℕ → ClaimValue → Bool
-is_claim env id c = c.id == id && is_of_env env c
+is_claim env id c = is_numbered id c && is_of_env env c
 
 -- a claim is in the way of an environment's filter if it is another's and some packet is matched by both filters
 abbrev pub is_in_the_way : ℕ → List Atom → ClaimValue → Bool
 is_in_the_way env filter c = not (is_of_env env c) && agree filter c.filter
 
--- why an environment's filter is refused, if it is: it has eight claims; or claims are in the way, of which this is
--- the lowest
-abbrev pub claim_refusal : ClaimBook → ℕ → List Atom → Option ClaimNo
-claim_refusal book env filter =
-    if nat_le most_claims (count_by (is_of_env env) book.claims) then Some Full else
-    option_map (λ (c : ClaimValue). Overlap c.id) (find (is_in_the_way env filter) book.claims)
+-- why an environment's filter is refused beside these claims, if it is: eight of them are its own; or some are in the
+-- way, of which this is the lowest
+abbrev pub claim_refusal : List ClaimValue → ℕ → List Atom → Option ClaimNo
+claim_refusal claims env filter =
+    if nat_le most_claims (count_by (is_of_env env) claims) then Some Full else
+    option_map (λ (c : ClaimValue). Overlap c.id) (find (is_in_the_way env filter) claims)
+
+-- the same, where the claims have their buffers beside them
+abbrev pub row_refusal : List RowValue → ℕ → List Atom → Option ClaimNo
+row_refusal rows env filter =
+    if nat_le most_claims (count_by (λ (r : RowValue). is_of_env env r.claim) rows) then Some Full else
+    option_map (λ (r : RowValue). Overlap r.claim.id) (find (λ (r : RowValue). is_in_the_way env filter r.claim) rows)
 
 -- what a claim is answered: its number, unless it is refused
 abbrev pub answer_unless : Option ClaimNo → ℕ → Result ℕ ClaimNo
@@ -37,15 +48,15 @@ answer_unless None id = Ok id
 answer_unless (Some why) id = Err why
 
 abbrev pub claim_answer : ClaimBook → ℕ → List Atom → Result ℕ ClaimNo
-claim_answer book env filter = answer_unless (claim_refusal book env filter) book.next
+claim_answer book env filter = answer_unless (claim_refusal (claims_in book) env filter) book.next
+
+-- a new claim, whose first packet goes into the first buffer
+abbrev pub new_row : ClaimBook → ℕ → List Atom → ℕ → RowValue
+new_row book env filter page = record { claim = record { id = book.next; env = env; filter = filter; page = page }; next = First }
 
 -- the book with one claim more
 abbrev pub with_claim : ClaimBook → ℕ → List Atom → ℕ → ClaimBook
-with_claim book env filter page = record {
-  claims = book.claims ++ record { id = book.next; env = env; filter = filter; page = page } ∷ [];
-  next = book.next + 1;
-  envs = book.envs;
-}
+with_claim book env filter page = record { rows = book.rows ++ new_row book env filter page ∷ []; next = book.next + 1; envs = book.envs }
 
 -- the book after a claim, which stays if that is refused
 abbrev pub book_unless : Option ClaimNo → ClaimBook → ClaimBook → ClaimBook
@@ -53,23 +64,38 @@ book_unless None old new = new
 book_unless (Some why) old new = old
 
 abbrev pub claimed : ClaimBook → ℕ → List Atom → ℕ → ClaimBook
-claimed book env filter page = book_unless (claim_refusal book env filter) book (with_claim book env filter page)
+claimed book env filter page = book_unless (claim_refusal (claims_in book) env filter) book (with_claim book env filter page)
 
 -- the book without some claims
 abbrev pub without : (ClaimValue → Bool) → ClaimBook → ClaimBook
-without gone book = record { claims = filter (λ c. not (gone c)) book.claims; next = book.next; envs = book.envs }
+without gone book = record book { rows = filter (λ (r : RowValue). not (gone r.claim)) book.rows }
+
+-- the first claim that stands of some
+abbrev pub first_row : (ClaimValue → Bool) → ClaimBook → Option RowValue
+first_row test book = find (λ (r : RowValue). test r.claim) book.rows
 
 -- the claim of this number, if it stands and is the environment's
 abbrev pub claim_held : ClaimBook → ℕ → ℕ → Option Claim
-claim_held book env id = option_map claim_seen (find (is_claim env id) book.claims)
+claim_held book env id = option_map claim_seen (first_row (is_claim env id) book)
 
 -- the claim to which a packet goes: the lowest whose filter matches it
 abbrev pub is_for : List ℕ → ClaimValue → Bool
 is_for packet c = matches c.filter packet
 
 abbrev pub claim_for : ClaimBook → List ℕ → Option Claim
-claim_for book packet = option_map claim_seen (find (is_for packet) book.claims)
+claim_for book packet = option_map claim_seen (first_row (is_for packet) book)
+
+-- a claim once its next packet is in its buffer: the one after it goes into the other
+abbrev pub turned : RowValue → RowValue
+turned r = record r { next = other_buffer r.next }
+
+abbrev pub turned_if : ℕ → RowValue → RowValue
+turned_if id r = if is_numbered id r.claim then turned r else r
+
+-- the book once a packet of a claim's is in its buffer
+abbrev pub delivered : ℕ → ClaimBook → ClaimBook
+delivered id book = record book { rows = map (turned_if id) book.rows }
 
 -- the atoms of all claims
 abbrev pub atom_count : ClaimBook → ℕ
-atom_count book = sum_by (λ (c : ClaimValue). length c.filter) book.claims
+atom_count book = sum_by (λ (r : RowValue). length r.claim.filter) book.rows

@@ -1,2 +1,3 @@
 pub mod ClaimBook
 pub mod Claims
+pub mod Laws

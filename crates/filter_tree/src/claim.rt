@@ -1,4 +1,6 @@
 //! Claims, and why they are refused.
+use packet_ring::Buffer;
+
 /// A claim that stands, without its filter.
 #[derive(Clone, Copy)]
 pub struct Claim {
@@ -8,6 +10,8 @@ pub struct Claim {
     pub env: u8,
     /// The page into which its packets go.
     pub page: u32,
+    /// The buffer of that page into which its next packet goes.
+    pub next: Buffer,
 }
 
 /// Why a claim is refused.

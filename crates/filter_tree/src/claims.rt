@@ -1,21 +1,19 @@
 //! The book of claims.
 ghost use Rattle.std.specs.Prelude.{◌≡◌, ◌<◌, ◌≤◌, ◌+◌, ◌^◌, [], is_some, IfOk};
-ghost use Rattle.filter_tree.specs.ClaimBook.{is_of_env};
-ghost use Rattle.filter_tree.specs.Claims.{atom_count, claim_answer, claim_for, claim_held, claim_refusal, claimed, is_claim, is_into, without};
+ghost use Rattle.filter_tree.specs.ClaimBook.{claims_in, is_of_env};
+ghost use Rattle.filter_tree.specs.Claims.{atom_count, claim_answer, claim_for, claim_held, claim_refusal, claimed, delivered, is_claim, is_into, without};
 
 use crate::claim::{Claim, ClaimNo};
 use crate::row::Row;
-use crate::search::{claim_for, claim_held, count_of_env, in_the_way};
+use crate::search::{MOST_CLAIMS, claim_for, claim_held, refusal};
 use crate::steps::Steps;
-use crate::withdrawal::{withdraw, withdraw_into, withdraw_of};
+use crate::withdrawal::{turn, withdraw, withdraw_into, withdraw_of};
 use aegis_limits::OutOfMemory;
 use filter_core::{Filter, Packet};
+use packet_ring::Buffer;
 use std::alloc::Global;
 use std::marker::{Brand, Model};
 use std::sync::ledger::{Blank, Ledger};
-
-/// The most claims of an environment.
-pub const MOST_CLAIMS: usize = 8;
 
 /// The claims that stand, by rising number. Room for eight of each environment is taken at the start, so that no claim
 /// takes memory.
@@ -28,19 +26,19 @@ pub struct Claims {
 
 impl Model for Claims {
     ghost use Rattle.std.specs.Prelude.{vec_capacity};
-    ghost use Rattle.filter_tree.specs.ClaimBook.{ClaimBook, HasRoom};
+    ghost use Rattle.filter_tree.specs.ClaimBook.{ClaimBook, IsKept};
 
     ghost Value = { ClaimBook };
 
-    ghost view = { λ c. record { claims = c.rows.items; next = c.next; envs = c.envs } };
+    ghost view = { λ c. record { rows = c.rows.items; next = c.next; envs = c.envs } };
 
-    ghost invariant = { λ c. HasRoom (record { claims = c.rows.items; next = c.next; envs = c.envs }) (vec_capacity c.rows) };
+    ghost invariant = { λ c. IsKept (record { rows = c.rows.items; next = c.next; envs = c.envs }) (vec_capacity c.rows) };
 }
 
 impl Claims {
     /// No claims, with room for eight of each of so many environments. An `Err` says that there is no memory for them.
     pub fn new(alloc: Global, envs: u8) -> Result<Claims, OutOfMemory>
-        ensures { IfOk result (λ c. c ≡ record { claims = []; next = 0; envs = envs }) }
+        ensures { IfOk result (λ c. c ≡ record { rows = []; next = 0; envs = envs }) }
     {
         let rows = Vec::with_capacity(alloc, usize::from(envs) * MOST_CLAIMS)?;
         Ok(Claims {
@@ -62,21 +60,37 @@ impl Claims {
             return Err(no);
         }
         let id = self.next as u32;
-        let claim = Claim { id, env, page };
+        let claim = Claim {
+            id,
+            env,
+            page,
+            next: Buffer::First,
+        };
         self.rows.push(Row { claim, filter }).unwrap();
         self.next += 1;
         Ok(id)
     }
 
-    /// Why the environment's filter is refused, if it is.
-    fn refusal(&self, env: u8, filter: &Filter) -> Option<ClaimNo>
-        ensures { result ≡ claim_refusal self.now env filter.now }
+    /// Why the environment's filter is refused, if it is: the environment has eight claims, or the filter overlaps one of
+    /// another's.
+    pub fn refusal(&self, env: u8, filter: &Filter) -> Option<ClaimNo>
+        ensures { result ≡ claim_refusal (claims_in self.now) env filter.now }
     {
-        if count_of_env(&self.rows, env) >= MOST_CLAIMS {
-            return Some(ClaimNo::Full);
-        }
-        let claim = in_the_way(&self.rows, env, filter)?;
-        Some(ClaimNo::Overlap(claim.id))
+        refusal(&self.rows, env, filter)
+    }
+
+    /// The number of the next claim.
+    pub fn next(&self) -> u64
+        ensures { result ≡ self.now.next }
+    {
+        self.next
+    }
+
+    /// A packet of the claim of this number is in its buffer: the next one goes into the other.
+    pub fn delivered(&mut self, id: u32)
+        ensures { self.new ≡ delivered id self.old }
+    {
+        turn(&mut self.rows, id);
     }
 
     /// Withdraws the environment's claim of this number. The answer is whether there was one; if not, nothing changes.

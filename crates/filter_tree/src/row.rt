@@ -1,7 +1,7 @@
 //! A claim with its filter.
 ghost use Rattle.std.specs.Prelude.{◌≡◌, ◌+◌, ◌≤◌, length};
 ghost use Rattle.filter_tree.specs.ClaimBook.{is_of_env};
-ghost use Rattle.filter_tree.specs.Claims.{claim_seen, is_claim, is_for, is_in_the_way, is_into};
+ghost use Rattle.filter_tree.specs.Claims.{claim_seen, is_claim, is_for, is_in_the_way, is_into, turned_if};
 
 use crate::claim::Claim;
 use crate::steps::Steps;
@@ -17,11 +17,11 @@ pub(crate) struct Row {
 }
 
 impl Model for Row {
-    ghost use Rattle.filter_tree.specs.ClaimBook.{ClaimValue};
+    ghost use Rattle.filter_tree.specs.ClaimBook.{RowValue};
 
-    ghost Value = { ClaimValue };
+    ghost Value = { RowValue };
 
-    ghost view = { λ row. record { id = row.claim.id; env = row.claim.env; filter = row.filter; page = row.claim.page } };
+    ghost view = { λ row. record { claim = record { id = row.claim.id; env = row.claim.env; filter = row.filter; page = row.claim.page }; next = row.claim.next } };
 }
 
 impl Row {
@@ -34,36 +34,45 @@ impl Row {
 
     /// Whether it is the environment's.
     pub(crate) fn is_of_env(&self, env: u8) -> bool
-        ensures { result ≡ is_of_env env self.now }
+        ensures { result ≡ is_of_env env self.now.claim }
     {
         self.claim.env == env
     }
 
     /// Whether it is the environment's claim of this number.
     pub(crate) fn is_claim(&self, env: u8, id: u32) -> bool
-        ensures { result ≡ is_claim env id self.now }
+        ensures { result ≡ is_claim env id self.now.claim }
     {
         self.claim.id == id && self.claim.env == env
     }
 
     /// Whether its packets go into the page.
     pub(crate) fn is_into(&self, page: u32) -> bool
-        ensures { result ≡ is_into page self.now }
+        ensures { result ≡ is_into page self.now.claim }
     {
         self.claim.page == page
     }
 
+    /// The next packet goes into the other buffer, if the claim is of this number.
+    pub(crate) fn turn(&mut self, id: u32)
+        ensures { self.new ≡ turned_if id self.old }
+    {
+        if self.claim.id == id {
+            self.claim.next = self.claim.next.other();
+        }
+    }
+
     /// Whether it is another environment's and some packet is matched by its filter and by the one that is laid out.
     pub(crate) fn is_in_the_way(&self, env: u8, filter: &Layout<'_>) -> bool
-        ensures { result ≡ is_in_the_way env filter.now self.now }
+        ensures { result ≡ is_in_the_way env filter.now self.now.claim }
     {
         self.claim.env != env && filter.overlaps(&self.filter)
     }
 
     /// Whether its filter matches a packet. Each field that is read of the packet is a step.
     pub(crate) fn is_for<L: Ledger>(&self, packet: &Packet<'_>, steps: &mut Steps<L>) -> bool
-        ensures answer { result ≡ is_for packet.now self.now }
-        ensures steps { steps.new ≤ steps.old + length self.now.filter }
+        ensures answer { result ≡ is_for packet.now self.now.claim }
+        ensures steps { steps.new ≤ steps.old + length self.now.claim.filter }
     {
         for atom in self.filter.atoms() {
             steps.tick();

@@ -1,25 +1,28 @@
 //! Searches through all claims.
 ghost use Rattle.std.specs.Prelude.{◌≡◌, ◌≤◌, ◌+◌, length, count_by, find, sum_by};
 ghost use Rattle.std.specs.Option.{option_map};
-ghost use Rattle.filter_tree.specs.ClaimBook.{ClaimValue, is_of_env};
-ghost use Rattle.filter_tree.specs.Claims.{claim_seen, is_claim, is_for, is_in_the_way};
+ghost use Rattle.filter_tree.specs.ClaimBook.{RowValue, is_of_env};
+ghost use Rattle.filter_tree.specs.Claims.{claim_seen, is_claim, is_for, is_in_the_way, row_refusal};
 
-use crate::claim::Claim;
+use crate::claim::{Claim, ClaimNo};
 use crate::row::Row;
 use crate::steps::Steps;
 use filter_core::{Filter, Layout, Packet};
 use std::sync::ledger::Ledger;
 
+/// The most claims of an environment.
+pub const MOST_CLAIMS: usize = 8;
+
 /// How many claims are the environment's.
-pub(crate) fn count_of_env(rows: &[Row], env: u8) -> usize
-    ensures { result ≡ count_by (is_of_env env) rows.now }
+fn count_of_env(rows: &[Row], env: u8) -> usize
+    ensures { result ≡ count_by (λ (r : RowValue). is_of_env env r.claim) rows.now }
 {
     rows.iter().filter(|row| row.is_of_env(env)).count()
 }
 
 /// The lowest claim of another environment whose filter overlaps this one.
-pub(crate) fn in_the_way(rows: &[Row], env: u8, filter: &Filter) -> Option<Claim>
-    ensures { result ≡ option_map claim_seen (find (is_in_the_way env filter.now) rows.now) }
+fn in_the_way(rows: &[Row], env: u8, filter: &Filter) -> Option<Claim>
+    ensures { result ≡ option_map claim_seen (find (λ (r : RowValue). is_in_the_way env filter.now r.claim) rows.now) }
 {
     let layout = Layout::of(filter);
     for row in rows {
@@ -30,9 +33,20 @@ pub(crate) fn in_the_way(rows: &[Row], env: u8, filter: &Filter) -> Option<Claim
     None
 }
 
+/// Why the environment's filter is refused, if it is.
+pub(crate) fn refusal(rows: &[Row], env: u8, filter: &Filter) -> Option<ClaimNo>
+    ensures { result ≡ row_refusal rows.now env filter.now }
+{
+    if count_of_env(rows, env) >= MOST_CLAIMS {
+        return Some(ClaimNo::Full);
+    }
+    let claim = in_the_way(rows, env, filter)?;
+    Some(ClaimNo::Overlap(claim.id))
+}
+
 /// The environment's claim of this number.
 pub(crate) fn claim_held(rows: &[Row], env: u8, id: u32) -> Option<Claim>
-    ensures { result ≡ option_map claim_seen (find (is_claim env id) rows.now) }
+    ensures { result ≡ option_map claim_seen (find (λ (r : RowValue). is_claim env id r.claim) rows.now) }
 {
     for row in rows {
         if row.is_claim(env, id) {
@@ -48,8 +62,8 @@ pub(crate) fn claim_for<L: Ledger>(
     packet: &Packet<'_>,
     steps: &mut Steps<L>,
 ) -> Option<Claim>
-    ensures answer { result ≡ option_map claim_seen (find (is_for packet.now) rows.now) }
-    ensures steps { steps.new ≤ steps.old + sum_by (λ (c : ClaimValue). length c.filter) rows.now }
+    ensures answer { result ≡ option_map claim_seen (find (λ (r : RowValue). is_for packet.now r.claim) rows.now) }
+    ensures steps { steps.new ≤ steps.old + sum_by (λ (r : RowValue). length r.claim.filter) rows.now }
 {
     for row in rows {
         if row.is_for(packet, steps) {

@@ -1,11 +1,12 @@
 -- The kernel's one book: the vector of slots, whose the pages are, and where they are mapped.
-use Rattle.std.specs.Prelude.{ℕ, zero, suc, ◌+◌, ◌-◌, ◌%◌, List, [], ◌∷◌, Bool, false, ◌==◌, ◌&&◌, ◌||◌, nat_lt, if◌then◌else◌, Option, Some, None, is_none}
+use Rattle.std.specs.Prelude.{ℕ, zero, suc, ◌+◌, ◌-◌, ◌%◌, List, [], ◌∷◌, Bool, false, not, filter, ◌==◌, ◌&&◌, ◌||◌, nat_lt, if◌then◌else◌, Option, Some, None, is_none}
 use Rattle.std.specs.Option.{option_map}
 use Rattle.env_frames.specs.declared.mapping.Mapping.{Mapping}
 use Rattle.page_book.specs.declared.row.PageRow.{PageRow}
 use Rattle.page_book.specs.Row.{is_owned_by}
 use Rattle.bind_book.specs.declared.binding.Binding.{Binding}
 use Rattle.bind_book.specs.Stripe.{breaks_page, is_bound, without}
+use Rattle.filter_tree.specs.ClaimBook.{ClaimValue}
 use Rattle.world_model.specs.Table.{set_at}
 use Rattle.world_model.specs.declared.slot.Hold.{Hold}
 use Rattle.world_model.specs.declared.slot.Runner.{Runner}
@@ -14,7 +15,7 @@ use Rattle.world_model.specs.declared.slot.Turn.{Turn}
 -- A runner, if one runs, runs in the cursor's slot. Each environment has its excess: the quanta that it ran past its slices
 -- and hasn't forfeited yet. Pages are numbered below page_count; from there on each is as if free. Each environment has its
 -- guaranteed mappings, by rising VPN, and its bindings, in the rows of its stripe. Each interrupt line has its owner, if anybody
--- has taken it.
+-- has taken it. The claims that stand are there by rising number, and the number of the next one.
 pub record Book : Type 0 where
   pub slot_count : ℕ
   pub slots : ℕ → Option Hold
@@ -27,6 +28,8 @@ pub record Book : Type 0 where
   pub kept : ℕ → List Mapping
   pub binds : ℕ → ℕ → Option Binding
   pub lines : ℕ → Option ℕ
+  pub claims : List ClaimValue
+  pub next_claim : ℕ
   pub time : ℕ
 
 -- the row of a page, if there is one of this number
@@ -40,6 +43,10 @@ sees b e page = is_owned_by e (b.pages page) || is_bound page (b.binds e)
 -- the book without the bindings of a page, which spares those of one environment
 abbrev pub broken : ℕ → Option ℕ → Book → Book
 broken page but b = record b { binds = λ e row. without (breaks_page page but e) (b.binds e row) }
+
+-- the book without some claims
+abbrev pub withdrawn : (ClaimValue → Bool) → Book → Book
+withdrawn gone b = record b { claims = filter (λ (c : ClaimValue). not (gone c)) b.claims }
 
 -- the environment that runs
 abbrev pub running : Option Runner → Option ℕ

@@ -7,7 +7,8 @@ use Rattle.page_book.specs.Row.{released as freed_row}
 use Rattle.bind_book.specs.Stripe.{goes_with, without}
 use Rattle.world_model.specs.declared.slot.Hold.{Hold}
 use Rattle.world_model.specs.Table.{set_at}
-use Rattle.world_model.specs.Book.{Book, released, has_part}
+use Rattle.world_model.specs.Book.{Book, released, has_part, withdrawn}
+use Rattle.filter_tree.specs.ClaimBook.{is_of_env}
 use Rattle.world_model.specs.Item.{Item}
 use Rattle.world_model.specs.World.{World, Reply}
 use Rattle.world_model.specs.PageCalls.{breaks}
@@ -22,12 +23,13 @@ lost_with b gone e (suc page) = lost_with b gone e page ++ (if belongs_to gone (
 abbrev pub death_items : Book → ℕ → ℕ → List Item
 death_items b gone e = if e == gone then [] else lost_with b gone e b.page_count
 
--- the book without an environment's pages and mappings, the bindings of these pages, and its own
+-- the book without an environment's pages and mappings, the bindings of these pages, and its own; and without its claims, the rings of which are among its pages
 abbrev pub without_pages_of : ℕ → Book → Book
 without_pages_of gone b = record b {
   pages = λ page. freed_row gone (b.pages page);
   kept = set_at gone [] b.kept;
   binds = λ e row. without (goes_with b.pages gone e) (b.binds e row);
+  claims = (withdrawn (is_of_env gone) b).claims;
 }
 
 -- the row of a slot that an environment owns or holds, once it is gone

@@ -4,7 +4,14 @@ use Rattle.kernel_journal.specs.declared.row.Row.TheVariants as row
 use Rattle.external_event.specs.declared.event.Occurrence.{Occurrence}
 use Rattle.external_event.specs.declared.event.Occurrence.TheVariants as outside
 use Rattle.external_event.specs.EventValue.{EventValue}
-use Rattle.world_model.specs.Item.{Line}
+use Rattle.filter_tree.specs.ClaimBook.{ClaimValue}
+use Rattle.world_model.specs.Table.{set_at}
+use Rattle.world_model.specs.Book.{Book}
+use Rattle.world_model.specs.Solo.{Solo, Ring}
+use Rattle.world_model.specs.Rings.{page_store, ring_after, ring_of}
+use Rattle.world_model.specs.Item.{Item, Line, Packet}
+use Rattle.world_model.specs.PageCalls.{left_by}
+use Rattle.world_model.specs.ClaimCalls.{claim_of}
 use Rattle.world_model.specs.World.{World, Reply, no_change, no_items, tells}
 
 -- what happens in each tick, in order
@@ -24,7 +31,28 @@ abbrev pub signals : ℕ → Option ℕ → World → Reply
 signals line None w = no_change w
 signals line (Some owner) w = tells owner (Line line) w
 
+-- A packet that is claimed goes to the claim's environment, and whoever else owns or has bound the ring page is left all its
+-- bytes, unless the packet is lost.
+abbrev pub ring_left : Book → ℕ → ℕ → Option (List ℕ) → ℕ → List Item
+ring_left b owner page None e = []
+ring_left b owner page (Some bytes) e = left_by b owner (page_store page bytes) e
+
+abbrev pub ring_bytes : Solo → Option Ring → List ℕ → Option (List ℕ)
+ring_bytes s None packet = None
+ring_bytes s (Some r) packet = ring_after s r packet
+
+abbrev pub delivers : ClaimValue → List ℕ → World → Reply
+delivers c packet w = let s = w.solos c.env in record {
+  book = w.book;
+  items = set_at c.env (Packet c.id packet ∷ []) (ring_left w.book c.env c.page (ring_bytes s (ring_of s.rings c.id) packet));
+  rows = [];
+}
+
+abbrev pub arrives : List ℕ → Option ClaimValue → World → Reply
+arrives packet None w = drops_packet packet w
+arrives packet (Some c) w = delivers c packet w
+
 -- what an event does
 abbrev pub happen : Occurrence → World → Reply
-happen (outside.Packet packet) w = drops_packet packet w
+happen (outside.Packet packet) w = arrives packet (claim_of w.book packet) w
 happen (outside.Line line) w = signals line (w.book.lines line) w

@@ -1,9 +1,9 @@
 -- What becomes of the pages that an environment owns or has bound.
-use Rattle.std.specs.Prelude.{ℕ, Bool, true, false, ◌==◌, ◌||◌, if◌then◌else◌, List, Option, Some, None, is_some}
+use Rattle.std.specs.Prelude.{ℕ, Bool, true, false, not, filter, ◌==◌, ◌||◌, if◌then◌else◌, List, Option, Some, None, is_some}
 use Rattle.bind_book.specs.declared.binding.Binding.{Binding}
 use Rattle.bind_book.specs.Stripe.{binding_at, is_bound, row_of, without}
 use Rattle.world_model.specs.Table.{set_at}
-use Rattle.world_model.specs.Solo.{Solo, Seen, bytes_seen}
+use Rattle.world_model.specs.Solo.{Solo, Seen, Ring, bytes_seen}
 
 abbrev pub is_owned : Option Seen → Bool
 is_owned None = false
@@ -34,6 +34,6 @@ owning page s = record s { seen = set_at page (Some (record { owned = true; byte
 abbrev pub gained : ℕ → List ℕ → Solo → Solo
 gained page bytes s = record s { seen = set_at page (Some (record { owned = is_owned (s.seen page); bytes = bytes })) s.seen }
 
--- the environment neither owns a page any more nor has it bound
+-- the environment neither owns a page any more, nor has it bound, nor has a claim whose ring it is
 abbrev pub lost : ℕ → Solo → Solo
-lost page s = record s { binds = λ row. without (λ b. b.page == page) (s.binds row); seen = set_at page None s.seen }
+lost page s = record s { binds = λ row. without (λ b. b.page == page) (s.binds row); seen = set_at page None s.seen; rings = filter (λ (r : Ring). not (r.page == page)) s.rings }

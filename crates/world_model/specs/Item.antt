@@ -15,8 +15,9 @@ use Rattle.world_model.specs.Solo.{Solo, Physical, bare_solo, dead, is_dead, sto
 use Rattle.world_model.specs.Holding.{bound, unbound, owning, gained, lost}
 use Rattle.world_model.specs.Upcalls.{start, end_slice, enter}
 use Rattle.world_model.specs.Post.{signalled}
+use Rattle.world_model.specs.Rings.{received, with_ring, without_ring}
 use Rattle.world_model.specs.declared.call.Deed.{Deed}
-use Rattle.world_model.specs.declared.call.Deed.TheVariants.{Answers, Own, Stops, Gives, Allocates, Frees, Recaps, Binds, Unbinds, Transfers, TakesSlot, DropsSlot, TakesLine, DropsLine}
+use Rattle.world_model.specs.declared.call.Deed.TheVariants.{Answers, Own, Stops, Gives, Allocates, Frees, Recaps, Binds, Unbinds, Transfers, TakesSlot, DropsSlot, TakesLine, DropsLine, Claims, Unclaims}
 use Rattle.world_model.specs.Call.{called, deed_of}
 use Rattle.world_model.specs.OwnCalls.{own_state_after, with_own_state}
 use Rattle.world_model.specs.Step.{step_alone, stepped}
@@ -42,6 +43,8 @@ pub data Item : Type 0 where
   Lost : (page : ℕ) → Item
   -- bytes that another stored at an offset of a page that it owns or has bound
   Left : (page : ℕ) (offset : ℕ) (bytes : List ℕ) → Item
+  -- a packet for a claim of its own: the claim's number, and the packet's bytes
+  Packet : (claim : ℕ) (packet : List ℕ) → Item
   -- a signal on an interrupt line of its own
   Line : (line : ℕ) → Item
 
@@ -68,6 +71,8 @@ own_part (TakesSlot slot) s = s
 own_part (DropsSlot slot) s = s
 own_part (TakesLine line) s = s
 own_part (DropsLine line) s = s
+own_part (Claims claim address atoms page) s = with_ring claim page s
+own_part (Unclaims claim) s = without_ring claim s
 
 -- register 2 has the answer's code and register 3 its value, and the machine goes on behind the call
 abbrev pub answered_cpu : Verdict → Cpu → Cpu
@@ -93,6 +98,7 @@ absorbed s (Answer verdict) = answered verdict s
 absorbed s (Gained page writable bytes) = gained page bytes s
 absorbed s (Lost page) = lost page s
 absorbed s (Left page offset bytes) = stored (record { key = Physical page; offset = offset; bytes = bytes }) s
+absorbed s (Packet claim packet) = received claim packet s
 absorbed s (Line line) = signalled line s
 
 -- a dead environment absorbs nothing more

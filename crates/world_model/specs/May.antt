@@ -1,5 +1,5 @@
 -- What a deed presupposes of the world.
-use Rattle.std.specs.Prelude.{◌≡◌, ◌<◌, ℕ, Bool, true, false, Some, None, ◌⊎◌}
+use Rattle.std.specs.Prelude.{◌≡◌, ◌<◌, ℕ, Bool, true, false, List, Some, None, Ok, ◌⊎◌}
 use Rattle.aegis_limits.specs.Limits.{vpn_end}
 use Rattle.external_event.specs.Limits.{lines}
 use Rattle.page_book.specs.declared.row.Capabilities.{Capabilities}
@@ -9,17 +9,20 @@ use Rattle.page_book.specs.Row.{gives_right, is_owned_by}
 use Rattle.bind_book.specs.declared.binding.Binding.{Binding}
 use Rattle.env_frames.specs.declared.transfer.TransferKind.{TransferKind}
 use Rattle.env_frames.specs.Transfer.{hands_slot}
+use Rattle.filter_core.specs.declared.atom.Atom.{Atom}
+use Rattle.filter_tree.specs.Claims.{claim_refusal}
 use Rattle.world_model.specs.declared.slot.Hold.{Hold}
 use Rattle.world_model.specs.Book.{Book}
-use Rattle.world_model.specs.Solo.{Solo}
+use Rattle.world_model.specs.Solo.{Solo, sight}
 use Rattle.world_model.specs.OwnCalls.{MayOwn}
 use Rattle.world_model.specs.PageCalls.{is_guaranteed}
 use Rattle.world_model.specs.LineCalls.{is_line_of, is_line_of_other}
+use Rattle.world_model.specs.ClaimCalls.{filter_at}
 use Rattle.world_model.specs.SlotCalls.{accepts, gift_refusal, is_other, turn_slot}
 use Rattle.world_model.specs.Transfers.{is_open}
 use Rattle.world_model.specs.World.{World}
 use Rattle.world_model.specs.declared.call.Deed.{Deed}
-use Rattle.world_model.specs.declared.call.Deed.TheVariants.{Answers, Own, Stops, Gives, Allocates, Frees, Recaps, Binds, Unbinds, Transfers, TakesSlot, DropsSlot, TakesLine, DropsLine}
+use Rattle.world_model.specs.declared.call.Deed.TheVariants.{Answers, Own, Stops, Gives, Allocates, Frees, Recaps, Binds, Unbinds, Transfers, TakesSlot, DropsSlot, TakesLine, DropsLine, Claims, Unclaims}
 
 -- the target is another environment, which lives and accepts the caller, and the slice may be handed on, or for a later the slot too
 pub record MayReach (w : World) (e target : ℕ) (later : Bool) : Type 0 where
@@ -81,6 +84,14 @@ pub record MayDropLine (b : Book) (e line : ℕ) : Type 0 where
   pub there : line < lines
   pub owned : is_line_of e (b.lines line) ≡ true
 
+-- the number is the next one, a filter is named, the page is the caller's, and the claims that stand don't refuse the filter
+pub record MayClaim (w : World) (e claim address atoms page : ℕ) : Type 0 where
+  pub number : claim ≡ w.book.next_claim
+  pub filter : List Atom
+  pub named : filter_at (sight (w.solos e)) address atoms ≡ Ok filter
+  pub ring : MayChange w.book e page
+  pub beside : claim_refusal w.book.claims e filter ≡ None
+
 abbrev pub May : World → ℕ → Deed → Type 0
 May w e Answers = Unit {0}
 May w e (Own own) = MayOwn (w.solos e) own
@@ -96,3 +107,5 @@ May w e (TakesSlot slot) = MayTake w.book slot
 May w e (DropsSlot slot) = MayDrop w.book e slot
 May w e (TakesLine line) = MayTakeLine w.book e line
 May w e (DropsLine line) = MayDropLine w.book e line
+May w e (Claims claim address atoms page) = MayClaim w e claim address atoms page
+May w e (Unclaims claim) = Unit {0}

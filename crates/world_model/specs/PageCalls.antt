@@ -16,7 +16,8 @@ use Rattle.world_model.specs.declared.code.Code.{Code}
 use Rattle.world_model.specs.declared.code.Code.TheVariants as code
 use Rattle.world_model.specs.Table.{set_at}
 use Rattle.world_model.specs.Code.{code_of}
-use Rattle.world_model.specs.Book.{Book, broken, page_row, sees}
+use Rattle.filter_tree.specs.Claims.{is_into}
+use Rattle.world_model.specs.Book.{Book, withdrawn, broken, page_row, sees}
 use Rattle.world_model.specs.Call.{any, binding_of, presented}
 use Rattle.world_model.specs.Solo.{Solo, Store, Key, Kept, Physical, bytes_seen, kept_at}
 use Rattle.world_model.specs.Item.{Item, Gained, Lost, Left}
@@ -61,10 +62,10 @@ refusal_of_change w e page = option_map code_of (change_refusal e (page_row w.bo
 abbrev pub free : World → ℕ → Verdict
 free w e = unless (refusal_of_change w e (reg (w.solos e).cpu 4)) 0
 
--- the page is nobody's, and whoever had it bound loses it
+-- the page is nobody's, whoever had it bound loses it, and the claims whose ring it is are withdrawn
 abbrev pub frees : World → ℕ → ℕ → Reply
 frees w e page = record {
-  book = broken page None (record w.book { pages = set_at page Free w.book.pages });
+  book = withdrawn (is_into page) (broken page None (record w.book { pages = set_at page Free w.book.pages }));
   items = set_at e (Lost page ∷ []) (breaks w.book page);
   rows = [];
 }

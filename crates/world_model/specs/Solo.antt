@@ -9,6 +9,7 @@ use Rattle.frame_store.specs.Pages.{with_bytes}
 use Rattle.env_frames.specs.declared.context.Handlers.{Handlers}
 use Rattle.env_frames.specs.Context.{no_handlers}
 use Rattle.bind_book.specs.declared.binding.Binding.{Binding}
+use Rattle.packet_ring.specs.declared.buffer.Buffer.{Buffer}
 use Rattle.bind_book.specs.Stripe.{binding_at}
 use Rattle.world_model.specs.declared.life.Life.{Life}
 use Rattle.world_model.specs.declared.life.Life.TheVariants.{Live, Dead}
@@ -20,9 +21,16 @@ pub record Seen : Type 0 where
   pub owned : Bool
   pub bytes : List ℕ
 
+-- a claim of the environment's: its number, its ring, which is the page into which its packets go, and the buffer of the
+-- ring whose turn is next
+pub record Ring : Type 0 where
+  pub claim : ℕ
+  pub page : ℕ
+  pub next : Buffer
+
 -- Number, name, life, registers, handlers, the mask of those from whom it accepts yields and transfers, guaranteed pages by rising
 -- VPN, the binding in each row of its stripe, each other page that it owns or has bound by its number in
--- physical memory, console, and the packets that it sent.
+-- physical memory, its claims, console, and the packets that it sent.
 pub record Solo : Type 0 where
   pub number : ℕ
   pub name : List ℕ
@@ -33,6 +41,7 @@ pub record Solo : Type 0 where
   pub kept : List KeptPage
   pub binds : ℕ → Option Binding
   pub seen : ℕ → Option Seen
+  pub rings : List Ring
   pub console : List ℕ
   pub sent : List (List ℕ)
 
@@ -54,6 +63,7 @@ bare_solo number name life console sent = record {
   kept = [];
   binds = nothing_bound;
   seen = nothing_seen;
+  rings = [];
   console = console;
   sent = sent;
 }

@@ -8,7 +8,7 @@ use Rattle.world_model.specs.Call.{any, called, exit_number}
 use Rattle.world_model.specs.declared.verdict.Verdict.{Verdict}
 use Rattle.world_model.specs.declared.verdict.Verdict.TheVariants.{Refuse, Grant}
 use Rattle.world_model.specs.declared.call.Deed.{Deed}
-use Rattle.world_model.specs.declared.call.Deed.TheVariants.{Answers, Own, Stops, Gives, Allocates, Frees, Recaps, Binds, Unbinds, Transfers, TakesSlot, DropsSlot, TakesLine, DropsLine}
+use Rattle.world_model.specs.declared.call.Deed.TheVariants.{Answers, Own, Stops, Gives, Allocates, Frees, Recaps, Binds, Unbinds, Transfers, TakesSlot, DropsSlot, TakesLine, DropsLine, Claims, Unclaims}
 use Rattle.world_model.specs.Solo.{Solo}
 use Rattle.world_model.specs.Item.{Answer, deed_at}
 use Rattle.world_model.specs.World.{World, Reply, followed, no_change, tells}
@@ -16,15 +16,17 @@ use Rattle.world_model.specs.PageCalls.{alloc, allocates, bind, binds_to, free, 
 use Rattle.world_model.specs.OwnCalls.{accept, context, put, send}
 use Rattle.world_model.specs.SlotCalls.{drops_slot, gives, slot_drop, slot_take, stops, takes_slot, yield_alone, yield_to}
 use Rattle.world_model.specs.LineCalls.{line, with_line}
+use Rattle.world_model.specs.ClaimCalls.{claim, claims_packets, unclaim, unclaims}
 use Rattle.world_model.specs.Queries.{query}
 use Rattle.world_model.specs.Transfers.{transfer, transfers}
 
--- The calls that are decided by their caller alone: put, send, unbind, context, accept, self, and a yield to whoever is next.
+-- The calls that are decided by their caller alone: put, send, unbind, unclaim, context, accept, self, and a yield to whoever is next.
 abbrev pub verdict_alone : Solo → Option Call → Option Verdict
 verdict_alone s (Some call.Yield) = yield_alone (reg s.cpu 4 == any)
 verdict_alone s (Some call.Put) = Some (put s)
 verdict_alone s (Some call.Send) = Some (send s)
 verdict_alone s (Some call.Unbind) = Some (unbind s)
+verdict_alone s (Some call.Unclaim) = Some (unclaim s)
 verdict_alone s (Some call.Context) = Some (context s)
 verdict_alone s (Some call.Accept) = Some (accept s)
 verdict_alone s (Some call.OwnNumber) = Some (Grant s.number)
@@ -41,6 +43,7 @@ verdict_shared w e (Some call.Transfer) = transfer w e
 verdict_shared w e (Some call.SlotTake) = slot_take w e
 verdict_shared w e (Some call.SlotDrop) = slot_drop w e
 verdict_shared w e (Some call.Query) = query w e
+verdict_shared w e (Some call.Claim) = claim w e
 verdict_shared w e (Some call.Line) = line w e
 verdict_shared w e (Some call.Clock) = Grant w.book.time
 verdict_shared w e call = Refuse code.BadCall 0
@@ -64,6 +67,8 @@ done w e (TakesSlot slot) = takes_slot w e slot
 done w e (DropsSlot slot) = drops_slot w e slot
 done w e (TakesLine line) = with_line w line (Some e)
 done w e (DropsLine line) = with_line w line None
+done w e (Claims claim address atoms page) = claims_packets w e claim address atoms page
+done w e (Unclaims claim) = unclaims w e claim
 
 -- A refused call is answered, and nothing else happens. A granted one is answered, and then comes what it does.
 abbrev pub reply_of : World → ℕ → Verdict → Reply

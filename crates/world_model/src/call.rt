@@ -34,6 +34,10 @@ pub enum Call {
     SlotDrop,
     /// Answers a number of the machine or of the kernel's book.
     Query,
+    /// Claims the packets that a filter matches.
+    Claim,
+    /// Withdraws a claim of the caller's.
+    Unclaim,
     /// Takes an interrupt line, or drops it.
     Line,
     /// Sends a packet.
@@ -68,6 +72,8 @@ impl Call {
             11 => Some(Call::SlotTake),
             12 => Some(Call::SlotDrop),
             13 => Some(Call::Query),
+            14 => Some(Call::Claim),
+            15 => Some(Call::Unclaim),
             17 => Some(Call::Line),
             19 => Some(Call::Send),
             20 => Some(Call::OwnNumber),
@@ -121,6 +127,19 @@ pub enum Deed {
     TakesLine(u32),
     /// An interrupt line of the caller's is nobody's.
     DropsLine(u32),
+    /// The packets that a filter matches are the caller's, from now on.
+    Claims {
+        /// The number of the claim.
+        claim: u32,
+        /// Where the filter stands in the caller's space.
+        address: u32,
+        /// How many atoms it has.
+        atoms: u32,
+        /// The page into which its packets go.
+        page: u32,
+    },
+    /// A claim of the caller's, of this number, is withdrawn.
+    Unclaims(u32),
 }
 
 /// What a granted call does to its caller alone: to its console, its sent packets, its handlers and its mask (`docs/KERNEL.md`).
