@@ -13,6 +13,10 @@ use Rattle.env_frames.specs.Transfer.{hands_slot, transfer_numbered}
 use Rattle.page_book.specs.declared.row.PageRow.{PageRow}
 use Rattle.page_book.specs.declared.row.PageRow.TheVariants.{Free, Guaranteed, Owned}
 use Rattle.page_book.specs.declared.refusal.PageNo.TheVariants as no
+use Rattle.filter_core.specs.declared.atom.Atom.{Atom}
+use Rattle.filter_tree.specs.declared.claim.ClaimNo.{ClaimNo}
+use Rattle.filter_tree.specs.declared.claim.ClaimNo.TheVariants as claim_no
+use Rattle.filter_tree.specs.Claims.{claim_refusal}
 use Rattle.page_book.specs.Row.{alloc_refusal, bind_refusal, change_refusal, gives_right, is_owned_by}
 use Rattle.page_book.specs.Rows.{IsLowestFree, lowest_free}
 use Rattle.bind_book.specs.Stripe.{binding_at}
@@ -26,9 +30,10 @@ use Rattle.world_model.specs.Book.{Book, page_row}
 use Rattle.world_model.specs.Call.{any, binding_of, presented}
 use Rattle.world_model.specs.Code.{code_of}
 use Rattle.world_model.specs.Call.{context_deed, good_range, line_deed, transfer_deed, yield_deed}
+use Rattle.world_model.specs.ClaimCalls.{claim_by, claim_verdict, filter_at, page_verdict}
 use Rattle.world_model.specs.LineCalls.{is_line_of, is_line_of_other, refusal_of_line, refusal_of_line_drop, refusal_of_line_take}
 use Rattle.world_model.specs.OwnCalls.{MayPut, MaySend, is_frame_size, put_bytes, put_refusal, send_refusal}
-use Rattle.world_model.specs.May.{HasRight, May, MayAllocate, MayBind, MayChange, MayDrop, MayEnter, MayMap, MayReach, MayTake}
+use Rattle.world_model.specs.May.{HasRight, May, MayAllocate, MayClaim, MayBind, MayChange, MayDrop, MayEnter, MayMap, MayReach, MayTake}
 use Rattle.world_model.specs.PageCalls.{chosen_page, is_guaranteed, named_page, vpn_refusal, refusal_of_bind, refusal_of_change}
 use Rattle.world_model.specs.SlotCalls.{accepts, drop_refusal, gift_refusal, is_other, refusal_of_gift, refusal_of_giving, slot_at, take_refusal, turn_slot, yield_by}
 use Rattle.world_model.specs.Solo.{Solo, sight}
@@ -234,6 +239,26 @@ may_line w e line act value is = by_tests (nat_lt line lines) (act == 1) (act ==
     by_tests true false true there none = record { there = ltb-true line lines there; owned = dropped (is_line_of e (w.book.lines line)) none }
     by_tests true false false there none = cc
 
+-- claims
+claim_granted : (refusal : Option ClaimNo) (next value : ℕ) → claim_verdict refusal next ≡ Grant value → (refusal ≡ None) × (value ≡ next)
+claim_granted None next value is = (refl, cc)
+claim_granted (Some claim_no.Full) next value is = cc
+claim_granted (Some (claim_no.Overlap other)) next value is = cc
+
+may_claim : (w : World) (e address atoms page value : ℕ) → claim_by w e page (filter_at (sight (w.solos e)) address atoms) ≡ Grant value → MayClaim w e value address atoms page
+may_claim w e address atoms page value is = by_filter (filter_at (sight (w.solos e)) address atoms) refl is
+  where
+    by_page : (filter : List Atom) → filter_at (sight (w.solos e)) address atoms ≡ Ok filter → (why : Option Code) → refusal_of_change w e page ≡ why
+        → page_verdict why (claim_verdict (claim_refusal w.book.claims e filter) w.book.next_claim) ≡ Grant value → MayClaim w e value address atoms page
+    by_page filter named None none is =
+        let granted = claim_granted (claim_refusal w.book.claims e filter) w.book.next_claim value is in
+        record { number = granted.1; filter = filter; named = named; ring = may_change w e page none; beside = granted.0 }
+    by_page filter named (Some why) some is = cc
+
+    by_filter : (f : Result (List Atom) Code) → filter_at (sight (w.solos e)) address atoms ≡ f → claim_by w e page f ≡ Grant value → MayClaim w e value address atoms page
+    by_filter (Ok filter) named is = by_page filter named (refusal_of_change w e page) refl is
+    by_filter (Err why) named is = cc
+
 -- call by call
 pub granted_may : ((pages : ℕ → PageRow) (count : ℕ) → IsLowestFree pages count (lowest_free pages count)) → GrantedMay
 granted_may lowest w e None value is = tt
@@ -263,6 +288,8 @@ granted_may lowest w e (Some call.SlotDrop) value is =
     let k = reg (w.solos e).cpu 4 in
     may_drop w.book e k (not_refused (drop_refusal e (slot_at w.book k)) 0 value is)
 granted_may lowest w e (Some call.Query) value is = tt
+granted_may lowest w e (Some call.Claim) value is = let cpu = (w.solos e).cpu in may_claim w e (reg cpu 4) (reg cpu 5) (reg cpu 6) value is
+granted_may lowest w e (Some call.Unclaim) value is = tt
 granted_may lowest w e (Some call.Line) value is = let cpu = (w.solos e).cpu in may_line w e (reg cpu 4) (reg cpu 5) value is
 granted_may lowest w e (Some call.Send) value is = let s = w.solos e in may_send s (not_refused (send_refusal s.cpu (sight s) (length s.sent)) 0 value is)
 granted_may lowest w e (Some call.OwnNumber) value is = tt

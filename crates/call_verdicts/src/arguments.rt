@@ -14,7 +14,7 @@ pub(crate) const FIRST_ARGUMENT: u8 = 4;
 
 pub(crate) const SECOND_ARGUMENT: u8 = 5;
 
-const THIRD_ARGUMENT: u8 = 6;
+pub(crate) const THIRD_ARGUMENT: u8 = 6;
 
 const FOURTH_ARGUMENT: u8 = 7;
 

@@ -1,10 +1,13 @@
 //! The verdict on a call, and what it does where it is granted.
-ghost use Rattle.std.specs.Prelude.{◌≡◌, ◌<◌, Some};
+ghost use Rattle.std.specs.Prelude.{◌≡◌, ◌<◌, ◌^◌, Some};
 ghost use Rattle.world_model.specs.Book.{running};
 ghost use Rattle.world_model.specs.Call.{deed_of as deed_of_call};
 ghost use Rattle.world_model.specs.Verdict.{verdict};
 
-use crate::arguments::{ANY, FIRST_ARGUMENT, SECOND_ARGUMENT, binding, presented, words};
+use crate::arguments::{
+    ANY, FIRST_ARGUMENT, SECOND_ARGUMENT, THIRD_ARGUMENT, binding, presented, words,
+};
+use crate::claim_calls::decide_claim;
 use crate::line_calls::{TAKE, refuse_line};
 use crate::own_calls::{refuse_context, refuse_put, refuse_send};
 use crate::page_calls::{choose_page, refuse_bind, refuse_change, refuse_unbind};
@@ -22,6 +25,7 @@ pub fn decide<V: CallView>(view: &V, env: u8, call: Option<Call>) -> Verdict
     requires number { env < 32 }
     requires count { (V.world view.now).count < 256 }
     requires own { ((V.world view.now).solos env).number ≡ env }
+    requires numbers { (V.world view.now).book.next_claim < 2 ^ 32 }
     ensures { result ≡ verdict (V.world view.now) env call }
 {
     let Some(call) = call else {
@@ -46,6 +50,9 @@ pub fn decide<V: CallView>(view: &V, env: u8, call: Option<Call>) -> Verdict
         Call::SlotTake => Verdict::unless(refuse_take(view.slot(first)), 0),
         Call::SlotDrop => Verdict::unless(refuse_drop(env, view.slot(first)), 0),
         Call::Query => Verdict::of(ask(view, env, first, second)),
+        Call::Claim => decide_claim(view, env),
+        Call::Unclaim if view.has_claim(env, first) => Verdict::Grant(0),
+        Call::Unclaim => Verdict::Refuse(Code::NoFilter, 0),
         Call::Line => Verdict::unless(refuse_line(view, env, first, second), 0),
         Call::Send => Verdict::unless(refuse_send(view, env), 0),
         Call::OwnNumber => Verdict::Grant(u32::from(env)),
@@ -100,6 +107,13 @@ pub fn deed_of(call: Option<Call>, value: u32, cpu: &Cpu) -> Deed
         },
         Call::SlotTake => Deed::TakesSlot(first),
         Call::SlotDrop => Deed::DropsSlot(first),
+        Call::Claim => Deed::Claims {
+            claim: value,
+            address: first,
+            atoms: second,
+            page: cpu.reg(THIRD_ARGUMENT),
+        },
+        Call::Unclaim => Deed::Unclaims(first),
         Call::Line if second == TAKE => Deed::TakesLine(first),
         Call::Line => Deed::DropsLine(first),
         Call::Send => Deed::Own(OwnDeed::Sends {

@@ -4,6 +4,7 @@
 #![tactic(auto)]
 
 mod arguments;
+mod claim_calls;
 mod decision;
 mod laws;
 mod line_calls;
@@ -13,6 +14,7 @@ mod queries;
 mod slot_calls;
 mod view;
 
+pub use claim_calls::claimed_filter;
 pub use decision::{decide, deed_of};
 pub use laws::law_granted;
 pub use view::CallView;

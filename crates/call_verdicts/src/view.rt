@@ -1,12 +1,14 @@
 //! What is read of a world to decide on a call.
-ghost use Rattle.std.specs.Prelude.{◌≡◌, ◌<◌, ◌≤◌, Some, is_some, length};
+ghost use Rattle.std.specs.Prelude.{◌≡◌, ◌<◌, ◌≤◌, ◌^◌, Some, is_some, length};
 ghost use Rattle.std.specs.Option.{option_map};
 ghost use Rattle.aegis_limits.specs.Limits.{console_size};
 ghost use Rattle.external_event.specs.Limits.{lines};
 ghost use Rattle.env_frames.specs.Context.{handler_of};
 ghost use Rattle.page_book.specs.Rows.{free_below, lowest_free};
 ghost use Rattle.bind_book.specs.Stripe.{binding_at};
+ghost use Rattle.filter_tree.specs.Claims.{claim_refusal};
 ghost use Rattle.world_model.specs.Book.{page_row, running};
+ghost use Rattle.world_model.specs.Rings.{ring_of};
 ghost use Rattle.world_model.specs.Call.{good_range};
 ghost use Rattle.world_model.specs.PageCalls.{is_guaranteed};
 ghost use Rattle.world_model.specs.Queries.{life_at};
@@ -15,6 +17,8 @@ ghost use Rattle.world_model.specs.Solo.{sight};
 ghost use Rattle.world_model.specs.World.{World};
 
 use env_frames::Context;
+use filter_core::Filter;
+use filter_tree::ClaimNo;
 use mips_exec::Cpu;
 use page_book::PageRow;
 use world_model::{Code, Hold, Life};
@@ -72,6 +76,20 @@ pub trait CallView {
     /// Why the runner can't hand on the rest of its slice, or for a later its slot too.
     fn refuse_gift(&self, later: bool) -> Option<Code>
         ensures { result ≡ gift_refusal later (world self.now).book.runner (turn_slot (world self.now).book) };
+
+    /// Why a filter of an environment's is refused beside the claims that stand, if it is.
+    fn refuse_claim(&self, env: u8, filter: &Filter) -> Option<ClaimNo>
+        ensures { result ≡ claim_refusal (world self.now).book.claims env filter.now };
+
+    /// The number of the next claim.
+    fn next_claim(&self) -> u32
+        requires { (world self.now).book.next_claim < 2 ^ 32 }
+        ensures { result ≡ (world self.now).book.next_claim };
+
+    /// Whether the runner has a claim of this number.
+    fn has_claim(&self, env: u8, claim: u32) -> bool
+        requires { running (world self.now).book.runner ≡ Some env }
+        ensures { result ≡ is_some (ring_of ((world self.now).solos env).rings claim) };
 
     /// Whose an interrupt line is, if anybody's.
     fn line_owner(&self, line: u8) -> Option<u8>

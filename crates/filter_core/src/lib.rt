@@ -19,4 +19,4 @@ pub use atom::Atom;
 pub use filter::{Filter, MOST_ATOMS};
 pub use layout::{Layout, common_packet, law_agree, overlaps};
 pub use packet::Packet;
-pub use reading::{BadFilter, read_filter};
+pub use reading::{ATOM_SIZE, BadFilter, read_filter};

@@ -11,7 +11,7 @@ use arrayvec::ArrayVec;
 use byte_numbers::word_at;
 
 /// The bytes of an atom: three words.
-const ATOM_SIZE: usize = 12;
+pub const ATOM_SIZE: usize = 12;
 
 /// Bytes that spell no filter.
 #[derive(Clone, Copy)]

@@ -72,6 +72,8 @@ boot_book pages quantum owners = record {
   kept = λ e. [];
   binds = λ e. nothing_bound;
   lines = λ line. None;
+  claims = [];
+  next_claim = 0;
   time = 0;
 }
 

@@ -22,7 +22,11 @@ use Rattle.world_model.specs.declared.verdict.Verdict.{Verdict}
 use Rattle.world_model.specs.Book.{excess_limit, running, sees, whole_turn}
 use Rattle.external_event.specs.declared.event.Occurrence.{Occurrence}
 use Rattle.external_event.specs.declared.event.Occurrence.TheVariants as outside
-use Rattle.world_model.specs.Item.{Item, Boot, Step, Start, End, Transfer, Killed, Answer, Gained, Lost, Left, Line}
+use Rattle.world_model.specs.Item.{Item, Boot, Step, Start, End, Transfer, Killed, Answer, Gained, Lost, Left, Packet, Line}
+use Rattle.filter_tree.specs.ClaimBook.{ClaimValue}
+use Rattle.world_model.specs.ClaimCalls.{claim_of}
+use Rattle.world_model.specs.Event.{ring_bytes}
+use Rattle.world_model.specs.Rings.{ring_of}
 use Rattle.world_model.specs.May.{MayAllocate, MayBind, MayChange, MayEnter, MayReach}
 use Rattle.world_model.specs.Page.{KeptPage}
 use Rattle.world_model.specs.PageCalls.{page_bytes}
@@ -179,9 +183,31 @@ abbrev pub AtSignal : ℕ → World → ℕ → Item → Type 0
 AtSignal raised w e (Line line) = IsSignalled w e raised line
 AtSignal raised w e item = ⊥
 
--- A packet that is dropped is given to nobody.
+-- A packet comes, and this claim of the environment's is the lowest whose filter matches it.
+pub record IsClaimed (w : World) (e : ℕ) (packet : List ℕ) (claim : ℕ) (given : List ℕ) : Type 0 where
+  pub lowest : ClaimValue
+  pub goes : claim_of w.book packet ≡ Some lowest
+  pub its : lowest.env ≡ e
+  pub number : lowest.id ≡ claim
+  pub same : given ≡ packet
+
+-- It goes into the ring of another's claim, a page that the environment owns or has bound, which has these bytes then.
+pub record IsRingLeft (w : World) (e : ℕ) (packet : List ℕ) (page offset : ℕ) (bytes : List ℕ) : Type 0 where
+  pub lowest : ClaimValue
+  pub goes : claim_of w.book packet ≡ Some lowest
+  pub another : e ≢ lowest.env
+  pub into : lowest.page ≡ page
+  pub filled : let s = w.solos lowest.env in ring_bytes s (ring_of s.rings lowest.id) packet ≡ Some bytes
+  pub whole : offset ≡ 0
+  pub seen : sees w.book e page ≡ true
+
+abbrev pub AtArrival : List ℕ → World → ℕ → Item → Type 0
+AtArrival packet w e (Packet claim given) = IsClaimed w e packet claim given
+AtArrival packet w e (Left page offset bytes) = IsRingLeft w e packet page offset bytes
+AtArrival packet w e item = ⊥
+
 abbrev pub AtEvent : Occurrence → World → ℕ → Item → Type 0
-AtEvent (outside.Packet packet) w e item = ⊥
+AtEvent (outside.Packet packet) w e item = AtArrival packet w e item
 AtEvent (outside.Line line) w e item = AtSignal line w e item
 
 -- The licence for an item in the phase of this number of a tick in which this happens.

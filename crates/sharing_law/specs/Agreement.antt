@@ -1,5 +1,10 @@
 -- The book and the environments agree.
-use Rattle.std.specs.Prelude.{◌≡◌, ℕ, Some}
+use Rattle.std.specs.Prelude.{◌≡◌, ◌≢◌, ◌<◌, ℕ, true, Some, filter, find, map, slice_get}
+use Rattle.page_book.specs.Row.{is_owned_by}
+use Rattle.filter_core.specs.Matching.{Overlap}
+use Rattle.filter_tree.specs.ClaimBook.{ClaimValue, is_of_env}
+use Rattle.filter_tree.specs.Claims.{is_numbered}
+use Rattle.world_model.specs.Solo.{Ring}
 use Rattle.page_book.specs.declared.row.PageRow.{PageRow}
 use Rattle.page_book.specs.declared.row.PageRow.TheVariants.{Free, Guaranteed, Owned}
 use Rattle.bind_book.specs.declared.binding.Binding.{Binding}
@@ -27,3 +32,41 @@ BooksAgree = (system : System) (t : ℕ) → AreAgreed (world_after system t)
 
 abbrev pub BoundIsAllocated : Type 0
 BoundIsAllocated = (system : System) (t : ℕ) → AreBoundAllocated (world_after system t)
+
+-- a claim's number and the page into which its packets go
+pub record ClaimPage : Type 0 where
+  pub claim : ℕ
+  pub page : ℕ
+
+abbrev pub ring_page : Ring → ClaimPage
+ring_page r = record { claim = r.claim; page = r.page }
+
+abbrev pub claim_page : ClaimValue → ClaimPage
+claim_page c = record { claim = c.id; page = c.page }
+
+-- each environment has just the claims that the book lists for it
+abbrev pub AreClaimed : World → Type 0
+AreClaimed w = (e : ℕ) → map ring_page (w.solos e).rings ≡ map claim_page (filter (is_of_env e) w.book.claims)
+
+-- each claim goes into a page of its environment's own, and is the one of its number
+pub record IsClaimSound (w : World) (c : ClaimValue) : Type 0 where
+  pub owned : is_owned_by c.env (w.book.pages c.page) ≡ true
+  pub below : c.id < w.book.next_claim
+  pub only : find (is_numbered c.id) w.book.claims ≡ Some c
+
+abbrev pub AreClaimsSound : World → Type 0
+AreClaimsSound w = (k : ℕ) (c : ClaimValue) → slice_get w.book.claims k ≡ Some c → IsClaimSound w c
+
+-- so it is after every number of ticks of every system
+abbrev pub ClaimsAgree : Type 0
+ClaimsAgree = (system : System) (t : ℕ) → AreClaimed (world_after system t)
+
+abbrev pub ClaimsAreSound : Type 0
+ClaimsAreSound = (system : System) (t : ℕ) → AreClaimsSound (world_after system t)
+
+-- No packet is matched by claims of two environments.
+abbrev pub AreClaimsApart : World → Type 0
+AreClaimsApart w = (j k : ℕ) (c d : ClaimValue) → slice_get w.book.claims j ≡ Some c → slice_get w.book.claims k ≡ Some d → c.env ≢ d.env → ¬ Overlap c.filter d.filter
+
+abbrev pub ClaimsAreApart : Type 0
+ClaimsAreApart = (system : System) (t : ℕ) → AreClaimsApart (world_after system t)

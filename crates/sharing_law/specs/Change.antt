@@ -1,12 +1,14 @@
 -- Why the bytes of a page change.
-use Rattle.std.specs.Prelude.{◌≡◌, ◌≢◌, ◌^◌, ℕ, suc, true, List, ◌∷◌, Some, ◌⊎◌, bit_or}
-use Rattle.frame_store.specs.Pages.{with_bytes, word_bytes, zero_page}
+use Rattle.std.specs.Prelude.{◌≡◌, ◌≢◌, ◌+◌, ◌^◌, ℕ, suc, true, List, ◌∷◌, Some, ◌⊎◌, bit_or}
+use Rattle.frame_store.specs.Pages.{with_bytes, word_at, word_bytes, zero_page}
 use Rattle.page_book.specs.declared.row.Capabilities.{Capabilities}
 use Rattle.page_book.specs.declared.row.PageRow.TheVariants.{Free}
 use Rattle.page_book.specs.Row.{is_owned_by}
 use Rattle.env_frames.specs.Context.{context_number, end_area, end_bytes, exception_area, exception_bytes, start_area, start_bytes}
 use Rattle.env_frames.specs.Transfer.{entry_area, entry_bytes}
+use Rattle.env_frames.specs.declared.post.PostWord.{PostWord}
 use Rattle.env_frames.specs.declared.post.PostWord.TheVariants as post
+use Rattle.mips_exec.specs.Word.{word_of}
 use Rattle.env_frames.specs.Post.{post_offset}
 use Rattle.world_model.specs.declared.call.Deed.TheVariants.{Allocates}
 use Rattle.world_model.specs.declared.life.Cause.TheVariants as cause
@@ -15,10 +17,11 @@ use Rattle.world_model.specs.Page.{KeptPage}
 use Rattle.world_model.specs.Solo.{Solo, Store, Kept, Physical, bytes_in, kept_at}
 use Rattle.world_model.specs.Step.{Act, Nothing, Stores, Calls, Raises, Dies, act_of, step_alone}
 use Rattle.world_model.specs.PageCalls.{page_bytes}
-use Rattle.world_model.specs.Item.{Item, Boot, Step, Start, End, Transfer, Killed, Answer, Gained, Lost, Left, Line, absorb}
+use Rattle.world_model.specs.Item.{Item, Boot, Step, Start, End, Transfer, Killed, Answer, Gained, Lost, Left, Packet, Line, absorb}
 use Rattle.world_model.specs.Post.{post_word}
 use Rattle.run_model.specs.Acting.{Acts, Does}
 use Rattle.run_model.specs.Run.{System, given_at, moment, world_after}
+use Rattle.sharing_law.specs.Delivery.{IsDelivered}
 use Rattle.sharing_law.specs.Right.{HasLiveBinding, row_after}
 
 -- the bytes of a guaranteed page of an environment
@@ -38,6 +41,15 @@ pub record HasStore (s t : Solo) (vpn : ℕ) (store : Store) : Type 0 where
   pub writable : page.writable ≡ true
   pub has : bytes_at t vpn ≡ with_bytes (bytes_at s vpn) store.offset store.bytes
 
+-- a context page with a post word counted up, which wraps at 2 ^ 32
+abbrev pub counted_page : PostWord → List ℕ → List ℕ
+counted_page word page = with_bytes page (post_offset word) (word_bytes (word_of (word_at page (post_offset word) + 1)))
+
+-- a packet is counted in the context page, and counted again if it is lost
+pub record HasCounts (s t : Solo) (vpn : ℕ) : Type 0 where
+  pub context : vpn ≡ context_number
+  pub has : let packets = counted_page post.Packets (bytes_at s vpn) in (bytes_at t vpn ≡ packets) ⊎ (bytes_at t vpn ≡ counted_page post.Lost packets)
+
 -- How an environment's own step changes a guaranteed page, by what the step comes to.
 abbrev pub StepChanges : Solo → Solo → ℕ → Act → Type 0
 StepChanges s t vpn Nothing = ⊥
@@ -46,7 +58,7 @@ StepChanges s t vpn (Calls call) = ⊥
 StepChanges s t vpn (Raises exc) = HasWords s t vpn exception_area (exception_bytes exc s.cpu)
 StepChanges s t vpn (Dies cause) = t.life ≡ Dead cause
 
--- How an item does that makes s to t: of what comes from outside it is the kernel's words on its slice, on who enters it and on its interrupt lines, and death, alone.
+-- How an item does that makes s to t: of what comes from outside it is the kernel's words on its slice, on who enters it and on its packets and interrupt lines, and death, alone.
 abbrev pub Changes : Solo → Solo → ℕ → Item → Type 0
 Changes s t vpn (Boot number name entry accept kept) = t.kept ≡ kept
 Changes s t vpn Step = StepChanges s t vpn (act_of s (step_alone s))
@@ -58,6 +70,7 @@ Changes s t vpn (Answer verdict) = ⊥
 Changes s t vpn (Gained page writable bytes) = ⊥
 Changes s t vpn (Lost page) = ⊥
 Changes s t vpn (Left page offset bytes) = ⊥
+Changes s t vpn (Packet claim packet) = HasCounts s t vpn
 Changes s t vpn (Line line) = HasWords s t vpn (post_offset post.Lines) (word_bytes (bit_or (post_word post.Lines s) (2 ^ line)))
 
 -- An item leaves the bytes of a guaranteed page, but for such a change.
@@ -102,22 +115,22 @@ pub record IsAllocated (system : System) (t k page owner : ℕ) : Type 0 where
   pub free : (moment system t k).book.pages page ≡ Free
   pub zeros : page_bytes (moment system t (suc k)) page ≡ zero_page
 
--- The bytes of a page that stays an environment's in a phase stay, or such a store changes them.
+-- The bytes of a page that stays an environment's in a phase stay, or such a store changes them, or a packet for it.
 abbrev pub AllocatedChange : Type 0
 AllocatedChange = (system : System) (t k page owner : ℕ) →
     IsOwnedAt system t k page owner → IsOwnedAt system t (suc k) page owner →
-    (page_bytes (moment system t (suc k)) page ≡ page_bytes (moment system t k) page) ⊎ IsStored system t k page
+    (page_bytes (moment system t (suc k)) page ≡ page_bytes (moment system t k) page) ⊎ (IsStored system t k page ⊎ IsDelivered system t k page owner)
 
 -- A page that comes to be an environment's in a phase is so allocated by it.
 abbrev pub AllocatedZeros : Type 0
 AllocatedZeros = (system : System) (t k page owner : ℕ) →
     IsOwnedAt system t (suc k) page owner → IsOwnedAt system t k page owner ⊎ IsAllocated system t k page owner
 
--- So a page that is an environment's after a tick was so before and has the bytes that it had, or it was stored to or allocated so in a phase of the tick.
+-- So a page that is an environment's after a tick was so before and has the bytes that it had, or it was stored to, a packet came there, or it was allocated so in a phase of the tick.
 abbrev pub AllocatedInTick : Type 0
 AllocatedInTick = (system : System) (t page owner : ℕ) → is_owned_by owner (row_after system (suc t) page) ≡ true →
     ((is_owned_by owner (row_after system t page) ≡ true) × (page_bytes (world_after system (suc t)) page ≡ page_bytes (world_after system t) page))
-    ⊎ (((k : ℕ) × IsStored system t k page) ⊎ ((k : ℕ) × IsAllocated system t k page owner))
+    ⊎ (((k : ℕ) × IsStored system t k page) ⊎ (((k : ℕ) × IsDelivered system t k page owner) ⊎ ((k : ℕ) × IsAllocated system t k page owner)))
 
 -- and one that wasn't so before was allocated so.
 abbrev pub ZerosInTick : Type 0

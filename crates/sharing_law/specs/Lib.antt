@@ -1,3 +1,4 @@
 pub mod Agreement
+pub mod Delivery
 pub mod Right
 pub mod Change

@@ -1,5 +1,5 @@
 -- By what right an environment has a binding.
-use Rattle.std.specs.Prelude.{◌≡◌, ◌<◌, ◌≤◌, ℕ, List, true, Some, ◌⊎◌}
+use Rattle.std.specs.Prelude.{◌≡◌, ◌≢◌, ◌<◌, ◌≤◌, ℕ, suc, List, true, Some, ◌⊎◌}
 use Rattle.std.specs.List.{All}
 use Rattle.page_book.specs.declared.row.Capabilities.{Capabilities}
 use Rattle.page_book.specs.declared.row.PageRow.{PageRow}
@@ -11,6 +11,8 @@ use Rattle.world_model.specs.declared.call.Deed.TheVariants.{Binds}
 use Rattle.run_model.specs.Acting.{Does}
 use Rattle.world_model.specs.Item.{Item, Left}
 use Rattle.run_model.specs.Licensed.{IsLeft}
+use Rattle.world_model.specs.PageCalls.{page_bytes}
+use Rattle.sharing_law.specs.Delivery.{IsDelivered}
 use Rattle.run_model.specs.Run.{System, at_step, given_at, moment, world_after}
 
 -- whose a page is after so many ticks
@@ -54,8 +56,17 @@ pub record IsLeftByRight (system : System) (t k e page offset : ℕ) (bytes : Li
   pub left : IsLeft (moment system t k) e page offset bytes
   pub right : HasLiveBinding system t left.writer page
 
+-- Or a packet comes there for the owner of the page, which is another: then they are all bytes of the page.
+pub record IsLeftByDelivery (system : System) (t k e page offset : ℕ) (bytes : List ℕ) : Type 0 where
+  pub owner : ℕ
+  pub another : e ≢ owner
+  pub owned : is_owned_by owner ((moment system t k).book.pages page) ≡ true
+  pub delivered : IsDelivered system t k page owner
+  pub whole : offset ≡ 0
+  pub its : bytes ≡ page_bytes (moment system t (suc k)) page
+
 abbrev pub LeftIsLive : System → ℕ → ℕ → ℕ → Item → Type 0
-LeftIsLive system t k e (Left page offset bytes) = IsLeftByRight system t k e page offset bytes
+LeftIsLive system t k e (Left page offset bytes) = IsLeftByRight system t k e page offset bytes ⊎ IsLeftByDelivery system t k e page offset bytes
 LeftIsLive system t k e item = Unit {0}
 
 abbrev pub EachLeftIsLive : Type 0

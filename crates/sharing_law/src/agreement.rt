@@ -1,7 +1,8 @@
 //! The book and the environments.
-ghost use Rattle.sharing_law.specs.Agreement.{BooksAgree, BoundIsAllocated};
+ghost use Rattle.sharing_law.specs.Agreement.{BooksAgree, BoundIsAllocated, ClaimsAgree, ClaimsAreApart, ClaimsAreSound};
 
 use call_verdicts::law_granted;
+use filter_core::law_agree;
 
 /// Each environment has just the bindings that the book lists for it, and sees just the pages that by the book it owns
 /// or has bound, with the bytes that their owner sees.
@@ -16,4 +17,26 @@ pub fn law_bound()
     ensures { BoundIsAllocated }
 {
     law_granted();
+}
+
+/// Each environment has just the claims that the book lists for it, into the pages that the book says.
+pub fn law_claims()
+    ensures { ClaimsAgree }
+{
+    law_granted();
+}
+
+/// Each claim that the book lists goes into a page that its environment owns, and no other has its number.
+pub fn law_claim_pages()
+    ensures { ClaimsAreSound }
+{
+    law_granted();
+}
+
+/// Claims of two environments don't overlap: no packet is matched by both.
+pub fn law_claims_apart()
+    ensures { ClaimsAreApart }
+{
+    law_granted();
+    law_agree();
 }

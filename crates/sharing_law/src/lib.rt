@@ -6,7 +6,7 @@ mod agreement;
 mod change;
 mod right;
 
-pub use agreement::{law_agreement, law_bound};
+pub use agreement::{law_agreement, law_bound, law_claim_pages, law_claims, law_claims_apart};
 pub use change::{
     law_allocated_change, law_allocated_in_tick, law_guaranteed_change, law_guaranteed_in_tick,
     law_item_change, law_zeros, law_zeros_in_tick,

@@ -1,0 +1,18 @@
+-- Packets that come into the rings of their claims.
+use Rattle.std.specs.Prelude.{◌≡◌, ℕ, suc, List, ◌∷◌, Some}
+use Rattle.world_model.specs.Item.{Item, Packet}
+use Rattle.world_model.specs.PageCalls.{page_bytes}
+use Rattle.world_model.specs.Rings.{ring_after, ring_of}
+use Rattle.world_model.specs.Solo.{Ring}
+use Rattle.run_model.specs.Run.{System, given_at, moment}
+
+-- In a phase of a tick the owner of the page is given a packet for a claim whose ring the page is, and it goes into the buffer whose turn it is.
+pub record IsDelivered (system : System) (t k page owner : ℕ) : Type 0 where
+  pub claim : ℕ
+  pub packet : List ℕ
+  pub rest : List Item
+  pub given : given_at system t k owner ≡ Packet claim packet ∷ rest
+  pub ring : Ring
+  pub stands : ring_of ((moment system t k).solos owner).rings claim ≡ Some ring
+  pub its : ring.page ≡ page
+  pub has : ring_after ((moment system t k).solos owner) ring packet ≡ Some (page_bytes (moment system t (suc k)) page)
