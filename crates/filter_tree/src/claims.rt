@@ -1,6 +1,6 @@
 //! The book of claims.
-ghost use Rattle.std.specs.Prelude.{◌≡◌, ◌<◌, ◌≤◌, ◌+◌, ◌^◌, [], is_some, IfOk};
-ghost use Rattle.filter_tree.specs.ClaimBook.{claims_in, is_of_env};
+ghost use Rattle.std.specs.Prelude.{true, ◌≡◌, ◌<◌, ◌≤◌, ◌+◌, ◌^◌, [], is_some, IfOk};
+ghost use Rattle.filter_tree.specs.ClaimBook.{are_numbered, claims_in, is_of_env};
 ghost use Rattle.filter_tree.specs.Claims.{atom_count, claim_answer, claim_for, claim_held, claim_refusal, claimed, delivered, is_claim, is_into, without};
 
 use crate::claim::{Claim, ClaimNo};
@@ -84,6 +84,13 @@ impl Claims {
         ensures { result ≡ self.now.next }
     {
         self.next
+    }
+
+    /// Law: the numbers of the claims rise, and are below that of the next one.
+    pub fn law_numbers(&self)
+        ensures { are_numbered 0 self.now.next self.now.rows ≡ true }
+    {
+        let _ = &self.rows;
     }
 
     /// A packet of the claim of this number is in its buffer: the next one goes into the other.
