@@ -15,18 +15,21 @@ use Rattle.world_model.specs.declared.slot.Turn.{Turn}
 use Rattle.world_model.specs.Book.{Book, Told, excess_limit, first_turn, is_idle_book, lowered, owed, pays_first, told_at, told_turn, whole_turn}
 use Rattle.run_model.specs.Boot.{boot_book, boot_slot, boot_world, own_row, own_rows, record_items, with_all_kept, with_kept}
 use Rattle.run_model.specs.Excess.{pays, AreSlotsLive, BalanceHolds, BootsAccounted, IsAccounted, LedgersAreLawful, Lives, TicksKeepAccounts}
-use Rattle.world_model.specs.Item.{End, Killed, Line, Start, absorb_all}
+use Rattle.world_model.specs.Item.{End, Killed, Line, Packet, Start, absorb_all}
 use Rattle.run_model.specs.Run.{happens_in, next_phases, next_world, run_on}
 use Rattle.world_model.specs.Solo.{absent, dead, is_dead}
 use Rattle.world_model.specs.Table.{set_at}
 use Rattle.external_event.specs.declared.event.Occurrence.{Occurrence}
 use Rattle.external_event.specs.declared.event.Occurrence.TheVariants as outside
-use Rattle.world_model.specs.Event.{Schedule, drops_packet, happen, signals}
+use Rattle.filter_tree.specs.ClaimBook.{ClaimValue}
+use Rattle.world_model.specs.ClaimCalls.{claim_of}
+use Rattle.world_model.specs.Event.{Schedule, arrives, delivers, drops_packet, happen, ring_bytes, ring_left, signals}
+use Rattle.world_model.specs.Rings.{ring_of}
 use Rattle.world_model.specs.Tick.{act_now, clock, count_when, goes_on, grace_of, judged, kill, owes_more, pay_row, phases_after, run_out, slice_end, step, step_when, take_turn, tick_phases, timer, turn, turn_when}
 use Rattle.world_model.specs.SlotCalls.{stop_row}
 use Rattle.call_verdicts.specs.Granted.{GrantedMay}
 use Rattle.world_model.specs.World.{World, Reply, after, no_change, no_items, only, run_phases, tells}
-use Rattle.run_model.proofs.Lives.{keep_end, keep_line, keep_none, keep_only, keep_start}
+use Rattle.run_model.proofs.Lives.{keep_end, keep_line, keep_none, keep_only, keep_packet, keep_set, keep_start, ring_left_keeps}
 use Rattle.run_model.proofs.NextTurn.{Found, holder_in, search_finds}
 use Rattle.run_model.proofs.Replies.{accounts, act_accounts, death_accounts, dies, in_turn_accounts, mild_accounts, no_change_is_mild}
 use Rattle.run_model.proofs.Rows.{Adds, AreQuiet, Balances, adds_over, adds_pay, adds_quiet, adds_run, quiet_both, quiet_end, quiet_slot, quiet_stop, quiet_unclaimed}
@@ -57,6 +60,23 @@ dropped_accounts packet w good = mild_accounts w (drops_packet packet w) good (r
   runner = good.runner_lives;
 })
 
+-- One that is claimed leaves the life of whose claim it is, and of those who see the ring page.
+delivered_accounts : (c : ClaimValue) (packet : List ℕ) → KeepsAccounts (delivers c packet)
+delivered_accounts c packet w good =
+    let s = w.solos c.env in
+    let bytes = ring_bytes s (ring_of s.rings c.id) packet in
+    mild_accounts w (delivers c packet w) good (record {
+      excess = refl;
+      quiet = tt;
+      keeps = keep_set c.env (Packet c.id packet ∷ []) (ring_left w.book c.env c.page bytes) (keep_packet c.id packet) (ring_left_keeps w.book c.env c.page bytes);
+      slots = good.slots_live;
+      runner = good.runner_lives;
+    })
+
+arrival_accounts : (packet : List ℕ) (claim : Option ClaimValue) → KeepsAccounts (arrives packet claim)
+arrival_accounts packet None w good = dropped_accounts packet w good
+arrival_accounts packet (Some c) w good = delivered_accounts c packet w good
+
 -- A signal leaves the life of whose line it is.
 signal_accounts : (line : ℕ) (owner : Option ℕ) → KeepsAccounts (signals line owner)
 signal_accounts line None w good = no_change_accounts w good
@@ -70,7 +90,7 @@ signal_accounts line (Some owner) w good = mild_accounts w (tells owner (Line li
 
 -- What happens from outside, kind by kind.
 pub happen_accounts : (what : Occurrence) → KeepsAccounts (happen what)
-happen_accounts (outside.Packet packet) w good = dropped_accounts packet w good
+happen_accounts (outside.Packet packet) w good = arrival_accounts packet (claim_of w.book packet) w good
 happen_accounts (outside.Line line) w good = signal_accounts line (w.book.lines line) w good
 
 -- The turn. Each forfeit is of one that lives and owes, and who runs lives and owes nothing.

@@ -13,7 +13,7 @@ use Rattle.page_book.specs.Row.{belongs_to, is_owned_by}
 use Rattle.bind_book.specs.Stripe.{is_bound}
 use Rattle.world_model.specs.declared.call.Call.{Call}
 use Rattle.world_model.specs.declared.call.Deed.{Deed}
-use Rattle.world_model.specs.declared.call.Deed.TheVariants.{Answers, Stops, Gives, Allocates, Frees, Recaps, Binds, Unbinds, Own, Transfers, TakesSlot, DropsSlot, TakesLine, DropsLine}
+use Rattle.world_model.specs.declared.call.Deed.TheVariants.{Answers, Stops, Gives, Allocates, Frees, Recaps, Binds, Unbinds, Own, Transfers, TakesSlot, DropsSlot, TakesLine, DropsLine, Claims, Unclaims}
 use Rattle.world_model.specs.declared.slot.Hold.{Hold}
 use Rattle.world_model.specs.declared.slot.Phase.{Phase}
 use Rattle.world_model.specs.declared.slot.Phase.TheVariants as phase
@@ -26,8 +26,11 @@ use Rattle.world_model.specs.Book.{Book, excess_limit, first_turn, is_idle_book,
 use Rattle.world_model.specs.Death.{death_items, lost_with}
 use Rattle.external_event.specs.declared.event.Occurrence.{Occurrence}
 use Rattle.external_event.specs.declared.event.Occurrence.TheVariants as outside
-use Rattle.world_model.specs.Event.{happen, signals}
-use Rattle.world_model.specs.Item.{Item, Step, Start, End, Transfer, Killed, Answer, Gained, Lost, Line, deed_at}
+use Rattle.filter_tree.specs.ClaimBook.{ClaimValue}
+use Rattle.world_model.specs.ClaimCalls.{claim_of}
+use Rattle.world_model.specs.Event.{arrives, happen, ring_bytes, ring_left, signals}
+use Rattle.world_model.specs.Rings.{page_store, ring_of}
+use Rattle.world_model.specs.Item.{Item, Step, Start, End, Transfer, Killed, Answer, Gained, Lost, Packet, Line, deed_at}
 use Rattle.world_model.specs.May.{May}
 use Rattle.world_model.specs.PageCalls.{breaks, left_at, left_by, left_if, lost_if, page_bytes}
 use Rattle.world_model.specs.SlotCalls.{stop_row}
@@ -39,7 +42,7 @@ use Rattle.world_model.specs.World.{World, Reply, after, in_turn, no_items, only
 use Rattle.call_verdicts.specs.Granted.{GrantedMay}
 use Rattle.run_model.specs.Acting.{Acts, Does}
 use Rattle.run_model.specs.Boot.{boot_items, record_items}
-use Rattle.run_model.specs.Licensed.{AtBoot, AtEvent, AtSignal, AtStep, AtTimer, AtTurn, Breaks, ByDeath, ByFree, ByRecap, FeedIsLicensed, GivenIsLicensed, IsOut, IsOverdue, Licensed, LicensedAt, LicensedIn}
+use Rattle.run_model.specs.Licensed.{AtArrival, AtBoot, AtEvent, AtSignal, AtStep, AtTimer, AtTurn, Breaks, ByDeath, ByFree, ByRecap, FeedIsLicensed, GivenIsLicensed, IsOut, IsOverdue, Licensed, LicensedAt, LicensedIn}
 use Rattle.run_model.specs.Run.{System, feed, given_at, given_by, happens_in, items_in, moment, next_phases, world_after}
 use Rattle.run_model.proofs.NextTurn.{Found, holder_in, search_finds}
 use Rattle.run_model.proofs.Telling.{call_does, call_named, call_stands, deed_may}
@@ -104,8 +107,35 @@ signal_licensed line w i = by_owner (w.book.lines line) refl
     by_owner None its = tt
     by_owner (Some e) its = each_only (AtSignal line w) e (Line line ∷ []) i (record { its = its; same = refl }, tt)
 
+arrival_licensed : (packet : List ℕ) (w : World) (i : ℕ) → Each (AtArrival packet w i) ((arrives packet (claim_of w.book packet) w).items i)
+arrival_licensed packet w i = by_claim (claim_of w.book packet) refl
+  where
+    by_sight : (c : ClaimValue) (bytes : List ℕ) → claim_of w.book packet ≡ Some c → ring_bytes (w.solos c.env) (ring_of (w.solos c.env).rings c.id) packet ≡ Some bytes → i ≢ c.env
+        → (t : Bool) → sees w.book i c.page ≡ t → Each (AtArrival packet w i) (left_if t c.page (page_store c.page bytes))
+    by_sight c bytes goes filled other true seen = (record { lowest = c; goes = goes; another = other; into = refl; filled = filled; whole = refl; seen = seen }, tt)
+    by_sight c bytes goes filled other false seen = tt
+
+    by_env : (c : ClaimValue) (bytes : List ℕ) → claim_of w.book packet ≡ Some c → ring_bytes (w.solos c.env) (ring_of (w.solos c.env).rings c.id) packet ≡ Some bytes → i ≢ c.env
+        → (t : Bool) → (i == c.env) ≡ t → Each (AtArrival packet w i) (if t then [] else left_if (sees w.book i c.page) c.page (page_store c.page bytes))
+    by_env c bytes goes filled other true own = tt
+    by_env c bytes goes filled other false its = by_sight c bytes goes filled other (sees w.book i c.page) refl
+
+    by_ring : (c : ClaimValue) → claim_of w.book packet ≡ Some c → i ≢ c.env → (bytes : Option (List ℕ)) → ring_bytes (w.solos c.env) (ring_of (w.solos c.env).rings c.id) packet ≡ bytes
+        → Each (AtArrival packet w i) (ring_left w.book c.env c.page bytes i)
+    by_ring c goes other None lost = tt
+    by_ring c goes other (Some bytes) filled = by_env c bytes goes filled other (i == c.env) refl
+
+    by_claim : (o : Option ClaimValue) → claim_of w.book packet ≡ o → Each (AtArrival packet w i) ((arrives packet o w).items i)
+    by_claim None goes = tt
+    by_claim (Some c) goes =
+        let s = w.solos c.env in
+        let bytes = ring_bytes s (ring_of s.rings c.id) packet in
+        each_at (AtArrival packet w) c.env (Packet c.id packet ∷ []) (ring_left w.book c.env c.page bytes) i
+        (record { lowest = c; goes = goes; its = refl; number = refl; same = refl }, tt)
+        (λ other. by_ring c goes other bytes refl)
+
 event_licensed : (what : Occurrence) (w : World) (i : ℕ) → Each (AtEvent what w i) ((happen what w).items i)
-event_licensed (outside.Packet packet) w i = tt
+event_licensed (outside.Packet packet) w i = arrival_licensed packet w i
 event_licensed (outside.Line line) w i = signal_licensed line w i
 
 -- The turn: who runs in it holds its slot, and owes nothing.
@@ -175,6 +205,8 @@ module _ (w : World) (e : ℕ) where
   deed_licensed (DropsSlot slot) does may i = tt
   deed_licensed (TakesLine line) does may i = tt
   deed_licensed (DropsLine line) does may i = tt
+  deed_licensed (Claims claim address atoms page) does may i = tt
+  deed_licensed (Unclaims claim) does may i = tt
 
   module _ (granted : GrantedMay) where
     call_licensed : (c : Option Call) → Acts w e (Calls c) → (i : ℕ) → Each (AtStep w i) ((reply_to w e c).items i)

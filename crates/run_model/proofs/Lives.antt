@@ -1,5 +1,5 @@
 -- What leaves an environment's life as it is.
-use Rattle.std.proofs.Common.{◌≡◌, ℕ, zero, suc, List, [], ◌∷◌, ◌++◌, Bool, true, false, refl, ◌∙◌, ap, None}
+use Rattle.std.proofs.Common.{◌≡◌, ℕ, zero, suc, List, [], ◌∷◌, ◌++◌, Bool, true, false, refl, ◌∙◌, ap, Option, Some, None}
 use Rattle.std.specs.Prelude.{◌==◌, if◌then◌else◌, is_some}
 use Rattle.std.proofs.lemmas.List.Sums.{fold-append}
 use Rattle.env_frames.specs.declared.transfer.TransferKind.{TransferKind}
@@ -13,12 +13,15 @@ use Rattle.world_model.specs.declared.call.Deed.TheVariants.{Unbinds}
 use Rattle.world_model.specs.declared.verdict.Verdict.{Verdict}
 use Rattle.world_model.specs.declared.verdict.Verdict.TheVariants.{Refuse, Grant}
 use Rattle.world_model.specs.Book.{Book, sees}
+use Rattle.env_frames.specs.declared.post.PostWord.TheVariants as post
 use Rattle.world_model.specs.Death.{lost_with}
+use Rattle.world_model.specs.Event.{ring_left}
 use Rattle.world_model.specs.Holding.{with_binds}
 use Rattle.world_model.specs.Upcalls.{start_by, with_context}
-use Rattle.world_model.specs.Item.{Item, Start, End, Transfer, Answer, Gained, Lost, Left, Line, absorb, absorb_all, absorbed, answered, deed_at, own_part}
+use Rattle.world_model.specs.Item.{Item, Start, End, Transfer, Answer, Gained, Lost, Left, Packet, Line, absorb, absorb_all, absorbed, answered, deed_at, own_part}
 use Rattle.world_model.specs.PageCalls.{breaks, left_at, left_by, left_if, lost_if}
-use Rattle.world_model.specs.Solo.{Solo, Store, Key, Kept, Physical, is_dead}
+use Rattle.world_model.specs.Rings.{counted, page_store, put_in_ring, received_in, ring_after, ring_of}
+use Rattle.world_model.specs.Solo.{Solo, Store, Key, Kept, Physical, Ring, is_dead}
 use Rattle.world_model.specs.Table.{set_at}
 use Rattle.world_model.specs.World.{only}
 
@@ -90,6 +93,17 @@ keep_lost page = keep_one (Lost page) (λ s. refl)
 pub keep_line : (line : ℕ) → Keeps (Line line ∷ [])
 keep_line line = keep_one (Line line) (λ s. refl)
 
+put_same : (r : Ring) (bytes : Option (List ℕ)) (s : Solo) → (put_in_ring r bytes s).life ≡ s.life
+put_same r None s = refl
+put_same r (Some bytes) s = refl
+
+received_same : (ring : Option Ring) (packet : List ℕ) (s : Solo) → (received_in ring packet s).life ≡ s.life
+received_same None packet s = refl
+received_same (Some r) packet s = put_same r (ring_after s r packet) s
+
+pub keep_packet : (claim : ℕ) (packet : List ℕ) → Keeps (Packet claim packet ∷ [])
+keep_packet claim packet = keep_one (Packet claim packet) (λ s. received_same (ring_of s.rings claim) packet (counted post.Packets s))
+
 -- what a break, a store or a death of another brings
 lost_keeps : (bound : Bool) (page : ℕ) → Keeps (lost_if bound page)
 lost_keeps true page = keep_lost page
@@ -108,6 +122,11 @@ left_at_keeps b writer x (Physical page) e = keep_if (e == writer) [] (left_if (
 
 pub left_by_keeps : (b : Book) (writer : ℕ) (x : Store) (e : ℕ) → Keeps (left_by b writer x e)
 left_by_keeps b writer x e = left_at_keeps b writer x x.key e
+
+-- or a packet that is another's
+pub ring_left_keeps : (b : Book) (owner page : ℕ) (bytes : Option (List ℕ)) (e : ℕ) → Keeps (ring_left b owner page bytes e)
+ring_left_keeps b owner page None e = keep_none
+ring_left_keeps b owner page (Some bytes) e = left_by_keeps b owner (page_store page bytes) e
 
 pub lost_with_keeps : (b : Book) (gone e page : ℕ) → Keeps (lost_with b gone e page)
 lost_with_keeps b gone e zero = keep_none

@@ -20,11 +20,13 @@ use Rattle.world_model.specs.declared.life.Cause.{Cause}
 use Rattle.world_model.specs.declared.slot.Hold.{Hold}
 use Rattle.world_model.specs.declared.slot.Runner.{Runner}
 use Rattle.world_model.specs.declared.call.Deed.{Deed}
-use Rattle.world_model.specs.declared.call.Deed.TheVariants.{Answers, Own, Stops, Gives, Allocates, Frees, Recaps, Binds, Unbinds, Transfers, TakesSlot, DropsSlot, TakesLine, DropsLine}
+use Rattle.world_model.specs.declared.call.Deed.TheVariants.{Answers, Own, Stops, Gives, Allocates, Frees, Recaps, Binds, Unbinds, Transfers, TakesSlot, DropsSlot, TakesLine, DropsLine, Claims, Unclaims}
 use Rattle.world_model.specs.declared.verdict.Verdict.{Verdict}
 use Rattle.world_model.specs.declared.verdict.Verdict.TheVariants.{Refuse, Grant}
+use Rattle.filter_tree.specs.ClaimBook.{ClaimValue}
+use Rattle.filter_tree.specs.Claims.{is_into}
 use Rattle.world_model.specs.Table.{set_at}
-use Rattle.world_model.specs.Book.{broken, own_hold, released}
+use Rattle.world_model.specs.Book.{broken, own_hold, released, withdrawn}
 use Rattle.world_model.specs.Call.{called}
 use Rattle.world_model.specs.Death.{death, lost_with}
 use Rattle.world_model.specs.Item.{Item, Step, Start, Transfer, Answer, Gained, Lost, absorb, absorb_all, deed_at}
@@ -32,6 +34,7 @@ use Rattle.world_model.specs.May.{May}
 use Rattle.world_model.specs.PageCalls.{breaks, left_by, page_bytes, with_binding, without_number}
 use Rattle.world_model.specs.SlotCalls.{dropped, handed, held_by, is_other, turn_slot, with_slot}
 use Rattle.world_model.specs.LineCalls.{with_line}
+use Rattle.world_model.specs.ClaimCalls.{claims_packets, unclaims}
 use Rattle.world_model.specs.Solo.{Solo, is_dead}
 use Rattle.world_model.specs.Step.{Act, Nothing, Stores, Calls, Raises, Dies, act_of, acted, step_alone, stepped}
 use Rattle.world_model.specs.Tick.{act_now, brings}
@@ -254,10 +257,10 @@ module _ (w : World) (e : ℕ) (good : IsAccounted w) (lives : Lives w e) where
   unmoved : (items : ℕ → List Item) → ((i : ℕ) → Keeps (items i)) → Mild w (record { book = w.book; items = items; rows = [] })
   unmoved items keeps = record { excess = refl; quiet = tt; keeps = keeps; slots = good.slots_live; runner = good.runner_lives }
 
-  -- other pages and bindings
-  repaged : (pages : ℕ → PageRow) (binds : ℕ → ℕ → Option Binding) (items : ℕ → List Item) → ((i : ℕ) → Keeps (items i))
-      → Mild w (record { book = record w.book { pages = pages; binds = binds }; items = items; rows = [] })
-  repaged pages binds items keeps = record { excess = refl; quiet = tt; keeps = keeps; slots = good.slots_live; runner = good.runner_lives }
+  -- other pages, bindings and claims
+  repaged : (pages : ℕ → PageRow) (binds : ℕ → ℕ → Option Binding) (claims : List ClaimValue) (items : ℕ → List Item) → ((i : ℕ) → Keeps (items i))
+      → Mild w (record { book = record w.book { pages = pages; binds = binds; claims = claims }; items = items; rows = [] })
+  repaged pages binds claims items keeps = record { excess = refl; quiet = tt; keeps = keeps; slots = good.slots_live; runner = good.runner_lives }
 
   -- another slot
   reslotted : (k : ℕ) (hold : Option Hold) → ((new : Hold) → hold ≡ Some new → Lives w new.owner × Lives w new.holder) → Mild w (with_slot w k hold)
@@ -272,6 +275,10 @@ module _ (w : World) (e : ℕ) (good : IsAccounted w) (lives : Lives w e) where
   -- another owner of an interrupt line
   relined : (line : ℕ) (owner : Option ℕ) → Mild w (with_line w line owner)
   relined line owner = record { excess = refl; quiet = tt; keeps = λ i. keep_none; slots = good.slots_live; runner = good.runner_lives }
+
+  -- other claims
+  reclaimed : (claims : List ClaimValue) (next : ℕ) → Mild w (record { book = record w.book { claims = claims; next_claim = next }; items = no_items; rows = [] })
+  reclaimed claims next = record { excess = refl; quiet = tt; keeps = λ i. keep_none; slots = good.slots_live; runner = good.runner_lives }
 
   -- the rest of the slice, and with it the slot or not, to one that lives
   hands_on : (target : ℕ) (item : Item) (later : Bool) (rows : List Row) → Lives w target → Keeps (item ∷ []) → AreQuiet rows
@@ -291,16 +298,16 @@ module _ (w : World) (e : ℕ) (good : IsAccounted w) (lives : Lives w e) where
   deed_is_mild (Own own) may = no_change_is_mild w good
   deed_is_mild (Allocates page words) may =
       let items = Gained page true zero_page ∷ [] in
-      repaged (set_at page (Owned e words) w.book.pages) w.book.binds (only e items) (keep_only e items (keep_gained page true zero_page))
+      repaged (set_at page (Owned e words) w.book.pages) w.book.binds w.book.claims (only e items) (keep_only e items (keep_gained page true zero_page))
   deed_is_mild (Frees page) may =
       let items = Lost page ∷ [] in
-      repaged (set_at page Free w.book.pages) (broken page None w.book).binds (set_at e items (breaks w.book page)) (keep_set e items (breaks w.book page) (keep_lost page) (breaks_keep w.book page))
+      repaged (set_at page Free w.book.pages) (broken page None w.book).binds (withdrawn (is_into page) w.book).claims (set_at e items (breaks w.book page)) (keep_set e items (breaks w.book page) (keep_lost page) (breaks_keep w.book page))
   deed_is_mild (Recaps page words) may =
-      repaged (set_at page (Owned e words) w.book.pages) (broken page (Some e) w.book).binds (set_at e [] (breaks w.book page)) (keep_set e [] (breaks w.book page) keep_none (breaks_keep w.book page))
+      repaged (set_at page (Owned e words) w.book.pages) (broken page (Some e) w.book).binds w.book.claims (set_at e [] (breaks w.book page)) (keep_set e [] (breaks w.book page) keep_none (breaks_keep w.book page))
   deed_is_mild (Binds b word) may =
       let items = Gained b.page b.writable (page_bytes w b.page) ∷ [] in
-      repaged w.book.pages (with_binding e b w.book.binds) (only e items) (keep_only e items (keep_gained b.page b.writable (page_bytes w b.page)))
-  deed_is_mild (Unbinds vpn) may = repaged w.book.pages (set_at e (without_number vpn (w.book.binds e)) w.book.binds) no_items (λ i. keep_none)
+      repaged w.book.pages (with_binding e b w.book.binds) w.book.claims (only e items) (keep_only e items (keep_gained b.page b.writable (page_bytes w b.page)))
+  deed_is_mild (Unbinds vpn) may = repaged w.book.pages (set_at e (without_number vpn (w.book.binds e)) w.book.binds) w.book.claims no_items (λ i. keep_none)
   deed_is_mild (Transfers target kind) may =
       let registers = carried (w.solos e).cpu in
       hands_on target (Transfer e kind registers) (hands_slot kind) (transfer_rows w.book e target kind) (target_lives w e target may.reach.other) (keep_transfer e kind registers) (transfer_is_quiet w e target kind)
@@ -308,6 +315,8 @@ module _ (w : World) (e : ℕ) (good : IsAccounted w) (lives : Lives w e) where
   deed_is_mild (DropsSlot k) may = reslotted k (dropped e (w.book.slots k)) (dropped_lives w e (w.book.slots k) (good.slots_live k))
   deed_is_mild (TakesLine line) may = relined line (Some e)
   deed_is_mild (DropsLine line) may = relined line None
+  deed_is_mild (Claims claim address atoms page) may = reclaimed (claims_packets w e claim address atoms page).book.claims (w.book.next_claim + 1)
+  deed_is_mild (Unclaims claim) may = reclaimed (unclaims w e claim).book.claims w.book.next_claim
 
   -- behind an answer
   answer_is_mild : (verdict : Verdict) (r : Reply) → Mild w r → Mild w (followed (tells e (Answer verdict) w) r)
