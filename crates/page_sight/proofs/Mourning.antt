@@ -22,13 +22,13 @@ use Rattle.page_sight.proofs.Stripes.{bound_still, kept_row, without_both, witho
 use Rattle.page_sight.proofs.Sights.{absorbs_lost, others_lose, sees_alike}
 
 -- a page of one that is gone is nobody else's
-not_owned : (gone i : ℕ) (row : PageRow) → i ≢ gone → belongs_to gone row ≡ true → is_owned_by i row ≡ false
+pub not_owned : (gone i : ℕ) (row : PageRow) → i ≢ gone → belongs_to gone row ≡ true → is_owned_by i row ≡ false
 not_owned gone i Free other belongs = refl
 not_owned gone i (Guaranteed owner) other belongs = refl
 not_owned gone i (Owned owner words) other belongs = ne_eqb owner i (λ same. other (sym same ∙ eqb-true owner gone belongs))
 
 -- what is released was nobody else's
-owned_still : (gone i : ℕ) (row : PageRow) → i ≢ gone → is_owned_by i (released gone row) ≡ is_owned_by i row
+pub owned_still : (gone i : ℕ) (row : PageRow) → i ≢ gone → is_owned_by i (released gone row) ≡ is_owned_by i row
 owned_still gone i row other = by_test (belongs_to gone row) refl
   where
     by_test : (t : Bool) → belongs_to gone row ≡ t → is_owned_by i (if t then Free else row) ≡ is_owned_by i row
