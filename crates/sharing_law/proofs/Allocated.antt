@@ -13,13 +13,15 @@ use Rattle.world_model.specs.PageCalls.{page_bytes}
 use Rattle.world_model.specs.Tick.{phases_after, step, step_when, timer, turn}
 use Rattle.world_model.specs.World.{World, Reply, after, run_phases}
 use Rattle.call_verdicts.specs.Granted.{GrantedMay}
-use Rattle.run_model.specs.Run.{System, happens_in, moment, phases_in, world_after}
+use Rattle.run_model.specs.Run.{System, given_at, given_by, happens_in, moment, phases_in, world_after}
 use Rattle.run_model.proofs.Phases.{next_moment, once_more, tick_moment}
 use Rattle.sharing_law.specs.Change.{AllocatedChange, AllocatedInTick, AllocatedZeros, IsAllocated, IsOwnedAt, IsStored, ZerosInTick}
+use Rattle.sharing_law.specs.Delivery.{IsDelivered}
 use Rattle.sharing_law.specs.Right.{row_after}
 use Rattle.sharing_law.proofs.Sound.{owner_bytes}
 use Rattle.sharing_law.proofs.Brings.{Fate, Stays, Written, Taken}
-use Rattle.sharing_law.proofs.Happening.{dropped_alike, happen_lists, signalled_alike}
+use Rattle.sharing_law.proofs.Delivering.{IsInRing, arrived_bytes, delivered_in}
+use Rattle.sharing_law.proofs.Happening.{happen_lists, signalled_alike}
 use Rattle.sharing_law.proofs.Turning.{IsAlike, ListsSame, bytes_alike, lists_alike, lists_then, same_lists, turn_alike, unchanged}
 use Rattle.sharing_law.proofs.Stepping.{all_see, step_follows}
 use Rattle.sharing_law.proofs.Timing.{timer_owned}
@@ -31,46 +33,56 @@ use Rattle.sharing_law.proofs.Leaving.{store_lives}
 abbrev Fates : World → World → Type 0
 Fates w v = (o page : ℕ) → is_owned_by o (v.book.pages page) ≡ true → Fate w o page (page_bytes v page)
 
+-- Apart from the step pages stay their owners', with their bytes, but where a packet comes.
+abbrev StayOrCome : World → Reply → Type 0
+StayOrCome w r = (o page : ℕ) → is_owned_by o (r.book.pages page) ≡ true
+    → (is_owned_by o (w.book.pages page) ≡ true) × ((page_bytes (after w r) page ≡ page_bytes w page) ⊎ IsInRing w r.items o page (page_bytes (after w r) page))
+
 alike_fates : (w v : World) → IsAlike w v → Fates w v
 alike_fates w v alike o page owns = Stays (ap (is_owned_by o) (λ k. sym alike.pages k page) ∙ owns) (bytes_alike w v alike page)
 
 -- what happens from outside, kind by kind
-event_fates : (what : Occurrence) (w : World) → Fates w (after w (happen what w))
-event_fates (outside.Packet packet) w = alike_fates w (after w (happen (outside.Packet packet) w)) (dropped_alike packet w)
-event_fates (outside.Line line) w = alike_fates w (after w (happen (outside.Line line) w)) (signalled_alike line w)
+event_fates : (what : Occurrence) (w : World) → Fine w → StayOrCome w (happen what w)
+event_fates (outside.Packet packet) w fine o page owns =
+    let had = (λ k. is_owned_by o (sym (happen_lists (outside.Packet packet) w).pages k page)) ∙ owns in
+    (had, arrived_bytes w packet fine.sound fine.claimed o page had)
+event_fates (outside.Line line) w fine o page owns =
+    let alike = signalled_alike line w in
+    ((λ k. is_owned_by o (sym alike.pages k page)) ∙ owns, inl (bytes_alike w (after w (happen (outside.Line line) w)) alike page))
 
 step_fates : GrantedMay → (w : World) (o : Option Runner) → w.book.runner ≡ o → Fine w → Fates w (after w (step_when w o))
 step_fates granted w None is fine o page owns = alike_fates w (after w (step_when w None)) (unchanged w) o page owns
 step_fates granted w (Some r) is fine o page owns =
-    let stepped = step_follows granted w r.env fine.sound fine.allocated (fine.accounted.runner_lives r is) (ap running is) in
+    let stepped = step_follows granted w r.env fine.sound fine.allocated fine.claimed (fine.accounted.runner_lives r is) (ap running is) in
     let now = after w (step_when w (Some r)) in
     let brings = stepped.follows.brings in
     let bytes = owner_bytes now brings.bytes (all_see w r.env stepped.came_to now stepped.items fine.sound stepped.follows) o page owns in
     subst (λ (its : List ℕ). Fate w o page its) (sym bytes) (brings.fate o page owns)
 
--- Up to the step the book lists what it did before the tick; and then nobody stores any more.
-data PhaseFates (base w v : World) : Type 0 where
-  Early : ListsSame base.book w.book → Fates w v → PhaseFates base w v
-  Late : ((o page : ℕ) → is_owned_by o (v.book.pages page) ≡ true → (is_owned_by o (w.book.pages page) ≡ true) × (page_bytes v page ≡ page_bytes w page)) → PhaseFates base w v
+-- Up to the step the book lists what it did before the tick; and only in the step somebody stores.
+data PhaseFates (base w : World) (r : Reply) : Type 0 where
+  Stepwise : ListsSame base.book w.book → Fates w (after w r) → PhaseFates base w r
+  Otherwise : StayOrCome w r → PhaseFates base w r
 
 module _ (granted : GrantedMay) where
   one : (p q : World → Reply) → Some p ≡ Some q → p ≡ q
   one p q same = cc
 
   phase_fates : (happens : List Occurrence) (base w : World) (k : ℕ) (phase : World → Reply) → slice_get (phases_after happens) k ≡ Some phase → ListsSame base.book w.book
-      → (let m = run_phases w (take k (phases_after happens)) in Fine m → PhaseFates base m (after m (phase m)))
-  phase_fates [] base w zero phase is same fine = subst (λ (p : World → Reply). PhaseFates base w (after w (p w))) (one turn phase is) (Early same (alike_fates w (after w (turn w)) (turn_alike w)))
+      → (let m = run_phases w (take k (phases_after happens)) in Fine m → PhaseFates base m (phase m))
+  phase_fates [] base w zero phase is same fine = subst (λ (p : World → Reply). PhaseFates base w (p w)) (one turn phase is) (Stepwise same (alike_fates w (after w (turn w)) (turn_alike w)))
   phase_fates [] base w (suc zero) phase is same fine =
       let m = after w (turn w) in
-      subst (λ (p : World → Reply). PhaseFates base m (after m (p m))) (one step phase is)
-      (Early (lists_then base.book w.book m.book same (lists_alike w m (turn_alike w))) (step_fates granted m m.book.runner refl fine))
+      subst (λ (p : World → Reply). PhaseFates base m (p m)) (one step phase is)
+      (Stepwise (lists_then base.book w.book m.book same (lists_alike w m (turn_alike w))) (step_fates granted m m.book.runner refl fine))
   phase_fates [] base w (suc (suc zero)) phase is same fine =
       let v = after w (turn w) in
       let m = after v (step v) in
-      subst (λ (p : World → Reply). PhaseFates base m (after m (p m))) (one timer phase is) (Late (timer_owned m fine.sound fine.accounted.runner_lives))
+      let was = timer_owned m fine.sound fine.claimed fine.accounted.runner_lives in
+      subst (λ (p : World → Reply). PhaseFates base m (p m)) (one timer phase is) (Otherwise (λ o page owns. let its = was o page owns in (its.0, inl its.1)))
   phase_fates [] base w (suc (suc (suc k))) phase is same fine = cc
   phase_fates (what ∷ happens) base w zero phase is same fine =
-      subst (λ (p : World → Reply). PhaseFates base w (after w (p w))) (one (happen what) phase is) (Early same (event_fates what w))
+      subst (λ (p : World → Reply). PhaseFates base w (p w)) (one (happen what) phase is) (Otherwise (event_fates what w fine))
   phase_fates (what ∷ happens) base w (suc k) phase is same fine =
       let v = after w (happen what w) in
       phase_fates happens base v k phase is (lists_then base.book w.book v.book same (happen_lists what w)) fine
@@ -84,7 +96,7 @@ module _ (granted : GrantedMay) where
     abbrev Becomes : ℕ → ℕ → ℕ → Type 0
     Becomes k page owner =
         ((is_owned_by owner ((moment system t k).book.pages page) ≡ true) × (page_bytes (moment system t (suc k)) page ≡ page_bytes (moment system t k) page))
-        ⊎ (((is_owned_by owner ((moment system t k).book.pages page) ≡ true) × IsStored system t k page) ⊎ IsAllocated system t k page owner)
+        ⊎ (((is_owned_by owner ((moment system t k).book.pages page) ≡ true) × (IsStored system t k page ⊎ IsDelivered system t k page owner)) ⊎ IsAllocated system t k page owner)
 
     fine_at : (k : ℕ) → Fine (moment system t k)
     fine_at k = moment_fine granted system t (all_fine granted system t) k
@@ -93,15 +105,19 @@ module _ (granted : GrantedMay) where
     by_fate k page owner lists (Stays owns same) = inl (owns, same)
     by_fate k page owner lists (Written owns e x acts into has) =
         let through = store_lives granted system t (moment system t k) (fine_at k) lists e x page acts into in
-        inr (inl (owns, record { writer = e; store = x; acts = acts; into = into; through = through; has = has }))
+        inr (inl (owns, inl (record { writer = e; store = x; acts = acts; into = into; through = through; has = has })))
     by_fate k page owner lists (Taken words does free zeros) = inr (inr (record { words = words; does = does; free = free; zeros = zeros }))
 
-    by_fates : (k page owner : ℕ) (v : World) → moment system t (suc k) ≡ v → PhaseFates before (moment system t k) v → IsOwnedAt system t (suc k) page owner → Becomes k page owner
-    by_fates k page owner v next (Early lists fates) owns =
+    by_fates : (k page owner : ℕ) (r : Reply) → moment system t (suc k) ≡ after (moment system t k) r → given_at system t k owner ≡ r.items owner → PhaseFates before (moment system t k) r → IsOwnedAt system t (suc k) page owner
+        → Becomes k page owner
+    by_fates k page owner r next given (Stepwise lists fates) owns =
         by_fate k page owner lists (subst (λ (u : World). Fate (moment system t k) owner page (page_bytes u page)) (sym next) (fates owner page (ap (λ (u : World). is_owned_by owner (u.book.pages page)) (sym next) ∙ owns)))
-    by_fates k page owner v next (Late was) owns =
-        let its = was owner page (ap (λ (u : World). is_owned_by owner (u.book.pages page)) (sym next) ∙ owns) in
-        inl (its.0, ap (λ (u : World). page_bytes u page) next ∙ its.1)
+    by_fates k page owner r next given (Otherwise stay) owns =
+        let its = stay owner page (ap (λ (u : World). is_owned_by owner (u.book.pages page)) (sym next) ∙ owns) in
+        elim its.1 [
+          | inl same ↦ inl (its.0, ap (λ (u : World). page_bytes u page) next ∙ same)
+          | inr comes ↦ inr (inl (its.0, inr (delivered_in system t k page owner r next given comes)))
+        ]
 
     by_phase : (k page owner : ℕ) (o : Option (World → Reply)) → slice_get (phases_after (happens_in system.schedule before)) k ≡ o → IsOwnedAt system t (suc k) page owner → Becomes k page owner
     by_phase k page owner None is owns =
@@ -109,7 +125,7 @@ module _ (granted : GrantedMay) where
         inl (ap (λ (u : World). is_owned_by owner (u.book.pages page)) (sym next) ∙ owns, ap (λ (u : World). page_bytes u page) next)
     by_phase k page owner (Some phase) is owns =
         let m = moment system t k in
-        by_fates k page owner (after m (phase m)) (next_moment system t k ∙ ap (once_more m) is)
+        by_fates k page owner (phase m) (next_moment system t k ∙ ap (once_more m) is) (ap (λ (o : Option (World → Reply)). given_by m o owner) is)
         (phase_fates (happens_in system.schedule before) before before k phase is (same_lists before.book) (fine_at k)) owns
 
     pub becomes : (k page owner : ℕ) → IsOwnedAt system t (suc k) page owner → Becomes k page owner
@@ -120,7 +136,7 @@ module _ (granted : GrantedMay) where
     free_owned owner row free owns = let clash : false ≡ true = sym (ap (is_owned_by owner) free) ∙ owns in cc
 
     pub change : (k page owner : ℕ) → IsOwnedAt system t k page owner → IsOwnedAt system t (suc k) page owner
-        → (page_bytes (moment system t (suc k)) page ≡ page_bytes (moment system t k) page) ⊎ IsStored system t k page
+        → (page_bytes (moment system t (suc k)) page ≡ page_bytes (moment system t k) page) ⊎ (IsStored system t k page ⊎ IsDelivered system t k page owner)
     change k page owner had has = elim (becomes k page owner has) [
       | inl stays ↦ inl stays.1
       | inr other ↦ elim other [ inl stored ↦ inr stored.1 | inr taken ↦ absurd (free_owned owner ((moment system t k).book.pages page) taken.free had) ]
@@ -135,13 +151,17 @@ module _ (granted : GrantedMay) where
     -- and so in the tick
     abbrev Since : ℕ → ℕ → World → Type 0
     Since page owner v = is_owned_by owner (v.book.pages page) ≡ true
-        → ((is_owned_by owner (row_after system t page) ≡ true) × (page_bytes v page ≡ page_bytes before page)) ⊎ (((k : ℕ) × IsStored system t k page) ⊎ ((k : ℕ) × IsAllocated system t k page owner))
+        → ((is_owned_by owner (row_after system t page) ≡ true) × (page_bytes v page ≡ page_bytes before page))
+        ⊎ (((k : ℕ) × IsStored system t k page) ⊎ (((k : ℕ) × IsDelivered system t k page owner) ⊎ ((k : ℕ) × IsAllocated system t k page owner)))
 
     since : (n page owner : ℕ) → Since page owner (moment system t n)
     since zero page owner owns = inl (owns, refl)
     since (suc n) page owner owns = elim (becomes n page owner owns) [
       | inl stays ↦ elim (since n page owner stays.0) [ inl same ↦ inl (same.0, stays.1 ∙ same.1) | inr other ↦ inr other ]
-      | inr other ↦ elim other [ inl stored ↦ inr (inl (n, stored.1)) | inr taken ↦ inr (inr (n, taken)) ]
+      | inr other ↦ elim other [
+        | inl changed ↦ elim changed.1 [ inl stored ↦ inr (inl (n, stored)) | inr delivered ↦ inr (inr (inl (n, delivered))) ]
+        | inr taken ↦ inr (inr (inr (n, taken)))
+      ]
     ]
 
     abbrev ZerosSince : ℕ → ℕ → World → Type 0

@@ -22,7 +22,7 @@ use Rattle.world_model.specs.Book.{Book}
 use Rattle.world_model.specs.Solo.{Solo, Store, Key, Kept, Physical, is_dead, is_key_of, kept_after, kept_at, stored_page}
 use Rattle.world_model.specs.Holding.{with_binds}
 use Rattle.world_model.specs.Upcalls.{enter, start_by, with_context}
-use Rattle.world_model.specs.Item.{Item, Boot, Step, Start, End, Transfer, Killed, Answer, Gained, Lost, Left, Line, absorb, absorb_all, absorbed, answered, deed_at, own_part}
+use Rattle.world_model.specs.Item.{Item, Boot, Step, Start, End, Transfer, Killed, Answer, Gained, Lost, Left, Packet, Line, absorb, absorb_all, absorbed, answered, deed_at, own_part}
 use Rattle.world_model.specs.Death.{death_items, lost_with}
 use Rattle.world_model.specs.PageCalls.{left_if, lost_if}
 use Rattle.world_model.specs.World.{only}
@@ -68,6 +68,7 @@ IsTold (Answer verdict) = Unit {0}
 IsTold (Gained page writable bytes) = Unit {0}
 IsTold (Lost page) = Unit {0}
 IsTold (Left page offset bytes) = Unit {0}
+IsTold (Packet claim packet) = ⊥
 IsTold (Line line) = ⊥
 
 abbrev pub AreTold : List Item → Type 0
@@ -78,19 +79,20 @@ AreTold (item ∷ items) = IsTold item × AreTold items
 pub record IsRested (s t : Solo) : Type 0 where
   pub binds : t.binds ≡ s.binds
   pub seen : t.seen ≡ s.seen
+  pub rings : t.rings ≡ s.rings
   pub life : t.life ≡ s.life
 
 pub rests_same : (s : Solo) → IsRested s s
-rests_same s = record { binds = refl; seen = refl; life = refl }
+rests_same s = record { binds = refl; seen = refl; rings = refl; life = refl }
 
 started : (s : Solo) (handler : ℕ) → IsRested s (start_by handler s)
 started s handler = by_test (handler == 0)
   where
     by_test : (none : Bool) → IsRested s (if none then record s { cpu = rested s.cpu } else record (with_context start_area (start_bytes s.cpu) s) { cpu = resumed_cpu handler s.cpu })
-    by_test true = record { binds = refl; seen = refl; life = refl }
-    by_test false = record { binds = refl; seen = refl; life = refl }
+    by_test true = record { binds = refl; seen = refl; rings = refl; life = refl }
+    by_test false = record { binds = refl; seen = refl; rings = refl; life = refl }
 
-either_rests : (gone : Bool) (s t : Solo) → IsRested s t → IsRested s (if gone then s else t)
+pub either_rests : (gone : Bool) (s t : Solo) → IsRested s t → IsRested s (if gone then s else t)
 either_rests true s t rests = rests_same s
 either_rests false s t rests = rests
 
@@ -99,15 +101,15 @@ pub start_rests : (s : Solo) → IsRested s (absorb_all s (Start ∷ []))
 start_rests s = either_rests (is_dead s.life) s (absorbed s Start) (started s s.handlers.start)
 
 pub end_rests : (s : Solo) → IsRested s (absorb_all s (End ∷ []))
-end_rests s = either_rests (is_dead s.life) s (absorbed s End) (record { binds = refl; seen = refl; life = refl })
+end_rests s = either_rests (is_dead s.life) s (absorbed s End) (record { binds = refl; seen = refl; rings = refl; life = refl })
 
 -- or one that is entered
 pub enter_rests : (from : ℕ) (kind : TransferKind) (registers : Registers) (s : Solo) → IsRested s (absorb_all s (Transfer from kind registers ∷ []))
-enter_rests from kind registers s = either_rests (is_dead s.life) s (enter from kind registers s) (record { binds = refl; seen = refl; life = refl })
+enter_rests from kind registers s = either_rests (is_dead s.life) s (enter from kind registers s) (record { binds = refl; seen = refl; rings = refl; life = refl })
 
 -- or one that gets a signal
 pub line_rests : (line : ℕ) (s : Solo) → IsRested s (absorb_all s (Line line ∷ []))
-line_rests line s = either_rests (is_dead s.life) s (absorbed s (Line line)) (record { binds = refl; seen = refl; life = refl })
+line_rests line s = either_rests (is_dead s.life) s (absorbed s (Line line)) (record { binds = refl; seen = refl; rings = refl; life = refl })
 
 -- an environment with the guaranteed pages and the life that it had
 pub record Leaves (s t : Solo) : Type 0 where
@@ -137,6 +139,7 @@ absorbed_leaves s (Answer verdict) told = answered_leaves s verdict
 absorbed_leaves s (Gained page writable bytes) told = record { kept = refl; life = refl }
 absorbed_leaves s (Lost page) told = record { kept = refl; life = refl }
 absorbed_leaves s (Left page offset bytes) told = record { kept = kept_as_was s.kept page offset bytes; life = refl }
+absorbed_leaves s (Packet claim packet) told = absurd told
 absorbed_leaves s (Line line) told = absurd told
 
 -- whether it lives or not
@@ -214,6 +217,7 @@ IsHanded (Answer verdict) = ⊥
 IsHanded (Gained page writable bytes) = ⊥
 IsHanded (Lost page) = ⊥
 IsHanded (Left page offset bytes) = ⊥
+IsHanded (Packet claim packet) = ⊥
 IsHanded (Line line) = ⊥
 
 pub data Gives (e i : ℕ) (items : List Item) : Type 0 where
@@ -240,6 +244,7 @@ handed_rests (Answer verdict) handed s = absurd handed
 handed_rests (Gained page writable bytes) handed s = absurd handed
 handed_rests (Lost page) handed s = absurd handed
 handed_rests (Left page offset bytes) handed s = absurd handed
+handed_rests (Packet claim packet) handed s = absurd handed
 handed_rests (Line line) handed s = absurd handed
 
 pub gives_life : (e i : ℕ) (items : List Item) → Gives e i items → (s : Solo) → (absorb_all s items).life ≡ s.life

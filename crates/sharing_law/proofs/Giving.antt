@@ -7,7 +7,7 @@ use Rattle.bind_book.specs.Stripe.{is_bound}
 use Rattle.kernel_journal.specs.declared.row.Row.TheVariants as row
 use Rattle.world_model.specs.declared.call.Call.{Call}
 use Rattle.world_model.specs.declared.call.Deed.{Deed}
-use Rattle.world_model.specs.declared.call.Deed.TheVariants.{Answers, Stops, Gives as Donates, Allocates, Frees, Recaps, Binds, Unbinds, Own, Transfers, TakesSlot, DropsSlot, TakesLine, DropsLine}
+use Rattle.world_model.specs.declared.call.Deed.TheVariants.{Answers, Stops, Gives as Donates, Allocates, Frees, Recaps, Binds, Unbinds, Own, Transfers, TakesSlot, DropsSlot, TakesLine, DropsLine, Claims, Unclaims}
 use Rattle.world_model.specs.declared.slot.Phase.{Phase}
 use Rattle.world_model.specs.declared.slot.Phase.TheVariants as phase
 use Rattle.world_model.specs.declared.slot.Runner.{Runner}
@@ -19,8 +19,11 @@ use Rattle.world_model.specs.Call.{called}
 use Rattle.world_model.specs.Death.{death_items}
 use Rattle.external_event.specs.declared.event.Occurrence.{Occurrence}
 use Rattle.external_event.specs.declared.event.Occurrence.TheVariants as outside
-use Rattle.world_model.specs.Event.{happen, signals}
-use Rattle.world_model.specs.Item.{Item, Step, Start, End, Transfer, Killed, Answer, Gained, Lost, Line, deed_at}
+use Rattle.filter_tree.specs.ClaimBook.{ClaimValue}
+use Rattle.world_model.specs.ClaimCalls.{claim_of}
+use Rattle.world_model.specs.Event.{arrives, happen, ring_bytes, ring_left, signals}
+use Rattle.world_model.specs.Rings.{page_store, ring_of}
+use Rattle.world_model.specs.Item.{Item, Step, Start, End, Transfer, Killed, Answer, Gained, Lost, Packet, Line, deed_at}
 use Rattle.world_model.specs.May.{May}
 use Rattle.world_model.specs.PageCalls.{breaks, left_at, left_by, page_bytes}
 use Rattle.world_model.specs.SlotCalls.{is_other, stop_row}
@@ -32,7 +35,7 @@ use Rattle.world_model.specs.World.{World, Reply, after, no_items, only, tells}
 use Rattle.frame_store.specs.Pages.{zero_page}
 use Rattle.call_verdicts.specs.Granted.{GrantedMay}
 use Rattle.run_model.proofs.Telling.{call_stands, deed_may, call_named}
-use Rattle.sharing_law.proofs.Given.{Gives, Hands, IsHanded, Led, Leads, Rests, Tells, gives_led, gives_own, led_more, led_only, told_at, told_both, told_death, told_left, told_lost_if, told_only}
+use Rattle.sharing_law.proofs.Given.{AreTold, Gives, Hands, IsHanded, Led, Leads, Rests, Tells, gives_led, gives_own, led_more, led_only, told_at, told_both, told_death, told_left, told_lost_if, told_only}
 
 -- what may be reached is another
 both_true : (a b : Bool) → (a && b) ≡ true → (a ≡ true) × (b ≡ true)
@@ -70,6 +73,8 @@ deed_gives w e (TakesSlot slot) may i = Tells tt
 deed_gives w e (DropsSlot slot) may i = Tells tt
 deed_gives w e (TakesLine line) may i = Tells tt
 deed_gives w e (DropsLine line) may i = Tells tt
+deed_gives w e (Claims claim address atoms page) may i = Tells tt
+deed_gives w e (Unclaims claim) may i = Tells tt
 
 -- an answer comes first
 answers : (e i : ℕ) (v : Verdict) (items : List Item) → Gives e i items → Gives e i (only e (Answer v ∷ []) i ++ items)
@@ -107,8 +112,23 @@ signal_led : (line : ℕ) (owner : Option ℕ) (w : World) (i : ℕ) → Led ((s
 signal_led line None w i = Rests tt
 signal_led line (Some owner) w i = led_only owner i (Line line)
 
+pub ring_told : (w : World) (owner page : ℕ) (bytes : Option (List ℕ)) (i : ℕ) → AreTold (ring_left w.book owner page bytes i)
+ring_told w owner page None i = tt
+ring_told w owner page (Some bytes) i = told_left (sees w.book i page) owner i page (page_store page bytes)
+
+arrival_led : (packet : List ℕ) (claim : Option ClaimValue) (w : World) (i : ℕ) → Led ((arrives packet claim w).items i)
+arrival_led packet None w i = Rests tt
+arrival_led packet (Some c) w i = by_test (i == c.env)
+  where
+    left : List Item
+    left = let s = w.solos c.env in ring_left w.book c.env c.page (ring_bytes s (ring_of s.rings c.id) packet) i
+
+    by_test : (mine : Bool) → Led (if mine then Packet c.id packet ∷ [] else left)
+    by_test true = Leads (Packet c.id packet) [] tt refl
+    by_test false = Rests (ring_told w c.env c.page (let s = w.solos c.env in ring_bytes s (ring_of s.rings c.id) packet) i)
+
 pub happen_led : (what : Occurrence) (w : World) (i : ℕ) → Led ((happen what w).items i)
-happen_led (outside.Packet packet) w i = Rests tt
+happen_led (outside.Packet packet) w i = arrival_led packet (claim_of w.book packet) w i
 happen_led (outside.Line line) w i = signal_led line (w.book.lines line) w i
 
 pub turn_led : (w : World) (i : ℕ) → Led ((turn w).items i)

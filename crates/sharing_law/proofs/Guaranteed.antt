@@ -15,7 +15,7 @@ use Rattle.env_frames.specs.Post.{post_offset}
 use Rattle.world_model.specs.Book.{is_idle_book}
 use Rattle.world_model.specs.Call.{exit_number}
 use Rattle.external_event.specs.declared.event.Occurrence.{Occurrence}
-use Rattle.world_model.specs.Item.{Item, Boot, Step, Start, End, Transfer, Killed, Answer, Gained, Lost, Left, Line, absorb, absorb_all, absorbed}
+use Rattle.world_model.specs.Item.{Item, Boot, Step, Start, End, Transfer, Killed, Answer, Gained, Lost, Left, Packet, Line, absorb, absorb_all, absorbed}
 use Rattle.world_model.specs.Page.{KeptPage}
 use Rattle.world_model.specs.Post.{post_word, signalled}
 use Rattle.world_model.specs.Solo.{Solo, Store, Key, Kept, Physical, bytes_in, is_dead, kept_after, kept_at, store_of, stored, stored_page}
@@ -27,6 +27,7 @@ use Rattle.call_verdicts.specs.Granted.{GrantedMay}
 use Rattle.run_model.specs.Run.{System, given_by, happens_in, moment, phases_in, world_after}
 use Rattle.run_model.proofs.Phases.{next_moment, of_each, once_more, tick_moment}
 use Rattle.sharing_law.specs.Change.{Changes, GuaranteedChange, GuaranteedInTick, HasStore, HasWords, IsChanged, ItemChange, StepChanges, bytes_at}
+use Rattle.sharing_law.proofs.Counting.{packet_counts}
 use Rattle.sharing_law.proofs.Given.{IsTold, Led, Leads, Rests, absorbed_leaves, kept_as_was, kept_else, kept_here, told_leaves}
 use Rattle.sharing_law.proofs.Giving.{happen_led, step_led, timer_led, turn_led}
 use Rattle.sharing_law.proofs.Moments.{stays_idle}
@@ -126,6 +127,7 @@ module _ (s : Solo) (vpn : ℕ) where
   by_item (Gained page writable bytes) = inl (stays_told (Gained page writable bytes) tt)
   by_item (Lost page) = inl (stays_told (Lost page) tt)
   by_item (Left page offset bytes) = inl (stays_told (Left page offset bytes) tt)
+  by_item (Packet claim packet) = packet_counts s claim packet vpn
   by_item (Line line) = context_kept (post_offset post.Lines) (word_bytes (bit_or (post_word post.Lines s) (2 ^ line))) s (signalled line s) vpn refl
 
   by_life : (item : Item) (gone : Bool) → let t = (if gone then s else absorbed s item) in Stays t ⊎ Changes s t vpn item

@@ -3,7 +3,9 @@ use Rattle.std.proofs.Common.{ℕ, List, [], ◌∷◌, map, Bool, true, false, 
 use Rattle.std.specs.Prelude.{◌==◌, if◌then◌else◌}
 use Rattle.external_event.specs.declared.event.Occurrence.{Occurrence}
 use Rattle.external_event.specs.declared.event.Occurrence.TheVariants as outside
-use Rattle.world_model.specs.Event.{drops_packet, happen, signals}
+use Rattle.filter_tree.specs.ClaimBook.{ClaimValue}
+use Rattle.world_model.specs.ClaimCalls.{claim_of}
+use Rattle.world_model.specs.Event.{arrives, drops_packet, happen, signals}
 use Rattle.world_model.specs.Item.{Line, absorb_all}
 use Rattle.world_model.specs.Solo.{Solo}
 use Rattle.world_model.specs.World.{World, after, run_phases}
@@ -12,7 +14,7 @@ use Rattle.sharing_law.proofs.Turning.{IsAlike, ListsSame, lists_alike, lists_th
 
 -- a packet that is dropped
 pub dropped_alike : (packet : List ℕ) (w : World) → IsAlike w (after w (drops_packet packet w))
-dropped_alike packet w = record { solos = λ i. rests_same (w.solos i); pages = refl; binds = refl; count = refl }
+dropped_alike packet w = record { solos = λ i. rests_same (w.solos i); pages = refl; binds = refl; claims = refl; next = refl; count = refl }
 
 -- a signal: who gets it rests, and all others stay as they are
 given_line : (line : ℕ) (s : Solo) (t : Bool) → IsRested s (absorb_all s (if t then Line line ∷ [] else []))
@@ -21,14 +23,18 @@ given_line line s true = line_rests line s
 
 signalled_by : (line : ℕ) (owner : Option ℕ) (w : World) → IsAlike w (after w (signals line owner w))
 signalled_by line None w = unchanged w
-signalled_by line (Some owner) w = record { solos = λ i. given_line line (w.solos i) (i == owner); pages = refl; binds = refl; count = refl }
+signalled_by line (Some owner) w = record { solos = λ i. given_line line (w.solos i) (i == owner); pages = refl; binds = refl; claims = refl; next = refl; count = refl }
 
 pub signalled_alike : (line : ℕ) (w : World) → IsAlike w (after w (happen (outside.Line line) w))
 signalled_alike line w = signalled_by line (w.book.lines line) w
 
 -- what is listed stays, whatever happens
+arrival_lists : (packet : List ℕ) (claim : Option ClaimValue) (w : World) → ListsSame w.book (after w (arrives packet claim w)).book
+arrival_lists packet None w = same_lists w.book
+arrival_lists packet (Some c) w = same_lists w.book
+
 pub happen_lists : (what : Occurrence) (w : World) → ListsSame w.book (after w (happen what w)).book
-happen_lists (outside.Packet packet) w = lists_alike w (after w (happen (outside.Packet packet) w)) (dropped_alike packet w)
+happen_lists (outside.Packet packet) w = arrival_lists packet (claim_of w.book packet) w
 happen_lists (outside.Line line) w = lists_alike w (after w (happen (outside.Line line) w)) (signalled_alike line w)
 
 pub events_list : (happens : List Occurrence) (w : World) → ListsSame w.book (run_phases w (map happen happens)).book

@@ -1,18 +1,23 @@
 -- A store to a page that isn't guaranteed goes through a live binding.
-use Rattle.std.proofs.Common.{◌≡◌, ℕ, zero, suc, List, [], ◌∷◌, sym, ◌∙◌, take}
+use Rattle.std.proofs.Common.{◌≡◌, ℕ, zero, suc, List, [], ◌∷◌, Option, Some, inl, inr, refl, sym, ◌∙◌, ap, subst, take}
+use Rattle.std.specs.Prelude.{slice_get}
 use Rattle.external_event.specs.declared.event.Occurrence.{Occurrence}
 use Rattle.external_event.specs.declared.event.Occurrence.TheVariants as outside
-use Rattle.world_model.specs.Event.{happen}
+use Rattle.filter_tree.specs.ClaimBook.{ClaimValue}
+use Rattle.world_model.specs.Event.{arrives, delivers, happen}
+use Rattle.world_model.specs.PageCalls.{page_bytes}
 use Rattle.world_model.specs.Item.{Item, Left}
 use Rattle.world_model.specs.Solo.{Store, Physical}
 use Rattle.world_model.specs.Step.{Stores}
 use Rattle.world_model.specs.Tick.{phases_after, turn}
-use Rattle.world_model.specs.World.{World, after, run_phases}
+use Rattle.world_model.specs.World.{World, Reply, after, run_phases}
 use Rattle.call_verdicts.specs.Granted.{GrantedMay}
 use Rattle.run_model.specs.Acting.{Acts}
-use Rattle.run_model.specs.Licensed.{AtEvent, GivenIsLicensed, IsLeft, LicensedAt, LicensedIn}
-use Rattle.run_model.specs.Run.{System, happens_in, moment, world_after}
-use Rattle.sharing_law.specs.Right.{EachLeftIsLive, HasLiveBinding, LeftIsLive}
+use Rattle.run_model.specs.Licensed.{AtEvent, GivenIsLicensed, IsLeft, IsRingLeft, LicensedAt, LicensedIn}
+use Rattle.run_model.specs.Run.{System, given_by, happens_in, moment, world_after}
+use Rattle.run_model.proofs.Phases.{next_moment, once_more}
+use Rattle.sharing_law.specs.Right.{EachLeftIsLive, HasLiveBinding, IsLeftByDelivery, LeftIsLive}
+use Rattle.sharing_law.proofs.Delivering.{delivered_in, delivered_whole}
 use Rattle.sharing_law.proofs.Happening.{happen_lists}
 use Rattle.sharing_law.proofs.Turning.{ListsSame, lists_alike, lists_then, same_lists, turn_alike}
 use Rattle.sharing_law.proofs.Agreeing.{Fine, all_fine, moment_fine}
@@ -26,36 +31,62 @@ store_lives granted system t m fine same e x page acts into =
     let listed = (λ k. sym same.binds k e it.row) ∙ sym ((fine.sound.agreed e).binds it.row) ∙ it.found in
     record { binding = it.binding; live = each_is_live granted system t e it.row it.binding listed; its = it.its; writable = it.writable }
 
--- Nothing that happens from outside leaves bytes, kind by kind.
-event_leaves_not : (what : Occurrence) (w : World) (e page offset : ℕ) (bytes : List ℕ) → AtEvent what w e (Left page offset bytes) → ⊥
-event_leaves_not (outside.Packet packet) w e page offset bytes its = its
-event_leaves_not (outside.Line line) w e page offset bytes its = its
+-- What is left is left in the step, up to which the book lists what it did before the tick; or where a packet comes.
+data LeftSo (base m : World) (phase : Option (World → Reply)) (e page offset : ℕ) (bytes : List ℕ) : Type 0 where
+  ByStore : IsLeft m e page offset bytes → ListsSame base.book m.book → LeftSo base m phase e page offset bytes
+  ByPacket : (packet : List ℕ) → phase ≡ Some (happen (outside.Packet packet)) → IsRingLeft m e packet page offset bytes → LeftSo base m phase e page offset bytes
 
--- What is left is left in the step, up to which the book lists what it did before the tick.
-record IsLeftSo (base m : World) (e page offset : ℕ) (bytes : List ℕ) : Type 0 where
-  is : IsLeft m e page offset bytes
-  same : ListsSame base.book m.book
+-- what happens from outside, kind by kind
+left_by_event : (what : Occurrence) (base w : World) (e page offset : ℕ) (bytes : List ℕ) → AtEvent what w e (Left page offset bytes) → LeftSo base w (Some (happen what)) e page offset bytes
+left_by_event (outside.Packet packet) base w e page offset bytes its = ByPacket packet refl its
+left_by_event (outside.Line line) base w e page offset bytes its = absurd its
 
 left_in_step : (happens : List Occurrence) (base w : World) (k : ℕ) → ListsSame base.book w.book
-    → (let m = run_phases w (take k (phases_after happens)) in (e page offset : ℕ) (bytes : List ℕ) → LicensedIn happens k m e (Left page offset bytes) → IsLeftSo base m e page offset bytes)
+    → (let m = run_phases w (take k (phases_after happens)) in (e page offset : ℕ) (bytes : List ℕ) → LicensedIn happens k m e (Left page offset bytes) → LeftSo base m (slice_get (phases_after happens) k) e page offset bytes)
 left_in_step [] base w zero same e page offset bytes its = absurd its
 left_in_step [] base w (suc zero) same e page offset bytes its =
     let v = after w (turn w) in
-    record { is = its; same = lists_then base.book w.book v.book same (lists_alike w v (turn_alike w)) }
+    ByStore its (lists_then base.book w.book v.book same (lists_alike w v (turn_alike w)))
 left_in_step [] base w (suc (suc zero)) same e page offset bytes its = absurd its
 left_in_step [] base w (suc (suc (suc k))) same e page offset bytes its = absurd its
-left_in_step (what ∷ happens) base w zero same e page offset bytes its = absurd (event_leaves_not what w e page offset bytes its)
+left_in_step (what ∷ happens) base w zero same e page offset bytes its = left_by_event what base w e page offset bytes its
 left_in_step (what ∷ happens) base w (suc k) same e page offset bytes its =
     let v = after w (happen what w) in
     left_in_step happens base v k (lists_then base.book w.book v.book same (happen_lists what w)) e page offset bytes its
 
+module _ (granted : GrantedMay) (system : System) (t k e page offset : ℕ) (bytes : List ℕ) where
+  abbrev m : World
+  m = moment system t k
+
+  abbrev phase : Option (World → Reply)
+  phase = slice_get (phases_after (happens_in system.schedule (world_after system t))) k
+
+  fine : Fine m
+  fine = moment_fine granted system t (all_fine granted system t) k
+
+  left_by_packet : (packet : List ℕ) → phase ≡ Some (happen (outside.Packet packet)) → IsRingLeft m e packet page offset bytes → IsLeftByDelivery system t k e page offset bytes
+  left_by_packet packet is left =
+      let c = left.lowest in
+      let whole = delivered_whole m c packet fine.sound fine.claimed left.goes bytes left.filled in
+      let next = next_moment system t k ∙ ap (once_more m) is ∙ ap (λ (o : Option ClaimValue). after m (arrives packet o m)) left.goes in
+      let given = ap (λ (o : Option (World → Reply)). given_by m o c.env) is ∙ ap (λ (o : Option ClaimValue). (arrives packet o m).items c.env) left.goes in
+      subst (λ (p : ℕ). IsLeftByDelivery system t k e p offset bytes) left.into (record {
+        owner = c.env;
+        another = left.another;
+        owned = whole.2;
+        delivered = delivered_in system t k c.page c.env (delivers c packet m) next given whole.0;
+        whole = left.whole;
+        its = whole.1 ∙ ap (λ (v : World). page_bytes v c.page) (sym next);
+      })
+
+  left_so : LeftSo (world_after system t) m phase e page offset bytes → LeftIsLive system t k e (Left page offset bytes)
+  left_so (ByStore left same) = inl (record { left = left; right = store_lives granted system t m fine same left.writer left.store page left.acts left.into })
+  left_so (ByPacket packet is left) = inr (left_by_packet packet is left)
+
 licensed_lives : GrantedMay → (system : System) (t k e : ℕ) (item : Item) → LicensedAt system t k e item → LeftIsLive system t k e item
 licensed_lives granted system t k e (Left page offset bytes) its =
     let w = world_after system t in
-    let m = moment system t k in
-    let left = left_in_step (happens_in system.schedule w) w w k (same_lists w.book) e page offset bytes its in
-    let fine = moment_fine granted system t (all_fine granted system t) k in
-    record { left = left.is; right = store_lives granted system t m fine left.same left.is.writer left.is.store page left.is.acts left.is.into }
+    left_so granted system t k e page offset bytes (left_in_step (happens_in system.schedule w) w w k (same_lists w.book) e page offset bytes its)
 licensed_lives granted system t k e item its = tt
 
 pub each_left_is_live : GrantedMay → GivenIsLicensed → EachLeftIsLive

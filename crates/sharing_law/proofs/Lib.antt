@@ -6,7 +6,12 @@ mod Sound
 mod Brings
 mod Calling
 mod Turning
+mod Lists
+mod Claimed
+mod Claiming
+mod Counting
 mod Happening
+mod Delivering
 mod Moments
 mod Stepping
 mod Timing

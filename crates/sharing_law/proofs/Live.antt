@@ -1,9 +1,9 @@
 -- Every binding that the book lists is live.
 use Rattle.std.proofs.Common.{◌≡◌, ◌<◌, ℕ, zero, suc, true, Some, refl, sym, ◌∙◌, ap, subst, inl, inr, arith}
 use Rattle.std.specs.Prelude.{◌⊎◌}
-use Rattle.std.proofs.lemmas.Bool.{cases_eq, eqb-true, eq-eqb}
+use Rattle.std.proofs.lemmas.Bool.{cases_eq, eq-eqb}
 use Rattle.page_book.specs.declared.row.PageRow.{PageRow}
-use Rattle.page_book.specs.declared.row.PageRow.TheVariants.{Free, Guaranteed, Owned}
+use Rattle.page_book.specs.declared.row.PageRow.TheVariants.{Owned}
 use Rattle.page_book.specs.Row.{gives_right, is_owned_by}
 use Rattle.bind_book.specs.declared.binding.Binding.{Binding}
 use Rattle.bind_book.specs.Stripe.{row_of}
@@ -12,6 +12,7 @@ use Rattle.call_verdicts.specs.Granted.{GrantedMay}
 use Rattle.sharing_law.specs.Right.{row_after, Since, HasWord, IsLive, EachIsLive}
 use Rattle.sharing_law.proofs.Replies.{IsCarried, IsPut, WasListed}
 use Rattle.sharing_law.proofs.Agreeing.{all_fine, none_bound}
+use Rattle.sharing_law.proofs.Claiming.{owned_by}
 use Rattle.sharing_law.proofs.Books.{next_carries}
 
 -- what holds since then holds after one tick more, if it holds there
@@ -21,12 +22,6 @@ since_more first last P before now s above below =
 
 since_first : (first : ℕ) (P : ℕ → Type 0) → P (suc first) → Since first (suc first) P
 since_first first P now s above below = let same : suc first ≡ s = omega arith in subst P same now
-
--- who owns a row of this form
-owned_by : (owner e : ℕ) (row : PageRow) → is_owned_by owner row ≡ true → is_owned_by e row ≡ true → owner ≡ e
-owned_by owner e Free is its = cc
-owned_by owner e (Guaranteed one) is its = cc
-owned_by owner e (Owned one words) is its = sym (eqb-true one owner is) ∙ eqb-true one e its
 
 still_owned : (owner e : ℕ) (old new : PageRow) → IsCarried e old new → is_owned_by owner old ≡ true → is_owned_by owner new ≡ true
 still_owned owner e old new (inl same) is = ap (is_owned_by owner) same ∙ is

@@ -29,10 +29,13 @@ use Rattle.sharing_law.proofs.Giving.{deed_gives, store_gives}
 use Rattle.sharing_law.proofs.Sound.{HasNone, Sound, agreed, still_nothing}
 use Rattle.sharing_law.proofs.Brings.{Brings, Fortune, GoesOn, Ends, death_brings, silent, store_brings}
 use Rattle.sharing_law.proofs.Calling.{caller, deed_brings}
+use Rattle.sharing_law.proofs.Claimed.{AreRings, Claimed}
+use Rattle.sharing_law.proofs.Claiming.{Claiming, deed_claims, death_claims, store_claims, steady}
 
 -- A world follows on another, in which the runner came to this, whatever it was given in between.
 pub record Follows (w : World) (e : ℕ) (s : Solo) (now : World) (items : ℕ → List Item) : Type 0 where
   pub brings : Brings w e s now.book items
+  pub claims : Claiming w e s now.book items
   pub own : now.solos e ≡ absorb_all s (items e)
   pub others : (i : ℕ) → i ≢ e → now.solos i ≡ absorb_all (w.solos i) (items i)
   pub gives : (i : ℕ) → Gives e i (items i)
@@ -43,14 +46,15 @@ pub record Stepped (w : World) (e : ℕ) (now : World) : Type 0 where
   pub follows : Follows w e came_to now items
 
 -- So does the world after the runner's step.
-module _ (granted : GrantedMay) (w : World) (e : ℕ) (sound : Sound w) (allocated : AreBoundAllocated w) (lives : (w.solos e).life ≡ Live) (runs : running w.book.runner ≡ Some e) where
+module _ (granted : GrantedMay) (w : World) (e : ℕ) (sound : Sound w) (allocated : AreBoundAllocated w) (claimed : Claimed w) (lives : (w.solos e).life ≡ Live) (runs : running w.book.runner ≡ Some e) where
   -- a call, refused or granted
-  refused_follows : (v : Verdict) → (answered v (w.solos e)).life ≡ Live → (answered v (w.solos e)).binds ≡ (w.solos e).binds → (answered v (w.solos e)).seen ≡ (w.solos e).seen → Stepped w e (after w (tells e (Answer v) w))
-  refused_follows v alive binds sights = record {
+  refused_follows : (v : Verdict) → (answered v (w.solos e)).life ≡ Live → (answered v (w.solos e)).binds ≡ (w.solos e).binds → (answered v (w.solos e)).seen ≡ (w.solos e).seen → (answered v (w.solos e)).rings ≡ (w.solos e).rings → Stepped w e (after w (tells e (Answer v) w))
+  refused_follows v alive binds sights rings = record {
     came_to = answered v (w.solos e);
     items = no_items;
     follows = record {
       brings = silent w e sound lives (answered v (w.solos e)) alive binds sights;
+      claims = steady w e claimed (answered v (w.solos e)) w.book no_items rings (λ i s. refl);
       own = ap (absorb_all (w.solos e)) (set_here e (Answer v ∷ []) no_items) ∙ absorbs (w.solos e) (Answer v) [] lives;
       others = λ i ne. ap (absorb_all (w.solos i)) (set_else e i (Answer v ∷ []) no_items ne);
       gives = λ i. Tells tt;
@@ -61,7 +65,7 @@ module _ (granted : GrantedMay) (w : World) (e : ℕ) (sound : Sound w) (allocat
   call_follows c acts = by_verdict (verdict w e c) refl
     where
       by_verdict : (v : Verdict) → verdict w e c ≡ v → Stepped w e (after w (reply_of w e v))
-      by_verdict (Refuse code value) is = refused_follows (Refuse code value) lives refl refl
+      by_verdict (Refuse code value) is = refused_follows (Refuse code value) lives refl refl refl
       by_verdict (Grant value) is =
           let d = deed_at (w.solos e) value in
           let may = deed_may granted w e c (call_named w e c acts.comes) value is in
@@ -73,6 +77,7 @@ module _ (granted : GrantedMay) (w : World) (e : ℕ) (sound : Sound w) (allocat
             items = items;
             follows = record {
               brings = deed_brings w e sound lives allocated cpu d (call_does w e c acts value is) may;
+              claims = deed_claims w e claimed lives cpu d may;
               own = ap (λ (its : List Item). absorb_all (w.solos e) (its ++ items e)) (set_here e (answer ∷ []) no_items) ∙ absorbs (w.solos e) answer (items e) lives;
               others = λ i ne. ap (λ (its : List Item). absorb_all (w.solos i) (its ++ items i)) (set_else e i (answer ∷ []) no_items ne);
               gives = deed_gives w e d may;
@@ -86,12 +91,13 @@ module _ (granted : GrantedMay) (w : World) (e : ℕ) (sound : Sound w) (allocat
   abbrev after_act : Act → Solo
   after_act act = acted act (record (w.solos e) { cpu = cpu_after (w.solos e).cpu (step_alone (w.solos e)) })
 
-  told_follows : (act : Act) → act_now w e ≡ act → (r : Reply) → Brings w e (after_act act) r.book r.items → ((i : ℕ) → Gives e i (r.items i)) → Stepped w e (after told r)
-  told_follows act is r brings gives = record {
+  told_follows : (act : Act) → act_now w e ≡ act → (r : Reply) → Brings w e (after_act act) r.book r.items → Claiming w e (after_act act) r.book r.items → ((i : ℕ) → Gives e i (r.items i)) → Stepped w e (after told r)
+  told_follows act is r brings claims gives = record {
     came_to = after_act act;
     items = r.items;
     follows = record {
       brings = brings;
+      claims = claims;
       own = ap (λ (s : Solo). absorb_all s (r.items e)) (told_own w e Step ∙ absorbs (w.solos e) Step [] lives ∙ ap (λ (a : Act). acted a (record (w.solos e) { cpu = cpu_after (w.solos e).cpu (step_alone (w.solos e)) })) is);
       others = λ i ne. ap (λ (s : Solo). absorb_all s (r.items i)) (told_other w e Step i ne);
       gives = gives;
@@ -99,13 +105,13 @@ module _ (granted : GrantedMay) (w : World) (e : ℕ) (sound : Sound w) (allocat
   }
 
   act_follows : (act : Act) → act_now w e ≡ act → Stepped w e (after told (tick.brings e act told))
-  act_follows Nothing is = told_follows Nothing is (tick.brings e Nothing told) (silent w e sound lives (after_act Nothing) lives refl refl) (λ i. Tells tt)
+  act_follows Nothing is = told_follows Nothing is (tick.brings e Nothing told) (silent w e sound lives (after_act Nothing) lives refl refl) (steady w e claimed (after_act Nothing) w.book no_items refl (λ i s. refl)) (λ i. Tells tt)
   act_follows (Stores x) is =
-      told_follows (Stores x) is (tick.brings e (Stores x) told) (store_brings w e sound lives (cpu_after (w.solos e).cpu (step_alone (w.solos e))) x (record { runs = runs; comes = is })) (store_gives w e x)
+      told_follows (Stores x) is (tick.brings e (Stores x) told) (store_brings w e sound lives (cpu_after (w.solos e).cpu (step_alone (w.solos e))) x (record { runs = runs; comes = is })) (store_claims w e claimed (after_act (Stores x)) x refl) (store_gives w e x)
   act_follows (Calls c) is = subst (λ (v : World). Stepped w e (after v (tick.brings e (Calls c) v))) (sym (call_stands w e c is)) (call_follows c (record { runs = runs; comes = is }))
-  act_follows (Raises exc) is = told_follows (Raises exc) is (tick.brings e (Raises exc) told) (silent w e sound lives (after_act (Raises exc)) lives refl refl) (λ i. Tells tt)
+  act_follows (Raises exc) is = told_follows (Raises exc) is (tick.brings e (Raises exc) told) (silent w e sound lives (after_act (Raises exc)) lives refl refl) (steady w e claimed (after_act (Raises exc)) w.book no_items refl (λ i s. refl)) (λ i. Tells tt)
   act_follows (Dies cause) is =
-      told_follows (Dies cause) is (tick.brings e (Dies cause) told) (death_brings w e sound lives (cpu_after (w.solos e).cpu (step_alone (w.solos e))) cause) (λ i. Tells (told_death w.book e i))
+      told_follows (Dies cause) is (tick.brings e (Dies cause) told) (death_brings w e sound lives (cpu_after (w.solos e).cpu (step_alone (w.solos e))) cause) (death_claims w e claimed (cpu_after (w.solos e).cpu (step_alone (w.solos e))) cause) (λ i. Tells (told_death w.book e i))
 
   pub step_follows : Stepped w e (after w (in_turn (tells e Step ∷ tick.brings e (act_now w e) ∷ []) w))
   step_follows = subst (Stepped w e) (sym (in_turn_is_each w (tells e Step ∷ tick.brings e (act_now w e) ∷ []))) (act_follows (act_now w e) refl)
@@ -155,4 +161,14 @@ module _ (w : World) (e : ℕ) (s : Solo) (now : World) (items : ℕ → List It
     ];
     stripes = brings.stripes;
     behind = brings.behind;
+  }
+
+  -- and its claims
+  pub claimed_following : Claimed now
+  claimed_following = record {
+    rings = λ i. elim (cases_eq i e) [
+      | inl same ↦ subst (λ (n : ℕ). AreRings n now.book.claims (now.solos n).rings) (sym same) (subst (λ (t : Solo). AreRings e now.book.claims t.rings) (sym follows.own) follows.claims.own)
+      | inr ne ↦ subst (λ (t : Solo). AreRings i now.book.claims t.rings) (sym (follows.others i ne)) (follows.claims.others i ne)
+    ];
+    good = follows.claims.good;
   }

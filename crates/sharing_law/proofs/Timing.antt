@@ -30,7 +30,9 @@ use Rattle.sharing_law.proofs.Given.{IsRested, Tells, absorbs, dead_absorbs, end
 use Rattle.sharing_law.proofs.Sound.{Sound, owner_bytes}
 use Rattle.sharing_law.proofs.Brings.{Brings, death_keeps, owing_keeps, released_owned}
 use Rattle.sharing_law.proofs.Replies.{Remains, mourned}
-use Rattle.sharing_law.proofs.Stepping.{Follows, all_see, sound_following}
+use Rattle.sharing_law.proofs.Claimed.{Claimed, claimed_alike, good_same}
+use Rattle.sharing_law.proofs.Claiming.{Claiming, death_claims}
+use Rattle.sharing_law.proofs.Stepping.{Follows, all_see, claimed_following, sound_following}
 use Rattle.sharing_law.proofs.Turning.{IsAlike, bytes_alike, sound_alike}
 
 -- The runner is killed: it is dead, the others lose what they had bound of its pages, and the book is that after its death, at some time.
@@ -57,7 +59,7 @@ death_owing b excess gone i = ap (λ items. if i == gone then [] else items) (lo
 module _ (w : World) where
   passes : (runner : Option Runner) (items : ℕ → List Item) (rows : List Row) → ((i : ℕ) → IsRested (w.solos i) (absorb_all (w.solos i) (items i)))
       → Comes w (record { book = record w.book { runner = runner }; items = items; rows = rows })
-  passes runner items rows rests = Passed (record { solos = rests; pages = refl; binds = refl; count = refl })
+  passes runner items rows rests = Passed (record { solos = rests; pages = refl; binds = refl; claims = refl; next = refl; count = refl })
 
   -- who is told of its end rests, and all others stay as they are
   given_end : (s : Solo) (t : Bool) → IsRested s (absorb_all s (if t then End ∷ [] else []))
@@ -104,7 +106,7 @@ module _ (w : World) where
           ∙ ap (λ (s : Solo). absorb_all s (death_items doomed.book r.env i)) (told_other owing r.env Killed i ne)
           ∙ ap (absorb_all (w.solos i)) (death_owing w.book owing.book.excess r.env i);
     })
-    grace_comes false = Passed (record { solos = λ i. rests_same (w.solos i); pages = refl; binds = refl; count = refl })
+    grace_comes false = Passed (record { solos = λ i. rests_same (w.solos i); pages = refl; binds = refl; claims = refl; next = refl; count = refl })
 
     out_comes : (p : Phase) → Comes w (run_out r.env p w)
     out_comes phase.Own = slice_comes ((w.solos r.env).handlers.end == 0)
@@ -124,6 +126,8 @@ module _ (w : World) where
     solos = λ i. subst (λ (items : List Item). IsRested (w.solos i) (absorb_all (w.solos i) items)) (sym (append-nil ((count w).items i))) (alike.solos i);
     pages = alike.pages;
     binds = alike.binds;
+    claims = alike.claims;
+    next = alike.next;
     count = alike.count;
   })
   clocked count (Died x runs killed) = Died x runs (record {
@@ -151,7 +155,7 @@ module _ (w : World) where
   allocated_timed allocated i n b is = let left = timer_remains i n b is in subst IsAllocated (sym left.page) (allocated i n b left.listed)
 
 -- The death of a runner by its excess.
-module _ (w : World) (sound : Sound w) (e : ℕ) (lives : (w.solos e).life ≡ Live) (r : Reply) (killed : IsKilled w e r) where
+module _ (w : World) (sound : Sound w) (claimed : Claimed w) (e : ℕ) (lives : (w.solos e).life ≡ Live) (r : Reply) (killed : IsKilled w e r) where
   abbrev corpse : Solo
   corpse = dead cause.Excess (w.solos e)
 
@@ -161,9 +165,16 @@ module _ (w : World) (sound : Sound w) (e : ℕ) (lives : (w.solos e).life ≡ L
       let owing = owing_keeps w e sound lives (death w e).book corpse (death_items w.book e) killed.excess killed.time keeps.0 in
       subst (λ (b : Book). (brings : Brings w e corpse b (death_items w.book e)) × (brings.bytes ≡ page_bytes w)) (sym killed.book) (owing.0, owing.1 ∙ keeps.1)
 
+  pub claims_now : Claiming w e corpse r.book (death_items w.book e)
+  claims_now =
+      let claims = death_claims w e claimed (w.solos e).cpu cause.Excess in
+      subst (λ (b : Book). Claiming w e corpse b (death_items w.book e)) (sym killed.book)
+      (record { own = claims.own; others = claims.others; good = good_same (death w e).book (record (death w e).book { excess = killed.excess; time = killed.time }) refl refl (λ c owned. owned) claims.good })
+
   abbrev pub death_follows : Follows w e corpse (after w r) (death_items w.book e)
   death_follows = record {
     brings = death_now.0;
+    claims = claims_now;
     own = killed.own ∙ absorbs (w.solos e) Killed [] lives ∙ sym (dead_absorbs corpse cause.Excess (death_items w.book e e) refl);
     others = killed.others;
     gives = λ i. Tells (told_death w.book e i);
@@ -174,14 +185,21 @@ module _ (w : World) (sound : Sound w) (e : ℕ) (lives : (w.solos e).life ≡ L
       owner_bytes (after w r) death_now.0.bytes (all_see w e corpse (after w r) (death_items w.book e) sound death_follows) o page owns ∙ ap (λ (bytes : ℕ → List ℕ). bytes page) death_now.1
 
 -- What the timer leaves, where who runs lives.
-module _ (w : World) (sound : Sound w) (lives : IsRunnerLive w w.book.runner) where
+module _ (w : World) (sound : Sound w) (claimed : Claimed w) (lives : IsRunnerLive w w.book.runner) where
   sound_by : (r : Reply) → Comes w r → AreBoundAllocated (after w r) → Sound (after w r)
   sound_by r (Passed alike) allocated = sound_alike w (after w r) alike sound
   sound_by r (Died x runs killed) allocated =
-      sound_following w x.env (dead cause.Excess (w.solos x.env)) (after w r) (death_items w.book x.env) sound (death_follows w sound x.env (lives x runs) r killed) allocated
+      sound_following w x.env (dead cause.Excess (w.solos x.env)) (after w r) (death_items w.book x.env) sound (death_follows w sound claimed x.env (lives x runs) r killed) allocated
 
   pub sound_timed : AreBoundAllocated w → Sound (after w (timer w))
   sound_timed allocated = sound_by (timer w) (timer_comes w) (allocated_timed w allocated)
+
+  claimed_by : (r : Reply) → Comes w r → Claimed (after w r)
+  claimed_by r (Passed alike) = claimed_alike w (after w r) alike claimed
+  claimed_by r (Died x runs killed) = claimed_following w x.env (dead cause.Excess (w.solos x.env)) (after w r) (death_items w.book x.env) sound (death_follows w sound claimed x.env (lives x runs) r killed)
+
+  pub claimed_timed : Claimed (after w (timer w))
+  claimed_timed = claimed_by (timer w) (timer_comes w)
 
   -- an allocated page was its owner's before, with the same bytes
   abbrev WasSo : ℕ → ℕ → World → Type 0
@@ -191,7 +209,7 @@ module _ (w : World) (sound : Sound w) (lives : IsRunnerLive w w.book.runner) wh
   owned_by r (Passed alike) owner page owns = (ap (is_owned_by owner) (λ k. sym alike.pages k page) ∙ owns, bytes_alike w (after w r) alike page)
   owned_by r (Died x runs killed) owner page owns = (
     released_owned x.env owner (w.book.pages page) (ap (λ (book : Book). is_owned_by owner (book.pages page)) (sym killed.book) ∙ owns),
-    death_bytes w sound x.env (lives x runs) r killed owner page owns,
+    death_bytes w sound claimed x.env (lives x runs) r killed owner page owns,
   )
 
   pub timer_owned : (owner page : ℕ) → is_owned_by owner ((timer w).book.pages page) ≡ true → WasSo owner page (after w (timer w))

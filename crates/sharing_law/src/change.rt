@@ -5,8 +5,8 @@ use call_verdicts::law_granted;
 
 /// An item that an environment absorbs leaves the bytes of its guaranteed pages, but for its own store to one, which may
 /// be stored to; for the words of an exception of its own, of the start and the end of its slice, where it handles
-/// starts, of another's transfer to it, and of a signal on an interrupt line of its own, which go into the context
-/// page; and for its record at boot and its death.
+/// starts, of another's transfer to it, and of packets and signals of its own, which go into the context page; and for its
+/// record at boot and its death.
 pub fn law_item_change()
     ensures { ItemChange }
 {}
@@ -27,7 +27,7 @@ pub fn law_guaranteed_in_tick()
 }
 
 /// In a phase of a tick the bytes of a page that stays allocated to an environment change only by a store through a live
-/// writable binding.
+/// writable binding, or by a packet of the environment's own, for a claim whose ring the page is.
 pub fn law_allocated_change()
     ensures { AllocatedChange }
 {
@@ -43,7 +43,7 @@ pub fn law_zeros()
 }
 
 /// So a page that is allocated to an environment after a tick was so before, with the same bytes, or was stored to or
-/// allocated so in a phase of the tick.
+/// allocated so in a phase of the tick, or such a packet came there.
 pub fn law_allocated_in_tick()
     ensures { AllocatedInTick }
 {

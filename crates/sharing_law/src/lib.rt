@@ -1,5 +1,5 @@
 //! The laws of shared pages, for every image, schedule and number of ticks: by what right each binding stands, that the
-//! kernel's book and the environments agree, and why the bytes of a page change.
+//! kernel's book and the environments agree on pages, bindings and claims, and why the bytes of a page change.
 #![tactic(auto)]
 
 mod agreement;

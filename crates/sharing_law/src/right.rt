@@ -13,7 +13,7 @@ pub fn law_live()
 }
 
 /// Bytes that are left to an environment in a phase of a tick are stored there by another, which has a live writable
-/// binding of the page.
+/// binding of the page; or they are all bytes of the page, which is another's, once a packet of its owner's came there.
 pub fn law_left()
     ensures { EachLeftIsLive }
 {

@@ -1,0 +1,161 @@
+-- Claims: each environment has those that the book lists for it, and each goes into a page of its environment's.
+use Rattle.std.proofs.Common.{◌≡◌, ◌≢◌, ◌<◌, ℕ, List, [], ◌∷◌, ◌++◌, map, Bool, true, false, not, cond, Some, ◌⊎◌, inl, inr, refl, sym, ◌∙◌, ap, subst, arith}
+use Rattle.std.specs.Prelude.{◌==◌, filter, find, if◌then◌else◌}
+use Rattle.std.proofs.lemmas.Bool.{eq-eqb, ne_eqb}
+use Rattle.std.proofs.lemmas.List.{append-nil, map-append}
+use Rattle.std.proofs.lemmas.List.Elements.{filter-append}
+use Rattle.filter_core.specs.Asking.{agree}
+use Rattle.filter_core.specs.Filters.{is_filter}
+use Rattle.filter_tree.specs.ClaimBook.{ClaimValue, is_of_env}
+use Rattle.filter_tree.specs.Claims.{is_numbered}
+use Rattle.page_book.specs.Row.{is_owned_by}
+use Rattle.world_model.specs.Book.{Book}
+use Rattle.world_model.specs.ClaimCalls.{with_claim}
+use Rattle.world_model.specs.Rings.{turned, turned_if, is_ring}
+use Rattle.world_model.specs.Solo.{Ring}
+use Rattle.world_model.specs.World.{World}
+use Rattle.sharing_law.specs.Agreement.{ClaimPage, claim_page, ring_page}
+use Rattle.sharing_law.proofs.Lists.{Has, filter_map, filter_same, filter_spares, filter_swap, found_before, found_last, had_or_last, left_there, still_found}
+use Rattle.sharing_law.proofs.Turning.{IsAlike}
+
+-- an environment's rings are the claims that are listed for it
+abbrev pub AreRings : ℕ → List ClaimValue → List Ring → Type 0
+AreRings e claims rings = map ring_page rings ≡ map claim_page (filter (is_of_env e) claims)
+
+-- a claim that a book lists goes into a page of its environment's, and is the one of its number
+pub record IsGood (b : Book) (c : ClaimValue) : Type 0 where
+  pub owned : is_owned_by c.env (b.pages c.page) ≡ true
+  pub below : c.id < b.next_claim
+  pub only : find (is_numbered c.id) b.claims ≡ Some c
+  pub rule : is_filter c.filter ≡ true
+
+-- two environments' claims don't agree
+abbrev pub AreApart : ClaimValue → ClaimValue → Type 0
+AreApart c d = c.env ≢ d.env → (agree c.filter d.filter ≡ false) ⊎ (agree d.filter c.filter ≡ false)
+
+pub record AreGood (b : Book) : Type 0 where
+  pub each : (c : ClaimValue) → Has b.claims c → IsGood b c
+  pub apart : (c d : ClaimValue) → Has b.claims c → Has b.claims d → AreApart c d
+
+pub record Claimed (w : World) : Type 0 where
+  pub rings : (e : ℕ) → AreRings e w.book.claims (w.solos e).rings
+  pub good : AreGood w.book
+
+-- A book that lists some of the claims of another.
+pub good_less : (old new : Book) (keep : ClaimValue → Bool) → new.claims ≡ filter keep old.claims → new.next_claim ≡ old.next_claim
+    → ((c : ClaimValue) → keep c ≡ true → is_owned_by c.env (old.pages c.page) ≡ true → is_owned_by c.env (new.pages c.page) ≡ true) → AreGood old → AreGood new
+good_less old new keep less next owned good = record {
+  each = λ c its.
+      let was = had c its in
+      let before = good.each c was.1 in
+      record {
+        owned = owned c was.0 before.owned;
+        below = subst (λ (n : ℕ). c.id < n) (sym next) before.below;
+        only = ap (find (is_numbered c.id)) less ∙ still_found (is_numbered c.id) keep old.claims c was.0 before.only;
+        rule = before.rule;
+      };
+  apart = λ c d its others. good.apart c d (had c its).1 (had d others).1;
+}
+  where
+    had : (c : ClaimValue) → Has new.claims c → (keep c ≡ true) × Has old.claims c
+    had c its = left_there keep old.claims c (subst (λ (claims : List ClaimValue). Has claims c) less its)
+
+-- one that lists the same
+pub good_same : (old new : Book) → new.claims ≡ old.claims → new.next_claim ≡ old.next_claim
+    → ((c : ClaimValue) → is_owned_by c.env (old.pages c.page) ≡ true → is_owned_by c.env (new.pages c.page) ≡ true) → AreGood old → AreGood new
+good_same old new same next owned good = record {
+  each = λ c its.
+      let before = good.each c (had c its) in
+      record { owned = owned c before.owned; below = subst (λ (n : ℕ). c.id < n) (sym next) before.below; only = ap (find (is_numbered c.id)) same ∙ before.only; rule = before.rule };
+  apart = λ c d its others. good.apart c d (had c its) (had d others);
+}
+  where
+    had : (c : ClaimValue) → Has new.claims c → Has old.claims c
+    had c its = subst (λ (claims : List ClaimValue). Has claims c) same its
+
+-- and one that lists one more
+module _ (b : Book) (c : ClaimValue) (owned : is_owned_by c.env (b.pages c.page) ≡ true) (next : c.id ≡ b.next_claim) (rule : is_filter c.filter ≡ true)
+    (apart : (d : ClaimValue) → Has b.claims d → AreApart c d) (good : AreGood b) where
+  other_number : (d : ClaimValue) → Has b.claims d → is_numbered c.id d ≡ false
+  other_number d its = ne_eqb d.id c.id (λ same. absurd (omega (arith, (good.each d its).below, next, same)))
+
+  swapped : (d : ClaimValue) → AreApart c d → AreApart d c
+  swapped d is other = elim (is (λ same. other (sym same))) [ inl apart ↦ inr apart | inr apart ↦ inl apart ]
+
+  more_apart : (x y : ClaimValue) → Has b.claims x ⊎ (c ≡ x) → Has b.claims y ⊎ (c ≡ y) → AreApart x y
+  more_apart x y (inl its) (inl others) = good.apart x y its others
+  more_apart x y (inl its) (inr last) = subst (AreApart x) last (swapped x (apart x its))
+  more_apart x y (inr last) (inl others) = subst (λ (z : ClaimValue). AreApart z y) last (apart y others)
+  more_apart x y (inr first) (inr last) = λ other. absurd (other (ap (λ (z : ClaimValue). z.env) (sym first ∙ last)))
+
+  more_each : (x : ClaimValue) → Has b.claims x ⊎ (c ≡ x) → IsGood (with_claim b c) x
+  more_each x (inl its) =
+      let before = good.each x its in
+      record { owned = before.owned; below = omega (arith, before.below); only = found_before (is_numbered x.id) b.claims c x before.only; rule = before.rule }
+  more_each x (inr last) = subst (IsGood (with_claim b c)) last (record {
+    owned = owned;
+    below = omega (arith, next);
+    only = found_last (is_numbered c.id) b.claims c other_number (eq-eqb c.id c.id refl);
+    rule = rule;
+  })
+
+  pub good_more : AreGood (with_claim b c)
+  good_more = record {
+    each = λ x its. more_each x (had_or_last b.claims c x its);
+    apart = λ x y its others. more_apart x y (had_or_last b.claims c x its) (had_or_last b.claims c y others);
+  }
+
+-- An environment loses some of its claims, of whose rings the same is true.
+pub rings_less : (e : ℕ) (claims : List ClaimValue) (rings : List Ring) (stays : ClaimPage → Bool) (keep : ClaimValue → Bool) → ((c : ClaimValue) → is_of_env e c ≡ true → stays (claim_page c) ≡ keep c)
+    → AreRings e claims rings → AreRings e (filter keep claims) (filter (λ (r : Ring). stays (ring_page r)) rings)
+rings_less e claims rings stays keep same are =
+    sym (filter_map ring_page stays rings)
+    ∙ ap (filter stays) are
+    ∙ filter_map claim_page stays (filter (is_of_env e) claims)
+    ∙ ap (map claim_page) (filter_swap (λ (c : ClaimValue). stays (claim_page c)) (is_of_env e) claims ∙ filter_same (is_of_env e) (λ (c : ClaimValue). stays (claim_page c)) keep claims (λ c its own. same c own))
+
+-- others lose claims, and it none
+pub rings_spared : (e : ℕ) (claims : List ClaimValue) (rings : List Ring) (keep : ClaimValue → Bool) → ((c : ClaimValue) → Has claims c → is_of_env e c ≡ true → keep c ≡ true)
+    → AreRings e claims rings → AreRings e (filter keep claims) rings
+rings_spared e claims rings keep spared are = are ∙ ap (map claim_page) (sym (filter_spares (is_of_env e) keep claims spared))
+
+-- it loses a page into which none of its claims goes
+pub rings_beside : (e page : ℕ) (claims : List ClaimValue) (rings : List Ring) → ((c : ClaimValue) → Has claims c → is_of_env e c ≡ true → (c.page == page) ≡ false)
+    → AreRings e claims rings → AreRings e claims (filter (λ (r : Ring). not (r.page == page)) rings)
+rings_beside e page claims rings beside are =
+    rings_less e claims rings (λ (p : ClaimPage). not (p.page == page)) (λ (c : ClaimValue). not (c.page == page)) (λ c own. refl) are
+    ∙ ap (map claim_page) (filter_spares (is_of_env e) (λ (c : ClaimValue). not (c.page == page)) claims (λ c its own. ap not (beside c its own)))
+
+-- it claims once more, or another does
+pub rings_more : (claims : List ClaimValue) (rings : List Ring) (c : ClaimValue) (r : Ring) → ring_page r ≡ claim_page c → AreRings c.env claims rings → AreRings c.env (claims ++ c ∷ []) (rings ++ r ∷ [])
+rings_more claims rings c r same are =
+    map-append ring_page rings (r ∷ [])
+    ∙ (λ k. are k ++ same k ∷ [])
+    ∙ sym (map-append claim_page (filter (is_of_env c.env) claims) (c ∷ []))
+    ∙ ap (λ (its : List ClaimValue). map claim_page (filter (is_of_env c.env) claims ++ its)) (ap (λ t. cond t (c ∷ []) []) (sym (eq-eqb c.env c.env refl)))
+    ∙ ap (map claim_page) (sym (filter-append (is_of_env c.env) claims (c ∷ [])))
+
+pub rings_other : (e : ℕ) (claims : List ClaimValue) (rings : List Ring) (c : ClaimValue) → e ≢ c.env → AreRings e claims rings → AreRings e (claims ++ c ∷ []) rings
+rings_other e claims rings c other are =
+    are
+    ∙ ap (map claim_page) (
+    sym (append-nil (filter (is_of_env e) claims))
+    ∙ ap (λ (its : List ClaimValue). filter (is_of_env e) claims ++ its) (ap (λ t. cond t (c ∷ []) []) (sym (ne_eqb c.env e (λ same. other (sym same)))))
+    ∙ sym (filter-append (is_of_env e) claims (c ∷ []))
+    )
+
+-- the next buffer of a ring is nothing that the book lists
+pub rings_turned : (claim : ℕ) (rings : List Ring) → map ring_page (map (turned_if claim) rings) ≡ map ring_page rings
+rings_turned claim [] = refl
+rings_turned claim (r ∷ rings) = by_test (is_ring claim r) (rings_turned claim rings)
+  where
+    by_test : (t : Bool) → map ring_page (map (turned_if claim) rings) ≡ map ring_page rings → ring_page (if t then turned r else r) ∷ map ring_page (map (turned_if claim) rings) ≡ ring_page r ∷ map ring_page rings
+    by_test true rest = ap (λ its. ring_page r ∷ its) rest
+    by_test false rest = ap (λ its. ring_page r ∷ its) rest
+
+-- Worlds that are alike are claimed alike.
+pub claimed_alike : (w v : World) → IsAlike w v → Claimed w → Claimed v
+claimed_alike w v alike claimed = record {
+  rings = λ e. ap (map ring_page) (alike.solos e).rings ∙ claimed.rings e ∙ ap (λ (claims : List ClaimValue). map claim_page (filter (is_of_env e) claims)) (sym alike.claims);
+  good = good_same w.book v.book alike.claims alike.next (λ c owned. (λ k. is_owned_by c.env (alike.pages k c.page)) ∙ owned) claimed.good;
+}

@@ -1,0 +1,297 @@
+-- A packet that is claimed: what each environment sees once it is in its ring.
+use Rattle.std.proofs.Common.{◌≡◌, ◌≢◌, ◌+◌, ◌≤◌, ℕ, suc, List, [], ◌∷◌, ◌++◌, length, take, drop, map, Bool, true, false, Option, Some, None, ◌⊎◌, inl, inr, refl, sym, ◌∙◌, ap, subst, arith, length-append}
+use Rattle.std.specs.Prelude.{◌==◌, filter, find, if◌then◌else◌}
+use Rattle.std.specs.Option.{option_map}
+use Rattle.std.proofs.lemmas.Bool.{cases_eq, eq-eqb, eqb-true, ne_eqb}
+use Rattle.std.proofs.lemmas.List.{append-nil, drop_all, length-drop, length-take}
+use Rattle.env_frames.specs.declared.post.PostWord.TheVariants as post
+use Rattle.frame_store.specs.Pages.{with_bytes, word_bytes}
+use Rattle.packet_ring.specs.declared.buffer.Buffer.{Buffer}
+use Rattle.packet_ring.specs.Ring.{buffer_offset, is_full, with_packet}
+use Rattle.page_book.specs.declared.row.PageRow.{PageRow}
+use Rattle.page_book.specs.declared.row.PageRow.TheVariants.{Free, Guaranteed, Owned}
+use Rattle.page_book.specs.Row.{is_owned_by}
+use Rattle.filter_tree.specs.ClaimBook.{ClaimValue, is_of_env}
+use Rattle.filter_tree.specs.Claims.{is_for, is_numbered}
+use Rattle.world_model.specs.declared.life.Life.{Life}
+use Rattle.world_model.specs.declared.life.Life.TheVariants.{Live, Dead}
+use Rattle.world_model.specs.Book.{sees}
+use Rattle.world_model.specs.ClaimCalls.{claim_of}
+use Rattle.external_event.specs.declared.event.Occurrence.TheVariants as outside
+use Rattle.world_model.specs.Event.{arrives, delivers, happen, ring_bytes, ring_left}
+use Rattle.world_model.specs.Item.{Item, Packet, absorb_all}
+use Rattle.world_model.specs.PageCalls.{bytes_owned, left_if, page_bytes}
+use Rattle.world_model.specs.Rings.{counted, page_store, put_in_ring, received_in, ring_after, ring_of}
+use Rattle.world_model.specs.Solo.{Solo, Ring, Physical, bytes_seen, stored}
+use Rattle.world_model.specs.Table.{set_at}
+use Rattle.world_model.specs.World.{World, Reply, after}
+use Rattle.run_model.specs.Run.{System, given_at, moment}
+use Rattle.page_sight.specs.Sight.{Sees}
+use Rattle.page_sight.proofs.Sights.{readers_see, writer_sees}
+use Rattle.page_sight.proofs.Tables.{set_here, set_else}
+use Rattle.sharing_law.specs.Agreement.{AreBoundAllocated, ClaimPage, claim_page, ring_page}
+use Rattle.sharing_law.specs.Delivery.{IsDelivered}
+use Rattle.sharing_law.proofs.Brings.{as_before}
+use Rattle.sharing_law.proofs.Claimed.{AreRings, Claimed, IsGood, claimed_alike, rings_turned}
+use Rattle.sharing_law.proofs.Claiming.{owned_by, ring_left_spares}
+use Rattle.sharing_law.proofs.Given.{IsRested, absorbs, dead_absorbs, rests_same, told_leaves}
+use Rattle.sharing_law.proofs.Giving.{ring_told}
+use Rattle.sharing_law.proofs.Happening.{dropped_alike}
+use Rattle.sharing_law.proofs.Lists.{find_map, found_there, still_found}
+use Rattle.sharing_law.proofs.Sound.{Sound, agreed, owner_bytes, still_nothing}
+use Rattle.sharing_law.proofs.Turning.{IsAlike, bytes_alike, sound_alike}
+
+-- A page with a packet in it is the whole page.
+filled_size : (page bytes : List ℕ) (offset : ℕ) → length page ≤ length (with_bytes page offset bytes)
+filled_size page bytes offset =
+    omega (arith, length-append (take offset page ++ bytes) (drop (offset + length bytes) page), length-append (take offset page) bytes, length-take offset page, length-drop (offset + length bytes) page)
+
+filled_whole : (page : List ℕ) (buffer : Buffer) (packet : List ℕ) → with_bytes page 0 (with_packet page buffer packet) ≡ with_packet page buffer packet
+filled_whole page buffer packet =
+    let filled = with_packet page buffer packet in
+    let size : length page ≤ 0 + length filled = omega (arith, filled_size page (word_bytes (length packet) ++ packet) (buffer_offset buffer)) in
+    ap (λ (rest : List ℕ). filled ++ rest) (drop_all (0 + length filled) page size) ∙ append-nil filled
+
+-- the owner of a page sees its bytes
+owner_sees : (w : World) (o page : ℕ) → is_owned_by o (w.book.pages page) ≡ true → page_bytes w page ≡ bytes_seen ((w.solos o).seen page)
+owner_sees w o page owned = by_row (w.book.pages page) owned
+  where
+    by_row : (row : PageRow) → is_owned_by o row ≡ true → bytes_owned w page row ≡ bytes_seen ((w.solos o).seen page)
+    by_row Free is = cc
+    by_row (Guaranteed owner) is = cc
+    by_row (Owned owner words) is = ap (λ (n : ℕ). bytes_seen ((w.solos n).seen page)) (eqb-true owner o is)
+
+-- A packet is given to an environment for a claim whose ring a page is, which has these bytes then.
+pub record IsInRing (w : World) (items : ℕ → List Item) (o page : ℕ) (bytes : List ℕ) : Type 0 where
+  pub claim : ℕ
+  pub packet : List ℕ
+  pub given : items o ≡ Packet claim packet ∷ []
+  pub ring : Ring
+  pub stands : ring_of (w.solos o).rings claim ≡ Some ring
+  pub its : ring.page ≡ page
+  pub has : ring_after (w.solos o) ring packet ≡ Some bytes
+
+module _ (w : World) (c : ClaimValue) (packet : List ℕ) (sound : Sound w) (claimed : Claimed w) (goes : claim_of w.book packet ≡ Some c) where
+  abbrev s : Solo
+  s = w.solos c.env
+
+  -- the claim is one of a living environment's own, into a page of its own
+  good : IsGood w.book c
+  good = claimed.good.each c (found_there (is_for packet) w.book.claims c goes).1
+
+  lives : s.life ≡ Live
+  lives = by_life s.life refl
+    where
+      by_life : (life : Life) → s.life ≡ life → life ≡ Live
+      by_life Live is = refl
+      by_life (Dead cause) is = let never : false ≡ true = sym ((sound.none c.env cause is).owns c.page) ∙ good.owned in cc
+
+  record ItsRing : Type 0 where
+    ring : Ring
+    stands : ring_of s.rings c.id ≡ Some ring
+    page : ring.page ≡ c.page
+
+  its : ItsRing
+  its = by_ring (ring_of s.rings c.id) refl (
+      sym (find_map ring_page (λ (p : ClaimPage). p.claim == c.id) s.rings)
+      ∙ ap (find (λ (p : ClaimPage). p.claim == c.id)) (claimed.rings c.env)
+      ∙ find_map claim_page (λ (p : ClaimPage). p.claim == c.id) (filter (is_of_env c.env) w.book.claims)
+      ∙ ap (option_map claim_page) (still_found (is_numbered c.id) (is_of_env c.env) w.book.claims c (eq-eqb c.env c.env refl) good.only)
+      )
+    where
+      by_ring : (o : Option Ring) → ring_of s.rings c.id ≡ o → option_map ring_page o ≡ Some (claim_page c) → ItsRing
+      by_ring None stands is = cc
+      by_ring (Some r) stands is = let same : ring_page r ≡ claim_page c = cc in record { ring = r; stands = stands; page = ap (λ (p : ClaimPage). p.page) same }
+
+  abbrev once : Solo
+  once = counted post.Packets s
+
+  abbrev outcome : Option (List ℕ)
+  outcome = ring_after s its.ring packet
+
+  outcome_is : ring_bytes s (ring_of s.rings c.id) packet ≡ outcome
+  outcome_is = ap (λ (o : Option Ring). ring_bytes s o packet) its.stands
+
+  -- the world once it has come
+  abbrev now : World
+  now = after w (delivers c packet w)
+
+  abbrev others_get : Option (List ℕ) → ℕ → List Item
+  others_get bytes = ring_left w.book c.env c.page bytes
+
+  now_own : now.solos c.env ≡ put_in_ring its.ring outcome once
+  now_own =
+      ap (absorb_all s) (set_here c.env (Packet c.id packet ∷ []) (others_get (ring_bytes s (ring_of s.rings c.id) packet)))
+      ∙ absorbs s (Packet c.id packet) [] lives
+      ∙ ap (λ (o : Option Ring). received_in o packet once) its.stands
+
+  now_other : (i : ℕ) → i ≢ c.env → now.solos i ≡ absorb_all (w.solos i) (others_get outcome i)
+  now_other i ne =
+      ap (absorb_all (w.solos i)) (set_else c.env i (Packet c.id packet ∷ []) (others_get (ring_bytes s (ring_of s.rings c.id) packet)) ne)
+      ∙ ap (λ (bytes : Option (List ℕ)). absorb_all (w.solos i) (others_get bytes i)) outcome_is
+
+  -- The ring's buffer is full, and the packet is lost.
+  lost_alike : outcome ≡ None → IsAlike w now
+  lost_alike full = record {
+    solos = λ i. elim (cases_eq i c.env) [
+      | inl same ↦ subst (λ (n : ℕ). IsRested (w.solos n) (now.solos n)) (sym same) (subst (IsRested s) (sym (now_own ∙ ap (λ (bytes : Option (List ℕ)). put_in_ring its.ring bytes once) full)) (record { binds = refl; seen = refl; rings = refl; life = refl }))
+      | inr ne ↦ subst (IsRested (w.solos i)) (sym (now_other i ne ∙ ap (λ (bytes : Option (List ℕ)). absorb_all (w.solos i) (others_get bytes i)) full)) (rests_same (w.solos i))
+    ];
+    pages = refl;
+    binds = refl;
+    claims = refl;
+    next = refl;
+    count = refl;
+  }
+
+  -- Or it is there.
+  module _ (bytes : List ℕ) (filled : outcome ≡ Some bytes) where
+    abbrev holder : Solo
+    holder = put_in_ring its.ring (Some bytes) once
+
+    is_holder : now.solos c.env ≡ holder
+    is_holder = now_own ∙ ap (λ (o : Option (List ℕ)). put_in_ring its.ring o once) filled
+
+    is_other : (i : ℕ) → i ≢ c.env → now.solos i ≡ absorb_all (w.solos i) (others_get (Some bytes) i)
+    is_other i ne = now_other i ne ∙ ap (λ (o : Option (List ℕ)). absorb_all (w.solos i) (others_get o i)) filled
+
+    -- all bytes of the page are stored
+    all_stored : with_bytes (page_bytes w c.page) 0 bytes ≡ bytes
+    all_stored = by_full (is_full (bytes_seen (s.seen its.ring.page)) its.ring.next) filled
+      where
+        page_is : page_bytes w c.page ≡ bytes_seen (s.seen its.ring.page)
+        page_is = owner_sees w c.env c.page good.owned ∙ ap (λ (p : ℕ). bytes_seen (s.seen p)) (sym its.page)
+
+        by_full : (full : Bool) → (if full then None else Some (with_packet (bytes_seen (s.seen its.ring.page)) its.ring.next packet)) ≡ Some bytes → with_bytes (page_bytes w c.page) 0 bytes ≡ bytes
+        by_full true is = cc
+        by_full false is =
+            let same : with_packet (bytes_seen (s.seen its.ring.page)) its.ring.next packet ≡ bytes = cc in
+            ap (λ (page : List ℕ). with_bytes page 0 bytes) page_is
+            ∙ ap (with_bytes (bytes_seen (s.seen its.ring.page)) 0) (sym same)
+            ∙ filled_whole (bytes_seen (s.seen its.ring.page)) its.ring.next packet
+            ∙ same
+
+    abbrev bytes_now : ℕ → List ℕ
+    bytes_now = set_at c.page (with_bytes (page_bytes w c.page) 0 bytes) (page_bytes w)
+
+    own_sees : Sees c.env w.book.pages (w.book.binds c.env) bytes_now holder
+    own_sees =
+        as_before c.env w.book.pages (w.book.binds c.env) bytes_now (stored (page_store its.ring.page bytes) once) holder refl refl
+        (writer_sees c.env c.page (page_store its.ring.page bytes) w.book.pages (w.book.binds c.env) (page_bytes w) once
+        (as_before c.env w.book.pages (w.book.binds c.env) (page_bytes w) s once refl refl (sound.agreed c.env)) (ap Physical its.page))
+
+    other_sees : (i : ℕ) → i ≢ c.env → (life : Life) → (w.solos i).life ≡ life → Sees i w.book.pages (w.book.binds i) bytes_now (absorb_all (w.solos i) (others_get (Some bytes) i))
+    other_sees i ne Live is =
+        subst (λ (items : List Item). Sees i w.book.pages (w.book.binds i) bytes_now (absorb_all (w.solos i) items)) (ap (λ t. if t then [] else left_if (sees w.book i c.page) c.page (page_store c.page bytes)) (sym (ne_eqb i c.env ne)))
+        (readers_see i c.page (page_store c.page bytes) w.book (page_bytes w) (w.solos i) (sound.agreed i) is)
+    other_sees i ne (Dead cause) is =
+        let none = sound.none i cause is in
+        subst (λ (t : Solo). Sees i w.book.pages (w.book.binds i) bytes_now t) (sym (dead_absorbs (w.solos i) cause (others_get (Some bytes) i) is))
+        (still_nothing i w.book.pages w.book.pages (w.book.binds i) (w.book.binds i) (page_bytes w) bytes_now (w.solos i) none none (sound.agreed i))
+
+    all_see : (i : ℕ) → Sees i w.book.pages (w.book.binds i) bytes_now (now.solos i)
+    all_see i = elim (cases_eq i c.env) [
+      | inl same ↦ subst (λ (n : ℕ). Sees n w.book.pages (w.book.binds n) bytes_now (now.solos n)) (sym same) (subst (λ (t : Solo). Sees c.env w.book.pages (w.book.binds c.env) bytes_now t) (sym is_holder) own_sees)
+      | inr ne ↦ subst (λ (t : Solo). Sees i w.book.pages (w.book.binds i) bytes_now t) (sym (is_other i ne)) (other_sees i ne (w.solos i).life refl)
+    ]
+
+    all_live : (i : ℕ) → (now.solos i).life ≡ (w.solos i).life
+    all_live i = elim (cases_eq i c.env) [
+      | inl same ↦ subst (λ (n : ℕ). (now.solos n).life ≡ (w.solos n).life) (sym same) (ap (λ (t : Solo). t.life) is_holder)
+      | inr ne ↦ ap (λ (t : Solo). t.life) (is_other i ne) ∙ (told_leaves (others_get (Some bytes) i) (ring_told w c.env c.page (Some bytes) i) (w.solos i)).life
+    ]
+
+    filled_sound : AreBoundAllocated now → Sound now
+    filled_sound allocated = record {
+      agreed = agreed now bytes_now all_see allocated;
+      none = λ i cause died. sound.none i cause (sym (all_live i) ∙ died);
+      stripes = sound.stripes;
+      behind = sound.behind;
+    }
+
+    filled_claimed : Claimed now
+    filled_claimed = record {
+      rings = λ i. elim (cases_eq i c.env) [
+        | inl same ↦ subst (λ (n : ℕ). AreRings n w.book.claims (now.solos n).rings) (sym same) (ap (λ (t : Solo). map ring_page t.rings) is_holder ∙ rings_turned its.ring.claim s.rings ∙ claimed.rings c.env)
+        | inr ne ↦ ap (λ (t : Solo). map ring_page t.rings) (is_other i ne) ∙ ap (map ring_page) (ring_left_spares w.book c.env c.page (Some bytes) i (w.solos i)) ∙ claimed.rings i
+      ];
+      good = claimed.good;
+    }
+
+    -- the page has these bytes, and all others have those that they had
+    here : page_bytes now c.page ≡ bytes
+    here = owner_bytes now bytes_now all_see c.env c.page good.owned ∙ set_here c.page (with_bytes (page_bytes w c.page) 0 bytes) (page_bytes w) ∙ all_stored
+
+    in_ring : IsInRing w (delivers c packet w).items c.env c.page (page_bytes now c.page)
+    in_ring = record {
+      claim = c.id;
+      packet = packet;
+      given = set_here c.env (Packet c.id packet ∷ []) (others_get (ring_bytes s (ring_of s.rings c.id) packet));
+      ring = its.ring;
+      stands = its.stands;
+      its = its.page;
+      has = filled ∙ ap Some (sym here);
+    }
+
+    becomes : (o page : ℕ) → is_owned_by o (w.book.pages page) ≡ true → (page_bytes now page ≡ page_bytes w page) ⊎ IsInRing w (delivers c packet w).items o page (page_bytes now page)
+    becomes o page owns = elim (cases_eq page c.page) [
+      | inl same ↦
+          let its_owner : c.env ≡ o = owned_by c.env o (w.book.pages c.page) good.owned (ap (λ (p : ℕ). is_owned_by o (w.book.pages p)) (sym same) ∙ owns) in
+          inr (subst (λ (p : ℕ). IsInRing w (delivers c packet w).items o p (page_bytes now p)) (sym same) (subst (λ (n : ℕ). IsInRing w (delivers c packet w).items n c.page (page_bytes now c.page)) its_owner in_ring))
+      | inr ne ↦ inl (owner_bytes now bytes_now all_see o page owns ∙ set_else c.page page (with_bytes (page_bytes w c.page) 0 bytes) (page_bytes w) ne)
+    ]
+
+  -- either way
+  sound_by : AreBoundAllocated w → (o : Option (List ℕ)) → outcome ≡ o → Sound now × Claimed now
+  sound_by allocated None is = (sound_alike w now (lost_alike is) sound, claimed_alike w now (lost_alike is) claimed)
+  sound_by allocated (Some bytes) is = (filled_sound bytes is allocated, filled_claimed bytes is)
+
+  becomes_by : (o : Option (List ℕ)) → outcome ≡ o → (owner page : ℕ) → is_owned_by owner (w.book.pages page) ≡ true
+      → (page_bytes now page ≡ page_bytes w page) ⊎ IsInRing w (delivers c packet w).items owner page (page_bytes now page)
+  becomes_by None is owner page owns = inl (bytes_alike w now (lost_alike is) page)
+  becomes_by (Some bytes) is owner page owns = becomes bytes is owner page owns
+
+  pub delivered_sound : AreBoundAllocated w → Sound now × Claimed now
+  delivered_sound allocated = sound_by allocated outcome refl
+
+  pub delivered_bytes : (owner page : ℕ) → is_owned_by owner (w.book.pages page) ≡ true → (page_bytes now page ≡ page_bytes w page) ⊎ IsInRing w (delivers c packet w).items owner page (page_bytes now page)
+  delivered_bytes = becomes_by outcome refl
+
+  -- what is left of it to another are all bytes of the page
+  pub delivered_whole : (bytes : List ℕ) → ring_bytes s (ring_of s.rings c.id) packet ≡ Some bytes → IsInRing w (delivers c packet w).items c.env c.page (page_bytes now c.page) × (bytes ≡ page_bytes now c.page) × (is_owned_by c.env (w.book.pages c.page) ≡ true)
+  delivered_whole bytes filled = let is = sym outcome_is ∙ filled in (in_ring bytes is, sym (here bytes is), good.owned)
+
+-- A packet that comes, whether it is claimed or not.
+module _ (w : World) (packet : List ℕ) (sound : Sound w) (claimed : Claimed w) where
+  abbrev comes : Option ClaimValue → World
+  comes o = after w (arrives packet o w)
+
+  sound_of : AreBoundAllocated w → (o : Option ClaimValue) → claim_of w.book packet ≡ o → Sound (comes o) × Claimed (comes o)
+  sound_of allocated None goes = (sound_alike w (comes None) (dropped_alike packet w) sound, claimed_alike w (comes None) (dropped_alike packet w) claimed)
+  sound_of allocated (Some c) goes = delivered_sound w c packet sound claimed goes allocated
+
+  pub arrived_sound : AreBoundAllocated w → (let v = after w (happen (outside.Packet packet) w) in Sound v × Claimed v)
+  arrived_sound allocated = sound_of allocated (claim_of w.book packet) refl
+
+  bytes_of : (o : Option ClaimValue) → claim_of w.book packet ≡ o → (owner page : ℕ) → is_owned_by owner (w.book.pages page) ≡ true
+      → (page_bytes (comes o) page ≡ page_bytes w page) ⊎ IsInRing w (arrives packet o w).items owner page (page_bytes (comes o) page)
+  bytes_of None goes owner page owns = inl (bytes_alike w (comes None) (dropped_alike packet w) page)
+  bytes_of (Some c) goes owner page owns = delivered_bytes w c packet sound claimed goes owner page owns
+
+  pub arrived_bytes : (owner page : ℕ) → is_owned_by owner (w.book.pages page) ≡ true
+      → (let r = happen (outside.Packet packet) w in (page_bytes (after w r) page ≡ page_bytes w page) ⊎ IsInRing w r.items owner page (page_bytes (after w r) page))
+  arrived_bytes = bytes_of (claim_of w.book packet) refl
+
+-- so it is delivered in a phase
+pub delivered_in : (system : System) (t k page owner : ℕ) (r : Reply) → moment system t (suc k) ≡ after (moment system t k) r → given_at system t k owner ≡ r.items owner
+    → IsInRing (moment system t k) r.items owner page (page_bytes (after (moment system t k) r) page) → IsDelivered system t k page owner
+delivered_in system t k page owner r next given comes = record {
+  claim = comes.claim;
+  packet = comes.packet;
+  rest = [];
+  given = given ∙ comes.given;
+  ring = comes.ring;
+  stands = comes.stands;
+  its = comes.its;
+  has = comes.has ∙ ap (λ (v : World). Some (page_bytes v page)) (sym next);
+}

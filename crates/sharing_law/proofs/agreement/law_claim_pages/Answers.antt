@@ -1,0 +1,5 @@
+use Rattle.sharing_law.proofs.Agreeing.{claims_are_sound}
+use Rattle.sharing_law.proofs.agreement.law_claim_pages.Goals as goal
+
+pub returns : goal.returns
+returns c = claims_are_sound c.law_granted.ensures
