@@ -14,12 +14,12 @@ use Rattle.bind_book.proofs.Swept.{length-swept, swept_row}
 use Rattle.world_model.specs.declared.life.Cause.{Cause}
 use Rattle.board_world.specs.declared.roster.Environment.{Environment}
 use Rattle.board_world.specs.Shown.{Environments, changed, with_list}
-use Rattle.board_world.specs.Sound.{AreBooked, IsAlive, IsLive, IsOwned}
+use Rattle.board_world.specs.Sound.{AreBooked, IsLive, IsOwned}
 use Rattle.board_world.specs.Doing.{dead_frame}
-use Rattle.board_world.proofs.Lists.{changed_else, length-changed}
+use Rattle.board_world.proofs.Lists.{length-changed}
 use Rattle.board_world.proofs.Parted.{other_row}
 use Rattle.board_world.proofs.Seen.{row_within}
-use Rattle.board_world.proofs.Sound.{Keeps, kept_live}
+use Rattle.board_world.proofs.Sound.{Keeps, kept_live, others_live}
 use Rattle.board_world.proofs.Tables.{row_released}
 
 -- each environment of the board has a stripe
@@ -116,9 +116,6 @@ unbind_booked pages binds r e vpn false lives are = are
 
 -- an environment dies
 module _ (cause : Cause) (pages : List PageRow) (binds : List (Option Binding)) (r : Environments) (e : ℕ) (are : AreBooked pages binds r) where
-  others_live : (i : ℕ) → i ≢ e → IsLive r.list i → IsLive (changed (dead_frame cause) r.list e) i
-  others_live i other live = (omega (arith, live.0, length-changed (dead_frame cause) r.list e), subst IsAlive (sym (changed_else (dead_frame cause) r.list e i other)) live.1)
-
   -- what is left has an owner that isn't gone
   owner_left : (row : PageRow) (i : ℕ) → owner_of (released e row) ≡ Some i → (owner_of row ≡ Some i) × (i ≢ e)
   owner_left row i is = by_test (belongs_to e row) refl is
@@ -147,8 +144,8 @@ module _ (cause : Cause) (pages : List PageRow) (binds : List (Option Binding)) 
     striped = length-swept (goes_with (row_in pages) e) binds ∙ are.striped ∙ ap (λ n. (n + r.spare) * stripe_rows) (sym (length-changed (dead_frame cause) r.list e));
     owners = λ p i is.
         let left = owner_left (row_in pages p) i (ap owner_of (sym (row_released e pages p)) ∙ is) in
-        others_live i left.1 (are.owners p i left.0);
-    binders = λ i row x is. let was = still_bound i row x is in others_live i was.1.0 (are.binders i row x was.0);
+        others_live r.list cause e i left.1 (are.owners p i left.0);
+    binders = λ i row x is. let was = still_bound i row x is in others_live r.list cause e i was.1.0 (are.binders i row x was.0);
     bound = λ i row x is.
         let was = still_bound i row x is in
         subst IsOwned (sym (row_released e pages x.page)) (still_owned (row_in pages x.page) was.1.1 (are.bound i row x was.0));

@@ -4,6 +4,7 @@ use Rattle.std.specs.Prelude.{◌==◌, slice_get, All}
 use Rattle.std.specs.Option.{option_map}
 use Rattle.std.proofs.lemmas.List.{length-append, length-map, length-replicate}
 use Rattle.std.proofs.lemmas.Bool.{ne_eqb, eqb-true, eqb-false}
+use Rattle.external_event.specs.Limits.{lines as most_lines}
 use Rattle.kernel_journal.specs.Ledger.{Ledger}
 use Rattle.mips_exec.specs.declared.registers.Cpu.{Cpu}
 use Rattle.frame_store.specs.Pages.{page_at, zero_page, zeroed}
@@ -30,9 +31,10 @@ use Rattle.page_sight.specs.Sight.{seen_if}
 use Rattle.page_sight.proofs.Sights.{nothing_of}
 use Rattle.page_sight.proofs.Stripes.{bound_nowhere}
 use Rattle.board_world.specs.declared.roster.Environment.{Environment}
-use Rattle.board_world.specs.Shown.{Shown, Environments, mappings_of, shown}
+use Rattle.board_world.specs.Lines.{free_lines, line_at}
+use Rattle.board_world.specs.Shown.{Shown, Environments, mappings_of, no_output, shown}
 use Rattle.board_world.specs.Showing.{book_of, world_of, solo_of, solo_or_absent, cpu_seen, pages_seen, page_seen}
-use Rattle.board_world.specs.Sound.{AreBooked, AreGuaranteed, IsSound, IsManned, IsParted, IsLive, IsUndead}
+use Rattle.board_world.specs.Sound.{AreBooked, AreGuaranteed, AreWired, IsSound, IsManned, IsParted, IsLive, IsUndead}
 use Rattle.board_world.specs.Loading.{AreGiven, AreLeft}
 use Rattle.board_world.proofs.Giving.{none_guaranteed}
 use Rattle.board_world.proofs.Keeping.{IsGivenRow, given_row, taken_row}
@@ -41,6 +43,7 @@ use Rattle.board_world.proofs.Mappings.{last_mappings, more_mappings, other_mapp
 use Rattle.board_world.proofs.Parts.{worlds, by_env, only_here, only_else}
 use Rattle.board_world.proofs.Sound.{if_both}
 use Rattle.board_world.proofs.Seen.{like_solo, owned_taken, sights_of}
+use Rattle.board_world.proofs.Wired.{built_wired, line_free}
 
 -- the slots at boot: each owner is one of those that will be
 own_holds : (envs : ℕ) (owners : List (Option ℕ)) → All (λ owner. IfSome owner (λ e. e < envs)) owners → (k : ℕ) → IfSome (vector.hold_at (map (option_map own_hold) owners) k) (λ h. (h.owner < envs) × (h.holder < envs))
@@ -103,8 +106,8 @@ own_slots (Some e ∷ owners) zero = refl
 own_slots (o ∷ owners) (suc k) = own_slots owners k
 
 -- what a board without programs shows
-pub built_world : (pages envs quantum : ℕ) (owners : List (Option ℕ)) (b : Shown) → b.pages ≡ replicate pages Free → b.binds ≡ replicate (envs * stripe_rows) None → b.slots ≡ vector.first_slices quantum owners → b.roster.list ≡ [] → b.time ≡ 0 → b.ledger.rows ≡ own_rows owners (length owners) → world_of b ≡ bare_world pages quantum owners
-built_world pages envs quantum owners b free unbound slots none start rows =
+pub built_world : (pages envs quantum : ℕ) (owners : List (Option ℕ)) (b : Shown) → b.pages ≡ replicate pages Free → b.binds ≡ replicate (envs * stripe_rows) None → b.lines ≡ free_lines → b.slots ≡ vector.first_slices quantum owners → b.roster.list ≡ [] → b.time ≡ 0 → b.ledger.rows ≡ own_rows owners (length owners) → world_of b ≡ bare_world pages quantum owners
+built_world pages envs quantum owners b free unbound untaken slots none start rows =
     let count : length b.slots.slots ≡ length owners = ap (λ v. length v.slots) slots ∙ length-map owners (option_map own_hold) in
     let page_count : length b.pages ≡ pages = ap length free ∙ length-replicate pages Free in
     worlds (world_of b) (bare_world pages quantum owners)
@@ -119,6 +122,7 @@ built_world pages envs quantum owners b free unbound slots none start rows =
       pages = λ page. (ap (λ rows. row_in rows page) free ∙ all_free pages page) i;
       kept = λ e. ap (λ list. mappings_of list e) none i;
       binds = λ e row. (ap (λ rows. stripes rows e row) unbound ∙ empty_row (envs * stripe_rows) e row) i;
+      lines = λ line. (ap (λ taken. line_at taken line) untaken ∙ line_free most_lines line) i;
       time = start i;
     })
     (ap length none)
@@ -156,15 +160,22 @@ module _ (r : Environments) (x : Environment) (lives : x.life ≡ Live) (room : 
     owes = manned.owes;
   }
 
+  pub added_wired : (lines : List (Option ℕ)) → AreWired lines r.list → AreWired lines (r.list ++ x ∷ [])
+  added_wired lines wired = record {
+    count = wired.count;
+    owners = λ line. if_both (line_at lines line) (λ owner is live. still_live owner live) (wired.owners line);
+  }
+
 -- A board without programs is sound.
 pub built_sound : (pages quantum envs : ℕ) (owners : List (Option ℕ)) (cpu : Cpu) (ledger : Ledger) → pages ≤ most_pages → least_quantum ≤ quantum → length owners ≤ most_slots → envs ≤ most_environments
     → All (λ owner. IfSome owner (λ e. e < envs)) owners
-    → IsSound (shown (zeroed pages) (replicate pages Free) (replicate (envs * stripe_rows) None) (vector.first_slices quantum owners) cpu (record { list = []; spare = envs }) 0 ledger)
+    → IsSound (shown (zeroed pages) (replicate pages Free) (replicate (envs * stripe_rows) None) free_lines (vector.first_slices quantum owners) cpu (record { list = []; spare = envs }) 0 ledger)
 built_sound pages quantum envs owners cpu ledger few long slots most all = record {
   few = omega arith;
   book = built_manned quantum envs owners long slots all;
   memory = built_parted pages few;
   books = built_booked pages envs;
+  lines = built_wired;
 }
 
 -- Pages are given to the environment that is added.
@@ -238,10 +249,11 @@ added_sound b x count frames pages sound gives its lives room = record {
   book = added_manned b.roster x lives room b.slots sound.book;
   memory = added_parted b.roster x count b.pages pages b.frames frames b.binds gives sound.memory its;
   books = added_booked b.roster x count b.pages pages b.frames frames b.binds gives sound.books lives room;
+  lines = added_wired b.roster x lives room b.lines sound.lines;
 }
 
 module _ (b : Shown) (x : Environment) (frames : List (List ℕ)) (pages : List PageRow) (p : ProgramValue) (sound : IsSound b) (gives : AreGiven (length b.roster.list) (guaranteed_mappings p) b.pages pages b.frames frames)
-    (name : x.name ≡ p.name) (lives : x.life ≡ Live) (cpu : x.env.cpu ≡ boot_cpu p.body.entry) (handlers : x.env.handlers ≡ no_handlers) (mask : x.env.mask ≡ p.accept) (console : x.console ≡ []) (kept : pages_seen frames x.env.mappings ≡ kept_of p)
+    (name : x.name ≡ p.name) (lives : x.life ≡ Live) (cpu : x.env.cpu ≡ boot_cpu p.body.entry) (handlers : x.env.handlers ≡ no_handlers) (mask : x.env.mask ≡ p.accept) (output : x.output ≡ no_output) (kept : pages_seen frames x.env.mappings ≡ kept_of p)
     (maps : x.env.mappings ≡ mappings_over (length b.roster.list) (length b.pages) (row_in b.pages) (kept_of p)) where
   its_items : List Item
   its_items = record_items (length b.roster.list) (Some p)
@@ -326,7 +338,8 @@ module _ (b : Shown) (x : Environment) (frames : List (List ℕ)) (pages : List 
         kept = kept k;
         binds = λ row. unbound row k;
         seen = λ page. unseen page k;
-        console = console k;
+        console = (output k).console;
+        sent = (output k).sent;
       })
       ∙ ap (absorb_all (absent n)) (sym (only_here n (record_items n (Some p))))
       ∙ ap (λ s. absorb_all s (only n (record_items n (Some p)) n)) (sym (ap (solo_or_absent b n) (past_get b.roster.list)))

@@ -38,6 +38,7 @@ use Rattle.board_world.proofs.Parts.{by_env, set_here, set_else}
 use Rattle.board_world.proofs.Replying.{Serves}
 use Rattle.board_world.proofs.Seen.{Runs, runner_seen, stripe_of}
 use Rattle.board_world.proofs.Tables.{row_past, row_released}
+use Rattle.board_world.proofs.Wired.{line_freed}
 
 -- The slots once an environment is gone.
 pub hold_at-map : (e : ℕ) (slots : List (Option Hold)) (k : ℕ) → hold_at (map (released e) slots) k ≡ released e (hold_at slots k)
@@ -148,6 +149,7 @@ module _ (b : Shown) (e : ℕ) (x : Environment) (r : Runs b e x) (may : MayDie 
           pages = λ page. row_released e b.pages page k;
           kept = λ i. dead_mappings cause b.roster.list e i k;
           binds = λ i row. swept_stripe i row k;
+          lines = λ line. line_freed e b.lines line k;
           time = b.time;
         };
     count = length-changed (doing.dead_frame cause) b.roster.list e;

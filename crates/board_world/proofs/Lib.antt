@@ -7,7 +7,9 @@ pub mod Counting
 pub mod Dying
 pub mod GiftServing
 pub mod Giving
+pub mod Happening
 pub mod Keeping
+pub mod LineServing
 pub mod Lists
 pub mod Looks
 pub mod Losing
@@ -34,3 +36,4 @@ pub mod Tables
 pub mod TransferServing
 pub mod Turning
 pub mod Turns
+pub mod Wired

@@ -1,11 +1,12 @@
 -- What the runner does to itself alone, on the world that is shown.
-use Rattle.std.proofs.Common.{◌≡◌, ℕ, [], ◌++◌, refl, sym, ◌∙◌, ap, arith}
+use Rattle.std.proofs.Common.{◌≡◌, ℕ, [], ◌∷◌, ◌++◌, refl, sym, ◌∙◌, ap, arith}
 use Rattle.std.specs.Prelude.{unwrap_or}
 use Rattle.std.specs.Option.{option_map}
 use Rattle.world_model.specs.declared.call.Deed.TheVariants.{Own}
 use Rattle.world_model.specs.declared.call.OwnDeed.{OwnDeed}
-use Rattle.world_model.specs.declared.call.OwnDeed.TheVariants.{Puts, Handles, Accepts}
+use Rattle.world_model.specs.declared.call.OwnDeed.TheVariants.{Puts, Sends, Handles, Accepts}
 use Rattle.world_model.specs.declared.verdict.Verdict.TheVariants.{Grant}
+use Rattle.world_model.specs.Call.{good_range}
 use Rattle.world_model.specs.Item.{answered_cpu}
 use Rattle.world_model.specs.OwnCalls.{put_bytes}
 use Rattle.world_model.specs.Solo.{sight}
@@ -20,11 +21,12 @@ use Rattle.board_world.proofs.Mappings.{kept_mappings}
 use Rattle.board_world.proofs.Parts.{append_nothing, one_changed}
 use Rattle.board_world.proofs.Replying.{Serves, deeded, deeded_seen}
 use Rattle.board_world.proofs.Seen.{same_solo, Runs, runner_seen, runner_solo, its_look}
-use Rattle.board_world.proofs.Sound.{Keeps, keeps_accepting, keeps_handling, keeps_putting}
+use Rattle.board_world.proofs.Sound.{Keeps, keeps_accepting, keeps_handling, keeps_putting, keeps_sending}
 
 -- its life and its guaranteed mappings stay
 pub keeps_own : (b : Shown) (e : ℕ) (own : OwnDeed) → Keeps (doing.own_record b e own)
 keeps_own b e (Puts address size) = keeps_putting (unwrap_or (put_bytes (doing.look_of b e) address size) [])
+keeps_own b e (Sends address size) = keeps_sending (unwrap_or (good_range (doing.look_of b e) address size) [])
 keeps_own b e (Handles kind address) = keeps_handling kind address
 keeps_own b e (Accepts mask) = keeps_accepting mask
 
@@ -34,7 +36,8 @@ module _ (b : Shown) (e : ℕ) (x : Environment) (r : Runs b e x) (sound : IsSou
 
   -- what its record shows of each deed, once its call is answered
   shows : (own : OwnDeed) (v : ℕ) → runner_solo (doing.answered (doing.own_done b e own) (Grant v)) e (doing.own_record b e own x) ≡ deeded (Own own) v (runner_solo b e x)
-  shows (Puts address size) v = λ k. record (runner_solo b e x) { cpu = answered_cpu (Grant v) b.cpu; console = x.console ++ unwrap_or (put_bytes (looks k) address size) [] }
+  shows (Puts address size) v = λ k. record (runner_solo b e x) { cpu = answered_cpu (Grant v) b.cpu; console = x.output.console ++ unwrap_or (put_bytes (looks k) address size) [] }
+  shows (Sends address size) v = λ k. record (runner_solo b e x) { cpu = answered_cpu (Grant v) b.cpu; sent = x.output.sent ++ unwrap_or (good_range (looks k) address size) [] ∷ [] }
   shows (Handles kind address) v = refl
   shows (Accepts mask) v = refl
 

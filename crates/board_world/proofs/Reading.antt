@@ -8,7 +8,7 @@ use Rattle.world_model.specs.PageCalls.{is_guaranteed}
 use Rattle.world_model.specs.Queries.{life_at}
 use Rattle.world_model.specs.Solo.{Solo, kept_at, sight}
 use Rattle.board_world.specs.declared.roster.Environment.{Environment}
-use Rattle.board_world.specs.Shown.{Shown, console_in, console_of, mappings_of}
+use Rattle.board_world.specs.Shown.{Shown, console_in, console_of, mappings_of, sent_in, sent_of}
 use Rattle.board_world.specs.Showing.{page_seen, solo_of, solo_or_absent, world_of}
 use Rattle.board_world.specs.Sound.{IsSound}
 use Rattle.board_world.specs.Doing.{look_of}
@@ -27,6 +27,14 @@ pub console_same : (b : Shown) (e : ℕ) → console_of b.roster.list e ≡ (sol
 console_same b e = by_record (slice_get b.roster.list e)
   where
     by_record : (o : Option Environment) → console_in o ≡ (solo_or_absent b e o).console
+    by_record None = refl
+    by_record (Some x) = refl
+
+-- and what it sent
+pub sent_same : (b : Shown) (e : ℕ) → sent_of b.roster.list e ≡ (solo_of b e).sent
+sent_same b e = by_record (slice_get b.roster.list e)
+  where
+    by_record : (o : Option Environment) → sent_in o ≡ (solo_or_absent b e o).sent
     by_record None = refl
     by_record (Some x) = refl
 

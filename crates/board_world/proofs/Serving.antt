@@ -5,7 +5,7 @@ use Rattle.mips_exec.specs.Cpu.{reg}
 use Rattle.world_model.specs.declared.call.Call.{Call}
 use Rattle.world_model.specs.declared.code.Code.{Code}
 use Rattle.world_model.specs.declared.call.Deed.{Deed}
-use Rattle.world_model.specs.declared.call.Deed.TheVariants.{Answers, Own, Stops, Gives, Allocates, Frees, Recaps, Binds, Unbinds, Transfers, TakesSlot, DropsSlot}
+use Rattle.world_model.specs.declared.call.Deed.TheVariants.{Answers, Own, Stops, Gives, Allocates, Frees, Recaps, Binds, Unbinds, Transfers, TakesSlot, DropsSlot, TakesLine, DropsLine}
 use Rattle.world_model.specs.declared.life.Life.TheVariants.{Live}
 use Rattle.world_model.specs.declared.life.Cause.{Cause}
 use Rattle.world_model.specs.declared.life.Cause.TheVariants as cause
@@ -39,6 +39,7 @@ use Rattle.board_world.proofs.Replying.{alone, answers, deeded, granted_serves, 
 pub use Rattle.board_world.proofs.Replying.{Serves, told}
 pub use Rattle.board_world.proofs.Dying.{died_serves, hold_at-map}
 use Rattle.board_world.proofs.GiftServing.{gives, stops_itself}
+use Rattle.board_world.proofs.LineServing.{drops_line, takes_line}
 use Rattle.board_world.proofs.SlotServing.{drops, takes}
 use Rattle.board_world.proofs.TransferServing.{entered_room, transfers}
 
@@ -57,6 +58,8 @@ module _ (b : Shown) (e : ℕ) (x : Environment) (r : Runs b e x) (sound : IsSou
   does (Transfers target kind) v may = transfers b e x r sound target kind v may
   does (TakesSlot slot) v may = takes b e x r slot v may
   does (DropsSlot slot) v may = drops b e x r slot v may
+  does (TakesLine line) v may = takes_line b e x r sound line v may
+  does (DropsLine line) v may = drops_line b e x r sound line v may
 
   -- each verdict on a call
   judged : GrantedMay → (which : Verdict) → verdict (world_of b) e (called b.cpu) ≡ which → Serves b e (solo_of b e) (reply_of (world_of b) e which) (doing.served_by b e (called b.cpu) which)
@@ -132,6 +135,8 @@ deed_leaves b e v (Unbinds vpn) = record { room = omega arith; spare = refl; tim
 deed_leaves b e v (Transfers target kind) = record { room = entered_room b e target kind; spare = refl; time = refl }
 deed_leaves b e v (TakesSlot slot) = record { room = omega arith; spare = refl; time = refl }
 deed_leaves b e v (DropsSlot slot) = record { room = omega arith; spare = refl; time = refl }
+deed_leaves b e v (TakesLine line) = record { room = omega arith; spare = refl; time = refl }
+deed_leaves b e v (DropsLine line) = record { room = omega arith; spare = refl; time = refl }
 
 verdict_leaves : (b : Shown) (e : ℕ) (c : Option Call) (which : Verdict) → Leaves b (doing.served_by b e c which)
 verdict_leaves b e c (Refuse why v) = record { room = omega arith; spare = refl; time = refl }

@@ -1,5 +1,5 @@
 -- The slots of a board go on being sound.
-use Rattle.std.proofs.Common.{◌≡◌, ◌≢◌, ℕ, zero, suc, ◌+◌, ◌-◌, ◌%◌, ◌<◌, ◌≤◌, List, [], ◌∷◌, length, map, Bool, true, false, Option, Some, None, IfSome, refl, ◌∙◌, ap, subst, arith}
+use Rattle.std.proofs.Common.{◌≡◌, ◌≢◌, ℕ, zero, suc, ◌+◌, ◌-◌, ◌%◌, ◌<◌, ◌≤◌, List, [], ◌∷◌, length, map, Bool, true, false, Option, Some, None, IfSome, refl, sym, ◌∙◌, ap, subst, arith}
 use Rattle.std.specs.Option.{option_map}
 use Rattle.std.specs.Prelude.{◌==◌, ◌-◌, ◌||◌, if◌then◌else◌, nat_lt, All, slice_get, slice_index_or, slice_set}
 use Rattle.std.proofs.Common.{length-set}
@@ -27,7 +27,7 @@ use Rattle.world_model.specs.declared.life.Cause.{Cause}
 use Rattle.board_world.specs.declared.roster.Environment.{Environment}
 use Rattle.board_world.specs.Shown.{Environments, changed, with_list}
 use Rattle.board_world.specs.Sound.{HasNoPart, IsAlive, IsLive, IsUndead, IsManned}
-use Rattle.board_world.specs.Doing.{accepting, putting, settled, with_registers, handling, dead_frame}
+use Rattle.board_world.specs.Doing.{accepting, putting, sending, settled, with_registers, handling, dead_frame}
 use Rattle.board_world.proofs.Lists.{changed_else, length-changed}
 use Rattle.board_world.proofs.Seen.{runner_live}
 
@@ -79,7 +79,7 @@ run_manned v r t manned lives = record {
 }
 
 -- what holds of an element that was written, and of the others, holds of all
-set_all : {A : Type 0} (P : A → Type 0) (xs : List A) (k i : ℕ) (x d : A) → P x → P (slice_index_or xs i d) → P (slice_index_or (slice_set xs k x) i d)
+pub set_all : {A : Type 0} (P : A → Type 0) (xs : List A) (k i : ℕ) (x d : A) → P x → P (slice_index_or xs i d) → P (slice_index_or (slice_set xs k x) i d)
 set_all P [] k i x d new old = old
 set_all P (y ∷ xs) zero zero x d new old = new
 set_all P (y ∷ xs) zero (suc i) x d new old = old
@@ -124,6 +124,10 @@ module _ (r : Environments) (f : Environment → Environment) (e : ℕ) where
   changed_undead : (i : ℕ) → i ≢ e → IsUndead r i → IsUndead (with_list r (changed f r.list e)) i
   changed_undead i ne undead = (omega (arith, undead.0, length-changed f r.list e), rw (changed_else f r.list e i ne) undead.1)
 
+-- the others live on where one dies
+pub others_live : (list : List Environment) (cause : Cause) (e i : ℕ) → i ≢ e → IsLive list i → IsLive (changed (dead_frame cause) list e) i
+others_live list cause e i other live = (omega (arith, live.0, length-changed (dead_frame cause) list e), subst IsAlive (sym (changed_else (dead_frame cause) list e i other)) live.1)
+
 -- what changes neither an environment's life nor its pages
 pub record Keeps (f : Environment → Environment) : Type 0 where
   pub life : (x : Environment) → (f x).life ≡ x.life
@@ -140,6 +144,9 @@ keeps_accepting mask = record { life = λ x. refl; mappings = λ x. refl }
 
 pub keeps_putting : (bytes : List ℕ) → Keeps (putting bytes)
 keeps_putting bytes = record { life = λ x. refl; mappings = λ x. refl }
+
+pub keeps_sending : (bytes : List ℕ) → Keeps (sending bytes)
+keeps_sending bytes = record { life = λ x. refl; mappings = λ x. refl }
 
 pub if_both : {A : Type 0} {P Q : A → Type 0} (x : Option A) → ((a : A) → x ≡ Some a → P a → Q a) → IfSome x P → IfSome x Q
 if_both None f holds = holds
@@ -257,7 +264,7 @@ module _ (v : Slices) (r : Environments) (e : ℕ) (cause : Cause) (none : HasNo
 
   still_live : (o : Option Runner) → is_runner e o ≡ false → IfSome o (λ x. IsLive r.list x.env) → IfSome o (λ x. IsLive (changed (dead_frame cause) r.list e) x.env)
   still_live None apart live = tt
-  still_live (Some x) apart live = (omega (arith, live.0, length-changed (dead_frame cause) r.list e), rw (changed_else (dead_frame cause) r.list e x.env (eqb-false x.env e apart)) live.1)
+  still_live (Some x) apart live = others_live r.list cause e x.env (eqb-false x.env e apart) live
 
   pub burial_manned : IsManned v r → IsManned v (with_list r (changed (dead_frame cause) r.list e))
   burial_manned manned = record {

@@ -1,5 +1,7 @@
 -- What the parts of a board's tick do to what it shows.
 use Rattle.std.specs.Prelude.{ℕ, zero, suc, ◌+◌, ◌-◌, ◌/◌, ◌%◌, Bool, true, false, not, fold, List, [], ◌∷◌, ◌++◌, length, map, ◌==◌, if◌then◌else◌, Option, Some, None, unwrap_or, slice_set}
+use Rattle.external_event.specs.declared.event.Occurrence.{Occurrence}
+use Rattle.external_event.specs.declared.event.Occurrence.TheVariants as outside
 use Rattle.kernel_journal.specs.Ledger.{Ledger, with_row}
 use Rattle.kernel_journal.specs.declared.row.Row.{Row}
 use Rattle.kernel_journal.specs.declared.row.Row.TheVariants as row
@@ -13,6 +15,7 @@ use Rattle.env_frames.specs.declared.transfer.TransferKind.{TransferKind}
 use Rattle.env_frames.specs.declared.transfer.TransferKind.TheVariants as kind
 use Rattle.env_frames.specs.Transfer.{carried, entered_cpu, entry_area, entry_bytes, entry_context, hands_slot}
 use Rattle.env_frames.specs.Context.{context_number, end_area, end_bytes, handler_of, raised_cpu, resumed_cpu, start_area, start_bytes, started_cpu, with_handler}
+use Rattle.env_frames.specs.Post.{signalled_in}
 use Rattle.env_frames.specs.Frame.{gone_env, left_in, page_of, raised_in}
 use Rattle.frame_store.specs.Pages.{with_page, zero_page}
 use Rattle.page_book.specs.declared.row.PageRow.{PageRow}
@@ -38,23 +41,41 @@ use Rattle.world_model.specs.declared.life.Cause.{Cause}
 use Rattle.world_model.specs.declared.life.Cause.TheVariants as cause
 use Rattle.world_model.specs.Page.{Mapped}
 use Rattle.world_model.specs.declared.call.Deed.{Deed}
-use Rattle.world_model.specs.declared.call.Deed.TheVariants.{Answers, Own, Stops, Gives, Allocates, Frees, Recaps, Binds, Unbinds, Transfers, TakesSlot, DropsSlot}
+use Rattle.world_model.specs.declared.call.Deed.TheVariants.{Answers, Own, Stops, Gives, Allocates, Frees, Recaps, Binds, Unbinds, Transfers, TakesSlot, DropsSlot, TakesLine, DropsLine}
 use Rattle.world_model.specs.declared.verdict.Verdict.{Verdict}
 use Rattle.world_model.specs.declared.verdict.Verdict.TheVariants.{Refuse, Grant}
 use Rattle.world_model.specs.declared.call.OwnDeed.{OwnDeed}
-use Rattle.world_model.specs.declared.call.OwnDeed.TheVariants.{Puts, Handles, Accepts}
+use Rattle.world_model.specs.declared.call.OwnDeed.TheVariants.{Puts, Sends, Handles, Accepts}
 use Rattle.world_model.specs.Item.{answered_cpu}
 use Rattle.world_model.specs.OwnCalls.{put_bytes}
-use Rattle.world_model.specs.Call.{deed_of}
+use Rattle.world_model.specs.Call.{deed_of, good_range}
 use Rattle.std.specs.Option.{option_map}
 use Rattle.world_model.specs.Death.{released_rows}
 use Rattle.world_model.specs.Verdict.{verdict}
 use Rattle.world_model.specs.Book.{Told, own_hold}
+use Rattle.world_model.specs.LineCalls.{line_without}
 use Rattle.world_model.specs.SlotCalls.{dropped, held_by, slot_row}
 use Rattle.world_model.specs.Call.{called, exit_number}
 use Rattle.board_world.specs.declared.roster.Environment.{Environment}
+use Rattle.board_world.specs.Lines.{line_at}
 use Rattle.board_world.specs.Shown.{Shown, mappings_of, handlers_of, registers_of, changed, with_list}
 use Rattle.board_world.specs.Showing.{world_of}
+
+-- What happens from outside. A packet that nobody claims is dropped, and the ledger tells its length.
+abbrev pub dropped_packet : Shown → List ℕ → Shown
+dropped_packet b packet = record b { ledger = with_row b.ledger (row.Unclaimed b.time (length packet)) }
+
+-- A signal on a line that is an environment's sets the line's bit in its context page.
+abbrev pub signalled_to : Shown → ℕ → Option ℕ → Shown
+signalled_to b line None = b
+signalled_to b line (Some owner) = record b { frames = signalled_in line (page_of (mappings_of b.roster.list owner) context_number) b.frames }
+
+abbrev pub signalled : Shown → ℕ → Shown
+signalled b line = signalled_to b line (line_at b.lines line)
+
+abbrev pub happened : Occurrence → Shown → Shown
+happened (outside.Packet packet) b = dropped_packet b packet
+happened (outside.Line line) b = signalled b line
 
 -- The start of an environment's slice: the registers with which it starts, and physical memory with what its handler of starts finds.
 abbrev pub start_registers : List Environment → ℕ → Cpu
@@ -132,7 +153,11 @@ accepting mask x = record x { env = record x.env { mask = mask } }
 
 -- an environment that wrote these bytes more to its console
 abbrev pub putting : List ℕ → Environment → Environment
-putting bytes x = record x { console = x.console ++ bytes }
+putting bytes x = record x { output = record x.output { console = x.output.console ++ bytes } }
+
+-- an environment that sent a packet of these bytes more
+abbrev pub sending : List ℕ → Environment → Environment
+sending bytes x = record x { output = record x.output { sent = x.output.sent ++ bytes ∷ [] } }
 
 -- an environment after its death
 abbrev pub dead_frame : Cause → Environment → Environment
@@ -159,11 +184,12 @@ ledger_released t e v ledger = with_rows (with_row ledger (row.Dead t v.cursor e
 abbrev pub slots_released : Shown → ℕ → Shown
 slots_released b e = record b { slots = without_env e b.slots; ledger = ledger_released b.time e b.slots b.ledger }
 
--- Its pages are free, neither its bindings nor those of its pages are left, and its registers and mappings go.
+-- Its pages are free, neither its bindings nor those of its pages are left, its lines are nobody's, and its registers and mappings go.
 abbrev pub buried : Shown → ℕ → Cause → Shown
 buried b e cause = record b {
   pages = map (released e) b.pages;
   binds = swept (goes_with (row_in b.pages) e) b.binds;
+  lines = map (line_without e) b.lines;
   roster = with_list b.roster (changed (dead_frame cause) b.roster.list e);
 }
 
@@ -189,6 +215,7 @@ answered b verdict = record b { cpu = answered_cpu verdict b.cpu }
 -- What the runner does to itself alone: its record, once this is done
 abbrev pub own_record : Shown → ℕ → OwnDeed → Environment → Environment
 own_record b e (Puts address size) = putting (unwrap_or (put_bytes (look_of b e) address size) [])
+own_record b e (Sends address size) = sending (unwrap_or (good_range (look_of b e) address size) [])
 own_record b e (Handles kind address) = handling kind address
 own_record b e (Accepts mask) = accepting mask
 
@@ -241,6 +268,10 @@ transferred b e value target kind = entered (handed_on b e target kind) e value 
 abbrev pub with_slot : Shown → ℕ → Option Hold → Shown
 with_slot b k hold = record b { slots = with_hold b.slots k hold; ledger = with_row b.ledger (slot_row b.time k hold) }
 
+-- An interrupt line has another owner, or none.
+abbrev pub with_line : Shown → ℕ → Option ℕ → Shown
+with_line b line owner = record b { lines = slice_set b.lines line owner }
+
 -- The runner's exception goes to its handler, which stands at this address.
 abbrev pub raised : Shown → ℕ → ℕ → Exc → Shown
 raised b e handler exc = record b {
@@ -285,6 +316,8 @@ granted b e value (Unbinds vpn) = answered (with_unbound b e vpn) (Grant value)
 granted b e value (Transfers target kind) = transferred b e value target kind
 granted b e value (TakesSlot slot) = answered (with_slot b slot (Some (own_hold e))) (Grant value)
 granted b e value (DropsSlot slot) = answered (with_slot b slot (dropped e (hold_at b.slots.slots slot))) (Grant value)
+granted b e value (TakesLine line) = answered (with_line b line (Some e)) (Grant value)
+granted b e value (DropsLine line) = answered (with_line b line None) (Grant value)
 
 -- a call of the runner on which this is the verdict
 abbrev pub served_by : Shown → ℕ → Option Call → Verdict → Shown

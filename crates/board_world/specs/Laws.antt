@@ -1,5 +1,6 @@
 -- What the parts of a board's tick do is what the model says.
 use Rattle.std.specs.Prelude.{◌≡◌, ℕ, Some}
+use Rattle.external_event.specs.declared.event.Occurrence.{Occurrence}
 use Rattle.slot_vector.specs.Slices.{is_idle}
 use Rattle.world_model.specs.declared.code.Code.{Code}
 use Rattle.world_model.specs.declared.life.Cause.{Cause}
@@ -7,14 +8,18 @@ use Rattle.world_model.specs.Book.{is_idle_book, running}
 use Rattle.world_model.specs.declared.verdict.Verdict.TheVariants.{Refuse}
 use Rattle.world_model.specs.Verdict.{verdict_now}
 use Rattle.world_model.specs.World.{after}
+use Rattle.world_model.specs.Event.{happen}
 use Rattle.world_model.specs.Tick as tick
 use Rattle.board_world.specs.Shown.{Shown}
 use Rattle.board_world.specs.Showing.{book_of, world_of}
 use Rattle.board_world.specs.Sound.{IsSound}
-use Rattle.board_world.specs.Doing.{turned, step_seen, came_to, counted, called_by, died}
+use Rattle.board_world.specs.Doing.{happened, turned, step_seen, came_to, counted, called_by, died}
 
 abbrev pub IdleIsIdle : Type 0
 IdleIsIdle = (b : Shown) → is_idle b.slots ≡ is_idle_book (book_of b)
+
+abbrev pub EventIsEvent : Type 0
+EventIsEvent = (b : Shown) (what : Occurrence) → IsSound b → world_of (happened what b) ≡ after (world_of b) (happen what (world_of b))
 
 -- a turn that is taken where all environments are there
 abbrev pub TurnIsTurn : Type 0

@@ -12,6 +12,7 @@ use Rattle.world_model.specs.Solo.{Solo, absent}
 use Rattle.world_model.specs.World.{World}
 use Rattle.page_sight.specs.Sight.{seen_in}
 use Rattle.board_world.specs.declared.roster.Environment.{Environment}
+use Rattle.board_world.specs.Lines.{line_at}
 use Rattle.board_world.specs.Shown.{Shown, mappings_of}
 
 -- a mapping with the bytes of its page
@@ -36,7 +37,8 @@ solo_seen b e x = record {
   kept = pages_seen b.frames x.env.mappings;
   binds = stripes b.binds e;
   seen = seen_in e (row_in b.pages) (stripes b.binds e) (page_at b.frames);
-  console = x.console;
+  console = x.output.console;
+  sent = x.output.sent;
 }
 
 abbrev pub solo_or_absent : Shown → ℕ → Option Environment → Solo
@@ -59,6 +61,7 @@ book_of b = record {
   pages = row_in b.pages;
   kept = mappings_of b.roster.list;
   binds = stripes b.binds;
+  lines = line_at b.lines;
   time = b.time;
 }
 

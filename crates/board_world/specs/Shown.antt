@@ -9,6 +9,7 @@ use Rattle.slot_vector.specs.Slices.{Slices}
 use Rattle.env_frames.specs.declared.context.Handlers.{Handlers}
 use Rattle.env_frames.specs.declared.mapping.Mapping.{Mapping}
 use Rattle.env_frames.specs.Context.{no_handlers}
+use Rattle.board_world.specs.declared.output.Output.{Output}
 use Rattle.board_world.specs.declared.roster.Environment.{Environment}
 
 -- the environments so far, and how many more there is room for
@@ -16,12 +17,13 @@ pub record Environments : Type 0 where
   pub list : List Environment
   pub spare : ℕ
 
--- The pages of physical memory; whose each of them is; the rows of all stripes of bindings; the vector of slots;
--- the registers of the machine; the environments; the time; and the ledger.
+-- The pages of physical memory; whose each of them is; the rows of all stripes of bindings; whose the interrupt lines
+-- are; the vector of slots; the registers of the machine; the environments; the time; and the ledger.
 pub record Shown : Type 0 where
   pub frames : List (List ℕ)
   pub pages : List PageRow
   pub binds : List (Option Binding)
+  pub lines : List (Option ℕ)
   pub slots : Slices
   pub cpu : Cpu
   pub roster : Environments
@@ -29,8 +31,8 @@ pub record Shown : Type 0 where
   pub ledger : Ledger
 
 -- a board of these parts
-abbrev pub shown : List (List ℕ) → List PageRow → List (Option Binding) → Slices → Cpu → Environments → ℕ → Ledger → Shown
-shown frames pages binds slots cpu roster time ledger = record { frames = frames; pages = pages; binds = binds; slots = slots; cpu = cpu; roster = roster; time = time; ledger = ledger }
+abbrev pub shown : List (List ℕ) → List PageRow → List (Option Binding) → List (Option ℕ) → Slices → Cpu → Environments → ℕ → Ledger → Shown
+shown frames pages binds lines slots cpu roster time ledger = record { frames = frames; pages = pages; binds = binds; lines = lines; slots = slots; cpu = cpu; roster = roster; time = time; ledger = ledger }
 
 abbrev pub mappings_in : Option Environment → List Mapping
 mappings_in None = []
@@ -64,13 +66,25 @@ mask_in (Some x) = x.env.mask
 abbrev pub mask_of : List Environment → ℕ → ℕ
 mask_of list e = mask_in (slice_get list e)
 
+-- nothing is put out yet
+abbrev pub no_output : Output
+no_output = record { console = []; sent = [] }
+
 abbrev pub console_in : Option Environment → List ℕ
 console_in None = []
-console_in (Some x) = x.console
+console_in (Some x) = x.output.console
 
 -- what an environment wrote to its console
 abbrev pub console_of : List Environment → ℕ → List ℕ
 console_of list e = console_in (slice_get list e)
+
+abbrev pub sent_in : Option Environment → List (List ℕ)
+sent_in None = []
+sent_in (Some x) = x.output.sent
+
+-- the packets that an environment sent
+abbrev pub sent_of : List Environment → ℕ → List (List ℕ)
+sent_of list e = sent_in (slice_get list e)
 
 -- a list with the element at one place changed
 abbrev pub changed : {A : Type 0} → (A → A) → List A → ℕ → List A

@@ -1,6 +1,7 @@
 -- What holds of every board.
 use Rattle.std.specs.Prelude.{◌≡◌, ◌≤◌, ◌<◌, ◌+◌, ◌*◌, ℕ, false, List, length, Option, Some, None, IfSome, slice_get}
 use Rattle.aegis_limits.specs.Limits.{most_environments, most_slots}
+use Rattle.external_event.specs.Limits.{lines as most_lines}
 use Rattle.frame_store.specs.Pages.{most_frames}
 use Rattle.page_book.specs.declared.row.PageRow.{PageRow}
 use Rattle.page_book.specs.declared.row.PageRow.TheVariants.{Free, Guaranteed, Owned}
@@ -14,6 +15,7 @@ use Rattle.slot_vector.specs.Slices.{Slices, HasTicks, excess_of, hold_at, most_
 use Rattle.world_model.specs.Book.{excess_limit, has_part, is_runner}
 use Rattle.world_model.specs.declared.life.Life.TheVariants.{Live}
 use Rattle.board_world.specs.declared.roster.Environment.{Environment}
+use Rattle.board_world.specs.Lines.{line_at}
 use Rattle.board_world.specs.Shown.{Shown, Environments, mappings_of}
 
 abbrev pub IsAlive : Option Environment → Type 0
@@ -62,6 +64,11 @@ pub record IsManned (v : Slices) (r : Environments) : Type 0 where
   pub numbered : length v.excess ≡ most_numbers
   pub owes : (e : ℕ) → excess_of v.excess e ≤ excess_limit
 
+-- The interrupt lines: each has an owner that lives, or none.
+pub record AreWired (lines : List (Option ℕ)) (list : List Environment) : Type 0 where
+  pub count : length lines ≡ most_lines
+  pub owners : (line : ℕ) → IfSome (line_at lines line) (IsLive list)
+
 -- no slot is an environment's, and it doesn't run
 pub record HasNoPart (e : ℕ) (v : Slices) : Type 0 where
   pub runs : is_runner e v.runner ≡ false
@@ -73,3 +80,4 @@ pub record IsSound (b : Shown) : Type 0 where
   pub book : IsManned b.slots b.roster
   pub memory : IsParted b.frames b.pages b.roster.list
   pub books : AreBooked b.pages b.binds b.roster
+  pub lines : AreWired b.lines b.roster.list

@@ -1,11 +1,16 @@
 //! The laws of what a board shows: each part of a tick is that part of the model's.
-ghost use Rattle.board_world.specs.Laws.{CallIsCall, DeathIsDeath, IdleIsIdle, RefusalIsRefusal, StepIsStep, TimerIsTimer, TurnIsTurn};
+ghost use Rattle.board_world.specs.Laws.{CallIsCall, DeathIsDeath, EventIsEvent, IdleIsIdle, RefusalIsRefusal, StepIsStep, TimerIsTimer, TurnIsTurn};
 
 use call_verdicts::law_granted;
 
 /// A board is idle exactly where its world is.
 pub fn law_idle()
     ensures { IdleIsIdle }
+{}
+
+/// What happens from outside is the model's.
+pub fn law_happen()
+    ensures { EventIsEvent }
 {}
 
 /// The turn of a sound board is the model's.

@@ -5,8 +5,16 @@
 
 mod console;
 mod laws;
+mod lines;
+mod output;
 mod roster;
+mod sent;
 
 pub use console::Console;
-pub use laws::{law_call, law_death, law_idle, law_refusal, law_step, law_timer, law_turn};
+pub use laws::{
+    law_call, law_death, law_happen, law_idle, law_refusal, law_step, law_timer, law_turn,
+};
+pub use lines::Lines;
+pub use output::Output;
 pub use roster::{Environment, Roster};
+pub use sent::Sent;

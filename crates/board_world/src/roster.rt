@@ -1,15 +1,18 @@
 //! The environments of a board.
 ghost use Rattle.std.specs.Prelude.{◌≡◌, ◌≢◌, ◌<◌, ◌≤◌, ◌+◌, ◌-◌, [], ◌∷◌, ◌++◌, length, replicate, slice_get, Some, IfOk, IfSome};
 ghost use Rattle.aegis_limits.specs.Limits.{console_size};
+ghost use Rattle.external_event.specs.Limits.{most_packet_size, most_sent};
 ghost use Rattle.env_frames.specs.Context.{context_number, handler_of};
 ghost use Rattle.env_frames.specs.Frame.{left_in, page_of};
 ghost use Rattle.env_frames.specs.Transfer.{carried, entered_cpu, entry_area, entry_bytes, entry_context};
 ghost use Rattle.std.specs.Option.{option_map};
-ghost use Rattle.board_world.specs.Shown.{changed, console_of, handlers_of, mappings_of, mask_of, registers_of, with_list};
-ghost use Rattle.board_world.specs.Doing.{with_registers, accepting, handling, dead_frame, putting};
+ghost use Rattle.board_world.specs.Shown.{changed, console_of, handlers_of, mappings_of, mask_of, no_output, registers_of, sent_of, with_list};
+ghost use Rattle.board_world.specs.Doing.{with_registers, accepting, handling, dead_frame, putting, sending};
 ghost use Rattle.world_model.specs.declared.life.Life.TheVariants.{Live};
 
 use crate::console::Console;
+use crate::output::Output;
+use crate::sent::Sent;
 use aegis_limits::OutOfMemory;
 use env_frames::{Context, Env, TransferKind};
 use frame_store::Frames;
@@ -18,7 +21,7 @@ use std::alloc::Global;
 use std::marker::Model;
 use world_model::{Cause, Life};
 
-/// An environment: its name, whether it lives, its frame, and its console.
+/// An environment: its name, whether it lives, its frame, and what it puts out.
 #[derive(Drop)]
 pub struct Environment {
     /// One to eight characters, then zeros.
@@ -26,27 +29,27 @@ pub struct Environment {
     pub life: Life,
     /// Its registers while it doesn't run, its handlers, and its guaranteed mappings.
     pub env: Env,
-    /// What it wrote, which stays when it dies.
-    pub console: Console,
+    /// What it wrote and sent, which stays when it dies.
+    pub output: Output,
 }
 
-/// The environments by number, and consoles for those that will come. The memory for all is taken when the roster is
+/// The environments by number, and empty outputs for those that will come. The memory for all is taken when the roster is
 /// made.
 #[derive(Drop)]
 pub struct Roster {
     list: Vec<Environment>,
-    spare: Vec<Console>,
+    spare: Vec<Output>,
 }
 
 impl Model for Roster {
-    ghost use Rattle.std.specs.Prelude.{◌≡◌, ◌+◌, ◌≤◌, [], All, vec_len, vec_capacity};
-    ghost use Rattle.board_world.specs.Shown.{Environments};
+    ghost use Rattle.std.specs.Prelude.{◌≡◌, ◌+◌, ◌≤◌, All, vec_len, vec_capacity};
+    ghost use Rattle.board_world.specs.Shown.{Environments, no_output};
 
     ghost Value = { Environments };
 
     ghost view = { λ r. record { list = r.list.items; spare = vec_len r.spare } };
 
-    ghost invariant = { λ r. (vec_len r.list + vec_len r.spare ≤ vec_capacity r.list) × All (λ console. console ≡ []) r.spare.items };
+    ghost invariant = { λ r. (vec_len r.list + vec_len r.spare ≤ vec_capacity r.list) × All (λ output. output ≡ no_output) r.spare.items };
 }
 
 impl Roster {
@@ -55,7 +58,7 @@ impl Roster {
         ensures { IfOk result (λ r. r ≡ record { list = []; spare = envs }) }
     {
         let list = Vec::with_capacity(alloc, usize::from(envs))?;
-        let spare = empty_consoles(alloc, envs)?;
+        let spare = empty_outputs(alloc, envs)?;
         Ok(Roster { list, spare })
     }
 
@@ -93,19 +96,19 @@ impl Roster {
         Some(environment.life)
     }
 
-    /// Adds the next environment, for which there must be room: it lives, has this name and this frame, and wrote
+    /// Adds the next environment, for which there must be room: it lives, has this name and this frame, and put out
     /// nothing.
     pub fn push(&mut self, name: [u8; 8], env: Env)
         requires { 0 < self.old.spare }
-        ensures { self.new ≡ record { list = self.old.list ++ record { name = name; life = Live; env = env; console = [] } ∷ []; spare = self.old.spare - 1 } }
+        ensures { self.new ≡ record { list = self.old.list ++ record { name = name; life = Live; env = env; output = no_output } ∷ []; spare = self.old.spare - 1 } }
     {
-        let console = self.spare.pop().unwrap();
+        let output = self.spare.pop().unwrap();
         self.list
             .push(Environment {
                 name,
                 life: Life::Live,
                 env,
-                console,
+                output,
             })
             .unwrap();
     }
@@ -115,7 +118,7 @@ impl Roster {
         requires { env < length self.now.list }
         ensures { result.now ≡ console_of self.now.list env }
     {
-        &self.at(env).console
+        &self.at(env).output.console
     }
 
     /// Appends bytes to the console of the environment of this number, which must have room for them.
@@ -125,6 +128,24 @@ impl Roster {
         ensures { self.new ≡ with_list self.old (changed (putting bytes.now) self.old.list env) }
     {
         put_in(&mut self.list, usize::from(env), bytes);
+    }
+
+    /// The packets that the environment of this number sent.
+    pub fn sent(&self, env: u8) -> &Sent
+        requires { env < length self.now.list }
+        ensures { result.now ≡ sent_of self.now.list env }
+    {
+        &self.at(env).output.sent
+    }
+
+    /// Appends a packet of these bytes to those that the environment of this number sent, which must have room for it.
+    pub fn send(&mut self, env: u8, bytes: &[u8])
+        requires there { env < length self.old.list }
+        requires size { length bytes.now ≤ most_packet_size }
+        requires room { length (sent_of self.old.list env) < most_sent }
+        ensures { self.new ≡ with_list self.old (changed (sending bytes.now) self.old.list env) }
+    {
+        send_in(&mut self.list, usize::from(env), bytes);
     }
 
     /// Keeps the registers of the environment of this number.
@@ -181,15 +202,15 @@ impl Roster {
     }
 }
 
-/// So many empty consoles.
-fn empty_consoles(alloc: Global, count: u8) -> Result<Vec<Console>, OutOfMemory>
-    ensures { IfOk result (λ consoles. consoles.items ≡ replicate count []) }
+/// So many empty outputs.
+fn empty_outputs(alloc: Global, count: u8) -> Result<Vec<Output>, OutOfMemory>
+    ensures { IfOk result (λ outputs. outputs.items ≡ replicate count no_output) }
 {
-    let mut consoles = Vec::with_capacity(alloc, usize::from(count))?;
+    let mut outputs = Vec::with_capacity(alloc, usize::from(count))?;
     for _ in 0..count {
-        consoles.push(Console::new(alloc)?)?;
+        outputs.push(Output::new(alloc)?)?;
     }
-    Ok(consoles)
+    Ok(outputs)
 }
 
 /// Appends bytes to the console of the environment at a place.
@@ -199,7 +220,18 @@ fn put_in(list: &mut [Environment], place: usize, bytes: &[u8])
     ensures { list.new ≡ changed (putting bytes.now) list.old place }
 {
     let environment = &mut list[place];
-    environment.console.put(bytes);
+    environment.output.console.put(bytes);
+}
+
+/// Appends a packet to those that the environment at a place sent.
+fn send_in(list: &mut [Environment], place: usize, bytes: &[u8])
+    requires there { place < length list.old }
+    requires size { length bytes.now ≤ most_packet_size }
+    requires room { length (sent_of list.old place) < most_sent }
+    ensures { list.new ≡ changed (sending bytes.now) list.old place }
+{
+    let environment = &mut list[place];
+    environment.output.sent.send(bytes);
 }
 
 /// Keeps the registers of the environment at a place.

@@ -2,5 +2,5 @@ mod Around
 mod Mask
 mod Numbered
 pub mod Owed
-mod Release
+pub mod Release
 pub mod Whole

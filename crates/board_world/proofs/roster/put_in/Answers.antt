@@ -15,5 +15,5 @@ put-requires c =
 pub returns : goal.returns
 returns c =
     let x = slice_index_or c.args.list.now c.args.place c.index-list-place.result in
-    ap (λ (bytes : List ℕ). slice_set c.args.list.now c.args.place (record x { console = bytes })) c.put.ensures
+    ap (λ (bytes : List ℕ). slice_set c.args.list.now c.args.place (record x { output = record x.output { console = bytes } })) c.put.ensures
     ∙ changed_set (putting c.args.bytes.now) c.args.list.now c.args.place c.index-list-place.result c.requires.there

@@ -1,0 +1,94 @@
+//! The packets that an environment sends.
+ghost use Rattle.std.specs.Prelude.{◌≡◌, ◌<◌, ◌≤◌, [], ◌∷◌, ◌++◌, length, slice_get, IfOk};
+ghost use Rattle.std.specs.Option.{option_map};
+ghost use Rattle.external_event.specs.Limits.{most_packet_size, most_sent};
+
+use aegis_limits::OutOfMemory;
+use arrayvec::ArrayVec;
+use external_event::{MOST_PACKET_SIZE, MOST_SENT};
+use std::alloc::Global;
+use std::marker::Model;
+
+/// A packet that was sent, of at most 1,514 bytes.
+#[derive(Drop)]
+struct SentPacket {
+    bytes: ArrayVec<u8, MOST_PACKET_SIZE>,
+}
+
+impl Model for SentPacket {
+    ghost use Rattle.std.specs.Prelude.{ℕ, List};
+
+    ghost Value = { List ℕ };
+
+    ghost view = { λ p. p.bytes.items };
+}
+
+impl SentPacket {
+    /// A packet of these bytes, which are copied.
+    fn new(bytes: &[u8]) -> SentPacket
+        requires { length bytes.now ≤ most_packet_size }
+        ensures { result ≡ bytes.now }
+    {
+        let mut copy = ArrayVec::new();
+        copy.try_extend_from_slice(bytes).unwrap();
+        SentPacket { bytes: copy }
+    }
+
+    /// Its bytes.
+    fn bytes(&self) -> &[u8]
+        ensures { result.now ≡ self.now }
+    {
+        self.bytes.as_slice()
+    }
+}
+
+/// What an environment sent, packet by packet. The memory for all that it may send is taken when it is made.
+#[derive(Drop)]
+pub struct Sent {
+    packets: Vec<SentPacket>,
+}
+
+impl Model for Sent {
+    ghost use Rattle.std.specs.Prelude.{ℕ, ◌≤◌, List, vec_len, vec_capacity};
+    ghost use Rattle.external_event.specs.Limits.{most_sent};
+
+    ghost Value = { List (List ℕ) };
+
+    ghost view = { λ s. s.packets.items };
+
+    ghost invariant = { λ s. (most_sent ≤ vec_capacity s.packets) × (vec_len s.packets ≤ most_sent) };
+}
+
+impl Sent {
+    /// No packet yet.
+    pub fn new(alloc: Global) -> Result<Sent, OutOfMemory>
+        ensures { IfOk result (λ s. s ≡ []) }
+    {
+        let packets = Vec::with_capacity(alloc, MOST_SENT)?;
+        Ok(Sent { packets })
+    }
+
+    /// How many packets it holds.
+    pub fn len(&self) -> usize
+        ensures { result ≡ length self.now }
+    {
+        self.packets.len()
+    }
+
+    /// The packet of this place, in the order of sending; none past the last.
+    pub fn packet(&self, place: usize) -> Option<&[u8]>
+        ensures { option_map (λ r. r.now) result ≡ slice_get self.now place }
+    {
+        let packet = self.packets.get(place)?;
+        Some(packet.bytes())
+    }
+
+    /// Appends a packet of these bytes, for which there must be room.
+    pub fn send(&mut self, bytes: &[u8])
+        requires size { length bytes.now ≤ most_packet_size }
+        requires room { length self.old < most_sent }
+        ensures { self.new ≡ self.old ++ bytes.now ∷ [] }
+    {
+        self.packets.push(SentPacket::new(bytes)).unwrap();
+    }
+}
