@@ -1,7 +1,7 @@
 //! The board and what it shows.
 
 use bind_book::Bindings;
-use board_world::Roster;
+use board_world::{Lines, Roster};
 use frame_store::Frames;
 use kernel_journal::Journal;
 use mips_exec::Cpu;
@@ -15,6 +15,7 @@ pub struct Board {
     pub(crate) frames: Frames,
     pub(crate) pages: Pages,
     pub(crate) bindings: Bindings,
+    pub(crate) lines: Lines,
     pub(crate) slots: Slots,
     pub(crate) cpu: Cpu,
     pub(crate) roster: Roster,
@@ -28,7 +29,7 @@ impl Model for Board {
 
     ghost Value = { Shown };
 
-    ghost view = { λ b. shown b.frames b.pages b.bindings b.slots b.cpu b.roster b.time b.journal };
+    ghost view = { λ b. shown b.frames b.pages b.bindings b.lines b.slots b.cpu b.roster b.time b.journal };
 
-    ghost invariant = { λ b. IsSound (shown b.frames b.pages b.bindings b.slots b.cpu b.roster b.time b.journal) };
+    ghost invariant = { λ b. IsSound (shown b.frames b.pages b.bindings b.lines b.slots b.cpu b.roster b.time b.journal) };
 }

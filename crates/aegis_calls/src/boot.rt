@@ -15,7 +15,7 @@ ghost use Rattle.board_world.specs.Doing.{with_rows};
 use crate::board::Board;
 use aegis_limits::OutOfMemory;
 use bind_book::Bindings;
-use board_world::Roster;
+use board_world::{Lines, Roster};
 use boot_image::Program;
 use boot_pages::load;
 use frame_store::Frames;
@@ -107,6 +107,7 @@ impl Board {
             frames,
             pages,
             bindings,
+            lines: Lines::new(),
             slots: Slots::new(quantum, slots),
             cpu: Cpu::blank(),
             roster,

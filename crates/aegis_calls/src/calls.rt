@@ -67,6 +67,8 @@ impl Board {
             Deed::Unbinds(vpn) => self.unbind(env, vpn),
             Deed::TakesSlot(slot) => self.take_slot(env, slot),
             Deed::DropsSlot(slot) => self.drop_slot(env, slot),
+            Deed::TakesLine(line) => self.take_line(env, line),
+            Deed::DropsLine(line) => self.drop_line(env, line),
         }
     }
 

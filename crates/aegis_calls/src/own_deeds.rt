@@ -1,15 +1,17 @@
-//! What granted calls do to their caller's own part: its console, handlers and mask; and its bindings.
+//! What granted calls do to their caller's own part: its console, sent packets, handlers and mask; and its bindings.
 ghost use Rattle.std.specs.Prelude.{◌≡◌, ◌<◌, ◌≤◌, ◌+◌, Some, is_some, length, true};
 ghost use Rattle.aegis_limits.specs.Limits.{console_size, vpn_end};
+ghost use Rattle.external_event.specs.Limits.{most_packet_size, most_sent};
 ghost use Rattle.page_book.specs.Rows.{row_in};
-ghost use Rattle.world_model.specs.declared.call.OwnDeed.TheVariants.{Puts, Handles, Accepts};
+ghost use Rattle.world_model.specs.declared.call.OwnDeed.TheVariants.{Puts, Sends, Handles, Accepts};
 ghost use Rattle.world_model.specs.Book.{running};
 ghost use Rattle.std.specs.Option.{option_map};
 ghost use Rattle.guest_memory.specs.Look.{look};
 ghost use Rattle.guest_memory.specs.Space.{lookup};
+ghost use Rattle.world_model.specs.Call.{good_range};
 ghost use Rattle.world_model.specs.OwnCalls.{MayOwn, put_bytes as bytes_to_put};
 ghost use Rattle.board_world.specs.Doing.{look_of};
-ghost use Rattle.board_world.specs.Shown.{console_of};
+ghost use Rattle.board_world.specs.Shown.{console_of, sent_of};
 ghost use Rattle.board_world.specs.Sound.{IsOwned};
 
 use crate::board::Board;
@@ -49,6 +51,23 @@ impl Board {
         self.roster.put(env, bytes);
     }
 
+    /// Sends bytes of the runner's memory, so many from an address on, as a packet.
+    fn send(&mut self, env: u8, address: u32, size: u32)
+        requires runs { running self.old.slots.runner ≡ Some env }
+        requires good { is_some (good_range (look_of self.old env) address size) ≡ true }
+        requires most { size ≤ most_packet_size }
+        requires room { length (sent_of self.old.roster.list env) < most_sent }
+        ensures { self.new ≡ own_done self.old env (Sends address size) }
+    {
+        let space = Space {
+            env: self.roster.frame(env),
+            bindings: &self.bindings,
+            number: env,
+        };
+        let bytes = guest_range(&self.frames, &space, address, size).unwrap();
+        self.roster.send(env, bytes);
+    }
+
     /// The runner's handler of a context stands at an address from now on; 0 is none.
     fn handle(&mut self, env: u8, context: Context, address: u32)
         requires { running self.old.slots.runner ≡ Some env }
@@ -75,6 +94,7 @@ impl Board {
         let _ = &self.time;
         match own {
             OwnDeed::Puts { address, size } => self.put(env, address, size),
+            OwnDeed::Sends { address, size } => self.send(env, address, size),
             OwnDeed::Handles { context, address } => self.handle(env, context, address),
             OwnDeed::Accepts(mask) => self.accept(env, mask),
         }

@@ -1,19 +1,22 @@
 //! The parts of a tick, kernel calls and deaths, on the world that the board shows.
-ghost use Rattle.std.specs.Prelude.{◌≡◌, ◌+◌, ◌<◌, ◌≤◌, IsSome, Some, false};
+ghost use Rattle.std.specs.Prelude.{◌≡◌, ◌+◌, ◌<◌, ◌≤◌, IsSome, Some, false, true};
 ghost use Rattle.aegis_limits.specs.Limits.{most_ticks};
+ghost use Rattle.external_event.specs.EventValue.{is_occurrence};
 ghost use Rattle.world_model.specs.Book.{is_idle_book, running};
+ghost use Rattle.world_model.specs.Event.{happen as event_phase};
 ghost use Rattle.world_model.specs.World.{after};
 ghost use Rattle.world_model.specs.Tick.{turn as turn_phase, step as step_phase, timer as timer_phase, died, IsCalled, IsRefused};
 
 use crate::board::Board;
-use board_world::{law_call, law_refusal, law_step};
+use board_world::{law_call, law_happen, law_refusal, law_step};
+use external_event::Occurrence;
 use world_model::{Cause, WorldView};
 
 /// Rows enough for a turn, which writes a start, and a forfeit for each quantum that the environments owe: 32 of them
 /// at most eight each.
 pub const TURN_ROWS: usize = 512;
 
-/// The most rows that a step, or the timer, may write.
+/// The most rows that an event, a step, or the timer, may write.
 pub const STEP_ROWS: usize = 256;
 
 /// The most rows that a kernel call, or a death, may write.
@@ -27,6 +30,24 @@ impl Board {
         ensures { result ≡ is_idle_book (world_of self.now).book }
     {
         self.slots.idle()
+    }
+
+    /// What happens from outside, before the turn of its tick: a packet that nobody claims is dropped, and a signal on
+    /// an interrupt line sets the line's bit in the context page of its owner, if it has one.
+    pub fn happen(&mut self, what: &Occurrence)
+        requires event { is_occurrence what.now ≡ true }
+        requires room { STEP_ROWS ≤ self.old.ledger.spare }
+        ensures world { world_of self.new ≡ after (world_of self.old) (event_phase what.now (world_of self.old)) }
+        ensures time { self.new.time ≡ self.old.time }
+        ensures whole { self.new.roster.spare ≡ self.old.roster.spare }
+        ensures room { self.old.ledger.spare ≤ self.new.ledger.spare + STEP_ROWS }
+    {
+        let _ = &self.time;
+        law_happen();
+        match what {
+            Occurrence::Packet(packet) => self.drop_packet(packet),
+            Occurrence::Line(line) => self.signal(*line),
+        }
     }
 
     /// The next turn, where nobody runs: slots are forfeited whose holders owe, until one starts that owes nothing;

@@ -124,6 +124,14 @@ impl WorldView for Board {
         self.roster.console(env).bytes()
     }
 
+    fn sent_count(&self, env: u8) -> usize {
+        self.roster.sent(env).len()
+    }
+
+    fn sent_packet(&self, env: u8, place: usize) -> Option<&[u8]> {
+        self.roster.sent(env).packet(place)
+    }
+
     fn kept_count(&self, env: u8) -> usize {
         self.roster.frame(env).mappings().len()
     }

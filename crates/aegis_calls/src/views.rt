@@ -22,6 +22,10 @@ impl CallView for Board {
         self.roster.console(env).len()
     }
 
+    fn count_sent(&self, env: u8) -> usize {
+        self.roster.sent(env).len()
+    }
+
     fn range(&self, env: u8, address: u32, size: u32) -> Option<&[u8]> {
         let space = Space {
             env: self.roster.frame(env),
@@ -56,6 +60,10 @@ impl CallView for Board {
             Ok(()) => None,
             Err(why) => Some(why),
         }
+    }
+
+    fn line_owner(&self, line: u8) -> Option<u8> {
+        self.lines.owner(line)
     }
 
     fn life_at(&self, number: u32) -> Option<Life> {

@@ -6,7 +6,7 @@ use Rattle.run_model.specs.Boot.{added, kept_of}
 use Rattle.board_world.specs.declared.roster.Environment.{Environment}
 use Rattle.board_world.specs.Loading.{AreGiven, with_mapped}
 use Rattle.board_world.specs.Sound.{AreGuaranteed}
-use Rattle.board_world.specs.Shown.{Shown, shown}
+use Rattle.board_world.specs.Shown.{Shown, no_output, shown}
 use Rattle.board_world.specs.Showing.{world_of}
 use Rattle.board_world.proofs.Building.{added_sound, added_world}
 use Rattle.aegis_calls.proofs.board.Board.add.Goals as goal
@@ -14,8 +14,8 @@ use Rattle.aegis_calls.proofs.board.Board.add.Goals as goal
 pub invariant_of-self : goal.invariant_of-self
 invariant_of-self c =
     let i = c.self.inside in
-    let b = shown i.frames i.pages i.bindings i.slots i.cpu i.roster i.time i.journal in
-    let x : Environment = record { name = c.program.inside.name; life = Live; env = c.load-env.result; console = [] } in
+    let b = shown i.frames i.pages i.bindings i.lines i.slots i.cpu i.roster i.time i.journal in
+    let x : Environment = record { name = c.program.inside.name; life = Live; env = c.load-env.result; output = no_output } in
     let room : 0 < b.roster.spare = omega (arith, c.requires.room, ap (λ (s : Shown). s.roster.spare) c.self.view_is) in
     let pages = c.load-env.new.pages in
     let frames = c.load-env.new.frames in
@@ -28,8 +28,8 @@ pub returns-clause-world : goal.returns-clause-world
 returns-clause-world c =
     let p = c.args.program.now in
     let i = c.self.inside in
-    let b = shown i.frames i.pages i.bindings i.slots i.cpu i.roster i.time i.journal in
-    let x : Environment = record { name = c.program.inside.name; life = Live; env = c.load-env.result; console = [] } in
+    let b = shown i.frames i.pages i.bindings i.lines i.slots i.cpu i.roster i.time i.journal in
+    let x : Environment = record { name = c.program.inside.name; life = Live; env = c.load-env.result; output = no_output } in
     let pages = c.load-env.new.pages in
     let frames = c.load-env.new.frames in
     let loaded = c.load-env.ensures in
