@@ -1,17 +1,15 @@
 //! What granted calls do to their caller's own part: its console, sent packets, handlers and mask; and its bindings.
 ghost use Rattle.std.specs.Prelude.{◌≡◌, ◌<◌, ◌≤◌, ◌+◌, Some, is_some, length, true};
 ghost use Rattle.aegis_limits.specs.Limits.{console_size, vpn_end};
-ghost use Rattle.external_event.specs.Limits.{most_packet_size, most_sent};
 ghost use Rattle.page_book.specs.Rows.{row_in};
 ghost use Rattle.world_model.specs.declared.call.OwnDeed.TheVariants.{Puts, Sends, Handles, Accepts};
 ghost use Rattle.world_model.specs.Book.{running};
 ghost use Rattle.std.specs.Option.{option_map};
 ghost use Rattle.guest_memory.specs.Look.{look};
 ghost use Rattle.guest_memory.specs.Space.{lookup};
-ghost use Rattle.world_model.specs.Call.{good_range};
-ghost use Rattle.world_model.specs.OwnCalls.{MayOwn, put_bytes as bytes_to_put};
+ghost use Rattle.world_model.specs.OwnCalls.{MayOwn, MaySend, put_bytes as bytes_to_put};
 ghost use Rattle.board_world.specs.Doing.{look_of};
-ghost use Rattle.board_world.specs.Shown.{console_of, sent_of};
+ghost use Rattle.board_world.specs.Shown.{console_of};
 ghost use Rattle.board_world.specs.Sound.{IsOwned};
 
 use crate::board::Board;
@@ -54,9 +52,7 @@ impl Board {
     /// Sends bytes of the runner's memory, so many from an address on, as a packet.
     fn send(&mut self, env: u8, address: u32, size: u32)
         requires runs { running self.old.slots.runner ≡ Some env }
-        requires good { is_some (good_range (look_of self.old env) address size) ≡ true }
-        requires most { size ≤ most_packet_size }
-        requires room { length (sent_of self.old.roster.list env) < most_sent }
+        requires may { MaySend (solo_of self.old env) address size }
         ensures { self.new ≡ own_done self.old env (Sends address size) }
     {
         let space = Space {

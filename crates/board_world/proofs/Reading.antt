@@ -42,7 +42,7 @@ sent_same b e = by_record (slice_get b.roster.list e)
 pub runner_registers : (b : Shown) (e : ℕ) → IsSound b → running b.slots.runner ≡ Some e → b.cpu ≡ (solo_of b e).cpu
 runner_registers b e sound runs = let x = runner_runs b e sound runs in ap (λ (s : Solo). s.cpu) (sym (runner_seen b e x.0 x.1))
 
-is_some_mapped : {A B : Type 0} (f : A → B) (o : Option A) → is_some o ≡ is_some (option_map f o)
+pub is_some_mapped : {A B : Type 0} (f : A → B) (o : Option A) → is_some o ≡ is_some (option_map f o)
 is_some_mapped f None = refl
 is_some_mapped f (Some x) = refl
 
