@@ -3,8 +3,6 @@ use Rattle.std.specs.Prelude.{ℕ, List, codes}
 use Rattle.elf_static.specs.ElfNames.{elf_why_text}
 use Rattle.boot_image.specs.declared.fault.ImageWhy.{ImageWhy}
 use Rattle.boot_image.specs.declared.fault.ImageWhy.TheVariants.{Short, Magic, Pages, Quantum, Envs, Slots, SlotOwner, Name, Kind, Stack, Base, Empty, Elf, Trailing, TooMany, TooBig}
-use Rattle.boot_image.specs.declared.fault.TextWhy.{TextWhy}
-use Rattle.boot_image.specs.declared.fault.TextWhy.TheVariants as text
 
 -- the printed name of a cause of an image
 abbrev pub image_why_text : ImageWhy → List ℕ
@@ -24,7 +22,3 @@ image_why_text (Elf why) = elf_why_text why
 image_why_text Trailing = codes "Trailing"
 image_why_text TooMany = codes "TooMany"
 image_why_text TooBig = codes "TooBig"
-
--- the printed name of a cause of a text
-abbrev pub text_why_text : TextWhy → List ℕ
-text_why_text text.NotBuilt = codes "NotBuilt"

@@ -1,6 +1,6 @@
 //! Why a file is refused, and where.
 ghost use Rattle.std.specs.Prelude.{◌≡◌, ◌<◌, ◌^◌};
-ghost use Rattle.boot_image.specs.Names.{image_why_text, text_why_text};
+ghost use Rattle.boot_image.specs.Names.{image_why_text};
 
 use elf_static::ElfWhy;
 
@@ -52,22 +52,6 @@ pub struct ImageFault {
     pub why: ImageWhy,
 }
 
-/// Which rule of a text is broken.
-#[derive(Clone, Copy)]
-pub enum TextWhy {
-    /// The line asks for what this stage doesn't have.
-    NotBuilt,
-}
-
-/// The first broken rule of a text, and its line.
-#[derive(Clone, Copy)]
-pub struct TextFault {
-    /// The line's number, counted from 1.
-    pub line: u32,
-    /// The rule.
-    pub why: TextWhy,
-}
-
 impl ImageFault {
     /// The fault of this rule at this place.
     pub(crate) fn at(why: ImageWhy, place: usize) -> ImageFault
@@ -103,17 +87,6 @@ impl ImageWhy {
             ImageWhy::Trailing => "Trailing",
             ImageWhy::TooMany => "TooMany",
             ImageWhy::TooBig => "TooBig",
-        }
-    }
-}
-
-impl TextWhy {
-    /// The name that is printed.
-    pub fn name(&self) -> &'static str
-        ensures { result.now ≡ text_why_text self.now }
-    {
-        match self {
-            TextWhy::NotBuilt => "NotBuilt",
         }
     }
 }
