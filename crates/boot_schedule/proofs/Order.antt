@@ -4,10 +4,11 @@ use Rattle.std.proofs.lemmas.Bool.{and_from, cases_lt, le-leb, le-ltb, lt-leb, l
 use Rattle.std.specs.Option.{option_map, option_or}
 use Rattle.line_text.specs.Lines.{LineValue, lines_of}
 use Rattle.external_event.specs.EventValue.{EventValue}
+use Rattle.external_event.specs.Order.{are_in_order}
 use Rattle.boot_schedule.specs.declared.fault.ScheduleWhy.{ScheduleWhy}
 use Rattle.boot_schedule.specs.Forms.{statements_of}
 use Rattle.boot_schedule.specs.Saying.{Saying, Happens, Asks, said}
-use Rattle.boot_schedule.specs.Schedule.{are_in_order, events_said, fault_of, lines_fault, most_events, schedule_fault, events_of}
+use Rattle.boot_schedule.specs.Schedule.{events_said, fault_of, lines_fault, most_events, schedule_fault, events_of}
 
 -- a line without a fault is an event, not before the last, and one that there is room for
 pub record IsNext (before others : ℕ) (result : Result Saying ScheduleWhy) : Type 0 where

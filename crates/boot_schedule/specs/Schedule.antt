@@ -1,5 +1,5 @@
 -- The first fault of a schedule, and its events if it has none.
-use Rattle.std.specs.Prelude.{◌≡◌, ◌&&◌, ℕ, suc, Bool, true, List, [], ◌∷◌, Option, Some, None, Result, Ok, Err, nat_lt, nat_le, if◌then◌else◌}
+use Rattle.std.specs.Prelude.{◌≡◌, ℕ, suc, List, [], ◌∷◌, Option, Some, None, Result, Ok, Err, nat_lt, nat_le, if◌then◌else◌}
 use Rattle.std.specs.List.{filter_map}
 use Rattle.std.specs.Option.{option_map, option_map_or, option_or}
 use Rattle.line_text.specs.Lines.{LineValue, lines_of}
@@ -66,11 +66,6 @@ schedule_fault text = lines_fault 0 0 (statements_of (lines_of text))
 -- The events of a schedule, in their order. It is meant where schedule_fault finds nothing.
 unfoldable pub events_of : List ℕ → List EventValue
 events_of text = events_said (statements_of (lines_of text))
-
--- whether times don't fall from one event to the next, from this time on
-abbrev pub are_in_order : ℕ → List EventValue → Bool
-are_in_order before [] = true
-are_in_order before (event ∷ events) = nat_le before event.time && are_in_order event.time events
 
 -- an answer that there is no schedule is this fault, unless memory ran out
 abbrev pub IsFirst : Option ScheduleFault → ScheduleFault → Type 0

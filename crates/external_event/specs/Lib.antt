@@ -1,3 +1,4 @@
 pub mod EventValue
 pub mod Limits
+pub mod Order
 pub mod Packet
