@@ -1,4 +1,4 @@
 pub mod Registers
-pub mod Pages
+pub mod Places
 pub mod Inserting
 pub mod Lines

@@ -164,8 +164,20 @@ abbrev pub if_live : Life → List ℕ → List ℕ
 if_live Live text = text
 if_live (Dead cause) text = []
 
+-- bytes in hexadecimal digits, two for each
+abbrev pub bytes_text : List ℕ → List ℕ
+bytes_text bytes = flat_map (hex_text 2) bytes
+
+-- a packet that an environment sent: its length, and its bytes
+unfoldable pub sent_line : ℕ → List ℕ → List ℕ
+sent_line e packet = line (codes "sent" ∷ dec_text e ∷ dec_text (length packet) ∷ bytes_text packet ∷ [])
+
+abbrev pub sent_lines : ℕ → List (List ℕ) → List ℕ
+sent_lines e sent = flat_map (sent_line e) sent
+
+-- what is shown of an environment
 unfoldable pub env_text : World → ℕ → List ℕ
-env_text w e = env_line e (w.solos e) ++ out_line e (w.solos e) ++ if_live (w.solos e).life (living_lines w e)
+env_text w e = env_line e (w.solos e) ++ out_line e (w.solos e) ++ if_live (w.solos e).life (living_lines w e) ++ sent_lines e (w.solos e).sent
 
 -- A row of the ledger: the time, and the row's numbers in their order.
 abbrev pub row_line : Row → List ℕ

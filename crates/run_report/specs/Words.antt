@@ -3,8 +3,8 @@ use Rattle.std.specs.Prelude.{ℕ, List, [], ◌∷◌, ◌++◌, Option, Some, 
 use Rattle.std.specs.List.{flat_map}
 use Rattle.line_text.specs.Text.{dec_text, hex_text}
 use Rattle.run_report.specs.declared.words.Word.{Word}
-use Rattle.run_report.specs.declared.words.Word.TheVariants.{Text, Number, Dash, PageNumber, Register, Flag, Quotation}
-use Rattle.run_report.specs.Report.{flag_text, or_dash, quotation, spaced, word_text}
+use Rattle.run_report.specs.declared.words.Word.TheVariants.{Text, Number, Dash, PageNumber, Register, Flag, Quotation, Bytes}
+use Rattle.run_report.specs.Report.{bytes_text, flag_text, or_dash, quotation, spaced, word_text}
 
 -- how a word reads
 abbrev pub text_of : Word → List ℕ
@@ -15,6 +15,7 @@ text_of (PageNumber n) = hex_text 5 n
 text_of (Register n) = word_text n
 text_of (Flag flag) = flag_text flag
 text_of (Quotation bytes) = quotation bytes.now
+text_of (Bytes bytes) = bytes_text bytes.now
 
 -- a number as a word, or a dash
 abbrev pub number_word : Option ℕ → Word

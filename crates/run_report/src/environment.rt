@@ -2,11 +2,12 @@
 ghost use Rattle.std.specs.Prelude.{◌≡◌, ◌++◌, ◌∷◌, ◌<◌, ◌==◌, codes, OnOk, IfOk, position};
 ghost use Rattle.line_text.specs.Text.{dec_text};
 ghost use Rattle.boot_image.specs.ImageValue.{name_text};
-ghost use Rattle.run_report.specs.Report.{line, life_words, exception_text, env_line, out_line, excess_line, living_lines, env_text};
+ghost use Rattle.run_report.specs.Report.{line, life_words, exception_text, env_line, out_line, excess_line, living_lines, if_live, env_text};
 
 use crate::binding::push_bind_lines;
 use crate::page::{push_keep_lines, push_page_lines};
 use crate::processor::{push_cpu_line, push_regs_line, shown_cpu};
+use crate::sending::push_sent_lines;
 use crate::words::{Word, env, number, push_line};
 use aegis_limits::OutOfMemory;
 use mips_exec::ExcCode;
@@ -36,10 +37,8 @@ pub(crate) fn push_env<V: WorldView>(
 {
     push_env_line(out, view, env)?;
     push_out_line(out, view, env)?;
-    match view.life(env) {
-        Life::Live => push_living_lines(out, view, env),
-        Life::Dead(_) => Ok(()),
-    }
+    push_if_live(out, view, env)?;
+    push_sent_lines(out, view, env)
 }
 
 /// Appends the line of an environment's name and life.
@@ -152,4 +151,15 @@ fn push_living_lines<V: WorldView>(out: &mut Vec<u8>, view: &V, env: u8) -> Resu
     push_keep_lines(out, view, env)?;
     push_page_lines(out, view, env)?;
     push_bind_lines(out, view, env)
+}
+
+/// Appends what is shown of an environment only while it lives.
+fn push_if_live<V: WorldView>(out: &mut Vec<u8>, view: &V, env: u8) -> Result<(), OutOfMemory>
+    requires { env < (V.world view.now).count }
+    ensures { OnOk result (out.new.items ≡ out.old.items ++ if_live ((V.world view.now).solos env).life (living_lines (V.world view.now) env)) }
+{
+    match view.life(env) {
+        Life::Live => push_living_lines(out, view, env),
+        Life::Dead(_) => Ok(()),
+    }
 }

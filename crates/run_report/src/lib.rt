@@ -11,6 +11,7 @@ mod environment;
 mod ledger;
 mod page;
 mod processor;
+mod sending;
 mod sums;
 mod text;
 mod words;

@@ -1,7 +1,7 @@
 //! The words of a line. A line begins with a name, each word after it stands behind a space, and a line feed ends it.
 ghost use Rattle.std.specs.Prelude.{◌≡◌, ◌++◌, ◌∷◌, [], OnOk};
 ghost use Rattle.std.specs.List.{flat_map};
-ghost use Rattle.run_report.specs.Report.{quotation, spaced};
+ghost use Rattle.run_report.specs.Report.{bytes_text, quotation, spaced};
 ghost use Rattle.run_report.specs.Words.{number_word, text_of, line_of};
 ghost use Rattle.run_report.specs.declared.words.Word.TheVariants.{Number};
 
@@ -13,6 +13,9 @@ const PAGE_NUMBER_DIGITS: u8 = 5;
 
 /// The hexadecimal digits of a word of the processor.
 const REGISTER_DIGITS: u8 = 8;
+
+/// The hexadecimal digits of a byte.
+const BYTE_DIGITS: u8 = 2;
 
 /// A word of a line.
 #[derive(Clone, Copy)]
@@ -31,6 +34,8 @@ pub(crate) enum Word<'a> {
     Flag(bool),
     /// Bytes between quotation marks.
     Quotation(&'a [u8]),
+    /// Bytes, in two hexadecimal digits each.
+    Bytes(&'a [u8]),
 }
 
 /// Appends bytes as they are.
@@ -59,6 +64,16 @@ fn push_quotation(out: &mut Vec<u8>, bytes: &[u8]) -> Result<(), OutOfMemory>
     Ok(())
 }
 
+/// Appends bytes in hexadecimal digits.
+fn push_bytes(out: &mut Vec<u8>, bytes: &[u8]) -> Result<(), OutOfMemory>
+    ensures { OnOk result (out.new.items ≡ out.old.items ++ bytes_text bytes.now) }
+{
+    for byte in bytes {
+        push_hex(out, u32::from(*byte), BYTE_DIGITS)?;
+    }
+    Ok(())
+}
+
 /// Appends the text of a word.
 fn push_word_text(out: &mut Vec<u8>, word: Word<'_>) -> Result<(), OutOfMemory>
     ensures { OnOk result (out.new.items ≡ out.old.items ++ text_of word.entry) }
@@ -71,6 +86,7 @@ fn push_word_text(out: &mut Vec<u8>, word: Word<'_>) -> Result<(), OutOfMemory>
         Word::Register(n) => push_hex(out, n, REGISTER_DIGITS),
         Word::Flag(flag) => push_text(out, if flag { b"1" } else { b"0" }),
         Word::Quotation(bytes) => push_quotation(out, bytes),
+        Word::Bytes(bytes) => push_bytes(out, bytes),
     }
 }
 

@@ -3,7 +3,7 @@ use Rattle.std.proofs.Common.{Vec, Global, ◌<◌, ◌++◌, ◌∙◌, ap, sym
 use Rattle.std.specs.Option.{option_map}
 use Rattle.world_model.specs.View.{view_seen}
 use Rattle.run_report.specs.Report.{keep_line}
-use Rattle.run_report.proofs.Pages.{line_more, is_there}
+use Rattle.run_report.proofs.Places.{line_more, is_there}
 use Rattle.run_report.proofs.page.push_keep_lines.Goals as goal
 use Rattle.run_report.proofs.page.push_keep_lines.Goals.{in-Some+in_ok-push_keep_line, in_default}
 
@@ -20,7 +20,7 @@ loop-place-preserved g c =
           ∙ w.in_ok-push_keep_line.ensures
           ∙ ap (λ items. items ++ lines) c.loop-place.invariant
           ∙ append_assoc c.args.out.now.items _ lines
-          ∙ ap (λ more. c.args.out.now.items ++ more) (sym (line_more c.args.env place kept page there))
+          ∙ ap (λ more. c.args.out.now.items ++ more) (sym (line_more (keep_line c.args.env) place kept page there))
       | in_default w ↦
           let within : place < length kept = omega (arith, c.loop-place-test.true, c.kept_count-place-end.ensures) in
           absurd (is_there kept place within (sym c.kept_page.ensures ∙ ap (option_map view_seen) w.in_default.is))
