@@ -1,21 +1,27 @@
 //! Ticks and whole runs of a board.
-ghost use Rattle.std.specs.Prelude.{◌≡◌, ◌≤◌, ◌<◌, ◌+◌, ◌*◌, ℕ, [], false, IfOk, IsOk, OnOk, OnErr};
+ghost use Rattle.std.specs.Prelude.{◌≡◌, ◌≤◌, ◌<◌, ◌+◌, ◌*◌, ◌==◌, drop, false, length, true, IfOk, IsOk, OnOk, OnErr};
+ghost use Rattle.std.specs.List.{prefix_len, take_while};
 ghost use Rattle.aegis_limits.specs.Limits.{most_ticks};
 ghost use Rattle.board_world.specs.Shown.{with_spare};
 ghost use Rattle.board_world.specs.Showing.{world_of};
+ghost use Rattle.external_event.specs.EventValue.{EventValue};
+ghost use Rattle.external_event.specs.Order.{are_in_order};
 ghost use Rattle.world_model.specs.Book.{is_idle_book};
-ghost use Rattle.world_model.specs.Event.{schedule_of};
+ghost use Rattle.world_model.specs.Event.{happen, schedule_of};
+ghost use Rattle.world_model.specs.Tick.{phases_after, tick_step};
+ghost use Rattle.world_model.specs.World.{after, run_phases};
 ghost use Rattle.run_model.specs.Excess.{IsAccounted};
 ghost use Rattle.run_model.specs.Run.{run_on, end_of_run};
-ghost use Rattle.world_model.specs.Tick.{tick_step};
+ghost use Rattle.aegis_tick.specs.Course.{HappenedInPart, IsCutOff, occurrences, world_with};
 
 use aegis_calls::Board;
 use aegis_limits::OutOfMemory;
+use external_event::Event;
 use kernel_journal::RunEnd;
 use run_model::law_accounts;
 use world_model::WorldView;
 
-/// The most rows of the ledger that a tick may write.
+/// The most rows of the ledger that a tick, or an event, may write.
 pub const TICK_ROWS: u32 = 2048;
 
 /// Takes memory for so many rows of the ledger more, where it isn't there yet. After Ok that many are
@@ -30,7 +36,18 @@ pub fn make_room(board: &mut Board, rows: u32) -> Result<(), OutOfMemory>
     board.make_room(rows)
 }
 
-/// One tick: the turn, the runner's step, and the timer. It takes no memory.
+/// What happens from outside by an event, before the turn of its tick. It takes no memory.
+pub fn event(board: &mut Board, event: &Event)
+    requires { TICK_ROWS ≤ board.old.ledger.spare }
+    ensures world { world_of board.new ≡ after (world_of board.old) (happen event.now.what (world_of board.old)) }
+    ensures time { board.new.time ≡ board.old.time }
+    ensures whole { board.new.roster.spare ≡ board.old.roster.spare }
+    ensures room { board.old.ledger.spare ≤ board.new.ledger.spare + TICK_ROWS }
+{
+    board.happen(&event.what);
+}
+
+/// One tick in which nothing happens from outside: the turn, the runner's step, and the timer. It takes no memory.
 pub fn tick(board: &mut Board)
     requires whole { board.old.roster.spare ≡ 0 }
     requires busy { is_idle_book (world_of board.old).book ≡ false }
@@ -46,42 +63,95 @@ pub fn tick(board: &mut Board)
     board.timer();
 }
 
-/// So many ticks, in which nothing happens from outside, or fewer where the board is idle before.
-fn run_ticks(board: &mut Board, ticks: u32) -> Result<(), OutOfMemory>
-    requires whole { board.old.roster.spare ≡ 0 }
-    requires fresh { board.old.time ≡ 0 }
-    requires limit { ticks ≤ most_ticks }
-    ensures world { OnOk result (world_of board.new ≡ run_on (schedule_of []) (world_of board.old) ticks) }
-    ensures whole { OnErr result ((t : ℕ) × (t < ticks) × (world_of board.new ≡ run_on (schedule_of []) (world_of board.old) t)) }
-    ensures balance { IsAccounted (world_of board.old) → IsAccounted (world_of board.new) }
-    ensures sure { TICK_ROWS * ticks ≤ board.old.ledger.spare → IsOk result }
+/// How many of these events are of this time, before the first of another.
+fn count_at(events: &[Event], time: u32) -> usize
+    ensures { result ≡ prefix_len (λ (e : EventValue). e.time == time) events.now }
 {
-    law_accounts();
-    for done in 0..ticks {
-        if board.idle() {
-            return Ok(());
-        }
+    events.iter().take_while(|event| event.time == time).count()
+}
+
+/// Of the events behind the first ones, so many, those of this time, before the first of another.
+fn due(events: &[Event], first: usize, time: u32) -> &[Event]
+    requires { first ≤ length events.now }
+    ensures { result.now ≡ take_while (λ (e : EventValue). e.time == time) (drop first events.now) }
+{
+    let left = &events[first..];
+    &left[..count_at(left, time)]
+}
+
+/// These events, one after another.
+fn happen_all(board: &mut Board, events: &[Event]) -> Result<(), OutOfMemory>
+    ensures world { OnOk result (world_of board.new ≡ world_with (occurrences events.now) (world_of board.old)) }
+    ensures part { OnErr result (HappenedInPart (occurrences events.now) (world_of board.old) (world_of board.new)) }
+    ensures time { board.new.time ≡ board.old.time }
+    ensures whole { board.new.roster.spare ≡ board.old.roster.spare }
+    ensures sure { TICK_ROWS * length events.now ≤ board.old.ledger.spare → IsOk result × (board.old.ledger.spare ≤ board.new.ledger.spare + TICK_ROWS * length events.now) }
+{
+    for one in events {
         make_room(board, TICK_ROWS)?;
-        tick(board);
+        event(board, one);
     }
     Ok(())
 }
 
-/// Runs a freshly booted board for so many ticks, in which nothing happens from outside. It ends at the limit
-/// exactly where the time reached it, else because the board is idle. After a refusal the board is that of a whole number of ticks. What
-/// environments ran past their slices by the ledger, they forfeited by it or still owe, as before.
-/// Where `TICK_ROWS` rows are spare for each tick it takes no memory and isn't refused.
-pub fn run(board: &mut Board, ticks: u32) -> Result<RunEnd, OutOfMemory>
+/// One tick with what happens in it: these events, in their order, and then the rest of the tick.
+fn tick_with(board: &mut Board, events: &[Event]) -> Result<(), OutOfMemory>
+    requires whole { board.old.roster.spare ≡ 0 }
+    requires busy { is_idle_book (world_of board.old).book ≡ false }
+    requires time { board.old.time < most_ticks }
+    ensures world { OnOk result (world_of board.new ≡ run_phases (world_of board.old) (phases_after (occurrences events.now))) }
+    ensures part { OnErr result (HappenedInPart (occurrences events.now) (world_of board.old) (world_of board.new)) }
+    ensures time { OnOk result (board.new.time ≡ board.old.time + 1) }
+    ensures whole { OnOk result (board.new.roster.spare ≡ 0) }
+    ensures sure { TICK_ROWS * (length events.now + 1) ≤ board.old.ledger.spare → IsOk result × (board.old.ledger.spare ≤ board.new.ledger.spare + TICK_ROWS * (length events.now + 1)) }
+{
+    happen_all(board, events)?;
+    make_room(board, TICK_ROWS)?;
+    tick(board);
+    Ok(())
+}
+
+/// So many ticks with the events of their times, or fewer where the board is idle before.
+fn run_ticks(board: &mut Board, events: &[Event], ticks: u32) -> Result<(), OutOfMemory>
     requires whole { board.old.roster.spare ≡ 0 }
     requires fresh { board.old.time ≡ 0 }
+    requires order { are_in_order 0 events.now ≡ true }
     requires limit { ticks ≤ most_ticks }
-    ensures world { OnOk result (world_of board.new ≡ run_on (schedule_of []) (world_of board.old) ticks) }
-    ensures end { IfOk result (λ end. end ≡ end_of_run (world_of board.new) ticks) }
-    ensures whole { OnErr result ((t : ℕ) × (t < ticks) × (world_of board.new ≡ run_on (schedule_of []) (world_of board.old) t)) }
+    ensures world { OnOk result (world_of board.new ≡ run_on (schedule_of events.now) (world_of board.old) ticks) }
+    ensures cut { OnErr result (IsCutOff (schedule_of events.now) (world_of board.old) ticks (world_of board.new)) }
     ensures balance { IsAccounted (world_of board.old) → IsAccounted (world_of board.new) }
-    ensures sure { TICK_ROWS * ticks ≤ board.old.ledger.spare → IsOk result }
+    ensures sure { TICK_ROWS * (length events.now + ticks) ≤ board.old.ledger.spare → IsOk result }
 {
-    run_ticks(board, ticks)?;
+    law_accounts();
+    let mut next = 0;
+    for done in 0..ticks {
+        if board.idle() {
+            return Ok(());
+        }
+        let now = due(events, next, done);
+        tick_with(board, now)?;
+        next += now.len();
+    }
+    Ok(())
+}
+
+/// Runs a freshly booted board for so many ticks, in which these events happen, each at the beginning of the tick of
+/// its time. An idle board stays as it is, and no event happens on it. The run ends at the limit exactly where the time
+/// reached it, else because the board is idle. After a refusal the board is that of a whole number of ticks, and of
+/// some first events of the next. What environments ran past their slices by the ledger, they forfeited by it or still
+/// owe, as before. Where `TICK_ROWS` rows are spare for each event and each tick it takes no memory and isn't refused.
+pub fn run(board: &mut Board, events: &[Event], ticks: u32) -> Result<RunEnd, OutOfMemory>
+    requires whole { board.old.roster.spare ≡ 0 }
+    requires fresh { board.old.time ≡ 0 }
+    requires order { are_in_order 0 events.now ≡ true }
+    requires limit { ticks ≤ most_ticks }
+    ensures world { OnOk result (world_of board.new ≡ run_on (schedule_of events.now) (world_of board.old) ticks) }
+    ensures end { IfOk result (λ end. end ≡ end_of_run (world_of board.new) ticks) }
+    ensures cut { OnErr result (IsCutOff (schedule_of events.now) (world_of board.old) ticks (world_of board.new)) }
+    ensures balance { IsAccounted (world_of board.old) → IsAccounted (world_of board.new) }
+    ensures sure { TICK_ROWS * (length events.now + ticks) ≤ board.old.ledger.spare → IsOk result }
+{
+    run_ticks(board, events, ticks)?;
     if board.time() == ticks {
         Ok(RunEnd::Limit)
     } else {

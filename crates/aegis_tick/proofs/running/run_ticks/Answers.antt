@@ -1,44 +1,80 @@
--- Each turn of the loop is a tick of the model, until it is idle.
-use Rattle.std.proofs.Common.{◌≡◌, ◌+◌, ◌-◌, ℕ, [], sym, subst, ◌∙◌, ap, arith}
-use Rattle.board_world.specs.Shown.{Shown}
+-- Each turn of the loop is a tick of the model with what happens in it, until it is idle.
+use Rattle.std.proofs.Common.{◌≡◌, ◌+◌, ◌-◌, ℕ, List, sym, ◌∙◌, ap, arith}
+use Rattle.external_event.specs.declared.event.Occurrence.{Occurrence}
 use Rattle.board_world.specs.Showing.{world_of}
 use Rattle.world_model.specs.Book.{is_idle_book}
-use Rattle.run_model.specs.Excess.{IsAccounted}
 use Rattle.world_model.specs.Event.{schedule_of}
-use Rattle.world_model.specs.World.{World}
-use Rattle.run_model.specs.Run.{run_on}
-use Rattle.world_model.specs.Tick.{tick_step}
+use Rattle.world_model.specs.Tick.{phases_after}
+use Rattle.world_model.specs.World.{World, run_phases}
+use Rattle.run_model.specs.Run.{next_phases, run_on}
+use Rattle.aegis_tick.specs.Course.{occurrences}
+use Rattle.aegis_tick.proofs.Coming.{happens_next, next_coming, next_ordered, next_within}
+use Rattle.aegis_tick.proofs.Happening.{cut_accounted, cut_off}
+use Rattle.aegis_tick.proofs.Refusals.{on_err}
 use Rattle.aegis_tick.proofs.Whole.{stays, goes_on}
 use Rattle.aegis_tick.proofs.running.run_ticks.Goals as goal
 
 pub returns-then-idle-clause-world : goal.returns-then-idle-clause-world
 returns-then-idle-clause-world c =
     let w = world_of c.args.board.now in
+    let schedule = schedule_of c.args.events.now in
     let idle = ap (λ (v : World). is_idle_book v.book) (sym c.loop-done.invariant.world) ∙ sym c.idle.ensures ∙ c.if-idle.true in
     let whole : c.loop-done.done + (c.args.ticks - c.loop-done.done) ≡ c.args.ticks = omega arith in
-    c.loop-done.invariant.world ∙ sym (stays w c.loop-done.done (c.args.ticks - c.loop-done.done) idle) ∙ ap (run_on (schedule_of []) w) whole
+    c.loop-done.invariant.world ∙ sym (stays schedule w c.loop-done.done (c.args.ticks - c.loop-done.done) idle) ∙ ap (run_on schedule w) whole
 
-pub tick-requires-clause-busy : goal.tick-requires-clause-busy
-tick-requires-clause-busy c =
-    ap (λ (v : World). is_idle_book v.book) c.in_ok-make_room.ensures.world ∙ sym c.idle.ensures ∙ c.if-idle.false
+pub returns-in_err-tick_with-clause-cut : goal.returns-in_err-tick_with-clause-cut
+returns-in_err-tick_with-clause-cut c =
+    let es = c.args.events.now in
+    let i = c.loop-done.next in
+    let t = c.loop-done.done in
+    let these = c.due-now.result.now in
+    let now = c.loop-done.invariant in
+    let v = world_of c.loop-done.board in
+    let happens = happens_next es i t these c.due-now.ensures v now.time now.ordered (now.coming t (omega arith)) in
+    on_err c.from_residual.result
+    (cut_off (schedule_of es) (world_of c.args.board.now) v (world_of c.tick_with.new.board) t c.args.ticks (occurrences these)
+    now.world c.loop-done-test.true (sym c.idle.ensures ∙ c.if-idle.false) happens c.in_err-tick_with.ensures.part)
 
-pub tick-requires-clause-whole : goal.tick-requires-clause-whole
-tick-requires-clause-whole c = ap (λ (b : Shown). b.roster.spare) c.in_ok-make_room.ensures.same ∙ c.loop-done.invariant.whole
+pub returns-in_err-tick_with-clause-balance : goal.returns-in_err-tick_with-clause-balance
+returns-in_err-tick_with-clause-balance c =
+    let es = c.args.events.now in
+    let i = c.loop-done.next in
+    let t = c.loop-done.done in
+    let these = c.due-now.result.now in
+    let now = c.loop-done.invariant in
+    let v = world_of c.loop-done.board in
+    let happens = happens_next es i t these c.due-now.ensures v now.time now.ordered (now.coming t (omega arith)) in
+    cut_accounted c.law_accounts.ensures (schedule_of es) (world_of c.args.board.now) c.args.ticks (world_of c.tick_with.new.board)
+    (cut_off (schedule_of es) (world_of c.args.board.now) v (world_of c.tick_with.new.board) t c.args.ticks (occurrences these)
+    now.world c.loop-done-test.true (sym c.idle.ensures ∙ c.if-idle.false) happens c.in_err-tick_with.ensures.part)
 
 pub loop-done-preserved : goal.loop-done-preserved
 loop-done-preserved c =
+    let es = c.args.events.now in
+    let i = c.loop-done.next in
+    let t = c.loop-done.done in
+    let these = c.due-now.result.now in
+    let are = c.due-now.ensures in
+    let now = c.loop-done.invariant in
+    let schedule = schedule_of es in
     let w = world_of c.args.board.now in
-    let same = c.in_ok-make_room.ensures.world ∙ c.loop-done.invariant.world in
-    let busy = ap (λ (v : World). is_idle_book v.book) (sym c.loop-done.invariant.world) ∙ sym c.idle.ensures ∙ c.if-idle.false in
-    let world = c.tick.ensures.world ∙ ap tick_step same ∙ sym (goes_on w c.loop-done.done busy) in
+    let v = world_of c.loop-done.board in
+    let happens = happens_next es i t these are v now.time now.ordered (now.coming t (omega arith)) in
+    let busy = ap (λ (u : World). is_idle_book u.book) (sym now.world) ∙ sym c.idle.ensures ∙ c.if-idle.false in
     record {
-      world = world;
-      balance = λ good. subst IsAccounted (sym world) (c.law_accounts.ensures (schedule_of []) w good (c.loop-done.done + 1));
-      whole = c.tick.ensures.whole;
-      time = c.tick.ensures.time ∙ ap (λ (v : World). v.book.time + 1) c.in_ok-make_room.ensures.world ∙ ap (λ (n : ℕ). n + 1) c.loop-done.invariant.time;
+      world = c.in_ok-tick_with.ensures.world
+          ∙ ap (λ (xs : List Occurrence). run_phases v (phases_after xs)) (sym happens)
+          ∙ ap (λ (u : World). run_phases u (next_phases schedule u)) now.world
+          ∙ sym (goes_on schedule w t busy);
+      whole = c.in_ok-tick_with.ensures.whole;
+      time = c.in_ok-tick_with.ensures.time ∙ ap (λ (m : ℕ). m + 1) now.time;
+      next = next_within es i t these are now.next;
+      ordered = next_ordered es i t these are now.ordered;
+      coming = next_coming es i t these are now.coming;
       room = λ enough.
-          let spare = c.loop-done.invariant.room enough in
-          let there = c.in_ok-make_room.ensures.there (omega arith) in
-          let kept = ap (λ (b : Shown). b.ledger.spare) there.1 in
+          let within = next_within es i t these are now.next in
+          let spare = now.room enough in
+          let sure = c.in_ok-tick_with.ensures.sure (omega arith) in
+          let left = sure.1 in
           omega arith;
     }

@@ -1,16 +1,18 @@
--- The world is that after the ticks so far.
-use Rattle.std.proofs.Common.{◌≡◌, ◌≤◌, ◌-◌, ◌*◌, []}
+-- The world is that after the ticks so far, and the events that are left are those to come.
+use Rattle.std.proofs.Common.{◌≡◌, ◌≤◌, ℕ, ◌+◌, ◌-◌, ◌*◌, true, drop, length}
+use Rattle.external_event.specs.Order.{are_in_order}
 use Rattle.world_model.specs.Event.{schedule_of}
 use Rattle.board_world.specs.Showing.{world_of}
-use Rattle.run_model.specs.Excess.{IsAccounted}
 use Rattle.run_model.specs.Run.{run_on}
 use Rattle.aegis_tick.proofs.running.run_ticks.Given as goal
 
 abbrev pub invariant-loop-done : goal.invariant-loop-done
 invariant-loop-done l = record {
-  world : world_of l.board ≡ run_on (schedule_of []) (world_of l.fn.board) l.done;
-  balance : IsAccounted (world_of l.fn.board) → IsAccounted (world_of l.board);
+  world : world_of l.board ≡ run_on (schedule_of l.events) (world_of l.fn.board) l.done;
   whole : l.board.roster.spare ≡ 0;
   time : l.board.time ≡ l.done;
-  room : 2048 * l.ticks ≤ l.fn.board.ledger.spare → 2048 * (l.ticks - l.done) ≤ l.board.ledger.spare;
+  next : l.next ≤ length l.events;
+  ordered : are_in_order l.done (drop l.next l.events) ≡ true;
+  coming : (t : ℕ) → l.done ≤ t → schedule_of l.events t ≡ schedule_of (drop l.next l.events) t;
+  room : 2048 * (length l.events + l.ticks) ≤ l.fn.board.ledger.spare → 2048 * ((length l.events - l.next) + (l.ticks - l.done)) ≤ l.board.ledger.spare;
 }

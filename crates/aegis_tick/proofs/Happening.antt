@@ -1,0 +1,64 @@
+-- What happens from outside, one after another.
+use Rattle.std.proofs.Common.{◌≡◌, ℕ, ◌+◌, ◌<◌, List, [], ◌∷◌, ◌++◌, length, map, take, get_or, false, refl, sym, ◌∙◌, ap, subst, Option, None, Some}
+use Rattle.std.proofs.lemmas.List.{map-append, take_more}
+use Rattle.external_event.specs.declared.event.Occurrence.{Occurrence}
+use Rattle.external_event.specs.declared.event.Occurrence.TheVariants as outside
+use Rattle.external_event.specs.EventValue.{EventValue}
+use Rattle.world_model.specs.Book.{is_idle_book}
+use Rattle.world_model.specs.Event.{Schedule, happen, signals}
+use Rattle.world_model.specs.Tick.{phases_after, tick_phases, tick_step}
+use Rattle.world_model.specs.World.{World, after, run_phases}
+use Rattle.run_model.specs.Excess.{IsAccounted, TicksKeepAccounts}
+use Rattle.run_model.specs.Run.{happens_in, run_on}
+use Rattle.run_model.proofs.Balance.{happen_accounts}
+use Rattle.run_model.proofs.Phases.{run_append}
+use Rattle.aegis_tick.specs.Course.{HappenedInPart, IsCutOff, occurrences, world_with}
+
+-- one more
+pub one_more : (w : World) (es : List EventValue) (i : ℕ) (e : EventValue) → i < length es → e ≡ get_or es i e →
+    world_with (occurrences (take (i + 1) es)) w ≡ (let v = world_with (occurrences (take i es)) w in after v (happen e.what v))
+one_more w es i e within is =
+    let so_far = occurrences (take i es) in
+    let more : take (i + 1) es ≡ take i es ++ e ∷ [] = take_more es i e within ∙ ap (λ (x : EventValue). take i es ++ x ∷ []) (sym is) in
+    ap (λ (xs : List EventValue). world_with (occurrences xs) w) more
+    ∙ ap (λ (xs : List Occurrence). world_with xs w) (map-append (λ (x : EventValue). x.what) (take i es) (e ∷ []))
+    ∙ ap (run_phases w) (map-append happen so_far (e.what ∷ []))
+    ∙ run_append w (map happen so_far) (happen e.what ∷ [])
+
+-- a tick behind what happens in it
+pub then_ticks : (w : World) (happens : List Occurrence) → tick_step (world_with happens w) ≡ run_phases w (phases_after happens)
+then_ticks w happens = sym (run_append w (map happen happens) tick_phases)
+
+-- nothing that happens takes or gives a turn
+signal_idle : (line : ℕ) (owner : Option ℕ) (w : World) → is_idle_book (signals line owner w).book ≡ is_idle_book w.book
+signal_idle line None w = refl
+signal_idle line (Some owner) w = refl
+
+happen_idle : (what : Occurrence) (w : World) → is_idle_book (happen what w).book ≡ is_idle_book w.book
+happen_idle (outside.Packet packet) w = refl
+happen_idle (outside.Line line) w = signal_idle line (w.book.lines line) w
+
+pub still_busy : (happens : List Occurrence) (w : World) → is_idle_book (world_with happens w).book ≡ is_idle_book w.book
+still_busy [] w = refl
+still_busy (what ∷ happens) w = still_busy happens (after w (happen what w)) ∙ happen_idle what w
+
+-- the accounts stay
+still_accounted : (happens : List Occurrence) (w : World) → IsAccounted w → IsAccounted (world_with happens w)
+still_accounted [] w good = good
+still_accounted (what ∷ happens) w good = still_accounted happens (after w (happen what w)) (happen_accounts what w good)
+
+-- where what happens in a tick happened in part, the run was cut off
+pub cut_off : (schedule : Schedule) (w v u : World) (t ticks : ℕ) (happens : List Occurrence) → v ≡ run_on schedule w t → t < ticks → is_idle_book v.book ≡ false
+    → happens_in schedule v ≡ happens → HappenedInPart happens v u → IsCutOff schedule w ticks u
+cut_off schedule w v u t ticks happens now fewer busy are part = record {
+  done = t;
+  fewer = fewer;
+  busy = ap (λ (x : World). is_idle_book x.book) (sym now) ∙ busy;
+  events = part.0;
+  is = part.1 ∙ ap (λ (xs : List Occurrence). world_with (take part.0 xs) v) (sym are) ∙ ap (λ (x : World). world_with (take part.0 (happens_in schedule x)) x) now;
+}
+
+pub cut_accounted : TicksKeepAccounts → (schedule : Schedule) (w : World) (ticks : ℕ) (u : World) → IsCutOff schedule w ticks u → IsAccounted w → IsAccounted u
+cut_accounted keep schedule w ticks u cut good =
+    let v = run_on schedule w cut.done in
+    subst IsAccounted (sym cut.is) (still_accounted (take cut.events (happens_in schedule v)) v (keep schedule w good cut.done))

@@ -1,0 +1,13 @@
+-- The events so far have happened.
+use Rattle.std.proofs.Common.{◌≡◌, ◌≤◌, ◌+◌, ◌*◌, length, take}
+use Rattle.board_world.specs.Showing.{world_of}
+use Rattle.aegis_tick.specs.Course.{occurrences, world_with}
+use Rattle.aegis_tick.proofs.running.happen_all.Given as goal
+
+abbrev pub invariant-loop-one : goal.invariant-loop-one
+invariant-loop-one l = record {
+  world : world_of l.board ≡ world_with (occurrences (take l.one-index l.events)) (world_of l.fn.board);
+  time : l.board.time ≡ l.fn.board.time;
+  whole : l.board.roster.spare ≡ l.fn.board.roster.spare;
+  room : 2048 * length l.events ≤ l.fn.board.ledger.spare → l.fn.board.ledger.spare ≤ l.board.ledger.spare + 2048 * l.one-index;
+}

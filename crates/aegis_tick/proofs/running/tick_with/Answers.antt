@@ -1,0 +1,35 @@
+-- What happens leaves the board busy, and a tick follows.
+use Rattle.std.proofs.Common.{sym, ◌∙◌, ap, List, length}
+use Rattle.std.proofs.Math.Seq.{take-length}
+use Rattle.external_event.specs.declared.event.Occurrence.{Occurrence}
+use Rattle.board_world.specs.Shown.{Shown}
+use Rattle.board_world.specs.Showing.{world_of}
+use Rattle.world_model.specs.Book.{is_idle_book}
+use Rattle.world_model.specs.Tick.{tick_step}
+use Rattle.world_model.specs.World.{World}
+use Rattle.aegis_tick.specs.Course.{occurrences, world_with}
+use Rattle.aegis_tick.proofs.Happening.{still_busy, then_ticks}
+use Rattle.aegis_tick.proofs.Refusals.{on_err}
+use Rattle.aegis_tick.proofs.running.tick_with.Goals as goal
+
+pub tick-requires-clause-busy : goal.tick-requires-clause-busy
+tick-requires-clause-busy c =
+    let w = world_of c.args.board.now in
+    let happens = occurrences c.args.events.now in
+    ap (λ (v : World). is_idle_book v.book) (c.in_ok-make_room.ensures.world ∙ c.in_ok-happen_all.ensures.world)
+    ∙ still_busy happens w ∙ c.requires.busy
+
+pub tick-requires-clause-whole : goal.tick-requires-clause-whole
+tick-requires-clause-whole c = ap (λ (b : Shown). b.roster.spare) c.in_ok-make_room.ensures.same ∙ c.in_ok-happen_all.ensures.whole ∙ c.requires.whole
+
+pub returns-in_err-make_room-clause-part : goal.returns-in_err-make_room-clause-part
+returns-in_err-make_room-clause-part c =
+    let w = world_of c.args.board.now in
+    let happens = occurrences c.args.events.now in
+    on_err c.from_residual-in_err-make_room.result (length happens, c.in_err-make_room.ensures.world ∙ c.in_ok-happen_all.ensures.world ∙ ap (λ (xs : List Occurrence). world_with xs w) (sym (take-length happens)))
+
+pub returns-clause-world : goal.returns-clause-world
+returns-clause-world c =
+    let w = world_of c.args.board.now in
+    let happens = occurrences c.args.events.now in
+    c.tick.ensures.world ∙ ap tick_step (c.in_ok-make_room.ensures.world ∙ c.in_ok-happen_all.ensures.world) ∙ then_ticks w happens

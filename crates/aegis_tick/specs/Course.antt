@@ -1,0 +1,28 @@
+-- The course of a run: what happens in it, and how far it came where memory ran out.
+use Rattle.std.specs.Prelude.{◌≡◌, ℕ, ◌<◌, List, map, take, false}
+use Rattle.external_event.specs.declared.event.Occurrence.{Occurrence}
+use Rattle.external_event.specs.EventValue.{EventValue}
+use Rattle.world_model.specs.Book.{is_idle_book}
+use Rattle.world_model.specs.Event.{Schedule, happen}
+use Rattle.world_model.specs.World.{World, run_phases}
+use Rattle.run_model.specs.Run.{happens_in, run_on}
+
+-- what happens by these events, in order
+abbrev pub occurrences : List EventValue → List Occurrence
+occurrences events = map (λ (x : EventValue). x.what) events
+
+-- the world once these have happened, one after another
+abbrev pub world_with : List Occurrence → World → World
+world_with happens w = run_phases w (map happen happens)
+
+-- A run was cut off: after fewer ticks than were asked, in a world that isn't idle, once so many events of its next tick had happened.
+pub record IsCutOff (schedule : Schedule) (w : World) (ticks : ℕ) (v : World) : Type 0 where
+  pub done : ℕ
+  pub fewer : done < ticks
+  pub busy : is_idle_book (run_on schedule w done).book ≡ false
+  pub events : ℕ
+  pub is : v ≡ world_with (take events (happens_in schedule (run_on schedule w done))) (run_on schedule w done)
+
+-- Some first ones of these have happened.
+abbrev pub HappenedInPart : List Occurrence → World → World → Type 0
+HappenedInPart happens w v = (k : ℕ) × (v ≡ world_with (take k happens) w)
