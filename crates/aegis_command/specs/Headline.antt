@@ -2,7 +2,7 @@
 use Rattle.std.specs.Prelude.{◌≡◌, ◌≢◌, ◌⊎◌, ℕ, List, [], ◌∷◌, Option, Some, None, IfSome, length, codes}
 use Rattle.boot_image.specs.ImageFaults.{image_fault}
 use Rattle.boot_image.specs.ImageValue.{image_of}
-use Rattle.boot_image.specs.ScheduleFaults.{schedule_fault}
+use Rattle.boot_schedule.specs.Schedule.{events_of, schedule_fault}
 use Rattle.edge_io.specs.Faults.{Rose}
 use Rattle.edge_io.specs.Written.{Appends}
 use Rattle.command_work.specs.declared.status.Status.{Status}
@@ -50,12 +50,12 @@ IsComplete words s k result =
     Ends (command.due contents) k result
 
 -- The headline: for the words `run IMAGE SCHEDULE TICKS`, every image and schedule without fault and every number of
--- ticks, where no fault is met, the bytes that are written are the report of the image's world after so many ticks, or
--- memory was wanting.
+-- ticks, where no fault is met, the bytes that are written are the report of the image's world after so many ticks, in
+-- which the schedule's events happen, or memory was wanting.
 abbrev pub IsHeadline : List (List ℕ) → ShelfEdge → SinkEdge → Status → Type 0
 IsHeadline words s k result =
     (image_name schedule_name number : List ℕ) (ticks : ℕ) (files : List ℕ → Option (List ℕ)) (image schedule : List ℕ) →
     words ≡ codes "run" ∷ image_name ∷ schedule_name ∷ number ∷ [] → ticks_of number ≡ Some ticks → s.told ≡ Some files →
     files image_name ≡ Some image → files schedule_name ≡ Some schedule →
     image_fault image ≡ None → schedule_fault schedule ≡ None → NoFault s k →
-    IsWritten status.Done (report_after (image_of image) ticks) k result ⊎ IsWanting k result
+    IsWritten status.Done (report_after (image_of image) (events_of schedule) ticks) k result ⊎ IsWanting k result

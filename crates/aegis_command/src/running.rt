@@ -1,17 +1,21 @@
 //! The command `run IMAGE SCHEDULE TICKS`.
-ghost use Rattle.std.specs.Prelude.{◌≡◌, ◌<◌, ◌^◌, IfOk, length, map, option_map, string_bytes};
+ghost use Rattle.std.specs.Prelude.{◌≡◌, ◌<◌, ◌^◌, IfOk, length, map, option_map, string_bytes, true};
+ghost use Rattle.external_event.specs.Order.{are_in_order};
 ghost use Rattle.command_work.specs.Work.{Settles};
 ghost use Rattle.aegis_command.specs.RunImage.{report_after as report_text_after, run_due, run_image, run_words};
 
 use crate::ticks::Ticks;
 use aegis_limits::OutOfMemory;
 use aegis_tick::{boot, run};
-use boot_image::{Image, check_schedule, read_image};
+use boot_image::{Image, read_image};
+use boot_schedule::{ScheduleFault, law_in_order, read_schedule};
 use command_work::{Answer, Command, Status, content};
+use external_event::Event;
 use run_report::report;
 use std::alloc::Global;
 
-/// `run IMAGE SCHEDULE TICKS`: the report of an image's world after so many ticks.
+/// `run IMAGE SCHEDULE TICKS`: the report of an image's world after so many ticks, in which the schedule's events
+/// happen.
 #[derive(Clone, Copy)]
 pub struct RunImage<'a> {
     /// The name of the image.
@@ -39,13 +43,19 @@ impl<'a> RunImage<'a> {
     }
 }
 
-/// The report of a run of so many ticks.
+/// The report of a run of so many ticks, in which these events happen.
 #[tactic(auto, unfolding(crate::specs::RunImage::report_after))]
-fn report_after(alloc: Global, image: &Image<'_>, ticks: Ticks) -> Result<Vec<u8>, OutOfMemory>
-    ensures { IfOk result (λ text. text.items ≡ report_text_after image.now ticks.number) }
+fn report_after(
+    alloc: Global,
+    image: &Image<'_>,
+    events: &[Event],
+    ticks: Ticks,
+) -> Result<Vec<u8>, OutOfMemory>
+    requires { are_in_order 0 events.now ≡ true }
+    ensures { IfOk result (λ text. text.items ≡ report_text_after image.now events.now ticks.number) }
 {
     let mut board = boot(alloc, image)?;
-    let end = run(&mut board, ticks.number)?;
+    let end = run(&mut board, events, ticks.number)?;
     report(alloc, &board, end)
 }
 
@@ -56,19 +66,25 @@ fn due(
     image: &[u8],
     schedule: &[u8],
 ) -> Result<Answer, OutOfMemory>
-    requires { length image.now < 2 ^ 27 }
+    requires image { length image.now < 2 ^ 27 }
+    requires schedule { length schedule.now < 2 ^ 27 }
     ensures { IfOk result (Settles (run_due call.entry.image.now call.entry.schedule.now call.entry.ticks.number image.now schedule.now)) }
 {
+    law_in_order();
     let image = match read_image(image) {
         Ok(image) => image,
         Err(fault) => {
             return Answer::refusal(alloc, call.image, fault.why.name(), fault.place);
         }
     };
-    if let Err(fault) = check_schedule(schedule) {
-        return Answer::refusal(alloc, call.schedule, fault.why.name(), fault.line);
-    }
-    let text = report_after(alloc, &image, call.ticks)?;
+    let events = match read_schedule(alloc, schedule) {
+        Ok(events) => events,
+        Err(ScheduleFault::At { line, why }) => {
+            return Answer::refusal(alloc, call.schedule, why.name(), line);
+        }
+        Err(ScheduleFault::OutOfMemory) => return Err(OutOfMemory),
+    };
+    let text = report_after(alloc, &image, &events, call.ticks)?;
     Ok(Answer {
         text,
         status: Status::Done,

@@ -1,5 +1,5 @@
 -- What is reported is the world after so many ticks of the boot.
-use Rattle.std.proofs.Common.{◌≡◌, [], ap, ◌∙◌}
+use Rattle.std.proofs.Common.{◌≡◌, ap, ◌∙◌}
 use Rattle.world_model.specs.World.{World}
 use Rattle.world_model.specs.Event.{schedule_of}
 use Rattle.run_model.specs.Run.{run_on, world_after, end_of_run}
@@ -13,7 +13,8 @@ pub returns : goal.returns
 unfolding report_after
 returns c =
     let ticks = c.args.ticks.number in
-    let w = world_after (record { image = c.args.image.now; schedule = schedule_of [] }) ticks in
-    let world : world_of c.run.new.board ≡ w = c.in_ok-end.ensures.world ∙ ap (λ (v : World). run_on (schedule_of []) v ticks) c.in_ok-board.ensures.world in
+    let schedule = schedule_of c.args.events.now in
+    let w = world_after (record { image = c.args.image.now; schedule = schedule }) ticks in
+    let world : world_of c.run.new.board ≡ w = c.in_ok-end.ensures.world ∙ ap (λ (v : World). run_on schedule v ticks) c.in_ok-board.ensures.world in
     let end : c.in_ok-end.end ≡ end_of_run w ticks = c.in_ok-end.ensures.end ∙ ap (λ (v : World). end_of_run v ticks) world in
     same_text (λ v. v.items) c.report.result _ _ c.report.ensures (ap (λ (v : World). report_text v c.in_ok-end.end) world ∙ ap (report_text w) end)
