@@ -79,6 +79,7 @@ module _ (b : Shown) (e : ℕ) (x : Environment) (r : Runs b e x) (sound : IsSou
     rebound_others : (i : ℕ) → i ≢ e → solo_of rebound i ≡ solo_of b i
     rebound_others i ne = same_solo i rebound b (record {
       record_is = refl;
+      rings = refl;
       idles = r.runs.others i ne;
       idled = r.runs.others i ne;
       pages = refl;

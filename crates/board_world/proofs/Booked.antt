@@ -36,7 +36,7 @@ keep_booked f keeps pages binds r e are = record {
 }
 
 -- what holds of the row that a page got, and of those of the others
-by_page : (P : PageRow → Type 0) (pages : List PageRow) (page p : ℕ) (row : PageRow) → page < length pages → (p ≡ page → P row) → (p ≢ page → P (row_in pages p)) → P (row_in (slice_set pages page row) p)
+pub by_page : (P : PageRow → Type 0) (pages : List PageRow) (page p : ℕ) (row : PageRow) → page < length pages → (p ≡ page → P row) → (p ≢ page → P (row_in pages p)) → P (row_in (slice_set pages page row) p)
 by_page P pages page p row within here others =
     elim (cases_eq p page) [
       | inl same ↦ subst P (sym (ap (row_in (slice_set pages page row)) same ∙ get_or-set_same pages page row Free within)) (here same)

@@ -1,6 +1,8 @@
 -- A board without programs, and one with one more.
 use Rattle.std.proofs.Common.{◌≡◌, ◌≢◌, ◌≤◌, ◌<◌, ℕ, zero, suc, ◌+◌, ◌-◌, ◌*◌, List, [], ◌∷◌, ◌++◌, length, map, replicate, Bool, true, false, Option, Some, None, IfSome, inl, inr, refl, sym, ◌∙◌, ap, arith}
-use Rattle.std.specs.Prelude.{◌==◌, slice_get, All}
+use Rattle.std.specs.Prelude.{◌==◌, ◌&&◌, filter, slice_get, All}
+use Rattle.std.specs.List.{list_all}
+use Rattle.filter_tree.specs.ClaimBook.{RowValue, claim_in, is_of_env}
 use Rattle.std.specs.Option.{option_map}
 use Rattle.std.proofs.lemmas.List.{length-append, length-map, length-replicate}
 use Rattle.std.proofs.lemmas.Bool.{ne_eqb, eqb-true, eqb-false}
@@ -32,10 +34,12 @@ use Rattle.page_sight.proofs.Sights.{nothing_of}
 use Rattle.page_sight.proofs.Stripes.{bound_nowhere}
 use Rattle.board_world.specs.declared.roster.Environment.{Environment}
 use Rattle.board_world.specs.Lines.{free_lines, line_at}
+use Rattle.board_world.specs.Rings.{ring_in, rings_of}
 use Rattle.board_world.specs.Shown.{Shown, Environments, mappings_of, no_output, shown}
 use Rattle.board_world.specs.Showing.{book_of, world_of, solo_of, solo_or_absent, cpu_seen, pages_seen, page_seen}
-use Rattle.board_world.specs.Sound.{AreBooked, AreGuaranteed, AreWired, IsSound, IsManned, IsParted, IsLive, IsUndead}
+use Rattle.board_world.specs.Sound.{AreBooked, AreGuaranteed, AreWired, IsSound, IsManned, IsParted, IsLive, IsUndead, has_own_page}
 use Rattle.board_world.specs.Loading.{AreGiven, AreLeft}
+use Rattle.board_world.proofs.Claiming.{given_claimed}
 use Rattle.board_world.proofs.Giving.{none_guaranteed}
 use Rattle.board_world.proofs.Keeping.{IsGivenRow, given_row, taken_row}
 use Rattle.board_world.proofs.Lists.{last_get, other_get, past_get}
@@ -106,8 +110,8 @@ own_slots (Some e ∷ owners) zero = refl
 own_slots (o ∷ owners) (suc k) = own_slots owners k
 
 -- what a board without programs shows
-pub built_world : (pages envs quantum : ℕ) (owners : List (Option ℕ)) (b : Shown) → b.pages ≡ replicate pages Free → b.binds ≡ replicate (envs * stripe_rows) None → b.lines ≡ free_lines → b.slots ≡ vector.first_slices quantum owners → b.roster.list ≡ [] → b.time ≡ 0 → b.ledger.rows ≡ own_rows owners (length owners) → world_of b ≡ bare_world pages quantum owners
-built_world pages envs quantum owners b free unbound untaken slots none start rows =
+pub built_world : (pages envs quantum : ℕ) (owners : List (Option ℕ)) (b : Shown) → b.pages ≡ replicate pages Free → b.binds ≡ replicate (envs * stripe_rows) None → b.lines ≡ free_lines → b.claims.rows ≡ [] → b.claims.next ≡ 0 → b.slots ≡ vector.first_slices quantum owners → b.roster.list ≡ [] → b.time ≡ 0 → b.ledger.rows ≡ own_rows owners (length owners) → world_of b ≡ bare_world pages quantum owners
+built_world pages envs quantum owners b free unbound untaken unclaimed first slots none start rows =
     let count : length b.slots.slots ≡ length owners = ap (λ v. length v.slots) slots ∙ length-map owners (option_map own_hold) in
     let page_count : length b.pages ≡ pages = ap length free ∙ length-replicate pages Free in
     worlds (world_of b) (bare_world pages quantum owners)
@@ -123,11 +127,19 @@ built_world pages envs quantum owners b free unbound untaken slots none start ro
       kept = λ e. ap (λ list. mappings_of list e) none i;
       binds = λ e row. (ap (λ rows. stripes rows e row) unbound ∙ empty_row (envs * stripe_rows) e row) i;
       lines = λ line. (ap (λ taken. line_at taken line) untaken ∙ line_free most_lines line) i;
+      claims = (ap (map claim_in) unclaimed) i;
+      next_claim = first i;
       time = start i;
     })
     (ap length none)
     (λ e. ap (λ list. solo_or_absent b e (slice_get list e)) none)
     rows
+
+-- who owns a page is its row's owner
+owner_is : (i : ℕ) (row : PageRow) → is_owned_by i row ≡ true → owner_of row ≡ Some i
+owner_is i Free is = cc
+owner_is i (Guaranteed owner) is = cc
+owner_is i (Owned owner words) is = ap Some (eqb-true owner i is)
 
 -- One environment more.
 module _ (r : Environments) (x : Environment) (lives : x.life ≡ Live) (room : 0 < r.spare) where
@@ -169,13 +181,14 @@ module _ (r : Environments) (x : Environment) (lives : x.life ≡ Live) (room : 
 -- A board without programs is sound.
 pub built_sound : (pages quantum envs : ℕ) (owners : List (Option ℕ)) (cpu : Cpu) (ledger : Ledger) → pages ≤ most_pages → least_quantum ≤ quantum → length owners ≤ most_slots → envs ≤ most_environments
     → All (λ owner. IfSome owner (λ e. e < envs)) owners
-    → IsSound (shown (zeroed pages) (replicate pages Free) (replicate (envs * stripe_rows) None) free_lines (vector.first_slices quantum owners) cpu (record { list = []; spare = envs }) 0 ledger)
+    → IsSound (shown (zeroed pages) (replicate pages Free) (replicate (envs * stripe_rows) None) free_lines (record { rows = []; next = 0; envs = envs }) (vector.first_slices quantum owners) cpu (record { list = []; spare = envs }) 0 ledger)
 built_sound pages quantum envs owners cpu ledger few long slots most all = record {
   few = omega arith;
   book = built_manned quantum envs owners long slots all;
   memory = built_parted pages few;
   books = built_booked pages envs;
   lines = built_wired;
+  claims = record { owned = refl; count = omega arith };
 }
 
 -- Pages are given to the environment that is added.
@@ -250,6 +263,7 @@ added_sound b x count frames pages sound gives its lives room = record {
   memory = added_parted b.roster x count b.pages pages b.frames frames b.binds gives sound.memory its;
   books = added_booked b.roster x count b.pages pages b.frames frames b.binds gives sound.books lives room;
   lines = added_wired b.roster x lives room b.lines sound.lines;
+  claims = given_claimed b.claims b.pages pages b.roster (λ p taken. taken_row (length b.roster.list) (row_in b.pages p) (row_in pages p) (given_row (length b.roster.list) count b.pages pages b.frames frames gives p) taken) x (omega (arith, room, length-append b.roster.list (x ∷ []))) sound.claims;
 }
 
 module _ (b : Shown) (x : Environment) (frames : List (List ℕ)) (pages : List PageRow) (p : ProgramValue) (sound : IsSound b) (gives : AreGiven (length b.roster.list) (guaranteed_mappings p) b.pages pages b.frames frames)
@@ -272,6 +286,22 @@ module _ (b : Shown) (x : Environment) (frames : List (List ℕ)) (pages : List 
       by_row : (o : Option Binding) → stripes b.binds (length b.roster.list) row ≡ o → o ≡ None
       by_row None is = refl
       by_row (Some y) is = let live = sound.books.binders (length b.roster.list) row y is in absurd (omega (arith, live.0))
+
+  -- nor has it claims
+  ringless : rings_of b.claims (length b.roster.list) ≡ []
+  ringless = by_rows b.claims.rows sound.claims.owned
+    where
+      by_row : (c : RowValue) (rows : List RowValue) (own : Bool) → has_own_page b.pages c.claim ≡ own → (own && list_all (λ (c : RowValue). has_own_page b.pages c.claim) rows) ≡ true
+          → (list_all (λ (c : RowValue). has_own_page b.pages c.claim) rows ≡ true → map ring_in (filter (λ (c : RowValue). is_of_env (length b.roster.list) c.claim) rows) ≡ []) → map ring_in (filter (λ (c : RowValue). is_of_env (length b.roster.list) c.claim) (c ∷ rows)) ≡ []
+      by_row c rows true own all rest =
+          let live = sound.books.owners c.claim.page c.claim.env (owner_is c.claim.env (row_in b.pages c.claim.page) own) in
+          let other : is_of_env (length b.roster.list) c.claim ≡ false = ne_eqb c.claim.env (length b.roster.list) (λ same. omega (arith, same, live.0)) in
+          rw other (rest all)
+      by_row c rows false own all rest = cc
+
+      by_rows : (rows : List RowValue) → list_all (λ (c : RowValue). has_own_page b.pages c.claim) rows ≡ true → map ring_in (filter (λ (c : RowValue). is_of_env (length b.roster.list) c.claim) rows) ≡ []
+      by_rows [] all = refl
+      by_rows (c ∷ rows) all = by_row c rows (has_own_page b.pages c.claim) refl all (by_rows rows)
 
   becomes_row : (page : ℕ) → IsGivenRow (length b.roster.list) (row_in b.pages page) (row_in pages page)
   becomes_row page = given_row (length b.roster.list) (guaranteed_mappings p) b.pages pages b.frames frames gives page
@@ -338,6 +368,7 @@ module _ (b : Shown) (x : Environment) (frames : List (List ℕ)) (pages : List 
         kept = kept k;
         binds = λ row. unbound row k;
         seen = λ page. unseen page k;
+        rings = ringless k;
         console = (output k).console;
         sent = (output k).sent;
       })
@@ -348,6 +379,7 @@ module _ (b : Shown) (x : Environment) (frames : List (List ℕ)) (pages : List 
   added_others i ne =
       like_solo i (with_one b x frames pages) b (record {
         record_is = other_get b.roster.list x i ne;
+        rings = refl;
         cpu = λ kept. refl;
         pages = left_pages b.pages b.frames frames i (mappings_of b.roster.list i) gives.left (sound.memory.mapped i).its;
         binds = refl;

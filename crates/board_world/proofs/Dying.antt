@@ -1,9 +1,11 @@
 -- The runner's death, on the world that is shown.
 use Rattle.std.proofs.Common.{◌≡◌, ◌≢◌, ◌≤◌, ◌<◌, ℕ, List, [], ◌∷◌, length, map, suc, zero, Bool, true, false, Option, Some, None, refl, sym, ◌∙◌, ap, arith, append_assoc}
-use Rattle.std.proofs.lemmas.Bool.{ne_eqb, eq-eqb}
+use Rattle.std.proofs.lemmas.Bool.{ne_eqb, eq-eqb, eqb-true}
 use Rattle.std.proofs.lemmas.List.{length-map, length-append}
 use Rattle.std.specs.Prelude.{◌==◌, if◌then◌else◌, slice_get}
 use Rattle.std.specs.Option.{option_map}
+use Rattle.std.specs.List.{list_all}
+use Rattle.filter_tree.specs.ClaimBook.{RowValue, is_of_env}
 use Rattle.frame_store.specs.Pages.{page_at}
 use Rattle.aegis_limits.specs.Limits.{most_slots}
 use Rattle.kernel_journal.specs.declared.row.Row.TheVariants as row
@@ -29,10 +31,11 @@ use Rattle.world_model.specs.Table.{set_at}
 use Rattle.board_world.specs.declared.roster.Environment.{Environment}
 use Rattle.board_world.specs.Shown.{Shown}
 use Rattle.board_world.specs.Showing.{world_of, book_of, solo_of, solo_or_absent, solo_seen}
-use Rattle.board_world.specs.Sound.{AreBooked, IsSound}
+use Rattle.board_world.specs.Sound.{AreBooked, IsSound, has_own_page}
+use Rattle.board_world.proofs.Claimed.{claims_without, no_ring, rings_gone, rings_gone_else}
 use Rattle.board_world.specs.Doing as doing
 use Rattle.board_world.proofs.Lists.{changed_here, changed_else, get_within, length-changed}
-use Rattle.board_world.proofs.Losing.{dropped, HasNone, losses_keep, no_losses, nothing_seen, sees_by}
+use Rattle.board_world.proofs.Losing.{dropped, HasNone, losses_keep, no_losses, nothing_seen, rings_but, sees_by}
 use Rattle.board_world.proofs.Mappings.{dead_mappings}
 use Rattle.board_world.proofs.Parts.{by_env, set_here, set_else}
 use Rattle.board_world.proofs.Replying.{Serves}
@@ -75,6 +78,12 @@ released_none e i row none = by_test (belongs_to e row)
     by_test true = refl
     by_test false = none
 
+-- a page that belongs to one no other owns
+not_its : (i e : ℕ) (row : PageRow) → i ≢ e → belongs_to e row ≡ true → is_owned_by i row ≡ false
+not_its i e Free ne its = refl
+not_its i e (Guaranteed owner) ne its = refl
+not_its i e (Owned owner words) ne its = ne_eqb owner i (λ same. ne (sym same ∙ eqb-true owner e its))
+
 -- the bindings of one that is gone go
 own_goes : (pages : ℕ → PageRow) (e : ℕ) (x : Option Binding) → without (goes_with pages e e) x ≡ None
 own_goes pages e None = refl
@@ -85,13 +94,14 @@ pub record MayDie (b : Shown) (e : ℕ) : Type 0 where
   pub numbered : e < length b.slots.excess
   pub count : length b.slots.slots ≤ most_slots
   pub books : AreBooked b.pages b.binds b.roster
+  pub claims : list_all (λ (c : RowValue). has_own_page b.pages c.claim) b.claims.rows ≡ true
 
 -- each environment of the board has an excess
 pub numbered_within : (b : Shown) (e : ℕ) (x : Environment) → slice_get b.roster.list e ≡ Some x → IsSound b → e < length b.slots.excess
 numbered_within b e x at sound = omega (arith, get_within b.roster.list e x at, sound.few, sound.book.numbered)
 
 pub may_die : (b : Shown) (e : ℕ) (x : Environment) → slice_get b.roster.list e ≡ Some x → IsSound b → MayDie b e
-may_die b e x at sound = record { numbered = numbered_within b e x at sound; count = sound.book.count; books = sound.books }
+may_die b e x at sound = record { numbered = numbered_within b e x at sound; count = sound.book.count; books = sound.books; claims = sound.claims.owned }
 
 module _ (b : Shown) (e : ℕ) (x : Environment) (r : Runs b e x) (may : MayDie b e) (cause : Cause) where
   abbrev after_death : Shown
@@ -112,12 +122,14 @@ module _ (b : Shown) (e : ℕ) (x : Environment) (r : Runs b e x) (may : MayDie 
       ∙ rw r.runs.its (λ k. record (dead cause (solo_seen b e x)) {
         binds = λ row. has_nothing.binds row k;
         seen = λ page. nothing_seen e (row_in after_death.pages) (stripe_of after_death e) (page_at b.frames) has_nothing page k;
+        rings = rings_gone b.claims e k;
       })
       ∙ ap (dead cause) (sym (runner_seen b e x r))
 
   dead_others : (i : ℕ) → i ≢ e → solo_of after_death i ≡ absorb_all (solo_of b i) (lost_with (book_of b) e i (length b.pages))
   dead_others i ne = dropped i b after_death (lost_with (book_of b) e i (length b.pages)) (record {
     record_is = changed_else (doing.dead_frame cause) b.roster.list e i ne;
+    rings = rings_gone_else b.claims e i ne;
     idles = rw r.runs.its refl;
     idled = r.runs.others i ne;
     pages = refl;
@@ -125,7 +137,7 @@ module _ (b : Shown) (e : ℕ) (x : Environment) (r : Runs b e x) (may : MayDie 
         sees_by i (λ page. released_page e (row_in b.pages page)) (row_in after_death.pages) (λ row. without (goes_with (row_in b.pages) e i) (stripe_of b i row)) (stripe_of after_death i) (page_at b.frames) (page_at b.frames)
         (absorb_all s (lost_with (book_of b) e i (length b.pages))) (row_released e b.pages) (swept_stripe i) (λ page. refl)
         (mourners_lose e i (book_of b) (page_at b.frames) s seen lives ne (row_past b.pages) (stripes_end b.binds i));
-    keeps = losses_keep (book_of b) e i (length b.pages);
+    keeps = λ s same. losses_keep (book_of b) e i (length b.pages) s (λ page its. ap (rings_but page) same ∙ no_ring b.claims b.pages i page may.claims (not_its i e (row_in b.pages page) ne its) ∙ sym same);
     none = λ none. record {
       binds = λ row. swept_stripe i row ∙ ap (without (goes_with (row_in b.pages) e i)) (none.binds row);
       owns = λ page. ap (is_owned_by i) (row_released e b.pages page) ∙ released_none e i (row_in b.pages page) (none.owns page);
@@ -150,6 +162,8 @@ module _ (b : Shown) (e : ℕ) (x : Environment) (r : Runs b e x) (may : MayDie 
           kept = λ i. dead_mappings cause b.roster.list e i k;
           binds = λ i row. swept_stripe i row k;
           lines = λ line. line_freed e b.lines line k;
+          claims = claims_without (is_of_env e) b.claims k;
+          next_claim = b.claims.next;
           time = b.time;
         };
     count = length-changed (doing.dead_frame cause) b.roster.list e;

@@ -121,6 +121,7 @@ module _ (b : Shown) (e : ℕ) (x : Environment) (r : Runs b e x) (sound : IsSou
     others i ne ne_t =
         same_solo i new b (record {
           record_is = changed_else (doing.with_registers now.cpu) b.roster.list e i ne;
+          rings = refl;
           idles = runs_next.runs.others i ne_t;
           idled = r.runs.others i ne;
           pages = start_others b sound t i ne_t;

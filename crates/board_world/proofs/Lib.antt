@@ -2,8 +2,12 @@ pub mod Allowed
 pub mod BindServing
 pub mod Booked
 pub mod Building
+pub mod Claimed
+pub mod ClaimServing
+pub mod Claiming
 pub mod Contexts
 pub mod Counting
+pub mod Delivering
 pub mod Dying
 pub mod GiftServing
 pub mod Giving
@@ -16,11 +20,13 @@ pub mod Losing
 pub mod Mappings
 pub mod Masks
 pub mod PageServing
+pub mod Numbering
 pub mod OwnServing
 pub mod Pages
 pub mod Parted
 pub mod Parts
 pub mod Phases
+pub mod Posting
 pub mod Reading
 pub mod Replying
 pub mod Seen

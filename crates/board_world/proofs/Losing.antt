@@ -1,6 +1,6 @@
 -- What environments other than the runner see of a change of the books.
 use Rattle.std.proofs.Common.{◌≡◌, ℕ, zero, suc, List, [], ◌++◌, Bool, true, false, Option, Some, None, inl, inr, ◌⊎◌, refl, sym, ◌∙◌, ap, subst}
-use Rattle.std.specs.Prelude.{◌==◌, if◌then◌else◌, slice_get}
+use Rattle.std.specs.Prelude.{◌==◌, if◌then◌else◌, filter, not, slice_get}
 use Rattle.std.proofs.lemmas.Bool.{eqb-true}
 use Rattle.std.proofs.lemmas.List.Sums.{fold-append}
 use Rattle.frame_store.specs.Pages.{page_at}
@@ -20,8 +20,9 @@ use Rattle.world_model.specs.Item.{Item, absorb, absorb_all}
 use Rattle.world_model.specs.Holding.{lost}
 use Rattle.world_model.specs.Death.{lost_with}
 use Rattle.world_model.specs.PageCalls.{lost_if}
-use Rattle.world_model.specs.Solo.{Solo, is_dead}
+use Rattle.world_model.specs.Solo.{Solo, Ring, is_dead}
 use Rattle.board_world.specs.declared.roster.Environment.{Environment}
+use Rattle.board_world.specs.Rings.{rings_of}
 use Rattle.board_world.specs.Shown.{Shown, mappings_in, mappings_of}
 use Rattle.board_world.specs.Showing.{solo_of, solo_or_absent, solo_seen, cpu_seen, pages_seen}
 use Rattle.board_world.specs.Sound.{AreBooked, IsAlive, IsLive}
@@ -39,30 +40,35 @@ sees_by e pages rows stripe binds bytes frames s same_rows same_binds same_bytes
 abbrev pub resighted : Solo → Solo → Solo
 resighted s t = record s { binds = t.binds; seen = t.seen }
 
--- who loses a page keeps all else
-pub lost_keeps : (s : Solo) (t : Bool) (page : ℕ) → absorb_all s (lost_if t page) ≡ resighted s (absorb_all s (lost_if t page))
-lost_keeps s false page = refl
-lost_keeps s true page = by_life (is_dead s.life)
+-- the claims that go into other pages
+abbrev pub rings_but : ℕ → List Ring → List Ring
+rings_but page rings = filter (λ (r : Ring). not (r.page == page)) rings
+
+-- who loses a page that is no ring of its own keeps all else
+pub lost_keeps : (s : Solo) (t : Bool) (page : ℕ) → rings_but page s.rings ≡ s.rings → absorb_all s (lost_if t page) ≡ resighted s (absorb_all s (lost_if t page))
+lost_keeps s false page other = refl
+lost_keeps s true page other = by_life (is_dead s.life)
   where
     by_life : (gone : Bool) → (if gone then s else lost page s) ≡ resighted s (if gone then s else lost page s)
     by_life true = refl
-    by_life false = refl
+    by_life false = λ k. record (lost page s) { rings = other k }
 
 next_keeps : (s u v : Solo) → u ≡ resighted s u → v ≡ resighted u v → v ≡ resighted s v
 next_keeps s u v first next = next ∙ ap (λ w. resighted w v) first
 
 -- and so does who loses pages with one that dies
-pub losses_keep : (b : Book) (gone i n : ℕ) (s : Solo) → absorb_all s (lost_with b gone i n) ≡ resighted s (absorb_all s (lost_with b gone i n))
-losses_keep b gone i zero s = refl
-losses_keep b gone i (suc n) s =
+pub losses_keep : (b : Book) (gone i n : ℕ) (s : Solo) → ((page : ℕ) → belongs_to gone (b.pages page) ≡ true → rings_but page s.rings ≡ s.rings) → absorb_all s (lost_with b gone i n) ≡ resighted s (absorb_all s (lost_with b gone i n))
+losses_keep b gone i zero s others = refl
+losses_keep b gone i (suc n) s others =
     let so_far = absorb_all s (lost_with b gone i n) in
+    let before = losses_keep b gone i n s others in
     let next : List Item = if belongs_to gone (b.pages n) then lost_if (is_bound n (b.binds i)) n else [] in
     subst (λ (u : Solo). u ≡ resighted s u) (sym (fold-append absorb s (lost_with b gone i n) next))
-    (next_keeps s so_far (absorb_all so_far next) (losses_keep b gone i n s) (by_part so_far (belongs_to gone (b.pages n))))
+    (next_keeps s so_far (absorb_all so_far next) before (by_part so_far (belongs_to gone (b.pages n)) refl (ap (λ (u : Solo). u.rings) before)))
   where
-    by_part : (u : Solo) (t : Bool) → absorb_all u (if t then lost_if (is_bound n (b.binds i)) n else []) ≡ resighted u (absorb_all u (if t then lost_if (is_bound n (b.binds i)) n else []))
-    by_part u true = lost_keeps u (is_bound n (b.binds i)) n
-    by_part u false = refl
+    by_part : (u : Solo) (t : Bool) → belongs_to gone (b.pages n) ≡ t → u.rings ≡ s.rings → absorb_all u (if t then lost_if (is_bound n (b.binds i)) n else []) ≡ resighted u (absorb_all u (if t then lost_if (is_bound n (b.binds i)) n else []))
+    by_part u true is same = lost_keeps u (is_bound n (b.binds i)) n (ap (rings_but n) same ∙ others n is ∙ sym same)
+    by_part u false is same = refl
 
 -- an environment with no bindings that owns no page
 pub record HasNone (i : ℕ) (pages : ℕ → PageRow) (stripe : ℕ → Option Binding) : Type 0 where
@@ -126,11 +132,12 @@ has_none b i books dead = record { binds = λ row. by_binding row (stripe_of b i
 -- What another than the runner is given, if it lives; one that doesn't sees nothing before and after.
 pub record Drops (i : ℕ) (old new : Shown) (its : List Item) : Type 0 where
   pub record_is : slice_get new.roster.list i ≡ slice_get old.roster.list i
+  pub rings : rings_of new.claims i ≡ rings_of old.claims i
   pub idles : is_runner i new.slots.runner ≡ false
   pub idled : is_runner i old.slots.runner ≡ false
   pub pages : pages_seen new.frames (mappings_of old.roster.list i) ≡ pages_seen old.frames (mappings_of old.roster.list i)
   pub sees : (s : Solo) → s.life ≡ Live → Sees i (row_in old.pages) (stripe_of old i) (page_at old.frames) s → Sees i (row_in new.pages) (stripe_of new i) (page_at new.frames) (absorb_all s its)
-  pub keeps : (s : Solo) → absorb_all s its ≡ resighted s (absorb_all s its)
+  pub keeps : (s : Solo) → s.rings ≡ rings_of old.claims i → absorb_all s its ≡ resighted s (absorb_all s its)
   pub none : HasNone i (row_in old.pages) (stripe_of old i) → HasNone i (row_in new.pages) (stripe_of new i)
   pub nothing : HasNone i (row_in old.pages) (stripe_of old i) → its ≡ []
 
@@ -150,8 +157,8 @@ module _ (i : ℕ) (old new : Shown) (its : List Item) (drops : Drops i old new 
       let pages : pages_seen new.frames x.env.mappings ≡ pages_seen old.frames x.env.mappings =
       ap (λ y. pages_seen new.frames (mappings_in y)) (sym at) ∙ drops.pages ∙ ap (λ y. pages_seen old.frames (mappings_in y)) at in
       idle_seen new x (drops.record_is ∙ at) lives drops.idles
-      ∙ (λ k. record s { kept = pages k; binds = λ row. sym (sees.binds row) k; seen = λ page. sym (sees.seen page) k })
-      ∙ sym (drops.keeps s)
+      ∙ (λ k. record s { kept = pages k; binds = λ row. sym (sees.binds row) k; seen = λ page. sym (sees.seen page) k; rings = drops.rings k })
+      ∙ sym (drops.keeps s refl)
       ∙ ap (λ t. absorb_all t its) (sym (idle_seen old x at lives drops.idled))
 
   dead_drops : HasNone i (row_in old.pages) (stripe_of old i) → solo_of new i ≡ absorb_all (solo_of old i) its
@@ -159,6 +166,7 @@ module _ (i : ℕ) (old new : Shown) (its : List Item) (drops : Drops i old new 
       let still = drops.none none in
       same_solo i new old (record {
         record_is = drops.record_is;
+        rings = drops.rings;
         idles = drops.idles;
         idled = drops.idled;
         pages = drops.pages;

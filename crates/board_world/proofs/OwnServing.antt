@@ -54,6 +54,7 @@ module _ (b : Shown) (e : ℕ) (x : Environment) (r : Runs b e x) (sound : IsSou
             (runner_seen now e (f x) still ∙ shows own v ∙ deeded_seen b e x r (Own own) v)
             (λ i ne. same_solo i now b (record {
               record_is = changed_else f b.roster.list e i ne;
+              rings = refl;
               idles = r.runs.others i ne;
               idled = r.runs.others i ne;
               pages = refl;

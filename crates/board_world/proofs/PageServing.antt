@@ -32,10 +32,12 @@ use Rattle.board_world.specs.Shown.{Shown, mappings_of}
 use Rattle.board_world.specs.Showing.{world_of, book_of, solo_of, page_seen, pages_seen}
 use Rattle.board_world.specs.Sound.{IsSound, IsOwned}
 use Rattle.board_world.specs.Doing as doing
-use Rattle.board_world.proofs.Losing.{dropped, lost_keeps, nothing_lost, sees_by}
+use Rattle.board_world.proofs.Losing.{dropped, lost_keeps, nothing_lost, rings_but, sees_by}
+use Rattle.filter_tree.specs.Claims.{is_into}
+use Rattle.board_world.proofs.Claimed.{claims_without, no_ring, rings_dropped}
 use Rattle.board_world.proofs.Parts.{append_nothing, one_given}
 use Rattle.board_world.proofs.Replying.{Serves, all_given, deeded, deeded_seen}
-use Rattle.board_world.proofs.Seen.{Runs, runner_solo, runner_seen, its_mappings, stripe_of}
+use Rattle.board_world.proofs.Seen.{Runs, like_solo, runner_solo, runner_seen, its_mappings, stripe_of}
 use Rattle.board_world.proofs.Tables.{table_set}
 
 -- pages that other pages' bytes leave as they are
@@ -116,13 +118,14 @@ module _ (b : Shown) (e : ℕ) (x : Environment) (r : Runs b e x) (sound : IsSou
     taken_others : (i : ℕ) → i ≢ e → solo_of taken i ≡ solo_of b i
     taken_others i ne = dropped i b taken [] (record {
       record_is = refl;
+      rings = refl;
       idles = r.runs.others i ne;
       idled = r.runs.others i ne;
       pages = mapped_else page zeros may.free i;
       sees = λ s lives seen.
           sees_by i (set_at page (Owned e words) (row_in b.pages)) (row_in taken.pages) (stripe_of b i) (stripe_of b i) (set_at page zeros (page_at b.frames)) (page_at taken.frames) s taken_rows (λ row. refl) taken_bytes
           (others_dont i page (Owned e words) zeros (row_in b.pages) (stripe_of b i) (page_at b.frames) s seen (ap (is_owned_by i) may.free) (ne_eqb e i (λ same. ne (sym same))) (unbound_free page may.free i));
-      keeps = λ s. refl;
+      keeps = λ s same. refl;
       none = λ none. record {
         binds = none.binds;
         owns = λ p. ap (is_owned_by i) (taken_rows p) ∙ set_owns i page (Owned e words) (row_in b.pages) (ne_eqb e i (λ same. ne (sym same))) none.owns p;
@@ -174,6 +177,7 @@ module _ (b : Shown) (e : ℕ) (x : Environment) (r : Runs b e x) (sound : IsSou
     changed_others : is_owned_by e (row_in b.pages page) ≡ true → (i : ℕ) → i ≢ e → but ≢ Some i → is_owned_by i row ≡ false → solo_of changed i ≡ absorb_all (solo_of b i) (calls.breaks (book_of b) page i)
     changed_others owns i ne other after = dropped i b changed (calls.breaks (book_of b) page i) (record {
       record_is = refl;
+      rings = refl;
       idles = r.runs.others i ne;
       idled = r.runs.others i ne;
       pages = refl;
@@ -181,7 +185,7 @@ module _ (b : Shown) (e : ℕ) (x : Environment) (r : Runs b e x) (sound : IsSou
           sees_by i (set_at page row (row_in b.pages)) (row_in changed.pages) (λ n. without (breaks_page page but i) (stripe_of b i n)) (stripe_of changed i) (page_at b.frames) (page_at b.frames)
           (absorb_all s (calls.breaks (book_of b) page i)) changed_rows (changed_stripe i) (λ p. refl)
           (others_lose i page but row (row_in b.pages) (stripe_of b i) (page_at b.frames) s seen lives other (anothers e i (row_in b.pages page) ne owns) after (stripes_end b.binds i));
-      keeps = λ s. lost_keeps s (is_bound page (stripe_of b i)) page;
+      keeps = λ s same. lost_keeps s (is_bound page (stripe_of b i)) page (ap (rings_but page) same ∙ no_ring b.claims b.pages i page sound.claims.owned (anothers e i (row_in b.pages page) ne owns) ∙ sym same);
       none = λ none. record {
         binds = λ n. changed_stripe i n ∙ ap (without (breaks_page page but i)) (none.binds n);
         owns = λ p. ap (is_owned_by i) (changed_rows p) ∙ set_owns i page row (row_in b.pages) after none.owns p;
@@ -197,18 +201,28 @@ module _ (b : Shown) (e : ℕ) (x : Environment) (r : Runs b e x) (sound : IsSou
   -- Free.
   pub frees : (page v : ℕ) → MayChange (book_of b) e page → Serves b e (deeded (Frees page) v (solo_of b e)) (done (world_of b) e (Frees page)) (doing.granted b e v (Frees page))
   frees page v may =
-      let now = changed page Free None v may.there in
+      let broke = changed page Free None v may.there in
+      let now = doing.granted b e v (Frees page) in
       let still : Runs now e x = record { at = r.at; lives = r.lives; runs = r.runs } in
       let sees : Sees e (row_in now.pages) (stripe_of now e) (page_at b.frames) (lost page (runner_solo b e x)) =
       changed_own page Free None v may.there (lost page (runner_solo b e x)) (freer_loses e page Free (row_in b.pages) (stripe_of b e) (page_at b.frames) (runner_solo b e x) (own_sees b e x) refl) in
       record {
-        book = changed_book page Free None v may.there;
+        book = λ k. record (changed_book page Free None v may.there k) { claims = claims_without (is_into page) b.claims k };
         count = refl;
         solos = all_given (solo_of b) (solo_of now) e (deeded (Frees page) v (solo_of b e)) (Lost page ∷ []) (calls.breaks (book_of b) page)
             (runner_seen now e x still
-            ∙ (λ k. record (runner_solo b e x) { cpu = answered_cpu (Grant v) b.cpu; binds = λ n. sym (sees.binds n) k; seen = λ p. sym (sees.seen p) k })
+            ∙ (λ k. record (runner_solo b e x) { cpu = answered_cpu (Grant v) b.cpu; binds = λ n. sym (sees.binds n) k; seen = λ p. sym (sees.seen p) k; rings = rings_dropped b.claims page e k })
             ∙ ap (λ s. absorb_all s (Lost page ∷ [])) (deeded_seen b e x r (Frees page) v))
-            (λ i ne. changed_others page Free None v may.there may.owned i ne (λ same. let both : None ≡ Some i = same in cc) refl);
+            (λ i ne.
+                like_solo i now broke (record {
+                  record_is = refl;
+                  rings = rings_dropped b.claims page i ∙ no_ring b.claims b.pages i page sound.claims.owned (anothers e i (row_in b.pages page) ne may.owned);
+                  cpu = λ kept. refl;
+                  pages = refl;
+                  binds = refl;
+                  sights = refl;
+                })
+                ∙ changed_others page Free None v may.there may.owned i ne (λ same. let both : None ≡ Some i = same in cc) refl);
         rows = sym (append_nothing b.ledger.rows);
         room = omega arith;
         spare = refl;

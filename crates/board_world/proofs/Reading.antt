@@ -10,6 +10,7 @@ use Rattle.world_model.specs.Solo.{Solo, kept_at, sight}
 use Rattle.board_world.specs.declared.roster.Environment.{Environment}
 use Rattle.board_world.specs.Shown.{Shown, console_in, console_of, mappings_of, sent_in, sent_of}
 use Rattle.board_world.specs.Showing.{page_seen, solo_of, solo_or_absent, world_of}
+use Rattle.board_world.specs.Rings.{rings_of}
 use Rattle.board_world.specs.Sound.{IsSound}
 use Rattle.board_world.specs.Doing.{look_of}
 use Rattle.board_world.proofs.Pages.{seen_kept}
@@ -61,3 +62,7 @@ life_same b e =
     by_record : (o : Option Environment) → option_map (λ (x : Environment). x.life) o ≡ (if is_some o then Some (solo_or_absent b e o).life else None)
     by_record None = refl
     by_record (Some x) = refl
+
+-- the claims of the runner's
+pub runner_rings : (b : Shown) (e : ℕ) → IsSound b → running b.slots.runner ≡ Some e → (solo_of b e).rings ≡ rings_of b.claims e
+runner_rings b e sound runs = let x = runner_runs b e sound runs in ap (λ (s : Solo). s.rings) (runner_seen b e x.0 x.1)

@@ -56,7 +56,7 @@ deeded d v s = record (own_part d s) { cpu = answered_cpu (Grant v) s.cpu }
 
 module _ (b : Shown) (e : ℕ) (x : Environment) (r : Runs b e x) where
   pub answered_others : (verdict : Verdict) (i : ℕ) → i ≢ e → solo_of (doing.answered b verdict) i ≡ solo_of b i
-  answered_others verdict i ne = same_solo i (doing.answered b verdict) b (record { record_is = refl; idles = r.runs.others i ne; idled = r.runs.others i ne; pages = refl; binds = refl; sights = refl })
+  answered_others verdict i ne = same_solo i (doing.answered b verdict) b (record { record_is = refl; rings = refl; idles = r.runs.others i ne; idled = r.runs.others i ne; pages = refl; binds = refl; sights = refl })
 
   pub answered_seen : (verdict : Verdict) → solo_of (doing.answered b verdict) e ≡ record (runner_solo b e x) { cpu = answered_cpu verdict b.cpu }
   answered_seen verdict = runner_seen (doing.answered b verdict) e x (record { at = r.at; lives = r.lives; runs = r.runs })

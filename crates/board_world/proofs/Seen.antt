@@ -23,6 +23,7 @@ use Rattle.world_model.specs.Book.{is_runner, running}
 use Rattle.world_model.specs.Solo.{Solo, Seen as Sight, sight}
 use Rattle.world_model.specs.Step.{step_alone}
 use Rattle.board_world.specs.declared.roster.Environment.{Environment}
+use Rattle.board_world.specs.Rings.{rings_of}
 use Rattle.board_world.specs.Shown.{Shown, mappings_in, mappings_of}
 use Rattle.board_world.specs.Showing.{solo_of, solo_or_absent, solo_seen, cpu_seen, page_seen, pages_seen}
 use Rattle.board_world.specs.Sound.{IsSound, IsParted, IsAlive, IsLive, IsOwned}
@@ -36,9 +37,10 @@ stripe_of b e = stripes b.binds e
 abbrev pub sights_of : Shown → ℕ → ℕ → Option Sight
 sights_of b e = seen_in e (row_in b.pages) (stripes b.binds e) (page_at b.frames)
 
--- an environment whose record, registers, pages and bindings are as they were
+-- an environment whose record, claims, registers, pages and bindings are as they were
 pub record IsLike (i : ℕ) (new old : Shown) : Type 0 where
   pub record_is : slice_get new.roster.list i ≡ slice_get old.roster.list i
+  pub rings : rings_of new.claims i ≡ rings_of old.claims i
   pub cpu : (kept : Cpu) → cpu_seen new i kept ≡ cpu_seen old i kept
   pub pages : pages_seen new.frames (mappings_of old.roster.list i) ≡ pages_seen old.frames (mappings_of old.roster.list i)
   pub binds : stripe_of new i ≡ stripe_of old i
@@ -52,11 +54,12 @@ like_solo i new old like = ap (solo_or_absent new i) like.record_is ∙ by_recor
     by_record (Some x) is =
         let pages : pages_seen new.frames x.env.mappings ≡ pages_seen old.frames x.env.mappings =
         ap (λ y. pages_seen new.frames (mappings_in y)) (sym is) ∙ like.pages ∙ ap (λ y. pages_seen old.frames (mappings_in y)) is in
-        λ k. record (solo_seen old i x) { cpu = like.cpu x.env.cpu k; kept = pages k; binds = like.binds k; seen = like.sights k }
+        λ k. record (solo_seen old i x) { cpu = like.cpu x.env.cpu k; kept = pages k; binds = like.binds k; seen = like.sights k; rings = like.rings k }
 
--- an environment that neither runs before nor after, and whose record, pages and bindings are as they were
+-- an environment that neither runs before nor after, and whose record, claims, pages and bindings are as they were
 pub record IsSame (i : ℕ) (new old : Shown) : Type 0 where
   pub record_is : slice_get new.roster.list i ≡ slice_get old.roster.list i
+  pub rings : rings_of new.claims i ≡ rings_of old.claims i
   pub idles : is_runner i new.slots.runner ≡ false
   pub idled : is_runner i old.slots.runner ≡ false
   pub pages : pages_seen new.frames (mappings_of old.roster.list i) ≡ pages_seen old.frames (mappings_of old.roster.list i)
@@ -64,7 +67,7 @@ pub record IsSame (i : ℕ) (new old : Shown) : Type 0 where
   pub sights : sights_of new i ≡ sights_of old i
 
 pub same_solo : (i : ℕ) (new old : Shown) → IsSame i new old → solo_of new i ≡ solo_of old i
-same_solo i new old same = like_solo i new old (record { record_is = same.record_is; cpu = λ kept. rw (same.idles, same.idled) refl; pages = same.pages; binds = same.binds; sights = same.sights })
+same_solo i new old same = like_solo i new old (record { record_is = same.record_is; rings = same.rings; cpu = λ kept. rw (same.idles, same.idled) refl; pages = same.pages; binds = same.binds; sights = same.sights })
 
 -- a runner with a number
 pub record IsNamed (e : ℕ) (runner : Option Runner) : Type 0 where
@@ -85,7 +88,7 @@ unfolding lookup
 opened_look b e v = refl
 
 -- a page that isn't free is there
-row_there : (pages : List PageRow) (page : ℕ) → row_in pages page ≢ Free → page < length pages
+pub row_there : (pages : List PageRow) (page : ℕ) → row_in pages page ≢ Free → page < length pages
 row_there [] page taken = absurd (taken refl)
 row_there (row ∷ pages) zero taken = omega arith
 row_there (row ∷ pages) (suc page) taken = let there = row_there pages page taken in omega arith

@@ -5,7 +5,7 @@ use Rattle.mips_exec.specs.Cpu.{reg}
 use Rattle.world_model.specs.declared.call.Call.{Call}
 use Rattle.world_model.specs.declared.code.Code.{Code}
 use Rattle.world_model.specs.declared.call.Deed.{Deed}
-use Rattle.world_model.specs.declared.call.Deed.TheVariants.{Answers, Own, Stops, Gives, Allocates, Frees, Recaps, Binds, Unbinds, Transfers, TakesSlot, DropsSlot, TakesLine, DropsLine}
+use Rattle.world_model.specs.declared.call.Deed.TheVariants.{Answers, Own, Stops, Gives, Allocates, Frees, Recaps, Binds, Unbinds, Transfers, TakesSlot, DropsSlot, TakesLine, DropsLine, Claims, Unclaims}
 use Rattle.world_model.specs.declared.life.Life.TheVariants.{Live}
 use Rattle.world_model.specs.declared.life.Cause.{Cause}
 use Rattle.world_model.specs.declared.life.Cause.TheVariants as cause
@@ -38,6 +38,7 @@ use Rattle.board_world.proofs.Phases.{called_still}
 use Rattle.board_world.proofs.Replying.{alone, answers, deeded, granted_serves, refuses}
 pub use Rattle.board_world.proofs.Replying.{Serves, told}
 pub use Rattle.board_world.proofs.Dying.{died_serves, hold_at-map}
+use Rattle.board_world.proofs.ClaimServing.{claims, unclaims}
 use Rattle.board_world.proofs.GiftServing.{gives, stops_itself}
 use Rattle.board_world.proofs.LineServing.{drops_line, takes_line}
 use Rattle.board_world.proofs.SlotServing.{drops, takes}
@@ -60,6 +61,8 @@ module _ (b : Shown) (e : ℕ) (x : Environment) (r : Runs b e x) (sound : IsSou
   does (DropsSlot slot) v may = drops b e x r slot v may
   does (TakesLine line) v may = takes_line b e x r sound line v may
   does (DropsLine line) v may = drops_line b e x r sound line v may
+  does (Claims claim address atoms page) v may = claims b e x r sound claim address atoms page v may
+  does (Unclaims claim) v may = unclaims b e x r sound claim v
 
   -- each verdict on a call
   judged : GrantedMay → (which : Verdict) → verdict (world_of b) e (called b.cpu) ≡ which → Serves b e (solo_of b e) (reply_of (world_of b) e which) (doing.served_by b e (called b.cpu) which)
@@ -116,32 +119,35 @@ refused_world law b e why v sound runs is =
     let x = runner_runs b e sound runs in
     called_world law b e sound runs ∙ refused_is (world_of b) e (ap (λ (s : Solo). s.life) (runner_seen b e x.0 x.1)) why v is
 
--- how many rows are written, and that all environments stay
+-- how many rows are written and claims made, and that all environments stay
 pub record Leaves (b new : Shown) : Type 0 where
   pub room : b.ledger.spare ≤ new.ledger.spare + 128
   pub spare : new.roster.spare ≡ b.roster.spare
   pub time : new.time ≡ b.time
+  pub numbers : new.claims.next ≤ b.claims.next + 1
 
 deed_leaves : (b : Shown) (e v : ℕ) (d : Deed) → Leaves b (doing.granted b e v d)
-deed_leaves b e v Answers = record { room = omega arith; spare = refl; time = refl }
-deed_leaves b e v (Own own) = record { room = omega arith; spare = refl; time = refl }
-deed_leaves b e v Stops = record { room = omega arith; spare = refl; time = refl }
-deed_leaves b e v (Gives target) = record { room = omega arith; spare = refl; time = refl }
-deed_leaves b e v (Allocates page words) = record { room = omega arith; spare = refl; time = refl }
-deed_leaves b e v (Frees page) = record { room = omega arith; spare = refl; time = refl }
-deed_leaves b e v (Recaps page words) = record { room = omega arith; spare = refl; time = refl }
-deed_leaves b e v (Binds binding word) = record { room = omega arith; spare = refl; time = refl }
-deed_leaves b e v (Unbinds vpn) = record { room = omega arith; spare = refl; time = refl }
-deed_leaves b e v (Transfers target kind) = record { room = entered_room b e target kind; spare = refl; time = refl }
-deed_leaves b e v (TakesSlot slot) = record { room = omega arith; spare = refl; time = refl }
-deed_leaves b e v (DropsSlot slot) = record { room = omega arith; spare = refl; time = refl }
-deed_leaves b e v (TakesLine line) = record { room = omega arith; spare = refl; time = refl }
-deed_leaves b e v (DropsLine line) = record { room = omega arith; spare = refl; time = refl }
+deed_leaves b e v Answers = record { room = omega arith; spare = refl; time = refl; numbers = omega arith }
+deed_leaves b e v (Own own) = record { room = omega arith; spare = refl; time = refl; numbers = omega arith }
+deed_leaves b e v Stops = record { room = omega arith; spare = refl; time = refl; numbers = omega arith }
+deed_leaves b e v (Gives target) = record { room = omega arith; spare = refl; time = refl; numbers = omega arith }
+deed_leaves b e v (Allocates page words) = record { room = omega arith; spare = refl; time = refl; numbers = omega arith }
+deed_leaves b e v (Frees page) = record { room = omega arith; spare = refl; time = refl; numbers = omega arith }
+deed_leaves b e v (Recaps page words) = record { room = omega arith; spare = refl; time = refl; numbers = omega arith }
+deed_leaves b e v (Binds binding word) = record { room = omega arith; spare = refl; time = refl; numbers = omega arith }
+deed_leaves b e v (Unbinds vpn) = record { room = omega arith; spare = refl; time = refl; numbers = omega arith }
+deed_leaves b e v (Transfers target kind) = record { room = entered_room b e target kind; spare = refl; time = refl; numbers = omega arith }
+deed_leaves b e v (TakesSlot slot) = record { room = omega arith; spare = refl; time = refl; numbers = omega arith }
+deed_leaves b e v (DropsSlot slot) = record { room = omega arith; spare = refl; time = refl; numbers = omega arith }
+deed_leaves b e v (TakesLine line) = record { room = omega arith; spare = refl; time = refl; numbers = omega arith }
+deed_leaves b e v (DropsLine line) = record { room = omega arith; spare = refl; time = refl; numbers = omega arith }
+deed_leaves b e v (Claims claim address atoms page) = record { room = omega arith; spare = refl; time = refl; numbers = omega arith }
+deed_leaves b e v (Unclaims claim) = record { room = omega arith; spare = refl; time = refl; numbers = omega arith }
 
 verdict_leaves : (b : Shown) (e : ℕ) (c : Option Call) (which : Verdict) → Leaves b (doing.served_by b e c which)
-verdict_leaves b e c (Refuse why v) = record { room = omega arith; spare = refl; time = refl }
+verdict_leaves b e c (Refuse why v) = record { room = omega arith; spare = refl; time = refl; numbers = omega arith }
 verdict_leaves b e c (Grant v) = deed_leaves b e v (deed_of c v b.cpu)
 
 pub called_leaves : (b : Shown) (e : ℕ) (exits : Bool) → IsSound b → running b.slots.runner ≡ Some e → Leaves b (doing.called_when b e exits)
-called_leaves b e true sound runs = let s = death_serves b e (cause.Exit (reg b.cpu 4)) sound runs in record { room = s.room; spare = s.spare; time = s.time }
+called_leaves b e true sound runs = let s = death_serves b e (cause.Exit (reg b.cpu 4)) sound runs in record { room = s.room; spare = s.spare; time = s.time; numbers = omega arith }
 called_leaves b e false sound runs = verdict_leaves b e (called b.cpu) (verdict (world_of b) e (called b.cpu))

@@ -1,5 +1,5 @@
 -- The runner's step, on the world that is shown.
-use Rattle.std.proofs.Common.{◌≡◌, ◌≢◌, ℕ, ◌/◌, ◌%◌, ◌<◌, List, [], ◌∷◌, ◌++◌, length, Bool, true, false, Option, Some, None, ◌⊎◌, inl, inr, refl, sym, ◌∙◌, ap, subst, arith, get_or-set_other}
+use Rattle.std.proofs.Common.{◌≤◌, ◌+◌, ◌≡◌, ◌≢◌, ℕ, ◌/◌, ◌%◌, ◌<◌, List, [], ◌∷◌, ◌++◌, length, Bool, true, false, Option, Some, None, ◌⊎◌, inl, inr, refl, sym, ◌∙◌, ap, subst, arith, get_or-set_other}
 use Rattle.std.specs.Prelude.{◌==◌, ◌||◌, if◌then◌else◌, slice_get}
 use Rattle.std.specs.Option.{option_map, option_or}
 use Rattle.std.proofs.lemmas.Bool.{ne_eqb, eq-eqb, eqb-true}
@@ -44,7 +44,7 @@ use Rattle.board_world.specs.declared.roster.Environment.{Environment}
 use Rattle.board_world.specs.Shown.{Shown, handlers_in, handlers_of, mappings_in, mappings_of}
 use Rattle.board_world.specs.Showing.{world_of, book_of, solo_of, solo_or_absent, solo_seen, cpu_seen, page_seen, pages_seen}
 use Rattle.board_world.specs.Sound.{IsSound, IsLive, IsOwned}
-use Rattle.board_world.specs.Doing.{step_seen, lookup_of, ran, raised, trapped, called_by, came_to}
+use Rattle.board_world.specs.Doing.{died, step_seen, lookup_of, ran, raised, trapped, called_by, came_to}
 use Rattle.board_world.proofs.Contexts.{left_by, left_others, left_own, left_sights, left_store}
 use Rattle.board_world.proofs.Looks.{leads_by}
 use Rattle.board_world.proofs.Pages.{its_store}
@@ -65,13 +65,13 @@ either true y is = inl refl
 either false y is = inr is
 
 -- who owns a page is its row's owner
-owner_is : (i : ℕ) (row : PageRow) → is_owned_by i row ≡ true → owner_of row ≡ Some i
+pub owner_is : (i : ℕ) (row : PageRow) → is_owned_by i row ≡ true → owner_of row ≡ Some i
 owner_is i Free is = cc
 owner_is i (Guaranteed owner) is = cc
 owner_is i (Owned owner words) is = ap Some (eqb-true owner i is)
 
 -- who sees a page that isn't guaranteed lives
-seer_live : (b : Shown) (i page : ℕ) → IsSound b → sees (book_of b) i page ≡ true → IsLive b.roster.list i
+pub seer_live : (b : Shown) (i page : ℕ) → IsSound b → sees (book_of b) i page ≡ true → IsLive b.roster.list i
 seer_live b i page sound is = by_cause (either (is_owned_by i (row_in b.pages page)) (is_bound page (stripe_of b i)) is)
   where
     by_row : (row : ℕ) (o : Option Binding) → stripe_of b i row ≡ o → is_of_page page o ≡ true → IsLive b.roster.list i
@@ -120,7 +120,7 @@ module _ (b : Shown) (e : ℕ) (x : Environment) (r : Runs b e x) (sound : IsSou
   -- an environment that goes on as it is
   as_was : (i : ℕ) (frames : List (List ℕ)) → i ≢ e → pages_seen frames (mappings_of b.roster.list i) ≡ pages_seen b.frames (mappings_of b.roster.list i)
       → ((p : ℕ) → seen_in i (row_in b.pages) (stripe_of b i) (page_at frames) p ≡ sights_of b i p) → solo_of (struck b cpu frames) i ≡ solo_of b i
-  as_was i frames ne pages sights = same_solo i (struck b cpu frames) b (record { record_is = refl; idles = r.runs.others i ne; idled = r.runs.others i ne; pages = pages; binds = refl; sights = λ k p. sights p k })
+  as_was i frames ne pages sights = same_solo i (struck b cpu frames) b (record { record_is = refl; rings = refl; idles = r.runs.others i ne; idled = r.runs.others i ne; pages = pages; binds = refl; sights = λ k p. sights p k })
 
   -- through a guaranteed mapping
   kept_strikes : (m : Mapping) → mapping_at (mappings_of b.roster.list e) (w.address / page_size) ≡ Some m → Strikes b e x cpu (written_through b.frames w (Some m)) (Some (its_store w))
@@ -219,7 +219,7 @@ module _ (b : Shown) (e : ℕ) (x : Environment) (r : Runs b e x) (sound : IsSou
 
 -- whatever the step writes
 wrote_strikes : (b : Shown) (e : ℕ) (x : Environment) → Runs b e x → IsSound b → (cpu : Cpu) (w : Option Write) → Strikes b e x cpu (frames_after b.frames (lookup_of b e) w) (store_of (runner_solo b e x) w)
-wrote_strikes b e x r sound cpu None = record { own_pages = refl; own_sights = refl; others = λ i ne. same_solo i (struck b cpu b.frames) b (record { record_is = refl; idles = r.runs.others i ne; idled = r.runs.others i ne; pages = refl; binds = refl; sights = refl }) }
+wrote_strikes b e x r sound cpu None = record { own_pages = refl; own_sights = refl; others = λ i ne. same_solo i (struck b cpu b.frames) b (record { record_is = refl; rings = refl; idles = r.runs.others i ne; idled = r.runs.others i ne; pages = refl; binds = refl; sights = refl }) }
 wrote_strikes b e x r sound cpu (Some w) = strikes b e x r sound cpu w
 
 module _ (b : Shown) (e : ℕ) (x : Environment) (r : Runs b e x) (sound : IsSound b) where
@@ -291,6 +291,7 @@ module _ (b : Shown) (e : ℕ) (x : Environment) (r : Runs b e x) (sound : IsSou
             ∙ sym (set_here e (raise exc (solo_of b e)) (solo_of b)))
             (λ i ne. same_solo i now b (record {
               record_is = refl;
+              rings = refl;
               idles = r.runs.others i ne;
               idled = r.runs.others i ne;
               pages = left_others b sound e w refl i ne;
@@ -338,8 +339,12 @@ pub stepped_world : GrantedMay → (b : Shown) (e : ℕ) → IsSound b → runni
 stepped_world law b e sound runs = let x = runner_runs b e sound runs in stepped_alone b e x.0 x.1 sound law b.slots.runner runs
 
 pub came_leaves : (b : Shown) (e : ℕ) (st : Step) → IsSound b → running b.slots.runner ≡ Some e → Leaves b (came_to b e st)
-came_leaves b e (Retired cpu w) sound runs = record { room = omega arith; spare = refl; time = refl }
+came_leaves b e (Retired cpu w) sound runs = record { room = omega arith; spare = refl; time = refl; numbers = omega arith }
 came_leaves b e Called sound runs = called_leaves b e (reg b.cpu 2 == exit_number) sound runs
 came_leaves b e (Trapped exc) sound runs =
     let x = runner_runs b e sound runs in
-    let s = trapped_serves b e x.0 x.1 sound exc in record { room = s.room; spare = s.spare; time = s.time }
+    let s = trapped_serves b e x.0 x.1 sound exc in record { room = s.room; spare = s.spare; time = s.time; numbers = by_handler ((handlers_of b.roster.list e).exception == 0) }
+  where
+    by_handler : (none : Bool) → (if none then died b e (cause.Trapped exc.code) else raised b e (handlers_of b.roster.list e).exception exc).claims.next ≤ b.claims.next + 1
+    by_handler true = omega arith
+    by_handler false = omega arith

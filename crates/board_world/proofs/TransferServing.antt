@@ -129,6 +129,7 @@ module _ (b : Shown) (e : ℕ) (x : Environment) (r : Runs b e x) (sound : IsSou
     others i ne ne_t =
         same_solo i new b (record {
           record_is = other_at i ne ne_t;
+          rings = refl;
           idles = runs_next.runs.others i ne_t;
           idled = r.runs.others i ne;
           pages = left_others b sound t write refl i ne_t;

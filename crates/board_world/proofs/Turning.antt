@@ -66,6 +66,7 @@ module _ (b : Shown) (sound : IsSound b) (t : Turn) (x : Environment) (at : slic
   others : (i : ℕ) → i ≢ t.env → solo_of (started b t) i ≡ solo_of b i
   others i ne = same_solo i (started b t) b (record {
     record_is = refl;
+    rings = refl;
     idles = ne_eqb t.env i (λ same. ne (sym same));
     idled = idle_names b i none;
     pages = start_others b sound t.env i ne;
@@ -81,7 +82,7 @@ module _ (b : Shown) (sound : IsSound b) (t : Turn) (x : Environment) (at : slic
 
 -- a forfeit changes no environment
 paid_solo : (b : Shown) (t : Turn) (i : ℕ) → solo_of (paid b t) i ≡ solo_of b i
-paid_solo b t i = like_solo i (paid b t) b (record { record_is = refl; cpu = λ kept. refl; pages = refl; binds = refl; sights = refl })
+paid_solo b t i = like_solo i (paid b t) b (record { record_is = refl; rings = refl; cpu = λ kept. refl; pages = refl; binds = refl; sights = refl })
 
 -- the turn as the model tells it
 abbrev told_world : Shown → Told → World
@@ -167,6 +168,7 @@ module _ (b : Shown) (e : ℕ) (x : Environment) (r : Runs b e x) where
   stopped_others i ne =
       same_solo i (stopped b e) b (record {
         record_is = changed_else (with_registers b.cpu) b.roster.list e i ne;
+        rings = refl;
         idles = refl;
         idled = r.runs.others i ne;
         pages = refl;
@@ -182,7 +184,7 @@ module _ (b : Shown) (e : ℕ) (x : Environment) (r : Runs b e x) where
 
 -- The timer. A board at the next time is the same to everybody.
 ticked_solo : (b : Shown) (i : ℕ) → solo_of (ticked b) i ≡ solo_of b i
-ticked_solo b i = like_solo i (ticked b) b (record { record_is = refl; cpu = λ kept. refl; pages = refl; binds = refl; sights = refl })
+ticked_solo b i = like_solo i (ticked b) b (record { record_is = refl; rings = refl; cpu = λ kept. refl; pages = refl; binds = refl; sights = refl })
 
 ticked_world : (b : Shown) → world_of (ticked b) ≡ after (world_of b) (tick.clock (world_of b))
 ticked_world b = worlds (world_of (ticked b)) (after (world_of b) (tick.clock (world_of b))) refl refl (ticked_solo b) (sym (append_nothing b.ledger.rows))
@@ -200,6 +202,7 @@ goes_on b r runs =
     worlds (world_of (going_on b r)) (after (world_of b) (tick.goes_on r (world_of b))) refl refl
     (λ i. like_solo i (going_on b r) b (record {
       record_is = refl;
+      rings = refl;
       cpu = λ kept. ap (λ (t : Bool). if t then b.cpu else kept) (same_runner b.slots.runner r i runs);
       pages = refl;
       binds = refl;
@@ -253,6 +256,7 @@ module _ (b : Shown) (sound : IsSound b) (r : Runner) (is : b.slots.runner ≡ S
       ∙ ap (λ s. absorb_all s (End ∷ [])) (sym (runner_seen b e x runs)))
       (λ i ne. same_solo i now b (record {
         record_is = refl;
+        rings = refl;
         idles = still.runs.others i ne;
         idled = runs.runs.others i ne;
         pages = left_others b sound e w refl i ne;
@@ -277,7 +281,7 @@ module _ (b : Shown) (sound : IsSound b) (r : Runner) (is : b.slots.runner ≡ S
       worlds (world_of over) (after (world_of b) (tick.owes_more r.env (world_of b)))
       (λ k. record (book_of over) { excess = excess_set b.slots.excess r.env owing within k })
       refl
-      (λ i. like_solo i over b (record { record_is = refl; cpu = λ kept. refl; pages = refl; binds = refl; sights = refl }))
+      (λ i. like_solo i over b (record { record_is = refl; rings = refl; cpu = λ kept. refl; pages = refl; binds = refl; sights = refl }))
       refl
 
   -- what it owes then
@@ -295,7 +299,7 @@ module _ (b : Shown) (sound : IsSound b) (r : Runner) (is : b.slots.runner ≡ S
   over_runs = record { at = runs.at; lives = runs.lives; runs = runs.runs }
 
   may : MayDie over r.env
-  may = record { numbered = omega (arith, within, length-set b.slots.excess r.env owing); count = sound.book.count; books = sound.books }
+  may = record { numbered = omega (arith, within, length-set b.slots.excess r.env owing); count = sound.book.count; books = sound.books; claims = sound.claims.owned }
 
   spent_ends : (o : Option Runner) → o ≡ Some r → (if is_runner r.env (option_map spent o) then None else option_map spent o) ≡ (if is_runner r.env o then None else o)
   spent_ends o is = rw is (rw (eq-eqb r.env r.env refl) refl)

@@ -15,9 +15,16 @@ use Rattle.env_frames.specs.declared.transfer.TransferKind.{TransferKind}
 use Rattle.env_frames.specs.declared.transfer.TransferKind.TheVariants as kind
 use Rattle.env_frames.specs.Transfer.{carried, entered_cpu, entry_area, entry_bytes, entry_context, hands_slot}
 use Rattle.env_frames.specs.Context.{context_number, end_area, end_bytes, handler_of, raised_cpu, resumed_cpu, start_area, start_bytes, started_cpu, with_handler}
-use Rattle.env_frames.specs.Post.{signalled_in}
+use Rattle.env_frames.specs.declared.post.PostWord.{PostWord}
+use Rattle.env_frames.specs.declared.post.PostWord.TheVariants as post
+use Rattle.env_frames.specs.Post.{counted_in, signalled_in}
+use Rattle.packet_ring.specs.Ring.{is_full, with_packet}
+use Rattle.filter_tree.specs.declared.claim.Claim.{Claim}
+use Rattle.filter_tree.specs.ClaimBook.{is_of_env}
+use Rattle.filter_tree.specs.Claims.{claim_for, delivered, is_claim, is_into, with_claim, without}
+use Rattle.world_model.specs.ClaimCalls.{atoms_or_none, filter_at}
 use Rattle.env_frames.specs.Frame.{gone_env, left_in, page_of, raised_in}
-use Rattle.frame_store.specs.Pages.{with_page, zero_page}
+use Rattle.frame_store.specs.Pages.{after_put, page_at, with_page, zero_page}
 use Rattle.page_book.specs.declared.row.PageRow.{PageRow}
 use Rattle.page_book.specs.declared.row.PageRow.TheVariants.{Free, Owned}
 use Rattle.page_book.specs.declared.row.Capabilities.{Capabilities}
@@ -41,7 +48,7 @@ use Rattle.world_model.specs.declared.life.Cause.{Cause}
 use Rattle.world_model.specs.declared.life.Cause.TheVariants as cause
 use Rattle.world_model.specs.Page.{Mapped}
 use Rattle.world_model.specs.declared.call.Deed.{Deed}
-use Rattle.world_model.specs.declared.call.Deed.TheVariants.{Answers, Own, Stops, Gives, Allocates, Frees, Recaps, Binds, Unbinds, Transfers, TakesSlot, DropsSlot, TakesLine, DropsLine}
+use Rattle.world_model.specs.declared.call.Deed.TheVariants.{Answers, Own, Stops, Gives, Allocates, Frees, Recaps, Binds, Unbinds, Transfers, TakesSlot, DropsSlot, TakesLine, DropsLine, Claims, Unclaims}
 use Rattle.world_model.specs.declared.verdict.Verdict.{Verdict}
 use Rattle.world_model.specs.declared.verdict.Verdict.TheVariants.{Refuse, Grant}
 use Rattle.world_model.specs.declared.call.OwnDeed.{OwnDeed}
@@ -73,8 +80,38 @@ signalled_to b line (Some owner) = record b { frames = signalled_in line (page_o
 abbrev pub signalled : Shown → ℕ → Shown
 signalled b line = signalled_to b line (line_at b.lines line)
 
+-- A packet for a claim is counted in the context page of the claim's environment. If the buffer whose turn it is has room, it
+-- goes there, and the other is next; else it is counted as lost, too.
+abbrev pub context_of : Shown → ℕ → Option ℕ
+context_of b e = page_of (mappings_of b.roster.list e) context_number
+
+abbrev pub counted_for : Shown → PostWord → ℕ → Shown
+counted_for b word e = record b { frames = counted_in word (context_of b e) b.frames }
+
+abbrev pub put_in_ring : Shown → Claim → List ℕ → Shown
+put_in_ring b c packet = record b {
+  frames = after_put b.frames c.page 0 (with_packet (page_at b.frames c.page) c.next packet);
+  claims = delivered c.id b.claims;
+}
+
+abbrev pub delivered_if : Bool → Shown → Claim → List ℕ → Shown
+delivered_if true b c packet = counted_for b post.Lost c.env
+delivered_if false b c packet = put_in_ring b c packet
+
+abbrev pub delivered_to : Shown → Claim → List ℕ → Shown
+delivered_to b c packet =
+    let counted = counted_for b post.Packets c.env in
+    delivered_if (is_full (page_at counted.frames c.page) c.next) counted c packet
+
+abbrev pub arrived_by : Shown → List ℕ → Option Claim → Shown
+arrived_by b packet None = dropped_packet b packet
+arrived_by b packet (Some c) = delivered_to b c packet
+
+abbrev pub arrived : Shown → List ℕ → Shown
+arrived b packet = arrived_by b packet (claim_for b.claims packet)
+
 abbrev pub happened : Occurrence → Shown → Shown
-happened (outside.Packet packet) b = dropped_packet b packet
+happened (outside.Packet packet) b = arrived b packet
 happened (outside.Line line) b = signalled b line
 
 -- The start of an environment's slice: the registers with which it starts, and physical memory with what its handler of starts finds.
@@ -184,12 +221,13 @@ ledger_released t e v ledger = with_rows (with_row ledger (row.Dead t v.cursor e
 abbrev pub slots_released : Shown → ℕ → Shown
 slots_released b e = record b { slots = without_env e b.slots; ledger = ledger_released b.time e b.slots b.ledger }
 
--- Its pages are free, neither its bindings nor those of its pages are left, its lines are nobody's, and its registers and mappings go.
+-- Its pages are free, neither its bindings nor those of its pages are left, its lines are nobody's, its claims are withdrawn, and its registers and mappings go.
 abbrev pub buried : Shown → ℕ → Cause → Shown
 buried b e cause = record b {
   pages = map (released e) b.pages;
   binds = swept (goes_with (row_in b.pages) e) b.binds;
   lines = map (line_without e) b.lines;
+  claims = without (is_of_env e) b.claims;
   roster = with_list b.roster (changed (dead_frame cause) b.roster.list e);
 }
 
@@ -294,6 +332,17 @@ with_taken b e page words = record b { frames = with_page b.frames page zero_pag
 abbrev pub with_broken : Shown → ℕ → PageRow → Option ℕ → Shown
 with_broken b page row but = record b { pages = slice_set b.pages page row; binds = swept (breaks_page page but) b.binds }
 
+-- Free: the page is nobody's, and the claims whose ring it is are withdrawn.
+abbrev pub with_freed : Shown → ℕ → Shown
+with_freed b page = let broken = with_broken b page Free None in record broken { claims = without (is_into page) b.claims }
+
+-- Claim: the claim stands, with the filter that is named. Unclaim: it doesn't stand any more.
+abbrev pub with_claimed : Shown → ℕ → ℕ → ℕ → ℕ → Shown
+with_claimed b e address atoms page = record b { claims = with_claim b.claims e (atoms_or_none (filter_at (look_of b e) address atoms)) page }
+
+abbrev pub with_unclaimed : Shown → ℕ → ℕ → Shown
+with_unclaimed b e claim = record b { claims = without (is_claim e claim) b.claims }
+
 -- Bind: the binding stands in its row.
 abbrev pub with_bound : Shown → ℕ → Binding → Shown
 with_bound b e x = record b { binds = slice_set b.binds (place_of e (row_of x.vpn)) (Some x) }
@@ -309,7 +358,7 @@ granted b e value (Own own) = answered (own_done b e own) (Grant value)
 granted b e value Stops = stopped (answered b (Grant value)) e
 granted b e value (Gives target) = given (answered b (Grant value)) e target
 granted b e value (Allocates page words) = answered (with_taken b e page words) (Grant value)
-granted b e value (Frees page) = answered (with_broken b page Free None) (Grant value)
+granted b e value (Frees page) = answered (with_freed b page) (Grant value)
 granted b e value (Recaps page words) = answered (with_broken b page (Owned e words) (Some e)) (Grant value)
 granted b e value (Binds binding word) = answered (with_bound b e binding) (Grant value)
 granted b e value (Unbinds vpn) = answered (with_unbound b e vpn) (Grant value)
@@ -318,6 +367,8 @@ granted b e value (TakesSlot slot) = answered (with_slot b slot (Some (own_hold 
 granted b e value (DropsSlot slot) = answered (with_slot b slot (dropped e (hold_at b.slots.slots slot))) (Grant value)
 granted b e value (TakesLine line) = answered (with_line b line (Some e)) (Grant value)
 granted b e value (DropsLine line) = answered (with_line b line None) (Grant value)
+granted b e value (Claims claim address atoms page) = answered (with_claimed b e address atoms page) (Grant value)
+granted b e value (Unclaims claim) = answered (with_unclaimed b e claim) (Grant value)
 
 -- a call of the runner on which this is the verdict
 abbrev pub served_by : Shown → ℕ → Option Call → Verdict → Shown

@@ -1,5 +1,6 @@
 -- What the parts of a board's tick do is what the model says.
-use Rattle.std.specs.Prelude.{◌≡◌, ℕ, Some}
+use Rattle.std.specs.Prelude.{◌≡◌, ℕ, true, Some}
+use Rattle.filter_tree.specs.ClaimBook.{are_numbered}
 use Rattle.external_event.specs.declared.event.Occurrence.{Occurrence}
 use Rattle.slot_vector.specs.Slices.{is_idle}
 use Rattle.world_model.specs.declared.code.Code.{Code}
@@ -19,7 +20,7 @@ abbrev pub IdleIsIdle : Type 0
 IdleIsIdle = (b : Shown) → is_idle b.slots ≡ is_idle_book (book_of b)
 
 abbrev pub EventIsEvent : Type 0
-EventIsEvent = (b : Shown) (what : Occurrence) → IsSound b → world_of (happened what b) ≡ after (world_of b) (happen what (world_of b))
+EventIsEvent = (b : Shown) (what : Occurrence) → IsSound b → are_numbered 0 b.claims.next b.claims.rows ≡ true → world_of (happened what b) ≡ after (world_of b) (happen what (world_of b))
 
 -- a turn that is taken where all environments are there
 abbrev pub TurnIsTurn : Type 0

@@ -12,7 +12,9 @@ use Rattle.world_model.specs.Solo.{Solo, absent}
 use Rattle.world_model.specs.World.{World}
 use Rattle.page_sight.specs.Sight.{seen_in}
 use Rattle.board_world.specs.declared.roster.Environment.{Environment}
+use Rattle.filter_tree.specs.ClaimBook.{claims_in}
 use Rattle.board_world.specs.Lines.{line_at}
+use Rattle.board_world.specs.Rings.{rings_of}
 use Rattle.board_world.specs.Shown.{Shown, mappings_of}
 
 -- a mapping with the bytes of its page
@@ -37,6 +39,7 @@ solo_seen b e x = record {
   kept = pages_seen b.frames x.env.mappings;
   binds = stripes b.binds e;
   seen = seen_in e (row_in b.pages) (stripes b.binds e) (page_at b.frames);
+  rings = rings_of b.claims e;
   console = x.output.console;
   sent = x.output.sent;
 }
@@ -62,6 +65,8 @@ book_of b = record {
   kept = mappings_of b.roster.list;
   binds = stripes b.binds;
   lines = line_at b.lines;
+  claims = claims_in b.claims;
+  next_claim = b.claims.next;
   time = b.time;
 }
 

@@ -1,11 +1,13 @@
 -- What holds of every board.
-use Rattle.std.specs.Prelude.{◌≡◌, ◌≤◌, ◌<◌, ◌+◌, ◌*◌, ℕ, false, List, length, Option, Some, None, IfSome, slice_get}
+use Rattle.std.specs.Prelude.{◌≡◌, ◌≤◌, ◌<◌, ◌+◌, ◌*◌, ℕ, false, List, length, Option, Some, None, Bool, IfSome, slice_get, true}
+use Rattle.std.specs.List.{list_all}
 use Rattle.aegis_limits.specs.Limits.{most_environments, most_slots}
 use Rattle.external_event.specs.Limits.{lines as most_lines}
 use Rattle.frame_store.specs.Pages.{most_frames}
 use Rattle.page_book.specs.declared.row.PageRow.{PageRow}
 use Rattle.page_book.specs.declared.row.PageRow.TheVariants.{Free, Guaranteed, Owned}
-use Rattle.page_book.specs.Row.{owner_of}
+use Rattle.page_book.specs.Row.{is_owned_by, owner_of}
+use Rattle.filter_tree.specs.ClaimBook.{ClaimBook, ClaimValue, RowValue}
 use Rattle.page_book.specs.Rows.{row_in}
 use Rattle.bind_book.specs.declared.binding.Binding.{Binding}
 use Rattle.bind_book.specs.Stripe.{stripe_rows, stripes}
@@ -69,6 +71,15 @@ pub record AreWired (lines : List (Option ℕ)) (list : List Environment) : Type
   pub count : length lines ≡ most_lines
   pub owners : (line : ℕ) → IfSome (line_at lines line) (IsLive list)
 
+-- whether the page of a claim is its environment's own
+abbrev pub has_own_page : List PageRow → ClaimValue → Bool
+has_own_page pages c = is_owned_by c.env (row_in pages c.page)
+
+-- The claims: each goes into a page of its environment's own, and there is room for those of each environment.
+pub record AreClaimed (claims : ClaimBook) (pages : List PageRow) (r : Environments) : Type 0 where
+  pub owned : list_all (λ (x : RowValue). has_own_page pages x.claim) claims.rows ≡ true
+  pub count : claims.envs ≡ length r.list + r.spare
+
 -- no slot is an environment's, and it doesn't run
 pub record HasNoPart (e : ℕ) (v : Slices) : Type 0 where
   pub runs : is_runner e v.runner ≡ false
@@ -81,3 +92,4 @@ pub record IsSound (b : Shown) : Type 0 where
   pub memory : IsParted b.frames b.pages b.roster.list
   pub books : AreBooked b.pages b.binds b.roster
   pub lines : AreWired b.lines b.roster.list
+  pub claims : AreClaimed b.claims b.pages b.roster

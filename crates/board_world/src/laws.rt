@@ -2,6 +2,7 @@
 ghost use Rattle.board_world.specs.Laws.{CallIsCall, DeathIsDeath, EventIsEvent, IdleIsIdle, RefusalIsRefusal, StepIsStep, TimerIsTimer, TurnIsTurn};
 
 use call_verdicts::law_granted;
+use filter_tree::law_numbered;
 
 /// A board is idle exactly where its world is.
 pub fn law_idle()
@@ -11,7 +12,9 @@ pub fn law_idle()
 /// What happens from outside is the model's.
 pub fn law_happen()
     ensures { EventIsEvent }
-{}
+{
+    law_numbered();
+}
 
 /// The turn of a sound board is the model's.
 pub fn law_turn()

@@ -1,0 +1,106 @@
+-- What the runner does to its claims, on the world that is shown.
+use Rattle.std.proofs.Common.{◌≡◌, ◌≢◌, ℕ, ◌+◌, List, [], ◌∷◌, ◌++◌, Option, Some, None, Result, Ok, refl, sym, ◌∙◌, ap, arith}
+use Rattle.filter_core.specs.declared.atom.Atom.{Atom}
+use Rattle.filter_tree.specs.ClaimBook.{claims_in}
+use Rattle.filter_tree.specs.Claims.{book_unless, claim_refusal, claimed, is_claim, with_claim}
+use Rattle.world_model.specs.declared.code.Code.{Code}
+use Rattle.world_model.specs.Book.{running}
+use Rattle.packet_ring.specs.declared.buffer.Buffer.TheVariants.{First}
+use Rattle.world_model.specs.declared.call.Deed.TheVariants.{Claims, Unclaims}
+use Rattle.world_model.specs.declared.verdict.Verdict.TheVariants.{Grant}
+use Rattle.world_model.specs.ClaimCalls.{atoms_or_none, filter_at}
+use Rattle.world_model.specs.Item.{answered_cpu}
+use Rattle.world_model.specs.May.{MayClaim}
+use Rattle.world_model.specs.Page.{Mapped}
+use Rattle.world_model.specs.Solo.{Ring, sight}
+use Rattle.world_model.specs.Verdict.{done}
+use Rattle.board_world.specs.declared.roster.Environment.{Environment}
+use Rattle.board_world.specs.Rings.{rings_of}
+use Rattle.board_world.specs.Shown.{Shown}
+use Rattle.board_world.specs.Showing.{world_of, book_of, solo_of}
+use Rattle.board_world.specs.Sound.{IsSound}
+use Rattle.board_world.specs.Doing as doing
+use Rattle.board_world.proofs.Claimed.{claims_more, claims_without, rings_claimed, rings_claimed_else, rings_unclaimed, rings_unclaimed_else}
+use Rattle.board_world.proofs.Parts.{append_nothing, one_changed}
+use Rattle.board_world.proofs.Reading.{runner_look}
+use Rattle.board_world.proofs.Replying.{Serves, deeded, deeded_seen}
+use Rattle.board_world.proofs.Seen.{Runs, its_look, runner_seen, runner_solo, same_solo}
+
+module _ (b : Shown) (e : ℕ) (x : Environment) (r : Runs b e x) (sound : IsSound b) where
+  -- the filter that the runner names, as it is shown
+  its_filter : (address atoms : ℕ) → filter_at (doing.look_of b e) address atoms ≡ filter_at (sight (solo_of b e)) address atoms
+  its_filter address atoms =
+      ap (λ (look : ℕ → Option Mapped). filter_at look address atoms) (λ k v. its_look b e x r sound v k)
+      ∙ ap (λ s. filter_at (sight s) address atoms) (sym (runner_seen b e x r))
+
+  pub claims : (claim address atoms page v : ℕ) → MayClaim (world_of b) e claim address atoms page → Serves b e (deeded (Claims claim address atoms page) v (solo_of b e)) (done (world_of b) e (Claims claim address atoms page)) (doing.granted b e v (Claims claim address atoms page))
+  claims claim address atoms page v may =
+      let filter = atoms_or_none (filter_at (doing.look_of b e) address atoms) in
+      let now = doing.granted b e v (Claims claim address atoms page) in
+      let still : Runs now e x = record { at = r.at; lives = r.lives; runs = r.runs } in
+      record {
+        book = λ k. record (book_of b) {
+          claims = (claims_more b.claims e filter page
+              ∙ (λ j. (book_of b).claims ++ record { id = sym may.number j; env = e; filter = atoms_or_none (its_filter address atoms j); page = page } ∷ [])) k;
+          next_claim = b.claims.next + 1;
+        };
+        count = refl;
+        solos = one_changed (solo_of b) (solo_of now) e (deeded (Claims claim address atoms page) v (solo_of b e))
+            (runner_seen now e x still
+            ∙ (λ k. record (runner_solo b e x) {
+              cpu = answered_cpu (Grant v) b.cpu;
+              rings = (rings_claimed b.claims e filter page ∙ (λ j. rings_of b.claims e ++ record { claim = sym may.number j; page = page; next = First } ∷ [])) k;
+            })
+            ∙ deeded_seen b e x r (Claims claim address atoms page) v)
+            (λ i ne. same_solo i now b (record {
+              record_is = refl;
+              rings = rings_claimed_else b.claims e filter page i ne;
+              idles = r.runs.others i ne;
+              idled = r.runs.others i ne;
+              pages = refl;
+              binds = refl;
+              sights = refl;
+            }));
+        rows = sym (append_nothing b.ledger.rows);
+        room = omega arith;
+        spare = refl;
+        time = refl;
+      }
+
+  pub unclaims : (claim v : ℕ) → Serves b e (deeded (Unclaims claim) v (solo_of b e)) (done (world_of b) e (Unclaims claim)) (doing.granted b e v (Unclaims claim))
+  unclaims claim v =
+      let now = doing.granted b e v (Unclaims claim) in
+      let still : Runs now e x = record { at = r.at; lives = r.lives; runs = r.runs } in
+      record {
+        book = λ k. record (book_of b) { claims = claims_without (is_claim e claim) b.claims k };
+        count = refl;
+        solos = one_changed (solo_of b) (solo_of now) e (deeded (Unclaims claim) v (solo_of b e))
+            (runner_seen now e x still
+            ∙ (λ k. record (runner_solo b e x) { cpu = answered_cpu (Grant v) b.cpu; rings = rings_unclaimed b.claims e claim k })
+            ∙ deeded_seen b e x r (Unclaims claim) v)
+            (λ i ne. same_solo i now b (record {
+              record_is = refl;
+              rings = rings_unclaimed_else b.claims e claim i ne;
+              idles = r.runs.others i ne;
+              idled = r.runs.others i ne;
+              pages = refl;
+              binds = refl;
+              sights = refl;
+            }));
+        rows = sym (append_nothing b.ledger.rows);
+        room = omega arith;
+        spare = refl;
+        time = refl;
+      }
+
+-- the book of claims where a filter that is named is granted
+pub claimed_board : (b : Shown) (e address atoms page : ℕ) (filter : List Atom) → IsSound b → running b.slots.runner ≡ Some e → filter_at (sight (solo_of b e)) address atoms ≡ Ok filter → claim_refusal (claims_in b.claims) e filter ≡ None
+    → record b { claims = claimed b.claims e filter page } ≡ doing.with_claimed b e address atoms page
+claimed_board b e address atoms page filter sound runs named none =
+    let its : filter_at (doing.look_of b e) address atoms ≡ Ok filter = ap (λ (look : ℕ → Option Mapped). filter_at look address atoms) (runner_look b e sound runs) ∙ named in
+    (λ k. record b { claims = book_unless (none k) b.claims (with_claim b.claims e filter page) })
+    ∙ (λ k. record b { claims = with_claim b.claims e (atoms_or_none (sym its k)) page })
+
+-- filters that are named alike are one
+pub one_filter : (named : Result (List Atom) Code) (f g : List Atom) → named ≡ Ok f → named ≡ Ok g → g ≡ f
+one_filter named f g is other = let same : Ok f ≡ Ok g = sym is ∙ other in cc

@@ -1,0 +1,149 @@
+-- Claims stay those of pages that their environments own.
+use Rattle.std.proofs.Common.{◌≡◌, ◌≢◌, ℕ, ◌+◌, ◌-◌, ◌<◌, List, [], ◌∷◌, ◌++◌, length, map, Bool, true, false, refl, sym, ◌∙◌, ap, subst, arith, inl, inr}
+use Rattle.std.specs.Prelude.{◌==◌, ◌&&◌, not, if◌then◌else◌, filter, slice_set}
+use Rattle.std.specs.List.{list_all}
+use Rattle.std.proofs.lemmas.Bool.{cases_Bool, cases_eq, eqb-true, eqb-false, eq-eqb, ne_eqb}
+use Rattle.filter_core.specs.declared.atom.Atom.{Atom}
+use Rattle.filter_tree.specs.ClaimBook.{ClaimBook, ClaimValue, RowValue, is_of_env}
+use Rattle.filter_tree.specs.Claims as book
+use Rattle.filter_tree.specs.Claims.{delivered, is_into, is_numbered, new_row, with_claim, without}
+use Rattle.page_book.specs.declared.row.Capabilities.{Capabilities}
+use Rattle.page_book.specs.declared.row.PageRow.{PageRow}
+use Rattle.page_book.specs.declared.row.PageRow.TheVariants.{Free, Guaranteed, Owned}
+use Rattle.page_book.specs.Row.{belongs_to, is_owned_by, released}
+use Rattle.page_book.specs.Rows.{row_in}
+use Rattle.world_model.specs.declared.life.Cause.{Cause}
+use Rattle.board_world.specs.declared.roster.Environment.{Environment}
+use Rattle.board_world.specs.Shown.{Environments, changed, with_list}
+use Rattle.board_world.specs.Sound.{AreClaimed, has_own_page}
+use Rattle.board_world.specs.Doing.{dead_frame}
+use Rattle.board_world.proofs.Booked.{by_page}
+use Rattle.board_world.proofs.Lists.{length-changed}
+use Rattle.board_world.proofs.Tables.{row_released}
+
+-- the pages of all claims are their environments' own
+abbrev are_own : List PageRow → List RowValue → Bool
+are_own pages rows = list_all (λ (x : RowValue). has_own_page pages x.claim) rows
+
+both : (a b : Bool) → (a && b) ≡ true → (a ≡ true) × (b ≡ true)
+both true b is = (refl, is)
+both false b is = cc
+
+and_both : (a b : Bool) → a ≡ true → b ≡ true → (a && b) ≡ true
+and_both true b is other = other
+and_both false b is other = cc
+
+-- the claims that are left have it by other pages, if each of them had
+still_own : (pages rows_now : List PageRow) (keep : RowValue → Bool) → ((x : RowValue) → keep x ≡ true → has_own_page pages x.claim ≡ true → has_own_page rows_now x.claim ≡ true)
+    → (rows : List RowValue) → are_own pages rows ≡ true → are_own rows_now (filter keep rows) ≡ true
+still_own pages rows_now keep stays [] all = refl
+still_own pages rows_now keep stays (x ∷ rows) all =
+    let parts = both (has_own_page pages x.claim) (are_own pages rows) all in
+    elim (cases_Bool (keep x)) [
+      | inl is ↦ rw is (and_both (has_own_page rows_now x.claim) (are_own rows_now (filter keep rows)) (stays x is parts.0) (still_own pages rows_now keep stays rows parts.1))
+      | inr goes ↦ rw goes (still_own pages rows_now keep stays rows parts.1)
+    ]
+
+each_own : (pages rows_now : List PageRow) → ((c : ClaimValue) → has_own_page pages c ≡ true → has_own_page rows_now c ≡ true) → (rows : List RowValue) → are_own pages rows ≡ true → are_own rows_now rows ≡ true
+each_own pages rows_now stays [] all = refl
+each_own pages rows_now stays (x ∷ rows) all =
+    let parts = both (has_own_page pages x.claim) (are_own pages rows) all in
+    and_both (has_own_page rows_now x.claim) (are_own rows_now rows) (stays x.claim parts.0) (each_own pages rows_now stays rows parts.1)
+
+-- a change of an environment that keeps how many there are
+pub keep_claimed : (f : Environment → Environment) (claims : ClaimBook) (pages : List PageRow) (r : Environments) (e : ℕ) → AreClaimed claims pages r → AreClaimed claims pages (with_list r (changed f r.list e))
+keep_claimed f claims pages r e are = record { owned = are.owned; count = are.count ∙ ap (λ n. n + r.spare) (sym (length-changed f r.list e)) }
+
+-- a page that is free comes to be owned
+pub allocated_claimed : (claims : ClaimBook) (pages : List PageRow) (r : Environments) (page e : ℕ) (words : Capabilities) → page < length pages → row_in pages page ≡ Free → AreClaimed claims pages r → AreClaimed claims (slice_set pages page (Owned e words)) r
+allocated_claimed claims pages r page e words within free are = record {
+  owned = each_own pages (slice_set pages page (Owned e words)) (λ c own.
+      by_page (λ row. is_owned_by c.env row ≡ true) pages page c.page (Owned e words) within
+      (λ same. let none : true ≡ false = sym own ∙ ap (λ (p : ℕ). is_owned_by c.env (row_in pages p)) same ∙ ap (is_owned_by c.env) free in cc)
+      (λ other. own)) claims.rows are.owned;
+  count = are.count;
+}
+
+-- who owns a page is one
+one_owner : (i e : ℕ) (row : PageRow) → is_owned_by i row ≡ true → is_owned_by e row ≡ true → i ≡ e
+one_owner i e Free is its = cc
+one_owner i e (Guaranteed owner) is its = cc
+one_owner i e (Owned owner words) is its = sym (eqb-true owner i is) ∙ eqb-true owner e its
+
+-- a page gets other words
+pub recapped_claimed : (claims : ClaimBook) (pages : List PageRow) (r : Environments) (page e : ℕ) (words : Capabilities) → page < length pages → is_owned_by e (row_in pages page) ≡ true → AreClaimed claims pages r → AreClaimed claims (slice_set pages page (Owned e words)) r
+recapped_claimed claims pages r page e words within owned are = record {
+  owned = each_own pages (slice_set pages page (Owned e words)) (λ c own.
+      by_page (λ row. is_owned_by c.env row ≡ true) pages page c.page (Owned e words) within
+      (λ same. eq-eqb e c.env (sym (one_owner c.env e (row_in pages page) (subst (λ (p : ℕ). is_owned_by c.env (row_in pages p) ≡ true) same own) owned)))
+      (λ other. own)) claims.rows are.owned;
+  count = are.count;
+}
+
+unnegated : (t : Bool) → not t ≡ true → t ≡ false
+unnegated true is = cc
+unnegated false is = refl
+
+-- a page is freed, and is no ring any more
+pub freed_claimed : (claims : ClaimBook) (pages : List PageRow) (r : Environments) (page : ℕ) → page < length pages → AreClaimed claims pages r → AreClaimed (without (is_into page) claims) (slice_set pages page Free) r
+freed_claimed claims pages r page within are = record {
+  owned = still_own pages (slice_set pages page Free) (λ (x : RowValue). not (is_into page x.claim)) (λ x keeps own.
+      by_page (λ row. is_owned_by x.claim.env row ≡ true) pages page x.claim.page Free within
+      (λ same. absurd (eqb-false x.claim.page page (unnegated (x.claim.page == page) keeps) same))
+      (λ other. own)) claims.rows are.owned;
+  count = are.count;
+}
+
+-- claims are withdrawn
+pub withdrawn_claimed : (gone : ClaimValue → Bool) (claims : ClaimBook) (pages : List PageRow) (r : Environments) → AreClaimed claims pages r → AreClaimed (without gone claims) pages r
+withdrawn_claimed gone claims pages r are = record { owned = still_own pages pages (λ (x : RowValue). not (gone x.claim)) (λ x keeps own. own) claims.rows are.owned; count = are.count }
+
+-- one claim more
+pub with_claim_claimed : (claims : ClaimBook) (pages : List PageRow) (r : Environments) (e : ℕ) (atoms : List Atom) (page : ℕ) → is_owned_by e (row_in pages page) ≡ true → AreClaimed claims pages r → AreClaimed (with_claim claims e atoms page) pages r
+with_claim_claimed claims pages r e atoms page own are = record { owned = and_one claims.rows are.owned; count = are.count }
+  where
+    and_one : (rows : List RowValue) → are_own pages rows ≡ true → are_own pages (rows ++ new_row claims e atoms page ∷ []) ≡ true
+    and_one [] all = and_both (is_owned_by e (row_in pages page)) true own refl
+    and_one (x ∷ rows) all =
+        let parts = both (has_own_page pages x.claim) (are_own pages rows) all in
+        and_both (has_own_page pages x.claim) (are_own pages (rows ++ new_row claims e atoms page ∷ [])) parts.0 (and_one rows parts.1)
+
+-- the buffers of a claim take turns
+pub delivered_claimed : (claims : ClaimBook) (pages : List PageRow) (r : Environments) (id : ℕ) → AreClaimed claims pages r → AreClaimed (delivered id claims) pages r
+delivered_claimed claims pages r id are = record { owned = by_rows claims.rows are.owned; count = are.count }
+  where
+    same_claim : (x : RowValue) → (book.turned_if id x).claim ≡ x.claim
+    same_claim x = by_test (is_numbered id x.claim)
+      where
+        by_test : (t : Bool) → (if t then book.turned x else x).claim ≡ x.claim
+        by_test true = refl
+        by_test false = refl
+
+    by_rows : (rows : List RowValue) → are_own pages rows ≡ true → are_own pages (map (book.turned_if id) rows) ≡ true
+    by_rows [] all = refl
+    by_rows (x ∷ rows) all =
+        let parts = both (has_own_page pages x.claim) (are_own pages rows) all in
+        and_both (has_own_page pages (book.turned_if id x).claim) (are_own pages (map (book.turned_if id) rows)) (ap (has_own_page pages) (same_claim x) ∙ parts.0) (by_rows rows parts.1)
+
+-- an environment dies
+pub death_claimed : (cause : Cause) (claims : ClaimBook) (pages : List PageRow) (r : Environments) (e : ℕ) → AreClaimed claims pages r → AreClaimed (without (is_of_env e) claims) (map (released e) pages) (with_list r (changed (dead_frame cause) r.list e))
+death_claimed cause claims pages r e are = record {
+  owned = still_own pages (map (released e) pages) (λ (x : RowValue). not (is_of_env e x.claim)) (λ x keeps own.
+      ap (is_owned_by x.claim.env) (row_released e pages x.claim.page) ∙ left (row_in pages x.claim.page) x.claim.env (eqb-false x.claim.env e (unnegated (x.claim.env == e) keeps)) own) claims.rows are.owned;
+  count = are.count ∙ ap (λ n. n + r.spare) (sym (length-changed (dead_frame cause) r.list e));
+}
+  where
+    left : (row : PageRow) (i : ℕ) → i ≢ e → is_owned_by i row ≡ true → is_owned_by i (released e row) ≡ true
+    left Free i ne own = cc
+    left (Guaranteed owner) i ne own = cc
+    left (Owned owner words) i ne own =
+        let other : (owner == e) ≡ false = ne_eqb owner e (λ same. ne (sym (eqb-true owner i own) ∙ same)) in
+        rw other own
+
+-- pages that are free are given
+pub given_claimed : (claims : ClaimBook) (pages given : List PageRow) (r : Environments) → ((p : ℕ) → row_in pages p ≢ Free → row_in given p ≡ row_in pages p) → (x : Environment) → length (r.list ++ x ∷ []) + (r.spare - 1) ≡ length r.list + r.spare
+    → AreClaimed claims pages r → AreClaimed claims given (record { list = r.list ++ x ∷ []; spare = r.spare - 1 })
+given_claimed claims pages given r stays x count are = record {
+  owned = each_own pages given (λ c own. ap (is_owned_by c.env) (stays c.page (λ free. let none : true ≡ false = sym own ∙ ap (is_owned_by c.env) free in cc)) ∙ own) claims.rows are.owned;
+  count = are.count ∙ sym count;
+}
