@@ -2,6 +2,7 @@
 
 use bind_book::Bindings;
 use board_world::{Lines, Roster};
+use filter_tree::Claims;
 use frame_store::Frames;
 use kernel_journal::Journal;
 use mips_exec::Cpu;
@@ -16,6 +17,7 @@ pub struct Board {
     pub(crate) pages: Pages,
     pub(crate) bindings: Bindings,
     pub(crate) lines: Lines,
+    pub(crate) claims: Claims,
     pub(crate) slots: Slots,
     pub(crate) cpu: Cpu,
     pub(crate) roster: Roster,
@@ -29,7 +31,7 @@ impl Model for Board {
 
     ghost Value = { Shown };
 
-    ghost view = { λ b. shown b.frames b.pages b.bindings b.lines b.slots b.cpu b.roster b.time b.journal };
+    ghost view = { λ b. shown b.frames b.pages b.bindings b.lines b.claims b.slots b.cpu b.roster b.time b.journal };
 
-    ghost invariant = { λ b. IsSound (shown b.frames b.pages b.bindings b.lines b.slots b.cpu b.roster b.time b.journal) };
+    ghost invariant = { λ b. IsSound (shown b.frames b.pages b.bindings b.lines b.claims b.slots b.cpu b.roster b.time b.journal) };
 }

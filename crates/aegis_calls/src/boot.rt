@@ -16,6 +16,7 @@ use crate::board::Board;
 use aegis_limits::OutOfMemory;
 use bind_book::Bindings;
 use board_world::{Lines, Roster};
+use filter_tree::Claims;
 use boot_image::Program;
 use boot_pages::load;
 use frame_store::Frames;
@@ -99,8 +100,10 @@ impl Board {
         requires owners { All (λ owner. IfSome owner (λ e. e < envs)) slots.now }
         ensures world { IfOk result (λ b. world_of b ≡ bare_world pages quantum slots.now) }
         ensures bare { IfOk result (IsBare pages envs) }
+        ensures numbers { IfOk result (λ b. b.claims.next ≡ 0) }
     {
         let (frames, pages, bindings) = bare_memory(alloc, pages, envs)?;
+        let claims = Claims::new(alloc, envs)?;
         let roster = Roster::new(alloc, envs)?;
         let journal = boot_journal(alloc, slots)?;
         Ok(Board {
@@ -108,6 +111,7 @@ impl Board {
             pages,
             bindings,
             lines: Lines::new(),
+            claims,
             slots: Slots::new(quantum, slots),
             cpu: Cpu::blank(),
             roster,
@@ -125,6 +129,7 @@ impl Board {
         ensures free { free_pages self.old.pages ≡ free_pages self.new.pages + guaranteed_mappings program.now }
         ensures spare { self.new.roster.spare ≡ self.old.roster.spare - 1 }
         ensures pages { length self.new.frames ≡ length self.old.frames }
+        ensures numbers { self.new.claims.next ≡ self.old.claims.next }
     {
         let number = self.roster.len() as u8;
         let env = load(&mut self.frames, &mut self.pages, number, program);

@@ -1,5 +1,5 @@
 //! Kernel calls: a call is decided, answered, and what it does is done.
-ghost use Rattle.std.specs.Prelude.{◌≡◌, ◌<◌, Some};
+ghost use Rattle.std.specs.Prelude.{◌≡◌, ◌<◌, ◌^◌, Some};
 ghost use Rattle.world_model.specs.Book.{running};
 ghost use Rattle.world_model.specs.Item.{answered_cpu};
 ghost use Rattle.world_model.specs.May.{May};
@@ -43,6 +43,7 @@ impl Board {
     fn grant(&mut self, env: u8, value: u32, deed: Deed)
         requires runs { running self.old.slots.runner ≡ Some env }
         requires room { 64 < self.old.ledger.spare }
+        requires numbers { self.old.claims.next < 2 ^ 32 }
         requires may { May (world_of self.old) env deed }
         ensures { self.new ≡ granted self.old env value deed }
     {
@@ -55,9 +56,19 @@ impl Board {
             self.do_own(env, own);
             return self.answer(Verdict::Grant(value));
         }
+        if let Deed::Claims {
+            address,
+            atoms,
+            page,
+            ..
+        } = deed
+        {
+            self.claim(env, address, atoms, page);
+            return self.answer(Verdict::Grant(value));
+        }
         self.answer(Verdict::Grant(value));
         match deed {
-            Deed::Answers | Deed::Own(_) | Deed::Transfers { .. } => {}
+            Deed::Answers | Deed::Own(_) | Deed::Transfers { .. } | Deed::Claims { .. } => {}
             Deed::Stops => self.stop(env),
             Deed::Gives(target) => self.give(env, target as u8),
             Deed::Allocates { page, words } => self.allocate(env, page, words),
@@ -69,6 +80,7 @@ impl Board {
             Deed::DropsSlot(slot) => self.drop_slot(env, slot),
             Deed::TakesLine(line) => self.take_line(env, line),
             Deed::DropsLine(line) => self.drop_line(env, line),
+            Deed::Unclaims(claim) => self.unclaim(env, claim),
         }
     }
 
@@ -76,6 +88,7 @@ impl Board {
     fn serve(&mut self, env: u8, call: Option<Call>)
         requires runs { running self.old.slots.runner ≡ Some env }
         requires room { 64 < self.old.ledger.spare }
+        requires numbers { self.old.claims.next < 2 ^ 32 }
         ensures { self.new ≡ served self.old env call }
     {
         let _ = &self.time;
@@ -93,6 +106,7 @@ impl Board {
     pub(crate) fn take_call(&mut self, env: u8)
         requires runs { running self.old.slots.runner ≡ Some env }
         requires room { 64 < self.old.ledger.spare }
+        requires numbers { self.old.claims.next < 2 ^ 32 }
         ensures { self.new ≡ called_by self.old env }
     {
         let number = self.cpu.reg(CODE_REGISTER);

@@ -60,7 +60,7 @@ impl Board {
     ghost use Rattle.board_world.specs.Doing.{buried, died};
 
     /// What an environment has whose slots are released goes: its pages are free, neither its bindings nor those of
-    /// its pages are left, its interrupt lines are nobody's, and it is dead.
+    /// its pages are left, its interrupt lines are nobody's, its claims are withdrawn, and it is dead.
     pub(crate) fn bury(&mut self, env: u8, cause: Cause)
         requires there { env < length self.old.roster.list }
         requires released { HasNoPart env self.old.slots }
@@ -69,6 +69,7 @@ impl Board {
         self.bindings.clear_env(env, &self.pages);
         self.pages.release_env(env);
         self.lines.clear(env);
+        self.claims.clear_env(env);
         self.roster.die(env, cause);
     }
 

@@ -1,16 +1,22 @@
 //! What happens from outside: what it does to the board's parts.
-ghost use Rattle.std.specs.Prelude.{◌≡◌, ◌<◌};
+ghost use Rattle.std.specs.Prelude.{◌≡◌, ◌<◌, Some, true};
 ghost use Rattle.external_event.specs.Limits.{lines};
+ghost use Rattle.filter_tree.specs.ClaimBook.{are_numbered};
+ghost use Rattle.filter_tree.specs.Claims.{claim_for};
 
 use crate::board::Board;
+use env_frames::PostWord;
 use external_event::PacketBytes;
+use filter_core::Packet;
+use filter_tree::Claim;
 use kernel_journal::Row;
+use packet_ring::{deliver, is_full};
 
 impl Board {
-    ghost use Rattle.board_world.specs.Doing.{dropped_packet, signalled};
+    ghost use Rattle.board_world.specs.Doing.{arrived, delivered_to, dropped_packet, signalled};
 
     /// A packet that nobody claims is dropped, and the ledger tells its length.
-    pub(crate) fn drop_packet(&mut self, packet: &PacketBytes)
+    fn drop_packet(&mut self, packet: &Packet<'_>)
         requires { 0 < self.old.ledger.spare }
         ensures { self.new ≡ dropped_packet self.old packet.now }
     {
@@ -18,6 +24,34 @@ impl Board {
             time: self.time,
             length: packet.bytes().len() as u32,
         });
+    }
+
+    /// A packet comes for a claim. It is counted in the context page of the claim's environment, and goes into the
+    /// buffer of its ring whose turn it is; if that is full, it is lost, and counted so.
+    fn deliver(&mut self, claim: Claim, packet: &Packet<'_>)
+        requires { claim_for self.old.claims packet.now ≡ Some claim }
+        ensures { self.new ≡ delivered_to self.old claim packet.now }
+    {
+        let env = self.roster.frame(claim.env);
+        env.count(&mut self.frames, PostWord::Packets);
+        if is_full(&self.frames, claim.page, claim.next) {
+            env.count(&mut self.frames, PostWord::Lost);
+        } else {
+            deliver(&mut self.frames, claim.page, claim.next, packet);
+            self.claims.delivered(claim.id);
+        }
+    }
+
+    /// A packet comes: for the lowest claim whose filter matches it, or for nobody.
+    pub(crate) fn arrive(&mut self, packet: &PacketBytes)
+        requires { 0 < self.old.ledger.spare }
+        ensures { self.new ≡ arrived self.old packet.now }
+    {
+        let packet = Packet::of(packet);
+        match self.claims.claim_for(&packet) {
+            Some(claim) => self.deliver(claim, &packet),
+            None => self.drop_packet(&packet),
+        }
     }
 
     /// A signal on an interrupt line sets the line's bit in its owner's context page, if it has an owner.
@@ -28,5 +62,12 @@ impl Board {
         if let Some(owner) = self.lines.owner(line) {
             self.roster.frame(owner).signal(&mut self.frames, line);
         }
+    }
+
+    /// Law: the numbers of the claims rise, and are below that of the next one.
+    pub(crate) fn law_claim_numbers(&self)
+        ensures { are_numbered 0 self.now.claims.next self.now.claims.rows ≡ true }
+    {
+        self.claims.law_numbers();
     }
 }

@@ -8,6 +8,7 @@
 mod board;
 mod boot;
 mod calls;
+mod claim_deeds;
 mod death;
 mod events;
 mod exception;

@@ -1,5 +1,5 @@
 //! The step of the machine: what it does to the board's parts.
-ghost use Rattle.std.specs.Prelude.{◌≡◌, ◌<◌, Some};
+ghost use Rattle.std.specs.Prelude.{◌≡◌, ◌<◌, ◌^◌, Some};
 ghost use Rattle.mips_exec.specs.Step.{outcome_of};
 ghost use Rattle.world_model.specs.Book.{running};
 
@@ -29,6 +29,7 @@ impl Board {
     pub(crate) fn run_step(&mut self, env: u8)
         requires runs { running self.old.slots.runner ≡ Some env }
         requires room { 64 < self.old.ledger.spare }
+        requires numbers { self.old.claims.next < 2 ^ 32 }
         ensures { self.new ≡ came_to self.old env (step_seen self.old env) }
     {
         match self.run_machine(env) {

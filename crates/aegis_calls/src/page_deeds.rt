@@ -9,7 +9,7 @@ use crate::board::Board;
 use page_book::Capabilities;
 
 impl Board {
-    ghost use Rattle.board_world.specs.Doing.{with_broken, with_taken};
+    ghost use Rattle.board_world.specs.Doing.{with_broken, with_freed, with_taken};
 
     /// A free page is the runner's own from now on, with these words, and holds zeros.
     pub(crate) fn allocate(&mut self, env: u8, page: u32, words: Capabilities)
@@ -21,13 +21,14 @@ impl Board {
         self.frames.zero(page);
     }
 
-    /// A page of the runner's is nobody's from now on, and nobody has it bound any more.
+    /// A page of the runner's is nobody's from now on: nobody has it bound any more, and no claim puts packets there.
     pub(crate) fn free(&mut self, env: u8, page: u32)
         requires may { MayChange (book_of self.old) env page }
-        ensures { self.new ≡ with_broken self.old page Free None }
+        ensures { self.new ≡ with_freed self.old page }
     {
         self.pages.free(env, page).unwrap();
         self.bindings.break_page(page, None);
+        self.claims.drop_page(page);
     }
 
     /// A page of the runner's has other words from now on, and nobody else has it bound any more.

@@ -32,20 +32,22 @@ impl Board {
         self.slots.idle()
     }
 
-    /// What happens from outside, before the turn of its tick: a packet that nobody claims is dropped, and a signal on
-    /// an interrupt line sets the line's bit in the context page of its owner, if it has one.
+    /// What happens from outside, before the turn of its tick: a packet goes to the claim that matches it, or is dropped,
+    /// and a signal on an interrupt line sets the line's bit in the context page of its owner, if it has one.
     pub fn happen(&mut self, what: &Occurrence)
         requires event { is_occurrence what.now ≡ true }
         requires room { STEP_ROWS ≤ self.old.ledger.spare }
         ensures world { world_of self.new ≡ after (world_of self.old) (event_phase what.now (world_of self.old)) }
         ensures time { self.new.time ≡ self.old.time }
+        ensures numbers { self.new.claims.next ≡ self.old.claims.next }
         ensures whole { self.new.roster.spare ≡ self.old.roster.spare }
         ensures room { self.old.ledger.spare ≤ self.new.ledger.spare + STEP_ROWS }
     {
         let _ = &self.time;
         law_happen();
+        self.law_claim_numbers();
         match what {
-            Occurrence::Packet(packet) => self.drop_packet(packet),
+            Occurrence::Packet(packet) => self.arrive(packet),
             Occurrence::Line(line) => self.signal(*line),
         }
     }
@@ -58,6 +60,7 @@ impl Board {
         ensures world { world_of self.new ≡ after (world_of self.old) (turn_phase (world_of self.old)) }
         ensures runs { is_idle_book (world_of self.old).book ≡ false → IsSome (world_of self.new).book.runner }
         ensures time { self.new.time ≡ self.old.time }
+        ensures numbers { self.new.claims.next ≡ self.old.claims.next }
         ensures whole { self.new.roster.spare ≡ 0 }
         ensures room { self.old.ledger.spare ≤ self.new.ledger.spare + TURN_ROWS }
     {
@@ -66,12 +69,14 @@ impl Board {
         self.take_turn();
     }
 
-    /// The runner's step, and its call or its death.
+    /// The runner's step, and its call or its death. No more claims were made so far than there were ticks.
     pub fn step(&mut self)
         requires runs { IsSome (world_of self.old).book.runner }
         requires room { STEP_ROWS ≤ self.old.ledger.spare }
+        requires numbers { self.old.claims.next ≤ self.old.time }
         ensures world { world_of self.new ≡ after (world_of self.old) (step_phase (world_of self.old)) }
         ensures time { self.new.time ≡ self.old.time }
+        ensures numbers { self.new.claims.next ≤ self.old.claims.next + 1 }
         ensures whole { self.new.roster.spare ≡ self.old.roster.spare }
         ensures room { self.old.ledger.spare ≤ self.new.ledger.spare + STEP_ROWS }
     {
@@ -88,6 +93,7 @@ impl Board {
         requires room { STEP_ROWS ≤ self.old.ledger.spare }
         ensures world { world_of self.new ≡ after (world_of self.old) (timer_phase (world_of self.old)) }
         ensures time { self.new.time ≡ self.old.time + 1 }
+        ensures numbers { self.new.claims.next ≡ self.old.claims.next }
         ensures whole { self.new.roster.spare ≡ self.old.roster.spare }
         ensures room { self.old.ledger.spare ≤ self.new.ledger.spare + STEP_ROWS }
     {
@@ -97,13 +103,15 @@ impl Board {
 
     /// One kernel call of the runner: it stands at a SYSCALL outside a delay slot. A call that is
     /// refused changes the caller's `$2`, `$3` and where it stands, and nothing else. All environments
-    /// stay added, so that a turn may follow.
+    /// stay added, so that a turn may follow. No more claims were made so far than there were ticks.
     pub fn call(&mut self)
         requires runs { IsSome (world_of self.old).book.runner }
         requires room { CALL_ROWS ≤ self.old.ledger.spare }
+        requires numbers { self.old.claims.next ≤ self.old.time }
         ensures world { IsCalled (world_of self.old) (world_of self.new) }
         ensures refused { IsRefused (world_of self.old) (world_of self.new) }
         ensures time { self.new.time ≡ self.old.time }
+        ensures numbers { self.new.claims.next ≤ self.old.claims.next + 1 }
         ensures whole { self.new.roster.spare ≡ self.old.roster.spare }
         ensures room { self.old.ledger.spare ≤ self.new.ledger.spare + CALL_ROWS }
     {
@@ -121,6 +129,7 @@ impl Board {
         requires room { CALL_ROWS ≤ self.old.ledger.spare }
         ensures world { world_of self.new ≡ died (world_of self.old) env cause }
         ensures time { self.new.time ≡ self.old.time }
+        ensures numbers { self.new.claims.next ≡ self.old.claims.next }
         ensures whole { self.new.roster.spare ≡ self.old.roster.spare }
         ensures room { self.old.ledger.spare ≤ self.new.ledger.spare + CALL_ROWS }
     {

@@ -4,6 +4,8 @@ ghost use Rattle.std.specs.Prelude.{◌≡◌, Some};
 use crate::board::Board;
 use call_verdicts::CallView;
 use env_frames::Context;
+use filter_core::Filter;
+use filter_tree::ClaimNo;
 use guest_memory::{Space, guest_range};
 use mips_exec::Cpu;
 use page_book::PageRow;
@@ -24,6 +26,18 @@ impl CallView for Board {
 
     fn count_sent(&self, env: u8) -> usize {
         self.roster.sent(env).len()
+    }
+
+    fn refuse_claim(&self, env: u8, filter: &Filter) -> Option<ClaimNo> {
+        self.claims.refusal(env, filter)
+    }
+
+    fn next_claim(&self) -> u32 {
+        self.claims.next() as u32
+    }
+
+    fn has_claim(&self, env: u8, claim: u32) -> bool {
+        self.claims.held(env, claim).is_some()
     }
 
     fn range(&self, env: u8, address: u32, size: u32) -> Option<&[u8]> {

@@ -10,6 +10,7 @@ use Rattle.board_world.specs.Shown.{Shown}
 use Rattle.board_world.specs.Showing.{book_of}
 use Rattle.board_world.proofs.Allowed.{allocable, free_to_all}
 use Rattle.board_world.proofs.Booked.{owned_booked}
+use Rattle.board_world.proofs.Claiming.{allocated_claimed}
 use Rattle.board_world.proofs.Parted.{page_parted, row_parted}
 use Rattle.board_world.proofs.Sound.{runner_alive}
 use Rattle.board_world.proofs.Staying.{sound_memory}
@@ -25,7 +26,8 @@ invariant_of-self c =
     let lives = runner_alive b.slots b.roster e c.self.invariant.book (ap (λ (s : Shown). running s.slots.runner) c.self.view_is ∙ c.requires.runs) in
     let taken = c.alloc_at.ensures.after ∙ ap (λ (why : Option PageNo). changed_unless why b.pages page row) (allocable b.pages page may.there may.free) in
     rw (c.zero.ensures, taken)
-    (sound_memory _ _ b.bindings
+    (sound_memory _ _ b.bindings b.claims
     (page_parted b.frames _ b.roster.list _ zero_page
     (row_parted b.frames b.pages b.roster.list page row (free_to_all (row_in b.pages page) may.free) c.self.invariant.memory))
-    (owned_booked b.pages b.bindings b.roster page e c.args.words may.there lives c.self.invariant.books) c.self.invariant)
+    (owned_booked b.pages b.bindings b.roster page e c.args.words may.there lives c.self.invariant.books)
+    (allocated_claimed b.claims b.pages b.roster page e c.args.words may.there may.free c.self.invariant.claims) c.self.invariant)

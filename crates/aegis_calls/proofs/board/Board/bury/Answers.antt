@@ -9,10 +9,10 @@ use Rattle.aegis_calls.proofs.board.Board.bury.Goals as goal
 pub invariant_of-self : goal.invariant_of-self
 invariant_of-self c =
     let none : HasNoPart c.args.env c.self.inside.slots = rw (ap (λ (s : Shown). s.slots) c.self.view_is) c.requires.released in
-    rw (c.release_env.ensures, c.clear_env.ensures.after, c.clear.ensures, c.die.ensures) (sound_burial c.args.env c.args.cause none c.self.invariant)
+    rw (c.release_env.ensures, c.clear_env.ensures.after, c.clear.ensures, c.clear_env-2.ensures, c.die.ensures) (sound_burial c.args.env c.args.cause none c.self.invariant)
 
 pub returns : goal.returns
 returns c =
     let b = c.self.inside in
-    (λ k. shown b.frames (c.release_env.ensures k) (c.clear_env.ensures.after k) (c.clear.ensures k) b.slots b.cpu (c.die.ensures k) b.time b.journal)
+    (λ k. shown b.frames (c.release_env.ensures k) (c.clear_env.ensures.after k) (c.clear.ensures k) (c.clear_env-2.ensures k) b.slots b.cpu (c.die.ensures k) b.time b.journal)
     ∙ ap (λ (s : Shown). buried s c.args.env c.args.cause) c.self.view_is

@@ -49,3 +49,9 @@ returns-in-Some-clause-room c =
     let b = c.args.self.now in
     let leaves = called_leaves b c.in-Some.env (reg b.cpu 2 == exit_number) (subst IsSound c.self.view_is c.self.invariant) (sym c.runner.ensures ∙ c.in-Some.is) in
     omega (arith, leaves.room, ap (λ (s : Shown). s.ledger.spare) c.take_call.ensures)
+
+pub returns-in-Some-clause-numbers : goal.returns-in-Some-clause-numbers
+returns-in-Some-clause-numbers c =
+    let b = c.args.self.now in
+    let leaves = called_leaves b c.in-Some.env (reg b.cpu 2 == exit_number) (subst IsSound c.self.view_is c.self.invariant) (sym c.runner.ensures ∙ c.in-Some.is) in
+    omega (arith, leaves.numbers, ap (λ (s : Shown). s.claims.next) c.take_call.ensures)

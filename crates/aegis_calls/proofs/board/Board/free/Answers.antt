@@ -8,6 +8,7 @@ use Rattle.board_world.specs.Shown.{Shown}
 use Rattle.board_world.specs.Showing.{book_of}
 use Rattle.board_world.proofs.Allowed.{changeable, owned_by_none}
 use Rattle.board_world.proofs.Booked.{free_booked}
+use Rattle.board_world.proofs.Claiming.{freed_claimed}
 use Rattle.board_world.proofs.Parted.{row_parted}
 use Rattle.board_world.proofs.Staying.{sound_memory}
 use Rattle.aegis_calls.proofs.board.Board.free.Goals as goal
@@ -19,6 +20,7 @@ invariant_of-self c =
     let page = c.args.page in
     let may = subst (λ (s : Shown). MayChange (book_of s) e page) (sym c.self.view_is) c.requires.may in
     let freed = c.free.ensures.after ∙ ap (λ (why : Option PageNo). changed_unless why b.pages page Free) (changeable e b.pages page may.there may.owned) in
-    rw (freed, c.break_page.ensures.after)
-    (sound_memory b.frames _ _ (row_parted b.frames b.pages b.roster.list page Free (owned_by_none e (row_in b.pages page) may.owned) c.self.invariant.memory)
-    (free_booked b.pages b.bindings b.roster page may.there c.self.invariant.books) c.self.invariant)
+    rw (freed, c.break_page.ensures.after, c.drop_page.ensures)
+    (sound_memory b.frames _ _ _ (row_parted b.frames b.pages b.roster.list page Free (owned_by_none e (row_in b.pages page) may.owned) c.self.invariant.memory)
+    (free_booked b.pages b.bindings b.roster page may.there c.self.invariant.books)
+    (freed_claimed b.claims b.pages b.roster page may.there c.self.invariant.claims) c.self.invariant)

@@ -1,5 +1,5 @@
 -- What follows a step is done to the board after it, and is what the step came to.
-use Rattle.std.proofs.Common.{◌≡◌, ◌<◌, ℕ, refl, sym, ap, ◌∙◌, subst}
+use Rattle.std.proofs.Common.{◌≡◌, ◌<◌, ◌^◌, ℕ, refl, sym, ap, ◌∙◌, subst}
 use Rattle.mips_exec.specs.declared.exception.Exc.{Exc}
 use Rattle.mips_exec.specs.declared.exception.Outcome.TheVariants as outcome
 use Rattle.mips_exec.specs.Step.{Step, Retired, Called, Trapped, outcome_of}
@@ -46,3 +46,6 @@ returns-in-Trap c =
     c.trap.ensures
     ∙ ap (λ (s : Shown). trapped s c.args.env c.in-Trap.exc) c.run_machine.ensures.shown
     ∙ came_trapped c.args.self.now c.args.env (step_seen c.args.self.now c.args.env) c.in-Trap.exc (sym c.run_machine.ensures.outcome ∙ c.in-Trap.is)
+
+pub take_call-requires-clause-numbers : goal.take_call-requires-clause-numbers
+take_call-requires-clause-numbers c = subst (λ (s : Shown). s.claims.next < 2 ^ 32) (sym c.run_machine.ensures.shown) c.requires.numbers

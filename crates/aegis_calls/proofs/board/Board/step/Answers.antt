@@ -24,3 +24,8 @@ pub returns-in-Some-clause-whole : goal.returns-in-Some-clause-whole
 returns-in-Some-clause-whole c =
     let leaves = came_leaves c.args.self.now c.in-Some.env (step_seen c.args.self.now c.in-Some.env) (subst IsSound c.self.view_is c.self.invariant) (sym c.runner.ensures ∙ c.in-Some.is) in
     ap (λ (b : Shown). b.roster.spare) c.run_step.ensures ∙ leaves.spare
+
+pub returns-in-Some-clause-numbers : goal.returns-in-Some-clause-numbers
+returns-in-Some-clause-numbers c =
+    let leaves = came_leaves c.args.self.now c.in-Some.env (step_seen c.args.self.now c.in-Some.env) (subst IsSound c.self.view_is c.self.invariant) (sym c.runner.ensures ∙ c.in-Some.is) in
+    omega (arith, leaves.numbers, ap (λ (b : Shown). b.claims.next) c.run_step.ensures)

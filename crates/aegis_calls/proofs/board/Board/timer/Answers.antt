@@ -4,6 +4,8 @@ use Rattle.board_world.specs.Showing.{world_of}
 use Rattle.board_world.specs.Sound.{IsSound}
 use Rattle.board_world.proofs.Counting.{counted_counts}
 use Rattle.board_world.proofs.Turning.{counted_world}
+use Rattle.world_model.specs.World.{World}
+use Rattle.board_world.proofs.Numbering.{timer_claims}
 use Rattle.aegis_calls.proofs.board.Board.timer.Goals as goal
 
 pub returns-clause-world : goal.returns-clause-world
@@ -17,3 +19,8 @@ returns-clause-whole c = rw c.count.ensures (counted_counts c.args.self.now (sub
 
 pub returns-clause-room : goal.returns-clause-room
 returns-clause-room c = rw c.count.ensures (counted_counts c.args.self.now (subst IsSound c.self.view_is c.self.invariant)).room
+
+pub returns-clause-numbers : goal.returns-clause-numbers
+returns-clause-numbers c =
+    ap (λ (w : World). w.book.next_claim) (ap world_of c.count.ensures ∙ counted_world c.args.self.now (subst IsSound c.self.view_is c.self.invariant))
+    ∙ timer_claims (world_of c.args.self.now)

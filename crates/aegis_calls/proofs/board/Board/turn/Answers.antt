@@ -4,6 +4,8 @@ use Rattle.board_world.specs.Showing.{world_of}
 use Rattle.board_world.specs.Sound.{IsSound}
 use Rattle.board_world.proofs.Sound.{owed_most}
 use Rattle.board_world.proofs.Turning.{turned_runs, turned_world}
+use Rattle.world_model.specs.World.{World}
+use Rattle.board_world.proofs.Numbering.{turn_claims}
 use Rattle.aegis_calls.proofs.board.Board.turn.Goals as goal
 
 pub take_turn-requires-clause-room : goal.take_turn-requires-clause-room
@@ -17,3 +19,8 @@ returns-clause-runs c = λ busy. rw c.take_turn.ensures.after (turned_runs c.arg
 
 pub returns-clause-room : goal.returns-clause-room
 returns-clause-room c = omega (arith, owed_most c.args.self.now.slots c.args.self.now.roster (subst IsSound c.self.view_is c.self.invariant).book, c.take_turn.ensures.room)
+
+pub returns-clause-numbers : goal.returns-clause-numbers
+returns-clause-numbers c =
+    ap (λ (w : World). w.book.next_claim) (ap world_of c.take_turn.ensures.after ∙ turned_world c.args.self.now (subst IsSound c.self.view_is c.self.invariant) c.requires.whole)
+    ∙ turn_claims (world_of c.args.self.now)
