@@ -53,7 +53,14 @@ ELF = {
     "Overlap": "two segments have a byte at one address",
     "BadEntry": "its entry isn't the address of an instruction in it",
 }
-SCHEDULE = {"NotBuilt": "a schedule has to be empty: `/dev/null` is one"}
+SCHEDULE = {
+    "Syntax": "the line isn't an event",
+    "Range": "a word isn't a number, or is outside its limits",
+    "Hex": "a packet isn't two hexadecimal digits for each byte",
+    "Order": "the time is below that of the event before",
+    "Many": "there are more than 65,536 events",
+    "NotBuilt": "pages are asked back, which isn't built",
+}
 KINDS: Dict[str, Dict[str, str]] = {"source": SOURCE, "manifest": MANIFEST, "image": IMAGE, "ELF file": ELF, "schedule": SCHEDULE}
 
 # What is written elsewhere, and what to write here. A, B are the operands as they stand.
@@ -93,6 +100,30 @@ def advice(why: str, source: Source, line: str) -> str:
         return f"`{name}` stands in line {first.line} already." if first else f"`{name}` has a value already."
     if why == "Empty":
         return "Instructions stand in `.text`, where a source begins."
+    return ""
+
+
+def event_advice(why: str, line: str) -> str:
+    """What is wrong with a line of a schedule that is refused for `why`, as far as it can be told."""
+    odd = re.search(r"[^\t\r -~]", line)
+    if odd:
+        return f"The line has the character {odd[0]!r}: a schedule is plain ASCII, in comments too."
+    words = line.split("#")[0].split()
+    if why == "Syntax":
+        if len(words) > 3 and words[1] == "packet":
+            return "The bytes of a packet stand without blanks between them."
+        return "An event is `TIME packet BYTES` or `TIME line NUMBER`."
+    if why == "Hex":
+        if words[2].startswith("0x"):
+            return "The digits have no `0x` before them."
+        if re.search(r"[^0-9a-fA-F]", words[2]):
+            return "A digit is one of `0` to `9`, `a` to `f` and `A` to `F`."
+        return "Each byte has two digits, and their number is odd."
+    if why == "Range":
+        limit = {"packet": "a packet has 1 to 1,514 bytes", "line": "the lines are 0 to 7"}.get(words[1], "an environment is at most 31, and pages at most 4,096")
+        return f"A time is at most 4,194,304, and {limit}. Numbers are decimal or begin with `0x`."
+    if why == "Order":
+        return "Events stand in the order of their times."
     return ""
 
 
