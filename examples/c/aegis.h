@@ -18,6 +18,8 @@ enum aegis_number {
     AEGIS_TAKE = 11,
     AEGIS_DROP = 12,
     AEGIS_QUERY = 13,
+    AEGIS_LINE = 17,
+    AEGIS_SEND = 19,
     AEGIS_SELF = 20,
     AEGIS_CLOCK = 21
 };
@@ -36,7 +38,9 @@ enum aegis_code {
     AEGIS_NO_SLICE = 10,
     AEGIS_SLOT_TAKEN = 11,
     AEGIS_NOT_HOLDER = 12,
+    AEGIS_LINE_TAKEN = 17,
     AEGIS_CONSOLE_FULL = 18,
+    AEGIS_FULL = 19,
     AEGIS_BAD_CALL = 20,
     AEGIS_BAD_POINTER = 21
 };
@@ -183,6 +187,26 @@ static inline unsigned aegis_drop(unsigned slot)
 static inline struct aegis_answer aegis_query(enum aegis_question what, unsigned which)
 {
     return aegis_call(AEGIS_QUERY, what, which);
+}
+
+/* Takes an interrupt line, 0 to 7, and drops one that the environment has. */
+static inline unsigned aegis_take_line(unsigned line)
+{
+    return aegis_call(AEGIS_LINE, line, 1).code;
+}
+
+static inline unsigned aegis_drop_line(unsigned line)
+{
+    return aegis_call(AEGIS_LINE, line, 0).code;
+}
+
+/* A bit for each line on which a signal came; the program clears them. */
+#define AEGIS_LINES (*(volatile unsigned *)0x1148)
+
+/* Sends a packet of 14 to 1,514 bytes, all of which lie in one page. */
+static inline unsigned aegis_send(const void *bytes, unsigned length)
+{
+    return aegis_call(AEGIS_SEND, (unsigned)bytes, length).code;
 }
 
 /* Has another environment go on at its entry, where it finds the word in $6. It gets all other registers, too. */
