@@ -51,6 +51,8 @@
 .equ entry_caller,      0x1108
 .equ entry_kind,        0x110c  # 0 asynchronous, 1 synchronous
 # Of what comes from outside:
+.equ post_packets,      0x1140  # packets that came, lost ones too
+.equ post_lost,         0x1144  # packets that were lost
 .equ post_lines,        0x1148  # a bit for each interrupt line on which a signal came
 # Shows that a name is in reach of $0: exits with what the kernel left there, which is 0 where nobody called.
 start:  lw   $4, entry_caller($0)

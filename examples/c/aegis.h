@@ -18,6 +18,8 @@ enum aegis_number {
     AEGIS_TAKE = 11,
     AEGIS_DROP = 12,
     AEGIS_QUERY = 13,
+    AEGIS_CLAIM = 14,
+    AEGIS_UNCLAIM = 15,
     AEGIS_LINE = 17,
     AEGIS_SEND = 19,
     AEGIS_SELF = 20,
@@ -38,6 +40,9 @@ enum aegis_code {
     AEGIS_NO_SLICE = 10,
     AEGIS_SLOT_TAKEN = 11,
     AEGIS_NOT_HOLDER = 12,
+    AEGIS_BAD_FILTER = 13,
+    AEGIS_OVERLAP = 14,
+    AEGIS_NO_FILTER = 15,
     AEGIS_LINE_TAKEN = 17,
     AEGIS_CONSOLE_FULL = 18,
     AEGIS_FULL = 19,
@@ -188,6 +193,36 @@ static inline struct aegis_answer aegis_query(enum aegis_question what, unsigned
 {
     return aegis_call(AEGIS_QUERY, what, which);
 }
+
+/* What a packet has in a field: its bits under the mask are the value. The field is one, two or four bytes from the offset
+   on, the highest byte first. */
+struct aegis_atom {
+    unsigned short offset, width;
+    unsigned mask, value;
+};
+
+/* The page into which packets go has two buffers, which take them by turns. A buffer is free again once its length is 0. */
+struct aegis_buffer {
+    unsigned length;
+    unsigned char bytes[2044];
+};
+
+/* Claims the packets that have all that these 1 to 16 atoms say, which lie in one page: they go into the page, which is one's
+   own. The value is the number of the claim; where another environment's claim is in the way, it is that one's. */
+static inline struct aegis_answer aegis_claim(const struct aegis_atom *atoms, unsigned count, unsigned page)
+{
+    return aegis_call5(AEGIS_CLAIM, (unsigned)atoms, count, page, 0, 0);
+}
+
+/* Withdraws a claim of one's own. */
+static inline unsigned aegis_unclaim(unsigned claim)
+{
+    return aegis_call(AEGIS_UNCLAIM, claim, 0).code;
+}
+
+/* How many packets came that the environment claims, and how many of them were lost since the buffer wasn't free. */
+#define AEGIS_PACKETS (*(volatile unsigned *)0x1140)
+#define AEGIS_LOST (*(volatile unsigned *)0x1144)
 
 /* Takes an interrupt line, 0 to 7, and drops one that the environment has. */
 static inline unsigned aegis_take_line(unsigned line)
