@@ -1,0 +1,293 @@
+"""All that the kernel keeps, and what is done to it: docs/KERNEL.md.
+
+What calls refuse is in calls.py, and when things are done is in ticks.py. `seen` counts what happened for the test of this
+case, and nothing is decided by it.
+"""
+import struct
+from collections import Counter
+
+from files import PAGE
+from machine import ADEL, ADES, MOD, TLBL, TLBS, WORD, Cpu, Trap
+
+ROWS, LINES = 256, 8
+EXCEPTIONS, STARTS, ENDS, ASYNCHRONOUS, SYNCHRONOUS = range(5)
+AT, K0, K1 = 1, 26, 27
+
+# Places in the context page.
+CONTEXT_VPN, EXCEPTION_AREA, START_AREA, END_AREA, ENTRY_AREA = 1, 0x000, 0x040, 0x050, 0x080
+POST_PACKETS, POST_LOST, POST_LINES = 0x140, 0x144, 0x148
+BUFFER_SIZE = 0x800  # of which a ring page has two
+
+
+class Page:
+    """A page of physical memory: who owns it, if anybody, whether it is guaranteed, its words and its bytes."""
+
+    def __init__(self):
+        self.release()
+        self.data = bytearray(PAGE)
+
+    def release(self):
+        self.owner, self.is_guaranteed, self.read, self.write = None, False, 0, 0
+
+
+class Claim:
+    """A filter, whose it is, the ring page, and how many packets came into the ring."""
+
+    def __init__(self, number, env, filter_, page):
+        self.number, self.env, self.filter, self.page, self.deliveries = number, env, filter_, page, 0
+
+
+class Env:
+    """An environment. Bindings are by row, each (VPN, page, whether it may be stored to)."""
+
+    def __init__(self, number, program):
+        self.number, self.name, self.life = number, program.name, "live"
+        self.cpu, self.handlers, self.mask = Cpu(program.entry), [0] * 5, program.accept
+        self.guaranteed, self.bindings, self.excess = {}, {}, 0
+        self.console, self.sent = bytearray(), []
+
+    @property
+    def is_alive(self):
+        return self.life == "live"
+
+    def sees(self, vpn):
+        """The page at a VPN, and whether it may be stored to; or None."""
+        if vpn in self.guaranteed:
+            return self.guaranteed[vpn]
+        binding = self.bindings.get(vpn % ROWS)
+        return binding[1:] if binding and binding[0] == vpn else None
+
+    def accepts(self, other):
+        return bool(self.mask >> other.number & 1)
+
+
+class Memory:
+    """Memory as an environment sees it."""
+
+    def __init__(self, board, env):
+        self.board, self.env = board, env
+
+    def reach(self, va, is_store):
+        if va >> 31:
+            raise Trap(ADES if is_store else ADEL, va)
+        seen = self.env.sees(va // PAGE)
+        if seen is None:
+            raise Trap(TLBS if is_store else TLBL, va)
+        if is_store and not seen[1]:
+            raise Trap(MOD, va)
+        return seen[0]
+
+    def load(self, va):
+        return word_of(self.board.pages[self.reach(va, False)].data, va % PAGE & ~3)
+
+    fetch = load
+
+    def store(self, va, place, data):
+        page = self.reach(va, True)
+        self.board.pages[page].data[place % PAGE : place % PAGE + len(data)] = data
+        if any(claim.env is not self.env for claim in self.board.claims_on(page)):
+            self.board.seen["stores into another's ring"] += 1
+
+
+def word_of(data, place):
+    return int.from_bytes(data[place : place + 4], "little")
+
+
+class Board:
+    """The kernel. A slot is None or (owner, holder); `slot` is the cursor, and the slot of who runs."""
+
+    def __init__(self, image):
+        self.quantum, self.time, self.rows, self.seen = image.quantum, 0, [], Counter()
+        self.pages = [Page() for _ in range(image.pages)]
+        self.slots = [None if owner is None else (owner, owner) for owner in image.slots]
+        self.slot, self.runner, self.left, self.in_grace = len(self.slots) - 1, None, 0, False
+        self.lines, self.claims, self.next_claim = [None] * LINES, {}, 0
+        self.envs = []
+        for program in image.programs:
+            self.add(program)
+        for slot, hold in enumerate(self.slots):
+            if hold:
+                self.change_slot(slot, hold)
+
+    def add(self, program):
+        """Boots the next environment: each guaranteed page is the lowest free one."""
+        env = Env(len(self.envs), program)
+        self.envs.append(env)
+        for vpn, is_writable in program.mappings().items():
+            number = self.lowest_free()
+            page = self.pages[number]
+            page.owner, page.is_guaranteed = env, True
+            env.guaranteed[vpn] = number, is_writable
+            for it in program.segments:
+                # the segment's bytes from the file that lie in this page
+                first, end = max(it.address, vpn * PAGE), min(it.address + len(it.data), (vpn + 1) * PAGE)
+                if first < end:
+                    page.data[first % PAGE : first % PAGE + end - first] = it.data[first - it.address : end - it.address]
+
+    def row(self, name, *words):
+        self.rows.append(" ".join(map(str, (name, self.time, *words))))
+
+    def is_idle(self):
+        return self.runner is None and not any(self.slots)
+
+    # Slots and slices
+
+    def change_slot(self, slot, hold):
+        self.slots[slot] = hold
+        self.row("own", slot, *(hold or ("-", "-")))
+
+    def leave_slot(self, slot, env):
+        """Its holder lets a slot go: it is empty, or its owner's again."""
+        owner, _ = self.slots[slot]
+        self.change_slot(slot, None if owner == env.number else (owner, owner))
+
+    def stop(self):
+        """Nobody runs any more. Who ran keeps its registers as they stand."""
+        self.row("stop", self.slot, self.runner.number)
+        self.runner = None
+
+    def start(self, env):
+        """A slice of the environment starts."""
+        self.runner = env
+        env.cpu.rest()
+        if env.handlers[STARTS]:
+            self.upcall(env, STARTS, START_AREA)
+
+    def tell_end(self, env):
+        """Its slice is over."""
+        cause = env.cpu.cause()
+        env.cpu.rest()
+        self.upcall(env, ENDS, END_AREA, cause)
+
+    def upcall(self, env, kind, area, *more):
+        """Continues at a handler of starts or ends, with the resume address in a register."""
+        resume = env.cpu.pc
+        self.set_context(env, area, env.cpu.regs[K0], resume, *more)
+        env.cpu.set(K0, resume)
+        env.cpu.continue_at(env.handlers[kind])
+
+    def enter(self, env, caller, kind):
+        """A transfer enters an environment with the caller's registers."""
+        env.cpu.rest()
+        self.set_context(env, ENTRY_AREA, *env.cpu.regs[1:], env.cpu.hi, env.cpu.lo, env.cpu.pc, caller.number, kind)
+        env.cpu.take_registers(caller.cpu)
+        env.cpu.continue_at(env.handlers[(ASYNCHRONOUS, SYNCHRONOUS)[kind]])
+        env.mask = 0
+        self.runner = env
+
+    # The context page
+
+    def context(self, env):
+        return self.pages[env.guaranteed[CONTEXT_VPN][0]].data
+
+    def set_context(self, env, place, *words):
+        struct.pack_into(f"<{len(words)}I", self.context(env), place, *words)
+
+    def count_up(self, env, place):
+        word = word_of(self.context(env), place) + 1 & WORD
+        self.set_context(env, place, word)
+        self.seen["post words that wrap"] += word == 0
+
+    # Exceptions and deaths
+
+    def raise_exception(self, env, trap):
+        """The handler gets an exception; without one it is the environment's death."""
+        if not env.handlers[EXCEPTIONS]:
+            self.die(env, f"dead {NAMES[trap.code]}")
+            return
+        cpu, epc, cause = env.cpu, env.cpu.restart(), env.cpu.cause(trap.code, trap.unit)
+        self.set_context(env, EXCEPTION_AREA, cpu.regs[AT], cpu.regs[K0], cpu.regs[K1], epc, trap.bad, cause)
+        for register, value in ((AT, cause), (K0, epc), (K1, trap.bad)):
+            cpu.set(register, value)
+        cpu.continue_at(env.handlers[EXCEPTIONS])
+
+    def die(self, env, life):
+        """The runner dies."""
+        self.row("dead", self.slot, env.number)
+        env.life, env.excess, self.runner = life, 0, None
+        for number, page in enumerate(self.pages):
+            if page.owner is env:
+                self.free(number, "a death")
+        env.bindings.clear()
+        self.seen["lines that end with a death"] += self.lines.count(env)
+        self.lines = [None if owner is env else owner for owner in self.lines]
+        for slot, hold in enumerate(self.slots):
+            if hold and env.number == hold[0]:
+                self.change_slot(slot, None)
+            elif hold and env.number == hold[1]:
+                self.leave_slot(slot, env)
+
+    # Pages and bindings
+
+    def lowest_free(self):
+        """The lowest page without an owner, or None."""
+        return next((number for number, page in enumerate(self.pages) if page.owner is None), None)
+
+    def allocate(self, env, number, read, write):
+        page = self.pages[number]
+        page.owner, page.read, page.write = env, read, write
+        page.data[:] = bytes(PAGE)
+
+    def free(self, number, cause="a free"):
+        """A page is free: its bindings go, and the claims whose ring it is."""
+        self.pages[number].release()
+        self.break_bindings(number)
+        for claim in self.claims_on(number):
+            del self.claims[claim.number]
+            self.seen[f"claims that end with {cause}"] += 1
+
+    def recap(self, number, read, write):
+        """A page has other words: the bindings of all but its owner go, and no claim does."""
+        page = self.pages[number]
+        page.read, page.write = read, write
+        self.break_bindings(number, but=page.owner)
+        self.seen["rings that have other words"] += bool(self.claims_on(number))
+
+    def claims_on(self, number):
+        """The claims whose ring a page is."""
+        return [claim for claim in self.claims.values() if claim.page == number]
+
+    def break_bindings(self, number, but=None):
+        """All bindings of a page go, but those of one environment."""
+        for env in self.envs:
+            if env is not but:
+                env.bindings = {row: it for row, it in env.bindings.items() if it[1] != number}
+
+    # Packets and lines
+
+    def claim(self, env, filter_, page):
+        number = self.next_claim
+        self.claims[number] = Claim(number, env, filter_, page)
+        self.next_claim += 1
+        return number
+
+    def receive(self, packet):
+        """A packet comes: it is the lowest claim's that matches it, and nobody's if none does."""
+        claim = next((claim for _, claim in sorted(self.claims.items()) if claim.filter.matches(packet)), None)
+        if claim is None:
+            self.row("drop", len(packet))
+            self.seen["packets dropped"] += 1
+            return
+        self.count_up(claim.env, POST_PACKETS)
+        page, buffer = self.pages[claim.page].data, claim.deliveries % 2 * BUFFER_SIZE
+        if word_of(page, buffer):
+            self.count_up(claim.env, POST_LOST)
+            self.seen["packets lost"] += 1
+            self.seen["packets lost beside an empty buffer"] += not word_of(page, BUFFER_SIZE - buffer)
+            return
+        page[buffer : buffer + 4 + len(packet)] = struct.pack("<I", len(packet)) + packet
+        claim.deliveries += 1
+        self.seen["packets delivered"] += 1
+        self.seen["delivered", len(packet)] += 1
+        if any(it[1] == claim.page for env in self.envs if env is not claim.env for it in env.bindings.values()):
+            self.seen["packets that others see"] += 1
+
+    def signal(self, line):
+        """A line is raised: its owner, if it has one, finds the line's bit set."""
+        env = self.lines[line]
+        self.seen["lines to nobody" if env is None else "lines delivered"] += 1
+        if env:
+            self.set_context(env, POST_LINES, word_of(self.context(env), POST_LINES) | 1 << line)
+
+
+NAMES = dict(enumerate("int mod tlbl tlbs adel ades ibe dbe sys bp ri cpu ov".split()))

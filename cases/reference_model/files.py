@@ -1,0 +1,242 @@
+"""What is read: boot images, the ELF files in them, and schedules, each with its faults: docs/FORMATS.md."""
+import struct
+from dataclasses import dataclass
+
+PAGE = 4096
+LEAST_ADDRESS, END_OF_ADDRESSES, END_OF_STACK = 0x2000, 0x7FF00000, 0x7FFF0000
+MOST_MAPPINGS, MOST_STACK, MOST_TICKS, MOST_PACKET, MOST_EVENTS = 256, 16, 4194304, 1514, 65536
+CONTEXT_VPN = 1
+EMPTY = 255
+
+
+class Fault(Exception):
+    """Why a file is refused, and the place or line."""
+
+    def __init__(self, why, place):
+        super().__init__(f"{why} {place}")
+        self.why, self.place = why, place
+
+
+@dataclass
+class Segment:
+    """Bytes from an address on, of which the file gives the first ones."""
+
+    address: int
+    data: bytes
+    size: int
+    is_writable: bool
+
+
+@dataclass
+class Program:
+    """A program of an image: its segments, and where it is entered."""
+
+    name: str
+    stack: int
+    accept: int
+    entry: int
+    segments: list
+
+    def mappings(self):
+        """The VPNs of its guaranteed pages, rising, and whether each may be stored to."""
+        found = {CONTEXT_VPN: True}
+        for segment in self.segments:
+            for vpn in range(segment.address // PAGE, (segment.address + segment.size - 1) // PAGE + 1):
+                found[vpn] = found.get(vpn, False) or segment.is_writable
+        end = END_OF_STACK // PAGE
+        found.update({vpn: True for vpn in range(end - self.stack, end)})
+        return dict(sorted(found.items()))
+
+
+@dataclass
+class Image:
+    """A boot image: the numbers of the machine, the owner of each slot or None, and the programs."""
+
+    pages: int
+    quantum: int
+    slots: list
+    programs: list
+
+
+@dataclass
+class Event:
+    """What happens at the beginning of a tick: a packet, or a signal on a line."""
+
+    tick: int
+    packet: bytes = None
+    line: int = None
+
+
+def number_at(file, place, size):
+    return int.from_bytes(file[place : place + size], "little")
+
+
+def read_image(file):
+    if len(file) < 16:
+        raise Fault("Short", len(file))
+    if file[:4] != b"AEG1":
+        raise Fault("Magic", 0)
+    limits = (("Pages", 4, 4, 16, 1024), ("Quantum", 8, 4, 16, 65536), ("Envs", 12, 2, 1, 16), ("Slots", 14, 2, 1, 64))
+    for why, place, size, least, most in limits:
+        if not least <= number_at(file, place, size) <= most:
+            raise Fault(why, place)
+    pages, quantum, count, slots = struct.unpack_from("<IIHH", file, 4)
+    place = 16 + slots
+    if len(file) < place:
+        raise Fault("Short", len(file))
+    for slot, owner in enumerate(file[16:place], 16):
+        if count <= owner < EMPTY:
+            raise Fault("SlotOwner", slot)
+    programs, headers, first = [], [], 16
+    for _ in range(count):
+        headers.append(place)
+        program, place = read_program(file, place)
+        programs.append(program)
+    if place < len(file):
+        raise Fault("Trailing", place)
+    needs = [len(program.mappings()) for program in programs]
+    for header, need in zip(headers, needs):
+        if need > MOST_MAPPINGS:
+            raise Fault("TooMany", header)
+    if sum(needs) > pages:
+        raise Fault("TooBig", 4)
+    return Image(pages, quantum, [None if owner == EMPTY else owner for owner in file[first : first + slots]], programs)
+
+
+def read_program(file, header):
+    """The program whose header is at this place, and the end of its body."""
+    body = header + 28
+    if len(file) < body:
+        raise Fault("Short", len(file))
+    name = file[header : header + 8].rstrip(b"\0")
+    base, stack, accept, kind, length = struct.unpack_from("<5I", file, header + 8)
+    if not name or any(letter not in b"abcdefghijklmnopqrstuvwxyz0123456789_" for letter in name):
+        raise Fault("Name", header)
+    if kind > 1:
+        raise Fault("Kind", header)
+    if stack > MOST_STACK:
+        raise Fault("Stack", header)
+    if kind == 0:
+        is_good = base % PAGE == 0 and base >= LEAST_ADDRESS and base + length <= END_OF_ADDRESSES
+    else:
+        is_good = base == 0
+    if not is_good:
+        raise Fault("Base", header)
+    if kind == 0 and length == 0:
+        raise Fault("Empty", header)
+    if len(file) < body + length:
+        raise Fault("Short", len(file))
+    data = file[body : body + length]
+    if kind == 0:
+        entry, segments = base, [Segment(base, data, length, True)]
+    else:
+        try:
+            entry, segments = read_elf(data)
+        except Fault as fault:
+            raise Fault(fault.why, body + fault.place) from None
+    return Program(name.decode(), stack, accept, entry, segments), body + length
+
+
+def read_elf(file):
+    """The entry and the segments that are kept."""
+    if len(file) < 52:
+        raise Fault("Short", len(file))
+    fields = (("NotElf", 0, 4, 0x464C457F), ("WrongClass", 4, 1, 1), ("WrongOrder", 5, 1, 1), ("WrongKind", 16, 2, 2), ("WrongMachine", 18, 2, 8))
+    for why, place, size, value in fields:
+        if number_at(file, place, size) != value:
+            raise Fault(why, place)
+    if number_at(file, 36, 4) >> 28:
+        raise Fault("WrongArch", 36)
+    first, count = number_at(file, 28, 4), number_at(file, 44, 2)
+    if number_at(file, 42, 2) != 32:
+        raise Fault("BadHeaders", 42)
+    if not 1 <= count <= 64:
+        raise Fault("BadHeaders", 44)
+    if first + 32 * count > len(file):
+        raise Fault("BadHeaders", 28)
+    segments = []
+    for header in range(first, first + 32 * count, 32):
+        kind, offset, address, _, in_file, size, flags = struct.unpack_from("<7I", file, header)
+        if kind in (2, 3):
+            raise Fault("Dynamic", header)
+        if kind != 1:
+            continue
+        if in_file > size or offset + in_file > len(file):
+            raise Fault("BadRange", header)
+        if size == 0:
+            continue
+        if address < LEAST_ADDRESS or address + size > END_OF_ADDRESSES:
+            raise Fault("BadRange", header)
+        if any(address < other.address + other.size and other.address < address + size for other in segments):
+            raise Fault("Overlap", header)
+        segments.append(Segment(address, file[offset : offset + in_file], size, bool(flags & 2)))
+    entry = number_at(file, 24, 4)
+    if entry % 4 or not any(it.address <= entry < it.address + it.size for it in segments):
+        raise Fault("BadEntry", 24)
+    return entry, segments
+
+
+CHARACTERS = frozenset((9, 10, 13, *range(32, 127)))
+WORDS_OF = {b"packet": 3, b"line": 3, b"revoke": 5}  # by kind of event, the words of its line
+
+
+def lines_of(text):
+    """The lines of a text, numbered from 1."""
+    lines = text.split(b"\n")
+    last = lines.pop()
+    lines = [line[:-1] if line.endswith(b"\r") else line for line in lines] + ([last] if last else [])
+    return enumerate(lines, 1)
+
+
+def number_of(word):
+    """The number that a word is, or None."""
+    digits, base, most, alphabet = (word[2:], 16, 8, b"0123456789abcdefABCDEF") if word.startswith(b"0x") else (word, 10, 10, b"0123456789")
+    if not 1 <= len(digits) <= most or any(digit not in alphabet for digit in digits):
+        return None
+    value = int(digits, base)
+    return value if value < 1 << 32 else None
+
+
+def read_schedule(text):
+    """The events of a schedule, in order."""
+    events = []
+    for line, content in lines_of(text):
+        if not CHARACTERS.issuperset(content):
+            raise Fault("Syntax", line)
+        words = content.partition(b"#")[0].replace(b"\t", b" ").split(b" ")
+        if words := [word for word in words if word]:
+            event = read_event(line, words)
+            if events and event.tick < events[-1].tick:
+                raise Fault("Order", line)
+            if len(events) == MOST_EVENTS:
+                raise Fault("Many", line)
+            if words[1] == b"revoke":
+                raise Fault("NotBuilt", line)
+            events.append(event)
+    return events
+
+
+def read_event(line, words):
+    """The event of a line's words, apart from what the lines before have to do with it."""
+
+    def ranged(word, most):
+        value = number_of(word)
+        if value is None or value > most:
+            raise Fault("Range", line)
+        return value
+
+    if len(words) < 2 or WORDS_OF.get(words[1]) != len(words):
+        raise Fault("Syntax", line)
+    tick = ranged(words[0], MOST_TICKS)
+    if words[1] == b"line":
+        return Event(tick, line=ranged(words[2], 7))
+    if words[1] == b"revoke":
+        for word, most in zip(words[2:], (31, 4096, MOST_TICKS)):
+            ranged(word, most)
+        return Event(tick)
+    if len(words[2]) % 2 or any(digit not in b"0123456789abcdefABCDEF" for digit in words[2]):
+        raise Fault("Hex", line)
+    packet = bytes.fromhex(words[2].decode())
+    if len(packet) > MOST_PACKET:
+        raise Fault("Range", line)
+    return Event(tick, packet=packet)

@@ -1,0 +1,77 @@
+"""What a run writes: docs/REPORT.md. `python3 report.py IMAGE SCHEDULE TICKS` writes it, and ends with the status."""
+import sys
+from hashlib import sha256
+
+from files import Fault, read_image, read_schedule
+from ticks import run
+
+DONE, REFUSED = 0, 3
+SHOWN = {byte: chr(byte) for byte in range(32, 127)} | {0x22: '\\"', 0x5C: "\\\\", 0x0A: "\\n"}
+
+
+def text_of(data):
+    return "".join(SHOWN.get(byte) or f"\\x{byte:02x}" for byte in data)
+
+
+def env_lines(board, env):
+    yield f"env {env.number} {env.name} {env.life}"
+    yield f'out {env.number} {len(env.console)} "{text_of(env.console)}"'
+    if env.is_alive:
+        yield from living_lines(board, env)
+    for packet in env.sent:
+        yield f"sent {env.number} {len(packet)} {packet.hex()}"
+
+
+def living_lines(board, env):
+    cpu = env.cpu
+    if env is not board.runner:
+        cpu.rest()
+    yield f"cpu {env.number} {cpu.pc:08x} {cpu.next:08x} {cpu.slot:d} {cpu.hi:08x} {cpu.lo:08x}"
+    yield f"regs {env.number} " + " ".join(f"{value:08x}" for value in cpu.regs[1:])
+    yield f"excess {env.number} {env.excess}"
+    for vpn, (page, _) in sorted(env.guaranteed.items()):
+        yield f"keep {env.number} {vpn:05x} {sha256(board.pages[page].data).hexdigest()}"
+    for number, page in enumerate(board.pages):
+        if page.owner is env and not page.is_guaranteed:
+            yield f"page {env.number} {number} {sha256(page.data).hexdigest()}"
+    for vpn, page, is_writable in sorted(env.bindings.values()):
+        yield f"bind {env.number} {vpn:05x} {page} {'w' if is_writable else 'r'}"
+
+
+def report_lines(board, ticks):
+    yield "aegis run"
+    yield f"end {'limit' if board.time == ticks else 'idle'} {board.time}"
+    for env in board.envs:
+        yield from env_lines(board, env)
+    yield from board.rows
+    for env in board.envs:
+        counts = (sum(row.split()[0] == name and row.split()[3] == str(env.number) for row in board.rows) for name in ("run", "pay", "over"))
+        yield f"sum {env.number} " + " ".join(map(str, counts))
+    yield "done"
+
+
+def answer(files, ticks):
+    """The status and the text of `run IMAGE SCHEDULE TICKS`, and the board if there is one; files are (name, bytes), image first."""
+    read = []
+    for (name, content), reader in zip(files, (read_image, read_schedule)):
+        try:
+            read.append(reader(content))
+        except Fault as fault:
+            return REFUSED, f"aegis: {name}: {fault}\n", None
+    board = run(*read, ticks)
+    return DONE, "".join(f"{line}\n" for line in report_lines(board, ticks)), board
+
+
+def main():
+    *names, ticks = sys.argv[1:]
+    files = []
+    for name in names:
+        with open(name, "rb") as file:
+            files.append((name, file.read()))
+    status, text, _ = answer(files, int(ticks))
+    print(text, end="")
+    sys.exit(status)
+
+
+if __name__ == "__main__":
+    main()

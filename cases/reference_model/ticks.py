@@ -1,0 +1,79 @@
+"""Ticks and whole runs: docs/KERNEL.md, "A tick"."""
+from board import ENDS, Board, Memory
+from calls import make_call
+from machine import KernelCall, Trap, step
+
+MOST_EXCESS = 8
+
+
+def run(image, events, ticks):
+    """The board after so many ticks, or once it is idle."""
+    board, place = Board(image), 0
+    while board.time < ticks and not board.is_idle():
+        while place < len(events) and events[place].tick == board.time:
+            happen(board, events[place])
+            place += 1
+        tick(board)
+    return board
+
+
+def happen(board, event):
+    if event.packet is not None:
+        board.receive(event.packet)
+    else:
+        board.signal(event.line)
+
+
+def tick(board):
+    if board.runner is None:
+        take_turn(board)
+    make_step(board, board.runner)
+    if board.runner:
+        count(board)
+    board.time += 1
+
+
+def take_turn(board):
+    """The next held slot whose holder owes nothing has its turn, and each before it is forfeited."""
+    while True:
+        board.slot = (board.slot + 1) % len(board.slots)
+        if board.slots[board.slot] is None:
+            continue
+        env = board.envs[board.slots[board.slot][1]]
+        if env.excess == 0:
+            break
+        env.excess -= 1
+        board.row("pay", board.slot, env.number)
+    board.row("run", board.slot, env.number)
+    board.left, board.in_grace = board.quantum, False
+    board.start(env)
+
+
+def make_step(board, env):
+    try:
+        step(env.cpu, Memory(board, env))
+    except KernelCall:
+        make_call(board, env)
+    except Trap as trap:
+        board.raise_exception(env, trap)
+
+
+def count(board):
+    """The timer: at the end of a slice who runs is told, or stopped; a quantum of grace that is used up is owed."""
+    board.left -= 1
+    if board.left:
+        return
+    env = board.runner
+    if not board.in_grace and not env.handlers[ENDS]:
+        board.stop()
+        return
+    board.left = board.quantum
+    if not board.in_grace:
+        board.in_grace = True
+        board.row("end", board.slot, env.number)
+        board.tell_end(env)
+        return
+    env.excess += 1
+    board.row("over", board.slot, env.number, env.excess)
+    if env.excess > MOST_EXCESS:
+        board.die(env, "dead excess")
