@@ -4,8 +4,10 @@ use Rattle.std.proofs.lemmas.List.{map-append, take_more}
 use Rattle.external_event.specs.declared.event.Occurrence.{Occurrence}
 use Rattle.external_event.specs.declared.event.Occurrence.TheVariants as outside
 use Rattle.external_event.specs.EventValue.{EventValue}
+use Rattle.filter_tree.specs.ClaimBook.{ClaimValue}
 use Rattle.world_model.specs.Book.{is_idle_book}
-use Rattle.world_model.specs.Event.{Schedule, happen, signals}
+use Rattle.world_model.specs.ClaimCalls.{claim_of}
+use Rattle.world_model.specs.Event.{Schedule, arrives, happen, signals}
 use Rattle.world_model.specs.Tick.{phases_after, tick_phases, tick_step}
 use Rattle.world_model.specs.World.{World, after, run_phases}
 use Rattle.run_model.specs.Excess.{IsAccounted, TicksKeepAccounts}
@@ -34,8 +36,12 @@ signal_idle : (line : ℕ) (owner : Option ℕ) (w : World) → is_idle_book (si
 signal_idle line None w = refl
 signal_idle line (Some owner) w = refl
 
+arrival_idle : (packet : List ℕ) (claim : Option ClaimValue) (w : World) → is_idle_book (arrives packet claim w).book ≡ is_idle_book w.book
+arrival_idle packet None w = refl
+arrival_idle packet (Some c) w = refl
+
 happen_idle : (what : Occurrence) (w : World) → is_idle_book (happen what w).book ≡ is_idle_book w.book
-happen_idle (outside.Packet packet) w = refl
+happen_idle (outside.Packet packet) w = arrival_idle packet (claim_of w.book packet) w
 happen_idle (outside.Line line) w = signal_idle line (w.book.lines line) w
 
 pub still_busy : (happens : List Occurrence) (w : World) → is_idle_book (world_with happens w).book ≡ is_idle_book w.book

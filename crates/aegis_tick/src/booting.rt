@@ -18,6 +18,7 @@ fn add_all(board: &mut Board, programs: &[Program<'_>])
     requires pages { sum_by guaranteed_mappings programs.now ≤ free_pages board.old.pages }
     ensures world { world_of board.new ≡ fold added (world_of board.old) programs.now }
     ensures whole { board.new.roster.spare ≡ 0 }
+    ensures numbers { board.new.claims.next ≡ board.old.claims.next }
     ensures pages { length board.new.frames ≡ length board.old.frames }
 {
     for program in programs {
@@ -31,6 +32,7 @@ pub fn boot(alloc: Global, image: &Image<'_>) -> Result<Board, OutOfMemory>
     ensures world { IfOk result (λ b. world_of b ≡ boot_world image.now) }
     ensures balance { IfOk result (λ b. IsAccounted (world_of b)) }
     ensures fresh { IfOk result (λ b. b.time ≡ 0) }
+    ensures numbers { IfOk result (λ b. b.claims.next ≡ 0) }
     ensures whole { IfOk result (λ b. b.roster.spare ≡ 0) }
     ensures pages { IfOk result (λ b. length b.frames ≡ image.now.pages) }
 {

@@ -42,20 +42,24 @@ pub fn event(board: &mut Board, event: &Event)
     ensures world { world_of board.new ≡ after (world_of board.old) (happen event.now.what (world_of board.old)) }
     ensures time { board.new.time ≡ board.old.time }
     ensures whole { board.new.roster.spare ≡ board.old.roster.spare }
+    ensures numbers { board.new.claims.next ≡ board.old.claims.next }
     ensures room { board.old.ledger.spare ≤ board.new.ledger.spare + TICK_ROWS }
 {
     board.happen(&event.what);
 }
 
-/// One tick in which nothing happens from outside: the turn, the runner's step, and the timer. It takes no memory.
+/// One tick in which nothing happens from outside: the turn, the runner's step, and the timer. It takes no memory. A
+/// tick makes one claim at most, so that the number of the next claim is at most the time.
 pub fn tick(board: &mut Board)
     requires whole { board.old.roster.spare ≡ 0 }
     requires busy { is_idle_book (world_of board.old).book ≡ false }
     requires time { board.old.time < most_ticks }
+    requires numbers { board.old.claims.next ≤ board.old.time }
     requires room { TICK_ROWS ≤ board.old.ledger.spare }
     ensures world { world_of board.new ≡ tick_step (world_of board.old) }
     ensures time { board.new.time ≡ board.old.time + 1 }
     ensures whole { board.new.roster.spare ≡ 0 }
+    ensures numbers { board.new.claims.next ≤ board.new.time }
     ensures room { board.old.ledger.spare ≤ board.new.ledger.spare + TICK_ROWS }
 {
     board.turn();
@@ -85,6 +89,7 @@ fn happen_all(board: &mut Board, events: &[Event]) -> Result<(), OutOfMemory>
     ensures part { OnErr result (HappenedInPart (occurrences events.now) (world_of board.old) (world_of board.new)) }
     ensures time { board.new.time ≡ board.old.time }
     ensures whole { board.new.roster.spare ≡ board.old.roster.spare }
+    ensures numbers { board.new.claims.next ≡ board.old.claims.next }
     ensures sure { TICK_ROWS * length events.now ≤ board.old.ledger.spare → IsOk result × (board.old.ledger.spare ≤ board.new.ledger.spare + TICK_ROWS * length events.now) }
 {
     for one in events {
@@ -99,10 +104,12 @@ fn tick_with(board: &mut Board, events: &[Event]) -> Result<(), OutOfMemory>
     requires whole { board.old.roster.spare ≡ 0 }
     requires busy { is_idle_book (world_of board.old).book ≡ false }
     requires time { board.old.time < most_ticks }
+    requires numbers { board.old.claims.next ≤ board.old.time }
     ensures world { OnOk result (world_of board.new ≡ run_phases (world_of board.old) (phases_after (occurrences events.now))) }
     ensures part { OnErr result (HappenedInPart (occurrences events.now) (world_of board.old) (world_of board.new)) }
     ensures time { OnOk result (board.new.time ≡ board.old.time + 1) }
     ensures whole { OnOk result (board.new.roster.spare ≡ 0) }
+    ensures numbers { OnOk result (board.new.claims.next ≤ board.new.time) }
     ensures sure { TICK_ROWS * (length events.now + 1) ≤ board.old.ledger.spare → IsOk result × (board.old.ledger.spare ≤ board.new.ledger.spare + TICK_ROWS * (length events.now + 1)) }
 {
     happen_all(board, events)?;
@@ -115,6 +122,7 @@ fn tick_with(board: &mut Board, events: &[Event]) -> Result<(), OutOfMemory>
 fn run_ticks(board: &mut Board, events: &[Event], ticks: u32) -> Result<(), OutOfMemory>
     requires whole { board.old.roster.spare ≡ 0 }
     requires fresh { board.old.time ≡ 0 }
+    requires numbers { board.old.claims.next ≡ 0 }
     requires order { are_in_order 0 events.now ≡ true }
     requires limit { ticks ≤ most_ticks }
     ensures world { OnOk result (world_of board.new ≡ run_on (schedule_of events.now) (world_of board.old) ticks) }
@@ -143,6 +151,7 @@ fn run_ticks(board: &mut Board, events: &[Event], ticks: u32) -> Result<(), OutO
 pub fn run(board: &mut Board, events: &[Event], ticks: u32) -> Result<RunEnd, OutOfMemory>
     requires whole { board.old.roster.spare ≡ 0 }
     requires fresh { board.old.time ≡ 0 }
+    requires numbers { board.old.claims.next ≡ 0 }
     requires order { are_in_order 0 events.now ≡ true }
     requires limit { ticks ≤ most_ticks }
     ensures world { OnOk result (world_of board.new ≡ run_on (schedule_of events.now) (world_of board.old) ticks) }

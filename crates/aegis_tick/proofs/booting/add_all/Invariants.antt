@@ -12,5 +12,6 @@ invariant-loop-program l = record {
   world : world_of l.board ≡ fold added (world_of l.fn.board) (take l.program-index l.programs);
   room : l.board.roster.spare + l.program-index ≡ length l.programs;
   free : free_pages l.fn.board.pages ≡ free_pages l.board.pages + sum_by guaranteed_mappings (take l.program-index l.programs);
+  numbers : l.board.claims.next ≡ l.fn.board.claims.next;
   pages : length l.board.frames ≡ length l.fn.board.frames;
 }

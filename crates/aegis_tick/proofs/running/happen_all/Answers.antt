@@ -32,6 +32,7 @@ loop-one-preserved c =
       world = c.event.ensures.world ∙ ap (λ (v : World). after v (happen what v)) same ∙ sym (one_more w c.args.events.now i c.one-item.result c.loop-one-test.true c.one-item.is);
       time = c.event.ensures.time ∙ ap (λ (b : Shown). b.time) c.in_ok-make_room.ensures.same ∙ c.loop-one.invariant.time;
       whole = c.event.ensures.whole ∙ ap (λ (b : Shown). b.roster.spare) c.in_ok-make_room.ensures.same ∙ c.loop-one.invariant.whole;
+      numbers = c.event.ensures.numbers ∙ ap (λ (b : Shown). b.claims.next) c.in_ok-make_room.ensures.same ∙ c.loop-one.invariant.numbers;
       room = λ enough.
           let spare = c.loop-one.invariant.room enough in
           let there = c.in_ok-make_room.ensures.there (omega arith) in

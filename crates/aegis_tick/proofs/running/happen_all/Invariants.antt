@@ -9,5 +9,6 @@ invariant-loop-one l = record {
   world : world_of l.board ≡ world_with (occurrences (take l.one-index l.events)) (world_of l.fn.board);
   time : l.board.time ≡ l.fn.board.time;
   whole : l.board.roster.spare ≡ l.fn.board.roster.spare;
+  numbers : l.board.claims.next ≡ l.fn.board.claims.next;
   room : 2048 * length l.events ≤ l.fn.board.ledger.spare → l.fn.board.ledger.spare ≤ l.board.ledger.spare + 2048 * l.one-index;
 }

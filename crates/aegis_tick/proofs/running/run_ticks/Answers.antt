@@ -68,6 +68,7 @@ loop-done-preserved c =
           ∙ sym (goes_on schedule w t busy);
       whole = c.in_ok-tick_with.ensures.whole;
       time = c.in_ok-tick_with.ensures.time ∙ ap (λ (m : ℕ). m + 1) now.time;
+      numbers = c.in_ok-tick_with.ensures.numbers;
       next = next_within es i t these are now.next;
       ordered = next_ordered es i t these are now.ordered;
       coming = next_coming es i t these are now.coming;

@@ -11,6 +11,7 @@ invariant-loop-done l = record {
   world : world_of l.board ≡ run_on (schedule_of l.events) (world_of l.fn.board) l.done;
   whole : l.board.roster.spare ≡ 0;
   time : l.board.time ≡ l.done;
+  numbers : l.board.claims.next ≤ l.board.time;
   next : l.next ≤ length l.events;
   ordered : are_in_order l.done (drop l.next l.events) ≡ true;
   coming : (t : ℕ) → l.done ≤ t → schedule_of l.events t ≡ schedule_of (drop l.next l.events) t;

@@ -1,5 +1,5 @@
 -- What happens leaves the board busy, and a tick follows.
-use Rattle.std.proofs.Common.{sym, ◌∙◌, ap, List, length}
+use Rattle.std.proofs.Common.{sym, ◌∙◌, ap, arith, List, length}
 use Rattle.std.proofs.Math.Seq.{take-length}
 use Rattle.external_event.specs.declared.event.Occurrence.{Occurrence}
 use Rattle.board_world.specs.Shown.{Shown}
@@ -21,6 +21,13 @@ tick-requires-clause-busy c =
 
 pub tick-requires-clause-whole : goal.tick-requires-clause-whole
 tick-requires-clause-whole c = ap (λ (b : Shown). b.roster.spare) c.in_ok-make_room.ensures.same ∙ c.in_ok-happen_all.ensures.whole ∙ c.requires.whole
+
+pub tick-requires-clause-numbers : goal.tick-requires-clause-numbers
+tick-requires-clause-numbers c =
+    let number = ap (λ (b : Shown). b.claims.next) c.in_ok-make_room.ensures.same ∙ c.in_ok-happen_all.ensures.numbers in
+    let time = ap (λ (b : Shown). b.time) c.in_ok-make_room.ensures.same ∙ c.in_ok-happen_all.ensures.time in
+    let least = c.requires.numbers in
+    omega arith
 
 pub returns-in_err-make_room-clause-part : goal.returns-in_err-make_room-clause-part
 returns-in_err-make_room-clause-part c =
