@@ -1,5 +1,5 @@
 -- The claims that stand, as their environments have them.
-use Rattle.std.proofs.Common.{◌≡◌, ◌≢◌, ℕ, ◌+◌, List, [], ◌∷◌, ◌++◌, Bool, true, false, Option, Some, None, refl, sym, ◌∙◌, ap, subst, inl, inr}
+use Rattle.std.proofs.Common.{◌≡◌, ◌≢◌, ℕ, List, [], ◌∷◌, ◌++◌, Bool, true, false, Option, Some, None, refl, sym, ◌∙◌, ap, inl, inr}
 use Rattle.std.specs.Prelude.{◌==◌, ◌&&◌, not, if◌then◌else◌, filter, find, map, is_some}
 use Rattle.std.specs.Option.{option_map}
 use Rattle.std.specs.List.{list_all}
@@ -18,7 +18,7 @@ use Rattle.packet_ring.specs.declared.buffer.Buffer.TheVariants.{First}
 use Rattle.world_model.specs.Rings as ring
 use Rattle.world_model.specs.Rings.{is_ring, ring_of}
 use Rattle.world_model.specs.Solo.{Ring}
-use Rattle.board_world.specs.Rings.{ring_in, rings_of, rows_of}
+use Rattle.board_world.specs.Rings.{ring_in, rings_of}
 use Rattle.board_world.specs.Sound.{has_own_page}
 use Rattle.board_world.proofs.Losing.{rings_but}
 
@@ -287,6 +287,6 @@ no_ring claims pages i page all others = by_rows claims.rows all
         by_test true its own rest =
             let env : x.claim.env ≡ i = eqb-true x.claim.env i its in
             let elsewhere : (x.claim.page == page) ≡ false = ne_eqb x.claim.page page (λ same.
-              let both : true ≡ false = sym own ∙ (λ k. is_owned_by (env k) (row_in pages (same k))) ∙ others in cc) in
+            let both : true ≡ false = sym own ∙ (λ k. is_owned_by (env k) (row_in pages (same k))) ∙ others in cc) in
             rw (its, elsewhere) (ap (λ gs. ring_in x ∷ gs) rest)
         by_test false its own rest = rw its rest

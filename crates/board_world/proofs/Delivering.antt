@@ -1,6 +1,6 @@
 -- A packet that goes into the ring of its claim, on the world that is shown.
 use Rattle.std.proofs.Common.{◌≡◌, ◌≢◌, ◌<◌, ℕ, List, [], length, Bool, true, false, Some, refl, sym, ◌∙◌, ap, arith, get_or-set_other}
-use Rattle.std.specs.Prelude.{◌==◌, if◌then◌else◌, slice_get}
+use Rattle.std.specs.Prelude.{if◌then◌else◌, slice_get}
 use Rattle.std.proofs.lemmas.Bool.{ne_eqb}
 use Rattle.frame_store.specs.Pages.{after_put, page_at, with_bytes}
 use Rattle.mips_exec.specs.Access.{Write}
@@ -29,7 +29,7 @@ use Rattle.board_world.specs.Shown.{Shown, mappings_in, mappings_of}
 use Rattle.board_world.specs.Showing.{book_of, pages_seen, solo_of, solo_or_absent, solo_seen}
 use Rattle.board_world.specs.Sound.{IsOwned, IsSound, has_own_page}
 use Rattle.board_world.proofs.Claimed.{rings_turned, rings_turned_else}
-use Rattle.board_world.proofs.Seen.{like_solo, live_record, owned_taken, row_there, sights_of, stripe_of}
+use Rattle.board_world.proofs.Seen.{like_solo, live_record, owned_taken, row_there, stripe_of}
 use Rattle.board_world.proofs.Sound.{neither}
 use Rattle.board_world.proofs.Stepping.{seer_live}
 use Rattle.board_world.proofs.Stores.{bound_kept, kept_as_was, put_table, sights_stay}

@@ -1,6 +1,6 @@
 -- What happens from outside, on the world that is shown.
 use Rattle.std.proofs.Common.{◌≡◌, ◌≢◌, ◌<◌, ℕ, ◌+◌, ◌^◌, List, [], ◌∷◌, length, Bool, true, false, Option, Some, None, IfSome, refl, sym, ◌∙◌, ap, subst, arith}
-use Rattle.std.specs.Prelude.{bit_or, slice_get, find, map, if◌then◌else◌}
+use Rattle.std.specs.Prelude.{bit_or, slice_get, if◌then◌else◌}
 use Rattle.std.specs.Option.{option_map}
 use Rattle.external_event.specs.declared.event.Occurrence.{Occurrence}
 use Rattle.external_event.specs.declared.event.Occurrence.TheVariants as outside
@@ -17,21 +17,19 @@ use Rattle.filter_tree.specs.declared.claim.Claim.{Claim}
 use Rattle.filter_tree.specs.Claims.{claim_for, claim_seen, first_row, is_for, is_numbered}
 use Rattle.filter_tree.specs.Laws.{FirstIsNumbered}
 use Rattle.world_model.specs.declared.life.Life.TheVariants.{Live}
-use Rattle.world_model.specs.ClaimCalls.{claim_of}
 use Rattle.world_model.specs.Event.{arrives, delivers, drops_packet, happen, ring_bytes, ring_left, signals}
-use Rattle.world_model.specs.Item.{Item, Line, Packet, absorb_all}
+use Rattle.world_model.specs.Item.{Line, Packet, absorb_all}
 use Rattle.world_model.specs.Rings as ring
 use Rattle.world_model.specs.Rings.{received, received_in, ring_after, ring_of}
 use Rattle.world_model.specs.Solo.{Solo, Physical, bytes_of}
-use Rattle.world_model.specs.Table.{set_at}
 use Rattle.world_model.specs.World.{after, tells}
 use Rattle.board_world.specs.declared.roster.Environment.{Environment}
 use Rattle.board_world.specs.Lines.{line_at}
-use Rattle.board_world.specs.Rings.{ring_in, rings_of}
+use Rattle.board_world.specs.Rings.{ring_in}
 use Rattle.board_world.specs.Shown.{Shown}
 use Rattle.board_world.specs.Showing.{book_of, solo_of, solo_or_absent, solo_seen, world_of}
 use Rattle.board_world.specs.Sound.{IsLive, IsSound, has_own_page}
-use Rattle.board_world.specs.Doing.{arrived_by, context_of, counted_for, delivered_if, delivered_to, dropped_packet, happened, put_in_ring, signalled, signalled_to}
+use Rattle.board_world.specs.Doing.{arrived_by, context_of, counted_for, delivered_if, delivered_to, dropped_packet, happened, signalled, signalled_to}
 use Rattle.board_world.proofs.Claimed.{claims_turned, found_owned, found_without, ring_found}
 use Rattle.board_world.proofs.Delivering as delivering
 use Rattle.board_world.proofs.Parts.{append_nothing, by_env, one_absorbed, set_else, set_here, worlds}
@@ -174,9 +172,9 @@ module _ (law : FirstIsNumbered) (b : Shown) (sound : IsSound b) (numbered : are
         ∙ sym (takes full is)
         ∙ ap (absorb_all before) (sym (set_here e (Packet id packet ∷ []) (ring_left (book_of b) e page (ring_bytes before (ring_of before.rings id) packet)))))
         (λ i ne.
-            others i ne
-            ∙ ap (λ o. absorb_all (solo_of b i) (ring_left (book_of b) e page o i)) (sym (leaves full is))
-            ∙ ap (absorb_all (solo_of b i)) (sym (set_else e i (Packet id packet ∷ []) (ring_left (book_of b) e page (ring_bytes before (ring_of before.rings id) packet)) ne)))
+        others i ne
+        ∙ ap (λ o. absorb_all (solo_of b i) (ring_left (book_of b) e page o i)) (sym (leaves full is))
+        ∙ ap (absorb_all (solo_of b i)) (sym (set_else e i (Packet id packet ∷ []) (ring_left (book_of b) e page (ring_bytes before (ring_of before.rings id) packet)) ne)))
 
   delivered_world : world_of (delivered_to b (claim_seen r) packet) ≡ after (world_of b) (delivers r.claim packet (world_of b))
   delivered_world = by_full (is_full (page_at counted.frames page) r.next) refl
@@ -195,7 +193,7 @@ module _ (law : FirstIsNumbered) (b : Shown) (sound : IsSound b) (numbered : are
           (given false is (delivered_if false counted (claim_seen r) packet)
           (delivering.ring_filled law counted sound_counted numbered r first own x at lives bytes)
           (λ i ne. delivering.ring_left law counted sound_counted numbered r first own x at lives bytes i ne
-              ∙ ap (λ (s : Solo). absorb_all s (ring_left (book_of b) e page (Some bytes) i)) (counted_others b sound e x at lives post.Packets i ne)))
+          ∙ ap (λ (s : Solo). absorb_all s (ring_left (book_of b) e page (Some bytes) i)) (counted_others b sound e x at lives post.Packets i ne)))
           (sym (append_nothing b.ledger.rows))
 
 arrived_world : FirstIsNumbered → (b : Shown) (packet : List ℕ) → IsSound b → are_numbered 0 b.claims.next b.claims.rows ≡ true → (o : Option RowValue) → first_row (is_for packet) b.claims ≡ o → world_of (arrived_by b packet (option_map claim_seen o)) ≡ after (world_of b) (arrives packet (option_map claim_in o) (world_of b))

@@ -214,15 +214,15 @@ module _ (b : Shown) (e : ℕ) (x : Environment) (r : Runs b e x) (sound : IsSou
             ∙ (λ k. record (runner_solo b e x) { cpu = answered_cpu (Grant v) b.cpu; binds = λ n. sym (sees.binds n) k; seen = λ p. sym (sees.seen p) k; rings = rings_dropped b.claims page e k })
             ∙ ap (λ s. absorb_all s (Lost page ∷ [])) (deeded_seen b e x r (Frees page) v))
             (λ i ne.
-                like_solo i now broke (record {
-                  record_is = refl;
-                  rings = rings_dropped b.claims page i ∙ no_ring b.claims b.pages i page sound.claims.owned (anothers e i (row_in b.pages page) ne may.owned);
-                  cpu = λ kept. refl;
-                  pages = refl;
-                  binds = refl;
-                  sights = refl;
-                })
-                ∙ changed_others page Free None v may.there may.owned i ne (λ same. let both : None ≡ Some i = same in cc) refl);
+            like_solo i now broke (record {
+              record_is = refl;
+              rings = rings_dropped b.claims page i ∙ no_ring b.claims b.pages i page sound.claims.owned (anothers e i (row_in b.pages page) ne may.owned);
+              cpu = λ kept. refl;
+              pages = refl;
+              binds = refl;
+              sights = refl;
+            })
+            ∙ changed_others page Free None v may.there may.owned i ne (λ same. let both : None ≡ Some i = same in cc) refl);
         rows = sym (append_nothing b.ledger.rows);
         room = omega arith;
         spare = refl;

@@ -1,18 +1,16 @@
 -- A post word of an environment's context page that is changed from outside.
-use Rattle.std.proofs.Common.{◌≡◌, ◌≢◌, ℕ, ◌+◌, ◌/◌, ◌%◌, List, [], ◌∷◌, length, Option, Some, None, refl, sym, ◌∙◌, ap, length-set}
+use Rattle.std.proofs.Common.{◌≡◌, ◌≢◌, ℕ, ◌+◌, ◌/◌, ◌%◌, List, length, Option, Some, None, refl, sym, ◌∙◌, ap, length-set}
 use Rattle.std.specs.Prelude.{slice_get}
 use Rattle.std.specs.Option.{option_map}
 use Rattle.aegis_limits.specs.Limits.{page_size}
-use Rattle.frame_store.specs.Pages.{after_put, page_at, word_at, word_bytes}
+use Rattle.frame_store.specs.Pages.{word_at, word_bytes}
 use Rattle.mips_exec.specs.Access.{Write}
-use Rattle.page_book.specs.Rows.{row_in}
 use Rattle.env_frames.specs.declared.mapping.Mapping.{Mapping}
 use Rattle.env_frames.specs.declared.post.PostWord.{PostWord}
 use Rattle.env_frames.specs.declared.post.PostWord.TheVariants as post
 use Rattle.env_frames.specs.Context.{context_number}
 use Rattle.env_frames.specs.Frame.{left_in, mapping_at, page_of}
 use Rattle.env_frames.specs.Post.{post_at, post_offset, posted}
-use Rattle.page_sight.specs.Sight.{seen_in}
 use Rattle.world_model.specs.declared.life.Life.TheVariants.{Live}
 use Rattle.world_model.specs.Post.{post_word, with_post}
 use Rattle.world_model.specs.Solo.{Solo, bytes_in, kept_after, kept_at}
@@ -24,7 +22,7 @@ use Rattle.board_world.specs.Sound.{IsSound}
 use Rattle.board_world.specs.Doing.{context_of}
 use Rattle.board_world.proofs.Contexts.{left_by, left_others, left_own, left_sights, left_store}
 use Rattle.board_world.proofs.Pages.{seen_kept}
-use Rattle.board_world.proofs.Seen.{like_solo, sights_of, stripe_of}
+use Rattle.board_world.proofs.Seen.{like_solo}
 
 -- physical memory with a post word of a context page changed
 abbrev pub changed_in : PostWord → (ℕ → ℕ) → Option ℕ → List (List ℕ) → List (List ℕ)

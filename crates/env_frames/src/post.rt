@@ -5,7 +5,7 @@ ghost use Rattle.std.specs.Prelude.{◌≡◌};
 /// page").
 #[derive(Clone, Copy)]
 pub enum PostWord {
-    /// How many packets were claimed for the environment.
+    /// How many packets came for the environment's claims.
     Packets,
     /// How many of them were lost, since the buffer that was next was full.
     Lost,

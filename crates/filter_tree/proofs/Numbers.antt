@@ -1,9 +1,9 @@
 -- The numbers of claims rise.
-use Rattle.std.proofs.Common.{◌≡◌, ℕ, suc, ◌+◌, ◌<◌, ◌≤◌, Bool, true, false, List, [], ◌∷◌, ◌++◌, Option, Some, None, refl, sym, ap, ◌∙◌, arith, inl, inr}
-use Rattle.std.specs.Prelude.{◌&&◌, ◌==◌, nat_le, filter, find, map, if◌then◌else◌}
-use Rattle.std.proofs.lemmas.Bool.{cases_Bool, eqb-true, eq-eqb, le-leb, leb-true, ne_eqb}
-use Rattle.filter_tree.specs.ClaimBook.{ClaimBook, ClaimValue, RowValue, are_numbered}
-use Rattle.filter_tree.specs.Claims.{first_row, is_numbered, turned, turned_if}
+use Rattle.std.proofs.Common.{◌≡◌, ℕ, suc, ◌+◌, ◌≤◌, Bool, true, false, List, [], ◌∷◌, ◌++◌, Some, refl, ap, ◌∙◌, arith, inl, inr}
+use Rattle.std.specs.Prelude.{◌&&◌, nat_le, filter, find, map, if◌then◌else◌}
+use Rattle.std.proofs.lemmas.Bool.{cases_Bool, eq-eqb, le-leb, leb-true, ne_eqb}
+use Rattle.filter_tree.specs.ClaimBook.{ClaimValue, RowValue, are_numbered}
+use Rattle.filter_tree.specs.Claims.{is_numbered, turned, turned_if}
 use Rattle.filter_tree.specs.Laws.{FirstIsNumbered}
 
 -- both of two tests

@@ -6,7 +6,7 @@ use Rattle.std.specs.List.{AllByRecursion}
 use Rattle.std.specs.Prelude.{filter, find, map, count_by, nat_le, if◌then◌else◌}
 use Rattle.std.specs.Option.{option_map}
 use Rattle.filter_core.specs.declared.atom.Atom.{Atom}
-use Rattle.filter_tree.specs.ClaimBook.{ClaimBook, ClaimValue, IsKept, RowValue, are_numbered, claim_in, claims_in, is_of_env, most_claims}
+use Rattle.filter_tree.specs.ClaimBook.{ClaimBook, ClaimValue, IsKept, RowValue, claim_in, claims_in, is_of_env, most_claims}
 use Rattle.filter_tree.specs.declared.claim.ClaimNo.{ClaimNo}
 use Rattle.filter_tree.specs.declared.claim.ClaimNo.TheVariants.{Full, Overlap}
 use Rattle.filter_tree.specs.Claims.{claim_refusal, is_in_the_way, row_refusal, delivered, new_row, turned_if, with_claim, without}
@@ -183,4 +183,4 @@ pub refused_by_rows : (e : ℕ) (atoms : List Atom) (rows : List RowValue) → c
 refused_by_rows e atoms rows =
     ap (λ (n : ℕ). if nat_le most_claims n then Some Full else option_map (λ (c : ClaimValue). Overlap c.id) (find (is_in_the_way e atoms) (map claim_in rows))) (counted_in_rows (is_of_env e) rows)
     ∙ ap (λ (o : Option ClaimNo). if nat_le most_claims (count_by (λ (r : RowValue). is_of_env e r.claim) rows) then Some Full else o)
-      (ap (option_map (λ (c : ClaimValue). Overlap c.id)) (found_in_rows (is_in_the_way e atoms) rows) ∙ number_of (λ (c : ClaimValue). Overlap c.id) (find (λ (r : RowValue). is_in_the_way e atoms r.claim) rows))
+    (ap (option_map (λ (c : ClaimValue). Overlap c.id)) (found_in_rows (is_in_the_way e atoms) rows) ∙ number_of (λ (c : ClaimValue). Overlap c.id) (find (λ (r : RowValue). is_in_the_way e atoms r.claim) rows))

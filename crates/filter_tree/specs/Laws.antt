@@ -1,5 +1,5 @@
 -- What holds of every book of claims.
-use Rattle.std.specs.Prelude.{◌≡◌, ℕ, Bool, true, Some}
+use Rattle.std.specs.Prelude.{◌≡◌, Bool, true, Some}
 use Rattle.filter_tree.specs.ClaimBook.{ClaimBook, ClaimValue, RowValue, are_numbered}
 use Rattle.filter_tree.specs.Claims.{first_row, is_numbered}
 

@@ -1,5 +1,5 @@
 -- Bytes that are put into a page in two parts.
-use Rattle.std.proofs.Common.{◌≡◌, ℕ, ◌+◌, ◌<◌, ◌≤◌, List, [], ◌++◌, length, take, drop, get_or, refl, sym, ◌∙◌, ap, arith, append_assoc, append-nil, length-append, length-drop}
+use Rattle.std.proofs.Common.{◌≡◌, ℕ, ◌+◌, ◌<◌, ◌≤◌, List, [], ◌++◌, length, take, drop, sym, ◌∙◌, ap, arith, append_assoc, append-nil, length-append, length-drop}
 use Rattle.std.specs.Prelude.{Bool, true, false, ◌&&◌, nat_le}
 use Rattle.std.proofs.lemmas.Bool.{leb-true}
 use Rattle.std.proofs.lemmas.List.{drop-drop, drop_all, length-take-le, set-set, take_at}
@@ -27,7 +27,7 @@ joined page first second o within =
     let size : length head ≡ o + length first = omega (arith, length-append (take o page) first, length-take-le o page (omega arith)) in
     let before = take_at head tail (o + length first) size in
     let behind : drop (o + length first + length second) (head ++ tail) ≡ drop (o + length first + length second) page =
-        ap (λ (k : ℕ). drop (k + length second) (head ++ tail)) (sym size) ∙ drop-append-add head tail (length second) ∙ drop-drop (length second) (o + length first) page in
+    ap (λ (k : ℕ). drop (k + length second) (head ++ tail)) (sym size) ∙ drop-append-add head tail (length second) ∙ drop-drop (length second) (o + length first) page in
     let end : o + length first + length second ≡ o + length (first ++ second) = omega (arith, length-append first second) in
     ap (λ (x : List ℕ). x ++ second ++ drop (o + length first + length second) (head ++ tail)) before
     ∙ ap (λ (x : List ℕ). head ++ second ++ x) behind
@@ -48,9 +48,9 @@ put_joined frames page buffer first packet there size within word =
     let once = with_bytes p o first in
     let again : page_at (after_put frames page o first) page ≡ once = get_or-set_same frames page once [] there in
     let both : with_bytes once (o + 4) packet ≡ with_bytes p o (first ++ packet) =
-        ap (λ (k : ℕ). with_bytes once (o + k) packet) (sym size) ∙ joined p first packet o (omega arith) in
+    ap (λ (k : ℕ). with_bytes once (o + k) packet) (sym size) ∙ joined p first packet o (omega arith) in
     let full : with_bytes p 0 (with_bytes p o (first ++ packet)) ≡ with_bytes p o (first ++ packet) =
-        whole p (with_bytes p o (first ++ packet)) (size_with p (first ++ packet) o (omega (arith, length-append first packet))) in
+    whole p (with_bytes p o (first ++ packet)) (size_with p (first ++ packet) o (omega (arith, length-append first packet))) in
     set-set frames page once (with_bytes (page_at (after_put frames page o first) page) (o + 4) packet)
     ∙ ap (λ (x : List ℕ). with_page frames page (with_bytes x (o + 4) packet)) again
     ∙ ap (λ (x : List ℕ). with_page frames page x) (both ∙ sym full)

@@ -1,7 +1,7 @@
 //! The two buffers of a ring.
 ghost use Rattle.std.specs.Prelude.{◌≡◌};
 
-/// A buffer of a ring (`docs/KERNEL.md`, "Packets").
+/// A buffer of a ring (`docs/KERNEL.md`, "What happens from outside").
 #[derive(Clone, Copy)]
 pub enum Buffer {
     /// The first half of the page.

@@ -2,7 +2,7 @@
 //!
 //! A ring is a page with two buffers, each of half a page, into which packets go in turn. A buffer's first word is the
 //! length of the packet in it, whose bytes stand behind it; the environment gives the buffer back by writing 0 there
-//! (`docs/KERNEL.md`, "Packets").
+//! (`docs/KERNEL.md`, "What happens from outside").
 #![tactic(auto)]
 
 mod buffer;

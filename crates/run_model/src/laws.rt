@@ -21,7 +21,7 @@ pub fn law_moments()
 {}
 
 /// Each environment is what it makes alone of what it is given: for every image and schedule, number of ticks and
-/// environment, its registers, pages and console are the fold of its feed.
+/// environment, all that it has, as its registers, pages, console, claims and sent packets, is the fold of its feed.
 pub fn law_fold()
     ensures { IsFoldOfFeed }
 {}

@@ -1,5 +1,5 @@
 -- The calls on interrupt lines: who may take one, and drop it.
-use Rattle.std.specs.Prelude.{ℕ, Bool, false, not, ◌==◌, nat_lt, if◌then◌else◌, List, [], Option, Some, None}
+use Rattle.std.specs.Prelude.{ℕ, Bool, false, not, ◌==◌, nat_lt, if◌then◌else◌, [], Option, Some, None}
 use Rattle.external_event.specs.Limits.{lines}
 use Rattle.mips_exec.specs.Cpu.{reg}
 use Rattle.world_model.specs.declared.code.Code.{Code}

@@ -62,7 +62,7 @@ pub record MayPut (s : Solo) (address size : ℕ) : Type 0 where
   pub good : is_some (put_bytes (sight s) address size) ≡ true
   pub room : length s.console + size ≤ console_size
 
--- the range of a packet is good, and there is room for one more
+-- the length is a packet's that may be sent, its range is good, and there is room for one more
 pub record MaySend (s : Solo) (address size : ℕ) : Type 0 where
   pub least : least_frame_size ≤ size
   pub most : size ≤ most_packet_size

@@ -1,6 +1,5 @@
-use Rattle.std.proofs.Common.{◌≡◌, ℕ, ◌+◌, ◌≤◌, length, refl, arith}
+use Rattle.std.proofs.Common.{◌≡◌, ◌+◌, ◌≤◌, length, refl, arith}
 use Rattle.aegis_limits.specs.Limits.{page_size}
-use Rattle.external_event.specs.Limits.{most_packet_size}
 use Rattle.frame_store.specs.Pages.{page_at}
 use Rattle.packet_ring.specs.Ring.{buffer_offset}
 use Rattle.packet_ring.proofs.Joining.{has_room, put_joined, short}

@@ -1,8 +1,7 @@
 -- The claim's environment lives, and its ring is there.
-use Rattle.std.proofs.Common.{◌≡◌, ◌<◌, List, length, Some, IfSome, arith, ap, ◌∙◌}
+use Rattle.std.proofs.Common.{◌≡◌, length, arith, ap, ◌∙◌}
 use Rattle.filter_tree.specs.Claims.{claim_for}
 use Rattle.board_world.specs.Shown.{Shown, shown}
-use Rattle.board_world.specs.Sound.{IsLive}
 use Rattle.board_world.proofs.Claiming.{delivered_claimed}
 use Rattle.board_world.proofs.Happening.{claim_there}
 use Rattle.board_world.proofs.Parted.{context_there}

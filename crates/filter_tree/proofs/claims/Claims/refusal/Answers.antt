@@ -1,7 +1,4 @@
-use Rattle.std.proofs.Common.{sym, ap, ◌∙◌}
-use Rattle.filter_tree.specs.declared.row.Row.{Row}
-use Rattle.filter_tree.specs.ClaimBook.{ClaimBook, claims_in}
-use Rattle.filter_tree.specs.Claims.{claim_refusal}
+use Rattle.std.proofs.Common.{sym, ◌∙◌}
 use Rattle.filter_tree.proofs.Room.{refused_by_rows}
 use Rattle.filter_tree.proofs.claims.Claims.refusal.Goals as goal
 
