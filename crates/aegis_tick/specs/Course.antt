@@ -1,5 +1,5 @@
 -- The course of a run: what happens in it, and how far it came where memory ran out.
-use Rattle.std.specs.Prelude.{◌≡◌, ℕ, ◌<◌, List, map, take, false}
+use Rattle.std.specs.Prelude.{◌≡◌, ℕ, ◌<◌, List, [], ◌∷◌, map, take, false}
 use Rattle.external_event.specs.declared.event.Occurrence.{Occurrence}
 use Rattle.external_event.specs.EventValue.{EventValue}
 use Rattle.world_model.specs.Book.{is_idle_book}
@@ -14,6 +14,11 @@ occurrences events = map (λ (x : EventValue). x.what) events
 -- the world once these have happened, one after another
 abbrev pub world_with : List Occurrence → World → World
 world_with happens w = run_phases w (map happen happens)
+
+-- the time of the first of these, or a time behind every tick, if there is none
+abbrev pub next_time_of : List EventValue → ℕ
+next_time_of [] = 4294967295
+next_time_of (x ∷ xs) = x.time
 
 -- A run was cut off: after fewer ticks than were asked, in a world that isn't idle, once so many events of its next tick had happened.
 pub record IsCutOff (schedule : Schedule) (w : World) (ticks : ℕ) (v : World) : Type 0 where

@@ -12,7 +12,7 @@ ghost use Rattle.world_model.specs.Tick.{phases_after, tick_step};
 ghost use Rattle.world_model.specs.World.{after, run_phases};
 ghost use Rattle.run_model.specs.Excess.{IsAccounted};
 ghost use Rattle.run_model.specs.Run.{run_on, end_of_run};
-ghost use Rattle.aegis_tick.specs.Course.{HappenedInPart, IsCutOff, occurrences, world_with};
+ghost use Rattle.aegis_tick.specs.Course.{HappenedInPart, IsCutOff, next_time_of, occurrences, world_with};
 
 use aegis_calls::Board;
 use aegis_limits::OutOfMemory;
@@ -74,6 +74,17 @@ fn count_at(events: &[Event], time: u32) -> usize
     events.iter().take_while(|event| event.time == time).count()
 }
 
+/// The time of the first event behind the first ones, so many, or a time behind every tick, if there is none.
+fn next_time(events: &[Event], first: usize) -> u32
+    requires { first ≤ length events.now }
+    ensures { result ≡ next_time_of (drop first events.now) }
+{
+    match events[first..].first() {
+        Some(event) => event.time,
+        None => u32::MAX,
+    }
+}
+
 /// Of the events behind the first ones, so many, those of this time, before the first of another.
 fn due(events: &[Event], first: usize, time: u32) -> &[Event]
     requires { first ≤ length events.now }
@@ -81,6 +92,24 @@ fn due(events: &[Event], first: usize, time: u32) -> &[Event]
 {
     let left = &events[first..];
     &left[..count_at(left, time)]
+}
+
+/// Takes the events of this time off those that are to come: behind the first ones, so many. A tick in which nothing
+/// happens costs one comparison, with the time of the next event.
+fn take_due<'a>(events: &'a [Event], next: &mut usize, soon: &mut u32, time: u32) -> &'a [Event]
+    requires within { next.old ≤ length events.now }
+    requires soon { soon.old ≡ next_time_of (drop next.old events.now) }
+    ensures now { result.now ≡ take_while (λ (e : EventValue). e.time == time) (drop next.old events.now) }
+    ensures next { next.new ≡ next.old + length result.now }
+    ensures soon { soon.new ≡ next_time_of (drop next.new events.now) }
+{
+    if time != *soon {
+        return &[];
+    }
+    let now = due(events, *next, time);
+    *next += now.len();
+    *soon = next_time(events, *next);
+    now
 }
 
 /// These events, one after another.
@@ -132,13 +161,13 @@ fn run_ticks(board: &mut Board, events: &[Event], ticks: u32) -> Result<(), OutO
 {
     law_accounts();
     let mut next = 0;
+    let mut soon = next_time(events, next);
     for done in 0..ticks {
         if board.idle() {
             return Ok(());
         }
-        let now = due(events, next, done);
+        let now = take_due(events, &mut next, &mut soon, done);
         tick_with(board, now)?;
-        next += now.len();
     }
     Ok(())
 }

@@ -1,5 +1,5 @@
 -- Each turn of the loop is a tick of the model with what happens in it, until it is idle.
-use Rattle.std.proofs.Common.{◌≡◌, ◌+◌, ◌-◌, ℕ, List, sym, ◌∙◌, ap, arith}
+use Rattle.std.proofs.Common.{◌≡◌, ◌+◌, ◌-◌, ℕ, List, drop, sym, ◌∙◌, ap, arith}
 use Rattle.external_event.specs.declared.event.Occurrence.{Occurrence}
 use Rattle.board_world.specs.Showing.{world_of}
 use Rattle.world_model.specs.Book.{is_idle_book}
@@ -7,7 +7,7 @@ use Rattle.world_model.specs.Event.{schedule_of}
 use Rattle.world_model.specs.Tick.{phases_after}
 use Rattle.world_model.specs.World.{World, run_phases}
 use Rattle.run_model.specs.Run.{next_phases, run_on}
-use Rattle.aegis_tick.specs.Course.{occurrences}
+use Rattle.aegis_tick.specs.Course.{next_time_of, occurrences}
 use Rattle.aegis_tick.proofs.Coming.{happens_next, next_coming, next_ordered, next_within}
 use Rattle.aegis_tick.proofs.Happening.{cut_accounted, cut_off}
 use Rattle.aegis_tick.proofs.Refusals.{on_err}
@@ -27,10 +27,10 @@ returns-in_err-tick_with-clause-cut c =
     let es = c.args.events.now in
     let i = c.loop-done.next in
     let t = c.loop-done.done in
-    let these = c.due-now.result.now in
+    let these = c.take_due-now.result.now in
     let now = c.loop-done.invariant in
     let v = world_of c.loop-done.board in
-    let happens = happens_next es i t these c.due-now.ensures v now.time now.ordered (now.coming t (omega arith)) in
+    let happens = happens_next es i t these c.take_due-now.ensures.now v now.time now.ordered (now.coming t (omega arith)) in
     on_err c.from_residual.result
     (cut_off (schedule_of es) (world_of c.args.board.now) v (world_of c.tick_with.new.board) t c.args.ticks (occurrences these)
     now.world c.loop-done-test.true (sym c.idle.ensures ∙ c.if-idle.false) happens c.in_err-tick_with.ensures.part)
@@ -40,10 +40,10 @@ returns-in_err-tick_with-clause-balance c =
     let es = c.args.events.now in
     let i = c.loop-done.next in
     let t = c.loop-done.done in
-    let these = c.due-now.result.now in
+    let these = c.take_due-now.result.now in
     let now = c.loop-done.invariant in
     let v = world_of c.loop-done.board in
-    let happens = happens_next es i t these c.due-now.ensures v now.time now.ordered (now.coming t (omega arith)) in
+    let happens = happens_next es i t these c.take_due-now.ensures.now v now.time now.ordered (now.coming t (omega arith)) in
     cut_accounted c.law_accounts.ensures (schedule_of es) (world_of c.args.board.now) c.args.ticks (world_of c.tick_with.new.board)
     (cut_off (schedule_of es) (world_of c.args.board.now) v (world_of c.tick_with.new.board) t c.args.ticks (occurrences these)
     now.world c.loop-done-test.true (sym c.idle.ensures ∙ c.if-idle.false) happens c.in_err-tick_with.ensures.part)
@@ -53,15 +53,15 @@ loop-done-preserved c =
     let es = c.args.events.now in
     let i = c.loop-done.next in
     let t = c.loop-done.done in
-    let these = c.due-now.result.now in
-    let are = c.due-now.ensures in
+    let these = c.take_due-now.result.now in
+    let are = c.take_due-now.ensures.now in
     let now = c.loop-done.invariant in
     let schedule = schedule_of es in
     let w = world_of c.args.board.now in
     let v = world_of c.loop-done.board in
     let happens = happens_next es i t these are v now.time now.ordered (now.coming t (omega arith)) in
     let busy = ap (λ (u : World). is_idle_book u.book) (sym now.world) ∙ sym c.idle.ensures ∙ c.if-idle.false in
-    record {
+    rw (c.take_due-now.ensures.next) (record {
       world = c.in_ok-tick_with.ensures.world
           ∙ ap (λ (xs : List Occurrence). run_phases v (phases_after xs)) (sym happens)
           ∙ ap (λ (u : World). run_phases u (next_phases schedule u)) now.world
@@ -70,6 +70,7 @@ loop-done-preserved c =
       time = c.in_ok-tick_with.ensures.time ∙ ap (λ (m : ℕ). m + 1) now.time;
       numbers = c.in_ok-tick_with.ensures.numbers;
       next = next_within es i t these are now.next;
+      soon = c.take_due-now.ensures.soon ∙ ap (λ (n : ℕ). next_time_of (drop n es)) c.take_due-now.ensures.next;
       ordered = next_ordered es i t these are now.ordered;
       coming = next_coming es i t these are now.coming;
       room = λ enough.
@@ -78,4 +79,4 @@ loop-done-preserved c =
           let sure = c.in_ok-tick_with.ensures.sure (omega arith) in
           let left = sure.1 in
           omega arith;
-    }
+    })

@@ -4,6 +4,7 @@ use Rattle.external_event.specs.Order.{are_in_order}
 use Rattle.world_model.specs.Event.{schedule_of}
 use Rattle.board_world.specs.Showing.{world_of}
 use Rattle.run_model.specs.Run.{run_on}
+use Rattle.aegis_tick.specs.Course.{next_time_of}
 use Rattle.aegis_tick.proofs.running.run_ticks.Given as goal
 
 abbrev pub invariant-loop-done : goal.invariant-loop-done
@@ -13,6 +14,7 @@ invariant-loop-done l = record {
   time : l.board.time ≡ l.done;
   numbers : l.board.claims.next ≤ l.board.time;
   next : l.next ≤ length l.events;
+  soon : l.soon ≡ next_time_of (drop l.next l.events);
   ordered : are_in_order l.done (drop l.next l.events) ≡ true;
   coming : (t : ℕ) → l.done ≤ t → schedule_of l.events t ≡ schedule_of (drop l.next l.events) t;
   room : 2048 * (length l.events + l.ticks) ≤ l.fn.board.ledger.spare → 2048 * ((length l.events - l.next) + (l.ticks - l.done)) ≤ l.board.ledger.spare;
