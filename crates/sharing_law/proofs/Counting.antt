@@ -1,18 +1,20 @@
 -- What a packet does to the context page of whose claim it is for: it is counted there.
-use Rattle.std.proofs.Common.{◌≡◌, ◌≢◌, ◌+◌, ℕ, List, Option, Some, None, ◌⊎◌, inl, inr, refl, sym, ◌∙◌, ap, subst}
+use Rattle.std.proofs.Common.{◌≡◌, ◌≢◌, ◌+◌, ℕ, Bool, true, false, List, Option, Some, None, ◌⊎◌, inl, inr, refl, sym, ◌∙◌, ap, subst}
+use Rattle.std.specs.Prelude.{if◌then◌else◌}
 use Rattle.std.specs.Option.{option_map}
 use Rattle.std.proofs.lemmas.Bool.{cases_eq}
 use Rattle.frame_store.specs.Pages.{with_bytes, word_bytes}
 use Rattle.mips_exec.specs.Word.{word_of}
+use Rattle.packet_ring.specs.Ring.{is_full, with_packet}
 use Rattle.env_frames.specs.Context.{context_number}
 use Rattle.env_frames.specs.Post.{post_offset}
 use Rattle.env_frames.specs.declared.post.PostWord.{PostWord}
 use Rattle.env_frames.specs.declared.post.PostWord.TheVariants as post
 use Rattle.world_model.specs.Page.{KeptPage}
 use Rattle.world_model.specs.Post.{post_word}
-use Rattle.world_model.specs.Rings.{counted, put_in_ring, received, received_in, ring_after, ring_of}
-use Rattle.world_model.specs.Solo.{Solo, Store, Ring, Kept, bytes_in, kept_at, stored_page}
-use Rattle.sharing_law.specs.Change.{HasCounts, bytes_at, counted_page}
+use Rattle.world_model.specs.Rings.{counted, put_in_ring, received, received_in, ring_of}
+use Rattle.world_model.specs.Solo.{Solo, Store, Ring, Kept, Physical, bytes_in, bytes_of, kept_at, stored_page}
+use Rattle.sharing_law.specs.Change.{HasCounts, bytes_at, counted_page, is_full_in, packet_counted}
 use Rattle.sharing_law.proofs.Given.{kept_as_was, kept_else, kept_here}
 
 -- A post word that counts up, where the context page is there.
@@ -29,7 +31,7 @@ module _ (word : PostWord) (s : Solo) where
   count_bytes : (p : KeptPage) → kept_at s.kept context_number ≡ Some p → bytes_at (counted word s) context_number ≡ counted_page word (bytes_at s context_number)
   count_bytes p there = ap bytes_in (count_here (Some p) there) ∙ ap (λ (o : Option KeptPage). with_bytes (bytes_in o) (post_offset word) count.bytes) (sym there)
 
--- A packet is counted once, or it is lost and counted again.
+-- A packet is counted once, and once more if it is lost.
 module _ (s : Solo) where
   abbrev once : Solo
   once = counted post.Packets s
@@ -37,41 +39,54 @@ module _ (s : Solo) where
   abbrev twice : Solo
   twice = counted post.Lost once
 
-  abbrev IsCounted : Solo → Type 0
-  IsCounted t = (t.kept ≡ once.kept) ⊎ (t.kept ≡ twice.kept)
+  abbrev counted_if : Bool → Solo
+  counted_if false = once
+  counted_if true = twice
 
-  put_counted : (r : Ring) (bytes : Option (List ℕ)) → IsCounted (put_in_ring r bytes once)
-  put_counted r None = inr refl
-  put_counted r (Some bytes) = inl (kept_as_was once.kept r.page 0 bytes)
+  abbrev IsCounted : Bool → Solo → Type 0
+  IsCounted lost t = t.kept ≡ (counted_if lost).kept
 
-  received_counted : (ring : Option Ring) (packet : List ℕ) → IsCounted (received_in ring packet once)
-  received_counted None packet = inl refl
-  received_counted (Some r) packet = put_counted r (ring_after once r packet)
+  put_counted : (r : Ring) (lost : Bool) (bytes : List ℕ) → IsCounted lost (put_in_ring r (if lost then None else Some bytes) once)
+  put_counted r true bytes = refl
+  put_counted r false bytes = kept_as_was once.kept r.page 0 bytes
+
+  received_counted : (ring : Option Ring) (packet : List ℕ) → IsCounted (is_full_in s ring) (received_in ring packet once)
+  received_counted None packet = refl
+  received_counted (Some r) packet = let page = bytes_of s (Physical r.page) in put_counted r (is_full page r.next) (with_packet page r.next packet)
 
   -- in the context page, if it is there, and in no other
-  in_context : (t : Solo) → IsCounted t → (o : Option KeptPage) → kept_at s.kept context_number ≡ o → (bytes_at t context_number ≡ bytes_at s context_number) ⊎ HasCounts s t context_number
-  in_context t (inl same) None none = inl (ap (λ ps. bytes_in (kept_at ps context_number)) same ∙ ap bytes_in (count_here post.Packets s None none ∙ sym none))
-  in_context t (inr same) None none =
-      inl (ap (λ ps. bytes_in (kept_at ps context_number)) same ∙ ap bytes_in (count_here post.Lost once None (count_here post.Packets s None none) ∙ sym none))
-  in_context t (inl same) (Some p) there = inr (record { context = refl; has = inl (ap (λ ps. bytes_in (kept_at ps context_number)) same ∙ count_bytes post.Packets s p there) })
-  in_context t (inr same) (Some p) there = inr (record {
-    context = refl;
-    has = inr (
-        ap (λ ps. bytes_in (kept_at ps context_number)) same
-        ∙ count_bytes post.Lost once (stored_page (count post.Packets s) p) (count_here post.Packets s (Some p) there)
-        ∙ ap (counted_page post.Lost) (count_bytes post.Packets s p there)
-        );
-  })
+  not_there : (lost : Bool) → kept_at s.kept context_number ≡ None → kept_at (counted_if lost).kept context_number ≡ None
+  not_there false none = count_here post.Packets s None none
+  not_there true none = count_here post.Lost once None (count_here post.Packets s None none)
 
-  elsewhere : (t : Solo) → IsCounted t → (vpn : ℕ) → vpn ≢ context_number → bytes_at t vpn ≡ bytes_at s vpn
-  elsewhere t (inl same) vpn other = ap (λ ps. bytes_in (kept_at ps vpn)) same ∙ ap bytes_in (count_else post.Packets s vpn other)
-  elsewhere t (inr same) vpn other = ap (λ ps. bytes_in (kept_at ps vpn)) same ∙ ap bytes_in (count_else post.Lost once vpn other ∙ count_else post.Packets s vpn other)
+  there : (lost : Bool) (p : KeptPage) → kept_at s.kept context_number ≡ Some p → bytes_at (counted_if lost) context_number ≡ packet_counted lost (bytes_at s context_number)
+  there false p is = count_bytes post.Packets s p is
+  there true p is =
+      count_bytes post.Lost once (stored_page (count post.Packets s) p) (count_here post.Packets s (Some p) is)
+      ∙ ap (counted_page post.Lost) (count_bytes post.Packets s p is)
 
-  counts : (t : Solo) → IsCounted t → (vpn : ℕ) → (bytes_at t vpn ≡ bytes_at s vpn) ⊎ HasCounts s t vpn
-  counts t is vpn = elim (cases_eq vpn context_number) [
-    | inl here ↦ subst (λ (n : ℕ). (bytes_at t n ≡ bytes_at s n) ⊎ HasCounts s t n) (sym here) (in_context t is (kept_at s.kept context_number) refl)
-    | inr other ↦ inl (elsewhere t is vpn other)
-  ]
+  elsewhere : (lost : Bool) (vpn : ℕ) → vpn ≢ context_number → kept_at (counted_if lost).kept vpn ≡ kept_at s.kept vpn
+  elsewhere false vpn other = count_else post.Packets s vpn other
+  elsewhere true vpn other = count_else post.Lost once vpn other ∙ count_else post.Packets s vpn other
 
-  pub packet_counts : (claim : ℕ) (packet : List ℕ) (vpn : ℕ) → (bytes_at (received claim packet s) vpn ≡ bytes_at s vpn) ⊎ HasCounts s (received claim packet s) vpn
-  packet_counts claim packet vpn = counts (received claim packet s) (received_counted (ring_of s.rings claim) packet) vpn
+  module _ (claim : ℕ) (packet : List ℕ) where
+    abbrev lost : Bool
+    lost = is_full_in s (ring_of s.rings claim)
+
+    is : IsCounted lost (received claim packet s)
+    is = received_counted (ring_of s.rings claim) packet
+
+    same_at : (vpn : ℕ) → bytes_at (received claim packet s) vpn ≡ bytes_at (counted_if lost) vpn
+    same_at vpn = ap (λ ps. bytes_in (kept_at ps vpn)) is
+
+    in_context : (o : Option KeptPage) → kept_at s.kept context_number ≡ o
+        → (bytes_at (received claim packet s) context_number ≡ bytes_at s context_number) ⊎ HasCounts s (received claim packet s) context_number claim
+    in_context None none = inl (same_at context_number ∙ ap bytes_in (not_there lost none ∙ sym none))
+    in_context (Some p) here = inr (record { context = refl; has = same_at context_number ∙ there lost p here })
+
+    pub packet_counts : (vpn : ℕ) → (bytes_at (received claim packet s) vpn ≡ bytes_at s vpn) ⊎ HasCounts s (received claim packet s) vpn claim
+    packet_counts vpn = elim (cases_eq vpn context_number) [
+      | inl here ↦
+          subst (λ (n : ℕ). (bytes_at (received claim packet s) n ≡ bytes_at s n) ⊎ HasCounts s (received claim packet s) n claim) (sym here) (in_context (kept_at s.kept context_number) refl)
+      | inr other ↦ inl (same_at vpn ∙ ap bytes_in (elsewhere lost vpn other))
+    ]

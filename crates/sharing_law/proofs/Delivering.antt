@@ -288,7 +288,6 @@ pub delivered_in : (system : System) (t k page owner : ℕ) (r : Reply) → mome
 delivered_in system t k page owner r next given comes = record {
   claim = comes.claim;
   packet = comes.packet;
-  rest = [];
   given = given ∙ comes.given;
   ring = comes.ring;
   stands = comes.stands;

@@ -1,5 +1,5 @@
 -- Why the bytes of a page change.
-use Rattle.std.specs.Prelude.{◌≡◌, ◌≢◌, ◌+◌, ◌^◌, ℕ, suc, true, List, ◌∷◌, Some, ◌⊎◌, bit_or}
+use Rattle.std.specs.Prelude.{◌≡◌, ◌≢◌, ◌+◌, ◌^◌, ℕ, suc, Bool, true, false, List, ◌∷◌, Option, None, Some, ◌⊎◌, bit_or}
 use Rattle.frame_store.specs.Pages.{with_bytes, word_at, word_bytes, zero_page}
 use Rattle.page_book.specs.declared.row.Capabilities.{Capabilities}
 use Rattle.page_book.specs.declared.row.PageRow.TheVariants.{Free}
@@ -9,16 +9,18 @@ use Rattle.env_frames.specs.Transfer.{entry_area, entry_bytes}
 use Rattle.env_frames.specs.declared.post.PostWord.{PostWord}
 use Rattle.env_frames.specs.declared.post.PostWord.TheVariants as post
 use Rattle.mips_exec.specs.Word.{word_of}
+use Rattle.packet_ring.specs.Ring.{is_full}
 use Rattle.env_frames.specs.Post.{post_offset}
 use Rattle.world_model.specs.declared.call.Deed.TheVariants.{Allocates}
 use Rattle.world_model.specs.declared.life.Cause.TheVariants as cause
 use Rattle.world_model.specs.declared.life.Life.TheVariants.{Dead}
 use Rattle.world_model.specs.Page.{KeptPage}
-use Rattle.world_model.specs.Solo.{Solo, Store, Kept, Physical, bytes_in, kept_at}
+use Rattle.world_model.specs.Solo.{Solo, Store, Ring, Kept, Physical, bytes_in, bytes_of, kept_at}
 use Rattle.world_model.specs.Step.{Act, Nothing, Stores, Calls, Raises, Dies, act_of, step_alone}
 use Rattle.world_model.specs.PageCalls.{page_bytes}
 use Rattle.world_model.specs.Item.{Item, Boot, Step, Start, End, Transfer, Killed, Answer, Gained, Lost, Left, Packet, Line, absorb}
 use Rattle.world_model.specs.Post.{post_word}
+use Rattle.world_model.specs.Rings.{ring_of}
 use Rattle.run_model.specs.Acting.{Acts, Does}
 use Rattle.run_model.specs.Run.{System, given_at, moment, world_after}
 use Rattle.sharing_law.specs.Delivery.{IsDelivered}
@@ -45,10 +47,20 @@ pub record HasStore (s t : Solo) (vpn : ℕ) (store : Store) : Type 0 where
 abbrev pub counted_page : PostWord → List ℕ → List ℕ
 counted_page word page = with_bytes page (post_offset word) (word_bytes (word_of (word_at page (post_offset word) + 1)))
 
--- a packet is counted in the context page, and counted again if it is lost
-pub record HasCounts (s t : Solo) (vpn : ℕ) : Type 0 where
+-- whether a packet for a claim would be lost: the buffer of its ring whose turn it is, is full
+abbrev pub is_full_in : Solo → Option Ring → Bool
+is_full_in s None = false
+is_full_in s (Some r) = is_full (bytes_of s (Physical r.page)) r.next
+
+-- the context page with a packet counted, and counted again if it is lost
+abbrev pub packet_counted : Bool → List ℕ → List ℕ
+packet_counted false page = counted_page post.Packets page
+packet_counted true page = counted_page post.Lost (counted_page post.Packets page)
+
+-- A packet for a claim is counted in the context page, and counted as lost exactly if its buffer is full.
+pub record HasCounts (s t : Solo) (vpn claim : ℕ) : Type 0 where
   pub context : vpn ≡ context_number
-  pub has : let packets = counted_page post.Packets (bytes_at s vpn) in (bytes_at t vpn ≡ packets) ⊎ (bytes_at t vpn ≡ counted_page post.Lost packets)
+  pub has : bytes_at t vpn ≡ packet_counted (is_full_in s (ring_of s.rings claim)) (bytes_at s vpn)
 
 -- How an environment's own step changes a guaranteed page, by what the step comes to.
 abbrev pub StepChanges : Solo → Solo → ℕ → Act → Type 0
@@ -70,7 +82,7 @@ Changes s t vpn (Answer verdict) = ⊥
 Changes s t vpn (Gained page writable bytes) = ⊥
 Changes s t vpn (Lost page) = ⊥
 Changes s t vpn (Left page offset bytes) = ⊥
-Changes s t vpn (Packet claim packet) = HasCounts s t vpn
+Changes s t vpn (Packet claim packet) = HasCounts s t vpn claim
 Changes s t vpn (Line line) = HasWords s t vpn (post_offset post.Lines) (word_bytes (bit_or (post_word post.Lines s) (2 ^ line)))
 
 -- An item leaves the bytes of a guaranteed page, but for such a change.

@@ -1,6 +1,6 @@
 -- Packets that come into the rings of their claims.
-use Rattle.std.specs.Prelude.{◌≡◌, ℕ, suc, List, ◌∷◌, Some}
-use Rattle.world_model.specs.Item.{Item, Packet}
+use Rattle.std.specs.Prelude.{◌≡◌, ℕ, suc, List, [], ◌∷◌, Some}
+use Rattle.world_model.specs.Item.{Packet}
 use Rattle.world_model.specs.PageCalls.{page_bytes}
 use Rattle.world_model.specs.Rings.{ring_after, ring_of}
 use Rattle.world_model.specs.Solo.{Ring}
@@ -10,8 +10,7 @@ use Rattle.run_model.specs.Run.{System, given_at, moment}
 pub record IsDelivered (system : System) (t k page owner : ℕ) : Type 0 where
   pub claim : ℕ
   pub packet : List ℕ
-  pub rest : List Item
-  pub given : given_at system t k owner ≡ Packet claim packet ∷ rest
+  pub given : given_at system t k owner ≡ Packet claim packet ∷ []
   pub ring : Ring
   pub stands : ring_of ((moment system t k).solos owner).rings claim ≡ Some ring
   pub its : ring.page ≡ page
