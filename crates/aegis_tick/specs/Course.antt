@@ -1,5 +1,5 @@
 -- The course of a run: what happens in it, and how far it came where memory ran out.
-use Rattle.std.specs.Prelude.{◌≡◌, ℕ, ◌<◌, List, [], ◌∷◌, map, take, false}
+use Rattle.std.specs.Prelude.{◌≡◌, ℕ, ◌+◌, ◌*◌, ◌<◌, ◌≤◌, List, [], ◌∷◌, map, take, false, Result, IsOk}
 use Rattle.external_event.specs.declared.event.Occurrence.{Occurrence}
 use Rattle.external_event.specs.EventValue.{EventValue}
 use Rattle.world_model.specs.Book.{is_idle_book}
@@ -31,3 +31,11 @@ pub record IsCutOff (schedule : Schedule) (w : World) (ticks : ℕ) (v : World) 
 -- Some first ones of these have happened.
 abbrev pub HappenedInPart : List Occurrence → World → World → Type 0
 HappenedInPart happens w v = (k : ℕ) × (v ≡ world_with (take k happens) w)
+
+-- the rows of the ledger that an event, or a tick, takes at most
+abbrev pub tick_rows : ℕ
+tick_rows = 2048
+
+-- Where the rows of so many events and ticks are spare, none of them is refused, and no more of these rows are taken.
+abbrev pub IsSure : {T E : Type 0} → ℕ → Result T E → ℕ → ℕ → Type 0
+IsSure steps result spare left = tick_rows * steps ≤ spare → IsOk result × (spare ≤ left + tick_rows * steps)

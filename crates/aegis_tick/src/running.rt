@@ -12,7 +12,7 @@ ghost use Rattle.world_model.specs.Tick.{phases_after, tick_step};
 ghost use Rattle.world_model.specs.World.{after, run_phases};
 ghost use Rattle.run_model.specs.Excess.{IsAccounted};
 ghost use Rattle.run_model.specs.Run.{run_on, end_of_run};
-ghost use Rattle.aegis_tick.specs.Course.{HappenedInPart, IsCutOff, next_time_of, occurrences, world_with};
+ghost use Rattle.aegis_tick.specs.Course.{HappenedInPart, IsCutOff, IsSure, next_time_of, occurrences, world_with};
 
 use aegis_calls::Board;
 use aegis_limits::OutOfMemory;
@@ -119,7 +119,7 @@ fn happen_all(board: &mut Board, events: &[Event]) -> Result<(), OutOfMemory>
     ensures time { board.new.time ≡ board.old.time }
     ensures whole { board.new.roster.spare ≡ board.old.roster.spare }
     ensures numbers { board.new.claims.next ≡ board.old.claims.next }
-    ensures sure { TICK_ROWS * length events.now ≤ board.old.ledger.spare → IsOk result × (board.old.ledger.spare ≤ board.new.ledger.spare + TICK_ROWS * length events.now) }
+    ensures sure { IsSure (length events.now) result board.old.ledger.spare board.new.ledger.spare }
 {
     for one in events {
         make_room(board, TICK_ROWS)?;
@@ -139,7 +139,7 @@ fn tick_with(board: &mut Board, events: &[Event]) -> Result<(), OutOfMemory>
     ensures time { OnOk result (board.new.time ≡ board.old.time + 1) }
     ensures whole { OnOk result (board.new.roster.spare ≡ 0) }
     ensures numbers { OnOk result (board.new.claims.next ≤ board.new.time) }
-    ensures sure { TICK_ROWS * (length events.now + 1) ≤ board.old.ledger.spare → IsOk result × (board.old.ledger.spare ≤ board.new.ledger.spare + TICK_ROWS * (length events.now + 1)) }
+    ensures sure { IsSure (length events.now + 1) result board.old.ledger.spare board.new.ledger.spare }
 {
     happen_all(board, events)?;
     make_room(board, TICK_ROWS)?;

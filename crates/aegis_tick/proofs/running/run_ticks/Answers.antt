@@ -7,7 +7,7 @@ use Rattle.world_model.specs.Event.{schedule_of}
 use Rattle.world_model.specs.Tick.{phases_after}
 use Rattle.world_model.specs.World.{World, run_phases}
 use Rattle.run_model.specs.Run.{next_phases, run_on}
-use Rattle.aegis_tick.specs.Course.{next_time_of, occurrences}
+use Rattle.aegis_tick.specs.Course.{IsCutOff, next_time_of, occurrences}
 use Rattle.aegis_tick.proofs.Coming.{happens_next, next_coming, next_ordered, next_within}
 use Rattle.aegis_tick.proofs.Happening.{cut_accounted, cut_off}
 use Rattle.aegis_tick.proofs.Refusals.{on_err}
@@ -22,31 +22,24 @@ returns-then-idle-clause-world c =
     let whole : c.loop-done.done + (c.args.ticks - c.loop-done.done) ≡ c.args.ticks = omega arith in
     c.loop-done.invariant.world ∙ sym (stays schedule w c.loop-done.done (c.args.ticks - c.loop-done.done) idle) ∙ ap (run_on schedule w) whole
 
-pub returns-in_err-tick_with-clause-cut : goal.returns-in_err-tick_with-clause-cut
-returns-in_err-tick_with-clause-cut c =
+-- a tick that is refused cuts the run off
+cut_here : (c : goal.After-from_residual) → IsCutOff (schedule_of c.args.events.now) (world_of c.args.board.now) c.args.ticks (world_of c.tick_with.new.board)
+cut_here c =
     let es = c.args.events.now in
-    let i = c.loop-done.next in
     let t = c.loop-done.done in
     let these = c.take_due-now.result.now in
     let now = c.loop-done.invariant in
     let v = world_of c.loop-done.board in
-    let happens = happens_next es i t these c.take_due-now.ensures.now v now.time now.ordered (now.coming t (omega arith)) in
-    on_err c.from_residual.result
-    (cut_off (schedule_of es) (world_of c.args.board.now) v (world_of c.tick_with.new.board) t c.args.ticks (occurrences these)
-    now.world c.loop-done-test.true (sym c.idle.ensures ∙ c.if-idle.false) happens c.in_err-tick_with.ensures.part)
+    let happens = happens_next es c.loop-done.next t these c.take_due-now.ensures.now v now.time now.ordered (now.coming t (omega arith)) in
+    cut_off (schedule_of es) (world_of c.args.board.now) v (world_of c.tick_with.new.board) t c.args.ticks (occurrences these)
+    now.world c.loop-done-test.true (sym c.idle.ensures ∙ c.if-idle.false) happens c.in_err-tick_with.ensures.part
+
+pub returns-in_err-tick_with-clause-cut : goal.returns-in_err-tick_with-clause-cut
+returns-in_err-tick_with-clause-cut c = on_err c.from_residual.result (cut_here c)
 
 pub returns-in_err-tick_with-clause-balance : goal.returns-in_err-tick_with-clause-balance
 returns-in_err-tick_with-clause-balance c =
-    let es = c.args.events.now in
-    let i = c.loop-done.next in
-    let t = c.loop-done.done in
-    let these = c.take_due-now.result.now in
-    let now = c.loop-done.invariant in
-    let v = world_of c.loop-done.board in
-    let happens = happens_next es i t these c.take_due-now.ensures.now v now.time now.ordered (now.coming t (omega arith)) in
-    cut_accounted c.law_accounts.ensures (schedule_of es) (world_of c.args.board.now) c.args.ticks (world_of c.tick_with.new.board)
-    (cut_off (schedule_of es) (world_of c.args.board.now) v (world_of c.tick_with.new.board) t c.args.ticks (occurrences these)
-    now.world c.loop-done-test.true (sym c.idle.ensures ∙ c.if-idle.false) happens c.in_err-tick_with.ensures.part)
+    cut_accounted c.law_accounts.ensures (schedule_of c.args.events.now) (world_of c.args.board.now) c.args.ticks (world_of c.tick_with.new.board) (cut_here c)
 
 pub loop-done-preserved : goal.loop-done-preserved
 loop-done-preserved c =
