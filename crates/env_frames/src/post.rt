@@ -11,6 +11,12 @@ pub enum PostWord {
     Lost,
     /// A bit for each interrupt line of the environment's on which a signal came.
     Lines,
+    /// How many pages were outstanding when the environment was last asked for some.
+    Outstanding,
+    /// The tick until which it was given time then.
+    Deadline,
+    /// How many pages were taken from it.
+    Takings,
 }
 
 impl PostWord {
@@ -24,6 +30,9 @@ impl PostWord {
             PostWord::Packets => 0x140,
             PostWord::Lost => 0x144,
             PostWord::Lines => 0x148,
+            PostWord::Outstanding => 0x14C,
+            PostWord::Deadline => 0x150,
+            PostWord::Takings => 0x17C,
         }
     }
 }

@@ -2,8 +2,8 @@
 use Rattle.std.specs.Prelude.{ℕ, ◌&&◌, nat_le, nat_lt, Bool}
 use Rattle.aegis_limits.specs.Limits.{most_ticks}
 use Rattle.external_event.specs.declared.event.Occurrence.{Occurrence}
-use Rattle.external_event.specs.declared.event.Occurrence.TheVariants.{Packet, Line}
-use Rattle.external_event.specs.Limits.{lines}
+use Rattle.external_event.specs.declared.event.Occurrence.TheVariants.{Packet, Line, Revoke}
+use Rattle.external_event.specs.Limits.{last_environment, lines, most_asked}
 use Rattle.external_event.specs.Packet.{is_packet}
 
 -- what happens at a time
@@ -15,6 +15,7 @@ pub record EventValue : Type 0 where
 abbrev pub is_occurrence : Occurrence → Bool
 is_occurrence (Packet bytes) = is_packet bytes
 is_occurrence (Line line) = nat_lt line lines
+is_occurrence (Revoke env count grace) = nat_le env last_environment && (nat_le count most_asked && nat_le grace most_ticks)
 
 -- the numbers of an event are within their limits
 abbrev pub is_event : EventValue → Bool

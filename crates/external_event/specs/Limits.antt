@@ -16,3 +16,10 @@ most_sent = 256
 -- the interrupt lines, numbered from 0
 abbrev pub lines : ℕ
 lines = 8
+
+-- the greatest number of an environment that is asked for pages, and the most pages for which one is asked at once
+abbrev pub last_environment : ℕ
+last_environment = 31
+
+abbrev pub most_asked : ℕ
+most_asked = 4096

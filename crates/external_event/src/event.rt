@@ -5,6 +5,12 @@ use std::marker::Model;
 /// How many interrupt lines the machine has, numbered from 0.
 pub const LINES: u8 = 8;
 
+/// The greatest number of an environment that is asked for pages.
+pub const LAST_ENVIRONMENT: u8 = 31;
+
+/// The most pages for which an environment is asked at once.
+pub const MOST_ASKED: u32 = 4096;
+
 /// What happens.
 #[derive(Drop)]
 pub enum Occurrence {
@@ -12,6 +18,15 @@ pub enum Occurrence {
     Packet(PacketBytes),
     /// The interrupt line of this number, below 8, is raised.
     Line(u8),
+    /// An environment is asked for pages.
+    Revoke {
+        /// Its number, at most 31.
+        env: u8,
+        /// How many, at most 4,096.
+        count: u32,
+        /// The ticks until the deadline, at most 4,194,304.
+        grace: u32,
+    },
 }
 
 /// Something that happens at a time. Its limits hold of every value of this type.

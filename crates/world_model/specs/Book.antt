@@ -7,6 +7,7 @@ use Rattle.page_book.specs.Row.{is_owned_by}
 use Rattle.bind_book.specs.declared.binding.Binding.{Binding}
 use Rattle.bind_book.specs.Stripe.{breaks_page, is_bound, without}
 use Rattle.filter_tree.specs.ClaimBook.{ClaimValue}
+use Rattle.revocation_book.specs.declared.revocation.Pending.{Pending}
 use Rattle.world_model.specs.Table.{set_at}
 use Rattle.world_model.specs.declared.slot.Hold.{Hold}
 use Rattle.world_model.specs.declared.slot.Runner.{Runner}
@@ -15,7 +16,8 @@ use Rattle.world_model.specs.declared.slot.Turn.{Turn}
 -- A runner, if one runs, runs in the cursor's slot. Each environment has its excess: the quanta that it ran past its slices
 -- and hasn't forfeited yet. Pages are numbered below page_count; from there on each is as if free. Each environment has its
 -- guaranteed mappings, by rising VPN, and its bindings, in the rows of its stripe. Each interrupt line has its owner, if anybody
--- has taken it. The claims that stand are there by rising number, and the number of the next one.
+-- has taken it. The claims that stand are there by rising number, and the number of the next one. Each environment has what it
+-- is asked for and hasn't given back, if anything, and the pages that it loaded as backups, in their order.
 pub record Book : Type 0 where
   pub slot_count : ℕ
   pub slots : ℕ → Option Hold
@@ -30,6 +32,8 @@ pub record Book : Type 0 where
   pub lines : ℕ → Option ℕ
   pub claims : List ClaimValue
   pub next_claim : ℕ
+  pub pending : ℕ → Option Pending
+  pub backups : ℕ → List ℕ
   pub time : ℕ
 
 -- the row of a page, if there is one of this number

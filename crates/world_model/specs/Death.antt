@@ -23,13 +23,15 @@ lost_with b gone e (suc page) = lost_with b gone e page ++ (if belongs_to gone (
 abbrev pub death_items : Book → ℕ → ℕ → List Item
 death_items b gone e = if e == gone then [] else lost_with b gone e b.page_count
 
--- the book without an environment's pages and mappings, the bindings of these pages, and its own; and without its claims, the rings of which are among its pages
+-- the book without an environment's pages and mappings, the bindings of these pages, and its own; without its claims, the rings of which are among its pages; and without its backups and what it is asked for
 abbrev pub without_pages_of : ℕ → Book → Book
 without_pages_of gone b = record b {
   pages = λ page. freed_row gone (b.pages page);
   kept = set_at gone [] b.kept;
   binds = λ e row. without (goes_with b.pages gone e) (b.binds e row);
   claims = (withdrawn (is_of_env gone) b).claims;
+  pending = set_at gone None b.pending;
+  backups = set_at gone [] b.backups;
 }
 
 -- the row of a slot that an environment owns or holds, once it is gone

@@ -1,5 +1,5 @@
 -- What happens to the board from outside.
-use Rattle.std.specs.Prelude.{ℕ, List, [], ◌∷◌, map, filter, ◌==◌, length, Option, Some, None}
+use Rattle.std.specs.Prelude.{ℕ, ◌+◌, List, [], ◌∷◌, map, filter, ◌==◌, length, if◌then◌else◌, Option, Some, None}
 use Rattle.kernel_journal.specs.declared.row.Row.TheVariants as row
 use Rattle.external_event.specs.declared.event.Occurrence.{Occurrence}
 use Rattle.external_event.specs.declared.event.Occurrence.TheVariants as outside
@@ -9,10 +9,12 @@ use Rattle.world_model.specs.Table.{set_at}
 use Rattle.world_model.specs.Book.{Book}
 use Rattle.world_model.specs.Solo.{Solo, Ring}
 use Rattle.world_model.specs.Rings.{page_store, ring_after, ring_of}
-use Rattle.world_model.specs.Item.{Item, Line, Packet}
+use Rattle.revocation_book.specs.declared.revocation.Pending.{Pending}
+use Rattle.revocation_book.specs.Pending.{asked}
+use Rattle.world_model.specs.Item.{Item, Asked, Line, Packet}
 use Rattle.world_model.specs.PageCalls.{left_by}
 use Rattle.world_model.specs.ClaimCalls.{claim_of}
-use Rattle.world_model.specs.World.{World, Reply, no_change, no_items, tells}
+use Rattle.world_model.specs.World.{World, Reply, is_living, no_change, no_items, only, tells}
 
 -- what happens in each tick, in order
 abbrev pub Schedule : Type 0
@@ -52,7 +54,21 @@ abbrev pub arrives : List ℕ → Option ClaimValue → World → Reply
 arrives packet None w = drops_packet packet w
 arrives packet (Some c) w = delivers c packet w
 
+-- A revocation asks an environment for pages. Where nothing is outstanding then, nothing happens.
+abbrev pub asks : ℕ → Option Pending → World → Reply
+asks e None w = no_change w
+asks e (Some p) w = record {
+  book = record w.book { pending = set_at e (Some p) w.book.pending };
+  items = only e (Asked p.outstanding p.deadline ∷ []);
+  rows = row.Asked w.book.time e p.outstanding p.deadline ∷ [];
+}
+
+-- It is for an environment that is there and lives.
+abbrev pub revokes : ℕ → ℕ → ℕ → World → Reply
+revokes e count deadline w = if is_living w e then asks e (asked count deadline (w.book.pending e)) w else no_change w
+
 -- what an event does
 abbrev pub happen : Occurrence → World → Reply
 happen (outside.Packet packet) w = arrives packet (claim_of w.book packet) w
 happen (outside.Line line) w = signals line (w.book.lines line) w
+happen (outside.Revoke env count grace) w = revokes env count (w.book.time + grace) w

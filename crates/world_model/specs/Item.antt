@@ -1,5 +1,5 @@
 -- What an environment is given from outside, and what it makes of it.
-use Rattle.std.specs.Prelude.{ℕ, ◌+◌, List, [], if◌then◌else◌, fold, Bool}
+use Rattle.std.specs.Prelude.{ℕ, ◌+◌, List, [], if◌then◌else◌, fold, Bool, Option}
 use Rattle.mips_exec.specs.declared.registers.Cpu.{Cpu}
 use Rattle.mips_exec.specs.Cpu.{blank_cpu, with_reg}
 use Rattle.mips_exec.specs.Word.{word_of}
@@ -14,10 +14,11 @@ use Rattle.world_model.specs.Page.{KeptPage}
 use Rattle.world_model.specs.Solo.{Solo, Physical, bare_solo, dead, is_dead, stored}
 use Rattle.world_model.specs.Holding.{bound, unbound, owning, gained, lost}
 use Rattle.world_model.specs.Upcalls.{start, end_slice, enter}
-use Rattle.world_model.specs.Post.{signalled}
+use Rattle.world_model.specs.Post.{asked_for, signalled}
+use Rattle.world_model.specs.Repossession.{taken}
 use Rattle.world_model.specs.Rings.{received, with_ring, without_ring}
 use Rattle.world_model.specs.declared.call.Deed.{Deed}
-use Rattle.world_model.specs.declared.call.Deed.TheVariants.{Answers, Own, Stops, Gives, Allocates, Frees, Recaps, Binds, Unbinds, Transfers, TakesSlot, DropsSlot, TakesLine, DropsLine, Claims, Unclaims}
+use Rattle.world_model.specs.declared.call.Deed.TheVariants.{Answers, Own, Stops, Gives, Allocates, Frees, Recaps, Binds, Unbinds, Transfers, TakesSlot, DropsSlot, TakesLine, DropsLine, Claims, Unclaims, Loads}
 use Rattle.world_model.specs.Call.{called, deed_of}
 use Rattle.world_model.specs.OwnCalls.{own_state_after, with_own_state}
 use Rattle.world_model.specs.Step.{step_alone, stepped}
@@ -47,6 +48,10 @@ pub data Item : Type 0 where
   Packet : (claim : ℕ) (packet : List ℕ) → Item
   -- a signal on an interrupt line of its own
   Line : (line : ℕ) → Item
+  -- that it is asked for pages: how many are outstanding, and until when
+  Asked : (outstanding deadline : ℕ) → Item
+  -- a page that is taken from it, and the backup that gets a copy of it, if there is one
+  Taken : (page : ℕ) (backup : Option ℕ) → Item
 
 -- at boot all registers are 0 but the stack pointer, and the machine stands at the entry
 abbrev pub boot_cpu : ℕ → Cpu
@@ -73,6 +78,7 @@ own_part (TakesLine line) s = s
 own_part (DropsLine line) s = s
 own_part (Claims claim address atoms page) s = with_ring claim page s
 own_part (Unclaims claim) s = without_ring claim s
+own_part (Loads page) s = s
 
 -- register 2 has the answer's code and register 3 its value, and the machine goes on behind the call
 abbrev pub answered_cpu : Verdict → Cpu → Cpu
@@ -100,6 +106,8 @@ absorbed s (Lost page) = lost page s
 absorbed s (Left page offset bytes) = stored (record { key = Physical page; offset = offset; bytes = bytes }) s
 absorbed s (Packet claim packet) = received claim packet s
 absorbed s (Line line) = signalled line s
+absorbed s (Asked outstanding deadline) = asked_for outstanding deadline s
+absorbed s (Taken page backup) = taken page backup s
 
 -- a dead environment absorbs nothing more
 abbrev pub absorb : Solo → Item → Solo

@@ -7,6 +7,7 @@ pub mod Holding
 pub mod Upcalls
 pub mod Post
 pub mod Rings
+pub mod Repossession
 pub mod Call
 pub mod OwnCalls
 pub mod Step
@@ -17,7 +18,9 @@ pub mod PageCalls
 pub mod SlotCalls
 pub mod LineCalls
 pub mod ClaimCalls
+pub mod BackupCalls
 pub mod Event
+pub mod Deadlines
 pub mod Queries
 pub mod Transfers
 pub mod Death

@@ -11,6 +11,7 @@ use Rattle.env_frames.specs.declared.transfer.TransferKind.{TransferKind}
 use Rattle.env_frames.specs.Transfer.{hands_slot}
 use Rattle.filter_core.specs.declared.atom.Atom.{Atom}
 use Rattle.filter_tree.specs.Claims.{claim_refusal}
+use Rattle.revocation_book.specs.Backups.{load_refusal}
 use Rattle.world_model.specs.declared.slot.Hold.{Hold}
 use Rattle.world_model.specs.Book.{Book}
 use Rattle.world_model.specs.Solo.{Solo, sight}
@@ -22,7 +23,7 @@ use Rattle.world_model.specs.SlotCalls.{accepts, gift_refusal, is_other, turn_sl
 use Rattle.world_model.specs.Transfers.{is_open}
 use Rattle.world_model.specs.World.{World}
 use Rattle.world_model.specs.declared.call.Deed.{Deed}
-use Rattle.world_model.specs.declared.call.Deed.TheVariants.{Answers, Own, Stops, Gives, Allocates, Frees, Recaps, Binds, Unbinds, Transfers, TakesSlot, DropsSlot, TakesLine, DropsLine, Claims, Unclaims}
+use Rattle.world_model.specs.declared.call.Deed.TheVariants.{Answers, Own, Stops, Gives, Allocates, Frees, Recaps, Binds, Unbinds, Transfers, TakesSlot, DropsSlot, TakesLine, DropsLine, Claims, Unclaims, Loads}
 
 -- the target is another environment, which lives and accepts the caller, and the slice may be handed on, or for a later the slot too
 pub record MayReach (w : World) (e target : ℕ) (later : Bool) : Type 0 where
@@ -92,6 +93,11 @@ pub record MayClaim (w : World) (e claim address atoms page : ℕ) : Type 0 wher
   pub ring : MayChange w.book e page
   pub beside : claim_refusal w.book.claims e filter ≡ None
 
+-- the page is the caller's and not a backup yet, and there is room for one more
+pub record MayLoad (b : Book) (e page : ℕ) : Type 0 where
+  pub own : MayChange b e page
+  pub room : load_refusal (b.backups e) page ≡ None
+
 abbrev pub May : World → ℕ → Deed → Type 0
 May w e Answers = Unit {0}
 May w e (Own own) = MayOwn (w.solos e) own
@@ -109,3 +115,4 @@ May w e (TakesLine line) = MayTakeLine w.book e line
 May w e (DropsLine line) = MayDropLine w.book e line
 May w e (Claims claim address atoms page) = MayClaim w e claim address atoms page
 May w e (Unclaims claim) = Unit {0}
+May w e (Loads page) = MayLoad w.book e page

@@ -17,6 +17,8 @@ use Rattle.world_model.specs.declared.code.Code.TheVariants as code
 use Rattle.world_model.specs.Table.{set_at}
 use Rattle.world_model.specs.Code.{code_of}
 use Rattle.filter_tree.specs.Claims.{is_into}
+use Rattle.revocation_book.specs.Pending.{lowered}
+use Rattle.revocation_book.specs.Backups.{unloaded}
 use Rattle.world_model.specs.Book.{Book, withdrawn, broken, page_row, sees}
 use Rattle.world_model.specs.Call.{any, binding_of, presented}
 use Rattle.world_model.specs.Solo.{Solo, Store, Key, Kept, Physical, bytes_seen, kept_at}
@@ -62,10 +64,17 @@ refusal_of_change w e page = option_map code_of (change_refusal e (page_row w.bo
 abbrev pub free : World → ℕ → Verdict
 free w e = unless (refusal_of_change w e (reg (w.solos e).cpu 4)) 0
 
--- the page is nobody's, whoever had it bound loses it, and the claims whose ring it is are withdrawn
+-- the book once a page is nobody's: the bindings of it are broken, and the claims whose ring it is are withdrawn
+abbrev pub freed : ℕ → Book → Book
+freed page b = withdrawn (is_into page) (broken page None (record b { pages = set_at page Free b.pages }))
+
+-- the page is nobody's and no backup any more, whoever had it bound loses it, and one page fewer is outstanding
 abbrev pub frees : World → ℕ → ℕ → Reply
 frees w e page = record {
-  book = withdrawn (is_into page) (broken page None (record w.book { pages = set_at page Free w.book.pages }));
+  book = record (freed page w.book) {
+    pending = set_at e (lowered (w.book.pending e)) w.book.pending;
+    backups = set_at e (unloaded page (w.book.backups e)) w.book.backups;
+  };
   items = set_at e (Lost page ∷ []) (breaks w.book page);
   rows = [];
 }

@@ -1,11 +1,9 @@
 -- An environment's claims: what it makes of the packets that come for them.
-use Rattle.std.specs.Prelude.{ℕ, ◌+◌, List, [], ◌∷◌, ◌++◌, Bool, not, ◌==◌, filter, find, map, if◌then◌else◌, Option, Some, None}
-use Rattle.mips_exec.specs.Word.{word_of}
-use Rattle.env_frames.specs.declared.post.PostWord.{PostWord}
+use Rattle.std.specs.Prelude.{ℕ, List, [], ◌∷◌, ◌++◌, Bool, not, ◌==◌, filter, find, map, if◌then◌else◌, Option, Some, None}
 use Rattle.env_frames.specs.declared.post.PostWord.TheVariants as post
 use Rattle.packet_ring.specs.declared.buffer.Buffer.TheVariants.{First}
 use Rattle.packet_ring.specs.Ring.{is_full, other_buffer, with_packet}
-use Rattle.world_model.specs.Post.{post_word, with_post}
+use Rattle.world_model.specs.Post.{counted}
 use Rattle.world_model.specs.Solo.{Solo, Store, Ring, Physical, bytes_of, stored}
 
 abbrev pub is_ring : ℕ → Ring → Bool
@@ -29,10 +27,6 @@ turned r = record r { next = other_buffer r.next }
 
 abbrev pub turned_if : ℕ → Ring → Ring
 turned_if claim r = if is_ring claim r then turned r else r
-
--- a post word counts up, and wraps at 2 ^ 32
-abbrev pub counted : PostWord → Solo → Solo
-counted word s = with_post word (word_of (post_word word s + 1)) s
 
 -- the ring page with a packet in the buffer whose turn it is, unless that is full: then the packet is lost
 abbrev pub ring_after : Solo → Ring → List ℕ → Option (List ℕ)

@@ -1,4 +1,4 @@
--- The tick: what happens from outside, the turn, the runner's step with its call or death, and the timer.
+-- The tick: what happens from outside, what is taken at deadlines, the turn, the runner's step with its call or death, and the timer.
 use Rattle.std.specs.Prelude.{◌≡◌, ℕ, ◌+◌, ◌-◌, List, [], ◌∷◌, ◌++◌, map, ◌==◌, nat_lt, if◌then◌else◌, Option, Some, None}
 use Rattle.kernel_journal.specs.declared.row.Row.{Row}
 use Rattle.kernel_journal.specs.declared.row.Row.TheVariants as row
@@ -21,6 +21,8 @@ use Rattle.world_model.specs.PageCalls.{left_by}
 use Rattle.world_model.specs.World.{World, Reply, only, no_items, after, run_phases, no_change, tells, in_turn}
 use Rattle.external_event.specs.declared.event.Occurrence.{Occurrence}
 use Rattle.world_model.specs.Event.{happen}
+use Rattle.revocation_book.specs.declared.revocation.Taking.{Taking}
+use Rattle.world_model.specs.Deadlines.{settles, takes, takings}
 
 -- The turn: where nobody runs, slots are forfeited whose holders owe, and the first holder that owes nothing starts with a full quantum.
 abbrev pub pay_row : ℕ → Turn → Row
@@ -108,16 +110,23 @@ count_when (Some r) w = count_down r (r.left - 1) w
 abbrev pub timer : World → Reply
 timer w = in_turn (count_when w.book.runner ∷ clock ∷ []) w
 
--- a tick in its order
-abbrev pub tick_phases : List (World → Reply)
-tick_phases = turn ∷ step ∷ timer ∷ []
+-- The deadlines that have come are served: pages are taken one after another, and then these revocations are over.
+abbrev pub serve_phases : List Taking → List (World → Reply)
+serve_phases xs = map takes xs ++ settles ∷ []
+
+abbrev pub served : World → World
+served w = run_phases w (serve_phases (takings w))
+
+-- a tick in its order, in which this is taken
+abbrev pub tick_phases : List Taking → List (World → Reply)
+tick_phases xs = map takes xs ++ settles ∷ turn ∷ step ∷ timer ∷ []
 
 abbrev pub tick_step : World → World
-tick_step w = run_phases w tick_phases
+tick_step w = run_phases w (tick_phases (takings w))
 
 -- the phases of a tick with what happens in it, which comes first
-abbrev pub phases_after : List Occurrence → List (World → Reply)
-phases_after happens = map happen happens ++ tick_phases
+abbrev pub phases_after : List Occurrence → List Taking → List (World → Reply)
+phases_after happens xs = map happen happens ++ tick_phases xs
 
 -- Apart from a tick. The world after an act of the runner: what it does to the runner itself, and then what it brings
 abbrev pub act_world : World → ℕ → Act → World

@@ -8,7 +8,7 @@ use Rattle.world_model.specs.Call.{any, called, exit_number}
 use Rattle.world_model.specs.declared.verdict.Verdict.{Verdict}
 use Rattle.world_model.specs.declared.verdict.Verdict.TheVariants.{Refuse, Grant}
 use Rattle.world_model.specs.declared.call.Deed.{Deed}
-use Rattle.world_model.specs.declared.call.Deed.TheVariants.{Answers, Own, Stops, Gives, Allocates, Frees, Recaps, Binds, Unbinds, Transfers, TakesSlot, DropsSlot, TakesLine, DropsLine, Claims, Unclaims}
+use Rattle.world_model.specs.declared.call.Deed.TheVariants.{Answers, Own, Stops, Gives, Allocates, Frees, Recaps, Binds, Unbinds, Transfers, TakesSlot, DropsSlot, TakesLine, DropsLine, Claims, Unclaims, Loads}
 use Rattle.world_model.specs.Solo.{Solo}
 use Rattle.world_model.specs.Item.{Answer, deed_at}
 use Rattle.world_model.specs.World.{World, Reply, followed, no_change, tells}
@@ -17,6 +17,7 @@ use Rattle.world_model.specs.OwnCalls.{accept, context, put, send}
 use Rattle.world_model.specs.SlotCalls.{drops_slot, gives, slot_drop, slot_take, stops, takes_slot, yield_alone, yield_to}
 use Rattle.world_model.specs.LineCalls.{line, with_line}
 use Rattle.world_model.specs.ClaimCalls.{claim, claims_packets, unclaim, unclaims}
+use Rattle.world_model.specs.BackupCalls.{backup, loads}
 use Rattle.world_model.specs.Queries.{query}
 use Rattle.world_model.specs.Transfers.{transfer, transfers}
 
@@ -45,6 +46,7 @@ verdict_shared w e (Some call.SlotDrop) = slot_drop w e
 verdict_shared w e (Some call.Query) = query w e
 verdict_shared w e (Some call.Claim) = claim w e
 verdict_shared w e (Some call.Line) = line w e
+verdict_shared w e (Some call.Backup) = backup w e
 verdict_shared w e (Some call.Clock) = Grant w.book.time
 verdict_shared w e call = Refuse code.BadCall 0
 
@@ -69,6 +71,7 @@ done w e (TakesLine line) = with_line w line (Some e)
 done w e (DropsLine line) = with_line w line None
 done w e (Claims claim address atoms page) = claims_packets w e claim address atoms page
 done w e (Unclaims claim) = unclaims w e claim
+done w e (Loads page) = loads w e page
 
 -- A refused call is answered, and nothing else happens. A granted one is answered, and then comes what it does.
 abbrev pub reply_of : World → ℕ → Verdict → Reply

@@ -1,9 +1,9 @@
 -- The world: one book, a lonely machine for each environment, and the ledger.
-use Rattle.std.specs.Prelude.{ℕ, List, [], ◌∷◌, ◌++◌}
+use Rattle.std.specs.Prelude.{ℕ, Bool, not, nat_lt, ◌&&◌, List, [], ◌∷◌, ◌++◌}
 use Rattle.kernel_journal.specs.declared.row.Row.{Row}
 use Rattle.world_model.specs.Table.{set_at}
 use Rattle.world_model.specs.Book.{Book}
-use Rattle.world_model.specs.Solo.{Solo}
+use Rattle.world_model.specs.Solo.{Solo, is_dead}
 use Rattle.world_model.specs.Item.{Item, absorb_all}
 
 -- environments are numbered below count; from there on each Solo is that of an absent environment
@@ -12,6 +12,10 @@ pub record World : Type 0 where
   pub count : ℕ
   pub solos : ℕ → Solo
   pub rows : List Row
+
+-- whether there is an environment of this number, and it lives
+abbrev pub is_living : World → ℕ → Bool
+is_living w e = nat_lt e w.count && not (is_dead (w.solos e).life)
 
 -- what a phase of a tick gives: a new book, items for each environment, and rows of the ledger
 pub record Reply : Type 0 where

@@ -40,6 +40,8 @@ pub enum Call {
     Unclaim,
     /// Takes an interrupt line, or drops it.
     Line,
+    /// Loads a page as a backup.
+    Backup,
     /// Sends a packet.
     Send,
     /// Answers the caller's own number.
@@ -75,6 +77,7 @@ impl Call {
             14 => Some(Call::Claim),
             15 => Some(Call::Unclaim),
             17 => Some(Call::Line),
+            18 => Some(Call::Backup),
             19 => Some(Call::Send),
             20 => Some(Call::OwnNumber),
             21 => Some(Call::Clock),
@@ -140,6 +143,8 @@ pub enum Deed {
     },
     /// A claim of the caller's, of this number, is withdrawn.
     Unclaims(u32),
+    /// A page of the caller's is the last of its backups.
+    Loads(u32),
 }
 
 /// What a granted call does to its caller alone: to its console, its sent packets, its handlers and its mask (`docs/KERNEL.md`).

@@ -2,6 +2,7 @@
 ghost use Rattle.std.specs.Prelude.{◌≡◌};
 
 use page_book::PageNo;
+use revocation_book::LoadNo;
 
 /// Why a kernel call is refused: the code that the caller finds in register 2 (`docs/KERNEL.md`). The code of a call that
 /// is granted is 0.
@@ -38,6 +39,20 @@ impl Code {
         ensures { result ≡ code_number self }
     {
         self as u32
+    }
+}
+
+impl From<LoadNo> for Code {
+    ghost use Rattle.world_model.specs.BackupCalls.{code_of_load};
+
+    /// What a caller is told of a refusal by the book of revocations.
+    fn from(no: LoadNo) -> Code
+        ensures { result ≡ code_of_load no }
+    {
+        match no {
+            LoadNo::Loaded => Code::Taken,
+            LoadNo::Full => Code::Full,
+        }
     }
 }
 

@@ -1,0 +1,4 @@
+pub mod Pending
+pub mod Backups
+pub mod Takings
+pub mod RevocationBook

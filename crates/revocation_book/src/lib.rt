@@ -1,0 +1,10 @@
+//! The book of revocations: how many pages each environment is asked for and until when, which of its pages it has
+//! loaded as backups, and what is taken from it once its deadline has come.
+//!
+//! A backup is a page of the environment's own that gets a copy of a page that is taken. The first page that is taken
+//! goes to the backup that was loaded first, and so on (`docs/KERNEL.md`, "Revocation").
+#![tactic(auto)]
+
+mod revocation;
+
+pub use revocation::{LoadNo, Pending, Taking};
