@@ -1,5 +1,5 @@
 -- What the parts of a board's tick do to what it shows.
-use Rattle.std.specs.Prelude.{ℕ, zero, suc, ◌+◌, ◌-◌, ◌/◌, ◌%◌, Bool, true, false, not, fold, List, [], ◌∷◌, ◌++◌, length, map, ◌==◌, if◌then◌else◌, Option, Some, None, unwrap_or, slice_set}
+use Rattle.std.specs.Prelude.{ℕ, zero, suc, ◌+◌, ◌-◌, ◌/◌, ◌%◌, Bool, true, false, not, drop, fold, List, [], ◌∷◌, ◌++◌, length, map, ◌==◌, if◌then◌else◌, Option, Some, None, unwrap_or, slice_set}
 use Rattle.external_event.specs.declared.event.Occurrence.{Occurrence}
 use Rattle.external_event.specs.declared.event.Occurrence.TheVariants as outside
 use Rattle.kernel_journal.specs.Ledger.{Ledger, with_row}
@@ -17,12 +17,18 @@ use Rattle.env_frames.specs.Transfer.{carried, entered_cpu, entry_area, entry_by
 use Rattle.env_frames.specs.Context.{context_number, end_area, end_bytes, handler_of, raised_cpu, resumed_cpu, start_area, start_bytes, started_cpu, with_handler}
 use Rattle.env_frames.specs.declared.post.PostWord.{PostWord}
 use Rattle.env_frames.specs.declared.post.PostWord.TheVariants as post
-use Rattle.env_frames.specs.Post.{counted_in, signalled_in}
+use Rattle.env_frames.specs.Post.{asked_in, counted_in, signalled_in, taken_in}
 use Rattle.packet_ring.specs.Ring.{is_full, with_packet}
 use Rattle.filter_tree.specs.declared.claim.Claim.{Claim}
 use Rattle.filter_tree.specs.ClaimBook.{is_of_env}
 use Rattle.filter_tree.specs.Claims.{claim_for, delivered, is_claim, is_into, with_claim, without}
 use Rattle.world_model.specs.ClaimCalls.{atoms_or_none, filter_at}
+use Rattle.revocation_book.specs.declared.revocation.Pending.{Pending}
+use Rattle.revocation_book.specs.declared.revocation.Taking.{Taking}
+use Rattle.revocation_book.specs.Pending.{asked}
+use Rattle.revocation_book.specs.Backups.{loaded}
+use Rattle.revocation_book.specs.RevocationBook.{backups_at, once_freed, once_gone, once_served, books_of, pending_at, with_backups, with_pending}
+use Rattle.revocation_book.specs.Takings.{takings_below}
 use Rattle.env_frames.specs.Frame.{gone_env, left_in, page_of, raised_in}
 use Rattle.frame_store.specs.Pages.{after_put, page_at, with_page, zero_page}
 use Rattle.page_book.specs.declared.row.PageRow.{PageRow}
@@ -48,12 +54,13 @@ use Rattle.world_model.specs.declared.life.Cause.{Cause}
 use Rattle.world_model.specs.declared.life.Cause.TheVariants as cause
 use Rattle.world_model.specs.Page.{Mapped}
 use Rattle.world_model.specs.declared.call.Deed.{Deed}
-use Rattle.world_model.specs.declared.call.Deed.TheVariants.{Answers, Own, Stops, Gives, Allocates, Frees, Recaps, Binds, Unbinds, Transfers, TakesSlot, DropsSlot, TakesLine, DropsLine, Claims, Unclaims}
+use Rattle.world_model.specs.declared.call.Deed.TheVariants.{Answers, Own, Stops, Gives, Allocates, Frees, Recaps, Binds, Unbinds, Transfers, TakesSlot, DropsSlot, TakesLine, DropsLine, Claims, Unclaims, Loads}
 use Rattle.world_model.specs.declared.verdict.Verdict.{Verdict}
 use Rattle.world_model.specs.declared.verdict.Verdict.TheVariants.{Refuse, Grant}
 use Rattle.world_model.specs.declared.call.OwnDeed.{OwnDeed}
 use Rattle.world_model.specs.declared.call.OwnDeed.TheVariants.{Puts, Sends, Handles, Accepts}
 use Rattle.world_model.specs.Item.{answered_cpu}
+use Rattle.world_model.specs.World.{is_living}
 use Rattle.world_model.specs.OwnCalls.{put_bytes}
 use Rattle.world_model.specs.Call.{deed_of, good_range}
 use Rattle.std.specs.Option.{option_map}
@@ -110,9 +117,23 @@ arrived_by b packet (Some c) = delivered_to b c packet
 abbrev pub arrived : Shown → List ℕ → Shown
 arrived b packet = arrived_by b packet (claim_for b.claims packet)
 
+-- A revocation: the environment finds in its context page how many pages are outstanding, and until when; the ledger tells it.
+abbrev pub asked_by : Shown → ℕ → Option Pending → Shown
+asked_by b e None = b
+asked_by b e (Some p) = record b {
+  frames = asked_in p.outstanding p.deadline (context_of b e) b.frames;
+  revocations = with_pending b.revocations e (Some p);
+  ledger = with_row b.ledger (row.Asked b.time e p.outstanding p.deadline);
+}
+
+-- it is for an environment that is there and lives
+abbrev pub revoked : Shown → ℕ → ℕ → ℕ → Shown
+revoked b e count deadline = if is_living (world_of b) e then asked_by b e (asked count deadline (pending_at b.revocations e)) else b
+
 abbrev pub happened : Occurrence → Shown → Shown
 happened (outside.Packet packet) b = arrived b packet
 happened (outside.Line line) b = signalled b line
+happened (outside.Revoke env count grace) b = revoked b env count (b.time + grace)
 
 -- The start of an environment's slice: the registers with which it starts, and physical memory with what its handler of starts finds.
 abbrev pub start_registers : List Environment → ℕ → Cpu
@@ -221,13 +242,14 @@ ledger_released t e v ledger = with_rows (with_row ledger (row.Dead t v.cursor e
 abbrev pub slots_released : Shown → ℕ → Shown
 slots_released b e = record b { slots = without_env e b.slots; ledger = ledger_released b.time e b.slots b.ledger }
 
--- Its pages are free, neither its bindings nor those of its pages are left, its lines are nobody's, its claims are withdrawn, and its registers and mappings go.
+-- Its pages are free, neither its bindings nor those of its pages are left, its lines are nobody's, its claims are withdrawn, nothing is asked of it, and its registers and mappings go.
 abbrev pub buried : Shown → ℕ → Cause → Shown
 buried b e cause = record b {
   pages = map (released e) b.pages;
   binds = swept (goes_with (row_in b.pages) e) b.binds;
   lines = map (line_without e) b.lines;
   claims = without (is_of_env e) b.claims;
+  revocations = once_gone b.revocations e;
   roster = with_list b.roster (changed (dead_frame cause) b.roster.list e);
 }
 
@@ -336,6 +358,37 @@ with_broken b page row but = record b { pages = slice_set b.pages page row; bind
 abbrev pub with_freed : Shown → ℕ → Shown
 with_freed b page = let broken = with_broken b page Free None in record broken { claims = without (is_into page) b.claims }
 
+-- by its owner, of whom one page fewer is outstanding then, and whose backup it isn't any more
+abbrev pub with_given_back : Shown → ℕ → ℕ → Shown
+with_given_back b e page = let freed = with_freed b page in record freed { revocations = once_freed b.revocations e page }
+
+-- Backup: the page is the last of the runner's backups.
+abbrev pub with_loaded : Shown → ℕ → ℕ → Shown
+with_loaded b e page = record b { revocations = with_backups b.revocations e (loaded page (backups_at b.revocations e)) }
+
+-- A page is taken from its owner: its first backup gets a copy and is an ordinary page again, the owner finds the record, the page
+-- is nobody's, and the ledger tells it.
+abbrev pub copied_to : ℕ → Option ℕ → List (List ℕ) → List (List ℕ)
+copied_to page None frames = frames
+copied_to page (Some backup) frames = with_page frames backup (page_at frames page)
+
+abbrev pub repossessed : Shown → Taking → Shown
+repossessed b x = let freed = with_freed b x.page in record freed {
+  frames = taken_in x.page x.backup (context_of b x.env) (copied_to x.page x.backup b.frames);
+  revocations = with_backups b.revocations x.env (drop 1 (backups_at b.revocations x.env));
+  ledger = with_row b.ledger (row.Take b.time x.env x.page x.backup);
+}
+
+-- What is taken at deadlines that have come is taken, and these deadlines are over.
+abbrev pub takings_in : Shown → List Taking
+takings_in b = takings_below (books_of b.pages b.revocations) b.time (length b.roster.list)
+
+abbrev pub deadlines_over : Shown → Shown
+deadlines_over b = record b { revocations = once_served b.revocations b.time }
+
+abbrev pub deadlines_served : Shown → Shown
+deadlines_served b = deadlines_over (fold repossessed b (takings_in b))
+
 -- Claim: the claim stands, with the filter that is named. Unclaim: it doesn't stand any more.
 abbrev pub with_claimed : Shown → ℕ → ℕ → ℕ → ℕ → Shown
 with_claimed b e address atoms page = record b { claims = with_claim b.claims e (atoms_or_none (filter_at (look_of b e) address atoms)) page }
@@ -358,7 +411,7 @@ granted b e value (Own own) = answered (own_done b e own) (Grant value)
 granted b e value Stops = stopped (answered b (Grant value)) e
 granted b e value (Gives target) = given (answered b (Grant value)) e target
 granted b e value (Allocates page words) = answered (with_taken b e page words) (Grant value)
-granted b e value (Frees page) = answered (with_freed b page) (Grant value)
+granted b e value (Frees page) = answered (with_given_back b e page) (Grant value)
 granted b e value (Recaps page words) = answered (with_broken b page (Owned e words) (Some e)) (Grant value)
 granted b e value (Binds binding word) = answered (with_bound b e binding) (Grant value)
 granted b e value (Unbinds vpn) = answered (with_unbound b e vpn) (Grant value)
@@ -369,6 +422,7 @@ granted b e value (TakesLine line) = answered (with_line b line (Some e)) (Grant
 granted b e value (DropsLine line) = answered (with_line b line None) (Grant value)
 granted b e value (Claims claim address atoms page) = answered (with_claimed b e address atoms page) (Grant value)
 granted b e value (Unclaims claim) = answered (with_unclaimed b e claim) (Grant value)
+granted b e value (Loads page) = answered (with_loaded b e page) (Grant value)
 
 -- a call of the runner on which this is the verdict
 abbrev pub served_by : Shown → ℕ → Option Call → Verdict → Shown

@@ -14,13 +14,16 @@ use Rattle.world_model.specs.Tick as tick
 use Rattle.board_world.specs.Shown.{Shown}
 use Rattle.board_world.specs.Showing.{book_of, world_of}
 use Rattle.board_world.specs.Sound.{IsSound}
-use Rattle.board_world.specs.Doing.{happened, turned, step_seen, came_to, counted, called_by, died}
+use Rattle.board_world.specs.Doing.{deadlines_served, happened, turned, step_seen, came_to, counted, called_by, died}
 
 abbrev pub IdleIsIdle : Type 0
 IdleIsIdle = (b : Shown) → is_idle b.slots ≡ is_idle_book (book_of b)
 
 abbrev pub EventIsEvent : Type 0
 EventIsEvent = (b : Shown) (what : Occurrence) → IsSound b → are_numbered 0 b.claims.next b.claims.rows ≡ true → world_of (happened what b) ≡ after (world_of b) (happen what (world_of b))
+
+abbrev pub ServingIsServing : Type 0
+ServingIsServing = (b : Shown) → IsSound b → world_of (deadlines_served b) ≡ tick.served (world_of b)
 
 -- a turn that is taken where all environments are there
 abbrev pub TurnIsTurn : Type 0

@@ -13,6 +13,7 @@ use Rattle.world_model.specs.World.{World}
 use Rattle.page_sight.specs.Sight.{seen_in}
 use Rattle.board_world.specs.declared.roster.Environment.{Environment}
 use Rattle.filter_tree.specs.ClaimBook.{claims_in}
+use Rattle.revocation_book.specs.RevocationBook.{backups_at, pending_at}
 use Rattle.board_world.specs.Lines.{line_at}
 use Rattle.board_world.specs.Rings.{rings_of}
 use Rattle.board_world.specs.Shown.{Shown, mappings_of}
@@ -67,6 +68,8 @@ book_of b = record {
   lines = line_at b.lines;
   claims = claims_in b.claims;
   next_claim = b.claims.next;
+  pending = pending_at b.revocations;
+  backups = backups_at b.revocations;
   time = b.time;
 }
 

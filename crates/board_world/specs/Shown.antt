@@ -10,6 +10,7 @@ use Rattle.env_frames.specs.declared.context.Handlers.{Handlers}
 use Rattle.env_frames.specs.declared.mapping.Mapping.{Mapping}
 use Rattle.env_frames.specs.Context.{no_handlers}
 use Rattle.filter_tree.specs.ClaimBook.{ClaimBook}
+use Rattle.revocation_book.specs.RevocationBook.{RevocationBook}
 use Rattle.board_world.specs.declared.output.Output.{Output}
 use Rattle.board_world.specs.declared.roster.Environment.{Environment}
 
@@ -19,13 +20,15 @@ pub record Environments : Type 0 where
   pub spare : ℕ
 
 -- The pages of physical memory; whose each of them is; the rows of all stripes of bindings; whose the interrupt lines
--- are; the claims that stand; the vector of slots; the registers of the machine; the environments; the time; and the ledger.
+-- are; the claims that stand; what is asked of environments, and their backups; the vector of slots; the registers of the
+-- machine; the environments; the time; and the ledger.
 pub record Shown : Type 0 where
   pub frames : List (List ℕ)
   pub pages : List PageRow
   pub binds : List (Option Binding)
   pub lines : List (Option ℕ)
   pub claims : ClaimBook
+  pub revocations : RevocationBook
   pub slots : Slices
   pub cpu : Cpu
   pub roster : Environments
@@ -33,8 +36,8 @@ pub record Shown : Type 0 where
   pub ledger : Ledger
 
 -- a board of these parts
-abbrev pub shown : List (List ℕ) → List PageRow → List (Option Binding) → List (Option ℕ) → ClaimBook → Slices → Cpu → Environments → ℕ → Ledger → Shown
-shown frames pages binds lines claims slots cpu roster time ledger = record { frames = frames; pages = pages; binds = binds; lines = lines; claims = claims; slots = slots; cpu = cpu; roster = roster; time = time; ledger = ledger }
+abbrev pub shown : List (List ℕ) → List PageRow → List (Option Binding) → List (Option ℕ) → ClaimBook → RevocationBook → Slices → Cpu → Environments → ℕ → Ledger → Shown
+shown frames pages binds lines claims revocations slots cpu roster time ledger = record { frames = frames; pages = pages; binds = binds; lines = lines; claims = claims; revocations = revocations; slots = slots; cpu = cpu; roster = roster; time = time; ledger = ledger }
 
 abbrev pub mappings_in : Option Environment → List Mapping
 mappings_in None = []

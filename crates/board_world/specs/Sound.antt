@@ -1,14 +1,15 @@
 -- What holds of every board.
 use Rattle.std.specs.Prelude.{◌≡◌, ◌≤◌, ◌<◌, ◌+◌, ◌*◌, ℕ, false, List, length, Option, Some, None, Bool, IfSome, slice_get, true}
 use Rattle.std.specs.List.{list_all}
-use Rattle.aegis_limits.specs.Limits.{most_environments, most_slots}
+use Rattle.aegis_limits.specs.Limits.{most_environments, most_pages, most_slots}
 use Rattle.external_event.specs.Limits.{lines as most_lines}
-use Rattle.frame_store.specs.Pages.{most_frames}
 use Rattle.page_book.specs.declared.row.PageRow.{PageRow}
 use Rattle.page_book.specs.declared.row.PageRow.TheVariants.{Free, Guaranteed, Owned}
 use Rattle.page_book.specs.Row.{is_owned_by, owner_of}
 use Rattle.filter_tree.specs.ClaimBook.{ClaimBook, ClaimValue, RowValue}
 use Rattle.page_book.specs.Rows.{row_in}
+use Rattle.revocation_book.specs.Backups.{is_loaded}
+use Rattle.revocation_book.specs.RevocationBook.{RevocationBook, backups_at, most_numbers as most_asked}
 use Rattle.bind_book.specs.declared.binding.Binding.{Binding}
 use Rattle.bind_book.specs.Stripe.{stripe_rows, stripes}
 use Rattle.env_frames.specs.declared.mapping.Mapping.{Mapping}
@@ -41,7 +42,7 @@ pub record AreGuaranteed (pages : List PageRow) (e : ℕ) (mappings : List Mappi
 -- Physical memory: each page has a row, and what is mapped is guaranteed.
 pub record IsParted (frames : List (List ℕ)) (pages : List PageRow) (list : List Environment) : Type 0 where
   pub same : length frames ≡ length pages
-  pub most : length frames ≤ most_frames
+  pub most : length frames ≤ most_pages
   pub mapped : (e : ℕ) → AreGuaranteed pages e (mappings_of list e)
 
 abbrev pub IsOwned : PageRow → Type 0
@@ -80,6 +81,12 @@ pub record AreClaimed (claims : ClaimBook) (pages : List PageRow) (r : Environme
   pub owned : list_all (λ (x : RowValue). has_own_page pages x.claim) claims.rows ≡ true
   pub count : claims.envs ≡ length r.list + r.spare
 
+-- The book of revocations: each environment has its place, and each backup is a page of its environment's own.
+pub record AreAsked (book : RevocationBook) (pages : List PageRow) : Type 0 where
+  pub pending : length book.pending ≡ most_asked
+  pub backups : length book.backups ≡ most_asked
+  pub owned : (e page : ℕ) → is_loaded (backups_at book e) page ≡ true → is_owned_by e (row_in pages page) ≡ true
+
 -- no slot is an environment's, and it doesn't run
 pub record HasNoPart (e : ℕ) (v : Slices) : Type 0 where
   pub runs : is_runner e v.runner ≡ false
@@ -93,3 +100,4 @@ pub record IsSound (b : Shown) : Type 0 where
   pub books : AreBooked b.pages b.binds b.roster
   pub lines : AreWired b.lines b.roster.list
   pub claims : AreClaimed b.claims b.pages b.roster
+  pub revocations : AreAsked b.revocations b.pages

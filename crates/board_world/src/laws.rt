@@ -1,8 +1,9 @@
 //! The laws of what a board shows: each part of a tick is that part of the model's.
-ghost use Rattle.board_world.specs.Laws.{CallIsCall, DeathIsDeath, EventIsEvent, IdleIsIdle, RefusalIsRefusal, StepIsStep, TimerIsTimer, TurnIsTurn};
+ghost use Rattle.board_world.specs.Laws.{CallIsCall, DeathIsDeath, EventIsEvent, IdleIsIdle, RefusalIsRefusal, ServingIsServing, StepIsStep, TimerIsTimer, TurnIsTurn};
 
 use call_verdicts::law_granted;
 use filter_tree::law_numbered;
+use revocation_book::law_takable;
 
 /// A board is idle exactly where its world is.
 pub fn law_idle()
@@ -14,6 +15,13 @@ pub fn law_happen()
     ensures { EventIsEvent }
 {
     law_numbered();
+}
+
+/// What is taken from a sound board at deadlines that have come is what the model says.
+pub fn law_serving()
+    ensures { ServingIsServing }
+{
+    law_takable();
 }
 
 /// The turn of a sound board is the model's.

@@ -7,6 +7,7 @@ ghost use Rattle.world_model.specs.Verdict.{verdict};
 use crate::arguments::{
     ANY, FIRST_ARGUMENT, SECOND_ARGUMENT, THIRD_ARGUMENT, binding, presented, words,
 };
+use crate::backup_calls::refuse_load;
 use crate::claim_calls::decide_claim;
 use crate::line_calls::{TAKE, refuse_line};
 use crate::own_calls::{refuse_context, refuse_put, refuse_send};
@@ -54,6 +55,7 @@ pub fn decide<V: CallView>(view: &V, env: u8, call: Option<Call>) -> Verdict
         Call::Unclaim if view.has_claim(env, first) => Verdict::Grant(0),
         Call::Unclaim => Verdict::Refuse(Code::NoFilter, 0),
         Call::Line => Verdict::unless(refuse_line(view, env, first, second), 0),
+        Call::Backup => Verdict::unless(refuse_load(view, env, first), 0),
         Call::Send => Verdict::unless(refuse_send(view, env), 0),
         Call::OwnNumber => Verdict::Grant(u32::from(env)),
         Call::Clock => Verdict::Grant(view.time()),
@@ -116,6 +118,7 @@ pub fn deed_of(call: Option<Call>, value: u32, cpu: &Cpu) -> Deed
         Call::Unclaim => Deed::Unclaims(first),
         Call::Line if second == TAKE => Deed::TakesLine(first),
         Call::Line => Deed::DropsLine(first),
+        Call::Backup => Deed::Loads(first),
         Call::Send => Deed::Own(OwnDeed::Sends {
             address: first,
             size: second,

@@ -4,6 +4,7 @@
 #![tactic(auto)]
 
 mod arguments;
+mod backup_calls;
 mod claim_calls;
 mod decision;
 mod laws;

@@ -7,6 +7,7 @@ ghost use Rattle.env_frames.specs.Context.{handler_of};
 ghost use Rattle.page_book.specs.Rows.{free_below, lowest_free};
 ghost use Rattle.bind_book.specs.Stripe.{binding_at};
 ghost use Rattle.filter_tree.specs.Claims.{claim_refusal};
+ghost use Rattle.revocation_book.specs.Backups.{load_refusal};
 ghost use Rattle.world_model.specs.Book.{page_row, running};
 ghost use Rattle.world_model.specs.Rings.{ring_of};
 ghost use Rattle.world_model.specs.Call.{good_range};
@@ -21,6 +22,7 @@ use filter_core::Filter;
 use filter_tree::ClaimNo;
 use mips_exec::Cpu;
 use page_book::PageRow;
+use revocation_book::LoadNo;
 use world_model::{Code, Hold, Life};
 
 /// What shows a world of the model to whoever decides on the runner's calls. Environments are named by number; `env` is
@@ -90,6 +92,11 @@ pub trait CallView {
     fn has_claim(&self, env: u8, claim: u32) -> bool
         requires { running (world self.now).book.runner ≡ Some env }
         ensures { result ≡ is_some (ring_of ((world self.now).solos env).rings claim) };
+
+    /// Why a page isn't loaded as one more backup of the runner's, if it isn't.
+    fn refuse_load(&self, env: u8, page: u32) -> Option<LoadNo>
+        requires { running (world self.now).book.runner ≡ Some env }
+        ensures { result ≡ load_refusal ((world self.now).book.backups env) page };
 
     /// Whose an interrupt line is, if anybody's.
     fn line_owner(&self, line: u8) -> Option<u8>

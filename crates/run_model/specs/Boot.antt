@@ -74,6 +74,8 @@ boot_book pages quantum owners = record {
   lines = λ line. None;
   claims = [];
   next_claim = 0;
+  pending = λ e. None;
+  backups = λ e. [];
   time = 0;
 }
 

@@ -22,7 +22,7 @@ use Rattle.world_model.specs.declared.verdict.Verdict.{Verdict}
 use Rattle.world_model.specs.Book.{excess_limit, running, sees, whole_turn}
 use Rattle.external_event.specs.declared.event.Occurrence.{Occurrence}
 use Rattle.external_event.specs.declared.event.Occurrence.TheVariants as outside
-use Rattle.world_model.specs.Item.{Item, Boot, Step, Start, End, Transfer, Killed, Answer, Gained, Lost, Left, Packet, Line}
+use Rattle.world_model.specs.Item.{Item, Boot, Step, Start, End, Transfer, Killed, Answer, Gained, Lost, Left, Packet, Line, Asked, Taken}
 use Rattle.filter_tree.specs.ClaimBook.{ClaimValue}
 use Rattle.world_model.specs.ClaimCalls.{claim_of}
 use Rattle.world_model.specs.Event.{ring_bytes}
@@ -33,10 +33,14 @@ use Rattle.world_model.specs.PageCalls.{page_bytes}
 use Rattle.world_model.specs.Solo.{Store, Physical}
 use Rattle.world_model.specs.Step.{Stores, Calls, Dies}
 use Rattle.world_model.specs.Verdict.{verdict}
-use Rattle.world_model.specs.World.{World}
+use Rattle.world_model.specs.World.{World, is_living}
+use Rattle.world_model.specs.Deadlines.{revocations}
+use Rattle.revocation_book.specs.declared.revocation.Taking.{Taking}
+use Rattle.revocation_book.specs.Pending.{asked}
+use Rattle.revocation_book.specs.Takings.{IsTakable}
 use Rattle.run_model.specs.Acting.{Acts, Does}
 use Rattle.run_model.specs.Boot.{kept_of}
-use Rattle.run_model.specs.Run.{System, feed, given_at, happens_in, moment, world_after}
+use Rattle.run_model.specs.Run.{System, feed, given_at, happens_in, moment, takings_in, world_after}
 
 -- At boot: it is the environment's record in the image.
 pub record IsRecord (image : ImageValue) (e number : ℕ) (name : List ℕ) (entry accept : ℕ) (kept : List KeptPage) : Type 0 where
@@ -206,21 +210,69 @@ AtArrival packet w e (Packet claim given) = IsClaimed w e packet claim given
 AtArrival packet w e (Left page offset bytes) = IsRingLeft w e packet page offset bytes
 AtArrival packet w e item = ⊥
 
+-- A revocation names the environment, which lives, and asks it for so many pages until a deadline; then so many are outstanding.
+pub record IsAsked (w : World) (e named count until outstanding deadline : ℕ) : Type 0 where
+  pub its : named ≡ e
+  pub lives : is_living w e ≡ true
+  pub pending : asked count until (w.book.pending e) ≡ Some (record { outstanding = outstanding; deadline = deadline })
+
+abbrev pub AtRevocation : ℕ → ℕ → ℕ → World → ℕ → Item → Type 0
+AtRevocation named count until w e (Asked outstanding deadline) = IsAsked w e named count until outstanding deadline
+AtRevocation named count until w e item = ⊥
+
 abbrev pub AtEvent : Occurrence → World → ℕ → Item → Type 0
 AtEvent (outside.Packet packet) w e item = AtArrival packet w e item
 AtEvent (outside.Line line) w e item = AtSignal line w e item
+AtEvent (outside.Revoke env count grace) w e item = AtRevocation env count (w.book.time + grace) w e item
 
--- The licence for an item in the phase of this number of a tick in which this happens.
-abbrev pub LicensedIn : List Occurrence → ℕ → World → ℕ → Item → Type 0
-LicensedIn [] zero w e item = AtTurn w e item
-LicensedIn [] (suc zero) w e item = AtStep w e item
-LicensedIn [] (suc (suc zero)) w e item = AtTimer w e item
-LicensedIn [] (suc (suc (suc k))) w e item = ⊥
-LicensedIn (what ∷ happens) zero w e item = AtEvent what w e item
-LicensedIn (what ∷ happens) (suc k) w e item = LicensedIn happens k w e item
+-- A page may be taken in this world: the deadline of its owner has come, and it is neither guaranteed nor a backup; the backup is the one that was loaded first.
+abbrev pub MayTaking : World → Taking → Type 0
+MayTaking w x = IsTakable (revocations w.book) w.book.time x
+
+-- It is taken from the environment, and goes to this backup, if to any.
+pub record IsTaken (w : World) (x : Taking) (e page : ℕ) (backup : Option ℕ) : Type 0 where
+  pub may : MayTaking w x
+  pub its : x ≡ record { env = e; page = page; backup = backup }
+
+-- It is taken from another, and the environment has bound it.
+pub record IsBrokenByTaking (w : World) (x : Taking) (e page : ℕ) : Type 0 where
+  pub may : MayTaking w x
+  pub its : x.page ≡ page
+  pub has : HasBoundOf w e x.env page
+
+-- A copy of it goes to a backup of its owner's, which is another, and the environment has bound the backup.
+pub record IsCopyLeft (w : World) (x : Taking) (e page offset : ℕ) (bytes : List ℕ) : Type 0 where
+  pub may : MayTaking w x
+  pub another : e ≢ x.env
+  pub into : x.backup ≡ Some page
+  pub whole : offset ≡ 0
+  pub its : bytes ≡ page_bytes w x.page
+  pub seen : sees w.book e page ≡ true
+
+abbrev pub AtTaking : Taking → World → ℕ → Item → Type 0
+AtTaking x w e (Taken page backup) = IsTaken w x e page backup
+AtTaking x w e (Lost page) = IsBrokenByTaking w x e page
+AtTaking x w e (Left page offset bytes) = IsCopyLeft w x e page offset bytes
+AtTaking x w e item = ⊥
+
+-- The licence for an item in the phase of this number behind the events of a tick in which this is taken. At the end of the deadlines nothing is given.
+abbrev pub LicensedBehind : List Taking → ℕ → World → ℕ → Item → Type 0
+LicensedBehind [] zero w e item = ⊥
+LicensedBehind [] (suc zero) w e item = AtTurn w e item
+LicensedBehind [] (suc (suc zero)) w e item = AtStep w e item
+LicensedBehind [] (suc (suc (suc zero))) w e item = AtTimer w e item
+LicensedBehind [] (suc (suc (suc (suc k)))) w e item = ⊥
+LicensedBehind (x ∷ xs) zero w e item = AtTaking x w e item
+LicensedBehind (x ∷ xs) (suc k) w e item = LicensedBehind xs k w e item
+
+-- The licence for an item in the phase of this number of a tick in which this happens, and this is taken.
+abbrev pub LicensedIn : List Occurrence → List Taking → ℕ → World → ℕ → Item → Type 0
+LicensedIn [] xs k w e item = LicensedBehind xs k w e item
+LicensedIn (what ∷ happens) xs zero w e item = AtEvent what w e item
+LicensedIn (what ∷ happens) xs (suc k) w e item = LicensedIn happens xs k w e item
 
 abbrev pub LicensedAt : System → ℕ → ℕ → ℕ → Item → Type 0
-LicensedAt system t k e item = LicensedIn (happens_in system.schedule (world_after system t)) k (moment system t k) e item
+LicensedAt system t k e item = LicensedIn (happens_in system.schedule (world_after system t)) (takings_in system t) k (moment system t k) e item
 
 -- Every item that an environment is given in a phase of a tick has its licence in the world of that phase.
 abbrev pub GivenIsLicensed : Type 0

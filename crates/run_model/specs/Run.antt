@@ -9,7 +9,9 @@ use Rattle.world_model.specs.Item.{Item, absorb_all}
 use Rattle.world_model.specs.World.{World, Reply, after, in_turn, run_phases}
 use Rattle.external_event.specs.declared.event.Occurrence.{Occurrence}
 use Rattle.world_model.specs.Event.{Schedule, happen}
-use Rattle.world_model.specs.Tick.{phases_after, step, timer, turn}
+use Rattle.revocation_book.specs.declared.revocation.Taking.{Taking}
+use Rattle.world_model.specs.Deadlines.{takings}
+use Rattle.world_model.specs.Tick.{phases_after, serve_phases, served, step, timer, turn}
 use Rattle.run_model.specs.Boot.{boot_world, boot_items}
 
 -- what a run goes by: an image, and what happens from outside
@@ -21,9 +23,16 @@ pub record System : Type 0 where
 abbrev pub happens_in : Schedule → World → List Occurrence
 happens_in schedule w = schedule w.book.time
 
+-- the world once that has happened, and what is taken in it
+abbrev pub once_happened : Schedule → World → World
+once_happened schedule w = run_phases w (map happen (happens_in schedule w))
+
+abbrev pub takings_next : Schedule → World → List Taking
+takings_next schedule w = takings (once_happened schedule w)
+
 -- the phases of the next tick
 abbrev pub next_phases : Schedule → World → List (World → Reply)
-next_phases schedule w = phases_after (happens_in schedule w)
+next_phases schedule w = phases_after (happens_in schedule w) (takings_next schedule w)
 
 -- an idle world stays as it is
 abbrev pub next_world : Schedule → World → World
@@ -49,15 +58,26 @@ phases_in system t = length (next_phases system.schedule (world_after system t))
 abbrev pub events_in : System → ℕ → ℕ
 events_in system t = length (happens_in system.schedule (world_after system t))
 
--- once the events of a tick are over, its turn is taken; then the step is made, and then the timer counts
+-- what is taken in a tick at deadlines that have come
+abbrev pub takings_in : System → ℕ → List Taking
+takings_in system t = takings_next system.schedule (world_after system t)
+
+-- how many phases come before a tick's turn: its events, its takings, and the end of the deadlines that have come
+abbrev pub before_turn : System → ℕ → ℕ
+before_turn system t = events_in system t + (length (takings_in system t) + 1)
+
+-- once the events of a tick are over, its deadlines are served, then its turn is taken; then the step is made, and then the timer counts
+abbrev pub at_deadlines : System → ℕ → World
+at_deadlines system t = moment system t (events_in system t)
+
 abbrev pub at_turn : System → ℕ → World
-at_turn system t = moment system t (events_in system t)
+at_turn system t = moment system t (before_turn system t)
 
 abbrev pub at_step : System → ℕ → World
-at_step system t = moment system t (events_in system t + 1)
+at_step system t = moment system t (before_turn system t + 1)
 
 abbrev pub at_timer : System → ℕ → World
-at_timer system t = moment system t (events_in system t + 2)
+at_timer system t = moment system t (before_turn system t + 2)
 
 -- the world after a phase
 abbrev pub after_phase : (World → Reply) → World → World
@@ -79,19 +99,24 @@ given_by w (Some phase) e = (phase w).items e
 abbrev pub given_at : System → ℕ → ℕ → ℕ → List Item
 given_at system t k e = given_by (moment system t k) (slice_get (next_phases system.schedule (world_after system t)) k) e
 
--- what it is given by the events of a tick, and by its phases behind them
+-- what it is given by the events of a tick, by what is taken in it, and by its phases behind them
 abbrev pub items_of_events : System → ℕ → ℕ → List Item
 items_of_events system t e = let w = world_after system t in (in_turn (map happen (happens_in system.schedule w)) w).items e
+
+abbrev pub items_of_takings : System → ℕ → ℕ → List Item
+items_of_takings system t e = (in_turn (serve_phases (takings_in system t)) (at_deadlines system t)).items e
 
 abbrev pub items_of_phases : System → ℕ → ℕ → List Item
 items_of_phases system t e = (turn (at_turn system t)).items e ++ ((step (at_step system t)).items e ++ (timer (at_timer system t)).items e)
 
 -- The moments of a tick come in their order, and an environment is given what its phases give, one after another.
 pub record IsInOrder (system : System) (t : ℕ) : Type 0 where
+  pub happened : at_deadlines system t ≡ once_happened system.schedule (world_after system t)
+  pub served : at_turn system t ≡ served (at_deadlines system t)
   pub turned : at_step system t ≡ after_phase turn (at_turn system t)
   pub stepped : at_timer system t ≡ after_phase step (at_step system t)
   pub timed : is_idle_book (world_after system t).book ≡ false → world_after system (suc t) ≡ after_phase timer (at_timer system t)
-  pub given : (e : ℕ) → is_idle_book (world_after system t).book ≡ false → items_in system t e ≡ items_of_events system t e ++ items_of_phases system t e
+  pub given : (e : ℕ) → is_idle_book (world_after system t).book ≡ false → items_in system t e ≡ items_of_events system t e ++ (items_of_takings system t e ++ items_of_phases system t e)
 
 abbrev pub MomentsAreInOrder : Type 0
 MomentsAreInOrder = (system : System) (t : ℕ) → IsInOrder system t

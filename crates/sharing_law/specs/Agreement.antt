@@ -1,5 +1,7 @@
 -- The book and the environments agree.
-use Rattle.std.specs.Prelude.{◌≡◌, ◌≢◌, ◌<◌, ℕ, true, Some, filter, find, map, slice_get}
+use Rattle.std.specs.Prelude.{◌≡◌, ◌≢◌, ◌<◌, ◌≤◌, ℕ, length, true, Some, filter, find, map, slice_get}
+use Rattle.revocation_book.specs.Backups.{is_loaded, most_backups}
+use Rattle.world_model.specs.Book.{Book}
 use Rattle.page_book.specs.Row.{is_owned_by}
 use Rattle.filter_core.specs.Matching.{Overlap}
 use Rattle.filter_tree.specs.ClaimBook.{ClaimValue, is_of_env}
@@ -63,6 +65,16 @@ ClaimsAgree = (system : System) (t : ℕ) → AreClaimed (world_after system t)
 
 abbrev pub ClaimsAreSound : Type 0
 ClaimsAreSound = (system : System) (t : ℕ) → AreClaimsSound (world_after system t)
+
+-- each backup is a page of its environment's own, and none is loaded twice
+pub record AreBackupsOwned (b : Book) : Type 0 where
+  pub owned : (e page : ℕ) → is_loaded (b.backups e) page ≡ true → is_owned_by e (b.pages page) ≡ true
+  pub apart : (e j k page : ℕ) → slice_get (b.backups e) j ≡ Some page → slice_get (b.backups e) k ≡ Some page → j ≡ k
+  pub few : (e : ℕ) → length (b.backups e) ≤ most_backups
+
+-- so it is after every number of ticks of every system
+abbrev pub BackupsAreOwned : Type 0
+BackupsAreOwned = (system : System) (t : ℕ) → AreBackupsOwned (world_after system t).book
 
 -- No packet is matched by claims of two environments.
 abbrev pub AreClaimsApart : World → Type 0

@@ -1,5 +1,5 @@
 -- Why the bytes of a page change.
-use Rattle.std.specs.Prelude.{◌≡◌, ◌≢◌, ◌+◌, ◌^◌, ℕ, suc, Bool, true, false, List, ◌∷◌, Option, None, Some, ◌⊎◌, bit_or}
+use Rattle.std.specs.Prelude.{◌≡◌, ◌≢◌, ◌+◌, ◌^◌, ℕ, suc, nat_lt, if◌then◌else◌, Bool, true, false, List, ◌∷◌, Option, None, Some, ◌⊎◌, bit_or}
 use Rattle.frame_store.specs.Pages.{with_bytes, word_at, word_bytes, zero_page}
 use Rattle.page_book.specs.declared.row.Capabilities.{Capabilities}
 use Rattle.page_book.specs.declared.row.PageRow.TheVariants.{Free}
@@ -10,7 +10,7 @@ use Rattle.env_frames.specs.declared.post.PostWord.{PostWord}
 use Rattle.env_frames.specs.declared.post.PostWord.TheVariants as post
 use Rattle.mips_exec.specs.Word.{word_of}
 use Rattle.packet_ring.specs.Ring.{is_full}
-use Rattle.env_frames.specs.Post.{post_offset}
+use Rattle.env_frames.specs.Post.{most_records, post_offset, record_bytes, record_offset}
 use Rattle.world_model.specs.declared.call.Deed.TheVariants.{Allocates}
 use Rattle.world_model.specs.declared.life.Cause.TheVariants as cause
 use Rattle.world_model.specs.declared.life.Life.TheVariants.{Dead}
@@ -18,12 +18,12 @@ use Rattle.world_model.specs.Page.{KeptPage}
 use Rattle.world_model.specs.Solo.{Solo, Store, Ring, Kept, Physical, bytes_in, bytes_of, kept_at}
 use Rattle.world_model.specs.Step.{Act, Nothing, Stores, Calls, Raises, Dies, act_of, step_alone}
 use Rattle.world_model.specs.PageCalls.{page_bytes}
-use Rattle.world_model.specs.Item.{Item, Boot, Step, Start, End, Transfer, Killed, Answer, Gained, Lost, Left, Packet, Line, absorb}
+use Rattle.world_model.specs.Item.{Item, Boot, Step, Start, End, Transfer, Killed, Answer, Gained, Lost, Left, Packet, Line, Asked, Taken, absorb}
 use Rattle.world_model.specs.Post.{post_word}
 use Rattle.world_model.specs.Rings.{ring_of}
 use Rattle.run_model.specs.Acting.{Acts, Does}
 use Rattle.run_model.specs.Run.{System, given_at, moment, world_after}
-use Rattle.sharing_law.specs.Delivery.{IsDelivered}
+use Rattle.sharing_law.specs.Delivery.{IsCopied, IsDelivered}
 use Rattle.sharing_law.specs.Right.{HasLiveBinding, row_after}
 
 -- the bytes of a guaranteed page of an environment
@@ -62,6 +62,24 @@ pub record HasCounts (s t : Solo) (vpn claim : ℕ) : Type 0 where
   pub context : vpn ≡ context_number
   pub has : bytes_at t vpn ≡ packet_counted (is_full_in s (ring_of s.rings claim)) (bytes_at s vpn)
 
+-- the context page, with what the environment is asked for
+abbrev pub asked_page : ℕ → ℕ → List ℕ → List ℕ
+asked_page outstanding deadline page = with_bytes (with_bytes page (post_offset post.Outstanding) (word_bytes outstanding)) (post_offset post.Deadline) (word_bytes deadline)
+
+-- the context page, with the record of this number of a page that was taken, if there is room for it
+abbrev pub recorded_page : ℕ → ℕ → Option ℕ → List ℕ → List ℕ
+recorded_page n taken backup page = if nat_lt n most_records then with_bytes page (record_offset n) (record_bytes taken backup) else page
+
+-- An environment is told what it is asked for.
+pub record HasAsked (s t : Solo) (vpn outstanding deadline : ℕ) : Type 0 where
+  pub context : vpn ≡ context_number
+  pub has : bytes_at t vpn ≡ asked_page outstanding deadline (bytes_at s vpn)
+
+-- A page that was taken is recorded, and counted.
+pub record HasRecord (s t : Solo) (vpn taken : ℕ) (backup : Option ℕ) : Type 0 where
+  pub context : vpn ≡ context_number
+  pub has : bytes_at t vpn ≡ counted_page post.Takings (recorded_page (post_word post.Takings s) taken backup (bytes_at s vpn))
+
 -- How an environment's own step changes a guaranteed page, by what the step comes to.
 abbrev pub StepChanges : Solo → Solo → ℕ → Act → Type 0
 StepChanges s t vpn Nothing = ⊥
@@ -70,7 +88,7 @@ StepChanges s t vpn (Calls call) = ⊥
 StepChanges s t vpn (Raises exc) = HasWords s t vpn exception_area (exception_bytes exc s.cpu)
 StepChanges s t vpn (Dies cause) = t.life ≡ Dead cause
 
--- How an item does that makes s to t: of what comes from outside it is the kernel's words on its slice, on who enters it and on its packets and interrupt lines, and death, alone.
+-- How an item does that makes s to t: of what comes from outside it is the kernel's words on its slice, on who enters it, on its packets and interrupt lines, and on what it is asked for and what is taken from it, and death, alone.
 abbrev pub Changes : Solo → Solo → ℕ → Item → Type 0
 Changes s t vpn (Boot number name entry accept kept) = t.kept ≡ kept
 Changes s t vpn Step = StepChanges s t vpn (act_of s (step_alone s))
@@ -83,6 +101,8 @@ Changes s t vpn (Gained page writable bytes) = ⊥
 Changes s t vpn (Lost page) = ⊥
 Changes s t vpn (Left page offset bytes) = ⊥
 Changes s t vpn (Packet claim packet) = HasCounts s t vpn claim
+Changes s t vpn (Asked outstanding deadline) = HasAsked s t vpn outstanding deadline
+Changes s t vpn (Taken page backup) = HasRecord s t vpn page backup
 Changes s t vpn (Line line) = HasWords s t vpn (post_offset post.Lines) (word_bytes (bit_or (post_word post.Lines s) (2 ^ line)))
 
 -- An item leaves the bytes of a guaranteed page, but for such a change.
@@ -127,22 +147,22 @@ pub record IsAllocated (system : System) (t k page owner : ℕ) : Type 0 where
   pub free : (moment system t k).book.pages page ≡ Free
   pub zeros : page_bytes (moment system t (suc k)) page ≡ zero_page
 
--- The bytes of a page that stays an environment's in a phase stay, or such a store changes them, or a packet for it.
+-- The bytes of a page that stays an environment's in a phase stay, or such a store changes them, or a packet for it, or a copy of a page that is taken from it.
 abbrev pub AllocatedChange : Type 0
 AllocatedChange = (system : System) (t k page owner : ℕ) →
     IsOwnedAt system t k page owner → IsOwnedAt system t (suc k) page owner →
-    (page_bytes (moment system t (suc k)) page ≡ page_bytes (moment system t k) page) ⊎ (IsStored system t k page ⊎ IsDelivered system t k page owner)
+    (page_bytes (moment system t (suc k)) page ≡ page_bytes (moment system t k) page) ⊎ (IsStored system t k page ⊎ (IsDelivered system t k page owner ⊎ IsCopied system t k page owner))
 
 -- A page that comes to be an environment's in a phase is so allocated by it.
 abbrev pub AllocatedZeros : Type 0
 AllocatedZeros = (system : System) (t k page owner : ℕ) →
     IsOwnedAt system t (suc k) page owner → IsOwnedAt system t k page owner ⊎ IsAllocated system t k page owner
 
--- So a page that is an environment's after a tick was so before and has the bytes that it had, or it was stored to, a packet came there, or it was allocated so in a phase of the tick.
+-- So a page that is an environment's after a tick was so before and has the bytes that it had, or it was stored to, a packet or a copy came there, or it was allocated so in a phase of the tick.
 abbrev pub AllocatedInTick : Type 0
 AllocatedInTick = (system : System) (t page owner : ℕ) → is_owned_by owner (row_after system (suc t) page) ≡ true →
     ((is_owned_by owner (row_after system t page) ≡ true) × (page_bytes (world_after system (suc t)) page ≡ page_bytes (world_after system t) page))
-    ⊎ (((k : ℕ) × IsStored system t k page) ⊎ (((k : ℕ) × IsDelivered system t k page owner) ⊎ ((k : ℕ) × IsAllocated system t k page owner)))
+    ⊎ (((k : ℕ) × IsStored system t k page) ⊎ (((k : ℕ) × (IsDelivered system t k page owner ⊎ IsCopied system t k page owner)) ⊎ ((k : ℕ) × IsAllocated system t k page owner)))
 
 -- and one that wasn't so before was allocated so.
 abbrev pub ZerosInTick : Type 0

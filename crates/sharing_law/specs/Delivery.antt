@@ -1,6 +1,6 @@
--- Packets that come into the rings of their claims.
+-- What the kernel puts into a page for its owner: packets in the rings of their claims, and copies of pages that are taken.
 use Rattle.std.specs.Prelude.{◌≡◌, ℕ, suc, List, [], ◌∷◌, Some}
-use Rattle.world_model.specs.Item.{Packet}
+use Rattle.world_model.specs.Item.{Packet, Taken}
 use Rattle.world_model.specs.PageCalls.{page_bytes}
 use Rattle.world_model.specs.Rings.{ring_after, ring_of}
 use Rattle.world_model.specs.Solo.{Ring}
@@ -15,3 +15,9 @@ pub record IsDelivered (system : System) (t k page owner : ℕ) : Type 0 where
   pub stands : ring_of ((moment system t k).solos owner).rings claim ≡ Some ring
   pub its : ring.page ≡ page
   pub has : ring_after ((moment system t k).solos owner) ring packet ≡ Some (page_bytes (moment system t (suc k)) page)
+
+-- In a phase of a tick a page is taken from the owner of the page, which is the backup that gets a copy.
+pub record IsCopied (system : System) (t k page owner : ℕ) : Type 0 where
+  pub taken : ℕ
+  pub given : given_at system t k owner ≡ Taken taken (Some page) ∷ []
+  pub has : page_bytes (moment system t (suc k)) page ≡ page_bytes (moment system t k) taken

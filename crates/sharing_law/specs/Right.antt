@@ -12,7 +12,7 @@ use Rattle.run_model.specs.Acting.{Does}
 use Rattle.world_model.specs.Item.{Item, Left}
 use Rattle.run_model.specs.Licensed.{IsLeft}
 use Rattle.world_model.specs.PageCalls.{page_bytes}
-use Rattle.sharing_law.specs.Delivery.{IsDelivered}
+use Rattle.sharing_law.specs.Delivery.{IsCopied, IsDelivered}
 use Rattle.run_model.specs.Run.{System, at_step, given_at, moment, world_after}
 
 -- whose a page is after so many ticks
@@ -56,12 +56,12 @@ pub record IsLeftByRight (system : System) (t k e page offset : ℕ) (bytes : Li
   pub left : IsLeft (moment system t k) e page offset bytes
   pub right : HasLiveBinding system t left.writer page
 
--- Or a packet comes there for the owner of the page, which is another: then they are all bytes of the page.
+-- Or a packet comes there for the owner of the page, which is another, or a copy of a page that is taken from it: then they are all bytes of the page.
 pub record IsLeftByDelivery (system : System) (t k e page offset : ℕ) (bytes : List ℕ) : Type 0 where
   pub owner : ℕ
   pub another : e ≢ owner
   pub owned : is_owned_by owner ((moment system t k).book.pages page) ≡ true
-  pub delivered : IsDelivered system t k page owner
+  pub delivered : IsDelivered system t k page owner ⊎ IsCopied system t k page owner
   pub whole : offset ≡ 0
   pub its : bytes ≡ page_bytes (moment system t (suc k)) page
 
