@@ -31,9 +31,11 @@ use Rattle.world_model.specs.Call.{any, binding_of, presented}
 use Rattle.world_model.specs.Code.{code_of}
 use Rattle.world_model.specs.Call.{context_deed, good_range, line_deed, transfer_deed, yield_deed}
 use Rattle.world_model.specs.ClaimCalls.{claim_by, claim_verdict, filter_at, page_verdict}
+use Rattle.revocation_book.specs.Backups.{load_refusal}
+use Rattle.world_model.specs.BackupCalls.{code_of_load, refusal_of_load}
 use Rattle.world_model.specs.LineCalls.{is_line_of, is_line_of_other, refusal_of_line, refusal_of_line_drop, refusal_of_line_take}
 use Rattle.world_model.specs.OwnCalls.{MayPut, MaySend, is_frame_size, put_bytes, put_refusal, send_refusal}
-use Rattle.world_model.specs.May.{HasRight, May, MayAllocate, MayClaim, MayBind, MayChange, MayDrop, MayEnter, MayMap, MayReach, MayTake}
+use Rattle.world_model.specs.May.{HasRight, May, MayAllocate, MayClaim, MayBind, MayChange, MayDrop, MayEnter, MayLoad, MayMap, MayReach, MayTake}
 use Rattle.world_model.specs.PageCalls.{chosen_page, is_guaranteed, named_page, vpn_refusal, refusal_of_bind, refusal_of_change}
 use Rattle.world_model.specs.SlotCalls.{accepts, drop_refusal, gift_refusal, is_other, refusal_of_gift, refusal_of_giving, slot_at, take_refusal, turn_slot, yield_by}
 use Rattle.world_model.specs.Solo.{Solo, sight}
@@ -259,6 +261,12 @@ may_claim w e address atoms page value is = by_filter (filter_at (sight (w.solos
     by_filter (Ok filter) named is = by_page filter named (refusal_of_change w e page) refl is
     by_filter (Err why) named is = cc
 
+-- backups
+may_load : (w : World) (e page : ℕ) → refusal_of_load w e page ≡ None → MayLoad w.book e page
+may_load w e page none =
+    let each = neither (refusal_of_change w e page) (option_map code_of_load (load_refusal (w.book.backups e) page)) none in
+    record { own = may_change w e page each.0; room = unmapped code_of_load (load_refusal (w.book.backups e) page) each.1 }
+
 -- call by call
 pub granted_may : ((pages : ℕ → PageRow) (count : ℕ) → IsLowestFree pages count (lowest_free pages count)) → GrantedMay
 granted_may lowest w e None value is = tt
@@ -291,6 +299,7 @@ granted_may lowest w e (Some call.Query) value is = tt
 granted_may lowest w e (Some call.Claim) value is = let cpu = (w.solos e).cpu in may_claim w e (reg cpu 4) (reg cpu 5) (reg cpu 6) value is
 granted_may lowest w e (Some call.Unclaim) value is = tt
 granted_may lowest w e (Some call.Line) value is = let cpu = (w.solos e).cpu in may_line w e (reg cpu 4) (reg cpu 5) value is
+granted_may lowest w e (Some call.Backup) value is = let page = reg (w.solos e).cpu 4 in may_load w e page (not_refused (refusal_of_load w e page) 0 value is)
 granted_may lowest w e (Some call.Send) value is = let s = w.solos e in may_send s (not_refused (send_refusal s.cpu (sight s) (length s.sent)) 0 value is)
 granted_may lowest w e (Some call.OwnNumber) value is = tt
 granted_may lowest w e (Some call.Clock) value is = tt

@@ -12,5 +12,9 @@ pub(crate) fn refuse_load<V: CallView>(view: &V, env: u8, page: u32) -> Option<C
     requires { running (V.world view.now).book.runner ≡ Some env }
     ensures { result ≡ refusal_of_load (V.world view.now) env page }
 {
-    refuse_change(view, env, page).or(view.refuse_load(env, page).map(Code::from))
+    if let Some(why) = refuse_change(view, env, page) {
+        return Some(why);
+    }
+    let no = view.refuse_load(env, page)?;
+    Some(Code::from(no))
 }
