@@ -48,7 +48,7 @@ takings_below b time (suc e) = takings_below b time e ++ takings_of b time e
 abbrev pub taken : Taking → Books → Books
 taken x b = record b {
   pages = λ page. if page == x.page then Free else b.pages page;
-  backups = λ e. if e == x.env then drop 1 (b.backups e) else b.backups e;
+  backups = λ e. if e == x.env then drop 1 (b.backups x.env) else b.backups e;
 }
 
 -- The page may be taken at a time: the deadline of its owner has come, it isn't a backup, and the backup is the one that was loaded first.
