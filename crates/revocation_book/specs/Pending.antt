@@ -1,5 +1,7 @@
 -- What an environment is asked for, and what lowers it.
-use Rattle.std.specs.Prelude.{ℕ, ◌+◌, ◌-◌, ◌==◌, min, nat_le, Bool, false, if◌then◌else◌, Option, Some, None}
+use Rattle.std.specs.Prelude.{ℕ, ◌+◌, ◌-◌, ◌==◌, min, nat_le, Bool, false, if◌then◌else◌, List, Option, Some, None}
+use Rattle.std.specs.List.{filter_map, reduce}
+use Rattle.std.specs.Option.{option_map}
 use Rattle.revocation_book.specs.declared.revocation.Pending.{Pending}
 
 -- the most pages that are outstanding
@@ -31,3 +33,11 @@ is_due time (Some p) = nat_le p.deadline time
 -- what is pending once the deadlines that have come are over
 abbrev pub unless_due : ℕ → Option Pending → Option Pending
 unless_due time pending = if is_due time pending then None else pending
+
+-- the deadline, if anything is pending
+abbrev pub deadline_in : Option Pending → Option ℕ
+deadline_in pending = option_map (λ (p : Pending). p.deadline) pending
+
+-- the earliest of all deadlines, if there is one
+abbrev pub earliest_in : List (Option Pending) → Option ℕ
+earliest_in pending = reduce min (filter_map deadline_in pending)

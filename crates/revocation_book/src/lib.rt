@@ -5,6 +5,14 @@
 //! goes to the backup that was loaded first, and so on (`docs/KERNEL.md`, "Revocation").
 #![tactic(auto)]
 
+mod backups;
+mod deadlines;
+mod laws;
+mod pending;
 mod revocation;
+mod revocations;
 
+pub use backups::MOST_BACKUPS;
+pub use laws::{law_few_takings, law_takable};
 pub use revocation::{LoadNo, Pending, Taking};
+pub use revocations::{MOST_TAKINGS, Revocations};

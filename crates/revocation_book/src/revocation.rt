@@ -9,7 +9,7 @@ pub struct Pending {
 }
 
 /// A page that is taken from an environment.
-#[derive(Clone, Copy)]
+#[derive(Clone, Copy, Default)]
 pub struct Taking {
     /// The environment.
     pub env: u8,

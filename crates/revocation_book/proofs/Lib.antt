@@ -1,0 +1,4 @@
+pub mod Earliest
+pub mod Few
+pub mod Takable
+pub mod Walk
