@@ -3,7 +3,7 @@ ghost use Rattle.std.specs.Prelude.{◌≡◌, ◌≢◌, ◌<◌, ◌≤◌, �
 ghost use Rattle.aegis_limits.specs.Limits.{most_mappings, page_size};
 ghost use Rattle.mips_exec.specs.Cpu.{rested};
 ghost use Rattle.env_frames.specs.Context.{end_area, end_bytes, handler_of, no_handlers, raised_cpu, resumed_cpu, start_area, start_bytes, started_cpu, with_handler};
-ghost use Rattle.env_frames.specs.Post.{counted_in, signalled_in};
+ghost use Rattle.env_frames.specs.Post.{asked_in, counted_in, signalled_in, taken_in};
 ghost use Rattle.env_frames.specs.Transfer.{carried, entered_cpu, entry_area, entry_bytes, entry_context};
 ghost use Rattle.env_frames.specs.Frame.{IsAbove, IsRising, gone_env, left_in, mapping_at, numbers, page_of, raised_in};
 
@@ -11,7 +11,7 @@ use crate::context::{
     CONTEXT_PAGE, Context, END_AREA, ENTRY_AREA, EXCEPTION_AREA, Handlers, START_AREA,
 };
 use crate::mapping::Mapping;
-use crate::post::PostWord;
+use crate::post::{MOST_RECORDS, PostWord, record_bytes, record_offset};
 use crate::search::place_in;
 use crate::transfer::TransferKind;
 use crate::upcall::{
@@ -173,8 +173,8 @@ impl Env {
         ensures size { length frames.new ≡ length frames.old }
     {
         if let Some(page) = self.context_page() {
-            let count = frames.word(page, post.offset());
-            frames.set_word(page, post.offset(), count.wrapping_add(1));
+            let count = post.value(frames, page);
+            post.set(frames, page, count.wrapping_add(1));
         }
     }
 
@@ -186,9 +186,36 @@ impl Env {
         ensures size { length frames.new ≡ length frames.old }
     {
         if let Some(page) = self.context_page() {
-            let offset = PostWord::Lines.offset();
-            let lines = frames.word(page, offset);
-            frames.set_word(page, offset, lines | 1 << line);
+            let lines = PostWord::Lines.value(frames, page);
+            PostWord::Lines.set(frames, page, lines | 1 << line);
+        }
+    }
+
+    /// Reports in the context page, if the environment has one, how many pages it is asked for, and until which tick.
+    pub fn ask(&self, frames: &mut Frames, outstanding: u32, deadline: u32)
+        requires { IfSome (page_of self.now.mappings 1) (λ page. page < length frames.old) }
+        ensures frames { frames.new ≡ asked_in outstanding deadline (page_of self.now.mappings 1) frames.old }
+        ensures size { length frames.new ≡ length frames.old }
+    {
+        if let Some(page) = self.context_page() {
+            PostWord::Outstanding.set(frames, page, outstanding);
+            PostWord::Deadline.set(frames, page, deadline);
+        }
+    }
+
+    /// Records in the context page, if the environment has one, a page that was taken from it and the backup that got a
+    /// copy, and counts it. Past 64 records pages are counted alone.
+    pub fn record(&self, frames: &mut Frames, taken: u32, backup: Option<u32>)
+        requires { IfSome (page_of self.now.mappings 1) (λ page. page < length frames.old) }
+        ensures frames { frames.new ≡ taken_in taken backup (page_of self.now.mappings 1) frames.old }
+        ensures size { length frames.new ≡ length frames.old }
+    {
+        if let Some(page) = self.context_page() {
+            let number = PostWord::Takings.value(frames, page);
+            if number < MOST_RECORDS {
+                frames.put(page, record_offset(number), &record_bytes(taken, backup));
+            }
+            self.count(frames, PostWord::Takings);
         }
     }
 

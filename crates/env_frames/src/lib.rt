@@ -9,7 +9,8 @@
 //! as if nothing had been stands then in the context page, which is the page at VPN 1, in an area
 //! for each kind of upcall. Without a handler the context page stays as it is.
 //!
-//! Of what comes from outside an environment learns by the post words of its context page.
+//! Of what comes from outside an environment learns by the post words of its context page, and of the pages that were
+//! taken from it by the records behind them.
 #![tactic(auto)]
 
 mod context;
