@@ -1,38 +1,30 @@
 -- A schedule without a fault is in order and not too long.
 use Rattle.std.proofs.Common.{◌≡◌, ℕ, suc, ◌+◌, ◌<◌, ◌≤◌, true, List, [], ◌∷◌, length, Option, None, Some, Result, Ok, Err, refl, arith, inl, inr}
-use Rattle.std.proofs.lemmas.Bool.{and_from, cases_lt, le-leb, le-ltb, lt-leb, lt-ltb}
+use Rattle.std.proofs.lemmas.Bool.{and_from, cases_lt, le-leb, le-ltb, lt-ltb}
 use Rattle.std.specs.Option.{option_map, option_or}
 use Rattle.line_text.specs.Lines.{LineValue, lines_of}
 use Rattle.external_event.specs.EventValue.{EventValue}
 use Rattle.external_event.specs.Order.{are_in_order}
 use Rattle.boot_schedule.specs.declared.fault.ScheduleWhy.{ScheduleWhy}
 use Rattle.boot_schedule.specs.Forms.{statements_of}
-use Rattle.boot_schedule.specs.Saying.{Saying, Happens, Asks, said}
+use Rattle.boot_schedule.specs.Saying.{said}
 use Rattle.boot_schedule.specs.Schedule.{events_said, fault_of, lines_fault, most_events, schedule_fault, events_of}
 
 -- a line without a fault is an event, not before the last, and one that there is room for
-pub record IsNext (before others : ℕ) (result : Result Saying ScheduleWhy) : Type 0 where
+pub record IsNext (before others : ℕ) (result : Result EventValue ScheduleWhy) : Type 0 where
   pub event : EventValue
-  pub is : result ≡ Ok (Happens event)
+  pub is : result ≡ Ok event
   pub later : before ≤ event.time
   pub room : others < most_events
 
-is_next : (before others : ℕ) (result : Result Saying ScheduleWhy) → fault_of before others result ≡ None → IsNext before others result
+is_next : (before others : ℕ) (result : Result EventValue ScheduleWhy) → fault_of before others result ≡ None → IsNext before others result
 is_next before others (Err why) none = absurd (cc none)
-is_next before others (Ok (Happens event)) none =
+is_next before others (Ok event) none =
     elim (cases_lt event.time before) [
       | inl earlier ↦ absurd (cc (rw (lt-ltb event.time before earlier) at none))
       | inr later ↦ elim (cases_lt others most_events) [
         | inl room ↦ record { event = event; is = refl; later = later; room = room }
         | inr full ↦ absurd (cc (rw (le-ltb event.time before later, le-leb most_events others full) at none))
-      ]
-    ]
-is_next before others (Ok (Asks time)) none =
-    elim (cases_lt time before) [
-      | inl earlier ↦ absurd (cc (rw (lt-ltb time before earlier) at none))
-      | inr later ↦ elim (cases_lt others most_events) [
-        | inl room ↦ absurd (cc (rw (le-ltb time before later, lt-leb most_events others room) at none))
-        | inr full ↦ absurd (cc (rw (le-ltb time before later, le-leb most_events others full) at none))
       ]
     ]
 

@@ -5,12 +5,9 @@ use Rattle.line_text.specs.WordView.{word_seen}
 use Rattle.boot_schedule.specs.declared.fault.ScheduleFault.{ScheduleFault}
 use Rattle.boot_schedule.specs.declared.fault.ScheduleFault.TheVariants.{At, OutOfMemory}
 use Rattle.boot_schedule.specs.declared.fault.ScheduleWhy.{ScheduleWhy}
-use Rattle.boot_schedule.specs.declared.ranges.Said.{Said}
-use Rattle.boot_schedule.specs.declared.ranges.Said.TheVariants as code
 use Rattle.boot_schedule.specs.declared.statement.Parts.{Parts}
 use Rattle.boot_schedule.specs.declared.statement.Parts.TheVariants as parts
 use Rattle.boot_schedule.specs.Forms.{EventWords, PacketWords, LineWords, RevokeWords}
-use Rattle.boot_schedule.specs.Saying.{Saying, Happens, Asks}
 
 -- words of the program, as what they show
 abbrev pub words_seen : List (Bor (List ℕ)) → List (List ℕ)
@@ -20,10 +17,6 @@ abbrev pub parts_seen : Parts → EventWords
 parts_seen (parts.Packet time bytes) = PacketWords time.now bytes.now
 parts_seen (parts.Line time number) = LineWords time.now number.now
 parts_seen (parts.Revoke time env count grace) = RevokeWords time.now env.now count.now grace.now
-
-abbrev pub saying_seen : Said → Saying
-saying_seen (code.Event event) = Happens event
-saying_seen (code.Revocation time) = Asks time
 
 -- the words of a line, if they are no more than so many
 abbrev pub few : ℕ → List (List ℕ) → Option (List (List ℕ))

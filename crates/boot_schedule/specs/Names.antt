@@ -1,7 +1,7 @@
 -- What is printed of each cause.
 use Rattle.std.specs.Prelude.{ℕ, List, codes}
 use Rattle.boot_schedule.specs.declared.fault.ScheduleWhy.{ScheduleWhy}
-use Rattle.boot_schedule.specs.declared.fault.ScheduleWhy.TheVariants.{Syntax, Range, Hex, Order, Many, NotBuilt}
+use Rattle.boot_schedule.specs.declared.fault.ScheduleWhy.TheVariants.{Syntax, Range, Hex, Order, Many}
 
 -- the printed name of a cause
 abbrev pub schedule_why_text : ScheduleWhy → List ℕ
@@ -10,4 +10,3 @@ schedule_why_text Range = codes "Range"
 schedule_why_text Hex = codes "Hex"
 schedule_why_text Order = codes "Order"
 schedule_why_text Many = codes "Many"
-schedule_why_text NotBuilt = codes "NotBuilt"

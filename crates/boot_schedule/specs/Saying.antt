@@ -6,25 +6,13 @@ use Rattle.aegis_limits.specs.Limits.{most_ticks}
 use Rattle.hex.specs.Hex.{decode_of}
 use Rattle.line_text.specs.Number.{number_of}
 use Rattle.external_event.specs.declared.event.Occurrence.{Occurrence}
-use Rattle.external_event.specs.declared.event.Occurrence.TheVariants.{Packet, Line}
+use Rattle.external_event.specs.declared.event.Occurrence.TheVariants.{Packet, Line, Revoke}
 use Rattle.external_event.specs.EventValue.{EventValue}
-use Rattle.external_event.specs.Limits.{lines}
+use Rattle.external_event.specs.Limits.{last_environment, lines, most_asked}
 use Rattle.external_event.specs.Packet.{packet_of}
 use Rattle.boot_schedule.specs.declared.fault.ScheduleWhy.{ScheduleWhy}
 use Rattle.boot_schedule.specs.declared.fault.ScheduleWhy.TheVariants.{Syntax, Range, Hex}
 use Rattle.boot_schedule.specs.Forms.{EventWords, PacketWords, LineWords, RevokeWords, event_form, line_words}
-
--- the greatest number of an environment that may be asked for pages, and the most pages
-abbrev pub last_env : ℕ
-last_env = 31
-
-abbrev pub most_asked : ℕ
-most_asked = 4096
-
--- what a line says: an event, or that an environment is asked for pages at a time
-pub data Saying : Type 0 where
-  Happens : (event : EventValue) → Saying
-  Asks : (time : ℕ) → Saying
 
 -- what is said next, unless there is a fault
 abbrev pub and_then : {X Y : Type 0} → (X → Result Y ScheduleWhy) → Result X ScheduleWhy → Result Y ScheduleWhy
@@ -42,24 +30,24 @@ in_range most word = ok_or (number_within most word) Range
 abbrev pub bytes_said : List ℕ → Result (List ℕ) ScheduleWhy
 bytes_said word = and_then (λ bytes. ok_or (packet_of bytes) Range) (ok_or (result_ok (decode_of word)) Hex)
 
-abbrev pub happens : ℕ → Occurrence → Saying
-happens time what = Happens (record { time = time; what = what })
+abbrev pub event_at : ℕ → Occurrence → EventValue
+event_at time what = record { time = time; what = what }
 
 -- what the words of each form say, the time first
-abbrev pub words_said : EventWords → Result Saying ScheduleWhy
+abbrev pub words_said : EventWords → Result EventValue ScheduleWhy
 words_said (PacketWords time word) =
-    and_then (λ t. and_then (λ bytes. Ok (happens t (Packet bytes))) (bytes_said word)) (in_range most_ticks time)
+    and_then (λ t. and_then (λ bytes. Ok (event_at t (Packet bytes))) (bytes_said word)) (in_range most_ticks time)
 words_said (LineWords time number) =
-    and_then (λ t. and_then (λ n. Ok (happens t (Line n))) (in_range (lines - 1) number)) (in_range most_ticks time)
+    and_then (λ t. and_then (λ n. Ok (event_at t (Line n))) (in_range (lines - 1) number)) (in_range most_ticks time)
 words_said (RevokeWords time env count grace) =
     and_then (λ t.
-    and_then (λ _.
-    and_then (λ _.
-    and_then (λ _. Ok (Asks t)) (in_range most_ticks grace))
+    and_then (λ e.
+    and_then (λ pages.
+    and_then (λ ticks. Ok (event_at t (Revoke e pages ticks))) (in_range most_ticks grace))
     (in_range most_asked count))
-    (in_range last_env env))
+    (in_range last_environment env))
     (in_range most_ticks time)
 
--- what a line says
-abbrev pub said : List ℕ → Result Saying ScheduleWhy
+-- the event that a line says
+abbrev pub said : List ℕ → Result EventValue ScheduleWhy
 said text = and_then words_said (ok_or (option_and_then event_form (line_words text)) Syntax)

@@ -2,51 +2,38 @@
 use Rattle.std.specs.Prelude.{◌≡◌, ℕ, suc, List, [], ◌∷◌, Option, Some, None, Result, Ok, Err, nat_lt, nat_le, if◌then◌else◌}
 use Rattle.std.specs.List.{filter_map}
 use Rattle.std.specs.Option.{option_map, option_map_or, option_or}
+use Rattle.std.specs.Result.{result_ok}
 use Rattle.line_text.specs.Lines.{LineValue, lines_of}
 use Rattle.external_event.specs.EventValue.{EventValue}
 use Rattle.boot_schedule.specs.declared.fault.ScheduleFault.{ScheduleFault}
 use Rattle.boot_schedule.specs.declared.fault.ScheduleFault.TheVariants.{At, OutOfMemory}
 use Rattle.boot_schedule.specs.declared.fault.ScheduleWhy.{ScheduleWhy}
-use Rattle.boot_schedule.specs.declared.fault.ScheduleWhy.TheVariants.{Order, Many, NotBuilt}
+use Rattle.boot_schedule.specs.declared.fault.ScheduleWhy.TheVariants.{Order, Many}
 use Rattle.boot_schedule.specs.Forms.{statements_of}
-use Rattle.boot_schedule.specs.Saying.{Saying, Happens, Asks, said}
+use Rattle.boot_schedule.specs.Saying.{said}
 
 -- the events of the longest schedule
 abbrev pub most_events : ℕ
 most_events = 65536
 
-abbrev pub time_of : Saying → ℕ
-time_of (Happens event) = event.time
-time_of (Asks time) = time
-
--- to ask for pages isn't built
-abbrev pub unbuilt : Saying → Option ScheduleWhy
-unbuilt (Happens event) = None
-unbuilt (Asks time) = Some NotBuilt
-
--- the fault of what a line says, which so many others stand before, the last of them of this time
-abbrev pub place_fault : ℕ → ℕ → Saying → Option ScheduleWhy
-place_fault before others saying =
-    if nat_lt (time_of saying) before then Some Order else
+-- the fault of an event's place, which so many others stand before, the last of them of this time
+abbrev pub place_fault : ℕ → ℕ → EventValue → Option ScheduleWhy
+place_fault before others event =
+    if nat_lt event.time before then Some Order else
     if nat_le most_events others then Some Many else
-    unbuilt saying
+    None
 
 -- the fault of a line
-abbrev pub fault_of : ℕ → ℕ → Result Saying ScheduleWhy → Option ScheduleWhy
+abbrev pub fault_of : ℕ → ℕ → Result EventValue ScheduleWhy → Option ScheduleWhy
 fault_of before others (Err why) = Some why
-fault_of before others (Ok saying) = place_fault before others saying
+fault_of before others (Ok event) = place_fault before others event
 
 abbrev pub line_fault : ℕ → ℕ → List ℕ → Option ScheduleWhy
 line_fault before others text = fault_of before others (said text)
 
 -- the event of a line, if it says one
-abbrev pub event_of : Result Saying ScheduleWhy → Option EventValue
-event_of (Err why) = None
-event_of (Ok (Happens event)) = Some event
-event_of (Ok (Asks time)) = None
-
 abbrev pub event_said : List ℕ → Option EventValue
-event_said text = event_of (said text)
+event_said text = result_ok (said text)
 
 -- the first fault of the lines which so many others stand before, the last of them of this time
 abbrev pub lines_fault : ℕ → ℕ → List LineValue → Option ScheduleFault

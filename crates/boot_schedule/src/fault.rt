@@ -18,8 +18,6 @@ pub enum ScheduleWhy {
     Order,
     /// It is the line of a 65,537th event.
     Many,
-    /// The line asks an environment for pages, which isn't built.
-    NotBuilt,
 }
 
 impl ScheduleWhy {
@@ -33,7 +31,6 @@ impl ScheduleWhy {
             ScheduleWhy::Hex => "Hex",
             ScheduleWhy::Order => "Order",
             ScheduleWhy::Many => "Many",
-            ScheduleWhy::NotBuilt => "NotBuilt",
         }
     }
 }

@@ -1,55 +1,42 @@
 //! What the words of a schedule's lines mean, if they are in their ranges.
 ghost use Rattle.std.specs.Prelude.{◌≡◌, ◌≤◌, ◌-◌, IfOk, IfSome};
 ghost use Rattle.aegis_limits.specs.Limits.{most_ticks};
-ghost use Rattle.external_event.specs.Limits.{lines};
+ghost use Rattle.external_event.specs.Limits.{last_environment, lines, most_asked};
 ghost use Rattle.boot_schedule.specs.declared.fault.ScheduleFault.TheVariants.{At};
-ghost use Rattle.boot_schedule.specs.Answers.{Says, parts_seen, saying_seen};
+ghost use Rattle.boot_schedule.specs.Answers.{Says, parts_seen};
 ghost use Rattle.boot_schedule.specs.Saying.{bytes_said, in_range, number_within, words_said};
 
 use crate::fault::{ScheduleFault, ScheduleWhy};
 use crate::statement::Parts;
 use aegis_limits::MOST_TICKS;
-use external_event::{Event, LINES, Occurrence, PacketBytes};
+use external_event::{Event, LAST_ENVIRONMENT, LINES, MOST_ASKED, Occurrence, PacketBytes};
 use hex::FromHexError;
 use line_text::{Line, number};
 use std::alloc::Global;
 
-/// The greatest number of an environment that may be asked for pages.
-const LAST_ENVIRONMENT: u32 = 31;
-/// The most pages for which an environment is asked at once.
-const MOST_ASKED: u32 = 4096;
 /// The greatest number of an interrupt line.
 const LAST_LINE: u32 = LINES as u32 - 1;
 
-/// What a line says.
-#[derive(Drop)]
-pub(crate) enum Said {
-    /// An event.
-    Event(Event),
-    /// That an environment is asked for pages, at a time.
-    Revocation(u32),
-}
-
-/// What the words of a line say.
+/// The event that the words of a line say.
 pub(crate) fn words_said(
     alloc: Global,
     line: &Line<'_>,
     parts: Parts<'_>,
-) -> Result<Said, ScheduleFault>
-    ensures { Says saying_seen line.now.number result (words_said (parts_seen parts.entry)) }
+) -> Result<Event, ScheduleFault>
+    ensures { Says (λ event. event) line.now.number result (words_said (parts_seen parts.entry)) }
 {
     match parts {
         Parts::Packet { time, bytes } => {
             let time = in_range(line, time, MOST_TICKS)?;
             let packet = bytes_said(alloc, line, bytes)?;
             let what = Occurrence::Packet(packet);
-            Ok(Said::Event(Event { time, what }))
+            Ok(Event { time, what })
         }
         Parts::Line { time, number } => {
             let time = in_range(line, time, MOST_TICKS)?;
             let number = in_range(line, number, LAST_LINE)?;
             let what = Occurrence::Line(number as u8);
-            Ok(Said::Event(Event { time, what }))
+            Ok(Event { time, what })
         }
         Parts::Revoke {
             time,
@@ -58,10 +45,11 @@ pub(crate) fn words_said(
             grace,
         } => {
             let time = in_range(line, time, MOST_TICKS)?;
-            in_range(line, env, LAST_ENVIRONMENT)?;
-            in_range(line, count, MOST_ASKED)?;
-            in_range(line, grace, MOST_TICKS)?;
-            Ok(Said::Revocation(time))
+            let env = in_range(line, env, u32::from(LAST_ENVIRONMENT))? as u8;
+            let count = in_range(line, count, MOST_ASKED)?;
+            let grace = in_range(line, grace, MOST_TICKS)?;
+            let what = Occurrence::Revoke { env, count, grace };
+            Ok(Event { time, what })
         }
     }
 }

@@ -2,13 +2,13 @@
 ghost use Rattle.std.specs.Prelude.{◌≡◌, ◌<◌, ◌≤◌, ◌^◌, None, Some, length, IfErr, IfOk};
 ghost use Rattle.std.specs.Option.{option_map};
 ghost use Rattle.boot_schedule.specs.declared.fault.ScheduleFault.TheVariants.{At};
-ghost use Rattle.boot_schedule.specs.Answers.{Says, saying_seen};
+ghost use Rattle.boot_schedule.specs.Answers.{Says};
 ghost use Rattle.boot_schedule.specs.Saying.{said};
-ghost use Rattle.boot_schedule.specs.Schedule.{IsFirst, event_said, line_fault, schedule_fault, events_of, time_of};
+ghost use Rattle.boot_schedule.specs.Schedule.{IsFirst, event_said, line_fault, schedule_fault, events_of};
 
 use crate::fault::{ScheduleFault, ScheduleWhy};
 use crate::lines::statements_of;
-use crate::ranges::{Said, at, words_said};
+use crate::ranges::{at, words_said};
 use crate::statement::parts_of;
 use external_event::Event;
 use line_text::Line;
@@ -45,37 +45,22 @@ fn read_event(
     ensures ok { IfOk result (λ event. (line_fault before others line.now.text.now ≡ None) × (event_said line.now.text.now ≡ Some event)) }
     ensures err { IfErr result (IsFirst (option_map (λ why. At line.now.number why) (line_fault before others line.now.text.now))) }
 {
-    let said = said(alloc, line)?;
-    if said.time() < before {
+    let event = said(alloc, line)?;
+    if event.time < before {
         return Err(at(line, ScheduleWhy::Order));
     }
     if others >= MOST_EVENTS {
         return Err(at(line, ScheduleWhy::Many));
     }
-    match said {
-        Said::Event(event) => Ok(event),
-        Said::Revocation(_) => Err(at(line, ScheduleWhy::NotBuilt)),
-    }
+    Ok(event)
 }
 
-/// What a line says by itself.
-fn said(alloc: Global, line: &Line<'_>) -> Result<Said, ScheduleFault>
-    ensures { Says saying_seen line.now.number result (said line.now.text.now) }
+/// The event that a line says by itself.
+fn said(alloc: Global, line: &Line<'_>) -> Result<Event, ScheduleFault>
+    ensures { Says (λ event. event) line.now.number result (said line.now.text.now) }
 {
     match parts_of(line.text) {
         Some(parts) => words_said(alloc, line, parts),
         None => Err(at(line, ScheduleWhy::Syntax)),
-    }
-}
-
-impl Said {
-    /// The time that it names.
-    fn time(&self) -> u32
-        ensures { result ≡ time_of (saying_seen self.now) }
-    {
-        match self {
-            Said::Event(event) => event.time,
-            Said::Revocation(time) => *time,
-        }
     }
 }
