@@ -15,24 +15,29 @@ use Rattle.world_model.specs.declared.slot.Turn.{Turn}
 use Rattle.world_model.specs.Book.{Book, Told, excess_limit, first_turn, is_idle_book, lowered, owed, pays_first, told_at, told_turn, whole_turn}
 use Rattle.run_model.specs.Boot.{boot_book, boot_slot, boot_world, own_row, own_rows, record_items, with_all_kept, with_kept}
 use Rattle.run_model.specs.Excess.{pays, AreSlotsLive, BalanceHolds, BootsAccounted, IsAccounted, LedgersAreLawful, Lives, TicksKeepAccounts}
-use Rattle.world_model.specs.Item.{End, Killed, Line, Packet, Start, absorb_all}
-use Rattle.run_model.specs.Run.{happens_in, next_phases, next_world, run_on}
+use Rattle.world_model.specs.Item.{Asked, End, Killed, Line, Packet, Start, Taken, absorb_all}
+use Rattle.run_model.specs.Run.{happens_in, next_phases, next_world, run_on, takings_next}
 use Rattle.world_model.specs.Solo.{absent, dead, is_dead}
 use Rattle.world_model.specs.Table.{set_at}
 use Rattle.external_event.specs.declared.event.Occurrence.{Occurrence}
 use Rattle.external_event.specs.declared.event.Occurrence.TheVariants as outside
 use Rattle.filter_tree.specs.ClaimBook.{ClaimValue}
 use Rattle.world_model.specs.ClaimCalls.{claim_of}
-use Rattle.world_model.specs.Event.{Schedule, arrives, delivers, drops_packet, happen, ring_bytes, ring_left, signals}
+use Rattle.revocation_book.specs.declared.revocation.Pending.{Pending}
+use Rattle.revocation_book.specs.declared.revocation.Taking.{Taking}
+use Rattle.revocation_book.specs.Pending.{asked}
+use Rattle.world_model.specs.Deadlines.{copy_left, settles, takes}
+use Rattle.world_model.specs.PageCalls.{breaks}
+use Rattle.world_model.specs.Event.{Schedule, arrives, asks, delivers, drops_packet, happen, revokes, ring_bytes, ring_left, signals}
 use Rattle.world_model.specs.Rings.{ring_of}
 use Rattle.world_model.specs.Tick.{act_now, clock, count_when, goes_on, grace_of, judged, kill, owes_more, pay_row, phases_after, run_out, slice_end, step, step_when, take_turn, tick_phases, timer, turn, turn_when}
 use Rattle.world_model.specs.SlotCalls.{stop_row}
 use Rattle.call_verdicts.specs.Granted.{GrantedMay}
-use Rattle.world_model.specs.World.{World, Reply, after, no_change, no_items, only, run_phases, tells}
-use Rattle.run_model.proofs.Lives.{keep_end, keep_line, keep_none, keep_only, keep_packet, keep_set, keep_start, ring_left_keeps}
+use Rattle.world_model.specs.World.{World, Reply, after, is_living, no_change, no_items, only, run_phases, tells}
+use Rattle.run_model.proofs.Lives.{breaks_keep, copy_left_keeps, keep_asked, keep_both, keep_end, keep_line, keep_none, keep_only, keep_packet, keep_set, keep_start, keep_taken, ring_left_keeps}
 use Rattle.run_model.proofs.NextTurn.{Found, holder_in, search_finds}
 use Rattle.run_model.proofs.Replies.{accounts, act_accounts, death_accounts, dies, in_turn_accounts, mild_accounts, no_change_is_mild}
-use Rattle.run_model.proofs.Rows.{Adds, AreQuiet, Balances, adds_over, adds_pay, adds_quiet, adds_run, quiet_both, quiet_end, quiet_slot, quiet_stop, quiet_unclaimed}
+use Rattle.run_model.proofs.Rows.{Adds, AreQuiet, Balances, adds_over, adds_pay, adds_quiet, adds_run, quiet_asked, quiet_both, quiet_end, quiet_slot, quiet_stop, quiet_take, quiet_unclaimed}
 
 -- A phase that keeps the accounts, and phases that do.
 abbrev pub KeepsAccounts : (World → Reply) → Type 0
@@ -88,10 +93,44 @@ signal_accounts line (Some owner) w good = mild_accounts w (tells owner (Line li
   runner = good.runner_lives;
 })
 
+-- A revocation leaves the life of whom it asks.
+ask_accounts : (e : ℕ) (pending : Option Pending) → KeepsAccounts (asks e pending)
+ask_accounts e None w good = no_change_accounts w good
+ask_accounts e (Some p) w good = mild_accounts w (asks e (Some p) w) good (record {
+  excess = refl;
+  quiet = (quiet_asked w.book.time e p.outstanding p.deadline, tt);
+  keeps = keep_only e (Asked p.outstanding p.deadline ∷ []) (keep_asked p.outstanding p.deadline);
+  slots = good.slots_live;
+  runner = good.runner_lives;
+})
+
+revocation_accounts : (e count deadline : ℕ) → KeepsAccounts (revokes e count deadline)
+revocation_accounts e count deadline w good = by_test (is_living w e)
+  where
+    by_test : (t : Bool) → IsAccounted (after w (if t then asks e (asked count deadline (w.book.pending e)) w else no_change w))
+    by_test true = ask_accounts e (asked count deadline (w.book.pending e)) w good
+    by_test false = no_change_accounts w good
+
 -- What happens from outside, kind by kind.
 pub happen_accounts : (what : Occurrence) → KeepsAccounts (happen what)
 happen_accounts (outside.Packet packet) w good = arrival_accounts packet (claim_of w.book packet) w good
 happen_accounts (outside.Line line) w good = signal_accounts line (w.book.lines line) w good
+happen_accounts (outside.Revoke env count grace) w good = revocation_accounts env count (w.book.time + grace) w good
+
+-- A page that is taken leaves the life of its owner, and of those who have bound it or the backup.
+pub taking_accounts : (x : Taking) → KeepsAccounts (takes x)
+taking_accounts x w good = mild_accounts w (takes x w) good (record {
+  excess = refl;
+  quiet = (quiet_take w.book.time x.env x.page x.backup, tt);
+  keeps = keep_set x.env (Taken x.page x.backup ∷ []) (λ e. copy_left w x x.backup e ++ breaks w.book x.page e) (keep_taken x.page x.backup)
+      (λ e. keep_both (copy_left w x x.backup e) (breaks w.book x.page e) (copy_left_keeps w x x.backup e) (breaks_keep w.book x.page e));
+  slots = good.slots_live;
+  runner = good.runner_lives;
+})
+
+-- The end of deadlines changes nothing of lives and slots.
+pub settling_accounts : KeepsAccounts settles
+settling_accounts w good = mild_accounts w (settles w) good (record { excess = refl; quiet = tt; keeps = λ i. keep_none; slots = good.slots_live; runner = good.runner_lives })
 
 -- The turn. Each forfeit is of one that lives and owes, and who runs lives and owes nothing.
 abbrev Forfeits : World → (ℕ → ℕ) → List Turn → Option Turn → (ℕ → ℕ) → Type 0
@@ -249,19 +288,20 @@ turn_keeps w good = turn_accounts w w.book.runner good
 pub step_keeps : GrantedMay → KeepsAccounts step
 step_keeps granted w good = step_accounts granted w w.book.runner refl good
 
-tick_accounts : GrantedMay → KeepAccounts tick_phases
-tick_accounts granted = (turn_keeps, (step_keeps granted, (timer_accounts, tt)))
+tick_accounts : GrantedMay → (xs : List Taking) → KeepAccounts (tick_phases xs)
+tick_accounts granted [] = (settling_accounts, (turn_keeps, (step_keeps granted, (timer_accounts, tt))))
+tick_accounts granted (x ∷ xs) = (taking_accounts x, tick_accounts granted xs)
 
-all_account : GrantedMay → (happens : List Occurrence) → KeepAccounts (phases_after happens)
-all_account granted [] = tick_accounts granted
-all_account granted (what ∷ happens) = (happen_accounts what, all_account granted happens)
+all_account : GrantedMay → (happens : List Occurrence) (xs : List Taking) → KeepAccounts (phases_after happens xs)
+all_account granted [] xs = tick_accounts granted xs
+all_account granted (what ∷ happens) xs = (happen_accounts what, all_account granted happens xs)
 
 next_accounts : GrantedMay → (schedule : Schedule) (w : World) → IsAccounted w → IsAccounted (next_world schedule w)
 next_accounts granted schedule w good = by_test (is_idle_book w.book)
   where
     by_test : (idle : Bool) → IsAccounted (if idle then w else run_phases w (next_phases schedule w))
     by_test true = good
-    by_test false = run_accounts (next_phases schedule w) (all_account granted (happens_in schedule w)) w good
+    by_test false = run_accounts (next_phases schedule w) (all_account granted (happens_in schedule w) (takings_next schedule w)) w good
 
 -- more ticks keep the accounts, and so the balance
 pub ticks_keep_accounts : GrantedMay → TicksKeepAccounts

@@ -1,5 +1,5 @@
 -- What each phase of a tick gives is licensed.
-use Rattle.std.proofs.Common.{◌≡◌, ◌≢◌, ◌+◌, ◌-◌, ℕ, zero, suc, List, [], ◌∷◌, ◌++◌, take, Bool, true, false, Option, Some, None, inl, inr, refl, sym, ap, subst, arith}
+use Rattle.std.proofs.Common.{◌≡◌, ◌≢◌, ◌+◌, ◌-◌, ℕ, zero, suc, List, [], ◌∷◌, ◌++◌, map, take, Bool, true, false, Option, Some, None, inl, inr, refl, sym, ap, subst, arith}
 use Rattle.std.specs.Prelude.{◌==◌, if◌then◌else◌, nat_lt, slice_get}
 use Rattle.std.specs.List.{All}
 use Rattle.std.proofs.lemmas.Bool.{eq-eqb, eqb-true, eqb-false, ltb-true}
@@ -13,7 +13,7 @@ use Rattle.page_book.specs.Row.{belongs_to, is_owned_by}
 use Rattle.bind_book.specs.Stripe.{is_bound}
 use Rattle.world_model.specs.declared.call.Call.{Call}
 use Rattle.world_model.specs.declared.call.Deed.{Deed}
-use Rattle.world_model.specs.declared.call.Deed.TheVariants.{Answers, Stops, Gives, Allocates, Frees, Recaps, Binds, Unbinds, Own, Transfers, TakesSlot, DropsSlot, TakesLine, DropsLine, Claims, Unclaims}
+use Rattle.world_model.specs.declared.call.Deed.TheVariants.{Answers, Stops, Gives, Allocates, Frees, Recaps, Binds, Unbinds, Own, Transfers, TakesSlot, DropsSlot, TakesLine, DropsLine, Claims, Unclaims, Loads}
 use Rattle.world_model.specs.declared.slot.Hold.{Hold}
 use Rattle.world_model.specs.declared.slot.Phase.{Phase}
 use Rattle.world_model.specs.declared.slot.Phase.TheVariants as phase
@@ -28,22 +28,27 @@ use Rattle.external_event.specs.declared.event.Occurrence.{Occurrence}
 use Rattle.external_event.specs.declared.event.Occurrence.TheVariants as outside
 use Rattle.filter_tree.specs.ClaimBook.{ClaimValue}
 use Rattle.world_model.specs.ClaimCalls.{claim_of}
-use Rattle.world_model.specs.Event.{arrives, happen, ring_bytes, ring_left, signals}
+use Rattle.revocation_book.specs.declared.revocation.Pending.{Pending}
+use Rattle.revocation_book.specs.declared.revocation.Taking.{Taking}
+use Rattle.revocation_book.specs.Pending.{asked}
+use Rattle.revocation_book.specs.Takings.{AreTakable, TakingsAreTakable}
+use Rattle.world_model.specs.Deadlines.{copy_left, revocations, takes}
+use Rattle.world_model.specs.Event.{arrives, asks, happen, revokes, ring_bytes, ring_left, signals}
 use Rattle.world_model.specs.Rings.{page_store, ring_of}
-use Rattle.world_model.specs.Item.{Item, Step, Start, End, Transfer, Killed, Answer, Gained, Lost, Packet, Line, deed_at}
+use Rattle.world_model.specs.Item.{Item, Step, Start, End, Transfer, Killed, Answer, Gained, Lost, Packet, Line, Asked, Taken, deed_at}
 use Rattle.world_model.specs.May.{May}
 use Rattle.world_model.specs.PageCalls.{breaks, left_at, left_by, left_if, lost_if, page_bytes}
 use Rattle.world_model.specs.SlotCalls.{stop_row}
 use Rattle.world_model.specs.Solo.{Store, Key, Kept, Physical}
 use Rattle.world_model.specs.Step.{Act, Nothing, Stores, Calls, Raises, Dies}
-use Rattle.world_model.specs.Tick.{act_now, brings, count_when, goes_on, grace_of, judged, kill, owes_more, phases_after, run_out, step, step_when, take_turn, timer, turn, turn_when}
+use Rattle.world_model.specs.Tick.{act_now, brings, count_when, goes_on, grace_of, judged, kill, owes_more, phases_after, run_out, step, step_when, take_turn, tick_phases, timer, turn, turn_when}
 use Rattle.world_model.specs.Verdict.{done, reply_of, reply_to, verdict}
-use Rattle.world_model.specs.World.{World, Reply, after, in_turn, no_items, only, run_phases, tells}
+use Rattle.world_model.specs.World.{World, Reply, after, in_turn, is_living, no_change, no_items, only, run_phases, tells}
 use Rattle.call_verdicts.specs.Granted.{GrantedMay}
 use Rattle.run_model.specs.Acting.{Acts, Does}
 use Rattle.run_model.specs.Boot.{boot_items, record_items}
-use Rattle.run_model.specs.Licensed.{AtArrival, AtBoot, AtEvent, AtSignal, AtStep, AtTimer, AtTurn, Breaks, ByDeath, ByFree, ByRecap, FeedIsLicensed, GivenIsLicensed, IsOut, IsOverdue, Licensed, LicensedAt, LicensedIn}
-use Rattle.run_model.specs.Run.{System, feed, given_at, given_by, happens_in, items_in, moment, next_phases, world_after}
+use Rattle.run_model.specs.Licensed.{AtArrival, AtBoot, AtEvent, AtRevocation, AtSignal, AtStep, AtTaking, AtTimer, AtTurn, Breaks, ByDeath, ByFree, ByRecap, FeedIsLicensed, GivenIsLicensed, IsOut, IsOverdue, Licensed, LicensedAt, LicensedBehind, LicensedIn, MayTaking}
+use Rattle.run_model.specs.Run.{System, feed, given_at, given_by, happens_in, items_in, next_phases, once_happened, takings_in, world_after}
 use Rattle.run_model.proofs.NextTurn.{Found, holder_in, search_finds}
 use Rattle.run_model.proofs.Telling.{call_does, call_named, call_stands, deed_may}
 
@@ -134,9 +139,21 @@ arrival_licensed packet w i = by_claim (claim_of w.book packet) refl
         (record { lowest = c; goes = goes; its = refl; number = refl; same = refl }, tt)
         (λ other. by_ring c goes other bytes refl)
 
+revocation_licensed : (named count until : ℕ) (w : World) (i : ℕ) → Each (AtRevocation named count until w i) ((revokes named count until w).items i)
+revocation_licensed named count until w i = by_life (is_living w named) refl
+  where
+    by_pending : is_living w named ≡ true → (o : Option Pending) → asked count until (w.book.pending named) ≡ o → Each (AtRevocation named count until w i) ((asks named o w).items i)
+    by_pending lives None its = tt
+    by_pending lives (Some p) its = each_only (AtRevocation named count until w) named (Asked p.outstanding p.deadline ∷ []) i (record { its = refl; lives = lives; pending = its }, tt)
+
+    by_life : (t : Bool) → is_living w named ≡ t → (let reply : Reply = (if t then asks named (asked count until (w.book.pending named)) w else no_change w) in Each (AtRevocation named count until w i) (reply.items i))
+    by_life true lives = by_pending lives (asked count until (w.book.pending named)) refl
+    by_life false gone = tt
+
 event_licensed : (what : Occurrence) (w : World) (i : ℕ) → Each (AtEvent what w i) ((happen what w).items i)
 event_licensed (outside.Packet packet) w i = arrival_licensed packet w i
 event_licensed (outside.Line line) w i = signal_licensed line w i
+event_licensed (outside.Revoke env count grace) w i = revocation_licensed env count (w.book.time + grace) w i
 
 -- The turn: who runs in it holds its slot, and owes nothing.
 abbrev IsFree : (ℕ → Option Hold) → (ℕ → ℕ) → Turn → Type 0
@@ -173,12 +190,37 @@ turn_licensed w i = by_runner w.book.runner refl
     by_runner None nobody = by_turn nobody (whole_turn w.book).runs refl
     by_runner (Some r) runs = tt
 
--- The step of a runner.
+-- What belongs to an environment
 owned_belongs : (e : ℕ) (row : PageRow) → is_owned_by e row ≡ true → belongs_to e row ≡ true
 owned_belongs e Free owned = cc
 owned_belongs e (Guaranteed owner) owned = cc
 owned_belongs e (Owned owner words) owned = owned
 
+-- A page that is taken, where it may be.
+module _ (x : Taking) (w : World) (may : MayTaking w x) (i : ℕ) where
+  copy_licensed : i ≢ x.env → (backup : Option ℕ) → x.backup ≡ backup → Each (AtTaking x w i) (copy_left w x backup i)
+  copy_licensed other None into = tt
+  copy_licensed other (Some backup) into = by_env (i == x.env) refl
+    where
+      its : Store
+      its = page_store backup (page_bytes w x.page)
+
+      by_sight : (t : Bool) → sees w.book i backup ≡ t → Each (AtTaking x w i) (left_if t backup its)
+      by_sight true seen = (record { may = may; another = other; into = into; whole = refl; its = refl; seen = seen }, tt)
+      by_sight false seen = tt
+
+      by_env : (t : Bool) → (i == x.env) ≡ t → Each (AtTaking x w i) (if t then [] else left_if (sees w.book i backup) backup its)
+      by_env true own = tt
+      by_env false others = by_sight (sees w.book i backup) refl
+
+  taking_licensed : Each (AtTaking x w i) ((takes x w).items i)
+  taking_licensed =
+      let owned = owned_belongs x.env (w.book.pages x.page) may.owned in
+      each_at (AtTaking x w) x.env (Taken x.page x.backup ∷ []) (λ e. copy_left w x x.backup e ++ breaks w.book x.page e) i (record { may = may; its = refl }, tt)
+      (λ other. each_both (AtTaking x w i) (copy_left w x x.backup i) (breaks w.book x.page i) (copy_licensed other x.backup refl)
+      (each_break (AtTaking x w i) w.book x.page i (λ bound. record { may = may; its = refl; has = record { another = other; owned = owned; bound = bound } })))
+
+-- The step of a runner.
 module _ (w : World) (e : ℕ) where
   -- what others lose of a page of the runner's
   broken : (page : ℕ) → belongs_to e (w.book.pages page) ≡ true → Breaks w e page → (i : ℕ) → i ≢ e → Each (AtStep w i) (breaks w.book page i)
@@ -207,6 +249,7 @@ module _ (w : World) (e : ℕ) where
   deed_licensed (DropsLine line) does may i = tt
   deed_licensed (Claims claim address atoms page) does may i = tt
   deed_licensed (Unclaims claim) does may i = tt
+  deed_licensed (Loads page) does may i = tt
 
   module _ (granted : GrantedMay) where
     call_licensed : (c : Option Call) → Acts w e (Calls c) → (i : ℕ) → Each (AtStep w i) ((reply_to w e c).items i)
@@ -306,18 +349,32 @@ timer_licensed w i = each_both (AtTimer w i) ((count_when w.book.runner w).items
     by_runner None runs = tt
     by_runner (Some r) runs = by_left r runs (r.left - 1 == 0) refl
 
--- Phase by phase
+-- Phase by phase, where what is taken may be
 module _ (granted : GrantedMay) where
-  phase_licensed : (happens : List Occurrence) (k : ℕ) (m : World) (e : ℕ) → Each (LicensedIn happens k m e) (given_by m (slice_get (phases_after happens) k) e)
-  phase_licensed [] zero m e = turn_licensed m e
-  phase_licensed [] (suc zero) m e = step_licensed granted m e
-  phase_licensed [] (suc (suc zero)) m e = timer_licensed m e
-  phase_licensed [] (suc (suc (suc k))) m e = tt
-  phase_licensed (what ∷ happens) zero m e = event_licensed what m e
-  phase_licensed (what ∷ happens) (suc k) m e = phase_licensed happens k m e
+  behind_licensed : (xs : List Taking) (w : World) → AreTakable (revocations w.book) w.book.time xs
+      → (k e : ℕ) → (let m = run_phases w (take k (tick_phases xs)) in Each (LicensedBehind xs k m e) (given_by m (slice_get (tick_phases xs) k) e))
+  behind_licensed [] w may zero e = tt
+  behind_licensed [] w may (suc zero) e = turn_licensed (run_phases w (take 1 (tick_phases []))) e
+  behind_licensed [] w may (suc (suc zero)) e = step_licensed granted (run_phases w (take 2 (tick_phases []))) e
+  behind_licensed [] w may (suc (suc (suc zero))) e = timer_licensed (run_phases w (take 3 (tick_phases []))) e
+  behind_licensed [] w may (suc (suc (suc (suc k)))) e = tt
+  behind_licensed (x ∷ xs) w (may, rest) zero e = taking_licensed x w may e
+  behind_licensed (x ∷ xs) w (may, rest) (suc k) e = behind_licensed xs (after w (takes x w)) rest k e
 
-  pub given_is_licensed : GivenIsLicensed
-  given_is_licensed system t k e = each_all (LicensedAt system t k e) (given_at system t k e) (phase_licensed (happens_in system.schedule (world_after system t)) k (moment system t k) e)
+  phase_licensed : (happens : List Occurrence) (xs : List Taking) (w : World) → (let v = run_phases w (map happen happens) in AreTakable (revocations v.book) v.book.time xs)
+      → (k e : ℕ) → (let m = run_phases w (take k (phases_after happens xs)) in Each (LicensedIn happens xs k m e) (given_by m (slice_get (phases_after happens xs) k) e))
+  phase_licensed [] xs w may k e = behind_licensed xs w may k e
+  phase_licensed (what ∷ happens) xs w may zero e = event_licensed what w e
+  phase_licensed (what ∷ happens) xs w may (suc k) e = phase_licensed happens xs (after w (happen what w)) may k e
+
+  given_licensed : TakingsAreTakable → (system : System) (t k e : ℕ) → Each (LicensedAt system t k e) (given_at system t k e)
+  given_licensed takable system t k e =
+      let w = world_after system t in
+      let v = once_happened system.schedule w in
+      phase_licensed (happens_in system.schedule w) (takings_in system t) w (takable (revocations v.book) v.book.time v.count) k e
+
+  pub given_is_licensed : TakingsAreTakable → GivenIsLicensed
+  given_is_licensed takable system t k e = each_all (LicensedAt system t k e) (given_at system t k e) (given_licensed takable system t k e)
 
   -- and so in a tick
   in_turn_each : (P : Item → Type 0) (phases : List (World → Reply)) (w : World) (e : ℕ) → ((k : ℕ) → Each P (given_by (run_phases w (take k phases)) (slice_get phases k) e)) → Each P ((in_turn phases w).items e)
@@ -326,14 +383,14 @@ module _ (granted : GrantedMay) where
       let v = after w (phase w) in
       each_both P ((phase w).items e) ((in_turn phases v).items e) (each 0) (in_turn_each P phases v e (λ k. each (suc k)))
 
-  tick_licensed : (system : System) (t e : ℕ) → Each (λ item. (k : ℕ) × LicensedAt system t k e item) (items_in system t e)
-  tick_licensed system t e = by_idle (is_idle_book (world_after system t).book)
+  tick_licensed : TakingsAreTakable → (system : System) (t e : ℕ) → Each (λ item. (k : ℕ) × LicensedAt system t k e item) (items_in system t e)
+  tick_licensed takable system t e = by_idle (is_idle_book (world_after system t).book)
     where
       by_idle : (idle : Bool) → Each (λ item. (k : ℕ) × LicensedAt system t k e item) (if idle then [] else (in_turn (next_phases system.schedule (world_after system t)) (world_after system t)).items e)
       by_idle true = tt
       by_idle false =
           in_turn_each (λ item. (k : ℕ) × LicensedAt system t k e item) (next_phases system.schedule (world_after system t)) (world_after system t) e
-          (λ k. each_then (LicensedAt system t k e) (λ item. (n : ℕ) × LicensedAt system t n e item) (λ item its. (k, its)) (given_at system t k e) (phase_licensed (happens_in system.schedule (world_after system t)) k (moment system t k) e))
+          (λ k. each_then (LicensedAt system t k e) (λ item. (n : ℕ) × LicensedAt system t n e item) (λ item its. (k, its)) (given_at system t k e) (given_licensed takable system t k e))
 
   -- in a feed
   boot_licensed : (image : ImageValue) (e : ℕ) → Each (AtBoot image e) (boot_items image e)
@@ -343,16 +400,16 @@ module _ (granted : GrantedMay) where
       by_program None there = tt
       by_program (Some p) there = (record { program = p; there = there; number_is = refl; name_is = refl; entry_is = refl; accept_is = refl; kept_is = refl }, tt)
 
-  feed_licensed : (system : System) (t e : ℕ) → Each (Licensed system t e) (feed system e t)
-  feed_licensed system zero e = each_then (AtBoot system.image e) (Licensed system zero e) (λ item its. inl its) (boot_items system.image e) (boot_licensed system.image e)
-  feed_licensed system (suc t) e =
+  feed_licensed : TakingsAreTakable → (system : System) (t e : ℕ) → Each (Licensed system t e) (feed system e t)
+  feed_licensed takable system zero e = each_then (AtBoot system.image e) (Licensed system zero e) (λ item its. inl its) (boot_items system.image e) (boot_licensed system.image e)
+  feed_licensed takable system (suc t) e =
       each_both (Licensed system (suc t) e) (feed system e t) (items_in system t e)
-      (each_then (Licensed system t e) (Licensed system (suc t) e) (λ item its. later item its) (feed system e t) (feed_licensed system t e))
-      (each_then (λ item. (k : ℕ) × LicensedAt system t k e item) (Licensed system (suc t) e) (λ item its. inr (t, omega arith, its)) (items_in system t e) (tick_licensed system t e))
+      (each_then (Licensed system t e) (Licensed system (suc t) e) (λ item its. later item its) (feed system e t) (feed_licensed takable system t e))
+      (each_then (λ item. (k : ℕ) × LicensedAt system t k e item) (Licensed system (suc t) e) (λ item its. inr (t, omega arith, its)) (items_in system t e) (tick_licensed takable system t e))
     where
       later : (item : Item) → Licensed system t e item → Licensed system (suc t) e item
       later item (inl boot) = inl boot
       later item (inr its) = inr (its.0, omega (arith, its.1), its.2)
 
-  pub feed_is_licensed : FeedIsLicensed
-  feed_is_licensed system t e = each_all (Licensed system t e) (feed system e t) (feed_licensed system t e)
+  pub feed_is_licensed : TakingsAreTakable → FeedIsLicensed
+  feed_is_licensed takable system t e = each_all (Licensed system t e) (feed system e t) (feed_licensed takable system t e)

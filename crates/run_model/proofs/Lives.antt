@@ -1,6 +1,6 @@
 -- What leaves an environment's life as it is.
 use Rattle.std.proofs.Common.{◌≡◌, ℕ, zero, suc, List, [], ◌∷◌, ◌++◌, Bool, true, false, refl, ◌∙◌, ap, Option, Some, None}
-use Rattle.std.specs.Prelude.{◌==◌, if◌then◌else◌, is_some}
+use Rattle.std.specs.Prelude.{◌==◌, nat_lt, if◌then◌else◌, is_some}
 use Rattle.std.proofs.lemmas.List.Sums.{fold-append}
 use Rattle.env_frames.specs.declared.transfer.TransferKind.{TransferKind}
 use Rattle.env_frames.specs.Transfer.{Registers}
@@ -15,15 +15,20 @@ use Rattle.world_model.specs.declared.verdict.Verdict.TheVariants.{Refuse, Grant
 use Rattle.world_model.specs.Book.{Book, sees}
 use Rattle.env_frames.specs.declared.post.PostWord.TheVariants as post
 use Rattle.world_model.specs.Death.{lost_with}
+use Rattle.revocation_book.specs.declared.revocation.Taking.{Taking}
+use Rattle.env_frames.specs.Post.{most_records, record_bytes, record_offset}
+use Rattle.world_model.specs.Deadlines.{copy_left}
+use Rattle.world_model.specs.Post.{counted, post_word}
+use Rattle.world_model.specs.Repossession.{copied, recorded}
 use Rattle.world_model.specs.Event.{ring_left}
 use Rattle.world_model.specs.Holding.{with_binds}
 use Rattle.world_model.specs.Upcalls.{start_by, with_context}
-use Rattle.world_model.specs.Item.{Item, Start, End, Transfer, Answer, Gained, Lost, Left, Packet, Line, absorb, absorb_all, absorbed, answered, deed_at, own_part}
-use Rattle.world_model.specs.PageCalls.{breaks, left_at, left_by, left_if, lost_if}
-use Rattle.world_model.specs.Rings.{counted, page_store, put_in_ring, received_in, ring_after, ring_of}
+use Rattle.world_model.specs.Item.{Item, Start, End, Transfer, Answer, Gained, Lost, Left, Packet, Line, Asked, Taken, absorb, absorb_all, absorbed, answered, deed_at, own_part}
+use Rattle.world_model.specs.PageCalls.{breaks, left_at, left_by, left_if, lost_if, page_bytes}
+use Rattle.world_model.specs.Rings.{page_store, put_in_ring, received_in, ring_after, ring_of}
 use Rattle.world_model.specs.Solo.{Solo, Store, Key, Kept, Physical, Ring, is_dead}
 use Rattle.world_model.specs.Table.{set_at}
-use Rattle.world_model.specs.World.{only}
+use Rattle.world_model.specs.World.{World, only}
 
 -- whoever absorbs these items lives as before
 abbrev pub Keeps : List Item → Type 0
@@ -93,6 +98,19 @@ keep_lost page = keep_one (Lost page) (λ s. refl)
 pub keep_line : (line : ℕ) → Keeps (Line line ∷ [])
 keep_line line = keep_one (Line line) (λ s. refl)
 
+pub keep_asked : (outstanding deadline : ℕ) → Keeps (Asked outstanding deadline ∷ [])
+keep_asked outstanding deadline = keep_one (Asked outstanding deadline) (λ s. refl)
+
+copied_same : (page : ℕ) (backup : Option ℕ) (s : Solo) → (copied page backup s).life ≡ s.life
+copied_same page None s = refl
+copied_same page (Some backup) s = refl
+
+recorded_same : (n page : ℕ) (backup : Option ℕ) (s : Solo) → (recorded n page backup s).life ≡ s.life
+recorded_same n page backup s = if_bound (nat_lt n most_records) s (with_context (record_offset n) (record_bytes page backup) s) refl
+
+pub keep_taken : (page : ℕ) (backup : Option ℕ) → Keeps (Taken page backup ∷ [])
+keep_taken page backup = keep_one (Taken page backup) (λ s. let t = copied page backup s in recorded_same (post_word post.Takings t) page backup t ∙ copied_same page backup s)
+
 put_same : (r : Ring) (bytes : Option (List ℕ)) (s : Solo) → (put_in_ring r bytes s).life ≡ s.life
 put_same r None s = refl
 put_same r (Some bytes) s = refl
@@ -127,6 +145,11 @@ left_by_keeps b writer x e = left_at_keeps b writer x x.key e
 pub ring_left_keeps : (b : Book) (owner page : ℕ) (bytes : Option (List ℕ)) (e : ℕ) → Keeps (ring_left b owner page bytes e)
 ring_left_keeps b owner page None e = keep_none
 ring_left_keeps b owner page (Some bytes) e = left_by_keeps b owner (page_store page bytes) e
+
+-- or a copy of a page that is taken from another
+pub copy_left_keeps : (w : World) (x : Taking) (backup : Option ℕ) (e : ℕ) → Keeps (copy_left w x backup e)
+copy_left_keeps w x None e = keep_none
+copy_left_keeps w x (Some backup) e = left_by_keeps w.book x.env (page_store backup (page_bytes w x.page)) e
 
 pub lost_with_keeps : (b : Book) (gone e page : ℕ) → Keeps (lost_with b gone e page)
 lost_with_keeps b gone e zero = keep_none

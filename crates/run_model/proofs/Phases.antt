@@ -1,7 +1,7 @@
 -- Phases in turn, and the moments of a tick.
-use Rattle.std.proofs.Common.{◌≡◌, ℕ, zero, suc, ◌+◌, List, [], ◌∷◌, ◌++◌, length, map, take, Bool, false, refl, sym, ◌∙◌, ap, subst, append_assoc, Option, None, Some}
+use Rattle.std.proofs.Common.{arith, ◌≡◌, ℕ, zero, suc, ◌+◌, List, [], ◌∷◌, ◌++◌, length, map, take, Bool, false, refl, sym, ◌∙◌, ap, subst, append_assoc, Option, None, Some}
 use Rattle.std.specs.Prelude.{if◌then◌else◌, slice_get}
-use Rattle.std.proofs.lemmas.List.{append-nil, length-map}
+use Rattle.std.proofs.lemmas.List.{append-nil, length-append, length-map}
 use Rattle.std.proofs.lemmas.List.Sums.{fold-append}
 use Rattle.std.proofs.Math.Seq.{take-append-add, take-append_seam, take-length}
 use Rattle.world_model.specs.Solo.{Solo}
@@ -10,8 +10,10 @@ use Rattle.world_model.specs.Item.{Item, absorb, absorb_all}
 use Rattle.world_model.specs.World.{World, Reply, after, followed, in_turn, no_change, run_phases}
 use Rattle.external_event.specs.declared.event.Occurrence.{Occurrence}
 use Rattle.world_model.specs.Event.{happen}
-use Rattle.world_model.specs.Tick.{phases_after, step, tick_phases, timer, turn}
-use Rattle.run_model.specs.Run.{InTurnIsEach, MomentsAreInOrder, System, at_step, at_timer, at_turn, happens_in, items_in, items_of_events, items_of_phases, moment, next_phases, phases_in, world_after}
+use Rattle.revocation_book.specs.declared.revocation.Taking.{Taking}
+use Rattle.world_model.specs.Deadlines.{settles, takes}
+use Rattle.world_model.specs.Tick.{phases_after, serve_phases, served, step, tick_phases, timer, turn}
+use Rattle.run_model.specs.Run.{InTurnIsEach, MomentsAreInOrder, System, at_deadlines, at_step, at_timer, at_turn, happens_in, items_in, items_of_events, items_of_phases, items_of_takings, moment, next_phases, once_happened, phases_in, takings_in, world_after}
 
 -- what is absorbed in two parts is absorbed in one
 pub absorb-append : (s : Solo) (xs ys : List Item) → absorb_all s (xs ++ ys) ≡ absorb_all (absorb_all s xs) ys
@@ -44,44 +46,76 @@ items_append w (x ∷ xs) ys e =
     let v = after w (x w) in
     ap (λ items. (x w).items e ++ items) (items_append v xs ys e) ∙ sym (append_assoc ((x w).items e) ((in_turn xs v).items e) ((in_turn ys (run_phases v xs)).items e))
 
--- a tick once so many phases behind its events are over
-module _ (happens : List Occurrence) (w : World) where
+-- A tick once its events and its takings are over.
+abbrev behind : List (World → Reply)
+behind = turn ∷ step ∷ timer ∷ []
+
+pub tick_in_two : (xs : List Taking) → tick_phases xs ≡ serve_phases xs ++ behind
+tick_in_two xs = sym (append_assoc (map takes xs) (settles ∷ []) behind)
+
+serve_length : (xs : List Taking) → length (serve_phases xs) ≡ length xs + 1
+serve_length xs = length-append (map takes xs) (settles ∷ []) ∙ ap (λ n. n + 1) (length-map xs takes)
+
+module _ (happens : List Occurrence) (xs : List Taking) (w : World) where
   abbrev early : World
   early = run_phases w (map happen happens)
 
-  events_over : run_phases w (take (length happens) (phases_after happens)) ≡ early
+  abbrev settled : World
+  settled = run_phases early (serve_phases xs)
+
+  events_over : run_phases w (take (length happens) (phases_after happens xs)) ≡ early
   events_over =
-      ap (λ n. run_phases w (take n (phases_after happens))) (sym (length-map happens happen))
-      ∙ ap (run_phases w) (take-append_seam (map happen happens) tick_phases)
+      ap (λ n. run_phases w (take n (phases_after happens xs))) (sym (length-map happens happen))
+      ∙ ap (run_phases w) (take-append_seam (map happen happens) (tick_phases xs))
 
-  so_many_over : (k : ℕ) → run_phases w (take (length happens + k) (phases_after happens)) ≡ run_phases early (take k tick_phases)
+  so_many_over : (k : ℕ) → run_phases w (take (length happens + k) (phases_after happens xs)) ≡ run_phases early (take k (tick_phases xs))
   so_many_over k =
-      ap (λ n. run_phases w (take (n + k) (phases_after happens))) (sym (length-map happens happen))
-      ∙ ap (run_phases w) (take-append-add (map happen happens) tick_phases k)
-      ∙ run_append w (map happen happens) (take k tick_phases)
+      ap (λ n. run_phases w (take (n + k) (phases_after happens xs))) (sym (length-map happens happen))
+      ∙ ap (run_phases w) (take-append-add (map happen happens) (tick_phases xs) k)
+      ∙ run_append w (map happen happens) (take k (tick_phases xs))
 
--- the turn is taken once the events are over
-pub turn_after_events : (system : System) (t : ℕ) → at_turn system t ≡ run_phases (world_after system t) (map happen (happens_in system.schedule (world_after system t)))
-turn_after_events system t = let w = world_after system t in events_over (happens_in system.schedule w) w
+  served_over : (k : ℕ) → run_phases early (take (length xs + 1 + k) (tick_phases xs)) ≡ run_phases settled (take k behind)
+  served_over k =
+      ap (λ n. run_phases early (take (n + k) (tick_phases xs))) (sym (serve_length xs))
+      ∙ ap (λ phases. run_phases early (take (length (serve_phases xs) + k) phases)) (tick_in_two xs)
+      ∙ ap (run_phases early) (take-append-add (serve_phases xs) behind k)
+      ∙ run_append early (serve_phases xs) (take k behind)
+
+  all_over : (n k : ℕ) → n ≡ length happens + (length xs + 1 + k) → run_phases w (take n (phases_after happens xs)) ≡ run_phases settled (take k behind)
+  all_over n k is = ap (λ m. run_phases w (take m (phases_after happens xs))) is ∙ so_many_over (length xs + 1 + k) ∙ served_over k
 
 module _ (system : System) (t : ℕ) where
   abbrev before : World
   before = world_after system t
 
-  abbrev happens : List Occurrence
-  happens = happens_in system.schedule before
+  abbrev events : List Occurrence
+  events = happens_in system.schedule before
+
+  abbrev taken : List Taking
+  taken = takings_in system t
+
+  -- the deadlines are served once the events are over, and the turn is taken once they are served
+  pub deadlines_after_events : at_deadlines system t ≡ once_happened system.schedule before
+  deadlines_after_events = events_over events taken before
+
+  pub turn_after_serving : at_turn system t ≡ served (at_deadlines system t)
+  turn_after_serving =
+      all_over events taken before (length events + (length taken + 1)) 0 (omega arith)
+      ∙ ap served (sym deadlines_after_events)
+
+  after_turn : (k : ℕ) → run_phases before (take (length events + (length taken + 1) + k) (phases_after events taken)) ≡ run_phases (at_turn system t) (take k behind)
+  after_turn k =
+      all_over events taken before (length events + (length taken + 1) + k) k (omega arith)
+      ∙ ap (λ (w : World). run_phases w (take k behind)) (sym (all_over events taken before (length events + (length taken + 1)) 0 (omega arith)))
 
   pub step_after_turn : at_step system t ≡ after (at_turn system t) (turn (at_turn system t))
-  step_after_turn = so_many_over happens before 1 ∙ ap (λ (w : World). after w (turn w)) (sym (turn_after_events system t))
+  step_after_turn = after_turn 1
 
   abbrev made : World → World
   made w = let v = after w (turn w) in after v (step v)
 
   pub timer_after_step : at_timer system t ≡ after (at_step system t) (step (at_step system t))
-  timer_after_step =
-      so_many_over happens before 2
-      ∙ ap made (sym (turn_after_events system t))
-      ∙ ap (λ (w : World). after w (step w)) (sym step_after_turn)
+  timer_after_step = after_turn 2 ∙ ap (λ (w : World). after w (step w)) (sym step_after_turn)
 
   abbrev timed : World → World
   timed w = after w (timer w)
@@ -89,30 +123,44 @@ module _ (system : System) (t : ℕ) where
   pub next_after_timer : is_idle_book before.book ≡ false → world_after system (suc t) ≡ after (at_timer system t) (timer (at_timer system t))
   next_after_timer busy =
       ap (λ (idle : Bool). if idle then before else run_phases before (next_phases system.schedule before)) busy
-      ∙ run_append before (map happen happens) tick_phases
-      ∙ ap timed (sym (so_many_over happens before 2))
+      ∙ run_append before (map happen events) (tick_phases taken)
+      ∙ ap (run_phases (early events taken before)) (tick_in_two taken)
+      ∙ run_append (early events taken before) (serve_phases taken) behind
+      ∙ ap timed (sym (all_over events taken before (length events + (length taken + 1) + 2) 2 (omega arith)))
 
-  -- what the phases behind the events give
+  -- what the turn, the step and the timer give
   abbrev given_from : ℕ → World → World → World → List Item
   given_from e w mid last = (turn w).items e ++ ((step mid).items e ++ (timer last).items e)
 
-  given_by_phases : (e : ℕ) (w : World) → (in_turn tick_phases w).items e ≡ given_from e w (after w (turn w)) (made w)
-  given_by_phases e w = let v = after w (turn w) in ap (λ items. (turn w).items e ++ ((step v).items e ++ items)) (append-nil ((timer (made w)).items e))
+  given_behind : (e : ℕ) (w : World) → (in_turn behind w).items e ≡ given_from e w (after w (turn w)) (made w)
+  given_behind e w = let v = after w (turn w) in ap (λ items. (turn w).items e ++ ((step v).items e ++ items)) (append-nil ((timer (made w)).items e))
 
-  pub items_in_order : (e : ℕ) → is_idle_book before.book ≡ false → items_in system t e ≡ items_of_events system t e ++ items_of_phases system t e
-  items_in_order e busy =
-      let early = run_phases before (map happen happens) in
-      ap (λ (idle : Bool). if idle then [] else (in_turn (next_phases system.schedule before) before).items e) busy
-      ∙ items_append before (map happen happens) tick_phases e
-      ∙ ap (λ items. items_of_events system t e ++ items) (
-      given_by_phases e early
-      ∙ ap (λ (w : World). given_from e w (after w (turn w)) (made w)) (sym (turn_after_events system t))
+  given_at_turn : (e : ℕ) → (in_turn behind (at_turn system t)).items e ≡ items_of_phases system t e
+  given_at_turn e =
+      given_behind e (at_turn system t)
       ∙ ap (λ (w : World). given_from e (at_turn system t) w (after w (step w))) (sym step_after_turn)
       ∙ ap (λ (w : World). given_from e (at_turn system t) (at_step system t) w) (sym timer_after_step)
-      )
+
+  given_at_deadlines : (e : ℕ) → (in_turn (tick_phases taken) (at_deadlines system t)).items e ≡ items_of_takings system t e ++ items_of_phases system t e
+  given_at_deadlines e =
+      let w = at_deadlines system t in
+      let served_by = ap (λ (v : World). run_phases v (serve_phases taken)) deadlines_after_events ∙ sym (all_over events taken before (length events + (length taken + 1)) 0 (omega arith)) in
+      ap (λ phases. (in_turn phases w).items e) (tick_in_two taken)
+      ∙ items_append w (serve_phases taken) behind e
+      ∙ ap (λ (v : World). items_of_takings system t e ++ (in_turn behind v).items e) served_by
+      ∙ ap (λ items. items_of_takings system t e ++ items) (given_at_turn e)
+
+  pub items_in_order : (e : ℕ) → is_idle_book before.book ≡ false → items_in system t e ≡ items_of_events system t e ++ (items_of_takings system t e ++ items_of_phases system t e)
+  items_in_order e busy =
+      ap (λ (idle : Bool). if idle then [] else (in_turn (next_phases system.schedule before) before).items e) busy
+      ∙ items_append before (map happen events) (tick_phases taken) e
+      ∙ ap (λ (w : World). items_of_events system t e ++ (in_turn (tick_phases taken) w).items e) (sym deadlines_after_events)
+      ∙ ap (λ items. items_of_events system t e ++ items) (given_at_deadlines e)
 
 pub moments_in_order : MomentsAreInOrder
 moments_in_order system t = record {
+  happened = deadlines_after_events system t;
+  served = turn_after_serving system t;
   turned = step_after_turn system t;
   stepped = timer_after_step system t;
   timed = next_after_timer system t;
@@ -140,27 +188,21 @@ tick_moment system t busy =
     let phases = next_phases system.schedule w in
     ap (λ (idle : Bool). if idle then w else run_phases w phases) busy ∙ ap (run_phases w) (sym (take-length phases))
 
--- Each phase of a tick is an event, the turn, the step or the timer.
-module _ (P : (World → Reply) → Type 0) (events : (what : Occurrence) → P (happen what)) (turns : P turn) (steps : P step) (times : P timer) where
-  of_phases : (k : ℕ) (phase : World → Reply) → slice_get tick_phases k ≡ Some phase → P phase
-  of_phases zero phase is = subst P (one turn phase is) turns
-    where
-      one : (p q : World → Reply) → Some p ≡ Some q → p ≡ q
-      one p q same = cc
-  of_phases (suc zero) phase is = subst P (one step phase is) steps
-    where
-      one : (p q : World → Reply) → Some p ≡ Some q → p ≡ q
-      one p q same = cc
-  of_phases (suc (suc zero)) phase is = subst P (one timer phase is) times
-    where
-      one : (p q : World → Reply) → Some p ≡ Some q → p ≡ q
-      one p q same = cc
-  of_phases (suc (suc (suc k))) phase is = cc
+-- Each phase of a tick is an event, a taking, the end of deadlines, the turn, the step or the timer.
+one : (P : (World → Reply) → Type 0) (p q : World → Reply) → P p → Some p ≡ Some q → P q
+one P p q its same = let is : p ≡ q = cc in subst P is its
 
-  pub of_each : (happens : List Occurrence) (k : ℕ) (phase : World → Reply) → slice_get (phases_after happens) k ≡ Some phase → P phase
-  of_each [] k phase is = of_phases k phase is
-  of_each (what ∷ happens) zero phase is = subst P (one (happen what) phase is) (events what)
-    where
-      one : (p q : World → Reply) → Some p ≡ Some q → p ≡ q
-      one p q same = cc
-  of_each (what ∷ happens) (suc k) phase is = of_each happens k phase is
+module _ (P : (World → Reply) → Type 0) (occurs : (what : Occurrence) → P (happen what)) (takings : (x : Taking) → P (takes x)) (ends : P settles) (turns : P turn) (steps : P step) (times : P timer) where
+  of_phases : (xs : List Taking) (k : ℕ) (phase : World → Reply) → slice_get (tick_phases xs) k ≡ Some phase → P phase
+  of_phases [] zero phase is = one P settles phase ends is
+  of_phases [] (suc zero) phase is = one P turn phase turns is
+  of_phases [] (suc (suc zero)) phase is = one P step phase steps is
+  of_phases [] (suc (suc (suc zero))) phase is = one P timer phase times is
+  of_phases [] (suc (suc (suc (suc k)))) phase is = cc
+  of_phases (x ∷ xs) zero phase is = one P (takes x) phase (takings x) is
+  of_phases (x ∷ xs) (suc k) phase is = of_phases xs k phase is
+
+  pub of_each : (happens : List Occurrence) (xs : List Taking) (k : ℕ) (phase : World → Reply) → slice_get (phases_after happens xs) k ≡ Some phase → P phase
+  of_each [] xs k phase is = of_phases xs k phase is
+  of_each (what ∷ happens) xs zero phase is = one P (happen what) phase (occurs what) is
+  of_each (what ∷ happens) xs (suc k) phase is = of_each happens xs k phase is

@@ -20,11 +20,14 @@ use Rattle.world_model.specs.declared.life.Cause.{Cause}
 use Rattle.world_model.specs.declared.slot.Hold.{Hold}
 use Rattle.world_model.specs.declared.slot.Runner.{Runner}
 use Rattle.world_model.specs.declared.call.Deed.{Deed}
-use Rattle.world_model.specs.declared.call.Deed.TheVariants.{Answers, Own, Stops, Gives, Allocates, Frees, Recaps, Binds, Unbinds, Transfers, TakesSlot, DropsSlot, TakesLine, DropsLine, Claims, Unclaims}
+use Rattle.world_model.specs.declared.call.Deed.TheVariants.{Answers, Own, Stops, Gives, Allocates, Frees, Recaps, Binds, Unbinds, Transfers, TakesSlot, DropsSlot, TakesLine, DropsLine, Claims, Unclaims, Loads}
 use Rattle.world_model.specs.declared.verdict.Verdict.{Verdict}
 use Rattle.world_model.specs.declared.verdict.Verdict.TheVariants.{Refuse, Grant}
 use Rattle.filter_tree.specs.ClaimBook.{ClaimValue}
 use Rattle.filter_tree.specs.Claims.{is_into}
+use Rattle.revocation_book.specs.declared.revocation.Pending.{Pending}
+use Rattle.revocation_book.specs.Pending.{lowered}
+use Rattle.revocation_book.specs.Backups.{loaded, unloaded}
 use Rattle.world_model.specs.Table.{set_at}
 use Rattle.world_model.specs.Book.{broken, own_hold, released, withdrawn}
 use Rattle.world_model.specs.Call.{called}
@@ -262,6 +265,11 @@ module _ (w : World) (e : ℕ) (good : IsAccounted w) (lives : Lives w e) where
       → Mild w (record { book = record w.book { pages = pages; binds = binds; claims = claims }; items = items; rows = [] })
   repaged pages binds claims items keeps = record { excess = refl; quiet = tt; keeps = keeps; slots = good.slots_live; runner = good.runner_lives }
 
+  -- and other backups, where another number of pages may be asked for
+  revoked : (pages : ℕ → PageRow) (binds : ℕ → ℕ → Option Binding) (claims : List ClaimValue) (pending : ℕ → Option Pending) (backups : ℕ → List ℕ) (items : ℕ → List Item) → ((i : ℕ) → Keeps (items i))
+      → Mild w (record { book = record w.book { pages = pages; binds = binds; claims = claims; pending = pending; backups = backups }; items = items; rows = [] })
+  revoked pages binds claims pending backups items keeps = record { excess = refl; quiet = tt; keeps = keeps; slots = good.slots_live; runner = good.runner_lives }
+
   -- another slot
   reslotted : (k : ℕ) (hold : Option Hold) → ((new : Hold) → hold ≡ Some new → Lives w new.owner × Lives w new.holder) → Mild w (with_slot w k hold)
   reslotted k hold now = record {
@@ -301,7 +309,8 @@ module _ (w : World) (e : ℕ) (good : IsAccounted w) (lives : Lives w e) where
       repaged (set_at page (Owned e words) w.book.pages) w.book.binds w.book.claims (only e items) (keep_only e items (keep_gained page true zero_page))
   deed_is_mild (Frees page) may =
       let items = Lost page ∷ [] in
-      repaged (set_at page Free w.book.pages) (broken page None w.book).binds (withdrawn (is_into page) w.book).claims (set_at e items (breaks w.book page)) (keep_set e items (breaks w.book page) (keep_lost page) (breaks_keep w.book page))
+      revoked (set_at page Free w.book.pages) (broken page None w.book).binds (withdrawn (is_into page) w.book).claims (set_at e (lowered (w.book.pending e)) w.book.pending) (set_at e (unloaded page (w.book.backups e)) w.book.backups)
+      (set_at e items (breaks w.book page)) (keep_set e items (breaks w.book page) (keep_lost page) (breaks_keep w.book page))
   deed_is_mild (Recaps page words) may =
       repaged (set_at page (Owned e words) w.book.pages) (broken page (Some e) w.book).binds w.book.claims (set_at e [] (breaks w.book page)) (keep_set e [] (breaks w.book page) keep_none (breaks_keep w.book page))
   deed_is_mild (Binds b word) may =
@@ -317,6 +326,7 @@ module _ (w : World) (e : ℕ) (good : IsAccounted w) (lives : Lives w e) where
   deed_is_mild (DropsLine line) may = relined line None
   deed_is_mild (Claims claim address atoms page) may = reclaimed (claims_packets w e claim address atoms page).book.claims (w.book.next_claim + 1)
   deed_is_mild (Unclaims claim) may = reclaimed (unclaims w e claim).book.claims w.book.next_claim
+  deed_is_mild (Loads page) may = revoked w.book.pages w.book.binds w.book.claims w.book.pending (set_at e (loaded page (w.book.backups e)) w.book.backups) no_items (λ i. keep_none)
 
   -- behind an answer
   answer_is_mild : (verdict : Verdict) (r : Reply) → Mild w r → Mild w (followed (tells e (Answer verdict) w) r)

@@ -76,6 +76,12 @@ quiet_dead t k e = record { no_over = λ e. refl; no_pay = λ e. refl; lawful = 
 pub quiet_unclaimed : (t length : ℕ) → IsQuiet (row.Unclaimed t length)
 quiet_unclaimed t length = record { no_over = λ e. refl; no_pay = λ e. refl; lawful = λ before. tt }
 
+pub quiet_asked : (t e outstanding deadline : ℕ) → IsQuiet (row.Asked t e outstanding deadline)
+quiet_asked t e outstanding deadline = record { no_over = λ e. refl; no_pay = λ e. refl; lawful = λ before. tt }
+
+pub quiet_take : (t e page : ℕ) (backup : Option ℕ) → IsQuiet (row.Take t e page backup)
+quiet_take t e page backup = record { no_over = λ e. refl; no_pay = λ e. refl; lawful = λ before. tt }
+
 pub quiet_slot : (t k : ℕ) (hold : Option Hold) → IsQuiet (slot_row t k hold)
 quiet_slot t k None = quiet_own t k None None
 quiet_slot t k (Some hold) = quiet_own t k (Some hold.owner) (Some hold.holder)

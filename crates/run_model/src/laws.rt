@@ -7,15 +7,17 @@ ghost use Rattle.run_model.specs.Licensed.{FeedIsLicensed, GivenIsLicensed};
 ghost use Rattle.run_model.specs.Run.{InTurnIsEach, IsFoldOfFeed, MomentsAreInOrder};
 
 use call_verdicts::law_granted;
+use revocation_book::law_takable;
 
 /// Phases in turn are the phases one after another, each in the world that the one before it leaves.
 pub fn law_in_turn()
     ensures { InTurnIsEach }
 {}
 
-/// The moments of a tick come in their order: the step is made after the turn, the timer counts after the step, and
-/// where the board isn't idle the next tick begins after the timer, and each environment is given what events, turn,
-/// step and timer give to it, in this order.
+/// The moments of a tick come in their order: the deadlines are served once the events are over, the turn is taken after
+/// that, the step is made after the turn, the timer counts after the step, and where the board isn't idle the next tick
+/// begins after the timer, and each environment is given what events, takings, turn, step and timer give to it, in this
+/// order.
 pub fn law_moments()
     ensures { MomentsAreInOrder }
 {}
@@ -69,6 +71,7 @@ pub fn law_licence()
     ensures { GivenIsLicensed }
 {
     law_granted();
+    law_takable();
 }
 
 /// Every item of every feed has its licence where it is given, at boot or in a phase of a tick.
@@ -76,4 +79,5 @@ pub fn law_feed_licence()
     ensures { FeedIsLicensed }
 {
     law_granted();
+    law_takable();
 }
