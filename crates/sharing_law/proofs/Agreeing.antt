@@ -1,6 +1,7 @@
 -- The book and the environments agree, at each moment.
-use Rattle.std.proofs.Common.{◌≡◌, ◌≤◌, ℕ, zero, suc, ◌+◌, List, [], ◌∷◌, map, Bool, true, false, Option, Some, None, inl, inr, refl, sym, ◌∙◌, ap, subst, arith}
+use Rattle.std.proofs.Common.{◌≡◌, ◌≤◌, ℕ, zero, suc, ◌+◌, List, [], ◌∷◌, length, map, take, Bool, true, false, Option, Some, None, inl, inr, refl, sym, ◌∙◌, ap, subst, arith}
 use Rattle.std.proofs.lemmas.Bool.{both_ways}
+use Rattle.std.proofs.Math.Seq.{take-nil}
 use Rattle.std.specs.Prelude.{◌==◌, ◌↔◌, filter, if◌then◌else◌, slice_get}
 use Rattle.boot_image.specs.ImageValue.{ImageValue, ProgramValue, guaranteed_mappings}
 use Rattle.page_book.specs.declared.row.PageRow.{PageRow}
@@ -22,24 +23,33 @@ use Rattle.world_model.specs.Event.{happen}
 use Rattle.world_model.specs.Solo.{Solo, absent}
 use Rattle.world_model.specs.Item.{absorb_all}
 use Rattle.world_model.specs.PageCalls.{page_bytes}
-use Rattle.world_model.specs.World.{World, Reply, after}
-use Rattle.world_model.specs.Tick.{phases_after, step, step_when, timer, turn}
+use Rattle.world_model.specs.World.{World, Reply, after, run_phases}
+use Rattle.revocation_book.specs.declared.revocation.Taking.{Taking}
+use Rattle.revocation_book.specs.Backups.{is_loaded, most_backups}
+use Rattle.revocation_book.specs.Takings.{AreTakable, TakingsAreTakable}
+use Rattle.world_model.specs.ClaimCalls.{claim_of}
+use Rattle.world_model.specs.Deadlines.{revocations, settles, takes}
+use Rattle.world_model.specs.Tick.{phases_after, step, step_when, tick_phases, timer, turn}
 use Rattle.call_verdicts.specs.Granted.{GrantedMay}
 use Rattle.run_model.specs.Boot.{boot_book, boot_world, keep_lowest, keep_pages, record_items, with_all_kept, with_kept}
-use Rattle.run_model.specs.Run.{System, happens_in, moment, phases_in, world_after}
+use Rattle.run_model.specs.Run.{System, happens_in, moment, phases_in, takings_in, world_after}
 use Rattle.run_model.specs.Excess.{IsAccounted}
-use Rattle.run_model.proofs.Balance.{KeepsAccounts, boots_accounted, happen_accounts, step_keeps, timer_accounts, turn_keeps}
-use Rattle.run_model.proofs.Phases.{next_moment, of_each, once_more, tick_moment}
+use Rattle.run_model.specs.Licensed.{MayTaking}
+use Rattle.run_model.proofs.Balance.{KeepsAccounts, boots_accounted, happen_accounts, settling_accounts, step_keeps, taking_accounts, timer_accounts, turn_keeps}
+use Rattle.run_model.proofs.Phases.{tick_moment}
 use Rattle.page_sight.proofs.Tables.{set_else}
-use Rattle.sharing_law.specs.Agreement.{AreBoundAllocated, BooksAgree, BoundIsAllocated, ClaimsAgree, ClaimsAreApart, ClaimsAreSound, claim_page, ring_page}
+use Rattle.sharing_law.specs.Agreement.{AreBoundAllocated, BooksAgree, BackupsAreOwned, BoundIsAllocated, ClaimsAgree, ClaimsAreApart, ClaimsAreSound, claim_page, ring_page}
 use Rattle.sharing_law.proofs.Sound.{HasNone, Sound, sees_nothing}
+use Rattle.sharing_law.proofs.Backups.{AreBacked, AreOnce, arrival_backed, backed_owned, backups_owned, step_backed, taking_backed, timer_backed}
 use Rattle.sharing_law.proofs.Books.{step_allocated}
 use Rattle.sharing_law.proofs.Claimed.{Claimed, claimed_alike}
 use Rattle.sharing_law.proofs.Delivering.{arrived_sound}
-use Rattle.sharing_law.proofs.Happening.{happen_lists, signalled_alike}
+use Rattle.sharing_law.proofs.Happening.{happen_lists, revoked_alike, signalled_alike}
+use Rattle.sharing_law.proofs.Listing.{allocated_less, settled_alike, taking_lists}
 use Rattle.sharing_law.proofs.Lists.{Has}
 use Rattle.sharing_law.proofs.Turning.{IsAlike, allocated_same, lists_alike, sound_alike, turn_alike, unchanged}
-use Rattle.sharing_law.proofs.Moments.{stays_idle}
+use Rattle.sharing_law.proofs.Moments.{stays_idle, taken_may}
+use Rattle.sharing_law.proofs.Repossessing.{taking_claimed, taking_sound}
 use Rattle.sharing_law.proofs.Stepping.{claimed_following, sound_following, step_follows}
 use Rattle.sharing_law.proofs.Timing.{allocated_timed, claimed_timed, sound_timed}
 
@@ -71,6 +81,7 @@ record IsFresh (b : Book) : Type 0 where
   pages : AreFresh b.page_count b.pages
   binds : (e row : ℕ) → b.binds e row ≡ None
   claims : b.claims ≡ []
+  backups : (e : ℕ) → b.backups e ≡ []
 
 fresh_kept : (e : ℕ) (programs : List ProgramValue) (b : Book) → IsFresh b → IsFresh (with_all_kept e programs b)
 fresh_kept e [] b fresh = fresh
@@ -78,6 +89,7 @@ fresh_kept e (p ∷ programs) b fresh = fresh_kept (e + 1) programs (with_kept e
   pages = fresh_pages e b.page_count (guaranteed_mappings p) b.pages fresh.pages;
   binds = fresh.binds;
   claims = fresh.claims;
+  backups = fresh.backups;
 })
 
 -- and environments see nothing
@@ -99,6 +111,7 @@ module _ (image : ImageValue) where
     pages = record { owns = λ i page. refl; behind = λ page more. refl };
     binds = λ e row. refl;
     claims = refl;
+    backups = λ e. refl;
   })
 
   none_yet : (i : ℕ) → HasNone i (boot_world image).book.pages ((boot_world image).book.binds i)
@@ -127,33 +140,66 @@ module _ (image : ImageValue) where
       none_claimed : (c : ClaimValue) → Has (boot_world image).book.claims c → ⊥
       none_claimed c (k, there) = let never : None ≡ Some c = ap (λ (claims : List ClaimValue). slice_get claims k) (sym book_fresh.claims) ∙ there in cc
 
--- A world that is sound and accounted, where no page is bound that isn't allocated: each phase of a tick leaves such a one.
+  backed_boot : AreBacked (boot_world image).book
+  backed_boot = record {
+    owned = λ e page is. let never : false ≡ true = ap (λ (pages : List ℕ). is_loaded pages page) (sym (book_fresh.backups e)) ∙ is in cc;
+    once = λ e. subst AreOnce (sym (book_fresh.backups e)) tt;
+    few = λ e. subst (λ (pages : List ℕ). length pages ≤ most_backups) (sym (book_fresh.backups e)) (omega arith);
+  }
+
+-- A world that is sound and accounted, where no page is bound that isn't allocated, and backups are their owners': each phase of a tick leaves such a one.
 pub record Fine (w : World) : Type 0 where
   pub sound : Sound w
   pub allocated : AreBoundAllocated w
   pub accounted : IsAccounted w
   pub claimed : Claimed w
+  pub backed : AreBacked w.book
 
 abbrev KeepsFine : (World → Reply) → Type 0
 KeepsFine phase = (w : World) → Fine w → Fine (after w (phase w))
 
+-- backups are as they were
+backed_alike : (w v : World) → IsAlike w v → AreBacked w.book → AreBacked v.book
+backed_alike w v alike = backed_owned w.book v.book alike.backups (λ i p owned. (λ k. is_owned_by i (alike.pages k p)) ∙ owned)
+
 fine_alike : (phase : World → Reply) → ((w : World) → IsAlike w (after w (phase w))) → KeepsAccounts phase → KeepsFine phase
 fine_alike phase alike accounts w fine =
     let v = after w (phase w) in
-    record { sound = sound_alike w v (alike w) fine.sound; allocated = allocated_same w v (lists_alike w v (alike w)) fine.allocated; accounted = accounts w fine.accounted; claimed = claimed_alike w v (alike w) fine.claimed }
+    record { sound = sound_alike w v (alike w) fine.sound; allocated = allocated_same w v (lists_alike w v (alike w)) fine.allocated; accounted = accounts w fine.accounted; claimed = claimed_alike w v (alike w) fine.claimed; backed = backed_alike w v (alike w) fine.backed }
 
 -- what happens from outside, kind by kind
-fine_event : (what : Occurrence) → KeepsFine (happen what)
+pub fine_event : (what : Occurrence) → KeepsFine (happen what)
 fine_event (outside.Packet packet) w fine =
     let v = after w (happen (outside.Packet packet) w) in
     let arrived = arrived_sound w packet fine.sound fine.claimed fine.allocated in
-    record { sound = arrived.0; allocated = allocated_same w v (happen_lists (outside.Packet packet) w) fine.allocated; accounted = happen_accounts (outside.Packet packet) w fine.accounted; claimed = arrived.1 }
+    record { sound = arrived.0; allocated = allocated_same w v (happen_lists (outside.Packet packet) w) fine.allocated; accounted = happen_accounts (outside.Packet packet) w fine.accounted; claimed = arrived.1; backed = arrival_backed packet (claim_of w.book packet) w fine.backed }
 fine_event (outside.Line line) w fine = fine_alike (happen (outside.Line line)) (signalled_alike line) (happen_accounts (outside.Line line)) w fine
+fine_event (outside.Revoke env count grace) w fine =
+    let what = outside.Revoke env count grace in fine_alike (happen what) (revoked_alike env count grace) (happen_accounts what) w fine
+
+-- a page that is taken, where it may be
+fine_taking : (x : Taking) (w : World) → MayTaking w x → Fine w → Fine (after w (takes x w))
+fine_taking x w may fine =
+    let v = after w (takes x w) in
+    let allocated = allocated_less w v (taking_lists x w) fine.allocated in
+    record {
+      sound = taking_sound w x fine.sound fine.claimed fine.backed may allocated;
+      allocated = allocated;
+      accounted = taking_accounts x w fine.accounted;
+      claimed = taking_claimed w x fine.sound fine.claimed fine.backed may;
+      backed = taking_backed x w may fine.backed;
+    }
+
+fine_settling : KeepsFine settles
+fine_settling = fine_alike settles settled_alike settling_accounts
+
+fine_turn : KeepsFine turn
+fine_turn = fine_alike turn turn_alike turn_keeps
 
 fine_timer : KeepsFine timer
 fine_timer w fine =
     let lives = fine.accounted.runner_lives in
-    record { sound = sound_timed w fine.sound fine.claimed lives fine.allocated; allocated = allocated_timed w fine.allocated; accounted = timer_accounts w fine.accounted; claimed = claimed_timed w fine.sound fine.claimed lives }
+    record { sound = sound_timed w fine.sound fine.claimed lives fine.allocated; allocated = allocated_timed w fine.allocated; accounted = timer_accounts w fine.accounted; claimed = claimed_timed w fine.sound fine.claimed lives; backed = timer_backed w fine.backed }
 
 module _ (granted : GrantedMay) where
   -- the step, whoever runs
@@ -172,44 +218,65 @@ module _ (granted : GrantedMay) where
   fine_step : KeepsFine step
   fine_step w fine =
       let next = step_allocated granted w fine.allocated in
-      record { sound = sound_step w w.book.runner refl fine next; allocated = next; accounted = step_keeps granted w fine.accounted; claimed = claimed_step w w.book.runner refl fine }
+      record { sound = sound_step w w.book.runner refl fine next; allocated = next; accounted = step_keeps granted w fine.accounted; claimed = claimed_step w w.book.runner refl fine; backed = step_backed granted w fine.backed }
 
-  fine_phase : (happens : List Occurrence) (k : ℕ) (phase : World → Reply) → slice_get (phases_after happens) k ≡ Some phase → KeepsFine phase
-  fine_phase = of_each KeepsFine fine_event (fine_alike turn turn_alike turn_keeps) fine_step fine_timer
+  -- a tick once so many of its phases behind its takings are over, and where what is taken may be, once so many of all
+  fine_served : (w : World) → Fine w → (k : ℕ) → Fine (run_phases w (take k (tick_phases [])))
+  fine_served w fine zero = fine
+  fine_served w fine (suc zero) = fine_settling w fine
+  fine_served w fine (suc (suc zero)) = let v = after w (settles w) in fine_turn v (fine_settling w fine)
+  fine_served w fine (suc (suc (suc zero))) = let v = after w (settles w) in let u = after v (turn v) in fine_step u (fine_turn v (fine_settling w fine))
+  fine_served w fine (suc (suc (suc (suc k)))) =
+      let v = after w (settles w) in
+      let u = after v (turn v) in
+      let m = after u (step u) in
+      subst (λ (phases : List (World → Reply)). Fine (run_phases (after m (timer m)) phases)) (sym (take-nil k)) (fine_timer m (fine_step u (fine_turn v (fine_settling w fine))))
 
-  -- at each moment of a tick
-  module _ (system : System) (t : ℕ) (fine : Fine (world_after system t)) where
-    abbrev happens : List Occurrence
-    happens = happens_in system.schedule (world_after system t)
+  fine_taken : (xs : List Taking) (w : World) → AreTakable (revocations w.book) w.book.time xs → Fine w → (k : ℕ) → Fine (run_phases w (take k (tick_phases xs)))
+  fine_taken [] w may fine k = fine_served w fine k
+  fine_taken (x ∷ xs) w may fine zero = fine
+  fine_taken (x ∷ xs) w (may, rest) fine (suc k) = fine_taken xs (after w (takes x w)) rest (fine_taking x w may fine) k
 
-    once_fine : (k : ℕ) (o : Option (World → Reply)) → slice_get (phases_after happens) k ≡ o → Fine (moment system t k) → Fine (once_more (moment system t k) o)
-    once_fine k None is before = before
-    once_fine k (Some phase) is before = fine_phase happens k phase is (moment system t k) before
+  fine_happened : (happens : List Occurrence) (xs : List Taking) (w : World) → (let v = run_phases w (map happen happens) in AreTakable (revocations v.book) v.book.time xs) → Fine w → (k : ℕ) → Fine (run_phases w (take k (phases_after happens xs)))
+  fine_happened [] xs w may fine k = fine_taken xs w may fine k
+  fine_happened (what ∷ happens) xs w may fine zero = fine
+  fine_happened (what ∷ happens) xs w may fine (suc k) = fine_happened happens xs (after w (happen what w)) may (fine_event what w fine) k
 
-    pub moment_fine : (k : ℕ) → Fine (moment system t k)
-    moment_fine zero = fine
-    moment_fine (suc k) = subst Fine (sym (next_moment system t k)) (once_fine k (slice_get (phases_after happens) k) refl (moment_fine k))
+  module _ (takable : TakingsAreTakable) where
+    -- at each moment of a tick
+    module _ (system : System) (t : ℕ) (fine : Fine (world_after system t)) where
+      pub moment_fine : (k : ℕ) → Fine (moment system t k)
+      moment_fine k = let w = world_after system t in fine_happened (happens_in system.schedule w) (takings_in system t) w (taken_may takable system t) fine k
 
-    fine_by : (idle : Bool) → is_idle_book (world_after system t).book ≡ idle → Fine (world_after system (suc t))
-    fine_by true idle = subst Fine (sym (stays_idle system t idle)) fine
-    fine_by false busy = subst Fine (sym (tick_moment system t busy)) (moment_fine (phases_in system t))
+      fine_by : (idle : Bool) → is_idle_book (world_after system t).book ≡ idle → Fine (world_after system (suc t))
+      fine_by true idle = subst Fine (sym (stays_idle system t idle)) fine
+      fine_by false busy = subst Fine (sym (tick_moment system t busy)) (moment_fine (phases_in system t))
 
-  -- and after every number of ticks
-  pub all_fine : (system : System) (t : ℕ) → Fine (world_after system t)
-  all_fine system zero = record { sound = sound_boot system.image; allocated = λ e row b is. absurd (none_bound system.image e row b is); accounted = boots_accounted system.image; claimed = claimed_boot system.image }
-  all_fine system (suc t) = fine_by system t (all_fine system t) (is_idle_book (world_after system t).book) refl
+    -- and after every number of ticks
+    pub all_fine : (system : System) (t : ℕ) → Fine (world_after system t)
+    all_fine system zero = record {
+      sound = sound_boot system.image;
+      allocated = λ e row b is. absurd (none_bound system.image e row b is);
+      accounted = boots_accounted system.image;
+      claimed = claimed_boot system.image;
+      backed = backed_boot system.image;
+    }
+    all_fine system (suc t) = fine_by system t (all_fine system t) (is_idle_book (world_after system t).book) refl
 
-pub books_agree : GrantedMay → BooksAgree
-books_agree granted system t = (all_fine granted system t).sound.agreed
+pub books_agree : GrantedMay → TakingsAreTakable → BooksAgree
+books_agree granted takable system t = (all_fine granted takable system t).sound.agreed
 
-pub bound_is_allocated : GrantedMay → BoundIsAllocated
-bound_is_allocated granted system t = (all_fine granted system t).allocated
+pub bound_is_allocated : GrantedMay → TakingsAreTakable → BoundIsAllocated
+bound_is_allocated granted takable system t = (all_fine granted takable system t).allocated
 
-pub claims_agree : GrantedMay → ClaimsAgree
-claims_agree granted system t = (all_fine granted system t).claimed.rings
+pub claims_agree : GrantedMay → TakingsAreTakable → ClaimsAgree
+claims_agree granted takable system t = (all_fine granted takable system t).claimed.rings
 
-pub claims_are_sound : GrantedMay → ClaimsAreSound
-claims_are_sound granted system t k c listed = let good = (all_fine granted system t).claimed.good.each c (k, listed) in record { owned = good.owned; below = good.below; only = good.only }
+pub claims_are_sound : GrantedMay → TakingsAreTakable → ClaimsAreSound
+claims_are_sound granted takable system t k c listed = let good = (all_fine granted takable system t).claimed.good.each c (k, listed) in record { owned = good.owned; below = good.below; only = good.only }
+
+pub backups_are_owned : GrantedMay → TakingsAreTakable → BackupsAreOwned
+backups_are_owned granted takable system t = backups_owned (world_after system t).book (all_fine granted takable system t).backed
 
 -- a packet that two filters match
 swap : (f g : List Atom) → Overlap f g → Overlap g f
@@ -219,9 +286,9 @@ swap f g (packet, common) = (packet, record { is = common.is; left = common.righ
 abbrev pub AgreeIsOverlap : Type 0
 AgreeIsOverlap = (f g : List Atom) → is_filter f ≡ true → is_filter g ≡ true → (agree f g ≡ true) ↔ Overlap f g
 
-pub claims_are_apart : GrantedMay → AgreeIsOverlap → ClaimsAreApart
-claims_are_apart granted overlap system t j k c d its others other common =
-    let good = (all_fine granted system t).claimed.good in
+pub claims_are_apart : GrantedMay → TakingsAreTakable → AgreeIsOverlap → ClaimsAreApart
+claims_are_apart granted takable overlap system t j k c d its others other common =
+    let good = (all_fine granted takable system t).claimed.good in
     let of_c = good.each c (j, its) in
     let of_d = good.each d (k, others) in
     elim (good.apart c d (j, its) (k, others) other) [

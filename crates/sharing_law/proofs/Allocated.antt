@@ -1,5 +1,5 @@
 -- Why the bytes of an allocated page change.
-use Rattle.std.proofs.Common.{◌≡◌, ℕ, zero, suc, List, [], ◌∷◌, Bool, true, false, Option, Some, None, ◌⊎◌, inl, inr, refl, sym, ◌∙◌, ap, subst, take}
+use Rattle.std.proofs.Common.{◌≡◌, ℕ, zero, suc, List, [], ◌∷◌, map, Bool, true, false, Option, Some, None, ◌⊎◌, inl, inr, refl, sym, ◌∙◌, ap, subst, take}
 use Rattle.std.specs.Prelude.{slice_get}
 use Rattle.page_book.specs.declared.row.PageRow.{PageRow}
 use Rattle.page_book.specs.declared.row.PageRow.TheVariants.{Free}
@@ -10,45 +10,59 @@ use Rattle.external_event.specs.declared.event.Occurrence.{Occurrence}
 use Rattle.external_event.specs.declared.event.Occurrence.TheVariants as outside
 use Rattle.world_model.specs.Event.{happen}
 use Rattle.world_model.specs.PageCalls.{page_bytes}
-use Rattle.world_model.specs.Tick.{phases_after, step, step_when, timer, turn}
+use Rattle.revocation_book.specs.declared.revocation.Taking.{Taking}
+use Rattle.revocation_book.specs.Takings.{AreTakable, TakingsAreTakable}
+use Rattle.world_model.specs.Deadlines.{revocations, settles, takes}
+use Rattle.world_model.specs.Tick.{phases_after, step, step_when, tick_phases, timer, turn}
 use Rattle.world_model.specs.World.{World, Reply, after, run_phases}
 use Rattle.call_verdicts.specs.Granted.{GrantedMay}
-use Rattle.run_model.specs.Run.{System, given_at, given_by, happens_in, moment, phases_in, world_after}
+use Rattle.run_model.specs.Licensed.{MayTaking}
+use Rattle.run_model.specs.Run.{System, given_at, given_by, happens_in, moment, next_phases, phases_in, takings_in, world_after}
 use Rattle.run_model.proofs.Phases.{next_moment, once_more, tick_moment}
 use Rattle.sharing_law.specs.Change.{AllocatedChange, AllocatedInTick, AllocatedZeros, IsAllocated, IsOwnedAt, IsStored, ZerosInTick}
-use Rattle.sharing_law.specs.Delivery.{IsDelivered}
+use Rattle.sharing_law.specs.Delivery.{IsCopied, IsDelivered}
 use Rattle.sharing_law.specs.Right.{row_after}
 use Rattle.sharing_law.proofs.Sound.{owner_bytes}
 use Rattle.sharing_law.proofs.Brings.{Fate, Stays, Written, Taken}
 use Rattle.sharing_law.proofs.Delivering.{IsInRing, arrived_bytes, delivered_in}
-use Rattle.sharing_law.proofs.Happening.{happen_lists, signalled_alike}
-use Rattle.sharing_law.proofs.Turning.{IsAlike, ListsSame, bytes_alike, lists_alike, lists_then, same_lists, turn_alike, unchanged}
+use Rattle.sharing_law.proofs.Happening.{happen_lists, revoked_alike, signalled_alike}
+use Rattle.sharing_law.proofs.Listing.{ListsLess, less_alike, less_same, less_then, settled_alike, taking_lists}
+use Rattle.sharing_law.proofs.Repossessing.{IsCopyIn, copied_in, taking_owned}
+use Rattle.sharing_law.proofs.Turning.{IsAlike, bytes_alike, same_lists, turn_alike, unchanged}
 use Rattle.sharing_law.proofs.Stepping.{all_see, step_follows}
 use Rattle.sharing_law.proofs.Timing.{timer_owned}
 use Rattle.sharing_law.proofs.Agreeing.{Fine, all_fine, moment_fine}
-use Rattle.sharing_law.proofs.Moments.{stays_idle}
+use Rattle.sharing_law.proofs.Moments.{stays_idle, taken_may}
 use Rattle.sharing_law.proofs.Leaving.{store_lives}
 
 -- What a phase makes of the pages that are owned after it.
 abbrev Fates : World → World → Type 0
 Fates w v = (o page : ℕ) → is_owned_by o (v.book.pages page) ≡ true → Fate w o page (page_bytes v page)
 
--- Apart from the step pages stay their owners', with their bytes, but where a packet comes.
+-- Apart from the step pages stay their owners', with their bytes, but where a packet comes or a page is taken.
 abbrev StayOrCome : World → Reply → Type 0
 StayOrCome w r = (o page : ℕ) → is_owned_by o (r.book.pages page) ≡ true
-    → (is_owned_by o (w.book.pages page) ≡ true) × ((page_bytes (after w r) page ≡ page_bytes w page) ⊎ IsInRing w r.items o page (page_bytes (after w r) page))
+    → (is_owned_by o (w.book.pages page) ≡ true) × ((page_bytes (after w r) page ≡ page_bytes w page) ⊎ (IsInRing w r.items o page (page_bytes (after w r) page) ⊎ IsCopyIn w r.items o page (page_bytes (after w r) page)))
 
 alike_fates : (w v : World) → IsAlike w v → Fates w v
 alike_fates w v alike o page owns = Stays (ap (is_owned_by o) (λ k. sym alike.pages k page) ∙ owns) (bytes_alike w v alike page)
+
+alike_stay : (w : World) (r : Reply) → IsAlike w (after w r) → StayOrCome w r
+alike_stay w r alike o page owns = (ap (is_owned_by o) (λ k. sym alike.pages k page) ∙ owns, inl (bytes_alike w (after w r) alike page))
 
 -- what happens from outside, kind by kind
 event_fates : (what : Occurrence) (w : World) → Fine w → StayOrCome w (happen what w)
 event_fates (outside.Packet packet) w fine o page owns =
     let had = (λ k. is_owned_by o (sym (happen_lists (outside.Packet packet) w).pages k page)) ∙ owns in
-    (had, arrived_bytes w packet fine.sound fine.claimed o page had)
-event_fates (outside.Line line) w fine o page owns =
-    let alike = signalled_alike line w in
-    ((λ k. is_owned_by o (sym alike.pages k page)) ∙ owns, inl (bytes_alike w (after w (happen (outside.Line line) w)) alike page))
+    (had, elim (arrived_bytes w packet fine.sound fine.claimed o page had) [ inl same ↦ inl same | inr comes ↦ inr (inl comes) ])
+event_fates (outside.Line line) w fine o page owns = alike_stay w (happen (outside.Line line) w) (signalled_alike line w) o page owns
+event_fates (outside.Revoke env count grace) w fine o page owns = alike_stay w (happen (outside.Revoke env count grace) w) (revoked_alike env count grace w) o page owns
+
+-- a page that is taken
+taking_fates : (x : Taking) (w : World) → MayTaking w x → Fine w → StayOrCome w (takes x w)
+taking_fates x w may fine o page owns =
+    let its = taking_owned w x fine.sound fine.claimed fine.backed may o page owns in
+    (its.0, elim its.1 [ inl same ↦ inl same | inr copy ↦ inr (inr copy) ])
 
 step_fates : GrantedMay → (w : World) (o : Option Runner) → w.book.runner ≡ o → Fine w → Fates w (after w (step_when w o))
 step_fates granted w None is fine o page owns = alike_fates w (after w (step_when w None)) (unchanged w) o page owns
@@ -59,33 +73,48 @@ step_fates granted w (Some r) is fine o page owns =
     let bytes = owner_bytes now brings.bytes (all_see w r.env stepped.came_to now stepped.items fine.sound stepped.follows) o page owns in
     subst (λ (its : List ℕ). Fate w o page its) (sym bytes) (brings.fate o page owns)
 
--- Up to the step the book lists what it did before the tick; and only in the step somebody stores.
+-- Up to the step the book lists nothing but what it did before the tick; and only in the step somebody stores.
 data PhaseFates (base w : World) (r : Reply) : Type 0 where
-  Stepwise : ListsSame base.book w.book → Fates w (after w r) → PhaseFates base w r
+  Stepwise : ListsLess base.book w.book → Fates w (after w r) → PhaseFates base w r
   Otherwise : StayOrCome w r → PhaseFates base w r
 
-module _ (granted : GrantedMay) where
-  one : (p q : World → Reply) → Some p ≡ Some q → p ≡ q
-  one p q same = cc
+-- the phase that is next, and another with the same name
+module _ (base w : World) where
+  its_fates : (p q : World → Reply) → PhaseFates base w (p w) → Some p ≡ Some q → PhaseFates base w (q w)
+  its_fates p q fates same = let is : p ≡ q = cc in subst (λ (r : World → Reply). PhaseFates base w (r w)) is fates
 
-  phase_fates : (happens : List Occurrence) (base w : World) (k : ℕ) (phase : World → Reply) → slice_get (phases_after happens) k ≡ Some phase → ListsSame base.book w.book
-      → (let m = run_phases w (take k (phases_after happens)) in Fine m → PhaseFates base m (phase m))
-  phase_fates [] base w zero phase is same fine = subst (λ (p : World → Reply). PhaseFates base w (p w)) (one turn phase is) (Stepwise same (alike_fates w (after w (turn w)) (turn_alike w)))
-  phase_fates [] base w (suc zero) phase is same fine =
-      let m = after w (turn w) in
-      subst (λ (p : World → Reply). PhaseFates base m (p m)) (one step phase is)
-      (Stepwise (lists_then base.book w.book m.book same (lists_alike w m (turn_alike w))) (step_fates granted m m.book.runner refl fine))
-  phase_fates [] base w (suc (suc zero)) phase is same fine =
-      let v = after w (turn w) in
-      let m = after v (step v) in
+module _ (granted : GrantedMay) (takable : TakingsAreTakable) where
+  fates_behind : (xs : List Taking) (base w : World) → AreTakable (revocations w.book) w.book.time xs → (k : ℕ) (phase : World → Reply) → slice_get (tick_phases xs) k ≡ Some phase → ListsLess base.book w.book
+      → (let m = run_phases w (take k (tick_phases xs)) in Fine m → PhaseFates base m (phase m))
+  fates_behind [] base w may zero phase is less fine = its_fates base w settles phase (Otherwise (alike_stay w (settles w) (settled_alike w))) is
+  fates_behind [] base w may (suc zero) phase is less fine =
+      let v = after w (settles w) in
+      its_fates base v turn phase (Otherwise (alike_stay v (turn v) (turn_alike v))) is
+  fates_behind [] base w may (suc (suc zero)) phase is less fine =
+      let v = after w (settles w) in
+      let m = after v (turn v) in
+      let left = less_alike base v m (less_alike base w v less (settled_alike w)) (turn_alike v) in
+      its_fates base m step phase (Stepwise left (step_fates granted m m.book.runner refl fine)) is
+  fates_behind [] base w may (suc (suc (suc zero))) phase is less fine =
+      let v = after w (settles w) in
+      let u = after v (turn v) in
+      let m = after u (step u) in
       let was = timer_owned m fine.sound fine.claimed fine.accounted.runner_lives in
-      subst (λ (p : World → Reply). PhaseFates base m (p m)) (one timer phase is) (Otherwise (λ o page owns. let its = was o page owns in (its.0, inl its.1)))
-  phase_fates [] base w (suc (suc (suc k))) phase is same fine = cc
-  phase_fates (what ∷ happens) base w zero phase is same fine =
-      subst (λ (p : World → Reply). PhaseFates base w (p w)) (one (happen what) phase is) (Otherwise (event_fates what w fine))
-  phase_fates (what ∷ happens) base w (suc k) phase is same fine =
+      its_fates base m timer phase (Otherwise (λ o page owns. let its = was o page owns in (its.0, inl its.1))) is
+  fates_behind [] base w may (suc (suc (suc (suc k)))) phase is less fine = cc
+  fates_behind (x ∷ xs) base w (may, rest) zero phase is less fine = its_fates base w (takes x) phase (Otherwise (taking_fates x w may fine)) is
+  fates_behind (x ∷ xs) base w (may, rest) (suc k) phase is less fine =
+      let v = after w (takes x w) in
+      fates_behind xs base v rest k phase is (less_then base.book w.book v.book less (taking_lists x w)) fine
+
+  phase_fates : (happens : List Occurrence) (xs : List Taking) (base w : World) → (let v = run_phases w (map happen happens) in AreTakable (revocations v.book) v.book.time xs)
+      → (k : ℕ) (phase : World → Reply) → slice_get (phases_after happens xs) k ≡ Some phase → ListsLess base.book w.book
+      → (let m = run_phases w (take k (phases_after happens xs)) in Fine m → PhaseFates base m (phase m))
+  phase_fates [] xs base w may k phase is less fine = fates_behind xs base w may k phase is less fine
+  phase_fates (what ∷ happens) xs base w may zero phase is less fine = its_fates base w (happen what) phase (Otherwise (event_fates what w fine)) is
+  phase_fates (what ∷ happens) xs base w may (suc k) phase is less fine =
       let v = after w (happen what w) in
-      phase_fates happens base v k phase is (lists_then base.book w.book v.book same (happen_lists what w)) fine
+      phase_fates happens xs base v may k phase is (less_then base.book w.book v.book less (less_same w.book v.book (happen_lists what w))) fine
 
   -- In a phase of a tick
   module _ (system : System) (t : ℕ) where
@@ -96,15 +125,15 @@ module _ (granted : GrantedMay) where
     abbrev Becomes : ℕ → ℕ → ℕ → Type 0
     Becomes k page owner =
         ((is_owned_by owner ((moment system t k).book.pages page) ≡ true) × (page_bytes (moment system t (suc k)) page ≡ page_bytes (moment system t k) page))
-        ⊎ (((is_owned_by owner ((moment system t k).book.pages page) ≡ true) × (IsStored system t k page ⊎ IsDelivered system t k page owner)) ⊎ IsAllocated system t k page owner)
+        ⊎ (((is_owned_by owner ((moment system t k).book.pages page) ≡ true) × (IsStored system t k page ⊎ (IsDelivered system t k page owner ⊎ IsCopied system t k page owner))) ⊎ IsAllocated system t k page owner)
 
     fine_at : (k : ℕ) → Fine (moment system t k)
-    fine_at k = moment_fine granted system t (all_fine granted system t) k
+    fine_at k = moment_fine granted takable system t (all_fine granted takable system t) k
 
-    by_fate : (k page owner : ℕ) → ListsSame before.book (moment system t k).book → Fate (moment system t k) owner page (page_bytes (moment system t (suc k)) page) → Becomes k page owner
+    by_fate : (k page owner : ℕ) → ListsLess before.book (moment system t k).book → Fate (moment system t k) owner page (page_bytes (moment system t (suc k)) page) → Becomes k page owner
     by_fate k page owner lists (Stays owns same) = inl (owns, same)
     by_fate k page owner lists (Written owns e x acts into has) =
-        let through = store_lives granted system t (moment system t k) (fine_at k) lists e x page acts into in
+        let through = store_lives granted takable system t (moment system t k) (fine_at k) lists e x page acts into in
         inr (inl (owns, inl (record { writer = e; store = x; acts = acts; into = into; through = through; has = has })))
     by_fate k page owner lists (Taken words does free zeros) = inr (inr (record { words = words; does = does; free = free; zeros = zeros }))
 
@@ -116,27 +145,27 @@ module _ (granted : GrantedMay) where
         let its = stay owner page (ap (λ (u : World). is_owned_by owner (u.book.pages page)) (sym next) ∙ owns) in
         elim its.1 [
           | inl same ↦ inl (its.0, ap (λ (u : World). page_bytes u page) next ∙ same)
-          | inr comes ↦ inr (inl (its.0, inr (delivered_in system t k page owner r next given comes)))
+          | inr comes ↦ inr (inl (its.0, inr (elim comes [ inl packet ↦ inl (delivered_in system t k page owner r next given packet) | inr copy ↦ inr (copied_in system t k page owner r next given copy) ])))
         ]
 
-    by_phase : (k page owner : ℕ) (o : Option (World → Reply)) → slice_get (phases_after (happens_in system.schedule before)) k ≡ o → IsOwnedAt system t (suc k) page owner → Becomes k page owner
+    by_phase : (k page owner : ℕ) (o : Option (World → Reply)) → slice_get (next_phases system.schedule before) k ≡ o → IsOwnedAt system t (suc k) page owner → Becomes k page owner
     by_phase k page owner None is owns =
         let next = next_moment system t k ∙ ap (once_more (moment system t k)) is in
         inl (ap (λ (u : World). is_owned_by owner (u.book.pages page)) (sym next) ∙ owns, ap (λ (u : World). page_bytes u page) next)
     by_phase k page owner (Some phase) is owns =
         let m = moment system t k in
         by_fates k page owner (phase m) (next_moment system t k ∙ ap (once_more m) is) (ap (λ (o : Option (World → Reply)). given_by m o owner) is)
-        (phase_fates (happens_in system.schedule before) before before k phase is (same_lists before.book) (fine_at k)) owns
+        (phase_fates (happens_in system.schedule before) (takings_in system t) before before (taken_may takable system t) k phase is (less_same before.book before.book (same_lists before.book)) (fine_at k)) owns
 
     pub becomes : (k page owner : ℕ) → IsOwnedAt system t (suc k) page owner → Becomes k page owner
-    becomes k page owner = by_phase k page owner (slice_get (phases_after (happens_in system.schedule before)) k) refl
+    becomes k page owner = by_phase k page owner (slice_get (next_phases system.schedule before) k) refl
 
     -- a free page is nobody's
     free_owned : (owner : ℕ) (row : PageRow) → row ≡ Free → is_owned_by owner row ≡ true → ⊥
     free_owned owner row free owns = let clash : false ≡ true = sym (ap (is_owned_by owner) free) ∙ owns in cc
 
     pub change : (k page owner : ℕ) → IsOwnedAt system t k page owner → IsOwnedAt system t (suc k) page owner
-        → (page_bytes (moment system t (suc k)) page ≡ page_bytes (moment system t k) page) ⊎ (IsStored system t k page ⊎ IsDelivered system t k page owner)
+        → (page_bytes (moment system t (suc k)) page ≡ page_bytes (moment system t k) page) ⊎ (IsStored system t k page ⊎ (IsDelivered system t k page owner ⊎ IsCopied system t k page owner))
     change k page owner had has = elim (becomes k page owner has) [
       | inl stays ↦ inl stays.1
       | inr other ↦ elim other [ inl stored ↦ inr stored.1 | inr taken ↦ absurd (free_owned owner ((moment system t k).book.pages page) taken.free had) ]
@@ -152,7 +181,7 @@ module _ (granted : GrantedMay) where
     abbrev Since : ℕ → ℕ → World → Type 0
     Since page owner v = is_owned_by owner (v.book.pages page) ≡ true
         → ((is_owned_by owner (row_after system t page) ≡ true) × (page_bytes v page ≡ page_bytes before page))
-        ⊎ (((k : ℕ) × IsStored system t k page) ⊎ (((k : ℕ) × IsDelivered system t k page owner) ⊎ ((k : ℕ) × IsAllocated system t k page owner)))
+        ⊎ (((k : ℕ) × IsStored system t k page) ⊎ (((k : ℕ) × (IsDelivered system t k page owner ⊎ IsCopied system t k page owner)) ⊎ ((k : ℕ) × IsAllocated system t k page owner)))
 
     since : (n page owner : ℕ) → Since page owner (moment system t n)
     since zero page owner owns = inl (owns, refl)
@@ -179,14 +208,14 @@ module _ (granted : GrantedMay) where
     zeros_in true idle page owner = subst (ZerosSince page owner) (sym (stays_idle system t idle)) (λ owns. inl owns)
     zeros_in false busy page owner = subst (ZerosSince page owner) (sym (tick_moment system t busy)) (zeros_since (phases_in system t) page owner)
 
-pub allocated_change : GrantedMay → AllocatedChange
-allocated_change granted system t k page owner = change granted system t k page owner
+pub allocated_change : GrantedMay → TakingsAreTakable → AllocatedChange
+allocated_change granted takable system t k page owner = change granted takable system t k page owner
 
-pub allocated_zeros : GrantedMay → AllocatedZeros
-allocated_zeros granted system t k page owner = zeros granted system t k page owner
+pub allocated_zeros : GrantedMay → TakingsAreTakable → AllocatedZeros
+allocated_zeros granted takable system t k page owner = zeros granted takable system t k page owner
 
-pub allocated_in_tick : GrantedMay → AllocatedInTick
-allocated_in_tick granted system t page owner = in_tick granted system t (is_idle_book (world_after system t).book) refl page owner
+pub allocated_in_tick : GrantedMay → TakingsAreTakable → AllocatedInTick
+allocated_in_tick granted takable system t page owner = in_tick granted takable system t (is_idle_book (world_after system t).book) refl page owner
 
-pub zeros_in_tick : GrantedMay → ZerosInTick
-zeros_in_tick granted system t page owner = zeros_in granted system t (is_idle_book (world_after system t).book) refl page owner
+pub zeros_in_tick : GrantedMay → TakingsAreTakable → ZerosInTick
+zeros_in_tick granted takable system t page owner = zeros_in granted takable system t (is_idle_book (world_after system t).book) refl page owner

@@ -13,7 +13,7 @@ use Rattle.run_model.specs.Run.{System, at_step, world_after}
 use Rattle.run_model.proofs.Phases.{moments_in_order}
 use Rattle.sharing_law.specs.Agreement.{IsAllocated, AreBoundAllocated}
 use Rattle.sharing_law.proofs.Replies.{IsCarried, IsPut, WasListed, Remains, carried_allocated, told_carries}
-use Rattle.sharing_law.proofs.Turning.{ListsSame, allocated_same}
+use Rattle.sharing_law.proofs.Listing.{ListsLess, allocated_less}
 use Rattle.sharing_law.proofs.Moments.{stays_idle, turned_lists}
 use Rattle.sharing_law.proofs.Timing.{timer_remains}
 
@@ -31,11 +31,10 @@ step_allocated granted v allocated e row b is =
     ]
 
 -- what is left up to the step was there before
-turned_listed : (w v : World) (pages : ℕ → PageRow) (e row : ℕ) (b : Binding) → ListsSame w.book v.book → WasListed v pages e row b → WasListed w pages e row b
-turned_listed w v pages e row b same was = record {
-  listed = sym (ap (λ (f : ℕ → ℕ → Option Binding). f e row) same.binds) ∙ was.listed;
-  carried = subst (λ (old : ℕ → PageRow). IsCarried e (old b.page) (pages b.page)) same.pages was.carried;
-}
+turned_listed : (w v : World) (pages : ℕ → PageRow) (e row : ℕ) (b : Binding) → ListsLess w.book v.book → WasListed v pages e row b → WasListed w pages e row b
+turned_listed w v pages e row b less was =
+    let left = less.each e row b was.listed in
+    record { listed = left.listed; carried = subst (λ (old : PageRow). IsCarried e old (pages b.page)) left.page was.carried }
 
 -- and the timer leaves what it doesn't unbind
 put_timed : (v : World) (old new : Book) (e row : ℕ) (b : Binding) → Remains old new e row b → IsPut v old.pages e row b → IsPut v new.pages e row b
@@ -56,7 +55,7 @@ Carried w mid next e row b = IsPut mid next.book.pages e row b ⊎ WasListed w n
 abbrev timed : World → World
 timed u = after u (timer u)
 
-tick_carries : GrantedMay → (w mid : World) → ListsSame w.book mid.book → AreBoundAllocated mid → (e row : ℕ) (b : Binding)
+tick_carries : GrantedMay → (w mid : World) → ListsLess w.book mid.book → AreBoundAllocated mid → (e row : ℕ) (b : Binding)
     → (timed (after mid (step mid))).book.binds e row ≡ Some b → Carried w mid (timed (after mid (step mid))) e row b
 tick_carries granted w mid same allocated e row b is =
     let u = after mid (step mid) in
@@ -75,7 +74,7 @@ module _ (granted : GrantedMay) (system : System) (t : ℕ) (allocated : AreBoun
       subst (λ (next : World). CarriedInto next e row b) (sym (stays_idle system t idle)) (λ is. inr (record { listed = is; carried = inl refl }))
   by_idle false busy e row b =
       subst (λ (next : World). CarriedInto next e row b) (sym ((moments_in_order system t).timed busy ∙ ap timed ((moments_in_order system t).stepped)))
-      (tick_carries granted (world_after system t) (at_step system t) (turned_lists system t) (allocated_same (world_after system t) (at_step system t) (turned_lists system t) allocated) e row b)
+      (tick_carries granted (world_after system t) (at_step system t) (turned_lists system t) (allocated_less (world_after system t) (at_step system t) (turned_lists system t) allocated) e row b)
 
   pub next_carries : (e row : ℕ) (b : Binding) → CarriedInto (world_after system (suc t)) e row b
   next_carries = by_idle (is_idle_book (world_after system t).book) refl

@@ -7,17 +7,20 @@ use Rattle.mips_exec.specs.declared.registers.Cpu.{Cpu}
 use Rattle.env_frames.specs.Transfer.{carried, hands_slot}
 use Rattle.page_book.specs.declared.row.Capabilities.{Capabilities}
 use Rattle.page_book.specs.declared.row.PageRow.{PageRow}
-use Rattle.page_book.specs.declared.row.PageRow.TheVariants.{Free, Guaranteed, Owned}
+use Rattle.page_book.specs.declared.row.PageRow.TheVariants.{Free, Owned}
 use Rattle.page_book.specs.Row.{is_owned_by}
 use Rattle.bind_book.specs.declared.binding.Binding.{Binding}
 use Rattle.bind_book.specs.Stripe.{binding_at, breaks_page, is_bound, is_of_page, row_of, without}
 use Rattle.world_model.specs.declared.call.Deed.{Deed}
-use Rattle.world_model.specs.declared.call.Deed.TheVariants.{Answers, Stops, Gives as Donates, Allocates, Frees, Recaps, Binds, Unbinds, Own, Transfers, TakesSlot, DropsSlot, TakesLine, DropsLine, Claims, Unclaims}
+use Rattle.world_model.specs.declared.call.Deed.TheVariants.{Answers, Stops, Gives as Donates, Allocates, Frees, Recaps, Binds, Unbinds, Own, Transfers, TakesSlot, DropsSlot, TakesLine, DropsLine, Claims, Unclaims, Loads}
 use Rattle.world_model.specs.declared.life.Life.TheVariants.{Live}
 use Rattle.world_model.specs.declared.slot.Hold.{Hold}
 use Rattle.world_model.specs.Table.{set_at}
 use Rattle.filter_tree.specs.ClaimBook.{ClaimValue}
 use Rattle.filter_tree.specs.Claims.{is_into}
+use Rattle.revocation_book.specs.declared.revocation.Pending.{Pending}
+use Rattle.revocation_book.specs.Pending.{lowered}
+use Rattle.revocation_book.specs.Backups.{unloaded}
 use Rattle.world_model.specs.Book.{Book, broken, withdrawn}
 use Rattle.world_model.specs.Holding.{bound, gained, lost, owning, unbound}
 use Rattle.world_model.specs.Item.{Item, Start, Transfer, Gained, Lost, absorb_all, own_part}
@@ -36,26 +39,9 @@ use Rattle.page_sight.proofs.Tables.{set_here, set_else}
 use Rattle.sharing_law.specs.Agreement.{AreBoundAllocated, IsAllocated}
 use Rattle.sharing_law.proofs.Given.{IsHanded, absorbs, handed_rests, own_leaves}
 use Rattle.sharing_law.proofs.Giving.{other_than}
+use Rattle.sharing_law.proofs.Owning.{anothers, one_owner, set_owns}
 use Rattle.sharing_law.proofs.Sound.{HasNone, Sound}
 use Rattle.sharing_law.proofs.Brings.{Brings, Fate, Stays, Taken, GoesOn, as_before, silent, silent_but}
-
--- a page that one owns no other does
-pub anothers : (e i : ℕ) (row : PageRow) → i ≢ e → is_owned_by e row ≡ true → is_owned_by i row ≡ false
-anothers e i Free ne owned = refl
-anothers e i (Guaranteed owner) ne owned = refl
-anothers e i (Owned owner words) ne owned = ne_eqb owner i (λ same. ne (sym same ∙ eqb-true owner e owned))
-
--- and its owner is one
-one_owner : (e o : ℕ) (row : PageRow) → is_owned_by e row ≡ true → e ≡ o → is_owned_by o row ≡ true
-one_owner e o row owned same = ap (λ n. is_owned_by n row) (sym same) ∙ owned
-
--- who owns no page owns none with another's row for one of them
-set_owns : (i page : ℕ) (row : PageRow) (pages : ℕ → PageRow) → is_owned_by i row ≡ false → ((p : ℕ) → is_owned_by i (pages p) ≡ false) → (p : ℕ) → is_owned_by i (set_at page row pages p) ≡ false
-set_owns i page row pages after before p = by_test (p == page)
-  where
-    by_test : (t : Bool) → is_owned_by i (if t then row else pages p) ≡ false
-    by_test true = after
-    by_test false = before p
 
 -- a row of a stripe is none behind its last one
 set_ends : (vpn : ℕ) (x : Option Binding) (stripe : ℕ → Option Binding) → IsStripe stripe → IsStripe (set_at (row_of vpn) x stripe)
@@ -131,9 +117,9 @@ module _ (w : World) (e : ℕ) (sound : Sound w) (lives : (w.solos e).life ≡ L
         behind_other p more same = omega (arith, may.there)
 
   -- A page that its owner frees, or gives other words.
-  module _ (page : ℕ) (row : PageRow) (but : Option ℕ) (claims : List ClaimValue) (may : MayChange w.book e page) (d : Deed) (its : List Item) (t : Solo) (after : absorb_all (caller d) its ≡ t) where
+  module _ (page : ℕ) (row : PageRow) (but : Option ℕ) (claims : List ClaimValue) (pending : ℕ → Option Pending) (backups : ℕ → List ℕ) (may : MayChange w.book e page) (d : Deed) (its : List Item) (t : Solo) (after : absorb_all (caller d) its ≡ t) where
     abbrev changed : Book
-    changed = record (broken page but (record w.book { pages = set_at page row w.book.pages })) { claims = claims }
+    changed = record (broken page but (record w.book { pages = set_at page row w.book.pages })) { claims = claims; pending = pending; backups = backups }
 
     behind_other : (p : ℕ) → w.book.page_count ≤ p → p ≡ page → ⊥
     behind_other p more same = omega (arith, may.there)
@@ -160,7 +146,7 @@ module _ (w : World) (e : ℕ) (sound : Sound w) (lives : (w.solos e).life ≡ L
   free_brings : (page : ℕ) → MayChange w.book e page → Brings w e (caller (Frees page)) (done w e (Frees page)).book (done w e (Frees page)).items
   free_brings page may =
       let t = caller (Frees page) in
-      change_brings page Free None (withdrawn (is_into page) w.book).claims may (Frees page) (Lost page ∷ []) (lost page t) (absorbs t (Lost page) [] lives)
+      change_brings page Free None (withdrawn (is_into page) w.book).claims (set_at e (lowered (w.book.pending e)) w.book.pending) (set_at e (unloaded page (w.book.backups e)) w.book.backups) may (Frees page) (Lost page ∷ []) (lost page t) (absorbs t (Lost page) [] lives)
       (freer_loses e page Free w.book.pages (w.book.binds e) (page_bytes w) t (as_before e w.book.pages (w.book.binds e) (page_bytes w) (w.solos e) t refl refl (sound.agreed e)) refl)
       (λ i ne. refl) (λ i ne same. none_some i same) (λ o owns. absurd (false_true owns))
     where
@@ -173,7 +159,7 @@ module _ (w : World) (e : ℕ) (sound : Sound w) (lives : (w.solos e).life ≡ L
   recap_brings : (page : ℕ) (words : Capabilities) → MayChange w.book e page → Brings w e (caller (Recaps page words)) (done w e (Recaps page words)).book (done w e (Recaps page words)).items
   recap_brings page words may =
       let t = caller (Recaps page words) in
-      change_brings page (Owned e words) (Some e) w.book.claims may (Recaps page words) [] t refl
+      change_brings page (Owned e words) (Some e) w.book.claims w.book.pending w.book.backups may (Recaps page words) [] t refl
       (recapper_keeps e page words w.book.pages (w.book.binds e) (page_bytes w) t (as_before e w.book.pages (w.book.binds e) (page_bytes w) (w.solos e) t refl refl (sound.agreed e)) may.owned)
       (λ i ne. ne_eqb e i (λ same. ne (sym same))) (λ i ne same. ne (some_same i same)) (λ o owns. one_owner e o (w.book.pages page) may.owned (eqb-true e o owns))
     where
@@ -268,3 +254,4 @@ module _ (w : World) (e : ℕ) (sound : Sound w) (lives : (w.solos e).life ≡ L
   deed_brings (DropsLine line) does may = silent_but w e sound lives (caller (DropsLine line)) (done w e (DropsLine line)).book lives refl refl
   deed_brings (Claims claim address atoms page) does may = let d = Claims claim address atoms page in silent_but w e sound lives (caller d) (done w e d).book lives refl refl
   deed_brings (Unclaims claim) does may = silent_but w e sound lives (caller (Unclaims claim)) (done w e (Unclaims claim)).book lives refl refl
+  deed_brings (Loads page) does may = silent_but w e sound lives (caller (Loads page)) (done w e (Loads page)).book lives refl refl

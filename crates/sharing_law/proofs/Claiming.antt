@@ -3,7 +3,7 @@ use Rattle.std.proofs.Common.{◌≡◌, ◌≢◌, ℕ, zero, suc, List, [], �
 use Rattle.std.specs.Prelude.{◌==◌, ◌%◌, ◌*◌, count_by, nat_le, filter, find, length, ok_or, if◌then◌else◌}
 use mathlib.Core.Bool.{and-false, and-true}
 use Rattle.std.specs.Option.{option_map}
-use Rattle.std.proofs.lemmas.Bool.{and_parts, eq-eqb, eqb-true, eqb-false, ne_eqb, not-true}
+use Rattle.std.proofs.lemmas.Bool.{and_parts, eqb-true, eqb-false, ne_eqb, not-true}
 use Rattle.std.proofs.lemmas.List.Sums.{fold-append}
 use Rattle.filter_core.specs.declared.atom.Atom.{Atom}
 use Rattle.filter_core.specs.Asking.{agree}
@@ -13,12 +13,11 @@ use Rattle.filter_tree.specs.ClaimBook.{ClaimValue, is_of_env, most_claims}
 use Rattle.filter_tree.specs.Claims.{claim_refusal, is_claim, is_in_the_way, is_into, is_numbered}
 use Rattle.mips_exec.specs.declared.registers.Cpu.{Cpu}
 use Rattle.page_book.specs.declared.row.Capabilities.{Capabilities}
-use Rattle.page_book.specs.declared.row.PageRow.{PageRow}
-use Rattle.page_book.specs.declared.row.PageRow.TheVariants.{Free, Guaranteed, Owned}
+use Rattle.page_book.specs.declared.row.PageRow.TheVariants.{Free, Owned}
 use Rattle.page_book.specs.Row.{belongs_to, is_owned_by}
 use Rattle.bind_book.specs.Stripe.{binding_at, is_bound, row_of}
 use Rattle.world_model.specs.declared.call.Deed.{Deed}
-use Rattle.world_model.specs.declared.call.Deed.TheVariants.{Answers, Stops, Gives as Donates, Allocates, Frees, Recaps, Binds, Unbinds, Own, Transfers, TakesSlot, DropsSlot, TakesLine, DropsLine, Claims, Unclaims}
+use Rattle.world_model.specs.declared.call.Deed.TheVariants.{Answers, Stops, Gives as Donates, Allocates, Frees, Recaps, Binds, Unbinds, Own, Transfers, TakesSlot, DropsSlot, TakesLine, DropsLine, Claims, Unclaims, Loads}
 use Rattle.world_model.specs.declared.code.Code.TheVariants as code
 use Rattle.packet_ring.specs.declared.buffer.Buffer.TheVariants.{First}
 use Rattle.world_model.specs.declared.life.Life.TheVariants.{Live}
@@ -29,6 +28,8 @@ use Rattle.world_model.specs.Book.{Book, sees}
 use Rattle.world_model.specs.Call.{good_range}
 use Rattle.world_model.specs.ClaimCalls.{atoms_or_none, filter_at, filter_in}
 use Rattle.world_model.specs.Death.{death, death_items, lost_with}
+use Rattle.revocation_book.specs.declared.revocation.Taking.{Taking}
+use Rattle.world_model.specs.Deadlines.{copy_left}
 use Rattle.world_model.specs.Event.{ring_left}
 use Rattle.world_model.specs.Holding.{with_binds}
 use Rattle.world_model.specs.Item.{Item, Start, Transfer, Gained, Lost, Left, absorb, absorb_all, absorbed, own_part}
@@ -46,7 +47,7 @@ use Rattle.sharing_law.specs.Agreement.{ClaimPage, claim_page}
 use Rattle.sharing_law.proofs.Lists.{Has, filter_none, not_there}
 use Rattle.sharing_law.proofs.Claimed.{AreGood, AreRings, Claimed, good_less, good_more, good_same, rings_beside, rings_less, rings_more, rings_other, rings_spared}
 use Rattle.sharing_law.proofs.Given.{IsHanded, absorbs, dead_absorbs, handed_rests}
-use Rattle.sharing_law.proofs.Calling.{anothers}
+use Rattle.sharing_law.proofs.Owning.{anothers, free_else, own_else}
 
 -- What comes of a runner, which is s after its act and its answer: each environment has the claims that the book lists for it then.
 pub record Claiming (w : World) (e : ℕ) (s : Solo) (b : Book) (items : ℕ → List Item) : Type 0 where
@@ -89,21 +90,20 @@ pub ring_left_spares : (b : Book) (owner page : ℕ) (bytes : Option (List ℕ))
 ring_left_spares b owner page None i = spare_none
 ring_left_spares b owner page (Some bytes) i = left_at_spares b owner (page_store page bytes) (Physical page) i
 
--- who owns a page of this row
-pub owned_by : (owner e : ℕ) (row : PageRow) → is_owned_by owner row ≡ true → is_owned_by e row ≡ true → owner ≡ e
-owned_by owner e Free is its = cc
-owned_by owner e (Guaranteed one) is its = cc
-owned_by owner e (Owned one words) is its = sym (eqb-true one owner is) ∙ eqb-true one e its
+-- or a copy of a page that is taken from another
+pub copy_spares : (w : World) (x : Taking) (backup : Option ℕ) (i : ℕ) → Spares (copy_left w x backup i)
+copy_spares w x None i = spare_none
+copy_spares w x (Some backup) i = left_at_spares w.book x.env (page_store backup (page_bytes w x.page)) (Physical backup) i
 
 -- no claim of an environment goes into a page that isn't its own
-beside : (b : Book) → AreGood b → (i page : ℕ) → is_owned_by i (b.pages page) ≡ false → (c : ClaimValue) → Has b.claims c → is_of_env i c ≡ true → (c.page == page) ≡ false
+pub beside : (b : Book) → AreGood b → (i page : ℕ) → is_owned_by i (b.pages page) ≡ false → (c : ClaimValue) → Has b.claims c → is_of_env i c ≡ true → (c.page == page) ≡ false
 beside b good i page none c its own = ne_eqb c.page page (λ same. clash (λ k. is_owned_by (eqb-true c.env i own k) (b.pages (same k))))
   where
     clash : is_owned_by c.env (b.pages c.page) ≡ is_owned_by i (b.pages page) → ⊥
     clash same = let never : false ≡ true = sym none ∙ sym same ∙ (good.each c its).owned in cc
 
 -- who loses such a page loses no claim
-loses_beside : (i page : ℕ) (claims : List ClaimValue) → ((c : ClaimValue) → Has claims c → is_of_env i c ≡ true → (c.page == page) ≡ false)
+pub loses_beside : (i page : ℕ) (claims : List ClaimValue) → ((c : ClaimValue) → Has claims c → is_of_env i c ≡ true → (c.page == page) ≡ false)
     → (t : Bool) (s : Solo) → AreRings i claims s.rings → AreRings i claims (absorb_all s (lost_if t page)).rings
 loses_beside i page claims other true s are = by_life (is_dead s.life)
   where
@@ -144,23 +144,6 @@ module _ (w : World) (e : ℕ) (claimed : Claimed w) where
 
   pub store_claims : (s : Solo) (x : Store) → s.rings ≡ (w.solos e).rings → Claiming w e s w.book (left_by w.book e x)
   store_claims s x rings = steady s w.book (left_by w.book e x) rings (left_at_spares w.book e x x.key)
-
-  -- A page that is another's is none of a claim's.
-  not_free : (page : ℕ) (row : PageRow) → w.book.pages page ≡ Free → (c : ClaimValue) → is_owned_by c.env (w.book.pages c.page) ≡ true → is_owned_by c.env (set_at page row w.book.pages c.page) ≡ true
-  not_free page row free c owned = by_test (c.page == page) refl
-    where
-      by_test : (t : Bool) → (c.page == page) ≡ t → is_owned_by c.env (if t then row else w.book.pages c.page) ≡ true
-      by_test true same = let clash : false ≡ true = ap (is_owned_by c.env) (sym free ∙ ap w.book.pages (sym (eqb-true c.page page same))) ∙ owned in cc
-      by_test false other = owned
-
-  -- its owner's claims into it stay, whatever its words
-  still_its : (page : ℕ) (words : Capabilities) → is_owned_by e (w.book.pages page) ≡ true → (c : ClaimValue) → is_owned_by c.env (w.book.pages c.page) ≡ true
-      → is_owned_by c.env (set_at page (Owned e words) w.book.pages c.page) ≡ true
-  still_its page words own c owned = by_test (c.page == page) refl
-    where
-      by_test : (t : Bool) → (c.page == page) ≡ t → is_owned_by c.env (if t then Owned e words else w.book.pages c.page) ≡ true
-      by_test true same = eq-eqb e c.env (owned_by e c.env (w.book.pages page) own (ap (λ (p : ℕ). is_owned_by c.env (w.book.pages p)) (sym (eqb-true c.page page same)) ∙ owned))
-      by_test false other = owned
 
   -- what others lose of a page of the runner's is no claim's
   others_beside : (page : ℕ) → is_owned_by e (w.book.pages page) ≡ true → (i : ℕ) → i ≢ e → (c : ClaimValue) → Has w.book.claims c → is_of_env i c ≡ true → (c.page == page) ≡ false
@@ -212,7 +195,7 @@ module _ (w : World) (e : ℕ) (claimed : Claimed w) where
     recap_claims page words may = record {
       own = subst (λ (items : List Item). AreRings e w.book.claims (absorb_all (caller (Recaps page words)) items).rings) (sym (set_here e [] (breaks w.book page))) (claimed.rings e);
       others = λ i ne. others_keep page may.owned [] i ne;
-      good = good_same w.book (done w e (Recaps page words)).book refl refl (still_its page words may.owned) claimed.good;
+      good = good_same w.book (done w e (Recaps page words)).book refl refl (λ c. own_else e page words w.book.pages may.owned c.env c.page) claimed.good;
     }
 
     unbound_rings : (vpn : ℕ) → (own_part (Unbinds vpn) (w.solos e)).rings ≡ (w.solos e).rings
@@ -299,7 +282,7 @@ module _ (w : World) (e : ℕ) (claimed : Claimed w) where
     deed_claims (Allocates page words) may =
         let its : List Item = Gained page true zero_page ∷ [] in
         steady_but (caller (Allocates page words)) (done w e (Allocates page words)).book (only e its) refl (spare_only e its (spare_one (Gained page true zero_page) (λ s. refl))) refl refl
-        (not_free page (Owned e words) may.free)
+        (λ c. free_else page (Owned e words) w.book.pages may.free c.env c.page)
     deed_claims (Frees page) may = free_claims page may
     deed_claims (Recaps page words) may = recap_claims page words may
     deed_claims (Binds b word) may =
@@ -315,3 +298,4 @@ module _ (w : World) (e : ℕ) (claimed : Claimed w) where
     deed_claims (DropsLine line) may = steady (caller (DropsLine line)) (done w e (DropsLine line)).book no_items refl (λ i. spare_none)
     deed_claims (Claims claim address atoms page) may = claim_claims claim address atoms page may
     deed_claims (Unclaims claim) may = unclaim_claims claim
+    deed_claims (Loads page) may = steady (caller (Loads page)) (done w e (Loads page)).book no_items refl (λ i. spare_none)

@@ -21,7 +21,8 @@ use Rattle.external_event.specs.declared.event.Occurrence.TheVariants as outside
 use Rattle.world_model.specs.Event.{arrives, delivers, happen, ring_bytes, ring_left}
 use Rattle.world_model.specs.Item.{Item, Packet, absorb_all}
 use Rattle.world_model.specs.PageCalls.{bytes_owned, left_if, page_bytes}
-use Rattle.world_model.specs.Rings.{counted, page_store, put_in_ring, received_in, ring_after, ring_of}
+use Rattle.world_model.specs.Post.{counted}
+use Rattle.world_model.specs.Rings.{page_store, put_in_ring, received_in, ring_after, ring_of}
 use Rattle.world_model.specs.Solo.{Solo, Ring, Physical, bytes_seen, stored}
 use Rattle.world_model.specs.Table.{set_at}
 use Rattle.world_model.specs.World.{World, Reply, after}
@@ -33,11 +34,12 @@ use Rattle.sharing_law.specs.Agreement.{AreBoundAllocated, ClaimPage, claim_page
 use Rattle.sharing_law.specs.Delivery.{IsDelivered}
 use Rattle.sharing_law.proofs.Brings.{as_before}
 use Rattle.sharing_law.proofs.Claimed.{AreRings, Claimed, IsGood, claimed_alike, rings_turned}
-use Rattle.sharing_law.proofs.Claiming.{owned_by, ring_left_spares}
+use Rattle.sharing_law.proofs.Claiming.{ring_left_spares}
 use Rattle.sharing_law.proofs.Given.{IsRested, absorbs, dead_absorbs, rests_same, told_leaves}
 use Rattle.sharing_law.proofs.Giving.{ring_told}
 use Rattle.sharing_law.proofs.Happening.{dropped_alike}
 use Rattle.sharing_law.proofs.Lists.{find_map, found_there, still_found}
+use Rattle.sharing_law.proofs.Owning.{owned_by}
 use Rattle.sharing_law.proofs.Sound.{Sound, agreed, owner_bytes, still_nothing}
 use Rattle.sharing_law.proofs.Turning.{IsAlike, bytes_alike, sound_alike}
 
@@ -53,7 +55,7 @@ filled_whole page buffer packet =
     ap (λ (rest : List ℕ). filled ++ rest) (drop_all (0 + length filled) page size) ∙ append-nil filled
 
 -- the owner of a page sees its bytes
-owner_sees : (w : World) (o page : ℕ) → is_owned_by o (w.book.pages page) ≡ true → page_bytes w page ≡ bytes_seen ((w.solos o).seen page)
+pub owner_sees : (w : World) (o page : ℕ) → is_owned_by o (w.book.pages page) ≡ true → page_bytes w page ≡ bytes_seen ((w.solos o).seen page)
 owner_sees w o page owned = by_row (w.book.pages page) owned
   where
     by_row : (row : PageRow) → is_owned_by o row ≡ true → bytes_owned w page row ≡ bytes_seen ((w.solos o).seen page)
@@ -141,6 +143,7 @@ module _ (w : World) (c : ClaimValue) (packet : List ℕ) (sound : Sound w) (cla
     binds = refl;
     claims = refl;
     next = refl;
+    backups = refl;
     count = refl;
   }
 

@@ -22,7 +22,7 @@ use Rattle.world_model.specs.Book.{Book}
 use Rattle.world_model.specs.Solo.{Solo, Store, Key, Kept, Physical, is_dead, is_key_of, kept_after, kept_at, stored_page}
 use Rattle.world_model.specs.Holding.{with_binds}
 use Rattle.world_model.specs.Upcalls.{enter, start_by, with_context}
-use Rattle.world_model.specs.Item.{Item, Boot, Step, Start, End, Transfer, Killed, Answer, Gained, Lost, Left, Packet, Line, absorb, absorb_all, absorbed, answered, deed_at, own_part}
+use Rattle.world_model.specs.Item.{Item, Boot, Step, Start, End, Transfer, Killed, Answer, Gained, Lost, Left, Packet, Line, Asked, Taken, absorb, absorb_all, absorbed, answered, deed_at, own_part}
 use Rattle.world_model.specs.Death.{death_items, lost_with}
 use Rattle.world_model.specs.PageCalls.{left_if, lost_if}
 use Rattle.world_model.specs.World.{only}
@@ -70,6 +70,8 @@ IsTold (Lost page) = Unit {0}
 IsTold (Left page offset bytes) = Unit {0}
 IsTold (Packet claim packet) = ⊥
 IsTold (Line line) = ⊥
+IsTold (Asked outstanding deadline) = ⊥
+IsTold (Taken page backup) = ⊥
 
 abbrev pub AreTold : List Item → Type 0
 AreTold [] = Unit {0}
@@ -111,6 +113,10 @@ enter_rests from kind registers s = either_rests (is_dead s.life) s (enter from 
 pub line_rests : (line : ℕ) (s : Solo) → IsRested s (absorb_all s (Line line ∷ []))
 line_rests line s = either_rests (is_dead s.life) s (absorbed s (Line line)) (record { binds = refl; seen = refl; rings = refl; life = refl })
 
+-- or one that is asked for pages
+pub asked_rests : (outstanding deadline : ℕ) (s : Solo) → IsRested s (absorb_all s (Asked outstanding deadline ∷ []))
+asked_rests outstanding deadline s = either_rests (is_dead s.life) s (absorbed s (Asked outstanding deadline)) (record { binds = refl; seen = refl; rings = refl; life = refl })
+
 -- an environment with the guaranteed pages and the life that it had
 pub record Leaves (s t : Solo) : Type 0 where
   pub kept : t.kept ≡ s.kept
@@ -141,6 +147,8 @@ absorbed_leaves s (Lost page) told = record { kept = refl; life = refl }
 absorbed_leaves s (Left page offset bytes) told = record { kept = kept_as_was s.kept page offset bytes; life = refl }
 absorbed_leaves s (Packet claim packet) told = absurd told
 absorbed_leaves s (Line line) told = absurd told
+absorbed_leaves s (Asked outstanding deadline) told = absurd told
+absorbed_leaves s (Taken page backup) told = absurd told
 
 -- whether it lives or not
 either_leaves : (gone : Bool) (s t : Solo) → Leaves s t → Leaves s (if gone then s else t)
@@ -219,6 +227,8 @@ IsHanded (Lost page) = ⊥
 IsHanded (Left page offset bytes) = ⊥
 IsHanded (Packet claim packet) = ⊥
 IsHanded (Line line) = ⊥
+IsHanded (Asked outstanding deadline) = ⊥
+IsHanded (Taken page backup) = ⊥
 
 pub data Gives (e i : ℕ) (items : List Item) : Type 0 where
   Tells : AreTold items → Gives e i items
@@ -246,6 +256,8 @@ handed_rests (Lost page) handed s = absurd handed
 handed_rests (Left page offset bytes) handed s = absurd handed
 handed_rests (Packet claim packet) handed s = absurd handed
 handed_rests (Line line) handed s = absurd handed
+handed_rests (Asked outstanding deadline) handed s = absurd handed
+handed_rests (Taken page backup) handed s = absurd handed
 
 pub gives_life : (e i : ℕ) (items : List Item) → Gives e i items → (s : Solo) → (absorb_all s items).life ≡ s.life
 gives_life e i items (Tells told) s = (told_leaves items told s).life

@@ -1,5 +1,5 @@
 -- What each phase of a tick gives to an environment: at most its first item changes guaranteed pages, or life.
-use Rattle.std.proofs.Common.{ap, ◌≡◌, ◌≢◌, ℕ, List, [], ◌∷◌, ◌++◌, Bool, true, false, Option, Some, None, refl, sym, ◌∙◌, subst}
+use Rattle.std.proofs.Common.{ap, ◌+◌, ◌≡◌, ◌≢◌, ℕ, List, [], ◌∷◌, ◌++◌, Bool, true, false, Option, Some, None, refl, sym, ◌∙◌, subst}
 use Rattle.std.specs.Prelude.{◌==◌, ◌&&◌, ◌-◌, nat_lt, not, if◌then◌else◌}
 use Rattle.std.proofs.lemmas.Bool.{eq-eqb, eqb-true}
 use Rattle.env_frames.specs.Transfer.{carried}
@@ -7,7 +7,7 @@ use Rattle.bind_book.specs.Stripe.{is_bound}
 use Rattle.kernel_journal.specs.declared.row.Row.TheVariants as row
 use Rattle.world_model.specs.declared.call.Call.{Call}
 use Rattle.world_model.specs.declared.call.Deed.{Deed}
-use Rattle.world_model.specs.declared.call.Deed.TheVariants.{Answers, Stops, Gives as Donates, Allocates, Frees, Recaps, Binds, Unbinds, Own, Transfers, TakesSlot, DropsSlot, TakesLine, DropsLine, Claims, Unclaims}
+use Rattle.world_model.specs.declared.call.Deed.TheVariants.{Answers, Stops, Gives as Donates, Allocates, Frees, Recaps, Binds, Unbinds, Own, Transfers, TakesSlot, DropsSlot, TakesLine, DropsLine, Claims, Unclaims, Loads}
 use Rattle.world_model.specs.declared.slot.Phase.{Phase}
 use Rattle.world_model.specs.declared.slot.Phase.TheVariants as phase
 use Rattle.world_model.specs.declared.slot.Runner.{Runner}
@@ -21,9 +21,13 @@ use Rattle.external_event.specs.declared.event.Occurrence.{Occurrence}
 use Rattle.external_event.specs.declared.event.Occurrence.TheVariants as outside
 use Rattle.filter_tree.specs.ClaimBook.{ClaimValue}
 use Rattle.world_model.specs.ClaimCalls.{claim_of}
-use Rattle.world_model.specs.Event.{arrives, happen, ring_bytes, ring_left, signals}
+use Rattle.revocation_book.specs.declared.revocation.Pending.{Pending}
+use Rattle.revocation_book.specs.declared.revocation.Taking.{Taking}
+use Rattle.revocation_book.specs.Pending.{asked}
+use Rattle.world_model.specs.Deadlines.{copy_left, settles, takes}
+use Rattle.world_model.specs.Event.{arrives, asks, happen, revokes, ring_bytes, ring_left, signals}
 use Rattle.world_model.specs.Rings.{page_store, ring_of}
-use Rattle.world_model.specs.Item.{Item, Step, Start, End, Transfer, Killed, Answer, Gained, Lost, Packet, Line, deed_at}
+use Rattle.world_model.specs.Item.{Item, Step, Start, End, Transfer, Killed, Answer, Gained, Lost, Packet, Line, Asked, Taken, deed_at}
 use Rattle.world_model.specs.May.{May}
 use Rattle.world_model.specs.PageCalls.{breaks, left_at, left_by, page_bytes}
 use Rattle.world_model.specs.SlotCalls.{is_other, stop_row}
@@ -31,7 +35,7 @@ use Rattle.world_model.specs.Solo.{Store, Key, Kept, Physical, is_dead}
 use Rattle.world_model.specs.Step.{Act, Nothing, Stores, Calls, Raises, Dies}
 use Rattle.world_model.specs.Tick.{act_now, brings, count_when, goes_on, grace_of, judged, kill, owes_more, run_out, step, step_when, take_turn, timer, turn, turn_when}
 use Rattle.world_model.specs.Verdict.{done, reply_of, reply_to, verdict}
-use Rattle.world_model.specs.World.{World, Reply, after, no_items, only, tells}
+use Rattle.world_model.specs.World.{World, Reply, after, is_living, no_change, no_items, only, tells}
 use Rattle.frame_store.specs.Pages.{zero_page}
 use Rattle.call_verdicts.specs.Granted.{GrantedMay}
 use Rattle.run_model.proofs.Telling.{call_stands, deed_may, call_named}
@@ -75,6 +79,7 @@ deed_gives w e (TakesLine line) may i = Tells tt
 deed_gives w e (DropsLine line) may i = Tells tt
 deed_gives w e (Claims claim address atoms page) may i = Tells tt
 deed_gives w e (Unclaims claim) may i = Tells tt
+deed_gives w e (Loads page) may i = Tells tt
 
 -- an answer comes first
 answers : (e i : ℕ) (v : Verdict) (items : List Item) → Gives e i items → Gives e i (only e (Answer v ∷ []) i ++ items)
@@ -127,9 +132,39 @@ arrival_led packet (Some c) w i = by_test (i == c.env)
     by_test true = Leads (Packet c.id packet) [] tt refl
     by_test false = Rests (ring_told w c.env c.page (let s = w.solos c.env in ring_bytes s (ring_of s.rings c.id) packet) i)
 
+ask_led : (e : ℕ) (pending : Option Pending) (w : World) (i : ℕ) → Led ((asks e pending w).items i)
+ask_led e None w i = Rests tt
+ask_led e (Some p) w i = led_only e i (Asked p.outstanding p.deadline)
+
+revocation_led : (e count deadline : ℕ) (w : World) (i : ℕ) → Led ((revokes e count deadline w).items i)
+revocation_led e count deadline w i = by_test (is_living w e)
+  where
+    by_test : (t : Bool) → (let r : Reply = (if t then asks e (asked count deadline (w.book.pending e)) w else no_change w) in Led (r.items i))
+    by_test true = ask_led e (asked count deadline (w.book.pending e)) w i
+    by_test false = Rests tt
+
 pub happen_led : (what : Occurrence) (w : World) (i : ℕ) → Led ((happen what w).items i)
 happen_led (outside.Packet packet) w i = arrival_led packet (claim_of w.book packet) w i
 happen_led (outside.Line line) w i = signal_led line (w.book.lines line) w i
+happen_led (outside.Revoke env count grace) w i = revocation_led env count (w.book.time + grace) w i
+
+-- A page that is taken: its owner is given the record, and others what they lose and what is copied.
+pub copy_told : (w : World) (x : Taking) (backup : Option ℕ) (i : ℕ) → AreTold (copy_left w x backup i)
+copy_told w x None i = tt
+copy_told w x (Some backup) i = told_left (sees w.book i backup) x.env i backup (page_store backup (page_bytes w x.page))
+
+pub taking_told : (w : World) (x : Taking) (i : ℕ) → AreTold (copy_left w x x.backup i ++ breaks w.book x.page i)
+taking_told w x i = told_both (copy_left w x x.backup i) (breaks w.book x.page i) (copy_told w x x.backup i) (told_lost_if (is_bound x.page (w.book.binds i)) x.page)
+
+pub taking_led : (x : Taking) (w : World) (i : ℕ) → Led ((takes x w).items i)
+taking_led x w i = by_test (i == x.env)
+  where
+    by_test : (mine : Bool) → Led (if mine then Taken x.page x.backup ∷ [] else copy_left w x x.backup i ++ breaks w.book x.page i)
+    by_test true = Leads (Taken x.page x.backup) [] tt refl
+    by_test false = Rests (taking_told w x i)
+
+pub settling_led : (w : World) (i : ℕ) → Led ((settles w).items i)
+settling_led w i = Rests tt
 
 pub turn_led : (w : World) (i : ℕ) → Led ((turn w).items i)
 turn_led w i = by_runner w.book.runner

@@ -8,14 +8,15 @@ use Rattle.mips_exec.specs.declared.registers.Cpu.{Cpu}
 use Rattle.mips_exec.specs.declared.exception.Exc.{Exc}
 use Rattle.mips_exec.specs.Cpu.{reg, rested}
 use Rattle.mips_exec.specs.Step.{Step as MachineStep, Retired, Called, Trapped, cpu_after}
-use Rattle.env_frames.specs.Context.{context_number, end_area, end_bytes, exception_area, exception_bytes, resumed_cpu, start_area, start_bytes}
+use Rattle.env_frames.specs.Context.{end_area, end_bytes, exception_area, exception_bytes, resumed_cpu, start_area, start_bytes}
 use Rattle.env_frames.specs.Transfer.{entry_area, entry_bytes}
 use Rattle.env_frames.specs.declared.post.PostWord.TheVariants as post
 use Rattle.env_frames.specs.Post.{post_offset}
 use Rattle.world_model.specs.Book.{is_idle_book}
 use Rattle.world_model.specs.Call.{exit_number}
 use Rattle.external_event.specs.declared.event.Occurrence.{Occurrence}
-use Rattle.world_model.specs.Item.{Item, Boot, Step, Start, End, Transfer, Killed, Answer, Gained, Lost, Left, Packet, Line, absorb, absorb_all, absorbed}
+use Rattle.revocation_book.specs.declared.revocation.Taking.{Taking}
+use Rattle.world_model.specs.Item.{Item, Boot, Step, Start, End, Transfer, Killed, Answer, Gained, Lost, Left, Packet, Line, Asked, Taken, absorb, absorb_all, absorbed}
 use Rattle.world_model.specs.Page.{KeptPage}
 use Rattle.world_model.specs.Post.{post_word, signalled}
 use Rattle.world_model.specs.Solo.{Solo, Store, Key, Kept, Physical, bytes_in, is_dead, kept_after, kept_at, store_of, stored, stored_page}
@@ -24,12 +25,13 @@ use Rattle.world_model.specs.Tick.{phases_after}
 use Rattle.world_model.specs.Upcalls.{enter, end_slice, raise, with_context}
 use Rattle.world_model.specs.World.{World, Reply, after}
 use Rattle.call_verdicts.specs.Granted.{GrantedMay}
-use Rattle.run_model.specs.Run.{System, given_by, happens_in, moment, phases_in, world_after}
+use Rattle.run_model.specs.Run.{System, given_by, happens_in, moment, phases_in, takings_in, world_after}
 use Rattle.run_model.proofs.Phases.{next_moment, of_each, once_more, tick_moment}
 use Rattle.sharing_law.specs.Change.{Changes, GuaranteedChange, GuaranteedInTick, HasStore, HasWords, IsChanged, ItemChange, StepChanges, bytes_at}
+use Rattle.sharing_law.proofs.Contexts.{Rewrites, ask_changes, context_rewrites, rewrites_none, rewrites_or, rewrites_then, take_changes}
 use Rattle.sharing_law.proofs.Counting.{packet_counts}
 use Rattle.sharing_law.proofs.Given.{IsTold, Led, Leads, Rests, absorbed_leaves, kept_as_was, kept_else, kept_here, told_leaves}
-use Rattle.sharing_law.proofs.Giving.{happen_led, step_led, timer_led, turn_led}
+use Rattle.sharing_law.proofs.Giving.{happen_led, settling_led, step_led, taking_led, timer_led, turn_led}
 use Rattle.sharing_law.proofs.Moments.{stays_idle}
 use Rattle.sharing_law.proofs.Writing.{stored_writable}
 
@@ -38,20 +40,14 @@ abbrev StaysOrHas : Solo → Solo → ℕ → ℕ → List ℕ → Type 0
 StaysOrHas s t vpn area words = (bytes_at t vpn ≡ bytes_at s vpn) ⊎ HasWords s t vpn area words
 
 context_kept : (area : ℕ) (words : List ℕ) (s t : Solo) (vpn : ℕ) → t.kept ≡ (with_context area words s).kept → StaysOrHas s t vpn area words
-context_kept area words s t vpn same = elim (cases_eq vpn context_number) [
-  | inl here ↦ by_page (kept_at s.kept vpn) refl here (now ∙ kept_here s.kept x vpn (ap Kept (sym here)))
-  | inr other ↦ inl (ap bytes_in (now ∙ kept_else s.kept x context_number vpn refl other))
-]
-  where
-    x : Store
-    x = record { key = Kept context_number; offset = area; bytes = words }
-
-    now : kept_at t.kept vpn ≡ kept_at (kept_after s.kept x) vpn
-    now = ap (λ ps. kept_at ps vpn) same
-
-    by_page : (o : Option KeptPage) → kept_at s.kept vpn ≡ o → vpn ≡ context_number → kept_at t.kept vpn ≡ option_map (stored_page x) o → StaysOrHas s t vpn area words
-    by_page None is here now = inl (ap bytes_in (now ∙ sym is))
-    by_page (Some p) is here now = inr (record { context = here; has = ap bytes_in now ∙ ap (λ o. with_bytes (bytes_in o) area words) (sym is) })
+context_kept area words s t vpn same =
+    let now = with_context area words s in
+    let wrote : List ℕ → List ℕ = λ page. with_bytes page area words in
+    let rewrites : Rewrites s t wrote = rewrites_then s now t wrote (λ page. page) (context_rewrites area words s) (rewrites_none now t same) in
+    elim (rewrites_or s t wrote rewrites vpn) [
+      | inl same ↦ inl same
+      | inr has ↦ inr (record { context = has.0; has = has.1 })
+    ]
 
 -- What its own step does to a guaranteed page.
 module _ (s : Solo) (vpn : ℕ) where
@@ -128,6 +124,8 @@ module _ (s : Solo) (vpn : ℕ) where
   by_item (Lost page) = inl (stays_told (Lost page) tt)
   by_item (Left page offset bytes) = inl (stays_told (Left page offset bytes) tt)
   by_item (Packet claim packet) = packet_counts s claim packet vpn
+  by_item (Asked outstanding deadline) = ask_changes outstanding deadline s vpn
+  by_item (Taken page backup) = take_changes page backup s vpn
   by_item (Line line) = context_kept (post_offset post.Lines) (word_bytes (bit_or (post_word post.Lines s) (2 ^ line))) s (signalled line s) vpn refl
 
   by_life : (item : Item) (gone : Bool) → let t = (if gone then s else absorbed s item) in Stays t ⊎ Changes s t vpn item
@@ -163,13 +161,16 @@ module _ (granted : GrantedMay) (system : System) (t : ℕ) where
   abbrev happens : List Occurrence
   happens = happens_in system.schedule (world_after system t)
 
-  phase_led : (k : ℕ) (phase : World → Reply) → slice_get (phases_after happens) k ≡ Some phase → GivesLed phase
-  phase_led k phase is = of_each GivesLed happen_led turn_led (step_led granted) timer_led happens k phase is
+  abbrev taken : List Taking
+  taken = takings_in system t
+
+  phase_led : (k : ℕ) (phase : World → Reply) → slice_get (phases_after happens taken) k ≡ Some phase → GivesLed phase
+  phase_led k phase is = of_each GivesLed happen_led taking_led settling_led turn_led (step_led granted) timer_led happens taken k phase is
 
   abbrev Kept_in : ℕ → ℕ → ℕ → Type 0
   Kept_in k e vpn = (bytes_at ((moment system t (suc k)).solos e) vpn ≡ bytes_at ((moment system t k).solos e) vpn) ⊎ IsChanged system t k e vpn
 
-  by_phase : (k e vpn : ℕ) (o : Option (World → Reply)) → slice_get (phases_after happens) k ≡ o → Kept_in k e vpn
+  by_phase : (k e vpn : ℕ) (o : Option (World → Reply)) → slice_get (phases_after happens taken) k ≡ o → Kept_in k e vpn
   by_phase k e vpn None is = inl (ap (λ (v : World). bytes_at (v.solos e) vpn) (next_moment system t k ∙ ap (once_more (moment system t k)) is))
   by_phase k e vpn (Some phase) is =
       let m = moment system t k in
@@ -187,7 +188,7 @@ module _ (granted : GrantedMay) (system : System) (t : ℕ) where
       ]
 
   pub phase_change : (k e vpn : ℕ) → Kept_in k e vpn
-  phase_change k e vpn = by_phase k e vpn (slice_get (phases_after happens) k) refl
+  phase_change k e vpn = by_phase k e vpn (slice_get (phases_after happens taken) k) refl
 
   -- and so in the tick
   abbrev KeptSince : ℕ → ℕ → World → Type 0

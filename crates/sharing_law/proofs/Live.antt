@@ -8,11 +8,12 @@ use Rattle.page_book.specs.Row.{gives_right, is_owned_by}
 use Rattle.bind_book.specs.declared.binding.Binding.{Binding}
 use Rattle.bind_book.specs.Stripe.{row_of}
 use Rattle.run_model.specs.Run.{System, at_step, world_after}
+use Rattle.revocation_book.specs.Takings.{TakingsAreTakable}
 use Rattle.call_verdicts.specs.Granted.{GrantedMay}
 use Rattle.sharing_law.specs.Right.{row_after, Since, HasWord, IsLive, EachIsLive}
 use Rattle.sharing_law.proofs.Replies.{IsCarried, IsPut, WasListed}
 use Rattle.sharing_law.proofs.Agreeing.{all_fine, none_bound}
-use Rattle.sharing_law.proofs.Claiming.{owned_by}
+use Rattle.sharing_law.proofs.Owning.{owned_by}
 use Rattle.sharing_law.proofs.Books.{next_carries}
 
 -- what holds since then holds after one tick more, if it holds there
@@ -94,13 +95,13 @@ was_stands system t e row b was before listed = record {
   live = still_live system t e b before.live (in_its_row system (suc t) e row b before.stands listed) was.carried;
 }
 
-each_stands : GrantedMay → (system : System) (t : ℕ) → EachStands system t
-each_stands granted system zero e row b listed = absurd (none_bound system.image e row b listed)
-each_stands granted system (suc t) e row b listed =
-    elim (next_carries granted system t (all_fine granted system t).allocated e row b listed) [
+each_stands : GrantedMay → TakingsAreTakable → (system : System) (t : ℕ) → EachStands system t
+each_stands granted takable system zero e row b listed = absurd (none_bound system.image e row b listed)
+each_stands granted takable system (suc t) e row b listed =
+    elim (next_carries granted system t (all_fine granted takable system t).allocated e row b listed) [
       | inl put ↦ record { stands = put.stands; live = put_lives system t e row b put (in_its_row system (suc t) e row b put.stands listed) }
-      | inr was ↦ was_stands system t e row b was (each_stands granted system t e row b was.listed) listed
+      | inr was ↦ was_stands system t e row b was (each_stands granted takable system t e row b was.listed) listed
     ]
 
-pub each_is_live : GrantedMay → EachIsLive
-each_is_live granted system t e row b listed = (each_stands granted system t e row b listed).live
+pub each_is_live : GrantedMay → TakingsAreTakable → EachIsLive
+each_is_live granted takable system t e row b listed = (each_stands granted takable system t e row b listed).live

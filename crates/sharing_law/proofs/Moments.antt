@@ -2,25 +2,39 @@
 use Rattle.std.proofs.Common.{◌≡◌, ℕ, suc, Bool, true, sym, ap, subst}
 use Rattle.std.specs.Prelude.{if◌then◌else◌}
 use Rattle.world_model.specs.Book.{is_idle_book}
+use Rattle.revocation_book.specs.Takings.{AreTakable, TakingsAreTakable}
+use Rattle.world_model.specs.Deadlines.{revocations, takings}
 use Rattle.world_model.specs.World.{World, after, run_phases}
 use Rattle.world_model.specs.Tick.{turn}
-use Rattle.run_model.specs.Run.{System, at_step, at_turn, happens_in, next_phases, world_after}
-use Rattle.run_model.proofs.Phases.{moments_in_order, turn_after_events}
+use Rattle.run_model.specs.Run.{System, at_deadlines, at_step, at_turn, happens_in, next_phases, once_happened, takings_in, world_after}
+use Rattle.run_model.proofs.Phases.{moments_in_order}
 use Rattle.sharing_law.proofs.Happening.{events_list}
-use Rattle.sharing_law.proofs.Turning.{ListsSame, lists_alike, lists_then, turn_alike}
+use Rattle.sharing_law.proofs.Listing.{ListsLess, less_same, less_then, served_list}
+use Rattle.sharing_law.proofs.Turning.{lists_alike, turn_alike}
 
 module _ (system : System) (t : ℕ) where
   abbrev before : World
   before = world_after system t
 
-  -- what happens from outside and the turn leave what is listed
-  pub turned_lists : ListsSame before.book (at_step system t).book
+  abbrev LessThan : World → World → Type 0
+  LessThan w v = ListsLess w.book v.book
+
+  -- up to the step nothing is listed that wasn't
+  pub turned_lists : ListsLess before.book (at_step system t).book
   turned_lists =
-      let early = at_turn system t in
-      let turned = after early (turn early) in
-      let happened = subst (λ (v : World). ListsSame before.book v.book) (sym (turn_after_events system t)) (events_list (happens_in system.schedule before) before) in
-      subst (λ (v : World). ListsSame before.book v.book) (sym (moments_in_order system t).turned) (lists_then before.book early.book turned.book happened (lists_alike early turned (turn_alike early)))
+      let order = moments_in_order system t in
+      let early = at_deadlines system t in
+      let late = at_turn system t in
+      let turned = after late (turn late) in
+      let happened = subst (LessThan before) (sym order.happened) (less_same before.book (once_happened system.schedule before).book (events_list (happens_in system.schedule before) before)) in
+      let serving = subst (LessThan early) (sym order.served) (served_list (takings early) early) in
+      subst (LessThan before) (sym order.turned)
+      (less_then before.book late.book turned.book (less_then before.book early.book late.book happened serving) (less_same late.book turned.book (lists_alike late turned (turn_alike late))))
 
   -- an idle world stays as it is
   pub stays_idle : is_idle_book before.book ≡ true → world_after system (suc t) ≡ before
   stays_idle idle = ap (λ (stays : Bool). if stays then before else run_phases before (next_phases system.schedule before)) idle
+
+-- what is taken in a tick may be taken, one after another
+pub taken_may : TakingsAreTakable → (system : System) (t : ℕ) → (let v = once_happened system.schedule (world_after system t) in AreTakable (revocations v.book) v.book.time (takings_in system t))
+taken_may takable system t = let v = once_happened system.schedule (world_after system t) in takable (revocations v.book) v.book.time v.count

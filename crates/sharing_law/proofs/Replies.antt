@@ -10,7 +10,7 @@ use Rattle.bind_book.specs.declared.binding.Binding.{Binding}
 use Rattle.bind_book.specs.Stripe.{binding_at, breaks_page, goes_with, row_of, without}
 use Rattle.world_model.specs.declared.call.Call.{Call}
 use Rattle.world_model.specs.declared.call.Deed.{Deed}
-use Rattle.world_model.specs.declared.call.Deed.TheVariants.{Answers, Own, Stops, Gives, Allocates, Frees, Recaps, Binds, Unbinds, Transfers, TakesSlot, DropsSlot, TakesLine, DropsLine, Claims, Unclaims}
+use Rattle.world_model.specs.declared.call.Deed.TheVariants.{Answers, Own, Stops, Gives, Allocates, Frees, Recaps, Binds, Unbinds, Transfers, TakesSlot, DropsSlot, TakesLine, DropsLine, Claims, Unclaims, Loads}
 use Rattle.world_model.specs.declared.verdict.Verdict.{Verdict}
 use Rattle.world_model.specs.declared.verdict.Verdict.TheVariants.{Refuse, Grant}
 use Rattle.world_model.specs.Table.{set_at}
@@ -18,7 +18,7 @@ use Rattle.world_model.specs.Book.{Book}
 use Rattle.world_model.specs.Death.{death}
 use Rattle.world_model.specs.Item.{Step, deed_at}
 use Rattle.world_model.specs.May.{HasRight, May}
-use Rattle.world_model.specs.PageCalls.{with_binding, without_number}
+use Rattle.world_model.specs.PageCalls.{freed, with_binding, without_number}
 use Rattle.world_model.specs.Step.{Act, Nothing, Stores, Calls, Raises, Dies}
 use Rattle.world_model.specs.Tick.{brings}
 use Rattle.world_model.specs.Verdict.{done, reply_of, reply_to, verdict}
@@ -83,16 +83,17 @@ left_in_row broken (Some x) b is = by_test (broken x) refl is
     by_test true broken_is is = cc
     by_test false broken_is is = let same : x ≡ b = cc in (is, subst (λ (y : Binding). broken y ≡ false) same broken_is)
 
--- a page is freed: its bindings are gone
-frees : (w : World) (page : ℕ) → Carries w (set_at page Free w.book.pages) (λ i row. without (breaks_page page None i) (w.book.binds i row))
-frees w page = record {
-  each = λ i row b is.
-      let before = left_in_row (breaks_page page None i) (w.book.binds i row) b is in
-      inr (record {
-        listed = before.0;
-        carried = elim (and_cases (b.page == page) true before.1) [ inl other ↦ inl (set_other page Free w.book.pages b.page other) | inr never ↦ cc ];
-      });
-}
+-- a page is freed: its bindings are gone, and all others remain
+pub freed_remains : (b : Book) (page i row : ℕ) (x : Binding) → (freed page b).binds i row ≡ Some x → Remains b (freed page b) i row x
+freed_remains b page i row x is =
+    let before = left_in_row (breaks_page page None i) (b.binds i row) x is in
+    record {
+      listed = before.0;
+      page = elim (and_cases (x.page == page) true before.1) [ inl other ↦ set_other page Free b.pages x.page other | inr never ↦ cc ];
+    }
+
+frees : (w : World) (page : ℕ) → Carries w (freed page w.book).pages (freed page w.book).binds
+frees w page = record { each = λ i row b is. let left = freed_remains w.book page i row b is in inr (record { listed = left.listed; carried = inl left.page }) }
 
 -- its owner gives a page other words: only its own bindings of the page are left
 recaps : (w : World) (e page : ℕ) (words : Capabilities) → is_owned_by e (w.book.pages page) ≡ true
@@ -191,6 +192,7 @@ deed_carries w e allocated (TakesLine line) does may = stays w
 deed_carries w e allocated (DropsLine line) does may = stays w
 deed_carries w e allocated (Claims claim address atoms page) does may = stays w
 deed_carries w e allocated (Unclaims claim) does may = stays w
+deed_carries w e allocated (Loads page) does may = stays w
 
 call_carries : GrantedMay → (w : World) (e : ℕ) → AreBoundAllocated w → (c : Option Call) → Acts w e (Calls c) → CarriesInto w (reply_to w e c)
 call_carries granted w e allocated c acts = by_verdict (verdict w e c) refl

@@ -59,7 +59,7 @@ death_owing b excess gone i = ap (λ items. if i == gone then [] else items) (lo
 module _ (w : World) where
   passes : (runner : Option Runner) (items : ℕ → List Item) (rows : List Row) → ((i : ℕ) → IsRested (w.solos i) (absorb_all (w.solos i) (items i)))
       → Comes w (record { book = record w.book { runner = runner }; items = items; rows = rows })
-  passes runner items rows rests = Passed (record { solos = rests; pages = refl; binds = refl; claims = refl; next = refl; count = refl })
+  passes runner items rows rests = Passed (record { solos = rests; pages = refl; binds = refl; claims = refl; next = refl; backups = refl; count = refl })
 
   -- who is told of its end rests, and all others stay as they are
   given_end : (s : Solo) (t : Bool) → IsRested s (absorb_all s (if t then End ∷ [] else []))
@@ -106,7 +106,7 @@ module _ (w : World) where
           ∙ ap (λ (s : Solo). absorb_all s (death_items doomed.book r.env i)) (told_other owing r.env Killed i ne)
           ∙ ap (absorb_all (w.solos i)) (death_owing w.book owing.book.excess r.env i);
     })
-    grace_comes false = Passed (record { solos = λ i. rests_same (w.solos i); pages = refl; binds = refl; claims = refl; next = refl; count = refl })
+    grace_comes false = Passed (record { solos = λ i. rests_same (w.solos i); pages = refl; binds = refl; claims = refl; next = refl; backups = refl; count = refl })
 
     out_comes : (p : Phase) → Comes w (run_out r.env p w)
     out_comes phase.Own = slice_comes ((w.solos r.env).handlers.end == 0)
@@ -128,6 +128,7 @@ module _ (w : World) where
     binds = alike.binds;
     claims = alike.claims;
     next = alike.next;
+    backups = alike.backups;
     count = alike.count;
   })
   clocked count (Died x runs killed) = Died x runs (record {

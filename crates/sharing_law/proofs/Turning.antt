@@ -40,6 +40,7 @@ pub record IsAlike (w v : World) : Type 0 where
   pub binds : v.book.binds ≡ w.book.binds
   pub claims : v.book.claims ≡ w.book.claims
   pub next : v.book.next_claim ≡ w.book.next_claim
+  pub backups : v.book.backups ≡ w.book.backups
   pub count : v.book.page_count ≡ w.book.page_count
 
 pub lists_alike : (w v : World) → IsAlike w v → ListsSame w.book v.book
@@ -72,12 +73,12 @@ given_start s false = rests_same s
 given_start s true = start_rests s
 
 pub unchanged : (w : World) → IsAlike w (after w (no_change w))
-unchanged w = record { solos = λ i. rests_same (w.solos i); pages = refl; binds = refl; claims = refl; next = refl; count = refl }
+unchanged w = record { solos = λ i. rests_same (w.solos i); pages = refl; binds = refl; claims = refl; next = refl; backups = refl; count = refl }
 
 -- The turn.
 turn_taken : (w : World) (told : Told) (x : Option Turn) → IsAlike w (after w (take_turn w told x))
 turn_taken w told None = unchanged w
-turn_taken w told (Some t) = record { solos = λ i. given_start (w.solos i) (i == t.env); pages = refl; binds = refl; claims = refl; next = refl; count = refl }
+turn_taken w told (Some t) = record { solos = λ i. given_start (w.solos i) (i == t.env); pages = refl; binds = refl; claims = refl; next = refl; backups = refl; count = refl }
 
 turn_by : (w : World) (o : Option Runner) → IsAlike w (after w (turn_when w o))
 turn_by w None = turn_taken w (whole_turn w.book) (whole_turn w.book).runs

@@ -56,17 +56,26 @@ pub record IsLeftByRight (system : System) (t k e page offset : ℕ) (bytes : Li
   pub left : IsLeft (moment system t k) e page offset bytes
   pub right : HasLiveBinding system t left.writer page
 
--- Or a packet comes there for the owner of the page, which is another, or a copy of a page that is taken from it: then they are all bytes of the page.
+-- Or a packet comes there for the owner of the page, which is another: then they are all bytes of the page.
 pub record IsLeftByDelivery (system : System) (t k e page offset : ℕ) (bytes : List ℕ) : Type 0 where
   pub owner : ℕ
   pub another : e ≢ owner
   pub owned : is_owned_by owner ((moment system t k).book.pages page) ≡ true
-  pub delivered : IsDelivered system t k page owner ⊎ IsCopied system t k page owner
+  pub delivered : IsDelivered system t k page owner
   pub whole : offset ≡ 0
   pub its : bytes ≡ page_bytes (moment system t (suc k)) page
 
+-- Or a page that is taken from the owner of the page, which is another, is copied there: then they are the bytes of the page that is taken.
+pub record IsLeftByCopy (system : System) (t k e page offset : ℕ) (bytes : List ℕ) : Type 0 where
+  pub owner : ℕ
+  pub another : e ≢ owner
+  pub owned : is_owned_by owner ((moment system t k).book.pages page) ≡ true
+  pub copied : IsCopied system t k page owner
+  pub whole : offset ≡ 0
+  pub its : bytes ≡ page_bytes (moment system t k) copied.taken
+
 abbrev pub LeftIsLive : System → ℕ → ℕ → ℕ → Item → Type 0
-LeftIsLive system t k e (Left page offset bytes) = IsLeftByRight system t k e page offset bytes ⊎ IsLeftByDelivery system t k e page offset bytes
+LeftIsLive system t k e (Left page offset bytes) = IsLeftByRight system t k e page offset bytes ⊎ (IsLeftByDelivery system t k e page offset bytes ⊎ IsLeftByCopy system t k e page offset bytes)
 LeftIsLive system t k e item = Unit {0}
 
 abbrev pub EachLeftIsLive : Type 0

@@ -1,8 +1,9 @@
 //! The book and the environments.
-ghost use Rattle.sharing_law.specs.Agreement.{BooksAgree, BoundIsAllocated, ClaimsAgree, ClaimsAreApart, ClaimsAreSound};
+ghost use Rattle.sharing_law.specs.Agreement.{BackupsAreOwned, BooksAgree, BoundIsAllocated, ClaimsAgree, ClaimsAreApart, ClaimsAreSound};
 
 use call_verdicts::law_granted;
 use filter_core::law_agree;
+use revocation_book::law_takable;
 
 /// Each environment has just the bindings that the book lists for it, and sees just the pages that by the book it owns
 /// or has bound, with the bytes that their owner sees.
@@ -10,6 +11,7 @@ pub fn law_agreement()
     ensures { BooksAgree }
 {
     law_granted();
+    law_takable();
 }
 
 /// No page is bound that is free or guaranteed.
@@ -17,6 +19,7 @@ pub fn law_bound()
     ensures { BoundIsAllocated }
 {
     law_granted();
+    law_takable();
 }
 
 /// Each environment has just the claims that the book lists for it, into the pages that the book says.
@@ -24,6 +27,7 @@ pub fn law_claims()
     ensures { ClaimsAgree }
 {
     law_granted();
+    law_takable();
 }
 
 /// Each claim that the book lists goes into a page that its environment owns, and no other has its number.
@@ -31,6 +35,15 @@ pub fn law_claim_pages()
     ensures { ClaimsAreSound }
 {
     law_granted();
+    law_takable();
+}
+
+/// Each backup is a page that its environment owns, none is loaded twice, and an environment has at most 64.
+pub fn law_backups()
+    ensures { BackupsAreOwned }
+{
+    law_granted();
+    law_takable();
 }
 
 /// Claims of two environments don't overlap: no packet is matched by both.
@@ -38,5 +51,6 @@ pub fn law_claims_apart()
     ensures { ClaimsAreApart }
 {
     law_granted();
+    law_takable();
     law_agree();
 }

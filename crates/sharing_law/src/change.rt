@@ -2,11 +2,12 @@
 ghost use Rattle.sharing_law.specs.Change.{AllocatedChange, AllocatedInTick, AllocatedZeros, GuaranteedChange, GuaranteedInTick, ItemChange, ZerosInTick};
 
 use call_verdicts::law_granted;
+use revocation_book::law_takable;
 
 /// An item that an environment absorbs leaves the bytes of its guaranteed pages, but for its own store to one, which may
 /// be stored to; for the words of an exception of its own, of the start and the end of its slice, where it handles
-/// starts, of another's transfer to it, and of packets and signals of its own, which go into the context page; and for its
-/// record at boot and its death.
+/// starts, of another's transfer to it, of packets and signals of its own, of what it is asked for and of what is taken
+/// from it, which go into the context page; and for its record at boot and its death.
 pub fn law_item_change()
     ensures { ItemChange }
 {}
@@ -27,11 +28,13 @@ pub fn law_guaranteed_in_tick()
 }
 
 /// In a phase of a tick the bytes of a page that stays allocated to an environment change only by a store through a live
-/// writable binding, or by a packet of the environment's own, for a claim whose ring the page is.
+/// writable binding; by a packet of the environment's own, for a claim whose ring the page is; or by the copy of a page
+/// that is taken from the environment, whose first backup the page is.
 pub fn law_allocated_change()
     ensures { AllocatedChange }
 {
     law_granted();
+    law_takable();
 }
 
 /// A page that comes to be allocated in a phase is so by a call of its owner in it, was free before, and holds zeros
@@ -40,14 +43,16 @@ pub fn law_zeros()
     ensures { AllocatedZeros }
 {
     law_granted();
+    law_takable();
 }
 
 /// So a page that is allocated to an environment after a tick was so before, with the same bytes, or was stored to or
-/// allocated so in a phase of the tick, or such a packet came there.
+/// allocated so in a phase of the tick, or such a packet or such a copy came there.
 pub fn law_allocated_in_tick()
     ensures { AllocatedInTick }
 {
     law_granted();
+    law_takable();
 }
 
 /// And one that wasn't so before was allocated so in a phase of the tick.
@@ -55,4 +60,5 @@ pub fn law_zeros_in_tick()
     ensures { ZerosInTick }
 {
     law_granted();
+    law_takable();
 }
