@@ -117,6 +117,9 @@ module _ (image : ImageValue) where
   none_yet : (i : ℕ) → HasNone i (boot_world image).book.pages ((boot_world image).book.binds i)
   none_yet i = record { binds = book_fresh.binds i; owns = book_fresh.pages.owns i }
 
+  pub none_owned : (i page : ℕ) → is_owned_by i ((boot_world image).book.pages page) ≡ false
+  none_owned = book_fresh.pages.owns
+
   pub none_bound : (e row : ℕ) (b : Binding) → (boot_world image).book.binds e row ≡ Some b → ⊥
   none_bound e row b is = let never : None ≡ Some b = sym (book_fresh.binds e row) ∙ is in cc
 
@@ -168,7 +171,7 @@ fine_alike phase alike accounts w fine =
     record { sound = sound_alike w v (alike w) fine.sound; allocated = allocated_same w v (lists_alike w v (alike w)) fine.allocated; accounted = accounts w fine.accounted; claimed = claimed_alike w v (alike w) fine.claimed; backed = backed_alike w v (alike w) fine.backed }
 
 -- what happens from outside, kind by kind
-pub fine_event : (what : Occurrence) → KeepsFine (happen what)
+fine_event : (what : Occurrence) → KeepsFine (happen what)
 fine_event (outside.Packet packet) w fine =
     let v = after w (happen (outside.Packet packet) w) in
     let arrived = arrived_sound w packet fine.sound fine.claimed fine.allocated in

@@ -78,7 +78,7 @@ data PhaseFates (base w : World) (r : Reply) : Type 0 where
   Stepwise : ListsLess base.book w.book → Fates w (after w r) → PhaseFates base w r
   Otherwise : StayOrCome w r → PhaseFates base w r
 
--- the phase that is next, and another with the same name
+-- what a phase makes of pages, the phase that is so numbered does
 module _ (base w : World) where
   its_fates : (p q : World → Reply) → PhaseFates base w (p w) → Some p ≡ Some q → PhaseFates base w (q w)
   its_fates p q fates same = let is : p ≡ q = cc in subst (λ (r : World → Reply). PhaseFates base w (r w)) is fates

@@ -23,7 +23,7 @@ use Rattle.sharing_law.specs.Right.{EachLeftIsLive, HasLiveBinding, IsLeftByCopy
 use Rattle.sharing_law.proofs.Delivering.{delivered_in, delivered_whole}
 use Rattle.sharing_law.proofs.Happening.{happen_lists}
 use Rattle.sharing_law.proofs.Listing.{ListsLess, less_alike, less_same, less_then, settled_alike, taking_lists}
-use Rattle.sharing_law.proofs.Repossessing.{backup_owned, copied_in, copy_in}
+use Rattle.sharing_law.proofs.Repossessing.{copied_in, copy_in}
 use Rattle.sharing_law.proofs.Turning.{same_lists, turn_alike}
 use Rattle.sharing_law.proofs.Agreeing.{Fine, all_fine, moment_fine}
 use Rattle.sharing_law.proofs.Live.{each_is_live}
@@ -104,7 +104,6 @@ module _ (granted : GrantedMay) (takable : TakingsAreTakable) (system : System) 
       record {
         owner = x.env;
         another = left.another;
-        owned = backup_owned m x fine.sound fine.claimed fine.backed left.may page left.into;
         copied = copied_in system t k page x.env (takes x m) next given (copy_in m x fine.sound fine.claimed fine.backed left.may page left.into);
         whole = left.whole;
         its = left.its;

@@ -26,3 +26,4 @@ mod Writing
 mod Leaving
 mod Guaranteed
 mod Allocated
+mod Sizes

@@ -48,6 +48,8 @@ use Rattle.sharing_law.proofs.Sound.{HasNone, Sound, agreed, owner_bytes, still_
 pub record IsCopyIn (w : World) (items : ℕ → List Item) (o page : ℕ) (bytes : List ℕ) : Type 0 where
   pub taken : ℕ
   pub given : items o ≡ Taken taken (Some page) ∷ []
+  pub from : is_owned_by o (w.book.pages taken) ≡ true
+  pub into : is_owned_by o (w.book.pages page) ≡ true
   pub has : bytes ≡ with_bytes (page_bytes w page) 0 (page_bytes w taken)
 
 -- so it is copied in a phase
@@ -56,6 +58,8 @@ abbrev pub copied_in : (system : System) (t k page owner : ℕ) (r : Reply) → 
 copied_in system t k page owner r next given comes = record {
   taken = comes.taken;
   given = given ∙ comes.given;
+  from = comes.from;
+  into = comes.into;
   has = ap (λ (v : World). page_bytes v page) next ∙ comes.has;
 }
 
@@ -249,7 +253,7 @@ module _ (w : World) (x : Taking) (sound : Sound w) (claimed : Claimed w) (backe
       ∙ set_here backup (with_bytes (page_bytes w backup) 0 (page_bytes w x.page)) (page_bytes w)
 
   abbrev pub copy_in : (backup : ℕ) → x.backup ≡ Some backup → IsCopyIn w (takes x w).items e backup (page_bytes now backup)
-  copy_in backup is = record { taken = x.page; given = backup_given backup is; has = backup_has backup is }
+  copy_in backup is = record { taken = x.page; given = backup_given backup is; from = may.owned; into = backup_owned backup is; has = backup_has backup is }
 
   becomes : (backup : Option ℕ) → x.backup ≡ backup → (o page : ℕ) → is_owned_by o (now.book.pages page) ≡ true
       → (page_bytes now page ≡ page_bytes w page) ⊎ IsCopyIn w (takes x w).items o page (page_bytes now page)

@@ -1,10 +1,14 @@
 -- A store goes to where its VPN leads, and only where that may be stored to.
-use Rattle.std.proofs.Common.{◌≡◌, ℕ, ◌/◌, Bool, true, false, not, Option, Some, None, Result, Ok, Err, refl, sym, ◌∙◌, ap}
+use Rattle.std.proofs.Common.{arith, ◌≡◌, ℕ, ◌+◌, ◌/◌, ◌%◌, ◌≤◌, length, Bool, true, false, not, Option, Some, None, Result, Ok, Err, refl, sym, ◌∙◌, ap, subst}
 use Rattle.std.specs.Prelude.{◌==◌, nat_le, if◌then◌else◌}
 use Rattle.std.specs.Option.{option_map, option_or}
+use Rattle.std.specs.Int.{w32, to_le_bytes}
+use Rattle.std.proofs.lemmas.Bool.{eqb-true}
+use Rattle.std.proofs.lemmas.List.{length-take}
 use Rattle.aegis_limits.specs.Limits.{page_size}
 use Rattle.mips_isa.specs.Encoding.{insn_of}
 use Rattle.mips_isa.specs.declared.insn.Insn.{Insn}
+use Rattle.mips_isa.specs.declared.insn.Insn.TheVariants as insn
 use Rattle.mips_exec.specs.declared.registers.Cpu.{Cpu}
 use Rattle.mips_exec.specs.declared.reach.Access.{Access}
 use Rattle.mips_exec.specs.declared.reach.Access.TheVariants as access
@@ -23,7 +27,7 @@ use Rattle.bind_book.specs.Stripe.{binding_at, of_number, row_of}
 use Rattle.world_model.specs.declared.life.Cause.TheVariants as cause
 use Rattle.world_model.specs.declared.page.Purpose.TheVariants as purpose
 use Rattle.world_model.specs.Call.{exit_number}
-use Rattle.mips_exec.specs.Cpu.{reg}
+use Rattle.mips_exec.specs.Cpu.{address_of, reg}
 use Rattle.world_model.specs.Page.{KeptPage, Mapped, address_error, answers_by, if_served, raised, reach, served, user_end}
 use Rattle.world_model.specs.Solo.{Solo, Store, Kept, Physical, Place, bound_place, kept_at, leads, mapped, place_at, sight, store_through}
 use Rattle.world_model.specs.Step.{Stores, Raises, Dies, act_at_call, act_of, step_alone, store_act}
@@ -38,44 +42,59 @@ ended_write cpu new (change.JumpsAndLinks n target) write o is = cc
 ended_write cpu new change.Calls write o is = cc
 ended_write cpu new (change.Raises exc) write o is = cc
 
--- memory granted a store at this address
-record IsGranted (answers : Answers) (address : ℕ) : Type 0 where
+-- what an access stores, where it is aligned, lies in one word
+abbrev LiesIn : Option Access → Type 0
+LiesIn None = Unit {0}
+LiesIn (Some (access.Load spot)) = Unit {0}
+LiesIn (Some (access.Store spot value)) = is_aligned spot ≡ true → place_of spot % 4 + spot.width ≤ 4
+
+access_lies : (insn : Insn) (cpu : Cpu) → LiesIn (accesses.access insn cpu)
+unfolding accesses.access
+access_lies (insn.Sb rt imm rs) cpu = λ aligned. omega arith
+access_lies (insn.Sh rt imm rs) cpu = λ aligned. omega (arith, eqb-true (address_of cpu rs imm % 2) 0 aligned)
+access_lies (insn.Sw rt imm rs) cpu = λ aligned. omega (arith, eqb-true (address_of cpu rs imm % 4) 0 aligned)
+access_lies (insn.Swl rt imm rs) cpu = λ aligned. omega arith
+access_lies (insn.Swr rt imm rs) cpu = λ aligned. omega arith
+access_lies _ cpu = tt
+
+-- memory granted a store of these bytes, which lie in one word
+record IsGranted (answers : Answers) (w : Write) : Type 0 where
   width : ℕ
-  granted : answers.store address width ≡ Ok tt
+  granted : answers.store w.address width ≡ Ok tt
+  lie : w.address % 4 + length w.bytes ≤ 4
 
 -- a step that writes was granted its store
 module _ (answers : Answers) (cpu new : Cpu) (w : Write) where
-  by_answer : (insn : Insn) (spot : Spot) (value : ℕ) (r : Result (Unit {0}) Exc) → answers.store (place_of spot) spot.width ≡ r
-      → accessed insn cpu (access.Store spot value) (without_value r) ≡ Retired new (Some w) → IsGranted answers w.address
-  by_answer insn spot value (Err exc) is retired = cc
-  by_answer insn spot value (Ok u) is retired =
+  by_answer : (insn : Insn) (spot : Spot) (value : ℕ) → place_of spot % 4 + spot.width ≤ 4 → (r : Result (Unit {0}) Exc) → answers.store (place_of spot) spot.width ≡ r
+      → accessed insn cpu (access.Store spot value) (without_value r) ≡ Retired new (Some w) → IsGranted answers w
+  by_answer insn spot value lies (Err exc) is retired = cc
+  by_answer insn spot value lies (Ok u) is retired =
       let write : write_of (access.Store spot value) ≡ Some w = ended_write cpu new (effects.effect insn cpu 0) (write_of (access.Store spot value)) (Some w) retired in
-      let address : place_of spot ≡ w.address = place_is write in
-      record { width = spot.width; granted = ap (λ a. answers.store a spot.width) (sym address) ∙ is }
+      subst (IsGranted answers) (its write) (record { width = spot.width; granted = is; lie = omega (arith, lies, length-take spot.width (to_le_bytes w32 value)) })
     where
-      place_is : Some (record { address = place_of spot; bytes = accesses.low_bytes spot.width value }) ≡ Some w → place_of spot ≡ w.address
-      place_is same = let both : record { address = place_of spot; bytes = accesses.low_bytes spot.width value } ≡ w = cc in ap (λ (x : Write). x.address) both
+      its : Some (record { address = place_of spot; bytes = accesses.low_bytes spot.width value }) ≡ Some w → record { address = place_of spot; bytes = accesses.low_bytes spot.width value } ≡ w
+      its same = cc
 
-  by_aligned : (insn : Insn) (spot : Spot) (value : ℕ) (t : Bool)
-      → accessed insn cpu (access.Store spot value) (if t then without_value (answers.store (place_of spot) spot.width) else Err (plain code.Ades)) ≡ Retired new (Some w) → IsGranted answers w.address
-  by_aligned insn spot value true retired = by_answer insn spot value (answers.store (place_of spot) spot.width) refl retired
-  by_aligned insn spot value false retired = cc
+  by_aligned : (insn : Insn) (spot : Spot) (value : ℕ) → LiesIn (Some (access.Store spot value)) → (t : Bool) → is_aligned spot ≡ t
+      → accessed insn cpu (access.Store spot value) (if t then without_value (answers.store (place_of spot) spot.width) else Err (plain code.Ades)) ≡ Retired new (Some w) → IsGranted answers w
+  by_aligned insn spot value lies true aligned retired = by_answer insn spot value (lies aligned) (answers.store (place_of spot) spot.width) refl retired
+  by_aligned insn spot value lies false aligned retired = cc
 
   -- a load writes nothing
-  by_load : (insn : Insn) (spot : Spot) (r : Result ℕ Exc) → accessed insn cpu (access.Load spot) r ≡ Retired new (Some w) → IsGranted answers w.address
+  by_load : (insn : Insn) (spot : Spot) (r : Result ℕ Exc) → accessed insn cpu (access.Load spot) r ≡ Retired new (Some w) → IsGranted answers w
   by_load insn spot (Ok x) retired = let none : None ≡ Some w = ended_write cpu new (effects.effect insn cpu x) None (Some w) retired in cc
   by_load insn spot (Err exc) retired = cc
 
-  by_access : (insn : Insn) (a : Option Access) → executed insn cpu a (answered_if answers a) ≡ Retired new (Some w) → IsGranted answers w.address
-  by_access insn None retired = let none : None ≡ Some w = ended_write cpu new (effects.effect insn cpu 0) None (Some w) retired in cc
-  by_access insn (Some (access.Load spot)) retired = by_load insn spot (answered answers (access.Load spot)) retired
-  by_access insn (Some (access.Store spot value)) retired = by_aligned insn spot value (is_aligned spot) retired
+  by_access : (insn : Insn) (a : Option Access) → LiesIn a → executed insn cpu a (answered_if answers a) ≡ Retired new (Some w) → IsGranted answers w
+  by_access insn None lies retired = let none : None ≡ Some w = ended_write cpu new (effects.effect insn cpu 0) None (Some w) retired in cc
+  by_access insn (Some (access.Load spot)) lies retired = by_load insn spot (answered answers (access.Load spot)) retired
+  by_access insn (Some (access.Store spot value)) lies retired = by_aligned insn spot value lies (is_aligned spot) refl retired
 
-  by_fetch : (r : Result ℕ Exc) → decoded cpu r (access_after answers cpu r) ≡ Retired new (Some w) → IsGranted answers w.address
-  by_fetch (Ok word) retired = by_access (insn_of word) (accesses.access (insn_of word) cpu) retired
+  by_fetch : (r : Result ℕ Exc) → decoded cpu r (access_after answers cpu r) ≡ Retired new (Some w) → IsGranted answers w
+  by_fetch (Ok word) retired = by_access (insn_of word) (accesses.access (insn_of word) cpu) (access_lies (insn_of word) cpu) retired
   by_fetch (Err exc) retired = cc
 
-  granted_store : step_of cpu (view_of answers cpu) ≡ Retired new (Some w) → IsGranted answers w.address
+  granted_store : step_of cpu (view_of answers cpu) ≡ Retired new (Some w) → IsGranted answers w
   granted_store retired = by_fetch (fetched answers cpu.pc) retired
 
 -- what a store is answered
@@ -116,13 +135,18 @@ found_in_row vpn (Some x) b is = by_test (x.vpn == vpn) is
     by_test true is = is
     by_test false is = cc
 
--- a store goes to where a VPN leads, and that may be stored to
+-- a store goes to where a VPN leads, which may be stored to, and into one page
 record IsLed (s : Solo) (x : Store) : Type 0 where
   vpn : ℕ
   place : Place
   led : leads s vpn ≡ Some place
   key : place.key ≡ x.key
   writable : place.writable ≡ true
+  within : x.offset + length x.bytes ≤ page_size
+
+-- what lies in one word lies in one page
+word_in_page : (address size : ℕ) → address % 4 + size ≤ 4 → address % page_size + size ≤ page_size
+word_in_page address size lies = omega (arith, lies)
 
 module _ (s : Solo) (x : Store) where
   by_led : (new : Cpu) (w : Write) → step_alone s ≡ Retired new (Some w) → (o : Option Place) → leads s (w.address / page_size) ≡ o → store_act (option_map (store_through w) o) ≡ Stores x → IsLed s x
@@ -136,6 +160,7 @@ module _ (s : Solo) (x : Store) where
         led = led;
         key = ap (λ (y : Store). y.key) store;
         writable = granted_writable (sight s) w.address (mapped s place) (ap (option_map (mapped s)) led) granted.granted;
+        within = subst (λ (y : Store). y.offset + length y.bytes ≤ page_size) store (word_in_page w.address (length w.bytes) granted.lie);
       }
 
   by_call : (exits : Bool) → act_at_call s.cpu exits ≡ Stores x → IsLed s x
@@ -154,6 +179,9 @@ module _ (s : Solo) (x : Store) where
 
   led_store : act_of s (step_alone s) ≡ Stores x → IsLed s x
   led_store acts = by_step (step_alone s) refl acts
+
+pub stored_within : (s : Solo) (x : Store) → act_of s (step_alone s) ≡ Stores x → x.offset + length x.bytes ≤ page_size
+stored_within s x acts = (led_store s x acts).within
 
 module _ (s : Solo) (x : Store) (page : ℕ) (into : x.key ≡ Physical page) where
   -- the VPN leads to the binding

@@ -1,6 +1,7 @@
 -- What the kernel puts into a page for its owner: packets in the rings of their claims, and copies of pages that are taken.
-use Rattle.std.specs.Prelude.{◌≡◌, ℕ, suc, List, [], ◌∷◌, Some}
+use Rattle.std.specs.Prelude.{◌≡◌, ℕ, suc, true, List, [], ◌∷◌, Some}
 use Rattle.frame_store.specs.Pages.{with_bytes}
+use Rattle.page_book.specs.Row.{is_owned_by}
 use Rattle.world_model.specs.Item.{Packet, Taken}
 use Rattle.world_model.specs.PageCalls.{page_bytes}
 use Rattle.world_model.specs.Rings.{ring_after, ring_of}
@@ -17,8 +18,10 @@ pub record IsDelivered (system : System) (t k page owner : ℕ) : Type 0 where
   pub its : ring.page ≡ page
   pub has : ring_after ((moment system t k).solos owner) ring packet ≡ Some (page_bytes (moment system t (suc k)) page)
 
--- In a phase of a tick a page is taken from the owner of the page, which is the backup that gets a copy: from its start on it has the bytes of the page that is taken.
+-- In a phase of a tick a page is taken from the owner of this one, which is the backup that gets a copy: from its start on it has the bytes of the page that is taken.
 pub record IsCopied (system : System) (t k page owner : ℕ) : Type 0 where
   pub taken : ℕ
   pub given : given_at system t k owner ≡ Taken taken (Some page) ∷ []
+  pub from : is_owned_by owner ((moment system t k).book.pages taken) ≡ true
+  pub into : is_owned_by owner ((moment system t k).book.pages page) ≡ true
   pub has : page_bytes (moment system t (suc k)) page ≡ with_bytes (page_bytes (moment system t k) page) 0 (page_bytes (moment system t k) taken)

@@ -2,3 +2,4 @@ pub mod Agreement
 pub mod Delivery
 pub mod Right
 pub mod Change
+pub mod Whole

@@ -69,7 +69,6 @@ pub record IsLeftByDelivery (system : System) (t k e page offset : ℕ) (bytes :
 pub record IsLeftByCopy (system : System) (t k e page offset : ℕ) (bytes : List ℕ) : Type 0 where
   pub owner : ℕ
   pub another : e ≢ owner
-  pub owned : is_owned_by owner ((moment system t k).book.pages page) ≡ true
   pub copied : IsCopied system t k page owner
   pub whole : offset ≡ 0
   pub its : bytes ≡ page_bytes (moment system t k) copied.taken

@@ -5,6 +5,7 @@
 mod agreement;
 mod change;
 mod right;
+mod whole;
 
 pub use agreement::{
     law_agreement, law_backups, law_bound, law_claim_pages, law_claims, law_claims_apart,
@@ -14,3 +15,4 @@ pub use change::{
     law_item_change, law_zeros, law_zeros_in_tick,
 };
 pub use right::{law_left, law_live};
+pub use whole::{law_whole, law_whole_copies};

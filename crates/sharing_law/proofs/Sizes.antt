@@ -1,0 +1,158 @@
+-- Allocated pages have all their bytes, where packets are within their limits.
+use Rattle.std.proofs.Common.{◌≡◌, ◌≤◌, ◌+◌, ℕ, zero, suc, List, [], ◌∷◌, ◌++◌, length, take, drop, Bool, true, false, Some, None, inl, inr, refl, sym, ◌∙◌, ap, subst, arith, length-append}
+use Rattle.std.specs.Prelude.{nat_le, if◌then◌else◌, slice_get}
+use Rattle.std.specs.List.{All}
+use Rattle.std.proofs.lemmas.Bool.{and_parts, leb-true}
+use Rattle.std.proofs.lemmas.List.{append-nil, drop_all, length-drop, length-replicate, length-take}
+use Rattle.aegis_limits.specs.Limits.{page_size}
+use Rattle.external_event.specs.declared.event.Occurrence.{Occurrence}
+use Rattle.external_event.specs.declared.event.Occurrence.TheVariants as outside
+use Rattle.external_event.specs.Limits.{most_packet_size}
+use Rattle.frame_store.specs.Pages.{with_bytes, word_bytes, zero_page}
+use Rattle.packet_ring.specs.declared.buffer.Buffer.{Buffer}
+use Rattle.packet_ring.specs.declared.buffer.Buffer.TheVariants.{First, Second}
+use Rattle.packet_ring.specs.Ring.{buffer_offset, is_full, with_packet}
+use Rattle.page_book.specs.Row.{is_owned_by}
+use Rattle.revocation_book.specs.declared.revocation.Taking.{Taking}
+use Rattle.revocation_book.specs.Takings.{TakingsAreTakable}
+use Rattle.world_model.specs.Book.{is_idle_book}
+use Rattle.world_model.specs.Item.{Packet}
+use Rattle.world_model.specs.PageCalls.{page_bytes}
+use Rattle.world_model.specs.Solo.{bytes_seen}
+use Rattle.world_model.specs.World.{World}
+use Rattle.call_verdicts.specs.Granted.{GrantedMay}
+use Rattle.run_model.specs.Licensed.{AtEvent, GivenIsLicensed, LicensedAt, LicensedBehind, LicensedIn}
+use Rattle.run_model.specs.Run.{System, given_at, happens_in, moment, phases_in, takings_in, world_after}
+use Rattle.run_model.proofs.Phases.{tick_moment}
+use Rattle.sharing_law.specs.Change.{IsStored}
+use Rattle.sharing_law.specs.Delivery.{IsCopied, IsDelivered}
+use Rattle.sharing_law.specs.Whole.{CopiesAreWhole, IsWithinLimits, PagesAreWhole}
+use Rattle.sharing_law.proofs.Agreeing.{none_owned}
+use Rattle.sharing_law.proofs.Allocated.{becomes}
+use Rattle.sharing_law.proofs.Delivering.{owner_sees}
+use Rattle.sharing_law.proofs.Moments.{stays_idle}
+use Rattle.sharing_law.proofs.Writing.{stored_within}
+
+-- bytes within a page leave its length
+with_length : (page : List ℕ) (offset : ℕ) (bytes : List ℕ) → offset + length bytes ≤ length page → length (with_bytes page offset bytes) ≡ length page
+with_length page offset bytes within =
+    let size = length bytes in
+    let rest = drop (offset + size) page in
+    omega (arith, length-append (take offset page ++ bytes) rest, length-append (take offset page) bytes, length-take offset page, length-drop (offset + size) page)
+
+-- and all of its bytes are it
+with_all : (page bytes : List ℕ) → length page ≡ length bytes → with_bytes page 0 bytes ≡ bytes
+with_all page bytes same = ap (λ (rest : List ℕ). bytes ++ rest) (drop_all (0 + length bytes) page (omega (arith, same))) ∙ append-nil bytes
+
+zero_length : length zero_page ≡ page_size
+zero_length = length-replicate {A = ℕ} page_size 0
+
+-- a packet within its limits fits in each buffer
+packet_fits : (buffer : Buffer) (packet : List ℕ) → length packet ≤ most_packet_size → buffer_offset buffer + length (word_bytes (length packet) ++ packet) ≤ page_size
+packet_fits First packet short = omega (arith, length-append (word_bytes (length packet)) packet, short)
+packet_fits Second packet short = omega (arith, length-append (word_bytes (length packet)) packet, short)
+
+-- all pages of a world that are owned have all their bytes
+abbrev IsWhole : World → Type 0
+IsWhole w = (owner page : ℕ) → is_owned_by owner (w.book.pages page) ≡ true → length (page_bytes w page) ≡ page_size
+
+-- A packet that is given in a phase is one that happens in the tick.
+packet_behind : (xs : List Taking) (k : ℕ) (w : World) (e claim : ℕ) (packet : List ℕ) → LicensedBehind xs k w e (Packet claim packet) → ⊥
+packet_behind [] zero w e claim packet its = its
+packet_behind [] (suc zero) w e claim packet its = its
+packet_behind [] (suc (suc zero)) w e claim packet its = its
+packet_behind [] (suc (suc (suc zero))) w e claim packet its = its
+packet_behind [] (suc (suc (suc (suc k)))) w e claim packet its = its
+packet_behind (x ∷ xs) zero w e claim packet its = its
+packet_behind (x ∷ xs) (suc k) w e claim packet its = packet_behind xs k w e claim packet its
+
+packet_by : (what : Occurrence) (w : World) (e claim : ℕ) (packet : List ℕ) → AtEvent what w e (Packet claim packet) → what ≡ outside.Packet packet
+packet_by (outside.Packet given) w e claim packet its = ap outside.Packet (sym its.same)
+packet_by (outside.Line line) w e claim packet its = absurd its
+packet_by (outside.Revoke env count grace) w e claim packet its = absurd its
+
+packet_in : (happens : List Occurrence) (xs : List Taking) (k : ℕ) (w : World) (e claim : ℕ) (packet : List ℕ) → LicensedIn happens xs k w e (Packet claim packet) → slice_get happens k ≡ Some (outside.Packet packet)
+packet_in [] xs k w e claim packet its = absurd (packet_behind xs k w e claim packet its)
+packet_in (what ∷ happens) xs zero w e claim packet its = ap Some (packet_by what w e claim packet its)
+packet_in (what ∷ happens) xs (suc k) w e claim packet its = packet_in happens xs k w e claim packet its
+
+module _ (granted : GrantedMay) (takable : TakingsAreTakable) (licensed : GivenIsLicensed) (system : System) (within : IsWithinLimits system.schedule) where
+  packet_short : (t k e claim : ℕ) (packet : List ℕ) → given_at system t k e ≡ Packet claim packet ∷ [] → length packet ≤ most_packet_size
+  packet_short t k e claim packet given =
+      let w = world_after system t in
+      let each : All (LicensedAt system t k e) (Packet claim packet ∷ []) = subst (All (LicensedAt system t k e)) given (licensed system t k e) in
+      let its : LicensedIn (happens_in system.schedule w) (takings_in system t) k (moment system t k) e (Packet claim packet) = each 0 (Packet claim packet) (omega arith) in
+      let limits = within w.book.time k (outside.Packet packet) (packet_in (happens_in system.schedule w) (takings_in system t) k (moment system t k) e claim packet its) in
+      leb-true (length packet) most_packet_size (and_parts (nat_le 1 (length packet)) (nat_le (length packet) most_packet_size) limits).1
+
+  module _ (t k : ℕ) (whole : IsWhole (moment system t k)) where
+    abbrev m : World
+    m = moment system t k
+
+    abbrev next : World
+    next = moment system t (suc k)
+
+    abbrev HasSize : ℕ → Type 0
+    HasSize page = length (page_bytes next page) ≡ page_size
+
+    stored_whole : (page owner : ℕ) → is_owned_by owner (m.book.pages page) ≡ true → IsStored system t k page → HasSize page
+    stored_whole page owner owns stored =
+        let was = whole owner page owns in
+        let fits = stored_within (m.solos stored.writer) stored.store stored.acts.comes in
+        ap length stored.has ∙ with_length (page_bytes m page) stored.store.offset stored.store.bytes (omega (arith, was, fits)) ∙ was
+
+    delivered_whole : (page owner : ℕ) → is_owned_by owner (m.book.pages page) ≡ true → IsDelivered system t k page owner → HasSize page
+    delivered_whole page owner owns delivered =
+        let was = whole owner page owns in
+        let ring = delivered.ring in
+        let old = bytes_seen ((m.solos owner).seen ring.page) in
+        let same : old ≡ page_bytes m page = ap (λ (p : ℕ). bytes_seen ((m.solos owner).seen p)) delivered.its ∙ sym (owner_sees m owner page owns) in
+        by_full old same was (is_full old ring.next) delivered.has
+      where
+        by_full : (old : List ℕ) → old ≡ page_bytes m page → length (page_bytes m page) ≡ page_size → (full : Bool)
+            → (if full then None else Some (with_packet old delivered.ring.next delivered.packet)) ≡ Some (page_bytes next page) → HasSize page
+        by_full old same was true is = cc
+        by_full old same was false is =
+            let has : with_packet old delivered.ring.next delivered.packet ≡ page_bytes next page = cc in
+            let size : length old ≡ page_size = ap length same ∙ was in
+            let fits = packet_fits delivered.ring.next delivered.packet (packet_short t k owner delivered.claim delivered.packet delivered.given) in
+            ap length (sym has)
+            ∙ with_length old (buffer_offset delivered.ring.next) (word_bytes (length delivered.packet) ++ delivered.packet) (omega (arith, size, fits))
+            ∙ size
+
+    copy_is : (page owner : ℕ) (copied : IsCopied system t k page owner) → page_bytes next page ≡ page_bytes m copied.taken
+    copy_is page owner copied = copied.has ∙ with_all (page_bytes m page) (page_bytes m copied.taken) (whole owner page copied.into ∙ sym (whole owner copied.taken copied.from))
+
+    next_whole : IsWhole next
+    next_whole owner page owns = elim (becomes granted takable system t k page owner owns) [
+      | inl stays ↦ ap length stays.1 ∙ whole owner page stays.0
+      | inr other ↦ elim other [
+        | inl changed ↦ elim changed.1 [
+          | inl stored ↦ stored_whole page owner changed.0 stored
+          | inr put ↦ elim put [ inl delivered ↦ delivered_whole page owner changed.0 delivered | inr copied ↦ ap length (copy_is page owner copied) ∙ whole owner copied.taken copied.from ]
+        ]
+        | inr taken ↦ ap length taken.zeros ∙ zero_length
+      ]
+    ]
+
+  -- at each moment of a tick, and after every number of ticks
+  moments_whole : (t : ℕ) → IsWhole (world_after system t) → (k : ℕ) → IsWhole (moment system t k)
+  moments_whole t whole zero = whole
+  moments_whole t whole (suc k) = next_whole t k (moments_whole t whole k)
+
+  next_tick_whole : (t : ℕ) → IsWhole (world_after system t) → (idle : Bool) → is_idle_book (world_after system t).book ≡ idle → IsWhole (world_after system (suc t))
+  next_tick_whole t whole true idle = subst IsWhole (sym (stays_idle system t idle)) whole
+  next_tick_whole t whole false busy = subst IsWhole (sym (tick_moment system t busy)) (moments_whole t whole (phases_in system t))
+
+  ticks_whole : (t : ℕ) → IsWhole (world_after system t)
+  ticks_whole zero = λ owner page owns. let never : false ≡ true = sym (none_owned system.image owner page) ∙ owns in cc
+  ticks_whole (suc t) = next_tick_whole t (ticks_whole t) (is_idle_book (world_after system t).book) refl
+
+  all_whole : (t k : ℕ) → IsWhole (moment system t k)
+  all_whole t k = moments_whole t (ticks_whole t) k
+
+pub pages_are_whole : GrantedMay → TakingsAreTakable → GivenIsLicensed → PagesAreWhole
+pages_are_whole granted takable licensed system t k page owner within owns = all_whole granted takable licensed system within t k owner page owns
+
+pub copies_are_whole : GrantedMay → TakingsAreTakable → GivenIsLicensed → CopiesAreWhole
+copies_are_whole granted takable licensed system t k page owner within copied = copy_is granted takable licensed system within t k (all_whole granted takable licensed system within t k) page owner copied

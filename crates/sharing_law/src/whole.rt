@@ -1,0 +1,24 @@
+//! Whole pages.
+ghost use Rattle.sharing_law.specs.Whole.{CopiesAreWhole, PagesAreWhole};
+
+use call_verdicts::law_granted;
+use revocation_book::law_takable;
+use run_model::law_licence;
+
+/// Where what happens from outside is within its limits, each allocated page has its 4,096 bytes, at each moment.
+pub fn law_whole()
+    ensures { PagesAreWhole }
+{
+    law_granted();
+    law_takable();
+    law_licence();
+}
+
+/// So a backup that gets a copy of a page that is taken has just the bytes of this page.
+pub fn law_whole_copies()
+    ensures { CopiesAreWhole }
+{
+    law_granted();
+    law_takable();
+    law_licence();
+}
