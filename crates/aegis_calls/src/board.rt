@@ -7,6 +7,7 @@ use frame_store::Frames;
 use kernel_journal::Journal;
 use mips_exec::Cpu;
 use page_book::Pages;
+use revocation_book::Revocations;
 use slot_vector::Slots;
 use std::marker::Model;
 
@@ -18,6 +19,7 @@ pub struct Board {
     pub(crate) bindings: Bindings,
     pub(crate) lines: Lines,
     pub(crate) claims: Claims,
+    pub(crate) revocations: Revocations,
     pub(crate) slots: Slots,
     pub(crate) cpu: Cpu,
     pub(crate) roster: Roster,
@@ -31,7 +33,7 @@ impl Model for Board {
 
     ghost Value = { Shown };
 
-    ghost view = { λ b. shown b.frames b.pages b.bindings b.lines b.claims b.slots b.cpu b.roster b.time b.journal };
+    ghost view = { λ b. shown b.frames b.pages b.bindings b.lines b.claims b.revocations b.slots b.cpu b.roster b.time b.journal };
 
-    ghost invariant = { λ b. IsSound (shown b.frames b.pages b.bindings b.lines b.claims b.slots b.cpu b.roster b.time b.journal) };
+    ghost invariant = { λ b. IsSound (shown b.frames b.pages b.bindings b.lines b.claims b.revocations b.slots b.cpu b.roster b.time b.journal) };
 }

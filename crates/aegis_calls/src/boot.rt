@@ -23,6 +23,7 @@ use frame_store::Frames;
 use kernel_journal::{Journal, Row};
 use mips_exec::Cpu;
 use page_book::Pages;
+use revocation_book::Revocations;
 use slot_vector::Slots;
 use std::alloc::Global;
 
@@ -112,6 +113,7 @@ impl Board {
             bindings,
             lines: Lines::new(),
             claims,
+            revocations: Revocations::new(),
             slots: Slots::new(quantum, slots),
             cpu: Cpu::blank(),
             roster,

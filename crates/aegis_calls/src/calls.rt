@@ -81,11 +81,12 @@ impl Board {
             Deed::TakesLine(line) => self.take_line(env, line),
             Deed::DropsLine(line) => self.drop_line(env, line),
             Deed::Unclaims(claim) => self.unclaim(env, claim),
+            Deed::Loads(page) => self.load(env, page),
         }
     }
 
     /// A kernel call of the runner, which isn't an exit.
-    fn serve(&mut self, env: u8, call: Option<Call>)
+    fn answer_call(&mut self, env: u8, call: Option<Call>)
         requires runs { running self.old.slots.runner ≡ Some env }
         requires room { 64 < self.old.ledger.spare }
         requires numbers { self.old.claims.next < 2 ^ 32 }
@@ -114,6 +115,6 @@ impl Board {
             let code = self.cpu.reg(EXIT_CODE);
             return self.die(env, Cause::Exit(code));
         }
-        self.serve(env, Call::named(number));
+        self.answer_call(env, Call::named(number));
     }
 }

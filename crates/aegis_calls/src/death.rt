@@ -60,7 +60,8 @@ impl Board {
     ghost use Rattle.board_world.specs.Doing.{buried, died};
 
     /// What an environment has whose slots are released goes: its pages are free, neither its bindings nor those of
-    /// its pages are left, its interrupt lines are nobody's, its claims are withdrawn, and it is dead.
+    /// its pages are left, its interrupt lines are nobody's, its claims are withdrawn, nothing is asked of it, and it is
+    /// dead.
     pub(crate) fn bury(&mut self, env: u8, cause: Cause)
         requires there { env < length self.old.roster.list }
         requires released { HasNoPart env self.old.slots }
@@ -70,6 +71,7 @@ impl Board {
         self.pages.release_env(env);
         self.lines.clear(env);
         self.claims.clear_env(env);
+        self.revocations.forget(env);
         self.roster.die(env, cause);
     }
 

@@ -5,15 +5,20 @@ ghost use Rattle.filter_tree.specs.ClaimBook.{are_numbered};
 ghost use Rattle.filter_tree.specs.Claims.{claim_for};
 
 use crate::board::Board;
+use call_verdicts::CallView;
 use env_frames::PostWord;
 use external_event::PacketBytes;
 use filter_core::Packet;
 use filter_tree::Claim;
 use kernel_journal::Row;
 use packet_ring::{deliver, is_full};
+use revocation_book::Pending;
+use world_model::Life;
 
 impl Board {
-    ghost use Rattle.board_world.specs.Doing.{arrived, delivered_to, dropped_packet, signalled};
+    ghost use Rattle.board_world.specs.Showing.{world_of};
+    ghost use Rattle.world_model.specs.World.{is_living};
+    ghost use Rattle.board_world.specs.Doing.{arrived, delivered_to, dropped_packet, revoked, signalled};
 
     /// A packet that nobody claims is dropped, and the ledger tells its length.
     fn drop_packet(&mut self, packet: &Packet<'_>)
@@ -62,6 +67,40 @@ impl Board {
         if let Some(owner) = self.lines.owner(line) {
             self.roster.frame(owner).signal(&mut self.frames, line);
         }
+    }
+
+    /// Whether there is an environment of this number, and it lives.
+    fn is_living(&self, env: u8) -> bool
+        ensures { result ≡ is_living (world_of self.now) env }
+    {
+        matches!(self.life_at(u32::from(env)), Some(Life::Live))
+    }
+
+    /// An environment that is there and lives is asked for so many pages more, until a deadline; if any are outstanding
+    /// then, it finds in its context page how many, and until when.
+    pub(crate) fn revoke(&mut self, env: u8, count: u32, deadline: u32)
+        requires { 0 < self.old.ledger.spare }
+        ensures { self.new ≡ revoked self.old env count deadline }
+    {
+        if !self.is_living(env) {
+            return;
+        }
+        self.revocations.ask(env, count, deadline);
+        let Some(Pending {
+            outstanding,
+            deadline,
+        }) = self.revocations.pending(env)
+        else {
+            return;
+        };
+        let frame = self.roster.frame(env);
+        frame.ask(&mut self.frames, outstanding, deadline);
+        self.journal.push(Row::Asked {
+            time: self.time,
+            env,
+            outstanding,
+            deadline,
+        });
     }
 
     /// Law: the numbers of the claims rise, and are below that of the next one.

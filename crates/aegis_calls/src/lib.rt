@@ -9,6 +9,7 @@ mod board;
 mod boot;
 mod calls;
 mod claim_deeds;
+mod deadlines;
 mod death;
 mod events;
 mod exception;
@@ -24,4 +25,4 @@ mod turn;
 mod views;
 
 pub use board::Board;
-pub use phases::{CALL_ROWS, STEP_ROWS, TURN_ROWS};
+pub use phases::{CALL_ROWS, SERVE_ROWS, STEP_ROWS, TURN_ROWS};

@@ -5,16 +5,20 @@ ghost use Rattle.external_event.specs.EventValue.{is_occurrence};
 ghost use Rattle.world_model.specs.Book.{is_idle_book, running};
 ghost use Rattle.world_model.specs.Event.{happen as event_phase};
 ghost use Rattle.world_model.specs.World.{after};
-ghost use Rattle.world_model.specs.Tick.{turn as turn_phase, step as step_phase, timer as timer_phase, died, IsCalled, IsRefused};
+ghost use Rattle.world_model.specs.Tick.{served, turn as turn_phase, step as step_phase, timer as timer_phase, died, IsCalled, IsRefused};
 
 use crate::board::Board;
-use board_world::{law_call, law_happen, law_refusal, law_step};
+use board_world::{law_call, law_happen, law_refusal, law_serving, law_step};
 use external_event::Occurrence;
+use revocation_book::law_few_takings;
 use world_model::{Cause, WorldView};
 
 /// Rows enough for a turn, which writes a start, and a forfeit for each quantum that the environments owe: 32 of them
 /// at most eight each.
 pub const TURN_ROWS: usize = 512;
+
+/// The most rows that are written where deadlines are served: one for each page that is taken.
+pub const SERVE_ROWS: usize = 1024;
 
 /// The most rows that an event, a step, or the timer, may write.
 pub const STEP_ROWS: usize = 256;
@@ -32,10 +36,12 @@ impl Board {
         self.slots.idle()
     }
 
-    /// What happens from outside, before the turn of its tick: a packet goes to the claim that matches it, or is dropped,
-    /// and a signal on an interrupt line sets the line's bit in the context page of its owner, if it has one.
+    /// What happens from outside, before the turn of its tick: a packet goes to the claim that matches it, or is dropped;
+    /// a signal on an interrupt line sets the line's bit in the context page of its owner, if it has one; and a revocation
+    /// asks an environment for pages.
     pub fn happen(&mut self, what: &Occurrence)
         requires event { is_occurrence what.now ≡ true }
+        requires time { self.old.time ≤ most_ticks }
         requires room { STEP_ROWS ≤ self.old.ledger.spare }
         ensures world { world_of self.new ≡ after (world_of self.old) (event_phase what.now (world_of self.old)) }
         ensures time { self.new.time ≡ self.old.time }
@@ -49,7 +55,27 @@ impl Board {
         match what {
             Occurrence::Packet(packet) => self.arrive(packet),
             Occurrence::Line(line) => self.signal(*line),
+            Occurrence::Revoke { env, count, grace } => {
+                self.revoke(*env, *count, self.time + *grace);
+            }
         }
+    }
+
+    /// The deadlines that have come are served: of each environment whose deadline it is, the lowest first, as many pages
+    /// are taken as are outstanding, or all that may be.
+    pub fn serve(&mut self)
+        requires room { SERVE_ROWS ≤ self.old.ledger.spare }
+        ensures world { world_of self.new ≡ served (world_of self.old) }
+        ensures slots { self.new.slots ≡ self.old.slots }
+        ensures time { self.new.time ≡ self.old.time }
+        ensures numbers { self.new.claims.next ≡ self.old.claims.next }
+        ensures whole { self.new.roster.spare ≡ self.old.roster.spare }
+        ensures room { self.old.ledger.spare ≤ self.new.ledger.spare + SERVE_ROWS }
+    {
+        let _ = &self.time;
+        law_serving();
+        law_few_takings();
+        self.serve_deadlines();
     }
 
     /// The next turn, where nobody runs: slots are forfeited whose holders owe, until one starts that owes nothing;

@@ -9,6 +9,7 @@ use filter_tree::ClaimNo;
 use guest_memory::{Space, guest_range};
 use mips_exec::Cpu;
 use page_book::PageRow;
+use revocation_book::LoadNo;
 use world_model::{Code, Hold, Life};
 
 impl CallView for Board {
@@ -30,6 +31,10 @@ impl CallView for Board {
 
     fn refuse_claim(&self, env: u8, filter: &Filter) -> Option<ClaimNo> {
         self.claims.refusal(env, filter)
+    }
+
+    fn refuse_load(&self, env: u8, page: u32) -> Option<LoadNo> {
+        self.revocations.load_refusal(env, page)
     }
 
     fn next_claim(&self) -> u32 {

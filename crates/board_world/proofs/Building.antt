@@ -1,6 +1,6 @@
 -- A board without programs, and one with one more.
-use Rattle.std.proofs.Common.{◌≡◌, ◌≢◌, ◌≤◌, ◌<◌, ℕ, zero, suc, ◌+◌, ◌-◌, ◌*◌, List, [], ◌∷◌, ◌++◌, length, map, replicate, Bool, true, false, Option, Some, None, IfSome, inl, inr, refl, sym, ◌∙◌, ap, arith}
-use Rattle.std.specs.Prelude.{◌==◌, ◌&&◌, filter, slice_get, All}
+use Rattle.std.proofs.Common.{subst, ◌≡◌, ◌≢◌, ◌≤◌, ◌<◌, ℕ, zero, suc, ◌+◌, ◌-◌, ◌*◌, List, [], ◌∷◌, ◌++◌, length, map, replicate, Bool, true, false, Option, Some, None, IfSome, inl, inr, refl, sym, ◌∙◌, ap, arith}
+use Rattle.std.specs.Prelude.{◌==◌, ◌&&◌, filter, slice_get, All, slice_index_or}
 use Rattle.std.specs.List.{list_all}
 use Rattle.filter_tree.specs.ClaimBook.{RowValue, claim_in, is_of_env}
 use Rattle.std.specs.Option.{option_map}
@@ -39,6 +39,10 @@ use Rattle.board_world.specs.Shown.{Shown, Environments, mappings_of, no_output,
 use Rattle.board_world.specs.Showing.{book_of, world_of, solo_of, solo_or_absent, cpu_seen, pages_seen, page_seen}
 use Rattle.board_world.specs.Sound.{AreBooked, AreGuaranteed, AreWired, IsSound, IsManned, IsParted, IsLive, IsUndead, has_own_page}
 use Rattle.board_world.specs.Loading.{AreGiven, AreLeft}
+use Rattle.revocation_book.specs.declared.revocation.Pending.{Pending}
+use Rattle.revocation_book.specs.Backups.{is_loaded}
+use Rattle.revocation_book.specs.RevocationBook.{backups_at, most_numbers as most_asked, nothing_asked, pending_at}
+use Rattle.board_world.proofs.Asked.{given_asked}
 use Rattle.board_world.proofs.Claiming.{given_claimed}
 use Rattle.board_world.proofs.Giving.{none_guaranteed}
 use Rattle.board_world.proofs.Keeping.{IsGivenRow, given_row, taken_row}
@@ -109,9 +113,26 @@ own_slots (None ∷ owners) zero = refl
 own_slots (Some e ∷ owners) zero = refl
 own_slots (o ∷ owners) (suc k) = own_slots owners k
 
+-- nothing is asked, and nothing loaded
+abbrev no_pending : Option Pending
+no_pending = None
+
+nothing_pending : (n e : ℕ) → slice_index_or (replicate n no_pending) e no_pending ≡ no_pending
+nothing_pending zero e = refl
+nothing_pending (suc n) zero = refl
+nothing_pending (suc n) (suc e) = nothing_pending n e
+
+abbrev no_backups : List ℕ
+no_backups = []
+
+nothing_loaded : (n e : ℕ) → slice_index_or (replicate n no_backups) e no_backups ≡ no_backups
+nothing_loaded zero e = refl
+nothing_loaded (suc n) zero = refl
+nothing_loaded (suc n) (suc e) = nothing_loaded n e
+
 -- what a board without programs shows
-pub built_world : (pages envs quantum : ℕ) (owners : List (Option ℕ)) (b : Shown) → b.pages ≡ replicate pages Free → b.binds ≡ replicate (envs * stripe_rows) None → b.lines ≡ free_lines → b.claims.rows ≡ [] → b.claims.next ≡ 0 → b.slots ≡ vector.first_slices quantum owners → b.roster.list ≡ [] → b.time ≡ 0 → b.ledger.rows ≡ own_rows owners (length owners) → world_of b ≡ bare_world pages quantum owners
-built_world pages envs quantum owners b free unbound untaken unclaimed first slots none start rows =
+pub built_world : (pages envs quantum : ℕ) (owners : List (Option ℕ)) (b : Shown) → b.pages ≡ replicate pages Free → b.binds ≡ replicate (envs * stripe_rows) None → b.lines ≡ free_lines → b.claims.rows ≡ [] → b.claims.next ≡ 0 → b.revocations ≡ nothing_asked → b.slots ≡ vector.first_slices quantum owners → b.roster.list ≡ [] → b.time ≡ 0 → b.ledger.rows ≡ own_rows owners (length owners) → world_of b ≡ bare_world pages quantum owners
+built_world pages envs quantum owners b free unbound untaken unclaimed first unasked slots none start rows =
     let count : length b.slots.slots ≡ length owners = ap (λ v. length v.slots) slots ∙ length-map owners (option_map own_hold) in
     let page_count : length b.pages ≡ pages = ap length free ∙ length-replicate pages Free in
     worlds (world_of b) (bare_world pages quantum owners)
@@ -129,6 +150,8 @@ built_world pages envs quantum owners b free unbound untaken unclaimed first slo
       lines = λ line. (ap (λ taken. line_at taken line) untaken ∙ line_free most_lines line) i;
       claims = (ap (map claim_in) unclaimed) i;
       next_claim = first i;
+      pending = λ e. (ap (λ book. pending_at book e) unasked ∙ nothing_pending most_asked e) i;
+      backups = λ e. (ap (λ book. backups_at book e) unasked ∙ nothing_loaded most_asked e) i;
       time = start i;
     })
     (ap length none)
@@ -181,7 +204,7 @@ module _ (r : Environments) (x : Environment) (lives : x.life ≡ Live) (room : 
 -- A board without programs is sound.
 pub built_sound : (pages quantum envs : ℕ) (owners : List (Option ℕ)) (cpu : Cpu) (ledger : Ledger) → pages ≤ most_pages → least_quantum ≤ quantum → length owners ≤ most_slots → envs ≤ most_environments
     → All (λ owner. IfSome owner (λ e. e < envs)) owners
-    → IsSound (shown (zeroed pages) (replicate pages Free) (replicate (envs * stripe_rows) None) free_lines (record { rows = []; next = 0; envs = envs }) (vector.first_slices quantum owners) cpu (record { list = []; spare = envs }) 0 ledger)
+    → IsSound (shown (zeroed pages) (replicate pages Free) (replicate (envs * stripe_rows) None) free_lines (record { rows = []; next = 0; envs = envs }) nothing_asked (vector.first_slices quantum owners) cpu (record { list = []; spare = envs }) 0 ledger)
 built_sound pages quantum envs owners cpu ledger few long slots most all = record {
   few = omega arith;
   book = built_manned quantum envs owners long slots all;
@@ -189,6 +212,7 @@ built_sound pages quantum envs owners cpu ledger few long slots most all = recor
   books = built_booked pages envs;
   lines = built_wired;
   claims = record { owned = refl; count = omega arith };
+  revocations = record { pending = length-replicate most_asked no_pending; backups = length-replicate most_asked no_backups; some = λ e. subst (λ pending. IfSome pending (λ p. 0 < p.outstanding)) (sym (nothing_pending most_asked e)) tt; owned = λ e page loaded. let none : true ≡ false = sym loaded ∙ ap (λ backups. is_loaded backups page) (nothing_loaded most_asked e) in cc };
 }
 
 -- Pages are given to the environment that is added.
@@ -264,6 +288,7 @@ added_sound b x count frames pages sound gives its lives room = record {
   books = added_booked b.roster x count b.pages pages b.frames frames b.binds gives sound.books lives room;
   lines = added_wired b.roster x lives room b.lines sound.lines;
   claims = given_claimed b.claims b.pages pages b.roster (λ p taken. taken_row (length b.roster.list) (row_in b.pages p) (row_in pages p) (given_row (length b.roster.list) count b.pages pages b.frames frames gives p) taken) x (omega (arith, room, length-append b.roster.list (x ∷ []))) sound.claims;
+  revocations = given_asked b.revocations b.pages pages (λ p taken. taken_row (length b.roster.list) (row_in b.pages p) (row_in pages p) (given_row (length b.roster.list) count b.pages pages b.frames frames gives p) taken) sound.revocations;
 }
 
 module _ (b : Shown) (x : Environment) (frames : List (List ℕ)) (pages : List PageRow) (p : ProgramValue) (sound : IsSound b) (gives : AreGiven (length b.roster.list) (guaranteed_mappings p) b.pages pages b.frames frames)

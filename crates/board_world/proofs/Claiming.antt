@@ -65,7 +65,7 @@ allocated_claimed claims pages r page e words within free are = record {
 }
 
 -- who owns a page is one
-one_owner : (i e : ℕ) (row : PageRow) → is_owned_by i row ≡ true → is_owned_by e row ≡ true → i ≡ e
+pub one_owner : (i e : ℕ) (row : PageRow) → is_owned_by i row ≡ true → is_owned_by e row ≡ true → i ≡ e
 one_owner i e Free is its = cc
 one_owner i e (Guaranteed owner) is its = cc
 one_owner i e (Owned owner words) is its = sym (eqb-true owner i is) ∙ eqb-true owner e its
@@ -125,20 +125,21 @@ delivered_claimed claims pages r id are = record { owned = by_rows claims.rows a
         let parts = both (has_own_page pages x.claim) (are_own pages rows) all in
         and_both (has_own_page pages (book.turned_if id x).claim) (are_own pages (map (book.turned_if id) rows)) (ap (has_own_page pages) (same_claim x) ∙ parts.0) (by_rows rows parts.1)
 
+-- who owns a page still does once another is gone
+pub released_else : (row : PageRow) (i e : ℕ) → i ≢ e → is_owned_by i row ≡ true → is_owned_by i (released e row) ≡ true
+released_else Free i e ne own = cc
+released_else (Guaranteed owner) i e ne own = cc
+released_else (Owned owner words) i e ne own =
+    let other : (owner == e) ≡ false = ne_eqb owner e (λ same. ne (sym (eqb-true owner i own) ∙ same)) in
+    rw other own
+
 -- an environment dies
 pub death_claimed : (cause : Cause) (claims : ClaimBook) (pages : List PageRow) (r : Environments) (e : ℕ) → AreClaimed claims pages r → AreClaimed (without (is_of_env e) claims) (map (released e) pages) (with_list r (changed (dead_frame cause) r.list e))
 death_claimed cause claims pages r e are = record {
   owned = still_own pages (map (released e) pages) (λ (x : RowValue). not (is_of_env e x.claim)) (λ x keeps own.
-      ap (is_owned_by x.claim.env) (row_released e pages x.claim.page) ∙ left (row_in pages x.claim.page) x.claim.env (eqb-false x.claim.env e (unnegated (x.claim.env == e) keeps)) own) claims.rows are.owned;
+      ap (is_owned_by x.claim.env) (row_released e pages x.claim.page) ∙ released_else (row_in pages x.claim.page) x.claim.env e (eqb-false x.claim.env e (unnegated (x.claim.env == e) keeps)) own) claims.rows are.owned;
   count = are.count ∙ ap (λ n. n + r.spare) (sym (length-changed (dead_frame cause) r.list e));
 }
-  where
-    left : (row : PageRow) (i : ℕ) → i ≢ e → is_owned_by i row ≡ true → is_owned_by i (released e row) ≡ true
-    left Free i ne own = cc
-    left (Guaranteed owner) i ne own = cc
-    left (Owned owner words) i ne own =
-        let other : (owner == e) ≡ false = ne_eqb owner e (λ same. ne (sym (eqb-true owner i own) ∙ same)) in
-        rw other own
 
 -- pages that are free are given
 pub given_claimed : (claims : ClaimBook) (pages given : List PageRow) (r : Environments) → ((p : ℕ) → row_in pages p ≢ Free → row_in given p ≡ row_in pages p) → (x : Environment) → length (r.list ++ x ∷ []) + (r.spare - 1) ≡ length r.list + r.spare

@@ -1,5 +1,5 @@
 -- A packet that goes into the ring of its claim, on the world that is shown.
-use Rattle.std.proofs.Common.{◌≡◌, ◌≢◌, ◌<◌, ℕ, List, [], length, Bool, true, false, Some, refl, sym, ◌∙◌, ap, arith, get_or-set_other}
+use Rattle.std.proofs.Common.{◌≡◌, ◌≢◌, ℕ, List, [], length, map, Bool, true, false, Some, refl, sym, ◌∙◌, ap}
 use Rattle.std.specs.Prelude.{if◌then◌else◌, slice_get}
 use Rattle.std.proofs.lemmas.Bool.{ne_eqb}
 use Rattle.frame_store.specs.Pages.{after_put, page_at, with_bytes}
@@ -29,7 +29,8 @@ use Rattle.board_world.specs.Shown.{Shown, mappings_in, mappings_of}
 use Rattle.board_world.specs.Showing.{book_of, pages_seen, solo_of, solo_or_absent, solo_seen}
 use Rattle.board_world.specs.Sound.{IsOwned, IsSound, has_own_page}
 use Rattle.board_world.proofs.Claimed.{rings_turned, rings_turned_else}
-use Rattle.board_world.proofs.Seen.{like_solo, live_record, owned_taken, row_there, stripe_of}
+use Rattle.board_world.proofs.Copying as copying
+use Rattle.board_world.proofs.Seen.{like_solo}
 use Rattle.board_world.proofs.Sound.{neither}
 use Rattle.board_world.proofs.Stepping.{seer_live}
 use Rattle.board_world.proofs.Stores.{bound_kept, kept_as_was, put_table, sights_stay}
@@ -42,85 +43,32 @@ module _ (law : FirstIsNumbered) (b : Shown) (sound : IsSound b) (numbered : are
   abbrev page : ℕ
   page = r.claim.page
 
-  abbrev store : Store
-  store = page_store page bytes
-
-  abbrev write : Write
-  write = record { address = 0; bytes = bytes }
-
-  abbrev memory : List (List ℕ)
-  memory = after_put b.frames page 0 bytes
+  abbrev bytes_stored : Shown
+  bytes_stored = record b { frames = after_put b.frames page 0 bytes }
 
   abbrev now : Shown
-  now = record b { frames = memory; claims = delivered r.claim.id b.claims }
+  now = record bytes_stored { claims = delivered r.claim.id b.claims }
 
-  lent : IsOwned (row_in b.pages page)
-  lent = by_row (row_in b.pages page) own
-    where
-      by_row : (row : PageRow) → is_owned_by e row ≡ true → IsOwned row
-      by_row Free is = cc
-      by_row (Guaranteed owner) is = cc
-      by_row (Owned owner words) is = tt
-
-  there : page < length b.frames
-  there = omega (arith, sound.memory.same, row_there b.pages page (owned_taken (row_in b.pages page) lent))
-
-  pages_stay : (i : ℕ) → pages_seen memory (mappings_of b.roster.list i) ≡ pages_seen b.frames (mappings_of b.roster.list i)
-  pages_stay i = bound_kept b.frames b.pages b.roster.list sound.memory i write page there lent
-
-  -- what one sees to whom the bytes were given
-  given_sights : (i : ℕ) (s : Solo) → Sees i (row_in b.pages) (stripe_of b i) (set_at page (with_bytes (page_at b.frames page) 0 bytes) (page_at b.frames)) s →
-      seen_in i (row_in b.pages) (stripe_of b i) (page_at memory) ≡ s.seen
-  given_sights i s given = ap (seen_in i (row_in b.pages) (stripe_of b i)) (λ k p. put_table b.frames page 0 bytes there p k) ∙ (λ k p. sym (given.seen p) k)
-
-  -- the claim's environment
-  abbrev owner : Solo
-  owner = record (solo_seen b e x) { life = Live }
-
-  its_maps : mappings_of b.roster.list e ≡ x.env.mappings
-  its_maps = ap mappings_in at
-
+  -- the claim's environment has its page with the bytes, and the other buffer is next
   pub ring_filled : solo_of now e ≡ ring.put_in_ring (ring_in r) (Some bytes) (solo_of b e)
   ring_filled =
-      let kept : pages_seen memory x.env.mappings ≡ kept_after owner.kept store =
-      ap (pages_seen memory) (sym its_maps) ∙ pages_stay e ∙ ap (pages_seen b.frames) its_maps ∙ sym (kept_as_was owner.kept page 0 bytes) in
-      let sights = given_sights e (stored store owner) (writer_sees e page store (row_in b.pages) (stripe_of b e) (page_at b.frames) owner (record { binds = λ row. refl; seen = λ p. refl }) refl) in
       ap (solo_or_absent now e) at
-      ∙ (λ k. record (solo_seen b e x) { life = lives k; kept = kept k; seen = sights k; rings = rings_turned b.claims r.claim.id e k })
-      ∙ ap (ring.put_in_ring (ring_in r) (Some bytes)) (sym (ap (solo_or_absent b e) at ∙ (λ k. record (solo_seen b e x) { life = lives k })))
+      ∙ (λ k. record (solo_seen bytes_stored e x) { rings = rings_turned b.claims r.claim.id e k })
+      ∙ (λ k. turned (ap (solo_or_absent bytes_stored e) (sym at) k))
+      ∙ ap turned (copying.stored_here b sound e page own x at lives bytes)
+    where
+      turned : Solo → Solo
+      turned s = record s { rings = map (ring.turned_if r.claim.id) s.rings }
 
   -- whoever else sees the page
-  reader : (i : ℕ) → i ≢ e → (z : Environment) → slice_get b.roster.list i ≡ Some z → z.life ≡ Live → sees (book_of b) i page ≡ true → solo_of now i ≡ absorb_all (solo_of b i) (left_if true page store)
-  reader i ne z its alive seen =
-      let s : Solo = record (solo_seen b i z) { life = Live } in
-      let mine : mappings_of b.roster.list i ≡ z.env.mappings = ap mappings_in its in
-      let kept : pages_seen memory z.env.mappings ≡ kept_after s.kept store =
-      ap (pages_seen memory) (sym mine) ∙ pages_stay i ∙ ap (pages_seen b.frames) mine ∙ sym (kept_as_was s.kept page 0 bytes) in
-      let sights = given_sights i (absorb_all s (left_if (sees (book_of b) i page) page store))
-      (readers_see i page store (book_of b) (page_at b.frames) s (record { binds = λ row. refl; seen = λ p. refl }) refl) in
-      ap (solo_or_absent now i) its
-      ∙ (λ k. record (solo_seen b i z) { life = alive k; kept = kept k; seen = (sights ∙ ap (λ t. (absorb_all s (left_if t page store)).seen) seen) k; rings = rings_turned_else law b.claims r i numbered first ne k })
-      ∙ ap (λ (l : Life). absorb_all (record (solo_seen b i z) { life = l }) (left_if true page store)) (sym alive)
-      ∙ ap (λ s. absorb_all s (left_if true page store)) (sym (ap (solo_or_absent b i) its))
-
-  pub ring_left : (i : ℕ) → i ≢ e → solo_of now i ≡ absorb_all (solo_of b i) (left_by (book_of b) e store i)
+  pub ring_left : (i : ℕ) → i ≢ e → solo_of now i ≡ absorb_all (solo_of b i) (left_by (book_of b) e (page_store page bytes) i)
   ring_left i ne =
-      by_sight (sees (book_of b) i page) refl
-      ∙ ap (λ t. absorb_all (solo_of b i) (if t then [] else left_if (sees (book_of b) i page) page store)) (sym (ne_eqb i e ne))
-    where
-      by_sight : (t : Bool) → sees (book_of b) i page ≡ t → solo_of now i ≡ absorb_all (solo_of b i) (left_if (sees (book_of b) i page) page store)
-      by_sight true seen =
-          let live = seer_live b i page sound seen in
-          let z = live_record b.roster.list i live.1 in
-          reader i ne z.0 z.1.0 z.1.1 seen ∙ ap (λ t. absorb_all (solo_of b i) (left_if t page store)) (sym seen)
-      by_sight false blind =
-          let apart = neither (is_owned_by i (row_in b.pages page)) (is_bound page (stripe_of b i)) blind in
-          like_solo i now b (record {
-            record_is = refl;
-            rings = rings_turned_else law b.claims r i numbered first ne;
-            cpu = λ kept. refl;
-            pages = pages_stay i;
-            binds = refl;
-            sights = λ k p. sights_stay i (row_in b.pages) (stripe_of b i) (page_at b.frames) (page_at memory) page apart.0 apart.1 (λ p differs. get_or-set_other b.frames page p (with_bytes (page_at b.frames page) 0 bytes) [] differs) p k;
-          })
-          ∙ ap (λ t. absorb_all (solo_of b i) (left_if t page store)) (sym blind)
+      like_solo i now bytes_stored (record {
+        record_is = refl;
+        rings = rings_turned_else law b.claims r i numbered first ne;
+        cpu = λ kept. refl;
+        pages = refl;
+        binds = refl;
+        sights = refl;
+      })
+      ∙ copying.stored_else b sound e page own x at lives bytes i ne

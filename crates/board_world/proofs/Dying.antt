@@ -22,7 +22,7 @@ use Rattle.slot_vector.specs.Slices.{excess_of, hold_at, without_env}
 use Rattle.slot_vector.proofs.Owed.{excess_set}
 use Rattle.world_model.specs.declared.slot.Hold.{Hold}
 use Rattle.world_model.specs.declared.life.Cause.{Cause}
-use Rattle.world_model.specs.Book.{released, has_part}
+use Rattle.world_model.specs.Book.{released, has_part, is_runner}
 use Rattle.world_model.specs.Item.{absorb_all}
 use Rattle.world_model.specs.Solo.{dead}
 use Rattle.world_model.specs.Death.{death, death_items, lost_with, released_row, released_rows}
@@ -32,6 +32,8 @@ use Rattle.board_world.specs.declared.roster.Environment.{Environment}
 use Rattle.board_world.specs.Shown.{Shown}
 use Rattle.board_world.specs.Showing.{world_of, book_of, solo_of, solo_or_absent, solo_seen}
 use Rattle.board_world.specs.Sound.{AreBooked, IsSound, has_own_page}
+use Rattle.revocation_book.specs.RevocationBook.{with_pending}
+use Rattle.board_world.proofs.Asked.{backups_set, pending_set}
 use Rattle.board_world.proofs.Claimed.{claims_without, no_ring, rings_gone, rings_gone_else}
 use Rattle.board_world.specs.Doing as doing
 use Rattle.board_world.proofs.Lists.{changed_here, changed_else, get_within, length-changed}
@@ -95,13 +97,22 @@ pub record MayDie (b : Shown) (e : ℕ) : Type 0 where
   pub count : length b.slots.slots ≤ most_slots
   pub books : AreBooked b.pages b.binds b.roster
   pub claims : list_all (λ (c : RowValue). has_own_page b.pages c.claim) b.claims.rows ≡ true
+  pub pending : e < length b.revocations.pending
+  pub backups : e < length b.revocations.backups
 
 -- each environment of the board has an excess
 pub numbered_within : (b : Shown) (e : ℕ) (x : Environment) → slice_get b.roster.list e ≡ Some x → IsSound b → e < length b.slots.excess
 numbered_within b e x at sound = omega (arith, get_within b.roster.list e x at, sound.few, sound.book.numbered)
 
 pub may_die : (b : Shown) (e : ℕ) (x : Environment) → slice_get b.roster.list e ≡ Some x → IsSound b → MayDie b e
-may_die b e x at sound = record { numbered = numbered_within b e x at sound; count = sound.book.count; books = sound.books; claims = sound.claims.owned }
+may_die b e x at sound = let within = get_within b.roster.list e x at in record {
+  numbered = numbered_within b e x at sound;
+  count = sound.book.count;
+  books = sound.books;
+  claims = sound.claims.owned;
+  pending = omega (arith, within, sound.few, sound.revocations.pending);
+  backups = omega (arith, within, sound.few, sound.revocations.backups);
+}
 
 module _ (b : Shown) (e : ℕ) (x : Environment) (r : Runs b e x) (may : MayDie b e) (cause : Cause) where
   abbrev after_death : Shown
@@ -130,8 +141,7 @@ module _ (b : Shown) (e : ℕ) (x : Environment) (r : Runs b e x) (may : MayDie 
   dead_others i ne = dropped i b after_death (lost_with (book_of b) e i (length b.pages)) (record {
     record_is = changed_else (doing.dead_frame cause) b.roster.list e i ne;
     rings = rings_gone_else b.claims e i ne;
-    idles = rw r.runs.its refl;
-    idled = r.runs.others i ne;
+    cpu = λ kept. let idles : is_runner i after_death.slots.runner ≡ false = rw r.runs.its refl in rw (idles, r.runs.others i ne) refl;
     pages = refl;
     sees = λ s lives seen.
         sees_by i (λ page. released_page e (row_in b.pages page)) (row_in after_death.pages) (λ row. without (goes_with (row_in b.pages) e i) (stripe_of b i row)) (stripe_of after_death i) (page_at b.frames) (page_at b.frames)
@@ -164,6 +174,8 @@ module _ (b : Shown) (e : ℕ) (x : Environment) (r : Runs b e x) (may : MayDie 
           lines = λ line. line_freed e b.lines line k;
           claims = claims_without (is_of_env e) b.claims k;
           next_claim = b.claims.next;
+          pending = λ i. pending_set b.revocations e None may.pending i k;
+          backups = λ i. backups_set (with_pending b.revocations e None) e [] may.backups i k;
           time = b.time;
         };
     count = length-changed (doing.dead_frame cause) b.roster.list e;

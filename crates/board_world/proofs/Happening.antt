@@ -1,6 +1,6 @@
 -- What happens from outside, on the world that is shown.
 use Rattle.std.proofs.Common.{◌≡◌, ◌≢◌, ◌<◌, ℕ, ◌+◌, ◌^◌, List, [], ◌∷◌, length, Bool, true, false, Option, Some, None, IfSome, refl, sym, ◌∙◌, ap, subst, arith}
-use Rattle.std.specs.Prelude.{bit_or, slice_get, if◌then◌else◌}
+use Rattle.std.specs.Prelude.{bit_or, is_some, nat_lt, not, ◌&&◌, slice_get, if◌then◌else◌}
 use Rattle.std.specs.Option.{option_map}
 use Rattle.external_event.specs.declared.event.Occurrence.{Occurrence}
 use Rattle.external_event.specs.declared.event.Occurrence.TheVariants as outside
@@ -10,33 +10,44 @@ use Rattle.page_book.specs.Row.{is_owned_by}
 use Rattle.page_book.specs.Rows.{row_in}
 use Rattle.env_frames.specs.declared.post.PostWord.{PostWord}
 use Rattle.env_frames.specs.declared.post.PostWord.TheVariants as post
-use Rattle.env_frames.specs.Post.{counted_in, signalled_in}
+use Rattle.env_frames.specs.Post.{asked_in, counted_in, signalled_in}
 use Rattle.packet_ring.specs.Ring.{is_full, with_packet}
 use Rattle.filter_tree.specs.ClaimBook.{RowValue, are_numbered, claim_in}
 use Rattle.filter_tree.specs.declared.claim.Claim.{Claim}
 use Rattle.filter_tree.specs.Claims.{claim_for, claim_seen, first_row, is_for, is_numbered}
 use Rattle.filter_tree.specs.Laws.{FirstIsNumbered}
-use Rattle.world_model.specs.declared.life.Life.TheVariants.{Live}
-use Rattle.world_model.specs.Event.{arrives, delivers, drops_packet, happen, ring_bytes, ring_left, signals}
-use Rattle.world_model.specs.Item.{Line, Packet, absorb_all}
+use Rattle.world_model.specs.declared.life.Life.{Life}
+use Rattle.world_model.specs.declared.life.Life.TheVariants.{Live, Dead}
+use Rattle.revocation_book.specs.declared.revocation.Pending.{Pending}
+use Rattle.revocation_book.specs.Pending.{asked}
+use Rattle.revocation_book.specs.RevocationBook.{pending_at}
+use Rattle.world_model.specs.Event.{arrives, asks, delivers, revokes, drops_packet, happen, ring_bytes, ring_left, signals}
+use Rattle.world_model.specs.Item.{Asked, Line, Packet, absorb_all}
 use Rattle.world_model.specs.Rings as ring
+use Rattle.world_model.specs.Post.{asked_for, counted as counted_word}
 use Rattle.world_model.specs.Rings.{received, received_in, ring_after, ring_of}
-use Rattle.world_model.specs.Solo.{Solo, Physical, bytes_of}
-use Rattle.world_model.specs.World.{after, tells}
+use Rattle.world_model.specs.Solo.{Solo, Physical, bytes_of, is_dead}
+use Rattle.world_model.specs.World.{after, is_living, no_change, tells}
 use Rattle.board_world.specs.declared.roster.Environment.{Environment}
 use Rattle.board_world.specs.Lines.{line_at}
 use Rattle.board_world.specs.Rings.{ring_in}
 use Rattle.board_world.specs.Shown.{Shown}
 use Rattle.board_world.specs.Showing.{book_of, solo_of, solo_or_absent, solo_seen, world_of}
 use Rattle.board_world.specs.Sound.{IsLive, IsSound, has_own_page}
-use Rattle.board_world.specs.Doing.{arrived_by, context_of, counted_for, delivered_if, delivered_to, dropped_packet, happened, signalled, signalled_to}
+use Rattle.board_world.specs.Doing.{arrived_by, asked_by, revoked, context_of, counted_for, delivered_if, delivered_to, dropped_packet, happened, signalled, signalled_to}
+use Rattle.board_world.proofs.Asked.{nothing_pending, pending_set}
+use Rattle.board_world.proofs.Lists.{get_within}
 use Rattle.board_world.proofs.Claimed.{claims_turned, found_owned, found_without, ring_found}
 use Rattle.board_world.proofs.Delivering as delivering
 use Rattle.board_world.proofs.Parts.{append_nothing, by_env, one_absorbed, set_else, set_here, worlds}
 use Rattle.board_world.proofs.Phases.{quiet_world}
+use Rattle.page_sight.proofs.Tables.{set_same}
+use Rattle.world_model.specs.Table.{set_at}
 use Rattle.board_world.proofs.Posting.{changed_in, same_size, with_word, worded, worded_others, worded_seen}
 use Rattle.board_world.proofs.Seen.{like_solo, live_record, row_there}
 use Rattle.board_world.proofs.Serving.{Leaves}
+use Rattle.board_world.proofs.Slots.{is_there}
+use Rattle.board_world.proofs.Slotted.{both_true}
 use Rattle.board_world.proofs.Staying.{sound_frames}
 use Rattle.board_world.proofs.Stepping.{owner_is}
 
@@ -84,10 +95,10 @@ signalled_world b sound line = by_owner (line_at b.lines line) (sound.lines.owne
     by_owner (Some e) live = let x = live_record b.roster.list e live.1 in owner_world b sound line e x.0 x.1.0 x.1.1
 
 -- a post word that counts up
-abbrev counts : ℕ → ℕ
+abbrev pub counts : ℕ → ℕ
 counts n = word_of (n + 1)
 
-counted_changed : (word : PostWord) (page : Option ℕ) (frames : List (List ℕ)) → counted_in word page frames ≡ changed_in word counts page frames
+pub counted_changed : (word : PostWord) (page : Option ℕ) (frames : List (List ℕ)) → counted_in word page frames ≡ changed_in word counts page frames
 counted_changed word None frames = refl
 counted_changed word (Some page) frames = refl
 
@@ -95,7 +106,7 @@ module _ (b : Shown) (sound : IsSound b) (e : ℕ) (x : Environment) (at : slice
   counted_is : counted_for b word e ≡ with_word b e word counts
   counted_is = λ k. record b { frames = counted_changed word (context_of b e) b.frames k }
 
-  counted_seen : solo_of (counted_for b word e) e ≡ ring.counted word (solo_of b e)
+  counted_seen : solo_of (counted_for b word e) e ≡ counted_word word (solo_of b e)
   counted_seen = ap (λ (y : Shown). solo_of y e) counted_is ∙ worded_seen b sound e x at lives counts word
 
   counted_others : (i : ℕ) → i ≢ e → solo_of (counted_for b word e) i ≡ solo_of b i
@@ -125,7 +136,7 @@ module _ (law : FirstIsNumbered) (b : Shown) (sound : IsSound b) (numbered : are
   abbrev sound_counted : IsSound counted
   sound_counted = counted_sound b sound e x at lives post.Packets
 
-  seen_counted : solo_of counted e ≡ ring.counted post.Packets before
+  seen_counted : solo_of counted e ≡ counted_word post.Packets before
   seen_counted = counted_seen b sound e x at lives post.Packets
 
   -- the bytes of the ring, as they are seen
@@ -151,12 +162,12 @@ module _ (law : FirstIsNumbered) (b : Shown) (sound : IsSound b) (numbered : are
   live_before : before ≡ record (solo_seen b e x) { life = Live }
   live_before = ap (solo_or_absent b e) at ∙ (λ k. record (solo_seen b e x) { life = lives k })
 
-  takes : (full : Bool) → is_full (page_at counted.frames page) r.next ≡ full → absorb_all before (Packet id packet ∷ []) ≡ ring.put_in_ring (ring_in r) (filled full) (ring.counted post.Packets before)
+  takes : (full : Bool) → is_full (page_at counted.frames page) r.next ≡ full → absorb_all before (Packet id packet ∷ []) ≡ ring.put_in_ring (ring_in r) (filled full) (counted_word post.Packets before)
   takes full is =
       ap (λ (s : Solo). absorb_all s (Packet id packet ∷ [])) live_before
       ∙ ap (received id packet) (sym live_before)
-      ∙ ap (λ o. received_in o packet (ring.counted post.Packets before)) its_ring
-      ∙ ap (λ o. ring.put_in_ring (ring_in r) o (ring.counted post.Packets before)) (fills full is (ring.counted post.Packets before) same_page)
+      ∙ ap (λ o. received_in o packet (counted_word post.Packets before)) its_ring
+      ∙ ap (λ o. ring.put_in_ring (ring_in r) o (counted_word post.Packets before)) (fills full is (counted_word post.Packets before) same_page)
 
   -- what the others are given
   leaves : (full : Bool) → is_full (page_at counted.frames page) r.next ≡ full → ring_bytes before (ring_of before.rings id) packet ≡ filled full
@@ -205,12 +216,100 @@ arrived_world law b packet sound numbered (Some r) found =
     let x = live_record b.roster.list r.claim.env live.1 in
     delivered_world law b sound numbered packet r first own x.0 x.1.0 x.1.1
 
+-- A revocation that leaves pages outstanding
+asked_changed : (outstanding deadline : ℕ) (page : Option ℕ) (frames : List (List ℕ)) → asked_in outstanding deadline page frames ≡ changed_in post.Deadline (λ n. deadline) page (changed_in post.Outstanding (λ n. outstanding) page frames)
+asked_changed outstanding deadline None frames = refl
+asked_changed outstanding deadline (Some page) frames = refl
+
+module _ (b : Shown) (sound : IsSound b) (e : ℕ) (x : Environment) (at : slice_get b.roster.list e ≡ Some x) (lives : x.life ≡ Live) (p : Pending) where
+  abbrev asked_board : Shown
+  asked_board = asked_by b e (Some p)
+
+  abbrev told : Shown
+  told = with_word b e post.Outstanding (λ n. p.outstanding)
+
+  told_sound : IsSound told
+  told_sound = sound_frames told.frames (same_size post.Outstanding (λ n. p.outstanding) (context_of b e) b.frames) sound
+
+  like_told : (i : ℕ) → solo_of asked_board i ≡ solo_of (with_word told e post.Deadline (λ n. p.deadline)) i
+  like_told i =
+      like_solo i asked_board (record b { frames = asked_in p.outstanding p.deadline (context_of b e) b.frames }) (record { record_is = refl; rings = refl; cpu = λ kept. refl; pages = refl; binds = refl; sights = refl })
+      ∙ ap (λ frames. solo_of (record b { frames = frames }) i) (asked_changed p.outstanding p.deadline (context_of b e) b.frames)
+
+  live_asked : solo_of b e ≡ record (solo_seen b e x) { life = Live }
+  live_asked = ap (solo_or_absent b e) at ∙ (λ k. record (solo_seen b e x) { life = lives k })
+
+  asked_here : solo_of asked_board e ≡ absorb_all (solo_of b e) (Asked p.outstanding p.deadline ∷ [])
+  asked_here =
+      like_told e
+      ∙ worded_seen told told_sound e x at lives (λ n. p.deadline) post.Deadline
+      ∙ ap (worded post.Deadline (λ n. p.deadline)) (worded_seen b sound e x at lives (λ n. p.outstanding) post.Outstanding)
+      ∙ ap (asked_for p.outstanding p.deadline) live_asked
+      ∙ ap (λ (s : Solo). absorb_all s (Asked p.outstanding p.deadline ∷ [])) (sym live_asked)
+
+  asked_place : e < length b.revocations.pending
+  asked_place = omega (arith, get_within b.roster.list e x at, sound.few, sound.revocations.pending)
+
+  asked_world : world_of asked_board ≡ after (world_of b) (asks e (Some p) (world_of b))
+  asked_world =
+      worlds (world_of asked_board) (after (world_of b) (asks e (Some p) (world_of b)))
+      (λ k. record (book_of b) { pending = λ i. pending_set b.revocations e (Some p) asked_place i k })
+      refl
+      (one_absorbed (solo_of b) (solo_of asked_board) e (Asked p.outstanding p.deadline ∷ []) asked_here
+      (λ i ne. like_told i
+      ∙ worded_others told told_sound e x at lives (λ n. p.deadline) post.Deadline i ne
+      ∙ worded_others b sound e x at lives (λ n. p.outstanding) post.Outstanding i ne))
+      refl
+
+-- an environment that is there and lives
+pub living_record : (b : Shown) (e : ℕ) → is_living (world_of b) e ≡ true → (x : Environment) × ((slice_get b.roster.list e ≡ Some x) × (x.life ≡ Live))
+living_record b e is = by_record (slice_get b.roster.list e) refl (is_there b.roster.list e) is
+  where
+    by_life : (life : Life) → not (is_dead life) ≡ true → life ≡ Live
+    by_life Live lives = refl
+    by_life (Dead cause) lives = cc
+
+    by_record : (o : Option Environment) → slice_get b.roster.list e ≡ o → nat_lt e (length b.roster.list) ≡ is_some (slice_get b.roster.list e)
+        → (nat_lt e (length b.roster.list) && not (is_dead (solo_of b e).life)) ≡ true → (x : Environment) × ((slice_get b.roster.list e ≡ Some x) × (x.life ≡ Live))
+    by_record None at within is =
+        let none : nat_lt e (length b.roster.list) ≡ false = within ∙ ap is_some at in
+        let never : false ≡ true = sym none ∙ (both_true (nat_lt e (length b.roster.list)) (not (is_dead (solo_of b e).life)) is).0 in
+        cc
+    by_record (Some y) at within is =
+        let lives : (solo_of b e).life ≡ Live = by_life (solo_of b e).life (both_true (nat_lt e (length b.roster.list)) (not (is_dead (solo_of b e).life)) is).1 in
+        (y, (at, ap (λ o. (solo_or_absent b e o).life) (sym at) ∙ lives))
+
+revoked_world : (b : Shown) (e count deadline : ℕ) → IsSound b → world_of (revoked b e count deadline) ≡ after (world_of b) (revokes e count deadline (world_of b))
+revoked_world b e count deadline sound = by_living (is_living (world_of b) e) refl
+  where
+    -- nothing was pending, and nothing is
+    quiet : (x : Environment) → slice_get b.roster.list e ≡ Some x → pending_at b.revocations e ≡ None → world_of (asked_by b e None) ≡ world_of b
+    quiet x at none =
+        worlds (world_of (asked_by b e None)) (world_of b)
+        (λ k. record (book_of b) {
+          pending = λ i. (pending_set b.revocations e None (omega (arith, get_within b.roster.list e x at, sound.few, sound.revocations.pending)) i
+              ∙ (λ j. set_at e (sym none j) (pending_at b.revocations) i)
+              ∙ set_same e (pending_at b.revocations) i) k;
+        })
+        refl
+        (λ i. like_solo i (asked_by b e None) b (record { record_is = refl; rings = refl; cpu = λ kept. refl; pages = refl; binds = refl; sights = refl }))
+        refl
+
+    by_pending : (x : Environment) → slice_get b.roster.list e ≡ Some x → x.life ≡ Live → (o : Option Pending) → asked count deadline (pending_at b.revocations e) ≡ o → world_of (asked_by b e o) ≡ after (world_of b) (asks e o (world_of b))
+    by_pending x at lives None is = quiet x at (nothing_pending count deadline (pending_at b.revocations e) (sound.revocations.some e) is) ∙ quiet_world (world_of b)
+    by_pending x at lives (Some p) is = asked_world b sound e x at lives p
+
+    by_living : (t : Bool) → is_living (world_of b) e ≡ t → world_of (if t then asked_by b e (asked count deadline (pending_at b.revocations e)) else b) ≡ after (world_of b) (if t then asks e (asked count deadline (pending_at b.revocations e)) (world_of b) else no_change (world_of b))
+    by_living true living = let x = living_record b e living in by_pending x.0 x.1.0 x.1.1 (asked count deadline (pending_at b.revocations e)) refl
+    by_living false gone = quiet_world (world_of b)
+
 -- each kind of event
 pub happened_world : FirstIsNumbered → (b : Shown) (what : Occurrence) → IsSound b → are_numbered 0 b.claims.next b.claims.rows ≡ true → world_of (happened what b) ≡ after (world_of b) (happen what (world_of b))
 happened_world law b (outside.Packet packet) sound numbered =
     arrived_world law b packet sound numbered (first_row (is_for packet) b.claims) refl
     ∙ ap (λ o. after (world_of b) (arrives packet o (world_of b))) (sym (found_without (is_for packet) b.claims))
 happened_world law b (outside.Line line) sound numbered = signalled_world b sound line
+happened_world law b (outside.Revoke env count grace) sound numbered = revoked_world b env count (b.time + grace) sound
 
 -- it writes few rows, and all environments stay
 pub happened_leaves : (b : Shown) (what : Occurrence) → Leaves b (happened what b)
@@ -228,6 +327,16 @@ happened_leaves b (outside.Line line) = by_owner (line_at b.lines line)
     by_owner : (owner : Option ℕ) → Leaves b (signalled_to b line owner)
     by_owner None = record { room = omega arith; spare = refl; time = refl; numbers = omega arith }
     by_owner (Some e) = record { room = omega arith; spare = refl; time = refl; numbers = omega arith }
+
+happened_leaves b (outside.Revoke env count grace) = by_living (is_living (world_of b) env)
+  where
+    by_pending : (o : Option Pending) → Leaves b (asked_by b env o)
+    by_pending None = record { room = omega arith; spare = refl; time = refl; numbers = omega arith }
+    by_pending (Some p) = record { room = omega arith; spare = refl; time = refl; numbers = omega arith }
+
+    by_living : (t : Bool) → Leaves b (if t then asked_by b env (asked count (b.time + grace) (pending_at b.revocations env)) else b)
+    by_living true = by_pending (asked count (b.time + grace) (pending_at b.revocations env))
+    by_living false = record { room = omega arith; spare = refl; time = refl; numbers = omega arith }
 
 -- A claim that is found is of an environment that lives, and its ring is there.
 pub claim_there : (b : Shown) (packet : List ℕ) (c : Claim) → IsSound b → claim_for b.claims packet ≡ Some c → IsLive b.roster.list c.env × (c.page < length b.frames)

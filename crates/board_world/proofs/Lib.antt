@@ -1,11 +1,14 @@
 pub mod Allowed
+pub mod Asked
 pub mod BindServing
 pub mod Booked
+pub mod Breaking
 pub mod Building
 pub mod Claimed
 pub mod ClaimServing
 pub mod Claiming
 pub mod Contexts
+pub mod Copying
 pub mod Counting
 pub mod Delivering
 pub mod Dying
@@ -28,6 +31,7 @@ pub mod Parts
 pub mod Phases
 pub mod Posting
 pub mod Reading
+pub mod Repossessing
 pub mod Replying
 pub mod Seen
 pub mod Serving

@@ -1,9 +1,10 @@
--- What environments other than the runner see of a change of the books.
+-- What environments are given of a change of the books.
 use Rattle.std.proofs.Common.{◌≡◌, ℕ, zero, suc, List, [], ◌++◌, Bool, true, false, Option, Some, None, inl, inr, ◌⊎◌, refl, sym, ◌∙◌, ap, subst}
 use Rattle.std.specs.Prelude.{◌==◌, if◌then◌else◌, filter, not, slice_get}
 use Rattle.std.proofs.lemmas.Bool.{eqb-true}
 use Rattle.std.proofs.lemmas.List.Sums.{fold-append}
 use Rattle.frame_store.specs.Pages.{page_at}
+use Rattle.mips_exec.specs.declared.registers.Cpu.{Cpu}
 use Rattle.page_book.specs.declared.row.PageRow.{PageRow}
 use Rattle.page_book.specs.declared.row.PageRow.TheVariants.{Free, Guaranteed, Owned}
 use Rattle.page_book.specs.Row.{belongs_to, is_owned_by, owner_of}
@@ -26,7 +27,7 @@ use Rattle.board_world.specs.Rings.{rings_of}
 use Rattle.board_world.specs.Shown.{Shown, mappings_in, mappings_of}
 use Rattle.board_world.specs.Showing.{solo_of, solo_or_absent, solo_seen, cpu_seen, pages_seen}
 use Rattle.board_world.specs.Sound.{AreBooked, IsAlive, IsLive}
-use Rattle.board_world.proofs.Seen.{same_solo, stripe_of}
+use Rattle.board_world.proofs.Seen.{like_solo, stripe_of}
 
 -- Books with the same tables serve alike.
 pub sees_by : (e : ℕ) (pages rows : ℕ → PageRow) (stripe binds : ℕ → Option Binding) (bytes frames : ℕ → List ℕ) (s : Solo) →
@@ -129,12 +130,11 @@ has_none b i books dead = record { binds = λ row. by_binding row (stripe_of b i
     by_row page (Guaranteed owner) is = refl
     by_row page (Owned owner words) is = by_test page owner (owner == i) refl (ap owner_of is)
 
--- What another than the runner is given, if it lives; one that doesn't sees nothing before and after.
+-- What one is given of a change of the books, if it lives; one that doesn't sees nothing before and after.
 pub record Drops (i : ℕ) (old new : Shown) (its : List Item) : Type 0 where
   pub record_is : slice_get new.roster.list i ≡ slice_get old.roster.list i
   pub rings : rings_of new.claims i ≡ rings_of old.claims i
-  pub idles : is_runner i new.slots.runner ≡ false
-  pub idled : is_runner i old.slots.runner ≡ false
+  pub cpu : (kept : Cpu) → cpu_seen new i kept ≡ cpu_seen old i kept
   pub pages : pages_seen new.frames (mappings_of old.roster.list i) ≡ pages_seen old.frames (mappings_of old.roster.list i)
   pub sees : (s : Solo) → s.life ≡ Live → Sees i (row_in old.pages) (stripe_of old i) (page_at old.frames) s → Sees i (row_in new.pages) (stripe_of new i) (page_at new.frames) (absorb_all s its)
   pub keeps : (s : Solo) → s.rings ≡ rings_of old.claims i → absorb_all s its ≡ resighted s (absorb_all s its)
@@ -142,33 +142,30 @@ pub record Drops (i : ℕ) (old new : Shown) (its : List Item) : Type 0 where
   pub nothing : HasNone i (row_in old.pages) (stripe_of old i) → its ≡ []
 
 module _ (i : ℕ) (old new : Shown) (its : List Item) (drops : Drops i old new its) where
-  abbrev idle_solo : Shown → Environment → Solo
-  idle_solo b x = record (solo_seen b i x) { life = Live; cpu = x.env.cpu }
+  abbrev live_solo : Shown → Environment → Solo
+  live_solo b x = record (solo_seen b i x) { life = Live }
 
-  idle_seen : (b : Shown) (x : Environment) → slice_get b.roster.list i ≡ Some x → x.life ≡ Live → is_runner i b.slots.runner ≡ false → solo_of b i ≡ idle_solo b x
-  idle_seen b x at lives idles =
-      let cpu : cpu_seen b i x.env.cpu ≡ x.env.cpu = rw idles refl in
-      ap (solo_or_absent b i) at ∙ (λ k. record (solo_seen b i x) { life = lives k; cpu = cpu k })
+  live_seen : (b : Shown) (x : Environment) → slice_get b.roster.list i ≡ Some x → x.life ≡ Live → solo_of b i ≡ live_solo b x
+  live_seen b x at lives = ap (solo_or_absent b i) at ∙ (λ k. record (solo_seen b i x) { life = lives k })
 
   live_drops : (x : Environment) → slice_get old.roster.list i ≡ Some x → x.life ≡ Live → solo_of new i ≡ absorb_all (solo_of old i) its
   live_drops x at lives =
-      let s = idle_solo old x in
+      let s = live_solo old x in
       let sees : Sees i (row_in new.pages) (stripe_of new i) (page_at new.frames) (absorb_all s its) = drops.sees s refl (record { binds = λ row. refl; seen = λ page. refl }) in
       let pages : pages_seen new.frames x.env.mappings ≡ pages_seen old.frames x.env.mappings =
       ap (λ y. pages_seen new.frames (mappings_in y)) (sym at) ∙ drops.pages ∙ ap (λ y. pages_seen old.frames (mappings_in y)) at in
-      idle_seen new x (drops.record_is ∙ at) lives drops.idles
-      ∙ (λ k. record s { kept = pages k; binds = λ row. sym (sees.binds row) k; seen = λ page. sym (sees.seen page) k; rings = drops.rings k })
+      live_seen new x (drops.record_is ∙ at) lives
+      ∙ (λ k. record s { cpu = drops.cpu x.env.cpu k; kept = pages k; binds = λ row. sym (sees.binds row) k; seen = λ page. sym (sees.seen page) k; rings = drops.rings k })
       ∙ sym (drops.keeps s refl)
-      ∙ ap (λ t. absorb_all t its) (sym (idle_seen old x at lives drops.idled))
+      ∙ ap (λ t. absorb_all t its) (sym (live_seen old x at lives))
 
   dead_drops : HasNone i (row_in old.pages) (stripe_of old i) → solo_of new i ≡ absorb_all (solo_of old i) its
   dead_drops none =
       let still = drops.none none in
-      same_solo i new old (record {
+      like_solo i new old (record {
         record_is = drops.record_is;
         rings = drops.rings;
-        idles = drops.idles;
-        idled = drops.idled;
+        cpu = drops.cpu;
         pages = drops.pages;
         binds = λ k row. (still.binds row ∙ sym (none.binds row)) k;
         sights = λ k page. (nothing_seen i (row_in new.pages) (stripe_of new i) (page_at new.frames) still page ∙ sym (nothing_seen i (row_in old.pages) (stripe_of old i) (page_at old.frames) none page)) k;

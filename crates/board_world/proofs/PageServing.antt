@@ -32,7 +32,13 @@ use Rattle.board_world.specs.Shown.{Shown, mappings_of}
 use Rattle.board_world.specs.Showing.{world_of, book_of, solo_of, page_seen, pages_seen}
 use Rattle.board_world.specs.Sound.{IsSound, IsOwned}
 use Rattle.board_world.specs.Doing as doing
-use Rattle.board_world.proofs.Losing.{dropped, lost_keeps, nothing_lost, rings_but, sees_by}
+use Rattle.revocation_book.specs.Backups.{unloaded}
+use Rattle.revocation_book.specs.Pending.{lowered}
+use Rattle.revocation_book.specs.RevocationBook.{backups_at, pending_at, with_pending}
+use Rattle.board_world.proofs.Asked.{backups_set, pending_set}
+use Rattle.board_world.proofs.Lists.{get_within}
+use Rattle.board_world.proofs.Breaking.{broken_book, broken_else, broken_sees, freed_else, set_owns}
+use Rattle.board_world.proofs.Losing.{dropped, sees_by}
 use Rattle.filter_tree.specs.Claims.{is_into}
 use Rattle.board_world.proofs.Claimed.{claims_without, no_ring, rings_dropped}
 use Rattle.board_world.proofs.Parts.{append_nothing, one_given}
@@ -49,20 +55,6 @@ kept_else frames page bytes (m ∷ ms) other =
     (get_or-set_other frames page m.page bytes [] (other 0 m refl)) in
     let tail = kept_else frames page bytes ms (λ a k. other (suc a) k) in
     cc
-
--- who owns no page owns none with another's row for one of them
-set_owns : (i page : ℕ) (row : PageRow) (pages : ℕ → PageRow) → is_owned_by i row ≡ false → ((p : ℕ) → is_owned_by i (pages p) ≡ false) → (p : ℕ) → is_owned_by i (set_at page row pages p) ≡ false
-set_owns i page row pages after before p = by_test (p == page)
-  where
-    by_test : (t : Bool) → is_owned_by i (if t then row else pages p) ≡ false
-    by_test true = after
-    by_test false = before p
-
--- a page that one owns no other does
-anothers : (e i : ℕ) (row : PageRow) → i ≢ e → is_owned_by e row ≡ true → is_owned_by i row ≡ false
-anothers e i Free ne owned = refl
-anothers e i (Guaranteed owner) ne owned = refl
-anothers e i (Owned owner words) ne owned = ne_eqb owner i (λ same. ne (sym same ∙ eqb-true owner e owned))
 
 some_same : (i e : ℕ) → Some i ≡ Some e → i ≡ e
 some_same i e is = cc
@@ -119,8 +111,7 @@ module _ (b : Shown) (e : ℕ) (x : Environment) (r : Runs b e x) (sound : IsSou
     taken_others i ne = dropped i b taken [] (record {
       record_is = refl;
       rings = refl;
-      idles = r.runs.others i ne;
-      idled = r.runs.others i ne;
+      cpu = λ kept. rw (r.runs.others i ne) refl;
       pages = mapped_else page zeros may.free i;
       sees = λ s lives seen.
           sees_by i (set_at page (Owned e words) (row_in b.pages)) (row_in taken.pages) (stripe_of b i) (stripe_of b i) (set_at page zeros (page_at b.frames)) (page_at taken.frames) s taken_rows (λ row. refl) taken_bytes
@@ -155,74 +146,63 @@ module _ (b : Shown) (e : ℕ) (x : Environment) (r : Runs b e x) (sound : IsSou
   pub allocates : (page : ℕ) (words : Capabilities) (v : ℕ) → MayAllocate (book_of b) page → Serves b e (deeded (Allocates page words) v (solo_of b e)) (done (world_of b) e (Allocates page words)) (doing.granted b e v (Allocates page words))
   allocates page words v may = takes page words zero_page may v
 
-  -- Pages that are changed.
+  -- Pages that are changed, and the runner's registers.
   module _ (page : ℕ) (row : PageRow) (but : Option ℕ) (v : ℕ) (within : page < length b.pages) where
     abbrev changed : Shown
     changed = doing.answered (doing.with_broken b page row but) (Grant v)
 
-    changed_rows : (p : ℕ) → row_in changed.pages p ≡ set_at page row (row_in b.pages) p
-    changed_rows = table_set b.pages page row Free within
-
-    changed_stripe : (i k : ℕ) → stripe_of changed i k ≡ without (breaks_page page but i) (stripe_of b i k)
-    changed_stripe i k = swept_row (breaks_page page but) b.binds i k
-
     changed_book : book_of changed ≡ broken page but (record (book_of b) { pages = set_at page row (row_in b.pages) })
-    changed_book = λ k. record (book_of b) {
-      page_count = length-set b.pages page row k;
-      pages = λ p. changed_rows p k;
-      binds = λ i n. changed_stripe i n k;
-    }
+    changed_book = broken_book b page row but within
 
     -- whoever had bound the page loses it
     changed_others : is_owned_by e (row_in b.pages page) ≡ true → (i : ℕ) → i ≢ e → but ≢ Some i → is_owned_by i row ≡ false → solo_of changed i ≡ absorb_all (solo_of b i) (calls.breaks (book_of b) page i)
-    changed_others owns i ne other after = dropped i b changed (calls.breaks (book_of b) page i) (record {
-      record_is = refl;
-      rings = refl;
-      idles = r.runs.others i ne;
-      idled = r.runs.others i ne;
-      pages = refl;
-      sees = λ s lives seen.
-          sees_by i (set_at page row (row_in b.pages)) (row_in changed.pages) (λ n. without (breaks_page page but i) (stripe_of b i n)) (stripe_of changed i) (page_at b.frames) (page_at b.frames)
-          (absorb_all s (calls.breaks (book_of b) page i)) changed_rows (changed_stripe i) (λ p. refl)
-          (others_lose i page but row (row_in b.pages) (stripe_of b i) (page_at b.frames) s seen lives other (anothers e i (row_in b.pages page) ne owns) after (stripes_end b.binds i));
-      keeps = λ s same. lost_keeps s (is_bound page (stripe_of b i)) page (ap (rings_but page) same ∙ no_ring b.claims b.pages i page sound.claims.owned (anothers e i (row_in b.pages page) ne owns) ∙ sym same);
-      none = λ none. record {
-        binds = λ n. changed_stripe i n ∙ ap (without (breaks_page page but i)) (none.binds n);
-        owns = λ p. ap (is_owned_by i) (changed_rows p) ∙ set_owns i page row (row_in b.pages) after none.owns p;
-      };
-      nothing = λ none. nothing_lost (stripe_of b i) none.binds page;
-    }) sound.books
+    changed_others owns i ne other after =
+        like_solo i changed (doing.with_broken b page row but) (record {
+          record_is = refl;
+          rings = refl;
+          cpu = λ kept. rw (r.runs.others i ne) refl;
+          pages = refl;
+          binds = refl;
+          sights = refl;
+        })
+        ∙ broken_else b page row but within sound e owns i ne other after
 
     -- what the runner sees, if the page's law says so
     changed_own : (s : Solo) → Sees e (set_at page row (row_in b.pages)) (λ n. without (breaks_page page but e) (stripe_of b e n)) (page_at b.frames) s → Sees e (row_in changed.pages) (stripe_of changed e) (page_at b.frames) s
-    changed_own s seen =
-        sees_by e (set_at page row (row_in b.pages)) (row_in changed.pages) (λ n. without (breaks_page page but e) (stripe_of b e n)) (stripe_of changed e) (page_at b.frames) (page_at b.frames) s changed_rows (changed_stripe e) (λ p. refl) seen
+    changed_own s seen = broken_sees b page row but within e s seen
+
+  -- the runner's place in the book of revocations
+  its_place : (e < length b.revocations.pending) × (e < length b.revocations.backups)
+  its_place = let within = get_within b.roster.list e x r.at in (omega (arith, within, sound.few, sound.revocations.pending), omega (arith, within, sound.few, sound.revocations.backups))
 
   -- Free.
   pub frees : (page v : ℕ) → MayChange (book_of b) e page → Serves b e (deeded (Frees page) v (solo_of b e)) (done (world_of b) e (Frees page)) (doing.granted b e v (Frees page))
   frees page v may =
-      let broke = changed page Free None v may.there in
       let now = doing.granted b e v (Frees page) in
       let still : Runs now e x = record { at = r.at; lives = r.lives; runs = r.runs } in
       let sees : Sees e (row_in now.pages) (stripe_of now e) (page_at b.frames) (lost page (runner_solo b e x)) =
       changed_own page Free None v may.there (lost page (runner_solo b e x)) (freer_loses e page Free (row_in b.pages) (stripe_of b e) (page_at b.frames) (runner_solo b e x) (own_sees b e x) refl) in
       record {
-        book = λ k. record (changed_book page Free None v may.there k) { claims = claims_without (is_into page) b.claims k };
+        book = λ k. record (changed_book page Free None v may.there k) {
+          claims = claims_without (is_into page) b.claims k;
+          pending = λ i. pending_set b.revocations e (lowered (pending_at b.revocations e)) its_place.0 i k;
+          backups = λ i. backups_set (with_pending b.revocations e (lowered (pending_at b.revocations e))) e (unloaded page (backups_at b.revocations e)) its_place.1 i k;
+        };
         count = refl;
         solos = all_given (solo_of b) (solo_of now) e (deeded (Frees page) v (solo_of b e)) (Lost page ∷ []) (calls.breaks (book_of b) page)
             (runner_seen now e x still
             ∙ (λ k. record (runner_solo b e x) { cpu = answered_cpu (Grant v) b.cpu; binds = λ n. sym (sees.binds n) k; seen = λ p. sym (sees.seen p) k; rings = rings_dropped b.claims page e k })
             ∙ ap (λ s. absorb_all s (Lost page ∷ [])) (deeded_seen b e x r (Frees page) v))
             (λ i ne.
-            like_solo i now broke (record {
+            like_solo i now (doing.with_freed b page) (record {
               record_is = refl;
-              rings = rings_dropped b.claims page i ∙ no_ring b.claims b.pages i page sound.claims.owned (anothers e i (row_in b.pages page) ne may.owned);
-              cpu = λ kept. refl;
+              rings = refl;
+              cpu = λ kept. rw (r.runs.others i ne) refl;
               pages = refl;
               binds = refl;
               sights = refl;
             })
-            ∙ changed_others page Free None v may.there may.owned i ne (λ same. let both : None ≡ Some i = same in cc) refl);
+            ∙ freed_else b page may.there sound e may.owned i ne);
         rows = sym (append_nothing b.ledger.rows);
         room = omega arith;
         spare = refl;

@@ -1,4 +1,4 @@
--- A post word of an environment's context page that is changed from outside.
+-- What the kernel leaves in the context page of an environment from outside: bytes at a place, and a post word that is changed.
 use Rattle.std.proofs.Common.{◌≡◌, ◌≢◌, ℕ, ◌+◌, ◌/◌, ◌%◌, List, length, Option, Some, None, refl, sym, ◌∙◌, ap, length-set}
 use Rattle.std.specs.Prelude.{slice_get}
 use Rattle.std.specs.Option.{option_map}
@@ -41,11 +41,20 @@ pub same_size : (word : PostWord) (f : ℕ → ℕ) (page : Option ℕ) (frames 
 same_size word f None frames = refl
 same_size word f (Some page) frames = length-set frames page _
 
--- at a place of the context page
-module _ (b : Shown) (sound : IsSound b) (e : ℕ) (x : Environment) (at : slice_get b.roster.list e ≡ Some x) (lives : x.life ≡ Live) (place : ℕ) (f : ℕ → ℕ) (number : (page_size + place) / page_size ≡ context_number) where
-  abbrev offset : ℕ
-  offset = (page_size + place) % page_size
+-- the bytes of an environment's context page
+abbrev pub context_bytes : Shown → ℕ → List ℕ
+context_bytes b e = bytes_in (option_map (page_seen b.frames) (mapping_at (mappings_of b.roster.list e) context_number))
 
+-- the board with bytes left at a place of an environment's context page, by the bytes of the page
+abbrev pub with_left : Shown → ℕ → ℕ → (List ℕ → List ℕ) → Shown
+with_left b e place leave = record b { frames = left_in place (leave (context_bytes b e)) (context_of b e) b.frames }
+
+-- the environment with these bytes there
+abbrev pub left_with : ℕ → (List ℕ → List ℕ) → Solo → Solo
+left_with place leave s = with_context place (leave (bytes_in (kept_at s.kept context_number))) s
+
+module _ (b : Shown) (sound : IsSound b) (e : ℕ) (x : Environment) (at : slice_get b.roster.list e ≡ Some x) (lives : x.life ≡ Live) (place : ℕ) (leave : List ℕ → List ℕ)
+    (number : (page_size + place) / page_size ≡ context_number) (same_place : (page_size + place) % page_size ≡ place) where
   abbrev owner : Solo
   owner = record (solo_seen b e x) { life = Live }
 
@@ -55,16 +64,13 @@ module _ (b : Shown) (sound : IsSound b) (e : ℕ) (x : Environment) (at : slice
   its_maps : mappings_of b.roster.list e ≡ x.env.mappings
   its_maps = ap mappings_in at
 
-  abbrev bytes_with : List ℕ → List ℕ
-  bytes_with page = word_bytes (f (word_at page offset))
-
   abbrev write : Write
-  write = record { address = page_size + place; bytes = bytes_with (bytes_in (kept_at (pages_seen b.frames x.env.mappings) context_number)) }
+  write = record { address = page_size + place; bytes = leave (bytes_in (kept_at (pages_seen b.frames x.env.mappings) context_number)) }
 
   abbrev now : Shown
   now = record b { frames = left_by b e write }
 
-  page_bytes : bytes_in (option_map (page_seen b.frames) (mapping_at (mappings_of b.roster.list e) context_number)) ≡ bytes_in (kept_at (pages_seen b.frames x.env.mappings) context_number)
+  page_bytes : context_bytes b e ≡ bytes_in (kept_at (pages_seen b.frames x.env.mappings) context_number)
   page_bytes =
       ap bytes_in (sym (seen_kept b.frames (mappings_of b.roster.list e) context_number))
       ∙ ap (λ ms. bytes_in (kept_at (pages_seen b.frames ms) context_number)) its_maps
@@ -75,45 +81,62 @@ module _ (b : Shown) (sound : IsSound b) (e : ℕ) (x : Environment) (at : slice
       ∙ left_own b sound e write number
       ∙ ap (λ ms. kept_after (pages_seen b.frames ms) (left_store write)) its_maps
 
-  here : solo_of now e ≡ with_context offset (bytes_with (bytes_in (kept_at (solo_of b e).kept context_number))) (solo_of b e)
-  here =
-      ap (solo_or_absent now e) at
-      ∙ (λ k. record (solo_seen b e x) { life = lives k; kept = its_pages k; seen = λ p. left_sights b sound e write number e p k })
-      ∙ ap (λ s. with_context offset (bytes_with (bytes_in (kept_at s.kept context_number))) s) (sym owner_seen)
-
-  others : (i : ℕ) → i ≢ e → solo_of now i ≡ solo_of b i
-  others i ne = like_solo i now b (record {
-    record_is = refl;
-    rings = refl;
-    cpu = λ kept. refl;
-    pages = left_others b sound e write number i ne;
-    binds = refl;
-    sights = λ k p. left_sights b sound e write number i p k;
-  })
-
   -- the same bytes, as they are written
-  written : left_in offset (bytes_with (bytes_in (option_map (page_seen b.frames) (mapping_at (mappings_of b.roster.list e) context_number)))) (page_of (mappings_of b.roster.list e) context_number) b.frames ≡ left_by b e write
-  written = ap (λ bytes. left_in offset (bytes_with bytes) (page_of (mappings_of b.roster.list e) context_number) b.frames) page_bytes
+  written : with_left b e place leave ≡ now
+  written = λ k. record b { frames = left_in (sym same_place k) (leave (page_bytes k)) (page_of (mappings_of b.roster.list e) context_number) b.frames }
 
--- by the word
+  pub left_here : solo_of (with_left b e place leave) e ≡ left_with place leave (solo_of b e)
+  left_here =
+      ap (λ y. solo_of y e) written
+      ∙ ap (solo_or_absent now e) at
+      ∙ (λ k. record (solo_seen b e x) { life = lives k; kept = its_pages k; seen = λ p. left_sights b sound e write number e p k })
+      ∙ (λ k. with_context (same_place k) write.bytes owner)
+      ∙ ap (left_with place leave) (sym owner_seen)
+
+  pub left_else : (i : ℕ) → i ≢ e → solo_of (with_left b e place leave) i ≡ solo_of b i
+  left_else i ne =
+      ap (λ y. solo_of y i) written
+      ∙ like_solo i now b (record {
+        record_is = refl;
+        rings = refl;
+        cpu = λ kept. refl;
+        pages = left_others b sound e write number i ne;
+        binds = refl;
+        sights = λ k p. left_sights b sound e write number i p k;
+      })
+
+-- A post word lies within the page.
+post_number : (word : PostWord) → (page_size + post_offset word) / page_size ≡ context_number
+post_number post.Packets = refl
+post_number post.Lost = refl
+post_number post.Lines = refl
+post_number post.Outstanding = refl
+post_number post.Deadline = refl
+post_number post.Takings = refl
+
+post_place : (word : PostWord) → (page_size + post_offset word) % page_size ≡ post_offset word
+post_place post.Packets = refl
+post_place post.Lost = refl
+post_place post.Lines = refl
+post_place post.Outstanding = refl
+post_place post.Deadline = refl
+post_place post.Takings = refl
+
+-- how it is changed
+abbrev new_word : PostWord → (ℕ → ℕ) → List ℕ → List ℕ
+new_word word f page = word_bytes (f (word_at page (post_offset word)))
+
 changed_left : (word : PostWord) (f : ℕ → ℕ) (frames : List (List ℕ)) (m : Option Mapping) →
-    changed_in word f (option_map (λ (m : Mapping). m.page) m) frames ≡ left_in (post_offset word) (word_bytes (f (word_at (bytes_in (option_map (page_seen frames) m)) (post_offset word)))) (option_map (λ (m : Mapping). m.page) m) frames
+    changed_in word f (option_map (λ (m : Mapping). m.page) m) frames ≡ left_in (post_offset word) (new_word word f (bytes_in (option_map (page_seen frames) m))) (option_map (λ (m : Mapping). m.page) m) frames
 changed_left word f frames None = refl
 changed_left word f frames (Some m) = refl
 
 module _ (b : Shown) (sound : IsSound b) (e : ℕ) (x : Environment) (at : slice_get b.roster.list e ≡ Some x) (lives : x.life ≡ Live) (f : ℕ → ℕ) where
-  abbrev page : Option Mapping
-  page = mapping_at (mappings_of b.roster.list e) context_number
-
-  frames_are : (word : PostWord) → (with_word b e word f).frames ≡ left_in (post_offset word) (word_bytes (f (word_at (bytes_in (option_map (page_seen b.frames) page)) (post_offset word)))) (page_of (mappings_of b.roster.list e) context_number) b.frames
-  frames_are word = changed_left word f b.frames page
+  board_is : (word : PostWord) → with_word b e word f ≡ with_left b e (post_offset word) (new_word word f)
+  board_is word = λ k. record b { frames = changed_left word f b.frames (mapping_at (mappings_of b.roster.list e) context_number) k }
 
   pub worded_seen : (word : PostWord) → solo_of (with_word b e word f) e ≡ worded word f (solo_of b e)
-  worded_seen post.Packets = ap (λ frames. solo_of (record b { frames = frames }) e) (frames_are post.Packets ∙ written b sound e x at lives (post_offset post.Packets) f refl) ∙ here b sound e x at lives (post_offset post.Packets) f refl
-  worded_seen post.Lost = ap (λ frames. solo_of (record b { frames = frames }) e) (frames_are post.Lost ∙ written b sound e x at lives (post_offset post.Lost) f refl) ∙ here b sound e x at lives (post_offset post.Lost) f refl
-  worded_seen post.Lines = ap (λ frames. solo_of (record b { frames = frames }) e) (frames_are post.Lines ∙ written b sound e x at lives (post_offset post.Lines) f refl) ∙ here b sound e x at lives (post_offset post.Lines) f refl
+  worded_seen word = ap (λ y. solo_of y e) (board_is word) ∙ left_here b sound e x at lives (post_offset word) (new_word word f) (post_number word) (post_place word)
 
   pub worded_others : (word : PostWord) (i : ℕ) → i ≢ e → solo_of (with_word b e word f) i ≡ solo_of b i
-  worded_others post.Packets i ne = ap (λ frames. solo_of (record b { frames = frames }) i) (frames_are post.Packets ∙ written b sound e x at lives (post_offset post.Packets) f refl) ∙ others b sound e x at lives (post_offset post.Packets) f refl i ne
-  worded_others post.Lost i ne = ap (λ frames. solo_of (record b { frames = frames }) i) (frames_are post.Lost ∙ written b sound e x at lives (post_offset post.Lost) f refl) ∙ others b sound e x at lives (post_offset post.Lost) f refl i ne
-  worded_others post.Lines i ne = ap (λ frames. solo_of (record b { frames = frames }) i) (frames_are post.Lines ∙ written b sound e x at lives (post_offset post.Lines) f refl) ∙ others b sound e x at lives (post_offset post.Lines) f refl i ne
+  worded_others word i ne = ap (λ y. solo_of y i) (board_is word) ∙ left_else b sound e x at lives (post_offset word) (new_word word f) (post_number word) (post_place word) i ne

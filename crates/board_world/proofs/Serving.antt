@@ -5,7 +5,7 @@ use Rattle.mips_exec.specs.Cpu.{reg}
 use Rattle.world_model.specs.declared.call.Call.{Call}
 use Rattle.world_model.specs.declared.code.Code.{Code}
 use Rattle.world_model.specs.declared.call.Deed.{Deed}
-use Rattle.world_model.specs.declared.call.Deed.TheVariants.{Answers, Own, Stops, Gives, Allocates, Frees, Recaps, Binds, Unbinds, Transfers, TakesSlot, DropsSlot, TakesLine, DropsLine, Claims, Unclaims}
+use Rattle.world_model.specs.declared.call.Deed.TheVariants.{Answers, Own, Stops, Gives, Allocates, Frees, Recaps, Binds, Unbinds, Transfers, TakesSlot, DropsSlot, TakesLine, DropsLine, Claims, Unclaims, Loads}
 use Rattle.world_model.specs.declared.life.Life.TheVariants.{Live}
 use Rattle.world_model.specs.declared.life.Cause.{Cause}
 use Rattle.world_model.specs.declared.life.Cause.TheVariants as cause
@@ -40,7 +40,7 @@ pub use Rattle.board_world.proofs.Replying.{Serves, told}
 pub use Rattle.board_world.proofs.Dying.{died_serves, hold_at-map}
 use Rattle.board_world.proofs.ClaimServing.{claims, unclaims}
 use Rattle.board_world.proofs.GiftServing.{gives, stops_itself}
-use Rattle.board_world.proofs.LineServing.{drops_line, takes_line}
+use Rattle.board_world.proofs.LineServing.{drops_line, loads_page, takes_line}
 use Rattle.board_world.proofs.SlotServing.{drops, takes}
 use Rattle.board_world.proofs.TransferServing.{entered_room, transfers}
 
@@ -63,6 +63,7 @@ module _ (b : Shown) (e : ℕ) (x : Environment) (r : Runs b e x) (sound : IsSou
   does (DropsLine line) v may = drops_line b e x r sound line v may
   does (Claims claim address atoms page) v may = claims b e x r sound claim address atoms page v may
   does (Unclaims claim) v may = unclaims b e x r sound claim v
+  does (Loads page) v may = loads_page b e x r sound page v
 
   -- each verdict on a call
   judged : GrantedMay → (which : Verdict) → verdict (world_of b) e (called b.cpu) ≡ which → Serves b e (solo_of b e) (reply_of (world_of b) e which) (doing.served_by b e (called b.cpu) which)
@@ -143,6 +144,7 @@ deed_leaves b e v (TakesLine line) = record { room = omega arith; spare = refl; 
 deed_leaves b e v (DropsLine line) = record { room = omega arith; spare = refl; time = refl; numbers = omega arith }
 deed_leaves b e v (Claims claim address atoms page) = record { room = omega arith; spare = refl; time = refl; numbers = omega arith }
 deed_leaves b e v (Unclaims claim) = record { room = omega arith; spare = refl; time = refl; numbers = omega arith }
+deed_leaves b e v (Loads page) = record { room = omega arith; spare = refl; time = refl; numbers = omega arith }
 
 verdict_leaves : (b : Shown) (e : ℕ) (c : Option Call) (which : Verdict) → Leaves b (doing.served_by b e c which)
 verdict_leaves b e c (Refuse why v) = record { room = omega arith; spare = refl; time = refl; numbers = omega arith }

@@ -33,7 +33,7 @@ use Rattle.board_world.specs.Showing.{world_of, book_of, solo_of, solo_or_absent
 use Rattle.board_world.specs.Sound.{IsSound}
 use Rattle.board_world.specs.Doing.{brought, counted, counted_down, died, ended, has_end, ledger_released, over_row, overrun, paid, start_registers, started, stopped, ticked, turned, turned_by, turned_to, turned_when, with_registers}
 use Rattle.board_world.proofs.Contexts.{left_by, left_others, left_own, left_sights, left_store, start_others, start_seen, start_sights, waiting}
-use Rattle.board_world.proofs.Dying.{MayDie, dies as dying, numbered_within}
+use Rattle.board_world.proofs.Dying.{MayDie, dies as dying, may_die, numbered_within}
 use Rattle.board_world.proofs.Lists.{changed_here, changed_else, length-changed}
 use Rattle.board_world.proofs.Mappings.{kept_mappings}
 use Rattle.board_world.proofs.Parts.{append_nothing, by_env, worlds, one_absorbed}
@@ -299,7 +299,7 @@ module _ (b : Shown) (sound : IsSound b) (r : Runner) (is : b.slots.runner ≡ S
   over_runs = record { at = runs.at; lives = runs.lives; runs = runs.runs }
 
   may : MayDie over r.env
-  may = record { numbered = omega (arith, within, length-set b.slots.excess r.env owing); count = sound.book.count; books = sound.books; claims = sound.claims.owned }
+  may = record { numbered = omega (arith, within, length-set b.slots.excess r.env owing); count = sound.book.count; books = sound.books; claims = sound.claims.owned; pending = (may_die b r.env x runs.at sound).pending; backups = (may_die b r.env x runs.at sound).backups }
 
   spent_ends : (o : Option Runner) → o ≡ Some r → (if is_runner r.env (option_map spent o) then None else option_map spent o) ≡ (if is_runner r.env o then None else o)
   spent_ends o is = rw is (rw (eq-eqb r.env r.env refl) refl)

@@ -11,7 +11,7 @@ use Rattle.board_world.proofs.Sound.{pay_manned}
 
 -- a forfeit leaves a board sound
 pub paid_sound : (b : Shown) (t : Turn) → IsSound b → IsSound (paid b t)
-paid_sound b t sound = record { few = sound.few; book = pay_manned b.slots b.roster t sound.book; memory = sound.memory; books = sound.books; lines = sound.lines; claims = sound.claims }
+paid_sound b t sound = record { few = sound.few; book = pay_manned b.slots b.roster t sound.book; memory = sound.memory; books = sound.books; lines = sound.lines; claims = sound.claims; revocations = sound.revocations }
 
 -- a forfeit comes first, and then the rest of the turn
 pub pay_turned : (b : Shown) (t : Turn) → next_turn b.slots ≡ next.Pay t → turned_by (paid b t) (told_of (paid b t).slots) ≡ turned_by b (told_of b.slots)

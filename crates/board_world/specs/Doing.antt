@@ -119,7 +119,7 @@ arrived b packet = arrived_by b packet (claim_for b.claims packet)
 
 -- A revocation: the environment finds in its context page how many pages are outstanding, and until when; the ledger tells it.
 abbrev pub asked_by : Shown → ℕ → Option Pending → Shown
-asked_by b e None = b
+asked_by b e None = record b { revocations = with_pending b.revocations e None }
 asked_by b e (Some p) = record b {
   frames = asked_in p.outstanding p.deadline (context_of b e) b.frames;
   revocations = with_pending b.revocations e (Some p);
@@ -370,7 +370,7 @@ with_loaded b e page = record b { revocations = with_backups b.revocations e (lo
 -- is nobody's, and the ledger tells it.
 abbrev pub copied_to : ℕ → Option ℕ → List (List ℕ) → List (List ℕ)
 copied_to page None frames = frames
-copied_to page (Some backup) frames = with_page frames backup (page_at frames page)
+copied_to page (Some backup) frames = after_put frames backup 0 (page_at frames page)
 
 abbrev pub repossessed : Shown → Taking → Shown
 repossessed b x = let freed = with_freed b x.page in record freed {

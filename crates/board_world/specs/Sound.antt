@@ -9,7 +9,7 @@ use Rattle.page_book.specs.Row.{is_owned_by, owner_of}
 use Rattle.filter_tree.specs.ClaimBook.{ClaimBook, ClaimValue, RowValue}
 use Rattle.page_book.specs.Rows.{row_in}
 use Rattle.revocation_book.specs.Backups.{is_loaded}
-use Rattle.revocation_book.specs.RevocationBook.{RevocationBook, backups_at, most_numbers as most_asked}
+use Rattle.revocation_book.specs.RevocationBook.{RevocationBook, backups_at, pending_at, most_numbers as most_asked}
 use Rattle.bind_book.specs.declared.binding.Binding.{Binding}
 use Rattle.bind_book.specs.Stripe.{stripe_rows, stripes}
 use Rattle.env_frames.specs.declared.mapping.Mapping.{Mapping}
@@ -81,10 +81,11 @@ pub record AreClaimed (claims : ClaimBook) (pages : List PageRow) (r : Environme
   pub owned : list_all (λ (x : RowValue). has_own_page pages x.claim) claims.rows ≡ true
   pub count : claims.envs ≡ length r.list + r.spare
 
--- The book of revocations: each environment has its place, and each backup is a page of its environment's own.
+-- The book of revocations: each environment has its place, where something is pending pages are outstanding, and each backup is a page of its environment's own.
 pub record AreAsked (book : RevocationBook) (pages : List PageRow) : Type 0 where
   pub pending : length book.pending ≡ most_asked
   pub backups : length book.backups ≡ most_asked
+  pub some : (e : ℕ) → IfSome (pending_at book e) (λ p. 0 < p.outstanding)
   pub owned : (e page : ℕ) → is_loaded (backups_at book e) page ≡ true → is_owned_by e (row_in pages page) ≡ true
 
 -- no slot is an environment's, and it doesn't run

@@ -14,7 +14,7 @@ use Rattle.aegis_calls.proofs.board.Board.add.Goals as goal
 pub invariant_of-self : goal.invariant_of-self
 invariant_of-self c =
     let i = c.self.inside in
-    let b = shown i.frames i.pages i.bindings i.lines i.claims i.slots i.cpu i.roster i.time i.journal in
+    let b = shown i.frames i.pages i.bindings i.lines i.claims i.revocations i.slots i.cpu i.roster i.time i.journal in
     let x : Environment = record { name = c.program.inside.name; life = Live; env = c.load-env.result; output = no_output } in
     let room : 0 < b.roster.spare = omega (arith, c.requires.room, ap (λ (s : Shown). s.roster.spare) c.self.view_is) in
     let pages = c.load-env.new.pages in
@@ -28,7 +28,7 @@ pub returns-clause-world : goal.returns-clause-world
 returns-clause-world c =
     let p = c.args.program.now in
     let i = c.self.inside in
-    let b = shown i.frames i.pages i.bindings i.lines i.claims i.slots i.cpu i.roster i.time i.journal in
+    let b = shown i.frames i.pages i.bindings i.lines i.claims i.revocations i.slots i.cpu i.roster i.time i.journal in
     let x : Environment = record { name = c.program.inside.name; life = Live; env = c.load-env.result; output = no_output } in
     let pages = c.load-env.new.pages in
     let frames = c.load-env.new.frames in

@@ -13,6 +13,7 @@ use Rattle.board_world.proofs.Booked.{owned_booked}
 use Rattle.board_world.proofs.Claiming.{allocated_claimed}
 use Rattle.board_world.proofs.Parted.{page_parted, row_parted}
 use Rattle.board_world.proofs.Sound.{runner_alive}
+use Rattle.board_world.proofs.Asked.{allocated_asked}
 use Rattle.board_world.proofs.Staying.{sound_memory}
 use Rattle.aegis_calls.proofs.board.Board.allocate.Goals as goal
 
@@ -26,8 +27,9 @@ invariant_of-self c =
     let lives = runner_alive b.slots b.roster e c.self.invariant.book (ap (λ (s : Shown). running s.slots.runner) c.self.view_is ∙ c.requires.runs) in
     let taken = c.alloc_at.ensures.after ∙ ap (λ (why : Option PageNo). changed_unless why b.pages page row) (allocable b.pages page may.there may.free) in
     rw (c.zero.ensures, taken)
-    (sound_memory _ _ b.bindings b.claims
+    (sound_memory _ _ b.bindings b.claims b.revocations
     (page_parted b.frames _ b.roster.list _ zero_page
     (row_parted b.frames b.pages b.roster.list page row (free_to_all (row_in b.pages page) may.free) c.self.invariant.memory))
     (owned_booked b.pages b.bindings b.roster page e c.args.words may.there lives c.self.invariant.books)
-    (allocated_claimed b.claims b.pages b.roster page e c.args.words may.there may.free c.self.invariant.claims) c.self.invariant)
+    (allocated_claimed b.claims b.pages b.roster page e c.args.words may.there may.free c.self.invariant.claims)
+    (allocated_asked b.revocations b.pages page e c.args.words may.there may.free c.self.invariant.revocations) c.self.invariant)

@@ -1,5 +1,5 @@
 -- A burial leaves the others' lives and pages.
-use Rattle.std.proofs.Common.{ap, ◌∙◌}
+use Rattle.std.proofs.Common.{◌<◌, length, ap, ◌∙◌, arith}
 use Rattle.board_world.specs.Shown.{Shown, shown}
 use Rattle.board_world.specs.Doing.{buried}
 use Rattle.board_world.specs.Sound.{HasNoPart}
@@ -9,10 +9,16 @@ use Rattle.aegis_calls.proofs.board.Board.bury.Goals as goal
 pub invariant_of-self : goal.invariant_of-self
 invariant_of-self c =
     let none : HasNoPart c.args.env c.self.inside.slots = rw (ap (λ (s : Shown). s.slots) c.self.view_is) c.requires.released in
-    rw (c.release_env.ensures, c.clear_env.ensures.after, c.clear.ensures, c.clear_env-2.ensures, c.die.ensures) (sound_burial c.args.env c.args.cause none c.self.invariant)
+    let there : c.args.env < length c.self.inside.roster.list = rw (ap (λ (s : Shown). s.roster) c.self.view_is) c.requires.there in
+    rw (c.release_env.ensures, c.clear_env.ensures.after, c.clear.ensures, c.clear_env-2.ensures, c.forget.ensures, c.die.ensures) (sound_burial c.args.env c.args.cause there none c.self.invariant)
 
 pub returns : goal.returns
 returns c =
     let b = c.self.inside in
-    (λ k. shown b.frames (c.release_env.ensures k) (c.clear_env.ensures.after k) (c.clear.ensures k) (c.clear_env-2.ensures k) b.slots b.cpu (c.die.ensures k) b.time b.journal)
+    (λ k. shown b.frames (c.release_env.ensures k) (c.clear_env.ensures.after k) (c.clear.ensures k) (c.clear_env-2.ensures k) (c.forget.ensures k) b.slots b.cpu (c.die.ensures k) b.time b.journal)
     ∙ ap (λ (s : Shown). buried s c.args.env c.args.cause) c.self.view_is
+
+pub forget-requires : goal.forget-requires
+forget-requires c =
+    let there : c.args.env < length c.self.inside.roster.list = rw (ap (λ (s : Shown). s.roster) c.self.view_is) c.requires.there in
+    omega (arith, there, c.self.invariant.few)

@@ -20,6 +20,6 @@ returns c =
     let its : filter_at (sight (solo_of b e)) c.args.address c.args.atoms ≡ Ok filter = sym c.claimed_filter.ensures ∙ c.unwrap-filter.ensures in
     let beside : claim_refusal (claims_in b.claims) e filter ≡ None =
     subst (λ (f : List Atom). claim_refusal (claims_in b.claims) e f ≡ None) (one_filter (filter_at (sight (solo_of b e)) c.args.address c.args.atoms) filter c.requires.may.filter its c.requires.may.named) c.requires.may.beside in
-    (λ k. shown i.frames i.pages i.bindings i.lines (c.claim-number.ensures.after k) i.slots i.cpu i.roster i.time i.journal)
+    (λ k. shown i.frames i.pages i.bindings i.lines (c.claim-number.ensures.after k) i.revocations i.slots i.cpu i.roster i.time i.journal)
     ∙ ap (λ (s : Shown). record s { claims = claimed s.claims e filter c.args.page }) c.self.view_is
     ∙ claimed_board b e c.args.address c.args.atoms c.args.page filter (subst IsSound c.self.view_is c.self.invariant) c.requires.runs its beside

@@ -11,7 +11,7 @@ use Rattle.aegis_calls.proofs.board.Board.deliver.Goals as goal
 pub frame-env-requires : goal.frame-env-requires
 frame-env-requires c =
     let i = c.self.inside in
-    let b = shown i.frames i.pages i.bindings i.lines i.claims i.slots i.cpu i.roster i.time i.journal in
+    let b = shown i.frames i.pages i.bindings i.lines i.claims i.revocations i.slots i.cpu i.roster i.time i.journal in
     (claim_there b c.args.packet.now c.args.claim c.self.invariant (ap (λ (s : Shown). claim_for s.claims c.args.packet.now) c.self.view_is ∙ c.requires)).0.0
 
 pub count-requires : goal.count-requires
@@ -20,7 +20,7 @@ count-requires c = let i = c.self.inside in rw c.frame-env.ensures.mappings (con
 pub is_full-requires : goal.is_full-requires
 is_full-requires c =
     let i = c.self.inside in
-    let b = shown i.frames i.pages i.bindings i.lines i.claims i.slots i.cpu i.roster i.time i.journal in
+    let b = shown i.frames i.pages i.bindings i.lines i.claims i.revocations i.slots i.cpu i.roster i.time i.journal in
     let there = claim_there b c.args.packet.now c.args.claim c.self.invariant (ap (λ (s : Shown). claim_for s.claims c.args.packet.now) c.self.view_is ∙ c.requires) in
     omega (arith, there.1, c.count.ensures.size)
 
@@ -30,7 +30,7 @@ count-requires-then-is_full c = let i = c.self.inside in rw (c.frame-env.ensures
 pub deliver-requires : goal.deliver-requires
 deliver-requires c =
     let i = c.self.inside in
-    let b = shown i.frames i.pages i.bindings i.lines i.claims i.slots i.cpu i.roster i.time i.journal in
+    let b = shown i.frames i.pages i.bindings i.lines i.claims i.revocations i.slots i.cpu i.roster i.time i.journal in
     let there = claim_there b c.args.packet.now c.args.claim c.self.invariant (ap (λ (s : Shown). claim_for s.claims c.args.packet.now) c.self.view_is ∙ c.requires) in
     omega (arith, there.1, c.count.ensures.size)
 

@@ -35,5 +35,5 @@ pub returns : goal.returns
 returns c =
     let b = c.self.inside in
     c.bury.ensures
-    ∙ (λ k. buried (shown b.frames b.pages b.bindings b.lines b.claims (c.release_slots.ensures.slots k) b.cpu b.roster b.time (c.release_slots.ensures.journal k)) c.args.env c.args.cause)
+    ∙ (λ k. buried (shown b.frames b.pages b.bindings b.lines b.claims b.revocations (c.release_slots.ensures.slots k) b.cpu b.roster b.time (c.release_slots.ensures.journal k)) c.args.env c.args.cause)
     ∙ ap (λ (s : Shown). died s c.args.env c.args.cause) c.self.view_is

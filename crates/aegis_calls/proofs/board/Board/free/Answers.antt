@@ -1,5 +1,5 @@
 -- The page was the runner's, and nobody has it bound any more.
-use Rattle.std.proofs.Common.{Option, subst, sym, ap, ◌∙◌}
+use Rattle.std.proofs.Common.{Option, subst, sym, ap, ◌∙◌, arith}
 use Rattle.page_book.specs.declared.refusal.PageNo.{PageNo}
 use Rattle.page_book.specs.declared.row.PageRow.TheVariants.{Free}
 use Rattle.page_book.specs.Rows.{changed_unless, row_in}
@@ -7,10 +7,13 @@ use Rattle.world_model.specs.May.{MayChange}
 use Rattle.board_world.specs.Shown.{Shown}
 use Rattle.board_world.specs.Showing.{book_of}
 use Rattle.board_world.proofs.Allowed.{changeable, owned_by_none}
+use Rattle.board_world.proofs.Asked.{freed_asked}
 use Rattle.board_world.proofs.Booked.{free_booked}
 use Rattle.board_world.proofs.Claiming.{freed_claimed}
 use Rattle.board_world.proofs.Parted.{row_parted}
+use Rattle.board_world.proofs.Sound.{runner_within}
 use Rattle.board_world.proofs.Staying.{sound_memory}
+use Rattle.world_model.specs.Book.{running}
 use Rattle.aegis_calls.proofs.board.Board.free.Goals as goal
 
 pub invariant_of-self : goal.invariant_of-self
@@ -19,8 +22,16 @@ invariant_of-self c =
     let e = c.args.env in
     let page = c.args.page in
     let may = subst (λ (s : Shown). MayChange (book_of s) e page) (sym c.self.view_is) c.requires.may in
+    let within = runner_within b.slots b.roster e c.self.invariant.book (ap (λ (s : Shown). running s.slots.runner) c.self.view_is ∙ c.requires.runs) in
     let freed = c.free.ensures.after ∙ ap (λ (why : Option PageNo). changed_unless why b.pages page Free) (changeable e b.pages page may.there may.owned) in
-    rw (freed, c.break_page.ensures.after, c.drop_page.ensures)
-    (sound_memory b.frames _ _ _ (row_parted b.frames b.pages b.roster.list page Free (owned_by_none e (row_in b.pages page) may.owned) c.self.invariant.memory)
+    rw (freed, c.break_page.ensures.after, c.drop_page.ensures, c.freed.ensures)
+    (sound_memory b.frames _ _ _ _ (row_parted b.frames b.pages b.roster.list page Free (owned_by_none e (row_in b.pages page) may.owned) c.self.invariant.memory)
     (free_booked b.pages b.bindings b.roster page may.there c.self.invariant.books)
-    (freed_claimed b.claims b.pages b.roster page may.there c.self.invariant.claims) c.self.invariant)
+    (freed_claimed b.claims b.pages b.roster page may.there c.self.invariant.claims)
+    (freed_asked b.revocations b.pages e page (omega (arith, within, c.self.invariant.few)) may.there may.owned c.self.invariant.revocations) c.self.invariant)
+
+pub freed-requires : goal.freed-requires
+freed-requires c =
+    let b = c.self.inside in
+    let within = runner_within b.slots b.roster c.args.env c.self.invariant.book (ap (λ (s : Shown). running s.slots.runner) c.self.view_is ∙ c.requires.runs) in
+    omega (arith, within, c.self.invariant.few)

@@ -40,7 +40,7 @@ returns-in-Synchronous c =
     let b = c.self.inside in
     let e = c.args.env in
     let t = c.args.target in
-    let view = shown b.frames b.pages b.bindings b.lines b.claims b.slots b.cpu b.roster b.time b.journal in
+    let view = shown b.frames b.pages b.bindings b.lines b.claims b.revocations b.slots b.cpu b.roster b.time b.journal in
     let hands : c.hands_slot.result ≡ true = c.hands_slot.ensures ∙ ap hands_slot c.in-Synchronous.is in
     let slots : c.donate.new.self ≡ given_to t (hands_slot c.args.kind) b.slots = c.donate.ensures ∙ ap (λ (later : Bool). given_to t later b.slots) c.hands_slot.ensures in
     let given : c.donate.new.self ≡ given_to t true b.slots = c.donate.ensures ∙ ap (λ (later : Bool). given_to t later b.slots) hands in
@@ -50,5 +50,5 @@ returns-in-Synchronous c =
     ∙ ap (λ (l : Ledger). with_row l (slot_row b.time k (hold_at c.donate.new.self.slots k))) c.push-in-Synchronous.ensures
     ∙ handed_rows b.slots c.donate.new.self b.journal b.time e t k given c.slot-slot.ensures.cursor
     ∙ ap (λ (x : TransferKind). ledger_entered view e t x) (sym c.in-Synchronous.is) in
-    (λ i. shown b.frames b.pages b.bindings b.lines b.claims (slots i) b.cpu b.roster b.time (ledger i))
+    (λ i. shown b.frames b.pages b.bindings b.lines b.claims b.revocations (slots i) b.cpu b.roster b.time (ledger i))
     ∙ ap (λ (s : Shown). handed_on s e t c.args.kind) c.self.view_is

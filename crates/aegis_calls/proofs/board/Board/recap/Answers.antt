@@ -12,6 +12,7 @@ use Rattle.board_world.proofs.Booked.{owned_booked, sweep_booked}
 use Rattle.board_world.proofs.Claiming.{recapped_claimed}
 use Rattle.board_world.proofs.Parted.{row_parted}
 use Rattle.board_world.proofs.Sound.{runner_alive}
+use Rattle.board_world.proofs.Asked.{recapped_asked}
 use Rattle.board_world.proofs.Staying.{sound_memory}
 use Rattle.aegis_calls.proofs.board.Board.recap.Goals as goal
 
@@ -25,6 +26,7 @@ invariant_of-self c =
     let recapped = c.recap.ensures.after ∙ ap (λ (why : Option PageNo). changed_unless why b.pages page row) (changeable e b.pages page may.there may.owned) in
     let lives = runner_alive b.slots b.roster e c.self.invariant.book (ap (λ (s : Shown). running s.slots.runner) c.self.view_is ∙ c.requires.runs) in
     rw (recapped, c.break_page.ensures.after)
-    (sound_memory b.frames _ _ b.claims (row_parted b.frames b.pages b.roster.list page row (owned_by_none e (row_in b.pages page) may.owned) c.self.invariant.memory)
+    (sound_memory b.frames _ _ b.claims b.revocations (row_parted b.frames b.pages b.roster.list page row (owned_by_none e (row_in b.pages page) may.owned) c.self.invariant.memory)
     (sweep_booked _ _ b.bindings b.roster (owned_booked b.pages b.bindings b.roster page e c.args.words may.there lives c.self.invariant.books))
-    (recapped_claimed b.claims b.pages b.roster page e c.args.words may.there may.owned c.self.invariant.claims) c.self.invariant)
+    (recapped_claimed b.claims b.pages b.roster page e c.args.words may.there may.owned c.self.invariant.claims)
+    (recapped_asked b.revocations b.pages page e c.args.words may.there may.owned c.self.invariant.revocations) c.self.invariant)

@@ -1,17 +1,21 @@
--- What a granted call does it may do.
-use Rattle.std.proofs.Common.{ap, sym, subst, ◌∙◌}
-use Rattle.world_model.specs.Call.{deed_of}
-use Rattle.world_model.specs.May.{May}
+-- What is served is the model's, and leaves all but pages, bindings, claims and backups.
+use Rattle.std.proofs.Common.{sym, ap, ◌∙◌, subst, arith}
 use Rattle.board_world.specs.Shown.{Shown}
-use Rattle.board_world.specs.Showing.{world_of}
 use Rattle.board_world.specs.Sound.{IsSound}
-use Rattle.board_world.proofs.Reading.{runner_registers}
+use Rattle.board_world.proofs.Repossessing.{served_leaves}
 use Rattle.aegis_calls.proofs.board.Board.serve.Goals as goal
 
-pub grant-requires-clause-may : goal.grant-requires-clause-may
-grant-requires-clause-may c =
-    let now = c.args.self.now in
-    let e = c.args.env in
-    let registers = ap (λ (s : Shown). s.cpu) c.self.view_is ∙ runner_registers now e (subst IsSound c.self.view_is c.self.invariant) c.requires.runs in
-    let deed = c.deed_of-deed.ensures ∙ ap (deed_of c.args.call c.in-Grant.value) registers in
-    subst (May (world_of now) e) (sym deed) (c.law_granted.ensures (world_of now) e c.args.call c.in-Grant.value (sym c.decide.ensures ∙ c.in-Grant.is))
+pub returns-clause-slots : goal.returns-clause-slots
+returns-clause-slots c = ap (λ (s : Shown). s.slots) c.serve_deadlines.ensures ∙ (served_leaves c.law_few_takings.ensures c.args.self.now (subst IsSound c.self.view_is c.self.invariant)).slots
+
+pub returns-clause-time : goal.returns-clause-time
+returns-clause-time c = ap (λ (s : Shown). s.time) c.serve_deadlines.ensures ∙ (served_leaves c.law_few_takings.ensures c.args.self.now (subst IsSound c.self.view_is c.self.invariant)).time
+
+pub returns-clause-numbers : goal.returns-clause-numbers
+returns-clause-numbers c = ap (λ (s : Shown). s.claims.next) c.serve_deadlines.ensures ∙ (served_leaves c.law_few_takings.ensures c.args.self.now (subst IsSound c.self.view_is c.self.invariant)).numbers
+
+pub returns-clause-whole : goal.returns-clause-whole
+returns-clause-whole c = ap (λ (s : Shown). s.roster.spare) c.serve_deadlines.ensures ∙ (served_leaves c.law_few_takings.ensures c.args.self.now (subst IsSound c.self.view_is c.self.invariant)).whole
+
+pub returns-clause-room : goal.returns-clause-room
+returns-clause-room c = omega (arith, ap (λ (s : Shown). s.ledger.spare) c.serve_deadlines.ensures, (served_leaves c.law_few_takings.ensures c.args.self.now (subst IsSound c.self.view_is c.self.invariant)).room)

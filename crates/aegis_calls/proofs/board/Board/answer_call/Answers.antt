@@ -1,0 +1,17 @@
+-- What a granted call does it may do.
+use Rattle.std.proofs.Common.{ap, sym, subst, ◌∙◌}
+use Rattle.world_model.specs.Call.{deed_of}
+use Rattle.world_model.specs.May.{May}
+use Rattle.board_world.specs.Shown.{Shown}
+use Rattle.board_world.specs.Showing.{world_of}
+use Rattle.board_world.specs.Sound.{IsSound}
+use Rattle.board_world.proofs.Reading.{runner_registers}
+use Rattle.aegis_calls.proofs.board.Board.answer_call.Goals as goal
+
+pub grant-requires-clause-may : goal.grant-requires-clause-may
+grant-requires-clause-may c =
+    let now = c.args.self.now in
+    let e = c.args.env in
+    let registers = ap (λ (s : Shown). s.cpu) c.self.view_is ∙ runner_registers now e (subst IsSound c.self.view_is c.self.invariant) c.requires.runs in
+    let deed = c.deed_of-deed.ensures ∙ ap (deed_of c.args.call c.in-Grant.value) registers in
+    subst (May (world_of now) e) (sym deed) (c.law_granted.ensures (world_of now) e c.args.call c.in-Grant.value (sym c.decide.ensures ∙ c.in-Grant.is))

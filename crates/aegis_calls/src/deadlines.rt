@@ -1,0 +1,81 @@
+//! Deadlines: what is taken once they have come.
+ghost use Rattle.std.specs.Prelude.{◌≡◌, ◌≤◌, ◌<◌, fold, length, IfSome};
+ghost use Rattle.revocation_book.specs.RevocationBook.{books_of};
+ghost use Rattle.board_world.specs.Doing.{copied_to};
+ghost use Rattle.revocation_book.specs.Takings.{AreTakable, IsTakable};
+
+use crate::board::Board;
+use frame_store::Frames;
+use kernel_journal::Row;
+use revocation_book::{Taking, law_few_takings, law_takable};
+
+/// Copies a page to a backup, if there is one.
+fn copy(frames: &mut Frames, page: u32, backup: Option<u32>)
+    requires page { page < length frames.old }
+    requires backup { IfSome backup (λ n. n < length frames.old) }
+    ensures frames { frames.new ≡ copied_to page backup frames.old }
+    ensures size { length frames.new ≡ length frames.old }
+{
+    if let Some(backup) = backup {
+        // Reads both pages, and with it that they have their size.
+        let _page = frames.page(page);
+        let _backup = frames.page(backup);
+        frames.copy_page(page, backup);
+    }
+}
+
+impl Board {
+    ghost use Rattle.board_world.specs.Doing.{deadlines_served, repossessed};
+
+    /// A page is taken by force: the backup gets a copy and is an ordinary page again, its owner finds the record, and the
+    /// page is nobody's.
+    fn take(&mut self, taking: Taking)
+        requires may { IsTakable (books_of self.old.pages self.old.revocations) self.old.time taking }
+        requires room { 0 < self.old.ledger.spare }
+        ensures { self.new ≡ repossessed self.old taking }
+    {
+        let Taking { env, page, backup } = taking;
+        copy(&mut self.frames, page, backup);
+        let frame = self.roster.frame(env);
+        frame.record(&mut self.frames, page, backup);
+        let _used = self.revocations.backup(env);
+        self.pages.release(page);
+        self.bindings.break_page(page, None);
+        self.claims.drop_page(page);
+        self.journal.push(Row::Take {
+            time: self.time,
+            env,
+            page,
+            backup,
+        });
+    }
+
+    /// These pages are taken, one after another.
+    fn take_all(&mut self, takings: &[Taking])
+        requires may { AreTakable (books_of self.old.pages self.old.revocations) self.old.time takings.now }
+        requires room { length takings.now ≤ self.old.ledger.spare }
+        ensures { self.new ≡ fold repossessed self.old takings.now }
+    {
+        for taking in takings {
+            // Reads a part, and with it that the board is sound.
+            let _ = &self.time;
+            self.take(*taking);
+        }
+    }
+
+    /// What is taken at deadlines that have come is taken, and these deadlines are over.
+    pub(crate) fn serve_deadlines(&mut self)
+        requires { length self.old.pages ≤ self.old.ledger.spare }
+        ensures { self.new ≡ deadlines_served self.old }
+    {
+        if !self.revocations.is_due(self.time) {
+            return;
+        }
+        law_takable();
+        law_few_takings();
+        let envs = self.roster.len() as u8;
+        let takings = self.revocations.takings(&self.pages, envs, self.time);
+        self.take_all(&takings);
+        self.revocations.served(self.time);
+    }
+}

@@ -1,0 +1,219 @@
+-- The book of revocations stays sound: each backup is a page of its environment's own.
+use Rattle.std.proofs.Common.{◌≡◌, ◌≢◌, ◌<◌, ◌+◌, ◌-◌, min, arith, ℕ, zero, suc, List, [], ◌∷◌, ◌++◌, length, map, drop, Bool, true, false, Option, None, Some, IfSome, refl, sym, ◌∙◌, ap, subst, inl, inr, length-set}
+use Rattle.std.specs.Prelude.{◌==◌, ◌||◌, not, filter, if◌then◌else◌, slice_set, slice_index_or}
+use Rattle.std.specs.List.{list_any}
+use Rattle.std.proofs.lemmas.Bool.{cases_Bool, cases_eq, eq-eqb, eqb-true, eqb-false, ne_eqb}
+use Rattle.std.proofs.lemmas.List.{length-map}
+use Rattle.page_book.specs.declared.row.Capabilities.{Capabilities}
+use Rattle.page_book.specs.declared.row.PageRow.{PageRow}
+use Rattle.page_book.specs.declared.row.PageRow.TheVariants.{Free, Owned}
+use Rattle.page_book.specs.Row.{is_owned_by, released}
+use Rattle.page_book.specs.Rows.{row_in}
+use Rattle.revocation_book.specs.declared.revocation.Pending.{Pending}
+use Rattle.revocation_book.specs.Backups.{is_loaded, loaded, unloaded}
+use Rattle.revocation_book.specs.Pending.{asked, is_due, lowered, most_outstanding, pending_of, unless_due}
+use Rattle.revocation_book.specs.RevocationBook.{RevocationBook, backups_at, most_numbers, once_freed, once_gone, once_served, pending_at, with_backups, with_pending}
+use Rattle.world_model.specs.Table.{set_at}
+use Rattle.board_world.specs.Sound.{AreAsked}
+use Rattle.board_world.proofs.Booked.{by_page}
+use Rattle.board_world.proofs.Claiming.{one_owner, released_else}
+use Rattle.board_world.proofs.Parts.{by_env, set_here, set_else}
+use Rattle.board_world.proofs.Sound.{set_all}
+use Rattle.board_world.proofs.Tables.{row_released, table_set}
+
+-- the book as tables
+pub backups_set : (book : RevocationBook) (e : ℕ) (backups : List ℕ) → e < length book.backups → (i : ℕ) → backups_at (with_backups book e backups) i ≡ set_at e backups (backups_at book) i
+backups_set book e backups within = table_set book.backups e backups [] within
+
+pub pending_set : (book : RevocationBook) (e : ℕ) (pending : Option Pending) → e < length book.pending → (i : ℕ) → pending_at (with_pending book e pending) i ≡ set_at e pending (pending_at book) i
+pending_set book e pending within = table_set book.pending e pending None within
+
+pub pending_served : (book : RevocationBook) (time i : ℕ) → pending_at (once_served book time) i ≡ unless_due time (pending_at book i)
+pending_served book time i = by_list book.pending i
+  where
+    by_list : (list : List (Option Pending)) (i : ℕ) → slice_index_or (map (unless_due time) list) i None ≡ unless_due time (slice_index_or list i None)
+    by_list [] i = refl
+    by_list (x ∷ list) zero = refl
+    by_list (x ∷ list) (suc i) = by_list list i
+
+-- other pages of which the backups are owned
+pub repaged : (book : RevocationBook) (pages given : List PageRow) → ((e page : ℕ) → is_loaded (backups_at book e) page ≡ true → is_owned_by e (row_in pages page) ≡ true → is_owned_by e (row_in given page) ≡ true) → AreAsked book pages → AreAsked book given
+repaged book pages given stays are = record { pending = are.pending; backups = are.backups; some = are.some; owned = λ e page loaded. stays e page loaded (are.owned e page loaded) }
+
+-- what is pending is another
+abbrev IsPositive : Option Pending → Type 0
+IsPositive pending = IfSome pending (λ p. 0 < p.outstanding)
+
+pub pending_asked : (book : RevocationBook) (pages : List PageRow) (e : ℕ) (pending : Option Pending) → IsPositive pending → AreAsked book pages → AreAsked (with_pending book e pending) pages
+pending_asked book pages e pending positive are = record {
+  pending = length-set book.pending e pending ∙ are.pending;
+  backups = are.backups;
+  some = λ i. set_all IsPositive book.pending e i pending None positive (are.some i);
+  owned = are.owned;
+}
+
+-- where something is pending, pages are outstanding
+pub positive_of : (outstanding deadline : ℕ) → IsPositive (pending_of outstanding deadline)
+positive_of n deadline = by_test (n == 0) refl
+  where
+    by_test : (t : Bool) → (n == 0) ≡ t → IsPositive (if t then None else Some (record { outstanding = n; deadline = deadline }))
+    by_test true is = tt
+    by_test false is = let some = eqb-false n 0 is in omega (arith, some)
+
+positive_lowered : (pending : Option Pending) → IsPositive (lowered pending)
+positive_lowered None = tt
+positive_lowered (Some p) = positive_of (p.outstanding - 1) p.deadline
+
+positive_unless : (time : ℕ) (pending : Option Pending) → IsPositive pending → IsPositive (unless_due time pending)
+positive_unless time pending positive = by_test (is_due time pending)
+  where
+    by_test : (t : Bool) → IsPositive (if t then None else pending)
+    by_test true = tt
+    by_test false = positive
+
+-- what is asked is pending, unless nothing is outstanding, and then nothing was pending
+abbrev unless_none : Bool → ℕ → ℕ → Option Pending
+unless_none t n deadline = if t then None else Some (record { outstanding = n; deadline = deadline })
+
+some_of : (n deadline : ℕ) (t : Bool) → (n == 0) ≡ t → 0 < n → unless_none t n deadline ≡ None → ⊥
+some_of n deadline true zeroed some is = absurd (omega (arith, some, eqb-true n 0 zeroed))
+some_of n deadline false other some is = clash (record { outstanding = n; deadline = deadline }) is
+  where
+    clash : (p : Pending) → Some p ≡ None → ⊥
+    clash p is = cc
+
+pub nothing_pending : (count deadline : ℕ) (pending : Option Pending) → IsPositive pending → asked count deadline pending ≡ None → pending ≡ None
+nothing_pending count deadline None positive is = refl
+nothing_pending count deadline (Some p) positive is = let n = min most_outstanding (p.outstanding + count) in absurd (some_of n deadline (n == 0) refl (omega (arith, positive)) is)
+
+pub served_asked : (book : RevocationBook) (pages : List PageRow) (time : ℕ) → AreAsked book pages → AreAsked (once_served book time) pages
+served_asked book pages time are = record {
+  pending = length-map book.pending (unless_due time) ∙ are.pending;
+  backups = are.backups;
+  some = λ i. subst IsPositive (sym (pending_served book time i)) (positive_unless time (pending_at book i) (are.some i));
+  owned = are.owned;
+}
+
+-- an environment has other backups, which it owns
+module _ (book : RevocationBook) (pages given : List PageRow) (e : ℕ) (backups : List ℕ) (within : e < most_numbers) (are : AreAsked book pages) where
+  there : e < length book.backups
+  there = subst (λ n. e < n) (sym are.backups) within
+
+  pub rebacked : ((page : ℕ) → is_loaded backups page ≡ true → is_owned_by e (row_in given page) ≡ true)
+      → ((i page : ℕ) → i ≢ e → is_loaded (backups_at book i) page ≡ true → is_owned_by i (row_in given page) ≡ true) → AreAsked (with_backups book e backups) given
+  rebacked its others = record {
+    pending = are.pending;
+    backups = length-set book.backups e backups ∙ are.backups;
+    some = are.some;
+    owned = λ i page loaded. by_number i page (subst (λ xs. is_loaded xs page ≡ true) (backups_set book e backups there i) loaded);
+  }
+    where
+      by_number : (i page : ℕ) → is_loaded (set_at e backups (backups_at book) i) page ≡ true → is_owned_by i (row_in given page) ≡ true
+      by_number i page loaded = elim (cases_eq i e) [
+        | inl same ↦ subst (λ n. is_owned_by n (row_in given page) ≡ true) (sym same) (its page (subst (λ xs. is_loaded xs page ≡ true) (ap (set_at e backups (backups_at book)) same ∙ set_here e backups (backups_at book)) loaded))
+        | inr other ↦ others i page other (subst (λ xs. is_loaded xs page ≡ true) (set_else e i backups (backups_at book) other) loaded)
+      ]
+
+-- whether a page is loaded among others
+either : (s t : Bool) → (s || t) ≡ true → (s ≡ false) → t ≡ true
+either true t is none = cc
+either false t is none = is
+
+loaded_next : (t : Bool) (rest more : Bool) → (t || rest) ≡ true → (rest ≡ true → more ≡ true) → (t || more) ≡ true
+loaded_next true rest more is next = refl
+loaded_next false rest more is next = next is
+
+loaded_last : (backups : List ℕ) (page p : ℕ) → is_loaded (loaded page backups) p ≡ true → p ≢ page → is_loaded backups p ≡ true
+loaded_last [] page p is other = let none : (page == p) ≡ false = ne_eqb page p (λ same. other (sym same)) in let never : false ≡ true = ap (λ t. t || false) (sym none) ∙ is in cc
+loaded_last (b ∷ backups) page p is other = loaded_next (b == p) (is_loaded (loaded page backups) p) (is_loaded backups p) is (λ rest. loaded_last backups page p rest other)
+
+left_one : (b page p : ℕ) (rest more : Bool) → (t : Bool) → (b == page) ≡ t → (if not t then b == p || rest else rest) ≡ true → (rest ≡ true → (more ≡ true) × (p ≢ page)) → ((b == p || more) ≡ true) × (p ≢ page)
+left_one b page p rest more true same is next = let its = next is in (later (b == p) its.0, its.1)
+  where
+    later : (t : Bool) → more ≡ true → (t || more) ≡ true
+    later true is = refl
+    later false is = is
+left_one b page p rest more false other is next = by_test (b == p) refl is
+  where
+    by_test : (t : Bool) → (b == p) ≡ t → (t || rest) ≡ true → ((t || more) ≡ true) × (p ≢ page)
+    by_test true same is = (refl, λ its. eqb-false b page other (eqb-true b p same ∙ its))
+    by_test false apart is = next is
+
+pub unloaded_still : (backups : List ℕ) (page p : ℕ) → is_loaded (unloaded page backups) p ≡ true → (is_loaded backups p ≡ true) × (p ≢ page)
+unloaded_still [] page p is = cc
+unloaded_still (b ∷ backups) page p is =
+    left_one b page p (is_loaded (unloaded page backups) p) (is_loaded backups p) (b == page) refl
+    (by_test (b == page) is) (λ rest. unloaded_still backups page p rest)
+  where
+    by_test : (t : Bool) → is_loaded (if not t then b ∷ unloaded page backups else unloaded page backups) p ≡ true → (if not t then b == p || is_loaded (unloaded page backups) p else is_loaded (unloaded page backups) p) ≡ true
+    by_test true is = is
+    by_test false is = is
+
+pub dropped_still : (backups : List ℕ) (p : ℕ) → is_loaded (drop 1 backups) p ≡ true → is_loaded backups p ≡ true
+dropped_still [] p is = is
+dropped_still (b ∷ backups) p is = by_test (b == p)
+  where
+    by_test : (t : Bool) → (t || is_loaded backups p) ≡ true
+    by_test true = refl
+    by_test false = is
+
+-- a page is loaded
+pub loaded_asked : (book : RevocationBook) (pages : List PageRow) (e page : ℕ) → e < most_numbers → is_owned_by e (row_in pages page) ≡ true → AreAsked book pages → AreAsked (with_backups book e (loaded page (backups_at book e))) pages
+loaded_asked book pages e page within own are =
+    rebacked book pages pages e (loaded page (backups_at book e)) within are
+    (λ p is. elim (cases_eq p page) [
+      | inl same ↦ subst (λ n. is_owned_by e (row_in pages n) ≡ true) (sym same) own
+      | inr other ↦ are.owned e p (loaded_last (backups_at book e) page p is other)
+    ])
+    (λ i p other is. are.owned i p is)
+
+-- a page of an environment's is nobody's, and another's backup it wasn't
+module _ (book : RevocationBook) (pages : List PageRow) (e page : ℕ) (there : page < length pages) (own : is_owned_by e (row_in pages page) ≡ true) (are : AreAsked book pages) where
+  pub freed_row : (i p : ℕ) → p ≢ page → is_owned_by i (row_in pages p) ≡ true → is_owned_by i (row_in (slice_set pages page Free) p) ≡ true
+  freed_row i p other its = by_page (λ row. is_owned_by i row ≡ true) pages page p Free there (λ same. absurd (other same)) (λ apart. its)
+
+  pub freed_others : (i p : ℕ) → i ≢ e → is_loaded (backups_at book i) p ≡ true → is_owned_by i (row_in (slice_set pages page Free) p) ≡ true
+  freed_others i p other is =
+      let its = are.owned i p is in
+      freed_row i p (λ same. other (one_owner i e (row_in pages page) (subst (λ n. is_owned_by i (row_in pages n) ≡ true) same its) own)) its
+
+-- by its owner
+pub freed_asked : (book : RevocationBook) (pages : List PageRow) (e page : ℕ) → e < most_numbers → page < length pages → is_owned_by e (row_in pages page) ≡ true → AreAsked book pages → AreAsked (once_freed book e page) (slice_set pages page Free)
+freed_asked book pages e page within there own are =
+    rebacked (with_pending book e _) pages (slice_set pages page Free) e (unloaded page (backups_at book e)) within (pending_asked book pages e _ (positive_lowered (pending_at book e)) are)
+    (λ p is. let still = unloaded_still (backups_at book e) page p is in freed_row book pages e page there own are e p still.1 (are.owned e p still.0))
+    (freed_others book pages e page there own are)
+
+-- by force, where it is no backup
+pub taken_asked : (book : RevocationBook) (pages : List PageRow) (e page : ℕ) → e < most_numbers → page < length pages → is_owned_by e (row_in pages page) ≡ true → is_loaded (backups_at book e) page ≡ false → AreAsked book pages → AreAsked (with_backups book e (drop 1 (backups_at book e))) (slice_set pages page Free)
+taken_asked book pages e page within there own spared are =
+    rebacked book pages (slice_set pages page Free) e (drop 1 (backups_at book e)) within are
+    (λ p is.
+    let still = dropped_still (backups_at book e) p is in
+    freed_row book pages e page there own are e p (λ same. let both : true ≡ false = sym still ∙ ap (is_loaded (backups_at book e)) same ∙ spared in cc) (are.owned e p still))
+    (freed_others book pages e page there own are)
+
+-- a page that is free comes to be owned
+pub allocated_asked : (book : RevocationBook) (pages : List PageRow) (page e : ℕ) (words : Capabilities) → page < length pages → row_in pages page ≡ Free → AreAsked book pages → AreAsked book (slice_set pages page (Owned e words))
+allocated_asked book pages page e words within free are = repaged book pages (slice_set pages page (Owned e words)) (λ i p is own.
+    by_page (λ row. is_owned_by i row ≡ true) pages page p (Owned e words) within
+    (λ same. let none : true ≡ false = sym own ∙ ap (λ (n : ℕ). is_owned_by i (row_in pages n)) same ∙ ap (is_owned_by i) free in cc)
+    (λ other. own)) are
+
+-- a page gets other words
+pub recapped_asked : (book : RevocationBook) (pages : List PageRow) (page e : ℕ) (words : Capabilities) → page < length pages → is_owned_by e (row_in pages page) ≡ true → AreAsked book pages → AreAsked book (slice_set pages page (Owned e words))
+recapped_asked book pages page e words within owned are = repaged book pages (slice_set pages page (Owned e words)) (λ i p is own.
+    by_page (λ row. is_owned_by i row ≡ true) pages page p (Owned e words) within
+    (λ same. eq-eqb e i (sym (one_owner i e (row_in pages page) (subst (λ (n : ℕ). is_owned_by i (row_in pages n) ≡ true) same own) owned)))
+    (λ other. own)) are
+
+-- pages that are free are given
+pub given_asked : (book : RevocationBook) (pages given : List PageRow) → ((p : ℕ) → row_in pages p ≢ Free → row_in given p ≡ row_in pages p) → AreAsked book pages → AreAsked book given
+given_asked book pages given stays are = repaged book pages given (λ e p is own. ap (is_owned_by e) (stays p (λ free. let none : true ≡ false = sym own ∙ ap (is_owned_by e) free in cc)) ∙ own) are
+
+-- an environment dies
+pub death_asked : (book : RevocationBook) (pages : List PageRow) (e : ℕ) → e < most_numbers → AreAsked book pages → AreAsked (once_gone book e) (map (released e) pages)
+death_asked book pages e within are =
+    rebacked (with_pending book e None) pages (map (released e) pages) e [] within (pending_asked book pages e None tt are)
+    (λ p is. cc)
+    (λ i p other is. ap (is_owned_by i) (row_released e pages p) ∙ released_else (row_in pages p) i e other (are.owned i p is))

@@ -1,0 +1,402 @@
+-- What is taken at deadlines, on the world that is shown.
+use Rattle.std.proofs.Common.{◌≡◌, ◌≢◌, ◌<◌, ◌≤◌, ℕ, zero, suc, ◌+◌, ◌*◌, ◌/◌, ◌%◌, List, [], ◌∷◌, ◌++◌, length, map, drop, fold, Bool, true, false, Option, Some, None, IfSome, IsSome, refl, sym, ◌∙◌, ap, subst, arith, append_assoc, length-set}
+use Rattle.std.specs.Prelude.{◌==◌, ◌||◌, if◌then◌else◌, nat_lt, slice_get, slice_index_or}
+use Rattle.std.specs.Option.{option_map}
+use Rattle.std.proofs.lemmas.Bool.{eq-eqb, eqb-true, ltb-true}
+use Rattle.std.proofs.lemmas.List.Sums.{fold-append}
+use Rattle.aegis_limits.specs.Limits.{most_pages, page_size}
+use Rattle.frame_store.specs.Pages.{after_put, page_at, word_at}
+use Rattle.env_frames.specs.declared.mapping.Mapping.{Mapping}
+use Rattle.env_frames.specs.declared.post.PostWord.TheVariants as post
+use Rattle.env_frames.specs.Context.{context_number}
+use Rattle.env_frames.specs.Frame.{left_in, mapping_at}
+use Rattle.env_frames.specs.Post.{counted_in, most_records, post_offset, record_bytes, record_offset, taken_in}
+use Rattle.mips_exec.specs.Word.{word_of}
+use Rattle.page_book.specs.declared.row.PageRow.{PageRow}
+use Rattle.page_book.specs.declared.row.PageRow.TheVariants.{Free, Guaranteed, Owned}
+use Rattle.page_book.specs.Row.{is_owned_by, owner_of}
+use Rattle.page_book.specs.Rows.{row_in}
+use Rattle.revocation_book.specs.declared.revocation.Pending.{Pending}
+use Rattle.revocation_book.specs.declared.revocation.Taking.{Taking}
+use Rattle.revocation_book.specs.Backups.{is_loaded}
+use Rattle.revocation_book.specs.Pending.{is_due, unless_due}
+use Rattle.revocation_book.specs.RevocationBook.{backups_at, books_of, is_any_due, pending_at}
+use Rattle.revocation_book.specs.Takings.{AreTakable, Books, IsTakable, TakingsAreFew, TakingsAreTakable, taken as books_taken, paired, takings_below, takings_of, victims}
+use Rattle.std.specs.List.{list_any}
+use Rattle.board_world.proofs.Sound.{neither}
+use Rattle.world_model.specs.declared.life.Life.TheVariants.{Live}
+use Rattle.world_model.specs.Deadlines.{copy_left, revocations, settles, takes, takings}
+use Rattle.world_model.specs.Item.{Item, Lost, Taken, absorb, absorb_all}
+use Rattle.world_model.specs.PageCalls as calls
+use Rattle.world_model.specs.PageCalls.{breaks, page_bytes}
+use Rattle.world_model.specs.Post.{post_word}
+use Rattle.world_model.specs.Repossession.{copied, counted_taking, recorded, taken}
+use Rattle.world_model.specs.Rings.{page_store}
+use Rattle.world_model.specs.Solo.{Solo, Physical, bytes_in, bytes_of, bytes_seen, kept_at, stored}
+use Rattle.world_model.specs.Table.{set_at}
+use Rattle.world_model.specs.Tick.{serve_phases, served}
+use Rattle.world_model.specs.World.{World, Reply, after, run_phases}
+use Rattle.board_world.specs.declared.roster.Environment.{Environment}
+use Rattle.board_world.specs.Shown.{Shown, mappings_in, mappings_of}
+use Rattle.board_world.specs.Showing.{book_of, page_seen, pages_seen, solo_of, solo_or_absent, solo_seen, world_of}
+use Rattle.board_world.specs.Sound.{IsLive, IsSound}
+use Rattle.board_world.specs.Doing.{context_of, copied_to, deadlines_over, deadlines_served, repossessed, takings_in, with_freed}
+use Rattle.board_world.proofs.Asked.{backups_set, pending_served, served_asked, taken_asked}
+use Rattle.board_world.proofs.Booked.{free_booked}
+use Rattle.board_world.proofs.Breaking.{freed_book, freed_else, freed_own}
+use Rattle.board_world.proofs.Claiming.{freed_claimed}
+use Rattle.board_world.proofs.Copying as copying
+use Rattle.board_world.proofs.Happening.{counted_changed, counts}
+use Rattle.board_world.proofs.Lists.{get_within}
+use Rattle.board_world.proofs.Pages.{seen_kept}
+use Rattle.board_world.proofs.Parted.{row_parted}
+use Rattle.board_world.proofs.Allowed.{owned_by_none}
+use Rattle.board_world.proofs.Parts.{append_nothing, by_env, set_here, set_else, worlds}
+use Rattle.board_world.proofs.Phases.{quiet_world}
+use Rattle.board_world.proofs.Posting.{changed_in, context_bytes, left_else, left_here, left_with, same_size, with_left, with_word, worded, worded_others, worded_seen}
+use Rattle.board_world.proofs.Seen.{like_solo, live_record, owned_taken, row_there}
+use Rattle.board_world.proofs.Staying.{sound_asked, sound_frames, sound_machine, sound_memory}
+use Rattle.board_world.proofs.Stepping.{owner_is}
+use Rattle.board_world.proofs.Tables.{table_set}
+use Rattle.world_model.specs.Holding.{lost}
+
+-- The record of a page that is taken, which lies in the context page.
+record_number : (n : ℕ) → n < most_records → (page_size + record_offset n) / page_size ≡ context_number
+record_number n room = omega (arith, room)
+
+record_place : (n : ℕ) → n < most_records → (page_size + record_offset n) % page_size ≡ record_offset n
+record_place n room = omega (arith, room)
+
+-- the board with the record of this number, if there is room for it
+abbrev recorded_if : Bool → Shown → ℕ → ℕ → ℕ → Option ℕ → Shown
+recorded_if true b e n page backup = with_left b e (record_offset n) (λ old. record_bytes page backup)
+recorded_if false b e n page backup = b
+
+-- how many records there are
+abbrev records : Shown → ℕ → ℕ
+records b e = word_at (context_bytes b e) (post_offset post.Takings)
+
+abbrev with_record : Shown → ℕ → ℕ → Option ℕ → Shown
+with_record b e page backup = let n = records b e in recorded_if (nat_lt n most_records) b e n page backup
+
+frames_if : (t : Bool) (b : Shown) (e n page : ℕ) (backup : Option ℕ) → length (recorded_if t b e n page backup).frames ≡ length b.frames
+frames_if true b e n page backup = by_page (context_of b e)
+  where
+    by_page : (context : Option ℕ) → length (left_in (record_offset n) (record_bytes page backup) context b.frames) ≡ length b.frames
+    by_page None = refl
+    by_page (Some at) = length-set b.frames at _
+frames_if false b e n page backup = refl
+
+-- the record and the count, as they are written
+recorded_frames : (page : ℕ) (backup : Option ℕ) (frames : List (List ℕ)) (m : Option Mapping) →
+    (let n = word_at (bytes_in (option_map (page_seen frames) m)) (post_offset post.Takings) in
+    taken_in page backup (option_map (λ (m : Mapping). m.page) m) frames ≡ counted_in post.Takings (option_map (λ (m : Mapping). m.page) m) (if nat_lt n most_records then left_in (record_offset n) (record_bytes page backup) (option_map (λ (m : Mapping). m.page) m) frames else frames))
+recorded_frames page backup frames None = by_test (nat_lt (word_at [] (post_offset post.Takings)) most_records)
+  where
+    by_test : (t : Bool) → frames ≡ (if t then frames else frames)
+    by_test true = refl
+    by_test false = refl
+recorded_frames page backup frames (Some m) = refl
+
+if_frames : (t : Bool) (b : Shown) (e n page : ℕ) (backup : Option ℕ) → record b { frames = if t then left_in (record_offset n) (record_bytes page backup) (context_of b e) b.frames else b.frames } ≡ recorded_if t b e n page backup
+if_frames true b e n page backup = refl
+if_frames false b e n page backup = refl
+
+module _ (b : Shown) (sound : IsSound b) (e : ℕ) (x : Environment) (at : slice_get b.roster.list e ≡ Some x) (lives : x.life ≡ Live) (page : ℕ) (backup : Option ℕ) where
+  abbrev n : ℕ
+  n = records b e
+
+  -- as many records as the environment sees
+  same_records : n ≡ post_word post.Takings (solo_of b e)
+  same_records =
+      ap (λ bytes. word_at (bytes_in bytes) (post_offset post.Takings)) (sym (seen_kept b.frames (mappings_of b.roster.list e) context_number))
+      ∙ ap (λ o. word_at (bytes_in (kept_at (pages_seen b.frames (mappings_in o)) context_number)) (post_offset post.Takings)) at
+      ∙ ap (λ o. word_at (bytes_in (kept_at (solo_or_absent b e o).kept context_number)) (post_offset post.Takings)) (sym at)
+
+  recorded_here : (t : Bool) → nat_lt n most_records ≡ t → solo_of (recorded_if t b e n page backup) e ≡ recorded n page backup (solo_of b e)
+  recorded_here true room =
+      let within = ltb-true n most_records room in
+      left_here b sound e x at lives (record_offset n) (λ old. record_bytes page backup) (record_number n within) (record_place n within)
+      ∙ ap (λ t. if t then left_with (record_offset n) (λ old. record_bytes page backup) (solo_of b e) else solo_of b e) (sym room)
+  recorded_here false full = ap (λ t. if t then left_with (record_offset n) (λ old. record_bytes page backup) (solo_of b e) else solo_of b e) (sym full)
+
+  recorded_else : (t : Bool) → nat_lt n most_records ≡ t → (i : ℕ) → i ≢ e → solo_of (recorded_if t b e n page backup) i ≡ solo_of b i
+  recorded_else true room i ne =
+      let within = ltb-true n most_records room in
+      left_else b sound e x at lives (record_offset n) (λ old. record_bytes page backup) (record_number n within) (record_place n within) i ne
+  recorded_else false full i ne = refl
+
+  abbrev now : Shown
+  now = with_record b e page backup
+
+  now_sound : IsSound now
+  now_sound = by_test (nat_lt n most_records)
+    where
+      by_test : (t : Bool) → IsSound (recorded_if t b e n page backup)
+      by_test true = sound_frames _ (frames_if true b e n page backup) sound
+      by_test false = sound
+
+  now_at : (t : Bool) → slice_get (recorded_if t b e n page backup).roster.list e ≡ Some x
+  now_at true = at
+  now_at false = at
+
+  pub written_is : record b { frames = taken_in page backup (context_of b e) b.frames } ≡ with_word now e post.Takings counts
+  written_is =
+      (λ k. record b { frames = recorded_frames page backup b.frames (mapping_at (mappings_of b.roster.list e) context_number) k })
+      ∙ (λ k. record b { frames = counted_changed post.Takings (context_of b e) (if nat_lt n most_records then left_in (record_offset n) (record_bytes page backup) (context_of b e) b.frames else b.frames) k })
+      ∙ by_test (nat_lt n most_records)
+    where
+      by_test : (t : Bool) → record b { frames = changed_in post.Takings counts (context_of b e) (if t then left_in (record_offset n) (record_bytes page backup) (context_of b e) b.frames else b.frames) } ≡ with_word (recorded_if t b e n page backup) e post.Takings counts
+      by_test true = refl
+      by_test false = refl
+
+  -- for the environment, and for the others
+  pub written_here : solo_of (record b { frames = taken_in page backup (context_of b e) b.frames }) e ≡ counted_taking page backup (solo_of b e)
+  written_here =
+      ap (λ y. solo_of y e) written_is
+      ∙ worded_seen now now_sound e x (now_at (nat_lt n most_records)) lives counts post.Takings
+      ∙ ap (worded post.Takings counts) (recorded_here (nat_lt n most_records) refl)
+      ∙ ap (λ k. worded post.Takings counts (recorded k page backup (solo_of b e))) same_records
+
+  pub written_else : (i : ℕ) → i ≢ e → solo_of (record b { frames = taken_in page backup (context_of b e) b.frames }) i ≡ solo_of b i
+  written_else i ne =
+      ap (λ y. solo_of y i) written_is
+      ∙ worded_others now now_sound e x (now_at (nat_lt n most_records)) lives counts post.Takings i ne
+      ∙ recorded_else (nat_lt n most_records) refl i ne
+
+  pub written_size : length (taken_in page backup (context_of b e) b.frames) ≡ length b.frames
+  written_size =
+      ap (λ (y : Shown). length y.frames) written_is
+      ∙ same_size post.Takings counts (context_of now e) now.frames
+      ∙ frames_if (nat_lt n most_records) b e n page backup
+
+-- A page that may be taken is its owner's, who lives, and so is the backup.
+module _ (b : Shown) (sound : IsSound b) (x : Taking) (may : IsTakable (books_of b.pages b.revocations) b.time x) where
+  abbrev e : ℕ
+  e = x.env
+
+  pub owner_live : IsLive b.roster.list x.env
+  owner_live = sound.books.owners x.page x.env (owner_is x.env (row_in b.pages x.page) may.owned)
+
+  not_free : (page : ℕ) → is_owned_by e (row_in b.pages page) ≡ true → row_in b.pages page ≢ Free
+  not_free page own free = let none : true ≡ false = sym own ∙ ap (is_owned_by e) free in cc
+
+  pub page_there : x.page < length b.pages
+  page_there = row_there b.pages x.page (not_free x.page may.owned)
+
+  -- the backup is the first of those that are loaded
+  first_loaded : (backups : List ℕ) (backup : ℕ) → Some backup ≡ slice_get backups 0 → is_loaded backups backup ≡ true
+  first_loaded [] backup is = cc
+  first_loaded (one ∷ backups) backup is = let same : backup ≡ one = cc in subst (λ n. is_loaded (one ∷ backups) n ≡ true) (sym same) (ap (λ t. t || is_loaded backups one) (eq-eqb one one refl))
+
+  pub backup_own : (backup : ℕ) → x.backup ≡ Some backup → is_owned_by e (row_in b.pages backup) ≡ true
+  backup_own backup is = sound.revocations.owned e backup (first_loaded (backups_at b.revocations e) backup (sym is ∙ may.first))
+
+  -- the environment's place in the book of revocations
+  pub its_place : e < length b.revocations.backups
+  its_place = omega (arith, owner_live.0, sound.few, sound.revocations.backups)
+
+  abbrev lived : (y : Environment) × ((slice_get b.roster.list e ≡ Some y) × (y.life ≡ Live))
+  lived = live_record b.roster.list e owner_live.1
+
+  abbrev its : Environment
+  its = lived.0
+
+  -- Page, backup and owner are there.
+  pub frame_there : x.page < length b.frames
+  frame_there = omega (arith, sound.memory.same, page_there)
+
+  pub backup_there : IfSome x.backup (λ n. n < length b.frames)
+  backup_there = by_backup x.backup refl
+    where
+      by_backup : (o : Option ℕ) → x.backup ≡ o → IfSome o (λ n. n < length b.frames)
+      by_backup None is = tt
+      by_backup (Some backup) is = omega (arith, sound.memory.same, row_there b.pages backup (not_free backup (backup_own backup is)))
+
+  pub owner_there : IsSome (owner_of (row_in b.pages x.page))
+  owner_there = subst IsSome (sym (owner_is x.env (row_in b.pages x.page) may.owned)) refl
+
+  -- First the copy,
+  abbrev copied_board : Shown
+  copied_board = record b { frames = copied_to x.page x.backup b.frames }
+
+  pub copy_size : length (copied_to x.page x.backup b.frames) ≡ length b.frames
+  copy_size = by_backup x.backup
+    where
+      by_backup : (o : Option ℕ) → length (copied_to x.page o b.frames) ≡ length b.frames
+      by_backup None = refl
+      by_backup (Some backup) = length-set b.frames backup _
+
+  copied_sound : IsSound copied_board
+  copied_sound = sound_frames (copied_to x.page x.backup b.frames) copy_size sound
+
+  -- the page, as its owner sees it
+  page_is : bytes_of (solo_of b e) (Physical x.page) ≡ page_at b.frames x.page
+  page_is = ap (λ o. bytes_of (solo_or_absent b e o) (Physical x.page)) lived.1.0 ∙ (let owned = may.owned in rw owned refl)
+
+  page_seen_is : page_bytes (world_of b) x.page ≡ page_at b.frames x.page
+  page_seen_is = by_row (row_in b.pages x.page) may.owned
+    where
+      by_row : (row : PageRow) → is_owned_by e row ≡ true → calls.bytes_owned (world_of b) x.page row ≡ page_at b.frames x.page
+      by_row Free own = cc
+      by_row (Guaranteed owner) own = cc
+      by_row (Owned owner words) own = ap (λ n. bytes_seen ((solo_of b n).seen x.page)) (eqb-true owner e own) ∙ page_is
+
+  copied_here : (o : Option ℕ) → x.backup ≡ o → solo_of (record b { frames = copied_to x.page o b.frames }) e ≡ copied x.page o (solo_of b e)
+  copied_here None is = refl
+  copied_here (Some backup) is =
+      copying.stored_here b sound e backup (backup_own backup is) its lived.1.0 lived.1.1 (page_at b.frames x.page)
+      ∙ ap (λ bytes. stored (page_store backup bytes) (solo_of b e)) (sym page_is)
+
+  copied_else : (o : Option ℕ) → x.backup ≡ o → (i : ℕ) → i ≢ e → solo_of (record b { frames = copied_to x.page o b.frames }) i ≡ absorb_all (solo_of b i) (copy_left (world_of b) x o i)
+  copied_else None is i ne = refl
+  copied_else (Some backup) is i ne =
+      copying.stored_else b sound e backup (backup_own backup is) its lived.1.0 lived.1.1 (page_at b.frames x.page) i ne
+      ∙ ap (λ bytes. absorb_all (solo_of b i) (calls.left_by (book_of b) e (page_store backup bytes) i)) (sym page_seen_is)
+
+  -- then the record,
+  abbrev recorded_board : Shown
+  recorded_board = record copied_board { frames = taken_in x.page x.backup (context_of copied_board e) copied_board.frames }
+
+  recorded_sound : IsSound recorded_board
+  recorded_sound = sound_frames _ (written_size copied_board copied_sound e its lived.1.0 lived.1.1 x.page x.backup) copied_sound
+
+  -- and then the page goes
+  abbrev gone : Shown
+  gone = repossessed b x
+
+  gone_like : (i : ℕ) → solo_of gone i ≡ solo_of (with_freed recorded_board x.page) i
+  gone_like i = like_solo i gone (with_freed recorded_board x.page) (record {
+    record_is = refl;
+    rings = refl;
+    cpu = λ kept. refl;
+    pages = refl;
+    binds = refl;
+    sights = refl;
+  })
+
+  live_owner : solo_of b e ≡ record (solo_seen b e its) { life = Live }
+  live_owner = ap (solo_or_absent b e) lived.1.0 ∙ (λ k. record (solo_seen b e its) { life = lived.1.1 k })
+
+  gone_here : solo_of gone e ≡ absorb_all (solo_of b e) (Taken x.page x.backup ∷ [])
+  gone_here =
+      gone_like e
+      ∙ freed_own recorded_board x.page page_there e its lived.1.0
+      ∙ ap (lost x.page) (written_here copied_board copied_sound e its lived.1.0 lived.1.1 x.page x.backup ∙ ap (counted_taking x.page x.backup) (copied_here x.backup refl))
+      ∙ ap (taken x.page x.backup) live_owner
+      ∙ ap (λ s. absorb_all s (Taken x.page x.backup ∷ [])) (sym live_owner)
+
+  gone_else : (i : ℕ) → i ≢ e → solo_of gone i ≡ absorb_all (solo_of b i) (copy_left (world_of b) x x.backup i ++ breaks (book_of b) x.page i)
+  gone_else i ne =
+      gone_like i
+      ∙ freed_else recorded_board x.page page_there recorded_sound e may.owned i ne
+      ∙ ap (λ s. absorb_all s (breaks (book_of b) x.page i)) (written_else copied_board copied_sound e its lived.1.0 lived.1.1 x.page x.backup i ne ∙ copied_else x.backup refl i ne)
+      ∙ sym (fold-append absorb (solo_of b i) (copy_left (world_of b) x x.backup i) (breaks (book_of b) x.page i))
+
+  pub taken_world : world_of gone ≡ after (world_of b) (takes x (world_of b))
+  taken_world =
+      worlds (world_of gone) (after (world_of b) (takes x (world_of b)))
+      (λ k. record (freed_book b x.page page_there k) { backups = λ i. backups_set b.revocations e (drop 1 (backups_at b.revocations e)) its_place i k })
+      refl
+      (by_env (solo_of gone) (λ i. absorb_all (solo_of b i) ((takes x (world_of b)).items i)) e
+      (gone_here ∙ ap (absorb_all (solo_of b e)) (sym (set_here e (Taken x.page x.backup ∷ []) (λ i. copy_left (world_of b) x x.backup i ++ breaks (book_of b) x.page i))))
+      (λ i ne. gone_else i ne ∙ ap (absorb_all (solo_of b i)) (sym (set_else e i (Taken x.page x.backup ∷ []) (λ i. copy_left (world_of b) x x.backup i ++ breaks (book_of b) x.page i) ne))))
+      refl
+
+  pub taken_sound : IsSound gone
+  taken_sound =
+      sound_memory _ _ _ _ _
+      (row_parted gone.frames b.pages b.roster.list x.page Free (owned_by_none e (row_in b.pages x.page) may.owned) recorded_sound.memory)
+      (free_booked b.pages b.binds b.roster x.page page_there sound.books)
+      (freed_claimed b.claims b.pages b.roster x.page page_there sound.claims)
+      (taken_asked b.revocations b.pages e x.page (omega (arith, owner_live.0, sound.few)) page_there may.owned may.spared sound.revocations)
+      (sound_machine recorded_sound)
+
+-- What is taken is taken one after another.
+pub taken_books : (b : Shown) (x : Taking) → x.page < length b.pages → x.env < length b.revocations.backups → books_of (repossessed b x).pages (repossessed b x).revocations ≡ books_taken x (books_of b.pages b.revocations)
+taken_books b x there place = λ k. record {
+  pages = λ p. table_set b.pages x.page Free Free there p k;
+  page_count = length-set b.pages x.page Free k;
+  pending = pending_at b.revocations;
+  backups = λ i. backups_set b.revocations x.env (drop 1 (backups_at b.revocations x.env)) place i k;
+}
+
+all_taken : (b : Shown) (xs : List Taking) → IsSound b → AreTakable (books_of b.pages b.revocations) b.time xs → (world_of (fold repossessed b xs) ≡ run_phases (world_of b) (map takes xs)) × IsSound (fold repossessed b xs)
+all_taken b [] sound may = (refl, sound)
+all_taken b (x ∷ xs) sound may =
+    let there = page_there b sound x may.0 in
+    let rest = all_taken (repossessed b x) xs (taken_sound b sound x may.0) (subst (λ books. AreTakable books b.time xs) (sym (taken_books b x there (its_place b sound x may.0))) may.1) in
+    (rest.0 ∙ ap (λ w. run_phases w (map takes xs)) (taken_world b sound x may.0), rest.1)
+
+-- the deadlines are over
+over_world : (b : Shown) → world_of (deadlines_over b) ≡ after (world_of b) (settles (world_of b))
+over_world b =
+    worlds (world_of (deadlines_over b)) (after (world_of b) (settles (world_of b)))
+    (λ k. record (book_of b) { pending = λ i. pending_served b.revocations b.time i k })
+    refl
+    (λ i. like_solo i (deadlines_over b) b (record { record_is = refl; rings = refl; cpu = λ kept. refl; pages = refl; binds = refl; sights = refl }))
+    (sym (append_nothing b.ledger.rows))
+
+run_last : (w : World) (xs : List (World → Reply)) (phase : World → Reply) → run_phases w (xs ++ phase ∷ []) ≡ (let v = run_phases w xs in after v (phase v))
+run_last w [] phase = refl
+run_last w (x ∷ xs) phase = run_last (after w (x w)) xs phase
+
+pub served_world : TakingsAreTakable → (b : Shown) → IsSound b → world_of (deadlines_served b) ≡ served (world_of b)
+served_world law b sound =
+    let xs = takings_in b in
+    let taken = all_taken b xs sound (law (books_of b.pages b.revocations) b.time (length b.roster.list)) in
+    over_world (fold repossessed b xs)
+    ∙ ap (λ w. after w (settles w)) taken.0
+    ∙ sym (run_last (world_of b) (map takes xs) settles)
+
+-- Where no deadline has come nothing is taken, and none is over.
+not_due : (list : List (Option Pending)) (time e : ℕ) → list_any (is_due time) list ≡ false → is_due time (slice_index_or list e None) ≡ false
+not_due [] time e none = refl
+not_due (pending ∷ list) time zero none = (neither (is_due time pending) (list_any (is_due time) list) none).0
+not_due (pending ∷ list) time (suc e) none = not_due list time e (neither (is_due time pending) (list_any (is_due time) list) none).1
+
+none_taken : (books : Books) (time n : ℕ) → ((e : ℕ) → is_due time (books.pending e) ≡ false) → takings_below books time n ≡ []
+none_taken books time zero none = refl
+none_taken books time (suc e) none =
+    (λ k. none_taken books time e none k ++ takings_of books time e)
+    ∙ ap (λ t. if t then paired e (victims books e) (books.backups e) else []) (none e)
+
+none_over : (list : List (Option Pending)) (time : ℕ) → list_any (is_due time) list ≡ false → map (unless_due time) list ≡ list
+none_over [] time none = refl
+none_over (pending ∷ list) time none =
+    let both = neither (is_due time pending) (list_any (is_due time) list) none in
+    λ k. ap (λ t. if t then None else pending) both.0 k ∷ none_over list time both.1 k
+
+pub nothing_due : (b : Shown) → is_any_due b.revocations b.time ≡ false → b ≡ deadlines_served b
+nothing_due b none =
+    sym ((λ k. deadlines_over (fold repossessed b (none_taken (books_of b.pages b.revocations) b.time (length b.roster.list) (λ e. not_due b.revocations.pending b.time e none) k)))
+    ∙ (λ k. record b { revocations = record b.revocations { pending = none_over b.revocations.pending b.time none k } }))
+
+-- What is left as it was, and how many rows are written.
+pub record IsServed (b new : Shown) (rows : ℕ) : Type 0 where
+  pub slots : new.slots ≡ b.slots
+  pub time : new.time ≡ b.time
+  pub numbers : new.claims.next ≡ b.claims.next
+  pub whole : new.roster.spare ≡ b.roster.spare
+  pub room : b.ledger.spare ≤ new.ledger.spare + rows
+
+taken_leaves : (b : Shown) (xs : List Taking) → IsServed b (fold repossessed b xs) (length xs)
+taken_leaves b [] = record { slots = refl; time = refl; numbers = refl; whole = refl; room = omega arith }
+taken_leaves b (x ∷ xs) =
+    let rest = taken_leaves (repossessed b x) xs in
+    record { slots = rest.slots; time = rest.time; numbers = rest.numbers; whole = rest.whole; room = omega (arith, rest.room) }
+
+pub served_leaves : TakingsAreFew → (b : Shown) → IsSound b → IsServed b (deadlines_served b) most_pages
+served_leaves few b sound =
+    let left = taken_leaves b (takings_in b) in
+    record {
+      slots = left.slots;
+      time = left.time;
+      numbers = left.numbers;
+      whole = left.whole;
+      room = omega (arith, left.room, few (books_of b.pages b.revocations) b.time (length b.roster.list), sound.memory.same, sound.memory.most);
+    }
+
+-- nothing more is taken than there are rows for
+pub takings_few : TakingsAreFew → (b : Shown) → length (takings_in b) ≤ length b.pages
+takings_few few b = omega (arith, few (books_of b.pages b.revocations) b.time (length b.roster.list))
