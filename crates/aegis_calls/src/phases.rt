@@ -66,7 +66,7 @@ impl Board {
     pub fn serve(&mut self)
         requires room { SERVE_ROWS ≤ self.old.ledger.spare }
         ensures world { world_of self.new ≡ served (world_of self.old) }
-        ensures slots { self.new.slots ≡ self.old.slots }
+        ensures idle { is_idle_book (world_of self.new).book ≡ is_idle_book (world_of self.old).book }
         ensures time { self.new.time ≡ self.old.time }
         ensures numbers { self.new.claims.next ≡ self.old.claims.next }
         ensures whole { self.new.roster.spare ≡ self.old.roster.spare }

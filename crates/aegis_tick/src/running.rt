@@ -8,8 +8,8 @@ ghost use Rattle.external_event.specs.EventValue.{EventValue};
 ghost use Rattle.external_event.specs.Order.{are_in_order};
 ghost use Rattle.world_model.specs.Book.{is_idle_book};
 ghost use Rattle.world_model.specs.Event.{happen, schedule_of};
-ghost use Rattle.world_model.specs.Tick.{phases_after, tick_step};
-ghost use Rattle.world_model.specs.World.{after, run_phases};
+ghost use Rattle.world_model.specs.Tick.{tick_step};
+ghost use Rattle.world_model.specs.World.{after};
 ghost use Rattle.run_model.specs.Excess.{IsAccounted};
 ghost use Rattle.run_model.specs.Run.{run_on, end_of_run};
 ghost use Rattle.aegis_tick.specs.Course.{HappenedInPart, IsCutOff, IsSure, next_time_of, occurrences, world_with};
@@ -38,7 +38,8 @@ pub fn make_room(board: &mut Board, rows: u32) -> Result<(), OutOfMemory>
 
 /// What happens from outside by an event, before the turn of its tick. It takes no memory.
 pub fn event(board: &mut Board, event: &Event)
-    requires { TICK_ROWS ≤ board.old.ledger.spare }
+    requires room { TICK_ROWS ≤ board.old.ledger.spare }
+    requires time { board.old.time ≤ most_ticks }
     ensures world { world_of board.new ≡ after (world_of board.old) (happen event.now.what (world_of board.old)) }
     ensures time { board.new.time ≡ board.old.time }
     ensures whole { board.new.roster.spare ≡ board.old.roster.spare }
@@ -48,8 +49,8 @@ pub fn event(board: &mut Board, event: &Event)
     board.happen(&event.what);
 }
 
-/// One tick in which nothing happens from outside: the turn, the runner's step, and the timer. It takes no memory. A
-/// tick makes one claim at most, so that the number of the next claim is at most the time.
+/// One tick in which nothing happens from outside: the deadlines that have come, the turn, the runner's step, and the
+/// timer. It takes no memory. A tick makes one claim at most, so that the number of the next claim is at most the time.
 pub fn tick(board: &mut Board)
     requires whole { board.old.roster.spare ≡ 0 }
     requires busy { is_idle_book (world_of board.old).book ≡ false }
@@ -62,6 +63,7 @@ pub fn tick(board: &mut Board)
     ensures numbers { board.new.claims.next ≤ board.new.time }
     ensures room { board.old.ledger.spare ≤ board.new.ledger.spare + TICK_ROWS }
 {
+    board.serve();
     board.turn();
     board.step();
     board.timer();
@@ -114,6 +116,7 @@ fn take_due<'a>(events: &'a [Event], next: &mut usize, soon: &mut u32, time: u32
 
 /// These events, one after another.
 fn happen_all(board: &mut Board, events: &[Event]) -> Result<(), OutOfMemory>
+    requires { board.old.time ≤ most_ticks }
     ensures world { OnOk result (world_of board.new ≡ world_with (occurrences events.now) (world_of board.old)) }
     ensures part { OnErr result (HappenedInPart (occurrences events.now) (world_of board.old) (world_of board.new)) }
     ensures time { board.new.time ≡ board.old.time }
@@ -134,7 +137,7 @@ fn tick_with(board: &mut Board, events: &[Event]) -> Result<(), OutOfMemory>
     requires busy { is_idle_book (world_of board.old).book ≡ false }
     requires time { board.old.time < most_ticks }
     requires numbers { board.old.claims.next ≤ board.old.time }
-    ensures world { OnOk result (world_of board.new ≡ run_phases (world_of board.old) (phases_after (occurrences events.now))) }
+    ensures world { OnOk result (world_of board.new ≡ tick_step (world_with (occurrences events.now) (world_of board.old))) }
     ensures part { OnErr result (HappenedInPart (occurrences events.now) (world_of board.old) (world_of board.new)) }
     ensures time { OnOk result (board.new.time ≡ board.old.time + 1) }
     ensures whole { OnOk result (board.new.roster.spare ≡ 0) }

@@ -4,12 +4,12 @@ use Rattle.external_event.specs.declared.event.Occurrence.{Occurrence}
 use Rattle.board_world.specs.Showing.{world_of}
 use Rattle.world_model.specs.Book.{is_idle_book}
 use Rattle.world_model.specs.Event.{schedule_of}
-use Rattle.world_model.specs.Tick.{phases_after}
+use Rattle.world_model.specs.Tick.{tick_step}
 use Rattle.world_model.specs.World.{World, run_phases}
 use Rattle.run_model.specs.Run.{next_phases, run_on}
-use Rattle.aegis_tick.specs.Course.{IsCutOff, next_time_of, occurrences}
+use Rattle.aegis_tick.specs.Course.{IsCutOff, next_time_of, occurrences, world_with}
 use Rattle.aegis_tick.proofs.Coming.{happens_next, next_coming, next_ordered, next_within}
-use Rattle.aegis_tick.proofs.Happening.{cut_accounted, cut_off}
+use Rattle.aegis_tick.proofs.Happening.{cut_accounted, cut_off, then_ticks}
 use Rattle.aegis_tick.proofs.Refusals.{on_err}
 use Rattle.aegis_tick.proofs.Whole.{stays, goes_on}
 use Rattle.aegis_tick.proofs.running.run_ticks.Goals as goal
@@ -56,7 +56,8 @@ loop-done-preserved c =
     let busy = ap (λ (u : World). is_idle_book u.book) (sym now.world) ∙ sym c.idle.ensures ∙ c.if-idle.false in
     rw (c.take_due-now.ensures.next) (record {
       world = c.in_ok-tick_with.ensures.world
-          ∙ ap (λ (xs : List Occurrence). run_phases v (phases_after xs)) (sym happens)
+          ∙ ap (λ (xs : List Occurrence). tick_step (world_with xs v)) (sym happens)
+          ∙ sym (then_ticks schedule v)
           ∙ ap (λ (u : World). run_phases u (next_phases schedule u)) now.world
           ∙ sym (goes_on schedule w t busy);
       whole = c.in_ok-tick_with.ensures.whole;

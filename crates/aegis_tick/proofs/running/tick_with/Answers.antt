@@ -8,7 +8,7 @@ use Rattle.world_model.specs.Book.{is_idle_book}
 use Rattle.world_model.specs.Tick.{tick_step}
 use Rattle.world_model.specs.World.{World}
 use Rattle.aegis_tick.specs.Course.{occurrences, world_with}
-use Rattle.aegis_tick.proofs.Happening.{still_busy, then_ticks}
+use Rattle.aegis_tick.proofs.Happening.{still_busy}
 use Rattle.aegis_tick.proofs.Refusals.{on_err}
 use Rattle.aegis_tick.proofs.running.tick_with.Goals as goal
 
@@ -37,6 +37,4 @@ returns-in_err-make_room-clause-part c =
 
 pub returns-clause-world : goal.returns-clause-world
 returns-clause-world c =
-    let w = world_of c.args.board.now in
-    let happens = occurrences c.args.events.now in
-    c.tick.ensures.world ∙ ap tick_step (c.in_ok-make_room.ensures.world ∙ c.in_ok-happen_all.ensures.world) ∙ then_ticks w happens
+    c.tick.ensures.world ∙ ap tick_step (c.in_ok-make_room.ensures.world ∙ c.in_ok-happen_all.ensures.world)
