@@ -16,6 +16,8 @@ AT, K0, K1 = 1, 26, 27
 # Places in the context page.
 CONTEXT_VPN, EXCEPTION_AREA, START_AREA, END_AREA, ENTRY_AREA = 1, 0x000, 0x040, 0x050, 0x080
 POST_PACKETS, POST_LOST, POST_LINES = 0x140, 0x144, 0x148
+POST_OUTSTANDING, POST_DEADLINE, POST_TAKINGS, RECORDS = 0x14C, 0x150, 0x17C, 0x180
+MOST_RECORDS, NO_BACKUP, MOST_OUTSTANDING = 64, 0xFFFFFFFF, 0xFFFFFFFF
 BUFFER_SIZE = 0x800  # of which a ring page has two
 
 
@@ -38,13 +40,14 @@ class Claim:
 
 
 class Env:
-    """An environment. Bindings are by row, each (VPN, page, whether it may be stored to)."""
+    """An environment. Bindings are by row, each (VPN, page, whether it may be stored to); backups by their numbers, in order."""
 
     def __init__(self, number, program):
         self.number, self.name, self.life = number, program.name, "live"
         self.cpu, self.handlers, self.mask = Cpu(program.entry), [0] * 5, program.accept
         self.guaranteed, self.bindings, self.excess = {}, {}, 0
         self.console, self.sent = bytearray(), []
+        self.outstanding, self.deadline, self.backups = 0, None, []
 
     @property
     def is_alive(self):
@@ -102,6 +105,7 @@ class Board:
         self.slots = [None if owner is None else (owner, owner) for owner in image.slots]
         self.slot, self.runner, self.left, self.in_grace = len(self.slots) - 1, None, 0, False
         self.lines, self.claims, self.next_claim = [None] * LINES, {}, 0
+        self.taken = {}  # by page that was taken in this tick, from whom
         self.envs = []
         for program in image.programs:
             self.add(program)
@@ -209,6 +213,8 @@ class Board:
             if page.owner is env:
                 self.free(number, "a death")
         env.bindings.clear()
+        self.seen["revocations that end with a death"] += env.outstanding > 0
+        env.outstanding = 0
         self.seen["lines that end with a death"] += self.lines.count(env)
         self.lines = [None if owner is env else owner for owner in self.lines]
         for slot, hold in enumerate(self.slots):
@@ -227,9 +233,23 @@ class Board:
         page = self.pages[number]
         page.owner, page.read, page.write = env, read, write
         page.data[:] = bytes(PAGE)
+        if number in self.taken:
+            self.seen["pages allocated in the tick of their taking" + (" again" if self.taken[number] is env else "")] += 1
+
+    def give_back(self, env, number):
+        """An environment frees a page of its own: it is one fewer that is outstanding."""
+        self.seen["backups that are freed"] += number in env.backups
+        self.free(number)
+        if env.outstanding:
+            env.outstanding -= 1
+            self.seen["revocations that are met in time" if env.outstanding == 0 else "pages given back of several"] += 1
 
     def free(self, number, cause="a free"):
-        """A page is free: its bindings go, and the claims whose ring it is."""
+        """A page is free: its bindings go, and the claims whose ring it is; and it is no backup."""
+        owner = self.pages[number].owner
+        if number in owner.backups:
+            owner.backups.remove(number)
+            self.seen[f"backups that end with {cause}"] += 1
         self.pages[number].release()
         self.break_bindings(number)
         for claim in self.claims_on(number):
@@ -252,6 +272,71 @@ class Board:
         for env in self.envs:
             if env is not but:
                 env.bindings = {row: it for row, it in env.bindings.items() if it[1] != number}
+
+    # Revocation
+
+    def revoke(self, number, count, grace):
+        """An environment is asked for pages."""
+        if number >= len(self.envs) or not self.envs[number].is_alive:
+            self.seen["revocations of " + ("the dead" if number < len(self.envs) else "nobody")] += 1
+            return
+        env = self.envs[number]
+        outstanding = min(env.outstanding + count, MOST_OUTSTANDING)
+        if outstanding == 0:
+            self.seen["revocations of no page"] += 1
+            return
+        self.seen["revocations that move a deadline alone"] += count == 0
+        self.seen["revocations that come upon another"] += env.outstanding > 0
+        self.seen["deadlines that come earlier"] += env.outstanding > 0 and self.time + grace < env.deadline
+        env.outstanding, env.deadline = outstanding, self.time + grace
+        self.set_context(env, POST_OUTSTANDING, outstanding, env.deadline)
+        self.row("asked", number, outstanding, env.deadline)
+        self.seen["revocations due in their tick"] += grace == 0
+
+    def serve(self):
+        """What is outstanding of those whose deadline has come is taken."""
+        self.taken = {}
+        due = [env for env in self.envs if env.outstanding and env.deadline <= self.time]
+        self.seen["ticks with several deadlines"] += len(due) > 1
+        for env in due:
+            owned = [number for number, page in enumerate(self.pages) if page.owner is env and not page.is_guaranteed]
+            victims = [number for number in owned if number not in env.backups][: env.outstanding]
+            self.seen["deadlines with too few pages"] += len(victims) < env.outstanding
+            self.seen["deadlines that spare a backup"] += any(number in env.backups for number in owned[: env.outstanding])
+            for number in victims:
+                self.take(env, number)
+            env.outstanding = 0
+
+    def take(self, env, number):
+        """A page is taken: its bytes go to the first backup, it is recorded, and then it is free."""
+        self.count_taking(env, number)
+        backup = env.backups.pop(0) if env.backups else None
+        if backup is not None:
+            self.pages[backup].data[:] = self.pages[number].data
+        place = word_of(self.context(env), POST_TAKINGS)
+        if place < MOST_RECORDS:
+            self.set_context(env, RECORDS + 8 * place, number, NO_BACKUP if backup is None else backup)
+        self.count_up(env, POST_TAKINGS)
+        self.free(number, "a taking")
+        self.row("take", env.number, number, "-" if backup is None else backup)
+        self.taken[number] = env
+
+    def count_taking(self, env, number):
+        """Counts what kind of a taking comes."""
+        def sharers(page):
+            return [other for other in self.envs if any(it[1] == page for it in other.bindings.values())]
+
+        self.seen["pages taken " + ("with a copy" if env.backups else "without a copy")] += 1
+        self.seen["pages taken that their owner has bound"] += env in sharers(number)
+        self.seen["pages taken that others have bound"] += any(other is not env for other in sharers(number))
+        self.seen["rings taken"] += bool(self.claims_on(number))
+        self.seen["pages taken from the runner"] += env is self.runner
+        self.seen["pages taken that hold bytes"] += any(self.pages[number].data)
+        self.seen["takings behind the last record"] += word_of(self.context(env), POST_TAKINGS) >= MOST_RECORDS
+        if env.backups:
+            self.seen["copies that others see"] += any(other is not env for other in sharers(env.backups[0]))
+            self.seen["copies into rings"] += bool(self.claims_on(env.backups[0]))
+            self.seen["copies over other bytes"] += self.pages[env.backups[0]].data != self.pages[number].data
 
     # Packets and lines
 

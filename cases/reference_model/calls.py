@@ -7,7 +7,7 @@ from files import MOST_PACKET, PAGE
 from filters import BYTES_OF_ATOM, read_filter
 
 ANY, USER_VPNS = 0xFFFFFFFF, 0x80000
-MOST_CONSOLE, MOST_ATOMS, MOST_CLAIMS, MOST_SENT, LEAST_SENT = 65536, 16, 8, 256, 14
+MOST_CONSOLE, MOST_ATOMS, MOST_CLAIMS, MOST_BACKUPS, MOST_SENT, LEAST_SENT = 65536, 16, 8, 64, 256, 14
 
 (NO_PAGE, TAKEN, NONE_FREE, NOT_OWNER, NO_RIGHT, BAD_VPN, GUARANTEED, NO_ENV, NOT_ACCEPTED, NO_SLICE, SLOT_TAKEN, NOT_HOLDER, BAD_FILTER, OVERLAP,
  NO_FILTER, BAD_HANDLER, LINE_TAKEN, CONSOLE_FULL, FULL, BAD_CALL, BAD_POINTER) = range(1, 22)
@@ -96,7 +96,7 @@ def alloc(board, env, number, *words):
 
 def free(board, env, number, *_):
     check_owned(board, env, number)
-    board.free(number)
+    board.give_back(env, number)
     return 0
 
 
@@ -213,6 +213,14 @@ def line(board, env, number, is_taken, *_):
     return 0
 
 
+def backup(board, env, number, *_):
+    check_owned(board, env, number)
+    refuse_if(number in env.backups, TAKEN)
+    refuse_if(len(env.backups) == MOST_BACKUPS, FULL)
+    env.backups.append(number)
+    return 0
+
+
 def send(board, env, address, length, *_):
     refuse_if(not LEAST_SENT <= length <= MOST_PACKET, BAD_CALL)
     data = read_range(board, env, address, length)
@@ -232,7 +240,7 @@ def clock(board, env, *_):
 EXIT = 2
 CALLS = {
     0: give_up, 1: put, 3: alloc, 4: free, 5: recap, 6: bind, 7: unbind, 8: context, 9: accept, 10: transfer, 11: take_slot, 12: drop_slot,
-    13: query, 14: claim, 15: unclaim, 17: line, 19: send, 20: own_number, 21: clock,
+    13: query, 14: claim, 15: unclaim, 17: line, 18: backup, 19: send, 20: own_number, 21: clock,
 }
 
 

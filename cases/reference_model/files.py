@@ -60,11 +60,12 @@ class Image:
 
 @dataclass
 class Event:
-    """What happens at the beginning of a tick: a packet, or a signal on a line."""
+    """What happens at the beginning of a tick: a packet, a signal on a line, or a revocation, which is (environment, count, grace)."""
 
     tick: int
     packet: bytes = None
     line: int = None
+    revoke: tuple = None
 
 
 def number_at(file, place, size):
@@ -210,8 +211,6 @@ def read_schedule(text):
                 raise Fault("Order", line)
             if len(events) == MOST_EVENTS:
                 raise Fault("Many", line)
-            if words[1] == b"revoke":
-                raise Fault("NotBuilt", line)
             events.append(event)
     return events
 
@@ -231,9 +230,7 @@ def read_event(line, words):
     if words[1] == b"line":
         return Event(tick, line=ranged(words[2], 7))
     if words[1] == b"revoke":
-        for word, most in zip(words[2:], (31, 4096, MOST_TICKS)):
-            ranged(word, most)
-        return Event(tick)
+        return Event(tick, revoke=tuple(ranged(word, most) for word, most in zip(words[2:], (31, 4096, MOST_TICKS))))
     if len(words[2]) % 2 or any(digit not in b"0123456789abcdefABCDEF" for digit in words[2]):
         raise Fault("Hex", line)
     packet = bytes.fromhex(words[2].decode())

@@ -1,13 +1,18 @@
-"""Random systems with schedules, made from a seed: images whose environments claim packets, and events from outside.
+"""Random systems with schedules, made from a seed: images whose environments claim packets and own pages, and events from
+outside.
 
 The programs are those of cases/random_systems with more blocks:
 
 - claims of filters, into a page that was allocated and is mostly bound, and claims that are withdrawn;
 - reads of a ring, with and without a zero in the length word afterwards, and stores into pages that may be another's ring;
-- lines that are taken and dropped, and packets that are sent.
+- lines that are taken and dropped, and packets that are sent;
+- pages that are allocated by loops, bound, stored to and loaded as backups; that are given back where the context page says
+  that some are outstanding; and that are allocated again, or whose backups are bound, where the context page says that they
+  were taken.
 
 The filters of an environment mostly begin with a byte of its own, so most claims are granted and some overlap. The packets
-are mostly made of a filter, and some of them miss by a bit or a byte.
+are mostly made of a filter, and some of them miss by a bit or a byte. Revocations are of one page to all, and their deadlines
+often come in one tick.
 """
 import os
 import random
@@ -15,15 +20,16 @@ import struct
 import sys
 
 sys.path.append(os.path.join(os.path.dirname(os.path.abspath(__file__)), "..", "random_systems"))
-from systems import (A0, A1, ALLOC, ANY, AREA, BASE, BIND, CONTEXTS, COUNTER, EXCEPTIONS, EXIT, NOP, OPCODES, PAGE, PAGES, POINTER, PUT, ROUNDS,
+from systems import (A0, A1, ALLOC, ANY, AREA, BASE, BIND, CONTEXTS, COUNTER, EXCEPTIONS, EXIT, FREE, NOP, OPCODES, PAGE, PAGES, POINTER, PUT, ROUNDS,
                      SCRATCH, SYSCALL, V0, V1, ZERO, Program, addiu, immediate, ori, register)
 
-CLAIM, UNCLAIM, LINE, SEND = 14, 15, 17, 19
+CLAIM, UNCLAIM, LINE, BACKUP, SEND = 14, 15, 17, 18, 19
 CLAIMED, CODES, VALUES = 28, 30, 31  # the registers that have the number of a claim, and sums of all answers
 DATA, LOOP_FILTER, PACKETS = BASE + PAGE, BASE + PAGE + 0x700, BASE + PAGE + 0x800
 LONGEST, MOST_WORDS = 1514, 720
 RINGS, OTHERS = (0x500, 0x501, 0x502), (0x101, 0x103, 0x104)  # the VPNs at which rings, and pages of others, are bound
 POSTS = range(AREA + 0x140, AREA + 0x14C, 4)
+OUTSTANDING, DEADLINE, TAKINGS, RECORDS = AREA + 0x14C, AREA + 0x150, AREA + 0x17C, AREA + 0x180
 UDP = ((12, 2, 0xFFFF, 0x0800), (23, 1, 0xFF, 0x11))
 
 
@@ -259,12 +265,93 @@ class Guest(Program):
         self.add(ori(V0, ZERO, SEND), SYSCALL, register(33, CODES, V0, CODES))
         self.branch_back(5, COUNTER, ZERO, start, addiu(COUNTER, COUNTER, -1))
 
+    def hoard(self):
+        """Allocates several pages; some are bound, and some are stored to."""
+        page = self.chance.choice(PAGES)
+        for _ in range(self.chance.randrange(2, 5)):
+            self.call(ALLOC, ANY if self.chance.random() < 0.9 else self.page_number(), *self.words_given())
+            self.add(register(37, V1, ZERO, page))
+            if self.chance.random() < 0.5:
+                vpn = self.chance.choice(RINGS)
+                self.call(BIND, vpn, [page], 1, 0, 0)
+                self.rings.append(vpn)
+                self.load_number(POINTER, vpn * PAGE + self.chance.choice((8, 0x808)))
+                self.add(immediate(OPCODES["sw"], POINTER, self.chance.choice((CODES, VALUES)), 0))
+        if self.chance.random() < 0.4:
+            self.call(BACKUP, [page])
+
+    def provide(self):
+        """Allocates some pages, of which the first are backups, and the others stay in registers."""
+        self.load_many()
+        for page in self.chance.sample(PAGES, self.chance.randrange(4)):
+            self.call(ALLOC, ANY, 5, 0, 9, 0)
+            self.add(register(37, V1, ZERO, page))
+            self.ring_pages.append(page)
+            if self.chance.random() < 0.5:
+                self.bind_ring([page])
+
+    def load(self):
+        """Loads a page as a backup, mostly one that was allocated."""
+        self.call(BACKUP, self.held() if self.chance.random() < 0.85 else self.page_number())
+
+    def load_many(self):
+        """Loads pages that are allocated for it, at times more than there may be."""
+        many = self.pages > 100 and self.chance.random() < 0.7
+        self.add(ori(COUNTER, ZERO, 66 if many else self.chance.randrange(1, 4)))
+        for place, word in enumerate((5, 0, 9, 0), A1):
+            self.load_number(place, word)
+        start = len(self.words)
+        self.add(addiu(A0, ZERO, -1), ori(V0, ZERO, ALLOC), SYSCALL, register(37, V1, ZERO, A0), ori(V0, ZERO, BACKUP), SYSCALL)
+        self.branch_back(5, COUNTER, ZERO, start, addiu(COUNTER, COUNTER, -1))
+
+    def give_back(self):
+        """Frees pages where some are outstanding by the context page, and mostly takes note of that there."""
+        self.add(immediate(OPCODES["lw"], ZERO, self.chance.choice(SCRATCH), self.chance.choice((OUTSTANDING, DEADLINE))))
+        asked = self.words[-1] >> 16 & 31
+        branch = len(self.words)
+        self.add(NOP, NOP)
+        for page in self.chance.sample(PAGES, self.chance.choice((1, 1, 2, 3, 4))):
+            self.call(FREE, [page])
+        if self.chance.random() < 0.8:
+            self.add(*(immediate(OPCODES["sw"], ZERO, ZERO, place) for place in self.chance.sample((OUTSTANDING, DEADLINE), 2)))
+        self.words[branch] = immediate(4, asked, ZERO, len(self.words) - branch - 1)
+
+    def recover(self):
+        """Reads the last record, where there is one: allocates the page that was taken again, or binds its backup."""
+        record = self.chance.choice(SCRATCH)
+        self.add(immediate(OPCODES["lw"], ZERO, COUNTER, TAKINGS), NOP)
+        branch = len(self.words)
+        self.add(NOP, addiu(COUNTER, COUNTER, -1))
+        self.add(immediate(12, COUNTER, COUNTER, 63), register(0, 0, COUNTER, COUNTER, 3))
+        again = self.chance.random() < 0.4
+        self.add(immediate(OPCODES["lw"], COUNTER, record, RECORDS + (0 if again else 4)))
+        if again:
+            self.call(ALLOC, [record], *self.words_given())
+        else:
+            self.call(BIND, self.chance.choice(RINGS), [record], 1, 0, 0)
+        self.words[branch] = immediate(4, COUNTER, ZERO, len(self.words) - branch - 1)
+
+    def count_anew(self):
+        """Puts another number where takings are counted, or where the kernel says what is outstanding."""
+        place = self.chance.choice((TAKINGS, TAKINGS, TAKINGS, OUTSTANDING, DEADLINE))
+        self.add(addiu(V1, ZERO, self.chance.choice((0, 0, 1, 61, 62, 63, 64, -1, -1))), immediate(OPCODES["sw"], ZERO, V1, place))
+
+    def grab(self):
+        """Wants one page again and again, which may be taken from its owner meanwhile."""
+        page, most = (self.page_number(), 40) if self.chance.random() < 0.7 else (ANY, 9)
+        self.add(ori(COUNTER, ZERO, self.chance.randrange(2, most)))
+        self.load_number(A0, page)
+        start = len(self.words)
+        self.add(ori(V0, ZERO, ALLOC), SYSCALL, addiu(COUNTER, COUNTER, -1))
+        self.branch_back(5, COUNTER, ZERO, start)
+
     def unknown(self):
         """Calls that there aren't, with arguments that would make sense."""
-        self.call(self.chance.choice((16, 18, 22)), [CLAIMED] if self.chance.random() < 0.5 else self.held(), PACKETS, 4)
+        self.call(self.chance.choice((16, 22)), [CLAIMED] if self.chance.random() < 0.5 else self.held(), PACKETS, 4)
 
-    BLOCKS = (*Program.BLOCKS, (claim, 10), (claim_bound, 2), (nine, 0.7), (unclaim, 3), (drain, 10), (empty, 6), (meddle, 10), (look, 3),
-              (line, 9), (send, 5), (flood, 0.5), (unknown, 1), (Program.wait, 3))
+    BLOCKS = (*Program.BLOCKS, (claim, 10), (claim_bound, 2), (nine, 0.7), (unclaim, 3), (drain, 10), (empty, 6), (meddle, 14), (look, 3),
+              (line, 9), (send, 5), (flood, 0.5), (hoard, 6), (load, 6), (load_many, 2), (give_back, 7), (recover, 6), (count_anew, 2), (grab, 4),
+              (unknown, 1), (Program.wait, 3))
 
     def made(self):
         """The bytes of the code, and those of the data."""
@@ -277,6 +364,8 @@ class Guest(Program):
         for page in self.chance.sample(PAGES, self.chance.randrange(2)):
             self.call(ALLOC, ANY, *self.words_given())
             self.add(register(37, V1, ZERO, page))
+        if self.chance.random() < 0.4:
+            self.provide()
         for _ in range(self.chance.randrange(3)):
             self.line()
         start = len(self.words)
@@ -315,12 +404,12 @@ class System:
         # by environment, the VPNs at which pages are guaranteed
         self.guaranteed = [[1, BASE // PAGE, DATA // PAGE] + [0x7FFEF] * stack for stack in stacks]
         self.total = sum(map(len, self.guaranteed))
-        self.pages = max(16, self.total + chance.randrange(4, 24))
+        self.pages = max(16, self.total + chance.randrange(4, 24)) + chance.choice((0,) * 7 + (140,))
         self.slots = [0] + [chance.choice((environment,) * 6 + (255,)) for environment in range(1, count)]
         self.slots += [chance.choice((*range(count), 255)) for _ in range(chance.randrange(4))]
         chance.shuffle(self.slots)
         self.quantum, self.ticks = chance.randrange(16, 100), chance.randrange(*chance.choice(((40,), *[(300, 1000)] * 3, *[(1000, 3000)] * 5)))
-        self.traffic = Traffic(chance)
+        self.traffic, self.revokes, self.deadlines = Traffic(chance), chance.choice((0, 0, 0.1, 0.3, 0.5)), []
         self.image = b"AEG1" + struct.pack("<IIHH", self.pages, self.quantum, count, len(self.slots)) + bytes(self.slots)
         for environment, stack in enumerate(stacks):
             self.image += self.program(environment, stack)
@@ -351,7 +440,24 @@ class System:
                 times.append(chance.choice((0, max(0, self.ticks - 1), self.ticks, self.ticks + 7, 4194304)))
             else:
                 times.append(int(self.ticks * chance.random() ** 0.5))
-        return [(time, f"line {chance.randrange(8)}" if chance.random() < 0.3 else self.packet_text()) for time in sorted(times)]
+        return [(time, self.event_text(time)) for time in sorted(times)]
+
+    def event_text(self, time):
+        if self.chance.random() < self.revokes:
+            return self.revocation_text(time)
+        return f"line {self.chance.randrange(8)}" if self.chance.random() < 0.3 else self.packet_text()
+
+    def revocation_text(self, time):
+        """A revocation, at times of nobody, and at times with the deadline of another."""
+        chance, count = self.chance, len(self.guaranteed)
+        env = chance.randrange(count) if chance.random() < 0.94 else chance.randrange(count, 32)
+        pages = chance.choice((0, 1, 1, 1, 1, 1, 1, 2, 2, 3, 3, 5, 4096))
+        grace = chance.choice((0, 1, chance.randrange(20), *(chance.randrange(most) for most in (100, 200, 200, 400, 400, 1000)), 4194304))
+        later = [deadline for deadline in self.deadlines if deadline >= time]
+        if later and chance.random() < 0.4:
+            grace = chance.choice(later) - time
+        self.deadlines.append(time + grace)
+        return f"revoke {env} {pages} {grace}"
 
     def packet_text(self):
         digits = self.traffic.packet().hex()
@@ -374,7 +480,7 @@ class System:
 # Lines that are mostly faults; T is the time of the last event.
 FAULTY = (
     "T", "T line", "T line 1 2", "T Packet 00", "T line 8", "T line x", "x line 1", "4194305 line 1", "0 line 0", "T packet 0", "T packet 0g",
-    "T packet " + "00" * 1515, "T packet " + "00" * 1514, "T packet", "T packet 00 00", "T revoke 0 1 5", "0 revoke 0 1 5", "T revoke 32 1 5",
+    "T packet " + "00" * 1515, "T packet " + "00" * 1514, "T packet", "T packet 00 00", "T revoke 0 1 5", "0 revoke 0 1 5", "T revoke 32 1 5", "T revoke 0 x 5",
     "T revoke 0 4097 5", "T revoke 0 1 4194305", "T revoke 0 1", "T line 1 \x80", "# \x07", "T line 00000000001", "T line 0x000000001", "T line\r 1",
     "T packet 00\r# a", "T line 1\r", "4294967296 packet 0", "5000000 packet 0", "T packet " + "0" * 3031, "packet T 00",
 )

@@ -20,11 +20,14 @@ def run(image, events, ticks):
 def happen(board, event):
     if event.packet is not None:
         board.receive(event.packet)
+    elif event.revoke is not None:
+        board.revoke(*event.revoke)
     else:
         board.signal(event.line)
 
 
 def tick(board):
+    board.serve()
     if board.runner is None:
         take_turn(board)
     make_step(board, board.runner)
