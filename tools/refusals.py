@@ -59,7 +59,6 @@ SCHEDULE = {
     "Hex": "a packet isn't two hexadecimal digits for each byte",
     "Order": "the time is below that of the event before",
     "Many": "there are more than 65,536 events",
-    "NotBuilt": "pages are asked back, which isn't built",
 }
 KINDS: Dict[str, Dict[str, str]] = {"source": SOURCE, "manifest": MANIFEST, "image": IMAGE, "ELF file": ELF, "schedule": SCHEDULE}
 
@@ -112,7 +111,7 @@ def event_advice(why: str, line: str) -> str:
     if why == "Syntax":
         if len(words) > 3 and words[1] == "packet":
             return "The bytes of a packet stand without blanks between them."
-        return "An event is `TIME packet BYTES` or `TIME line NUMBER`."
+        return "An event is `TIME packet BYTES`, `TIME line NUMBER` or `TIME revoke ENV COUNT GRACE`."
     if why == "Hex":
         if words[2].startswith("0x"):
             return "The digits have no `0x` before them."
@@ -120,7 +119,7 @@ def event_advice(why: str, line: str) -> str:
             return "A digit is one of `0` to `9`, `a` to `f` and `A` to `F`."
         return "Each byte has two digits, and their number is odd."
     if why == "Range":
-        limit = {"packet": "a packet has 1 to 1,514 bytes", "line": "the lines are 0 to 7"}.get(words[1], "an environment is at most 31, and pages at most 4,096")
+        limit = {"packet": "a packet has 1 to 1,514 bytes", "line": "the lines are 0 to 7"}.get(words[1], "so is a grace, an environment at most 31, and a count of pages at most 4,096")
         return f"A time is at most 4,194,304, and {limit}. Numbers are decimal or begin with `0x`."
     if why == "Order":
         return "Events stand in the order of their times."

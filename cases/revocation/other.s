@@ -1,0 +1,3 @@
+# Spins.
+stay:   b    stay
+        nop
