@@ -54,6 +54,12 @@
 .equ post_packets,      0x1140  # packets that came, lost ones too
 .equ post_lost,         0x1144  # packets that were lost
 .equ post_lines,        0x1148  # a bit for each interrupt line on which a signal came
+.equ post_outstanding,  0x114c  # pages that were outstanding when the program was last asked for some
+.equ post_deadline,     0x1150  # the tick in which those are taken that it hasn't freed
+# Of pages that were taken from it: how many, and the first record. The next record stands 8 behind, and there is room for 64.
+.equ taken_count,       0x117c
+.equ taken_page,        0x1180
+.equ taken_backup,      0x1184  # the backup that has a copy, or -1
 # Shows that a name is in reach of $0: exits with what the kernel left there, which is 0 where nobody called.
 start:  lw   $4, entry_caller($0)
         li   $2, 2              # exit

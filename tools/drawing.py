@@ -39,7 +39,7 @@ KINDS = {
                  '<path class="cross" d="M-3.7-3.7 3.7 3.7M3.7-3.7-3.7 3.7"/>', True, "it dies of a cause"),
     "exit": Kind('<circle class="halo" r="3.4"/><circle class="dot" r="3.6"/>', True, "it exits"),
     "asked": Kind('<circle r="4.2"/><path class="line" d="M0-2.4V.4M0 2v.4"/>', False,
-                  "asked to give pages back; the dashes lead to the deadline"),
+                  "asked to give pages back; the dashes lead to the deadline, or end where another comes"),
     "take": Kind('<path d="M-4-4H4V4H-4Z"/><path class="line" d="M-2 0H2"/>', False, "a page is taken"),
     "drop": Kind('<path class="line" d="M0-4.4V2.4M-3.2-.6 0 2.6 3.2-.6M-3.6 4.4H3.6"/>', False,
                  "a packet that nobody claims"),
@@ -86,7 +86,8 @@ class Spot:
     kinds: Dict[str, int]
     envs: set
     rows: List[str]
-    until: int = 0
+    until: int = 0  # of the last `asked`: its deadline, or where that ended before it came
+    is_over: bool = False  # whether it ended so, since it was moved, or by a death
 
     def join(self, other: "Spot") -> None:
         """Takes in a spot that stands too near."""
@@ -94,6 +95,7 @@ class Spot:
             self.kinds[kind] = self.kinds.get(kind, 0) + count
         self.envs |= other.envs
         self.rows += other.rows[:SHOWN_ROWS - len(self.rows)]
+        self.until, self.is_over = other.until, other.is_over
 
     @property
     def count(self) -> int:
@@ -128,6 +130,7 @@ class Picture(Listener):
         self.spots: Dict[Lane, Dict[int, Spot]] = {}
         self.deaths: List[Tuple[str, int, int, int, str]] = []  # exits too: kind, lane, environment, tick, row
         self.holdings: Dict[int, List[Holding]] = {}
+        self.asked: Dict[int, Spot] = {}  # by environment, the mark of its last revocation
 
     def x(self, tick: float) -> float:
         """Where a tick begins."""
@@ -175,6 +178,8 @@ class Picture(Listener):
 
     def add_mark(self, kind: str, time: int, env: Optional[int], slot: Optional[int], row: str, until: int) -> None:
         """Takes a mark in, if its tick lies in the range. Deaths are few and stand for themselves."""
+        if kind in ("asked", "dead", "exit"):
+            self.end_deadline(env, time + KINDS[kind].after)
         lane = (self.what, self.lane(slot, env)) if slot is not None else (PACKETS, 0) if env is None else (PAGES, env)
         spots = self.spots.get(lane)
         if spots is None:
@@ -187,13 +192,21 @@ class Picture(Listener):
         x = (time + KINDS[kind].after - self.first) * self.scale
         spot = spots.get(int(x))
         if spot is None:
-            spots[int(x)] = Spot(x, {kind: 1}, {env}, [row], until)
-            return
-        kinds = spot.kinds
-        kinds[kind] = kinds.get(kind, 0) + 1
-        spot.envs.add(env)
-        if len(spot.rows) < SHOWN_ROWS:
-            spot.rows.append(row)
+            spot = spots[int(x)] = Spot(x, {kind: 1}, {env}, [row])
+        else:
+            spot.kinds[kind] = spot.kinds.get(kind, 0) + 1
+            spot.envs.add(env)
+            if len(spot.rows) < SHOWN_ROWS:
+                spot.rows.append(row)
+        if kind == "asked":
+            spot.until, spot.is_over = until, False
+            self.asked[env] = spot
+
+    def end_deadline(self, env: int, time: int) -> None:
+        """What an environment was asked for by its last revocation has another deadline from now on, or none."""
+        spot = self.asked.pop(env, None)
+        if spot is not None and time < spot.until:
+            spot.until, spot.is_over = time, True
 
     def add_holder(self, slot: int, start: int, owner: Optional[int], holder: Optional[int], row: str) -> None:
         """A slot's owner and holder from tick `start` on. Short holdings in a row are folded into one."""
@@ -551,8 +564,8 @@ class Drawing:
             more = spot.count - len(spot.rows)
             says = f"{counted(spot.count, 'row')}: {kinds}\n{says}" + (f"\nand {more:,} more" if more else "")
         x = GUTTER + spot.x
-        if kind == "asked" and spot.count == 1:
-            self.deadline(place, x, env, spot.until)
+        if kind == "asked":
+            self.deadline(place, x, env, spot)
         if self.picture.by_env and kind in TRANSFERS and spot.count == 1:
             self.seen.add("handed")
             self.handed(place, x, int(spot.rows[0].split()[3]))
@@ -575,10 +588,10 @@ class Drawing:
         self.put(f'<g class="note-mark"><circle cx="{x}" cy="{number(place.note)}" r="7.5"/>'
                  f'<text x="{x}" y="{number(place.note + 3.8)}">{count}</text><title>{html.escape(note.text)}</title></g>')
 
-    def deadline(self, place: Place, x: float, env: int, until: int) -> None:
-        """From a revocation to its deadline, as far as the range goes."""
-        end = self.x(min(until, self.picture.end))
-        stop = f"M{number(end)} {number(place.marks - 4)}v8" if until <= self.picture.end else ""
+    def deadline(self, place: Place, x: float, env: int, spot: Spot) -> None:
+        """From a revocation to its deadline, as far as the range goes, and to where that ends before it comes."""
+        end = self.x(min(spot.until, self.picture.end))
+        stop = f"M{number(end)} {number(place.marks - 4)}v8" if spot.until <= self.picture.end and not spot.is_over else ""
         self.put(f'<path class="deadline s{env}" d="M{number(x)} {number(place.marks)}H{number(end)}{stop}"/>')
 
     def use(self, kind: str, x: float, y: float, env: Optional[int], says: str) -> None:

@@ -541,6 +541,8 @@ class Ledger:
 
     def row_asked(self, time: int, env: int, _outstanding: int, deadline: int) -> None:
         self.at(time, env)
+        if deadline < time:
+            raise Misfit("the deadline has passed")
         self.mark("asked", time, env, until=deadline)
 
     def row_take(self, time: int, env: int, _page: int, _backup: Optional[int]) -> None:

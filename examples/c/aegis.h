@@ -21,6 +21,7 @@ enum aegis_number {
     AEGIS_CLAIM = 14,
     AEGIS_UNCLAIM = 15,
     AEGIS_LINE = 17,
+    AEGIS_BACKUP = 18,
     AEGIS_SEND = 19,
     AEGIS_SELF = 20,
     AEGIS_CLOCK = 21
@@ -243,6 +244,25 @@ static inline unsigned aegis_send(const void *bytes, unsigned length)
 {
     return aegis_call(AEGIS_SEND, (unsigned)bytes, length).code;
 }
+
+/* How many pages were outstanding when the environment was last asked for some, and the tick in which those are taken that it
+   hasn't freed. The kernel writes both when it asks. */
+#define AEGIS_OUTSTANDING (*(volatile unsigned *)0x114c)
+#define AEGIS_DEADLINE (*(volatile unsigned *)0x1150)
+
+/* Loads a page of one's own as a backup. It gets a copy of a page that is taken, and isn't taken itself until then. */
+static inline unsigned aegis_backup(unsigned page)
+{
+    return aegis_call(AEGIS_BACKUP, page, 0).code;
+}
+
+/* How many pages were taken, and the records of the first 64: which page, and the backup that has a copy of it, or AEGIS_ANY. A
+   program that stores 0 to the count has the next record in the first place again. */
+struct aegis_taking {
+    unsigned page, backup;
+};
+#define AEGIS_TAKEN_PAGES (*(volatile unsigned *)0x117c)
+#define AEGIS_TAKINGS ((volatile struct aegis_taking *)0x1180)
 
 /* Has another environment go on at its entry, where it finds the word in $6. It gets all other registers, too. */
 static inline unsigned aegis_transfer(unsigned target, enum aegis_kind kind, unsigned word)
