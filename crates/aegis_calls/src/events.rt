@@ -86,10 +86,12 @@ impl Board {
             return;
         }
         self.revocations.ask(env, count, deadline);
-        let Some(Pending {
-            outstanding,
-            deadline,
-        }) = self.revocations.pending(env)
+        let Some(
+            Pending {
+                outstanding,
+                deadline,
+            },
+        ) = self.revocations.pending(env)
         else {
             return;
         };

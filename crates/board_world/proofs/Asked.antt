@@ -1,8 +1,7 @@
 -- The book of revocations stays sound: each backup is a page of its environment's own.
-use Rattle.std.proofs.Common.{◌≡◌, ◌≢◌, ◌<◌, ◌+◌, ◌-◌, min, arith, ℕ, zero, suc, List, [], ◌∷◌, ◌++◌, length, map, drop, Bool, true, false, Option, None, Some, IfSome, refl, sym, ◌∙◌, ap, subst, inl, inr, length-set}
-use Rattle.std.specs.Prelude.{◌==◌, ◌||◌, not, filter, if◌then◌else◌, slice_set, slice_index_or}
-use Rattle.std.specs.List.{list_any}
-use Rattle.std.proofs.lemmas.Bool.{cases_Bool, cases_eq, eq-eqb, eqb-true, eqb-false, ne_eqb}
+use Rattle.std.proofs.Common.{◌≡◌, ◌≢◌, ◌<◌, ◌+◌, ◌-◌, min, arith, ℕ, zero, suc, List, [], ◌∷◌, length, map, drop, Bool, true, false, Option, None, Some, IfSome, refl, sym, ◌∙◌, ap, subst, inl, inr, length-set}
+use Rattle.std.specs.Prelude.{◌==◌, ◌||◌, not, if◌then◌else◌, slice_set, slice_index_or}
+use Rattle.std.proofs.lemmas.Bool.{cases_eq, eq-eqb, eqb-true, eqb-false, ne_eqb}
 use Rattle.std.proofs.lemmas.List.{length-map}
 use Rattle.page_book.specs.declared.row.Capabilities.{Capabilities}
 use Rattle.page_book.specs.declared.row.PageRow.{PageRow}
@@ -17,7 +16,7 @@ use Rattle.world_model.specs.Table.{set_at}
 use Rattle.board_world.specs.Sound.{AreAsked}
 use Rattle.board_world.proofs.Booked.{by_page}
 use Rattle.board_world.proofs.Claiming.{one_owner, released_else}
-use Rattle.board_world.proofs.Parts.{by_env, set_here, set_else}
+use Rattle.board_world.proofs.Parts.{set_here, set_else}
 use Rattle.board_world.proofs.Sound.{set_all}
 use Rattle.board_world.proofs.Tables.{row_released, table_set}
 

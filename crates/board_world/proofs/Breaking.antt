@@ -14,7 +14,6 @@ use Rattle.filter_tree.specs.Claims.{is_into}
 use Rattle.page_sight.specs.Sight.{Sees}
 use Rattle.page_sight.proofs.Sights.{freer_loses, others_lose}
 use Rattle.page_sight.proofs.Stripes.{stripes_end}
-use Rattle.world_model.specs.declared.life.Life.TheVariants.{Live}
 use Rattle.world_model.specs.Book.{broken}
 use Rattle.world_model.specs.Holding.{lost}
 use Rattle.world_model.specs.Item.{absorb_all}

@@ -1,39 +1,24 @@
 -- A packet that goes into the ring of its claim, on the world that is shown.
-use Rattle.std.proofs.Common.{◌≡◌, ◌≢◌, ℕ, List, [], length, map, Bool, true, false, Some, refl, sym, ◌∙◌, ap}
-use Rattle.std.specs.Prelude.{if◌then◌else◌, slice_get}
-use Rattle.std.proofs.lemmas.Bool.{ne_eqb}
-use Rattle.frame_store.specs.Pages.{after_put, page_at, with_bytes}
-use Rattle.mips_exec.specs.Access.{Write}
-use Rattle.page_book.specs.declared.row.PageRow.{PageRow}
-use Rattle.page_book.specs.declared.row.PageRow.TheVariants.{Free, Guaranteed, Owned}
-use Rattle.page_book.specs.Row.{is_owned_by}
-use Rattle.page_book.specs.Rows.{row_in}
-use Rattle.bind_book.specs.Stripe.{is_bound}
+use Rattle.std.proofs.Common.{◌≡◌, ◌≢◌, ℕ, List, map, true, Some, refl, sym, ◌∙◌, ap}
+use Rattle.std.specs.Prelude.{slice_get}
+use Rattle.frame_store.specs.Pages.{after_put}
 use Rattle.filter_tree.specs.ClaimBook.{RowValue, are_numbered}
 use Rattle.filter_tree.specs.Claims.{delivered, first_row, is_numbered}
 use Rattle.filter_tree.specs.Laws.{FirstIsNumbered}
-use Rattle.page_sight.specs.Sight.{Sees, seen_in}
-use Rattle.page_sight.proofs.Sights.{readers_see, writer_sees}
-use Rattle.world_model.specs.declared.life.Life.{Life}
 use Rattle.world_model.specs.declared.life.Life.TheVariants.{Live}
-use Rattle.world_model.specs.Book.{sees}
 use Rattle.world_model.specs.Item.{absorb_all}
-use Rattle.world_model.specs.PageCalls.{left_by, left_if}
+use Rattle.world_model.specs.PageCalls.{left_by}
 use Rattle.world_model.specs.Rings as ring
 use Rattle.world_model.specs.Rings.{page_store}
-use Rattle.world_model.specs.Solo.{Solo, Store, kept_after, stored}
-use Rattle.world_model.specs.Table.{set_at}
+use Rattle.world_model.specs.Solo.{Solo}
 use Rattle.board_world.specs.declared.roster.Environment.{Environment}
 use Rattle.board_world.specs.Rings.{ring_in}
-use Rattle.board_world.specs.Shown.{Shown, mappings_in, mappings_of}
-use Rattle.board_world.specs.Showing.{book_of, pages_seen, solo_of, solo_or_absent, solo_seen}
-use Rattle.board_world.specs.Sound.{IsOwned, IsSound, has_own_page}
+use Rattle.board_world.specs.Shown.{Shown}
+use Rattle.board_world.specs.Showing.{book_of, solo_of, solo_or_absent, solo_seen}
+use Rattle.board_world.specs.Sound.{IsSound, has_own_page}
 use Rattle.board_world.proofs.Claimed.{rings_turned, rings_turned_else}
 use Rattle.board_world.proofs.Copying as copying
 use Rattle.board_world.proofs.Seen.{like_solo}
-use Rattle.board_world.proofs.Sound.{neither}
-use Rattle.board_world.proofs.Stepping.{seer_live}
-use Rattle.board_world.proofs.Stores.{bound_kept, kept_as_was, put_table, sights_stay}
 
 module _ (law : FirstIsNumbered) (b : Shown) (sound : IsSound b) (numbered : are_numbered 0 b.claims.next b.claims.rows ≡ true) (r : RowValue) (first : first_row (is_numbered r.claim.id) b.claims ≡ Some r) (own : has_own_page b.pages r.claim ≡ true)
     (x : Environment) (at : slice_get b.roster.list r.claim.env ≡ Some x) (lives : x.life ≡ Live) (bytes : List ℕ) where

@@ -327,7 +327,6 @@ happened_leaves b (outside.Line line) = by_owner (line_at b.lines line)
     by_owner : (owner : Option ℕ) → Leaves b (signalled_to b line owner)
     by_owner None = record { room = omega arith; spare = refl; time = refl; numbers = omega arith }
     by_owner (Some e) = record { room = omega arith; spare = refl; time = refl; numbers = omega arith }
-
 happened_leaves b (outside.Revoke env count grace) = by_living (is_living (world_of b) env)
   where
     by_pending : (o : Option Pending) → Leaves b (asked_by b env o)

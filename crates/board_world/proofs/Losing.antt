@@ -16,7 +16,7 @@ use Rattle.page_sight.proofs.Sights.{nothing_of}
 use Rattle.page_sight.proofs.Stripes.{bound_nowhere}
 use Rattle.world_model.specs.declared.life.Life.{Life}
 use Rattle.world_model.specs.declared.life.Life.TheVariants.{Live, Dead}
-use Rattle.world_model.specs.Book.{Book, is_runner}
+use Rattle.world_model.specs.Book.{Book}
 use Rattle.world_model.specs.Item.{Item, absorb, absorb_all}
 use Rattle.world_model.specs.Holding.{lost}
 use Rattle.world_model.specs.Death.{lost_with}

@@ -1,7 +1,7 @@
 -- What the runner does to pages, on the world that is shown.
-use Rattle.std.proofs.Common.{◌≡◌, ◌≢◌, ◌<◌, ℕ, suc, List, [], ◌∷◌, length, Bool, true, false, Option, Some, None, refl, sym, ◌∙◌, ap, arith, subst, get_or-set_other}
-use Rattle.std.specs.Prelude.{◌==◌, if◌then◌else◌, slice_get, slice_set}
-use Rattle.std.proofs.lemmas.Bool.{ne_eqb, eqb-true}
+use Rattle.std.proofs.Common.{◌≡◌, ◌≢◌, ◌<◌, ℕ, suc, List, [], ◌∷◌, length, true, false, Option, Some, None, refl, sym, ◌∙◌, ap, arith, subst, get_or-set_other}
+use Rattle.std.specs.Prelude.{slice_get, slice_set}
+use Rattle.std.proofs.lemmas.Bool.{ne_eqb}
 use Rattle.std.proofs.lemmas.List.{length-set}
 use Rattle.frame_store.specs.Pages.{page_at, with_page, zero_page}
 use Rattle.env_frames.specs.declared.mapping.Mapping.{Mapping}
@@ -12,10 +12,9 @@ use Rattle.page_book.specs.Row.{is_owned_by}
 use Rattle.page_book.specs.Rows.{row_in}
 use Rattle.bind_book.specs.declared.binding.Binding.{Binding}
 use Rattle.bind_book.specs.Stripe.{breaks_page, is_bound, is_of_page, without}
-use Rattle.bind_book.proofs.Swept.{swept_row}
 use Rattle.page_sight.specs.Sight.{Sees}
-use Rattle.page_sight.proofs.Sights.{allocator_sees, others_dont, freer_loses, recapper_keeps, others_lose}
-use Rattle.page_sight.proofs.Stripes.{bound_nowhere, stripes_end}
+use Rattle.page_sight.proofs.Sights.{allocator_sees, others_dont, freer_loses, recapper_keeps}
+use Rattle.page_sight.proofs.Stripes.{bound_nowhere}
 use Rattle.world_model.specs.declared.call.Deed.TheVariants.{Allocates, Frees, Recaps}
 use Rattle.world_model.specs.declared.verdict.Verdict.TheVariants.{Grant}
 use Rattle.world_model.specs.Book.{broken}
@@ -40,7 +39,7 @@ use Rattle.board_world.proofs.Lists.{get_within}
 use Rattle.board_world.proofs.Breaking.{broken_book, broken_else, broken_sees, freed_else, set_owns}
 use Rattle.board_world.proofs.Losing.{dropped, sees_by}
 use Rattle.filter_tree.specs.Claims.{is_into}
-use Rattle.board_world.proofs.Claimed.{claims_without, no_ring, rings_dropped}
+use Rattle.board_world.proofs.Claimed.{claims_without, rings_dropped}
 use Rattle.board_world.proofs.Parts.{append_nothing, one_given}
 use Rattle.board_world.proofs.Replying.{Serves, all_given, deeded, deeded_seen}
 use Rattle.board_world.proofs.Seen.{Runs, like_solo, runner_solo, runner_seen, its_mappings, stripe_of}

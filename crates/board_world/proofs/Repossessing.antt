@@ -1,17 +1,16 @@
 -- What is taken at deadlines, on the world that is shown.
-use Rattle.std.proofs.Common.{◌≡◌, ◌≢◌, ◌<◌, ◌≤◌, ℕ, zero, suc, ◌+◌, ◌*◌, ◌/◌, ◌%◌, List, [], ◌∷◌, ◌++◌, length, map, drop, fold, Bool, true, false, Option, Some, None, IfSome, IsSome, refl, sym, ◌∙◌, ap, subst, arith, append_assoc, length-set}
-use Rattle.std.specs.Prelude.{◌==◌, ◌||◌, if◌then◌else◌, nat_lt, slice_get, slice_index_or}
+use Rattle.std.proofs.Common.{◌≡◌, ◌≢◌, ◌<◌, ◌≤◌, ℕ, zero, suc, ◌+◌, ◌/◌, ◌%◌, List, [], ◌∷◌, ◌++◌, length, map, drop, fold, Bool, true, false, Option, Some, None, IfSome, IsSome, refl, sym, ◌∙◌, ap, subst, arith, length-set}
+use Rattle.std.specs.Prelude.{◌||◌, if◌then◌else◌, nat_lt, slice_get, slice_index_or}
 use Rattle.std.specs.Option.{option_map}
 use Rattle.std.proofs.lemmas.Bool.{eq-eqb, eqb-true, ltb-true}
 use Rattle.std.proofs.lemmas.List.Sums.{fold-append}
 use Rattle.aegis_limits.specs.Limits.{most_pages, page_size}
-use Rattle.frame_store.specs.Pages.{after_put, page_at, word_at}
+use Rattle.frame_store.specs.Pages.{page_at, word_at}
 use Rattle.env_frames.specs.declared.mapping.Mapping.{Mapping}
 use Rattle.env_frames.specs.declared.post.PostWord.TheVariants as post
 use Rattle.env_frames.specs.Context.{context_number}
 use Rattle.env_frames.specs.Frame.{left_in, mapping_at}
 use Rattle.env_frames.specs.Post.{counted_in, most_records, post_offset, record_bytes, record_offset, taken_in}
-use Rattle.mips_exec.specs.Word.{word_of}
 use Rattle.page_book.specs.declared.row.PageRow.{PageRow}
 use Rattle.page_book.specs.declared.row.PageRow.TheVariants.{Free, Guaranteed, Owned}
 use Rattle.page_book.specs.Row.{is_owned_by, owner_of}
@@ -25,37 +24,34 @@ use Rattle.revocation_book.specs.Takings.{AreTakable, Books, IsTakable, TakingsA
 use Rattle.std.specs.List.{list_any}
 use Rattle.board_world.proofs.Sound.{neither}
 use Rattle.world_model.specs.declared.life.Life.TheVariants.{Live}
-use Rattle.world_model.specs.Deadlines.{copy_left, revocations, settles, takes, takings}
-use Rattle.world_model.specs.Item.{Item, Lost, Taken, absorb, absorb_all}
+use Rattle.world_model.specs.Deadlines.{copy_left, settles, takes}
+use Rattle.world_model.specs.Item.{Taken, absorb, absorb_all}
 use Rattle.world_model.specs.PageCalls as calls
 use Rattle.world_model.specs.PageCalls.{breaks, page_bytes}
 use Rattle.world_model.specs.Post.{post_word}
 use Rattle.world_model.specs.Repossession.{copied, counted_taking, recorded, taken}
 use Rattle.world_model.specs.Rings.{page_store}
-use Rattle.world_model.specs.Solo.{Solo, Physical, bytes_in, bytes_of, bytes_seen, kept_at, stored}
-use Rattle.world_model.specs.Table.{set_at}
-use Rattle.world_model.specs.Tick.{serve_phases, served}
+use Rattle.world_model.specs.Solo.{Physical, bytes_in, bytes_of, bytes_seen, kept_at, stored}
+use Rattle.world_model.specs.Tick.{served}
 use Rattle.world_model.specs.World.{World, Reply, after, run_phases}
 use Rattle.board_world.specs.declared.roster.Environment.{Environment}
 use Rattle.board_world.specs.Shown.{Shown, mappings_in, mappings_of}
 use Rattle.board_world.specs.Showing.{book_of, page_seen, pages_seen, solo_of, solo_or_absent, solo_seen, world_of}
 use Rattle.board_world.specs.Sound.{IsLive, IsSound}
 use Rattle.board_world.specs.Doing.{context_of, copied_to, deadlines_over, deadlines_served, repossessed, takings_in, with_freed}
-use Rattle.board_world.proofs.Asked.{backups_set, pending_served, served_asked, taken_asked}
+use Rattle.board_world.proofs.Asked.{backups_set, pending_served, taken_asked}
 use Rattle.board_world.proofs.Booked.{free_booked}
 use Rattle.board_world.proofs.Breaking.{freed_book, freed_else, freed_own}
 use Rattle.board_world.proofs.Claiming.{freed_claimed}
 use Rattle.board_world.proofs.Copying as copying
 use Rattle.board_world.proofs.Happening.{counted_changed, counts}
-use Rattle.board_world.proofs.Lists.{get_within}
 use Rattle.board_world.proofs.Pages.{seen_kept}
 use Rattle.board_world.proofs.Parted.{row_parted}
 use Rattle.board_world.proofs.Allowed.{owned_by_none}
 use Rattle.board_world.proofs.Parts.{append_nothing, by_env, set_here, set_else, worlds}
-use Rattle.board_world.proofs.Phases.{quiet_world}
 use Rattle.board_world.proofs.Posting.{changed_in, context_bytes, left_else, left_here, left_with, same_size, with_left, with_word, worded, worded_others, worded_seen}
-use Rattle.board_world.proofs.Seen.{like_solo, live_record, owned_taken, row_there}
-use Rattle.board_world.proofs.Staying.{sound_asked, sound_frames, sound_machine, sound_memory}
+use Rattle.board_world.proofs.Seen.{like_solo, live_record, row_there}
+use Rattle.board_world.proofs.Staying.{sound_frames, sound_machine, sound_memory}
 use Rattle.board_world.proofs.Stepping.{owner_is}
 use Rattle.board_world.proofs.Tables.{table_set}
 use Rattle.world_model.specs.Holding.{lost}

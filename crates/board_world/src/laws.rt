@@ -5,7 +5,6 @@ use call_verdicts::law_granted;
 use filter_tree::law_numbered;
 use revocation_book::law_takable;
 
-
 /// A board is idle exactly where its world is.
 pub fn law_idle()
     ensures { IdleIsIdle }

@@ -1,9 +1,8 @@
 -- The parts, one after another.
-use Rattle.std.proofs.Common.{◌≡◌, sym, ap, ◌∙◌, append_assoc, map, ◌∷◌, [], List, false}
-use Rattle.revocation_book.specs.declared.revocation.Taking.{Taking}
-use Rattle.world_model.specs.Deadlines.{settles, takes, takings}
-use Rattle.world_model.specs.World.{World, Reply, after, run_phases}
-use Rattle.world_model.specs.Tick.{served, serve_phases, step, tick_phases, tick_step, timer, turn}
+use Rattle.std.proofs.Common.{◌≡◌, sym, ap, ◌∙◌, ◌∷◌, []}
+use Rattle.world_model.specs.Deadlines.{takings}
+use Rattle.world_model.specs.World.{World, after, run_phases}
+use Rattle.world_model.specs.Tick.{served, serve_phases, step, tick_step, timer, turn}
 use Rattle.run_model.proofs.Phases.{run_append, tick_in_two}
 use Rattle.board_world.specs.Showing.{world_of}
 use Rattle.aegis_tick.proofs.running.tick.Goals as goal

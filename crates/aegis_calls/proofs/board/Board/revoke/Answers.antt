@@ -1,5 +1,5 @@
 -- Whoever is asked is there, and has its place in the book of revocations.
-use Rattle.std.proofs.Common.{◌≡◌, ◌<◌, ℕ, length, true, sym, ap, ◌∙◌, subst, arith}
+use Rattle.std.proofs.Common.{◌≡◌, ◌<◌, ℕ, length, true, sym, ◌∙◌, subst, arith}
 use Rattle.world_model.specs.World.{is_living}
 use Rattle.board_world.specs.Shown.{Shown, shown}
 use Rattle.board_world.specs.Showing.{world_of}

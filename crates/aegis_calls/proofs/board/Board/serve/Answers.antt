@@ -1,5 +1,5 @@
 -- What is served is the model's, and leaves all but pages, bindings, claims and backups.
-use Rattle.std.proofs.Common.{sym, ap, ◌∙◌, subst, arith}
+use Rattle.std.proofs.Common.{ap, ◌∙◌, subst, arith}
 use Rattle.slot_vector.specs.Slices.{Slices}
 use Rattle.world_model.specs.Book.{is_idle_book}
 use Rattle.board_world.specs.Shown.{Shown}

@@ -1,6 +1,5 @@
 -- Where no deadline has come nothing is done; else each page is taken in its turn.
-use Rattle.std.proofs.Common.{◌≡◌, ◌≤◌, ℕ, List, length, sym, ap, ◌∙◌, subst, arith}
-use Rattle.revocation_book.specs.declared.revocation.Taking.{Taking}
+use Rattle.std.proofs.Common.{◌≡◌, length, sym, ap, ◌∙◌, subst, arith}
 use Rattle.revocation_book.specs.RevocationBook.{books_of, is_any_due}
 use Rattle.revocation_book.specs.Takings.{AreTakable, takings_below}
 use Rattle.board_world.specs.Shown.{Shown, shown}

@@ -1,12 +1,10 @@
 -- The page and the backup are there, its owner lives, and the board stays sound.
-use Rattle.std.proofs.Common.{◌≡◌, ◌<◌, ℕ, length, Option, Some, None, IfSome, refl, sym, ◌∙◌, ap, subst, arith}
-use Rattle.page_book.specs.declared.row.PageRow.{PageRow}
+use Rattle.std.proofs.Common.{sym, subst, arith}
 use Rattle.revocation_book.specs.RevocationBook.{books_of}
 use Rattle.revocation_book.specs.Takings.{IsTakable}
 use Rattle.board_world.specs.Shown.{Shown, shown}
-use Rattle.board_world.specs.Doing.{copied_to}
 use Rattle.board_world.proofs.Parted.{context_there}
-use Rattle.board_world.proofs.Repossessing.{backup_there, frame_there, owner_live, owner_there, page_there, taken_sound}
+use Rattle.board_world.proofs.Repossessing.{backup_there, frame_there, owner_live, owner_there, taken_sound}
 use Rattle.aegis_calls.proofs.board.Board.take.Goals as goal
 
 pub copy-requires-clause-page : goal.copy-requires-clause-page
