@@ -63,19 +63,29 @@ impl Board {
         }
     }
 
-    /// What is taken at deadlines that have come is taken, and these deadlines are over.
-    pub(crate) fn serve_deadlines(&mut self)
+    /// What is taken at deadlines that have come is taken, and these deadlines are over. Apart from the tick, since it
+    /// needs room for a list of pages that few ticks use.
+    #[cold]
+    #[inline(never)]
+    fn take_due(&mut self)
         requires { length self.old.pages ≤ self.old.ledger.spare }
         ensures { self.new ≡ deadlines_served self.old }
     {
-        if !self.revocations.is_due(self.time) {
-            return;
-        }
         law_takable();
         law_few_takings();
         let envs = self.roster.len() as u8;
         let takings = self.revocations.takings(&self.pages, envs, self.time);
         self.take_all(&takings);
         self.revocations.served(self.time);
+    }
+
+    /// The same, in a tick of which few have a deadline: where none has come, nothing is done.
+    pub(crate) fn serve_deadlines(&mut self)
+        requires { length self.old.pages ≤ self.old.ledger.spare }
+        ensures { self.new ≡ deadlines_served self.old }
+    {
+        if self.revocations.is_due(self.time) {
+            self.take_due();
+        }
     }
 }

@@ -65,7 +65,9 @@ impl Revocations {
         ensures { self.new ≡ once_freed self.old env page }
     {
         let pending = self.deadlines.of(env);
-        self.deadlines.set(env, lowered(pending));
+        if pending.is_some() {
+            self.deadlines.set(env, lowered(pending));
+        }
         self.backups[env as usize].unload(page);
     }
 

@@ -1,34 +1,10 @@
--- Where no deadline has come nothing is done; else each page is taken in its turn.
-use Rattle.std.proofs.Common.{◌≡◌, length, sym, ap, ◌∙◌, subst, arith}
-use Rattle.revocation_book.specs.RevocationBook.{books_of, is_any_due}
-use Rattle.revocation_book.specs.Takings.{AreTakable, takings_below}
-use Rattle.board_world.specs.Shown.{Shown, shown}
-use Rattle.board_world.specs.Doing.{takings_in}
-use Rattle.board_world.proofs.Asked.{served_asked}
-use Rattle.board_world.proofs.Repossessing.{nothing_due, takings_few}
-use Rattle.board_world.proofs.Staying.{sound_asked}
+-- Where no deadline has come nothing is done.
+use Rattle.std.proofs.Common.{sym, ap, ◌∙◌}
+use Rattle.revocation_book.specs.RevocationBook.{is_any_due}
+use Rattle.board_world.specs.Shown.{Shown}
+use Rattle.board_world.proofs.Repossessing.{nothing_due}
 use Rattle.aegis_calls.proofs.board.Board.serve_deadlines.Goals as goal
 
-pub returns-then-not-is_due : goal.returns-then-not-is_due
-returns-then-not-is_due c =
-    nothing_due c.args.self.now (ap (λ (s : Shown). is_any_due s.revocations s.time) (sym c.self.view_is) ∙ sym c.is_due.ensures ∙ c.if-not-is_due.true)
-
-pub take_all-requires-clause-may : goal.take_all-requires-clause-may
-take_all-requires-clause-may c =
-    let i = c.self.inside in
-    let b = shown i.frames i.pages i.bindings i.lines i.claims i.revocations i.slots i.cpu i.roster i.time i.journal in
-    let is : c.deref.result.now ≡ takings_in b = c.deref.ensures.0 ∙ c.takings-takings.ensures ∙ ap (takings_below (books_of b.pages b.revocations) b.time) c.len-envs.ensures in
-    subst (λ (s : Shown). AreTakable (books_of s.pages s.revocations) s.time c.deref.result.now) c.self.view_is
-    (subst (AreTakable (books_of b.pages b.revocations) b.time) (sym is) (c.law_takable.ensures (books_of b.pages b.revocations) b.time (length b.roster.list)))
-
-pub take_all-requires-clause-room : goal.take_all-requires-clause-room
-take_all-requires-clause-room c =
-    let i = c.self.inside in
-    let b = shown i.frames i.pages i.bindings i.lines i.claims i.revocations i.slots i.cpu i.roster i.time i.journal in
-    let is : c.deref.result.now ≡ takings_in b = c.deref.ensures.0 ∙ c.takings-takings.ensures ∙ ap (takings_below (books_of b.pages b.revocations) b.time) c.len-envs.ensures in
-    omega (arith, ap length is, takings_few c.law_few_takings.ensures b, ap (λ (s : Shown). length s.pages) c.self.view_is, c.requires)
-
-pub invariant_of-self : goal.invariant_of-self
-invariant_of-self c =
-    let b = c.self-2.inside in
-    rw c.served.ensures (sound_asked _ (served_asked b.revocations b.pages b.time c.self-2.invariant.revocations) c.self-2.invariant)
+pub returns-else-is_due : goal.returns-else-is_due
+returns-else-is_due c =
+    nothing_due c.args.self.now (ap (λ (s : Shown). is_any_due s.revocations s.time) (sym c.self.view_is) ∙ sym c.is_due.ensures ∙ c.if-is_due.false)
