@@ -1,0 +1,5 @@
+use Rattle.safe_handler.proofs.Ending.{handlers_end}
+use Rattle.safe_handler.proofs.laws.law_handlers_end.Goals as goal
+
+pub returns : goal.returns
+returns c = handlers_end

@@ -1,0 +1,6 @@
+pub mod Instructions
+pub mod Verification
+pub mod Memory
+pub mod Running
+pub mod Lent
+pub mod Laws
