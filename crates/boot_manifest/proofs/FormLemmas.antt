@@ -5,8 +5,8 @@ use Rattle.std.specs.Borrow.{Bor}
 use Rattle.std.specs.Str.{bytes_eq}
 use Rattle.std.specs.List.{list_all}
 use Rattle.line_text.specs.Characters.{is_text_byte}
+use Rattle.line_text.specs.WordView.{words_seen}
 use Rattle.boot_manifest.specs.Forms.{env_form}
-use Rattle.boot_manifest.specs.Answers.{words_seen}
 use Rattle.boot_manifest.proofs.TextLemmas.{text_at}
 
 -- what stands behind the kind

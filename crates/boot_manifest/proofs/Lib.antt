@@ -1,6 +1,5 @@
 pub mod Bodies
 pub mod FormLemmas
-pub mod LineLemmas
 pub mod OwnerLemmas
 pub mod ReadingLemmas
 pub mod Sizes

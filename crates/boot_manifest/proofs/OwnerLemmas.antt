@@ -5,7 +5,7 @@ use Rattle.std.proofs.lemmas.List.{append-nil, drop_all}
 use Rattle.std.specs.Borrow.{Bor}
 use Rattle.std.specs.List.{AllByRecursion}
 use Rattle.std.specs.Option.{option_map}
-use Rattle.boot_manifest.specs.Answers.{words_seen}
+use Rattle.line_text.specs.WordView.{words_seen}
 use Rattle.boot_manifest.specs.Ranges.{owner_in, owners_in}
 
 -- owners that stand before others

@@ -1,16 +1,13 @@
 -- The bytes of a text are ASCII.
-use Rattle.std.proofs.Common.{◌≡◌, ℕ, zero, suc, ◌<◌, List, [], ◌∷◌, Bool, true, false, Some, length, get_or, refl, arith, le-leb, ◌≤◌}
+use Rattle.std.proofs.Common.{◌≡◌, ℕ, zero, suc, ◌<◌, List, [], ◌∷◌, Bool, true, false, length, get_or, refl, arith}
 use Rattle.std.proofs.lemmas.Bool.Decides.{nat_tests}
 use Rattle.std.proofs.lemmas.Str.{IsUtf8-from_ascii}
 use Rattle.std.specs.Borrow.{Bor}
 use Rattle.std.specs.Prelude.{◌&&◌}
 use Rattle.std.specs.List.{list_all}
-use Rattle.std.specs.Option.{option_and_then}
 use Rattle.std.specs.Str.{IsUtf8}
 use Rattle.line_text.specs.Characters.{is_text_byte}
-use Rattle.line_text.specs.Words.{words_of}
-use Rattle.boot_manifest.specs.Forms.{line_words}
-use Rattle.boot_manifest.specs.Answers.{few, words_seen}
+use Rattle.line_text.specs.WordView.{words_seen}
 
 and_both : (a b : Bool) → (a && b) ≡ true → (a ≡ true) × (b ≡ true)
 and_both true b both = (refl, both)
@@ -32,8 +29,3 @@ pub text_at : (d : Bor (List ℕ)) (ws : List (Bor (List ℕ))) (i : ℕ) → i 
 text_at d [] i within all = absurd (omega arith)
 text_at d (w ∷ ws) zero within all = (and_both (list_all is_text_byte w.now) (list_all (list_all is_text_byte) (words_seen ws)) all).0
 text_at d (w ∷ ws) (suc i) within all = text_at d ws i (omega arith) (and_both (list_all is_text_byte w.now) (list_all (list_all is_text_byte) (words_seen ws)) all).1
-
--- the words of a text, if they are few
-pub few_words : (most : ℕ) (text : List ℕ) (words : List (List ℕ)) → list_all is_text_byte text ≡ true → words ≡ words_of text → length words ≤ most
-    → Some words ≡ option_and_then (few most) (line_words text)
-few_words most text words all are short = rw (all, ← are, le-leb (length words) most short) refl

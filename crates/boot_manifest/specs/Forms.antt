@@ -1,24 +1,8 @@
 -- The forms of a manifest's lines.
-use Rattle.std.specs.Prelude.{ℕ, Bool, List, [], ◌∷◌, Option, Some, None, length, not, ◌==◌, ◌&&◌, if◌then◌else◌, codes}
-use Rattle.std.specs.List.{filter, list_all}
+use Rattle.std.specs.Prelude.{ℕ, List, [], ◌∷◌, Option, Some, None, length, ◌&&◌, if◌then◌else◌, codes}
 use Rattle.std.specs.Str.{bytes_eq}
 use Rattle.aegis_limits.specs.Limits.{most_slots}
 use Rattle.boot_image.specs.ImageFaults.{is_within}
-use Rattle.line_text.specs.Lines.{LineValue}
-use Rattle.line_text.specs.Characters.{is_text_byte}
-use Rattle.line_text.specs.Words.{words_of}
-
--- whether a line is empty: a text without words
-abbrev pub is_empty_line : List ℕ → Bool
-is_empty_line text = list_all is_text_byte text && (length (words_of text) == 0)
-
--- the lines that aren't
-abbrev pub statements_of : List LineValue → List LineValue
-statements_of lines = filter (λ (line : LineValue). not (is_empty_line line.text)) lines
-
--- the words of a line, if it is a text
-abbrev pub line_words : List ℕ → Option (List (List ℕ))
-line_words text = if list_all is_text_byte text then Some (words_of text) else None
 
 -- `KEY N`: N
 abbrev pub count_form : List ℕ → List (List ℕ) → Option (List ℕ)

@@ -3,15 +3,11 @@ use Rattle.std.specs.Prelude.{ℕ, ◌-◌, List, [], ◌∷◌, ◌++◌, Optio
 use Rattle.std.specs.Option.{option_map, option_and_then}
 use Rattle.std.specs.Str.{bytes_eq}
 use Rattle.aegis_limits.specs.Limits.{most_environments, most_stack_pages}
-use Rattle.line_text.specs.Number.{number_of}
-use Rattle.boot_image.specs.ImageFaults.{is_name, is_within}
+use Rattle.line_text.specs.Number.{number_of, number_within}
+use Rattle.boot_image.specs.ImageFaults.{is_name}
 use Rattle.boot_image.specs.Spelling.{EntryValue, Kind, Flat, Elf}
 use Rattle.boot_manifest.specs.Forms.{EnvWords}
 use Rattle.boot_manifest.specs.ManifestValue.{ManifestEntry}
-
--- a number from the least to the most
-abbrev pub number_within : ℕ → ℕ → List ℕ → Option ℕ
-number_within least most word = option_and_then (λ n. if is_within least most n then Some n else None) (number_of word)
 
 -- the owner of a slot: an environment's number, or `-` for an empty slot
 abbrev pub owner_in : List ℕ → Option (Option ℕ)

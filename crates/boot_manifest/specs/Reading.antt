@@ -1,16 +1,19 @@
 -- The first fault of a manifest, and what it says if it has none.
-use Rattle.std.specs.Prelude.{ℕ, zero, suc, ◌+◌, ◌≡◌, List, [], ◌∷◌, Option, Some, None, Result, Err, length, nat_lt, nat_le, if◌then◌else◌, codes}
+use Rattle.std.specs.Prelude.{ℕ, zero, suc, ◌≡◌, List, [], ◌∷◌, Option, Some, None, Result, Err, nat_lt, nat_le, if◌then◌else◌, codes}
 use Rattle.std.specs.List.{filter_map}
 use Rattle.std.specs.Option.{ok_or, option_and_then, option_map, option_or}
 use Rattle.std.specs.Result.{result_err, result_ok, result_unwrap_or}
 use Rattle.aegis_limits.specs.Limits.{least_pages, most_pages, least_quantum, most_quantum, most_environments}
 use Rattle.line_text.specs.Lines.{LineValue, lines_of}
+use Rattle.line_text.specs.Number.{number_within}
+use Rattle.line_text.specs.Statements.{end_of, statements_of}
+use Rattle.line_text.specs.Words.{line_words}
 use Rattle.boot_manifest.specs.declared.fault.ManifestFault.{ManifestFault}
 use Rattle.boot_manifest.specs.declared.fault.ManifestFault.TheVariants.{At, OutOfMemory}
 use Rattle.boot_manifest.specs.declared.fault.ManifestWhy.{ManifestWhy}
 use Rattle.boot_manifest.specs.declared.fault.ManifestWhy.TheVariants.{Syntax, Range, Many}
-use Rattle.boot_manifest.specs.Forms.{count_form, env_form, line_words, slots_form, statements_of}
-use Rattle.boot_manifest.specs.Ranges.{entry_in, number_within, owners_in}
+use Rattle.boot_manifest.specs.Forms.{count_form, env_form, slots_form}
+use Rattle.boot_manifest.specs.Ranges.{entry_in, owners_in}
 use Rattle.boot_manifest.specs.ManifestValue.{ManifestEntry, ManifestValue}
 
 -- what the words of a form mean, unless the line has another form
@@ -62,10 +65,6 @@ abbrev pub lines_fault : ℕ → ℕ → List LineValue → Option ManifestFault
 lines_fault end others [] = if nat_lt others 4 then Some (At end Syntax) else None
 lines_fault end others (line ∷ lines) =
     option_or (option_map (λ why. At line.number why) (line_fault others line.text)) (lines_fault end (suc others) lines)
-
--- the number of the line behind the last
-abbrev pub end_of : List ℕ → ℕ
-end_of text = length (lines_of text) + 1
 
 -- the first fault of a manifest
 unfoldable pub manifest_fault : List ℕ → Option ManifestFault

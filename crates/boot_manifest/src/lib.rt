@@ -7,7 +7,6 @@
 #![tactic(auto)]
 
 mod fault;
-mod lines;
 mod manifest;
 mod ranges;
 mod reading;

@@ -6,15 +6,16 @@ ghost use Rattle.aegis_limits.specs.Limits.{most_environments, most_stack_pages}
 ghost use Rattle.boot_image.specs.Accepted.{IsOwnerBelow};
 ghost use Rattle.boot_image.specs.ImageFaults.{is_name};
 ghost use Rattle.line_text.specs.Characters.{is_text_byte};
-ghost use Rattle.boot_manifest.specs.Ranges.{entry_in, kind_in, name_in, number_within, owner_in, owners_in, program_in};
-ghost use Rattle.boot_manifest.specs.Answers.{parts_seen, program_seen, words_seen};
+ghost use Rattle.line_text.specs.WordView.{words_seen};
+ghost use Rattle.boot_manifest.specs.Ranges.{entry_in, kind_in, name_in, owner_in, owners_in, program_in};
+ghost use Rattle.boot_manifest.specs.Answers.{parts_seen, program_seen};
 ghost use Rattle.boot_manifest.specs.Seen.{kind_seen};
 
 use crate::manifest::{Entry, EntryBody};
 use crate::statement::EnvParts;
 use aegis_limits::{MOST_ENVIRONMENTS, MOST_STACK_PAGES};
 use boot_image::is_name;
-use line_text::number;
+use line_text::{number, number_within};
 use std::alloc::{AllocError, Global};
 
 /// The bytes of a name in an image.
@@ -31,19 +32,6 @@ struct Program {
     body: EntryBody,
     stack: u32,
     accept: u32,
-}
-
-/// The number of a word, from the least to the most.
-pub(crate) fn number_within(word: &[u8], least: u32, most: u32) -> Option<u32>
-    ensures value { result ≡ number_within least most word.now }
-    ensures within { IfSome result (λ n. (least ≤ n) × (n ≤ most)) }
-{
-    let number = number(word)?;
-    if least <= number && number <= most {
-        Some(number)
-    } else {
-        None
-    }
 }
 
 /// The owner of a slot: the number of an environment, or `-` for an empty slot.

@@ -4,19 +4,19 @@ ghost use Rattle.std.specs.List.{AllByRecursion};
 ghost use Rattle.aegis_limits.specs.Limits.{most_environments, most_slots};
 ghost use Rattle.boot_image.specs.Accepted.{IsOwnerBelow};
 ghost use Rattle.line_text.specs.LineView.{line_value};
+ghost use Rattle.line_text.specs.Statements.{end_of};
 ghost use Rattle.boot_manifest.specs.declared.fault.ManifestFault.TheVariants.{At};
 ghost use Rattle.boot_manifest.specs.declared.fault.ManifestWhy.TheVariants.{Syntax};
 ghost use Rattle.boot_manifest.specs.Answers.{Says};
 ghost use Rattle.boot_manifest.specs.Limited.{IsEntry};
-ghost use Rattle.boot_manifest.specs.Reading.{IsFirst, count_said, end_of, entries_said, entry_said, lines_fault, manifest_fault, manifest_of, slots_said};
+ghost use Rattle.boot_manifest.specs.Reading.{IsFirst, count_said, entries_said, entry_said, lines_fault, manifest_fault, manifest_of, slots_said};
 
 use crate::fault::{ManifestFault, ManifestWhy};
-use crate::lines::{Statements, end_of, statements_of};
 use crate::manifest::{Entry, Manifest};
-use crate::ranges::{entry_of, number_within, owners_of};
-use crate::statement::{count_word, env_parts, line_words, slots_form};
+use crate::ranges::{entry_of, owners_of};
+use crate::statement::{MOST_WORDS, count_word, env_parts, slots_form};
 use aegis_limits::{LEAST_PAGES, LEAST_QUANTUM, MOST_ENVIRONMENTS, MOST_PAGES, MOST_QUANTUM};
-use line_text::Line;
+use line_text::{Line, Statements, end_of, few_words, number_within, statements_of};
 use std::alloc::Global;
 
 /// The first word of the pages' line.
@@ -84,7 +84,7 @@ fn read_slots(alloc: Global, line: &Line<'_>) -> Result<Vec<Option<u8>>, Manifes
     ensures most { IfOk result (λ owners. length owners.items ≤ most_slots) }
     ensures below { IfOk result (λ owners. AllByRecursion (IsOwnerBelow most_environments) owners.items) }
 {
-    let Some(words) = line_words(line.text) else {
+    let Some(words) = few_words::<MOST_WORDS>(line.text) else {
         return Err(at(line, ManifestWhy::Syntax));
     };
     let Some(slots) = slots_form(&words) else {

@@ -4,12 +4,13 @@ ghost use Rattle.std.specs.List.{list_all};
 ghost use Rattle.std.specs.Option.{option_and_then, option_copied, option_map};
 ghost use Rattle.aegis_limits.specs.Limits.{most_slots};
 ghost use Rattle.line_text.specs.Characters.{is_text_byte};
-ghost use Rattle.boot_manifest.specs.Forms.{count_form, env_form, is_empty_line, line_words, slots_form};
-ghost use Rattle.boot_manifest.specs.Answers.{few, parts_seen, words_seen};
+ghost use Rattle.line_text.specs.Words.{line_words};
+ghost use Rattle.line_text.specs.WordView.{words_seen};
+ghost use Rattle.boot_manifest.specs.Forms.{count_form, env_form, slots_form};
+ghost use Rattle.boot_manifest.specs.Answers.{parts_seen};
 
 use aegis_limits::MOST_SLOTS;
-use arrayvec::ArrayVec;
-use line_text::{is_text, words_of};
+use line_text::few_words;
 
 /// The first word of the slots' line.
 const SLOTS: &[u8] = b"slots";
@@ -20,10 +21,7 @@ const FLAT: &[u8] = b"flat";
 /// The word of a body that is an ELF file.
 const ELF: &[u8] = b"elf";
 /// The most words that a line of some form has: `slots` and an owner for each slot.
-const MOST_WORDS: usize = 1 + MOST_SLOTS;
-
-/// The words of a line that has no more than a line of some form.
-pub(crate) type LineWords<'a> = ArrayVec<&'a [u8], MOST_WORDS>;
+pub(crate) const MOST_WORDS: usize = 1 + MOST_SLOTS;
 
 /// The words of an environment's line. A flat body has a base.
 #[derive(Clone, Copy)]
@@ -35,37 +33,12 @@ pub(crate) struct EnvParts<'a> {
     pub(crate) file: &'a [u8],
 }
 
-/// Whether a line is a text without words.
-pub(crate) fn is_empty_line(text: &[u8]) -> bool
-    ensures { result ≡ is_empty_line text.now }
-{
-    is_text(text) && words_of(text).next().is_none()
-}
-
-/// The words of a line, if it is a text and doesn't have more than a line of some form.
-pub(crate) fn line_words(text: &[u8]) -> Option<LineWords<'_>>
-    ensures words { option_map (λ words. words_seen words.items) result ≡ option_and_then (few MOST_WORDS) (line_words text.now) }
-    ensures bytes { IfSome result (λ words. list_all (list_all is_text_byte) (words_seen words.items) ≡ true) }
-{
-    if !is_text(text) {
-        return None;
-    }
-    let mut words = ArrayVec::new();
-    for word in words_of(text) {
-        if words.is_full() {
-            return None;
-        }
-        words.push(word);
-    }
-    Some(words)
-}
-
 /// The N of a line `KEY N`.
 #[tactic(auto, using(crate::proofs::ReadingLemmas::few_count))]
 pub(crate) fn count_word<'a>(key: &[u8], text: &'a [u8]) -> Option<&'a [u8]>
     ensures { option_copied result ≡ option_and_then (count_form key.now) (line_words text.now) }
 {
-    let words = line_words(text)?;
+    let words = few_words::<MOST_WORDS>(text)?;
     count_form(key, &words)
 }
 
@@ -75,7 +48,7 @@ pub(crate) fn env_parts(text: &[u8]) -> Option<EnvParts<'_>>
     ensures parts { option_map parts_seen result ≡ option_and_then env_form (line_words text.now) }
     ensures bytes { IfSome result (λ parts. list_all is_text_byte parts.file.now ≡ true) }
 {
-    let words = line_words(text)?;
+    let words = few_words::<MOST_WORDS>(text)?;
     env_form(&words)
 }
 

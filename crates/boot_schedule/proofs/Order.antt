@@ -3,10 +3,10 @@ use Rattle.std.proofs.Common.{◌≡◌, ℕ, suc, ◌+◌, ◌<◌, ◌≤◌, 
 use Rattle.std.proofs.lemmas.Bool.{and_from, cases_lt, le-leb, le-ltb, lt-ltb}
 use Rattle.std.specs.Option.{option_map, option_or}
 use Rattle.line_text.specs.Lines.{LineValue, lines_of}
+use Rattle.line_text.specs.Statements.{statements_of}
 use Rattle.external_event.specs.EventValue.{EventValue}
 use Rattle.external_event.specs.Order.{are_in_order}
 use Rattle.boot_schedule.specs.declared.fault.ScheduleWhy.{ScheduleWhy}
-use Rattle.boot_schedule.specs.Forms.{statements_of}
 use Rattle.boot_schedule.specs.Saying.{said}
 use Rattle.boot_schedule.specs.Schedule.{events_said, fault_of, lines_fault, most_events, schedule_fault, events_of}
 

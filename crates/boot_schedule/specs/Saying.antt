@@ -1,10 +1,11 @@
 -- What a line of a schedule says by itself.
-use Rattle.std.specs.Prelude.{ℕ, ◌-◌, List, Option, Some, None, Result, Ok, Err, nat_le, if◌then◌else◌}
+use Rattle.std.specs.Prelude.{ℕ, ◌-◌, List, Result, Ok, Err}
 use Rattle.std.specs.Option.{ok_or, option_and_then}
 use Rattle.std.specs.Result.{result_ok}
 use Rattle.aegis_limits.specs.Limits.{most_ticks}
 use Rattle.hex.specs.Hex.{decode_of}
-use Rattle.line_text.specs.Number.{number_of}
+use Rattle.line_text.specs.Number.{number_within}
+use Rattle.line_text.specs.Words.{line_words}
 use Rattle.external_event.specs.declared.event.Occurrence.{Occurrence}
 use Rattle.external_event.specs.declared.event.Occurrence.TheVariants.{Packet, Line, Revoke}
 use Rattle.external_event.specs.EventValue.{EventValue}
@@ -12,7 +13,7 @@ use Rattle.external_event.specs.Limits.{last_environment, lines, most_asked}
 use Rattle.external_event.specs.Packet.{packet_of}
 use Rattle.boot_schedule.specs.declared.fault.ScheduleWhy.{ScheduleWhy}
 use Rattle.boot_schedule.specs.declared.fault.ScheduleWhy.TheVariants.{Syntax, Range, Hex}
-use Rattle.boot_schedule.specs.Forms.{EventWords, PacketWords, LineWords, RevokeWords, event_form, line_words}
+use Rattle.boot_schedule.specs.Forms.{EventWords, PacketWords, LineWords, RevokeWords, event_form}
 
 -- what is said next, unless there is a fault
 abbrev pub and_then : {X Y : Type 0} → (X → Result Y ScheduleWhy) → Result X ScheduleWhy → Result Y ScheduleWhy
@@ -20,11 +21,8 @@ and_then next (Ok x) = next x
 and_then next (Err why) = Err why
 
 -- a number, at most so much
-abbrev pub number_within : ℕ → List ℕ → Option ℕ
-number_within most word = option_and_then (λ n. if nat_le n most then Some n else None) (number_of word)
-
 abbrev pub in_range : ℕ → List ℕ → Result ℕ ScheduleWhy
-in_range most word = ok_or (number_within most word) Range
+in_range most word = ok_or (number_within 0 most word) Range
 
 -- the bytes of a packet
 abbrev pub bytes_said : List ℕ → Result (List ℕ) ScheduleWhy

@@ -4,12 +4,12 @@ use Rattle.std.specs.List.{filter_map}
 use Rattle.std.specs.Option.{option_map, option_map_or, option_or}
 use Rattle.std.specs.Result.{result_ok}
 use Rattle.line_text.specs.Lines.{LineValue, lines_of}
+use Rattle.line_text.specs.Statements.{statements_of}
 use Rattle.external_event.specs.EventValue.{EventValue}
 use Rattle.boot_schedule.specs.declared.fault.ScheduleFault.{ScheduleFault}
 use Rattle.boot_schedule.specs.declared.fault.ScheduleFault.TheVariants.{At, OutOfMemory}
 use Rattle.boot_schedule.specs.declared.fault.ScheduleWhy.{ScheduleWhy}
 use Rattle.boot_schedule.specs.declared.fault.ScheduleWhy.TheVariants.{Order, Many}
-use Rattle.boot_schedule.specs.Forms.{statements_of}
 use Rattle.boot_schedule.specs.Saying.{said}
 
 -- the events of the longest schedule

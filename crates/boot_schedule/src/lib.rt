@@ -6,7 +6,6 @@
 
 mod fault;
 mod laws;
-mod lines;
 mod ranges;
 mod reading;
 mod statement;

@@ -1,17 +1,17 @@
 //! What the words of a schedule's lines mean, if they are in their ranges.
-ghost use Rattle.std.specs.Prelude.{◌≡◌, ◌≤◌, ◌-◌, IfOk, IfSome};
+ghost use Rattle.std.specs.Prelude.{◌≡◌, ◌≤◌, ◌-◌, IfOk};
 ghost use Rattle.aegis_limits.specs.Limits.{most_ticks};
 ghost use Rattle.external_event.specs.Limits.{last_environment, lines, most_asked};
 ghost use Rattle.boot_schedule.specs.declared.fault.ScheduleFault.TheVariants.{At};
 ghost use Rattle.boot_schedule.specs.Answers.{Says, parts_seen};
-ghost use Rattle.boot_schedule.specs.Saying.{bytes_said, in_range, number_within, words_said};
+ghost use Rattle.boot_schedule.specs.Saying.{bytes_said, in_range, words_said};
 
 use crate::fault::{ScheduleFault, ScheduleWhy};
 use crate::statement::Parts;
 use aegis_limits::MOST_TICKS;
 use external_event::{Event, LAST_ENVIRONMENT, LINES, MOST_ASKED, Occurrence, PacketBytes};
 use hex::FromHexError;
-use line_text::{Line, number};
+use line_text::{Line, number_within};
 use std::alloc::Global;
 
 /// The greatest number of an interrupt line.
@@ -54,21 +54,12 @@ pub(crate) fn words_said(
     }
 }
 
-/// The number of a word, at most so much.
-fn number_within(word: &[u8], most: u32) -> Option<u32>
-    ensures value { result ≡ number_within most word.now }
-    ensures within { IfSome result (λ n. n ≤ most) }
-{
-    let number = number(word)?;
-    if number <= most { Some(number) } else { None }
-}
-
 /// The number of a line's word, at most so much.
 fn in_range(line: &Line<'_>, word: &[u8], most: u32) -> Result<u32, ScheduleFault>
     ensures said { Says (λ n. n) line.now.number result (in_range most word.now) }
     ensures within { IfOk result (λ n. n ≤ most) }
 {
-    match number_within(word, most) {
+    match number_within(word, 0, most) {
         Some(number) => Ok(number),
         None => Err(at(line, ScheduleWhy::Range)),
     }

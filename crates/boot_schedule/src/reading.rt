@@ -7,11 +7,10 @@ ghost use Rattle.boot_schedule.specs.Saying.{said};
 ghost use Rattle.boot_schedule.specs.Schedule.{IsFirst, event_said, line_fault, schedule_fault, events_of};
 
 use crate::fault::{ScheduleFault, ScheduleWhy};
-use crate::lines::statements_of;
 use crate::ranges::{at, words_said};
 use crate::statement::parts_of;
 use external_event::Event;
-use line_text::Line;
+use line_text::{Line, statements_of};
 use std::alloc::Global;
 
 /// The events of the longest schedule.

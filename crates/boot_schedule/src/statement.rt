@@ -1,11 +1,12 @@
 //! The forms of a schedule's lines.
 ghost use Rattle.std.specs.Prelude.{◌≡◌};
 ghost use Rattle.std.specs.Option.{option_and_then, option_map};
-ghost use Rattle.boot_schedule.specs.Forms.{event_form, is_empty_line, line_words, short_form};
-ghost use Rattle.boot_schedule.specs.Answers.{few, parts_seen, words_seen};
+ghost use Rattle.line_text.specs.Words.{line_words};
+ghost use Rattle.line_text.specs.WordView.{words_seen};
+ghost use Rattle.boot_schedule.specs.Forms.{event_form, short_form};
+ghost use Rattle.boot_schedule.specs.Answers.{parts_seen};
 
-use arrayvec::ArrayVec;
-use line_text::{is_text, words_of};
+use line_text::few_words;
 
 /// The second word of a packet's line.
 const PACKET: &[u8] = b"packet";
@@ -15,9 +16,6 @@ const LINE: &[u8] = b"line";
 const REVOKE: &[u8] = b"revoke";
 /// The most words that a line of some form has.
 const MOST_WORDS: usize = 5;
-
-/// The words of a line that has no more than a line of some form.
-type LineWords<'a> = ArrayVec<&'a [u8], MOST_WORDS>;
 
 /// The words of a line, by its form.
 #[derive(Clone, Copy)]
@@ -41,36 +39,12 @@ pub(crate) enum Parts<'a> {
     },
 }
 
-/// Whether a line is a text without words.
-pub(crate) fn is_empty_line(text: &[u8]) -> bool
-    ensures { result ≡ is_empty_line text.now }
-{
-    is_text(text) && words_of(text).next().is_none()
-}
-
-/// The words of a line, if it is a text and doesn't have more than a line of some form.
-fn line_words(text: &[u8]) -> Option<LineWords<'_>>
-    ensures { option_map (λ words. words_seen words.items) result ≡ option_and_then (few MOST_WORDS) (line_words text.now) }
-{
-    if !is_text(text) {
-        return None;
-    }
-    let mut words = ArrayVec::new();
-    for word in words_of(text) {
-        if words.is_full() {
-            return None;
-        }
-        words.push(word);
-    }
-    Some(words)
-}
-
 /// The words of a line, by its form.
 #[tactic(auto, using(crate::proofs::FormLemmas::few_event))]
 pub(crate) fn parts_of(text: &[u8]) -> Option<Parts<'_>>
     ensures { option_map parts_seen result ≡ option_and_then event_form (line_words text.now) }
 {
-    let words = line_words(text)?;
+    let words = few_words::<MOST_WORDS>(text)?;
     event_form(&words)
 }
 

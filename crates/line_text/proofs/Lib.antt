@@ -1,4 +1,6 @@
+pub mod FewLemmas
 pub mod HexLemmas
+pub mod LineLemmas
 pub mod NumeralLemmas
 pub mod PieceLemmas
 pub mod PlaceLemmas

@@ -2,6 +2,7 @@
 use Rattle.std.specs.Prelude.{ℕ, ◌-◌, ◌^◌, List, Option, Some, None, nat_lt, nat_le, nat_eq, ◌&&◌, if◌then◌else◌, length, drop, codes}
 use Rattle.std.specs.List.{list_all, starts_with}
 use Rattle.std.specs.Char.{is_digit}
+use Rattle.std.specs.Option.{option_and_then}
 use Rattle.std.specs.Str.Parse.{digits_value}
 
 -- what one or more digits of a base spell, where it is at most so much
@@ -18,3 +19,8 @@ digits_number base count ds = if nat_le (length ds) count then numeral_of base (
 unfoldable pub number_of : List ℕ → Option ℕ
 number_of word =
     if starts_with nat_eq word (codes "0x") then digits_number 16 8 (drop 2 word) else digits_number 10 10 word
+
+-- that number, from the least to the most
+abbrev pub number_within : ℕ → ℕ → List ℕ → Option ℕ
+number_within least most word =
+    option_and_then (λ n. if nat_le least n && nat_le n most then Some n else None) (number_of word)

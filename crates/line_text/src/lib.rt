@@ -1,4 +1,4 @@
-//! Texts: their lines with their places, the words of a line, the numbers that are read in them, and the
+//! Texts: their lines with their places, their statements, the words of a line, the numbers that are read in them, and the
 //! numbers and bytes that are written into them. Every reader of texts stands on these, so that a line
 //! number, a place, a word and a number mean the same in each; and every writer appends exactly its
 //! definition of printed text.
@@ -9,9 +9,13 @@ mod line_words;
 mod lines;
 mod numbers;
 mod print;
+mod statements;
+mod word_lists;
 
 pub use characters::{is_blank, is_text};
 pub use line_words::{Words, words_of};
 pub use lines::{Line, Lines, cut};
-pub use numbers::{decimal, number, numeral};
+pub use numbers::{decimal, number, number_within, numeral};
 pub use print::{push_dec, push_hex, push_quoted};
+pub use statements::{Statements, end_of, statements_of};
+pub use word_lists::few_words;

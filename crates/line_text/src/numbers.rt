@@ -1,6 +1,6 @@
 //! The numbers that are read in texts.
 ghost use Rattle.std.specs.Prelude.{◌≡◌, ◌+◌, ◌*◌, ◌≤◌, IfSome};
-ghost use Rattle.line_text.specs.Number.{digits_number, number_of, numeral_of};
+ghost use Rattle.line_text.specs.Number.{digits_number, number_of, number_within, numeral_of};
 
 /// The number of decimal digits that a number has at most.
 const DECIMAL_DIGITS: usize = 10;
@@ -17,6 +17,19 @@ pub fn number(word: &[u8]) -> Option<u32>
     match word.strip_prefix(b"0x") {
         Some(digits) => short_numeral(digits, 16, HEX_DIGITS),
         None => decimal(word),
+    }
+}
+
+/// The number that a word spells, from the least to the most.
+pub fn number_within(word: &[u8], least: u32, most: u32) -> Option<u32>
+    ensures value { result ≡ number_within least most word.now }
+    ensures within { IfSome result (λ n. (least ≤ n) × (n ≤ most)) }
+{
+    let number = number(word)?;
+    if least <= number && number <= most {
+        Some(number)
+    } else {
+        None
     }
 }
 

@@ -3,8 +3,8 @@ use Rattle.std.specs.List.{AllByRecursion}
 use Rattle.std.specs.Option.{option_map}
 use Rattle.aegis_limits.specs.Limits.{most_environments}
 use Rattle.boot_image.specs.Accepted.{IsOwnerBelow}
+use Rattle.line_text.specs.WordView.{words_seen}
 use Rattle.boot_manifest.specs.Ranges.{owners_in}
-use Rattle.boot_manifest.specs.Answers.{words_seen}
 use Rattle.boot_manifest.proofs.ranges.owners_of.Given as goal
 
 -- the owners so far and those of the words that are left are all of them

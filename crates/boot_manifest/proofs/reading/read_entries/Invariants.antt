@@ -1,7 +1,8 @@
 use Rattle.std.proofs.Common.{◌≡◌, ◌≤◌, ◌++◌, suc, length}
 use Rattle.std.specs.List.{AllByRecursion}
+use Rattle.line_text.specs.Statements.{end_of}
 use Rattle.boot_manifest.specs.Limited.{IsEntry}
-use Rattle.boot_manifest.specs.Reading.{end_of, entries_said, lines_fault}
+use Rattle.boot_manifest.specs.Reading.{entries_said, lines_fault}
 use Rattle.boot_manifest.proofs.reading.read_entries.Given as goal
 
 -- the entries so far and those of the lines to come are all of them, and the rest has the first fault

@@ -1,6 +1,6 @@
 use Rattle.std.proofs.Common.{◌≡◌, ◌++◌, length}
 use Rattle.line_text.specs.Lines.{lines_of}
-use Rattle.boot_schedule.specs.Forms.{statements_of}
+use Rattle.line_text.specs.Statements.{statements_of}
 use Rattle.boot_schedule.specs.Schedule.{events_said, lines_fault}
 use Rattle.boot_schedule.proofs.reading.read_schedule.Given as goal
 

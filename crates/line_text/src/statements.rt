@@ -1,31 +1,31 @@
-//! The lines of a manifest that aren't empty.
+//! The statements of a text: its lines that aren't empty, each with its number and its place.
 ghost use Rattle.std.specs.Prelude.{◌≡◌, ◌+◌, ◌<◌, ◌^◌, length};
 ghost use Rattle.line_text.specs.Lines.{lines_of};
-ghost use Rattle.boot_manifest.specs.Forms.{statements_of};
-ghost use Rattle.boot_manifest.specs.Reading.{end_of};
+ghost use Rattle.line_text.specs.Statements.{end_of, is_empty_line, statements_of};
 
-use crate::statement::is_empty_line;
-use line_text::{Line, Lines, cut};
+use crate::characters::is_text;
+use crate::line_words::words_of;
+use crate::lines::{Line, Lines, cut};
 use std::marker::Model;
 
-/// The lines that are left and aren't empty.
+/// The statements of a text that are left.
 #[derive(Drop)]
-pub(crate) struct Statements<'a> {
+pub struct Statements<'a> {
     lines: Lines<'a>,
 }
 
 impl<'a> Model for Statements<'a> {
     ghost use Rattle.std.specs.Prelude.{List};
     ghost use Rattle.line_text.specs.Lines.{LineValue};
-    ghost use Rattle.boot_manifest.specs.Forms.{statements_of};
+    ghost use Rattle.line_text.specs.Statements.{statements_of};
 
     ghost Value = { List LineValue };
 
     ghost view = { λ s. statements_of s.lines };
 }
 
-/// The lines of a text that aren't empty.
-pub(crate) fn statements_of(text: &[u8]) -> Statements<'_>
+/// The statements of a text in order: each of its lines but those that are texts without words.
+pub fn statements_of(text: &[u8]) -> Statements<'_>
     requires { length text.now < 2 ^ 27 }
     ensures { result ≡ statements_of (lines_of text.now) }
 {
@@ -53,7 +53,7 @@ impl<'a> Iterator for Statements<'a> {
 }
 
 /// The number of the line behind the last of a text.
-pub(crate) fn end_of(text: &[u8]) -> u32
+pub fn end_of(text: &[u8]) -> u32
     requires { length text.now < 2 ^ 27 }
     ensures { result ≡ end_of text.now }
 {
@@ -62,4 +62,11 @@ pub(crate) fn end_of(text: &[u8]) -> u32
         end += 1;
     }
     end
+}
+
+/// Whether a line is a text without words.
+fn is_empty_line(text: &[u8]) -> bool
+    ensures { result ≡ is_empty_line text.now }
+{
+    is_text(text) && words_of(text).next().is_none()
 }

@@ -1,6 +1,6 @@
 use Rattle.std.proofs.Common.{◌≡◌, length}
-use Rattle.boot_manifest.specs.Forms.{statements_of}
-use Rattle.boot_manifest.proofs.lines.StatementsIterator.next.Given as goal
+use Rattle.line_text.specs.Statements.{statements_of}
+use Rattle.line_text.proofs.statements.StatementsIterator.next.Given as goal
 
 abbrev pub invariant-loop-line : goal.invariant-loop-line
 invariant-loop-line l = statements_of l.self-inside.lines ≡ l.fn.self

@@ -1,6 +1,6 @@
 use Rattle.std.proofs.Common.{◌≡◌, ◌+◌, ◌<◌, ◌^◌, length}
-use Rattle.boot_manifest.specs.Reading.{end_of}
-use Rattle.boot_manifest.proofs.lines.end_of.Given as goal
+use Rattle.line_text.specs.Statements.{end_of}
+use Rattle.line_text.proofs.statements.end_of.Given as goal
 
 -- the lines counted so far and those to come are all of them
 abbrev pub invariant-loop : goal.invariant-loop

@@ -1,6 +1,6 @@
 use Rattle.std.proofs.Common.{arith}
-use Rattle.boot_manifest.proofs.LineLemmas.{end_small}
-use Rattle.boot_manifest.proofs.lines.end_of.Goals as goal
+use Rattle.line_text.proofs.LineLemmas.{end_small}
+use Rattle.line_text.proofs.statements.end_of.Goals as goal
 
 pub loop-init : goal.loop-init
 loop-init c = record {

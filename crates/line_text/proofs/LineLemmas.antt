@@ -3,7 +3,7 @@ use Rattle.std.proofs.Common.{◌≡◌, ℕ, ◌+◌, ◌<◌, ◌≤◌, ◌^�
 use Rattle.std.specs.Prelude.{◌==◌}
 use Rattle.std.specs.List.{onto_first}
 use Rattle.line_text.specs.Lines.{lines_from, pieces_of}
-use Rattle.boot_manifest.specs.Reading.{end_of}
+use Rattle.line_text.specs.Statements.{end_of}
 
 onto_length : (b : ℕ) (pieces : List (List ℕ)) → length (onto_first b pieces) ≤ 1 + length pieces
 onto_length b [] = omega arith
