@@ -3,7 +3,7 @@ ghost use Rattle.std.specs.Prelude.{◌≡◌};
 
 use crate::number::NumberSize;
 use crate::section::Section;
-use asm_parse::{Row, find};
+use line_text::{Row, find};
 
 /// An operation that is no instruction.
 #[derive(Clone, Copy)]

@@ -6,4 +6,3 @@ pub mod OpeningLemmas
 pub mod PartLemmas
 pub mod SpanLemmas
 pub mod StatementLemmas
-pub mod TableLemmas

@@ -7,6 +7,5 @@ pub mod PieceSeen
 pub mod Register
 pub mod Seen
 pub mod Span
-pub mod Table
 pub mod Why
 pub mod Words

@@ -16,7 +16,6 @@ mod quoted;
 mod quoting;
 mod register;
 mod syntax;
-mod table;
 mod words;
 
 pub use expression::{Expression, Inner};
@@ -25,4 +24,3 @@ pub use laws::{encloses_high, encloses_low};
 pub use lines::{parse, parse_line};
 pub use register::Register;
 pub use syntax::{Arg, Args, AsmBody, AsmLine, Name, Operand};
-pub use table::{Row, find};

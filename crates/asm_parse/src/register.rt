@@ -2,8 +2,7 @@
 ghost use Rattle.std.specs.Prelude.{◌≡◌, ◌<◌, IfSome, drop};
 ghost use Rattle.asm_parse.specs.Register.{number_of_register};
 
-use crate::table::{Row, find};
-use line_text::numeral;
+use line_text::{Row, find, numeral};
 
 /// The number of registers.
 const REGISTER_COUNT: u32 = 32;

@@ -4,4 +4,5 @@ pub mod LineLemmas
 pub mod NumeralLemmas
 pub mod PieceLemmas
 pub mod PlaceLemmas
+pub mod TableLemmas
 pub mod WordLemmas

@@ -3,6 +3,7 @@ pub mod LineView
 pub mod Lines
 pub mod Number
 pub mod Statements
+pub mod Table
 pub mod Text
 pub mod WordView
 pub mod Words

@@ -1,7 +1,7 @@
-//! Texts: their lines with their places, their statements, the words of a line, the numbers that are read in them, and the
-//! numbers and bytes that are written into them. Every reader of texts stands on these, so that a line
-//! number, a place, a word and a number mean the same in each; and every writer appends exactly its
-//! definition of printed text.
+//! Texts: their lines with their places, their statements, the words of a line, the numbers that are
+//! read in them, and the numbers and bytes that are written into them; and tables of names. Every reader
+//! of texts stands on these, so that a line number, a place, a word and a number mean the same in each;
+//! and every writer appends exactly its definition of printed text.
 #![tactic(auto)]
 
 mod characters;
@@ -10,6 +10,7 @@ mod lines;
 mod numbers;
 mod print;
 mod statements;
+mod table;
 mod word_lists;
 
 pub use characters::{is_blank, is_text};
@@ -18,4 +19,5 @@ pub use lines::{Line, Lines, cut};
 pub use numbers::{decimal, number, number_within, numeral};
 pub use print::{push_dec, push_hex, push_quoted};
 pub use statements::{Statements, end_of, statements_of};
+pub use table::{Row, find};
 pub use word_lists::few_words;

@@ -1,13 +1,13 @@
 //! The text of a word.
 ghost use Rattle.std.specs.Prelude.{◌≡◌, ◌++◌, OnErr, OnOk};
-ghost use Rattle.asm_parse.specs.Table.{row_seen};
+ghost use Rattle.line_text.specs.Table.{row_seen};
 ghost use Rattle.mips_list.specs.Growth.{Keeps};
 ghost use Rattle.mips_list.specs.WordText.{data_text, row_text, word_text};
 
 use crate::operand::{push_hexadecimal, push_operands};
 use crate::piece::push_bytes;
 use aegis_limits::OutOfMemory;
-use asm_parse::Row;
+use line_text::Row;
 use mips_text::{Text, find_word};
 
 /// Appends the text of a word that stands at an address: the instruction that it spells, as the assembler

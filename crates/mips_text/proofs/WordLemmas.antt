@@ -1,8 +1,8 @@
 -- Rows that spell words.
 use Rattle.std.proofs.Common.{◌≡◌, ◌-◌, List, [], ◌∷◌, Option, Some, Bool, true, false, refl, map, length, take, sym, ap, ◌∙◌, cond}
 use Rattle.std.proofs.lemmas.List.{length-map, take-map}
-use Rattle.asm_parse.specs.Table.{row_seen, rows_seen}
-use Rattle.asm_parse.specs.declared.table.Row.{Row}
+use Rattle.line_text.specs.Table.{row_seen, rows_seen}
+use Rattle.line_text.specs.declared.table.Row.{Row}
 use Rattle.mips_text.specs.Texts.{rows}
 use Rattle.mips_text.specs.WordRows.{main_rows}
 use Rattle.mips_text.specs.declared.text.Text.{Text}

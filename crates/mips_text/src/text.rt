@@ -2,12 +2,12 @@
 ghost use Rattle.std.specs.Prelude.{◌≡◌, ◌<◌, IfSome};
 ghost use Rattle.std.specs.List.{find};
 ghost use Rattle.std.specs.Option.{option_copied, option_map};
-ghost use Rattle.asm_parse.specs.Table.{row_seen, rows_seen};
+ghost use Rattle.line_text.specs.Table.{row_seen, rows_seen};
 ghost use Rattle.mips_text.specs.Texts.{rows, text_of};
 ghost use Rattle.mips_text.specs.WordRows.{row_of, spells};
 
 use crate::shape::{Field, Shape, Slot};
-use asm_parse::{Row, find};
+use line_text::{Row, find};
 
 /// The text of an instruction: its word with each operand 0, and where the operands stand.
 #[derive(Clone, Copy)]

@@ -1,8 +1,8 @@
 use Rattle.std.proofs.Common.{◌≡◌, drop}
 use Rattle.std.specs.Map.{lookup}
 use Rattle.std.specs.Str.{bytes_eq}
-use Rattle.asm_parse.specs.Table.{rows_seen}
-use Rattle.asm_parse.proofs.table.find.Given as goal
+use Rattle.line_text.specs.Table.{rows_seen}
+use Rattle.line_text.proofs.table.find.Given as goal
 
 -- no row so far has the name
 abbrev pub invariant-loop-row : goal.invariant-loop-row

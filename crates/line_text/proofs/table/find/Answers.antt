@@ -1,6 +1,6 @@
 use Rattle.std.proofs.Common.{sym, ◌∙◌}
-use Rattle.asm_parse.proofs.TableLemmas.{said_here, said_later}
-use Rattle.asm_parse.proofs.table.find.Goals as goal
+use Rattle.line_text.proofs.TableLemmas.{said_here, said_later}
+use Rattle.line_text.proofs.table.find.Goals as goal
 
 pub returns-then-eq : goal.returns-then-eq
 returns-then-eq g c =

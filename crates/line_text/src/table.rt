@@ -2,7 +2,7 @@
 ghost use Rattle.std.specs.Prelude.{◌≡◌};
 ghost use Rattle.std.specs.Map.{lookup};
 ghost use Rattle.std.specs.Str.{bytes_eq};
-ghost use Rattle.asm_parse.specs.Table.{rows_seen};
+ghost use Rattle.line_text.specs.Table.{rows_seen};
 
 /// A name, and what it means.
 #[derive(Clone, Copy)]

@@ -1,6 +1,6 @@
 -- Tables of names, as plain data.
 use Rattle.std.specs.Prelude.{ℕ, List, map}
-use Rattle.asm_parse.specs.declared.table.Row.{Row}
+use Rattle.line_text.specs.declared.table.Row.{Row}
 
 abbrev pub row_seen : {T : Type 0} → Row T → List ℕ × T
 row_seen row = (row.0.now, row.1)
