@@ -3,7 +3,8 @@ use Rattle.std.proofs.Common.{◌≡◌, ◌≢◌, ◌≤◌, length, ℕ, List
 use Rattle.boot_image.specs.declared.fault.ImageFault.{ImageFault}
 use Rattle.boot_image.specs.ImageFaults.{image_fault}
 use Rattle.boot_image.specs.ImageValue.{image_of}
-use Rattle.boot_schedule.specs.declared.fault.ScheduleFault.{ScheduleFault}
+use Rattle.line_text.specs.declared.failure.LineFault.{LineFault}
+use Rattle.boot_schedule.specs.declared.fault.ScheduleWhy.{ScheduleWhy}
 use Rattle.boot_schedule.specs.Schedule.{events_of, schedule_fault}
 use Rattle.edge_io.specs.Faults.{Rose, one_more}
 use Rattle.command_work.specs.declared.status.Status.{Status}
@@ -84,8 +85,8 @@ is_complete (Some found) s k result outcome c contents is told calm =
 -- what is due for an image and a schedule without fault
 due_whole : (image_name schedule_name : List ℕ) (ticks : ℕ) (image schedule : List ℕ) → image_fault image ≡ None → schedule_fault schedule ≡ None → Some (run_due image_name schedule_name ticks image schedule) ≡ Some (Whole (report_after (image_of image) (events_of schedule) ticks))
 due_whole image_name schedule_name ticks image schedule image_ok schedule_ok =
-    let due = λ (f : Option ImageFault) (g : Option ScheduleFault). unless_refused (image_refused image_name f ∷ schedule_refused schedule_name g ∷ []) (Whole (report_after (image_of image) (events_of schedule) ticks)) in
-    ap (λ (f : Option ImageFault). Some (due f (schedule_fault schedule))) image_ok ∙ ap (λ (g : Option ScheduleFault). Some (due None g)) schedule_ok
+    let due = λ (f : Option ImageFault) (g : Option (LineFault ScheduleWhy)). unless_refused (image_refused image_name f ∷ schedule_refused schedule_name g ∷ []) (Whole (report_after (image_of image) (events_of schedule) ticks)) in
+    ap (λ (f : Option ImageFault). Some (due f (schedule_fault schedule))) image_ok ∙ ap (λ (g : Option (LineFault ScheduleWhy)). Some (due None g)) schedule_ok
 
 -- the headline is completeness for an image and a schedule without fault
 pub is_headline : (words : List (List ℕ)) (s : ShelfEdge) (k : SinkEdge) (result : Status) → IfSome (command_of words) (λ c. Outcome c s k result) → IsHeadline words s k result

@@ -1,6 +1,5 @@
 -- `run IMAGE SCHEDULE TICKS`: the report of an image's world after so many ticks, in which the schedule's events happen.
 use Rattle.std.specs.Prelude.{ℕ, List, [], ◌∷◌, Option, Some, None, option_map, nat_le, if◌then◌else◌}
-use Rattle.std.specs.Option.{option_and_then}
 use Rattle.aegis_limits.specs.Limits.{most_ticks}
 use Rattle.line_text.specs.Number.{digits_number}
 use Rattle.boot_image.specs.declared.fault.ImageFault.{ImageFault}
@@ -8,8 +7,8 @@ use Rattle.boot_image.specs.ImageFaults.{image_fault}
 use Rattle.boot_image.specs.ImageValue.{ImageValue, image_of}
 use Rattle.boot_image.specs.Names.{image_why_text}
 use Rattle.external_event.specs.EventValue.{EventValue}
-use Rattle.boot_schedule.specs.declared.fault.ScheduleFault.{ScheduleFault}
-use Rattle.boot_schedule.specs.declared.fault.ScheduleFault.TheVariants.{At, OutOfMemory}
+use Rattle.line_text.specs.declared.failure.LineFault.{LineFault}
+use Rattle.boot_schedule.specs.declared.fault.ScheduleWhy.{ScheduleWhy}
 use Rattle.boot_schedule.specs.Names.{schedule_why_text}
 use Rattle.boot_schedule.specs.Schedule.{events_of, schedule_fault}
 use Rattle.world_model.specs.Event.{schedule_of}
@@ -35,13 +34,9 @@ report_after image events ticks = let w = world_after (record { image = image; s
 abbrev pub image_refused : List ℕ → Option ImageFault → Option Due
 image_refused name fault = option_map (λ (f : ImageFault). refused name (image_why_text f.why) f.place) fault
 
--- a schedule with this fault is refused; want of memory is no fault of a text
-abbrev pub refused_for : List ℕ → ScheduleFault → Option Due
-refused_for name (At line why) = Some (refused name (schedule_why_text why) line)
-refused_for name OutOfMemory = None
-
-abbrev pub schedule_refused : List ℕ → Option ScheduleFault → Option Due
-schedule_refused name fault = option_and_then (refused_for name) fault
+-- a schedule with this fault is refused
+abbrev pub schedule_refused : List ℕ → Option (LineFault ScheduleWhy) → Option Due
+schedule_refused name fault = option_map (λ (f : LineFault ScheduleWhy). refused name (schedule_why_text f.why) f.line) fault
 
 -- the first file with a fault is refused, and if none has one, the report is due
 abbrev pub run_due : (image_name schedule_name : List ℕ) → ℕ → (image schedule : List ℕ) → Due

@@ -8,9 +8,10 @@ use crate::ticks::Ticks;
 use aegis_limits::OutOfMemory;
 use aegis_tick::{boot, run};
 use boot_image::{Image, read_image};
-use boot_schedule::{ScheduleFault, law_in_order, read_schedule};
+use boot_schedule::{law_in_order, read_schedule};
 use command_work::{Answer, Command, Status, content};
 use external_event::Event;
+use line_text::Failure;
 use run_report::report;
 use std::alloc::Global;
 
@@ -79,10 +80,10 @@ fn due(
     };
     let events = match read_schedule(alloc, schedule) {
         Ok(events) => events,
-        Err(ScheduleFault::At { line, why }) => {
-            return Answer::refusal(alloc, call.schedule, why.name(), line);
+        Err(Failure::Fault(fault)) => {
+            return Answer::refusal(alloc, call.schedule, fault.why.name(), fault.line);
         }
-        Err(ScheduleFault::OutOfMemory) => return Err(OutOfMemory),
+        Err(Failure::OutOfMemory) => return Err(OutOfMemory),
     };
     let text = report_after(alloc, &image, &events, call.ticks)?;
     Ok(Answer {

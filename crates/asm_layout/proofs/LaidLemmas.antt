@@ -3,11 +3,13 @@ use Rattle.std.proofs.Common.{◌≡◌, ℕ, ◌+◌, ◌-◌, ◌≤◌, Bool,
 use Rattle.std.proofs.lemmas.Bool.{leb-true}
 use Rattle.std.specs.Option.{is_some}
 use Rattle.asm_parse.specs.Expression.{ExpressionValue}
-use Rattle.asm_parse.specs.Form.{Gives, due_of}
+use Rattle.asm_parse.specs.Form.{due_of}
 use Rattle.asm_parse.specs.declared.fault.AsmWhy.{AsmWhy}
 use Rattle.asm_parse.specs.declared.fault.AsmWhy.TheVariants.{OutOfRange, Redefined}
 use Rattle.asm_layout.specs.Outcome.{◌>>=◌}
-use Rattle.asm_parse.specs.declared.fault.AsmFault.{AsmFault}
+use Rattle.line_text.specs.declared.failure.LineFault.{LineFault}
+use Rattle.line_text.specs.declared.failure.Failure.{Failure}
+use Rattle.line_text.specs.Failing.{Gives}
 use Rattle.asm_parse.specs.declared.syntax.AsmLine.{AsmLine}
 use Rattle.line_text.specs.Lines.{LineValue, lines_of}
 use Rattle.asm_layout.specs.declared.section.Section.{Section}
@@ -195,8 +197,8 @@ added_laid (Some statement) before after h known =
 laid_from_laid : (before after : Layout) (lines : List LineValue) → laid_from before lines ≡ Ok after → IsLaid before → IsLaid after
 laid_from_laid before after [] h known = subst IsLaid (ok_is before after h) known
 laid_from_laid before after (line ∷ lines) h known =
-    let last : Layout → Result Layout AsmFault = λ l. laid_from l lines in
-    let next : Option AsmLine → Result Layout AsmFault = λ said. added said before >>= last in
+    let last : Layout → Result Layout (LineFault AsmWhy) = λ l. laid_from l lines in
+    let next : Option AsmLine → Result Layout (LineFault AsmWhy) = λ said. added said before >>= last in
     let says = bind_ok (due_of line) next after h in
     let adds = bind_ok (added says.0 before) last after says.2 in
     laid_from_laid adds.0 after lines adds.2 (added_laid says.0 before adds.0 adds.1 known)
@@ -208,6 +210,6 @@ laid_laid source layout h =
     laid_from_laid nothing_placed layout (lines_of source) h (record { text_fits = lit≤ tt; data_fits = lit≤ tt; text_is = refl; data_is = refl; start_is = tt })
 
 -- an answer that is due
-pub gives_laid : {X : Type 0} (view : X → Layout) (source : List ℕ) (answer : Result X AsmFault) → Gives view answer (laid source) → IfOk answer (λ x. IsLaid (view x))
+pub gives_laid : {X : Type 0} (view : X → Layout) (source : List ℕ) (answer : Result X (Failure (LineFault AsmWhy))) → Gives view answer (laid source) → IfOk answer (λ x. IsLaid (view x))
 gives_laid view source (Ok x) gives = laid_laid source (view x) gives
 gives_laid view source (Err e) gives = tt

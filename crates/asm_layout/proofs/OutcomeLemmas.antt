@@ -1,11 +1,8 @@
 -- What a chain of steps that succeeds has passed.
-use Rattle.std.proofs.Common.{◌≡◌, ℕ, Bool, true, false, Result, Ok, Err, refl, ap, cond, subst, sym}
-use Rattle.asm_parse.specs.Form.{Gives}
-use Rattle.asm_parse.specs.declared.fault.AsmFault.{AsmFault}
+use Rattle.std.proofs.Common.{◌≡◌, ℕ, Bool, true, false, Result, Ok, Err, refl, ap, cond}
+use Rattle.line_text.specs.Failing.{in_line}
 use Rattle.asm_parse.specs.declared.fault.AsmWhy.{AsmWhy}
-use Rattle.asm_layout.specs.declared.cause.Cause.{Cause}
-use Rattle.asm_layout.specs.declared.cause.Cause.TheVariants.{Why, OutOfMemory}
-use Rattle.asm_layout.specs.Outcome.{◌>>=◌, at_line, in_line, Means}
+use Rattle.asm_layout.specs.Outcome.{◌>>=◌}
 
 -- both steps of a chain
 pub bind_ok : {A B E : Type 0} (r : Result A E) (f : A → Result B E) (y : B) → (r >>= f) ≡ Ok y → (x : A) × (r ≡ Ok x) × (f x ≡ Ok y)
@@ -28,13 +25,3 @@ ok_is x y h = cc
 pub in_line_ok : {A : Type 0} (line : ℕ) (r : Result A AsmWhy) (x : A) → in_line line r ≡ Ok x → r ≡ Ok x
 in_line_ok line (Ok y) x h = ap Ok (ok_is y x h)
 in_line_ok line (Err e) x h = cc
-
--- what is due of a statement is due in its line
-means_in_line : {X Y : Type 0} (view : X → Y) (line : ℕ) (answer : Result X Cause) (due : Result Y AsmWhy) → Means view answer due → Gives view (at_line line answer) (in_line line due)
-means_in_line view line (Ok x) due means = ap (in_line line) means
-means_in_line view line (Err (Why why)) due means = ap (in_line line) means
-means_in_line view line (Err OutOfMemory) due means = tt
-
-pub line_gives : {X Y : Type 0} (view : X → Y) (line : ℕ) (answer : Result X Cause) (given : Result X AsmFault) (due : Result Y AsmWhy) →
-    Means view answer due → given ≡ at_line line answer → Gives view given (in_line line due)
-line_gives view line answer given due means is = subst (λ r. Gives view r (in_line line due)) (sym is) (means_in_line view line answer due means)

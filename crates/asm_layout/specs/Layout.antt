@@ -4,7 +4,8 @@ use Rattle.std.specs.Option.{is_some}
 use Rattle.std.specs.Str.{bytes_eq}
 use Rattle.asm_parse.specs.Expression.{ExpressionValue}
 use Rattle.asm_parse.specs.Form.{due_of}
-use Rattle.asm_parse.specs.declared.fault.AsmFault.{AsmFault}
+use Rattle.line_text.specs.declared.failure.LineFault.{LineFault}
+use Rattle.line_text.specs.Failing.{in_line}
 use Rattle.asm_parse.specs.declared.fault.AsmWhy.{AsmWhy}
 use Rattle.asm_parse.specs.declared.fault.AsmWhy.TheVariants.{Redefined, OutOfRange, Unaligned}
 use Rattle.asm_parse.specs.declared.syntax.AsmLine.{AsmLine}
@@ -13,7 +14,7 @@ use Rattle.asm_layout.specs.declared.section.Section.{Section}
 use Rattle.asm_layout.specs.declared.section.Section.TheVariants.{Text, Data}
 use Rattle.asm_layout.specs.Action.{Action, Put, Align, Enter, Define, action_of}
 use Rattle.asm_layout.specs.Content.{Content, Given, alignment, content_length}
-use Rattle.asm_layout.specs.Outcome.{◌>>=◌, in_line}
+use Rattle.asm_layout.specs.Outcome.{◌>>=◌}
 use Rattle.asm_layout.specs.Value.{Names, defined, value_of_name}
 
 -- what a statement puts, and where
@@ -144,18 +145,18 @@ stated statement layout = do
   acted statement.line (is_start statement.label) action after
 
 -- a line's statement, where it has one
-abbrev pub added : Option AsmLine → Layout → Result Layout AsmFault
+abbrev pub added : Option AsmLine → Layout → Result Layout (LineFault AsmWhy)
 added None layout = Ok layout
 added (Some statement) layout = in_line statement.line (stated statement layout)
 
 -- what a line says
-abbrev pub line_added : LineValue → Layout → Result Layout AsmFault
+abbrev pub line_added : LineValue → Layout → Result Layout (LineFault AsmWhy)
 line_added line layout = do
   said ← due_of line
   added said layout
 
 -- lines in order, up to the first fault
-abbrev pub laid_from : Layout → List LineValue → Result Layout AsmFault
+abbrev pub laid_from : Layout → List LineValue → Result Layout (LineFault AsmWhy)
 laid_from layout [] = Ok layout
 laid_from layout (line ∷ lines) = do
   said ← due_of line
@@ -163,5 +164,5 @@ laid_from layout (line ∷ lines) = do
   laid_from after lines
 
 -- the first pass over a source
-unfoldable pub laid : List ℕ → Result Layout AsmFault
+unfoldable pub laid : List ℕ → Result Layout (LineFault AsmWhy)
 laid source = laid_from nothing_placed (lines_of source)

@@ -5,16 +5,17 @@ ghost use Rattle.asm_layout.specs.Action.{Put, action_of, definition_in, directe
 ghost use Rattle.asm_layout.specs.Content.{Instruction};
 ghost use Rattle.asm_parse.specs.declared.syntax.AsmBody.TheVariants.{Op};
 ghost use Rattle.asm_layout.specs.declared.directive.Directive.TheVariants.{Enter, Numbers};
-ghost use Rattle.asm_layout.specs.Outcome.{Means, ok_seen};
+ghost use Rattle.line_text.specs.Failing.{Gives};
+ghost use Rattle.asm_layout.specs.Outcome.{ok_seen};
 ghost use Rattle.asm_layout.specs.Seen.{action_seen, draft_seen, expressions_seen, operands_seen};
 
-use crate::cause::Cause;
 use crate::content::Content;
 use crate::directive::Directive;
 use crate::draft::Draft;
 use crate::number::NumberSize;
 use crate::section::Section;
 use asm_parse::{Arg, AsmBody, AsmWhy, Expression, Inner, Name, Operand};
+use line_text::Failure;
 use mips_text::find_text;
 use std::alloc::Global;
 
@@ -38,8 +39,8 @@ pub(crate) fn read_action<'a>(
     alloc: Global,
     section: Section,
     body: &AsmBody<'a>,
-) -> Result<Action<'a>, Cause>
-    ensures { Means action_seen result (action_of section body.now) }
+) -> Result<Action<'a>, Failure<AsmWhy>>
+    ensures { Gives action_seen result (action_of section body.now) }
 {
     match body {
         AsmBody::Nothing => Ok(Action::Put(Content::Zeros(0))),
@@ -49,7 +50,7 @@ pub(crate) fn read_action<'a>(
         }
         AsmBody::Directive { name, args } => match Directive::named(name.bytes()) {
             Some(directive) => directed(alloc, directive, args.list()),
-            None => Err(Cause::Why(AsmWhy::UnknownName)),
+            None => Err(Failure::Fault(AsmWhy::UnknownName)),
         },
     }
 }
@@ -72,8 +73,8 @@ fn directed<'a>(
     alloc: Global,
     directive: Directive,
     operands: &[Arg<'a>],
-) -> Result<Action<'a>, Cause>
-    ensures { Means action_seen result (directed directive (operands_seen operands.now)) }
+) -> Result<Action<'a>, Failure<AsmWhy>>
+    ensures { Gives action_seen result (directed directive (operands_seen operands.now)) }
 {
     match directive {
         Directive::Enter(section) => enter(section, operands),
@@ -91,44 +92,52 @@ fn directed<'a>(
 
 /// To go on in a section.
 #[tactic(auto, unfolding(crate::specs::Action::directed))]
-fn enter<'a>(section: Section, operands: &[Arg<'a>]) -> Result<Action<'a>, Cause>
-    ensures { Means action_seen result (directed (Enter section) (operands_seen operands.now)) }
+fn enter<'a>(section: Section, operands: &[Arg<'a>]) -> Result<Action<'a>, Failure<AsmWhy>>
+    ensures { Gives action_seen result (directed (Enter section) (operands_seen operands.now)) }
 {
     match operands {
         [] => Ok(Action::Enter(section)),
-        _ => Err(Cause::Why(AsmWhy::Syntax)),
+        _ => Err(Failure::Fault(AsmWhy::Syntax)),
     }
 }
 
 /// To put one number or more.
 #[tactic(auto, unfolding(crate::specs::Action::directed))]
-fn numbers<'a>(alloc: Global, size: NumberSize, operands: &[Arg<'a>]) -> Result<Action<'a>, Cause>
-    ensures { Means action_seen result (directed (Numbers size) (operands_seen operands.now)) }
+fn numbers<'a>(
+    alloc: Global,
+    size: NumberSize,
+    operands: &[Arg<'a>],
+) -> Result<Action<'a>, Failure<AsmWhy>>
+    ensures { Gives action_seen result (directed (Numbers size) (operands_seen operands.now)) }
 {
     if operands.is_empty() {
-        return Err(Cause::Why(AsmWhy::Syntax));
+        return Err(Failure::Fault(AsmWhy::Syntax));
     }
     let expressions = values(alloc, operands)?;
     Ok(Action::Put(Content::Numbers(size, expressions)))
 }
 
 /// Each operand an expression.
-fn values<'a>(alloc: Global, operands: &[Arg<'a>]) -> Result<Vec<Expression<'a>>, Cause>
-    ensures { Means (λ v. expressions_seen v.items) result (values_in (operands_seen operands.now)) }
+fn values<'a>(alloc: Global, operands: &[Arg<'a>]) -> Result<Vec<Expression<'a>>, Failure<AsmWhy>>
+    ensures { Gives (λ v. expressions_seen v.items) result (values_in (operands_seen operands.now)) }
 {
     let mut values = Vec::with_capacity(alloc, operands.len())?;
     for arg in operands {
         match &arg.operand {
             Operand::Value(value) => values.push(*value)?,
-            _ => return Err(Cause::Why(AsmWhy::Syntax)),
+            _ => return Err(Failure::Fault(AsmWhy::Syntax)),
         }
     }
     Ok(values)
 }
 
 /// To put the bytes that a quoted text means, and an ending behind them.
-fn text<'a>(alloc: Global, ending: &[u8], operands: &[Arg<'a>]) -> Result<Action<'a>, Cause>
-    ensures { Means action_seen result (text_in ending.now (operands_seen operands.now)) }
+fn text<'a>(
+    alloc: Global,
+    ending: &[u8],
+    operands: &[Arg<'a>],
+) -> Result<Action<'a>, Failure<AsmWhy>>
+    ensures { Gives action_seen result (text_in ending.now (operands_seen operands.now)) }
 {
     let mut bytes = Vec::from_slice(alloc, quoted(operands)?)?;
     bytes.extend_from_slice(ending)?;
@@ -136,24 +145,24 @@ fn text<'a>(alloc: Global, ending: &[u8], operands: &[Arg<'a>]) -> Result<Action
 }
 
 /// The bytes of the quoted text that the one operand is.
-fn quoted<'b>(operands: &'b [Arg<'_>]) -> Result<&'b [u8], Cause>
-    ensures { Means (λ text. text.now) result (quoted_in (operands_seen operands.now)) }
+fn quoted<'b>(operands: &'b [Arg<'_>]) -> Result<&'b [u8], Failure<AsmWhy>>
+    ensures { Gives (λ text. text.now) result (quoted_in (operands_seen operands.now)) }
 {
     let [a] = operands else {
-        return Err(Cause::Why(AsmWhy::Syntax));
+        return Err(Failure::Fault(AsmWhy::Syntax));
     };
     match &a.operand {
         Operand::Quoted(text) => Ok(text.as_slice()),
-        _ => Err(Cause::Why(AsmWhy::Syntax)),
+        _ => Err(Failure::Fault(AsmWhy::Syntax)),
     }
 }
 
 /// The number that the one operand is written as.
-fn number(operands: &[Arg<'_>]) -> Result<u32, Cause>
-    ensures { Means (λ number. number) result (number_in (operands_seen operands.now)) }
+fn number(operands: &[Arg<'_>]) -> Result<u32, Failure<AsmWhy>>
+    ensures { Gives (λ number. number) result (number_in (operands_seen operands.now)) }
 {
     let [a] = operands else {
-        return Err(Cause::Why(AsmWhy::Syntax));
+        return Err(Failure::Fault(AsmWhy::Syntax));
     };
     match &a.operand {
         Operand::Value(
@@ -162,7 +171,7 @@ fn number(operands: &[Arg<'_>]) -> Result<u32, Cause>
                 inner: Inner::Number(number),
             },
         ) => Ok(*number),
-        _ => Err(Cause::Why(AsmWhy::Syntax)),
+        _ => Err(Failure::Fault(AsmWhy::Syntax)),
     }
 }
 

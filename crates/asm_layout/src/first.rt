@@ -1,17 +1,17 @@
 //! The first pass over a source.
 ghost use Rattle.std.specs.Prelude.{◌<◌, ◌^◌, length, IfOk};
-ghost use Rattle.asm_parse.specs.Form.{Gives};
+ghost use Rattle.line_text.specs.Failing.{Gives};
 ghost use Rattle.asm_layout.specs.Laid.{IsLaid};
 ghost use Rattle.asm_layout.specs.Layout.{laid};
 ghost use Rattle.asm_layout.specs.Seen.{layout_seen};
 
 use crate::layout::Layout;
-use asm_parse::AsmFault;
-use line_text::cut;
+use asm_parse::AsmWhy;
+use line_text::{TextFailure, cut};
 use std::alloc::Global;
 
 /// What the lines of a source place, or the first fault of the first pass (`docs/ASSEMBLER.md`).
-pub fn lay_out<'a>(alloc: Global, source: &'a [u8]) -> Result<Layout<'a>, AsmFault>
+pub fn lay_out<'a>(alloc: Global, source: &'a [u8]) -> Result<Layout<'a>, TextFailure<AsmWhy>>
     requires { length source.now < 2 ^ 27 }
     // It is what the source's lines place; a fault is the one that the source has.
     ensures value { Gives layout_seen result (laid source.now) }
@@ -23,7 +23,7 @@ pub fn lay_out<'a>(alloc: Global, source: &'a [u8]) -> Result<Layout<'a>, AsmFau
 
 /// What the lines of a source place.
 #[tactic(auto, unfolding(crate::specs::Layout::laid))]
-fn laid<'a>(alloc: Global, source: &'a [u8]) -> Result<Layout<'a>, AsmFault>
+fn laid<'a>(alloc: Global, source: &'a [u8]) -> Result<Layout<'a>, TextFailure<AsmWhy>>
     requires { length source.now < 2 ^ 27 }
     ensures { Gives layout_seen result (laid source.now) }
 {

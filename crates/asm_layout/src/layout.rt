@@ -2,16 +2,14 @@
 ghost use Rattle.std.specs.Prelude.{◌≤◌, ◌<◌};
 
 use crate::action::{Action, read_action};
-use crate::cause::Cause;
 use crate::content::Content;
-use crate::line::at_line;
 use crate::names::Names;
 use crate::padding::padding;
 use crate::section::{SECTION_LIMIT, Section};
 use crate::start::is_start;
 use crate::value::defined;
-use asm_parse::{AsmFault, AsmLine, AsmWhy, Expression, Name, parse_line};
-use line_text::Line;
+use asm_parse::{AsmLine, AsmWhy, Expression, Name, parse_line};
+use line_text::{Failure, Line, TextFailure, at_line};
 use std::alloc::Global;
 
 /// What a statement puts, and where.
@@ -54,11 +52,10 @@ const LARGEST_ALIGNMENT: u32 = 12;
 
 impl<'a> Layout<'a> {
     ghost use Rattle.std.specs.Prelude.{◌≡◌, ◌+◌, ◌≤◌, ◌<◌, ◌^◌, None, length};
-    ghost use Rattle.asm_parse.specs.Form.{Gives};
+    ghost use Rattle.line_text.specs.Failing.{Gives};
     ghost use Rattle.asm_parse.specs.Seen.{expression_seen};
     ghost use Rattle.asm_layout.specs.Layout.{acted, appended, equated, is_start, labelled, line_added, nothing_placed, padded, place_of, put, stated, used_by};
     ghost use Rattle.asm_layout.specs.Content.{content_length};
-    ghost use Rattle.asm_layout.specs.Outcome.{Means};
     ghost use Rattle.line_text.specs.LineView.{line_value};
     ghost use Rattle.asm_layout.specs.Seen.{action_seen, content_seen, layout_seen};
 
@@ -97,7 +94,7 @@ impl<'a> Layout<'a> {
 
     /// Adds what a line says.
     #[tactic(auto, using(crate::proofs::LineLemmas::statement_gives))]
-    pub(crate) fn add(&mut self, alloc: Global, line: &Line<'a>) -> Result<(), AsmFault>
+    pub(crate) fn add(&mut self, alloc: Global, line: &Line<'a>) -> Result<(), TextFailure<AsmWhy>>
         requires { line.now.start + length line.now.text.now < 2 ^ 32 }
         ensures { Gives (λ _. layout_seen self.new) result (line_added (line_value line.now) (layout_seen self.old)) }
     {
@@ -109,8 +106,8 @@ impl<'a> Layout<'a> {
 
     /// Reads a statement's operation, gives its label a value, and does what it asks for.
     #[tactic(auto, unfolding(crate::specs::Layout::stated))]
-    fn state(&mut self, alloc: Global, statement: &AsmLine<'a>) -> Result<(), Cause>
-        ensures { Means (λ _. layout_seen self.new) result (stated statement.now (layout_seen self.old)) }
+    fn state(&mut self, alloc: Global, statement: &AsmLine<'a>) -> Result<(), Failure<AsmWhy>>
+        ensures { Gives (λ _. layout_seen self.new) result (stated statement.now (layout_seen self.old)) }
     {
         let action = read_action(alloc, self.section, &statement.body)?;
         self.label(alloc, &statement.label)?;
@@ -118,14 +115,14 @@ impl<'a> Layout<'a> {
     }
 
     /// Gives a label the address of its statement.
-    fn label(&mut self, alloc: Global, label: &Option<Name>) -> Result<(), Cause>
-        ensures { Means (λ _. layout_seen self.new) result (labelled label.now (layout_seen self.old)) }
+    fn label(&mut self, alloc: Global, label: &Option<Name>) -> Result<(), Failure<AsmWhy>>
+        ensures { Gives (λ _. layout_seen self.new) result (labelled label.now (layout_seen self.old)) }
     {
         let Some(name) = label else {
             return Ok(());
         };
         if self.names.value(name.bytes()).is_some() {
-            return Err(Cause::Why(AsmWhy::Redefined));
+            return Err(Failure::Fault(AsmWhy::Redefined));
         }
         let place = self.place();
         self.names.add(alloc, name.bytes(), place)?;
@@ -143,8 +140,8 @@ impl<'a> Layout<'a> {
         line: u32,
         is_start: bool,
         action: Action<'a>,
-    ) -> Result<(), Cause>
-        ensures { Means (λ _. layout_seen self.new) result (acted line is_start (action_seen action.entry) (layout_seen self.old)) }
+    ) -> Result<(), Failure<AsmWhy>>
+        ensures { Gives (λ _. layout_seen self.new) result (acted line is_start (action_seen action.entry) (layout_seen self.old)) }
     {
         match action {
             Action::Put(content) => self.put(line, is_start, content),
@@ -162,11 +159,11 @@ impl<'a> Layout<'a> {
     }
 
     /// Puts zeros up to a multiple of a power of 2.
-    fn align(&mut self, line: u32, is_start: bool, power: u32) -> Result<(), Cause>
-        ensures { Means (λ _. layout_seen self.new) result (padded line is_start power (layout_seen self.old)) }
+    fn align(&mut self, line: u32, is_start: bool, power: u32) -> Result<(), Failure<AsmWhy>>
+        ensures { Gives (λ _. layout_seen self.new) result (padded line is_start power (layout_seen self.old)) }
     {
         if power > LARGEST_ALIGNMENT {
-            return Err(Cause::Why(AsmWhy::OutOfRange));
+            return Err(Failure::Fault(AsmWhy::OutOfRange));
         }
         let count = padding(self.place(), 1 << power);
         self.put(line, is_start, Content::Zeros(count))
@@ -178,11 +175,11 @@ impl<'a> Layout<'a> {
         alloc: Global,
         constant: &[u8],
         expression: Expression<'_>,
-    ) -> Result<(), Cause>
-        ensures { Means (λ _. layout_seen self.new) result (equated constant.now (expression_seen expression.entry) (layout_seen self.old)) }
+    ) -> Result<(), Failure<AsmWhy>>
+        ensures { Gives (λ _. layout_seen self.new) result (equated constant.now (expression_seen expression.entry) (layout_seen self.old)) }
     {
         if self.names.value(constant).is_some() {
-            return Err(Cause::Why(AsmWhy::Redefined));
+            return Err(Failure::Fault(AsmWhy::Redefined));
         }
         let value = defined(&self.names, expression)?;
         self.names.add(alloc, constant, value)?;
@@ -190,15 +187,20 @@ impl<'a> Layout<'a> {
     }
 
     /// Puts a content at the place, where it is aligned and the section has room.
-    fn put(&mut self, line: u32, is_start: bool, content: Content<'a>) -> Result<(), Cause>
-        ensures { Means (λ _. layout_seen self.new) result (put line is_start (content_seen content.entry) (layout_seen self.old)) }
+    fn put(
+        &mut self,
+        line: u32,
+        is_start: bool,
+        content: Content<'a>,
+    ) -> Result<(), Failure<AsmWhy>>
+        ensures { Gives (λ _. layout_seen self.new) result (put line is_start (content_seen content.entry) (layout_seen self.old)) }
     {
         if self.place() % content.alignment() != 0 {
-            return Err(Cause::Why(AsmWhy::Unaligned));
+            return Err(Failure::Fault(AsmWhy::Unaligned));
         }
         match content.length_within(SECTION_LIMIT - self.used()) {
             Some(length) => self.append(line, is_start, content, length),
-            None => Err(Cause::Why(AsmWhy::OutOfRange)),
+            None => Err(Failure::Fault(AsmWhy::OutOfRange)),
         }
     }
 
@@ -209,10 +211,10 @@ impl<'a> Layout<'a> {
         is_start: bool,
         content: Content<'a>,
         length: u32,
-    ) -> Result<(), Cause>
+    ) -> Result<(), Failure<AsmWhy>>
         requires length { length ≡ content_length (content_seen content) }
         requires room { used_by self.old.section (layout_seen self.old) + length ≤ 1048576 }
-        ensures { Means (λ _. layout_seen self.new) result (Ok (appended line is_start (content_seen content.entry) (layout_seen self.old))) }
+        ensures { Gives (λ _. layout_seen self.new) result (Ok (appended line is_start (content_seen content.entry) (layout_seen self.old))) }
     {
         let placed = Placed {
             line,

@@ -6,13 +6,11 @@
 #![tactic(auto)]
 
 mod action;
-mod cause;
 mod content;
 mod directive;
 mod draft;
 mod first;
 mod layout;
-mod line;
 mod names;
 mod number;
 mod padding;
@@ -22,12 +20,10 @@ mod start;
 mod value;
 mod word;
 
-pub use cause::Cause;
 pub use content::Content;
 pub use draft::Draft;
 pub use first::lay_out;
 pub use layout::{Layout, Placed};
-pub use line::at_line;
 pub use names::Names;
 pub use number::NumberSize;
 pub use section::Section;

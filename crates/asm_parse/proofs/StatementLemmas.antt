@@ -13,21 +13,23 @@ use Rattle.asm_parse.specs.declared.syntax.AsmLine.{AsmLine}
 use Rattle.line_text.specs.Characters.{is_blank, is_text_byte}
 use Rattle.asm_parse.specs.Bytes.{is_name_byte}
 use Rattle.asm_parse.specs.Words.{begins_name}
-use Rattle.asm_parse.specs.Form.{Piece, skip, before_mark, joined, said, after_label, label_of, body_named, body_of, operands_of, statement_of, line_of, due_of, statements_of, parsed, Gives}
+use Rattle.asm_parse.specs.Form.{Piece, skip, before_mark, joined, said, after_label, label_of, body_named, body_of, operands_of, statement_of, line_of, due_of, statements_of, parsed}
 use Rattle.asm_parse.specs.Span.{IsBare, IsCut, IsCutArg, args_in}
 use Rattle.asm_parse.proofs.PartLemmas.{IsPart, part_span, part_within, part_front, part_skip, part_after_blanks, part_trimmed, part_itself, part_line}
 use Rattle.asm_parse.proofs.SpanLemmas.{operands_cut}
-use Rattle.asm_parse.specs.declared.fault.AsmFault.{AsmFault}
-use Rattle.asm_parse.specs.declared.fault.AsmFault.TheVariants.{At}
+use Rattle.line_text.specs.declared.failure.LineFault.{LineFault}
+use Rattle.line_text.specs.declared.failure.Failure.{Failure}
+use Rattle.line_text.specs.Failing.{Gives, fault_at}
+use Rattle.asm_parse.specs.declared.fault.AsmWhy.{AsmWhy}
 use Rattle.asm_parse.specs.declared.fault.AsmWhy.TheVariants.{Syntax}
 use Rattle.asm_parse.specs.declared.quoting.Quoting.TheVariants.{Outside}
 use Rattle.asm_parse.proofs.BareLemmas.{blanks_back, front_bare, comment_gone}
 use Rattle.asm_parse.proofs.MarkLemmas.{before_mark_front}
 
-same_Ok : (xs ys : List AsmLine) → ◌≡◌ {A = Result (List AsmLine) AsmFault} (Ok xs) (Ok ys) → xs ≡ ys
+same_Ok : (xs ys : List AsmLine) → ◌≡◌ {A = Result (List AsmLine) (LineFault AsmWhy)} (Ok xs) (Ok ys) → xs ≡ ys
 same_Ok xs ys is = cc
 
-ok_some : (o : Option (Option AsmLine)) (fault : AsmFault) (x : Option AsmLine) → ok_or o fault ≡ Ok x → o ≡ Some x
+ok_some : (o : Option (Option AsmLine)) (fault : LineFault AsmWhy) (x : Option AsmLine) → ok_or o fault ≡ Ok x → o ≡ Some x
 ok_some None fault x is = absurd cc
 ok_some (Some y) fault x is = ap Some cc
 
@@ -36,11 +38,11 @@ not_zero zero is = absurd cc
 not_zero (suc n) is = omega arith
 
 -- statements before those of the lines to come
-abbrev pub before_rest : List AsmLine → Result (List AsmLine) AsmFault → Result (List AsmLine) AsmFault
+abbrev pub before_rest : List AsmLine → Result (List AsmLine) (LineFault AsmWhy) → Result (List AsmLine) (LineFault AsmWhy)
 before_rest statements (Ok more) = Ok (statements ++ more)
 before_rest statements (Err fault) = Err fault
 
-pub before_rest_none : (rest : Result (List AsmLine) AsmFault) → before_rest [] rest ≡ rest
+pub before_rest_none : (rest : Result (List AsmLine) (LineFault AsmWhy)) → before_rest [] rest ≡ rest
 before_rest_none (Ok more) = refl
 before_rest_none (Err fault) = refl
 
@@ -156,9 +158,9 @@ statements_cut source [] statements placed is = subst (AllByRecursion (IsCut sou
 statements_cut source (line ∷ lines) statements placed is =
     by_line (line_of line) refl (statements_of lines) (λ more at. statements_cut source lines more placed.1 at) is
   where
-    by_line : (o : Option (Option AsmLine)) → line_of line ≡ o → (rest : Result (List AsmLine) AsmFault) →
+    by_line : (o : Option (Option AsmLine)) → line_of line ≡ o → (rest : Result (List AsmLine) (LineFault AsmWhy)) →
         ((more : List AsmLine) → rest ≡ Ok more → AllByRecursion (IsCut source) more) →
-        joined (ok_or o (At line.number Syntax)) rest ≡ Ok statements → AllByRecursion (IsCut source) statements
+        joined (ok_or o (fault_at line.number Syntax)) rest ≡ Ok statements → AllByRecursion (IsCut source) statements
     by_line None at rest later is = absurd cc
     by_line (Some one) at (Err fault) later is = absurd cc
     by_line (Some None) at (Ok more) later is = subst (AllByRecursion (IsCut source)) (same_Ok _ _ is) (later more refl)
@@ -166,14 +168,14 @@ statements_cut source (line ∷ lines) statements placed is =
         subst (AllByRecursion (IsCut source)) (same_Ok _ _ is) (line_cut source line one placed.0 at, later more refl)
 
 -- the spans of what is answered
-pub parsed_cut : {X : Type 0} (view : X → List AsmLine) (source : List ℕ) (r : Result X AsmFault) → AllByRecursion (IsPlaced source) (lines_of source) →
+pub parsed_cut : {X : Type 0} (view : X → List AsmLine) (source : List ℕ) (r : Result X (Failure (LineFault AsmWhy))) → AllByRecursion (IsPlaced source) (lines_of source) →
     Gives view r (parsed source) → IfOk r (λ x. AllByRecursion (IsCut source) (view x))
 unfolding parsed
 parsed_cut view source (Ok x) placed is = statements_cut source (lines_of source) (view x) placed is
 parsed_cut view source (Err fault) placed is = tt
 
-pub line_said_cut : (source : List ℕ) (line : LineValue) (r : Result (Option AsmLine) AsmFault) → Gives (λ said. said) r (due_of line) → IsPlaced source line →
+pub line_said_cut : (source : List ℕ) (line : LineValue) (r : Result (Option AsmLine) (Failure (LineFault AsmWhy))) → Gives (λ said. said) r (due_of line) → IsPlaced source line →
     IfOk r (λ said. IfSome said (IsCut source))
 line_said_cut source line (Err fault) is placed = tt
 line_said_cut source line (Ok None) is placed = tt
-line_said_cut source line (Ok (Some statement)) is placed = line_cut source line statement placed (ok_some (line_of line) (At line.number Syntax) (Some statement) is)
+line_said_cut source line (Ok (Some statement)) is placed = line_cut source line statement placed (ok_some (line_of line) (fault_at line.number Syntax) (Some statement) is)

@@ -1,5 +1,5 @@
 -- The form of a line: `[label:] [operation]`, with blanks around it and a comment behind it.
-use Rattle.std.specs.Prelude.{◌≡◌, ℕ, ◌+◌, ◌-◌, Bool, true, false, not, List, [], ◌∷◌, ◌++◌, Option, Some, None, Result, Ok, Err, ◌==◌, ◌&&◌, if◌then◌else◌, length, take, drop, codes, nat_eq}
+use Rattle.std.specs.Prelude.{ℕ, ◌+◌, ◌-◌, Bool, true, false, not, List, [], ◌∷◌, ◌++◌, Option, Some, None, Result, Ok, Err, ◌==◌, ◌&&◌, if◌then◌else◌, length, take, drop, codes, nat_eq}
 use Rattle.std.specs.List.{list_all, starts_with, take_while, prefix_len, suffix_len, onto_first}
 use Rattle.std.specs.Option.{option_map, option_and_then, option_to_list, ok_or}
 use Rattle.std.specs.Str.{byte}
@@ -8,8 +8,9 @@ use Rattle.asm_parse.specs.Arg.{ArgValue}
 use Rattle.asm_parse.specs.declared.syntax.AsmBody.{AsmBody}
 use Rattle.asm_parse.specs.declared.syntax.AsmBody.TheVariants.{Nothing, Op, Directive}
 use Rattle.asm_parse.specs.declared.syntax.AsmLine.{AsmLine}
-use Rattle.asm_parse.specs.declared.fault.AsmFault.{AsmFault}
-use Rattle.asm_parse.specs.declared.fault.AsmFault.TheVariants.{At, OutOfMemory}
+use Rattle.line_text.specs.declared.failure.LineFault.{LineFault}
+use Rattle.line_text.specs.Failing.{fault_at}
+use Rattle.asm_parse.specs.declared.fault.AsmWhy.{AsmWhy}
 use Rattle.asm_parse.specs.declared.fault.AsmWhy.TheVariants.{Syntax}
 use Rattle.asm_parse.specs.declared.quoting.Quoting.{Quoting}
 use Rattle.asm_parse.specs.declared.quoting.Quoting.TheVariants.{Outside, Inside, Escape}
@@ -134,26 +135,20 @@ line_of line =
     option_map (λ statement. Some statement) (statement_of line.number (said line))
 
 -- what is due for a line: its statement, or that it has another form
-abbrev pub due_of : LineValue → Result (Option AsmLine) AsmFault
-due_of line = ok_or (line_of line) (At line.number Syntax)
+abbrev pub due_of : LineValue → Result (Option AsmLine) (LineFault AsmWhy)
+due_of line = ok_or (line_of line) (fault_at line.number Syntax)
 
 -- a line's statement before those of the lines behind it
-abbrev pub joined : Result (Option AsmLine) AsmFault → Result (List AsmLine) AsmFault → Result (List AsmLine) AsmFault
+abbrev pub joined : Result (Option AsmLine) (LineFault AsmWhy) → Result (List AsmLine) (LineFault AsmWhy) → Result (List AsmLine) (LineFault AsmWhy)
 joined (Err fault) rest = Err fault
 joined (Ok said) (Err fault) = Err fault
 joined (Ok said) (Ok statements) = Ok (option_to_list said ++ statements)
 
 -- the statements of lines in order, or the first line of another form
-abbrev pub statements_of : List LineValue → Result (List AsmLine) AsmFault
+abbrev pub statements_of : List LineValue → Result (List AsmLine) (LineFault AsmWhy)
 statements_of [] = Ok []
 statements_of (line ∷ lines) = joined (due_of line) (statements_of lines)
 
 -- what a source says: its statements in order, or the first line of another form
-unfoldable pub parsed : List ℕ → Result (List AsmLine) AsmFault
+unfoldable pub parsed : List ℕ → Result (List AsmLine) (LineFault AsmWhy)
 parsed source = statements_of (lines_of source)
-
--- an answer, seen by a view, is what is due, unless memory ran out
-abbrev pub Gives : {X Y : Type 0} → (X → Y) → Result X AsmFault → Result Y AsmFault → Type 0
-Gives view (Ok x) due = due ≡ Ok (view x)
-Gives view (Err OutOfMemory) due = Unit {0}
-Gives view (Err (At line why)) due = due ≡ Err (At line why)

@@ -1,9 +1,9 @@
 //! Why a source can't be assembled.
-ghost use Rattle.asm_parse.specs.declared.fault.AsmFault.TheVariants.{OutOfMemory as NoMemory};
+ghost use Rattle.line_text.specs.declared.failure.Failure.TheVariants.{Fault as IsFault};
 ghost use Rattle.asm_parse.specs.Why.{why_text};
 ghost use Rattle.std.specs.Prelude.{◌≡◌};
 
-use std::alloc::{AllocError, AllocFailed};
+use line_text::Failure;
 
 /// What is wrong in a line. The faults are described in `docs/ASSEMBLER.md`.
 #[derive(Clone, Copy)]
@@ -41,32 +41,10 @@ impl AsmWhy {
     }
 }
 
-/// Why there is no answer.
-#[derive(Clone, Copy)]
-pub enum AsmFault {
-    /// A line is at fault, by its number from 1.
-    At {
-        /// The line's number.
-        line: u32,
-        /// What is wrong.
-        why: AsmWhy,
-    },
-    /// Memory ran out.
-    OutOfMemory,
-}
+impl From<AsmWhy> for Failure<AsmWhy> {
+    ghost from_gives = { λ why e. e ≡ IsFault why };
 
-impl From<AllocError> for AsmFault {
-    ghost from_gives = { λ _ e. e ≡ NoMemory };
-
-    fn from(_e: AllocError) -> AsmFault {
-        AsmFault::OutOfMemory
-    }
-}
-
-impl<T: Drop> From<AllocFailed<T>> for AsmFault {
-    ghost from_gives = { λ _ e. e ≡ NoMemory };
-
-    fn from(_e: AllocFailed<T>) -> AsmFault {
-        AsmFault::OutOfMemory
+    fn from(why: AsmWhy) -> Failure<AsmWhy> {
+        Failure::Fault(why)
     }
 }

@@ -19,7 +19,7 @@ mod syntax;
 mod words;
 
 pub use expression::{Expression, Inner};
-pub use fault::{AsmFault, AsmWhy};
+pub use fault::AsmWhy;
 pub use laws::{encloses_high, encloses_low};
 pub use lines::{parse, parse_line};
 pub use register::Register;

@@ -2,7 +2,8 @@
 ghost use Rattle.std.specs.Prelude.{◌≡◌, ℕ, ◌+◌, ◌^◌, ◌<◌, ◌≤◌, List, length, IfOk, IfSome};
 ghost use Rattle.std.specs.Option.{option_copied};
 ghost use Rattle.line_text.specs.LineView.{line_value};
-ghost use Rattle.asm_parse.specs.Form.{body_named, body_of, due_of, label_of, before_mark, parsed, said, statement_of, Gives};
+ghost use Rattle.asm_parse.specs.Form.{body_named, body_of, due_of, label_of, before_mark, parsed, said, statement_of};
+ghost use Rattle.line_text.specs.Failing.{Gives};
 ghost use Rattle.asm_parse.specs.declared.quoting.Quoting.TheVariants.{Outside};
 ghost use Rattle.asm_parse.specs.PieceSeen.{piece_seen};
 ghost use Rattle.std.specs.List.{AllByRecursion};
@@ -10,19 +11,19 @@ ghost use Rattle.std.specs.Str.{byte};
 ghost use Rattle.line_text.specs.Lines.{IsPlaced, lines_of};
 ghost use Rattle.asm_parse.specs.Span.{IsCut};
 
-use crate::fault::{AsmFault, AsmWhy};
+use crate::fault::AsmWhy;
 use crate::marks::mark_place;
 use crate::operands::operands;
 use crate::piece::Piece;
 use crate::syntax::{Args, AsmBody, AsmLine, Name};
 use crate::words::{begins_name, name_length};
-use line_text::{Line, cut, is_text};
+use line_text::{Line, TextFailure, cut, is_text};
 use std::alloc::{AllocError, Global};
 
 /// The statements of a source in the order of its lines, one for each line that has a statement. A fault
 /// is `Syntax` at the first line of another form, or that memory ran out. The form is described in
 /// `docs/ASSEMBLER.md`.
-pub fn parse(alloc: Global, source: &[u8]) -> Result<Vec<AsmLine<'_>>, AsmFault>
+pub fn parse(alloc: Global, source: &[u8]) -> Result<Vec<AsmLine<'_>>, TextFailure<AsmWhy>>
     requires { length source.now < 2 ^ 27 }
     // The statements, or the first line of another form.
     ensures said { Gives (λ lines. lines.items) result (parsed source.now) }
@@ -34,7 +35,7 @@ pub fn parse(alloc: Global, source: &[u8]) -> Result<Vec<AsmLine<'_>>, AsmFault>
 
 /// The statements of a source.
 #[tactic(auto, unfolding(crate::specs::Form::parsed))]
-fn statements(alloc: Global, source: &[u8]) -> Result<Vec<AsmLine<'_>>, AsmFault>
+fn statements(alloc: Global, source: &[u8]) -> Result<Vec<AsmLine<'_>>, TextFailure<AsmWhy>>
     requires { length source.now < 2 ^ 27 }
     ensures said { Gives (λ lines. lines.items) result (parsed source.now) }
     ensures placed { AllByRecursion (IsPlaced source.now) (lines_of source.now) }
@@ -50,7 +51,10 @@ fn statements(alloc: Global, source: &[u8]) -> Result<Vec<AsmLine<'_>>, AsmFault
 
 /// The statement of a line, where it has one. A fault is `Syntax` where the line has another form, or
 /// that memory ran out.
-pub fn parse_line<'a>(alloc: Global, line: &Line<'a>) -> Result<Option<AsmLine<'a>>, AsmFault>
+pub fn parse_line<'a>(
+    alloc: Global,
+    line: &Line<'a>,
+) -> Result<Option<AsmLine<'a>>, TextFailure<AsmWhy>>
     requires { line.now.start + length line.now.text.now < 2 ^ 32 }
     // The statement, if there is one, or that the line has another form.
     ensures said { Gives (λ said. said) result (due_of (line_value line.now)) }
@@ -62,14 +66,14 @@ pub fn parse_line<'a>(alloc: Global, line: &Line<'a>) -> Result<Option<AsmLine<'
 
 /// The statement of a line.
 #[tactic(auto, unfolding(crate::specs::Form::line_of))]
-fn statement_in<'a>(alloc: Global, line: &Line<'a>) -> Result<Option<AsmLine<'a>>, AsmFault>
+fn statement_in<'a>(
+    alloc: Global,
+    line: &Line<'a>,
+) -> Result<Option<AsmLine<'a>>, TextFailure<AsmWhy>>
     requires { line.now.start + length line.now.text.now < 2 ^ 32 }
     ensures { Gives (λ said. said) result (due_of (line_value line.now)) }
 {
-    let syntax = AsmFault::At {
-        line: line.number,
-        why: AsmWhy::Syntax,
-    };
+    let syntax = line.breaks(AsmWhy::Syntax);
     if !is_text(line.text) {
         return Err(syntax);
     }

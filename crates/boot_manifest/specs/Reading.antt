@@ -1,15 +1,15 @@
 -- The first fault of a manifest, and what it says if it has none.
-use Rattle.std.specs.Prelude.{ℕ, zero, suc, ◌≡◌, List, [], ◌∷◌, Option, Some, None, Result, Err, nat_lt, nat_le, if◌then◌else◌, codes}
+use Rattle.std.specs.Prelude.{ℕ, zero, suc, List, [], ◌∷◌, Option, Some, None, Result, Err, nat_lt, nat_le, if◌then◌else◌, codes}
 use Rattle.std.specs.List.{filter_map}
 use Rattle.std.specs.Option.{ok_or, option_and_then, option_map, option_or}
 use Rattle.std.specs.Result.{result_err, result_ok, result_unwrap_or}
 use Rattle.aegis_limits.specs.Limits.{least_pages, most_pages, least_quantum, most_quantum, most_environments}
+use Rattle.line_text.specs.declared.failure.LineFault.{LineFault}
+use Rattle.line_text.specs.Failing.{fault_at}
 use Rattle.line_text.specs.Lines.{LineValue, lines_of}
 use Rattle.line_text.specs.Number.{number_within}
 use Rattle.line_text.specs.Statements.{end_of, statements_of}
 use Rattle.line_text.specs.Words.{line_words}
-use Rattle.boot_manifest.specs.declared.fault.ManifestFault.{ManifestFault}
-use Rattle.boot_manifest.specs.declared.fault.ManifestFault.TheVariants.{At, OutOfMemory}
 use Rattle.boot_manifest.specs.declared.fault.ManifestWhy.{ManifestWhy}
 use Rattle.boot_manifest.specs.declared.fault.ManifestWhy.TheVariants.{Syntax, Range, Many}
 use Rattle.boot_manifest.specs.Forms.{count_form, env_form, slots_form}
@@ -61,13 +61,13 @@ line_fault (suc (suc (suc others))) text = env_fault others text
 
 -- The first fault of the lines which so many others stand before. A text that ends before its first environment's
 -- line has its fault at its end.
-abbrev pub lines_fault : ℕ → ℕ → List LineValue → Option ManifestFault
-lines_fault end others [] = if nat_lt others 4 then Some (At end Syntax) else None
+abbrev pub lines_fault : ℕ → ℕ → List LineValue → Option (LineFault ManifestWhy)
+lines_fault end others [] = if nat_lt others 4 then Some (fault_at end Syntax) else None
 lines_fault end others (line ∷ lines) =
-    option_or (option_map (λ why. At line.number why) (line_fault others line.text)) (lines_fault end (suc others) lines)
+    option_or (option_map (fault_at line.number) (line_fault others line.text)) (lines_fault end (suc others) lines)
 
 -- the first fault of a manifest
-unfoldable pub manifest_fault : List ℕ → Option ManifestFault
+unfoldable pub manifest_fault : List ℕ → Option (LineFault ManifestWhy)
 manifest_fault text = lines_fault (end_of text) 0 (statements_of (lines_of text))
 
 -- what lines say: pages, quantum, slots, environments
@@ -83,8 +83,3 @@ manifest_from lines = record { pages = 0; quantum = 0; slots = []; entries = [] 
 -- What a manifest says. It is meant where manifest_fault finds nothing.
 unfoldable pub manifest_of : List ℕ → ManifestValue
 manifest_of text = manifest_from (statements_of (lines_of text))
-
--- an answer that there is no manifest is this fault, unless memory ran out
-abbrev pub IsFirst : Option ManifestFault → ManifestFault → Type 0
-IsFirst fault OutOfMemory = Unit {0}
-IsFirst fault (At line why) = fault ≡ Some (At line why)

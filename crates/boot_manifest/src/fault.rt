@@ -1,9 +1,6 @@
-//! Why a manifest is refused, and in which line.
-ghost use Rattle.boot_manifest.specs.declared.fault.ManifestFault.TheVariants.{OutOfMemory as NoMemory};
+//! Why a manifest is refused.
 ghost use Rattle.boot_manifest.specs.Names.{manifest_why_text};
 ghost use Rattle.std.specs.Prelude.{◌≡◌};
-
-use std::alloc::{AllocError, AllocFailed};
 
 /// Which rule of a manifest a line breaks. `docs/FORMATS.md`, "Manifest", has the rules.
 #[derive(Clone, Copy)]
@@ -26,35 +23,5 @@ impl ManifestWhy {
             ManifestWhy::Range => "Range",
             ManifestWhy::Many => "Many",
         }
-    }
-}
-
-/// Why there is no manifest.
-#[derive(Clone, Copy)]
-pub enum ManifestFault {
-    /// A line is at fault, by its number from 1.
-    At {
-        /// The line's number.
-        line: u32,
-        /// The rule that it breaks.
-        why: ManifestWhy,
-    },
-    /// Memory ran out.
-    OutOfMemory,
-}
-
-impl From<AllocError> for ManifestFault {
-    ghost from_gives = { λ _ e. e ≡ NoMemory };
-
-    fn from(_e: AllocError) -> ManifestFault {
-        ManifestFault::OutOfMemory
-    }
-}
-
-impl<T: Drop> From<AllocFailed<T>> for ManifestFault {
-    ghost from_gives = { λ _ e. e ≡ NoMemory };
-
-    fn from(_e: AllocFailed<T>) -> ManifestFault {
-        ManifestFault::OutOfMemory
     }
 }

@@ -13,7 +13,7 @@ mod reading;
 mod statement;
 mod writing;
 
-pub use fault::{ManifestFault, ManifestWhy};
+pub use fault::ManifestWhy;
 pub use manifest::{Entry, EntryBody, Manifest};
 pub use reading::read_manifest;
 pub use writing::{image_length, write_image};

@@ -3,20 +3,23 @@ ghost use Rattle.std.specs.Prelude.{◌≡◌, ◌<◌, ◌≤◌, ◌^◌, [], 
 ghost use Rattle.std.specs.List.{AllByRecursion};
 ghost use Rattle.aegis_limits.specs.Limits.{most_environments, most_slots};
 ghost use Rattle.boot_image.specs.Accepted.{IsOwnerBelow};
+ghost use Rattle.line_text.specs.Failing.{Gives, IsFound, fault_at, in_line};
 ghost use Rattle.line_text.specs.LineView.{line_value};
 ghost use Rattle.line_text.specs.Statements.{end_of};
-ghost use Rattle.boot_manifest.specs.declared.fault.ManifestFault.TheVariants.{At};
+ghost use Rattle.line_text.specs.declared.failure.Failure.TheVariants.{Fault};
 ghost use Rattle.boot_manifest.specs.declared.fault.ManifestWhy.TheVariants.{Syntax};
-ghost use Rattle.boot_manifest.specs.Answers.{Says};
 ghost use Rattle.boot_manifest.specs.Limited.{IsEntry};
-ghost use Rattle.boot_manifest.specs.Reading.{IsFirst, count_said, entries_said, entry_said, lines_fault, manifest_fault, manifest_of, slots_said};
+ghost use Rattle.boot_manifest.specs.Reading.{count_said, entries_said, entry_said, lines_fault, manifest_fault, manifest_of, slots_said};
 
-use crate::fault::{ManifestFault, ManifestWhy};
+use crate::fault::ManifestWhy;
 use crate::manifest::{Entry, Manifest};
 use crate::ranges::{entry_of, owners_of};
 use crate::statement::{MOST_WORDS, count_word, env_parts, slots_form};
 use aegis_limits::{LEAST_PAGES, LEAST_QUANTUM, MOST_ENVIRONMENTS, MOST_PAGES, MOST_QUANTUM};
-use line_text::{Line, Statements, end_of, few_words, number_within, statements_of};
+use line_text::{
+    Failure, Line, LineFault, Statements, TextFailure, end_of, few_words, number_within,
+    statements_of,
+};
 use std::alloc::Global;
 
 /// The first word of the pages' line.
@@ -27,10 +30,10 @@ const QUANTUM: &[u8] = b"quantum";
 /// Reads a manifest, or answers its first fault, unless memory runs out. `docs/FORMATS.md`, "Manifest", has the
 /// format and the faults in their order.
 #[tactic(auto, unfolding(crate::specs::Reading::manifest_fault, crate::specs::Reading::manifest_of))]
-pub fn read_manifest(alloc: Global, text: &[u8]) -> Result<Manifest, ManifestFault>
+pub fn read_manifest(alloc: Global, text: &[u8]) -> Result<Manifest, TextFailure<ManifestWhy>>
     requires { length text.now < 2 ^ 27 }
     ensures ok { IfOk result (λ manifest. (manifest_fault text.now ≡ None) × (manifest ≡ manifest_of text.now)) }
-    ensures err { IfErr result (IsFirst (manifest_fault text.now)) }
+    ensures err { IfErr result (IsFound (manifest_fault text.now)) }
 {
     let mut lines = statements_of(text);
     let line = next_line(&mut lines, text)?;
@@ -49,50 +52,55 @@ pub fn read_manifest(alloc: Global, text: &[u8]) -> Result<Manifest, ManifestFau
 }
 
 /// The next line that isn't empty, or the fault of a text that ends too early.
-fn next_line<'a>(lines: &mut Statements<'a>, text: &[u8]) -> Result<Line<'a>, ManifestFault>
+fn next_line<'a>(
+    lines: &mut Statements<'a>,
+    text: &[u8],
+) -> Result<Line<'a>, TextFailure<ManifestWhy>>
     requires { length text.now < 2 ^ 27 }
     ensures some { IfOk result (λ line. lines.old ≡ line_value line ∷ lines.new) }
-    ensures none { IfErr result (λ fault. (lines.old ≡ []) × (fault ≡ At (end_of text.now) Syntax)) }
+    ensures none { IfErr result (λ fault. (lines.old ≡ []) × (fault ≡ Fault (fault_at (end_of text.now) Syntax))) }
 {
     match lines.next() {
         Some(line) => Ok(line),
-        None => Err(ManifestFault::At {
-            line: end_of(text),
-            why: ManifestWhy::Syntax,
-        }),
+        None => Err(ends_early(text)),
     }
 }
 
 /// The number of a line `KEY N`, from the least to the most.
-fn read_count(line: &Line<'_>, key: &[u8], least: u32, most: u32) -> Result<u32, ManifestFault>
-    ensures said { Says (λ n. n) line.now.number result (count_said key.now least most line.now.text.now) }
+fn read_count(
+    line: &Line<'_>,
+    key: &[u8],
+    least: u32,
+    most: u32,
+) -> Result<u32, TextFailure<ManifestWhy>>
+    ensures said { Gives (λ n. n) result (in_line line.now.number (count_said key.now least most line.now.text.now)) }
     ensures within { IfOk result (λ n. (least ≤ n) × (n ≤ most)) }
 {
     let Some(word) = count_word(key, line.text) else {
-        return Err(at(line, ManifestWhy::Syntax));
+        return Err(line.breaks(ManifestWhy::Syntax));
     };
     match number_within(word, least, most) {
         Some(count) => Ok(count),
-        None => Err(at(line, ManifestWhy::Range)),
+        None => Err(line.breaks(ManifestWhy::Range)),
     }
 }
 
 /// The owners of the slots' line.
-fn read_slots(alloc: Global, line: &Line<'_>) -> Result<Vec<Option<u8>>, ManifestFault>
-    ensures said { Says (λ owners. owners.items) line.now.number result (slots_said line.now.text.now) }
+fn read_slots(alloc: Global, line: &Line<'_>) -> Result<Vec<Option<u8>>, TextFailure<ManifestWhy>>
+    ensures said { Gives (λ owners. owners.items) result (in_line line.now.number (slots_said line.now.text.now)) }
     ensures least { IfOk result (λ owners. 1 ≤ length owners.items) }
     ensures most { IfOk result (λ owners. length owners.items ≤ most_slots) }
     ensures below { IfOk result (λ owners. AllByRecursion (IsOwnerBelow most_environments) owners.items) }
 {
     let Some(words) = few_words::<MOST_WORDS>(line.text) else {
-        return Err(at(line, ManifestWhy::Syntax));
+        return Err(line.breaks(ManifestWhy::Syntax));
     };
     let Some(slots) = slots_form(&words) else {
-        return Err(at(line, ManifestWhy::Syntax));
+        return Err(line.breaks(ManifestWhy::Syntax));
     };
     match owners_of(alloc, slots)? {
         Some(owners) => Ok(owners),
-        None => Err(at(line, ManifestWhy::Range)),
+        None => Err(line.breaks(ManifestWhy::Range)),
     }
 }
 
@@ -101,9 +109,9 @@ fn read_entries(
     alloc: Global,
     lines: Statements<'_>,
     text: &[u8],
-) -> Result<Vec<Entry>, ManifestFault>
+) -> Result<Vec<Entry>, TextFailure<ManifestWhy>>
     requires { length text.now < 2 ^ 27 }
-    ensures fault { IfErr result (IsFirst (lines_fault (end_of text.now) 3 lines.entry)) }
+    ensures fault { IfErr result (IsFound (lines_fault (end_of text.now) 3 lines.entry)) }
     ensures none { OnOk result (lines_fault (end_of text.now) 3 lines.entry ≡ None) }
     ensures entries { IfOk result (λ entries. entries.items ≡ entries_said lines.entry) }
     ensures least { IfOk result (λ entries. 1 ≤ length entries.items) }
@@ -114,42 +122,39 @@ fn read_entries(
     for line in lines {
         let entry = read_entry(alloc, &line)?;
         if entries.len() == MOST_ENVIRONMENTS {
-            return Err(at(&line, ManifestWhy::Many));
+            return Err(line.breaks(ManifestWhy::Many));
         }
         entries.push(entry)?;
     }
     if entries.is_empty() {
-        return Err(ManifestFault::At {
-            line: end_of(text),
-            why: ManifestWhy::Syntax,
-        });
+        return Err(ends_early(text));
     }
     Ok(entries)
 }
 
 /// The entry of an environment's line.
-fn read_entry(alloc: Global, line: &Line<'_>) -> Result<Entry, ManifestFault>
-    ensures said { Says (λ entry. entry) line.now.number result (entry_said line.now.text.now) }
+fn read_entry(alloc: Global, line: &Line<'_>) -> Result<Entry, TextFailure<ManifestWhy>>
+    ensures said { Gives (λ entry. entry) result (in_line line.now.number (entry_said line.now.text.now)) }
     ensures limits { IfOk result IsEntry }
 {
     let Some(parts) = env_parts(line.text) else {
-        return Err(at(line, ManifestWhy::Syntax));
+        return Err(line.breaks(ManifestWhy::Syntax));
     };
     match entry_of(alloc, &parts)? {
         Some(entry) => {
             let _ = &entry.stack;
             Ok(entry)
         }
-        None => Err(at(line, ManifestWhy::Range)),
+        None => Err(line.breaks(ManifestWhy::Range)),
     }
 }
 
-/// The fault of a line.
-fn at(line: &Line<'_>, why: ManifestWhy) -> ManifestFault
-    ensures { result ≡ At line.now.number why }
+/// That the text ends too early.
+fn ends_early(text: &[u8]) -> TextFailure<ManifestWhy>
+    requires { length text.now < 2 ^ 27 }
+    ensures { result ≡ Fault (fault_at (end_of text.now) Syntax) }
 {
-    ManifestFault::At {
-        line: line.number,
-        why,
-    }
+    let line = end_of(text);
+    let why = ManifestWhy::Syntax;
+    Failure::Fault(LineFault { line, why })
 }

@@ -1,9 +1,6 @@
-//! Why a schedule is refused, and in which line.
-ghost use Rattle.boot_schedule.specs.declared.fault.ScheduleFault.TheVariants.{OutOfMemory as NoMemory};
+//! Why a schedule is refused.
 ghost use Rattle.boot_schedule.specs.Names.{schedule_why_text};
 ghost use Rattle.std.specs.Prelude.{◌≡◌};
-
-use std::alloc::{AllocError, AllocFailed};
 
 /// Which rule of a schedule a line breaks. `docs/FORMATS.md`, "Schedule", has the rules.
 #[derive(Clone, Copy)]
@@ -32,35 +29,5 @@ impl ScheduleWhy {
             ScheduleWhy::Order => "Order",
             ScheduleWhy::Many => "Many",
         }
-    }
-}
-
-/// Why there is no schedule.
-#[derive(Clone, Copy)]
-pub enum ScheduleFault {
-    /// A line is at fault, by its number from 1.
-    At {
-        /// The line's number.
-        line: u32,
-        /// The rule that it breaks.
-        why: ScheduleWhy,
-    },
-    /// Memory ran out.
-    OutOfMemory,
-}
-
-impl From<AllocError> for ScheduleFault {
-    ghost from_gives = { λ _ e. e ≡ NoMemory };
-
-    fn from(_e: AllocError) -> ScheduleFault {
-        ScheduleFault::OutOfMemory
-    }
-}
-
-impl<T: Drop> From<AllocFailed<T>> for ScheduleFault {
-    ghost from_gives = { λ _ e. e ≡ NoMemory };
-
-    fn from(_e: AllocFailed<T>) -> ScheduleFault {
-        ScheduleFault::OutOfMemory
     }
 }

@@ -10,6 +10,6 @@ mod ranges;
 mod reading;
 mod statement;
 
-pub use fault::{ScheduleFault, ScheduleWhy};
+pub use fault::ScheduleWhy;
 pub use laws::law_in_order;
 pub use reading::{MOST_EVENTS, read_schedule};

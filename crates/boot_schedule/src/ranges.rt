@@ -2,16 +2,16 @@
 ghost use Rattle.std.specs.Prelude.{◌≡◌, ◌≤◌, ◌-◌, IfOk};
 ghost use Rattle.aegis_limits.specs.Limits.{most_ticks};
 ghost use Rattle.external_event.specs.Limits.{last_environment, lines, most_asked};
-ghost use Rattle.boot_schedule.specs.declared.fault.ScheduleFault.TheVariants.{At};
-ghost use Rattle.boot_schedule.specs.Answers.{Says, parts_seen};
+ghost use Rattle.line_text.specs.Failing.{Gives, in_line};
+ghost use Rattle.boot_schedule.specs.Answers.{parts_seen};
 ghost use Rattle.boot_schedule.specs.Saying.{bytes_said, in_range, words_said};
 
-use crate::fault::{ScheduleFault, ScheduleWhy};
+use crate::fault::ScheduleWhy;
 use crate::statement::Parts;
 use aegis_limits::MOST_TICKS;
 use external_event::{Event, LAST_ENVIRONMENT, LINES, MOST_ASKED, Occurrence, PacketBytes};
 use hex::FromHexError;
-use line_text::{Line, number_within};
+use line_text::{Failure, Line, TextFailure, number_within};
 use std::alloc::Global;
 
 /// The greatest number of an interrupt line.
@@ -22,8 +22,8 @@ pub(crate) fn words_said(
     alloc: Global,
     line: &Line<'_>,
     parts: Parts<'_>,
-) -> Result<Event, ScheduleFault>
-    ensures { Says (λ event. event) line.now.number result (words_said (parts_seen parts.entry)) }
+) -> Result<Event, TextFailure<ScheduleWhy>>
+    ensures { Gives (λ event. event) result (in_line line.now.number (words_said (parts_seen parts.entry))) }
 {
     match parts {
         Parts::Packet { time, bytes } => {
@@ -55,37 +55,31 @@ pub(crate) fn words_said(
 }
 
 /// The number of a line's word, at most so much.
-fn in_range(line: &Line<'_>, word: &[u8], most: u32) -> Result<u32, ScheduleFault>
-    ensures said { Says (λ n. n) line.now.number result (in_range most word.now) }
+fn in_range(line: &Line<'_>, word: &[u8], most: u32) -> Result<u32, TextFailure<ScheduleWhy>>
+    ensures said { Gives (λ n. n) result (in_line line.now.number (in_range most word.now)) }
     ensures within { IfOk result (λ n. n ≤ most) }
 {
     match number_within(word, 0, most) {
         Some(number) => Ok(number),
-        None => Err(at(line, ScheduleWhy::Range)),
+        None => Err(line.breaks(ScheduleWhy::Range)),
     }
 }
 
 /// The packet of a line's word.
-fn bytes_said(alloc: Global, line: &Line<'_>, word: &[u8]) -> Result<PacketBytes, ScheduleFault>
-    ensures { Says (λ packet. packet) line.now.number result (bytes_said word.now) }
+fn bytes_said(
+    alloc: Global,
+    line: &Line<'_>,
+    word: &[u8],
+) -> Result<PacketBytes, TextFailure<ScheduleWhy>>
+    ensures { Gives (λ packet. packet) result (in_line line.now.number (bytes_said word.now)) }
 {
     let bytes = match hex::decode(alloc, word) {
         Ok(bytes) => bytes,
-        Err(FromHexError::OutOfMemory) => return Err(ScheduleFault::OutOfMemory),
-        Err(_) => return Err(at(line, ScheduleWhy::Hex)),
+        Err(FromHexError::OutOfMemory) => return Err(Failure::OutOfMemory),
+        Err(_) => return Err(line.breaks(ScheduleWhy::Hex)),
     };
     match PacketBytes::from_bytes(bytes) {
         Some(packet) => Ok(packet),
-        None => Err(at(line, ScheduleWhy::Range)),
-    }
-}
-
-/// The fault of a line.
-pub(crate) fn at(line: &Line<'_>, why: ScheduleWhy) -> ScheduleFault
-    ensures { result ≡ At line.now.number why }
-{
-    ScheduleFault::At {
-        line: line.number,
-        why,
+        None => Err(line.breaks(ScheduleWhy::Range)),
     }
 }

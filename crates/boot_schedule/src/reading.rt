@@ -1,16 +1,15 @@
 //! The reader of schedules, line by line.
 ghost use Rattle.std.specs.Prelude.{◌≡◌, ◌<◌, ◌≤◌, ◌^◌, None, Some, length, IfErr, IfOk};
 ghost use Rattle.std.specs.Option.{option_map};
-ghost use Rattle.boot_schedule.specs.declared.fault.ScheduleFault.TheVariants.{At};
-ghost use Rattle.boot_schedule.specs.Answers.{Says};
+ghost use Rattle.line_text.specs.Failing.{Gives, IsFound, fault_at, in_line};
 ghost use Rattle.boot_schedule.specs.Saying.{said};
-ghost use Rattle.boot_schedule.specs.Schedule.{IsFirst, event_said, line_fault, schedule_fault, events_of};
+ghost use Rattle.boot_schedule.specs.Schedule.{event_said, line_fault, schedule_fault, events_of};
 
-use crate::fault::{ScheduleFault, ScheduleWhy};
-use crate::ranges::{at, words_said};
+use crate::fault::ScheduleWhy;
+use crate::ranges::words_said;
 use crate::statement::parts_of;
 use external_event::Event;
-use line_text::{Line, statements_of};
+use line_text::{Line, TextFailure, statements_of};
 use std::alloc::Global;
 
 /// The events of the longest schedule.
@@ -19,10 +18,10 @@ pub const MOST_EVENTS: usize = 65_536;
 /// Reads a schedule, or answers its first fault, unless memory runs out. `docs/FORMATS.md`, "Schedule", has the
 /// format and the faults in their order.
 #[tactic(auto, unfolding(crate::specs::Schedule::schedule_fault, crate::specs::Schedule::events_of))]
-pub fn read_schedule(alloc: Global, text: &[u8]) -> Result<Vec<Event>, ScheduleFault>
+pub fn read_schedule(alloc: Global, text: &[u8]) -> Result<Vec<Event>, TextFailure<ScheduleWhy>>
     requires { length text.now < 2 ^ 27 }
     ensures ok { IfOk result (λ events. (schedule_fault text.now ≡ None) × (events.items ≡ events_of text.now)) }
-    ensures err { IfErr result (IsFirst (schedule_fault text.now)) }
+    ensures err { IfErr result (IsFound (schedule_fault text.now)) }
 {
     let mut events = Vec::new(alloc);
     let mut before = 0;
@@ -40,26 +39,26 @@ fn read_event(
     line: &Line<'_>,
     before: u32,
     others: usize,
-) -> Result<Event, ScheduleFault>
+) -> Result<Event, TextFailure<ScheduleWhy>>
     ensures ok { IfOk result (λ event. (line_fault before others line.now.text.now ≡ None) × (event_said line.now.text.now ≡ Some event)) }
-    ensures err { IfErr result (IsFirst (option_map (λ why. At line.now.number why) (line_fault before others line.now.text.now))) }
+    ensures err { IfErr result (IsFound (option_map (fault_at line.now.number) (line_fault before others line.now.text.now))) }
 {
     let event = said(alloc, line)?;
     if event.time < before {
-        return Err(at(line, ScheduleWhy::Order));
+        return Err(line.breaks(ScheduleWhy::Order));
     }
     if others >= MOST_EVENTS {
-        return Err(at(line, ScheduleWhy::Many));
+        return Err(line.breaks(ScheduleWhy::Many));
     }
     Ok(event)
 }
 
 /// The event that a line says by itself.
-fn said(alloc: Global, line: &Line<'_>) -> Result<Event, ScheduleFault>
-    ensures { Says (λ event. event) line.now.number result (said line.now.text.now) }
+fn said(alloc: Global, line: &Line<'_>) -> Result<Event, TextFailure<ScheduleWhy>>
+    ensures { Gives (λ event. event) result (in_line line.now.number (said line.now.text.now)) }
 {
     match parts_of(line.text) {
         Some(parts) => words_said(alloc, line, parts),
-        None => Err(at(line, ScheduleWhy::Syntax)),
+        None => Err(line.breaks(ScheduleWhy::Syntax)),
     }
 }

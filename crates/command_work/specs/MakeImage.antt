@@ -5,8 +5,8 @@ use Rattle.boot_image.specs.declared.fault.ImageWhy.TheVariants.{TooBig}
 use Rattle.boot_image.specs.ImageFaults.{image_fault}
 use Rattle.boot_image.specs.Names.{image_why_text}
 use Rattle.boot_image.specs.Spelling.{image_text}
-use Rattle.boot_manifest.specs.declared.fault.ManifestFault.{ManifestFault}
-use Rattle.boot_manifest.specs.declared.fault.ManifestFault.TheVariants as manifest
+use Rattle.line_text.specs.declared.failure.LineFault.{LineFault}
+use Rattle.boot_manifest.specs.declared.fault.ManifestWhy.{ManifestWhy}
 use Rattle.boot_manifest.specs.ManifestValue.{files_in, plan_in}
 use Rattle.boot_manifest.specs.Names.{manifest_why_text}
 use Rattle.boot_manifest.specs.Reading.{manifest_fault, manifest_of}
@@ -14,7 +14,7 @@ use Rattle.command_work.specs.Due.{Due, Whole, refused}
 use Rattle.command_work.specs.Command.{CommandValue, content}
 
 -- the files that a manifest names, if it has no fault
-abbrev pub files_named : List ℕ → Option ManifestFault → List (List ℕ)
+abbrev pub files_named : List ℕ → Option (LineFault ManifestWhy) → List (List ℕ)
 files_named text None = files_in (manifest_of text)
 files_named text (Some fault) = []
 
@@ -30,14 +30,13 @@ sized_due name image =
     else made_due name image (image_fault image)
 
 -- a manifest with a fault is refused, and another makes an image of its bodies
-abbrev pub image_due : List ℕ → List ℕ → List (List ℕ) → Option ManifestFault → Option Due
-image_due name text bodies (Some (manifest.At line why)) = Some (refused name (manifest_why_text why) line)
-image_due name text bodies (Some manifest.OutOfMemory) = None
-image_due name text bodies None = Some (sized_due name (image_text (plan_in (manifest_of text)) bodies))
+abbrev pub image_due : List ℕ → List ℕ → List (List ℕ) → Option (LineFault ManifestWhy) → Due
+image_due name text bodies (Some fault) = refused name (manifest_why_text fault.why) fault.line
+image_due name text bodies None = sized_due name (image_text (plan_in (manifest_of text)) bodies)
 
 abbrev pub make_image : List ℕ → CommandValue
 make_image manifest = record {
   names = manifest ∷ [];
   further = λ contents. files_named (content contents 0) (manifest_fault (content contents 0));
-  due = λ contents. image_due manifest (content contents 0) (drop 1 contents) (manifest_fault (content contents 0));
+  due = λ contents. Some (image_due manifest (content contents 0) (drop 1 contents) (manifest_fault (content contents 0)));
 }

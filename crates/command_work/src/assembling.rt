@@ -2,15 +2,15 @@
 ghost use Rattle.std.specs.Prelude.{◌<◌, ◌^◌, IfOk, length};
 ghost use Rattle.mips_asm.specs.Assembled.{assembled};
 ghost use Rattle.command_work.specs.Asm.{asm, asm_due};
-ghost use Rattle.command_work.specs.Work.{IsSettled};
+ghost use Rattle.command_work.specs.Work.{Settles};
 
 use crate::contents::content;
 use crate::performing::Command;
 use crate::status::Status;
 use crate::work::Answer;
 use aegis_limits::OutOfMemory;
-use asm_parse::AsmFault;
 use elf_static::write;
+use line_text::Failure;
 use mips_asm::assemble;
 use std::alloc::Global;
 
@@ -24,15 +24,15 @@ pub struct Asm<'a> {
 /// What is due for a source: its first fault, or the ELF file of what it assembles to.
 fn due(alloc: Global, name: &str, source: &[u8]) -> Result<Answer, OutOfMemory>
     requires { length source.now < 2 ^ 27 }
-    ensures { IfOk result (IsSettled (asm_due name.now (assembled source.now))) }
+    ensures { IfOk result (Settles (asm_due name.now (assembled source.now))) }
 {
     match assemble(alloc, source) {
         Ok(object) => Ok(Answer {
             text: write(alloc, &object)?,
             status: Status::Done,
         }),
-        Err(AsmFault::At { line, why }) => Answer::refusal(alloc, name, why.name(), line),
-        Err(AsmFault::OutOfMemory) => Err(OutOfMemory),
+        Err(Failure::Fault(fault)) => Answer::refusal(alloc, name, fault.why.name(), fault.line),
+        Err(Failure::OutOfMemory) => Err(OutOfMemory),
     }
 }
 

@@ -6,7 +6,7 @@ ghost use Rattle.boot_manifest.specs.ManifestValue.{ManifestEntry, plan_in};
 ghost use Rattle.boot_manifest.specs.Reading.{manifest_fault};
 ghost use Rattle.boot_image.specs.Spelling.{image_text};
 ghost use Rattle.command_work.specs.MakeImage.{image_due, make_image, files_named, sized_due};
-ghost use Rattle.command_work.specs.Work.{IsSettled, Settles};
+ghost use Rattle.command_work.specs.Work.{Settles};
 
 use crate::contents::{behind_first, content};
 use crate::performing::Command;
@@ -14,7 +14,8 @@ use crate::status::Status;
 use crate::work::Answer;
 use aegis_limits::OutOfMemory;
 use boot_image::{ImageWhy, read_image};
-use boot_manifest::{Entry, Manifest, ManifestFault, image_length, read_manifest, write_image};
+use boot_manifest::{Entry, Manifest, image_length, read_manifest, write_image};
+use line_text::Failure;
 use std::alloc::Global;
 
 /// A made image has fewer bytes than this.
@@ -79,8 +80,8 @@ fn files_named(alloc: Global, text: &[u8]) -> Result<Vec<String>, OutOfMemory>
 {
     match read_manifest(alloc, text) {
         Ok(manifest) => entry_files(alloc, &manifest.entries),
-        Err(ManifestFault::At { .. }) => Ok(Vec::new(alloc)),
-        Err(ManifestFault::OutOfMemory) => Err(OutOfMemory),
+        Err(Failure::Fault(_)) => Ok(Vec::new(alloc)),
+        Err(Failure::OutOfMemory) => Err(OutOfMemory),
     }
 }
 
@@ -89,12 +90,12 @@ fn due(alloc: Global, name: &str, text: &[u8], bodies: &[Vec<u8>]) -> Result<Ans
     requires text { length text.now < 2 ^ 27 }
     requires count { length bodies.now ≡ length (files_named text.now (manifest_fault text.now)) }
     requires short { AllByRecursion IsShortBody (bodies_seen bodies.now) }
-    ensures { IfOk result (IsSettled (image_due name.now text.now (bodies_seen bodies.now) (manifest_fault text.now))) }
+    ensures { IfOk result (Settles (image_due name.now text.now (bodies_seen bodies.now) (manifest_fault text.now))) }
 {
     match read_manifest(alloc, text) {
         Ok(manifest) => due_image(alloc, name, &manifest, bodies),
-        Err(ManifestFault::At { line, why }) => Answer::refusal(alloc, name, why.name(), line),
-        Err(ManifestFault::OutOfMemory) => Err(OutOfMemory),
+        Err(Failure::Fault(fault)) => Answer::refusal(alloc, name, fault.why.name(), fault.line),
+        Err(Failure::OutOfMemory) => Err(OutOfMemory),
     }
 }
 

@@ -1,3 +1,4 @@
+pub mod FailingLemmas
 pub mod FewLemmas
 pub mod HexLemmas
 pub mod LineLemmas

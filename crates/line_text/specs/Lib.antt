@@ -1,4 +1,5 @@
 pub mod Characters
+pub mod Failing
 pub mod LineView
 pub mod Lines
 pub mod Number

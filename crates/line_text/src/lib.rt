@@ -5,6 +5,7 @@
 #![tactic(auto)]
 
 mod characters;
+mod failure;
 mod line_words;
 mod lines;
 mod numbers;
@@ -14,6 +15,7 @@ mod table;
 mod word_lists;
 
 pub use characters::{is_blank, is_text};
+pub use failure::{Failure, LineFault, TextFailure, at_line};
 pub use line_words::{Words, words_of};
 pub use lines::{Line, Lines, cut};
 pub use numbers::{decimal, number, number_within, numeral};

@@ -7,7 +7,8 @@ use Rattle.std.proofs.lemmas.List.{take_at, drop_at}
 use Rattle.std.specs.Int.{w32, to_le_bytes}
 use Rattle.line_text.specs.Lines.{LineValue, lines_from, pieces_of, without_end}
 use Rattle.asm_parse.specs.Form.{due_of}
-use Rattle.asm_parse.specs.declared.fault.AsmFault.{AsmFault}
+use Rattle.asm_parse.specs.declared.fault.AsmWhy.{AsmWhy}
+use Rattle.line_text.specs.declared.failure.LineFault.{LineFault}
 use Rattle.mips_list.specs.WordText.{word_text}
 use Rattle.mips_asm.specs.Assembled.{assembled}
 use Rattle.mips_asm.specs.Emission.{bytes_of}
@@ -94,13 +95,13 @@ unfolding emitted
 filled_first size n line_number front content rest bytes is = rw is refl
 
 -- what the first pass leaves of words, and what the second makes of it
-record LaidOn (n : ℕ) (words : List ℕ) (placed : List Placed) (result : Result Layout AsmFault) : Type 0 where
+record LaidOn (n : ℕ) (words : List ℕ) (placed : List Placed) (result : Result Layout (LineFault AsmWhy)) : Type 0 where
   more : List Placed
   is : result ≡ Ok (text_layout (n + 4 * length words) (placed ++ more))
   fills : (size : ℕ) (front : List ℕ) → filled_from [] size (text_alone front) more ≡ Ok (text_alone (front ++ flat_map (to_le_bytes w32) words))
 
 -- a word before them
-laid_step : (n word : ℕ) (words : List ℕ) (placed : List Placed) (line : LineValue) (puts : Puts line (0x00400000 + n) (to_le_bytes w32 word)) (all rest : Result Layout AsmFault) → all ≡ rest
+laid_step : (n word : ℕ) (words : List ℕ) (placed : List Placed) (line : LineValue) (puts : Puts line (0x00400000 + n) (to_le_bytes w32 word)) (all rest : Result Layout (LineFault AsmWhy)) → all ≡ rest
     → LaidOn (n + 4) words (placed ++ placed_at n puts.statement.line puts.content ∷ []) rest → LaidOn n (word ∷ words) placed all
 laid_step n word words placed line puts all rest first behind =
     let one = placed_at n puts.statement.line puts.content in

@@ -3,30 +3,30 @@ use Rattle.std.proofs.Common.{◌≡◌, ◌∙◌, ℕ, ◌+◌, ◌<◌, List,
 use Rattle.std.proofs.lemmas.List.{flat_map_more, take_more}
 use Rattle.std.specs.List.{flat_map}
 use Rattle.asm_parse.specs.declared.fault.AsmWhy.{AsmWhy}
-use Rattle.asm_layout.specs.declared.cause.Cause.{Cause}
-use Rattle.asm_layout.specs.declared.cause.Cause.TheVariants.{Why, OutOfMemory}
-use Rattle.asm_layout.specs.Outcome.{Means}
-use Rattle.mips_asm.specs.Second.{earlier, onto, unless_start, unless_start_cause}
+use Rattle.line_text.specs.declared.failure.Failure.{Failure}
+use Rattle.line_text.specs.declared.failure.Failure.TheVariants.{Fault, OutOfMemory}
+use Rattle.line_text.specs.Failing.{Gives}
+use Rattle.mips_asm.specs.Second.{earlier, onto, unless_start, unless_start_failure}
 
 -- what is put, or a fault, is due also where something is wrong with `start`
-start_means : (start : Option AsmWhy) (pushed : Result (Unit {0}) Cause) (old new : List ℕ) (due : Result (List ℕ) AsmWhy) →
-    Means (λ _. new) pushed (onto old due) → Means (λ _. new) (unless_start_cause start pushed) (onto old (unless_start start due))
-start_means None pushed old new due means = means
-start_means (Some why) (Ok u) old new (Ok bs) means = refl
-start_means (Some why) (Ok u) old new (Err e) means = cc
-start_means (Some why) (Err OutOfMemory) old new due means = tt
-start_means (Some why) (Err (Why w)) old new (Ok bs) means = cc
-start_means (Some why) (Err (Why w)) old new (Err e) means =
+start_gives : (start : Option AsmWhy) (pushed : Result (Unit {0}) (Failure AsmWhy)) (old new : List ℕ) (due : Result (List ℕ) AsmWhy) →
+    Gives (λ _. new) pushed (onto old due) → Gives (λ _. new) (unless_start_failure start pushed) (onto old (unless_start start due))
+start_gives None pushed old new due gives = gives
+start_gives (Some why) (Ok u) old new (Ok bs) gives = refl
+start_gives (Some why) (Ok u) old new (Err e) gives = cc
+start_gives (Some why) (Err OutOfMemory) old new due gives = tt
+start_gives (Some why) (Err (Fault w)) old new (Ok bs) gives = cc
+start_gives (Some why) (Err (Fault w)) old new (Err e) gives =
     let same : e ≡ w = cc in
     ap (λ f. Err (earlier f why)) same
 
-pub emit_means : (start cause : Option AsmWhy) (pushed answer : Result (Unit {0}) Cause) (old new : List ℕ) (due : Result (List ℕ) AsmWhy) →
-    start ≡ cause → answer ≡ unless_start_cause start pushed → Means (λ _. new) pushed (onto old due) →
-    Means (λ _. new) answer (onto old (unless_start cause due))
-emit_means start cause pushed answer old new due same is means =
-    let P : Option AsmWhy → Type 0 = λ s. Means (λ _. new) (unless_start_cause start pushed) (onto old (unless_start s due)) in
-    let Q : Result (Unit {0}) Cause → Type 0 = λ r. Means (λ _. new) r (onto old (unless_start cause due)) in
-    subst Q (sym is) (subst P same (start_means start pushed old new due means))
+pub emit_gives : (start cause : Option AsmWhy) (pushed answer : Result (Unit {0}) (Failure AsmWhy)) (old new : List ℕ) (due : Result (List ℕ) AsmWhy) →
+    start ≡ cause → answer ≡ unless_start_failure start pushed → Gives (λ _. new) pushed (onto old due) →
+    Gives (λ _. new) answer (onto old (unless_start cause due))
+emit_gives start cause pushed answer old new due same is gives =
+    let P : Option AsmWhy → Type 0 = λ s. Gives (λ _. new) (unless_start_failure start pushed) (onto old (unless_start s due)) in
+    let Q : Result (Unit {0}) (Failure AsmWhy) → Type 0 = λ r. Gives (λ _. new) r (onto old (unless_start cause due)) in
+    subst Q (sym is) (subst P same (start_gives start pushed old new due gives))
 
 -- the bytes of one more value behind those of the first ones
 pub one_more : (bytes : ℕ → List ℕ) (old before after values : List ℕ) (i d : ℕ) → before ≡ old ++ flat_map bytes (take i values) → after ≡ before ++ bytes (get_or values i d) → i < length values →

@@ -2,7 +2,7 @@
 use Rattle.std.proofs.Common.{◌≡◌, ℕ, ◌+◌, ◌*◌, ◌/◌, ◌%◌, ◌^◌, inl, inr, List, [], ◌∷◌, Option, Some, None, Result, Ok, Err, length, refl, ap, sym, ◌∙◌, arith, length-append, suc, cond, mul-suc}
 use Rattle.std.specs.List.{flat_map, list_all}
 use Rattle.asm_parse.specs.Expression.{ExpressionValue}
-use Rattle.asm_parse.specs.declared.fault.AsmFault.{AsmFault}
+use Rattle.line_text.specs.declared.failure.LineFault.{LineFault}
 use Rattle.asm_parse.specs.declared.fault.AsmWhy.{AsmWhy}
 use Rattle.asm_parse.specs.declared.fault.AsmWhy.TheVariants.{OutOfRange}
 use Rattle.mips_isa.specs.Encoding.{word_of}
@@ -15,7 +15,8 @@ use Rattle.asm_layout.specs.Content.{Content, Instruction, Numbers, Given, conte
 use Rattle.asm_layout.specs.Draft.{Draft, Fixed, Filled, Halves}
 use Rattle.asm_layout.specs.Laid.{HasStart, length_in, total}
 use Rattle.asm_layout.specs.Layout.{Layout, Placed}
-use Rattle.asm_layout.specs.Outcome.{◌>>=◌, in_line}
+use Rattle.asm_layout.specs.Outcome.{◌>>=◌}
+use Rattle.line_text.specs.Failing.{in_line}
 use Rattle.asm_layout.specs.Value.{Names, defined}
 use Rattle.asm_layout.proofs.OutcomeLemmas.{bind_ok, chosen_ok, in_line_ok, ok_is}
 use Rattle.mips_asm.specs.Emission.{bytes_of, values_of}
@@ -111,7 +112,7 @@ pub record IsWidened (size : ℕ) (p : Placed) (before after : Sections) : Type 
 widened_is : (names : Names) (size : ℕ) (before after : Sections) (p : Placed) → widened names size before p ≡ Ok after → IsWidened size p before after
 unfolding emitted
 widened_is names size before after p h =
-    let next : List ℕ → Result Sections AsmFault = λ bs. Ok (extended p.section bs before) in
+    let next : List ℕ → Result Sections (LineFault AsmWhy) = λ bs. Ok (extended p.section bs before) in
     let step = bind_ok (in_line p.line (emitted names size p)) next after h in
     let made = in_line_ok p.line (emitted names size p) step.0 step.1 in
     let parts = unless_ok (start_fault_of size p) (bytes_of names p.place p.content) step.0 made in
@@ -128,7 +129,7 @@ filled_from_is names size before after [] h =
     let same = ok_is before after h in
     record { text_is = (let t = ap (λ s. length s.text) same in omega arith); data_is = (let d = ap (λ s. length s.data_bytes) same in omega arith); start_is = tt }
 filled_from_is names size before after (p ∷ ps) h =
-    let last : Sections → Result Sections AsmFault = λ s. filled_from names size s ps in
+    let last : Sections → Result Sections (LineFault AsmWhy) = λ s. filled_from names size s ps in
     let step = bind_ok (widened names size before p) last after h in
     let wide = widened_is names size before step.0 p step.1 in
     let rest = filled_from_is names size step.0 after ps step.2 in

@@ -2,9 +2,10 @@
 use Rattle.std.proofs.Common.{◌≡◌, ℕ, ◌+◌, ◌%◌, ◌<◌, ◌≤◌, Bool, true, false, not, List, [], ◌∷◌, Option, Some, None, Result, Ok, Err, ◌==◌, ◌&&◌, nat_le, nat_lt, if◌then◌else◌, length, refl, sym, subst, arith, lit<, lit≤, IfOk}
 use Rattle.std.proofs.lemmas.Bool.{eqb-true, eqb-false, leb-true, ltb-true}
 use Rattle.std.specs.Option.{unwrap_or}
-use Rattle.asm_parse.specs.Form.{Gives}
-use Rattle.asm_parse.specs.declared.fault.AsmFault.{AsmFault}
-use Rattle.asm_parse.specs.declared.fault.AsmFault.TheVariants.{At}
+use Rattle.line_text.specs.declared.failure.Failure.{Failure}
+use Rattle.line_text.specs.declared.failure.LineFault.{LineFault}
+use Rattle.line_text.specs.Failing.{Gives, fault_at}
+use Rattle.asm_parse.specs.declared.fault.AsmWhy.{AsmWhy}
 use Rattle.asm_parse.specs.declared.fault.AsmWhy.{AsmWhy}
 use Rattle.asm_parse.specs.declared.fault.AsmWhy.TheVariants.{Empty, OutOfRange, Unaligned}
 use Rattle.elf_static.specs.ObjectValue.{ObjectValue, PartValue}
@@ -81,12 +82,12 @@ positive n h = let apart = eqb-false n 0 h in omega arith
 pub assembled_writable : (source : List ℕ) (object : ObjectValue) → assembled source ≡ Ok object → IsWritable object
 unfolding assembled program text_part data_part
 assembled_writable source object h =
-    let last : Layout → Sections → Result ObjectValue AsmFault = λ layout sections. Ok (program_of layout sections) in
-    let whole : Layout → Result ObjectValue AsmFault = λ layout. filled layout >>= last layout in
-    let next : Layout → Result ObjectValue AsmFault = λ layout. if layout.text == 0 then Err (At 1 Empty) else whole layout in
+    let last : Layout → Sections → Result ObjectValue (LineFault AsmWhy) = λ layout sections. Ok (program_of layout sections) in
+    let whole : Layout → Result ObjectValue (LineFault AsmWhy) = λ layout. filled layout >>= last layout in
+    let next : Layout → Result ObjectValue (LineFault AsmWhy) = λ layout. if layout.text == 0 then Err (fault_at 1 Empty) else whole layout in
     let first = bind_ok (laid source) next object h in
     let layout : Layout = first.0 in
-    let some = other_ok (layout.text == 0) (whole layout) (At 1 Empty) object first.2 in
+    let some = other_ok (layout.text == 0) (whole layout) (fault_at 1 Empty) object first.2 in
     let second = bind_ok (filled layout) (last layout) object some.1 in
     let sections : Sections = second.0 in
     let known : IsLaid layout = laid_laid source layout first.1 in
@@ -101,6 +102,6 @@ assembled_writable source object h =
     (writable (length sections.data_bytes == 0) (unwrap_or layout.start 0x00400000) sections.text sections.data_bytes text_fits data_fits entry)
 
 -- an answer that is due
-pub due_writable : {X : Type 0} (view : X → ObjectValue) (source : List ℕ) (answer : Result X AsmFault) → Gives view answer (assembled source) → IfOk answer (λ x. IsWritable (view x))
+pub due_writable : {X : Type 0} (view : X → ObjectValue) (source : List ℕ) (answer : Result X (Failure (LineFault AsmWhy))) → Gives view answer (assembled source) → IfOk answer (λ x. IsWritable (view x))
 due_writable view source (Ok x) gives = assembled_writable source (view x) gives
 due_writable view source (Err e) gives = tt

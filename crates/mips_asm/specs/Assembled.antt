@@ -1,8 +1,9 @@
 -- What a source assembles to: the first fault, or a program.
-use Rattle.std.specs.Prelude.{◌≡◌, ℕ, true, false, List, [], ◌∷◌, Result, Ok, Err, ◌==◌, if◌then◌else◌, length}
+use Rattle.std.specs.Prelude.{ℕ, true, false, List, [], ◌∷◌, Result, Ok, Err, ◌==◌, if◌then◌else◌, length}
 use Rattle.std.specs.Option.{unwrap_or}
-use Rattle.asm_parse.specs.declared.fault.AsmFault.{AsmFault}
-use Rattle.asm_parse.specs.declared.fault.AsmFault.TheVariants.{At, OutOfMemory}
+use Rattle.line_text.specs.declared.failure.LineFault.{LineFault}
+use Rattle.line_text.specs.Failing.{fault_at}
+use Rattle.asm_parse.specs.declared.fault.AsmWhy.{AsmWhy}
 use Rattle.asm_parse.specs.declared.fault.AsmWhy.TheVariants.{Empty}
 use Rattle.elf_static.specs.ObjectValue.{ObjectValue, PartValue}
 use Rattle.asm_layout.specs.declared.section.Section.TheVariants.{Text, Data}
@@ -21,19 +22,14 @@ abbrev pub program_of : Layout → Sections → ObjectValue
 program_of layout sections = record { entry = unwrap_or layout.start (base_of Text); parts = parts_of sections }
 
 -- that there is no text; the first fault of the second pass; or the program
-abbrev pub linked : Layout → Result ObjectValue AsmFault
+abbrev pub linked : Layout → Result ObjectValue (LineFault AsmWhy)
 linked layout =
-    if layout.text == 0 then Err (At 1 Empty) else do
+    if layout.text == 0 then Err (fault_at 1 Empty) else do
       sections ← filled layout
       Ok (program_of layout sections)
 
 -- The first fault of the first pass, or what the second makes of its layout.
-unfoldable pub assembled : List ℕ → Result ObjectValue AsmFault
+unfoldable pub assembled : List ℕ → Result ObjectValue (LineFault AsmWhy)
 assembled source = do
   layout ← laid source
   linked layout
-
--- an answer that is a fault is the one that is due, unless memory ran out
-abbrev pub IsDue : Result ObjectValue AsmFault → AsmFault → Type 0
-IsDue due OutOfMemory = Unit {0}
-IsDue due (At line why) = due ≡ Err (At line why)

@@ -1,14 +1,15 @@
 -- The second pass: the bytes of the sections.
 use Rattle.std.specs.Prelude.{ℕ, ◌+◌, ◌%◌, Bool, List, [], ◌∷◌, ◌++◌, Option, Some, None, Result, Ok, Err, nat_lt, nat_le, ◌==◌, ◌&&◌, not, if◌then◌else◌}
-use Rattle.asm_parse.specs.declared.fault.AsmFault.{AsmFault}
+use Rattle.line_text.specs.declared.failure.LineFault.{LineFault}
+use Rattle.line_text.specs.declared.failure.Failure.{Failure}
+use Rattle.line_text.specs.declared.failure.Failure.TheVariants as failures
+use Rattle.line_text.specs.Failing.{in_line}
 use Rattle.asm_parse.specs.declared.fault.AsmWhy.{AsmWhy}
 use Rattle.asm_parse.specs.declared.fault.AsmWhy.TheVariants.{OutOfRange, Unaligned}
-use Rattle.asm_layout.specs.declared.cause.Cause.{Cause}
-use Rattle.asm_layout.specs.declared.cause.Cause.TheVariants as causes
 use Rattle.asm_layout.specs.declared.section.Section.{Section}
 use Rattle.asm_layout.specs.declared.section.Section.TheVariants.{Text, Data}
 use Rattle.asm_layout.specs.Layout.{Layout, Placed, base_of}
-use Rattle.asm_layout.specs.Outcome.{◌>>=◌, in_line}
+use Rattle.asm_layout.specs.Outcome.{◌>>=◌}
 use Rattle.asm_layout.specs.Value.{Names}
 use Rattle.mips_asm.specs.Emission.{bytes_of}
 
@@ -44,11 +45,11 @@ unless_start (Some why) (Ok x) = Err why
 unless_start (Some why) (Err other) = Err (earlier other why)
 
 -- the same of the program's answer
-abbrev pub unless_start_cause : {A : Type 0} → Option AsmWhy → Result A Cause → Result A Cause
-unless_start_cause None answer = answer
-unless_start_cause (Some why) (Ok x) = Err (causes.Why why)
-unless_start_cause (Some why) (Err (causes.Why other)) = Err (causes.Why (earlier other why))
-unless_start_cause (Some why) (Err causes.OutOfMemory) = Err causes.OutOfMemory
+abbrev pub unless_start_failure : {A : Type 0} → Option AsmWhy → Result A (Failure AsmWhy) → Result A (Failure AsmWhy)
+unless_start_failure None answer = answer
+unless_start_failure (Some why) (Ok x) = Err (failures.Fault why)
+unless_start_failure (Some why) (Err (failures.Fault other)) = Err (failures.Fault (earlier other why))
+unless_start_failure (Some why) (Err failures.OutOfMemory) = Err failures.OutOfMemory
 
 -- what is wrong with `start`, where it is the label of a statement
 abbrev pub start_fault_of : ℕ → Placed → Option AsmWhy
@@ -60,13 +61,13 @@ emitted names size placed =
     unless_start (start_fault_of size placed) (bytes_of names placed.place placed.content)
 
 -- the sections with the bytes of a statement more
-abbrev pub widened : Names → ℕ → Sections → Placed → Result Sections AsmFault
+abbrev pub widened : Names → ℕ → Sections → Placed → Result Sections (LineFault AsmWhy)
 widened names size sections placed = do
   bytes ← in_line placed.line (emitted names size placed)
   Ok (extended placed.section bytes sections)
 
 -- statements in order, up to the first fault
-abbrev pub filled_from : Names → ℕ → Sections → List Placed → Result Sections AsmFault
+abbrev pub filled_from : Names → ℕ → Sections → List Placed → Result Sections (LineFault AsmWhy)
 filled_from names size sections [] = Ok sections
 filled_from names size sections (placed ∷ rest) = do
   after ← widened names size sections placed
@@ -79,5 +80,5 @@ onto front bytes = do
   Ok (front ++ bs)
 
 -- the second pass over what the first has placed
-unfoldable pub filled : Layout → Result Sections AsmFault
+unfoldable pub filled : Layout → Result Sections (LineFault AsmWhy)
 filled layout = filled_from layout.names layout.text (record { text = []; data_bytes = [] }) layout.placed

@@ -1,16 +1,17 @@
 //! From a source to a program.
-ghost use Rattle.std.specs.Prelude.{◌≡◌, ◌<◌, ◌^◌, length, IfOk, IfErr, Ok};
-ghost use Rattle.asm_parse.specs.Form.{Gives};
+ghost use Rattle.std.specs.Prelude.{◌≡◌, ◌<◌, ◌^◌, length, IfOk};
+ghost use Rattle.line_text.specs.Failing.{Gives};
 ghost use Rattle.elf_static.specs.Seen.{object_seen};
 ghost use Rattle.elf_static.specs.Writable.{IsWritable};
 ghost use Rattle.asm_layout.specs.Seen.{layout_seen};
-ghost use Rattle.mips_asm.specs.Assembled.{IsDue, assembled, linked, program_of};
+ghost use Rattle.mips_asm.specs.Assembled.{assembled, linked, program_of};
 ghost use Rattle.mips_asm.specs.Seen.{sections_seen};
 
 use crate::second::Sections;
 use asm_layout::{Layout, Section, lay_out};
-use asm_parse::{AsmFault, AsmWhy};
+use asm_parse::AsmWhy;
 use elf_static::{Object, Part};
+use line_text::{Failure, LineFault, TextFailure};
 use std::alloc::{AllocError, Global};
 
 /// The line of the fault that a source has no byte of text.
@@ -19,12 +20,10 @@ const EMPTY_LINE: u32 = 1;
 /// The program of a source in the language of `docs/ASSEMBLER.md`, or the first fault: of the first pass
 /// in the order of the lines, that there is no byte of text, or of the second pass in the order of the
 /// lines.
-pub fn assemble(alloc: Global, source: &[u8]) -> Result<Object, AsmFault>
+pub fn assemble(alloc: Global, source: &[u8]) -> Result<Object, TextFailure<AsmWhy>>
     requires { length source.now < 2 ^ 27 }
-    // The program is the one that the source means.
-    ensures value { IfOk result (λ object. assembled source.now ≡ Ok (object_seen object)) }
-    // The fault is the one that the source has.
-    ensures fault { IfErr result (IsDue (assembled source.now)) }
+    // The program is the one that the source means; a fault is the one that the source has.
+    ensures value { Gives object_seen result (assembled source.now) }
     // The program can be written as an ELF file.
     ensures writable { IfOk result (λ object. IsWritable (object_seen object)) }
 {
@@ -33,7 +32,7 @@ pub fn assemble(alloc: Global, source: &[u8]) -> Result<Object, AsmFault>
 
 /// The program of a source.
 #[tactic(auto, unfolding(crate::specs::Assembled::assembled))]
-fn assembly(alloc: Global, source: &[u8]) -> Result<Object, AsmFault>
+fn assembly(alloc: Global, source: &[u8]) -> Result<Object, TextFailure<AsmWhy>>
     requires { length source.now < 2 ^ 27 }
     ensures { Gives object_seen result (assembled source.now) }
 {
@@ -41,14 +40,13 @@ fn assembly(alloc: Global, source: &[u8]) -> Result<Object, AsmFault>
 }
 
 /// The program of what the first pass has placed.
-fn linked(alloc: Global, layout: &Layout<'_>) -> Result<Object, AsmFault>
+fn linked(alloc: Global, layout: &Layout<'_>) -> Result<Object, TextFailure<AsmWhy>>
     ensures { Gives object_seen result (linked (layout_seen layout.now)) }
 {
     if layout.text == 0 {
-        return Err(AsmFault::At {
-            line: EMPTY_LINE,
-            why: AsmWhy::Empty,
-        });
+        let line = EMPTY_LINE;
+        let why = AsmWhy::Empty;
+        return Err(Failure::Fault(LineFault { line, why }));
     }
     let sections = Sections::of(alloc, layout)?;
     Ok(program(alloc, layout, sections)?)

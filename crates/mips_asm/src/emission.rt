@@ -1,16 +1,17 @@
 //! The bytes of statements.
 ghost use Rattle.std.specs.Prelude.{◌≡◌, ◌+◌, ◌<◌, ◌^◌, ◌++◌, OnOk, replicate};
 ghost use Rattle.std.specs.List.{flat_map, list_all};
-ghost use Rattle.asm_layout.specs.Outcome.{Means};
+ghost use Rattle.line_text.specs.Failing.{Gives};
 ghost use Rattle.asm_layout.specs.Seen.{content_seen, draft_seen, expressions_seen, placed_seen};
 ghost use Rattle.mips_asm.specs.Emission.{bytes_of, draft_bytes, expressions_bytes, values_of};
 ghost use Rattle.mips_asm.specs.Number.{number_bytes, number_fits, numbers_bytes};
-ghost use Rattle.mips_asm.specs.Second.{earlier, emitted, onto, start_fault, start_fault_of, unless_start_cause};
+ghost use Rattle.mips_asm.specs.Second.{earlier, emitted, onto, start_fault, start_fault_of, unless_start_failure};
 
 use crate::number::{fits, push_number};
 use crate::words::{draft_words, push_words};
-use asm_layout::{Cause, Content, Draft, Names, NumberSize, Placed, Section, defined};
+use asm_layout::{Content, Draft, Names, NumberSize, Placed, Section, defined};
 use asm_parse::{AsmWhy, Expression};
+use line_text::Failure;
 use std::alloc::{AllocError, Global};
 
 /// Puts the bytes of a statement at the end, in a text of so many bytes. The fault is Undefined,
@@ -22,8 +23,8 @@ pub(crate) fn emit(
     names: &Names,
     size: u32,
     placed: &Placed<'_>,
-) -> Result<(), Cause>
-    ensures { Means (λ _. out.new.items) result (onto out.old.items (emitted names.now size (placed_seen placed.now))) }
+) -> Result<(), Failure<AsmWhy>>
+    ensures { Gives (λ _. out.new.items) result (onto out.old.items (emitted names.now size (placed_seen placed.now))) }
 {
     let start = start_fault_of(size, placed);
     let pushed = push_content(out, alloc, names, placed);
@@ -31,16 +32,19 @@ pub(crate) fn emit(
 }
 
 /// An answer, where nothing is wrong with `start`.
-fn unless_start(start: Option<AsmWhy>, answer: Result<(), Cause>) -> Result<(), Cause>
-    ensures { result ≡ unless_start_cause start answer }
+fn unless_start(
+    start: Option<AsmWhy>,
+    answer: Result<(), Failure<AsmWhy>>,
+) -> Result<(), Failure<AsmWhy>>
+    ensures { result ≡ unless_start_failure start answer }
 {
     let Some(why) = start else {
         return answer;
     };
     match answer {
-        Ok(()) => Err(Cause::Why(why)),
-        Err(Cause::Why(other)) => Err(Cause::Why(earlier(other, why))),
-        Err(Cause::OutOfMemory) => Err(Cause::OutOfMemory),
+        Ok(()) => Err(Failure::Fault(why)),
+        Err(Failure::Fault(other)) => Err(Failure::Fault(earlier(other, why))),
+        Err(Failure::OutOfMemory) => Err(Failure::OutOfMemory),
     }
 }
 
@@ -86,8 +90,8 @@ fn push_content(
     alloc: Global,
     names: &Names,
     placed: &Placed<'_>,
-) -> Result<(), Cause>
-    ensures { Means (λ _. out.new.items) result (onto out.old.items (bytes_of names.now placed.now.place (content_seen placed.now.content))) }
+) -> Result<(), Failure<AsmWhy>>
+    ensures { Gives (λ _. out.new.items) result (onto out.old.items (bytes_of names.now placed.now.place (content_seen placed.now.content))) }
 {
     match &placed.content {
         Content::Instruction(draft) => push_draft(out, names, placed.place, *draft),
@@ -98,9 +102,14 @@ fn push_content(
 }
 
 /// Puts the words of an instruction at a place at the end. The fault is Undefined, Unaligned or OutOfRange.
-fn push_draft(out: &mut Vec<u8>, names: &Names, place: u32, draft: Draft<'_>) -> Result<(), Cause>
+fn push_draft(
+    out: &mut Vec<u8>,
+    names: &Names,
+    place: u32,
+    draft: Draft<'_>,
+) -> Result<(), Failure<AsmWhy>>
     requires { place + 4 < 2 ^ 32 }
-    ensures { Means (λ _. out.new.items) result (onto out.old.items (draft_bytes names.now place (draft_seen draft.entry))) }
+    ensures { Gives (λ _. out.new.items) result (onto out.old.items (draft_bytes names.now place (draft_seen draft.entry))) }
 {
     let words = draft_words(draft, names, place)?;
     push_words(out, words)?;
@@ -114,16 +123,20 @@ fn push_expressions(
     names: &Names,
     size: NumberSize,
     expressions: &[Expression<'_>],
-) -> Result<(), Cause>
-    ensures { Means (λ _. out.new.items) result (onto out.old.items (expressions_bytes names.now size (expressions_seen expressions.now))) }
+) -> Result<(), Failure<AsmWhy>>
+    ensures { Gives (λ _. out.new.items) result (onto out.old.items (expressions_bytes names.now size (expressions_seen expressions.now))) }
 {
     let values = values(alloc, names, expressions)?;
     push_numbers(out, size, &values)
 }
 
 /// The values of expressions. The fault is Undefined.
-fn values(alloc: Global, names: &Names, expressions: &[Expression<'_>]) -> Result<Vec<u32>, Cause>
-    ensures { Means (λ v. v.items) result (values_of names.now (expressions_seen expressions.now)) }
+fn values(
+    alloc: Global,
+    names: &Names,
+    expressions: &[Expression<'_>],
+) -> Result<Vec<u32>, Failure<AsmWhy>>
+    ensures { Gives (λ v. v.items) result (values_of names.now (expressions_seen expressions.now)) }
 {
     let mut values = Vec::with_capacity(alloc, expressions.len())?;
     for expression in expressions {
@@ -133,11 +146,11 @@ fn values(alloc: Global, names: &Names, expressions: &[Expression<'_>]) -> Resul
 }
 
 /// Puts numbers at the end. The fault is OutOfRange.
-fn push_numbers(out: &mut Vec<u8>, size: NumberSize, values: &[u32]) -> Result<(), Cause>
-    ensures { Means (λ _. out.new.items) result (onto out.old.items (numbers_bytes size values.now)) }
+fn push_numbers(out: &mut Vec<u8>, size: NumberSize, values: &[u32]) -> Result<(), Failure<AsmWhy>>
+    ensures { Gives (λ _. out.new.items) result (onto out.old.items (numbers_bytes size values.now)) }
 {
     if !all_fit(size, values) {
-        return Err(Cause::Why(AsmWhy::OutOfRange));
+        return Err(Failure::Fault(AsmWhy::OutOfRange));
     }
     push_all(out, size, values)?;
     Ok(())

@@ -1,8 +1,9 @@
 //! The second pass: the bytes of the sections.
 
 use crate::emission::emit;
-use asm_layout::{Layout, Names, Placed, Section, at_line};
-use asm_parse::AsmFault;
+use asm_layout::{Layout, Names, Placed, Section};
+use asm_parse::AsmWhy;
+use line_text::{TextFailure, at_line};
 use std::alloc::{AllocError, Global};
 
 /// The bytes of the sections.
@@ -16,14 +17,14 @@ pub(crate) struct Sections {
 
 impl Sections {
     ghost use Rattle.std.specs.Prelude.{◌≡◌, [], IfOk};
-    ghost use Rattle.asm_parse.specs.Form.{Gives};
+    ghost use Rattle.line_text.specs.Failing.{Gives};
     ghost use Rattle.asm_layout.specs.Seen.{all_placed_seen, layout_seen, placed_seen};
     ghost use Rattle.mips_asm.specs.Second.{filled, filled_from, widened};
     ghost use Rattle.mips_asm.specs.Seen.{sections_seen};
 
     /// The sections of what the first pass has placed.
     #[tactic(auto, unfolding(crate::specs::Second::filled))]
-    pub(crate) fn of(alloc: Global, layout: &Layout<'_>) -> Result<Sections, AsmFault>
+    pub(crate) fn of(alloc: Global, layout: &Layout<'_>) -> Result<Sections, TextFailure<AsmWhy>>
         ensures { Gives sections_seen result (filled (layout_seen layout.now)) }
     {
         let mut sections = Sections::empty(alloc, layout)?;
@@ -41,7 +42,7 @@ impl Sections {
     }
 
     /// Adds the bytes of each statement of a layout.
-    fn fill(&mut self, alloc: Global, layout: &Layout<'_>) -> Result<(), AsmFault>
+    fn fill(&mut self, alloc: Global, layout: &Layout<'_>) -> Result<(), TextFailure<AsmWhy>>
         ensures { Gives (λ _. sections_seen self.new) result (filled_from layout.now.names layout.now.text (sections_seen self.old) (all_placed_seen layout.now.placed.items)) }
     {
         for placed in &layout.placed {
@@ -57,7 +58,7 @@ impl Sections {
         names: &Names,
         size: u32,
         placed: &Placed<'_>,
-    ) -> Result<(), AsmFault>
+    ) -> Result<(), TextFailure<AsmWhy>>
         ensures { Gives (λ _. sections_seen self.new) result (widened names.now size (sections_seen self.old) (placed_seen placed.now)) }
     {
         let emitted = match placed.section {

@@ -18,7 +18,7 @@ made_whole name image short ok =
     rw (long, ok) refl
 
 pub returns-clause-assembles : goal.returns-clause-assembles
-returns-clause-assembles c = λ name source object is. ap (asm_due name) is
+returns-clause-assembles c = λ name source object is. ap (λ found. Some (asm_due name found)) is
 
 pub returns-clause-lists : goal.returns-clause-lists
 returns-clause-lists c = λ name elf ok. ap (λ f. Some (list_due name elf f)) ok
@@ -28,4 +28,4 @@ returns-clause-names_files c = λ name text ok. ap (files_named text) ok
 
 pub returns-clause-images : goal.returns-clause-images
 returns-clause-images c = λ name text bodies ok short can.
-    ap (image_due name text bodies) ok ∙ ap (λ (d : Due). Some d) (made_whole name (image_text (plan_in (manifest_of text)) bodies) short can)
+    ap (λ f. Some (image_due name text bodies f)) ok ∙ ap (λ (d : Due). Some d) (made_whole name (image_text (plan_in (manifest_of text)) bodies) short can)
