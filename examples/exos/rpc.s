@@ -28,8 +28,8 @@
 #   The server accepts before it answers. That is right for one client, who waits, so that nobody can come in between. With two
 #   clients a server answers first, and accepts at its next turn.
 #
-#   The client has one slot, so it runs on behind its call only if it was refused. If the call was granted and the client runs
-#   all the same, the slot came back without an answer: the server is dead.
+#   The client has one slot, so it runs on behind its call only if the call was refused. If it was granted and the client runs
+#   all the same, the slot came back without an answer: the server is dead, or has dropped it.
 #
 # A slice may end in the middle of a call. Then the server goes on in whichever of the two slots is next, and answers there. So
 # the two may have exchanged slots for a while, and each holds one whenever the client runs.

@@ -24,7 +24,7 @@
 #   rises a third as fast, and runs three times as often. For the shares 3, 2 and 1 the constant may be 6, and the strides 2, 3
 #   and 6:
 #
-#     passes before   0 0 0   2 0 0   2 3 0   2 3 6   4 3 6   4 6 6   6 6 6
+#     passes          0 0 0   2 0 0   2 3 0   2 3 6   4 3 6   4 6 6   6 6 6
 #     who runs            1       2       3       1       2       1
 #
 #   and from there on again. The constant here is 2,520, since all shares from 1 to 10 divide it, so that the passes meet again

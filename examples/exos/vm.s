@@ -39,6 +39,11 @@
 #
 #   It loads word 0 of all 16 pages, which maps them. It stores i into word 0 of each even page i, which makes eight pages
 #   dirty. It adds up the 16 words, and prints how many pages are mapped, how many are dirty, and the sum.
+#
+# What it leaves out
+#
+#   Pages that the kernel takes back. A program that may be asked for pages clears their entries, or loads backups. Else the
+#   table goes on having a page that is gone, and the page may even be allocated again, for another entry.
 
 # Calls of the kernel: the number is in $2, arguments are in $4 to $8; the answer's code is in $2, its value in $3
 .equ call_put,          1       # $4 address, $5 length
