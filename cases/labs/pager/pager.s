@@ -1,0 +1,156 @@
+# A solution of exercise 1. The program uses a region of sixteen pages, none of which is there when it starts. Page N of the
+# region is at address 0x00500000 + N * 0x00020000. Your handler puts memory where the program loads or stores.
+.equ    reads, 0x33ff           # a bit for each page that is read. The checker has other numbers in these two lines
+.equ    writes, 0x0f0f          # and for each that is written
+
+start:  li   $2, 8              # context: exceptions (0) are handled at $5
+        li   $4, 0
+        la   $5, handler
+        syscall
+        li   $7, reads
+        li   $8, writes
+        la   $5, 0x500000       # first each page is read and written, as the bits say
+        li   $4, 0
+        li   $2, 0              # a sum of what is loaded
+first:  srlv $9, $7, $4
+        andi $9, $9, 1
+        beq  $9, $0, unread
+        nop
+        lw   $3, 8($5)          # a new page holds zeros
+        addu $2, $2, $3
+unread: srlv $9, $8, $4
+        andi $9, $9, 1
+        beq  $9, $0, unwritten
+        nop
+        addiu $6, $4, 0x21
+        sw   $6, 8($5)
+unwritten: addiu $4, $4, 1
+        lui  $9, 2
+        addu $5, $5, $9
+        slti $9, $4, 16
+        bne  $9, $0, first
+        nop
+        la   $5, 0x500000       # then each page that was written is read again
+        li   $4, 0
+second: srlv $9, $8, $4
+        andi $9, $9, 1
+        beq  $9, $0, other
+        nop
+        lw   $3, 8($5)
+        sll  $6, $2, 2          # sum * 5 + what is loaded
+        addu $2, $2, $6
+        addu $2, $2, $3
+other:  addiu $4, $4, 1
+        lui  $9, 2
+        addu $5, $5, $9
+        slti $9, $4, 16
+        bne  $9, $0, second
+        nop
+
+# The table as letters, and the sum: `-` nothing is there, `c` the page is clean, `d` it is dirty.
+        la   $16, table
+        la   $17, text
+        li   $4, 0
+letter: lw   $8, 0($16)
+        li   $9, 45             # -
+        beq  $8, $0, put
+        andi $8, $8, 1
+        li   $9, 99             # c
+        addu $9, $9, $8         # d
+put:    sb   $9, 0($17)
+        addiu $16, $16, 4
+        addiu $17, $17, 1
+        addiu $4, $4, 1
+        slti $9, $4, 16
+        bne  $9, $0, letter
+        nop
+        addiu $17, $17, 1
+        li   $4, 8              # digits
+digit:  srl  $8, $2, 28
+        sltiu $9, $8, 10
+        bne  $9, $0, low
+        addiu $8, $8, 48
+        addiu $8, $8, 39
+low:    sb   $8, 0($17)
+        sll  $2, $2, 4
+        addiu $17, $17, 1
+        addiu $4, $4, -1
+        bne  $4, $0, digit
+        nop
+        li   $2, 1              # put
+        la   $4, text
+        li   $5, 26
+        syscall
+rest:   li   $2, 0              # yield, for ever, so that the report shows the bindings
+        li   $4, -1
+        syscall
+        b    rest
+        nop
+
+handler: sw  $2, 0x1800($0)     # all that the handler changes
+        sw   $3, 0x1804($0)
+        sw   $4, 0x1808($0)
+        sw   $5, 0x180c($0)
+        sw   $6, 0x1810($0)
+        sw   $7, 0x1814($0)
+        sw   $8, 0x1818($0)
+        sw   $9, 0x181c($0)
+        andi $1, $1, 0x7c       # the code, times 4
+        addiu $9, $1, -4
+        sltiu $9, $9, 12        # Mod 4, TLBL 8, TLBS 12
+        beq  $9, $0, give_up
+        nop
+        li   $9, 0x500000
+        subu $9, $27, $9
+        srl  $9, $9, 17         # which page of the region
+        sltiu $8, $9, 16
+        beq  $8, $0, give_up
+        sll  $9, $9, 2
+        la   $8, table
+        addu $9, $9, $8         # its entry
+        lw   $8, 0($9)
+        bne  $8, $0, have
+        nop
+        li   $2, 3              # alloc: the lowest free page
+        li   $4, -1
+        li   $5, 0              # without words
+        li   $6, 0
+        li   $7, 0
+        li   $8, 0
+        syscall
+        bne  $2, $0, give_up
+        sll  $8, $3, 2
+        ori  $8, $8, 2
+have:   addiu $1, $1, -8
+        beq  $1, $0, clean      # a load
+        nop
+        ori  $8, $8, 1          # a store: dirty
+clean:  sw   $8, 0($9)
+        li   $2, 6              # bind
+        srl  $4, $27, 12
+        srl  $5, $8, 2
+        andi $6, $8, 1          # to store to it if it is dirty
+        syscall
+        bne  $2, $0, give_up
+        nop
+        lw   $2, 0x1800($0)
+        lw   $3, 0x1804($0)
+        lw   $4, 0x1808($0)
+        lw   $5, 0x180c($0)
+        lw   $6, 0x1810($0)
+        lw   $7, 0x1814($0)
+        lw   $8, 0x1818($0)
+        lw   $9, 0x181c($0)
+        lw   $1, 0x1000($0)
+        lw   $27, 0x1008($0)
+        jr   $26
+        lw   $26, 0x1004($0)    # runs before the jump is over
+
+give_up: li  $2, 2              # exit with 1
+        li   $4, 1
+        syscall
+
+.data
+# A word for each page of the region. 0: nothing is there. Else the page's number times 4, plus 2, plus 1 if it is dirty.
+table:  .space 64
+text:   .ascii "                         \n"

@@ -1,0 +1,4 @@
+# Counts in $8, for ever.
+start:  addiu $8, $8, 1
+        b    start
+        nop
