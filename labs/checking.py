@@ -154,14 +154,14 @@ def fate(report: Report, env: Environment) -> str:
     """How an environment ended, as the end of a sentence."""
     if env.life == "live":
         return f"still lives after {report.head.time:,} ticks"
-    how = f"died of {env.why}, {CAUSES[env.why]}," if env.life == "dead" else f"exited with {env.why}"
-    return f"{how} in tick {ended(report, env.number):,}"
+    when = f"in tick {ended(report, env.number):,}"
+    return f"died of {env.why} {when}, {CAUSES[env.why]}" if env.life == "dead" else f"exited with {env.why} {when}"
 
 
 def demand_alive(report: Report, who: str, env: int = 0) -> None:
     """It neither died nor exited."""
     it = report.head.environments[env]
-    demand(it.life == "live", f"{who} is to live on, and it {fate(report, it)}.".replace(",.", "."))
+    demand(it.life == "live", f"{who} is to live on, and it {fate(report, it)}.")
 
 
 def demand_exit(report: Report, who: str, env: int) -> None:

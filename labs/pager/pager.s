@@ -9,18 +9,21 @@ start:  # WRITE: name a handler of exceptions
         la   $5, 0x500000       # first each page is read and written, as the bits say
         li   $4, 0
         li   $2, 0              # a sum of what is loaded
+        li   $3, 0              # how many loads and stores there were
 first:  srlv $9, $7, $4
         andi $9, $9, 1
         beq  $9, $0, unread
         nop
-        lw   $3, 8($5)          # a new page holds zeros
-        addu $2, $2, $3
+        lw   $6, 8($5)          # a new page holds zeros
+        addu $2, $2, $6
+        addiu $3, $3, 1
 unread: srlv $9, $8, $4
         andi $9, $9, 1
         beq  $9, $0, unwritten
         nop
         addiu $6, $4, 0x21
         sw   $6, 8($5)
+        addiu $3, $3, 1
 unwritten: addiu $4, $4, 1
         lui  $9, 2
         addu $5, $5, $9
@@ -33,10 +36,12 @@ second: srlv $9, $8, $4
         andi $9, $9, 1
         beq  $9, $0, other
         nop
-        lw   $3, 8($5)
-        sll  $6, $2, 2          # sum * 5 + what is loaded
+        lw   $6, 8($5)
+        addu $6, $6, $3
+        addiu $3, $3, 1
+        sll  $9, $2, 2          # sum * 5, and what is loaded, and how many there were
+        addu $2, $2, $9
         addu $2, $2, $6
-        addu $2, $2, $3
 other:  addiu $4, $4, 1
         lui  $9, 2
         addu $5, $5, $9
