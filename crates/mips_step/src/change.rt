@@ -27,6 +27,7 @@ fn jump(cpu: &mut Cpu, target: u32)
 }
 
 /// Does what an instruction does. A call and an exception leave the registers.
+#[inline(always)]
 fn apply(cpu: &mut Cpu, change: Change) -> Outcome
     ensures cpu { cpu.new ≡ changed cpu.old change }
     ensures outcome { result ≡ report_of change }
@@ -55,6 +56,7 @@ fn apply(cpu: &mut Cpu, change: Change) -> Outcome
 }
 
 /// Does what the instruction does, where `loaded` is what its load was answered.
+#[inline(always)]
 pub(crate) fn execute(cpu: &mut Cpu, insn: Insn, loaded: u32) -> Outcome
     ensures cpu { cpu.new ≡ changed cpu.old (effect insn cpu.old loaded) }
     ensures outcome { result ≡ report_of (effect insn cpu.old loaded) }

@@ -185,6 +185,7 @@ fn store_right(address: u32, value: u32) -> Access
 
 /// The load or store of the instruction, if it has one.
 #[tactic(auto, unfolding(mips_exec::specs::Access::access))]
+#[inline(always)]
 pub(crate) fn access_of(insn: Insn, cpu: &Cpu) -> Option<Access>
     ensures value { result ≡ access insn cpu.now }
     ensures sized { ForSome result IsSized }
@@ -215,6 +216,7 @@ pub(crate) fn access_of(insn: Insn, cpu: &Cpu) -> Option<Access>
 
 /// What the instruction does, where `loaded` is what its load was answered.
 #[tactic(auto, unfolding(mips_exec::specs::Effect::effect))]
+#[inline(always)]
 pub(crate) fn effect(cpu: &Cpu, insn: Insn, loaded: u32) -> Change
     ensures { result ≡ effect insn cpu.now loaded }
 {

@@ -52,6 +52,7 @@ pub trait Bus {
 }
 
 /// Asks the bus for a load or store: what it loads, and 0 for a store.
+#[inline(always)]
 pub(crate) fn perform<B: Bus>(access: Access, bus: &mut B) -> Result<u32, Exc>
     requires { IsSized access }
     ensures answer { result ≡ answered (B.answers bus.old) access }

@@ -10,6 +10,7 @@ use mips_exec::{Cpu, Exc, ExcCode, Outcome};
 
 /// One step of a user program (`docs/MACHINE.md`, "Effect"): the fetch, then the encoding, then the
 /// execution. A call of the kernel and an exception leave the registers and memory.
+#[inline(always)]
 pub fn step_user<B: Bus>(cpu: &mut Cpu, bus: &mut B) -> Outcome
     ensures cpu { cpu.new ≡ cpu_after cpu.old (step_of cpu.old (view_of (B.answers bus.old) cpu.old)) }
     ensures outcome { result ≡ outcome_of (step_of cpu.old (view_of (B.answers bus.old) cpu.old)) }
