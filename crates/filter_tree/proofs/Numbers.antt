@@ -1,9 +1,9 @@
 -- The numbers of claims rise.
-use Rattle.std.proofs.Common.{◌≡◌, ℕ, suc, ◌+◌, ◌≤◌, Bool, true, false, List, [], ◌∷◌, ◌++◌, Some, refl, ap, ◌∙◌, arith, inl, inr}
+use Rattle.std.proofs.Common.{◌≡◌, ℕ, suc, ◌+◌, ◌≤◌, Bool, true, false, Option, List, [], ◌∷◌, ◌++◌, Some, refl, ap, ◌∙◌, arith, inl, inr}
 use Rattle.std.specs.Prelude.{◌&&◌, nat_le, filter, find, map, if◌then◌else◌}
 use Rattle.std.proofs.lemmas.Bool.{cases_Bool, eq-eqb, le-leb, leb-true, ne_eqb}
 use Rattle.filter_tree.specs.ClaimBook.{ClaimValue, RowValue, are_numbered}
-use Rattle.filter_tree.specs.Claims.{is_numbered, turned, turned_if}
+use Rattle.filter_tree.specs.Claims.{handled, handled_if, is_numbered, turned, turned_if}
 use Rattle.filter_tree.specs.Laws.{FirstIsNumbered}
 
 -- both of two tests
@@ -51,12 +51,22 @@ same_claim id r = by_test (is_numbered id r.claim)
     by_test true = refl
     by_test false = refl
 
-pub numbered_turned : (id least end : ℕ) (rows : List RowValue) → are_numbered least end rows ≡ true → are_numbered least end (map (turned_if id) rows) ≡ true
-numbered_turned id least end [] is = is
-numbered_turned id least end (r ∷ rows) is =
+-- and whichever handler it has
+pub still_claim : (id : ℕ) (handler : Option (List ℕ)) (r : RowValue) → (handled_if id handler r).claim ≡ r.claim
+still_claim id handler r = by_test (is_numbered id r.claim)
+  where
+    by_test : (t : Bool) → (if t then handled handler r else r).claim ≡ r.claim
+    by_test true = refl
+    by_test false = refl
+
+-- where claims stay, their numbers rise
+pub numbered_same : (f : RowValue → RowValue) → ((r : RowValue) → (f r).claim ≡ r.claim) → (least end : ℕ) (rows : List RowValue) → are_numbered least end rows ≡ true
+    → are_numbered least end (map f rows) ≡ true
+numbered_same f same least end [] is = is
+numbered_same f same least end (r ∷ rows) is =
     let parts = both (nat_le least r.claim.id) (are_numbered (suc r.claim.id) end rows) is in
-    ap (λ (c : ClaimValue). nat_le least c.id && are_numbered (suc c.id) end (map (turned_if id) rows)) (same_claim id r)
-    ∙ and_both (nat_le least r.claim.id) (are_numbered (suc r.claim.id) end (map (turned_if id) rows)) parts.0 (numbered_turned id (suc r.claim.id) end rows parts.1)
+    ap (λ (c : ClaimValue). nat_le least c.id && are_numbered (suc c.id) end (map f rows)) (same r)
+    ∙ and_both (nat_le least r.claim.id) (are_numbered (suc r.claim.id) end (map f rows)) parts.0 (numbered_same f same (suc r.claim.id) end rows parts.1)
 
 -- the numbers of later claims are not below
 above : (test : ClaimValue → Bool) (least end : ℕ) (rows : List RowValue) (r : RowValue) → are_numbered least end rows ≡ true → find (λ (x : RowValue). test x.claim) rows ≡ Some r → least ≤ r.claim.id

@@ -9,8 +9,8 @@ use Rattle.filter_core.specs.declared.atom.Atom.{Atom}
 use Rattle.filter_tree.specs.ClaimBook.{ClaimBook, ClaimValue, IsKept, RowValue, claim_in, claims_in, is_of_env, most_claims}
 use Rattle.filter_tree.specs.declared.claim.ClaimNo.{ClaimNo}
 use Rattle.filter_tree.specs.declared.claim.ClaimNo.TheVariants.{Full, Overlap}
-use Rattle.filter_tree.specs.Claims.{claim_refusal, is_in_the_way, row_refusal, delivered, new_row, turned_if, with_claim, without}
-use Rattle.filter_tree.proofs.Numbers.{numbered_filter, numbered_more, numbered_turned, same_claim}
+use Rattle.filter_tree.specs.Claims.{claim_refusal, is_in_the_way, row_refusal, delivered, downloaded, handled_if, new_row, turned_if, with_claim, without}
+use Rattle.filter_tree.proofs.Numbers.{numbered_filter, numbered_more, numbered_same, same_claim, still_claim}
 
 all_kept : {X : Type 0} (P : X → Type 0) (t : X → Bool) (xs : List X) → AllByRecursion P xs → AllByRecursion P (filter t xs)
 all_kept P t [] all = tt
@@ -144,26 +144,33 @@ has_fewer book e atoms none =
       | inr full ↦ absurd (cc (rw (le-leb most_claims (count_by (is_of_env e) (claims_in book)) full) at none))
     ]
 
--- where a buffer takes its turn there is room as before
-turned_count : (e id : ℕ) (rows : List RowValue) → count_by (of e) (map (turned_if id) rows) ≡ count_by (of e) rows
-turned_count e id [] = refl
-turned_count e id (r ∷ rows) =
-    counted (of e) (turned_if id r) (map (turned_if id) rows)
-    ∙ ap (λ (n : ℕ). cond (of e (turned_if id r)) 1 0 + n) (turned_count e id rows)
-    ∙ ap (λ (c : ClaimValue). cond (is_of_env e c) 1 0 + count_by (of e) rows) (same_claim id r)
+-- where claims stay there is room as before
+same_count : (f : RowValue → RowValue) → ((r : RowValue) → (f r).claim ≡ r.claim) → (e : ℕ) (rows : List RowValue) → count_by (of e) (map f rows) ≡ count_by (of e) rows
+same_count f same e [] = refl
+same_count f same e (r ∷ rows) =
+    counted (of e) (f r) (map f rows)
+    ∙ ap (λ (n : ℕ). cond (of e (f r)) 1 0 + n) (same_count f same e rows)
+    ∙ ap (λ (c : ClaimValue). cond (is_of_env e c) 1 0 + count_by (of e) rows) (same r)
     ∙ sym (counted (of e) r rows)
 
-turned_envs : (envs id : ℕ) (rows : List RowValue) → AllByRecursion (λ (r : RowValue). r.claim.env < envs) rows → AllByRecursion (λ (r : RowValue). r.claim.env < envs) (map (turned_if id) rows)
-turned_envs envs id [] are = tt
-turned_envs envs id (r ∷ rows) are = (subst (λ (c : ClaimValue). c.env < envs) (sym (same_claim id r)) are.0, turned_envs envs id rows are.1)
+same_envs : (f : RowValue → RowValue) → ((r : RowValue) → (f r).claim ≡ r.claim) → (envs : ℕ) (rows : List RowValue) → AllByRecursion (λ (r : RowValue). r.claim.env < envs) rows
+    → AllByRecursion (λ (r : RowValue). r.claim.env < envs) (map f rows)
+same_envs f same envs [] are = tt
+same_envs f same envs (r ∷ rows) are = (subst (λ (c : ClaimValue). c.env < envs) (sym (same r)) are.0, same_envs f same envs rows are.1)
 
-pub room_turned : (id : ℕ) (book : ClaimBook) (room : ℕ) → IsKept book room → IsKept (delivered id book) room
-room_turned id book room has = record {
-  few = λ e. omega (arith, turned_count e id book.rows, has.few e);
-  of_envs = turned_envs book.envs id book.rows has.of_envs;
-  numbered = numbered_turned id 0 book.next book.rows has.numbered;
+room_same : (f : RowValue → RowValue) → ((r : RowValue) → (f r).claim ≡ r.claim) → (book : ClaimBook) (room : ℕ) → IsKept book room → IsKept (record book { rows = map f book.rows }) room
+room_same f same book room has = record {
+  few = λ e. omega (arith, same_count f same e book.rows, has.few e);
+  of_envs = same_envs f same book.envs book.rows has.of_envs;
+  numbered = numbered_same f same 0 book.next book.rows has.numbered;
   enough = has.enough;
 }
+
+pub room_turned : (id : ℕ) (book : ClaimBook) (room : ℕ) → IsKept book room → IsKept (delivered id book) room
+room_turned id = room_same (turned_if id) (same_claim id)
+
+pub room_handled : (id : ℕ) (handler : Option (List ℕ)) (book : ClaimBook) (room : ℕ) → IsKept book room → IsKept (downloaded id handler book) room
+room_handled id handler = room_same (handled_if id handler) (still_claim id handler)
 
 -- the claims as lists of one kind or the other
 found_in_rows : (p : ClaimValue → Bool) (rows : List RowValue) → find p (map claim_in rows) ≡ option_map claim_in (find (λ (r : RowValue). p r.claim) rows)

@@ -1,5 +1,5 @@
 -- The book of claims, as it is seen.
-use Rattle.std.specs.Prelude.{◌≡◌, ◌≤◌, ◌<◌, ℕ, suc, ◌*◌, Bool, true, ◌==◌, ◌&&◌, nat_le, List, [], ◌∷◌, map, count_by}
+use Rattle.std.specs.Prelude.{◌≡◌, ◌≤◌, ◌<◌, ℕ, suc, ◌*◌, Bool, true, ◌==◌, ◌&&◌, nat_le, Option, List, [], ◌∷◌, map, count_by}
 use Rattle.std.specs.List.{AllByRecursion}
 use Rattle.filter_core.specs.declared.atom.Atom.{Atom}
 use Rattle.packet_ring.specs.declared.buffer.Buffer.{Buffer}
@@ -15,10 +15,12 @@ pub record ClaimValue : Type 0 where
   pub filter : List Atom
   pub page : ℕ
 
--- a claim that stands, and the buffer of its page into which its next packet goes
+-- a claim that stands, the buffer of its page into which its next packet goes, and the words of the handler that runs over
+-- its packets in place of that, if it has one
 pub record RowValue : Type 0 where
   pub claim : ClaimValue
   pub next : Buffer
+  pub handler : Option (List ℕ)
 
 -- the book: the claims that stand, by rising number; the number of the next; and how many environments there are
 pub record ClaimBook : Type 0 where

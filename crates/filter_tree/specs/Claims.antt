@@ -1,6 +1,6 @@
 -- What becomes of claims.
 use Rattle.std.specs.Prelude.{ℕ, ◌+◌, Bool, not, ◌==◌, ◌&&◌, nat_le, if◌then◌else◌, List, [], ◌∷◌, ◌++◌, length, filter, map, count_by, sum_by, find, Option, Some, None, Result, Ok, Err}
-use Rattle.std.specs.Option.{option_map}
+use Rattle.std.specs.Option.{option_flatten, option_map}
 use Rattle.filter_core.specs.declared.atom.Atom.{Atom}
 use Rattle.filter_core.specs.Asking.{agree}
 use Rattle.filter_core.specs.Matching.{matches}
@@ -50,9 +50,9 @@ answer_unless (Some why) id = Err why
 abbrev pub claim_answer : ClaimBook → ℕ → List Atom → Result ℕ ClaimNo
 claim_answer book env filter = answer_unless (claim_refusal (claims_in book) env filter) book.next
 
--- a new claim, whose first packet goes into the first buffer
+-- a new claim, whose first packet goes into the first buffer; it has no handler
 abbrev pub new_row : ClaimBook → ℕ → List Atom → ℕ → RowValue
-new_row book env filter page = record { claim = record { id = book.next; env = env; filter = filter; page = page }; next = First }
+new_row book env filter page = record { claim = record { id = book.next; env = env; filter = filter; page = page }; next = First; handler = None }
 
 -- the book with one claim more
 abbrev pub with_claim : ClaimBook → ℕ → List Atom → ℕ → ClaimBook
@@ -99,3 +99,18 @@ delivered id book = record book { rows = map (turned_if id) book.rows }
 -- the atoms of all claims
 abbrev pub atom_count : ClaimBook → ℕ
 atom_count book = sum_by (λ (r : RowValue). length r.claim.filter) book.rows
+
+-- a claim with a handler, or with none
+abbrev pub handled : Option (List ℕ) → RowValue → RowValue
+handled handler r = record r { handler = handler }
+
+abbrev pub handled_if : ℕ → Option (List ℕ) → RowValue → RowValue
+handled_if id handler r = if is_numbered id r.claim then handled handler r else r
+
+-- the book once a handler is downloaded for a claim, or its handler removed
+abbrev pub downloaded : ℕ → Option (List ℕ) → ClaimBook → ClaimBook
+downloaded id handler book = record book { rows = map (handled_if id handler) book.rows }
+
+-- the handler of the claim of this number, if it stands and has one
+abbrev pub claim_handler : ClaimBook → ℕ → Option (List ℕ)
+claim_handler book id = option_flatten (option_map (λ (r : RowValue). r.handler) (first_row (is_numbered id) book))

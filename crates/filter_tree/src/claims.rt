@@ -1,15 +1,17 @@
 //! The book of claims.
 ghost use Rattle.std.specs.Prelude.{true, ◌≡◌, ◌<◌, ◌≤◌, ◌+◌, ◌^◌, [], is_some, IfOk};
+ghost use Rattle.std.specs.Option.{option_map};
 ghost use Rattle.filter_tree.specs.ClaimBook.{are_numbered, claims_in, is_of_env};
-ghost use Rattle.filter_tree.specs.Claims.{atom_count, claim_answer, claim_for, claim_held, claim_refusal, claimed, delivered, is_claim, is_into, without};
+ghost use Rattle.filter_tree.specs.Claims.{atom_count, claim_answer, claim_for, claim_handler, claim_held, claim_refusal, claimed, delivered, downloaded, is_claim, is_into, without};
 
 use crate::claim::{Claim, ClaimNo};
 use crate::row::Row;
-use crate::search::{MOST_CLAIMS, claim_for, claim_held, refusal};
+use crate::search::{MOST_CLAIMS, claim_for, claim_handler, claim_held, refusal};
 use crate::steps::Steps;
-use crate::withdrawal::{turn, withdraw, withdraw_into, withdraw_of};
+use crate::withdrawal::{download, turn, withdraw, withdraw_into, withdraw_of};
 use aegis_limits::OutOfMemory;
 use filter_core::{Filter, Packet};
+use handler_code::Handler;
 use packet_ring::Buffer;
 use std::alloc::Global;
 use std::marker::{Brand, Model};
@@ -66,7 +68,13 @@ impl Claims {
             page,
             next: Buffer::First,
         };
-        self.rows.push(Row { claim, filter }).unwrap();
+        self.rows
+            .push(Row {
+                claim,
+                filter,
+                handler: None,
+            })
+            .unwrap();
         self.next += 1;
         Ok(id)
     }
@@ -98,6 +106,21 @@ impl Claims {
         ensures { self.new ≡ delivered id self.old }
     {
         turn(&mut self.rows, id);
+    }
+
+    /// Keeps a copy of a handler with the claim of this number, in place of the one that it has; with none it has none from
+    /// now on.
+    pub fn download(&mut self, id: u32, handler: Option<&Handler>)
+        ensures { self.new ≡ downloaded id (option_map (λ handler. handler.now) handler.entry) self.old }
+    {
+        download(&mut self.rows, id, handler);
+    }
+
+    /// The handler of the claim of this number, if it stands and has one.
+    pub fn handler(&self, id: u32) -> Option<&Handler>
+        ensures { option_map (λ handler. handler.now) result ≡ claim_handler self.now id }
+    {
+        claim_handler(&self.rows, id)
     }
 
     /// Withdraws the environment's claim of this number. The answer is whether there was one; if not, nothing changes.

@@ -1,19 +1,22 @@
-//! A claim with its filter.
+//! A claim with its filter and its handler.
 ghost use Rattle.std.specs.Prelude.{◌≡◌, ◌+◌, ◌≤◌, length};
+ghost use Rattle.std.specs.Option.{option_map};
 ghost use Rattle.filter_tree.specs.ClaimBook.{is_of_env};
-ghost use Rattle.filter_tree.specs.Claims.{claim_seen, is_claim, is_for, is_in_the_way, is_into, turned_if};
+ghost use Rattle.filter_tree.specs.Claims.{claim_seen, handled_if, is_claim, is_for, is_in_the_way, is_into, is_numbered, turned_if};
 
 use crate::claim::Claim;
 use crate::steps::Steps;
 use filter_core::{Filter, Layout, Packet};
+use handler_code::Handler;
 use std::marker::Model;
 use std::sync::ledger::Ledger;
 
-/// A claim with its filter.
+/// A claim with its filter, and with its handler if it has one.
 #[derive(Drop)]
 pub(crate) struct Row {
     pub(crate) claim: Claim,
     pub(crate) filter: Filter,
+    pub(crate) handler: Option<Handler>,
 }
 
 impl Model for Row {
@@ -21,7 +24,7 @@ impl Model for Row {
 
     ghost Value = { RowValue };
 
-    ghost view = { λ row. record { claim = record { id = row.claim.id; env = row.claim.env; filter = row.filter; page = row.claim.page }; next = row.claim.next } };
+    ghost view = { λ row. record { claim = record { id = row.claim.id; env = row.claim.env; filter = row.filter; page = row.claim.page }; next = row.claim.next; handler = row.handler } };
 }
 
 impl Row {
@@ -59,6 +62,29 @@ impl Row {
     {
         if self.claim.id == id {
             self.claim.next = self.claim.next.other();
+        }
+    }
+
+    /// Whether it is the claim of this number.
+    pub(crate) fn is_numbered(&self, id: u32) -> bool
+        ensures { result ≡ is_numbered id self.now.claim }
+    {
+        self.claim.id == id
+    }
+
+    /// Its handler, if it has one.
+    pub(crate) fn handler(&self) -> Option<&Handler>
+        ensures { option_map (λ handler. handler.now) result ≡ self.now.handler }
+    {
+        self.handler.as_ref()
+    }
+
+    /// The handler is its own from now on, if the claim is of this number; with none it has none.
+    pub(crate) fn download(&mut self, id: u32, handler: Option<&Handler>)
+        ensures { self.new ≡ handled_if id (option_map (λ handler. handler.now) handler.entry) self.old }
+    {
+        if self.claim.id == id {
+            self.handler = handler.map(Handler::copy);
         }
     }
 

@@ -1,13 +1,14 @@
 //! Searches through all claims.
 ghost use Rattle.std.specs.Prelude.{◌≡◌, ◌≤◌, ◌+◌, length, count_by, find, sum_by};
-ghost use Rattle.std.specs.Option.{option_map};
+ghost use Rattle.std.specs.Option.{option_flatten, option_map};
 ghost use Rattle.filter_tree.specs.ClaimBook.{RowValue, is_of_env};
-ghost use Rattle.filter_tree.specs.Claims.{claim_seen, is_claim, is_for, is_in_the_way, row_refusal};
+ghost use Rattle.filter_tree.specs.Claims.{claim_seen, is_claim, is_for, is_in_the_way, is_numbered, row_refusal};
 
 use crate::claim::{Claim, ClaimNo};
 use crate::row::Row;
 use crate::steps::Steps;
 use filter_core::{Filter, Layout, Packet};
+use handler_code::Handler;
 use std::sync::ledger::Ledger;
 
 /// The most claims of an environment.
@@ -51,6 +52,18 @@ pub(crate) fn claim_held(rows: &[Row], env: u8, id: u32) -> Option<Claim>
     for row in rows {
         if row.is_claim(env, id) {
             return Some(row.claim());
+        }
+    }
+    None
+}
+
+/// The handler of the claim of this number, if it has one.
+pub(crate) fn claim_handler(rows: &[Row], id: u32) -> Option<&Handler>
+    ensures { option_map (λ handler. handler.now) result ≡ option_flatten (option_map (λ (r : RowValue). r.handler) (find (λ (r : RowValue). is_numbered id r.claim) rows.now)) }
+{
+    for row in rows {
+        if row.is_numbered(id) {
+            return row.handler();
         }
     }
     None

@@ -1,9 +1,11 @@
-//! Claims that are withdrawn, and claims whose buffers take turns.
+//! Claims that are withdrawn, claims whose buffers take turns, and claims that get a handler.
 ghost use Rattle.std.specs.Prelude.{◌≡◌, filter, map, not, vec_capacity};
+ghost use Rattle.std.specs.Option.{option_map};
 ghost use Rattle.filter_tree.specs.ClaimBook.{RowValue, is_of_env};
-ghost use Rattle.filter_tree.specs.Claims.{is_claim, is_into, turned_if};
+ghost use Rattle.filter_tree.specs.Claims.{handled_if, is_claim, is_into, turned_if};
 
 use crate::row::Row;
+use handler_code::Handler;
 
 /// Withdraws the environment's claim of this number.
 pub(crate) fn withdraw(rows: &mut Vec<Row>, env: u8, id: u32)
@@ -43,5 +45,22 @@ fn turn_in(rows: &mut [Row], id: u32)
 {
     for row in rows.iter_mut() {
         row.turn(id);
+    }
+}
+
+/// The claim of this number has a copy of the handler from now on, or none.
+pub(crate) fn download(rows: &mut Vec<Row>, id: u32, handler: Option<&Handler>)
+    ensures rows { rows.new.items ≡ map (handled_if id (option_map (λ handler. handler.now) handler.entry)) rows.old.items }
+    ensures room { vec_capacity rows.new ≡ vec_capacity rows.old }
+{
+    download_in(rows, id, handler);
+}
+
+/// The same in a slice of claims.
+fn download_in(rows: &mut [Row], id: u32, handler: Option<&Handler>)
+    ensures { rows.new ≡ map (handled_if id (option_map (λ handler. handler.now) handler.entry)) rows.old }
+{
+    for row in rows.iter_mut() {
+        row.download(id, handler);
     }
 }

@@ -12,7 +12,7 @@ use Rattle.mips_exec.specs.declared.exception.ExcCode.TheVariants.{Sys}
 use Rattle.mips_exec.specs.Cpu.{branch_target}
 use Rattle.mips_exec.specs.Effect.{effect}
 use Rattle.mips_exec.specs.Exception.{plain}
-use Rattle.safe_handler.specs.Instructions.{branch_offset, is_allowed, is_barred_from_slots}
+use Rattle.handler_code.specs.Instructions.{branch_offset, is_allowed, is_barred_from_slots}
 
 -- it doesn't jump
 abbrev pub is_straight : Change → Bool

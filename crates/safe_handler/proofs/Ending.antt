@@ -16,13 +16,13 @@ use Rattle.mips_exec.specs.Cpu.{with_hi_lo, with_reg}
 use Rattle.mips_exec.specs.Effect.{effect}
 use Rattle.mips_exec.specs.Word.{word_of}
 use Rattle.mips_exec.specs.Step.{ended, executed, fetched}
-use Rattle.safe_handler.specs.declared.outcome.HandlerEnd.{HandlerEnd}
-use Rattle.safe_handler.specs.declared.outcome.HandlerEnd.TheVariants.{Done, Fault}
-use Rattle.safe_handler.specs.Instructions.{branch_offset, is_barred_from_slots}
-use Rattle.safe_handler.specs.Memory.{answer_or, answers_of}
-use Rattle.safe_handler.specs.Running.{Progress, HandlerState, after_call, after_step, ends, entry_cpu, entry_state, handler_run, most_replies, handler_step, ended_or, run_of, replied, reply_of, run_on}
-use Rattle.safe_handler.specs.Laws.{HandlersEnd}
-use Rattle.safe_handler.specs.Verification.{follows_branch, insn_at}
+use Rattle.handler_code.specs.declared.outcome.HandlerEnd.{HandlerEnd}
+use Rattle.handler_code.specs.declared.outcome.HandlerEnd.TheVariants.{Done, Fault}
+use Rattle.handler_code.specs.Instructions.{branch_offset, is_barred_from_slots}
+use Rattle.handler_code.specs.Memory.{answer_or, answers_of}
+use Rattle.handler_code.specs.Running.{Progress, HandlerState, after_call, after_step, ends, entry_cpu, entry_state, handler_run, most_replies, handler_step, ended_or, run_of, replied, reply_of, run_on}
+use Rattle.handler_code.specs.Laws.{FirstBadIsFirst, HandlersEnd}
+use Rattle.handler_code.specs.Verification.{follows_branch, insn_at}
 use Rattle.safe_handler.proofs.Effects.{branch_is_barred, branches, goes_straight, is_straight}
 use Rattle.safe_handler.proofs.Positions.{IsAt, IsBeyond, IsVerified, advances, good_branch, good_word, is_verified, jumps}
 
@@ -152,7 +152,7 @@ at_entry : (words : List ℕ) (size id : ℕ) → IsAt words (entry_cpu size id)
 at_entry words size id = record { pc = refl; next = refl; forward = omega arith; order = inl refl }
 
 -- a verified handler ends in as many instructions as it has words
-pub handlers_end : HandlersEnd
+pub handlers_end : FirstBadIsFirst → HandlersEnd
 unfolding handler_run
-handlers_end words packet page id more none =
-    runs_same (length words) more words packet (entry_state packet id page) 0 1 (is_verified words none) (at_entry words (length packet) id) (omega arith)
+handlers_end law words packet page id more none =
+    runs_same (length words) more words packet (entry_state packet id page) 0 1 (is_verified law words none) (at_entry words (length packet) id) (omega arith)

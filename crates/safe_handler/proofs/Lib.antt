@@ -1,4 +1,3 @@
-pub mod Bad
 pub mod Lending
 pub mod Steps
 pub mod Runs

@@ -14,11 +14,11 @@ use Rattle.mips_exec.specs.Access.{Write}
 use Rattle.mips_exec.specs.Cpu.{reg}
 use Rattle.mips_exec.specs.Kept.{IsWrite, StepsAreSound}
 use Rattle.mips_exec.specs.Step.{Step, Retired, Called, Trapped, step_of, view_of, write_after}
-use Rattle.safe_handler.specs.declared.outcome.HandlerEnd.{HandlerEnd}
-use Rattle.safe_handler.specs.declared.outcome.HandlerEnd.TheVariants.{Fault}
-use Rattle.safe_handler.specs.Laws.{IsWithinLimits, RunsKeepLimits, is_frame}
-use Rattle.safe_handler.specs.Memory.{answer_or, answers_of, bytes_at, page_start, stored}
-use Rattle.safe_handler.specs.Running.{HandlerRun, HandlerState, after_call, after_step, ends, entry_state, handler_run, most_replies, handler_step, ended_or, replied, reply_of, run_on}
+use Rattle.handler_code.specs.declared.outcome.HandlerEnd.{HandlerEnd}
+use Rattle.handler_code.specs.declared.outcome.HandlerEnd.TheVariants.{Fault}
+use Rattle.handler_code.specs.Laws.{IsWithinLimits, RunsKeepLimits, is_frame}
+use Rattle.handler_code.specs.Memory.{answer_or, answers_of, bytes_at, page_start, stored}
+use Rattle.handler_code.specs.Running.{HandlerRun, HandlerState, after_call, after_step, ends, entry_state, handler_run, most_replies, handler_step, ended_or, replied, reply_of, run_on}
 
 -- the ring page has its size, and the replies are few and frames
 record Keeps (size : ℕ) (state : HandlerState) : Type 0 where

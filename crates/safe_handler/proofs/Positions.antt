@@ -5,10 +5,9 @@ use Rattle.std.proofs.lemmas.Bool.{eqb-false, lt-ltb, ltb-true, or_parts}
 use Rattle.mips_isa.specs.Word.{sign16_of}
 use Rattle.mips_exec.specs.declared.registers.Cpu.{Cpu}
 use Rattle.mips_exec.specs.Cpu.{advanced, branch_target, jumped}
-use Rattle.safe_handler.specs.Instructions.{branch_offset, is_allowed, is_barred_from_slots, is_branch}
-use Rattle.safe_handler.specs.Laws.{AreGood}
-use Rattle.safe_handler.specs.Verification.{first_bad, first_bad_below, follows_branch, insn_at, is_bad_branch, is_bad_word, most_words, target_of}
-use Rattle.safe_handler.proofs.Bad.{is_first_below}
+use Rattle.handler_code.specs.Instructions.{branch_offset, is_allowed, is_barred_from_slots, is_branch}
+use Rattle.handler_code.specs.Laws.{AreGood, FirstBadIsFirst, IsFirstBad}
+use Rattle.handler_code.specs.Verification.{first_bad, first_bad_below, follows_branch, insn_at, is_bad_branch, is_bad_word, most_words, target_of}
 
 -- no word is bad
 pub record IsVerified (words : List ℕ) : Type 0 where
@@ -128,9 +127,11 @@ jumps words cpu i imm false verified is inside forward branch =
 -- ---- the words of a handler
 
 -- words without a first bad one have none
-pub is_verified : (words : List ℕ) → first_bad words ≡ None → IsVerified words
-is_verified words none = by_test (nat_lt most_words (length words)) refl none
+pub is_verified : FirstBadIsFirst → (words : List ℕ) → first_bad words ≡ None → IsVerified words
+is_verified law words none = by_test (nat_lt most_words (length words)) refl none
   where
     by_test : (t : Bool) → nat_lt most_words (length words) ≡ t → (if t then Some most_words else first_bad_below words (length words)) ≡ None → IsVerified words
-    by_test true is none = absurd cc
-    by_test false is none = record { few = ltb-false _ _ is; good = rw none at (is_first_below words (length words)) }
+    by_test true is bad = absurd cc
+    by_test false is bad =
+        let few : length words ≤ most_words = ltb-false _ _ is in
+        record { few = few; good = rw none at (law words few) }

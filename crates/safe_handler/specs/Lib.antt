@@ -1,6 +1,1 @@
-pub mod Instructions
-pub mod Verification
-pub mod Memory
-pub mod Running
 pub mod Lent
-pub mod Laws

@@ -2,6 +2,7 @@
 use super::*;
 use aegis_limits::PAGE_SIZE;
 use filter_core::Packet;
+use handler_code::{HandlerEnd, verify};
 
 /// A branch that is always taken, by so many words from the word behind it.
 const BRANCH: u32 = 0x1000_0000;
@@ -55,7 +56,7 @@ fn run(words: &[u32]) -> (bool, u32, usize, [u8; 4]) {
     let (Ok(handler), Some(packet)) = (verify(words), Packet::view(&bytes)) else {
         return (false, 99, 0, [0; 4]);
     };
-    let end = handler.run(&packet, 7, &mut page, &mut replies);
+    let end = run_handler(&handler, &packet, 7, &mut page, &mut replies);
     let size = if replies.count() > 0 {
         replies.reply(replies.count() - 1).len()
     } else {

@@ -13,7 +13,7 @@ use Rattle.bind_book.specs.declared.binding.Binding.{Binding}
 use Rattle.world_model.specs.declared.call.Call.{Call}
 use Rattle.world_model.specs.declared.call.Call.TheVariants as call
 use Rattle.world_model.specs.declared.call.Deed.{Deed}
-use Rattle.world_model.specs.declared.call.Deed.TheVariants.{Answers, Own, Stops, Gives, Allocates, Frees, Recaps, Binds, Unbinds, Transfers, TakesSlot, DropsSlot, TakesLine, DropsLine, Claims, Unclaims, Loads}
+use Rattle.world_model.specs.declared.call.Deed.TheVariants.{Answers, Own, Stops, Gives, Allocates, Frees, Recaps, Binds, Unbinds, Transfers, TakesSlot, DropsSlot, TakesLine, DropsLine, Claims, Unclaims, Downloads, Loads}
 use Rattle.world_model.specs.declared.call.OwnDeed.TheVariants.{Puts, Sends, Handles, Accepts}
 use Rattle.world_model.specs.Page.{Mapped, user_end}
 
@@ -34,6 +34,7 @@ call_named number =
     if number == 13 then Some call.Query else
     if number == 14 then Some call.Claim else
     if number == 15 then Some call.Unclaim else
+    if number == 16 then Some call.Handler else
     if number == 17 then Some call.Line else
     if number == 18 then Some call.Backup else
     if number == 19 then Some call.Send else
@@ -109,6 +110,7 @@ deed_of (Some call.SlotDrop) value cpu = DropsSlot (reg cpu 4)
 deed_of (Some call.Query) value cpu = Answers
 deed_of (Some call.Claim) value cpu = Claims value (reg cpu 4) (reg cpu 5) (reg cpu 6)
 deed_of (Some call.Unclaim) value cpu = Unclaims (reg cpu 4)
+deed_of (Some call.Handler) value cpu = Downloads (reg cpu 4) (reg cpu 5) (reg cpu 6)
 deed_of (Some call.Line) value cpu = line_deed (reg cpu 4) (reg cpu 5 == 1)
 deed_of (Some call.Backup) value cpu = Loads (reg cpu 4)
 deed_of (Some call.Send) value cpu = Own (Sends (reg cpu 4) (reg cpu 5))

@@ -8,7 +8,7 @@ use Rattle.filter_tree.specs.ClaimBook.{ClaimValue}
 use Rattle.world_model.specs.Table.{set_at}
 use Rattle.world_model.specs.Book.{Book}
 use Rattle.world_model.specs.Solo.{Solo, Ring}
-use Rattle.world_model.specs.Rings.{page_store, ring_after, ring_of}
+use Rattle.world_model.specs.Rings.{page_left, page_store, reception, ring_of}
 use Rattle.revocation_book.specs.declared.revocation.Pending.{Pending}
 use Rattle.revocation_book.specs.Pending.{asked}
 use Rattle.world_model.specs.Item.{Item, Asked, Line, Packet}
@@ -34,14 +34,14 @@ signals line None w = no_change w
 signals line (Some owner) w = tells owner (Line line) w
 
 -- A packet that is claimed goes to the claim's environment, and whoever else owns or has bound the ring page is left all its
--- bytes, unless the packet is lost.
+-- bytes, unless the packet is lost. A handler runs as a part of this.
 abbrev pub ring_left : Book → ℕ → ℕ → Option (List ℕ) → ℕ → List Item
 ring_left b owner page None e = []
 ring_left b owner page (Some bytes) e = left_by b owner (page_store page bytes) e
 
 abbrev pub ring_bytes : Solo → Option Ring → List ℕ → Option (List ℕ)
 ring_bytes s None packet = None
-ring_bytes s (Some r) packet = ring_after s r packet
+ring_bytes s (Some r) packet = page_left (reception s r packet)
 
 abbrev pub delivers : ClaimValue → List ℕ → World → Reply
 delivers c packet w = let s = w.solos c.env in record {

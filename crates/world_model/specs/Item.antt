@@ -18,9 +18,10 @@ use Rattle.world_model.specs.Post.{asked_for, signalled}
 use Rattle.world_model.specs.Repossession.{taken}
 use Rattle.world_model.specs.Rings.{received, with_ring, without_ring}
 use Rattle.world_model.specs.declared.call.Deed.{Deed}
-use Rattle.world_model.specs.declared.call.Deed.TheVariants.{Answers, Own, Stops, Gives, Allocates, Frees, Recaps, Binds, Unbinds, Transfers, TakesSlot, DropsSlot, TakesLine, DropsLine, Claims, Unclaims, Loads}
+use Rattle.world_model.specs.declared.call.Deed.TheVariants.{Answers, Own, Stops, Gives, Allocates, Frees, Recaps, Binds, Unbinds, Transfers, TakesSlot, DropsSlot, TakesLine, DropsLine, Claims, Unclaims, Downloads, Loads}
 use Rattle.world_model.specs.Call.{called, deed_of}
 use Rattle.world_model.specs.OwnCalls.{own_state_after, with_own_state}
+use Rattle.world_model.specs.Downloads.{downloaded}
 use Rattle.world_model.specs.Step.{step_alone, stepped}
 
 pub data Item : Type 0 where
@@ -78,6 +79,7 @@ own_part (TakesLine line) s = s
 own_part (DropsLine line) s = s
 own_part (Claims claim address atoms page) s = with_ring claim page s
 own_part (Unclaims claim) s = without_ring claim s
+own_part (Downloads claim address words) s = downloaded claim address words s
 own_part (Loads page) s = s
 
 -- register 2 has the answer's code and register 3 its value, and the machine goes on behind the call

@@ -10,6 +10,7 @@ pub mod Rings
 pub mod Repossession
 pub mod Call
 pub mod OwnCalls
+pub mod Downloads
 pub mod Step
 pub mod Item
 pub mod Book

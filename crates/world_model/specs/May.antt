@@ -19,11 +19,12 @@ use Rattle.world_model.specs.OwnCalls.{MayOwn}
 use Rattle.world_model.specs.PageCalls.{is_guaranteed}
 use Rattle.world_model.specs.LineCalls.{is_line_of, is_line_of_other}
 use Rattle.world_model.specs.ClaimCalls.{filter_at}
+use Rattle.world_model.specs.Downloads.{MayDownload}
 use Rattle.world_model.specs.SlotCalls.{accepts, gift_refusal, is_other, turn_slot}
 use Rattle.world_model.specs.Transfers.{is_open}
 use Rattle.world_model.specs.World.{World}
 use Rattle.world_model.specs.declared.call.Deed.{Deed}
-use Rattle.world_model.specs.declared.call.Deed.TheVariants.{Answers, Own, Stops, Gives, Allocates, Frees, Recaps, Binds, Unbinds, Transfers, TakesSlot, DropsSlot, TakesLine, DropsLine, Claims, Unclaims, Loads}
+use Rattle.world_model.specs.declared.call.Deed.TheVariants.{Answers, Own, Stops, Gives, Allocates, Frees, Recaps, Binds, Unbinds, Transfers, TakesSlot, DropsSlot, TakesLine, DropsLine, Claims, Unclaims, Downloads, Loads}
 
 -- the target is another environment, which lives and accepts the caller, and the slice may be handed on, or for a later the slot too
 pub record MayReach (w : World) (e target : ℕ) (later : Bool) : Type 0 where
@@ -115,4 +116,5 @@ May w e (TakesLine line) = MayTakeLine w.book e line
 May w e (DropsLine line) = MayDropLine w.book e line
 May w e (Claims claim address atoms page) = MayClaim w e claim address atoms page
 May w e (Unclaims claim) = Unit {0}
+May w e (Downloads claim address words) = MayDownload (w.solos e) claim address words
 May w e (Loads page) = MayLoad w.book e page

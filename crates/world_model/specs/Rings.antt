@@ -1,5 +1,7 @@
 -- An environment's claims: what it makes of the packets that come for them.
-use Rattle.std.specs.Prelude.{ℕ, List, [], ◌∷◌, ◌++◌, Bool, not, ◌==◌, filter, find, map, if◌then◌else◌, Option, Some, None}
+use Rattle.std.specs.Prelude.{ℕ, List, [], ◌∷◌, ◌++◌, Bool, not, ◌==◌, filter, find, map, take, if◌then◌else◌, Option, Some, None}
+use Rattle.external_event.specs.Limits.{most_sent}
+use Rattle.handler_code.specs.Running.{HandlerRun, handler_run}
 use Rattle.env_frames.specs.declared.post.PostWord.TheVariants as post
 use Rattle.packet_ring.specs.declared.buffer.Buffer.TheVariants.{First}
 use Rattle.packet_ring.specs.Ring.{is_full, other_buffer, with_packet}
@@ -13,9 +15,9 @@ is_ring claim r = r.claim == claim
 abbrev pub ring_of : List Ring → ℕ → Option Ring
 ring_of rings claim = find (is_ring claim) rings
 
--- one claim more, whose first packet goes into the first buffer
+-- one claim more, whose first packet goes into the first buffer; it has no handler
 abbrev pub with_ring : ℕ → ℕ → Solo → Solo
-with_ring claim page s = record s { rings = s.rings ++ record { claim = claim; page = page; next = First } ∷ [] }
+with_ring claim page s = record s { rings = s.rings ++ record { claim = claim; page = page; next = First; handler = None } ∷ [] }
 
 -- without a claim
 abbrev pub without_ring : ℕ → Solo → Solo
@@ -28,23 +30,62 @@ turned r = record r { next = other_buffer r.next }
 abbrev pub turned_if : ℕ → Ring → Ring
 turned_if claim r = if is_ring claim r then turned r else r
 
--- the ring page with a packet in the buffer whose turn it is, unless that is full: then the packet is lost
-abbrev pub ring_after : Solo → Ring → List ℕ → Option (List ℕ)
-ring_after s r packet = let page = bytes_of s (Physical r.page) in if is_full page r.next then None else Some (with_packet page r.next packet)
+-- the handler of a claim is this from now on, or it has none
+abbrev pub handled : Option (List ℕ) → Ring → Ring
+handled handler r = record r { handler = handler }
+
+abbrev pub handled_if : ℕ → Option (List ℕ) → Ring → Ring
+handled_if claim handler r = if is_ring claim r then handled handler r else r
+
+abbrev pub with_handler : ℕ → Option (List ℕ) → Solo → Solo
+with_handler claim handler s = record s { rings = map (handled_if claim handler) s.rings }
+
+-- What becomes of a packet at the ring of its claim: it is lost; or it goes into the buffer whose turn it is, which leaves
+-- this of the ring page; or the claim's handler takes it, which leaves this of the page and makes these replies.
+pub data Reception : Type 0 where
+  Loses : Reception
+  Queues : (page : List ℕ) → Reception
+  Handles : (page : List ℕ) (replies : List (List ℕ)) → Reception
+
+-- without a handler, the packet is lost where the buffer whose turn it is is full
+abbrev pub queued : Ring → List ℕ → List ℕ → Reception
+queued r packet page = if is_full page r.next then Loses else Queues (with_packet page r.next packet)
+
+abbrev pub ran : HandlerRun → Reception
+ran run = Handles run.page run.replies
+
+abbrev pub received_by : Option (List ℕ) → Ring → List ℕ → List ℕ → Reception
+received_by None r packet page = queued r packet page
+received_by (Some words) r packet page = ran (handler_run words packet r.claim page)
+
+abbrev pub reception : Solo → Ring → List ℕ → Reception
+reception s r packet = received_by r.handler r packet (bytes_of s (Physical r.page))
+
+-- all bytes of the ring page after it, unless the packet is lost
+abbrev pub page_left : Reception → Option (List ℕ)
+page_left Loses = None
+page_left (Queues page) = Some page
+page_left (Handles page replies) = Some page
 
 -- a page of which all bytes are stored
 abbrev pub page_store : ℕ → List ℕ → Store
 page_store page bytes = record { key = Physical page; offset = 0; bytes = bytes }
 
+-- the packets that an environment sent, with a handler's replies; those that find 256 are dropped
+abbrev pub replied : List (List ℕ) → List (List ℕ) → List (List ℕ)
+replied sent replies = take most_sent (sent ++ replies)
+
 -- A packet that is lost is counted so. One that goes into the ring is a store of the ring page, and the other buffer is next.
-abbrev pub put_in_ring : Ring → Option (List ℕ) → Solo → Solo
-put_in_ring r None s = counted post.Lost s
-put_in_ring r (Some bytes) s = record (stored (page_store r.page bytes) s) { rings = map (turned_if r.claim) s.rings }
+-- One that a handler takes is a store of the ring page too; the buffer whose turn it is stays, and the replies are sent.
+abbrev pub received_as : Ring → Reception → Solo → Solo
+received_as r Loses s = counted post.Lost s
+received_as r (Queues page) s = record (stored (page_store r.page page) s) { rings = map (turned_if r.claim) s.rings }
+received_as r (Handles page replies) s = record (stored (page_store r.page page) s) { sent = replied s.sent replies }
 
 abbrev pub received_in : Option Ring → List ℕ → Solo → Solo
 received_in None packet s = s
-received_in (Some r) packet s = put_in_ring r (ring_after s r packet) s
+received_in (Some r) packet s = received_as r (reception s r packet) s
 
--- A packet that is claimed is counted, and goes into the ring of its claim.
+-- A packet that is claimed is counted, and then goes to the ring of its claim.
 abbrev pub received : ℕ → List ℕ → Solo → Solo
 received claim packet s = received_in (ring_of s.rings claim) packet (counted post.Packets s)

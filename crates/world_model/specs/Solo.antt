@@ -21,12 +21,13 @@ pub record Seen : Type 0 where
   pub owned : Bool
   pub bytes : List ℕ
 
--- a claim of the environment's: its number, its ring, which is the page into which its packets go, and the buffer of the
--- ring whose turn is next
+-- a claim of the environment's: its number, its ring, which is the page into which its packets go, the buffer of the ring
+-- whose turn is next, and the words of its handler, if it has one
 pub record Ring : Type 0 where
   pub claim : ℕ
   pub page : ℕ
   pub next : Buffer
+  pub handler : Option (List ℕ)
 
 -- Number, name, life, registers, handlers, the mask of those from whom it accepts yields and transfers, guaranteed pages by rising
 -- VPN, the binding in each row of its stripe, each other page that it owns or has bound by its number in

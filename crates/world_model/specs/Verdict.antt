@@ -8,12 +8,13 @@ use Rattle.world_model.specs.Call.{any, called, exit_number}
 use Rattle.world_model.specs.declared.verdict.Verdict.{Verdict}
 use Rattle.world_model.specs.declared.verdict.Verdict.TheVariants.{Refuse, Grant}
 use Rattle.world_model.specs.declared.call.Deed.{Deed}
-use Rattle.world_model.specs.declared.call.Deed.TheVariants.{Answers, Own, Stops, Gives, Allocates, Frees, Recaps, Binds, Unbinds, Transfers, TakesSlot, DropsSlot, TakesLine, DropsLine, Claims, Unclaims, Loads}
+use Rattle.world_model.specs.declared.call.Deed.TheVariants.{Answers, Own, Stops, Gives, Allocates, Frees, Recaps, Binds, Unbinds, Transfers, TakesSlot, DropsSlot, TakesLine, DropsLine, Claims, Unclaims, Downloads, Loads}
 use Rattle.world_model.specs.Solo.{Solo}
 use Rattle.world_model.specs.Item.{Answer, deed_at}
 use Rattle.world_model.specs.World.{World, Reply, followed, no_change, tells}
 use Rattle.world_model.specs.PageCalls.{alloc, allocates, bind, binds_to, free, frees, recap, recaps, unbind, unbinds}
 use Rattle.world_model.specs.OwnCalls.{accept, context, put, send}
+use Rattle.world_model.specs.Downloads.{download}
 use Rattle.world_model.specs.SlotCalls.{drops_slot, gives, slot_drop, slot_take, stops, takes_slot, yield_alone, yield_to}
 use Rattle.world_model.specs.LineCalls.{line, with_line}
 use Rattle.world_model.specs.ClaimCalls.{claim, claims_packets, unclaim, unclaims}
@@ -28,6 +29,7 @@ verdict_alone s (Some call.Put) = Some (put s)
 verdict_alone s (Some call.Send) = Some (send s)
 verdict_alone s (Some call.Unbind) = Some (unbind s)
 verdict_alone s (Some call.Unclaim) = Some (unclaim s)
+verdict_alone s (Some call.Handler) = Some (download s)
 verdict_alone s (Some call.Context) = Some (context s)
 verdict_alone s (Some call.Accept) = Some (accept s)
 verdict_alone s (Some call.OwnNumber) = Some (Grant s.number)
@@ -71,6 +73,7 @@ done w e (TakesLine line) = with_line w line (Some e)
 done w e (DropsLine line) = with_line w line None
 done w e (Claims claim address atoms page) = claims_packets w e claim address atoms page
 done w e (Unclaims claim) = unclaims w e claim
+done w e (Downloads claim address words) = no_change w
 done w e (Loads page) = loads w e page
 
 -- A refused call is answered, and nothing else happens. A granted one is answered, and then comes what it does.

@@ -38,6 +38,8 @@ pub enum Call {
     Claim,
     /// Withdraws a claim of the caller's.
     Unclaim,
+    /// Downloads a handler for a claim of the caller's, or removes it.
+    Handler,
     /// Takes an interrupt line, or drops it.
     Line,
     /// Loads a page as a backup.
@@ -76,6 +78,7 @@ impl Call {
             13 => Some(Call::Query),
             14 => Some(Call::Claim),
             15 => Some(Call::Unclaim),
+            16 => Some(Call::Handler),
             17 => Some(Call::Line),
             18 => Some(Call::Backup),
             19 => Some(Call::Send),
@@ -143,6 +146,15 @@ pub enum Deed {
     },
     /// A claim of the caller's, of this number, is withdrawn.
     Unclaims(u32),
+    /// A claim of the caller's has a handler, in place of the one that it has, or none.
+    Downloads {
+        /// The number of the claim.
+        claim: u32,
+        /// Where the words of the handler stand in the caller's space.
+        address: u32,
+        /// How many they are; 0 is no handler.
+        words: u32,
+    },
     /// A page of the caller's is the last of its backups.
     Loads(u32),
 }

@@ -17,5 +17,5 @@ pub use life::{Cause, Life};
 pub use page::Purpose;
 pub use question::Question;
 pub use slot::{Hold, Phase, Runner, Turn};
-pub use verdict::Verdict;
+pub use verdict::{HandlerNo, Verdict};
 pub use view::{PageView, WorldView};

@@ -12,6 +12,15 @@ pub enum Verdict {
     Grant(u32),
 }
 
+/// Why a handler isn't downloaded (`docs/KERNEL.md`).
+#[derive(Clone, Copy)]
+pub enum HandlerNo {
+    /// Its words don't stand in a good range.
+    BadPointer,
+    /// The word of this number, from 0, is the first that is bad; 64 where there are more than 64 words.
+    BadWord(u32),
+}
+
 impl Verdict {
     ghost use Rattle.world_model.specs.Answer.{unless, verdict_code, verdict_of, verdict_value};
 

@@ -1,9 +1,9 @@
 use Rattle.std.proofs.Common.{◌≡◌, ◌-◌, length}
-use Rattle.safe_handler.specs.Running.{handler_run, run_on, state_of}
-use Rattle.safe_handler.proofs.handler.Handler.run.Given as goal
+use Rattle.handler_code.specs.Running.{handler_run, run_on, state_of}
+use Rattle.safe_handler.proofs.running.run_handler.Given as goal
 
 -- The run with as many instructions as are left is the handler's.
 abbrev pub invariant-loop : goal.invariant-loop
 invariant-loop l =
     run_on (length l.words - l.counter) l.words l.bytes (state_of l.cpu l.page l.replies)
-    ≡ handler_run l.fn.self l.fn.packet l.fn.id l.fn.page
+    ≡ handler_run l.fn.handler l.fn.packet l.fn.id l.fn.page

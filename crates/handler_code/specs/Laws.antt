@@ -3,8 +3,8 @@ use Rattle.std.specs.Prelude.{◌≡◌, ◌<◌, ◌≤◌, ℕ, ◌+◌, ◌&&
 use Rattle.std.specs.List.{list_all}
 use Rattle.aegis_limits.specs.Limits.{page_size}
 use Rattle.external_event.specs.Limits.{least_frame_size, most_packet_size}
-use Rattle.safe_handler.specs.Verification.{first_bad, is_bad_word, most_words}
-use Rattle.safe_handler.specs.Running.{HandlerRun, entry_state, handler_run, most_replies, run_on}
+use Rattle.handler_code.specs.Verification.{first_bad, is_bad_word, most_words}
+use Rattle.handler_code.specs.Running.{HandlerRun, entry_state, handler_run, most_replies, run_on}
 
 -- no word below this number is bad
 abbrev pub AreGood : List ℕ → ℕ → Type 0

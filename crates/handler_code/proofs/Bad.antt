@@ -3,8 +3,8 @@ use Rattle.std.specs.Prelude.{if◌then◌else◌}
 use Rattle.std.specs.Option.{option_or}
 use Rattle.std.proofs.Common.{arith, refl, inl, inr, ◌≡◌, ◌<◌, ◌+◌, ℕ, zero, suc, Bool, true, false, List, length, Option, None, Some}
 use Rattle.std.proofs.lemmas.Bool.{cases_eq, le-ltb}
-use Rattle.safe_handler.specs.Laws.{AreGood, FirstBadIsFirst, IsFirstBad}
-use Rattle.safe_handler.specs.Verification.{first_bad_below, is_bad_word, most_words}
+use Rattle.handler_code.specs.Laws.{AreGood, FirstBadIsFirst, IsFirstBad}
+use Rattle.handler_code.specs.Verification.{first_bad_below, is_bad_word, most_words}
 
 -- the first bad word of those below a number
 pub record IsFirstIn (words : List ℕ) (count at : ℕ) : Type 0 where

@@ -1,10 +1,11 @@
 -- Which words are bad in a handler. Words are numbered from 0, and a branch's target is counted in words.
-use Rattle.std.specs.Prelude.{ℕ, zero, suc, ◌+◌, ◌-◌, ◌^◌, Bool, false, not, ◌&&◌, ◌||◌, ◌==◌, nat_lt, if◌then◌else◌, List, length, slice_index, Option, Some, None, Result, Ok, Err}
+use Rattle.std.specs.Prelude.{ℕ, zero, suc, ◌+◌, ◌-◌, ◌/◌, ◌^◌, Bool, false, not, ◌&&◌, ◌||◌, ◌==◌, nat_lt, if◌then◌else◌, List, [], ◌∷◌, length, slice_index, Option, Some, None, Result, Ok, Err}
 use Rattle.std.specs.Option.{option_or}
+use Rattle.byte_numbers.specs.Numbers.{word_at}
 use Rattle.mips_isa.specs.declared.insn.Insn.{Insn}
 use Rattle.mips_isa.specs.Encoding.{insn_of}
-use Rattle.safe_handler.specs.declared.outcome.HandlerFault.{HandlerFault}
-use Rattle.safe_handler.specs.Instructions.{branch_offset, is_allowed, is_barred_from_slots, is_branch}
+use Rattle.handler_code.specs.declared.outcome.HandlerFault.{HandlerFault}
+use Rattle.handler_code.specs.Instructions.{branch_offset, is_allowed, is_barred_from_slots, is_branch}
 
 -- how many words the longest handler has
 abbrev pub most_words : ℕ
@@ -59,3 +60,16 @@ unless_bad words (Some i) = Err (record { at = i })
 
 abbrev pub verified : List ℕ → Result (List ℕ) HandlerFault
 verified words = unless_bad words (first_bad words)
+
+-- the bytes of a word
+abbrev pub word_size : ℕ
+word_size = 4
+
+-- so many words that stand in bytes from a place on
+abbrev pub words_from : List ℕ → ℕ → ℕ → List ℕ
+words_from bytes place zero = []
+words_from bytes place (suc n) = word_at bytes place ∷ words_from bytes (place + word_size) n
+
+-- the words that bytes spell, four each, the lowest byte first
+abbrev pub words_in : List ℕ → List ℕ
+words_in bytes = words_from bytes 0 (length bytes / word_size)

@@ -1,6 +1,6 @@
 //! The bad words of a handler.
 ghost use Rattle.std.specs.Prelude.{◌≡◌, ◌<◌, ◌≤◌, length};
-ghost use Rattle.safe_handler.specs.Verification.{first_bad_below, follows_branch, insn_at, is_bad_branch, is_bad_word, most_words, target_of};
+ghost use Rattle.handler_code.specs.Verification.{first_bad_below, follows_branch, insn_at, is_bad_branch, is_bad_word, most_words, target_of};
 
 use crate::instructions::{branch_offset, is_allowed, is_barred_from_slots, is_branch};
 use mips_codec::decode;

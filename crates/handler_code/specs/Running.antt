@@ -6,9 +6,9 @@ use Rattle.mips_exec.specs.declared.exception.ExcCode.{ExcCode}
 use Rattle.mips_exec.specs.declared.exception.ExcCode.TheVariants.{Bp, Ibe}
 use Rattle.mips_exec.specs.Cpu.{advanced, blank_cpu, reg, with_reg}
 use Rattle.mips_exec.specs.Step.{Step, Retired, Called, Trapped, step_of, view_of}
-use Rattle.safe_handler.specs.declared.outcome.HandlerEnd.{HandlerEnd}
-use Rattle.safe_handler.specs.declared.outcome.HandlerEnd.TheVariants.{Done, Fault}
-use Rattle.safe_handler.specs.Memory.{answers_of, bytes_at, page_after, page_start}
+use Rattle.handler_code.specs.declared.outcome.HandlerEnd.{HandlerEnd}
+use Rattle.handler_code.specs.declared.outcome.HandlerEnd.TheVariants.{Done, Fault}
+use Rattle.handler_code.specs.Memory.{answers_of, bytes_at, page_after, page_start}
 
 -- how many replies a run makes at most
 abbrev pub most_replies : ℕ

@@ -1,6 +1,6 @@
 use Rattle.std.proofs.Common.{◌≡◌, None}
-use Rattle.safe_handler.specs.Verification.{first_bad_below}
-use Rattle.safe_handler.proofs.verification.first_bad_word.Given as goal
+use Rattle.handler_code.specs.Verification.{first_bad_below}
+use Rattle.handler_code.proofs.verification.first_bad_word.Given as goal
 
 -- No word so far is bad.
 abbrev pub invariant-loop-at : goal.invariant-loop-at

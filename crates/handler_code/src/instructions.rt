@@ -1,6 +1,6 @@
 //! The instructions that a handler may have.
 ghost use Rattle.std.specs.Prelude.{◌≡◌};
-ghost use Rattle.safe_handler.specs.Instructions.{branch_offset, is_allowed, is_barred_from_slots, is_branch};
+ghost use Rattle.handler_code.specs.Instructions.{branch_offset, is_allowed, is_barred_from_slots, is_branch};
 
 use mips_isa::Insn;
 

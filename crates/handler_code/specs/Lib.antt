@@ -1,0 +1,5 @@
+pub mod Instructions
+pub mod Verification
+pub mod Memory
+pub mod Running
+pub mod Laws
