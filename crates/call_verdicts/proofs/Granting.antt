@@ -24,7 +24,11 @@ use Rattle.world_model.specs.declared.call.Call.TheVariants as call
 use Rattle.world_model.specs.declared.code.Code.{Code}
 use Rattle.world_model.specs.declared.code.Code.TheVariants as code
 use Rattle.world_model.specs.declared.slot.Hold.{Hold}
-use Rattle.world_model.specs.declared.verdict.Verdict.TheVariants.{Grant}
+use Rattle.world_model.specs.declared.verdict.Verdict.TheVariants.{Refuse, Grant}
+use Rattle.world_model.specs.declared.verdict.HandlerNo.{HandlerNo}
+use Rattle.world_model.specs.declared.verdict.HandlerNo.TheVariants as handler_no
+use Rattle.world_model.specs.Downloads.{MayDownload, download_verdict, handler_at}
+use Rattle.world_model.specs.Rings.{ring_of}
 use Rattle.world_model.specs.Answer.{unless, verdict_of}
 use Rattle.world_model.specs.Book.{Book, page_row}
 use Rattle.world_model.specs.Call.{any, binding_of, presented}
@@ -261,6 +265,22 @@ may_claim w e address atoms page value is = by_filter (filter_at (sight (w.solos
     by_filter (Ok filter) named is = by_page filter named (refusal_of_change w e page) refl is
     by_filter (Err why) named is = cc
 
+-- handlers
+may_download : (s : Solo) (claim address words value : ℕ) → (if is_some (ring_of s.rings claim) then download_verdict (handler_at (sight s) address words) else Refuse code.NoFilter 0) ≡ Grant value
+    → MayDownload s claim address words
+may_download s claim address words value is = by_claim (is_some (ring_of s.rings claim)) refl is
+  where
+    by_handler : is_some (ring_of s.rings claim) ≡ true → (named : Result (List ℕ) HandlerNo) → handler_at (sight s) address words ≡ named → download_verdict named ≡ Grant value
+        → MayDownload s claim address words
+    by_handler own (Ok handler) named is = record { own = own; handler = handler; named = named }
+    by_handler own (Err handler_no.BadPointer) named is = cc
+    by_handler own (Err (handler_no.BadWord at)) named is = cc
+
+    by_claim : (t : Bool) → is_some (ring_of s.rings claim) ≡ t → (if t then download_verdict (handler_at (sight s) address words) else Refuse code.NoFilter 0) ≡ Grant value
+        → MayDownload s claim address words
+    by_claim true own is = by_handler own (handler_at (sight s) address words) refl is
+    by_claim false own is = cc
+
 -- backups
 may_load : (w : World) (e page : ℕ) → refusal_of_load w e page ≡ None → MayLoad w.book e page
 may_load w e page none =
@@ -298,6 +318,7 @@ granted_may lowest w e (Some call.SlotDrop) value is =
 granted_may lowest w e (Some call.Query) value is = tt
 granted_may lowest w e (Some call.Claim) value is = let cpu = (w.solos e).cpu in may_claim w e (reg cpu 4) (reg cpu 5) (reg cpu 6) value is
 granted_may lowest w e (Some call.Unclaim) value is = tt
+granted_may lowest w e (Some call.Handler) value is = let s = w.solos e in may_download s (reg s.cpu 4) (reg s.cpu 5) (reg s.cpu 6) value is
 granted_may lowest w e (Some call.Line) value is = let cpu = (w.solos e).cpu in may_line w e (reg cpu 4) (reg cpu 5) value is
 granted_may lowest w e (Some call.Backup) value is = let page = reg (w.solos e).cpu 4 in may_load w e page (not_refused (refusal_of_load w e page) 0 value is)
 granted_may lowest w e (Some call.Send) value is = let s = w.solos e in may_send s (not_refused (send_refusal s.cpu (sight s) (length s.sent)) 0 value is)

@@ -9,6 +9,7 @@ use crate::arguments::{
 };
 use crate::backup_calls::refuse_load;
 use crate::claim_calls::decide_claim;
+use crate::handler_calls::decide_download;
 use crate::line_calls::{TAKE, refuse_line};
 use crate::own_calls::{refuse_context, refuse_put, refuse_send};
 use crate::page_calls::{choose_page, refuse_bind, refuse_change, refuse_unbind};
@@ -54,6 +55,7 @@ pub fn decide<V: CallView>(view: &V, env: u8, call: Option<Call>) -> Verdict
         Call::Claim => decide_claim(view, env),
         Call::Unclaim if view.has_claim(env, first) => Verdict::Grant(0),
         Call::Unclaim => Verdict::Refuse(Code::NoFilter, 0),
+        Call::Handler => decide_download(view, env),
         Call::Line => Verdict::unless(refuse_line(view, env, first, second), 0),
         Call::Backup => Verdict::unless(refuse_load(view, env, first), 0),
         Call::Send => Verdict::unless(refuse_send(view, env), 0),
@@ -116,6 +118,11 @@ pub fn deed_of(call: Option<Call>, value: u32, cpu: &Cpu) -> Deed
             page: cpu.reg(THIRD_ARGUMENT),
         },
         Call::Unclaim => Deed::Unclaims(first),
+        Call::Handler => Deed::Downloads {
+            claim: first,
+            address: second,
+            words: cpu.reg(THIRD_ARGUMENT),
+        },
         Call::Line if second == TAKE => Deed::TakesLine(first),
         Call::Line => Deed::DropsLine(first),
         Call::Backup => Deed::Loads(first),

@@ -7,6 +7,7 @@ mod arguments;
 mod backup_calls;
 mod claim_calls;
 mod decision;
+mod handler_calls;
 mod laws;
 mod line_calls;
 mod own_calls;
@@ -17,5 +18,6 @@ mod view;
 
 pub use claim_calls::claimed_filter;
 pub use decision::{decide, deed_of};
+pub use handler_calls::named_handler;
 pub use laws::law_granted;
 pub use view::CallView;

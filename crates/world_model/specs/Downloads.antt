@@ -23,12 +23,14 @@ abbrev pub handler_in : Option (List ℕ) → Result (List ℕ) HandlerNo
 handler_in None = Err no.BadPointer
 handler_in (Some bytes) = words_or_no (verified (words_in bytes))
 
--- Handler: the one that is named, of at most 64 words that stand in the caller's memory; none need no range.
+-- Handler: the words that are named, of which none need no range.
+abbrev pub handler_bytes : (ℕ → Option Mapped) → ℕ → ℕ → Option (List ℕ)
+handler_bytes look address words = if words == 0 then Some [] else good_range look address (words * word_size)
+
+-- the handler that is named, of at most 64 words that stand in the caller's memory
 abbrev pub handler_at : (ℕ → Option Mapped) → ℕ → ℕ → Result (List ℕ) HandlerNo
 handler_at look address words =
-    if words == 0 then Ok [] else
-    if nat_lt most_words words then Err (no.BadWord most_words) else
-    handler_in (good_range look address (words * word_size))
+    if nat_lt most_words words then Err (no.BadWord most_words) else handler_in (handler_bytes look address words)
 
 -- for a bad word the value is its number
 abbrev pub download_verdict : Result (List ℕ) HandlerNo → Verdict
