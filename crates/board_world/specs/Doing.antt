@@ -21,8 +21,11 @@ use Rattle.env_frames.specs.Post.{asked_in, counted_in, signalled_in, taken_in}
 use Rattle.packet_ring.specs.Ring.{is_full, with_packet}
 use Rattle.filter_tree.specs.declared.claim.Claim.{Claim}
 use Rattle.filter_tree.specs.ClaimBook.{is_of_env}
-use Rattle.filter_tree.specs.Claims.{claim_for, delivered, is_claim, is_into, with_claim, without}
+use Rattle.filter_tree.specs.Claims.{claim_for, claim_handler, delivered, downloaded, is_claim, is_into, with_claim, without}
+use Rattle.handler_code.specs.Running.{HandlerRun, handler_run}
 use Rattle.world_model.specs.ClaimCalls.{atoms_or_none, filter_at}
+use Rattle.world_model.specs.Downloads.{handler_at, handler_or_none}
+use Rattle.world_model.specs.Rings.{replied}
 use Rattle.revocation_book.specs.declared.revocation.Pending.{Pending}
 use Rattle.revocation_book.specs.declared.revocation.Taking.{Taking}
 use Rattle.revocation_book.specs.Pending.{asked}
@@ -54,7 +57,7 @@ use Rattle.world_model.specs.declared.life.Cause.{Cause}
 use Rattle.world_model.specs.declared.life.Cause.TheVariants as cause
 use Rattle.world_model.specs.Page.{Mapped}
 use Rattle.world_model.specs.declared.call.Deed.{Deed}
-use Rattle.world_model.specs.declared.call.Deed.TheVariants.{Answers, Own, Stops, Gives, Allocates, Frees, Recaps, Binds, Unbinds, Transfers, TakesSlot, DropsSlot, TakesLine, DropsLine, Claims, Unclaims, Loads}
+use Rattle.world_model.specs.declared.call.Deed.TheVariants.{Answers, Own, Stops, Gives, Allocates, Frees, Recaps, Binds, Unbinds, Transfers, TakesSlot, DropsSlot, TakesLine, DropsLine, Claims, Unclaims, Downloads, Loads}
 use Rattle.world_model.specs.declared.verdict.Verdict.{Verdict}
 use Rattle.world_model.specs.declared.verdict.Verdict.TheVariants.{Refuse, Grant}
 use Rattle.world_model.specs.declared.call.OwnDeed.{OwnDeed}
@@ -88,7 +91,7 @@ abbrev pub signalled : Shown → ℕ → Shown
 signalled b line = signalled_to b line (line_at b.lines line)
 
 -- A packet for a claim is counted in the context page of the claim's environment. If the buffer whose turn it is has room, it
--- goes there, and the other is next; else it is counted as lost, too.
+-- goes there, and the other is next; else it is counted as lost, too. If the claim has a handler, that runs in place of this.
 abbrev pub context_of : Shown → ℕ → Option ℕ
 context_of b e = page_of (mappings_of b.roster.list e) context_number
 
@@ -105,10 +108,24 @@ abbrev pub delivered_if : Bool → Shown → Claim → List ℕ → Shown
 delivered_if true b c packet = counted_for b post.Lost c.env
 delivered_if false b c packet = put_in_ring b c packet
 
+-- an environment that sent a handler's replies, but for those that find 256 packets held
+abbrev pub replying : List (List ℕ) → Environment → Environment
+replying replies x = record x { output = record x.output { sent = replied x.output.sent replies } }
+
+-- A handler took the packet: the ring page is what it left, and the claim's environment sent its replies. The buffer whose turn
+-- it is stays.
+abbrev pub handled : Shown → Claim → HandlerRun → Shown
+handled b c run = record b {
+  frames = after_put b.frames c.page 0 run.page;
+  roster = with_list b.roster (changed (replying run.replies) b.roster.list c.env);
+}
+
+abbrev pub delivered_by : Option (List ℕ) → Shown → Claim → List ℕ → Shown
+delivered_by None b c packet = delivered_if (is_full (page_at b.frames c.page) c.next) b c packet
+delivered_by (Some words) b c packet = handled b c (handler_run words packet c.id (page_at b.frames c.page))
+
 abbrev pub delivered_to : Shown → Claim → List ℕ → Shown
-delivered_to b c packet =
-    let counted = counted_for b post.Packets c.env in
-    delivered_if (is_full (page_at counted.frames c.page) c.next) counted c packet
+delivered_to b c packet = delivered_by (claim_handler b.claims c.id) (counted_for b post.Packets c.env) c packet
 
 abbrev pub arrived_by : Shown → List ℕ → Option Claim → Shown
 arrived_by b packet None = dropped_packet b packet
@@ -396,6 +413,10 @@ with_claimed b e address atoms page = record b { claims = with_claim b.claims e 
 abbrev pub with_unclaimed : Shown → ℕ → ℕ → Shown
 with_unclaimed b e claim = record b { claims = without (is_claim e claim) b.claims }
 
+-- Handler: the claim has the handler that is named, or none.
+abbrev pub with_downloaded : Shown → ℕ → ℕ → ℕ → ℕ → Shown
+with_downloaded b e claim address words = record b { claims = downloaded claim (handler_or_none (handler_at (look_of b e) address words)) b.claims }
+
 -- Bind: the binding stands in its row.
 abbrev pub with_bound : Shown → ℕ → Binding → Shown
 with_bound b e x = record b { binds = slice_set b.binds (place_of e (row_of x.vpn)) (Some x) }
@@ -422,6 +443,7 @@ granted b e value (TakesLine line) = answered (with_line b line (Some e)) (Grant
 granted b e value (DropsLine line) = answered (with_line b line None) (Grant value)
 granted b e value (Claims claim address atoms page) = answered (with_claimed b e address atoms page) (Grant value)
 granted b e value (Unclaims claim) = answered (with_unclaimed b e claim) (Grant value)
+granted b e value (Downloads claim address words) = answered (with_downloaded b e claim address words) (Grant value)
 granted b e value (Loads page) = answered (with_loaded b e page) (Grant value)
 
 -- a call of the runner on which this is the verdict

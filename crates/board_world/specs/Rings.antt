@@ -5,7 +5,7 @@ use Rattle.world_model.specs.Solo.{Ring}
 
 -- a claim that stands, as its environment has it
 abbrev pub ring_in : RowValue → Ring
-ring_in r = record { claim = r.claim.id; page = r.claim.page; next = r.next }
+ring_in r = record { claim = r.claim.id; page = r.claim.page; next = r.next; handler = r.handler }
 
 -- the claims that stand of an environment
 abbrev pub rows_of : ClaimBook → ℕ → List RowValue
