@@ -66,9 +66,19 @@ impl Board {
             self.claim(env, address, atoms, page);
             return self.answer(Verdict::Grant(value));
         }
+        if let Deed::Downloads {
+            claim,
+            address,
+            words,
+        } = deed
+        {
+            self.download(env, claim, address, words);
+            return self.answer(Verdict::Grant(value));
+        }
         self.answer(Verdict::Grant(value));
         match deed {
-            Deed::Answers | Deed::Own(_) | Deed::Transfers { .. } | Deed::Claims { .. } => {}
+            Deed::Answers | Deed::Own(_) | Deed::Transfers { .. } => {}
+            Deed::Claims { .. } | Deed::Downloads { .. } => {}
             Deed::Stops => self.stop(env),
             Deed::Gives(target) => self.give(env, target as u8),
             Deed::Allocates { page, words } => self.allocate(env, page, words),

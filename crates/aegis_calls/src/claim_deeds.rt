@@ -1,14 +1,16 @@
 //! What granted calls do to claims of packets.
 ghost use Rattle.std.specs.Prelude.{◌≡◌, ◌<◌, ◌^◌, Some};
 ghost use Rattle.world_model.specs.Book.{running};
+ghost use Rattle.world_model.specs.Downloads.{MayDownload};
 ghost use Rattle.world_model.specs.May.{MayClaim};
 ghost use Rattle.board_world.specs.Showing.{world_of};
 
 use crate::board::Board;
-use call_verdicts::claimed_filter;
+use call_verdicts::{claimed_filter, named_handler};
 
 impl Board {
-    ghost use Rattle.board_world.specs.Doing.{with_claimed, with_unclaimed};
+    ghost use Rattle.board_world.specs.Doing.{with_claimed, with_downloaded, with_unclaimed};
+    ghost use Rattle.board_world.specs.Showing.{solo_of};
 
     /// The packets that a filter in the runner's memory matches, of so many atoms from an address on, are the runner's
     /// from now on, and go into a page of its own.
@@ -20,6 +22,22 @@ impl Board {
     {
         let filter = claimed_filter(self, env, address, atoms).unwrap();
         let _number = self.claims.claim(env, filter, page);
+    }
+
+    /// The runner's claim of this number has a handler from now on, of so many words from an address in the runner's
+    /// memory on; of no words it is none.
+    pub(crate) fn download(&mut self, env: u8, claim: u32, address: u32, words: u32)
+        requires runs { running self.old.slots.runner ≡ Some env }
+        requires may { MayDownload (solo_of self.old env) claim address words }
+        ensures { self.new ≡ with_downloaded self.old env claim address words }
+    {
+        let named = named_handler(self, env, address, words).unwrap();
+        let handler = if named.words().is_empty() {
+            None
+        } else {
+            Some(&named)
+        };
+        self.claims.download(claim, handler);
     }
 
     /// The runner's claim of this number is withdrawn.

@@ -112,13 +112,13 @@ delivered_if false b c packet = put_in_ring b c packet
 abbrev pub replying : List (List ℕ) → Environment → Environment
 replying replies x = record x { output = record x.output { sent = replied x.output.sent replies } }
 
+abbrev pub with_replies : Shown → ℕ → List (List ℕ) → Shown
+with_replies b e replies = record b { roster = with_list b.roster (changed (replying replies) b.roster.list e) }
+
 -- A handler took the packet: the ring page is what it left, and the claim's environment sent its replies. The buffer whose turn
 -- it is stays.
 abbrev pub handled : Shown → Claim → HandlerRun → Shown
-handled b c run = record b {
-  frames = after_put b.frames c.page 0 run.page;
-  roster = with_list b.roster (changed (replying run.replies) b.roster.list c.env);
-}
+handled b c run = with_replies (record b { frames = after_put b.frames c.page 0 run.page }) c.env run.replies
 
 abbrev pub delivered_by : Option (List ℕ) → Shown → Claim → List ℕ → Shown
 delivered_by None b c packet = delivered_if (is_full (page_at b.frames c.page) c.next) b c packet

@@ -7,7 +7,7 @@ ghost use Rattle.env_frames.specs.Frame.{left_in, page_of};
 ghost use Rattle.env_frames.specs.Transfer.{carried, entered_cpu, entry_area, entry_bytes, entry_context};
 ghost use Rattle.std.specs.Option.{option_map};
 ghost use Rattle.board_world.specs.Shown.{changed, console_of, handlers_of, mappings_of, mask_of, no_output, registers_of, sent_of, with_list};
-ghost use Rattle.board_world.specs.Doing.{with_registers, accepting, handling, dead_frame, putting, sending};
+ghost use Rattle.board_world.specs.Doing.{with_registers, accepting, handling, dead_frame, putting, replying, sending};
 ghost use Rattle.world_model.specs.declared.life.Life.TheVariants.{Live};
 
 use crate::console::Console;
@@ -148,6 +148,16 @@ impl Roster {
         send_in(&mut self.list, usize::from(env), bytes);
     }
 
+    /// Appends a handler's reply of these bytes to the packets that the environment of this number sent, or drops it where
+    /// that has sent 256.
+    pub fn reply(&mut self, env: u8, bytes: &[u8])
+        requires there { env < length self.old.list }
+        requires size { length bytes.now ≤ most_packet_size }
+        ensures { self.new ≡ with_list self.old (changed (replying (bytes.now ∷ [])) self.old.list env) }
+    {
+        reply_in(&mut self.list, usize::from(env), bytes);
+    }
+
     /// Keeps the registers of the environment of this number.
     pub fn keep(&mut self, env: u8, cpu: &Cpu)
         requires { env < length self.old.list }
@@ -232,6 +242,16 @@ fn send_in(list: &mut [Environment], place: usize, bytes: &[u8])
 {
     let environment = &mut list[place];
     environment.output.sent.send(bytes);
+}
+
+/// Appends a reply to the packets that the environment at a place sent, or drops it.
+fn reply_in(list: &mut [Environment], place: usize, bytes: &[u8])
+    requires there { place < length list.old }
+    requires size { length bytes.now ≤ most_packet_size }
+    ensures { list.new ≡ changed (replying (bytes.now ∷ [])) list.old place }
+{
+    let environment = &mut list[place];
+    environment.output.sent.reply(bytes);
 }
 
 /// Keeps the registers of the environment at a place.

@@ -2,6 +2,7 @@
 ghost use Rattle.std.specs.Prelude.{◌≡◌, ◌<◌, ◌≤◌, [], ◌∷◌, ◌++◌, length, slice_get, IfOk};
 ghost use Rattle.std.specs.Option.{option_map};
 ghost use Rattle.external_event.specs.Limits.{most_packet_size, most_sent};
+ghost use Rattle.world_model.specs.Rings.{replied};
 
 use aegis_limits::OutOfMemory;
 use arrayvec::ArrayVec;
@@ -90,5 +91,15 @@ impl Sent {
         ensures { self.new ≡ self.old ++ bytes.now ∷ [] }
     {
         self.packets.push(SentPacket::new(bytes)).unwrap();
+    }
+
+    /// Appends a packet of these bytes, or drops it where 256 are held.
+    pub fn reply(&mut self, bytes: &[u8])
+        requires { length bytes.now ≤ most_packet_size }
+        ensures { self.new ≡ replied self.old (bytes.now ∷ []) }
+    {
+        if self.packets.len() < MOST_SENT {
+            self.send(bytes);
+        }
     }
 }
