@@ -13,7 +13,7 @@ use Rattle.page_book.specs.Row.{belongs_to, is_owned_by}
 use Rattle.bind_book.specs.Stripe.{is_bound}
 use Rattle.world_model.specs.declared.call.Call.{Call}
 use Rattle.world_model.specs.declared.call.Deed.{Deed}
-use Rattle.world_model.specs.declared.call.Deed.TheVariants.{Answers, Stops, Gives, Allocates, Frees, Recaps, Binds, Unbinds, Own, Transfers, TakesSlot, DropsSlot, TakesLine, DropsLine, Claims, Unclaims, Loads}
+use Rattle.world_model.specs.declared.call.Deed.TheVariants.{Answers, Stops, Gives, Allocates, Frees, Recaps, Binds, Unbinds, Own, Transfers, TakesSlot, DropsSlot, TakesLine, DropsLine, Claims, Unclaims, Downloads, Loads}
 use Rattle.world_model.specs.declared.slot.Hold.{Hold}
 use Rattle.world_model.specs.declared.slot.Phase.{Phase}
 use Rattle.world_model.specs.declared.slot.Phase.TheVariants as phase
@@ -249,6 +249,7 @@ module _ (w : World) (e : ℕ) where
   deed_licensed (DropsLine line) does may i = tt
   deed_licensed (Claims claim address atoms page) does may i = tt
   deed_licensed (Unclaims claim) does may i = tt
+  deed_licensed (Downloads claim address words) does may i = tt
   deed_licensed (Loads page) does may i = tt
 
   module _ (granted : GrantedMay) where

@@ -25,7 +25,7 @@ use Rattle.world_model.specs.Holding.{with_binds}
 use Rattle.world_model.specs.Upcalls.{start_by, with_context}
 use Rattle.world_model.specs.Item.{Item, Start, End, Transfer, Answer, Gained, Lost, Left, Packet, Line, Asked, Taken, absorb, absorb_all, absorbed, answered, deed_at, own_part}
 use Rattle.world_model.specs.PageCalls.{breaks, left_at, left_by, left_if, lost_if, page_bytes}
-use Rattle.world_model.specs.Rings.{page_store, put_in_ring, received_in, ring_after, ring_of}
+use Rattle.world_model.specs.Rings.{Reception, Loses, Queues, Handles, page_store, received_as, received_in, reception, ring_of}
 use Rattle.world_model.specs.Solo.{Solo, Store, Key, Kept, Physical, Ring, is_dead}
 use Rattle.world_model.specs.Table.{set_at}
 use Rattle.world_model.specs.World.{World, only}
@@ -111,13 +111,14 @@ recorded_same n page backup s = if_bound (nat_lt n most_records) s (with_context
 pub keep_taken : (page : ℕ) (backup : Option ℕ) → Keeps (Taken page backup ∷ [])
 keep_taken page backup = keep_one (Taken page backup) (λ s. let t = copied page backup s in recorded_same (post_word post.Takings t) page backup t ∙ copied_same page backup s)
 
-put_same : (r : Ring) (bytes : Option (List ℕ)) (s : Solo) → (put_in_ring r bytes s).life ≡ s.life
-put_same r None s = refl
-put_same r (Some bytes) s = refl
+received_as_same : (r : Ring) (becomes : Reception) (s : Solo) → (received_as r becomes s).life ≡ s.life
+received_as_same r Loses s = refl
+received_as_same r (Queues page) s = refl
+received_as_same r (Handles page replies) s = refl
 
 received_same : (ring : Option Ring) (packet : List ℕ) (s : Solo) → (received_in ring packet s).life ≡ s.life
 received_same None packet s = refl
-received_same (Some r) packet s = put_same r (ring_after s r packet) s
+received_same (Some r) packet s = received_as_same r (reception s r packet) s
 
 pub keep_packet : (claim : ℕ) (packet : List ℕ) → Keeps (Packet claim packet ∷ [])
 keep_packet claim packet = keep_one (Packet claim packet) (λ s. received_same (ring_of s.rings claim) packet (counted post.Packets s))

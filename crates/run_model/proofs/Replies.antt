@@ -20,7 +20,7 @@ use Rattle.world_model.specs.declared.life.Cause.{Cause}
 use Rattle.world_model.specs.declared.slot.Hold.{Hold}
 use Rattle.world_model.specs.declared.slot.Runner.{Runner}
 use Rattle.world_model.specs.declared.call.Deed.{Deed}
-use Rattle.world_model.specs.declared.call.Deed.TheVariants.{Answers, Own, Stops, Gives, Allocates, Frees, Recaps, Binds, Unbinds, Transfers, TakesSlot, DropsSlot, TakesLine, DropsLine, Claims, Unclaims, Loads}
+use Rattle.world_model.specs.declared.call.Deed.TheVariants.{Answers, Own, Stops, Gives, Allocates, Frees, Recaps, Binds, Unbinds, Transfers, TakesSlot, DropsSlot, TakesLine, DropsLine, Claims, Unclaims, Downloads, Loads}
 use Rattle.world_model.specs.declared.verdict.Verdict.{Verdict}
 use Rattle.world_model.specs.declared.verdict.Verdict.TheVariants.{Refuse, Grant}
 use Rattle.filter_tree.specs.ClaimBook.{ClaimValue}
@@ -326,6 +326,7 @@ module _ (w : World) (e : ℕ) (good : IsAccounted w) (lives : Lives w e) where
   deed_is_mild (DropsLine line) may = relined line None
   deed_is_mild (Claims claim address atoms page) may = reclaimed (claims_packets w e claim address atoms page).book.claims (w.book.next_claim + 1)
   deed_is_mild (Unclaims claim) may = reclaimed (unclaims w e claim).book.claims w.book.next_claim
+  deed_is_mild (Downloads claim address words) may = no_change_is_mild w good
   deed_is_mild (Loads page) may = revoked w.book.pages w.book.binds w.book.claims w.book.pending (set_at e (loaded page (w.book.backups e)) w.book.backups) no_items (λ i. keep_none)
 
   -- behind an answer

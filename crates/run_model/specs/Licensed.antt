@@ -195,7 +195,7 @@ pub record IsClaimed (w : World) (e : ℕ) (packet : List ℕ) (claim : ℕ) (gi
   pub number : lowest.id ≡ claim
   pub same : given ≡ packet
 
--- It goes into the ring of another's claim, a page that the environment owns or has bound, which has these bytes then.
+-- It comes for another's claim, whose ring is a page that the environment owns or has bound, and which has these bytes then.
 pub record IsRingLeft (w : World) (e : ℕ) (packet : List ℕ) (page offset : ℕ) (bytes : List ℕ) : Type 0 where
   pub lowest : ClaimValue
   pub goes : claim_of w.book packet ≡ Some lowest
