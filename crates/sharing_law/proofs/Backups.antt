@@ -9,7 +9,7 @@ use Rattle.page_book.specs.declared.row.PageRow.TheVariants.{Free, Owned}
 use Rattle.page_book.specs.Row.{is_owned_by}
 use Rattle.world_model.specs.declared.call.Call.{Call}
 use Rattle.world_model.specs.declared.call.Deed.{Deed}
-use Rattle.world_model.specs.declared.call.Deed.TheVariants.{Answers, Own, Stops, Gives, Allocates, Frees, Recaps, Binds, Unbinds, Transfers, TakesSlot, DropsSlot, TakesLine, DropsLine, Claims, Unclaims, Loads}
+use Rattle.world_model.specs.declared.call.Deed.TheVariants.{Answers, Own, Stops, Gives, Allocates, Frees, Recaps, Binds, Unbinds, Transfers, TakesSlot, DropsSlot, TakesLine, DropsLine, Claims, Unclaims, Downloads, Loads}
 use Rattle.world_model.specs.declared.slot.Runner.{Runner}
 use Rattle.world_model.specs.declared.verdict.Verdict.{Verdict}
 use Rattle.world_model.specs.declared.verdict.Verdict.TheVariants.{Refuse, Grant}
@@ -233,6 +233,7 @@ module _ (w : World) (e : ℕ) (backed : AreBacked w.book) where
   deed_backed (DropsLine line) may = same_backed (done w e (DropsLine line)).book refl refl
   deed_backed (Claims claim address atoms page) may = same_backed (done w e (Claims claim address atoms page)).book refl refl
   deed_backed (Unclaims claim) may = same_backed (done w e (Unclaims claim)).book refl refl
+  deed_backed (Downloads claim address words) may = backed
   deed_backed (Loads page) may =
       let its = w.book.backups e in
       let free = room its page may.room in

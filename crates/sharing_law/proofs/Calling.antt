@@ -12,7 +12,7 @@ use Rattle.page_book.specs.Row.{is_owned_by}
 use Rattle.bind_book.specs.declared.binding.Binding.{Binding}
 use Rattle.bind_book.specs.Stripe.{binding_at, breaks_page, is_bound, is_of_page, row_of, without}
 use Rattle.world_model.specs.declared.call.Deed.{Deed}
-use Rattle.world_model.specs.declared.call.Deed.TheVariants.{Answers, Stops, Gives as Donates, Allocates, Frees, Recaps, Binds, Unbinds, Own, Transfers, TakesSlot, DropsSlot, TakesLine, DropsLine, Claims, Unclaims, Loads}
+use Rattle.world_model.specs.declared.call.Deed.TheVariants.{Answers, Stops, Gives as Donates, Allocates, Frees, Recaps, Binds, Unbinds, Own, Transfers, TakesSlot, DropsSlot, TakesLine, DropsLine, Claims, Unclaims, Downloads, Loads}
 use Rattle.world_model.specs.declared.life.Life.TheVariants.{Live}
 use Rattle.world_model.specs.declared.slot.Hold.{Hold}
 use Rattle.world_model.specs.Table.{set_at}
@@ -254,4 +254,5 @@ module _ (w : World) (e : ℕ) (sound : Sound w) (lives : (w.solos e).life ≡ L
   deed_brings (DropsLine line) does may = silent_but w e sound lives (caller (DropsLine line)) (done w e (DropsLine line)).book lives refl refl
   deed_brings (Claims claim address atoms page) does may = let d = Claims claim address atoms page in silent_but w e sound lives (caller d) (done w e d).book lives refl refl
   deed_brings (Unclaims claim) does may = silent_but w e sound lives (caller (Unclaims claim)) (done w e (Unclaims claim)).book lives refl refl
+  deed_brings (Downloads claim address words) does may = silent w e sound lives (caller (Downloads claim address words)) lives refl refl
   deed_brings (Loads page) does may = silent_but w e sound lives (caller (Loads page)) (done w e (Loads page)).book lives refl refl

@@ -1,5 +1,5 @@
 -- Claims: each environment has those that the book lists for it, and each goes into a page of its environment's.
-use Rattle.std.proofs.Common.{◌≡◌, ◌≢◌, ◌<◌, ℕ, List, [], ◌∷◌, ◌++◌, map, Bool, true, false, not, cond, Some, ◌⊎◌, inl, inr, refl, sym, ◌∙◌, ap, subst, arith}
+use Rattle.std.proofs.Common.{◌≡◌, ◌≢◌, ◌<◌, ℕ, List, [], ◌∷◌, ◌++◌, map, Bool, true, false, not, cond, Some, ◌⊎◌, inl, inr, Option, refl, sym, ◌∙◌, ap, subst, arith}
 use Rattle.std.specs.Prelude.{◌==◌, filter, find, if◌then◌else◌}
 use Rattle.std.proofs.lemmas.Bool.{eq-eqb, ne_eqb}
 use Rattle.std.proofs.lemmas.List.{append-nil, map-append}
@@ -11,7 +11,7 @@ use Rattle.filter_tree.specs.Claims.{is_numbered}
 use Rattle.page_book.specs.Row.{is_owned_by}
 use Rattle.world_model.specs.Book.{Book}
 use Rattle.world_model.specs.ClaimCalls.{with_claim}
-use Rattle.world_model.specs.Rings.{turned, turned_if, is_ring}
+use Rattle.world_model.specs.Rings.{handled, handled_if, turned, turned_if, is_ring}
 use Rattle.world_model.specs.Solo.{Ring}
 use Rattle.world_model.specs.World.{World}
 use Rattle.sharing_law.specs.Agreement.{ClaimPage, claim_page, ring_page}
@@ -144,14 +144,24 @@ rings_other e claims rings c other are =
     ∙ sym (filter-append (is_of_env e) claims (c ∷ []))
     )
 
--- the next buffer of a ring is nothing that the book lists
+-- the next buffer of a ring is nothing that the book lists, nor is its handler
+rings_same : (change : Ring → Ring) → ((r : Ring) → ring_page (change r) ≡ ring_page r) → (rings : List Ring) → map ring_page (map change rings) ≡ map ring_page rings
+rings_same change same [] = refl
+rings_same change same (r ∷ rings) = λ k. same r k ∷ rings_same change same rings k
+
 pub rings_turned : (claim : ℕ) (rings : List Ring) → map ring_page (map (turned_if claim) rings) ≡ map ring_page rings
-rings_turned claim [] = refl
-rings_turned claim (r ∷ rings) = by_test (is_ring claim r) (rings_turned claim rings)
+rings_turned claim = rings_same (turned_if claim) (λ r. by_test r (is_ring claim r))
   where
-    by_test : (t : Bool) → map ring_page (map (turned_if claim) rings) ≡ map ring_page rings → ring_page (if t then turned r else r) ∷ map ring_page (map (turned_if claim) rings) ≡ ring_page r ∷ map ring_page rings
-    by_test true rest = ap (λ its. ring_page r ∷ its) rest
-    by_test false rest = ap (λ its. ring_page r ∷ its) rest
+    by_test : (r : Ring) (t : Bool) → ring_page (if t then turned r else r) ≡ ring_page r
+    by_test r true = refl
+    by_test r false = refl
+
+pub rings_handled : (claim : ℕ) (handler : Option (List ℕ)) (rings : List Ring) → map ring_page (map (handled_if claim handler) rings) ≡ map ring_page rings
+rings_handled claim handler = rings_same (handled_if claim handler) (λ r. by_test r (is_ring claim r))
+  where
+    by_test : (r : Ring) (t : Bool) → ring_page (if t then handled handler r else r) ≡ ring_page r
+    by_test r true = refl
+    by_test r false = refl
 
 -- Worlds that are alike are claimed alike.
 pub claimed_alike : (w v : World) → IsAlike w v → Claimed w → Claimed v

@@ -17,7 +17,7 @@ use Rattle.page_book.specs.declared.row.PageRow.TheVariants.{Free, Owned}
 use Rattle.page_book.specs.Row.{belongs_to, is_owned_by}
 use Rattle.bind_book.specs.Stripe.{binding_at, is_bound, row_of}
 use Rattle.world_model.specs.declared.call.Deed.{Deed}
-use Rattle.world_model.specs.declared.call.Deed.TheVariants.{Answers, Stops, Gives as Donates, Allocates, Frees, Recaps, Binds, Unbinds, Own, Transfers, TakesSlot, DropsSlot, TakesLine, DropsLine, Claims, Unclaims, Loads}
+use Rattle.world_model.specs.declared.call.Deed.TheVariants.{Answers, Stops, Gives as Donates, Allocates, Frees, Recaps, Binds, Unbinds, Own, Transfers, TakesSlot, DropsSlot, TakesLine, DropsLine, Claims, Unclaims, Downloads, Loads}
 use Rattle.world_model.specs.declared.code.Code.TheVariants as code
 use Rattle.packet_ring.specs.declared.buffer.Buffer.TheVariants.{First}
 use Rattle.world_model.specs.declared.life.Life.TheVariants.{Live}
@@ -36,6 +36,7 @@ use Rattle.world_model.specs.Item.{Item, Start, Transfer, Gained, Lost, Left, ab
 use Rattle.world_model.specs.May.{May, MayChange, MayClaim}
 use Rattle.world_model.specs.Page.{Mapped}
 use Rattle.world_model.specs.PageCalls.{breaks, left_at, left_by, left_if, lost_if, page_bytes}
+use Rattle.world_model.specs.Downloads.{handler_at, handler_or_none}
 use Rattle.world_model.specs.Rings.{page_store}
 use Rattle.world_model.specs.Solo.{Solo, Store, Key, Kept, Physical, Ring, dead, is_dead, sight}
 use Rattle.world_model.specs.Table.{set_at}
@@ -45,7 +46,7 @@ use Rattle.page_sight.proofs.Mourning.{not_owned, owned_still}
 use Rattle.page_sight.proofs.Tables.{set_here, set_else}
 use Rattle.sharing_law.specs.Agreement.{ClaimPage, claim_page}
 use Rattle.sharing_law.proofs.Lists.{Has, filter_none, not_there}
-use Rattle.sharing_law.proofs.Claimed.{AreGood, AreRings, Claimed, good_less, good_more, good_same, rings_beside, rings_less, rings_more, rings_other, rings_spared}
+use Rattle.sharing_law.proofs.Claimed.{AreGood, AreRings, Claimed, good_less, good_more, good_same, rings_beside, rings_handled, rings_less, rings_more, rings_other, rings_spared}
 use Rattle.sharing_law.proofs.Given.{IsHanded, absorbs, dead_absorbs, handed_rests}
 use Rattle.sharing_law.proofs.Owning.{anothers, free_else, own_else}
 
@@ -251,7 +252,7 @@ module _ (w : World) (e : ℕ) (claimed : Claimed w) where
 
       claim_claims : Claiming w e (caller (Claims claim address atoms page)) (done w e (Claims claim address atoms page)).book no_items
       claim_claims = record {
-        own = rings_more w.book.claims (w.solos e).rings made (record { claim = claim; page = page; next = First }) refl (claimed.rings e);
+        own = rings_more w.book.claims (w.solos e).rings made (record { claim = claim; page = page; next = First; handler = None }) refl (claimed.rings e);
         others = λ i ne. rings_other i w.book.claims (w.solos i).rings made ne (claimed.rings i);
         good = good_more w.book made may.ring.owned may.number (ap (λ r. is_filter (atoms_or_none r)) may.named ∙ rule_of (sight (w.solos e)) address atoms may.filter may.named)
             (λ d its other. inl (ap (λ r. agree (atoms_or_none r) d.filter) may.named ∙ none_agrees may.filter may.beside d its other)) claimed.good;
@@ -272,6 +273,13 @@ module _ (w : World) (e : ℕ) (claimed : Claimed w) where
 
         others_stay : (i : ℕ) → i ≢ e → (c : ClaimValue) → is_of_env i c ≡ true → not (is_claim e claim c) ≡ true
         others_stay i ne c own = ap not (ap (λ t. is_numbered claim c && t) (ne_eqb c.env e (λ same. ne (sym (eqb-true c.env i own) ∙ same))) ∙ and-false (is_numbered claim c))
+
+    download_claims : (claim address words : ℕ) → Claiming w e (caller (Downloads claim address words)) w.book no_items
+    download_claims claim address words = record {
+      own = rings_handled claim (handler_or_none (handler_at (sight (w.solos e)) address words)) (w.solos e).rings ∙ claimed.rings e;
+      others = λ i ne. claimed.rings i;
+      good = claimed.good;
+    }
 
     -- deed by deed
     pub deed_claims : (d : Deed) → May w e d → Claiming w e (caller d) (done w e d).book (done w e d).items
@@ -298,4 +306,5 @@ module _ (w : World) (e : ℕ) (claimed : Claimed w) where
     deed_claims (DropsLine line) may = steady (caller (DropsLine line)) (done w e (DropsLine line)).book no_items refl (λ i. spare_none)
     deed_claims (Claims claim address atoms page) may = claim_claims claim address atoms page may
     deed_claims (Unclaims claim) may = unclaim_claims claim
+    deed_claims (Downloads claim address words) may = download_claims claim address words
     deed_claims (Loads page) may = steady (caller (Loads page)) (done w e (Loads page)).book no_items refl (λ i. spare_none)

@@ -1,12 +1,13 @@
 -- What a packet does to the context page of whose claim it is for: it is counted there.
 use Rattle.std.proofs.Common.{◌≡◌, ℕ, Bool, true, false, List, Option, Some, None, ◌⊎◌, inl, inr, refl}
-use Rattle.std.specs.Prelude.{if◌then◌else◌}
+use Rattle.std.specs.Prelude.{◌&&◌, if◌then◌else◌, is_none}
+use Rattle.handler_code.specs.Running.{handler_run}
 use Rattle.packet_ring.specs.Ring.{is_full, with_packet}
 use Rattle.env_frames.specs.declared.post.PostWord.TheVariants as post
 use Rattle.world_model.specs.Post.{counted}
-use Rattle.world_model.specs.Rings.{put_in_ring, received, received_in, ring_of}
+use Rattle.world_model.specs.Rings.{Loses, Queues, received, received_as, received_by, received_in, ring_of}
 use Rattle.world_model.specs.Solo.{Solo, Ring, Physical, bytes_of}
-use Rattle.sharing_law.specs.Change.{HasCounts, bytes_at, counted_page, is_full_in, packet_counted}
+use Rattle.sharing_law.specs.Change.{HasCounts, bytes_at, counted_page, is_lost_in, packet_counted}
 use Rattle.sharing_law.proofs.Contexts.{Rewrites, count_rewrites, rewrites_none, rewrites_or, rewrites_then}
 use Rattle.sharing_law.proofs.Given.{kept_as_was}
 
@@ -25,13 +26,17 @@ module _ (s : Solo) where
   abbrev IsCounted : Bool → Solo → Type 0
   IsCounted lost t = t.kept ≡ (counted_if lost).kept
 
-  put_counted : (r : Ring) (lost : Bool) (bytes : List ℕ) → IsCounted lost (put_in_ring r (if lost then None else Some bytes) once)
-  put_counted r true bytes = refl
-  put_counted r false bytes = kept_as_was once.kept r.page 0 bytes
+  queued_counted : (r : Ring) (lost : Bool) (bytes : List ℕ) → IsCounted lost (received_as r (if lost then Loses else Queues bytes) once)
+  queued_counted r true bytes = refl
+  queued_counted r false bytes = kept_as_was once.kept r.page 0 bytes
 
-  received_counted : (ring : Option Ring) (packet : List ℕ) → IsCounted (is_full_in s ring) (received_in ring packet once)
+  by_handler : (handler : Option (List ℕ)) (r : Ring) (packet page : List ℕ) → IsCounted (is_none handler && is_full page r.next) (received_as r (received_by handler r packet page) once)
+  by_handler None r packet page = queued_counted r (is_full page r.next) (with_packet page r.next packet)
+  by_handler (Some words) r packet page = kept_as_was once.kept r.page 0 (handler_run words packet r.claim page).page
+
+  received_counted : (ring : Option Ring) (packet : List ℕ) → IsCounted (is_lost_in s ring) (received_in ring packet once)
   received_counted None packet = refl
-  received_counted (Some r) packet = let page = bytes_of s (Physical r.page) in put_counted r (is_full page r.next) (with_packet page r.next packet)
+  received_counted (Some r) packet = by_handler r.handler r packet (bytes_of s (Physical r.page))
 
   counts_rewrite : (lost : Bool) → Rewrites s (counted_if lost) (packet_counted lost)
   counts_rewrite false = count_rewrites post.Packets s
@@ -39,7 +44,7 @@ module _ (s : Solo) where
 
   module _ (claim : ℕ) (packet : List ℕ) where
     abbrev lost : Bool
-    lost = is_full_in s (ring_of s.rings claim)
+    lost = is_lost_in s (ring_of s.rings claim)
 
     abbrev now : Solo
     now = received claim packet s

@@ -1,13 +1,12 @@
 -- A packet that is claimed: what each environment sees once it is in its ring.
-use Rattle.std.proofs.Common.{◌≡◌, ◌≢◌, ◌+◌, ◌≤◌, ℕ, suc, List, [], ◌∷◌, ◌++◌, length, take, drop, map, Bool, true, false, Option, Some, None, ◌⊎◌, inl, inr, refl, sym, ◌∙◌, ap, subst, arith, length-append}
+use Rattle.std.proofs.Common.{◌≡◌, ◌≢◌, ◌≤◌, ℕ, suc, List, [], ◌∷◌, ◌++◌, length, map, Bool, true, false, Option, Some, None, ◌⊎◌, inl, inr, refl, sym, ◌∙◌, ap, subst}
 use Rattle.std.specs.Prelude.{◌==◌, filter, find, if◌then◌else◌}
 use Rattle.std.specs.Option.{option_map}
 use Rattle.std.proofs.lemmas.Bool.{cases_eq, eq-eqb, eqb-true, ne_eqb}
-use Rattle.std.proofs.lemmas.List.{append-nil, drop_all, length-drop, length-take}
 use Rattle.env_frames.specs.declared.post.PostWord.TheVariants as post
 use Rattle.frame_store.specs.Pages.{with_bytes, word_bytes}
-use Rattle.packet_ring.specs.declared.buffer.Buffer.{Buffer}
 use Rattle.packet_ring.specs.Ring.{buffer_offset, is_full, with_packet}
+use Rattle.handler_code.specs.Running.{handler_run}
 use Rattle.page_book.specs.declared.row.PageRow.{PageRow}
 use Rattle.page_book.specs.declared.row.PageRow.TheVariants.{Free, Guaranteed, Owned}
 use Rattle.page_book.specs.Row.{is_owned_by}
@@ -22,7 +21,7 @@ use Rattle.world_model.specs.Event.{arrives, delivers, happen, ring_bytes, ring_
 use Rattle.world_model.specs.Item.{Item, Packet, absorb_all}
 use Rattle.world_model.specs.PageCalls.{bytes_owned, left_if, page_bytes}
 use Rattle.world_model.specs.Post.{counted}
-use Rattle.world_model.specs.Rings.{page_store, put_in_ring, received_in, ring_after, ring_of}
+use Rattle.world_model.specs.Rings.{Reception, Loses, Queues, Handles, page_left, page_store, received_as, received_by, received_in, reception, ring_of}
 use Rattle.world_model.specs.Solo.{Solo, Ring, Physical, bytes_seen, stored}
 use Rattle.world_model.specs.Table.{set_at}
 use Rattle.world_model.specs.World.{World, Reply, after}
@@ -37,22 +36,47 @@ use Rattle.sharing_law.proofs.Claimed.{AreRings, Claimed, IsGood, claimed_alike,
 use Rattle.sharing_law.proofs.Claiming.{ring_left_spares}
 use Rattle.sharing_law.proofs.Given.{IsRested, absorbs, dead_absorbs, rests_same, told_leaves}
 use Rattle.sharing_law.proofs.Giving.{ring_told}
+use Rattle.sharing_law.proofs.Handling.{filled_size, filled_whole, handled_holds}
 use Rattle.sharing_law.proofs.Happening.{dropped_alike}
 use Rattle.sharing_law.proofs.Lists.{find_map, found_there, still_found}
 use Rattle.sharing_law.proofs.Owning.{owned_by}
 use Rattle.sharing_law.proofs.Sound.{Sound, agreed, owner_bytes, still_nothing}
 use Rattle.sharing_law.proofs.Turning.{IsAlike, bytes_alike, sound_alike}
 
--- A page with a packet in it is the whole page.
-filled_size : (page bytes : List ℕ) (offset : ℕ) → length page ≤ length (with_bytes page offset bytes)
-filled_size page bytes offset =
-    omega (arith, length-append (take offset page ++ bytes) (drop (offset + length bytes) page), length-append (take offset page) bytes, length-take offset page, length-drop (offset + length bytes) page)
+-- A page into which a packet goes, or of which a handler takes it, is left no smaller.
+left_size : (handler : Option (List ℕ)) (r : Ring) (packet page bytes : List ℕ) → page_left (received_by handler r packet page) ≡ Some bytes → length page ≤ length bytes
+left_size None r packet page bytes is = by_full (is_full page r.next) is
+  where
+    by_full : (full : Bool) → page_left (if full then Loses else Queues (with_packet page r.next packet)) ≡ Some bytes → length page ≤ length bytes
+    by_full true is = cc
+    by_full false is =
+        let same : with_packet page r.next packet ≡ bytes = cc in
+        subst (λ (left : List ℕ). length page ≤ length left) same (filled_size page (word_bytes (length packet) ++ packet) (buffer_offset r.next))
+left_size (Some words) r packet page bytes is =
+    let same : (handler_run words packet r.claim page).page ≡ bytes = cc in
+    subst (λ (left : List ℕ). length page ≤ length left) same (handled_holds words packet r.claim page).page_size
 
-filled_whole : (page : List ℕ) (buffer : Buffer) (packet : List ℕ) → with_bytes page 0 (with_packet page buffer packet) ≡ with_packet page buffer packet
-filled_whole page buffer packet =
-    let filled = with_packet page buffer packet in
-    let size : length page ≤ 0 + length filled = omega (arith, filled_size page (word_bytes (length packet) ++ packet) (buffer_offset buffer)) in
-    ap (λ (rest : List ℕ). filled ++ rest) (drop_all (0 + length filled) page size) ∙ append-nil filled
+-- What its environment is once the packet is there: these bytes are stored in the ring page, and the claims have their pages.
+record IsPut (s t : Solo) (page : ℕ) (bytes : List ℕ) : Type 0 where
+  binds : t.binds ≡ s.binds
+  seen : t.seen ≡ (stored (page_store page bytes) s).seen
+  rings : map ring_page t.rings ≡ map ring_page s.rings
+  life : t.life ≡ s.life
+
+puts : (r : Ring) (becomes : Reception) (s : Solo) (bytes : List ℕ) → page_left becomes ≡ Some bytes → IsPut s (received_as r becomes s) r.page bytes
+puts r Loses s bytes is = cc
+puts r (Queues page) s bytes is =
+    let same : page ≡ bytes = cc in
+    record { binds = refl; seen = ap (λ (left : List ℕ). (stored (page_store r.page left) s).seen) same; rings = rings_turned r.claim s.rings; life = refl }
+puts r (Handles page replies) s bytes is =
+    let same : page ≡ bytes = cc in
+    record { binds = refl; seen = ap (λ (left : List ℕ). (stored (page_store r.page left) s).seen) same; rings = refl; life = refl }
+
+-- or once it is lost
+lost_rests : (r : Ring) (becomes : Reception) (s : Solo) → page_left becomes ≡ None → IsRested s (received_as r becomes (counted post.Packets s))
+lost_rests r Loses s is = record { binds = refl; seen = refl; rings = refl; life = refl }
+lost_rests r (Queues page) s is = cc
+lost_rests r (Handles page replies) s is = cc
 
 -- the owner of a page sees its bytes
 pub owner_sees : (w : World) (o page : ℕ) → is_owned_by o (w.book.pages page) ≡ true → page_bytes w page ≡ bytes_seen ((w.solos o).seen page)
@@ -71,7 +95,7 @@ pub record IsInRing (w : World) (items : ℕ → List Item) (o page : ℕ) (byte
   pub ring : Ring
   pub stands : ring_of (w.solos o).rings claim ≡ Some ring
   pub its : ring.page ≡ page
-  pub has : ring_after (w.solos o) ring packet ≡ Some bytes
+  pub has : page_left (reception (w.solos o) ring packet) ≡ Some bytes
 
 module _ (w : World) (c : ClaimValue) (packet : List ℕ) (sound : Sound w) (claimed : Claimed w) (goes : claim_of w.book packet ≡ Some c) where
   abbrev s : Solo
@@ -108,8 +132,11 @@ module _ (w : World) (c : ClaimValue) (packet : List ℕ) (sound : Sound w) (cla
   abbrev once : Solo
   once = counted post.Packets s
 
+  abbrev becomes_there : Reception
+  becomes_there = reception s its.ring packet
+
   abbrev outcome : Option (List ℕ)
-  outcome = ring_after s its.ring packet
+  outcome = page_left becomes_there
 
   outcome_is : ring_bytes s (ring_of s.rings c.id) packet ≡ outcome
   outcome_is = ap (λ (o : Option Ring). ring_bytes s o packet) its.stands
@@ -121,7 +148,7 @@ module _ (w : World) (c : ClaimValue) (packet : List ℕ) (sound : Sound w) (cla
   abbrev others_get : Option (List ℕ) → ℕ → List Item
   others_get bytes = ring_left w.book c.env c.page bytes
 
-  now_own : now.solos c.env ≡ put_in_ring its.ring outcome once
+  now_own : now.solos c.env ≡ received_as its.ring becomes_there once
   now_own =
       ap (absorb_all s) (set_here c.env (Packet c.id packet ∷ []) (others_get (ring_bytes s (ring_of s.rings c.id) packet)))
       ∙ absorbs s (Packet c.id packet) [] lives
@@ -132,11 +159,11 @@ module _ (w : World) (c : ClaimValue) (packet : List ℕ) (sound : Sound w) (cla
       ap (absorb_all (w.solos i)) (set_else c.env i (Packet c.id packet ∷ []) (others_get (ring_bytes s (ring_of s.rings c.id) packet)) ne)
       ∙ ap (λ (bytes : Option (List ℕ)). absorb_all (w.solos i) (others_get bytes i)) outcome_is
 
-  -- The ring's buffer is full, and the packet is lost.
+  -- The packet is lost.
   lost_alike : outcome ≡ None → IsAlike w now
   lost_alike full = record {
     solos = λ i. elim (cases_eq i c.env) [
-      | inl same ↦ subst (λ (n : ℕ). IsRested (w.solos n) (now.solos n)) (sym same) (subst (IsRested s) (sym (now_own ∙ ap (λ (bytes : Option (List ℕ)). put_in_ring its.ring bytes once) full)) (record { binds = refl; seen = refl; rings = refl; life = refl }))
+      | inl same ↦ subst (λ (n : ℕ). IsRested (w.solos n) (now.solos n)) (sym same) (subst (IsRested s) (sym now_own) (lost_rests its.ring becomes_there s full))
       | inr ne ↦ subst (IsRested (w.solos i)) (sym (now_other i ne ∙ ap (λ (bytes : Option (List ℕ)). absorb_all (w.solos i) (others_get bytes i)) full)) (rests_same (w.solos i))
     ];
     pages = refl;
@@ -150,36 +177,27 @@ module _ (w : World) (c : ClaimValue) (packet : List ℕ) (sound : Sound w) (cla
   -- Or it is there.
   module _ (bytes : List ℕ) (filled : outcome ≡ Some bytes) where
     abbrev holder : Solo
-    holder = put_in_ring its.ring (Some bytes) once
+    holder = received_as its.ring becomes_there once
 
-    is_holder : now.solos c.env ≡ holder
-    is_holder = now_own ∙ ap (λ (o : Option (List ℕ)). put_in_ring its.ring o once) filled
+    put : IsPut once holder its.ring.page bytes
+    put = puts its.ring becomes_there once bytes filled
 
     is_other : (i : ℕ) → i ≢ c.env → now.solos i ≡ absorb_all (w.solos i) (others_get (Some bytes) i)
     is_other i ne = now_other i ne ∙ ap (λ (o : Option (List ℕ)). absorb_all (w.solos i) (others_get o i)) filled
 
     -- all bytes of the page are stored
     all_stored : with_bytes (page_bytes w c.page) 0 bytes ≡ bytes
-    all_stored = by_full (is_full (bytes_seen (s.seen its.ring.page)) its.ring.next) filled
-      where
-        page_is : page_bytes w c.page ≡ bytes_seen (s.seen its.ring.page)
-        page_is = owner_sees w c.env c.page good.owned ∙ ap (λ (p : ℕ). bytes_seen (s.seen p)) (sym its.page)
-
-        by_full : (full : Bool) → (if full then None else Some (with_packet (bytes_seen (s.seen its.ring.page)) its.ring.next packet)) ≡ Some bytes → with_bytes (page_bytes w c.page) 0 bytes ≡ bytes
-        by_full true is = cc
-        by_full false is =
-            let same : with_packet (bytes_seen (s.seen its.ring.page)) its.ring.next packet ≡ bytes = cc in
-            ap (λ (page : List ℕ). with_bytes page 0 bytes) page_is
-            ∙ ap (with_bytes (bytes_seen (s.seen its.ring.page)) 0) (sym same)
-            ∙ filled_whole (bytes_seen (s.seen its.ring.page)) its.ring.next packet
-            ∙ same
+    all_stored =
+        let page_is = owner_sees w c.env c.page good.owned ∙ ap (λ (p : ℕ). bytes_seen (s.seen p)) (sym its.page) in
+        let old = bytes_seen (s.seen its.ring.page) in
+        ap (λ (page : List ℕ). with_bytes page 0 bytes) page_is ∙ filled_whole old bytes (left_size its.ring.handler its.ring packet old bytes filled)
 
     abbrev bytes_now : ℕ → List ℕ
     bytes_now = set_at c.page (with_bytes (page_bytes w c.page) 0 bytes) (page_bytes w)
 
     own_sees : Sees c.env w.book.pages (w.book.binds c.env) bytes_now holder
     own_sees =
-        as_before c.env w.book.pages (w.book.binds c.env) bytes_now (stored (page_store its.ring.page bytes) once) holder refl refl
+        as_before c.env w.book.pages (w.book.binds c.env) bytes_now (stored (page_store its.ring.page bytes) once) holder put.binds put.seen
         (writer_sees c.env c.page (page_store its.ring.page bytes) w.book.pages (w.book.binds c.env) (page_bytes w) once
         (as_before c.env w.book.pages (w.book.binds c.env) (page_bytes w) s once refl refl (sound.agreed c.env)) (ap Physical its.page))
 
@@ -194,13 +212,13 @@ module _ (w : World) (c : ClaimValue) (packet : List ℕ) (sound : Sound w) (cla
 
     all_see : (i : ℕ) → Sees i w.book.pages (w.book.binds i) bytes_now (now.solos i)
     all_see i = elim (cases_eq i c.env) [
-      | inl same ↦ subst (λ (n : ℕ). Sees n w.book.pages (w.book.binds n) bytes_now (now.solos n)) (sym same) (subst (λ (t : Solo). Sees c.env w.book.pages (w.book.binds c.env) bytes_now t) (sym is_holder) own_sees)
+      | inl same ↦ subst (λ (n : ℕ). Sees n w.book.pages (w.book.binds n) bytes_now (now.solos n)) (sym same) (subst (λ (t : Solo). Sees c.env w.book.pages (w.book.binds c.env) bytes_now t) (sym now_own) own_sees)
       | inr ne ↦ subst (λ (t : Solo). Sees i w.book.pages (w.book.binds i) bytes_now t) (sym (is_other i ne)) (other_sees i ne (w.solos i).life refl)
     ]
 
     all_live : (i : ℕ) → (now.solos i).life ≡ (w.solos i).life
     all_live i = elim (cases_eq i c.env) [
-      | inl same ↦ subst (λ (n : ℕ). (now.solos n).life ≡ (w.solos n).life) (sym same) (ap (λ (t : Solo). t.life) is_holder)
+      | inl same ↦ subst (λ (n : ℕ). (now.solos n).life ≡ (w.solos n).life) (sym same) (ap (λ (t : Solo). t.life) now_own ∙ put.life)
       | inr ne ↦ ap (λ (t : Solo). t.life) (is_other i ne) ∙ (told_leaves (others_get (Some bytes) i) (ring_told w c.env c.page (Some bytes) i) (w.solos i)).life
     ]
 
@@ -215,7 +233,7 @@ module _ (w : World) (c : ClaimValue) (packet : List ℕ) (sound : Sound w) (cla
     filled_claimed : Claimed now
     filled_claimed = record {
       rings = λ i. elim (cases_eq i c.env) [
-        | inl same ↦ subst (λ (n : ℕ). AreRings n w.book.claims (now.solos n).rings) (sym same) (ap (λ (t : Solo). map ring_page t.rings) is_holder ∙ rings_turned its.ring.claim s.rings ∙ claimed.rings c.env)
+        | inl same ↦ subst (λ (n : ℕ). AreRings n w.book.claims (now.solos n).rings) (sym same) (ap (λ (t : Solo). map ring_page t.rings) now_own ∙ put.rings ∙ claimed.rings c.env)
         | inr ne ↦ ap (λ (t : Solo). map ring_page t.rings) (is_other i ne) ∙ ap (map ring_page) (ring_left_spares w.book c.env c.page (Some bytes) i (w.solos i)) ∙ claimed.rings i
       ];
       good = claimed.good;

@@ -7,7 +7,7 @@ use Rattle.bind_book.specs.Stripe.{is_bound}
 use Rattle.kernel_journal.specs.declared.row.Row.TheVariants as row
 use Rattle.world_model.specs.declared.call.Call.{Call}
 use Rattle.world_model.specs.declared.call.Deed.{Deed}
-use Rattle.world_model.specs.declared.call.Deed.TheVariants.{Answers, Stops, Gives as Donates, Allocates, Frees, Recaps, Binds, Unbinds, Own, Transfers, TakesSlot, DropsSlot, TakesLine, DropsLine, Claims, Unclaims, Loads}
+use Rattle.world_model.specs.declared.call.Deed.TheVariants.{Answers, Stops, Gives as Donates, Allocates, Frees, Recaps, Binds, Unbinds, Own, Transfers, TakesSlot, DropsSlot, TakesLine, DropsLine, Claims, Unclaims, Downloads, Loads}
 use Rattle.world_model.specs.declared.slot.Phase.{Phase}
 use Rattle.world_model.specs.declared.slot.Phase.TheVariants as phase
 use Rattle.world_model.specs.declared.slot.Runner.{Runner}
@@ -79,6 +79,7 @@ deed_gives w e (TakesLine line) may i = Tells tt
 deed_gives w e (DropsLine line) may i = Tells tt
 deed_gives w e (Claims claim address atoms page) may i = Tells tt
 deed_gives w e (Unclaims claim) may i = Tells tt
+deed_gives w e (Downloads claim address words) may i = Tells tt
 deed_gives w e (Loads page) may i = Tells tt
 
 -- an answer comes first

@@ -14,6 +14,7 @@ mod Contexts
 mod Counting
 mod Happening
 mod Listing
+mod Handling
 mod Delivering
 mod Moments
 mod Stepping
@@ -27,3 +28,4 @@ mod Leaving
 mod Guaranteed
 mod Allocated
 mod Sizes
+mod Sending

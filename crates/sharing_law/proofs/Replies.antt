@@ -10,7 +10,7 @@ use Rattle.bind_book.specs.declared.binding.Binding.{Binding}
 use Rattle.bind_book.specs.Stripe.{binding_at, breaks_page, goes_with, row_of, without}
 use Rattle.world_model.specs.declared.call.Call.{Call}
 use Rattle.world_model.specs.declared.call.Deed.{Deed}
-use Rattle.world_model.specs.declared.call.Deed.TheVariants.{Answers, Own, Stops, Gives, Allocates, Frees, Recaps, Binds, Unbinds, Transfers, TakesSlot, DropsSlot, TakesLine, DropsLine, Claims, Unclaims, Loads}
+use Rattle.world_model.specs.declared.call.Deed.TheVariants.{Answers, Own, Stops, Gives, Allocates, Frees, Recaps, Binds, Unbinds, Transfers, TakesSlot, DropsSlot, TakesLine, DropsLine, Claims, Unclaims, Downloads, Loads}
 use Rattle.world_model.specs.declared.verdict.Verdict.{Verdict}
 use Rattle.world_model.specs.declared.verdict.Verdict.TheVariants.{Refuse, Grant}
 use Rattle.world_model.specs.Table.{set_at}
@@ -192,6 +192,7 @@ deed_carries w e allocated (TakesLine line) does may = stays w
 deed_carries w e allocated (DropsLine line) does may = stays w
 deed_carries w e allocated (Claims claim address atoms page) does may = stays w
 deed_carries w e allocated (Unclaims claim) does may = stays w
+deed_carries w e allocated (Downloads claim address words) does may = stays w
 deed_carries w e allocated (Loads page) does may = stays w
 
 call_carries : GrantedMay → (w : World) (e : ℕ) → AreBoundAllocated w → (c : Option Call) → Acts w e (Calls c) → CarriesInto w (reply_to w e c)

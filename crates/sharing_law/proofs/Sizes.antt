@@ -1,14 +1,16 @@
 -- Allocated pages have all their bytes, where packets are within their limits.
-use Rattle.std.proofs.Common.{◌≡◌, ◌≤◌, ◌+◌, ℕ, zero, suc, List, [], ◌∷◌, ◌++◌, length, take, drop, Bool, true, false, Some, None, inl, inr, refl, sym, ◌∙◌, ap, subst, arith, length-append}
+use Rattle.std.proofs.Common.{◌≡◌, ◌≤◌, ◌+◌, ℕ, zero, suc, List, [], ◌∷◌, ◌++◌, length, take, drop, Bool, true, false, Option, Some, None, inl, inr, refl, sym, ◌∙◌, ap, subst, arith, length-append}
 use Rattle.std.specs.Prelude.{nat_le, if◌then◌else◌, slice_get}
 use Rattle.std.specs.List.{All}
 use Rattle.std.proofs.lemmas.Bool.{and_parts, leb-true}
-use Rattle.std.proofs.lemmas.List.{append-nil, drop_all, length-drop, length-replicate, length-take}
+use Rattle.std.proofs.lemmas.List.{length-drop, length-replicate, length-take}
 use Rattle.aegis_limits.specs.Limits.{page_size}
 use Rattle.external_event.specs.declared.event.Occurrence.{Occurrence}
 use Rattle.external_event.specs.declared.event.Occurrence.TheVariants as outside
 use Rattle.external_event.specs.Limits.{most_packet_size}
 use Rattle.frame_store.specs.Pages.{with_bytes, word_bytes, zero_page}
+use Rattle.handler_code.specs.Laws.{RunsKeepLimits}
+use Rattle.handler_code.specs.Running.{handler_run}
 use Rattle.packet_ring.specs.declared.buffer.Buffer.{Buffer}
 use Rattle.packet_ring.specs.declared.buffer.Buffer.TheVariants.{First, Second}
 use Rattle.packet_ring.specs.Ring.{buffer_offset, is_full, with_packet}
@@ -18,6 +20,7 @@ use Rattle.revocation_book.specs.Takings.{TakingsAreTakable}
 use Rattle.world_model.specs.Book.{is_idle_book}
 use Rattle.world_model.specs.Item.{Packet}
 use Rattle.world_model.specs.PageCalls.{page_bytes}
+use Rattle.world_model.specs.Rings.{Loses, Queues, page_left, received_by}
 use Rattle.world_model.specs.Solo.{bytes_seen}
 use Rattle.world_model.specs.World.{World}
 use Rattle.call_verdicts.specs.Granted.{GrantedMay}
@@ -30,6 +33,7 @@ use Rattle.sharing_law.specs.Whole.{CopiesAreWhole, IsWithinLimits, PagesAreWhol
 use Rattle.sharing_law.proofs.Agreeing.{none_owned}
 use Rattle.sharing_law.proofs.Allocated.{becomes}
 use Rattle.sharing_law.proofs.Delivering.{owner_sees}
+use Rattle.sharing_law.proofs.Handling.{filled_whole}
 use Rattle.sharing_law.proofs.Moments.{stays_idle}
 use Rattle.sharing_law.proofs.Writing.{stored_within}
 
@@ -39,10 +43,6 @@ with_length page offset bytes within =
     let size = length bytes in
     let rest = drop (offset + size) page in
     omega (arith, length-append (take offset page ++ bytes) rest, length-append (take offset page) bytes, length-take offset page, length-drop (offset + size) page)
-
--- and all of its bytes are it
-with_all : (page bytes : List ℕ) → length page ≡ length bytes → with_bytes page 0 bytes ≡ bytes
-with_all page bytes same = ap (λ (rest : List ℕ). bytes ++ rest) (drop_all (0 + length bytes) page (omega (arith, same))) ∙ append-nil bytes
 
 zero_length : length zero_page ≡ page_size
 zero_length = length-replicate {A = ℕ} page_size 0
@@ -76,7 +76,7 @@ packet_in [] xs k w e claim packet its = absurd (packet_behind xs k w e claim pa
 packet_in (what ∷ happens) xs zero w e claim packet its = ap Some (packet_by what w e claim packet its)
 packet_in (what ∷ happens) xs (suc k) w e claim packet its = packet_in happens xs k w e claim packet its
 
-module _ (granted : GrantedMay) (takable : TakingsAreTakable) (licensed : GivenIsLicensed) (system : System) (within : IsWithinLimits system.schedule) where
+module _ (granted : GrantedMay) (takable : TakingsAreTakable) (licensed : GivenIsLicensed) (runs : RunsKeepLimits) (system : System) (within : IsWithinLimits system.schedule) where
   packet_short : (t k e claim : ℕ) (packet : List ℕ) → given_at system t k e ≡ Packet claim packet ∷ [] → length packet ≤ most_packet_size
   packet_short t k e claim packet given =
       let w = world_after system t in
@@ -107,21 +107,29 @@ module _ (granted : GrantedMay) (takable : TakingsAreTakable) (licensed : GivenI
         let ring = delivered.ring in
         let old = bytes_seen ((m.solos owner).seen ring.page) in
         let same : old ≡ page_bytes m page = ap (λ (p : ℕ). bytes_seen ((m.solos owner).seen p)) delivered.its ∙ sym (owner_sees m owner page owns) in
-        by_full old same was (is_full old ring.next) delivered.has
+        by_handler old (ap length same ∙ was) ring.handler delivered.has
       where
-        by_full : (old : List ℕ) → old ≡ page_bytes m page → length (page_bytes m page) ≡ page_size → (full : Bool)
-            → (if full then None else Some (with_packet old delivered.ring.next delivered.packet)) ≡ Some (page_bytes next page) → HasSize page
-        by_full old same was true is = cc
-        by_full old same was false is =
+        by_full : (old : List ℕ) → length old ≡ page_size → (full : Bool)
+            → page_left (if full then Loses else Queues (with_packet old delivered.ring.next delivered.packet)) ≡ Some (page_bytes next page) → HasSize page
+        by_full old size true is = cc
+        by_full old size false is =
             let has : with_packet old delivered.ring.next delivered.packet ≡ page_bytes next page = cc in
-            let size : length old ≡ page_size = ap length same ∙ was in
             let fits = packet_fits delivered.ring.next delivered.packet (packet_short t k owner delivered.claim delivered.packet delivered.given) in
             ap length (sym has)
             ∙ with_length old (buffer_offset delivered.ring.next) (word_bytes (length delivered.packet) ++ delivered.packet) (omega (arith, size, fits))
             ∙ size
 
+        by_handler : (old : List ℕ) → length old ≡ page_size → (handler : Option (List ℕ))
+            → page_left (received_by handler delivered.ring delivered.packet old) ≡ Some (page_bytes next page) → HasSize page
+        by_handler old size None is = by_full old size (is_full old delivered.ring.next) is
+        by_handler old size (Some words) is =
+            let has : (handler_run words delivered.packet delivered.ring.claim old).page ≡ page_bytes next page = cc in
+            ap length (sym has) ∙ (runs words delivered.packet old delivered.ring.claim size).size ∙ size
+
     copy_is : (page owner : ℕ) (copied : IsCopied system t k page owner) → page_bytes next page ≡ page_bytes m copied.taken
-    copy_is page owner copied = copied.has ∙ with_all (page_bytes m page) (page_bytes m copied.taken) (whole owner page copied.into ∙ sym (whole owner copied.taken copied.from))
+    copy_is page owner copied =
+        let size : length (page_bytes m page) ≤ length (page_bytes m copied.taken) = omega (arith, whole owner page copied.into, whole owner copied.taken copied.from) in
+        copied.has ∙ filled_whole (page_bytes m page) (page_bytes m copied.taken) size
 
     next_whole : IsWhole next
     next_whole owner page owns = elim (becomes granted takable system t k page owner owns) [
@@ -151,8 +159,9 @@ module _ (granted : GrantedMay) (takable : TakingsAreTakable) (licensed : GivenI
   all_whole : (t k : ℕ) → IsWhole (moment system t k)
   all_whole t k = moments_whole t (ticks_whole t) k
 
-pub pages_are_whole : GrantedMay → TakingsAreTakable → GivenIsLicensed → PagesAreWhole
-pages_are_whole granted takable licensed system t k page owner within owns = all_whole granted takable licensed system within t k owner page owns
+pub pages_are_whole : GrantedMay → TakingsAreTakable → GivenIsLicensed → RunsKeepLimits → PagesAreWhole
+pages_are_whole granted takable licensed runs system t k page owner within owns = all_whole granted takable licensed runs system within t k owner page owns
 
-pub copies_are_whole : GrantedMay → TakingsAreTakable → GivenIsLicensed → CopiesAreWhole
-copies_are_whole granted takable licensed system t k page owner within copied = copy_is granted takable licensed system within t k (all_whole granted takable licensed system within t k) page owner copied
+pub copies_are_whole : GrantedMay → TakingsAreTakable → GivenIsLicensed → RunsKeepLimits → CopiesAreWhole
+copies_are_whole granted takable licensed runs system t k page owner within copied =
+    copy_is granted takable licensed runs system within t k (all_whole granted takable licensed runs system within t k) page owner copied

@@ -1,5 +1,5 @@
 -- Why the bytes of a page change.
-use Rattle.std.specs.Prelude.{◌≡◌, ◌≢◌, ◌+◌, ◌^◌, ℕ, suc, nat_lt, if◌then◌else◌, Bool, true, false, List, ◌∷◌, Option, None, Some, ◌⊎◌, bit_or}
+use Rattle.std.specs.Prelude.{◌≡◌, ◌≢◌, ◌+◌, ◌^◌, ◌&&◌, ℕ, suc, nat_lt, if◌then◌else◌, Bool, true, false, List, ◌∷◌, Option, None, Some, ◌⊎◌, bit_or, is_none}
 use Rattle.frame_store.specs.Pages.{with_bytes, word_at, word_bytes, zero_page}
 use Rattle.page_book.specs.declared.row.Capabilities.{Capabilities}
 use Rattle.page_book.specs.declared.row.PageRow.TheVariants.{Free}
@@ -47,20 +47,20 @@ pub record HasStore (s t : Solo) (vpn : ℕ) (store : Store) : Type 0 where
 abbrev pub counted_page : PostWord → List ℕ → List ℕ
 counted_page word page = with_bytes page (post_offset word) (word_bytes (word_of (word_at page (post_offset word) + 1)))
 
--- whether a packet for a claim would be lost: the buffer of its ring whose turn it is, is full
-abbrev pub is_full_in : Solo → Option Ring → Bool
-is_full_in s None = false
-is_full_in s (Some r) = is_full (bytes_of s (Physical r.page)) r.next
+-- whether a packet for a claim is lost: it has no handler, and the buffer of its ring whose turn it is, is full
+abbrev pub is_lost_in : Solo → Option Ring → Bool
+is_lost_in s None = false
+is_lost_in s (Some r) = is_none r.handler && is_full (bytes_of s (Physical r.page)) r.next
 
 -- the context page with a packet counted, and counted again if it is lost
 abbrev pub packet_counted : Bool → List ℕ → List ℕ
 packet_counted false page = counted_page post.Packets page
 packet_counted true page = counted_page post.Lost (counted_page post.Packets page)
 
--- A packet for a claim is counted in the context page, and counted as lost exactly if its buffer is full.
+-- A packet for a claim is counted in the context page, and counted as lost exactly if the claim has no handler and its buffer is full.
 pub record HasCounts (s t : Solo) (vpn claim : ℕ) : Type 0 where
   pub context : vpn ≡ context_number
-  pub has : bytes_at t vpn ≡ packet_counted (is_full_in s (ring_of s.rings claim)) (bytes_at s vpn)
+  pub has : bytes_at t vpn ≡ packet_counted (is_lost_in s (ring_of s.rings claim)) (bytes_at s vpn)
 
 -- the context page, with what the environment is asked for
 abbrev pub asked_page : ℕ → ℕ → List ℕ → List ℕ

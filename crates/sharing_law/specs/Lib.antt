@@ -3,3 +3,4 @@ pub mod Delivery
 pub mod Right
 pub mod Change
 pub mod Whole
+pub mod Sent

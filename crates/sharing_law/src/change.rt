@@ -28,8 +28,9 @@ pub fn law_guaranteed_in_tick()
 }
 
 /// In a phase of a tick the bytes of a page that stays allocated to an environment change only by a store through a live
-/// writable binding; by a packet of the environment's own, for a claim whose ring the page is; or by the copy of a page
-/// that is taken from the environment, whose first backup the page is.
+/// writable binding; by a packet of the environment's own, for a claim whose ring the page is, which goes into a buffer
+/// or which the claim's handler takes; or by the copy of a page that is taken from the environment, whose first backup
+/// the page is.
 pub fn law_allocated_change()
     ensures { AllocatedChange }
 {

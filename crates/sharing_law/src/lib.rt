@@ -5,6 +5,7 @@
 mod agreement;
 mod change;
 mod right;
+mod sent;
 mod whole;
 
 pub use agreement::{
@@ -15,4 +16,5 @@ pub use change::{
     law_item_change, law_zeros, law_zeros_in_tick,
 };
 pub use right::{law_left, law_live};
+pub use sent::law_sent;
 pub use whole::{law_whole, law_whole_copies};

@@ -4,6 +4,7 @@ ghost use Rattle.sharing_law.specs.Whole.{CopiesAreWhole, PagesAreWhole};
 use call_verdicts::law_granted;
 use revocation_book::law_takable;
 use run_model::law_licence;
+use safe_handler::law_runs_keep_limits;
 
 /// Where what happens from outside is within its limits, each allocated page has its 4,096 bytes, at each moment.
 pub fn law_whole()
@@ -12,6 +13,7 @@ pub fn law_whole()
     law_granted();
     law_takable();
     law_licence();
+    law_runs_keep_limits();
 }
 
 /// So a backup that gets a copy of a page that is taken has just the bytes of this page.
@@ -21,4 +23,5 @@ pub fn law_whole_copies()
     law_granted();
     law_takable();
     law_licence();
+    law_runs_keep_limits();
 }
