@@ -1,5 +1,6 @@
 //! The laws of shared pages, for every image, schedule and number of ticks: by what right each binding stands, that the
-//! kernel's book and the environments agree on pages, bindings, claims and backups, and why the bytes of a page change.
+//! kernel's book and the environments agree on pages, bindings, claims and backups, why the bytes of a page change, and
+//! how much environments send.
 #![tactic(auto)]
 
 mod agreement;
