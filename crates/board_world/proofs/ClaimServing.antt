@@ -1,18 +1,22 @@
 -- What the runner does to its claims, on the world that is shown.
-use Rattle.std.proofs.Common.{◌≡◌, ℕ, ◌+◌, List, [], ◌∷◌, ◌++◌, Option, Some, None, Result, Ok, refl, sym, ◌∙◌, ap, arith}
+use Rattle.std.proofs.Common.{◌≡◌, ℕ, ◌+◌, List, [], ◌∷◌, ◌++◌, true, Option, Some, None, Result, Ok, refl, sym, ◌∙◌, ap, arith}
+use Rattle.std.specs.Prelude.{is_some, map}
 use Rattle.filter_core.specs.declared.atom.Atom.{Atom}
-use Rattle.filter_tree.specs.ClaimBook.{claims_in}
+use Rattle.filter_tree.specs.ClaimBook.{are_numbered, claims_in}
 use Rattle.filter_tree.specs.Claims.{book_unless, claim_refusal, claimed, is_claim, with_claim}
+use Rattle.filter_tree.specs.Laws.{FirstIsNumbered}
 use Rattle.world_model.specs.declared.code.Code.{Code}
 use Rattle.world_model.specs.Book.{running}
 use Rattle.packet_ring.specs.declared.buffer.Buffer.TheVariants.{First}
-use Rattle.world_model.specs.declared.call.Deed.TheVariants.{Claims, Unclaims}
+use Rattle.world_model.specs.declared.call.Deed.TheVariants.{Claims, Unclaims, Downloads}
 use Rattle.world_model.specs.declared.verdict.Verdict.TheVariants.{Grant}
 use Rattle.world_model.specs.ClaimCalls.{atoms_or_none, filter_at}
+use Rattle.world_model.specs.Downloads.{MayDownload, handler_at, handler_or_none}
 use Rattle.world_model.specs.Item.{answered_cpu}
 use Rattle.world_model.specs.May.{MayClaim}
 use Rattle.world_model.specs.Page.{Mapped}
-use Rattle.world_model.specs.Solo.{sight}
+use Rattle.world_model.specs.Rings.{handled_if, ring_of}
+use Rattle.world_model.specs.Solo.{Solo, sight}
 use Rattle.world_model.specs.Verdict.{done}
 use Rattle.board_world.specs.declared.roster.Environment.{Environment}
 use Rattle.board_world.specs.Rings.{rings_of}
@@ -20,7 +24,7 @@ use Rattle.board_world.specs.Shown.{Shown}
 use Rattle.board_world.specs.Showing.{world_of, book_of, solo_of}
 use Rattle.board_world.specs.Sound.{IsSound}
 use Rattle.board_world.specs.Doing as doing
-use Rattle.board_world.proofs.Claimed.{claims_more, claims_without, rings_claimed, rings_claimed_else, rings_unclaimed, rings_unclaimed_else}
+use Rattle.board_world.proofs.Claimed.{claims_downloaded, claims_more, claims_without, rings_claimed, rings_claimed_else, rings_downloaded, rings_downloaded_else, rings_unclaimed, rings_unclaimed_else}
 use Rattle.board_world.proofs.Parts.{append_nothing, one_changed}
 use Rattle.board_world.proofs.Reading.{runner_look}
 use Rattle.board_world.proofs.Replying.{Serves, deeded, deeded_seen}
@@ -49,7 +53,7 @@ module _ (b : Shown) (e : ℕ) (x : Environment) (r : Runs b e x) (sound : IsSou
             (runner_seen now e x still
             ∙ (λ k. record (runner_solo b e x) {
               cpu = answered_cpu (Grant v) b.cpu;
-              rings = (rings_claimed b.claims e filter page ∙ (λ j. rings_of b.claims e ++ record { claim = sym may.number j; page = page; next = First } ∷ [])) k;
+              rings = (rings_claimed b.claims e filter page ∙ (λ j. rings_of b.claims e ++ record { claim = sym may.number j; page = page; next = First; handler = None } ∷ [])) k;
             })
             ∙ deeded_seen b e x r (Claims claim address atoms page) v)
             (λ i ne. same_solo i now b (record {
@@ -81,6 +85,38 @@ module _ (b : Shown) (e : ℕ) (x : Environment) (r : Runs b e x) (sound : IsSou
             (λ i ne. same_solo i now b (record {
               record_is = refl;
               rings = rings_unclaimed_else b.claims e claim i ne;
+              idles = r.runs.others i ne;
+              idled = r.runs.others i ne;
+              pages = refl;
+              binds = refl;
+              sights = refl;
+            }));
+        rows = sym (append_nothing b.ledger.rows);
+        room = omega arith;
+        spare = refl;
+        time = refl;
+      }
+
+  pub downloads : FirstIsNumbered → are_numbered 0 b.claims.next b.claims.rows ≡ true → (claim address words v : ℕ) → MayDownload (solo_of b e) claim address words → Serves b e (deeded (Downloads claim address words) v (solo_of b e)) (done (world_of b) e (Downloads claim address words)) (doing.granted b e v (Downloads claim address words))
+  downloads law numbered claim address words v may =
+      let handler = handler_or_none (handler_at (doing.look_of b e) address words) in
+      let looks : doing.look_of b e ≡ sight (runner_solo b e x) = λ k v. its_look b e x r sound v k in
+      let now = doing.granted b e v (Downloads claim address words) in
+      let still : Runs now e x = record { at = r.at; lives = r.lives; runs = r.runs } in
+      let own : is_some (ring_of (rings_of b.claims e) claim) ≡ true = ap (λ (s : Solo). is_some (ring_of s.rings claim)) (sym (runner_seen b e x r)) ∙ may.own in
+      record {
+        book = λ k. record (book_of b) { claims = claims_downloaded b.claims claim handler k };
+        count = refl;
+        solos = one_changed (solo_of b) (solo_of now) e (deeded (Downloads claim address words) v (solo_of b e))
+            (runner_seen now e x still
+            ∙ (λ k. record (runner_solo b e x) {
+              cpu = answered_cpu (Grant v) b.cpu;
+              rings = (rings_downloaded b.claims claim e handler ∙ (λ j. map (handled_if claim (handler_or_none (handler_at (looks j) address words))) (rings_of b.claims e))) k;
+            })
+            ∙ deeded_seen b e x r (Downloads claim address words) v)
+            (λ i ne. same_solo i now b (record {
+              record_is = refl;
+              rings = rings_downloaded_else law b.claims e claim i handler numbered own ne;
               idles = r.runs.others i ne;
               idled = r.runs.others i ne;
               pages = refl;

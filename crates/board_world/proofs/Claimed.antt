@@ -9,7 +9,7 @@ use Rattle.std.proofs.lemmas.List.Elements.{filter-append}
 use Rattle.filter_core.specs.declared.atom.Atom.{Atom}
 use Rattle.filter_tree.specs.ClaimBook.{ClaimBook, ClaimValue, RowValue, are_numbered, claim_in, claims_in, is_of_env}
 use Rattle.filter_tree.specs.Claims as book
-use Rattle.filter_tree.specs.Claims.{claim_held, delivered, first_row, is_claim, is_into, is_numbered, new_row, with_claim, without}
+use Rattle.filter_tree.specs.Claims.{claim_held, delivered, downloaded, first_row, is_claim, is_into, is_numbered, new_row, with_claim, without}
 use Rattle.filter_tree.specs.Laws.{FirstIsNumbered}
 use Rattle.page_book.specs.declared.row.PageRow.{PageRow}
 use Rattle.page_book.specs.Row.{is_owned_by}
@@ -116,7 +116,7 @@ claims_more claims e atoms page = map-append claim_in claims.rows (new_row claim
 more_rows : (e : ℕ) (rows : List RowValue) (r : RowValue) → its_rings e (rows ++ r ∷ []) ≡ its_rings e rows ++ its_rings e (r ∷ [])
 more_rows e rows r = ap (map ring_in) (filter-append (of e) rows (r ∷ [])) ∙ map-append ring_in (filter (of e) rows) (filter (of e) (r ∷ []))
 
-pub rings_claimed : (claims : ClaimBook) (e : ℕ) (atoms : List Atom) (page : ℕ) → rings_of (with_claim claims e atoms page) e ≡ rings_of claims e ++ record { claim = claims.next; page = page; next = First } ∷ []
+pub rings_claimed : (claims : ClaimBook) (e : ℕ) (atoms : List Atom) (page : ℕ) → rings_of (with_claim claims e atoms page) e ≡ rings_of claims e ++ record { claim = claims.next; page = page; next = First; handler = None } ∷ []
 rings_claimed claims e atoms page =
     more_rows e claims.rows (new_row claims e atoms page)
     ∙ ap (λ (gs : List Ring). rings_of claims e ++ gs) (let its : (e == e) ≡ true = eq-eqb e e refl in rw its refl)
@@ -131,53 +131,84 @@ rings_claimed_else claims e atoms page i ne =
     nothing_more [] = refl
     nothing_more (g ∷ gs) = ap (λ rest. g ∷ rest) (nothing_more gs)
 
+-- Where the row of one number gets another buffer or another handler, its claim stays, and so does its ring.
+module _ (id : ℕ) (f : RowValue → RowValue) (g : Ring → Ring) (same : (r : RowValue) → (f r).claim ≡ r.claim) (shows : (r : RowValue) → ring_in (f r) ≡ g (ring_in r)) where
+  abbrev row : RowValue → RowValue
+  row r = if is_numbered id r.claim then f r else r
+
+  abbrev its : Ring → Ring
+  its h = if is_ring id h then g h else h
+
+  same_claim : (r : RowValue) → (row r).claim ≡ r.claim
+  same_claim r = by_test (is_numbered id r.claim)
+    where
+      by_test : (t : Bool) → (if t then f r else r).claim ≡ r.claim
+      by_test true = same r
+      by_test false = refl
+
+  -- which the claims alone don't show
+  same_claims : (rows : List RowValue) → map claim_in (map row rows) ≡ map claim_in rows
+  same_claims [] = refl
+  same_claims (r ∷ rows) = λ k. same_claim r k ∷ same_claims rows k
+
+  row_ring : (r : RowValue) → ring_in (row r) ≡ its (ring_in r)
+  row_ring r = by_test (is_numbered id r.claim)
+    where
+      by_test : (t : Bool) → ring_in (if t then f r else r) ≡ (if t then g (ring_in r) else ring_in r)
+      by_test true = shows r
+      by_test false = refl
+
+  rows_rings : (e : ℕ) (rows : List RowValue) → its_rings e (map row rows) ≡ map its (its_rings e rows)
+  rows_rings e [] = refl
+  rows_rings e (r ∷ rows) =
+      let stays : of e (row r) ≡ of e r = ap (is_of_env e) (same_claim r) in
+      elim (cases_Bool (of e r)) [
+        | inl own ↦ let still : of e (row r) ≡ true = stays ∙ own in rw (still, own) ((λ k. row_ring r k ∷ rows_rings e rows k))
+        | inr other ↦ let still : of e (row r) ≡ false = stays ∙ other in rw (still, other) (rows_rings e rows)
+      ]
+
+  -- who has no claim of this number has what it had
+  none_changed : (i : ℕ) (rows : List RowValue) → find (λ (r : RowValue). is_claim i id r.claim) rows ≡ None → map its (its_rings i rows) ≡ its_rings i rows
+  none_changed i [] none = refl
+  none_changed i (r ∷ rows) none = by_tests (is_numbered id r.claim) (of i r) refl refl (none_changed i rows)
+    where
+      by_tests : (numbered own : Bool) → is_numbered id r.claim ≡ numbered → of i r ≡ own
+          → (find (λ (r : RowValue). is_claim i id r.claim) rows ≡ None → map its (its_rings i rows) ≡ its_rings i rows)
+          → map its (its_rings i (r ∷ rows)) ≡ its_rings i (r ∷ rows)
+      by_tests true true numbered own rest = let both : Some r ≡ None = rw (numbered, own) at none in cc
+      by_tests true false numbered own rest = rw own (rest (rw (numbered, own) at none))
+      by_tests false true numbered own rest = rw (own, numbered) (ap (λ gs. ring_in r ∷ gs) (rest (rw numbered at none)))
+      by_tests false false numbered own rest = rw own (rest (rw numbered at none))
+
 -- the buffers of a claim take turns
-turned_row : (id : ℕ) (r : RowValue) → (book.turned_if id r).claim ≡ r.claim
-turned_row id r = by_test (is_numbered id r.claim)
-  where
-    by_test : (t : Bool) → (if t then book.turned r else r).claim ≡ r.claim
-    by_test true = refl
-    by_test false = refl
-
--- which the claims alone don't show
 pub claims_turned : (claims : ClaimBook) (id : ℕ) → claims_in (delivered id claims) ≡ claims_in claims
-claims_turned claims id = by_rows claims.rows
-  where
-    by_rows : (rows : List RowValue) → map claim_in (map (book.turned_if id) rows) ≡ map claim_in rows
-    by_rows [] = refl
-    by_rows (r ∷ rows) = λ k. turned_row id r k ∷ by_rows rows k
-
-turned_ring : (id : ℕ) (r : RowValue) → ring_in (book.turned_if id r) ≡ ring.turned_if id (ring_in r)
-turned_ring id r = by_test (is_numbered id r.claim)
-  where
-    by_test : (t : Bool) → ring_in (if t then book.turned r else r) ≡ (if t then ring.turned (ring_in r) else ring_in r)
-    by_test true = refl
-    by_test false = refl
+claims_turned claims id = same_claims id book.turned ring.turned (λ r. refl) (λ r. refl) claims.rows
 
 pub rings_turned : (claims : ClaimBook) (id e : ℕ) → rings_of (delivered id claims) e ≡ map (ring.turned_if id) (rings_of claims e)
-rings_turned claims id e = by_rows claims.rows
-  where
-    by_rows : (rows : List RowValue) → its_rings e (map (book.turned_if id) rows) ≡ map (ring.turned_if id) (its_rings e rows)
-    by_rows [] = refl
-    by_rows (r ∷ rows) =
-        let same : of e (book.turned_if id r) ≡ of e r = ap (is_of_env e) (turned_row id r) in
-        elim (cases_Bool (of e r)) [
-          | inl its ↦ let stays : of e (book.turned_if id r) ≡ true = same ∙ its in rw (stays, its) ((λ k. turned_ring id r k ∷ by_rows rows k))
-          | inr other ↦ let goes : of e (book.turned_if id r) ≡ false = same ∙ other in rw (goes, other) (by_rows rows)
-        ]
+rings_turned claims id e = rows_rings id book.turned ring.turned (λ r. refl) (λ r. refl) e claims.rows
 
--- which are its environment's alone
-unturned : (id i : ℕ) (rows : List RowValue) → find (λ (r : RowValue). is_claim i id r.claim) rows ≡ None → map (ring.turned_if id) (its_rings i rows) ≡ its_rings i rows
-unturned id i [] none = refl
-unturned id i (r ∷ rows) none = by_tests (is_numbered id r.claim) (of i r) refl refl (unturned id i rows)
+-- a claim has another handler
+pub claims_downloaded : (claims : ClaimBook) (id : ℕ) (handler : Option (List ℕ)) → claims_in (downloaded id handler claims) ≡ claims_in claims
+claims_downloaded claims id handler = same_claims id (book.handled handler) (ring.handled handler) (λ r. refl) (λ r. refl) claims.rows
+
+pub rings_downloaded : (claims : ClaimBook) (id e : ℕ) (handler : Option (List ℕ)) → rings_of (downloaded id handler claims) e ≡ map (ring.handled_if id handler) (rings_of claims e)
+rings_downloaded claims id e handler = rows_rings id (book.handled handler) (ring.handled handler) (λ r. refl) (λ r. refl) e claims.rows
+
+-- an environment has a claim exactly where the book has it
+pub ring_held : (claims : ClaimBook) (e id : ℕ) → is_some (ring_of (rings_of claims e) id) ≡ is_some (claim_held claims e id)
+ring_held claims e id = by_rows claims.rows
   where
-    by_tests : (same its : Bool) → is_numbered id r.claim ≡ same → of i r ≡ its
-        → (find (λ (r : RowValue). is_claim i id r.claim) rows ≡ None → map (ring.turned_if id) (its_rings i rows) ≡ its_rings i rows)
-        → map (ring.turned_if id) (its_rings i (r ∷ rows)) ≡ its_rings i (r ∷ rows)
-    by_tests true true same its rest = let both : Some r ≡ None = rw (same, its) at none in cc
-    by_tests true false same its rest = rw its (rest (rw (same, its) at none))
-    by_tests false true same its rest = rw (its, same) (ap (λ gs. ring_in r ∷ gs) (rest (rw same at none)))
-    by_tests false false same its rest = rw its (rest (rw same at none))
+    by_row : (x : RowValue) (rows : List RowValue) (same its : Bool) → is_numbered id x.claim ≡ same → of e x ≡ its
+        → is_some (ring_of (its_rings e rows) id) ≡ is_some (option_map book.claim_seen (find (λ (r : RowValue). is_claim e id r.claim) rows))
+        → is_some (ring_of (its_rings e (x ∷ rows)) id) ≡ is_some (option_map book.claim_seen (find (λ (r : RowValue). is_claim e id r.claim) (x ∷ rows)))
+    by_row x rows true true same its rest = rw (its, same) refl
+    by_row x rows true false same its rest = rw (its, same) rest
+    by_row x rows false true same its rest = rw (its, same) rest
+    by_row x rows false false same its rest = rw (its, same) rest
+
+    by_rows : (rows : List RowValue) → is_some (ring_of (its_rings e rows) id) ≡ is_some (option_map book.claim_seen (find (λ (r : RowValue). is_claim e id r.claim) rows))
+    by_rows [] = refl
+    by_rows (x ∷ rows) = by_row x rows (is_numbered id x.claim) (of e x) refl refl (by_rows rows)
 
 -- what is found passes the test
 found_is : (test : ClaimValue → Bool) (rows : List RowValue) (x : RowValue) → find (λ (y : RowValue). test y.claim) rows ≡ Some x → test x.claim ≡ true
@@ -188,23 +219,45 @@ found_is test (y ∷ rows) x is =
       | inr other ↦ found_is test rows x (rw other at is)
     ]
 
-pub rings_turned_else : FirstIsNumbered → (claims : ClaimBook) (r : RowValue) (i : ℕ) → are_numbered 0 claims.next claims.rows ≡ true → first_row (is_numbered r.claim.id) claims ≡ Some r → i ≢ r.claim.env
-    → rings_of (delivered r.claim.id claims) i ≡ rings_of claims i
-rings_turned_else law claims r i numbered first ne = rings_turned claims r.claim.id i ∙ unturned r.claim.id i claims.rows (by_found (first_row (is_claim i r.claim.id) claims) refl)
-  where
-    both : (a b : Bool) → (a && b) ≡ true → (a ≡ true) × (b ≡ true)
-    both true b is = (refl, is)
-    both false b is = cc
+-- and the claim of a number is its environment's alone
+two_tests : (a b : Bool) → (a && b) ≡ true → (a ≡ true) × (b ≡ true)
+two_tests true b is = (refl, is)
+two_tests false b is = cc
 
+no_other : FirstIsNumbered → (claims : ClaimBook) (r : RowValue) (i : ℕ) → are_numbered 0 claims.next claims.rows ≡ true → first_row (is_numbered r.claim.id) claims ≡ Some r → i ≢ r.claim.env
+    → first_row (is_claim i r.claim.id) claims ≡ None
+no_other law claims r i numbered first ne = by_found (first_row (is_claim i r.claim.id) claims) refl
+  where
     by_found : (o : Option RowValue) → first_row (is_claim i r.claim.id) claims ≡ o → o ≡ None
     by_found None is = refl
     by_found (Some x) is =
-        let parts = both (is_numbered r.claim.id x.claim) (of i x) (found_is (is_claim i r.claim.id) claims.rows x is) in
+        let parts = two_tests (is_numbered r.claim.id x.claim) (of i x) (found_is (is_claim i r.claim.id) claims.rows x is) in
         let same_id : x.claim.id ≡ r.claim.id = eqb-true x.claim.id r.claim.id parts.0 in
         let again = law claims (is_claim i r.claim.id) x numbered is in
         let same : Some x ≡ Some r = sym again ∙ ap (λ (n : ℕ). first_row (is_numbered n) claims) same_id ∙ first in
         let row : x ≡ r = cc in
         absurd (ne (sym (eqb-true x.claim.env i parts.1) ∙ ap (λ (y : RowValue). y.claim.env) row))
+
+pub rings_turned_else : FirstIsNumbered → (claims : ClaimBook) (r : RowValue) (i : ℕ) → are_numbered 0 claims.next claims.rows ≡ true → first_row (is_numbered r.claim.id) claims ≡ Some r → i ≢ r.claim.env
+    → rings_of (delivered r.claim.id claims) i ≡ rings_of claims i
+rings_turned_else law claims r i numbered first ne =
+    rings_turned claims r.claim.id i
+    ∙ none_changed r.claim.id book.turned ring.turned (λ r. refl) (λ r. refl) i claims.rows (no_other law claims r i numbered first ne)
+
+pub rings_downloaded_else : FirstIsNumbered → (claims : ClaimBook) (e id i : ℕ) (handler : Option (List ℕ)) → are_numbered 0 claims.next claims.rows ≡ true → is_some (ring_of (rings_of claims e) id) ≡ true → i ≢ e
+    → rings_of (downloaded id handler claims) i ≡ rings_of claims i
+rings_downloaded_else law claims e id i handler numbered own ne =
+    rings_downloaded claims id i handler
+    ∙ none_changed id (book.handled handler) (ring.handled handler) (λ r. refl) (λ r. refl) i claims.rows (by_found (first_row (is_claim e id) claims) refl (sym (ring_held claims e id) ∙ own))
+  where
+    by_found : (o : Option RowValue) → first_row (is_claim e id) claims ≡ o → is_some (option_map book.claim_seen (first_row (is_claim e id) claims)) ≡ true → first_row (is_claim i id) claims ≡ None
+    by_found None is some = let none : false ≡ true = ap (λ (o : Option RowValue). is_some (option_map book.claim_seen o)) (sym is) ∙ some in cc
+    by_found (Some r) is some =
+        let parts = two_tests (is_numbered id r.claim) (of e r) (found_is (is_claim e id) claims.rows r is) in
+        let same_id : r.claim.id ≡ id = eqb-true r.claim.id id parts.0 in
+        let env : r.claim.env ≡ e = eqb-true r.claim.env e parts.1 in
+        ap (λ (n : ℕ). first_row (is_claim i n) claims) (sym same_id)
+        ∙ no_other law claims r i numbered (law claims (is_claim e id) r numbered is) (λ same. ne (same ∙ env))
 
 -- the claims alone, searched
 pub found_without : (test : ClaimValue → Bool) (claims : ClaimBook) → find test (claims_in claims) ≡ option_map claim_in (first_row test claims)
@@ -238,22 +291,6 @@ ring_found claims r first = by_rows claims.rows first
     by_rows : (rows : List RowValue) → find (λ (x : RowValue). is_numbered r.claim.id x.claim) rows ≡ Some r → ring_of (its_rings r.claim.env rows) r.claim.id ≡ Some (ring_in r)
     by_rows [] is = cc
     by_rows (x ∷ rows) is = by_row x rows (is_numbered r.claim.id x.claim) (of r.claim.env x) refl refl (by_rows rows) is
-
--- an environment has a claim exactly where the book has it
-pub ring_held : (claims : ClaimBook) (e id : ℕ) → is_some (ring_of (rings_of claims e) id) ≡ is_some (claim_held claims e id)
-ring_held claims e id = by_rows claims.rows
-  where
-    by_row : (x : RowValue) (rows : List RowValue) (same its : Bool) → is_numbered id x.claim ≡ same → of e x ≡ its
-        → is_some (ring_of (its_rings e rows) id) ≡ is_some (option_map book.claim_seen (find (λ (r : RowValue). is_claim e id r.claim) rows))
-        → is_some (ring_of (its_rings e (x ∷ rows)) id) ≡ is_some (option_map book.claim_seen (find (λ (r : RowValue). is_claim e id r.claim) (x ∷ rows)))
-    by_row x rows true true same its rest = rw (its, same) refl
-    by_row x rows true false same its rest = rw (its, same) rest
-    by_row x rows false true same its rest = rw (its, same) rest
-    by_row x rows false false same its rest = rw (its, same) rest
-
-    by_rows : (rows : List RowValue) → is_some (ring_of (its_rings e rows) id) ≡ is_some (option_map book.claim_seen (find (λ (r : RowValue). is_claim e id r.claim) rows))
-    by_rows [] = refl
-    by_rows (x ∷ rows) = by_row x rows (is_numbered id x.claim) (of e x) refl refl (by_rows rows)
 
 -- a claim that is found goes into a page of its environment's own
 pub found_owned : (pages : List PageRow) (test : ClaimValue → Bool) (rows : List RowValue) (r : RowValue) → list_all (λ (x : RowValue). has_own_page pages x.claim) rows ≡ true → find (λ (x : RowValue). test x.claim) rows ≡ Some r → has_own_page pages r.claim ≡ true

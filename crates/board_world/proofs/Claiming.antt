@@ -1,12 +1,12 @@
 -- Claims stay those of pages that their environments own.
-use Rattle.std.proofs.Common.{◌≡◌, ◌≢◌, ℕ, ◌+◌, ◌-◌, ◌<◌, List, [], ◌∷◌, ◌++◌, length, map, Bool, true, false, refl, sym, ◌∙◌, ap, subst, inl, inr}
+use Rattle.std.proofs.Common.{◌≡◌, ◌≢◌, ℕ, ◌+◌, ◌-◌, ◌<◌, List, [], ◌∷◌, ◌++◌, length, map, Bool, true, false, Option, refl, sym, ◌∙◌, ap, subst, inl, inr}
 use Rattle.std.specs.Prelude.{◌==◌, ◌&&◌, not, if◌then◌else◌, filter, slice_set}
 use Rattle.std.specs.List.{list_all}
 use Rattle.std.proofs.lemmas.Bool.{cases_Bool, eqb-true, eqb-false, eq-eqb, ne_eqb}
 use Rattle.filter_core.specs.declared.atom.Atom.{Atom}
 use Rattle.filter_tree.specs.ClaimBook.{ClaimBook, ClaimValue, RowValue, is_of_env}
 use Rattle.filter_tree.specs.Claims as book
-use Rattle.filter_tree.specs.Claims.{delivered, is_into, is_numbered, new_row, with_claim, without}
+use Rattle.filter_tree.specs.Claims.{delivered, downloaded, is_into, is_numbered, new_row, with_claim, without}
 use Rattle.page_book.specs.declared.row.Capabilities.{Capabilities}
 use Rattle.page_book.specs.declared.row.PageRow.{PageRow}
 use Rattle.page_book.specs.declared.row.PageRow.TheVariants.{Free, Guaranteed, Owned}
@@ -108,22 +108,34 @@ with_claim_claimed claims pages r e atoms page own are = record { owned = and_on
         let parts = both (has_own_page pages x.claim) (are_own pages rows) all in
         and_both (has_own_page pages x.claim) (are_own pages (rows ++ new_row claims e atoms page ∷ [])) parts.0 (and_one rows parts.1)
 
+-- where rows keep their claims, so do the pages
+same_own : (pages : List PageRow) (f : RowValue → RowValue) → ((x : RowValue) → (f x).claim ≡ x.claim) → (rows : List RowValue) → are_own pages rows ≡ true → are_own pages (map f rows) ≡ true
+same_own pages f same [] all = refl
+same_own pages f same (x ∷ rows) all =
+    let parts = both (has_own_page pages x.claim) (are_own pages rows) all in
+    and_both (has_own_page pages (f x).claim) (are_own pages (map f rows)) (ap (has_own_page pages) (same x) ∙ parts.0) (same_own pages f same rows parts.1)
+
 -- the buffers of a claim take turns
 pub delivered_claimed : (claims : ClaimBook) (pages : List PageRow) (r : Environments) (id : ℕ) → AreClaimed claims pages r → AreClaimed (delivered id claims) pages r
-delivered_claimed claims pages r id are = record { owned = by_rows claims.rows are.owned; count = are.count }
+delivered_claimed claims pages r id are = record { owned = same_own pages (book.turned_if id) same claims.rows are.owned; count = are.count }
   where
-    same_claim : (x : RowValue) → (book.turned_if id x).claim ≡ x.claim
-    same_claim x = by_test (is_numbered id x.claim)
+    same : (x : RowValue) → (book.turned_if id x).claim ≡ x.claim
+    same x = by_test (is_numbered id x.claim)
       where
         by_test : (t : Bool) → (if t then book.turned x else x).claim ≡ x.claim
         by_test true = refl
         by_test false = refl
 
-    by_rows : (rows : List RowValue) → are_own pages rows ≡ true → are_own pages (map (book.turned_if id) rows) ≡ true
-    by_rows [] all = refl
-    by_rows (x ∷ rows) all =
-        let parts = both (has_own_page pages x.claim) (are_own pages rows) all in
-        and_both (has_own_page pages (book.turned_if id x).claim) (are_own pages (map (book.turned_if id) rows)) (ap (has_own_page pages) (same_claim x) ∙ parts.0) (by_rows rows parts.1)
+-- a claim has another handler, or none
+pub downloaded_claimed : (claims : ClaimBook) (pages : List PageRow) (r : Environments) (id : ℕ) (handler : Option (List ℕ)) → AreClaimed claims pages r → AreClaimed (downloaded id handler claims) pages r
+downloaded_claimed claims pages r id handler are = record { owned = same_own pages (book.handled_if id handler) same claims.rows are.owned; count = are.count }
+  where
+    same : (x : RowValue) → (book.handled_if id handler x).claim ≡ x.claim
+    same x = by_test (is_numbered id x.claim)
+      where
+        by_test : (t : Bool) → (if t then book.handled handler x else x).claim ≡ x.claim
+        by_test true = refl
+        by_test false = refl
 
 -- who owns a page still does once another is gone
 pub released_else : (row : PageRow) (i e : ℕ) → i ≢ e → is_owned_by i row ≡ true → is_owned_by i (released e row) ≡ true

@@ -1,23 +1,27 @@
--- A packet that goes into the ring of its claim, on the world that is shown.
+-- A packet that goes into the ring of its claim, or that the claim's handler takes, on the world that is shown.
 use Rattle.std.proofs.Common.{◌≡◌, ◌≢◌, ℕ, List, map, true, Some, refl, sym, ◌∙◌, ap}
 use Rattle.std.specs.Prelude.{slice_get}
+use Rattle.std.specs.Option.{option_map}
+use Rattle.handler_code.specs.Running.{HandlerRun}
 use Rattle.frame_store.specs.Pages.{after_put}
 use Rattle.filter_tree.specs.ClaimBook.{RowValue, are_numbered}
-use Rattle.filter_tree.specs.Claims.{delivered, first_row, is_numbered}
+use Rattle.filter_tree.specs.Claims.{claim_seen, delivered, first_row, is_numbered}
 use Rattle.filter_tree.specs.Laws.{FirstIsNumbered}
 use Rattle.world_model.specs.declared.life.Life.TheVariants.{Live}
 use Rattle.world_model.specs.Item.{absorb_all}
 use Rattle.world_model.specs.PageCalls.{left_by}
 use Rattle.world_model.specs.Rings as ring
-use Rattle.world_model.specs.Rings.{page_store}
+use Rattle.world_model.specs.Rings.{Handles, Queues, page_store, received_as, replied}
 use Rattle.world_model.specs.Solo.{Solo}
 use Rattle.board_world.specs.declared.roster.Environment.{Environment}
 use Rattle.board_world.specs.Rings.{ring_in}
 use Rattle.board_world.specs.Shown.{Shown}
 use Rattle.board_world.specs.Showing.{book_of, solo_of, solo_or_absent, solo_seen}
 use Rattle.board_world.specs.Sound.{IsSound, has_own_page}
+use Rattle.board_world.specs.Doing.{handled, replying}
 use Rattle.board_world.proofs.Claimed.{rings_turned, rings_turned_else}
 use Rattle.board_world.proofs.Copying as copying
+use Rattle.board_world.proofs.Lists.{changed_else, changed_here}
 use Rattle.board_world.proofs.Seen.{like_solo}
 
 module _ (law : FirstIsNumbered) (b : Shown) (sound : IsSound b) (numbered : are_numbered 0 b.claims.next b.claims.rows ≡ true) (r : RowValue) (first : first_row (is_numbered r.claim.id) b.claims ≡ Some r) (own : has_own_page b.pages r.claim ≡ true)
@@ -35,7 +39,7 @@ module _ (law : FirstIsNumbered) (b : Shown) (sound : IsSound b) (numbered : are
   now = record bytes_stored { claims = delivered r.claim.id b.claims }
 
   -- the claim's environment has its page with the bytes, and the other buffer is next
-  pub ring_filled : solo_of now e ≡ ring.put_in_ring (ring_in r) (Some bytes) (solo_of b e)
+  pub ring_filled : solo_of now e ≡ received_as (ring_in r) (Queues bytes) (solo_of b e)
   ring_filled =
       ap (solo_or_absent now e) at
       ∙ (λ k. record (solo_seen bytes_stored e x) { rings = rings_turned b.claims r.claim.id e k })
@@ -57,3 +61,39 @@ module _ (law : FirstIsNumbered) (b : Shown) (sound : IsSound b) (numbered : are
         sights = refl;
       })
       ∙ copying.stored_else b sound e page own x at lives bytes i ne
+
+module _ (b : Shown) (sound : IsSound b) (r : RowValue) (own : has_own_page b.pages r.claim ≡ true) (x : Environment) (at : slice_get b.roster.list r.claim.env ≡ Some x) (lives : x.life ≡ Live) (run : HandlerRun) where
+  abbrev owner : ℕ
+  owner = r.claim.env
+
+  abbrev reply : Environment → Environment
+  reply = replying run.replies
+
+  abbrev page_written : Shown
+  page_written = record b { frames = after_put b.frames r.claim.page 0 run.page }
+
+  abbrev after_run : Shown
+  after_run = handled b (claim_seen r) run
+
+  -- the claim's environment has its page as the handler left it, and sent the replies
+  pub run_here : solo_of after_run owner ≡ received_as (ring_in r) (Handles run.page run.replies) (solo_of b owner)
+  run_here =
+      ap (solo_or_absent after_run owner) (changed_here reply b.roster.list owner ∙ ap (option_map reply) at)
+      ∙ (λ k. replies (ap (solo_or_absent page_written owner) (sym at) k))
+      ∙ ap replies (copying.stored_here b sound owner r.claim.page own x at lives run.page)
+    where
+      replies : Solo → Solo
+      replies s = record s { sent = replied s.sent run.replies }
+
+  -- whoever else sees the page
+  pub run_else : (i : ℕ) → i ≢ owner → solo_of after_run i ≡ absorb_all (solo_of b i) (left_by (book_of b) owner (page_store r.claim.page run.page) i)
+  run_else i ne =
+      like_solo i after_run page_written (record {
+        record_is = changed_else reply b.roster.list owner i ne;
+        rings = refl;
+        cpu = λ kept. refl;
+        pages = refl;
+        binds = refl;
+        sights = refl;
+      })
+      ∙ copying.stored_else b sound owner r.claim.page own x at lives run.page i ne

@@ -1,7 +1,7 @@
 -- What happens from outside, on the world that is shown.
 use Rattle.std.proofs.Common.{◌≡◌, ◌≢◌, ◌<◌, ℕ, ◌+◌, ◌^◌, List, [], ◌∷◌, length, Bool, true, false, Option, Some, None, IfSome, refl, sym, ◌∙◌, ap, subst, arith}
 use Rattle.std.specs.Prelude.{bit_or, is_some, nat_lt, not, ◌&&◌, slice_get, if◌then◌else◌}
-use Rattle.std.specs.Option.{option_map}
+use Rattle.std.specs.Option.{option_flatten, option_map}
 use Rattle.external_event.specs.declared.event.Occurrence.{Occurrence}
 use Rattle.external_event.specs.declared.event.Occurrence.TheVariants as outside
 use Rattle.frame_store.specs.Pages.{page_at}
@@ -12,9 +12,10 @@ use Rattle.env_frames.specs.declared.post.PostWord.{PostWord}
 use Rattle.env_frames.specs.declared.post.PostWord.TheVariants as post
 use Rattle.env_frames.specs.Post.{asked_in, counted_in, signalled_in}
 use Rattle.packet_ring.specs.Ring.{is_full, with_packet}
+use Rattle.handler_code.specs.Running.{HandlerRun, handler_run}
 use Rattle.filter_tree.specs.ClaimBook.{RowValue, are_numbered, claim_in}
 use Rattle.filter_tree.specs.declared.claim.Claim.{Claim}
-use Rattle.filter_tree.specs.Claims.{claim_for, claim_seen, first_row, is_for, is_numbered}
+use Rattle.filter_tree.specs.Claims.{claim_for, claim_handler, claim_seen, first_row, is_for, is_numbered}
 use Rattle.filter_tree.specs.Laws.{FirstIsNumbered}
 use Rattle.world_model.specs.declared.life.Life.{Life}
 use Rattle.world_model.specs.declared.life.Life.TheVariants.{Live, Dead}
@@ -23,9 +24,8 @@ use Rattle.revocation_book.specs.Pending.{asked}
 use Rattle.revocation_book.specs.RevocationBook.{pending_at}
 use Rattle.world_model.specs.Event.{arrives, asks, delivers, revokes, drops_packet, happen, ring_bytes, ring_left, signals}
 use Rattle.world_model.specs.Item.{Asked, Line, Packet, absorb_all}
-use Rattle.world_model.specs.Rings as ring
 use Rattle.world_model.specs.Post.{asked_for, counted as counted_word}
-use Rattle.world_model.specs.Rings.{received, received_in, ring_after, ring_of}
+use Rattle.world_model.specs.Rings.{Handles, Loses, Queues, Reception, page_left, received, received_as, received_by, received_in, reception, ring_of}
 use Rattle.world_model.specs.Solo.{Solo, Physical, bytes_of, is_dead}
 use Rattle.world_model.specs.World.{after, is_living, no_change, tells}
 use Rattle.board_world.specs.declared.roster.Environment.{Environment}
@@ -34,11 +34,12 @@ use Rattle.board_world.specs.Rings.{ring_in}
 use Rattle.board_world.specs.Shown.{Shown}
 use Rattle.board_world.specs.Showing.{book_of, solo_of, solo_or_absent, solo_seen, world_of}
 use Rattle.board_world.specs.Sound.{IsLive, IsSound, has_own_page}
-use Rattle.board_world.specs.Doing.{arrived_by, asked_by, revoked, context_of, counted_for, delivered_if, delivered_to, dropped_packet, happened, signalled, signalled_to}
+use Rattle.board_world.specs.Doing.{arrived_by, asked_by, revoked, context_of, counted_for, delivered_by, delivered_if, delivered_to, dropped_packet, handled, happened, replying, signalled, signalled_to}
 use Rattle.board_world.proofs.Asked.{nothing_pending, pending_set}
-use Rattle.board_world.proofs.Lists.{get_within}
+use Rattle.board_world.proofs.Lists.{get_within, length-changed}
 use Rattle.board_world.proofs.Claimed.{claims_turned, found_owned, found_without, ring_found}
 use Rattle.board_world.proofs.Delivering as delivering
+use Rattle.board_world.proofs.Mappings.{kept_mappings}
 use Rattle.board_world.proofs.Parts.{append_nothing, by_env, one_absorbed, set_else, set_here, worlds}
 use Rattle.board_world.proofs.Phases.{quiet_world}
 use Rattle.page_sight.proofs.Tables.{set_same}
@@ -48,6 +49,7 @@ use Rattle.board_world.proofs.Seen.{like_solo, live_record, row_there}
 use Rattle.board_world.proofs.Serving.{Leaves}
 use Rattle.board_world.proofs.Slots.{is_there}
 use Rattle.board_world.proofs.Slotted.{both_true}
+use Rattle.board_world.proofs.Sound.{keeps_replying}
 use Rattle.board_world.proofs.Staying.{sound_frames}
 use Rattle.board_world.proofs.Stepping.{owner_is}
 
@@ -146,14 +148,19 @@ module _ (law : FirstIsNumbered) (b : Shown) (sound : IsSound b) (numbered : are
   same_page : bytes_of before (Physical page) ≡ page_at counted.frames page
   same_page = ap (λ (s : Solo). bytes_of s (Physical page)) (sym seen_counted) ∙ ring_shown counted refl at
 
-  -- what the packet makes of the ring page
-  abbrev filled : Bool → Option (List ℕ)
-  filled full = if full then None else Some (with_packet (page_at counted.frames page) r.next packet)
+  -- what becomes of the packet at the ring
+  abbrev what : Reception
+  what = received_by r.handler (ring_in r) packet (page_at counted.frames page)
 
-  fills : (full : Bool) → is_full (page_at counted.frames page) r.next ≡ full → (s : Solo) → bytes_of s (Physical page) ≡ page_at counted.frames page → ring_after s (ring_in r) packet ≡ filled full
-  fills full is s same =
-      (λ k. if is_full (same k) r.next then None else Some (with_packet (same k) r.next packet))
-      ∙ ap filled is
+  receives : (s : Solo) → bytes_of s (Physical page) ≡ page_at counted.frames page → reception s (ring_in r) packet ≡ what
+  receives s same = ap (received_by r.handler (ring_in r) packet) same
+
+  -- where no handler takes it
+  abbrev queued_if : Bool → Reception
+  queued_if full = if full then Loses else Queues (with_packet (page_at counted.frames page) r.next packet)
+
+  queues : (full : Bool) → r.handler ≡ None → is_full (page_at counted.frames page) r.next ≡ full → what ≡ queued_if full
+  queues full none is = ap (λ h. received_by h (ring_in r) packet (page_at counted.frames page)) none ∙ ap queued_if is
 
   -- the claim, as its environment has it
   its_ring : ring_of before.rings id ≡ Some (ring_in r)
@@ -162,50 +169,70 @@ module _ (law : FirstIsNumbered) (b : Shown) (sound : IsSound b) (numbered : are
   live_before : before ≡ record (solo_seen b e x) { life = Live }
   live_before = ap (solo_or_absent b e) at ∙ (λ k. record (solo_seen b e x) { life = lives k })
 
-  takes : (full : Bool) → is_full (page_at counted.frames page) r.next ≡ full → absorb_all before (Packet id packet ∷ []) ≡ ring.put_in_ring (ring_in r) (filled full) (counted_word post.Packets before)
-  takes full is =
+  takes : absorb_all before (Packet id packet ∷ []) ≡ received_as (ring_in r) what (counted_word post.Packets before)
+  takes =
       ap (λ (s : Solo). absorb_all s (Packet id packet ∷ [])) live_before
       ∙ ap (received id packet) (sym live_before)
       ∙ ap (λ o. received_in o packet (counted_word post.Packets before)) its_ring
-      ∙ ap (λ o. ring.put_in_ring (ring_in r) o (counted_word post.Packets before)) (fills full is (counted_word post.Packets before) same_page)
+      ∙ ap (λ o. received_as (ring_in r) o (counted_word post.Packets before)) (receives (counted_word post.Packets before) same_page)
 
   -- what the others are given
-  leaves : (full : Bool) → is_full (page_at counted.frames page) r.next ≡ full → ring_bytes before (ring_of before.rings id) packet ≡ filled full
-  leaves full is = ap (λ o. ring_bytes before o packet) its_ring ∙ fills full is before same_page
+  leaves : ring_bytes before (ring_of before.rings id) packet ≡ page_left what
+  leaves = ap (λ o. ring_bytes before o packet) its_ring ∙ ap page_left (receives before same_page)
 
-  module _ (full : Bool) (is : is_full (page_at counted.frames page) r.next ≡ full) (new : Shown) (here : solo_of new e ≡ ring.put_in_ring (ring_in r) (filled full) (solo_of counted e))
-      (others : (i : ℕ) → i ≢ e → solo_of new i ≡ absorb_all (solo_of b i) (ring_left (book_of b) e page (filled full) i)) where
+  module _ (o : Reception) (is : what ≡ o) (new : Shown) (here : solo_of new e ≡ received_as (ring_in r) o (solo_of counted e))
+      (others : (i : ℕ) → i ≢ e → solo_of new i ≡ absorb_all (solo_of b i) (ring_left (book_of b) e page (page_left o) i)) where
     given : (i : ℕ) → solo_of new i ≡ absorb_all (solo_of b i) ((delivers r.claim packet (world_of b)).items i)
     given =
         by_env (solo_of new) (λ i. absorb_all (solo_of b i) ((delivers r.claim packet (world_of b)).items i)) e
         (here
-        ∙ ap (ring.put_in_ring (ring_in r) (filled full)) seen_counted
-        ∙ sym (takes full is)
+        ∙ ap (received_as (ring_in r) o) seen_counted
+        ∙ ap (λ p. received_as (ring_in r) p (counted_word post.Packets before)) (sym is)
+        ∙ sym takes
         ∙ ap (absorb_all before) (sym (set_here e (Packet id packet ∷ []) (ring_left (book_of b) e page (ring_bytes before (ring_of before.rings id) packet)))))
         (λ i ne.
         others i ne
-        ∙ ap (λ o. absorb_all (solo_of b i) (ring_left (book_of b) e page o i)) (sym (leaves full is))
+        ∙ ap (λ p. absorb_all (solo_of b i) (ring_left (book_of b) e page (page_left p) i)) (sym is)
+        ∙ ap (λ p. absorb_all (solo_of b i) (ring_left (book_of b) e page p i)) (sym leaves)
         ∙ ap (absorb_all (solo_of b i)) (sym (set_else e i (Packet id packet ∷ []) (ring_left (book_of b) e page (ring_bytes before (ring_of before.rings id) packet)) ne)))
 
+  its_handler : claim_handler b.claims id ≡ r.handler
+  its_handler = ap (λ o. option_flatten (option_map (λ (y : RowValue). y.handler) o)) first
+
   delivered_world : world_of (delivered_to b (claim_seen r) packet) ≡ after (world_of b) (delivers r.claim packet (world_of b))
-  delivered_world = by_full (is_full (page_at counted.frames page) r.next) refl
+  delivered_world = ap (λ h. world_of (delivered_by h counted (claim_seen r) packet)) its_handler ∙ by_handler r.handler refl
     where
-      by_full : (full : Bool) → is_full (page_at counted.frames page) r.next ≡ full → world_of (delivered_if full counted (claim_seen r) packet) ≡ after (world_of b) (delivers r.claim packet (world_of b))
-      by_full true is =
+      by_full : (full : Bool) → r.handler ≡ None → is_full (page_at counted.frames page) r.next ≡ full → world_of (delivered_if full counted (claim_seen r) packet) ≡ after (world_of b) (delivers r.claim packet (world_of b))
+      by_full true none is =
           worlds (world_of (delivered_if true counted (claim_seen r) packet)) (after (world_of b) (delivers r.claim packet (world_of b))) refl refl
-          (given true is (delivered_if true counted (claim_seen r) packet)
+          (given Loses (queues true none is) (delivered_if true counted (claim_seen r) packet)
           (counted_seen counted sound_counted e x at lives post.Lost)
           (λ i ne. counted_others counted sound_counted e x at lives post.Lost i ne ∙ counted_others b sound e x at lives post.Packets i ne))
           (sym (append_nothing b.ledger.rows))
-      by_full false is =
+      by_full false none is =
           let bytes = with_packet (page_at counted.frames page) r.next packet in
           worlds (world_of (delivered_if false counted (claim_seen r) packet)) (after (world_of b) (delivers r.claim packet (world_of b)))
           (λ k. record (book_of b) { claims = claims_turned b.claims id k }) refl
-          (given false is (delivered_if false counted (claim_seen r) packet)
+          (given (Queues bytes) (queues false none is) (delivered_if false counted (claim_seen r) packet)
           (delivering.ring_filled law counted sound_counted numbered r first own x at lives bytes)
           (λ i ne. delivering.ring_left law counted sound_counted numbered r first own x at lives bytes i ne
           ∙ ap (λ (s : Solo). absorb_all s (ring_left (book_of b) e page (Some bytes) i)) (counted_others b sound e x at lives post.Packets i ne)))
           (sym (append_nothing b.ledger.rows))
+
+      by_run : (run : HandlerRun) → what ≡ Handles run.page run.replies → world_of (handled counted (claim_seen r) run) ≡ after (world_of b) (delivers r.claim packet (world_of b))
+      by_run run is =
+          worlds (world_of (handled counted (claim_seen r) run)) (after (world_of b) (delivers r.claim packet (world_of b)))
+          (λ k. record (book_of b) { kept = λ i. kept_mappings (replying run.replies) (keeps_replying run.replies) b.roster.list e i k })
+          (length-changed (replying run.replies) b.roster.list e)
+          (given (Handles run.page run.replies) is (handled counted (claim_seen r) run)
+          (delivering.run_here counted sound_counted r own x at lives run)
+          (λ i ne. delivering.run_else counted sound_counted r own x at lives run i ne
+          ∙ ap (λ (s : Solo). absorb_all s (ring_left (book_of b) e page (Some run.page) i)) (counted_others b sound e x at lives post.Packets i ne)))
+          (sym (append_nothing b.ledger.rows))
+
+      by_handler : (h : Option (List ℕ)) → r.handler ≡ h → world_of (delivered_by h counted (claim_seen r) packet) ≡ after (world_of b) (delivers r.claim packet (world_of b))
+      by_handler None none = by_full (is_full (page_at counted.frames page) r.next) none refl
+      by_handler (Some words) some = by_run (handler_run words packet id (page_at counted.frames page)) (ap (λ h. received_by h (ring_in r) packet (page_at counted.frames page)) some)
 
 arrived_world : FirstIsNumbered → (b : Shown) (packet : List ℕ) → IsSound b → are_numbered 0 b.claims.next b.claims.rows ≡ true → (o : Option RowValue) → first_row (is_for packet) b.claims ≡ o → world_of (arrived_by b packet (option_map claim_seen o)) ≡ after (world_of b) (arrives packet (option_map claim_in o) (world_of b))
 arrived_world law b packet sound numbered None found = dropped_world b packet
@@ -319,9 +346,13 @@ happened_leaves b (outside.Packet packet) = by_claim (claim_for b.claims packet)
     by_full c true = record { room = omega arith; spare = refl; time = refl; numbers = omega arith }
     by_full c false = record { room = omega arith; spare = refl; time = refl; numbers = omega arith }
 
+    by_handler : (c : Claim) (h : Option (List ℕ)) → Leaves b (delivered_by h (counted_for b post.Packets c.env) c packet)
+    by_handler c None = by_full c (is_full (page_at (counted_for b post.Packets c.env).frames c.page) c.next)
+    by_handler c (Some words) = record { room = omega arith; spare = refl; time = refl; numbers = omega arith }
+
     by_claim : (o : Option Claim) → Leaves b (arrived_by b packet o)
     by_claim None = record { room = omega arith; spare = refl; time = refl; numbers = omega arith }
-    by_claim (Some c) = by_full c (is_full (page_at (counted_for b post.Packets c.env).frames c.page) c.next)
+    by_claim (Some c) = by_handler c (claim_handler b.claims c.id)
 happened_leaves b (outside.Line line) = by_owner (line_at b.lines line)
   where
     by_owner : (owner : Option ℕ) → Leaves b (signalled_to b line owner)

@@ -34,6 +34,7 @@ pub mod Reading
 pub mod Repossessing
 pub mod Replying
 pub mod Seen
+pub mod Sending
 pub mod Serving
 pub mod SlotServing
 pub mod Slots

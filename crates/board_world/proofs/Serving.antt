@@ -5,7 +5,7 @@ use Rattle.mips_exec.specs.Cpu.{reg}
 use Rattle.world_model.specs.declared.call.Call.{Call}
 use Rattle.world_model.specs.declared.code.Code.{Code}
 use Rattle.world_model.specs.declared.call.Deed.{Deed}
-use Rattle.world_model.specs.declared.call.Deed.TheVariants.{Answers, Own, Stops, Gives, Allocates, Frees, Recaps, Binds, Unbinds, Transfers, TakesSlot, DropsSlot, TakesLine, DropsLine, Claims, Unclaims, Loads}
+use Rattle.world_model.specs.declared.call.Deed.TheVariants.{Answers, Own, Stops, Gives, Allocates, Frees, Recaps, Binds, Unbinds, Transfers, TakesSlot, DropsSlot, TakesLine, DropsLine, Claims, Unclaims, Downloads, Loads}
 use Rattle.world_model.specs.declared.life.Life.TheVariants.{Live}
 use Rattle.world_model.specs.declared.life.Cause.{Cause}
 use Rattle.world_model.specs.declared.life.Cause.TheVariants as cause
@@ -24,6 +24,8 @@ use Rattle.world_model.specs.Tick as tick
 use Rattle.world_model.specs.Verdict.{done, reply_of, verdict, verdict_now}
 use Rattle.world_model.specs.World.{World, after, only, tells}
 use Rattle.call_verdicts.specs.Granted.{GrantedMay}
+use Rattle.filter_tree.specs.ClaimBook.{are_numbered}
+use Rattle.filter_tree.specs.Laws.{FirstIsNumbered}
 use Rattle.board_world.specs.declared.roster.Environment.{Environment}
 use Rattle.board_world.specs.Shown.{Shown}
 use Rattle.board_world.specs.Showing.{world_of, solo_of}
@@ -38,13 +40,13 @@ use Rattle.board_world.proofs.Phases.{called_still}
 use Rattle.board_world.proofs.Replying.{alone, answers, deeded, granted_serves, refuses}
 pub use Rattle.board_world.proofs.Replying.{Serves, told}
 pub use Rattle.board_world.proofs.Dying.{died_serves, hold_at-map}
-use Rattle.board_world.proofs.ClaimServing.{claims, unclaims}
+use Rattle.board_world.proofs.ClaimServing.{claims, downloads, unclaims}
 use Rattle.board_world.proofs.GiftServing.{gives, stops_itself}
 use Rattle.board_world.proofs.LineServing.{drops_line, loads_page, takes_line}
 use Rattle.board_world.proofs.SlotServing.{drops, takes}
 use Rattle.board_world.proofs.TransferServing.{entered_room, transfers}
 
-module _ (b : Shown) (e : ℕ) (x : Environment) (r : Runs b e x) (sound : IsSound b) where
+module _ (b : Shown) (e : ℕ) (x : Environment) (r : Runs b e x) (sound : IsSound b) (unique : FirstIsNumbered) (numbered : are_numbered 0 b.claims.next b.claims.rows ≡ true) where
   -- each deed
   does : (d : Deed) (v : ℕ) → May (world_of b) e d → Serves b e (deeded d v (solo_of b e)) (done (world_of b) e d) (doing.granted b e v d)
   does Answers v may = answers b e x r v
@@ -63,6 +65,7 @@ module _ (b : Shown) (e : ℕ) (x : Environment) (r : Runs b e x) (sound : IsSou
   does (DropsLine line) v may = drops_line b e x r sound line v may
   does (Claims claim address atoms page) v may = claims b e x r sound claim address atoms page v may
   does (Unclaims claim) v may = unclaims b e x r sound claim v
+  does (Downloads claim address words) v may = downloads b e x r sound unique numbered claim address words v may
   does (Loads page) v may = loads_page b e x r sound page v
 
   -- each verdict on a call
@@ -79,10 +82,10 @@ module _ (b : Shown) (e : ℕ) (x : Environment) (r : Runs b e x) (sound : IsSou
   call_serves law false = judged law (verdict (world_of b) e (called b.cpu)) refl
 
 -- What is shown after a call, apart from a tick.
-pub called_world : GrantedMay → (b : Shown) (e : ℕ) → IsSound b → running b.slots.runner ≡ Some e → world_of (doing.called_by b e) ≡ tick.called_world (world_of b) e
-called_world law b e sound runs =
+pub called_world : GrantedMay → FirstIsNumbered → (b : Shown) (e : ℕ) → IsSound b → are_numbered 0 b.claims.next b.claims.rows ≡ true → running b.slots.runner ≡ Some e → world_of (doing.called_by b e) ≡ tick.called_world (world_of b) e
+called_world law unique b e sound numbered runs =
     let x = runner_runs b e sound runs in
-    alone b e (call_act b.cpu) (doing.called_by b e) (call_serves b e x.0 x.1 sound law (reg b.cpu 2 == exit_number))
+    alone b e (call_act b.cpu) (doing.called_by b e) (call_serves b e x.0 x.1 sound unique numbered law (reg b.cpu 2 == exit_number))
     ∙ ap (λ (s : Solo). tick.act_world (world_of b) e (call_act s.cpu)) (sym (runner_seen b e x.0 x.1))
 
 -- and after a death
@@ -115,10 +118,10 @@ module _ (w : World) (e : ℕ) (lives : (w.solos e).life ≡ Live) (why : Code) 
       by_exit true is = cc
       by_exit false is = let named : verdict w e (called (w.solos e).cpu) ≡ Refuse why v = cc in refusal_world (called (w.solos e).cpu) named
 
-pub refused_world : GrantedMay → (b : Shown) (e : ℕ) (why : Code) (v : ℕ) → IsSound b → running b.slots.runner ≡ Some e → verdict_now (world_of b) e ≡ Some (Refuse why v) → world_of (doing.called_by b e) ≡ tick.refused_world (world_of b) e why v
-refused_world law b e why v sound runs is =
+pub refused_world : GrantedMay → FirstIsNumbered → (b : Shown) (e : ℕ) (why : Code) (v : ℕ) → IsSound b → are_numbered 0 b.claims.next b.claims.rows ≡ true → running b.slots.runner ≡ Some e → verdict_now (world_of b) e ≡ Some (Refuse why v) → world_of (doing.called_by b e) ≡ tick.refused_world (world_of b) e why v
+refused_world law unique b e why v sound numbered runs is =
     let x = runner_runs b e sound runs in
-    called_world law b e sound runs ∙ refused_is (world_of b) e (ap (λ (s : Solo). s.life) (runner_seen b e x.0 x.1)) why v is
+    called_world law unique b e sound numbered runs ∙ refused_is (world_of b) e (ap (λ (s : Solo). s.life) (runner_seen b e x.0 x.1)) why v is
 
 -- how many rows are written and claims made, and that all environments stay
 pub record Leaves (b new : Shown) : Type 0 where
@@ -144,6 +147,7 @@ deed_leaves b e v (TakesLine line) = record { room = omega arith; spare = refl; 
 deed_leaves b e v (DropsLine line) = record { room = omega arith; spare = refl; time = refl; numbers = omega arith }
 deed_leaves b e v (Claims claim address atoms page) = record { room = omega arith; spare = refl; time = refl; numbers = omega arith }
 deed_leaves b e v (Unclaims claim) = record { room = omega arith; spare = refl; time = refl; numbers = omega arith }
+deed_leaves b e v (Downloads claim address words) = record { room = omega arith; spare = refl; time = refl; numbers = omega arith }
 deed_leaves b e v (Loads page) = record { room = omega arith; spare = refl; time = refl; numbers = omega arith }
 
 verdict_leaves : (b : Shown) (e : ℕ) (c : Option Call) (which : Verdict) → Leaves b (doing.served_by b e c which)

@@ -27,7 +27,7 @@ use Rattle.world_model.specs.declared.life.Cause.{Cause}
 use Rattle.board_world.specs.declared.roster.Environment.{Environment}
 use Rattle.board_world.specs.Shown.{Environments, changed, with_list}
 use Rattle.board_world.specs.Sound.{HasNoPart, IsAlive, IsLive, IsUndead, IsManned}
-use Rattle.board_world.specs.Doing.{accepting, putting, sending, settled, with_registers, handling, dead_frame}
+use Rattle.board_world.specs.Doing.{accepting, putting, replying, sending, settled, with_registers, handling, dead_frame}
 use Rattle.board_world.proofs.Lists.{changed_else, length-changed}
 use Rattle.board_world.proofs.Seen.{runner_live}
 
@@ -147,6 +147,9 @@ keeps_putting bytes = record { life = λ x. refl; mappings = λ x. refl }
 
 pub keeps_sending : (bytes : List ℕ) → Keeps (sending bytes)
 keeps_sending bytes = record { life = λ x. refl; mappings = λ x. refl }
+
+pub keeps_replying : (replies : List (List ℕ)) → Keeps (replying replies)
+keeps_replying replies = record { life = λ x. refl; mappings = λ x. refl }
 
 pub if_both : {A : Type 0} {P Q : A → Type 0} (x : Option A) → ((a : A) → x ≡ Some a → P a → Q a) → IfSome x P → IfSome x Q
 if_both None f holds = holds

@@ -31,6 +31,8 @@ use Rattle.world_model.specs.Book.{running, sees}
 use Rattle.world_model.specs.Call.{exit_number}
 use Rattle.world_model.specs.Upcalls.{raise}
 use Rattle.call_verdicts.specs.Granted.{GrantedMay}
+use Rattle.filter_tree.specs.ClaimBook.{are_numbered}
+use Rattle.filter_tree.specs.Laws.{FirstIsNumbered}
 use Rattle.world_model.specs.Item.{Item, Step as AStep, absorb, absorb_all}
 use Rattle.world_model.specs.PageCalls.{left_at, left_if}
 use Rattle.world_model.specs.Solo.{Solo, Store, Key, Kept, Physical, bound_place, kept_after, place_at, store_of, store_through, stored}
@@ -316,27 +318,27 @@ module _ (b : Shown) (e : ℕ) (x : Environment) (r : Runs b e x) (sound : IsSou
       by_test false some = rw some (raised_serves exc)
 
   -- whatever the step comes to
-  came : GrantedMay → (st : Step) → step_alone (runner_solo b e x) ≡ st → world_of (came_to b e st) ≡ stepping (act_of (runner_solo b e x) st)
-  came law (Retired cpu w) at = retired cpu w at
-  came law Called at =
+  came : GrantedMay → FirstIsNumbered → are_numbered 0 b.claims.next b.claims.rows ≡ true → (st : Step) → step_alone (runner_solo b e x) ≡ st → world_of (came_to b e st) ≡ stepping (act_of (runner_solo b e x) st)
+  came law unique numbered (Retired cpu w) at = retired cpu w at
+  came law unique numbered Called at =
       let act = call_act b.cpu in
-      told b e AStep act (called_by b e) (call_serves b e x r sound law (reg b.cpu 2 == exit_number)) (acts Called at refl)
-  came law (Trapped exc) at =
+      told b e AStep act (called_by b e) (call_serves b e x r sound unique numbered law (reg b.cpu 2 == exit_number)) (acts Called at refl)
+  came law unique numbered (Trapped exc) at =
       let act = trap_act x.env.handlers.exception exc in
       told b e AStep act (trapped b e exc) (trapped_serves exc) (acts (Trapped exc) at refl)
 
-  stepped_alone : GrantedMay → (o : Option Runner) → running o ≡ Some e → world_of (came_to b e (step_seen b e)) ≡ after (world_of b) (tick.step_when (world_of b) o)
-  stepped_alone law None is = cc
-  stepped_alone law (Some runner) is =
+  stepped_alone : GrantedMay → FirstIsNumbered → are_numbered 0 b.claims.next b.claims.rows ≡ true → (o : Option Runner) → running o ≡ Some e → world_of (came_to b e (step_seen b e)) ≡ after (world_of b) (tick.step_when (world_of b) o)
+  stepped_alone law unique numbered None is = cc
+  stepped_alone law unique numbered (Some runner) is =
       let same : e ≡ runner.env = cc in
-      came law (step_seen b e) (sym (its_step b e x r sound))
+      came law unique numbered (step_seen b e) (sym (its_step b e x r sound))
       ∙ ap (λ st. stepping (act_of (runner_solo b e x) st)) (its_step b e x r sound)
       ∙ ap (λ (s : Solo). stepping (act_of s (step_alone s))) (sym (runner_seen b e x r))
       ∙ ap (λ n. after (world_of b) (in_turn (tells n AStep ∷ tick.brings n (tick.act_now (world_of b) n) ∷ []) (world_of b))) same
 
 -- The same of any board.
-pub stepped_world : GrantedMay → (b : Shown) (e : ℕ) → IsSound b → running b.slots.runner ≡ Some e → world_of (came_to b e (step_seen b e)) ≡ after (world_of b) (tick.step (world_of b))
-stepped_world law b e sound runs = let x = runner_runs b e sound runs in stepped_alone b e x.0 x.1 sound law b.slots.runner runs
+pub stepped_world : GrantedMay → FirstIsNumbered → (b : Shown) (e : ℕ) → IsSound b → are_numbered 0 b.claims.next b.claims.rows ≡ true → running b.slots.runner ≡ Some e → world_of (came_to b e (step_seen b e)) ≡ after (world_of b) (tick.step (world_of b))
+stepped_world law unique b e sound numbered runs = let x = runner_runs b e sound runs in stepped_alone b e x.0 x.1 sound law unique numbered b.slots.runner runs
 
 pub came_leaves : (b : Shown) (e : ℕ) (st : Step) → IsSound b → running b.slots.runner ≡ Some e → Leaves b (came_to b e st)
 came_leaves b e (Retired cpu w) sound runs = record { room = omega arith; spare = refl; time = refl; numbers = omega arith }

@@ -29,18 +29,19 @@ ServingIsServing = (b : Shown) → IsSound b → world_of (deadlines_served b) �
 abbrev pub TurnIsTurn : Type 0
 TurnIsTurn = (b : Shown) → IsSound b → b.roster.spare ≡ 0 → world_of (turned b) ≡ after (world_of b) (tick.turn (world_of b))
 
+-- The claims are numbered apart, so that a handler is downloaded for one alone.
 abbrev pub StepIsStep : Type 0
-StepIsStep = (b : Shown) (e : ℕ) → IsSound b → running b.slots.runner ≡ Some e → world_of (came_to b e (step_seen b e)) ≡ after (world_of b) (tick.step (world_of b))
+StepIsStep = (b : Shown) (e : ℕ) → IsSound b → are_numbered 0 b.claims.next b.claims.rows ≡ true → running b.slots.runner ≡ Some e → world_of (came_to b e (step_seen b e)) ≡ after (world_of b) (tick.step (world_of b))
 
 abbrev pub TimerIsTimer : Type 0
 TimerIsTimer = (b : Shown) → IsSound b → world_of (counted b) ≡ after (world_of b) (tick.timer (world_of b))
 
 abbrev pub CallIsCall : Type 0
-CallIsCall = (b : Shown) (e : ℕ) → IsSound b → running b.slots.runner ≡ Some e → world_of (called_by b e) ≡ tick.called_world (world_of b) e
+CallIsCall = (b : Shown) (e : ℕ) → IsSound b → are_numbered 0 b.claims.next b.claims.rows ≡ true → running b.slots.runner ≡ Some e → world_of (called_by b e) ≡ tick.called_world (world_of b) e
 
 -- a call that the rule refuses is answered so, and nothing else happens
 abbrev pub RefusalIsRefusal : Type 0
-RefusalIsRefusal = (b : Shown) (e : ℕ) (why : Code) (v : ℕ) → IsSound b → running b.slots.runner ≡ Some e → verdict_now (world_of b) e ≡ Some (Refuse why v) → world_of (called_by b e) ≡ tick.refused_world (world_of b) e why v
+RefusalIsRefusal = (b : Shown) (e : ℕ) (why : Code) (v : ℕ) → IsSound b → are_numbered 0 b.claims.next b.claims.rows ≡ true → running b.slots.runner ≡ Some e → verdict_now (world_of b) e ≡ Some (Refuse why v) → world_of (called_by b e) ≡ tick.refused_world (world_of b) e why v
 
 abbrev pub DeathIsDeath : Type 0
 DeathIsDeath = (b : Shown) (e : ℕ) (cause : Cause) → IsSound b → running b.slots.runner ≡ Some e → world_of (died b e cause) ≡ tick.died (world_of b) e cause

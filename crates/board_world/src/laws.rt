@@ -34,6 +34,7 @@ pub fn law_step()
     ensures { StepIsStep }
 {
     law_granted();
+    law_numbered();
 }
 
 /// The timer is the model's.
@@ -46,6 +47,7 @@ pub fn law_call()
     ensures { CallIsCall }
 {
     law_granted();
+    law_numbered();
 }
 
 /// A refused call changes its caller's registers 2 and 3 and where it stands, and nothing else.
@@ -53,6 +55,7 @@ pub fn law_refusal()
     ensures { RefusalIsRefusal }
 {
     law_granted();
+    law_numbered();
 }
 
 /// A death apart from a tick is the model's.

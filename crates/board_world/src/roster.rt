@@ -158,6 +158,14 @@ impl Roster {
         reply_in(&mut self.list, usize::from(env), bytes);
     }
 
+    /// Law: no replies change nothing, since each environment holds at most 256 packets.
+    pub fn law_no_reply(&self, env: u8)
+        requires { env < length self.now.list }
+        ensures { changed (replying []) self.now.list env ≡ self.now.list }
+    {
+        self.sent(env).law_few();
+    }
+
     /// Keeps the registers of the environment of this number.
     pub fn keep(&mut self, env: u8, cpu: &Cpu)
         requires { env < length self.old.list }

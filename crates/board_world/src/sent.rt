@@ -102,4 +102,11 @@ impl Sent {
             self.send(bytes);
         }
     }
+
+    /// Law: it holds at most 256 packets.
+    pub fn law_few(&self)
+        ensures { length self.now ≤ most_sent }
+    {
+        let _ = &self.packets;
+    }
 }
