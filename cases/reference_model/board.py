@@ -7,6 +7,7 @@ import struct
 from collections import Counter
 
 from files import PAGE
+from handlers import FAULT, Run
 from machine import ADEL, ADES, MOD, TLBL, TLBS, WORD, Cpu, Trap
 
 ROWS, LINES = 256, 8
@@ -19,6 +20,7 @@ POST_PACKETS, POST_LOST, POST_LINES = 0x140, 0x144, 0x148
 POST_OUTSTANDING, POST_DEADLINE, POST_TAKINGS, RECORDS = 0x14C, 0x150, 0x17C, 0x180
 MOST_RECORDS, NO_BACKUP, MOST_OUTSTANDING = 64, 0xFFFFFFFF, 0xFFFFFFFF
 BUFFER_SIZE = 0x800  # of which a ring page has two
+MOST_SENT = 256  # packets that an environment sends
 
 
 class Page:
@@ -33,10 +35,10 @@ class Page:
 
 
 class Claim:
-    """A filter, whose it is, the ring page, and how many packets came into the ring."""
+    """A filter, whose it is, the ring page, how many packets came into the ring, and the words of a handler if it has one."""
 
     def __init__(self, number, env, filter_, page):
-        self.number, self.env, self.filter, self.page, self.deliveries = number, env, filter_, page, 0
+        self.number, self.env, self.filter, self.page, self.deliveries, self.handler = number, env, filter_, page, 0, ()
 
 
 class Env:
@@ -80,10 +82,11 @@ class Memory:
             raise Trap(MOD, va)
         return seen[0]
 
-    def load(self, va):
+    def fetch(self, va):
         return word_of(self.board.pages[self.reach(va, False)].data, va % PAGE & ~3)
 
-    fetch = load
+    def load(self, va, width):
+        return self.fetch(va)
 
     def store(self, va, place, data):
         page = self.reach(va, True)
@@ -253,8 +256,7 @@ class Board:
         self.pages[number].release()
         self.break_bindings(number)
         for claim in self.claims_on(number):
-            del self.claims[claim.number]
-            self.seen[f"claims that end with {cause}"] += 1
+            self.withdraw(claim, cause)
 
     def recap(self, number, read, write):
         """A page has other words: the bindings of all but its owner go, and no claim does."""
@@ -346,6 +348,18 @@ class Board:
         self.next_claim += 1
         return number
 
+    def withdraw(self, claim, cause):
+        """A claim stands no more, nor does its handler."""
+        del self.claims[claim.number]
+        self.seen[f"claims that end with {cause}"] += 1
+        self.seen["handlers that end with their claims"] += bool(claim.handler)
+
+    def hear(self, claim, words):
+        """A claim has this handler and no other, or none of no words."""
+        kind = "that are replaced" if words else "that are removed"
+        self.seen[f"handlers {kind}"] += bool(claim.handler)
+        claim.handler = words
+
     def receive(self, packet):
         """A packet comes: it is the lowest claim's that matches it, and nobody's if none does."""
         claim = next((claim for _, claim in sorted(self.claims.items()) if claim.filter.matches(packet)), None)
@@ -354,6 +368,17 @@ class Board:
             self.seen["packets dropped"] += 1
             return
         self.count_up(claim.env, POST_PACKETS)
+        if claim.handler:
+            self.hand_over(claim, packet)
+        else:
+            self.deliver(claim, packet)
+
+    def is_shared(self, claim):
+        """Whether others see the page of a claim."""
+        return any(it[1] == claim.page for env in self.envs if env is not claim.env for it in env.bindings.values())
+
+    def deliver(self, claim, packet):
+        """A packet goes into the buffer whose turn it is, or is lost if that is full."""
         page, buffer = self.pages[claim.page].data, claim.deliveries % 2 * BUFFER_SIZE
         if word_of(page, buffer):
             self.count_up(claim.env, POST_LOST)
@@ -364,8 +389,22 @@ class Board:
         claim.deliveries += 1
         self.seen["packets delivered"] += 1
         self.seen["delivered", len(packet)] += 1
-        if any(it[1] == claim.page for env in self.envs if env is not claim.env for it in env.bindings.values()):
-            self.seen["packets that others see"] += 1
+        self.seen["packets that others see"] += self.is_shared(claim)
+
+    def hand_over(self, claim, packet):
+        """The handler runs over a packet and the ring page, and its replies are sent as far as there is room."""
+        run = Run(claim.handler, packet, claim.number, self.pages[claim.page].data)
+        room = MOST_SENT - len(claim.env.sent)
+        claim.env.sent += run.replies[:room]
+        self.seen["packets that handlers take"] += 1
+        self.seen["packets that handlers take over a page that others see"] += self.is_shared(claim)
+        self.seen["replies"] += len(run.replies[:room])
+        self.seen["replies without room"] += len(run.replies[room:])
+        self.seen["runs of handlers with stores"] += run.memory.stores > 0
+        if run.end == FAULT:
+            self.seen[f"runs of handlers that end with a bad {run.why}"] += 1
+            self.seen["runs of handlers that end with a fault behind a store"] += run.memory.stores > 0
+            self.seen["runs of handlers that end with a fault behind a reply"] += bool(run.replies)
 
     def signal(self, line):
         """A line is raised: its owner, if it has one, finds the line's bit set."""

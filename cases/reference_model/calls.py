@@ -2,12 +2,15 @@
 
 It raises Refused for the first cause that holds, or does what is asked and answers the value.
 """
-from board import ASYNCHRONOUS, LINES, ROWS, SYNCHRONOUS
+import struct
+
+from board import ASYNCHRONOUS, LINES, MOST_SENT, ROWS, SYNCHRONOUS
 from files import MOST_PACKET, PAGE
 from filters import BYTES_OF_ATOM, read_filter
+from handlers import MOST_WORDS, first_bad
 
 ANY, USER_VPNS = 0xFFFFFFFF, 0x80000
-MOST_CONSOLE, MOST_ATOMS, MOST_CLAIMS, MOST_BACKUPS, MOST_SENT, LEAST_SENT = 65536, 16, 8, 64, 256, 14
+MOST_CONSOLE, MOST_ATOMS, MOST_CLAIMS, MOST_BACKUPS, LEAST_SENT = 65536, 16, 8, 64, 14
 
 (NO_PAGE, TAKEN, NONE_FREE, NOT_OWNER, NO_RIGHT, BAD_VPN, GUARANTEED, NO_ENV, NOT_ACCEPTED, NO_SLICE, SLOT_TAKEN, NOT_HOLDER, BAD_FILTER, OVERLAP,
  NO_FILTER, BAD_HANDLER, LINE_TAKEN, CONSOLE_FULL, FULL, BAD_CALL, BAD_POINTER) = range(1, 22)
@@ -194,10 +197,28 @@ def claim(board, env, address, atoms, number, *_):
     return board.claim(env, filter_, number)
 
 
-def unclaim(board, env, number, *_):
+def own_claim(board, env, number):
+    """A claim of the caller's that stands."""
     held = board.claims.get(number)
     refuse_if(not held or held.env is not env, NO_FILTER)
-    del board.claims[number]
+    return held
+
+
+def unclaim(board, env, number, *_):
+    board.withdraw(own_claim(board, env, number), "an unclaim")
+    return 0
+
+
+def handler(board, env, number, address, length, *_):
+    held, words = own_claim(board, env, number), ()
+    if length > MOST_WORDS:
+        raise Refused(BAD_HANDLER, MOST_WORDS)
+    if length:
+        words = struct.unpack(f"<{length}I", read_range(board, env, address, 4 * length))
+        bad = first_bad(words)
+        if bad is not None:
+            raise Refused(BAD_HANDLER, bad)
+    board.hear(held, words)
     return 0
 
 
@@ -240,7 +261,7 @@ def clock(board, env, *_):
 EXIT = 2
 CALLS = {
     0: give_up, 1: put, 3: alloc, 4: free, 5: recap, 6: bind, 7: unbind, 8: context, 9: accept, 10: transfer, 11: take_slot, 12: drop_slot,
-    13: query, 14: claim, 15: unclaim, 17: line, 18: backup, 19: send, 20: own_number, 21: clock,
+    13: query, 14: claim, 15: unclaim, 16: handler, 17: line, 18: backup, 19: send, 20: own_number, 21: clock,
 }
 
 

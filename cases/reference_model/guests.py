@@ -4,6 +4,7 @@ outside.
 The programs are those of cases/random_systems with more blocks:
 
 - claims of filters, into a page that was allocated and is mostly bound, and claims that are withdrawn;
+- handlers that are given for claims, good and bad ones (handler_words.py), that are replaced and removed;
 - reads of a ring, with and without a zero in the length word afterwards, and stores into pages that may be another's ring;
 - lines that are taken and dropped, and packets that are sent;
 - pages that are allocated by loops, bound, stored to and loaded as backups; that are given back where the context page says
@@ -23,9 +24,11 @@ sys.path.append(os.path.join(os.path.dirname(os.path.abspath(__file__)), "..", "
 from systems import (A0, A1, ALLOC, ANY, AREA, BASE, BIND, CONTEXTS, COUNTER, EXCEPTIONS, EXIT, FREE, NOP, OPCODES, PAGE, PAGES, POINTER, PUT, ROUNDS,
                      SCRATCH, SYSCALL, V0, V1, ZERO, Program, addiu, immediate, ori, register)
 
-CLAIM, UNCLAIM, LINE, BACKUP, SEND = 14, 15, 17, 18, 19
+from handler_words import Handlers
+
+CLAIM, UNCLAIM, HANDLER, LINE, BACKUP, SEND = 14, 15, 16, 17, 18, 19
 CLAIMED, CODES, VALUES = 28, 30, 31  # the registers that have the number of a claim, and sums of all answers
-DATA, LOOP_FILTER, PACKETS = BASE + PAGE, BASE + PAGE + 0x700, BASE + PAGE + 0x800
+DATA, HANDLERS, LOOP_FILTER, PACKETS = BASE + PAGE, BASE + PAGE + 0x3D0, BASE + PAGE + 0x700, BASE + PAGE + 0x800
 LONGEST, MOST_WORDS = 1514, 720
 RINGS, OTHERS = (0x500, 0x501, 0x502), (0x101, 0x103, 0x104)  # the VPNs at which rings, and pages of others, are bound
 POSTS = range(AREA + 0x140, AREA + 0x14C, 4)
@@ -126,6 +129,14 @@ class Guest(Program):
             self.filters.append((place, len(atoms)))
             place += 12 * len(atoms)
         self.keep(LOOP_FILTER, atoms_in_memory(((0, 1, 0xFF, number), (1, 1, 0xFF, 0))))
+        self.handlers, place = [], HANDLERS
+        makes = Handlers(chance)
+        while place < LOOP_FILTER - 0x100:
+            words = makes.words() if self.handlers else makes.loud()
+            place += chance.choice((0, 0, 1, 2))
+            self.keep(place, struct.pack(f"<{len(words)}I", *words))
+            self.handlers.append((place, len(words)))
+            place += 4 * len(words)
 
     def call(self, number, *arguments):
         """A kernel call, whose answer is added to the sums, so that it shows in the report."""
@@ -166,6 +177,31 @@ class Guest(Program):
             self.load_number(POINTER, self.chance.choice(self.rings) * PAGE)
             self.add(*(immediate(OPCODES["sw"], POINTER, ZERO, place) for place in (0, 0x800)))
 
+    def handle_packets(self):
+        """Gives a claim a handler, mostly one that the program has, and mostly the claim of which it knows; or removes one."""
+        address, length = self.chance.choice(self.handlers)
+        kind = self.chance.random()
+        if kind < 0.12:
+            length = 0
+        elif kind < 0.17:
+            length = self.chance.choice((65, 66, ANY, 0x40000000))
+        elif kind < 0.23:
+            address, length = self.chance.choice((DATA + PAGE - 8, 0x10000000, 0x80000000, ANY)), self.chance.choice((3, 64))
+        elif kind < 0.26:
+            length = max(1, length - 1)
+        self.call(HANDLER, [CLAIMED] if self.chance.random() < 0.9 else self.chance.choice((*range(10), ANY)), address, length)
+
+    def fill_up(self):
+        """Sends as many packets as are held but a few, and has a handler reply more."""
+        self.settle()
+        self.add(ori(COUNTER, ZERO, self.chance.choice((248, 253, 256))))
+        self.load_number(A0, PACKETS)
+        self.add(ori(A1, ZERO, 14))
+        start = len(self.words)
+        self.add(ori(V0, ZERO, SEND), SYSCALL)
+        self.branch_back(5, COUNTER, ZERO, start, addiu(COUNTER, COUNTER, -1))
+        self.call(HANDLER, [CLAIMED], *self.handlers[0])
+
     def claim_bound(self):
         """Claims a filter that stands in a page which is bound, and not in one of its own."""
         if not self.has_handler and not self.rings:
@@ -190,6 +226,8 @@ class Guest(Program):
         self.ring_pages.append(register_)
         self.bind_ring([register_])
         self.claim_with([register_])
+        if self.chance.random() < 0.25:
+            self.handle_packets()
 
     def nine(self):
         """Nine claims that don't overlap each other."""
@@ -347,9 +385,9 @@ class Guest(Program):
 
     def unknown(self):
         """Calls that there aren't, with arguments that would make sense."""
-        self.call(self.chance.choice((16, 22)), [CLAIMED] if self.chance.random() < 0.5 else self.held(), PACKETS, 4)
+        self.call(self.chance.choice((22, 23, 0x10010)), [CLAIMED] if self.chance.random() < 0.5 else self.held(), PACKETS, 4)
 
-    BLOCKS = (*Program.BLOCKS, (claim, 10), (claim_bound, 2), (nine, 0.7), (unclaim, 3), (drain, 10), (empty, 6), (meddle, 14), (look, 3),
+    BLOCKS = (*Program.BLOCKS, (claim, 10), (claim_bound, 2), (nine, 0.7), (unclaim, 3), (handle_packets, 6), (drain, 10), (empty, 6), (meddle, 14), (look, 3),
               (line, 9), (send, 5), (flood, 0.5), (hoard, 6), (load, 6), (load_many, 2), (give_back, 7), (recover, 6), (count_anew, 2), (grab, 4),
               (unknown, 1), (Program.wait, 3))
 
@@ -361,6 +399,8 @@ class Guest(Program):
             self.handle(kind)
         for _ in range(self.chance.choice((0, 1, 1, 2, 2))):
             self.settle()
+        if self.chance.random() < 0.05:
+            self.fill_up()
         for page in self.chance.sample(PAGES, self.chance.randrange(2)):
             self.call(ALLOC, ANY, *self.words_given())
             self.add(register(37, V1, ZERO, page))

@@ -1,7 +1,8 @@
 """The R3000 of a user's program, one step at a time: docs/MACHINE.md.
 
-Memory is given by an object with three methods, which raise a Trap where there is none: fetch(va) and load(va) answer the
-aligned word that has the address, and store(va, place, data) puts bytes at a place within that word.
+Memory is given by an object with three methods, which raise a Trap where there is none: fetch(va) answers the word at the
+address; load(va, width) the aligned word that has the address, of which so many bytes from there on are read; and
+store(va, place, data) puts bytes at a place within that word.
 """
 from functools import lru_cache
 
@@ -247,7 +248,7 @@ def load(cpu, it, memory):
     width = WIDTHS[it.opcode]
     va = address(cpu, it, width, ADEL)
     bits = 8 * width
-    value = memory.load(va) >> 8 * (va % 4) & (1 << bits) - 1
+    value = memory.load(va, width) >> 8 * (va % 4) & (1 << bits) - 1
     if it.opcode in (32, 33) and value >> bits - 1:
         value -= 1 << bits
     cpu.set(it.rt, value)
@@ -256,13 +257,13 @@ def load(cpu, it, memory):
 def lwl(cpu, it, memory):
     va = address(cpu, it, 1, ADEL)
     by = 24 - 8 * (va % 4)
-    cpu.set(it.rt, memory.load(va) << by | cpu.regs[it.rt] & (1 << by) - 1)
+    cpu.set(it.rt, memory.load(va, 1) << by | cpu.regs[it.rt] & (1 << by) - 1)
 
 
 def lwr(cpu, it, memory):
     va = address(cpu, it, 1, ADEL)
     by = 8 * (va % 4)
-    cpu.set(it.rt, memory.load(va) >> by | cpu.regs[it.rt] & ~(WORD >> by))
+    cpu.set(it.rt, memory.load(va, 1) >> by | cpu.regs[it.rt] & ~(WORD >> by))
 
 
 def store(cpu, it, memory):
