@@ -1,0 +1,4 @@
+done:
+.data
+all:    .half 0, 1              # a byte, of any value
+        .word 0, 0

@@ -1,0 +1,2 @@
+stay:   b    stay
+        nop
