@@ -20,6 +20,7 @@ enum aegis_number {
     AEGIS_QUERY = 13,
     AEGIS_CLAIM = 14,
     AEGIS_UNCLAIM = 15,
+    AEGIS_HANDLER = 16,
     AEGIS_LINE = 17,
     AEGIS_BACKUP = 18,
     AEGIS_SEND = 19,
@@ -44,6 +45,7 @@ enum aegis_code {
     AEGIS_BAD_FILTER = 13,
     AEGIS_OVERLAP = 14,
     AEGIS_NO_FILTER = 15,
+    AEGIS_BAD_HANDLER = 16,
     AEGIS_LINE_TAKEN = 17,
     AEGIS_CONSOLE_FULL = 18,
     AEGIS_FULL = 19,
@@ -219,6 +221,14 @@ static inline struct aegis_answer aegis_claim(const struct aegis_atom *atoms, un
 static inline unsigned aegis_unclaim(unsigned claim)
 {
     return aegis_call(AEGIS_UNCLAIM, claim, 0).code;
+}
+
+/* Has the kernel run these words, at most 64, over each packet of a claim of one's own, in place of what it ran before; none by 0
+   words. They are instructions, which lie in one page and are copied: docs/KERNEL.md, "Handlers of packets", says which, and what
+   they find. If one of them is bad, the code is AEGIS_BAD_HANDLER and the value its place. */
+static inline struct aegis_answer aegis_handler(unsigned claim, const unsigned *words, unsigned count)
+{
+    return aegis_call5(AEGIS_HANDLER, claim, (unsigned)words, count, 0, 0);
 }
 
 /* How many packets came that the environment claims, and how many of them were lost since the buffer wasn't free. */
