@@ -51,7 +51,7 @@ fn copy(words: &[u32]) -> ArrayVec<u32, MOST_WORDS>
     copy
 }
 
-/// Reads the words of a handler. An `Err` names the first that is bad. `docs/KERNEL.md`, "Handlers", says which are.
+/// Reads the words of a handler. An `Err` names the first that is bad. `docs/KERNEL.md`, "Handlers of packets", says which are.
 pub fn verify(words: &[u32]) -> Result<Handler, HandlerFault>
     ensures { result ≡ verified words.now }
 {

@@ -9,7 +9,7 @@ use filter_core::Packet;
 use handler_code::{Handler, HandlerEnd};
 
 /// Runs a handler over a packet, which the claim `id` gets, and the ring page. What `replies` had is gone.
-/// `docs/KERNEL.md`, "Handlers", says what it reaches.
+/// `docs/KERNEL.md`, "Handlers of packets", says what it reaches.
 #[tactic(auto, unfolding(handler_code::specs::Running::handler_run))]
 pub fn run_handler(
     handler: &Handler,
