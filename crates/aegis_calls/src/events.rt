@@ -5,8 +5,11 @@ ghost use Rattle.filter_tree.specs.ClaimBook.{are_numbered};
 ghost use Rattle.filter_tree.specs.Claims.{claim_for, claim_handler};
 ghost use Rattle.frame_store.specs.Pages.{after_put, page_at};
 ghost use Rattle.handler_code.specs.Running.{handler_run};
+ghost use Rattle.board_world.specs.Shown.{changed, with_list};
+ghost use Rattle.board_world.specs.Doing.{replying};
 
 use crate::board::Board;
+use board_world::Roster;
 use call_verdicts::CallView;
 use env_frames::PostWord;
 use external_event::PacketBytes;
@@ -38,6 +41,17 @@ fn run_in(
     let _page = frames.page(claim.page);
     let page = frames.page_mut(claim.page);
     let _end = run_handler(handler, packet, claim.id, page, replies);
+}
+
+/// The replies of a handler are sent for an environment, one after another.
+fn send_replies(roster: &mut Roster, env: u8, replies: &Replies)
+    requires { env < length roster.old.list }
+    ensures { roster.new ≡ with_list roster.old (changed (replying replies.now) roster.old.list env) }
+{
+    roster.law_no_reply(env);
+    for n in 0..replies.count() {
+        roster.reply(env, replies.reply(n));
+    }
 }
 
 impl Board {
@@ -76,9 +90,7 @@ impl Board {
         requires { env < length self.old.roster.list }
         ensures { self.new ≡ with_replies self.old env replies.now }
     {
-        for n in 0..replies.count() {
-            self.roster.reply(env, replies.reply(n));
-        }
+        send_replies(&mut self.roster, env, replies);
     }
 
     /// A claim's handler takes a packet: it runs over the packet and the ring page, and its replies are sent. The buffer

@@ -108,6 +108,7 @@ impl Board {
     {
         let _ = &self.time;
         law_step();
+        self.law_claim_numbers();
         if let Some(env) = self.runner() {
             self.run_step(env);
         }
@@ -144,6 +145,7 @@ impl Board {
         let _ = &self.time;
         law_call();
         law_refusal();
+        self.law_claim_numbers();
         if let Some(env) = self.runner() {
             self.take_call(env);
         }

@@ -3,7 +3,7 @@ use Rattle.std.proofs.Common.{◌≡◌, ℕ, ◌+◌, List, [], ◌∷◌, ◌+
 use Rattle.std.specs.Prelude.{is_some, map}
 use Rattle.filter_core.specs.declared.atom.Atom.{Atom}
 use Rattle.filter_tree.specs.ClaimBook.{are_numbered, claims_in}
-use Rattle.filter_tree.specs.Claims.{book_unless, claim_refusal, claimed, is_claim, with_claim}
+use Rattle.filter_tree.specs.Claims.{book_unless, claim_refusal, claimed, downloaded, is_claim, with_claim}
 use Rattle.filter_tree.specs.Laws.{FirstIsNumbered}
 use Rattle.world_model.specs.declared.code.Code.{Code}
 use Rattle.world_model.specs.Book.{running}
@@ -11,7 +11,7 @@ use Rattle.packet_ring.specs.declared.buffer.Buffer.TheVariants.{First}
 use Rattle.world_model.specs.declared.call.Deed.TheVariants.{Claims, Unclaims, Downloads}
 use Rattle.world_model.specs.declared.verdict.Verdict.TheVariants.{Grant}
 use Rattle.world_model.specs.ClaimCalls.{atoms_or_none, filter_at}
-use Rattle.world_model.specs.Downloads.{MayDownload, handler_at, handler_or_none}
+use Rattle.world_model.specs.Downloads.{MayDownload, handler_at, handler_of, handler_or_none}
 use Rattle.world_model.specs.Item.{answered_cpu}
 use Rattle.world_model.specs.May.{MayClaim}
 use Rattle.world_model.specs.Page.{Mapped}
@@ -140,3 +140,10 @@ claimed_board b e address atoms page filter sound runs named none =
 -- filters that are named alike are one
 pub one_filter : (named : Result (List Atom) Code) (f g : List Atom) → named ≡ Ok f → named ≡ Ok g → g ≡ f
 one_filter named f g is other = let same : Ok f ≡ Ok g = sym is ∙ other in cc
+
+-- the book of claims where a handler that is named is downloaded
+pub downloaded_board : (b : Shown) (e claim address words : ℕ) (handler : List ℕ) → IsSound b → running b.slots.runner ≡ Some e → handler_at (sight (solo_of b e)) address words ≡ Ok handler
+    → record b { claims = downloaded claim (handler_of handler) b.claims } ≡ doing.with_downloaded b e claim address words
+downloaded_board b e claim address words handler sound runs named =
+    let its : handler_at (doing.look_of b e) address words ≡ Ok handler = ap (λ (look : ℕ → Option Mapped). handler_at look address words) (runner_look b e sound runs) ∙ named in
+    λ k. record b { claims = downloaded claim (handler_or_none (sym its k)) b.claims }

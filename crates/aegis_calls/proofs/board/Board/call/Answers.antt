@@ -19,7 +19,7 @@ returns-in-Some-clause-world c =
     let b = c.args.self.now in
     let e = c.in-Some.env in
     let runs = sym c.runner.ensures ∙ c.in-Some.is in
-    λ i is. ap world_of c.take_call.ensures ∙ c.law_call.ensures b e (subst IsSound c.self.view_is c.self.invariant) runs ∙ ap (tick.called_world (world_of b)) (one e i (sym runs ∙ is))
+    λ i is. ap world_of c.take_call.ensures ∙ c.law_call.ensures b e (subst IsSound c.self.view_is c.self.invariant) c.law_claim_numbers.ensures runs ∙ ap (tick.called_world (world_of b)) (one e i (sym runs ∙ is))
 
 pub returns-in-Some-clause-refused : goal.returns-in-Some-clause-refused
 returns-in-Some-clause-refused c =
@@ -29,7 +29,7 @@ returns-in-Some-clause-refused c =
     λ i code value is refused.
     let same = one e i (sym runs ∙ is) in
     ap world_of c.take_call.ensures
-    ∙ c.law_refusal.ensures b e code value (subst IsSound c.self.view_is c.self.invariant) runs (ap (verdict_now (world_of b)) same ∙ refused)
+    ∙ c.law_refusal.ensures b e code value (subst IsSound c.self.view_is c.self.invariant) c.law_claim_numbers.ensures runs (ap (verdict_now (world_of b)) same ∙ refused)
     ∙ ap (λ n. tick.refused_world (world_of b) n code value) same
 
 pub returns-in-Some-clause-whole : goal.returns-in-Some-clause-whole

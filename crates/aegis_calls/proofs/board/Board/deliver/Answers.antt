@@ -1,11 +1,9 @@
 -- The claim's environment lives, and its ring is there.
-use Rattle.std.proofs.Common.{◌≡◌, length, arith, ap, ◌∙◌}
+use Rattle.std.proofs.Common.{ap, ◌∙◌}
 use Rattle.filter_tree.specs.Claims.{claim_for}
 use Rattle.board_world.specs.Shown.{Shown, shown}
-use Rattle.board_world.proofs.Claiming.{delivered_claimed}
 use Rattle.board_world.proofs.Happening.{claim_there}
 use Rattle.board_world.proofs.Parted.{context_there}
-use Rattle.board_world.proofs.Staying.{sound_claims, sound_frames}
 use Rattle.aegis_calls.proofs.board.Board.deliver.Goals as goal
 
 pub frame-env-requires : goal.frame-env-requires
@@ -16,26 +14,3 @@ frame-env-requires c =
 
 pub count-requires : goal.count-requires
 count-requires c = let i = c.self.inside in rw c.frame-env.ensures.mappings (context_there i.frames i.pages i.roster.list c.self.invariant.memory c.args.claim.env)
-
-pub is_full-requires : goal.is_full-requires
-is_full-requires c =
-    let i = c.self.inside in
-    let b = shown i.frames i.pages i.bindings i.lines i.claims i.revocations i.slots i.cpu i.roster i.time i.journal in
-    let there = claim_there b c.args.packet.now c.args.claim c.self.invariant (ap (λ (s : Shown). claim_for s.claims c.args.packet.now) c.self.view_is ∙ c.requires) in
-    omega (arith, there.1, c.count.ensures.size)
-
-pub count-requires-then-is_full : goal.count-requires-then-is_full
-count-requires-then-is_full c = let i = c.self.inside in rw (c.frame-env.ensures.mappings, c.count.ensures.size) (context_there i.frames i.pages i.roster.list c.self.invariant.memory c.args.claim.env)
-
-pub deliver-requires : goal.deliver-requires
-deliver-requires c =
-    let i = c.self.inside in
-    let b = shown i.frames i.pages i.bindings i.lines i.claims i.revocations i.slots i.cpu i.roster i.time i.journal in
-    let there = claim_there b c.args.packet.now c.args.claim c.self.invariant (ap (λ (s : Shown). claim_for s.claims c.args.packet.now) c.self.view_is ∙ c.requires) in
-    omega (arith, there.1, c.count.ensures.size)
-
-pub invariant_of-self-else-is_full : goal.invariant_of-self-else-is_full
-invariant_of-self-else-is_full c =
-    let i = c.self.inside in
-    let size : length c.deliver.new.frames ≡ length i.frames = c.deliver.ensures.size ∙ c.count.ensures.size in
-    rw c.delivered.ensures (sound_claims _ (delivered_claimed i.claims i.pages i.roster c.args.claim.id c.self.invariant.claims) (sound_frames _ size c.self.invariant))

@@ -8,7 +8,7 @@ use Rattle.board_world.proofs.Stepping.{came_leaves}
 use Rattle.aegis_calls.proofs.board.Board.step.Goals as goal
 
 pub returns-in-Some-clause-world : goal.returns-in-Some-clause-world
-returns-in-Some-clause-world c = ap world_of c.run_step.ensures ∙ c.law_step.ensures c.args.self.now c.in-Some.env (subst IsSound c.self.view_is c.self.invariant) (sym c.runner.ensures ∙ c.in-Some.is)
+returns-in-Some-clause-world c = ap world_of c.run_step.ensures ∙ c.law_step.ensures c.args.self.now c.in-Some.env (subst IsSound c.self.view_is c.self.invariant) c.law_claim_numbers.ensures (sym c.runner.ensures ∙ c.in-Some.is)
 
 pub returns-in-Some-clause-room : goal.returns-in-Some-clause-room
 returns-in-Some-clause-room c =
