@@ -1,3 +1,4 @@
 pub mod Look
 pub mod Space
 pub mod Place
+pub mod Steps

@@ -4,6 +4,7 @@ ghost use Rattle.byteorder.specs.Endian.{little_number};
 ghost use Rattle.mips_exec.specs.Step.{cpu_after, outcome_of, write_after};
 ghost use Rattle.guest_memory.specs.Space.{lookup};
 ghost use Rattle.guest_memory.specs.Look.{frames_after, guest_step};
+ghost use Rattle.guest_memory.specs.Steps.{AllRetire, after_steps};
 
 use byteorder::{ByteOrder, LittleEndian};
 use frame_store::Frames;
@@ -72,6 +73,7 @@ fn number_at(bytes: &[u8], width: u8) -> u32
 
 /// One step of an environment: its fetch, load and store go through its guaranteed mappings and its bindings.
 /// A VPN that has neither, or whose page physical memory hasn't got, is a miss.
+#[inline(always)]
 pub fn step_guest(cpu: &mut Cpu, frames: &mut Frames, space: &Space<'_>) -> Outcome
     ensures cpu { cpu.new ≡ cpu_after cpu.old (guest_step frames.old (lookup space.now) cpu.old) }
     ensures outcome { result ≡ outcome_of (guest_step frames.old (lookup space.now) cpu.old) }
@@ -80,4 +82,21 @@ pub fn step_guest(cpu: &mut Cpu, frames: &mut Frames, space: &Space<'_>) -> Outc
 {
     let mut bus = GuestBus { frames, space };
     step_user(cpu, &mut bus)
+}
+
+/// Steps of an environment, one after another, at most so many, and as long as they retire; the result is how many. The
+/// first that would do anything else isn't made.
+pub fn run_guest(cpu: &mut Cpu, frames: &mut Frames, space: &Space<'_>, most: u32) -> u32
+    ensures machine { record { cpu = cpu.new; frames = frames.new } ≡ after_steps (lookup space.now) (record { cpu = cpu.old; frames = frames.old }) result }
+    ensures retire { AllRetire (lookup space.now) (record { cpu = cpu.old; frames = frames.old }) result }
+    ensures most { result ≤ most }
+    ensures size { length frames.new ≡ length frames.old }
+{
+    for done in 0..most {
+        match step_guest(cpu, frames, space) {
+            Outcome::Retired => {}
+            Outcome::Call | Outcome::Trap(_) => return done,
+        }
+    }
+    most
 }

@@ -4,4 +4,4 @@
 
 mod bus;
 
-pub use bus::step_guest;
+pub use bus::{run_guest, step_guest};

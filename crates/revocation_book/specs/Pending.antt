@@ -1,5 +1,5 @@
 -- What an environment is asked for, and what lowers it.
-use Rattle.std.specs.Prelude.{ℕ, ◌+◌, ◌-◌, ◌==◌, min, nat_le, Bool, false, if◌then◌else◌, List, Option, Some, None}
+use Rattle.std.specs.Prelude.{ℕ, ◌+◌, ◌-◌, ◌==◌, min, nat_le, Bool, false, if◌then◌else◌, List, Option, Some, None, unwrap_or}
 use Rattle.std.specs.List.{filter_map, reduce}
 use Rattle.std.specs.Option.{option_map}
 use Rattle.revocation_book.specs.declared.revocation.Pending.{Pending}
@@ -41,3 +41,7 @@ deadline_in pending = option_map (λ (p : Pending). p.deadline) pending
 -- the earliest of all deadlines, if there is one
 abbrev pub earliest_in : List (Option Pending) → Option ℕ
 earliest_in pending = reduce min (filter_map deadline_in pending)
+
+-- the earliest of all deadlines, or a time behind every tick
+abbrev pub earliest_or_never : List (Option Pending) → ℕ
+earliest_or_never pending = unwrap_or (earliest_in pending) 4294967295

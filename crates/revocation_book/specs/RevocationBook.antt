@@ -4,7 +4,7 @@ use Rattle.std.specs.List.{list_any}
 use Rattle.page_book.specs.declared.row.PageRow.{PageRow}
 use Rattle.page_book.specs.Rows.{row_in}
 use Rattle.revocation_book.specs.declared.revocation.Pending.{Pending}
-use Rattle.revocation_book.specs.Pending.{asked, is_due, lowered, unless_due}
+use Rattle.revocation_book.specs.Pending.{asked, earliest_or_never, is_due, lowered, unless_due}
 use Rattle.revocation_book.specs.Backups.{unloaded}
 use Rattle.revocation_book.specs.Takings.{Books}
 
@@ -45,6 +45,10 @@ once_freed book e page = with_backups (with_pending book e (lowered (pending_at 
 -- whether a deadline has come
 abbrev pub is_any_due : RevocationBook → ℕ → Bool
 is_any_due book time = list_any (is_due time) book.pending
+
+-- the time of the next deadline, or a time behind every tick
+abbrev pub next_deadline : RevocationBook → ℕ
+next_deadline book = earliest_or_never book.pending
 
 -- once the deadlines that have come are over
 abbrev pub once_served : RevocationBook → ℕ → RevocationBook

@@ -1,7 +1,7 @@
 //! What every environment is asked for, with the earliest deadline.
 ghost use Rattle.std.specs.Prelude.{◌≡◌, ◌<◌, map, replicate, slice_index_or, slice_set, None};
 ghost use Rattle.std.specs.List.{list_any};
-ghost use Rattle.revocation_book.specs.Pending.{earliest_in, is_due, unless_due};
+ghost use Rattle.revocation_book.specs.Pending.{earliest_in, earliest_or_never, is_due, unless_due};
 ghost use Rattle.revocation_book.specs.RevocationBook.{most_numbers};
 
 use crate::pending::unless_due;
@@ -64,6 +64,13 @@ impl Deadlines {
         ensures { result ≡ list_any (is_due time) self.now }
     {
         self.earliest.is_some_and(|deadline| deadline <= time)
+    }
+
+    /// The earliest deadline, or a time behind every tick.
+    pub(crate) fn earliest_or_never(&self) -> u32
+        ensures { result ≡ earliest_or_never self.now }
+    {
+        self.earliest.unwrap_or(u32::MAX)
     }
 
     /// The deadlines that have come are over.

@@ -1,7 +1,7 @@
 //! The book of revocations.
 ghost use Rattle.std.specs.Prelude.{◌≡◌, ◌<◌, ◌≤◌, ◌+◌, ◌++◌, length, drop, slice_get, IsNone};
 ghost use Rattle.revocation_book.specs.Backups.{load_refusal, loaded};
-ghost use Rattle.revocation_book.specs.RevocationBook.{backups_at, books_of, is_any_due, most_numbers, nothing_asked, once_asked, once_freed, once_gone, once_served, pending_at, with_backups};
+ghost use Rattle.revocation_book.specs.RevocationBook.{backups_at, books_of, is_any_due, most_numbers, next_deadline, nothing_asked, once_asked, once_freed, once_gone, once_served, pending_at, with_backups};
 ghost use Rattle.revocation_book.specs.Takings.{is_victim, takings_below, takings_of};
 
 use crate::backups::Backups;
@@ -102,6 +102,13 @@ impl Revocations {
         ensures { result ≡ is_any_due self.now time }
     {
         self.deadlines.is_due(time)
+    }
+
+    /// The time of the next deadline, or one behind every tick where nothing is pending.
+    pub fn next_deadline(&self) -> u32
+        ensures { result ≡ next_deadline self.now }
+    {
+        self.deadlines.earliest_or_never()
     }
 
     /// What is taken at this time from the environments below a number: the lowest environment first, and of each as

@@ -105,6 +105,15 @@ raised_once (Some r) all = slice_set all r.env (excess_of all r.env + 1)
 abbrev pub counted : Runner → Runner
 counted r = record r { left = r.left - 1 }
 
+-- the ticks that a runner has left; nobody has none
+abbrev pub left_of : Option Runner → ℕ
+left_of None = 0
+left_of (Some r) = r.left
+
+-- the vector once so many ticks of the runner's quantum are over, which leave it some
+abbrev pub after_ticks : ℕ → Slices → Slices
+after_ticks ticks v = record v { runner = option_map (λ (r : Runner). record r { left = r.left - ticks }) v.runner }
+
 -- a runner without ticks
 abbrev pub spent : Runner → Runner
 spent r = record r { left = 0 }

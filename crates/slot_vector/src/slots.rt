@@ -6,7 +6,7 @@ ghost use Rattle.world_model.specs.declared.slot.Hold.{Hold as Held};
 ghost use Rattle.world_model.specs.declared.slot.Phase.TheVariants as phase;
 ghost use Rattle.world_model.specs.Book.{excess_limit, own_hold, running};
 ghost use Rattle.world_model.specs.SlotCalls.{dropped};
-ghost use Rattle.slot_vector.specs.Slices.{HasTicks, IsWithin, OwesWithin, after_timer, after_turn, excess_of, first_slices, given_to, hold_at, in_grace_again, is_idle, mask_of, most_numbers, next_turn, refusal_of_drop, refusal_of_gift, refusal_of_take, timer_answer, timer_at_end, turn_ended, unless, with_hold, without_env};
+ghost use Rattle.slot_vector.specs.Slices.{HasTicks, IsWithin, OwesWithin, after_ticks, after_timer, after_turn, excess_of, first_slices, given_to, hold_at, in_grace_again, is_idle, left_of, mask_of, most_numbers, next_turn, refusal_of_drop, refusal_of_gift, refusal_of_take, timer_answer, timer_at_end, turn_ended, unless, with_hold, without_env};
 
 use crate::excess::{EXCESS_LIMIT, Excess};
 use crate::held::{
@@ -107,6 +107,26 @@ impl Slots {
             ..runner
         });
         Timer::Nothing
+    }
+
+    /// How many ticks the runner has left; none where nobody runs.
+    pub fn left(&self) -> u32
+        ensures { result ≡ left_of self.now.runner }
+    {
+        match self.runner {
+            Some(runner) => runner.left,
+            None => 0,
+        }
+    }
+
+    /// So many ticks of the runner's quantum are over, which leave it some.
+    pub fn pass(&mut self, ticks: u32)
+        requires { ticks < left_of self.old.runner }
+        ensures { self.new ≡ after_ticks ticks self.old }
+    {
+        if let Some(runner) = &mut self.runner {
+            runner.left -= ticks;
+        }
     }
 
     /// The runner's quantum is over.
