@@ -43,6 +43,7 @@ pub mod Sound
 pub mod Staying
 pub mod Stepping
 pub mod Stores
+pub mod Stretching
 pub mod Tables
 pub mod TransferServing
 pub mod Turning

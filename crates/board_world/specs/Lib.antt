@@ -6,3 +6,4 @@ pub mod Sound
 pub mod Doing
 pub mod Loading
 pub mod Laws
+pub mod Stretch

@@ -1,5 +1,6 @@
 //! The laws of what a board shows: each part of a tick is that part of the model's.
 ghost use Rattle.board_world.specs.Laws.{CallIsCall, DeathIsDeath, EventIsEvent, IdleIsIdle, RefusalIsRefusal, ServingIsServing, StepIsStep, TimerIsTimer, TurnIsTurn};
+ghost use Rattle.board_world.specs.Stretch.{StretchIsTicks};
 
 use call_verdicts::law_granted;
 use filter_tree::law_numbered;
@@ -41,6 +42,15 @@ pub fn law_step()
 pub fn law_timer()
     ensures { TimerIsTimer }
 {}
+
+/// In a run in which nothing happens from outside during them, plain ticks are ticks of the model.
+pub fn law_stretch()
+    ensures { StretchIsTicks }
+{
+    law_serving();
+    law_step();
+    law_timer();
+}
 
 /// A kernel call apart from a tick is the model's.
 pub fn law_call()

@@ -12,8 +12,8 @@ mod sent;
 
 pub use console::Console;
 pub use laws::{
-    law_call, law_death, law_happen, law_idle, law_refusal, law_serving, law_step, law_timer,
-    law_turn,
+    law_call, law_death, law_happen, law_idle, law_refusal, law_serving, law_step, law_stretch,
+    law_timer, law_turn,
 };
 pub use lines::Lines;
 pub use output::Output;

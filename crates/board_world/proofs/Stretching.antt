@@ -1,0 +1,182 @@
+-- Plain ticks of a board are ticks of the model.
+use Rattle.std.proofs.Common.{◌≡◌, ◌<◌, ℕ, zero, suc, ◌+◌, ◌-◌, ◌/◌, ◌%◌, List, [], ◌∷◌, length, length-set, Bool, false, Option, None, Some, IfSome, refl, sym, ◌∙◌, ap, add-zero, arith}
+use Rattle.std.specs.Prelude.{◌&&◌, is_none, map, unwrap_or}
+use Rattle.std.specs.Option.{option_map}
+use Rattle.std.proofs.lemmas.Bool.{ne_eqb}
+use Rattle.aegis_limits.specs.Limits.{page_size}
+use Rattle.frame_store.specs.Pages.{page_at, with_bytes}
+use Rattle.mips_exec.specs.Access.{Write}
+use Rattle.mips_exec.specs.declared.exception.Outcome.TheVariants as outcome
+use Rattle.mips_exec.specs.Step.{Step, Called, Retired, Trapped, outcome_of, write_after}
+use Rattle.env_frames.specs.declared.mapping.Mapping.{Mapping}
+use Rattle.external_event.specs.declared.event.Occurrence.{Occurrence}
+use Rattle.guest_memory.specs.Look.{frames_after, written_through}
+use Rattle.guest_memory.specs.Steps.{Machine, after_steps, next_step}
+use Rattle.revocation_book.specs.Pending.{earliest_in}
+use Rattle.revocation_book.specs.RevocationBook.{RevocationBook, is_any_due, next_deadline}
+use Rattle.revocation_book.proofs.Earliest.{due_by_earliest, has_come}
+use Rattle.slot_vector.specs.declared.timer.Timer.{Timer}
+use Rattle.slot_vector.specs.declared.timer.Timer.TheVariants as timers
+use Rattle.slot_vector.specs.Slices.{HasTicks, Slices, after_ticks, excess_of, left_of, timer_answer, timer_by}
+use Rattle.world_model.specs.declared.slot.Runner.{Runner}
+use Rattle.world_model.specs.Book.{is_idle_book, running}
+use Rattle.world_model.specs.Deadlines.{takings}
+use Rattle.world_model.specs.Event.{Schedule, happen}
+use Rattle.world_model.specs.Tick.{phases_after, serve_phases, served, step, tick_step, timer, turn, turn_when}
+use Rattle.world_model.specs.World.{World, after, run_phases}
+use Rattle.run_model.specs.Run.{next_world}
+use Rattle.run_model.proofs.Phases.{run_append, tick_in_two}
+use Rattle.board_world.specs.declared.roster.Environment.{Environment}
+use Rattle.board_world.specs.Doing.{brought, came_to, counted_down, has_end, lookup_of, ran, step_seen, ticked}
+use Rattle.board_world.specs.Laws.{ServingIsServing, StepIsStep, TimerIsTimer}
+use Rattle.board_world.specs.Shown.{Environments, Shown}
+use Rattle.board_world.specs.Showing.{world_of}
+use Rattle.board_world.specs.Sound.{IsLive, IsManned, IsSound}
+use Rattle.board_world.specs.Stretch.{ArePlain, StretchIsTicks, machine_of, stretched}
+use Rattle.board_world.proofs.Phases.{quiet_world}
+use Rattle.board_world.proofs.Repossessing.{nothing_due}
+
+-- Physical memory keeps its size.
+write_size : (frames : List (List ℕ)) (w : Write) (m : Option Mapping) → length (written_through frames w m) ≡ length frames
+write_size frames w None = refl
+write_size frames w (Some m) = length-set frames m.page (with_bytes (page_at frames m.page) (w.address % page_size) w.bytes)
+
+step_size : (frames : List (List ℕ)) (lookup : ℕ → Option Mapping) (w : Option Write) → length (frames_after frames lookup w) ≡ length frames
+step_size frames lookup None = refl
+step_size frames lookup (Some w) = write_size frames w (lookup (w.address / page_size))
+
+steps_size : (lookup : ℕ → Option Mapping) (m : Machine) (k : ℕ) → length (after_steps lookup m k).frames ≡ length m.frames
+steps_size lookup m zero = refl
+steps_size lookup m (suc k) = let n = after_steps lookup m k in step_size n.frames lookup (write_after (next_step lookup n)) ∙ steps_size lookup m k
+
+-- The runner has so many ticks fewer.
+abbrev passed : ℕ → Option Runner → Option Runner
+passed k o = option_map (λ (r : Runner). record r { left = r.left - k }) o
+
+none_passed : (o : Option Runner) → passed 0 o ≡ o
+none_passed None = refl
+none_passed (Some r) = let same : r.left - 0 ≡ r.left = omega arith in ap (λ n. Some (record r { left = n })) same
+
+one_passed : (k : ℕ) (o : Option Runner) → passed (suc k) o ≡ passed 1 (passed k o)
+one_passed k None = refl
+one_passed k (Some r) = let same : r.left - suc k ≡ r.left - k - 1 = omega arith in ap (λ n. Some (record r { left = n })) same
+
+runs_on : (k : ℕ) (o : Option Runner) → running (passed k o) ≡ running o
+runs_on k None = refl
+runs_on k (Some r) = refl
+
+left_on : (k : ℕ) (o : Option Runner) → left_of (passed k o) ≡ left_of o - k
+left_on k None = omega arith
+left_on k (Some r) = refl
+
+ticks_on : (k : ℕ) (o : Option Runner) → k < left_of o → HasTicks (passed k o)
+ticks_on k None some = tt
+ticks_on k (Some r) some = omega arith
+
+lives_on : (list : List Environment) (k : ℕ) (o : Option Runner) → IfSome o (λ r. IsLive list r.env) → IfSome (passed k o) (λ r. IsLive list r.env)
+lives_on list k None live = tt
+lives_on list k (Some r) live = live
+
+pub passed_manned : (v : Slices) (r : Environments) (k : ℕ) → IsManned v r → k < left_of v.runner → IsManned (after_ticks k v) r
+passed_manned v r k manned some = record {
+  quantum = manned.quantum;
+  ticks = ticks_on k v.runner some;
+  runner = lives_on r.list k v.runner manned.runner;
+  holds = manned.holds;
+  count = manned.count;
+  numbered = manned.numbered;
+  owes = manned.owes;
+}
+
+pub stretch_sound : (b : Shown) (e k : ℕ) → IsSound b → k < left_of b.slots.runner → IsSound (stretched b e k)
+stretch_sound b e k sound some =
+    let size = steps_size (lookup_of b e) (machine_of b) k in
+    record {
+      few = sound.few;
+      book = passed_manned b.slots b.roster k sound.book some;
+      memory = record { same = size ∙ sound.memory.same; most = omega (arith, size, sound.memory.most); mapped = sound.memory.mapped };
+      books = sound.books;
+      lines = sound.lines;
+      claims = sound.claims;
+      revocations = sound.revocations;
+    }
+
+-- before the next deadline none has come
+not_come : (t : ℕ) (deadline : Option ℕ) → t < unwrap_or deadline 4294967295 → has_come t deadline ≡ false
+not_come t None before = refl
+not_come t (Some d) before = grind (arith, before)
+
+none_due : (book : RevocationBook) (t : ℕ) → t < next_deadline book → is_any_due book t ≡ false
+none_due book t before = due_by_earliest t book.pending ∙ not_come t (earliest_in book.pending) before
+
+-- where somebody runs the world isn't idle
+busy : (o : Option Runner) (nobody : Bool) (e : ℕ) → running o ≡ Some e → (is_none o && nobody) ≡ false
+busy None nobody e runs = cc
+busy (Some r) nobody e runs = refl
+
+still : (w : World) (o : Option Runner) (e : ℕ) → running o ≡ Some e → after w (turn_when w o) ≡ w
+still w None e runs = cc
+still w (Some r) e runs = sym (quiet_world w)
+
+retires : (b : Shown) (e : ℕ) (st : Step) → outcome_of st ≡ outcome.Retired → came_to b e st ≡ ran b e st
+retires b e (Retired cpu write) is = refl
+retires b e Called is = cc
+retires b e (Trapped exc) is = cc
+
+-- the timer of a runner that has ticks left behind this one
+counts_on : (b now : Shown) (o : Option Runner) → now.slots.runner ≡ o → 1 < left_of o → ticked (counted_down now o) ≡ record now { slots = after_ticks 1 now.slots; time = now.time + 1 }
+counts_on b now None is more = absurd (omega arith)
+counts_on b now (Some r) is more =
+    let answer : timer_answer now.slots (has_end now r.env) ≡ timers.Nothing =
+    ap (λ o. timer_by o (has_end now r.env) (excess_of now.slots.excess)) is ∙ rw (ne_eqb r.left 1 (λ same. omega arith)) refl in
+    ap (λ (t : Timer). ticked (brought now r.env t)) answer
+
+-- a tick by its parts
+in_parts : (w : World) → tick_step w ≡ (let v = served w in let u = after v (turn v) in let t = after u (step u) in after t (timer t))
+in_parts w = ap (run_phases w) (tick_in_two (takings w)) ∙ run_append w (serve_phases (takings w)) (turn ∷ step ∷ timer ∷ [])
+
+module _ (serves : ServingIsServing) (steps : StepIsStep) (times : TimerIsTimer) where
+  plain_tick : (b : Shown) (e : ℕ) → IsSound b → running b.slots.runner ≡ Some e → outcome_of (step_seen b e) ≡ outcome.Retired → 1 < left_of b.slots.runner → is_any_due b.revocations b.time ≡ false → world_of (stretched b e 1) ≡ tick_step (world_of b)
+  plain_tick b e sound runs retired more none =
+      let w = world_of b in
+      let st = step_seen b e in
+      let now = ran b e st in
+      let none_served : w ≡ served w = ap world_of (nothing_due b none) ∙ serves b sound in
+      let none_turned : w ≡ after w (turn w) = sym (still w b.slots.runner e runs) in
+      let stepped : world_of now ≡ after w (step w) = ap world_of (sym (retires b e st retired)) ∙ steps b e sound runs in
+      let size : length now.frames ≡ length b.frames = step_size b.frames (lookup_of b e) (write_after st) in
+      let after_sound : IsSound now = record {
+        few = sound.few;
+        book = sound.book;
+        memory = record { same = size ∙ sound.memory.same; most = omega (arith, size, sound.memory.most); mapped = sound.memory.mapped };
+        books = sound.books;
+        lines = sound.lines;
+        claims = sound.claims;
+        revocations = sound.revocations;
+      } in
+      ap world_of (sym (counts_on b now b.slots.runner refl more))
+      ∙ times now after_sound
+      ∙ ap (λ u. after u (timer u)) stepped
+      ∙ ap (λ u. let t = after u (step u) in after t (timer t)) none_turned
+      ∙ ap (λ v. let u = after v (turn v) in let t = after u (step u) in after t (timer t)) none_served
+      ∙ sym (in_parts w)
+
+  -- a tick of a run in which nothing happens from outside
+  quiet_tick : (schedule : Schedule) (w : World) → is_idle_book w.book ≡ false → schedule w.book.time ≡ [] → tick_step w ≡ next_world schedule w
+  quiet_tick schedule w goes nothing =
+      rw goes (ap (λ (happens : List Occurrence). run_phases w (phases_after happens (takings (run_phases w (map happen happens))))) (sym nothing))
+
+  pub stretch_ticks : StretchIsTicks
+  stretch_ticks b e zero schedule sound runs plain quiet = ap world_of (λ i. record b { slots = record b.slots { runner = none_passed b.slots.runner i }; time = add-zero b.time i })
+  stretch_ticks b e (suc k) schedule sound runs plain quiet =
+      let v = stretched b e k in
+      let more = plain.left in
+      let soon = plain.early in
+      let later : b.time + suc k ≡ b.time + k + 1 = omega arith in
+      let once : stretched b e (suc k) ≡ stretched v e 1 = (λ i. record (stretched b e (suc k)) { slots = record b.slots { runner = one_passed k b.slots.runner i }; time = later i }) in
+      let fewer : ArePlain b e k = record { retire = record { each = λ i less. plain.retire.each i (omega arith) }; left = omega arith; early = omega arith } in
+      let goes = runs_on k b.slots.runner ∙ runs in
+      ap world_of once
+      ∙ plain_tick v e (stretch_sound b e k sound (omega arith)) goes (plain.retire.each k (omega arith)) (omega (arith, left_on k b.slots.runner)) (none_due b.revocations (b.time + k) (omega arith))
+      ∙ quiet_tick schedule (world_of v) (busy v.slots.runner _ e goes) (quiet.nothing (b.time + k) (omega arith) (omega arith))
+      ∙ ap (next_world schedule) (stretch_ticks b e k schedule sound runs fewer (record { nothing = λ t from until. quiet.nothing t from (omega arith) }))
