@@ -20,6 +20,7 @@ mod page_deeds;
 mod phases;
 mod readers;
 mod slot_deeds;
+mod stretch;
 mod timer;
 mod turn;
 mod views;

@@ -1,0 +1,71 @@
+//! Stretches of ticks in which the runner steps and nothing else happens, each as one call.
+ghost use Rattle.std.specs.Prelude.{◌≡◌, ◌≤◌, ◌+◌, ◌-◌, Some};
+ghost use Rattle.aegis_limits.specs.Limits.{most_ticks};
+ghost use Rattle.revocation_book.specs.RevocationBook.{next_deadline};
+ghost use Rattle.slot_vector.specs.Slices.{left_of};
+ghost use Rattle.world_model.specs.Book.{is_idle_book, running};
+ghost use Rattle.world_model.specs.Event.{Schedule};
+ghost use Rattle.run_model.specs.Run.{run_on};
+ghost use Rattle.board_world.specs.Stretch.{ArePlain, IsQuiet, stretched};
+
+use crate::board::Board;
+use board_world::law_stretch;
+use guest_memory::Space;
+use guest_step::run_guest;
+use world_model::WorldView;
+
+impl Board {
+    ghost use Rattle.board_world.specs.Showing.{world_of};
+
+    /// How many of so many ticks come before the runner's last one, and before the next deadline.
+    fn plain_most(&self, most: u32) -> u32
+        ensures most { result ≤ most }
+        ensures left { result ≤ left_of self.now.slots.runner - 1 }
+        ensures early { result ≤ next_deadline self.now.revocations - self.now.time }
+    {
+        let left = self.slots.left().saturating_sub(1);
+        let early = self.revocations.next_deadline().saturating_sub(self.time);
+        most.min(left).min(early)
+    }
+
+    /// The runner makes plain ticks, at most so many; the result is how many.
+    fn run_plain(&mut self, env: u8, most: u32) -> u32
+        requires runs { running self.old.slots.runner ≡ Some env }
+        requires time { self.old.time + most ≤ most_ticks }
+        ensures after { self.new ≡ stretched self.old env result }
+        ensures plain { ArePlain self.old env result }
+        ensures most { result ≤ most }
+    {
+        let most = self.plain_most(most);
+        let space = Space {
+            env: self.roster.frame(env),
+            bindings: &self.bindings,
+            number: env,
+        };
+        let ticks = run_guest(&mut self.cpu, &mut self.frames, &space, most);
+        self.slots.pass(ticks);
+        self.time += ticks;
+        ticks
+    }
+
+    /// Ticks in which nothing happens but a step of the runner's that retires, at most so many; the result is how many, and
+    /// may be none. It ends before the last tick of the slice, before a deadline, and before a call or an exception, which
+    /// are left to a tick by its parts. It writes no row, and changes no claim.
+    pub fn stretch(&mut self, most: u32) -> u32
+        requires time { self.old.time + most ≤ most_ticks }
+        ensures world { (schedule : Schedule) → IsQuiet schedule self.old.time (self.old.time + result) → world_of self.new ≡ run_on schedule (world_of self.old) result }
+        ensures idle { is_idle_book (world_of self.new).book ≡ is_idle_book (world_of self.old).book }
+        ensures most { result ≤ most }
+        ensures time { self.new.time ≡ self.old.time + result }
+        ensures numbers { self.new.claims.next ≡ self.old.claims.next }
+        ensures whole { self.new.roster.spare ≡ self.old.roster.spare }
+        ensures ledger { self.new.ledger ≡ self.old.ledger }
+    {
+        let _ = &self.time;
+        law_stretch();
+        match self.runner() {
+            Some(env) => self.run_plain(env, most),
+            None => 0,
+        }
+    }
+}
