@@ -28,6 +28,24 @@ none_earlier t from (x ∷ xs) earlier ordered =
     let least : from ≤ x.time = leb-true from x.time parts.0 in
     rw (ne_eqb x.time t (λ same. omega arith)) (none_earlier t x.time xs (omega arith) parts.1)
 
+-- none is of a time before the next
+pub none_before : (from t : ℕ) (xs : List EventValue) → are_in_order from xs ≡ true → t < next_time_of xs → schedule_of xs t ≡ []
+none_before from t [] ordered before = refl
+none_before from t (x ∷ xs) ordered before =
+    let parts = and_parts (nat_le from x.time) (are_in_order x.time xs) ordered in
+    rw (ne_eqb x.time t (λ same. omega arith)) (ap occurrences (none_earlier t x.time xs before parts.1))
+
+-- the next isn't over
+pub next_later : (from : ℕ) (xs : List EventValue) → are_in_order from xs ≡ true → from ≤ 4294967295 → from ≤ next_time_of xs
+next_later from [] ordered most = most
+next_later from (x ∷ xs) ordered most = leb-true from x.time (and_parts (nat_le from x.time) (are_in_order x.time xs) ordered).0
+
+-- they are in order from any time on that isn't behind the next
+pub order_later : (from t : ℕ) (xs : List EventValue) → are_in_order from xs ≡ true → t ≤ next_time_of xs → are_in_order t xs ≡ true
+order_later from t [] ordered within = refl
+order_later from t (x ∷ xs) ordered within =
+    and_from (nat_le t x.time) (are_in_order x.time xs) (le-leb t x.time within) (and_parts (nat_le from x.time) (are_in_order x.time xs) ordered).1
+
 -- those of a time are the first
 firsts : (t : ℕ) (xs : List EventValue) → are_in_order t xs ≡ true → filter (is_at t) xs ≡ take (first_at t xs) xs
 firsts t [] ordered = refl

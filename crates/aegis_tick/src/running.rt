@@ -165,12 +165,15 @@ fn run_ticks(board: &mut Board, events: &[Event], ticks: u32) -> Result<(), OutO
     law_accounts();
     let mut next = 0;
     let mut soon = next_time(events, next);
-    for done in 0..ticks {
+    let mut done = 0;
+    while done < ticks {
         if board.idle() {
             return Ok(());
         }
         let now = take_due(events, &mut next, &mut soon, done);
         tick_with(board, now)?;
+        done += 1;
+        done += board.stretch(ticks.min(soon) - done);
     }
     Ok(())
 }

@@ -1,6 +1,7 @@
 -- Each turn of the loop is a tick of the model with what happens in it, until it is idle.
-use Rattle.std.proofs.Common.{◌≡◌, ◌+◌, ◌-◌, ℕ, List, drop, sym, ◌∙◌, ap, arith}
+use Rattle.std.proofs.Common.{◌≡◌, ◌+◌, ◌-◌, ℕ, List, drop, length, sym, ◌∙◌, ap, arith}
 use Rattle.external_event.specs.declared.event.Occurrence.{Occurrence}
+use Rattle.kernel_journal.specs.Ledger.{Ledger}
 use Rattle.board_world.specs.Showing.{world_of}
 use Rattle.world_model.specs.Book.{is_idle_book}
 use Rattle.world_model.specs.Event.{schedule_of}
@@ -8,10 +9,10 @@ use Rattle.world_model.specs.Tick.{tick_step}
 use Rattle.world_model.specs.World.{World, run_phases}
 use Rattle.run_model.specs.Run.{next_phases, run_on}
 use Rattle.aegis_tick.specs.Course.{IsCutOff, next_time_of, occurrences, world_with}
-use Rattle.aegis_tick.proofs.Coming.{happens_next, next_coming, next_ordered, next_within}
+use Rattle.aegis_tick.proofs.Coming.{happens_next, next_coming, next_later, next_ordered, next_within, none_before, order_later}
 use Rattle.aegis_tick.proofs.Happening.{cut_accounted, cut_off, then_ticks}
 use Rattle.aegis_tick.proofs.Refusals.{on_err}
-use Rattle.aegis_tick.proofs.Whole.{stays, goes_on}
+use Rattle.aegis_tick.proofs.Whole.{goes_on, run_further, stays}
 use Rattle.aegis_tick.proofs.running.run_ticks.Goals as goal
 
 pub returns-then-idle-clause-world : goal.returns-then-idle-clause-world
@@ -41,36 +42,65 @@ pub returns-in_err-tick_with-clause-balance : goal.returns-in_err-tick_with-clau
 returns-in_err-tick_with-clause-balance c =
     cut_accounted c.law_accounts.ensures (schedule_of c.args.events.now) (world_of c.args.board.now) c.args.ticks (world_of c.tick_with.new.board) (cut_here c)
 
+pub overflow_sub-min : goal.overflow_sub-min
+overflow_sub-min c =
+    let es = c.args.events.now in
+    let i = c.loop-done.next in
+    let t = c.loop-done.done in
+    let these = c.take_due-now.result.now in
+    let soon : c.take_due-now.new.soon ≡ next_time_of (drop (i + length these) es) = c.take_due-now.ensures.soon ∙ ap (λ (n : ℕ). next_time_of (drop n es)) c.take_due-now.ensures.next in
+    let ordered = next_ordered es i t these c.take_due-now.ensures.now c.loop-done.invariant.ordered in
+    let before = c.loop-done-test.true in
+    let limit = c.requires.limit in
+    let later = next_later (t + 1) (drop (i + length these) es) ordered (omega arith) in
+    omega arith
+
 pub loop-done-preserved : goal.loop-done-preserved
 loop-done-preserved c =
     let es = c.args.events.now in
     let i = c.loop-done.next in
     let t = c.loop-done.done in
+    let k = c.stretch-done.result in
     let these = c.take_due-now.result.now in
     let are = c.take_due-now.ensures.now in
     let now = c.loop-done.invariant in
+    let before = c.loop-done-test.true in
     let schedule = schedule_of es in
     let w = world_of c.args.board.now in
     let v = world_of c.loop-done.board in
+    let rest = drop (i + length these) es in
     let happens = happens_next es i t these are v now.time now.ordered (now.coming t (omega arith)) in
     let busy = ap (λ (u : World). is_idle_book u.book) (sym now.world) ∙ sym c.idle.ensures ∙ c.if-idle.false in
+    let ordered = next_ordered es i t these are now.ordered in
+    let coming = next_coming es i t these are now.coming in
+    let soon : c.take_due-now.new.soon ≡ next_time_of rest = c.take_due-now.ensures.soon ∙ ap (λ (n : ℕ). next_time_of (drop n es)) c.take_due-now.ensures.next in
+    let once = c.in_ok-tick_with.ensures.world
+        ∙ ap (λ (xs : List Occurrence). tick_step (world_with xs v)) (sym happens)
+        ∙ sym (then_ticks schedule v)
+        ∙ ap (λ (u : World). run_phases u (next_phases schedule u)) now.world
+        ∙ sym (goes_on schedule w t busy) in
+    let time = c.in_ok-tick_with.ensures.time ∙ ap (λ (m : ℕ). m + 1) now.time in
+    let most = c.stretch-done.ensures.most in
+    let limit = c.requires.limit in
+    let later = next_later (t + 1) rest ordered (omega arith) in
+    let numbers = c.in_ok-tick_with.ensures.numbers in
     rw (c.take_due-now.ensures.next) (record {
-      world = c.in_ok-tick_with.ensures.world
-          ∙ ap (λ (xs : List Occurrence). tick_step (world_with xs v)) (sym happens)
-          ∙ sym (then_ticks schedule v)
-          ∙ ap (λ (u : World). run_phases u (next_phases schedule u)) now.world
-          ∙ sym (goes_on schedule w t busy);
-      whole = c.in_ok-tick_with.ensures.whole;
-      time = c.in_ok-tick_with.ensures.time ∙ ap (λ (m : ℕ). m + 1) now.time;
-      numbers = c.in_ok-tick_with.ensures.numbers;
+      world = c.stretch-done.ensures.world schedule (record { nothing = λ u from until. coming u (omega arith) ∙ none_before (t + 1) u rest ordered (omega arith) })
+          ∙ ap (λ (u : World). run_on schedule u k) once
+          ∙ run_further schedule w (t + 1) k;
+      within = omega arith;
+      whole = c.stretch-done.ensures.whole ∙ c.in_ok-tick_with.ensures.whole;
+      time = c.stretch-done.ensures.time ∙ ap (λ (m : ℕ). m + k) time;
+      numbers = omega (arith, c.stretch-done.ensures.numbers, c.stretch-done.ensures.time, numbers);
       next = next_within es i t these are now.next;
-      soon = c.take_due-now.ensures.soon ∙ ap (λ (n : ℕ). next_time_of (drop n es)) c.take_due-now.ensures.next;
-      ordered = next_ordered es i t these are now.ordered;
-      coming = next_coming es i t these are now.coming;
+      soon = soon;
+      ordered = order_later (t + 1) (t + 1 + k) rest ordered (omega arith);
+      coming = λ u from. coming u (omega arith);
       room = λ enough.
           let within = next_within es i t these are now.next in
           let spare = now.room enough in
           let sure = c.in_ok-tick_with.ensures.sure (omega arith) in
           let left = sure.1 in
+          let same = ap (λ (l : Ledger). l.spare) c.stretch-done.ensures.ledger in
           omega arith;
     })

@@ -10,6 +10,7 @@ use Rattle.aegis_tick.proofs.running.run_ticks.Given as goal
 abbrev pub invariant-loop-done : goal.invariant-loop-done
 invariant-loop-done l = record {
   world : world_of l.board ≡ run_on (schedule_of l.events) (world_of l.fn.board) l.done;
+  within : l.done ≤ l.ticks;
   whole : l.board.roster.spare ≡ 0;
   time : l.board.time ≡ l.done;
   numbers : l.board.claims.next ≤ l.board.time;
@@ -19,3 +20,6 @@ invariant-loop-done l = record {
   coming : (t : ℕ) → l.done ≤ t → schedule_of l.events t ≡ schedule_of (drop l.next l.events) t;
   room : 2048 * (length l.events + l.ticks) ≤ l.fn.board.ledger.spare → 2048 * ((length l.events - l.next) + (l.ticks - l.done)) ≤ l.board.ledger.spare;
 }
+
+abbrev pub decreases-loop-done : goal.decreases-loop-done
+decreases-loop-done l = l.ticks - l.done
