@@ -275,6 +275,17 @@ module _ (b : Shown) (e : ℕ) (x : Environment) (r : Runs b e x) (sound : IsSou
           (struck_solos cpu (frames_after b.frames (lookup_of b e) w) (Some y) strikes steps) (sym rows)
           ∙ sym (each_in_turn (world_of b) (tells e AStep ∷ tick.brings e (store_act (Some y)) ∷ []))
 
+  -- a step that retires is the model's
+  pub retired_step : (o : Option Runner) → running o ≡ Some e → (cpu : Cpu) (w : Option Write) → step_seen b e ≡ Retired cpu w → world_of (ran b e (step_seen b e)) ≡ after (world_of b) (tick.step_when (world_of b) o)
+  retired_step None is cpu w at = cc
+  retired_step (Some runner) is cpu w at =
+      let same : e ≡ runner.env = cc in
+      ap (λ st. world_of (ran b e st)) at
+      ∙ retired cpu w (sym (its_step b e x r sound) ∙ at)
+      ∙ ap (λ st. stepping (act_of (runner_solo b e x) st)) (sym at ∙ its_step b e x r sound)
+      ∙ ap (λ (s : Solo). stepping (act_of s (step_alone s))) (sym (runner_seen b e x r))
+      ∙ ap (λ n. after (world_of b) (in_turn (tells n AStep ∷ tick.brings n (tick.act_now (world_of b) n) ∷ []) (world_of b))) same
+
   -- The runner's exception goes to its handler: the words stand in its context page, and nobody else's page changes.
   raised_serves : (exc : Exc) → Serves b e (raise exc (solo_of b e)) (no_change (world_of b)) (raised b e (handlers_of b.roster.list e).exception exc)
   raised_serves exc =

@@ -6,6 +6,7 @@ use Rattle.std.proofs.lemmas.Bool.{ne_eqb}
 use Rattle.aegis_limits.specs.Limits.{page_size}
 use Rattle.frame_store.specs.Pages.{page_at, with_bytes}
 use Rattle.mips_exec.specs.Access.{Write}
+use Rattle.mips_exec.specs.declared.registers.Cpu.{Cpu}
 use Rattle.mips_exec.specs.declared.exception.Outcome.TheVariants as outcome
 use Rattle.mips_exec.specs.Step.{Step, Called, Retired, Trapped, outcome_of, write_after}
 use Rattle.env_frames.specs.declared.mapping.Mapping.{Mapping}
@@ -27,14 +28,16 @@ use Rattle.world_model.specs.World.{World, after, run_phases}
 use Rattle.run_model.specs.Run.{next_world}
 use Rattle.run_model.proofs.Phases.{run_append, tick_in_two}
 use Rattle.board_world.specs.declared.roster.Environment.{Environment}
-use Rattle.board_world.specs.Doing.{brought, came_to, counted_down, has_end, lookup_of, ran, step_seen, ticked}
-use Rattle.board_world.specs.Laws.{ServingIsServing, StepIsStep, TimerIsTimer}
+use Rattle.board_world.specs.Doing.{brought, counted_down, has_end, lookup_of, ran, step_seen, ticked}
+use Rattle.board_world.specs.Laws.{ServingIsServing, TimerIsTimer}
 use Rattle.board_world.specs.Shown.{Environments, Shown}
 use Rattle.board_world.specs.Showing.{world_of}
 use Rattle.board_world.specs.Sound.{IsLive, IsManned, IsSound}
 use Rattle.board_world.specs.Stretch.{ArePlain, StretchIsTicks, machine_of, stretched}
 use Rattle.board_world.proofs.Phases.{quiet_world}
 use Rattle.board_world.proofs.Repossessing.{nothing_due}
+use Rattle.board_world.proofs.Seen.{runner_runs}
+use Rattle.board_world.proofs.Stepping.{retired_step}
 
 -- Physical memory keeps its size.
 write_size : (frames : List (List ℕ)) (w : Write) (m : Option Mapping) → length (written_through frames w m) ≡ length frames
@@ -118,10 +121,17 @@ still : (w : World) (o : Option Runner) (e : ℕ) → running o ≡ Some e → a
 still w None e runs = cc
 still w (Some r) e runs = sym (quiet_world w)
 
-retires : (b : Shown) (e : ℕ) (st : Step) → outcome_of st ≡ outcome.Retired → came_to b e st ≡ ran b e st
-retires b e (Retired cpu write) is = refl
-retires b e Called is = cc
-retires b e (Trapped exc) is = cc
+-- what a step is that retires
+retires : (st : Step) → outcome_of st ≡ outcome.Retired → (cpu : Cpu) × (w : Option Write) × (st ≡ Retired cpu w)
+retires (Retired cpu w) is = (cpu, w, refl)
+retires Called is = cc
+retires (Trapped exc) is = cc
+
+stepped : (b : Shown) (e : ℕ) → IsSound b → running b.slots.runner ≡ Some e → outcome_of (step_seen b e) ≡ outcome.Retired → world_of (ran b e (step_seen b e)) ≡ after (world_of b) (step (world_of b))
+stepped b e sound runs retired =
+    let x = runner_runs b e sound runs in
+    let st = retires (step_seen b e) retired in
+    retired_step b e x.0 x.1 sound b.slots.runner runs st.0 st.1 st.2
 
 -- the timer of a runner that has ticks left behind this one
 counts_on : (b now : Shown) (o : Option Runner) → now.slots.runner ≡ o → 1 < left_of o → ticked (counted_down now o) ≡ record now { slots = after_ticks 1 now.slots; time = now.time + 1 }
@@ -135,7 +145,7 @@ counts_on b now (Some r) is more =
 in_parts : (w : World) → tick_step w ≡ (let v = served w in let u = after v (turn v) in let t = after u (step u) in after t (timer t))
 in_parts w = ap (run_phases w) (tick_in_two (takings w)) ∙ run_append w (serve_phases (takings w)) (turn ∷ step ∷ timer ∷ [])
 
-module _ (serves : ServingIsServing) (steps : StepIsStep) (times : TimerIsTimer) where
+module _ (serves : ServingIsServing) (times : TimerIsTimer) where
   plain_tick : (b : Shown) (e : ℕ) → IsSound b → running b.slots.runner ≡ Some e → outcome_of (step_seen b e) ≡ outcome.Retired → 1 < left_of b.slots.runner → is_any_due b.revocations b.time ≡ false → world_of (stretched b e 1) ≡ tick_step (world_of b)
   plain_tick b e sound runs retired more none =
       let w = world_of b in
@@ -143,7 +153,6 @@ module _ (serves : ServingIsServing) (steps : StepIsStep) (times : TimerIsTimer)
       let now = ran b e st in
       let none_served : w ≡ served w = ap world_of (nothing_due b none) ∙ serves b sound in
       let none_turned : w ≡ after w (turn w) = sym (still w b.slots.runner e runs) in
-      let stepped : world_of now ≡ after w (step w) = ap world_of (sym (retires b e st retired)) ∙ steps b e sound runs in
       let size : length now.frames ≡ length b.frames = step_size b.frames (lookup_of b e) (write_after st) in
       let after_sound : IsSound now = record {
         few = sound.few;
@@ -156,7 +165,7 @@ module _ (serves : ServingIsServing) (steps : StepIsStep) (times : TimerIsTimer)
       } in
       ap world_of (sym (counts_on b now b.slots.runner refl more))
       ∙ times now after_sound
-      ∙ ap (λ u. after u (timer u)) stepped
+      ∙ ap (λ u. after u (timer u)) (stepped b e sound runs retired)
       ∙ ap (λ u. let t = after u (step u) in after t (timer t)) none_turned
       ∙ ap (λ v. let u = after v (turn v) in let t = after u (step u) in after t (timer t)) none_served
       ∙ sym (in_parts w)

@@ -48,7 +48,6 @@ pub fn law_stretch()
     ensures { StretchIsTicks }
 {
     law_serving();
-    law_step();
     law_timer();
 }
 
