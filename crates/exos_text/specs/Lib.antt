@@ -1,0 +1,4 @@
+pub mod Draws
+pub mod LoadElf
+pub mod LoadImage
+pub mod LoadSchedule
