@@ -1,2 +1,4 @@
 pub mod Drawing
 pub mod Ordering
+pub mod Programs
+pub mod Written

@@ -3,7 +3,7 @@ use Rattle.std.specs.Prelude.{ℕ, ◌+◌, ◌/◌, ◌%◌, ◌^◌, List, ◌
 use Rattle.std.specs.List.{range_with_len}
 use Rattle.line_text.specs.Text.{dec_text}
 use Rattle.boot_image.specs.ImageValue.{ImageValue}
-use Rattle.boot_image.specs.Spelling.{Elf, EntryValue, PlanValue, image_text, image_with}
+use Rattle.boot_image.specs.Spelling.{Elf, EntryValue, PlanValue, image_text, image_with, program_text}
 use Rattle.exos_text.specs.Draws.{drawn}
 use Rattle.exos_text.specs.LoadElf.{load_elf}
 
@@ -31,6 +31,10 @@ load_plan seed = record { pages = 256; quantum = load_quantum seed; slots = load
 
 abbrev pub load_bodies : List (List ℕ)
 load_bodies = replicate 16 load_elf
+
+-- how the program of a name stands in the file
+abbrev pub named_text : List ℕ → List ℕ
+named_text name = program_text (load_entry name) load_elf
 
 -- the image's file, and what it means
 unfoldable pub load_image_text : ℕ → List ℕ

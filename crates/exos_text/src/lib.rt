@@ -4,6 +4,7 @@
 
 mod draws;
 mod load_elf;
+mod load_image;
 mod load_schedule;
 
 pub use load_elf::LOAD_ELF;

@@ -1,5 +1,5 @@
 //! The program of the load, as an ELF file.
-ghost use Rattle.std.specs.Prelude.{◌≡◌};
+ghost use Rattle.std.specs.Prelude.{◌≡◌, length};
 ghost use Rattle.exos_text.specs.LoadElf.{load_elf};
 
 /// The ELF file of `LOAD`.
@@ -23,7 +23,8 @@ pub const LOAD_ELF: [u8; 216] = [
 /// The same bytes, as the definitions name them.
 #[tactic(auto, unfolding(crate::specs::LoadElf::load_elf))]
 pub(crate) fn load_elf() -> &'static [u8]
-    ensures { result.now ≡ load_elf }
+    ensures bytes { result.now ≡ load_elf }
+    ensures size { length result.now ≡ 216 }
 {
     &LOAD_ELF
 }
