@@ -120,3 +120,14 @@ fn write_image(alloc: Global, seed: u32) -> Result<Vec<u8>, OutOfMemory>
     push_programs(&mut file, &NAMES)?;
     Ok(file)
 }
+
+/// The image of the load that a seed gives: sixteen environments with the program of `LOAD`, which own 64 slots in turn.
+/// The image has no fault. The error is that memory ran out.
+pub fn load_image(alloc: Global, seed: u32) -> Result<Vec<u8>, OutOfMemory>
+    ensures text { IfOk result (λ file. file.items ≡ load_image_text seed) }
+    ensures sound { IfOk result (λ file. image_fault file.items ≡ None) }
+    ensures image { IfOk result (λ file. image_of file.items ≡ load_image_value seed) }
+    ensures short { IfOk result (λ file. length file.items < 2 ^ 27) }
+{
+    write_image(alloc, seed)
+}
