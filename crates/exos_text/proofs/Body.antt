@@ -1,6 +1,6 @@
 -- The program of the load is an ELF file without fault, and fills two pages.
 use Rattle.std.proofs.Common.{◌≡◌, ◌≤◌, ◌<◌, ℕ, zero, suc, ◌+◌, ◌-◌, ◌*◌, Bool, true, false, List, [], ◌∷◌, None, length, arith, refl, subst, sym}
-use Rattle.std.specs.Prelude.{nat_lt, max, min, ◌||◌}
+use Rattle.std.specs.Prelude.{max, min, ◌||◌}
 use Rattle.std.specs.List.{filter, list_any}
 use Rattle.aegis_limits.specs.Limits.{vpn_end}
 use Rattle.byte_numbers.specs.Numbers.{half_at, word_at}

@@ -1,15 +1,13 @@
 -- The image of the load is within the limits, and so it is read without a fault.
-use Rattle.std.proofs.Common.{◌≡◌, ◌≤◌, ◌<◌, ◌∙◌, ℕ, zero, suc, ◌+◌, ◌*◌, ◌%◌, ◌^◌, Bool, true, false, List, [], ◌∷◌, Option, Some, None, length, map, replicate, Result, Ok, Err, IfOk, ap, arith, refl, subst, sym}
+use Rattle.std.proofs.Common.{◌≡◌, ◌≤◌, ◌<◌, ◌∙◌, ℕ, zero, suc, ◌+◌, ◌*◌, ◌%◌, ◌^◌, Bool, true, false, List, [], ◌∷◌, Some, None, length, map, replicate, Result, Ok, Err, IfOk, ap, arith, refl, subst, sym}
 use Rattle.std.specs.Prelude.{sum_by, ◌&&◌, ◌==◌}
 use Rattle.std.specs.List.{AllByRecursion, list_all, range_with_len}
 use Rattle.std.specs.Fmt.{digits}
 use Rattle.std.proofs.lemmas.Bool.{eqb-true}
 use Rattle.std.proofs.lemmas.List.Sums.{sum_by-cons}
 use Rattle.line_text.specs.Text.{dec_text}
-use Rattle.elf_static.specs.AcceptedElf.{IsAcceptedElf}
 use Rattle.elf_static.specs.ElfValue.{elf_of}
 use Rattle.elf_static.proofs.Acceptance.{accepted}
-use Rattle.segment_pages.specs.Pages.{vpns}
 use Rattle.boot_image.specs.ImageValue.{ProgramValue, guaranteed_mappings, image_of}
 use Rattle.boot_image.specs.ImageFaults.{image_fault, is_name}
 use Rattle.boot_image.specs.Accepted.{IsAccepted, IsFitting, IsOwnerBelow}

@@ -1,13 +1,13 @@
 -- What is written, part by part, is the image's file.
-use Rattle.std.proofs.Common.{◌≡◌, ◌∙◌, ℕ, List, [], ◌∷◌, ◌++◌, length, map, ap, arith, refl, sym}
+use Rattle.std.proofs.Common.{◌≡◌, ◌∙◌, ℕ, List, [], ◌++◌, length, map, ap, refl, sym}
 use Rattle.std.specs.Prelude.{codes}
 use Rattle.std.specs.Int.{w16, w32, to_le_bytes}
 use Rattle.std.specs.List.{flat_map, range_with_len}
 use Rattle.std.specs.Fmt.{digits}
 use Rattle.line_text.specs.Text.{dec_text}
 use Rattle.boot_image.specs.Spelling.{EntryValue, programs_text, slot_byte}
-use Rattle.exos_text.specs.declared.load_image.TheConstants.{NAMES}
-use Rattle.exos_text.specs.LoadImage.{load_bodies, load_entries, load_entry, load_image_text, load_name, load_plan, load_quantum, load_slots, named_text}
+use Rattle.exos_text.specs.declared.image.TheConstants.{NAMES}
+use Rattle.exos_text.specs.LoadImage.{load_bodies, load_entries, load_entry, load_image_text, load_name, load_quantum, load_slots, named_text}
 use Rattle.exos_text.proofs.Programs.{with_one_body}
 
 -- texts one behind the other
@@ -39,7 +39,7 @@ text_is : (seed : ℕ) (programs : List ℕ) → programs ≡ programs_text load
 unfolding load_image_text
 text_is seed programs are =
     let whole = λ (count : ℕ) (text : List ℕ).
-        codes "AEG1" ++ to_le_bytes w32 256 ++ to_le_bytes w32 (load_quantum seed) ++ to_le_bytes w16 count ++ to_le_bytes w16 64 ++ map slot_byte load_slots ++ text in
+    codes "AEG1" ++ to_le_bytes w32 256 ++ to_le_bytes w32 (load_quantum seed) ++ to_le_bytes w16 count ++ to_le_bytes w16 64 ++ map slot_byte load_slots ++ text in
     ap (whole 16) are ∙ ap (λ (count : ℕ). whole count (programs_text load_entries load_bodies)) (sym entries_count)
 
 pub written : (seed q : ℕ) (none one two three four five six seven : List ℕ) → q ≡ load_quantum seed → none ≡ [] → one ≡ none ++ codes "AEG1" → two ≡ one ++ to_le_bytes w32 256

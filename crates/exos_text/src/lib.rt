@@ -1,10 +1,17 @@
 //! ExOS, the library operating system of `examples/exos`, as texts; and a load that is made of a number: an image of
 //! sixteen environments, and a schedule of a thousand packets.
+//!
+//! The image of each number has no fault, and the events are within their limits and in order. So what boots and runs
+//! them has no refusal to answer.
 #![tactic(auto)]
 
 mod draws;
-mod load_elf;
-mod load_image;
-mod load_schedule;
+mod image;
+mod library;
+mod program;
+mod schedule;
 
-pub use load_elf::LOAD_ELF;
+pub use image::load_image;
+pub use library::{PIPE, RPC, STRIDE, VM};
+pub use program::{LOAD, LOAD_ELF};
+pub use schedule::load_schedule;

@@ -1,6 +1,6 @@
 -- The parts one behind the other are the image's file.
 use Rattle.exos_text.proofs.Written.{written}
-use Rattle.exos_text.proofs.load_image.write_image.Goals as goal
+use Rattle.exos_text.proofs.image.write_image.Goals as goal
 
 pub returns : goal.returns
 returns c =

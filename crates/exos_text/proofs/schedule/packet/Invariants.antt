@@ -1,7 +1,7 @@
 use Rattle.std.proofs.Common.{◌≡◌, ◌+◌, length}
 use Rattle.exos_text.specs.Draws.{drawn}
 use Rattle.exos_text.proofs.Drawing.{bytes_of}
-use Rattle.exos_text.proofs.load_schedule.packet.Given as goal
+use Rattle.exos_text.proofs.schedule.packet.Given as goal
 
 -- the first byte and so many others, of as many draws
 abbrev pub invariant-loop : goal.invariant-loop

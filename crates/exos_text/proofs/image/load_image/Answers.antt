@@ -4,7 +4,7 @@ use Rattle.boot_image.specs.ImageFaults.{image_fault}
 use Rattle.boot_image.specs.ImageValue.{image_of}
 use Rattle.exos_text.specs.LoadImage.{load_image_text, load_image_value}
 use Rattle.exos_text.proofs.Sound.{of_text, sound, text_size}
-use Rattle.exos_text.proofs.load_image.load_image.Goals as goal
+use Rattle.exos_text.proofs.image.load_image.Goals as goal
 
 pub returns-clause-sound : goal.returns-clause-sound
 returns-clause-sound c =

@@ -7,7 +7,7 @@ ghost use Rattle.boot_image.specs.Spelling.{slot_byte};
 ghost use Rattle.exos_text.specs.LoadImage.{load_image_text, load_image_value, load_quantum, load_slots, named_text};
 
 use crate::draws::Draws;
-use crate::load_elf::load_elf;
+use crate::program::load_elf;
 use aegis_limits::OutOfMemory;
 use byte_numbers::{push_half, push_word};
 use std::alloc::Global;
@@ -49,14 +49,17 @@ const NAMES: [[u8; NAME_SIZE]; 16] = [
 
 /// The shortest quantum that is drawn, and how many there are.
 const LEAST_QUANTUM: u32 = 64;
+
 const QUANTA: u32 = 64;
 
 /// The kind of a body that is an ELF file, which has no base of its own.
 const ELF: u32 = 1;
+
 const NO_BASE: u32 = 0;
 
 /// A program has no stack, and accepts transfers from nobody.
 const STACK: u32 = 0;
+
 const ACCEPT: u32 = 0;
 
 /// The bytes of the image: its header, a byte for each slot, and for each environment a header of 28 bytes and a body.

@@ -1,9 +1,8 @@
 -- One byte more, of one draw more.
-use Rattle.std.proofs.Common.{◌≡◌, ◌∙◌, ℕ, ◌+◌, ◌/◌, ◌%◌, ◌^◌, List, [], ◌∷◌, ◌++◌, ap, arith, sym, rules, add_assoc}
+use Rattle.std.proofs.Common.{◌≡◌, ◌∙◌, ℕ, ◌+◌, ◌/◌, ◌^◌, List, [], ◌∷◌, ◌++◌, ap, arith, rules, add_assoc}
 use Rattle.exos_text.specs.Draws.{drawn, next}
-use Rattle.exos_text.specs.LoadSchedule.{load_packet}
 use Rattle.exos_text.proofs.Drawing.{bytes_of, byte_of, bytes_more, drawn_next, drawn_one, packet_is}
-use Rattle.exos_text.proofs.load_schedule.packet.Goals as goal
+use Rattle.exos_text.proofs.schedule.packet.Goals as goal
 
 pub loop-init : goal.loop-init
 loop-init c =

@@ -1,10 +1,9 @@
 -- One event more, and the order of all.
-use Rattle.std.proofs.Common.{◌≡◌, ◌∙◌, ◌+◌, ◌*◌, List, [], ◌∷◌, ◌++◌, ap, arith, sym, rules, refl}
+use Rattle.std.proofs.Common.{◌∙◌, ap, arith, rules}
 use Rattle.external_event.specs.Order.{are_in_order}
-use Rattle.exos_text.specs.LoadSchedule.{load_event, load_events}
 use Rattle.exos_text.proofs.Drawing.{drawn_one}
 use Rattle.exos_text.proofs.Ordering.{events_are, events_more, in_order}
-use Rattle.exos_text.proofs.load_schedule.load_schedule.Goals as goal
+use Rattle.exos_text.proofs.schedule.load_schedule.Goals as goal
 
 pub loop-number-init : goal.loop-number-init
 loop-number-init c = record { events = search rules; draws = c.draw.ensures.number ∙ drawn_one c.args.seed }
@@ -12,7 +11,7 @@ loop-number-init c = record { events = search rules; draws = c.draw.ensures.numb
 pub loop-number-preserved : goal.loop-number-preserved
 loop-number-preserved c = record {
   events = events_more c.args.seed c.loop-number.number c.in_ok-event.field-0 c.loop-number.events.items c.push.new.self.items
-  c.loop-number.invariant.events c.in_ok-push.ensures.items c.in_ok-event.ensures.event;
+      c.loop-number.invariant.events c.in_ok-push.ensures.items c.in_ok-event.ensures.event;
   draws = c.event.ensures.draws;
 }
 

@@ -1,6 +1,6 @@
 use Rattle.std.proofs.Common.{◌≡◌, ◌++◌, ◌%◌, map}
 use Rattle.std.specs.List.{range_with_len}
-use Rattle.exos_text.proofs.load_image.push_slots.Given as goal
+use Rattle.exos_text.proofs.image.push_slots.Given as goal
 
 -- the owners of the slots so far
 abbrev pub invariant-loop-slot : goal.invariant-loop-slot

@@ -1,8 +1,8 @@
 -- The draws of a packet come after those before it.
-use Rattle.std.proofs.Common.{◌≡◌, ◌∙◌, ◌+◌, ◌*◌, ap, arith}
+use Rattle.std.proofs.Common.{◌∙◌, ◌+◌, ◌*◌, ap, arith}
 use Rattle.exos_text.specs.Draws.{drawn}
 use Rattle.exos_text.proofs.Drawing.{drawn_on}
-use Rattle.exos_text.proofs.load_schedule.event.Goals as goal
+use Rattle.exos_text.proofs.schedule.event.Goals as goal
 
 pub returns-in_err-packet-clause-draws : goal.returns-in_err-packet-clause-draws
 returns-in_err-packet-clause-draws c =
