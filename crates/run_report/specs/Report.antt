@@ -209,3 +209,10 @@ unfoldable pub report_text : World → RunEnd → List ℕ
 report_text w how =
     line (codes "aegis" ∷ codes "run" ∷ []) ++ end_line w how ++ for_each (env_text w) w.count
     ++ flat_map row_line w.rows ++ for_each (sum_line w.rows) w.count ++ line (codes "done" ∷ [])
+
+-- a run in short: how it ended, the sums, and the fingerprint of its report
+unfoldable pub report_line : World → RunEnd → List ℕ
+report_line w how = line (codes "report" ∷ fingerprint (report_text w how) ∷ [])
+
+unfoldable pub summary_text : World → RunEnd → List ℕ
+summary_text w how = end_line w how ++ for_each (sum_line w.rows) w.count ++ report_line w how ++ line (codes "done" ∷ [])

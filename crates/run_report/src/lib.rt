@@ -17,4 +17,4 @@ mod text;
 mod words;
 
 pub use environment::env_lines;
-pub use text::report;
+pub use text::{push_summary, report};

@@ -11,8 +11,8 @@ use world_model::{PageView, WorldView};
 /// The characters of a fingerprint: two for each byte of a digest.
 const FINGERPRINT_SIZE: usize = 64;
 
-/// A page's fingerprint: SHA-256 of its bytes in hexadecimal digits.
-fn fingerprint(bytes: &[u8]) -> [u8; FINGERPRINT_SIZE]
+/// The fingerprint of bytes: their SHA-256 in hexadecimal digits.
+pub(crate) fn fingerprint(bytes: &[u8]) -> [u8; FINGERPRINT_SIZE]
     ensures { result ≡ fingerprint bytes.now }
 {
     let digest = Sha256::digest(bytes);

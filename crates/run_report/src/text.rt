@@ -1,9 +1,10 @@
 //! The whole report.
 ghost use Rattle.std.specs.Prelude.{◌≡◌, ◌++◌, OnOk, IfOk};
-ghost use Rattle.run_report.specs.Report.{env_text, sum_line, for_each, end_text, end_line, report_text};
+ghost use Rattle.run_report.specs.Report.{env_text, sum_line, for_each, end_text, end_line, report_line, report_text, summary_text};
 
 use crate::environment::push_env;
 use crate::ledger::push_rows;
+use crate::page::fingerprint;
 use crate::sums::push_sum_line;
 use crate::words::{Word, number, push_line, push_text};
 use aegis_limits::OutOfMemory;
@@ -24,6 +25,38 @@ pub fn report<V: WorldView>(alloc: Global, view: &V, end: RunEnd) -> Result<Vec<
     push_sums(&mut out, view)?;
     push_text(&mut out, b"done\n")?;
     Ok(out)
+}
+
+/// Appends a run in short: how it ended, the sums of each environment, and the fingerprint of its report
+/// (`docs/REPORT.md`, "The summary").
+#[tactic(auto, unfolding(crate::specs::Report::summary_text))]
+pub fn push_summary<V: WorldView>(
+    alloc: Global,
+    out: &mut Vec<u8>,
+    view: &V,
+    end: RunEnd,
+) -> Result<(), OutOfMemory>
+    ensures { OnOk result (out.new.items ≡ out.old.items ++ summary_text (V.world view.now) end) }
+{
+    push_end_line(out, view, end)?;
+    push_sums(out, view)?;
+    push_report_line(alloc, out, view, end)?;
+    push_text(out, b"done\n")
+}
+
+/// Appends the line of a report's fingerprint. The report is made, and given up again.
+#[tactic(auto, unfolding(crate::specs::Report::report_line, crate::specs::Words::line_of))]
+fn push_report_line<V: WorldView>(
+    alloc: Global,
+    out: &mut Vec<u8>,
+    view: &V,
+    end: RunEnd,
+) -> Result<(), OutOfMemory>
+    ensures { OnOk result (out.new.items ≡ out.old.items ++ report_line (V.world view.now) end) }
+{
+    let report = report(alloc, view, end)?;
+    let fingerprint = fingerprint(&report);
+    push_line(out, b"report", &[Word::Text(&fingerprint)])
 }
 
 /// Appends the line of how the run ended, and when.
