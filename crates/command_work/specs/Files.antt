@@ -31,9 +31,9 @@ AreRead told (name ∷ names) (bytes ∷ contents) = Tells told name bytes × Ar
 abbrev pub AreFirst : Names → Option (List ℕ → Option (List ℕ)) → List (List ℕ) → Type 0
 AreFirst names told contents = AreRead told (names_so_far names contents) contents
 
--- the shelf tells these contents of the names, in order
+-- The shelf tells these contents of the names, in order. Where there is no name, every shelf does.
 abbrev pub AreTold : Option (List ℕ → Option (List ℕ)) → List (List ℕ) → List (List ℕ) → Type 0
-AreTold None names contents = ⊥
+AreTold None names contents = (names ≡ []) × (contents ≡ [])
 AreTold (Some files) names contents = AreRead (Some files) names contents
 
 -- the shelf is sure to serve each name that may be next
