@@ -16,9 +16,10 @@ use Rattle.command_work.specs.Files.{AreRead, AreTold}
 use Rattle.command_work.specs.Due.{Due, Refusal, Whole, Found, text_of, status_of, unless_refused}
 use Rattle.command_work.specs.Outcome.{Decided, IsWhole, IsPart, Outcome, Finished}
 use Rattle.command_work.specs.Work.{Performed}
-use Rattle.aegis_command.specs.Headline.{NoFault, Ends, IsComplete, IsHeadline, IsTaken}
+use Rattle.aegis_command.specs.Headline.{NoFault, Ends, IsComplete, IsHeadline, IsLoad, IsTaken}
 use Rattle.std.specs.Option.{option_map}
 use Rattle.aegis_command.specs.Words.{command_of}
+use Rattle.aegis_command.specs.LoadSeed.{load_seed}
 use Rattle.aegis_command.specs.RunImage.{image_refused, report_after, run_due, run_image, schedule_refused}
 
 -- what is read of told files is what is told
@@ -43,9 +44,25 @@ same_first files (n ∷ names) a b (x ∷ xs) (y ∷ ys) p q =
     let tails = same_first files names a b xs ys p.1 q.1 in
     cc
 
+-- nothing is read of no names
+none_read : (contents : List (List ℕ)) → AreRead None [] contents → contents ≡ []
+none_read [] read = refl
+none_read (bytes ∷ contents) read = absurd read
+
+no_first : (first more : List (List ℕ)) → first ++ more ≡ [] → first ≡ []
+no_first [] more is = refl
+no_first (name ∷ first) more is = cc
+
+-- a command that names no file names none, whatever is read
+no_names : (c : CommandValue) (xs ys : List (List ℕ)) → names_of c xs ≡ [] → names_of c ys ≡ []
+no_names c xs ys none =
+    let first : c.names ≡ [] = no_first c.names (c.further (take (length c.names) xs)) none in
+    let P : List (List ℕ) → Type 0 = λ names. names ++ c.further (take (length names) ys) ≡ names ++ c.further (take (length names) xs) in
+    subst P (sym first) refl ∙ none
+
 -- so it is of a command's files
 pub told_contents : (c : CommandValue) (told : Option (List ℕ → Option (List ℕ))) (xs ys : List (List ℕ)) → AreTold told (names_of c xs) xs → AreRead told (names_of c ys) ys → xs ≡ ys
-told_contents c None xs ys a b = absurd a
+told_contents c None xs ys a b = a.1 ∙ sym (none_read ys (subst (λ (names : List (List ℕ)). AreRead None names ys) (no_names c xs ys a.0) b))
 told_contents c (Some files) xs ys a b =
     let first = same_first files c.names (c.further (take (length c.names) xs)) (c.further (take (length c.names) ys)) xs ys a b in
     let names : names_of c xs ≡ names_of c ys = ap (λ (zs : List (List ℕ)). c.names ++ c.further zs) first in
@@ -122,3 +139,14 @@ is_outcome c s k answer text result p same (inl w) =
     subst (Outcome c s k) (sym (w.0 ∙ p.1.status)) (outcome_by c s k p.0 p.0.due refl (subst (IsWhole k) (same ∙ p.1.text) w.1))
 is_outcome c s k answer text result p same (inr w) =
     subst (Outcome c s k) (sym w.0) (p.0, subst (IsPart k) (same ∙ p.1.text) w.1)
+
+-- Every shelf tells what no names have.
+told_nothing : (told : Option (List ℕ → Option (List ℕ))) → AreTold told [] []
+told_nothing None = (refl, refl)
+told_nothing (Some files) = tt
+
+-- what load writes is completeness for its words
+pub is_load : (words : List (List ℕ)) (s : ShelfEdge) (k : SinkEdge) (result : Status) → IfSome (command_of words) (λ c. Outcome c s k result) → IsLoad words s k result
+is_load words s k result outcome number seed are seed_is calm =
+    let is : command_of words ≡ Some (load_seed seed) = ap command_of are ∙ ap (option_map load_seed) seed_is in
+    is_complete (command_of words) s k result outcome (load_seed seed) [] is (told_nothing s.told) calm

@@ -11,6 +11,7 @@ use Rattle.command_work.specs.Command.{CommandValue, names_of}
 use Rattle.command_work.specs.Due.{Due, status_of, text_of, usage_text}
 use Rattle.command_work.specs.Edges.{ShelfEdge, SinkEdge}
 use Rattle.command_work.specs.Files.{AreTold, IsServed}
+use Rattle.aegis_command.specs.LoadSeed.{load_summary, seed_of}
 use Rattle.aegis_command.specs.RunImage.{report_after, ticks_of}
 
 -- neither count of faults rose in the call
@@ -59,3 +60,10 @@ IsHeadline words s k result =
     files image_name ≡ Some image → files schedule_name ≡ Some schedule →
     image_fault image ≡ None → schedule_fault schedule ≡ None → NoFault s k →
     IsWritten status.Done (report_after (image_of image) (events_of schedule) ticks) k result ⊎ IsWanting k result
+
+-- For the words `load SEED`, where no fault is met, the run of the seed's image and events is written in short, or memory
+-- was wanting. There is no file that could be refused.
+abbrev pub IsLoad : List (List ℕ) → ShelfEdge → SinkEdge → Status → Type 0
+IsLoad words s k result =
+    (number : List ℕ) (seed : ℕ) → words ≡ codes "load" ∷ number ∷ [] → seed_of number ≡ Some seed → NoFault s k →
+    IsWritten status.Done (load_summary seed) k result ⊎ IsWanting k result

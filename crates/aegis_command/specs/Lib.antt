@@ -1,3 +1,4 @@
 pub mod RunImage
+pub mod LoadSeed
 pub mod Words
 pub mod Headline

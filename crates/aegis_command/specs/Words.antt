@@ -7,7 +7,8 @@ use Rattle.command_work.specs.Command.{CommandValue, of_one_name}
 use Rattle.command_work.specs.ListElf.{list_elf}
 use Rattle.command_work.specs.MakeImage.{make_image}
 use Rattle.aegis_command.specs.declared.words.Words.{Words}
-use Rattle.aegis_command.specs.declared.words.Words.TheVariants.{Run, Assemble, List as ListFile, Image}
+use Rattle.aegis_command.specs.declared.words.Words.TheVariants.{Run, Assemble, List as ListFile, Image, Load}
+use Rattle.aegis_command.specs.LoadSeed.{load_seed, load_words}
 use Rattle.aegis_command.specs.RunImage.{run_image, run_words}
 
 -- the command of these words, if they are one's: its own word first, and then those that it asks for
@@ -17,7 +18,8 @@ command_of (word ∷ words) =
     if bytes_eq word (codes "run") then run_words words else
     if bytes_eq word (codes "asm") then of_one_name asm words else
     if bytes_eq word (codes "list") then of_one_name list_elf words else
-    if bytes_eq word (codes "image") then of_one_name make_image words else None
+    if bytes_eq word (codes "image") then of_one_name make_image words else
+    if bytes_eq word (codes "load") then load_words words else None
 
 -- the command of the words after the program's name, if they are one's
 abbrev pub asked_by : List (String Global) → Option CommandValue
@@ -29,3 +31,4 @@ command_seen (Run c) = run_image c.image.now c.schedule.now c.ticks.number
 command_seen (Assemble c) = asm c.source.now
 command_seen (ListFile c) = list_elf c.elf.now
 command_seen (Image c) = make_image c.manifest.now
+command_seen (Load c) = load_seed c.seed

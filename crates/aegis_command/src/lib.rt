@@ -5,6 +5,7 @@
 //! is, and how a call ends, is defined in `command_work`, on which this stands; `Words` here has the table of commands.
 #![tactic(auto)]
 
+mod loading;
 mod running;
 mod ticks;
 mod top;

@@ -7,6 +7,7 @@ ghost use Rattle.command_work.specs.Files.{IsServed};
 ghost use Rattle.command_work.specs.Work.{Performed, Stopped, StopsByWantAlone};
 ghost use Rattle.aegis_command.specs.Words.{asked_by, command_seen};
 
+use crate::loading::LoadSeed;
 use crate::running::RunImage;
 use command_work::{Answer, Asm, ListElf, MakeImage, Stop, perform};
 use edge_io::Shelf;
@@ -23,6 +24,8 @@ pub enum Words<'a> {
     List(ListElf<'a>),
     /// `image MANIFEST`.
     Image(MakeImage<'a>),
+    /// `load SEED`.
+    Load(LoadSeed),
 }
 
 /// The one word that there is.
@@ -58,6 +61,9 @@ pub fn parse(words: &[String]) -> Option<Words<'_>>
         let manifest = only_name(rest)?;
         return Some(Words::Image(MakeImage { manifest }));
     }
+    if word == "load" {
+        return Some(Words::Load(LoadSeed::parse(rest)?));
+    }
     None
 }
 
@@ -76,5 +82,6 @@ pub fn perform_words<S: Shelf>(
         Words::Assemble(command) => perform(alloc, &command, shelf),
         Words::List(command) => perform(alloc, &command, shelf),
         Words::Image(command) => perform(alloc, &command, shelf),
+        Words::Load(command) => perform(alloc, &command, shelf),
     }
 }

@@ -1,0 +1,122 @@
+//! The command `load SEED`.
+ghost use Rattle.std.specs.Prelude.{◌≡◌, ◌<◌, ◌^◌, ◌++◌, [], ◌∷◌, None, IfOk, OnOk, codes, length, map, option_map, string_bytes, true};
+ghost use Rattle.boot_image.specs.ImageFaults.{image_fault};
+ghost use Rattle.boot_image.specs.ImageValue.{image_of};
+ghost use Rattle.external_event.specs.Order.{are_in_order};
+ghost use Rattle.line_text.specs.Text.{dec_text};
+ghost use Rattle.run_report.specs.Report.{line};
+ghost use Rattle.aegis_command.specs.LoadSeed.{load_seed, load_summary, load_ticks, load_words, summary_after};
+
+use crate::ticks::Ticks;
+use aegis_limits::OutOfMemory;
+use aegis_tick::{boot, run};
+use boot_image::{Image, read_image};
+use command_work::{Answer, Command, Status};
+use exos_text::{load_image, load_schedule};
+use external_event::Event;
+use line_text::{decimal, push_dec};
+use run_report::push_summary;
+use std::alloc::Global;
+
+/// How many ticks are run.
+const TICKS: u32 = 1_000_000;
+
+/// `load SEED`: a run in short, of the image and the schedule that a number gives.
+#[derive(Clone, Copy)]
+pub struct LoadSeed {
+    /// The number.
+    pub seed: u32,
+}
+
+impl LoadSeed {
+    /// The load that the words behind `load` ask for, if they are one's.
+    pub fn parse(words: &[String]) -> Option<LoadSeed>
+        ensures { option_map (λ c. load_seed c.seed) result ≡ load_words (map string_bytes words.now) }
+    {
+        let [seed] = words else {
+            return None;
+        };
+        let seed = decimal(seed.as_str().as_bytes())?;
+        Some(LoadSeed { seed })
+    }
+}
+
+/// The ticks of a load.
+#[tactic(auto, unfolding(crate::specs::LoadSeed::load_ticks))]
+fn load_ticks() -> Ticks
+    ensures { result.number ≡ load_ticks }
+{
+    Ticks { number: TICKS }
+}
+
+/// The image of a file that has no fault.
+fn sound_image(file: &[u8]) -> Image<'_>
+    requires short { length file.now < 2 ^ 27 }
+    requires sound { image_fault file.now ≡ None }
+    ensures { result ≡ image_of file.now }
+{
+    match read_image(file) {
+        Ok(image) => image,
+        Err(_) => unreachable!(),
+    }
+}
+
+/// Appends a run of so many ticks in short, in which these events happen.
+#[tactic(auto, unfolding(crate::specs::LoadSeed::summary_after))]
+fn push_run(
+    alloc: Global,
+    out: &mut Vec<u8>,
+    image: &Image<'_>,
+    events: &[Event],
+    ticks: Ticks,
+) -> Result<(), OutOfMemory>
+    requires { are_in_order 0 events.now ≡ true }
+    ensures { OnOk result (out.new.items ≡ out.old.items ++ summary_after image.now events.now ticks.number) }
+{
+    let mut board = boot(alloc, image)?;
+    let end = run(&mut board, events, ticks.number)?;
+    push_summary(alloc, out, &board, end)
+}
+
+/// The line that names the seed.
+fn seed_line(alloc: Global, seed: u32) -> Result<Vec<u8>, OutOfMemory>
+    ensures { IfOk result (λ text. text.items ≡ line (codes "load" ∷ dec_text seed ∷ [])) }
+{
+    let mut text = Vec::new(alloc);
+    text.extend_from_slice(b"load ")?;
+    push_dec(&mut text, u64::from(seed))?;
+    text.push(b'\n')?;
+    Ok(text)
+}
+
+/// What is due for a seed.
+#[tactic(auto, unfolding(crate::specs::LoadSeed::load_summary))]
+fn summary(alloc: Global, seed: u32) -> Result<Vec<u8>, OutOfMemory>
+    ensures { IfOk result (λ text. text.items ≡ load_summary seed) }
+{
+    let file = load_image(alloc, seed)?;
+    let image = sound_image(&file);
+    let events = load_schedule(alloc, seed)?;
+    let mut text = seed_line(alloc, seed)?;
+    push_run(alloc, &mut text, &image, &events, load_ticks())?;
+    Ok(text)
+}
+
+impl Command for LoadSeed {
+    ghost value = { λ command. load_seed command.seed };
+
+    fn names(&self, alloc: Global) -> Result<Vec<String>, OutOfMemory> {
+        Ok(Vec::new(alloc))
+    }
+
+    fn further(&self, alloc: Global, _contents: &[Vec<u8>]) -> Result<Vec<String>, OutOfMemory> {
+        Ok(Vec::new(alloc))
+    }
+
+    fn answer(&self, alloc: Global, _contents: &[Vec<u8>]) -> Result<Answer, OutOfMemory> {
+        Ok(Answer {
+            text: summary(alloc, self.seed)?,
+            status: Status::Done,
+        })
+    }
+}
