@@ -75,10 +75,10 @@ loop-done-preserved c =
     let coming = next_coming es i t these are now.coming in
     let soon : c.take_due-now.new.soon ≡ next_time_of rest = c.take_due-now.ensures.soon ∙ ap (λ (n : ℕ). next_time_of (drop n es)) c.take_due-now.ensures.next in
     let once = c.in_ok-tick_with.ensures.world
-        ∙ ap (λ (xs : List Occurrence). tick_step (world_with xs v)) (sym happens)
-        ∙ sym (then_ticks schedule v)
-        ∙ ap (λ (u : World). run_phases u (next_phases schedule u)) now.world
-        ∙ sym (goes_on schedule w t busy) in
+    ∙ ap (λ (xs : List Occurrence). tick_step (world_with xs v)) (sym happens)
+    ∙ sym (then_ticks schedule v)
+    ∙ ap (λ (u : World). run_phases u (next_phases schedule u)) now.world
+    ∙ sym (goes_on schedule w t busy) in
     let time = c.in_ok-tick_with.ensures.time ∙ ap (λ (m : ℕ). m + 1) now.time in
     let most = c.stretch-done.ensures.most in
     let limit = c.requires.limit in
