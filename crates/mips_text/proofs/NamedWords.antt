@@ -13,8 +13,7 @@ use Rattle.mips_codec.proofs.RowsRead.{insn_of-row}
 use Rattle.mips_codec.proofs.RowsFound.{Key, Special, Regimm, System, Operation, Opcode, key_of, has_row, row_for}
 use Rattle.mips_codec.proofs.Spelling.{spells_insn_of}
 use Rattle.mips_text.specs.WordRows.{is_nameless, main_rows, operand_bits, row_of, spells}
-use Rattle.mips_text.specs.declared.shape.Shape.TheVariants.{Alone}
-use Rattle.mips_text.specs.declared.text.Text.{Text}
+use Rattle.mips_text.specs.Texts.{TextValue}
 
 -- a number for each key, by which rows are found
 abbrev number_of : Key → ℕ
@@ -25,19 +24,19 @@ number_of (Operation low) = 2 ^ 8 + low
 number_of (Opcode op) = 2 ^ 9 + op
 
 -- the row whose word has an instruction's key
-abbrev has_key_of : Insn → List ℕ × Text → Bool
-has_key_of insn row = number_of (key_of (Whole row.1.0)) == number_of (key_of (form_of insn))
+abbrev has_key_of : Insn → List ℕ × TextValue → Bool
+has_key_of insn row = number_of (key_of (Whole row.1.word)) == number_of (key_of (form_of insn))
 
 -- the first text that has it
-abbrev text_at : List (List ℕ × Text) → Insn → Text
-text_at rows insn = (unwrap_or (find (has_key_of insn) rows) ([], record { 0 = 0; 1 = Alone })).1
+abbrev text_at : List (List ℕ × TextValue) → Insn → TextValue
+text_at rows insn = (unwrap_or (find (has_key_of insn) rows) ([], record { word = 0; operands = [] })).1
 
 both_true : (a b : Bool) → IsTrue a → IsTrue b → IsTrue (a && b)
 both_true true b left right = right
 both_true false b left right = cc
 
 -- a word of the text with an instruction's key is one of an instruction with a name
-name_at : (w : ℕ) (insn : Insn) → is_nameless insn ≡ false → w ≡ (text_at main_rows insn).0 + operand_bits (text_at main_rows insn).1 w
+name_at : (w : ℕ) (insn : Insn) → is_nameless insn ≡ false → w ≡ (text_at main_rows insn).word + operand_bits (text_at main_rows insn).operands w
     → is_nameless (insn_of w) ≡ false
 unfolding form_of
 name_at w (Cop op rest) name is = cc
@@ -47,46 +46,46 @@ name_at w insn name is =
     (insn_of-row w (row_for w insn).insn (has_row w insn refl (omega arith) (search (arith, eq-eqb, both_true))))
 
 -- where one of these rows is a word's, its instruction has a name
-abbrev Name : ℕ → List (List ℕ × Text) → Type 0
+abbrev Name : ℕ → List (List ℕ × TextValue) → Type 0
 Name w [] = Unit {0}
-Name w (row ∷ rows) = (w ≡ row.1.0 + operand_bits row.1.1 w → is_nameless (insn_of w) ≡ false) × Name w rows
+Name w (row ∷ rows) = (w ≡ row.1.word + operand_bits row.1.operands w → is_nameless (insn_of w) ≡ false) × Name w rows
 
 -- of a row, the text with the key of its word's instruction, and whether that has no name
 record Seen : Type 0 where
-  text : Text
+  text : TextValue
   nameless : Bool
 
-abbrev seen : List ℕ × Text → Seen
-seen row = record { text = text_at main_rows (insn_of row.1.0); nameless = is_nameless (insn_of row.1.0) }
+abbrev seen : List ℕ × TextValue → Seen
+seen row = record { text = text_at main_rows (insn_of row.1.word); nameless = is_nameless (insn_of row.1.word) }
 
 -- what is to be seen of a row
-abbrev meant : List ℕ × Text → Seen
+abbrev meant : List ℕ × TextValue → Seen
 meant row = record { text = row.1; nameless = false }
 
-name_of : (w : ℕ) (text : Text) (insn : Insn) → text_at main_rows insn ≡ text → is_nameless insn ≡ false → w ≡ text.0 + operand_bits text.1 w → is_nameless (insn_of w) ≡ false
-name_of w text insn is name spelled = name_at w insn name (subst (λ (t : Text). w ≡ t.0 + operand_bits t.1 w) (sym is) spelled)
+name_of : (w : ℕ) (text : TextValue) (insn : Insn) → text_at main_rows insn ≡ text → is_nameless insn ≡ false → w ≡ text.word + operand_bits text.operands w → is_nameless (insn_of w) ≡ false
+name_of w text insn is name spelled = name_at w insn name (subst (λ (t : TextValue). w ≡ t.word + operand_bits t.operands w) (sym is) spelled)
 
-names_of : (w : ℕ) (rows : List (List ℕ × Text)) → map seen rows ≡ map meant rows → Name w rows
+names_of : (w : ℕ) (rows : List (List ℕ × TextValue)) → map seen rows ≡ map meant rows → Name w rows
 names_of w [] is = tt
 names_of w (row ∷ rows) is =
     let first : seen row ≡ meant row = cc in
     let rest : map seen rows ≡ map meant rows = cc in
-    (name_of w row.1 (insn_of row.1.0) (ap (λ (s : Seen). s.text) first) (ap (λ (s : Seen). s.nameless) first), names_of w rows rest)
+    (name_of w row.1 (insn_of row.1.word) (ap (λ (s : Seen). s.text) first) (ap (λ (s : Seen). s.nameless) first), names_of w rows rest)
 
 main_name : (w : ℕ) → Name w main_rows
 unfolding form_of insn_of special_of regimm_of system_of system_operation_of
 main_name w = names_of w main_rows refl
 
-name_found : (w : ℕ) (rows : List (List ℕ × Text)) → Name w rows → is_some (find (λ row. spells row.1 w) rows) ≡ true → is_nameless (insn_of w) ≡ false
+name_found : (w : ℕ) (rows : List (List ℕ × TextValue)) → Name w rows → is_some (find (λ row. spells row.1 w) rows) ≡ true → is_nameless (insn_of w) ≡ false
 name_found w [] names found = cc
 name_found w (row ∷ rows) names found =
-    elim (eqb_tells w (row.1.0 + operand_bits row.1.1 w)) [
+    elim (eqb_tells w (row.1.word + operand_bits row.1.operands w)) [
       | inl (test, is) ↦ names.0 is
       | inr (test, is) ↦ name_found w rows names.1 (rw test at found)
     ]
 
 -- a text that has an instruction's key is that of a row
-found_at : (w : ℕ) (test : List ℕ × Text → Bool) (other : List ℕ × Text) (rows : List (List ℕ × Text)) → is_some (find test rows) ≡ true
+found_at : (w : ℕ) (test : List ℕ × TextValue → Bool) (other : List ℕ × TextValue) (rows : List (List ℕ × TextValue)) → is_some (find test rows) ≡ true
     → spells (unwrap_or (find test rows) other).1 w ≡ true → is_some (find (λ row. spells row.1 w) rows) ≡ true
 found_at w test other [] known is = cc
 found_at w test other (row ∷ rows) known is =
@@ -98,7 +97,7 @@ found_at w test other (row ∷ rows) known is =
       ])
     ]
 
-has : (w : ℕ) (insn : Insn) → is_some (find (has_key_of insn) main_rows) ≡ true → w ≡ (text_at main_rows insn).0 + operand_bits (text_at main_rows insn).1 w
+has : (w : ℕ) (insn : Insn) → is_some (find (has_key_of insn) main_rows) ≡ true → w ≡ (text_at main_rows insn).word + operand_bits (text_at main_rows insn).operands w
     → is_some (row_of w) ≡ true
 unfolding row_of
 has w insn known is = found_at w (has_key_of insn) _ main_rows known (eq-eqb _ _ is)
@@ -110,11 +109,11 @@ row_spelled w (Cop op rest) s name = cc
 row_spelled w (Reserved value) s name = cc
 row_spelled w insn s name = has w insn refl (omega arith)
 
-none_from : (o : Option (List ℕ × Text)) → is_some o ≡ false → is_none o ≡ true
+none_from : (o : Option (List ℕ × TextValue)) → is_some o ≡ false → is_none o ≡ true
 none_from None is = refl
 none_from (Some x) is = cc
 
-some_from : (o : Option (List ℕ × Text)) → is_some o ≡ true → is_none o ≡ false
+some_from : (o : Option (List ℕ × TextValue)) → is_some o ≡ true → is_none o ≡ false
 some_from None is = cc
 some_from (Some x) is = refl
 

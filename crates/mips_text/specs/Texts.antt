@@ -7,11 +7,10 @@ use Rattle.mips_isa.specs.declared.insn.Insn.{Insn}
 use Rattle.mips_isa.specs.declared.insn.Insn.TheVariants.{Sll, Srl, Sra, Sllv, Srlv, Srav, Jr, Jalr, Syscall, Break, Mfhi, Mthi, Mflo, Mtlo, Mult, Multu, Div, Divu, Add, Addu, Sub, Subu, And, Or, Xor, Nor, Slt, Sltu, Bltz, Bgez, Bltzal, Bgezal, J, Jal, Beq, Bne, Blez, Bgtz, Addi, Addiu, Slti, Sltiu, Andi, Ori, Xori, Lui, Lb, Lh, Lwl, Lw, Lbu, Lhu, Lwr, Sb, Sh, Swl, Sw, Swr, Mfc0, Mtc0, Tlbr, Tlbwi, Tlbwr, Tlbp, Rfe}
 use Rattle.mips_text.specs.declared.shape.Field.{Field}
 use Rattle.mips_text.specs.declared.shape.Field.TheVariants.{Amount, Signed, Unsigned, Code, Branch, Jump}
-use Rattle.mips_text.specs.declared.shape.Shape.{Shape}
-use Rattle.mips_text.specs.declared.shape.Shape.TheVariants.{Alone, One, Two, Three, Field0, Field1, Field2, Coded, Memory, Load}
+use Rattle.mips_text.specs.declared.shape.OperandForm.{OperandForm}
+use Rattle.mips_text.specs.declared.shape.OperandForm.TheVariants.{Register, Value, Optional, Based, Halves}
 use Rattle.mips_text.specs.declared.shape.Slot.{Slot}
 use Rattle.mips_text.specs.declared.shape.Slot.TheVariants.{Rd, Rs, Rt}
-use Rattle.mips_text.specs.declared.text.Text.{Text}
 
 -- a register in its slot of a word
 abbrev pub slot_word : Slot → ℕ → ℕ
@@ -28,109 +27,124 @@ field_word Code n = n * 2 ^ 6
 field_word Branch n = n
 field_word Jump n = n
 
--- an instruction whose operands are 0, and where they stand in its text and its word
-abbrev pub row : List ℕ → Insn → Shape → List ℕ × Text
-row name insn shape = (name, record { 0 = word_of insn; 1 = shape })
+-- the text of an instruction: its word with each operand 0, and its operands in the order in which they are written
+pub record TextValue : Type 0 where
+  pub word : ℕ
+  pub operands : List OperandForm
+
+-- a name with the instruction whose operands are 0, and its operands
+abbrev pub row : List ℕ → Insn → List OperandForm → List ℕ × TextValue
+row name insn operands = (name, record { word = word_of insn; operands = operands })
+
+-- the operands by short names
+abbrev rs : OperandForm
+rs = Register Rs
+
+abbrev rt : OperandForm
+rt = Register Rt
+
+abbrev rd : OperandForm
+rd = Register Rd
 
 -- shifts, jumps to a register, traps, and what computes on registers: opcode 0, by function
-abbrev pub special_rows : List (List ℕ × Text)
+abbrev pub special_rows : List (List ℕ × TextValue)
 special_rows =
-    row (codes "sll") (Sll 0 0 0) (Field2 Rd Rt Amount)
-    ∷ row (codes "srl") (Srl 0 0 0) (Field2 Rd Rt Amount)
-    ∷ row (codes "sra") (Sra 0 0 0) (Field2 Rd Rt Amount)
-    ∷ row (codes "sllv") (Sllv 0 0 0) (Three Rd Rt Rs)
-    ∷ row (codes "srlv") (Srlv 0 0 0) (Three Rd Rt Rs)
-    ∷ row (codes "srav") (Srav 0 0 0) (Three Rd Rt Rs)
-    ∷ row (codes "jr") (Jr 0) (One Rs)
-    ∷ row (codes "jalr") (Jalr 0 0) (Two Rd Rs)
-    ∷ row (codes "syscall") (Syscall 0) Coded
-    ∷ row (codes "break") (Break 0) Coded
-    ∷ row (codes "mfhi") (Mfhi 0) (One Rd)
-    ∷ row (codes "mflo") (Mflo 0) (One Rd)
-    ∷ row (codes "mthi") (Mthi 0) (One Rs)
-    ∷ row (codes "mtlo") (Mtlo 0) (One Rs)
-    ∷ row (codes "mult") (Mult 0 0) (Two Rs Rt)
-    ∷ row (codes "multu") (Multu 0 0) (Two Rs Rt)
-    ∷ row (codes "div") (Div 0 0) (Two Rs Rt)
-    ∷ row (codes "divu") (Divu 0 0) (Two Rs Rt)
-    ∷ row (codes "add") (Add 0 0 0) (Three Rd Rs Rt)
-    ∷ row (codes "sub") (Sub 0 0 0) (Three Rd Rs Rt)
-    ∷ row (codes "addu") (Addu 0 0 0) (Three Rd Rs Rt)
-    ∷ row (codes "subu") (Subu 0 0 0) (Three Rd Rs Rt)
-    ∷ row (codes "and") (And 0 0 0) (Three Rd Rs Rt)
-    ∷ row (codes "or") (Or 0 0 0) (Three Rd Rs Rt)
-    ∷ row (codes "xor") (Xor 0 0 0) (Three Rd Rs Rt)
-    ∷ row (codes "nor") (Nor 0 0 0) (Three Rd Rs Rt)
-    ∷ row (codes "slt") (Slt 0 0 0) (Three Rd Rs Rt)
-    ∷ row (codes "sltu") (Sltu 0 0 0) (Three Rd Rs Rt)
+    row (codes "sll") (Sll 0 0 0) (rd ∷ rt ∷ Value Amount ∷ [])
+    ∷ row (codes "srl") (Srl 0 0 0) (rd ∷ rt ∷ Value Amount ∷ [])
+    ∷ row (codes "sra") (Sra 0 0 0) (rd ∷ rt ∷ Value Amount ∷ [])
+    ∷ row (codes "sllv") (Sllv 0 0 0) (rd ∷ rt ∷ rs ∷ [])
+    ∷ row (codes "srlv") (Srlv 0 0 0) (rd ∷ rt ∷ rs ∷ [])
+    ∷ row (codes "srav") (Srav 0 0 0) (rd ∷ rt ∷ rs ∷ [])
+    ∷ row (codes "jr") (Jr 0) (rs ∷ [])
+    ∷ row (codes "jalr") (Jalr 0 0) (rd ∷ rs ∷ [])
+    ∷ row (codes "syscall") (Syscall 0) (Optional Code ∷ [])
+    ∷ row (codes "break") (Break 0) (Optional Code ∷ [])
+    ∷ row (codes "mfhi") (Mfhi 0) (rd ∷ [])
+    ∷ row (codes "mflo") (Mflo 0) (rd ∷ [])
+    ∷ row (codes "mthi") (Mthi 0) (rs ∷ [])
+    ∷ row (codes "mtlo") (Mtlo 0) (rs ∷ [])
+    ∷ row (codes "mult") (Mult 0 0) (rs ∷ rt ∷ [])
+    ∷ row (codes "multu") (Multu 0 0) (rs ∷ rt ∷ [])
+    ∷ row (codes "div") (Div 0 0) (rs ∷ rt ∷ [])
+    ∷ row (codes "divu") (Divu 0 0) (rs ∷ rt ∷ [])
+    ∷ row (codes "add") (Add 0 0 0) (rd ∷ rs ∷ rt ∷ [])
+    ∷ row (codes "sub") (Sub 0 0 0) (rd ∷ rs ∷ rt ∷ [])
+    ∷ row (codes "addu") (Addu 0 0 0) (rd ∷ rs ∷ rt ∷ [])
+    ∷ row (codes "subu") (Subu 0 0 0) (rd ∷ rs ∷ rt ∷ [])
+    ∷ row (codes "and") (And 0 0 0) (rd ∷ rs ∷ rt ∷ [])
+    ∷ row (codes "or") (Or 0 0 0) (rd ∷ rs ∷ rt ∷ [])
+    ∷ row (codes "xor") (Xor 0 0 0) (rd ∷ rs ∷ rt ∷ [])
+    ∷ row (codes "nor") (Nor 0 0 0) (rd ∷ rs ∷ rt ∷ [])
+    ∷ row (codes "slt") (Slt 0 0 0) (rd ∷ rs ∷ rt ∷ [])
+    ∷ row (codes "sltu") (Sltu 0 0 0) (rd ∷ rs ∷ rt ∷ [])
     ∷ []
 
 -- branches, jumps, and what computes with a half
-abbrev pub immediate_rows : List (List ℕ × Text)
+abbrev pub immediate_rows : List (List ℕ × TextValue)
 immediate_rows =
-    row (codes "bltz") (Bltz 0 0) (Field1 Rs Branch)
-    ∷ row (codes "bgez") (Bgez 0 0) (Field1 Rs Branch)
-    ∷ row (codes "bltzal") (Bltzal 0 0) (Field1 Rs Branch)
-    ∷ row (codes "bgezal") (Bgezal 0 0) (Field1 Rs Branch)
-    ∷ row (codes "j") (J 0) (Field0 Jump)
-    ∷ row (codes "jal") (Jal 0) (Field0 Jump)
-    ∷ row (codes "beq") (Beq 0 0 0) (Field2 Rs Rt Branch)
-    ∷ row (codes "bne") (Bne 0 0 0) (Field2 Rs Rt Branch)
-    ∷ row (codes "blez") (Blez 0 0) (Field1 Rs Branch)
-    ∷ row (codes "bgtz") (Bgtz 0 0) (Field1 Rs Branch)
-    ∷ row (codes "addi") (Addi 0 0 0) (Field2 Rt Rs Signed)
-    ∷ row (codes "addiu") (Addiu 0 0 0) (Field2 Rt Rs Signed)
-    ∷ row (codes "slti") (Slti 0 0 0) (Field2 Rt Rs Signed)
-    ∷ row (codes "sltiu") (Sltiu 0 0 0) (Field2 Rt Rs Signed)
-    ∷ row (codes "andi") (Andi 0 0 0) (Field2 Rt Rs Unsigned)
-    ∷ row (codes "ori") (Ori 0 0 0) (Field2 Rt Rs Unsigned)
-    ∷ row (codes "xori") (Xori 0 0 0) (Field2 Rt Rs Unsigned)
-    ∷ row (codes "lui") (Lui 0 0) (Field1 Rt Unsigned)
+    row (codes "bltz") (Bltz 0 0) (rs ∷ Value Branch ∷ [])
+    ∷ row (codes "bgez") (Bgez 0 0) (rs ∷ Value Branch ∷ [])
+    ∷ row (codes "bltzal") (Bltzal 0 0) (rs ∷ Value Branch ∷ [])
+    ∷ row (codes "bgezal") (Bgezal 0 0) (rs ∷ Value Branch ∷ [])
+    ∷ row (codes "j") (J 0) (Value Jump ∷ [])
+    ∷ row (codes "jal") (Jal 0) (Value Jump ∷ [])
+    ∷ row (codes "beq") (Beq 0 0 0) (rs ∷ rt ∷ Value Branch ∷ [])
+    ∷ row (codes "bne") (Bne 0 0 0) (rs ∷ rt ∷ Value Branch ∷ [])
+    ∷ row (codes "blez") (Blez 0 0) (rs ∷ Value Branch ∷ [])
+    ∷ row (codes "bgtz") (Bgtz 0 0) (rs ∷ Value Branch ∷ [])
+    ∷ row (codes "addi") (Addi 0 0 0) (rt ∷ rs ∷ Value Signed ∷ [])
+    ∷ row (codes "addiu") (Addiu 0 0 0) (rt ∷ rs ∷ Value Signed ∷ [])
+    ∷ row (codes "slti") (Slti 0 0 0) (rt ∷ rs ∷ Value Signed ∷ [])
+    ∷ row (codes "sltiu") (Sltiu 0 0 0) (rt ∷ rs ∷ Value Signed ∷ [])
+    ∷ row (codes "andi") (Andi 0 0 0) (rt ∷ rs ∷ Value Unsigned ∷ [])
+    ∷ row (codes "ori") (Ori 0 0 0) (rt ∷ rs ∷ Value Unsigned ∷ [])
+    ∷ row (codes "xori") (Xori 0 0 0) (rt ∷ rs ∷ Value Unsigned ∷ [])
+    ∷ row (codes "lui") (Lui 0 0) (rt ∷ Value Unsigned ∷ [])
     ∷ []
 
 -- loads and stores
-abbrev pub memory_rows : List (List ℕ × Text)
+abbrev pub memory_rows : List (List ℕ × TextValue)
 memory_rows =
-    row (codes "lb") (Lb 0 0 0) Memory
-    ∷ row (codes "lh") (Lh 0 0 0) Memory
-    ∷ row (codes "lbu") (Lbu 0 0 0) Memory
-    ∷ row (codes "lhu") (Lhu 0 0 0) Memory
-    ∷ row (codes "lw") (Lw 0 0 0) Memory
-    ∷ row (codes "lwl") (Lwl 0 0 0) Memory
-    ∷ row (codes "lwr") (Lwr 0 0 0) Memory
-    ∷ row (codes "sb") (Sb 0 0 0) Memory
-    ∷ row (codes "sh") (Sh 0 0 0) Memory
-    ∷ row (codes "sw") (Sw 0 0 0) Memory
-    ∷ row (codes "swl") (Swl 0 0 0) Memory
-    ∷ row (codes "swr") (Swr 0 0 0) Memory
+    row (codes "lb") (Lb 0 0 0) (rt ∷ Based ∷ [])
+    ∷ row (codes "lh") (Lh 0 0 0) (rt ∷ Based ∷ [])
+    ∷ row (codes "lbu") (Lbu 0 0 0) (rt ∷ Based ∷ [])
+    ∷ row (codes "lhu") (Lhu 0 0 0) (rt ∷ Based ∷ [])
+    ∷ row (codes "lw") (Lw 0 0 0) (rt ∷ Based ∷ [])
+    ∷ row (codes "lwl") (Lwl 0 0 0) (rt ∷ Based ∷ [])
+    ∷ row (codes "lwr") (Lwr 0 0 0) (rt ∷ Based ∷ [])
+    ∷ row (codes "sb") (Sb 0 0 0) (rt ∷ Based ∷ [])
+    ∷ row (codes "sh") (Sh 0 0 0) (rt ∷ Based ∷ [])
+    ∷ row (codes "sw") (Sw 0 0 0) (rt ∷ Based ∷ [])
+    ∷ row (codes "swl") (Swl 0 0 0) (rt ∷ Based ∷ [])
+    ∷ row (codes "swr") (Swr 0 0 0) (rt ∷ Based ∷ [])
     ∷ []
 
 -- coprocessor 0
-abbrev pub system_rows : List (List ℕ × Text)
+abbrev pub system_rows : List (List ℕ × TextValue)
 system_rows =
-    row (codes "mfc0") (Mfc0 0 0) (Two Rt Rd)
-    ∷ row (codes "mtc0") (Mtc0 0 0) (Two Rt Rd)
-    ∷ row (codes "tlbr") Tlbr Alone
-    ∷ row (codes "tlbwi") Tlbwi Alone
-    ∷ row (codes "tlbwr") Tlbwr Alone
-    ∷ row (codes "tlbp") Tlbp Alone
-    ∷ row (codes "rfe") Rfe Alone
+    row (codes "mfc0") (Mfc0 0 0) (rt ∷ rd ∷ [])
+    ∷ row (codes "mtc0") (Mtc0 0 0) (rt ∷ rd ∷ [])
+    ∷ row (codes "tlbr") Tlbr []
+    ∷ row (codes "tlbwi") Tlbwi []
+    ∷ row (codes "tlbwr") Tlbwr []
+    ∷ row (codes "tlbp") Tlbp []
+    ∷ row (codes "rfe") Rfe []
     ∷ []
 
 -- further forms of these
-abbrev pub further_rows : List (List ℕ × Text)
+abbrev pub further_rows : List (List ℕ × TextValue)
 further_rows =
-    row (codes "nop") (Sll 0 0 0) Alone
-    ∷ row (codes "move") (Addu 0 0 0) (Two Rd Rs)
-    ∷ row (codes "b") (Beq 0 0 0) (Field0 Branch)
-    ∷ row (codes "li") (Lui 0 0) Load
-    ∷ row (codes "la") (Lui 0 0) Load
+    row (codes "nop") (Sll 0 0 0) []
+    ∷ row (codes "move") (Addu 0 0 0) (rd ∷ rs ∷ [])
+    ∷ row (codes "b") (Beq 0 0 0) (Value Branch ∷ [])
+    ∷ row (codes "li") (Lui 0 0) (rt ∷ Halves ∷ [])
+    ∷ row (codes "la") (Lui 0 0) (rt ∷ Halves ∷ [])
     ∷ []
 
 -- the instructions by name
-abbrev pub rows : List (List ℕ × Text)
+abbrev pub rows : List (List ℕ × TextValue)
 rows = special_rows ++ immediate_rows ++ memory_rows ++ system_rows ++ further_rows
 
 -- the text of a name
-unfoldable pub text_of : List ℕ → Option Text
+unfoldable pub text_of : List ℕ → Option TextValue
 text_of name = lookup (bytes_eq name) rows

@@ -1,17 +1,16 @@
 -- The row of a word: the instruction that it spells, and the operands that stand in its bits.
-use Rattle.std.specs.Prelude.{ℕ, ◌+◌, Bool, true, false, List, ◌++◌, Option, ◌==◌}
+use Rattle.std.specs.Prelude.{ℕ, ◌+◌, Bool, true, false, List, [], ◌∷◌, ◌++◌, Option, ◌==◌}
 use Rattle.std.specs.List.{find}
 use Rattle.mips_isa.specs.Fields.{rs_of, rt_of, rd_of, sh_of, code_of, imm_of, target_of}
 use Rattle.mips_isa.specs.declared.insn.Insn.{Insn}
 use Rattle.mips_isa.specs.declared.insn.Insn.TheVariants.{Cop, Reserved}
-use Rattle.mips_text.specs.Texts.{field_word, slot_word, special_rows, immediate_rows, memory_rows, system_rows}
+use Rattle.mips_text.specs.Texts.{TextValue, field_word, slot_word, special_rows, immediate_rows, memory_rows, system_rows}
 use Rattle.mips_text.specs.declared.shape.Field.{Field}
 use Rattle.mips_text.specs.declared.shape.Field.TheVariants.{Amount, Signed, Unsigned, Code, Branch, Jump}
-use Rattle.mips_text.specs.declared.shape.Shape.{Shape}
-use Rattle.mips_text.specs.declared.shape.Shape.TheVariants.{Alone, One, Two, Three, Field0, Field1, Field2, Coded, Memory, Load}
+use Rattle.mips_text.specs.declared.shape.OperandForm.{OperandForm}
+use Rattle.mips_text.specs.declared.shape.OperandForm.TheVariants.{Register, Value, Optional, Based, Halves}
 use Rattle.mips_text.specs.declared.shape.Slot.{Slot}
 use Rattle.mips_text.specs.declared.shape.Slot.TheVariants.{Rd, Rs, Rt}
-use Rattle.mips_text.specs.declared.text.Text.{Text}
 
 -- the register in a slot of a word
 abbrev pub slot_of : Slot → ℕ → ℕ
@@ -36,29 +35,29 @@ slot_bits slot word = slot_word slot (slot_of slot word)
 abbrev pub field_bits : Field → ℕ → ℕ
 field_bits field word = field_word field (field_of field word)
 
--- the bits of a word where operands of a shape stand, and all other bits 0
-abbrev pub operand_bits : Shape → ℕ → ℕ
-operand_bits Alone word = 0
-operand_bits (One a) word = slot_bits a word
-operand_bits (Two a b) word = slot_bits a word + slot_bits b word
-operand_bits (Three a b c) word = slot_bits a word + slot_bits b word + slot_bits c word
-operand_bits (Field0 field) word = field_bits field word
-operand_bits (Field1 a field) word = slot_bits a word + field_bits field word
-operand_bits (Field2 a b field) word = slot_bits a word + slot_bits b word + field_bits field word
-operand_bits Coded word = field_bits Code word
-operand_bits Memory word = slot_bits Rt word + slot_bits Rs word + field_bits Signed word
-operand_bits Load word = slot_bits Rt word + field_bits Unsigned word
+-- the bits of a word where an operand stands, and all other bits 0
+abbrev pub form_bits : OperandForm → ℕ → ℕ
+form_bits (Register slot) word = slot_bits slot word
+form_bits (Value field) word = field_bits field word
+form_bits (Optional field) word = field_bits field word
+form_bits Based word = slot_bits Rs word + field_bits Signed word
+form_bits Halves word = field_bits Unsigned word
+
+-- the bits of a word where operands stand, and all other bits 0
+abbrev pub operand_bits : List OperandForm → ℕ → ℕ
+operand_bits [] word = 0
+operand_bits (form ∷ forms) word = form_bits form word + operand_bits forms word
 
 -- whether a word is that of a text, with operands in their bits
-abbrev pub spells : Text → ℕ → Bool
-spells text word = word == text.0 + operand_bits text.1 word
+abbrev pub spells : TextValue → ℕ → Bool
+spells text word = word == text.word + operand_bits text.operands word
 
 -- the instructions by name, a row for each, without further forms
-abbrev pub main_rows : List (List ℕ × Text)
+abbrev pub main_rows : List (List ℕ × TextValue)
 main_rows = special_rows ++ immediate_rows ++ memory_rows ++ system_rows
 
 -- the row of a word, where it has one
-unfoldable pub row_of : ℕ → Option (List ℕ × Text)
+unfoldable pub row_of : ℕ → Option (List ℕ × TextValue)
 row_of word = find (λ row. spells row.1 word) main_rows
 
 -- whether an instruction has no name: one for another coprocessor, or a reserved word

@@ -8,5 +8,5 @@ mod shape;
 mod text;
 
 pub use law::law_words_have_rows;
-pub use shape::{Field, Shape, Slot};
+pub use shape::{Field, OperandForm, Slot};
 pub use text::{Text, find_text, find_word};

@@ -1,4 +1,6 @@
 //! Where the operands of an instruction stand, in its text and in its word.
+ghost use Rattle.std.specs.Prelude.{◌≡◌, ◌+◌, ◌-◌, ◌^◌, min};
+ghost use Rattle.mips_text.specs.WordRows.{operand_bits};
 
 /// A register's bits of a word.
 #[derive(Clone, Copy)]
@@ -28,29 +30,19 @@ pub enum Field {
     Jump,
 }
 
-/// The operands of an instruction in the order in which they are written.
+/// What an operand of an instruction is, and which bits of the word it fills.
 #[derive(Clone, Copy)]
-pub enum Shape {
-    /// None.
-    Alone,
-    /// One register.
-    One(Slot),
-    /// Two registers.
-    Two(Slot, Slot),
-    /// Three registers.
-    Three(Slot, Slot, Slot),
+pub enum OperandForm {
+    /// A register.
+    Register(Slot),
     /// An expression.
-    Field0(Field),
-    /// A register and an expression.
-    Field1(Slot, Field),
-    /// Two registers and an expression.
-    Field2(Slot, Slot, Field),
-    /// A code, or none, which is 0.
-    Coded,
-    /// `rt`, and a signed half or nothing with `rs` in brackets.
-    Memory,
-    /// `rt` and an expression, which LUI and ORI load.
-    Load,
+    Value(Field),
+    /// An expression, or nothing, which is 0.
+    Optional(Field),
+    /// A signed half, or nothing, and `rs` in brackets.
+    Based,
+    /// An expression, whose high half LUI loads and whose low half ORI adds.
+    Halves,
 }
 
 impl Slot {
@@ -120,27 +112,32 @@ impl Field {
     }
 }
 
-impl Shape {
+impl OperandForm {
     ghost use Rattle.std.specs.Prelude.{◌≡◌, ◌<◌, ◌^◌};
-    ghost use Rattle.mips_text.specs.WordRows.{operand_bits};
+    ghost use Rattle.mips_text.specs.WordRows.{form_bits};
 
-    /// The bits of a word where the operands stand, and all others 0. Of a shape that names bits twice,
-    /// which no instruction has, they are counted twice.
-    pub(crate) fn bits(self, word: u32) -> u32
-        ensures value { result ≡ operand_bits self word }
-        ensures within { result < 2 ^ 28 }
+    /// The bits of a word where the operand stands, and all others 0.
+    fn bits(self, word: u32) -> u32
+        ensures value { result ≡ form_bits self word }
+        ensures within { result < 2 ^ 27 }
     {
         match self {
-            Shape::Alone => 0,
-            Shape::One(a) => a.bits(word),
-            Shape::Two(a, b) => a.bits(word) + b.bits(word),
-            Shape::Three(a, b, c) => a.bits(word) + b.bits(word) + c.bits(word),
-            Shape::Field0(field) => field.bits(word),
-            Shape::Field1(a, field) => a.bits(word) + field.bits(word),
-            Shape::Field2(a, b, field) => a.bits(word) + b.bits(word) + field.bits(word),
-            Shape::Coded => Field::Code.bits(word),
-            Shape::Memory => Slot::Rt.bits(word) + Slot::Rs.bits(word) + Field::Signed.bits(word),
-            Shape::Load => Slot::Rt.bits(word) + Field::Unsigned.bits(word),
+            OperandForm::Register(slot) => slot.bits(word),
+            OperandForm::Value(field) | OperandForm::Optional(field) => field.bits(word),
+            OperandForm::Based => Slot::Rs.bits(word) + Field::Signed.bits(word),
+            OperandForm::Halves => Field::Unsigned.bits(word),
         }
     }
+}
+
+/// A word with the bits of another one where operands stand. Bits that two operands name, which no
+/// instruction has, are counted twice. A sum beyond 2^64 - 1 is that number.
+pub(crate) fn with_bits(base: u32, operands: &[OperandForm], word: u32) -> u64
+    ensures { result ≡ min (base + operand_bits operands.now word) (2 ^ 64 - 1) }
+{
+    let mut sum = u64::from(base);
+    for operand in operands {
+        sum = sum.saturating_add(u64::from(operand.bits(word)));
+    }
+    sum
 }

@@ -1,4 +1,4 @@
-use Rattle.line_text.specs.Table.{row_seen}
+use Rattle.mips_text.specs.Seen.{row_seen}
 use Rattle.mips_text.specs.WordRows.{spells}
 use Rattle.mips_text.proofs.WordLemmas.{find_seen}
 use Rattle.mips_text.proofs.text.row_in.Goals as goal
