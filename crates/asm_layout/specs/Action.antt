@@ -7,7 +7,7 @@ use Rattle.asm_parse.specs.Expression.{ExpressionValue, InnerValue, Number, Name
 use Rattle.asm_parse.specs.declared.fault.AsmWhy.{AsmWhy}
 use Rattle.asm_parse.specs.declared.fault.AsmWhy.TheVariants.{Syntax, UnknownName}
 use Rattle.asm_parse.specs.Arg.{ArgValue}
-use Rattle.asm_parse.specs.Operand.{OperandValue}
+use Rattle.asm_parse.specs.Operand.{OperandValue, Value, Quoted}
 use Rattle.asm_parse.specs.declared.syntax.AsmBody.{AsmBody}
 use Rattle.asm_parse.specs.declared.syntax.AsmBody.TheVariants as bodies
 use Rattle.asm_layout.specs.declared.directive.Directive.{Directive}
@@ -16,7 +16,7 @@ use Rattle.asm_layout.specs.declared.number.NumberSize.TheVariants.{Byte, Half, 
 use Rattle.asm_layout.specs.declared.section.Section.{Section}
 use Rattle.asm_layout.specs.declared.section.Section.TheVariants.{Text, Data}
 use Rattle.asm_layout.specs.Content.{Content, Instruction, Numbers, Given}
-use Rattle.asm_layout.specs.Draft.{draft_of, nothing_in, quoted_form, value_form, value_in}
+use Rattle.asm_layout.specs.Draft.{draft_of}
 use Rattle.mips_text.specs.Texts.{text_of}
 use Rattle.asm_layout.specs.Outcome.{◌>>=◌}
 
@@ -52,6 +52,24 @@ directive_of name = lookup (bytes_eq name) directive_rows
 abbrev pub in_text : Section → Result (Unit {0}) AsmWhy
 in_text Text = Ok tt
 in_text Data = Err Syntax
+
+-- Operands of directives: another form or number of them is Syntax.
+
+abbrev pub value_form : OperandValue → Result ExpressionValue AsmWhy
+value_form (Value e) = Ok e
+value_form _ = Err Syntax
+
+abbrev pub quoted_form : OperandValue → Result (List ℕ) AsmWhy
+quoted_form (Quoted text) = Ok text
+quoted_form _ = Err Syntax
+
+abbrev pub nothing_in : List OperandValue → Result (Unit {0}) AsmWhy
+nothing_in [] = Ok tt
+nothing_in _ = Err Syntax
+
+abbrev pub value_in : List OperandValue → Result ExpressionValue AsmWhy
+value_in (a ∷ []) = value_form a
+value_in _ = Err Syntax
 
 -- each operand an expression
 abbrev pub values_in : List OperandValue → Result (List ExpressionValue) AsmWhy

@@ -3,7 +3,7 @@ use Rattle.std.specs.Prelude.{ℕ, ◌*◌, List, length}
 use Rattle.asm_parse.specs.Expression.{ExpressionValue}
 use Rattle.asm_layout.specs.declared.number.NumberSize.{NumberSize}
 use Rattle.asm_layout.specs.declared.number.NumberSize.TheVariants.{Byte, Half, Word}
-use Rattle.asm_layout.specs.Draft.{Draft, Fixed, Filled, Halves}
+use Rattle.asm_layout.specs.Draft.{Draft, Filling, Whole, Filled, Halves}
 
 pub data Content : Type 0 where
   Instruction : Draft → Content
@@ -12,10 +12,14 @@ pub data Content : Type 0 where
   -- these bytes, none of them where the statement puts nothing
   Given : List ℕ → Content
 
+-- the bytes that an instruction takes, or two of them
+abbrev pub filled_length : Filling → ℕ
+filled_length Whole = 4
+filled_length (Filled field e) = 4
+filled_length (Halves e) = 8
+
 abbrev pub draft_length : Draft → ℕ
-draft_length (Fixed w) = 4
-draft_length (Filled field w e) = 4
-draft_length (Halves rt e) = 8
+draft_length draft = filled_length draft.filling
 
 -- the bytes that a number takes
 abbrev pub number_length : NumberSize → ℕ

@@ -2,7 +2,7 @@
 use Rattle.std.specs.Prelude.{List, map, replicate}
 use Rattle.asm_parse.specs.Expression.{ExpressionValue}
 use Rattle.asm_parse.specs.Operand.{OperandValue}
-use Rattle.asm_parse.specs.Seen.{arg_seen, expression_seen}
+use Rattle.asm_parse.specs.Seen.{arg_seen, expression_seen, operand_seen}
 use Rattle.asm_parse.specs.declared.syntax.Arg.{Arg}
 use Rattle.asm_parse.specs.declared.expression.Expression.{Expression}
 use Rattle.asm_layout.specs.Action as actions
@@ -15,17 +15,28 @@ use Rattle.asm_layout.specs.declared.action.Action.TheVariants as action
 use Rattle.asm_layout.specs.declared.content.Content.{Content}
 use Rattle.asm_layout.specs.declared.content.Content.TheVariants as content
 use Rattle.asm_layout.specs.declared.draft.Draft.{Draft}
-use Rattle.asm_layout.specs.declared.draft.Draft.TheVariants as draft
+use Rattle.asm_layout.specs.declared.draft.Filling.{Filling}
+use Rattle.asm_layout.specs.declared.draft.Filling.TheVariants as filling
 use Rattle.asm_layout.specs.declared.layout.Layout.{Layout}
 use Rattle.asm_layout.specs.declared.layout.Placed.{Placed}
+use Rattle.asm_layout.specs.declared.reading.Reading.{Reading}
 
 abbrev pub operands_seen : List Arg → List OperandValue
 operands_seen args = operands_in (map arg_seen args)
 
+abbrev pub operand_in : Arg → OperandValue
+operand_in arg = operand_seen arg.operand
+
+abbrev pub filling_seen : Filling → drafts.Filling
+filling_seen filling.Whole = drafts.Whole
+filling_seen (filling.Filled field e) = drafts.Filled field (expression_seen e)
+filling_seen (filling.Halves e) = drafts.Halves (expression_seen e)
+
 abbrev pub draft_seen : Draft → drafts.Draft
-draft_seen (draft.Fixed w) = drafts.Fixed w.value
-draft_seen (draft.Filled field w e) = drafts.Filled field w.value (expression_seen e)
-draft_seen (draft.Halves r e) = drafts.Halves r.number (expression_seen e)
+draft_seen d = record { word = d.word; filling = filling_seen d.filling }
+
+abbrev pub reading_seen : Reading → drafts.Reading
+reading_seen r = record { word = r.word; filling = filling_seen r.filling }
 
 abbrev pub expressions_seen : List Expression → List ExpressionValue
 expressions_seen es = map expression_seen es
