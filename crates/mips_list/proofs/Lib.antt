@@ -1,2 +1,3 @@
 pub mod WordTexts
 pub mod Lines
+pub mod Operands

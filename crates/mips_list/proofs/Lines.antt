@@ -1,12 +1,10 @@
 -- Lines, one after another.
-use Rattle.std.proofs.Common.{◌≡◌, ℕ, ◌+◌, ◌<◌, List, [], ◌∷◌, ◌++◌, zero, suc, length, get_or, take, append_assoc, sym, ap, ◌∙◌, arith}
+use Rattle.std.proofs.Common.{◌≡◌, ℕ, ◌+◌, ◌<◌, List, [], ◌∷◌, ◌++◌, zero, suc, length, get_or, take, sym, ap, ◌∙◌, arith}
 use Rattle.std.proofs.lemmas.List.{flat_map_more, map-append, map-id, take_more}
 use Rattle.std.proofs.lemmas.List.FromFn.{map-range_with_len_more}
 use Rattle.std.specs.List.{AllByRecursion, flat_map, range_with_len}
 use Rattle.elf_static.specs.AcceptedElf.{IsSegment}
-use Rattle.mips_list.specs.Growth.{Keeps}
 use Rattle.mips_list.specs.Listed.{segment_lines}
-use Rattle.mips_list.specs.declared.operand.Operand.{Operand}
 use Rattle.elf_static.specs.SegmentSeen.{segment_seen, segments_seen}
 use Rattle.elf_static.specs.declared.segment.Segment.{Segment}
 
@@ -30,19 +28,6 @@ pub segment_at : (segments : List Segment) (i : ℕ) (d : Segment) → AllByRecu
 segment_at [] i d all within = absurd (omega arith)
 segment_at (s ∷ segments) zero d all within = all.0
 segment_at (s ∷ segments) (suc i) d all within = segment_at segments i d all.1 (omega arith)
-
--- the text of one more operand behind those of the first ones
-pub operand_more : (f : Operand → List ℕ) (old before after : List ℕ) (operands : List Operand) (i : ℕ) (d : Operand) → before ≡ old ++ flat_map f (take i operands) → after ≡ before ++ f (get_or operands i d) → i < length operands
-    → after ≡ old ++ flat_map f (take (i + 1) operands)
-operand_more f old before after operands i d was is within =
-    is
-    ∙ ap (λ xs. xs ++ f (get_or operands i d)) was
-    ∙ flat_map_more f old (take i operands) (get_or operands i d)
-    ∙ ap (λ first. old ++ flat_map f first) (sym (take_more operands i d within))
-
--- what begins as a list that begins as another
-pub keeps_on : (old text before after : List ℕ) → before ≡ old ++ text → Keeps before after → Keeps old after
-keeps_on old text before after was keeps = record { more = text ++ keeps.more; is = keeps.is ∙ ap (λ xs. xs ++ keeps.more) was ∙ append_assoc old text keeps.more }
 
 -- the lines of one more segment behind those of the first ones
 pub segment_more : (old before after : List ℕ) (segments : List Segment) (i : ℕ) (d : Segment) → before ≡ old ++ flat_map segment_lines (segments_seen (take i segments)) → after ≡ before ++ segment_lines (segment_seen (get_or segments i d)) → i < length segments

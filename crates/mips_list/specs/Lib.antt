@@ -1,4 +1,3 @@
 pub mod WordText
 pub mod Listed
 pub mod Growth
-pub mod Operands

@@ -1,17 +1,17 @@
 -- The text of a word: its instruction as the assembler reads it.
-use Rattle.std.specs.Prelude.{ℕ, ◌+◌, ◌-◌, ◌*◌, ◌/◌, ◌%◌, ◌^◌, List, [], ◌∷◌, ◌++◌, Option, Some, None, nat_lt, ◌==◌, if◌then◌else◌, codes}
+use Rattle.std.specs.Prelude.{ℕ, Bool, true, not, map, filter, ◌+◌, ◌-◌, ◌*◌, ◌/◌, ◌%◌, ◌^◌, List, [], ◌∷◌, ◌++◌, Option, Some, None, nat_lt, ◌==◌, if◌then◌else◌, codes}
 use Rattle.std.specs.Str.{byte}
 use Rattle.line_text.specs.Text.{dec_text, hex_text}
 use Rattle.mips_isa.specs.Encoding.{insn_of}
 use Rattle.mips_isa.specs.Word.{sign16_of}
+use Rattle.mips_text.specs.Texts.{TextValue}
 use Rattle.mips_text.specs.WordRows.{field_of, is_nameless, row_of, slot_of}
 use Rattle.mips_text.specs.declared.shape.Field.{Field}
 use Rattle.mips_text.specs.declared.shape.Field.TheVariants.{Amount, Signed, Unsigned, Code, Branch, Jump}
-use Rattle.mips_text.specs.declared.shape.Shape.{Shape}
-use Rattle.mips_text.specs.declared.shape.Shape.TheVariants.{Alone, One, Two, Three, Field0, Field1, Field2, Coded, Memory, Load}
+use Rattle.mips_text.specs.declared.shape.OperandForm.{OperandForm}
+use Rattle.mips_text.specs.declared.shape.OperandForm.TheVariants.{Register, Value, Optional, Based, Halves}
 use Rattle.mips_text.specs.declared.shape.Slot.{Slot}
-use Rattle.mips_text.specs.declared.shape.Slot.TheVariants.{Rs, Rt}
-use Rattle.mips_text.specs.declared.text.Text.{Text}
+use Rattle.mips_text.specs.declared.shape.Slot.TheVariants.{Rs}
 
 -- a number in so many hexadecimal digits
 abbrev pub hexadecimal : ℕ → ℕ → List ℕ
@@ -46,18 +46,22 @@ field_text Jump word address = hexadecimal 8 (jump_target address (field_of Jump
 abbrev pub based_text : ℕ → ℕ → List ℕ
 based_text word address = field_text Signed word address ++ codes "(" ++ slot_text Rs word ++ codes ")"
 
--- the operands of a word by its shape, in the order in which they are written
-abbrev pub operand_texts : Shape → ℕ → ℕ → List (List ℕ)
-operand_texts Alone word address = []
-operand_texts (One a) word address = slot_text a word ∷ []
-operand_texts (Two a b) word address = slot_text a word ∷ slot_text b word ∷ []
-operand_texts (Three a b c) word address = slot_text a word ∷ slot_text b word ∷ slot_text c word ∷ []
-operand_texts (Field0 field) word address = field_text field word address ∷ []
-operand_texts (Field1 a field) word address = slot_text a word ∷ field_text field word address ∷ []
-operand_texts (Field2 a b field) word address = slot_text a word ∷ slot_text b word ∷ field_text field word address ∷ []
-operand_texts Coded word address = if field_of Code word == 0 then [] else field_text Code word address ∷ []
-operand_texts Memory word address = slot_text Rt word ∷ based_text word address ∷ []
-operand_texts Load word address = slot_text Rt word ∷ field_text Unsigned word address ∷ []
+-- how an operand of a word that stands at an address reads
+abbrev pub operand_text : OperandForm → ℕ → ℕ → List ℕ
+operand_text (Register slot) word address = slot_text slot word
+operand_text (Value field) word address = field_text field word address
+operand_text (Optional field) word address = field_text field word address
+operand_text Based word address = based_text word address
+operand_text Halves word address = field_text Unsigned word address
+
+-- whether an operand of a word is written: an optional one that is 0 isn't
+abbrev pub is_written : OperandForm → ℕ → Bool
+is_written (Optional field) word = not (field_of field word == 0)
+is_written _ word = true
+
+-- the operands of a word, in the order in which they are written
+abbrev pub operand_texts : List OperandForm → ℕ → ℕ → List (List ℕ)
+operand_texts forms word address = map (λ form. operand_text form word address) (filter (λ form. is_written form word) forms)
 
 -- texts with a comma between each two
 abbrev pub joined : List (List ℕ) → List ℕ
@@ -71,15 +75,15 @@ spaced [] = []
 spaced (text ∷ texts) = byte " " ∷ joined (text ∷ texts)
 
 -- an instruction by its row: its name and its operands
-abbrev pub row_text : List ℕ × Text → ℕ → ℕ → List ℕ
-row_text row word address = row.0 ++ spaced (operand_texts row.1.1 word address)
+abbrev pub row_text : List ℕ × TextValue → ℕ → ℕ → List ℕ
+row_text row word address = row.0 ++ spaced (operand_texts row.1.operands word address)
 
 -- a word as a number
 abbrev pub data_text : ℕ → List ℕ
 data_text word = codes ".word " ++ hexadecimal 8 word
 
 -- a word by its row, or as a number where it has none
-abbrev pub text_by : Option (List ℕ × Text) → ℕ → ℕ → List ℕ
+abbrev pub text_by : Option (List ℕ × TextValue) → ℕ → ℕ → List ℕ
 text_by None word address = data_text word
 text_by (Some row) word address = row_text row word address
 

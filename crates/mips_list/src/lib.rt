@@ -2,8 +2,8 @@
 //! the word, and the instruction that the word spells, as the assembler reads it (`docs/ASSEMBLER.md`,
 //! "Listings").
 //!
-//! A word's instruction is found by the rows of the assembler, and its operands are printed by the row's
-//! shape from the word's bits.
+//! A word's instruction is found by the rows of the assembler, and the row's operands are printed from the
+//! word's bits.
 #![tactic(auto)]
 
 mod listing;

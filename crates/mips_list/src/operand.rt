@@ -1,121 +1,67 @@
 //! The operands of instructions, as the bits of a word say them.
 ghost use Rattle.std.specs.Prelude.{◌≡◌, ◌++◌, ◌∷◌, ◌≤◌, OnOk, ◌<◌, ◌^◌};
-ghost use Rattle.std.specs.List.{flat_map};
-ghost use Rattle.std.specs.Str.{byte};
-ghost use Rattle.mips_list.specs.Operands.{further_text, operand_text};
 ghost use Rattle.mips_list.specs.Growth.{Keeps};
-ghost use Rattle.mips_list.specs.WordText.{based_text, branch_target, field_text, hexadecimal, jump_target, operand_texts, signed_text, slot_text, spaced};
+ghost use Rattle.mips_list.specs.WordText.{based_text, branch_target, field_text, hexadecimal, is_written, jump_target, operand_text, operand_texts, signed_text, slot_text, spaced};
 
 use crate::piece::{push_bytes, push_decimal, push_digits};
 use aegis_limits::OutOfMemory;
 use mips_codec::sign16;
-use mips_text::{Field, Shape, Slot};
+use mips_text::{Field, OperandForm, Slot};
 
 /// What stands before the first operand.
 const FIRST: u8 = b' ';
 /// What stands before each further one.
 const NEXT: u8 = b',';
 
-/// An operand of an instruction.
-#[derive(Clone, Copy)]
-enum Operand {
-    /// The register in a slot.
-    Register(Slot),
-    /// The number in a field.
-    Number(Field),
-    /// A signed half, and `rs` in brackets.
-    Based,
-}
-
-/// Appends the operands of a word that stands at an address, with a space before them where there are any.
+/// Appends the operands of a word that stands at an address, a space before the first and a comma before
+/// each further one.
 pub(crate) fn push_operands(
-    shape: Shape,
+    forms: &[OperandForm],
     word: u32,
     address: u32,
     out: &mut Vec<u8>,
 ) -> Result<(), OutOfMemory>
-    ensures ok { OnOk result (out.new.items ≡ out.old.items ++ spaced (operand_texts shape word address)) }
+    ensures ok { OnOk result (out.new.items ≡ out.old.items ++ spaced (operand_texts forms.now word address)) }
     ensures keeps { Keeps out.old.items out.new.items }
 {
-    use Operand::{Based, Number, Register};
-    match shape {
-        Shape::Alone => Ok(()),
-        Shape::One(a) => push_list(Register(a), &[], word, address, out),
-        Shape::Two(a, b) => push_list(Register(a), &[Register(b)], word, address, out),
-        Shape::Three(a, b, c) => push_list(
-            Register(a),
-            &[Register(b), Register(c)],
-            word,
-            address,
-            out,
-        ),
-        Shape::Field0(field) => push_list(Number(field), &[], word, address, out),
-        Shape::Field1(a, field) => push_list(Register(a), &[Number(field)], word, address, out),
-        Shape::Field2(a, b, field) => push_list(
-            Register(a),
-            &[Register(b), Number(field)],
-            word,
-            address,
-            out,
-        ),
-        Shape::Coded => push_code(word, address, out),
-        Shape::Memory => push_list(Register(Slot::Rt), &[Based], word, address, out),
-        Shape::Load => push_list(
-            Register(Slot::Rt),
-            &[Number(Field::Unsigned)],
-            word,
-            address,
-            out,
-        ),
-    }
-}
-
-/// Appends operands, a space before the first and a comma before each further one.
-fn push_list(
-    first: Operand,
-    further: &[Operand],
-    word: u32,
-    address: u32,
-    out: &mut Vec<u8>,
-) -> Result<(), OutOfMemory>
-    ensures ok { OnOk result (out.new.items ≡ out.old.items ++ byte " " ∷ operand_text word address first ++ flat_map (further_text word address) further.now) }
-    ensures keeps { Keeps out.old.items out.new.items }
-{
-    push_operand(FIRST, first, word, address, out)?;
-    push_further(further, word, address, out)
-}
-
-/// Appends operands, a comma before each.
-fn push_further(
-    operands: &[Operand],
-    word: u32,
-    address: u32,
-    out: &mut Vec<u8>,
-) -> Result<(), OutOfMemory>
-    ensures ok { OnOk result (out.new.items ≡ out.old.items ++ flat_map (further_text word address) operands.now) }
-    ensures keeps { Keeps out.old.items out.new.items }
-{
-    for operand in operands {
-        push_operand(NEXT, *operand, word, address, out)?;
+    let mut mark = FIRST;
+    for form in forms {
+        if is_written(*form, word) {
+            push_operand(mark, *form, word, address, out)?;
+            mark = NEXT;
+        }
     }
     Ok(())
+}
+
+/// Whether an operand of a word is written: an optional one that is 0 isn't.
+fn is_written(form: OperandForm, word: u32) -> bool
+    ensures { result ≡ is_written form word }
+{
+    match form {
+        OperandForm::Optional(field) => field.get(word) != 0,
+        _ => true,
+    }
 }
 
 /// Appends a mark and an operand.
 fn push_operand(
     mark: u8,
-    operand: Operand,
+    form: OperandForm,
     word: u32,
     address: u32,
     out: &mut Vec<u8>,
 ) -> Result<(), OutOfMemory>
-    ensures ok { OnOk result (out.new.items ≡ out.old.items ++ mark ∷ operand_text word address operand) }
+    ensures ok { OnOk result (out.new.items ≡ out.old.items ++ mark ∷ operand_text form word address) }
     ensures keeps { Keeps out.old.items out.new.items }
 {
-    match operand {
-        Operand::Register(slot) => push_slot(mark, slot, word, out),
-        Operand::Number(field) => push_field(mark, field, word, address, out),
-        Operand::Based => push_based(mark, word, address, out),
+    match form {
+        OperandForm::Register(slot) => push_slot(mark, slot, word, out),
+        OperandForm::Value(field) | OperandForm::Optional(field) => {
+            push_field(mark, field, word, address, out)
+        }
+        OperandForm::Based => push_based(mark, word, address, out),
+        OperandForm::Halves => push_field(mark, Field::Unsigned, word, address, out),
     }
 }
 
@@ -126,17 +72,6 @@ fn push_slot(mark: u8, slot: Slot, word: u32, out: &mut Vec<u8>) -> Result<(), O
 {
     push_bytes(&[mark, b'$'], out)?;
     push_decimal(u32::from(slot.get(word)), out)
-}
-
-/// Appends the code of a word, with a space before it, where it isn't 0.
-fn push_code(word: u32, address: u32, out: &mut Vec<u8>) -> Result<(), OutOfMemory>
-    ensures ok { OnOk result (out.new.items ≡ out.old.items ++ spaced (operand_texts Shape.Coded word address)) }
-    ensures keeps { Keeps out.old.items out.new.items }
-{
-    if Field::Code.get(word) == 0 {
-        return Ok(());
-    }
-    push_field(FIRST, Field::Code, word, address, out)
 }
 
 /// Appends a mark, a signed half, and a register in brackets.

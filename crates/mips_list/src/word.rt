@@ -1,6 +1,6 @@
 //! The text of a word.
 ghost use Rattle.std.specs.Prelude.{◌≡◌, ◌++◌, OnErr, OnOk};
-ghost use Rattle.line_text.specs.Table.{row_seen};
+ghost use Rattle.mips_text.specs.Seen.{row_seen};
 ghost use Rattle.mips_list.specs.Growth.{Keeps};
 ghost use Rattle.mips_list.specs.WordText.{data_text, row_text, word_text};
 

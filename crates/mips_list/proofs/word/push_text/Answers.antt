@@ -1,6 +1,6 @@
 use Rattle.std.proofs.Common.{sym, ap, ◌∙◌}
 use Rattle.std.specs.Option.{option_map}
-use Rattle.line_text.specs.Table.{row_seen}
+use Rattle.mips_text.specs.Seen.{row_seen}
 use Rattle.mips_list.proofs.WordTexts.{word_text-row}
 use Rattle.mips_list.proofs.word.push_text.Goals as goal
 
