@@ -7,12 +7,14 @@ use Rattle.asm_parse.specs.declared.fault.AsmWhy.{AsmWhy}
 use Rattle.asm_parse.specs.declared.fault.AsmWhy.TheVariants.{OutOfRange}
 use Rattle.mips_isa.specs.Encoding.{word_of}
 use Rattle.mips_isa.specs.declared.insn.Insn.TheVariants.{Lui, Ori}
+use Rattle.mips_text.specs.WordRows.{slot_of}
+use Rattle.mips_text.specs.declared.shape.Slot.TheVariants.{Rt}
 use Rattle.asm_layout.specs.declared.number.NumberSize.{NumberSize}
 use Rattle.asm_layout.specs.declared.number.NumberSize.TheVariants.{Byte, Half, Word}
 use Rattle.asm_layout.specs.declared.section.Section.{Section}
 use Rattle.asm_layout.specs.declared.section.Section.TheVariants.{Text, Data}
-use Rattle.asm_layout.specs.Content.{Content, Instruction, Numbers, Given, content_length, draft_length, number_length}
-use Rattle.asm_layout.specs.Draft.{Draft, Fixed, Filled, Halves}
+use Rattle.asm_layout.specs.Content.{Content, Instruction, Numbers, Given, content_length, filled_length, number_length}
+use Rattle.asm_layout.specs.Draft.{Filling, Whole, Filled, Halves}
 use Rattle.asm_layout.specs.Laid.{HasStart, length_in, total}
 use Rattle.asm_layout.specs.Layout.{Layout, Placed}
 use Rattle.asm_layout.specs.Outcome.{◌>>=◌}
@@ -23,18 +25,19 @@ use Rattle.mips_asm.specs.Emission.{bytes_of, values_of}
 use Rattle.mips_asm.specs.Field.{field_bits_in}
 use Rattle.mips_asm.specs.Number.{number_bytes, number_fits, numbers_bytes}
 use Rattle.mips_asm.specs.Second.{Sections, emitted, extended, filled, filled_from, start_fault, start_fault_of, unless_start, widened}
-use Rattle.mips_asm.specs.Words.{words_bytes, words_of}
+use Rattle.mips_asm.specs.Words.{filled_words, words_bytes, words_of}
 
 -- the lengths of what is put
 
-words_length : (names : Names) (place : ℕ) (draft : Draft) (words : List ℕ) → words_of names place draft ≡ Ok words → length (words_bytes words) ≡ draft_length draft
-unfolding words_of
-words_length names place (Fixed w) words h = ap (λ ws. length (words_bytes ws)) (sym (ok_is _ words h))
-words_length names place (Filled field w e) words h =
+words_length : (names : Names) (place w : ℕ) (filling : Filling) (words : List ℕ) → filled_words names place w filling ≡ Ok words → length (words_bytes words) ≡ filled_length filling
+unfolding filled_words
+words_length names place w Whole words h = ap (λ ws. length (words_bytes ws)) (sym (ok_is _ words h))
+words_length names place w (Filled field e) words h =
     let next : ℕ → Result (List ℕ) AsmWhy = λ bits. Ok ((w + bits) ∷ []) in
     let step = bind_ok (field_bits_in names field place e) next words h in
     ap (λ ws. length (words_bytes ws)) (sym (ok_is _ words step.2))
-words_length names place (Halves rt e) words h =
+words_length names place w (Halves e) words h =
+    let rt = slot_of Rt w in
     let next : ℕ → Result (List ℕ) AsmWhy = λ v. Ok (word_of (Lui rt (v / 2 ^ 16)) ∷ word_of (Ori rt rt (v % 2 ^ 16)) ∷ []) in
     let step = bind_ok (defined names e) next words h in
     ap (λ ws. length (words_bytes ws)) (sym (ok_is _ words step.2))
@@ -73,7 +76,7 @@ unfolding bytes_of
 bytes_length names place (Instruction draft) bs h =
     let next : List ℕ → Result (List ℕ) AsmWhy = λ words. Ok (words_bytes words) in
     let step = bind_ok (words_of names place draft) next bs h in
-    ap length (sym (ok_is _ bs step.2)) ∙ words_length names place draft step.0 step.1
+    ap length (sym (ok_is _ bs step.2)) ∙ words_length names place draft.word draft.filling step.0 step.1
 bytes_length names place (Numbers size es) bs h =
     let next : List ℕ → Result (List ℕ) AsmWhy = λ vs. numbers_bytes size vs in
     let step = bind_ok (values_of names es) next bs h in

@@ -6,24 +6,30 @@ use Rattle.asm_parse.specs.Expression.{ExpressionValue}
 use Rattle.asm_parse.specs.declared.fault.AsmWhy.{AsmWhy}
 use Rattle.mips_isa.specs.Encoding.{word_of}
 use Rattle.mips_isa.specs.declared.insn.Insn.TheVariants.{Lui, Ori}
-use Rattle.asm_layout.specs.Draft.{Draft, Fixed, Filled, Halves}
+use Rattle.asm_layout.specs.Draft.{Draft, Filling, Whole, Filled, Halves}
 use Rattle.asm_layout.specs.Outcome.{◌>>=◌}
 use Rattle.asm_layout.specs.Value.{Names, defined}
+use Rattle.mips_text.specs.WordRows.{slot_of}
+use Rattle.mips_text.specs.declared.shape.Slot.TheVariants.{Rt}
 use Rattle.mips_asm.specs.Field.{field_bits_in}
 
--- LUI of the high half and ORI of the low half of an expression
+-- LUI of the high half and ORI of the low half of an expression, into a register
 abbrev pub halves_in : Names → ℕ → ExpressionValue → Result (List ℕ) AsmWhy
 halves_in names rt e = do
   v ← defined names e
   Ok (word_of (Lui rt (v / 2 ^ 16)) ∷ word_of (Ori rt rt (v % 2 ^ 16)) ∷ [])
 
--- the words that a draft at a place makes
-unfoldable pub words_of : Names → ℕ → Draft → Result (List ℕ) AsmWhy
-words_of names place (Fixed w) = Ok (w ∷ [])
-words_of names place (Filled field w e) = do
+-- the words that a word at a place makes with what an expression gives to it
+unfoldable pub filled_words : Names → ℕ → ℕ → Filling → Result (List ℕ) AsmWhy
+filled_words names place w Whole = Ok (w ∷ [])
+filled_words names place w (Filled field e) = do
   bits ← field_bits_in names field place e
   Ok ((w + bits) ∷ [])
-words_of names place (Halves rt e) = halves_in names rt e
+filled_words names place w (Halves e) = halves_in names (slot_of Rt w) e
+
+-- the words that a draft at a place makes
+abbrev pub words_of : Names → ℕ → Draft → Result (List ℕ) AsmWhy
+words_of names place draft = filled_words names place draft.word draft.filling
 
 -- words in memory
 abbrev pub words_bytes : List ℕ → List ℕ

@@ -8,11 +8,12 @@ ghost use Rattle.mips_asm.specs.Seen.{words_seen};
 ghost use Rattle.mips_asm.specs.Words.{halves_in, words_bytes, words_of};
 
 use crate::field::field_bits;
-use asm_layout::{Draft, Names, defined};
-use asm_parse::{AsmWhy, Expression, Register};
+use asm_layout::{Draft, Filling, Names, defined};
+use asm_parse::{AsmWhy, Expression};
 use byte_numbers::push_word;
 use mips_codec::encode;
 use mips_isa::Insn;
+use mips_text::Slot;
 use std::alloc::AllocError;
 
 /// The words that a draft makes: one, or two.
@@ -35,24 +36,26 @@ fn one(first: u32) -> Words
 }
 
 /// The words that a draft at a place makes. The fault is Undefined, Unaligned or OutOfRange.
-#[tactic(auto, unfolding(crate::specs::Words::words_of))]
+#[tactic(auto, unfolding(crate::specs::Words::filled_words))]
 pub(crate) fn draft_words(draft: Draft<'_>, names: &Names, place: u32) -> Result<Words, AsmWhy>
     requires { place + 4 < 2 ^ 32 }
     ensures { ok_seen words_seen result ≡ words_of names.now place (draft_seen draft.entry) }
 {
-    match draft {
-        Draft::Fixed(word) => Ok(one(word.value)),
-        Draft::Filled(field, word, e) => {
+    let word = draft.word;
+    match draft.filling {
+        Filling::Whole => Ok(one(word)),
+        Filling::Filled(field, e) => {
             let bits = field_bits(names, field, place, e)?;
-            Ok(one(word.value + bits))
+            Ok(one(word + bits))
         }
-        Draft::Halves(rt, e) => load(rt, names, e),
+        Filling::Halves(e) => load(Slot::Rt.get(word), names, e),
     }
 }
 
-/// LUI of the high half and ORI of the low half of an expression.
-fn load(rt: Register, names: &Names, expression: Expression<'_>) -> Result<Words, AsmWhy>
-    ensures { ok_seen words_seen result ≡ halves_in names.now rt.number (expression_seen expression.entry) }
+/// LUI of the high half and ORI of the low half of an expression, into a register.
+fn load(rt: u8, names: &Names, expression: Expression<'_>) -> Result<Words, AsmWhy>
+    requires { rt < 32 }
+    ensures { ok_seen words_seen result ≡ halves_in names.now rt (expression_seen expression.entry) }
 {
     let value = defined(names, expression)?;
     Ok(Words {
@@ -63,22 +66,20 @@ fn load(rt: Register, names: &Names, expression: Expression<'_>) -> Result<Words
 
 /// LUI.
 #[tactic(auto, unfolding(mips_isa::specs::Encoding::form_of))]
-fn load_upper(rt: Register, imm: u16) -> u32
-    ensures { result ≡ word_of (Insn.Lui rt.number imm) }
+fn load_upper(rt: u8, imm: u16) -> u32
+    requires { rt < 32 }
+    ensures { result ≡ word_of (Insn.Lui rt imm) }
 {
-    encoded(&Insn::Lui { rt: rt.number, imm })
+    encoded(&Insn::Lui { rt, imm })
 }
 
 /// ORI of a register with itself.
 #[tactic(auto, unfolding(mips_isa::specs::Encoding::form_of))]
-fn or_half(rt: Register, imm: u16) -> u32
-    ensures { result ≡ word_of (Insn.Ori rt.number rt.number imm) }
+fn or_half(rt: u8, imm: u16) -> u32
+    requires { rt < 32 }
+    ensures { result ≡ word_of (Insn.Ori rt rt imm) }
 {
-    encoded(&Insn::Ori {
-        rt: rt.number,
-        rs: rt.number,
-        imm,
-    })
+    encoded(&Insn::Ori { rt, rs: rt, imm })
 }
 
 /// The word of an instruction whose fields fit.
