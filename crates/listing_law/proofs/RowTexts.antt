@@ -5,18 +5,17 @@ use Rattle.std.proofs.lemmas.Bool.{cases_Bool}
 use Rattle.std.specs.List.{find, list_all, starts_with}
 use Rattle.std.specs.Map.{lookup}
 use Rattle.std.specs.Str.{bytes_eq}
-use Rattle.mips_text.specs.Texts.{further_rows, text_of}
+use Rattle.mips_text.specs.Texts.{TextValue, further_rows, text_of}
 use Rattle.mips_text.specs.WordRows.{main_rows, operand_bits, row_of, spells}
-use Rattle.mips_text.specs.declared.text.Text.{Text}
 use Rattle.listing_law.proofs.ArgTexts.{both}
 use Rattle.listing_law.proofs.LineTexts.{is_name}
-use Rattle.listing_law.proofs.WordTexts.{is_load}
+use Rattle.listing_law.proofs.WordTexts.{is_one_word}
 
-same_row : (a b : List ℕ × Text) → Some a ≡ Some b → a ≡ b
+same_row : (a b : List ℕ × TextValue) → Some a ≡ Some b → a ≡ b
 same_row a b is = cc
 
 -- what is found passes
-find_passes : (test : List ℕ × Text → Bool) (rows : List (List ℕ × Text)) (row : List ℕ × Text) → find test rows ≡ Some row → test row ≡ true
+find_passes : (test : List ℕ × TextValue → Bool) (rows : List (List ℕ × TextValue)) (row : List ℕ × TextValue) → find test rows ≡ Some row → test row ≡ true
 find_passes test [] row found = cc
 find_passes test (r ∷ rows) row found =
     elim (cases_Bool (test r)) [
@@ -25,7 +24,7 @@ find_passes test (r ∷ rows) row found =
     ]
 
 -- what holds of each row holds of the one that is found
-find_holds : (p test : List ℕ × Text → Bool) (rows : List (List ℕ × Text)) (row : List ℕ × Text) → list_all p rows ≡ true → find test rows ≡ Some row → p row ≡ true
+find_holds : (p test : List ℕ × TextValue → Bool) (rows : List (List ℕ × TextValue)) (row : List ℕ × TextValue) → list_all p rows ≡ true → find test rows ≡ Some row → p row ≡ true
 find_holds p test [] row all found = cc
 find_holds p test (r ∷ rows) row all found =
     let parts = both (p r) (list_all p rows) all in
@@ -35,7 +34,7 @@ find_holds p test (r ∷ rows) row all found =
     ]
 
 -- no two rows have one name
-abbrev are_apart : List (List ℕ × Text) → Bool
+abbrev are_apart : List (List ℕ × TextValue) → Bool
 are_apart [] = true
 are_apart (r ∷ rows) = list_all (λ row. not (bytes_eq row.0 r.0)) rows && are_apart rows
 
@@ -48,7 +47,7 @@ from_not true is = cc
 from_not false is = refl
 
 -- the name of a row that is found leads to the row's text
-named_text : (test : List ℕ × Text → Bool) (rows more : List (List ℕ × Text)) (row : List ℕ × Text) → are_apart rows ≡ true → find test rows ≡ Some row
+named_text : (test : List ℕ × TextValue → Bool) (rows more : List (List ℕ × TextValue)) (row : List ℕ × TextValue) → are_apart rows ≡ true → find test rows ≡ Some row
     → lookup (bytes_eq row.0) (rows ++ more) ≡ Some row.1
 named_text test [] more row apart found = cc
 named_text test (r ∷ rows) more row apart found =
@@ -64,28 +63,28 @@ named_text test (r ∷ rows) more row apart found =
     ]
 
 -- what each main row is: its name is that of an instruction, and it is one word
-abbrev is_instruction : List ℕ × Text → Bool
-is_instruction row = is_name row.0 && (not (starts_with nat_eq row.0 (codes ".")) && not (is_load row.1.1))
+abbrev is_instruction : List ℕ × TextValue → Bool
+is_instruction row = is_name row.0 && (not (starts_with nat_eq row.0 (codes ".")) && is_one_word row.1.operands)
 
 -- the row of a word
-pub record IsRowOf (word : ℕ) (row : List ℕ × Text) : Type 0 where
+pub record IsRowOf (word : ℕ) (row : List ℕ × TextValue) : Type 0 where
   pub name : is_name row.0 ≡ true
   pub no_directive : starts_with nat_eq row.0 (codes ".") ≡ false
-  pub one_word : is_load row.1.1 ≡ false
+  pub one_word : is_one_word row.1.operands ≡ true
   pub text : text_of row.0 ≡ Some row.1
-  pub whole : word ≡ row.1.0 + operand_bits row.1.1 word
+  pub whole : word ≡ row.1.word + operand_bits row.1.operands word
 
-pub row_found : (word : ℕ) (row : List ℕ × Text) → row_of word ≡ Some row → IsRowOf word row
+pub row_found : (word : ℕ) (row : List ℕ × TextValue) → row_of word ≡ Some row → IsRowOf word row
 unfolding row_of text_of
 row_found word row found =
-    let test : List ℕ × Text → Bool = λ r. spells r.1 word in
+    let test : List ℕ × TextValue → Bool = λ r. spells r.1 word in
     let holds = find_holds is_instruction test main_rows row refl found in
-    let parts = both (is_name row.0) (not (starts_with nat_eq row.0 (codes ".")) && not (is_load row.1.1)) holds in
-    let more = both (not (starts_with nat_eq row.0 (codes "."))) (not (is_load row.1.1)) parts.1 in
+    let parts = both (is_name row.0) (not (starts_with nat_eq row.0 (codes ".")) && is_one_word row.1.operands) holds in
+    let more = both (not (starts_with nat_eq row.0 (codes "."))) (is_one_word row.1.operands) parts.1 in
     record {
       name = parts.0;
       no_directive = from_not (starts_with nat_eq row.0 (codes ".")) more.0;
-      one_word = from_not (is_load row.1.1) more.1;
+      one_word = more.1;
       text = named_text test main_rows further_rows row refl found;
-      whole = eqb-true word (row.1.0 + operand_bits row.1.1 word) (find_passes test main_rows row found);
+      whole = eqb-true word (row.1.word + operand_bits row.1.operands word) (find_passes test main_rows row found);
     }

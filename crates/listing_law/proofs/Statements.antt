@@ -12,9 +12,8 @@ use Rattle.asm_parse.specs.declared.fault.AsmWhy.{AsmWhy}
 use Rattle.asm_parse.specs.declared.fault.AsmWhy.TheVariants.{UnknownName}
 use Rattle.asm_parse.specs.declared.syntax.AsmBody.TheVariants as bodies
 use Rattle.mips_isa.specs.Encoding.{insn_of}
-use Rattle.mips_text.specs.Texts.{text_of}
+use Rattle.mips_text.specs.Texts.{TextValue, text_of}
 use Rattle.mips_text.specs.WordRows.{is_nameless, row_of}
-use Rattle.mips_text.specs.declared.text.Text.{Text}
 use Rattle.mips_text.proofs.NamedWords.{nameless_rows}
 use Rattle.mips_list.specs.WordText.{data_text, hexadecimal, operand_texts, row_text, spaced, text_by, word_text}
 use Rattle.asm_layout.specs.Action.{Action, Put, action_of, directed, directive_of, operands_in}
@@ -37,7 +36,7 @@ use Rattle.listing_law.proofs.WordTexts.{Makes, makes_word, operand_values, text
 named_op : (name : List ℕ) (args : List ArgValue) → starts_with nat_eq name (codes ".") ≡ false → body_named name args ≡ bodies.Op name args
 named_op name args is = rw is refl
 
-asks_instruction : (name : List ℕ) (args : List ArgValue) (text : Text) (os : List OperandValue) (word address : ℕ) → text_of name ≡ Some text → operands_in args ≡ os
+asks_instruction : (name : List ℕ) (args : List ArgValue) (text : TextValue) (os : List OperandValue) (word address : ℕ) → text_of name ≡ Some text → operands_in args ≡ os
     → (makes : Makes (draft_of text os) word address) → action_of nothing_placed.section (bodies.Op name args) ≡ Ok (Put (Instruction makes.made))
 unfolding action_of
 asks_instruction name args text os word address named reads makes = rw (named, reads, makes.is) refl
@@ -46,15 +45,15 @@ puts_instruction : (names : Names) (draft : Result Draft AsmWhy) (word address :
 unfolding bytes_of
 puts_instruction names draft word address makes = rw (makes.words names) (ap (λ bs. Ok bs) (append-nil (to_le_bytes w32 word)))
 
-row_puts : (number start word address : ℕ) (row : List ℕ × Text) → IsRowOf word row → address % 4 ≡ 0 → address + 4 < 2 ^ 32
+row_puts : (number start word address : ℕ) (row : List ℕ × TextValue) → IsRowOf word row → address % 4 ≡ 0 → address + 4 < 2 ^ 32
     → Puts (record { number = number; start = start; text = row_text row word address }) address (to_le_bytes w32 word)
 row_puts number start word address row is aligned below =
-    let shape = row.1.1 in
-    let ts = operand_texts shape word address in
-    let os = operand_values shape word address in
-    let are = texts_read shape word address in
+    let forms = row.1.operands in
+    let ts = operand_texts forms word address in
+    let os = operand_values forms word address in
+    let are = texts_read forms word address in
     let args = operands_read (start + length row.0) ts os are in
-    let makes = makes_word shape row.1.0 word address is.one_word is.whole aligned below in
+    let makes = makes_word row.1 word address is.one_word is.whole aligned below in
     record {
       statement = record { line = number; start = start; end = start + length (row.0 ++ spaced ts); label = None; body = body_named row.0 args.found };
       content = Instruction makes.made;
@@ -120,7 +119,7 @@ data_puts number start word address small =
 
 -- Any word.
 
-text_puts : (number start word address : ℕ) (row : Option (List ℕ × Text)) → row_of word ≡ row → word < 2 ^ 32 → address % 4 ≡ 0 → address + 4 < 2 ^ 32
+text_puts : (number start word address : ℕ) (row : Option (List ℕ × TextValue)) → row_of word ≡ row → word < 2 ^ 32 → address % 4 ≡ 0 → address + 4 < 2 ^ 32
     → Puts (record { number = number; start = start; text = text_by row word address }) address (to_le_bytes w32 word)
 text_puts number start word address None is small aligned below = data_puts number start word address small
 text_puts number start word address (Some row) is small aligned below = row_puts number start word address row (row_found word row is) aligned below
@@ -130,7 +129,7 @@ text_by_row : (word address : ℕ) → word_text word address ≡ text_by (row_o
 unfolding word_text
 text_by_row word address = by_name (is_nameless (insn_of word)) (row_of word) (nameless_rows word)
   where
-    by_name : (nameless : Bool) (row : Option (List ℕ × Text)) → is_none row ≡ nameless → (if nameless then data_text word else text_by row word address) ≡ text_by row word address
+    by_name : (nameless : Bool) (row : Option (List ℕ × TextValue)) → is_none row ≡ nameless → (if nameless then data_text word else text_by row word address) ≡ text_by row word address
     by_name true None same = refl
     by_name true (Some row) same = cc
     by_name false row same = refl
@@ -143,11 +142,11 @@ word_statement number start word address small aligned below =
     (sym (text_by_row word address)) (text_puts number start word address (row_of word) refl small aligned below)
 
 -- the text of a word is one line
-by_is_line : (word address : ℕ) (row : Option (List ℕ × Text)) → row_of word ≡ row → word < 2 ^ 32 → IsLine (text_by row word address)
+by_is_line : (word address : ℕ) (row : Option (List ℕ × TextValue)) → row_of word ≡ row → word < 2 ^ 32 → IsLine (text_by row word address)
 by_is_line word address None is small =
     text_is_line (codes ".word") (hexadecimal 8 word ∷ []) (word_operands word) refl (number_operand (hexadecimal 8 word) word (word_text_read word small), tt)
 by_is_line word address (Some row) is small =
-    text_is_line row.0 (operand_texts row.1.1 word address) (operand_values row.1.1 word address) (row_found word row is).name (texts_read row.1.1 word address)
+    text_is_line row.0 (operand_texts row.1.operands word address) (operand_values row.1.operands word address) (row_found word row is).name (texts_read row.1.operands word address)
 
 pub text_is_line_of : (word address : ℕ) → word < 2 ^ 32 → IsLine (word_text word address)
 text_is_line_of word address small = subst IsLine (sym (text_by_row word address)) (by_is_line word address (row_of word) refl small)
