@@ -39,6 +39,15 @@ impl Filter {
         Filter { atoms }
     }
 
+    /// The same filter once more.
+    pub fn copy(&self) -> Filter
+        ensures { result ≡ self.now }
+    {
+        let mut atoms = ArrayVec::new();
+        atoms.try_extend_from_slice(self.atoms()).unwrap();
+        Filter { atoms }
+    }
+
     /// Its atoms, in their order.
     pub fn atoms(&self) -> &[Atom]
         ensures atoms { result.now ≡ self.now }

@@ -1,3 +1,10 @@
+pub mod Atoms
+pub mod Counting
+pub mod Lowest
 pub mod Numbers
+pub mod Order
+pub mod Planting
+pub mod Reaching
 pub mod Room
+pub mod Splitting
 pub mod Turning

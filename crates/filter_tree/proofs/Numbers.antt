@@ -7,11 +7,11 @@ use Rattle.filter_tree.specs.Claims.{handled, handled_if, is_numbered, turned, t
 use Rattle.filter_tree.specs.Laws.{FirstIsNumbered}
 
 -- both of two tests
-both : (a b : Bool) → (a && b) ≡ true → (a ≡ true) × (b ≡ true)
+pub both : (a b : Bool) → (a && b) ≡ true → (a ≡ true) × (b ≡ true)
 both true b is = (refl, is)
 both false b is = cc
 
-and_both : (a b : Bool) → a ≡ true → b ≡ true → (a && b) ≡ true
+pub and_both : (a b : Bool) → a ≡ true → b ≡ true → (a && b) ≡ true
 and_both true true is other = refl
 and_both true false is other = cc
 and_both false b is other = cc
@@ -69,7 +69,7 @@ numbered_same f same least end (r ∷ rows) is =
     ∙ and_both (nat_le least r.claim.id) (are_numbered (suc r.claim.id) end (map f rows)) parts.0 (numbered_same f same (suc r.claim.id) end rows parts.1)
 
 -- the numbers of later claims are not below
-above : (test : ClaimValue → Bool) (least end : ℕ) (rows : List RowValue) (r : RowValue) → are_numbered least end rows ≡ true → find (λ (x : RowValue). test x.claim) rows ≡ Some r → least ≤ r.claim.id
+pub above : (test : ClaimValue → Bool) (least end : ℕ) (rows : List RowValue) (r : RowValue) → are_numbered least end rows ≡ true → find (λ (x : RowValue). test x.claim) rows ≡ Some r → least ≤ r.claim.id
 above test least end [] r is found = cc
 above test least end (x ∷ rows) r is found =
     let parts = both (nat_le least x.claim.id) (are_numbered (suc x.claim.id) end rows) is in
@@ -79,7 +79,7 @@ above test least end (x ∷ rows) r is found =
       | inr other ↦ omega (arith, low, above test (suc x.claim.id) end rows r parts.1 (rw other at found))
     ]
 
-first_numbered : (test : ClaimValue → Bool) (least end : ℕ) (rows : List RowValue) (r : RowValue) → are_numbered least end rows ≡ true → find (λ (x : RowValue). test x.claim) rows ≡ Some r
+pub first_numbered : (test : ClaimValue → Bool) (least end : ℕ) (rows : List RowValue) (r : RowValue) → are_numbered least end rows ≡ true → find (λ (x : RowValue). test x.claim) rows ≡ Some r
     → find (λ (x : RowValue). is_numbered r.claim.id x.claim) rows ≡ Some r
 first_numbered test least end [] r is found = cc
 first_numbered test least end (x ∷ rows) r is found =

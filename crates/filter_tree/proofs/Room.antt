@@ -25,7 +25,7 @@ all_and_one P [] x are is = (is, tt)
 all_and_one P (y ∷ xs) x are is = (are.0, all_and_one P xs x are.1 is)
 
 -- how many, one more element at the front
-counted : {X : Type 0} (p : X → Bool) (x : X) (xs : List X) → count_by p (x ∷ xs) ≡ cond (p x) 1 0 + count_by p xs
+pub counted : {X : Type 0} (p : X → Bool) (x : X) (xs : List X) → count_by p (x ∷ xs) ≡ cond (p x) 1 0 + count_by p xs
 counted {X} p x xs = sum_by-cons (λ (y : X). cond (p y) 1 0) x xs
 
 counted_in : {X : Type 0} (p : X → Bool) (x : X) (xs : List X) → p x ≡ true → count_by p (x ∷ xs) ≡ 1 + count_by p xs
@@ -41,7 +41,7 @@ none_if : {b : Bool} → b ≡ false → cond {A = ℕ} b 1 0 ≡ 0
 none_if is = rw is refl
 
 -- or at the end
-counted_last : {X : Type 0} (p : X → Bool) (xs : List X) (x : X) → count_by p (xs ++ x ∷ []) ≡ count_by p xs + cond (p x) 1 0
+pub counted_last : {X : Type 0} (p : X → Bool) (xs : List X) (x : X) → count_by p (xs ++ x ∷ []) ≡ count_by p xs + cond (p x) 1 0
 counted_last {X} p xs x = sum_by_push (λ (y : X). cond (p y) 1 0) xs x
 
 fewer : {X : Type 0} (p t : X → Bool) (xs : List X) → count_by p (filter t xs) ≤ count_by p xs

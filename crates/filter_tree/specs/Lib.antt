@@ -1,3 +1,5 @@
 pub mod ClaimBook
 pub mod Claims
 pub mod Laws
+pub mod Prefixes
+pub mod Tree

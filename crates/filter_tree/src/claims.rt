@@ -2,12 +2,15 @@
 ghost use Rattle.std.specs.Prelude.{true, ◌≡◌, ◌<◌, ◌≤◌, ◌+◌, ◌^◌, [], is_some, IfOk};
 ghost use Rattle.std.specs.Option.{option_map};
 ghost use Rattle.filter_tree.specs.ClaimBook.{are_numbered, claims_in, is_of_env};
+ghost use Rattle.filter_tree.specs.Prefixes.{prefixes};
 ghost use Rattle.filter_tree.specs.Claims.{atom_count, claim_answer, claim_for, claim_handler, claim_held, claim_refusal, claimed, delivered, downloaded, is_claim, is_into, without};
 
 use crate::claim::{Claim, ClaimNo};
+use crate::leaf::Leaf;
 use crate::row::Row;
-use crate::search::{MOST_CLAIMS, claim_for, claim_handler, claim_held, refusal};
+use crate::search::{MOST_CLAIMS, claim_handler, claim_held, claim_numbered, refusal};
 use crate::steps::Steps;
+use crate::tree::Tree;
 use crate::withdrawal::{download, turn, withdraw, withdraw_into, withdraw_of};
 use aegis_limits::OutOfMemory;
 use filter_core::{Filter, Packet};
@@ -22,19 +25,21 @@ use std::sync::ledger::{Blank, Ledger};
 #[derive(Drop)]
 pub struct Claims {
     rows: Vec<Row>,
+    tree: Tree,
     next: u64,
     envs: u8,
 }
 
 impl Model for Claims {
     ghost use Rattle.std.specs.Prelude.{vec_capacity};
-    ghost use Rattle.filter_tree.specs.ClaimBook.{ClaimBook, IsKept};
+    ghost use Rattle.filter_tree.specs.ClaimBook.{ClaimBook};
+    ghost use Rattle.filter_tree.specs.Tree.{IsGrown};
 
     ghost Value = { ClaimBook };
 
     ghost view = { λ c. record { rows = c.rows.items; next = c.next; envs = c.envs } };
 
-    ghost invariant = { λ c. IsKept (record { rows = c.rows.items; next = c.next; envs = c.envs }) (vec_capacity c.rows) };
+    ghost invariant = { λ c. IsGrown (record { rows = c.rows.items; next = c.next; envs = c.envs }) (vec_capacity c.rows) c.tree };
 }
 
 impl Claims {
@@ -42,9 +47,12 @@ impl Claims {
     pub fn new(alloc: Global, envs: u8) -> Result<Claims, OutOfMemory>
         ensures { IfOk result (λ c. c ≡ record { rows = []; next = 0; envs = envs }) }
     {
-        let rows = Vec::with_capacity(alloc, usize::from(envs) * MOST_CLAIMS)?;
+        let room = usize::from(envs) * MOST_CLAIMS;
+        let rows = Vec::with_capacity(alloc, room)?;
+        let tree = Tree::new(alloc, room)?;
         Ok(Claims {
             rows,
+            tree,
             next: 0,
             envs,
         })
@@ -68,6 +76,12 @@ impl Claims {
             page,
             next: Buffer::First,
         };
+        self.tree.plant(Leaf {
+            id,
+            env,
+            page,
+            filter: filter.copy(),
+        });
         self.rows
             .push(Row {
                 claim,
@@ -130,6 +144,7 @@ impl Claims {
     {
         let stood = self.held(env, id).is_some();
         withdraw(&mut self.rows, env, id);
+        self.tree.withdraw(env, id);
         stood
     }
 
@@ -145,8 +160,10 @@ impl Claims {
     pub fn find<L: Ledger>(&self, packet: &Packet<'_>, steps: &mut Steps<L>) -> Option<Claim>
         ensures answer { result ≡ claim_for self.now packet.now }
         ensures steps { steps.new ≤ steps.old + atom_count self.now }
+        ensures prefixes { steps.new ≤ steps.old + prefixes self.now }
     {
-        claim_for(&self.rows, packet, steps)
+        let id = self.tree.find(packet, steps)?;
+        claim_numbered(&self.rows, id)
     }
 
     /// The same, where nobody counts the steps.
@@ -171,6 +188,7 @@ impl Claims {
         ensures { self.new ≡ without (is_into page) self.old }
     {
         withdraw_into(&mut self.rows, page);
+        self.tree.withdraw_into(page);
     }
 
     /// Withdraws the claims of an environment.
@@ -178,5 +196,6 @@ impl Claims {
         ensures { self.new ≡ without (is_of_env env) self.old }
     {
         withdraw_of(&mut self.rows, env);
+        self.tree.withdraw_of(env);
     }
 }

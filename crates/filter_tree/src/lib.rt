@@ -5,12 +5,15 @@
 //! environment (`docs/FORMATS.md`, "Packet filters").
 #![tactic(auto)]
 
+mod branching;
 mod claim;
 mod claims;
 mod laws;
+mod leaf;
 mod row;
 mod search;
 mod steps;
+mod tree;
 mod withdrawal;
 
 pub use claim::{Claim, ClaimNo};

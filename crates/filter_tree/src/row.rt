@@ -1,15 +1,13 @@
 //! A claim with its filter and its handler.
-ghost use Rattle.std.specs.Prelude.{◌≡◌, ◌+◌, ◌≤◌, length};
+ghost use Rattle.std.specs.Prelude.{◌≡◌};
 ghost use Rattle.std.specs.Option.{option_map};
 ghost use Rattle.filter_tree.specs.ClaimBook.{is_of_env};
-ghost use Rattle.filter_tree.specs.Claims.{claim_seen, handled_if, is_claim, is_for, is_in_the_way, is_into, is_numbered, turned_if};
+ghost use Rattle.filter_tree.specs.Claims.{claim_seen, handled_if, is_claim, is_in_the_way, is_into, is_numbered, turned_if};
 
 use crate::claim::Claim;
-use crate::steps::Steps;
-use filter_core::{Filter, Layout, Packet};
+use filter_core::{Filter, Layout};
 use handler_code::Handler;
 use std::marker::Model;
-use std::sync::ledger::Ledger;
 
 /// A claim with its filter, and with its handler if it has one.
 #[derive(Drop)]
@@ -93,19 +91,5 @@ impl Row {
         ensures { result ≡ is_in_the_way env filter.now self.now.claim }
     {
         self.claim.env != env && filter.overlaps(&self.filter)
-    }
-
-    /// Whether its filter matches a packet. Each field that is read of the packet is a step.
-    pub(crate) fn is_for<L: Ledger>(&self, packet: &Packet<'_>, steps: &mut Steps<L>) -> bool
-        ensures answer { result ≡ is_for packet.now self.now.claim }
-        ensures steps { steps.new ≤ steps.old + length self.now.claim.filter }
-    {
-        for atom in self.filter.atoms() {
-            steps.tick();
-            if !atom.matches(packet) {
-                return false;
-            }
-        }
-        true
     }
 }

@@ -1,15 +1,13 @@
 //! Searches through all claims.
-ghost use Rattle.std.specs.Prelude.{◌≡◌, ◌≤◌, ◌+◌, length, count_by, find, sum_by};
+ghost use Rattle.std.specs.Prelude.{◌≡◌, count_by, find};
 ghost use Rattle.std.specs.Option.{option_flatten, option_map};
 ghost use Rattle.filter_tree.specs.ClaimBook.{RowValue, is_of_env};
-ghost use Rattle.filter_tree.specs.Claims.{claim_seen, is_claim, is_for, is_in_the_way, is_numbered, row_refusal};
+ghost use Rattle.filter_tree.specs.Claims.{claim_seen, is_claim, is_in_the_way, is_numbered, row_refusal};
 
 use crate::claim::{Claim, ClaimNo};
 use crate::row::Row;
-use crate::steps::Steps;
-use filter_core::{Filter, Layout, Packet};
+use filter_core::{Filter, Layout};
 use handler_code::Handler;
-use std::sync::ledger::Ledger;
 
 /// The most claims of an environment.
 pub const MOST_CLAIMS: usize = 8;
@@ -69,17 +67,12 @@ pub(crate) fn claim_handler(rows: &[Row], id: u32) -> Option<&Handler>
     None
 }
 
-/// The lowest claim whose filter matches a packet. Each field that is read of the packet is a step.
-pub(crate) fn claim_for<L: Ledger>(
-    rows: &[Row],
-    packet: &Packet<'_>,
-    steps: &mut Steps<L>,
-) -> Option<Claim>
-    ensures answer { result ≡ option_map claim_seen (find (λ (r : RowValue). is_for packet.now r.claim) rows.now) }
-    ensures steps { steps.new ≤ steps.old + sum_by (λ (r : RowValue). length r.claim.filter) rows.now }
+/// The claim of this number.
+pub(crate) fn claim_numbered(rows: &[Row], id: u32) -> Option<Claim>
+    ensures { result ≡ option_map claim_seen (find (λ (r : RowValue). is_numbered id r.claim) rows.now) }
 {
     for row in rows {
-        if row.is_for(packet, steps) {
+        if row.is_numbered(id) {
             return Some(row.claim());
         }
     }

@@ -1,0 +1,25 @@
+-- The atom at a depth.
+use Rattle.std.proofs.Common.{◌≡◌, ℕ, zero, suc, ◌+◌, ◌<◌, Bool, true, false, List, [], ◌∷◌, length, drop, refl, sym, ap, ◌∙◌, arith, Option, Some, None}
+use Rattle.std.specs.Prelude.{slice_get}
+use Rattle.std.proofs.lemmas.Option.{same_Some}
+use Rattle.filter_core.specs.declared.atom.Atom.{Atom}
+
+pub no_atom : {X : Type 0} (d : ℕ) (xs : List X) → None ≡ slice_get xs d → drop d xs ≡ []
+no_atom zero [] none = refl
+no_atom zero (x ∷ xs) none = cc
+no_atom (suc d) [] none = refl
+no_atom (suc d) (x ∷ xs) none = no_atom d xs none
+
+an_atom : {X : Type 0} (d : ℕ) (x : X) (xs : List X) → Some x ≡ slice_get xs d → drop d xs ≡ x ∷ drop 1 (drop d xs)
+an_atom zero x [] some = cc
+an_atom zero x (y ∷ xs) some = let same : y ≡ x = cc in ap (λ z. z ∷ xs) same
+an_atom (suc d) x [] some = cc
+an_atom (suc d) x (y ∷ xs) some = an_atom d x xs some
+
+pub drop_one : {X : Type 0} (d : ℕ) (xs : List X) → drop (d + 1) xs ≡ drop 1 (drop d xs)
+drop_one zero xs = refl
+drop_one (suc d) [] = let e : suc d + 1 ≡ suc (d + 1) = omega arith in rw e refl
+drop_one (suc d) (x ∷ xs) = let e : suc d + 1 ≡ suc (d + 1) = omega arith in rw e (drop_one d xs)
+
+pub next_atom : {X : Type 0} (d : ℕ) (x : X) (xs : List X) → Some x ≡ slice_get xs d → drop d xs ≡ x ∷ drop (d + 1) xs
+next_atom d x xs some = an_atom d x xs some ∙ ap (λ ys. x ∷ ys) (sym (drop_one d xs))

@@ -1,0 +1,131 @@
+-- The claims to which a packet comes.
+use Rattle.std.proofs.Common.{◌≡◌, ℕ, zero, suc, ◌+◌, ◌<◌, ◌≤◌, Bool, true, false, not, List, [], ◌∷◌, ◌++◌, Option, Some, None, length, take, drop, refl, sym, ap, subst, ◌∙◌, arith, inl, inr}
+use Rattle.std.specs.List.{list_all}
+use Rattle.std.specs.Prelude.{◌==◌, ◌&&◌, nat_le, filter, slice_index_or, bit_and, if◌then◌else◌}
+use Rattle.std.proofs.lemmas.Bool.{and_parts, cases_Bool, eqb-true}
+use Rattle.std.proofs.lemmas.List.Kept.{AllPairs-filter}
+use Rattle.filter_core.specs.declared.atom.Atom.{Atom}
+use Rattle.filter_core.specs.Matching.{field, matches}
+use Rattle.filter_tree.specs.ClaimBook.{ClaimValue}
+use Rattle.filter_tree.specs.Tree.{AreInOrder, IsSplit, begins, begins_with, comes_before, first_value, is_before, is_branch, lower, lowest, matches_from, numbers, starts_with, value_at}
+use Rattle.filter_tree.proofs.Atoms.{drop_one}
+use Rattle.filter_tree.proofs.Lowest.{lower_join, lowest_filter, lowest_parts, lowest_none, lowest_same}
+use Rattle.filter_tree.proofs.Numbers.{and_both}
+use Rattle.filter_tree.proofs.Order.{all_at, has_own_shape, shape_is, tails_before}
+
+-- a field that was read, or not
+pub read_some : (b : Bool) (x y : ℕ) → Some y ≡ (if b then Some x else None) → (b ≡ true) × (y ≡ x)
+read_some true x y is = (refl, cc)
+read_some false x y is = cc
+
+pub read_none : (b : Bool) (x : ℕ) → None ≡ (if b then Some x else None) → b ≡ false
+read_none true x is = cc
+read_none false x is = refl
+
+pub passes : {X : Type 0} (p : X → Bool) (xs : List X) → list_all p (filter p xs) ≡ true
+passes p [] = refl
+passes p (x ∷ xs) =
+    elim (cases_Bool (p x)) [
+      | inl is ↦ rw (is, is) (passes p xs)
+      | inr other ↦ rw other (passes p xs)
+    ]
+
+pub pass_too : {X : Type 0} (p q : X → Bool) (xs : List X) → list_all q xs ≡ true → list_all q (filter p xs) ≡ true
+pass_too p q [] all = refl
+pass_too p q (x ∷ xs) all =
+    let parts = and_parts (q x) (list_all q xs) all in
+    elim (cases_Bool (p x)) [
+      | inl is ↦ rw (is, parts.0) (pass_too p q xs parts.1)
+      | inr other ↦ rw other (pass_too p q xs parts.1)
+    ]
+
+abbrev asks : ℕ → ℕ → ClaimValue → Bool
+asks depth v c = v == value_at depth c
+
+-- two claims with one atom at a depth are in the order of what follows it
+both_after : (depth v : ℕ) (a : Atom) (c d : ClaimValue) → begins depth a c ≡ true → begins depth a d ≡ true → asks depth v c ≡ true → asks depth v d ≡ true
+    → comes_before depth c d ≡ true → comes_before (depth + 1) c d ≡ true
+both_after depth v a c d left right own other is =
+    let same : first_value (drop depth c.filter) ≡ first_value (drop depth d.filter) = sym (eqb-true v (value_at depth c) own) ∙ eqb-true v (value_at depth d) other in
+    rw (drop_one depth c.filter, drop_one depth d.filter) (tails_before a (drop depth c.filter) (drop depth d.filter) left right same is)
+
+pub reached_order : (depth v : ℕ) (a : Atom) (claims : List ClaimValue) → AreInOrder depth claims → list_all (begins depth a) claims ≡ true
+    → AreInOrder (depth + 1) (filter (λ c. v == value_at depth c) claims)
+reached_order depth v a claims order all = λ i j d before within.
+    let some : List ClaimValue = filter (asks depth v) claims in
+    let begin : list_all (begins depth a) some ≡ true = pass_too (asks depth v) (begins depth a) claims all in
+    let ask : list_all (asks depth v) some ≡ true = passes (asks depth v) claims in
+    both_after depth v a (slice_index_or some i d) (slice_index_or some j d)
+    (all_at (begins depth a) some begin i d (omega (arith, before, within))) (all_at (begins depth a) some begin j d within)
+    (all_at (asks depth v) some ask i d (omega (arith, before, within))) (all_at (asks depth v) some ask j d within)
+    (AllPairs-filter (λ x y. comes_before depth x y ≡ true) (asks depth v) claims order i j d before within)
+
+-- an atom matches a packet if the packet's field has its value
+one_atom : (a : Atom) (packet : List ℕ) (f : List Atom) → nat_le (a.offset + a.width) (length packet) ≡ true → begins_with a f ≡ true
+    → (bit_and (field a.offset a.width packet) a.mask == first_value f && matches (drop 1 f) packet) ≡ matches f packet
+one_atom a packet [] fits is = cc
+one_atom a packet (x ∷ f) fits is =
+    let shape = shape_is a x is in
+    let own : nat_le (x.offset + x.width) (length packet) ≡ true = rw (shape.offset, shape.width) at fits in
+    rw (shape.offset, shape.width, shape.mask, own) refl
+
+no_atom : (a : Atom) (packet : List ℕ) (f : List Atom) → nat_le (a.offset + a.width) (length packet) ≡ false → begins_with a f ≡ true → matches f packet ≡ false
+no_atom a packet [] fits is = cc
+no_atom a packet (x ∷ f) fits is =
+    let shape = shape_is a x is in
+    let own : nat_le (x.offset + x.width) (length packet) ≡ false = rw (shape.offset, shape.width) at fits in
+    rw own refl
+
+pub reached_lowest : (depth v : ℕ) (a : Atom) (packet : List ℕ) (claims : List ClaimValue) → nat_le (a.offset + a.width) (length packet) ≡ true
+    → v ≡ bit_and (field a.offset a.width packet) a.mask → list_all (begins depth a) claims ≡ true
+    → lowest (matches_from (depth + 1) packet) (filter (λ c. v == value_at depth c) claims) ≡ lowest (matches_from depth packet) claims
+reached_lowest depth v a packet claims fits is all =
+    lowest_filter (matches_from (depth + 1) packet) (asks depth v) claims
+    ∙ lowest_same (begins depth a) (λ c. asks depth v c && matches_from (depth + 1) packet c) (matches_from depth packet)
+      (λ c begin. rw (drop_one depth c.filter, is) (one_atom a packet (drop depth c.filter) fits begin)) claims all
+
+pub reached_none : (depth : ℕ) (a : Atom) (packet : List ℕ) (claims : List ClaimValue) → nat_le (a.offset + a.width) (length packet) ≡ false
+    → list_all (begins depth a) claims ≡ true → None ≡ lowest (matches_from depth packet) claims
+reached_none depth a packet claims fits all = lowest_none (begins depth a) (matches_from depth packet) (λ c begin. no_atom a packet (drop depth c.filter) fits begin) claims all
+
+-- the first of some claims begins with its own atom
+pub starts : (depth : ℕ) (a : Atom) (more : List Atom) (claims : List ClaimValue) (c : ClaimValue) → 0 < length claims → c ≡ slice_index_or claims 0 c → drop depth c.filter ≡ a ∷ more
+    → starts_with depth a claims ≡ true
+starts depth a more [] c some is atom = absurd (omega (arith, some))
+starts depth a more (d ∷ claims) c some is atom =
+    let same : drop depth d.filter ≡ a ∷ more = ap (λ (x : ClaimValue). drop depth x.filter) (sym is) ∙ atom in
+    rw same (has_own_shape a)
+
+-- those of some claims that begin as the first does
+pub branch_is : (depth : ℕ) (a : Atom) (claims : List ClaimValue) → starts_with depth a claims ≡ true → is_branch depth a (filter (begins depth a) claims) ≡ true
+branch_is depth a [] first = cc
+branch_is depth a (c ∷ claims) first =
+    let kept : filter (begins depth a) (c ∷ claims) ≡ c ∷ filter (begins depth a) claims = rw first refl in
+    ap (is_branch depth a) kept ∙ and_both (begins depth a c) (begins depth a c && list_all (begins depth a) (filter (begins depth a) claims)) first
+      (and_both (begins depth a c) (list_all (begins depth a) (filter (begins depth a) claims)) first (passes (begins depth a) claims))
+
+-- where the first has no more atoms
+pub first_ends : (depth : ℕ) (packet : List ℕ) (claims : List ClaimValue) (c : ClaimValue) → 0 < length claims → c ≡ slice_index_or claims 0 c → drop depth c.filter ≡ []
+    → lower (Some c.id) (lowest (matches_from depth packet) (drop 1 claims)) ≡ lowest (matches_from depth packet) claims
+first_ends depth packet [] c some is none = absurd (omega (arith, some))
+first_ends depth packet (d ∷ claims) c some is none =
+    let same : drop depth d.filter ≡ [] = ap (λ (x : ClaimValue). drop depth x.filter) (sym is) ∙ none in
+    rw (same, ap (λ (x : ClaimValue). x.id) is) refl
+
+pub drop_more : {X : Type 0} (n m : ℕ) (xs : List X) → drop (n + m) xs ≡ drop m (drop n xs)
+drop_more zero m xs = ap (λ k. drop k xs) (omega arith)
+drop_more (suc n) m [] = drop_none (suc n + m) ∙ sym (drop_none m)
+  where
+    drop_none : {Y : Type 0} (k : ℕ) → drop {A = Y} k [] ≡ []
+    drop_none zero = refl
+    drop_none (suc k) = refl
+drop_more (suc n) m (x ∷ xs) = let e : suc n + m ≡ suc (n + m) = omega arith in rw e (drop_more n m xs)
+
+pub behind_is : {X : Type 0} (p : X → Bool) (xs : List X) (start end : ℕ) → IsSplit p (drop start xs) end → drop (start + end) xs ≡ filter (λ x. not (p x)) (drop start xs)
+behind_is p xs start end split = drop_more start end xs ∙ split.back
+
+-- a branch after what was found
+pub join_step : (t q : ClaimValue → Bool) (found : Option ℕ) (rest all : List ClaimValue) → lower found (lowest t rest) ≡ lowest t all
+    → lower (lower found (lowest t (filter q rest))) (lowest t (filter (λ c. not (q c)) rest)) ≡ lowest t all
+join_step t q found rest all is =
+    sym (lower_join found (lowest t (filter q rest)) (lowest t (filter (λ c. not (q c)) rest))) ∙ ap (lower found) (lowest_parts t q rest) ∙ is

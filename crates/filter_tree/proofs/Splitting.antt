@@ -1,0 +1,84 @@
+-- Lists that are split where a test ceases to hold.
+use Rattle.std.proofs.Common.{◌≡◌, ℕ, zero, suc, ◌+◌, ◌<◌, ◌≤◌, Bool, true, false, not, List, [], ◌∷◌, length, length-drop, take, drop, refl, sym, ap, ◌∙◌, ◌-◌, arith, inl, inr}
+use Rattle.std.specs.Prelude.{filter, ◌==◌, ◌&&◌, nat_le, nat_lt, slice_index_or}
+use Rattle.std.proofs.Math.Seq.{take-length}
+use Rattle.std.proofs.lemmas.Bool.{cases_Bool, cases_eq, cases_lt, eq-eqb, le-leb, le-ltb, lt-leb, lt-ltb, ne_eqb}
+use Rattle.filter_tree.specs.Tree.{IsSplit}
+
+none_pass : {X : Type 0} (p : X → Bool) (xs : List X) → ((k : ℕ) (d : X) → k < length xs → p (slice_index_or xs k d) ≡ false) → [] ≡ filter p xs
+none_pass p [] none = refl
+none_pass p (x ∷ xs) none = rw (none 0 x (omega arith)) (none_pass p xs (λ k d within. none (suc k) d (omega (arith, within))))
+
+all_pass : {X : Type 0} (p : X → Bool) (xs : List X) → ((k : ℕ) (d : X) → k < length xs → p (slice_index_or xs k d) ≡ true) → xs ≡ filter p xs
+all_pass p [] all = refl
+all_pass p (x ∷ xs) all = rw (all 0 x (omega arith)) (ap (λ ys. x ∷ ys) (all_pass p xs (λ k d within. all (suc k) d (omega (arith, within)))))
+
+not_true : {b : Bool} → b ≡ true → not b ≡ false
+not_true is = ap not is
+
+not_false : {b : Bool} → b ≡ false → not b ≡ true
+not_false is = ap not is
+
+pub front_is : {X : Type 0} (p : X → Bool) (xs : List X) (n : ℕ) → n ≤ length xs → ((k : ℕ) (d : X) → k < n → p (slice_index_or xs k d) ≡ true)
+    → ((k : ℕ) (d : X) → n ≤ k → k < length xs → p (slice_index_or xs k d) ≡ false) → take n xs ≡ filter p xs
+front_is p xs zero within pass fail = none_pass p xs (λ k d below. fail k d (omega arith) below)
+front_is p [] (suc n) within pass fail = absurd (omega (arith, within))
+front_is p (x ∷ xs) (suc n) within pass fail =
+    rw (pass 0 x (omega arith)) (ap (λ ys. x ∷ ys) (front_is p xs n (omega (arith, within)) (λ k d below. pass (suc k) d (omega (arith, below))) (λ k d from below. fail (suc k) d (omega (arith, from)) (omega (arith, below)))))
+
+pub back_is : {X : Type 0} (p : X → Bool) (xs : List X) (n : ℕ) → n ≤ length xs → ((k : ℕ) (d : X) → k < n → p (slice_index_or xs k d) ≡ true)
+    → ((k : ℕ) (d : X) → n ≤ k → k < length xs → p (slice_index_or xs k d) ≡ false) → drop n xs ≡ filter (λ x. not (p x)) xs
+back_is p xs zero within pass fail = all_pass (λ x. not (p x)) xs (λ k d below. not_false (fail k d (omega arith) below))
+back_is p [] (suc n) within pass fail = absurd (omega (arith, within))
+back_is p (x ∷ xs) (suc n) within pass fail =
+    rw (pass 0 x (omega arith)) (back_is p xs n (omega (arith, within)) (λ k d below. pass (suc k) d (omega (arith, below))) (λ k d from below. fail (suc k) d (omega (arith, from)) (omega (arith, below))))
+
+pub split_is : {X : Type 0} (p : X → Bool) (xs : List X) (n : ℕ) → n ≤ length xs → 0 < n → ((k : ℕ) (d : X) → k < n → p (slice_index_or xs k d) ≡ true)
+    → ((k : ℕ) (d : X) → n ≤ k → k < length xs → p (slice_index_or xs k d) ≡ false) → IsSplit p xs n
+split_is p xs n within some pass fail = record { within = within; some = some; front = front_is p xs n within pass fail; back = back_is p xs n within pass fail }
+
+-- what passes two tests, one after the other
+pub filter_twice : {X : Type 0} (p q r : X → Bool) → ((x : X) → r x ≡ (p x && q x)) → (xs : List X) → filter q (filter p xs) ≡ filter r xs
+filter_twice p q r same [] = refl
+filter_twice p q r same (x ∷ xs) =
+    elim (cases_Bool (p x)) [
+      | inl is ↦
+          elim (cases_Bool (q x)) [
+            | inl also ↦
+                let passes : r x ≡ true = same x ∙ rw (is, also) refl in
+                rw (is, also, passes) (ap (λ ys. x ∷ ys) (filter_twice p q r same xs))
+            | inr not ↦
+                let fails : r x ≡ false = same x ∙ rw (is, not) refl in
+                rw (is, not, fails) (filter_twice p q r same xs)
+          ]
+      | inr other ↦
+          let fails : r x ≡ false = same x ∙ rw other refl in
+          rw (other, fails) (filter_twice p q r same xs)
+    ]
+
+-- no less than a number, and no more
+pub just_between : (x y : ℕ) → (y == x) ≡ (not (nat_lt x y) && nat_le x y)
+just_between x y =
+    elim (cases_lt x y) [
+      | inl below ↦ rw (ne_eqb y x (λ e. absurd (omega (arith, e, below))), lt-ltb x y below) refl
+      | inr from ↦
+          elim (cases_eq y x) [
+            | inl same ↦ rw (eq-eqb y x same, le-ltb x y from, le-leb x y (omega (arith, same))) refl
+            | inr other ↦ rw (ne_eqb y x other, le-ltb x y from, lt-leb x y (omega (arith, from, other))) refl
+          ]
+    ]
+
+-- a list of one
+pub alone_in : {X : Type 0} (p : X → Bool) (xs : List X) → length xs ≡ 1 → ((d : X) → p (slice_index_or xs 0 d) ≡ true) → xs ≡ filter p xs
+alone_in p [] one is = absurd (omega (arith, one))
+alone_in p (x ∷ []) one is = rw (is x) refl
+alone_in p (x ∷ y ∷ xs) one is = absurd (omega (arith, one))
+
+pub alone_out : {X : Type 0} (p : X → Bool) (xs : List X) → length xs ≡ 1 → ((d : X) → p (slice_index_or xs 0 d) ≡ false) → [] ≡ filter p xs
+alone_out p [] one is = refl
+alone_out p (x ∷ []) one is = rw (is x) refl
+alone_out p (x ∷ y ∷ xs) one is = absurd (omega (arith, one))
+
+-- what is left behind a place is all of it
+pub all_left : {X : Type 0} (xs : List X) (n : ℕ) → take (length xs - n) (drop n xs) ≡ drop n xs
+all_left xs n = ap (λ (m : ℕ). take m (drop n xs)) (sym (length-drop n xs)) ∙ take-length (drop n xs)

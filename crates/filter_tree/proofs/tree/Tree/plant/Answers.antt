@@ -1,0 +1,24 @@
+use Rattle.std.proofs.Common.{◌≡◌, arith, ◌∙◌, sym, subst, ap, insert}
+use Rattle.filter_tree.specs.ClaimBook.{ClaimValue}
+use Rattle.filter_tree.specs.Tree.{AreInOrder, place_of}
+use Rattle.filter_tree.proofs.Planting.{place_within, planted_is, planted_order}
+use Rattle.filter_tree.proofs.tree.Tree.plant.Goals as goal
+
+pub insert-requires : goal.insert-requires
+insert-requires c = omega (arith, c.place_of-place.ensures, place_within c.leaf.inside.filter c.deref.result.now, c.deref.ensures.len)
+
+pub unwrap-requires : goal.unwrap-requires
+unwrap-requires c = let below = rw (← c.self.view_is) at c.requires in c.insert.ensures.succeeds (omega (arith, c.self.inside.leaves.ok.0, below))
+
+pub invariant_of-self : goal.invariant_of-self
+invariant_of-self c =
+    let items = rw c.unwrap.ensures at c.insert.ensures.items in
+    let place = c.place_of-place.ensures ∙ ap (place_of c.leaf.inside.filter) c.deref.ensures.value ∙ ap (λ (x : ClaimValue). place_of x.filter c.self.inside.leaves.items) c.leaf.view_is in
+    let all = items ∙ ap (λ n. insert c.self.inside.leaves.items n c.args.leaf) place ∙ planted_is c.args.leaf c.self.inside.leaves.items in
+    subst (AreInOrder 0) (sym all) (planted_order c.args.leaf c.self.inside.leaves.items c.self.invariant)
+
+pub returns-clause-leaves : goal.returns-clause-leaves
+returns-clause-leaves c =
+    let items = rw c.unwrap.ensures at c.insert.ensures.items in
+    let place = c.place_of-place.ensures ∙ ap (place_of c.leaf.inside.filter) c.deref.ensures.value ∙ ap (λ (x : ClaimValue). place_of x.filter c.self.inside.leaves.items) c.leaf.view_is in
+    rw (← c.self.view_is) (items ∙ ap (λ n. insert c.self.inside.leaves.items n c.args.leaf) place ∙ planted_is c.args.leaf c.self.inside.leaves.items)
