@@ -1,8 +1,6 @@
 -- The atom at a depth.
-use Rattle.std.proofs.Common.{◌≡◌, ℕ, zero, suc, ◌+◌, ◌<◌, Bool, true, false, List, [], ◌∷◌, length, drop, refl, sym, ap, ◌∙◌, arith, Option, Some, None}
+use Rattle.std.proofs.Common.{◌≡◌, ℕ, zero, suc, ◌+◌, List, [], ◌∷◌, drop, refl, sym, ap, ◌∙◌, arith, Some, None}
 use Rattle.std.specs.Prelude.{slice_get}
-use Rattle.std.proofs.lemmas.Option.{same_Some}
-use Rattle.filter_core.specs.declared.atom.Atom.{Atom}
 
 pub no_atom : {X : Type 0} (d : ℕ) (xs : List X) → None ≡ slice_get xs d → drop d xs ≡ []
 no_atom zero [] none = refl

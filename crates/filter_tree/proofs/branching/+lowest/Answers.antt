@@ -1,4 +1,4 @@
-use Rattle.std.proofs.Common.{rules, arith, sym, ◌∙◌, ◌≡◌, ap, true, filter, drop, length, length-drop}
+use Rattle.std.proofs.Common.{arith, ◌∙◌, ◌≡◌, ap, true, filter, drop, length-drop}
 use Rattle.std.proofs.lemmas.List.Kept.{AllPairs-filter}
 use Rattle.filter_tree.specs.Prefixes.{prefixes_from}
 use Rattle.filter_tree.specs.Tree.{begins, comes_before, lowest, matches_from}

@@ -1,7 +1,7 @@
-use Rattle.std.proofs.Common.{rules, arith, sym, ◌∙◌, ap}
+use Rattle.std.proofs.Common.{ap}
 use Rattle.std.specs.Prelude.{bit_and}
 use Rattle.std.proofs.lemmas.Bool.{and_parts}
-use Rattle.filter_tree.specs.Tree.{begins, starts_with}
+use Rattle.filter_tree.specs.Tree.{starts_with}
 use Rattle.filter_tree.proofs.Counting.{one_prefix_more, some_prefix}
 use Rattle.filter_tree.proofs.Order.{branch_rises}
 use Rattle.filter_tree.proofs.Reaching.{reached_lowest, reached_none, reached_order, read_none, read_some}

@@ -1,8 +1,8 @@
-use Rattle.std.proofs.Common.{rules, arith, not, nat_lt, ap, ◌∙◌}
+use Rattle.std.proofs.Common.{not, nat_lt, ap, ◌∙◌}
 use Rattle.std.specs.Prelude.{filter, nat_le, ◌==◌}
 use Rattle.std.proofs.lemmas.List.Kept.{IsNonDecreasingBy-filter}
 use Rattle.filter_tree.specs.Tree.{value_at}
-use Rattle.filter_tree.proofs.Splitting.{filter_twice, just_between, alone_in, alone_out}
+use Rattle.filter_tree.proofs.Splitting.{filter_twice, just_between}
 use Rattle.filter_tree.proofs.branching.with_value.Goals as goal
 
 pub at_most-requires : goal.at_most-requires

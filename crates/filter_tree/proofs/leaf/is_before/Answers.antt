@@ -1,4 +1,4 @@
-use Rattle.std.proofs.Common.{◌∙◌, sym, arith}
+use Rattle.std.proofs.Common.{◌∙◌, sym}
 use Rattle.filter_tree.proofs.Order.{ended}
 use Rattle.filter_tree.proofs.leaf.is_before.Goals as goal
 

@@ -1,4 +1,4 @@
-use Rattle.std.proofs.Common.{◌≡◌, arith, ◌∙◌, sym, subst, ap, insert}
+use Rattle.std.proofs.Common.{arith, ◌∙◌, sym, subst, ap, insert}
 use Rattle.filter_tree.specs.ClaimBook.{ClaimValue}
 use Rattle.filter_tree.specs.Tree.{AreInOrder, place_of}
 use Rattle.filter_tree.proofs.Planting.{place_within, planted_is, planted_order}
