@@ -197,7 +197,7 @@ behind_shape depth v a (c ∷ claims) p all is =
           let front : List (List Shape) = map (λ prefix. shape_of a ∷ prefix) (of_claim (depth + 1) c) in
           let back : List (List Shape) = map (λ prefix. shape_of a ∷ prefix) (of_claims (depth + 1) (filter (λ d. v == value_at depth d) claims)) in
           let cut : is_in p (front ++ back) ≡ true =
-            ap (is_in p) (sym (map_append (λ prefix. shape_of a ∷ prefix) (of_claim (depth + 1) c) (of_claims (depth + 1) (filter (λ d. v == value_at depth d) claims)))) ∙ whole in
+          ap (is_in p) (sym (map_append (λ prefix. shape_of a ∷ prefix) (of_claim (depth + 1) c) (of_claims (depth + 1) (filter (λ d. v == value_at depth d) claims)))) ∙ whole in
           elim (or_cases (is_in p front) (is_in p back) (sym (list_any-append (same_shapes p) front back) ∙ cut)) [
             | inl here ↦ joined ∙ or_left (is_in p (of_claim depth c)) (is_in p (of_claims depth claims)) (ap (is_in p) own ∙ or_right (same_shapes p (shape_of a ∷ [])) (is_in p front) here)
             | inr there ↦ joined ∙ or_right (is_in p (of_claim depth c)) (is_in p (of_claims depth claims)) (behind_shape depth v a claims p parts.1 there)
@@ -211,8 +211,8 @@ shape_alone depth a [] first = cc
 shape_alone depth a (c ∷ claims) first =
     list_any-append (same_shapes (shape_of a ∷ [])) (of_claim depth c) (of_claims depth claims)
     ∙ or_left (is_in (shape_of a ∷ []) (of_claim depth c)) (is_in (shape_of a ∷ []) (of_claims depth claims))
-      (ap (is_in (shape_of a ∷ [])) (claim_begins depth a c first)
-       ∙ or_left (same_shapes (shape_of a ∷ []) (shape_of a ∷ [])) (is_in (shape_of a ∷ []) (map (λ prefix. shape_of a ∷ prefix) (of_claim (depth + 1) c))) (list_itself (shape_of a ∷ [])))
+    (ap (is_in (shape_of a ∷ [])) (claim_begins depth a c first)
+    ∙ or_left (same_shapes (shape_of a ∷ []) (shape_of a ∷ [])) (is_in (shape_of a ∷ []) (map (λ prefix. shape_of a ∷ prefix) (of_claim (depth + 1) c))) (list_itself (shape_of a ∷ [])))
 
 -- a branch has one prefix more than those of its claims that are reached
 pub one_prefix_more : (depth v : ℕ) (a : Atom) (claims : List ClaimValue) → is_branch depth a claims ≡ true
@@ -317,10 +317,11 @@ prefixes_apart depth a claims =
               absurd (cc (rw own at other))
           | inr other ↦ other
         ]
+
     within : (p : List Shape) → is_in p (of_claims depth (filter (begins depth a) claims) ++ of_claims depth (filter (λ c. not (begins depth a c)) claims)) ≡ true → is_in p (of_claims depth claims) ≡ true
     within p is =
         elim (or_cases (is_in p (of_claims depth (filter (begins depth a) claims))) (is_in p (of_claims depth (filter (λ c. not (begins depth a c)) claims)))
-          (sym (list_any-append (same_shapes p) (of_claims depth (filter (begins depth a) claims)) (of_claims depth (filter (λ c. not (begins depth a c)) claims))) ∙ is)) [
+        (sym (list_any-append (same_shapes p) (of_claims depth (filter (begins depth a) claims)) (of_claims depth (filter (λ c. not (begins depth a c)) claims))) ∙ is)) [
           | inl here ↦ kept_in depth (begins depth a) claims p here
           | inr there ↦ kept_in depth (λ c. not (begins depth a c)) claims p there
         ]
@@ -352,8 +353,14 @@ length_joined (x ∷ xs) ys = omega (arith, length_joined xs ys)
 length_of : (rows : List RowValue) → length (of_claims 0 (map claim_in rows)) ≡ sum_by (λ (r : RowValue). length r.claim.filter) rows
 length_of [] = refl
 length_of (r ∷ rows) =
-    omega (arith, length_joined (of_claim 0 r.claim) (of_claims 0 (map claim_in rows)), length_prefixes (shapes_from 0 r.claim), length_map shape_of r.claim.filter, length_of rows,
-      sum_by-cons (λ (x : RowValue). length x.claim.filter) r rows)
+    omega (
+      arith,
+      length_joined (of_claim 0 r.claim) (of_claims 0 (map claim_in rows)),
+      length_prefixes (shapes_from 0 r.claim),
+      length_map shape_of r.claim.filter,
+      length_of rows,
+      sum_by-cons (λ (x : RowValue). length x.claim.filter) r rows,
+    )
 
 pub few_prefixes : (book : ClaimBook) → prefixes book ≤ atom_count book
 few_prefixes book = omega (arith, distinct_few (of_claims 0 (map claim_in book.rows)), length_of book.rows)

@@ -82,7 +82,7 @@ pub reached_lowest : (depth v : ℕ) (a : Atom) (packet : List ℕ) (claims : Li
 reached_lowest depth v a packet claims fits is all =
     lowest_filter (matches_from (depth + 1) packet) (asks depth v) claims
     ∙ lowest_same (begins depth a) (λ c. asks depth v c && matches_from (depth + 1) packet c) (matches_from depth packet)
-      (λ c begin. rw (drop_one depth c.filter, is) (one_atom a packet (drop depth c.filter) fits begin)) claims all
+    (λ c begin. rw (drop_one depth c.filter, is) (one_atom a packet (drop depth c.filter) fits begin)) claims all
 
 pub reached_none : (depth : ℕ) (a : Atom) (packet : List ℕ) (claims : List ClaimValue) → nat_le (a.offset + a.width) (length packet) ≡ false
     → list_all (begins depth a) claims ≡ true → None ≡ lowest (matches_from depth packet) claims
@@ -102,7 +102,7 @@ branch_is depth a [] first = cc
 branch_is depth a (c ∷ claims) first =
     let kept : filter (begins depth a) (c ∷ claims) ≡ c ∷ filter (begins depth a) claims = rw first refl in
     ap (is_branch depth a) kept ∙ and_both (begins depth a c) (begins depth a c && list_all (begins depth a) (filter (begins depth a) claims)) first
-      (and_both (begins depth a c) (list_all (begins depth a) (filter (begins depth a) claims)) first (passes (begins depth a) claims))
+    (and_both (begins depth a c) (list_all (begins depth a) (filter (begins depth a) claims)) first (passes (begins depth a) claims))
 
 -- where the first has no more atoms
 pub first_ends : (depth : ℕ) (packet : List ℕ) (claims : List ClaimValue) (c : ClaimValue) → 0 < length claims → c ≡ slice_index_or claims 0 c → drop depth c.filter ≡ []

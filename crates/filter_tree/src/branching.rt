@@ -42,7 +42,11 @@ fn with_value(branch: &[Leaf], depth: usize, value: u32) -> &[Leaf]
     ensures { result.now ≡ filter (λ c. value == value_at depth c) branch.now }
 {
     if branch.len() == 1 {
-        return if branch[0].value(depth) == value { branch } else { &branch[..0] };
+        return if branch[0].value(depth) == value {
+            branch
+        } else {
+            &branch[..0]
+        };
     }
     at_most(at_least(branch, depth, value), depth, value)
 }
@@ -52,7 +56,10 @@ fn at_least(branch: &[Leaf], depth: usize, value: u32) -> &[Leaf]
     requires { IsNonDecreasingBy (value_at depth) branch.now }
     ensures { result.now ≡ filter (λ c. not (nat_lt (value_at depth c) value)) branch.now }
 {
-    behind(branch, branch.partition_point(|leaf| leaf.value(depth) < value))
+    behind(
+        branch,
+        branch.partition_point(|leaf| leaf.value(depth) < value),
+    )
 }
 
 /// The leaves of a branch that ask for this value or a lower one.
@@ -60,7 +67,10 @@ fn at_most(branch: &[Leaf], depth: usize, value: u32) -> &[Leaf]
     requires { IsNonDecreasingBy (value_at depth) branch.now }
     ensures { result.now ≡ filter (λ c. nat_le (value_at depth c) value) branch.now }
 {
-    front(branch, branch.partition_point(|leaf| leaf.value(depth) <= value))
+    front(
+        branch,
+        branch.partition_point(|leaf| leaf.value(depth) <= value),
+    )
 }
 
 /// The leaves of a branch to which a packet comes, whose field is read for that.

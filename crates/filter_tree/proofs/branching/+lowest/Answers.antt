@@ -9,7 +9,7 @@ use Rattle.filter_tree.proofs.branching.+lowest.Goals as goal
 pub reached-branch-requires-clause-branch : goal.reached-branch-requires-clause-branch
 reached-branch-requires-clause-branch g t c =
     let first = starts c.args.depth c.in-Some.atom _ c.behind-rest.result.now c.index-rest-0.result
-      (rw c.behind-rest.ensures (omega (arith, length-drop c.loop-start.start c.args.leaves.now, c.loop-start-test.true))) c.index-rest-0.is c.in-Some.ensures.atom in
+    (rw c.behind-rest.ensures (omega (arith, length-drop c.loop-start.start c.args.leaves.now, c.loop-start-test.true))) c.index-rest-0.is c.in-Some.ensures.atom in
     rw (c.front.ensures, c.branch_length-end.ensures.front) (branch_is c.args.depth c.in-Some.atom c.behind-rest.result.now first)
 
 pub loop-start-preserved-in-Some : goal.loop-start-preserved-in-Some

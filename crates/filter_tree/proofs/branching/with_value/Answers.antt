@@ -12,4 +12,4 @@ pub returns : goal.returns
 returns c =
     c.at_most.ensures ∙ ap (filter (λ leaf. nat_le (value_at c.args.depth leaf) c.args.value)) c.at_least.ensures
     ∙ filter_twice (λ leaf. not (nat_lt (value_at c.args.depth leaf) c.args.value)) (λ leaf. nat_le (value_at c.args.depth leaf) c.args.value) (λ leaf. c.args.value == value_at c.args.depth leaf)
-      (λ leaf. just_between (value_at c.args.depth leaf) c.args.value) c.args.branch.now
+    (λ leaf. just_between (value_at c.args.depth leaf) c.args.value) c.args.branch.now
