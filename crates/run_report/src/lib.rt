@@ -11,6 +11,7 @@ mod environment;
 mod ledger;
 mod page;
 mod processor;
+mod room;
 mod sending;
 mod sums;
 mod text;

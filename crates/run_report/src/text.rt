@@ -5,6 +5,7 @@ ghost use Rattle.run_report.specs.Report.{env_text, sum_line, for_each, end_text
 use crate::environment::push_env;
 use crate::ledger::push_rows;
 use crate::page::fingerprint;
+use crate::room::room;
 use crate::sums::push_sum_line;
 use crate::words::{Word, number, push_line, push_text};
 use aegis_limits::OutOfMemory;
@@ -12,12 +13,13 @@ use kernel_journal::RunEnd;
 use std::alloc::Global;
 use world_model::WorldView;
 
-/// The report of whatever shows a world, whose run ended in this way (`docs/REPORT.md`, "The report").
+/// The report of whatever shows a world, whose run ended in this way (`docs/REPORT.md`, "The report"). It is written into
+/// one buffer, whose room is taken once.
 #[tactic(auto, unfolding(crate::specs::Report::report_text))]
 pub fn report<V: WorldView>(alloc: Global, view: &V, end: RunEnd) -> Result<Vec<u8>, OutOfMemory>
     ensures { IfOk result (λ v. v.items ≡ report_text (V.world view.now) end) }
 {
-    let mut out = Vec::new(alloc);
+    let mut out = Vec::with_capacity(alloc, room(view))?;
     push_text(&mut out, b"aegis run\n")?;
     push_end_line(&mut out, view, end)?;
     push_envs(&mut out, view)?;

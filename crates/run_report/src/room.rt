@@ -1,0 +1,82 @@
+//! How much room a report wants, so that its text is written into one buffer that never grows. Each line is counted by the
+//! most bytes that it may have, so the room is enough; nothing depends on it but how often memory is asked for.
+ghost use Rattle.std.specs.Prelude.{◌<◌};
+
+use world_model::WorldView;
+
+/// The most bytes of a row's line: a name of five letters, a time of seven digits, and up to three more numbers.
+const ROW: usize = 48;
+
+/// The most bytes of what an environment has once: its life, the ends of its console's line, registers, excess and sums.
+const ENVIRONMENT: usize = 640;
+
+/// The most bytes of a page's line, with its fingerprint.
+const PAGE: usize = 96;
+
+/// The most bytes of a binding's line.
+const BINDING: usize = 32;
+
+/// The most bytes of a byte of a console, as it is quoted.
+const QUOTED: usize = 4;
+
+/// The most bytes of the line of a packet that was sent, beside its digits; and the digits of a byte.
+const SENT: usize = 24;
+
+const DIGITS: usize = 2;
+
+/// The rows of bindings of an environment.
+const BINDING_ROWS: u32 = 256;
+
+/// The first line, how the run ended, and the last line.
+const FRAME: usize = 64;
+
+/// The room for the lines of the packets that an environment sent.
+fn sent_room<V: WorldView>(view: &V, env: u8) -> usize
+    requires { env < (V.world view.now).count }
+{
+    let mut room: usize = 0;
+    for place in 0..view.sent_count(env) {
+        let size = view.sent_packet(env, place).map_or(0, <[u8]>::len);
+        room = room
+            .saturating_add(SENT)
+            .saturating_add(size.saturating_mul(DIGITS));
+    }
+    room
+}
+
+/// The room for the lines of an environment's bindings.
+fn binding_room<V: WorldView>(view: &V, env: u8) -> usize
+    requires { env < (V.world view.now).count }
+{
+    let mut room: usize = 0;
+    for row in 0..BINDING_ROWS {
+        if view.binding(env, row).is_some() {
+            room = room.saturating_add(BINDING);
+        }
+    }
+    room
+}
+
+/// The room for the lines of an environment, but for those of pages that it allocated.
+fn environment_room<V: WorldView>(view: &V, env: u8) -> usize
+    requires { env < (V.world view.now).count }
+{
+    let console = view.console(env).len().saturating_mul(QUOTED);
+    let pages = view.kept_count(env).saturating_mul(PAGE);
+    ENVIRONMENT
+        .saturating_add(console)
+        .saturating_add(pages)
+        .saturating_add(binding_room(view, env))
+        .saturating_add(sent_room(view, env))
+}
+
+/// At least as many bytes as the report has.
+pub(crate) fn room<V: WorldView>(view: &V) -> usize {
+    let rows = view.journal().len().saturating_mul(ROW);
+    let pages = (view.page_count() as usize).saturating_mul(PAGE);
+    let mut room = FRAME.saturating_add(rows).saturating_add(pages);
+    for env in 0..view.envs() {
+        room = room.saturating_add(environment_room(view, env));
+    }
+    room
+}
