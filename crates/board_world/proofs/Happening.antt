@@ -5,7 +5,7 @@ use Rattle.std.specs.Option.{option_flatten, option_map}
 use Rattle.external_event.specs.declared.event.Occurrence.{Occurrence}
 use Rattle.external_event.specs.declared.event.Occurrence.TheVariants as outside
 use Rattle.frame_store.specs.Pages.{page_at}
-use Rattle.mips_exec.specs.Word.{word_of}
+use Rattle.mips_exec.specs.Word.{low_word}
 use Rattle.page_book.specs.Row.{is_owned_by}
 use Rattle.page_book.specs.Rows.{row_in}
 use Rattle.env_frames.specs.declared.post.PostWord.{PostWord}
@@ -98,7 +98,7 @@ signalled_world b sound line = by_owner (line_at b.lines line) (sound.lines.owne
 
 -- a post word that counts up
 abbrev pub counts : ℕ → ℕ
-counts n = word_of (n + 1)
+counts n = low_word (n + 1)
 
 pub counted_changed : (word : PostWord) (page : Option ℕ) (frames : List (List ℕ)) → counted_in word page frames ≡ changed_in word counts page frames
 counted_changed word None frames = refl

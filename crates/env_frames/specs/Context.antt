@@ -5,7 +5,7 @@ use Rattle.mips_exec.specs.declared.registers.Cpu.{Cpu}
 use Rattle.mips_exec.specs.declared.exception.Exc.{Exc}
 use Rattle.mips_exec.specs.Cpu.{reg, rested, restart_of, with_reg}
 use Rattle.mips_exec.specs.Exception.{cause_word_of}
-use Rattle.mips_exec.specs.Word.{word_of}
+use Rattle.mips_exec.specs.Word.{low_word}
 use Rattle.frame_store.specs.Pages.{word_bytes}
 use Rattle.env_frames.specs.declared.context.Handlers.{Handlers}
 use Rattle.env_frames.specs.declared.context.Context.{Context}
@@ -66,7 +66,7 @@ exception_bytes exc cpu = flat_map word_bytes (exception_words exc cpu)
 
 -- to go on at an address, out of a delay slot
 abbrev pub continued : ℕ → Cpu → Cpu
-continued address cpu = record cpu { pc = address; next = word_of (address + 4); slot = false }
+continued address cpu = record cpu { pc = address; next = low_word (address + 4); slot = false }
 
 -- the handler finds Cause in $1, EPC in $26 and the bad address in $27
 abbrev pub raised_cpu : ℕ → Exc → Cpu → Cpu

@@ -1,7 +1,7 @@
 -- The post words of the context page, by which an environment learns of what comes from outside.
 use Rattle.std.specs.Prelude.{ℕ, ◌+◌, ◌*◌, ◌^◌, ◌++◌, nat_lt, if◌then◌else◌, unwrap_or, List, Option, Some, None, bit_or}
 use Rattle.frame_store.specs.Pages.{after_put, page_at, word_at, word_bytes}
-use Rattle.mips_exec.specs.Word.{word_of}
+use Rattle.mips_exec.specs.Word.{low_word}
 use Rattle.env_frames.specs.declared.post.PostWord.{PostWord}
 use Rattle.env_frames.specs.declared.post.PostWord.TheVariants as post
 
@@ -25,7 +25,7 @@ posted frames page word value = after_put frames page (post_offset word) (word_b
 -- a post word counts up, and wraps at 2 ^ 32
 abbrev pub counted_in : PostWord → Option ℕ → List (List ℕ) → List (List ℕ)
 counted_in word None frames = frames
-counted_in word (Some page) frames = posted frames page word (word_of (post_at frames page word + 1))
+counted_in word (Some page) frames = posted frames page word (low_word (post_at frames page word + 1))
 
 -- a signal on an interrupt line sets the line's bit
 abbrev pub signalled_in : ℕ → Option ℕ → List (List ℕ) → List (List ℕ)

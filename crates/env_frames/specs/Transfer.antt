@@ -3,7 +3,7 @@ use Rattle.std.specs.Prelude.{ℕ, ◌+◌, List, [], ◌∷◌, ◌++◌, take,
 use Rattle.std.specs.List.{flat_map}
 use Rattle.mips_exec.specs.declared.registers.Cpu.{Cpu}
 use Rattle.mips_exec.specs.Cpu.{restart_of}
-use Rattle.mips_exec.specs.Word.{word_of}
+use Rattle.mips_exec.specs.Word.{low_word}
 use Rattle.frame_store.specs.Pages.{word_bytes}
 use Rattle.env_frames.specs.declared.context.Context.{Context}
 use Rattle.env_frames.specs.declared.context.Context.TheVariants as context
@@ -39,7 +39,7 @@ carried cpu = record { regs = cpu.regs; hi = cpu.hi; lo = cpu.lo }
 
 -- the target goes on at its entry with the registers that are carried, out of a delay slot
 abbrev pub entered_cpu : ℕ → Registers → Cpu
-entered_cpu entry r = record { regs = r.regs; hi = r.hi; lo = r.lo; pc = entry; next = word_of (entry + 4); slot = false }
+entered_cpu entry r = record { regs = r.regs; hi = r.hi; lo = r.lo; pc = entry; next = low_word (entry + 4); slot = false }
 
 -- where the entry area begins in the context page
 abbrev pub entry_area : ℕ

@@ -9,7 +9,7 @@ use Rattle.mips_exec.specs.declared.registers.Cpu.{Cpu}
 use Rattle.mips_exec.specs.declared.change.Change.{Change}
 use Rattle.mips_exec.specs.declared.change.Change.TheVariants.{Puts, PutsHiLo, Passes, Jumps, JumpsAndLinks, Calls, Raises}
 use Rattle.mips_exec.specs.declared.exception.ExcCode.TheVariants.{Sys, Bp, Ri, Ov}
-use Rattle.mips_exec.specs.Word.{word_of, signed, fits_signed, is_negative, shifted_with_sign, sign_extended, flag}
+use Rattle.mips_exec.specs.Word.{low_word, signed, fits_signed, is_negative, shifted_with_sign, sign_extended, flag}
 use Rattle.mips_exec.specs.Cpu.{reg, with_reg, with_hi_lo, advanced, jumped, branch_target, jump_target, address_of}
 use Rattle.mips_exec.specs.Exception.{plain, unusable}
 
@@ -29,7 +29,7 @@ puts_fitting n z = if fits_signed z then Puts n (cast_unsigned w32 z) else Raise
 
 -- HI and LO take the two words of 64 bits
 abbrev pub puts_product : ℕ → Change
-puts_product product = PutsHiLo (product / 2 ^ 32) (word_of product)
+puts_product product = PutsHiLo (product / 2 ^ 32) (low_word product)
 
 -- LO takes the quotient toward 0, and HI the remainder with the dividend's sign
 abbrev pub divides_signed : ℕ → ℕ → Change
@@ -44,10 +44,10 @@ divides a b = if b == 0 then PutsHiLo a (2 ^ 32 - 1) else PutsHiLo (a % b) (a / 
 
 -- What the instruction does, where `x` is what its load was answered.
 unfoldable pub effect : Insn → Cpu → ℕ → Change
-effect (Sll rd rt sh) c x = Puts rd (word_of (reg c rt * 2 ^ (sh % 32)))
+effect (Sll rd rt sh) c x = Puts rd (low_word (reg c rt * 2 ^ (sh % 32)))
 effect (Srl rd rt sh) c x = Puts rd (reg c rt / 2 ^ (sh % 32))
 effect (Sra rd rt sh) c x = Puts rd (shifted_with_sign (reg c rt) (sh % 32))
-effect (Sllv rd rt rs) c x = Puts rd (word_of (reg c rt * 2 ^ (reg c rs % 32)))
+effect (Sllv rd rt rs) c x = Puts rd (low_word (reg c rt * 2 ^ (reg c rs % 32)))
 effect (Srlv rd rt rs) c x = Puts rd (reg c rt / 2 ^ (reg c rs % 32))
 effect (Srav rd rt rs) c x = Puts rd (shifted_with_sign (reg c rt) (reg c rs % 32))
 effect (Jr rs) c x = Jumps (reg c rs)
@@ -64,8 +64,8 @@ effect (Div rs rt) c x = divides_signed (reg c rs) (reg c rt)
 effect (Divu rs rt) c x = divides (reg c rs) (reg c rt)
 effect (Add rd rs rt) c x = puts_fitting rd (signed (reg c rs) +ℤ signed (reg c rt))
 effect (Sub rd rs rt) c x = puts_fitting rd (signed (reg c rs) -ℤ signed (reg c rt))
-effect (Addu rd rs rt) c x = Puts rd (word_of (reg c rs + reg c rt))
-effect (Subu rd rs rt) c x = Puts rd (word_of (reg c rs + (2 ^ 32 - reg c rt)))
+effect (Addu rd rs rt) c x = Puts rd (low_word (reg c rs + reg c rt))
+effect (Subu rd rs rt) c x = Puts rd (low_word (reg c rs + (2 ^ 32 - reg c rt)))
 effect (And rd rs rt) c x = Puts rd (bit_and (reg c rs) (reg c rt))
 effect (Or rd rs rt) c x = Puts rd (bit_or (reg c rs) (reg c rt))
 effect (Xor rd rs rt) c x = Puts rd (bit_xor (reg c rs) (reg c rt))
@@ -83,15 +83,15 @@ effect (Bne rs rt imm) c x = Jumps (branch_target c (not (reg c rs == reg c rt))
 effect (Blez rs imm) c x = Jumps (branch_target c (is_negative (reg c rs) || reg c rs == 0) imm)
 effect (Bgtz rs imm) c x = Jumps (branch_target c (not (is_negative (reg c rs) || reg c rs == 0)) imm)
 effect (Addi rt rs imm) c x = puts_fitting rt (signed (reg c rs) +ℤ signed (sign16_of imm))
-effect (Addiu rt rs imm) c x = Puts rt (word_of (reg c rs + sign16_of imm))
+effect (Addiu rt rs imm) c x = Puts rt (low_word (reg c rs + sign16_of imm))
 effect (Slti rt rs imm) c x = Puts rt (flag (int_lt (signed (reg c rs)) (signed (sign16_of imm))))
 effect (Sltiu rt rs imm) c x = Puts rt (flag (nat_lt (reg c rs) (sign16_of imm)))
 effect (Andi rt rs imm) c x = Puts rt (bit_and (reg c rs) imm)
 effect (Ori rt rs imm) c x = Puts rt (bit_or (reg c rs) imm)
 effect (Xori rt rs imm) c x = Puts rt (bit_xor (reg c rs) imm)
 effect (Lui rt imm) c x = Puts rt (imm * 2 ^ 16)
-effect (Lb rt imm rs) c x = Puts rt (word_of (sign_extended 8 x))
-effect (Lh rt imm rs) c x = Puts rt (word_of (sign_extended 16 x))
+effect (Lb rt imm rs) c x = Puts rt (low_word (sign_extended 8 x))
+effect (Lh rt imm rs) c x = Puts rt (low_word (sign_extended 16 x))
 effect (Lbu rt imm rs) c x = Puts rt x
 effect (Lhu rt imm rs) c x = Puts rt x
 effect (Lw rt imm rs) c x = Puts rt x

@@ -3,8 +3,8 @@ use Rattle.std.specs.Prelude.{ℕ, ◌+◌, ◌-◌, ◌/◌, ◌%◌, ◌^◌, 
 use Rattle.std.specs.Int.{w32, cast_signed}
 
 -- the low 32 bits of a number
-abbrev pub word_of : ℕ → ℕ
-word_of n = n % 2 ^ 32
+abbrev pub low_word : ℕ → ℕ
+low_word n = n % 2 ^ 32
 
 -- the word read as a number from -2^31 to 2^31 - 1
 abbrev pub signed : ℕ → ℤ

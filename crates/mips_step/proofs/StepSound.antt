@@ -18,7 +18,7 @@ use Rattle.mips_exec.specs.Access.{access, write_of, Write, IsSpot, is_aligned, 
 use Rattle.mips_exec.specs.Cpu.{with_reg, advanced, jumped, with_hi_lo}
 use Rattle.mips_exec.specs.declared.exception.ExcCode.TheVariants.{Ades}
 use Rattle.mips_exec.specs.Exception.{plain}
-use Rattle.mips_exec.specs.Word.{word_of}
+use Rattle.mips_exec.specs.Word.{low_word}
 use Rattle.mips_exec.specs.declared.change.Change.{Change}
 use Rattle.mips_exec.specs.declared.change.Change.TheVariants.{Puts, PutsHiLo, Passes, Jumps, JumpsAndLinks, Calls, Raises}
 use Rattle.mips_exec.specs.Effect.{effect, changed}
@@ -27,7 +27,7 @@ use Rattle.mips_exec.specs.Kept.{HasWords, IsWrite, StepsAreSound}
 
 -- ---- words
 
-word : (n : ℕ) → word_of n < 2 ^ 32
+word : (n : ℕ) → low_word n < 2 ^ 32
 word n = omega arith
 
 words-advanced : (c : Cpu) → HasWords c → HasWords (advanced c)
@@ -41,11 +41,11 @@ words-with_hi_lo c a b h = record { count = h.count; regs = h.regs; hi = omega a
 
 words-with_reg : (c : Cpu) (n v : ℕ) → HasWords c → HasWords (with_reg c n v)
 words-with_reg c n v h =
-    elim (n == 0) as (λ (z : Bool). HasWords (if z then c else record c { regs = slice_set c.regs n (word_of v) })) [
+    elim (n == 0) as (λ (z : Bool). HasWords (if z then c else record c { regs = slice_set c.regs n (low_word v) })) [
       | true ↦ h
       | false ↦ record {
-        count = length-set c.regs n (word_of v) ∙ h.count;
-        regs = All-set (λ r. r < 2 ^ 32) c.regs n (word_of v) (word v) h.regs;
+        count = length-set c.regs n (low_word v) ∙ h.count;
+        regs = All-set (λ r. r < 2 ^ 32) c.regs n (low_word v) (word v) h.regs;
         hi = h.hi;
         lo = h.lo;
         pc = h.pc;

@@ -1,7 +1,7 @@
 //! What each instruction does, and what it loads or stores.
 ghost use Rattle.std.specs.Prelude.{◌≡◌, ◌+◌, ◌<◌, ◌+ℤ◌, ◌-ℤ◌, ◌*ℤ◌, ◌||◌, ◌==◌};
 ghost use Rattle.std.specs.Int.{cast_unsigned, w64};
-ghost use Rattle.mips_exec.specs.Word.{is_negative, shifted_with_sign, sign_extended, signed, word_of};
+ghost use Rattle.mips_exec.specs.Word.{is_negative, shifted_with_sign, sign_extended, signed, low_word};
 ghost use Rattle.std.specs.Option.{ForSome};
 ghost use Rattle.mips_exec.specs.Access.{access, left_store, right_store, IsSized};
 ghost use Rattle.mips_exec.specs.Cpu.{address_of, branch_target, jump_target};
@@ -46,7 +46,7 @@ fn shift_with_sign(word: u32, by: u32) -> u32
 
 /// A byte with copies of its sign up to bit 31.
 fn extend_byte(byte: u32) -> u32
-    ensures { result ≡ word_of (sign_extended 8 byte) }
+    ensures { result ≡ low_word (sign_extended 8 byte) }
 {
     if byte < 0x80 {
         byte
@@ -57,7 +57,7 @@ fn extend_byte(byte: u32) -> u32
 
 /// A half word with copies of its sign up to bit 31.
 fn extend_half(half: u32) -> u32
-    ensures { result ≡ word_of (sign_extended 16 half) }
+    ensures { result ≡ low_word (sign_extended 16 half) }
 {
     if half < 0x8000 {
         half

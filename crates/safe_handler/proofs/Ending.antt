@@ -14,7 +14,7 @@ use Rattle.mips_exec.specs.declared.change.Change.TheVariants.{Puts, PutsHiLo, P
 use Rattle.mips_exec.specs.Access.{Write, access, write_of}
 use Rattle.mips_exec.specs.Cpu.{with_hi_lo, with_reg}
 use Rattle.mips_exec.specs.Effect.{effect}
-use Rattle.mips_exec.specs.Word.{word_of}
+use Rattle.mips_exec.specs.Word.{low_word}
 use Rattle.mips_exec.specs.Step.{ended, executed, fetched}
 use Rattle.handler_code.specs.declared.outcome.HandlerEnd.{HandlerEnd}
 use Rattle.handler_code.specs.declared.outcome.HandlerEnd.TheVariants.{Done, Fault}
@@ -39,7 +39,7 @@ GoesOn words i progress = Goes words i progress.state.cpu progress.end
 at_with_reg : (words : List ℕ) (cpu : Cpu) (n value i j : ℕ) → IsAt words cpu i j → IsAt words (with_reg cpu n value) i j
 at_with_reg words cpu n value i j is = by_test (n == 0)
   where
-    by_test : (t : Bool) → IsAt words (if t then cpu else record cpu { regs = slice_set cpu.regs n (word_of value) }) i j
+    by_test : (t : Bool) → IsAt words (if t then cpu else record cpu { regs = slice_set cpu.regs n (low_word value) }) i j
     by_test true = is
     by_test false = record { pc = is.pc; next = is.next; forward = is.forward; order = is.order }
 

@@ -4,7 +4,7 @@ use Rattle.std.specs.Prelude.{nat_lt, if◌then◌else◌}
 use Rattle.std.specs.Option.{option_map}
 use Rattle.std.proofs.lemmas.Bool.{cases_eq}
 use Rattle.frame_store.specs.Pages.{with_bytes, word_at, word_bytes}
-use Rattle.mips_exec.specs.Word.{word_of}
+use Rattle.mips_exec.specs.Word.{low_word}
 use Rattle.env_frames.specs.Context.{context_number}
 use Rattle.env_frames.specs.Post.{most_records, post_offset, record_bytes, record_offset}
 use Rattle.env_frames.specs.declared.post.PostWord.{PostWord}
@@ -70,7 +70,7 @@ context_rewrites area words s = record {
 
 -- as a post word that counts up
 pub count_rewrites : (word : PostWord) (s : Solo) → Rewrites s (counted word s) (counted_page word)
-count_rewrites word s = let words = context_rewrites (post_offset word) (word_bytes (word_of (post_word word s + 1))) s in record { beside = words.beside; nowhere = words.nowhere; there = words.there; has = words.has }
+count_rewrites word s = let words = context_rewrites (post_offset word) (word_bytes (low_word (post_word word s + 1))) s in record { beside = words.beside; nowhere = words.nowhere; there = words.there; has = words.has }
 
 -- What an environment is asked for.
 module _ (outstanding deadline : ℕ) (s : Solo) where

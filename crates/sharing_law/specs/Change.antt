@@ -8,7 +8,7 @@ use Rattle.env_frames.specs.Context.{context_number, end_area, end_bytes, except
 use Rattle.env_frames.specs.Transfer.{entry_area, entry_bytes}
 use Rattle.env_frames.specs.declared.post.PostWord.{PostWord}
 use Rattle.env_frames.specs.declared.post.PostWord.TheVariants as post
-use Rattle.mips_exec.specs.Word.{word_of}
+use Rattle.mips_exec.specs.Word.{low_word}
 use Rattle.packet_ring.specs.Ring.{is_full}
 use Rattle.env_frames.specs.Post.{most_records, post_offset, record_bytes, record_offset}
 use Rattle.world_model.specs.declared.call.Deed.TheVariants.{Allocates}
@@ -45,7 +45,7 @@ pub record HasStore (s t : Solo) (vpn : ℕ) (store : Store) : Type 0 where
 
 -- a context page with a post word counted up, which wraps at 2 ^ 32
 abbrev pub counted_page : PostWord → List ℕ → List ℕ
-counted_page word page = with_bytes page (post_offset word) (word_bytes (word_of (word_at page (post_offset word) + 1)))
+counted_page word page = with_bytes page (post_offset word) (word_bytes (low_word (word_at page (post_offset word) + 1)))
 
 -- whether a packet for a claim is lost: it has no handler, and the buffer of its ring whose turn it is, is full
 abbrev pub is_lost_in : Solo → Option Ring → Bool

@@ -2,7 +2,7 @@
 use Rattle.std.specs.Prelude.{ℕ, ◌+◌, List, [], if◌then◌else◌, fold, Bool, Option}
 use Rattle.mips_exec.specs.declared.registers.Cpu.{Cpu}
 use Rattle.mips_exec.specs.Cpu.{blank_cpu, with_reg}
-use Rattle.mips_exec.specs.Word.{word_of}
+use Rattle.mips_exec.specs.Word.{low_word}
 use Rattle.env_frames.specs.declared.transfer.TransferKind.{TransferKind}
 use Rattle.env_frames.specs.Transfer.{Registers}
 use Rattle.world_model.specs.declared.life.Life.TheVariants.{Live}
@@ -56,7 +56,7 @@ pub data Item : Type 0 where
 
 -- at boot all registers are 0 but the stack pointer, and the machine stands at the entry
 abbrev pub boot_cpu : ℕ → Cpu
-boot_cpu entry = record (with_reg blank_cpu 29 0x7FFEFFF0) { pc = entry; next = word_of (entry + 4) }
+boot_cpu entry = record (with_reg blank_cpu 29 0x7FFEFFF0) { pc = entry; next = low_word (entry + 4) }
 
 abbrev pub booted : ℕ → List ℕ → ℕ → ℕ → List KeptPage → Solo
 booted number name entry accept kept = record (bare_solo number name Live [] []) { cpu = boot_cpu entry; mask = accept; kept = kept }
@@ -84,7 +84,7 @@ own_part (Loads page) s = s
 
 -- register 2 has the answer's code and register 3 its value, and the machine goes on behind the call
 abbrev pub answered_cpu : Verdict → Cpu → Cpu
-answered_cpu verdict cpu = record (with_reg (with_reg cpu 2 (verdict_code verdict)) 3 (verdict_value verdict)) { pc = word_of (cpu.pc + 4); next = word_of (cpu.next + 4) }
+answered_cpu verdict cpu = record (with_reg (with_reg cpu 2 (verdict_code verdict)) 3 (verdict_value verdict)) { pc = low_word (cpu.pc + 4); next = low_word (cpu.next + 4) }
 
 -- what the call does at which an environment stands, if it is granted with a value
 abbrev pub deed_at : Solo → ℕ → Deed

@@ -1,6 +1,6 @@
 -- The post words of an environment's context page, by which it learns of what comes from outside.
 use Rattle.std.specs.Prelude.{ℕ, ◌+◌, ◌^◌, bit_or}
-use Rattle.mips_exec.specs.Word.{word_of}
+use Rattle.mips_exec.specs.Word.{low_word}
 use Rattle.frame_store.specs.Pages.{word_at, word_bytes}
 use Rattle.env_frames.specs.declared.post.PostWord.{PostWord}
 use Rattle.env_frames.specs.declared.post.PostWord.TheVariants as post
@@ -19,7 +19,7 @@ with_post word value s = with_context (post_offset word) (word_bytes value) s
 
 -- a post word counts up, and wraps at 2 ^ 32
 abbrev pub counted : PostWord → Solo → Solo
-counted word s = with_post word (word_of (post_word word s + 1)) s
+counted word s = with_post word (low_word (post_word word s + 1)) s
 
 -- A signal on an interrupt line sets the line's bit.
 abbrev pub signalled : ℕ → Solo → Solo
