@@ -1,16 +1,17 @@
 //! An environment's memory as the processor sees it.
-ghost use Rattle.std.specs.Prelude.{◌≡◌, ◌≢◌, ◌%◌, ◌<◌, ◌≤◌, length};
+ghost use Rattle.std.specs.Prelude.{◌≡◌, ◌≢◌, ◌%◌, ◌<◌, ◌≤◌, length, Ok};
 ghost use Rattle.byteorder.specs.Endian.{little_number};
 ghost use Rattle.mips_exec.specs.Step.{cpu_after, outcome_of, write_after};
 ghost use Rattle.guest_memory.specs.Space.{lookup};
 ghost use Rattle.guest_memory.specs.Look.{frames_after, guest_step};
-ghost use Rattle.guest_memory.specs.Steps.{AllRetire, after_steps};
+ghost use Rattle.mips_step.specs.Accessed.{has_retired};
+ghost use Rattle.guest_step.specs.Lent.{answers_of};
 
 use byteorder::{ByteOrder, LittleEndian};
 use frame_store::Frames;
 use guest_memory::{PAGE_BYTES, Space, bytes_from, locate};
 use mips_exec::{Cpu, Exc, Outcome};
-use mips_step::{Bus, step_user};
+use mips_step::{Bus, retire_fetched, step_user};
 use world_model::Purpose;
 
 /// Physical memory, lent for the accesses of an environment.
@@ -73,7 +74,6 @@ fn number_at(bytes: &[u8], width: u8) -> u32
 
 /// One step of an environment: its fetch, load and store go through its guaranteed mappings and its bindings.
 /// A VPN that has neither, or whose page physical memory hasn't got, is a miss.
-#[inline(always)]
 pub fn step_guest(cpu: &mut Cpu, frames: &mut Frames, space: &Space<'_>) -> Outcome
     ensures cpu { cpu.new ≡ cpu_after cpu.old (guest_step frames.old (lookup space.now) cpu.old) }
     ensures outcome { result ≡ outcome_of (guest_step frames.old (lookup space.now) cpu.old) }
@@ -84,19 +84,16 @@ pub fn step_guest(cpu: &mut Cpu, frames: &mut Frames, space: &Space<'_>) -> Outc
     step_user(cpu, &mut bus)
 }
 
-/// Steps of an environment, one after another, at most so many, and as long as they retire; the result is how many. The
-/// first that would do anything else isn't made.
-pub fn run_guest(cpu: &mut Cpu, frames: &mut Frames, space: &Space<'_>, most: u32) -> u32
-    ensures machine { record { cpu = cpu.new; frames = frames.new } ≡ after_steps (lookup space.now) (record { cpu = cpu.old; frames = frames.old }) result }
-    ensures retire { AllRetire (lookup space.now) (record { cpu = cpu.old; frames = frames.old }) result }
-    ensures most { result ≤ most }
+/// The same of a step whose fetch is answered with this word, of which only is told whether it retires.
+#[inline(always)]
+pub(crate) fn retire_guest(cpu: &mut Cpu, frames: &mut Frames, space: &Space<'_>, word: u32) -> bool
+    requires aligned { cpu.old.pc % 4 ≡ 0 }
+    requires fetched { (answers_of frames.old space.now).fetch cpu.old.pc ≡ Ok word }
+    ensures cpu { cpu.new ≡ cpu_after cpu.old (guest_step frames.old (lookup space.now) cpu.old) }
+    ensures retired { result ≡ has_retired (guest_step frames.old (lookup space.now) cpu.old) }
+    ensures frames { frames.new ≡ frames_after frames.old (lookup space.now) (write_after (guest_step frames.old (lookup space.now) cpu.old)) }
     ensures size { length frames.new ≡ length frames.old }
 {
-    for done in 0..most {
-        match step_guest(cpu, frames, space) {
-            Outcome::Retired => {}
-            Outcome::Call | Outcome::Trap(_) => return done,
-        }
-    }
-    most
+    let mut bus = GuestBus { frames, space };
+    retire_fetched(cpu, &mut bus, word)
 }

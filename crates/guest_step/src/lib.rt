@@ -3,5 +3,7 @@
 #![tactic(auto)]
 
 mod bus;
+mod run;
 
-pub use bus::{run_guest, step_guest};
+pub use bus::step_guest;
+pub use run::run_guest;

@@ -10,12 +10,7 @@ use byteorder::{ByteOrder, LittleEndian};
 pub fn sign16(half: u16) -> u32
     ensures { result ≡ sign16_of half }
 {
-    let word = u32::from(half);
-    if word < 0x8000 {
-        word
-    } else {
-        word + 0xffff_0000
-    }
+    i32::from(half.cast_signed()).cast_unsigned()
 }
 
 /// The register after LWL, where it was `value`: the `n + 1` low bytes of the word in memory

@@ -1,2 +1,4 @@
 pub mod Completion
 pub mod StepSound
+pub mod Ended
+pub mod System

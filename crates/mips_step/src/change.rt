@@ -1,12 +1,10 @@
 //! What becomes of the registers by what an instruction does.
 ghost use Rattle.std.specs.Prelude.{◌≡◌};
-ghost use Rattle.mips_exec.specs.Effect.{changed, effect};
+ghost use Rattle.mips_exec.specs.Effect.{changed};
 ghost use Rattle.mips_exec.specs.Step.{report_of};
 ghost use Rattle.mips_exec.specs.declared.change.Change.TheVariants.{Jumps, Passes};
 
-use crate::effect::effect;
 use mips_exec::{Change, Cpu, Outcome};
-use mips_isa::Insn;
 
 /// Goes on to the next instruction.
 fn advance(cpu: &mut Cpu)
@@ -28,7 +26,7 @@ fn jump(cpu: &mut Cpu, target: u32)
 
 /// Does what an instruction does. A call and an exception leave the registers.
 #[inline(always)]
-fn apply(cpu: &mut Cpu, change: Change) -> Outcome
+pub(crate) fn apply(cpu: &mut Cpu, change: Change) -> Outcome
     ensures cpu { cpu.new ≡ changed cpu.old change }
     ensures outcome { result ≡ report_of change }
 {
@@ -53,14 +51,4 @@ fn apply(cpu: &mut Cpu, change: Change) -> Outcome
         Change::Raises(exc) => return Outcome::Trap(exc),
     }
     Outcome::Retired
-}
-
-/// Does what the instruction does, where `loaded` is what its load was answered.
-#[inline(always)]
-pub(crate) fn execute(cpu: &mut Cpu, insn: Insn, loaded: u32) -> Outcome
-    ensures cpu { cpu.new ≡ changed cpu.old (effect insn cpu.old loaded) }
-    ensures outcome { result ≡ report_of (effect insn cpu.old loaded) }
-{
-    let change = effect(cpu, insn, loaded);
-    apply(cpu, change)
 }

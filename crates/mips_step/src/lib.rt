@@ -2,12 +2,14 @@
 //! table (`docs/MACHINE.md`), over any memory that a `Bus` answers for.
 #![tactic(auto)]
 
+mod arithmetic;
 mod change;
-mod effect;
 mod laws;
 mod memory;
+mod memory_table;
 mod step;
+mod table;
 
 pub use laws::steps_are_sound;
 pub use memory::Bus;
-pub use step::step_user;
+pub use step::{retire_fetched, step_fetched, step_user};

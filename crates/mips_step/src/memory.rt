@@ -1,9 +1,11 @@
 //! Memory as a step asks it.
 ghost use Rattle.std.specs.Prelude.{◌≡◌, ◌≢◌, ◌+◌, ◌%◌, ◌<◌, ◌≤◌, ℕ, List, OnOk, OnErr};
-ghost use Rattle.mips_exec.specs.Access.{IsSized, low_bytes};
-ghost use Rattle.mips_exec.specs.Step.{Answers, Wrote, answered, write_if};
+ghost use Rattle.mips_exec.specs.Access.{IsSpot, low_bytes, place_of};
+ghost use Rattle.mips_exec.specs.declared.reach.Access.TheVariants.{Load, Store};
+ghost use Rattle.mips_exec.specs.Step.{Answers, without_value};
+ghost use Rattle.mips_step.specs.Accessed.{got};
 
-use mips_exec::{Access, Exc, ExcCode};
+use mips_exec::{Exc, ExcCode, Spot};
 
 /// Memory as a step asks it, by virtual addresses. It tests range and mapping; the step has tested the
 /// alignment, and asks for no bytes of two aligned words. What it answers to a fetch or load stays the
@@ -51,28 +53,36 @@ pub trait Bus {
     ghost stores_on: { (a : Self) (b : Self) (c : Self) (address : ℕ) (bytes : List ℕ) → Kept a b → Stored b address bytes c → Stored a address bytes c };
 }
 
-/// Asks the bus for a load or store: what it loads, and 0 for a store.
+/// What memory answers a load, or the exception at the address that the instruction names.
 #[inline(always)]
-pub(crate) fn perform<B: Bus>(access: Access, bus: &mut B) -> Result<u32, Exc>
-    requires { IsSized access }
-    ensures answer { result ≡ answered (B.answers bus.old) access }
-    ensures memory { Wrote B.Kept B.Stored bus.old (write_if access result) bus.new }
+pub(crate) fn load<B: Bus>(bus: &mut B, spot: Spot) -> Result<u32, Exc>
+    requires spot { IsSpot spot }
+    requires whole { spot.width ≢ 3 }
+    ensures answer { result ≡ got (B.answers bus.old) (Load spot) }
+    ensures kept { B.Kept bus.old bus.new }
 {
-    match access {
-        Access::Load(spot) => {
-            if !spot.is_aligned() {
-                return Err(Exc::plain(ExcCode::Adel));
-            }
-            bus.load(spot.place(), spot.width)
-        }
-        Access::Store(spot, value) => {
-            if !spot.is_aligned() {
-                return Err(Exc::plain(ExcCode::Ades));
-            }
-            match bus.store(spot.place(), spot.width, value) {
-                Ok(()) => Ok(0),
-                Err(exc) => Err(exc),
-            }
-        }
+    if !spot.is_aligned() {
+        return Err(Exc::plain(ExcCode::Adel).at(spot.address));
+    }
+    match bus.load(spot.place(), spot.width) {
+        Ok(loaded) => Ok(loaded),
+        Err(exc) => Err(exc.at(spot.address)),
+    }
+}
+
+/// Stores the low bytes of a value, or answers the exception at the address that the instruction names.
+#[inline(always)]
+pub(crate) fn store<B: Bus>(bus: &mut B, spot: Spot, value: u32) -> Result<(), Exc>
+    requires spot { IsSpot spot }
+    ensures answer { without_value result ≡ got (B.answers bus.old) (Store spot value) }
+    ensures stored { OnOk result (B.Stored bus.old (place_of spot) (low_bytes spot.width value) bus.new) }
+    ensures kept { OnErr result (B.Kept bus.old bus.new) }
+{
+    if !spot.is_aligned() {
+        return Err(Exc::plain(ExcCode::Ades).at(spot.address));
+    }
+    match bus.store(spot.place(), spot.width, value) {
+        Ok(()) => Ok(()),
+        Err(exc) => Err(exc.at(spot.address)),
     }
 }

@@ -1,16 +1,62 @@
 //! One step of a user program.
 ghost use Rattle.std.specs.Prelude.{◌≡◌};
+ghost use Rattle.mips_isa.specs.Encoding.{insn_of};
+ghost use Rattle.mips_exec.specs.Access.{access};
 ghost use Rattle.mips_exec.specs.Step.{cpu_after, outcome_of, step_of, view_of, write_after, Wrote};
+ghost use Rattle.mips_step.specs.Accessed.{fetched_step, has_retired, settled};
 
-use crate::change::execute;
-use crate::effect::access_of;
-use crate::memory::{Bus, perform};
-use mips_codec::decode;
-use mips_exec::{Cpu, Exc, ExcCode, Outcome};
+use crate::change::apply;
+use crate::memory::Bus;
+use crate::memory_table::accessed;
+use crate::table::computed;
+use mips_exec::{Change, Cpu, Exc, ExcCode, Outcome};
 
-/// One step of a user program (`docs/MACHINE.md`, "Effect"): the fetch, then the encoding, then the
-/// execution. A call of the kernel and an exception leave the registers and memory.
+/// Words from this one on are loads, stores and coprocessors.
+const ACCESSES: u32 = 0x8000_0000;
+
+/// What a word does, once memory has answered its load or store, or what the access raises.
 #[inline(always)]
+fn done<B: Bus>(cpu: &Cpu, bus: &mut B, word: u32) -> Result<Change, Exc>
+    ensures step { settled cpu.now (access (insn_of word) cpu.now) result ≡ fetched_step (B.answers bus.old) cpu.now word }
+    ensures memory { Wrote B.Kept B.Stored bus.old (write_after (fetched_step (B.answers bus.old) cpu.now word)) bus.new }
+{
+    if word < ACCESSES {
+        Ok(computed(cpu, word))
+    } else {
+        accessed(cpu, bus, word)
+    }
+}
+
+/// The step of a word that was fetched (`docs/MACHINE.md`, "Effect"). A call of the kernel and an exception leave the
+/// registers and memory.
+#[tactic(auto, using(crate::proofs::Ended::cpu_ended, crate::proofs::Ended::outcome_ended))]
+#[inline(always)]
+pub fn step_fetched<B: Bus>(cpu: &mut Cpu, bus: &mut B, word: u32) -> Outcome
+    ensures cpu { cpu.new ≡ cpu_after cpu.old (fetched_step (B.answers bus.old) cpu.old word) }
+    ensures outcome { result ≡ outcome_of (fetched_step (B.answers bus.old) cpu.old word) }
+    ensures memory { Wrote B.Kept B.Stored bus.old (write_after (fetched_step (B.answers bus.old) cpu.old word)) bus.new }
+{
+    match done(cpu, bus, word) {
+        Ok(change) => apply(cpu, change),
+        Err(exc) => Outcome::Trap(exc),
+    }
+}
+
+/// The same, of which only is told whether it retires.
+#[tactic(auto, using(crate::proofs::Ended::cpu_ended, crate::proofs::Ended::retired_ended))]
+#[inline(always)]
+pub fn retire_fetched<B: Bus>(cpu: &mut Cpu, bus: &mut B, word: u32) -> bool
+    ensures cpu { cpu.new ≡ cpu_after cpu.old (fetched_step (B.answers bus.old) cpu.old word) }
+    ensures retired { result ≡ has_retired (fetched_step (B.answers bus.old) cpu.old word) }
+    ensures memory { Wrote B.Kept B.Stored bus.old (write_after (fetched_step (B.answers bus.old) cpu.old word)) bus.new }
+{
+    match done(cpu, bus, word) {
+        Ok(change) => matches!(apply(cpu, change), Outcome::Retired),
+        Err(_) => false,
+    }
+}
+
+/// One step of a user program: the fetch, then the encoding, then the execution.
 pub fn step_user<B: Bus>(cpu: &mut Cpu, bus: &mut B) -> Outcome
     ensures cpu { cpu.new ≡ cpu_after cpu.old (step_of cpu.old (view_of (B.answers bus.old) cpu.old)) }
     ensures outcome { result ≡ outcome_of (step_of cpu.old (view_of (B.answers bus.old) cpu.old)) }
@@ -19,16 +65,8 @@ pub fn step_user<B: Bus>(cpu: &mut Cpu, bus: &mut B) -> Outcome
     if cpu.pc % 4 != 0 {
         return Outcome::Trap(Exc::plain(ExcCode::Adel).at(cpu.pc));
     }
-    let word = match bus.fetch(cpu.pc) {
-        Ok(word) => word,
-        Err(exc) => return Outcome::Trap(exc.at(cpu.pc)),
-    };
-    let insn = decode(word);
-    match access_of(insn, cpu) {
-        None => execute(cpu, insn, 0),
-        Some(access) => match perform(access, bus) {
-            Ok(loaded) => execute(cpu, insn, loaded),
-            Err(exc) => Outcome::Trap(exc.at(access.address())),
-        },
+    match bus.fetch(cpu.pc) {
+        Ok(word) => step_fetched(cpu, bus, word),
+        Err(exc) => Outcome::Trap(exc.at(cpu.pc)),
     }
 }

@@ -1,0 +1,31 @@
+-- What an instruction's step leaves, by what the instruction does.
+use Rattle.std.proofs.Common.{◌≡◌, Option, refl, Bool, true, false}
+use Rattle.mips_exec.specs.declared.registers.Cpu.{Cpu}
+use Rattle.mips_exec.specs.Access.{Write}
+use Rattle.mips_exec.specs.declared.change.Change.{Change}
+use Rattle.mips_exec.specs.declared.change.Change.TheVariants.{Calls, Raises}
+use Rattle.mips_exec.specs.declared.exception.Outcome.{Outcome}
+use Rattle.mips_exec.specs.declared.exception.Outcome.TheVariants as outcome
+use Rattle.mips_exec.specs.Effect.{changed}
+use Rattle.mips_exec.specs.Step.{cpu_after, ended, outcome_of, report_of}
+use Rattle.mips_step.specs.Accessed.{has_retired}
+
+pub cpu_ended : (c : Cpu) (e : Change) (w : Option Write) → cpu_after c (ended c e w) ≡ changed c e
+cpu_ended c Calls w = refl
+cpu_ended c (Raises exc) w = refl
+cpu_ended c _ w = refl
+
+pub outcome_ended : (c : Cpu) (e : Change) (w : Option Write) → outcome_of (ended c e w) ≡ report_of e
+outcome_ended c Calls w = refl
+outcome_ended c (Raises exc) w = refl
+outcome_ended c _ w = refl
+
+abbrev pub is_retired : Outcome → Bool
+is_retired outcome.Retired = true
+is_retired outcome.Call = false
+is_retired (outcome.Trap exc) = false
+
+pub retired_ended : (c : Cpu) (e : Change) (w : Option Write) → has_retired (ended c e w) ≡ is_retired (report_of e)
+retired_ended c Calls w = refl
+retired_ended c (Raises exc) w = refl
+retired_ended c _ w = refl

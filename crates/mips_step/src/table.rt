@@ -1,0 +1,208 @@
+//! What each word does that neither loads nor stores (`docs/MACHINE.md`, "Effect"): a match on the opcode, with one on the
+//! function of opcode 0 and one on the field `rt` of opcode 1, each in the order of the table of the encoding.
+ghost use Rattle.std.specs.Prelude.{◌≡◌, ◌<◌, ◌^◌, None};
+ghost use Rattle.mips_isa.specs.Encoding.{insn_of, regimm_of, special_of};
+ghost use Rattle.mips_isa.specs.Fields.{imm_of, opcode_of, rs_of, rt_of, target_of};
+ghost use Rattle.mips_isa.specs.Word.{sign16_of};
+ghost use Rattle.mips_exec.specs.Access.{access};
+ghost use Rattle.mips_exec.specs.Cpu.{branch_target, jump_target, reg};
+ghost use Rattle.mips_exec.specs.declared.change.Change.TheVariants.{Jumps, JumpsAndLinks};
+ghost use Rattle.mips_exec.specs.Effect.{effect};
+
+use crate::arithmetic::{
+    difference, is_at_most_zero, is_negative, product, quotient, shift_with_sign, signed_product,
+    signed_quotient, sum,
+};
+use mips_codec::{COP0, REGIMM, SPECIAL, function, imm, opcode, rd, rs, rt, sh, sign16, target};
+use mips_exec::{Change, Cpu, Exc, ExcCode};
+
+/// The register that calls link through.
+const RETURN_ADDRESS: u8 = 31;
+
+/// What the register of bits 25:21 reads.
+pub(crate) fn rs_value(cpu: &Cpu, word: u32) -> u32
+    ensures { result ≡ reg cpu.now (rs_of word) }
+{
+    cpu.reg(rs(word))
+}
+
+/// What the register of bits 20:16 reads.
+pub(crate) fn rt_value(cpu: &Cpu, word: u32) -> u32
+    ensures { result ≡ reg cpu.now (rt_of word) }
+{
+    cpu.reg(rt(word))
+}
+
+/// Bits 15:0 as a word with its sign.
+pub(crate) fn signed_imm(word: u32) -> u32
+    ensures { result ≡ sign16_of (imm_of word) }
+{
+    sign16(imm(word))
+}
+
+/// The address after the delay slot of a branch.
+fn branch_target(cpu: &Cpu, taken: bool, word: u32) -> u32
+    ensures { result ≡ branch_target cpu.now taken (imm_of word) }
+{
+    if taken {
+        cpu.pc
+            .wrapping_add(4)
+            .wrapping_add(signed_imm(word).wrapping_mul(4))
+    } else {
+        cpu.next.wrapping_add(4)
+    }
+}
+
+/// A branch where `taken`.
+fn branch(cpu: &Cpu, taken: bool, word: u32) -> Change
+    ensures { result ≡ Jumps (branch_target cpu.now taken (imm_of word)) }
+{
+    Change::Jumps(branch_target(cpu, taken, word))
+}
+
+/// A branch where `taken`, which links in either case.
+fn branch_and_link(cpu: &Cpu, taken: bool, word: u32) -> Change
+    ensures { result ≡ JumpsAndLinks 31 (branch_target cpu.now taken (imm_of word)) }
+{
+    Change::JumpsAndLinks(RETURN_ADDRESS, branch_target(cpu, taken, word))
+}
+
+/// The address that a jump's 26 bits name.
+fn jump_target(cpu: &Cpu, word: u32) -> u32
+    ensures { result ≡ jump_target cpu.now (target_of word) }
+{
+    let region = cpu.pc.wrapping_add(4) >> 28;
+    region * 0x1000_0000 + target(word) * 4
+}
+
+/// What a word of opcode 0 does, by its function.
+#[tactic(auto, unfolding(mips_isa::specs::Encoding::special_of, mips_exec::specs::Effect::effect, mips_exec::specs::Access::access))]
+#[inline(always)]
+fn special(cpu: &Cpu, word: u32) -> Change
+    requires { opcode_of word ≡ 0 }
+    ensures value { result ≡ effect (special_of word) cpu.now 0 }
+    ensures plain { access (special_of word) cpu.now ≡ None }
+{
+    match function(word) {
+        0 if rs(word) == 0 => Change::Puts(rd(word), rt_value(cpu, word) << sh(word)),
+        2 if rs(word) == 0 => Change::Puts(rd(word), rt_value(cpu, word) >> sh(word)),
+        3 if rs(word) == 0 => Change::Puts(
+            rd(word),
+            shift_with_sign(rt_value(cpu, word), u32::from(sh(word))),
+        ),
+        4 if sh(word) == 0 => Change::Puts(
+            rd(word),
+            rt_value(cpu, word) << (rs_value(cpu, word) % 32),
+        ),
+        6 if sh(word) == 0 => Change::Puts(
+            rd(word),
+            rt_value(cpu, word) >> (rs_value(cpu, word) % 32),
+        ),
+        7 if sh(word) == 0 => Change::Puts(
+            rd(word),
+            shift_with_sign(rt_value(cpu, word), rs_value(cpu, word) % 32),
+        ),
+        8 if rt(word) == 0 && rd(word) == 0 && sh(word) == 0 => Change::Jumps(rs_value(cpu, word)),
+        9 if rt(word) == 0 && sh(word) == 0 => Change::JumpsAndLinks(rd(word), rs_value(cpu, word)),
+        12 if cpu.slot => Change::Raises(Exc::plain(ExcCode::Sys)),
+        12 => Change::Calls,
+        13 => Change::Raises(Exc::plain(ExcCode::Bp)),
+        16 if rs(word) == 0 && rt(word) == 0 && sh(word) == 0 => Change::Puts(rd(word), cpu.hi),
+        17 if rt(word) == 0 && rd(word) == 0 && sh(word) == 0 => Change::PutsHiLo(
+            rs_value(cpu, word),
+            cpu.lo,
+        ),
+        18 if rs(word) == 0 && rt(word) == 0 && sh(word) == 0 => Change::Puts(rd(word), cpu.lo),
+        19 if rt(word) == 0 && rd(word) == 0 && sh(word) == 0 => Change::PutsHiLo(
+            cpu.hi,
+            rs_value(cpu, word),
+        ),
+        24 if rd(word) == 0 && sh(word) == 0 => product(signed_product(
+            rs_value(cpu, word),
+            rt_value(cpu, word),
+        )),
+        25 if rd(word) == 0 && sh(word) == 0 => product(
+            u64::from(rs_value(cpu, word)) * u64::from(rt_value(cpu, word)),
+        ),
+        26 if rd(word) == 0 && sh(word) == 0 => signed_quotient(
+            rs_value(cpu, word),
+            rt_value(cpu, word),
+        ),
+        27 if rd(word) == 0 && sh(word) == 0 => quotient(rs_value(cpu, word), rt_value(cpu, word)),
+        32 if sh(word) == 0 => sum(rd(word), rs_value(cpu, word), rt_value(cpu, word)),
+        33 if sh(word) == 0 => Change::Puts(
+            rd(word),
+            rs_value(cpu, word).wrapping_add(rt_value(cpu, word)),
+        ),
+        34 if sh(word) == 0 => difference(rd(word), rs_value(cpu, word), rt_value(cpu, word)),
+        35 if sh(word) == 0 => Change::Puts(
+            rd(word),
+            rs_value(cpu, word).wrapping_sub(rt_value(cpu, word)),
+        ),
+        36 if sh(word) == 0 => Change::Puts(rd(word), rs_value(cpu, word) & rt_value(cpu, word)),
+        37 if sh(word) == 0 => Change::Puts(rd(word), rs_value(cpu, word) | rt_value(cpu, word)),
+        38 if sh(word) == 0 => Change::Puts(rd(word), rs_value(cpu, word) ^ rt_value(cpu, word)),
+        39 if sh(word) == 0 => Change::Puts(rd(word), !(rs_value(cpu, word) | rt_value(cpu, word))),
+        42 if sh(word) == 0 => Change::Puts(
+            rd(word),
+            u32::from(rs_value(cpu, word).cast_signed() < rt_value(cpu, word).cast_signed()),
+        ),
+        43 if sh(word) == 0 => Change::Puts(
+            rd(word),
+            u32::from(rs_value(cpu, word) < rt_value(cpu, word)),
+        ),
+        _ => Change::Raises(Exc::plain(ExcCode::Ri)),
+    }
+}
+
+/// What a word of opcode 1 does, by its field `rt`.
+#[tactic(auto, unfolding(mips_isa::specs::Encoding::regimm_of, mips_exec::specs::Effect::effect, mips_exec::specs::Access::access))]
+#[inline(always)]
+fn regimm(cpu: &Cpu, word: u32) -> Change
+    requires { opcode_of word ≡ 1 }
+    ensures value { result ≡ effect (regimm_of word) cpu.now 0 }
+    ensures plain { access (regimm_of word) cpu.now ≡ None }
+{
+    let is_negative = is_negative(rs_value(cpu, word));
+    match rt(word) {
+        0 => branch(cpu, is_negative, word),
+        1 => branch(cpu, !is_negative, word),
+        16 => branch_and_link(cpu, is_negative, word),
+        17 => branch_and_link(cpu, !is_negative, word),
+        _ => Change::Raises(Exc::plain(ExcCode::Ri)),
+    }
+}
+
+/// What a word below 2^31 does, by its opcode.
+#[tactic(auto, using(crate::proofs::System::system_effect, crate::proofs::System::system_access), unfolding(mips_isa::specs::Encoding::insn_of, mips_exec::specs::Effect::effect, mips_exec::specs::Access::access))]
+#[inline(always)]
+pub(crate) fn computed(cpu: &Cpu, word: u32) -> Change
+    requires { word < 2 ^ 31 }
+    ensures value { result ≡ effect (insn_of word) cpu.now 0 }
+    ensures plain { access (insn_of word) cpu.now ≡ None }
+{
+    match opcode(word) {
+        SPECIAL => special(cpu, word),
+        REGIMM => regimm(cpu, word),
+        2 => Change::Jumps(jump_target(cpu, word)),
+        3 => Change::JumpsAndLinks(RETURN_ADDRESS, jump_target(cpu, word)),
+        4 => branch(cpu, rs_value(cpu, word) == rt_value(cpu, word), word),
+        5 => branch(cpu, rs_value(cpu, word) != rt_value(cpu, word), word),
+        6 if rt(word) == 0 => branch(cpu, is_at_most_zero(rs_value(cpu, word)), word),
+        7 if rt(word) == 0 => branch(cpu, !is_at_most_zero(rs_value(cpu, word)), word),
+        8 => sum(rt(word), rs_value(cpu, word), signed_imm(word)),
+        9 => Change::Puts(rt(word), rs_value(cpu, word).wrapping_add(signed_imm(word))),
+        10 => Change::Puts(
+            rt(word),
+            u32::from(rs_value(cpu, word).cast_signed() < signed_imm(word).cast_signed()),
+        ),
+        11 => Change::Puts(rt(word), u32::from(rs_value(cpu, word) < signed_imm(word))),
+        12 => Change::Puts(rt(word), rs_value(cpu, word) & u32::from(imm(word))),
+        13 => Change::Puts(rt(word), rs_value(cpu, word) | u32::from(imm(word))),
+        14 => Change::Puts(rt(word), rs_value(cpu, word) ^ u32::from(imm(word))),
+        15 if rs(word) == 0 => Change::Puts(rt(word), u32::from(imm(word)) << 16),
+        COP0 => Change::Raises(Exc::unusable(0)),
+        17..=19 => Change::Raises(Exc::unusable(opcode(word) % 4)),
+        _ => Change::Raises(Exc::plain(ExcCode::Ri)),
+    }
+}
