@@ -104,7 +104,6 @@ fn system(word: u32) -> Insn
 
 /// The instruction of a word, by its opcode.
 #[tactic(auto, unfolding(mips_isa::specs::Encoding::insn_of))]
-#[inline(always)]
 fn instruction(word: u32) -> Insn
     ensures { result ≡ insn_of word }
 {
@@ -153,7 +152,6 @@ fn instruction(word: u32) -> Insn
 
 /// The instruction that a word spells: one for every word, `Reserved` where the table has no other
 /// (`docs/MACHINE.md`, "Encoding").
-#[inline(always)]
 pub fn decode(word: u32) -> Insn
     ensures spells { Spells word result }
     ensures value { result ≡ insn_of word }
