@@ -1,4 +1,3 @@
-pub mod Completion
 pub mod StepSound
 pub mod Ended
 pub mod System
