@@ -37,9 +37,7 @@ fn run_in(
     ensures replies { replies.new ≡ (handler_run handler.now packet.now claim.id (page_at frames.old claim.page)).replies }
 {
     law_runs_keep_limits();
-    // Reads the page, and with it that it has its size.
-    let _page = frames.page(claim.page);
-    let page = frames.page_mut(claim.page);
+    let page = frames.page_mut(claim.page).first_chunk_mut().unwrap();
     let _end = run_handler(handler, packet, claim.id, page, replies);
 }
 

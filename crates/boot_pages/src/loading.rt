@@ -1,11 +1,11 @@
 //! An environment's frame, with the pages that are guaranteed to it.
 ghost use Rattle.std.specs.Prelude.{◌≡◌, ◌≤◌, ◌<◌, ◌+◌, ◌++◌, Some, length, map, [], ◌∷◌, slice_set};
-ghost use Rattle.segment_pages.specs.Pages.{vpns};
+ghost use Rattle.segment_pages.specs.Pages.{page_bytes, vpns};
 ghost use Rattle.boot_image.specs.ImageValue.{guaranteed_mappings};
 ghost use Rattle.env_frames.specs.Context.{no_handlers};
 ghost use Rattle.env_frames.specs.Frame.{IsAbove};
 ghost use Rattle.aegis_limits.specs.Limits.{most_mappings, vpn_end};
-ghost use Rattle.frame_store.specs.Pages.{zero_page};
+ghost use Rattle.frame_store.specs.Pages.{with_page, zero_page};
 ghost use Rattle.page_book.specs.declared.row.PageRow.TheVariants.{Free, Guaranteed};
 ghost use Rattle.page_book.specs.Rows.{first_free, free_pages, row_in};
 ghost use Rattle.run_model.specs.Boot.{open_page, body_page, kept_of};
@@ -51,6 +51,19 @@ fn keep_page(pages: &mut Pages, number: u8) -> u32
     pages.keep(number).unwrap()
 }
 
+/// Makes a page of physical memory what a program has in the page of this VPN.
+fn fill_frame(frames: &mut Frames, page: u32, program: &Elf<'_>, vpn: u32)
+    requires there { page < length frames.old }
+    requires within { vpn < vpn_end }
+    ensures { frames.new ≡ with_page frames.old page (page_bytes program.now vpn) }
+{
+    fill_page(
+        program,
+        vpn,
+        frames.page_mut(page).first_chunk_mut().unwrap(),
+    );
+}
+
 /// Gives an environment, which has this number, the lowest free page at a VPN above all that it sees:
 /// the page of a program's body at this VPN.
 fn give_page(
@@ -76,7 +89,7 @@ fn give_page(
     ensures rest { env.new ≡ record env.old { mappings = env.new.mappings } }
 {
     let page = keep_page(pages, number);
-    fill_page(body, vpn, frames.page_mut(page));
+    fill_frame(frames, page, body, vpn);
     env.guarantee(vpn, page, is_writable(body, vpn));
 }
 

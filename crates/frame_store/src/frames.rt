@@ -1,5 +1,5 @@
-//! The pages of physical memory.
-ghost use Rattle.std.specs.Prelude.{◌≡◌, ◌<◌, ◌≤◌, ◌+◌, ◌%◌, length, IfOk};
+//! The pages of physical memory, lent of one vector of all bytes.
+ghost use Rattle.std.specs.Prelude.{◌≡◌, ◌<◌, ◌≤◌, ◌+◌, ◌*◌, ◌%◌, length, IfOk};
 ghost use Rattle.aegis_limits.specs.Limits.{page_size};
 ghost use Rattle.std.specs.Borrow.{sem};
 ghost use Rattle.frame_store.specs.Pages.{least_frames, most_frames, zero_page, zeroed, page_at, with_page, after_put, word_at, word_bytes};
@@ -9,26 +9,35 @@ use byteorder::{ByteOrder, LittleEndian};
 use std::alloc::Global;
 use std::marker::Model;
 
-/// The pages of physical memory, from 16 to 4,096 of them, numbered from 0.
+/// The pages of physical memory, from 16 to 4,096 of them, numbered from 0. Their bytes stand one behind another.
 #[derive(Drop)]
 pub struct Frames {
-    pages: Vec<[u8; PAGE_SIZE]>,
+    pages: u32,
+    bytes: Vec<u8>,
 }
 
 impl Model for Frames {
-    ghost use Rattle.std.specs.Prelude.{◌≤◌, ℕ, List, length};
-    ghost use Rattle.std.specs.Borrow.{sem};
-    ghost use Rattle.frame_store.specs.Pages.{least_frames, most_frames};
+    ghost use Rattle.std.specs.Prelude.{ℕ, List};
+    ghost use Rattle.aegis_limits.specs.Limits.{page_size};
+    ghost use Rattle.frame_store.specs.Memory.{IsMemory, pages_of};
 
     ghost Value = { List (List ℕ) };
 
-    ghost view = { λ f. f.pages.items };
+    ghost view = { λ f. pages_of page_size f.pages f.bytes.items };
 
-    ghost invariant = { λ f. (least_frames ≤ length f.pages.items) × (length f.pages.items ≤ most_frames) };
+    ghost invariant = { λ f. IsMemory f.pages f.bytes.items };
+}
+
+/// Where the page with a number begins in memory.
+fn page_start(n: u32) -> usize
+    ensures { result ≡ n * page_size }
+{
+    n as usize * PAGE_SIZE
 }
 
 impl Frames {
     ghost use Rattle.frame_store.specs.Lending.{LendsPage};
+    ghost use Rattle.frame_store.specs.Memory.{IsOnePage};
 
     /// So many pages of zeros, from 16 to 4,096. An `Err` says that there is no memory for them.
     pub fn new(alloc: Global, pages: u32) -> Result<Frames, OutOfMemory>
@@ -36,11 +45,8 @@ impl Frames {
         requires within { pages ≤ most_frames }
         ensures { IfOk result (λ f. f ≡ zeroed pages) }
     {
-        let mut zeroed = Vec::with_capacity(alloc, pages as usize)?;
-        for _ in 0..pages {
-            zeroed.push([0; PAGE_SIZE])?;
-        }
-        Ok(Frames { pages: zeroed })
+        let bytes = vec![in alloc; 0; pages as usize * PAGE_SIZE]?;
+        Ok(Frames { pages, bytes })
     }
 
     /// How many pages there are, from 16 to 4,096.
@@ -49,7 +55,7 @@ impl Frames {
         ensures least { least_frames ≤ result }
         ensures most { result ≤ most_frames }
     {
-        self.pages.len() as u32
+        self.pages
     }
 
     /// The 4,096 bytes of the page with this number.
@@ -58,17 +64,20 @@ impl Frames {
         ensures bytes { result.now ≡ page_at self.now n }
         ensures size { length result.now ≡ page_size }
     {
-        let page = &self.pages[n as usize];
-        &page[..]
+        let start = page_start(n);
+        &self.bytes[start..start + PAGE_SIZE]
     }
 
     /// The 4,096 bytes of the page with this number, to be written. All other pages stay as they are.
-    pub fn page_mut(&mut self, n: u32) -> &mut [u8; PAGE_SIZE]
+    pub fn page_mut(&mut self, n: u32) -> &mut [u8]
         requires { n < length self.old }
         ensures* writes_back { sem 𝓛 (LendsPage self.entry n result) }
+        ensures one_page { IsOnePage self.old n }
         ensures bytes { result.now ≡ page_at self.old n }
+        ensures size { length result.now ≡ page_size }
     {
-        &mut self.pages[n as usize]
+        let start = page_start(n);
+        self.bytes.slice_mut(start..start + PAGE_SIZE)
     }
 
     /// Makes every byte of a page 0.
@@ -76,7 +85,7 @@ impl Frames {
         requires { n < length self.old }
         ensures { self.new ≡ with_page self.old n zero_page }
     {
-        self.pages[n as usize] = [0; PAGE_SIZE];
+        self.page_mut(n).fill(0);
     }
 
     /// Gives a page the bytes of another, or of itself.
@@ -85,7 +94,9 @@ impl Frames {
         requires to { to < length self.old }
         ensures { self.new ≡ with_page self.old to (page_at self.old from) }
     {
-        self.pages[to as usize] = self.pages[from as usize];
+        let from = page_start(from);
+        self.bytes
+            .copy_within(from..from + PAGE_SIZE, page_start(to));
     }
 
     /// Puts bytes into a page from an offset on. They end within the page.

@@ -16,7 +16,7 @@ returns-clause-seen c =
     let kept = c.keep_page-page.ensures in
     let writable = is_writable c.args.body.now c.args.vpn in
     let bytes = page_bytes c.args.body.now c.args.vpn in
-    rw (c.guarantee.ensures.mapping, c.fill_page.ensures, c.is_writable.ensures)
+    rw (c.guarantee.ensures.mapping, c.fill_frame.ensures, c.is_writable.ensures)
     (given_page c.args.frames.now c.args.pages.now c.args.number c.args.vpn c.keep_page-page.result writable bytes c.args.env.now.mappings c.requires.guaranteed kept.there kept.was_free c.requires.same)
 
 pub returns-clause-guaranteed : goal.returns-clause-guaranteed

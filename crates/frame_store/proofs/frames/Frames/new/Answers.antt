@@ -1,12 +1,10 @@
--- One page of zeros more.
-use Rattle.std.proofs.Common.{ℕ, List, [], ◌∷◌, ◌++◌, ap, ◌∙◌}
-use Rattle.std.proofs.lemmas.List.{replicate-append-replicate}
-use Rattle.frame_store.specs.Pages.{zero_page}
+-- Zeros, cut into pages, are pages of zeros.
+use Rattle.std.proofs.Common.{◌∙◌, ap}
+use Rattle.aegis_limits.specs.Limits.{page_size}
+use Rattle.frame_store.specs.Memory.{pages_of}
+use Rattle.frame_store.proofs.Cuts.{pages_of-replicate}
 use Rattle.frame_store.proofs.frames.Frames.new.Goals as goal
 
-pub loop-preserved : goal.loop-preserved
-loop-preserved c = record {
-  zeros =
-      c.in_ok-push.ensures.items ∙ ap (λ (pages : List (List ℕ)). pages ++ zero_page ∷ []) c.loop.invariant.zeros
-      ∙ replicate-append-replicate c.loop.counter 1 zero_page;
-}
+pub returns : goal.returns
+returns c =
+    ap (pages_of page_size c.args.pages) (c.in_ok-bytes.ensures.items_if_clones_equal (λ y same. same)) ∙ pages_of-replicate page_size c.args.pages
