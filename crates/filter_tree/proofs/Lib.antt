@@ -1,5 +1,6 @@
 pub mod Atoms
 pub mod Counting
+pub mod Halving
 pub mod Lowest
 pub mod Numbers
 pub mod Order
@@ -7,4 +8,3 @@ pub mod Planting
 pub mod Reaching
 pub mod Room
 pub mod Splitting
-pub mod Turning

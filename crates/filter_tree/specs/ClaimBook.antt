@@ -1,6 +1,6 @@
 -- The book of claims, as it is seen.
 use Rattle.std.specs.Prelude.{◌≡◌, ◌≤◌, ◌<◌, ℕ, suc, ◌*◌, Bool, true, ◌==◌, ◌&&◌, nat_le, Option, List, [], ◌∷◌, map, count_by}
-use Rattle.std.specs.List.{AllByRecursion}
+use Rattle.std.specs.List.{AllByRecursion, AllPairs}
 use Rattle.filter_core.specs.declared.atom.Atom.{Atom}
 use Rattle.packet_ring.specs.declared.buffer.Buffer.{Buffer}
 
@@ -49,3 +49,7 @@ pub record IsKept (book : ClaimBook) (room : ℕ) : Type 0 where
   pub of_envs : AllByRecursion (λ (r : RowValue). r.claim.env < book.envs) book.rows
   pub numbered : are_numbered 0 book.next book.rows ≡ true
   pub enough : book.envs * most_claims ≤ room
+
+-- claims by rising number
+abbrev pub AreRising : List RowValue → Type 0
+AreRising = AllPairs (λ (r s : RowValue). r.claim.id < s.claim.id)

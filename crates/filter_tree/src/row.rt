@@ -2,7 +2,7 @@
 ghost use Rattle.std.specs.Prelude.{◌≡◌};
 ghost use Rattle.std.specs.Option.{option_map};
 ghost use Rattle.filter_tree.specs.ClaimBook.{is_of_env};
-ghost use Rattle.filter_tree.specs.Claims.{claim_seen, handled_if, is_claim, is_in_the_way, is_into, is_numbered, turned_if};
+ghost use Rattle.filter_tree.specs.Claims.{claim_seen, handled, is_claim, is_in_the_way, is_into, is_numbered, turned};
 
 use crate::claim::Claim;
 use filter_core::{Filter, Layout};
@@ -54,13 +54,18 @@ impl Row {
         self.claim.page == page
     }
 
-    /// The next packet goes into the other buffer, if the claim is of this number.
-    pub(crate) fn turn(&mut self, id: u32)
-        ensures { self.new ≡ turned_if id self.old }
+    /// The next packet goes into the other buffer.
+    pub(crate) fn turn(&mut self)
+        ensures { self.new ≡ turned self.old }
     {
-        if self.claim.id == id {
-            self.claim.next = self.claim.next.other();
-        }
+        self.claim.next = self.claim.next.other();
+    }
+
+    /// Its number.
+    pub(crate) fn id(&self) -> u32
+        ensures { result ≡ self.now.claim.id }
+    {
+        self.claim.id
     }
 
     /// Whether it is the claim of this number.
@@ -77,13 +82,11 @@ impl Row {
         self.handler.as_ref()
     }
 
-    /// The handler is its own from now on, if the claim is of this number; with none it has none.
-    pub(crate) fn download(&mut self, id: u32, handler: Option<&Handler>)
-        ensures { self.new ≡ handled_if id (option_map (λ handler. handler.now) handler.entry) self.old }
+    /// The handler is its own from now on; with none it has none.
+    pub(crate) fn download(&mut self, handler: Option<&Handler>)
+        ensures { self.new ≡ handled (option_map (λ handler. handler.now) handler.entry) self.old }
     {
-        if self.claim.id == id {
-            self.handler = handler.map(Handler::copy);
-        }
+        self.handler = handler.map(Handler::copy);
     }
 
     /// Whether it is another environment's and some packet is matched by its filter and by the one that is laid out.

@@ -1,7 +1,7 @@
-//! Searches through all claims.
-ghost use Rattle.std.specs.Prelude.{◌≡◌, count_by, find};
+//! Searches through the claims: for one of a number by halving, and else through all.
+ghost use Rattle.std.specs.Prelude.{◌≡◌, ◌<◌, IfNone, IfSome, None, Some, count_by, find, length, slice_index_or};
 ghost use Rattle.std.specs.Option.{option_flatten, option_map};
-ghost use Rattle.filter_tree.specs.ClaimBook.{RowValue, is_of_env};
+ghost use Rattle.filter_tree.specs.ClaimBook.{AreRising, RowValue, is_of_env};
 ghost use Rattle.filter_tree.specs.Claims.{claim_seen, is_claim, is_in_the_way, is_numbered, row_refusal};
 
 use crate::claim::{Claim, ClaimNo};
@@ -43,38 +43,46 @@ pub(crate) fn refusal(rows: &[Row], env: u8, filter: &Filter) -> Option<ClaimNo>
     Some(ClaimNo::Overlap(claim.id))
 }
 
+/// The place of the claim of this number, if it stands. It is found by halving.
+pub(crate) fn place_numbered(rows: &[Row], id: u32) -> Option<usize>
+    requires { AreRising rows.now }
+    ensures within { IfSome result (λ k. k < length rows.now) }
+    ensures some { IfSome result (λ k. (d : RowValue) → find (λ (r : RowValue). is_numbered id r.claim) rows.now ≡ Some (slice_index_or rows.now k d)) }
+    ensures none { IfNone result (find (λ (r : RowValue). is_numbered id r.claim) rows.now ≡ None) }
+{
+    let place = rows.partition_point(|row| row.id() < id);
+    if place < rows.len() && rows[place].is_numbered(id) {
+        Some(place)
+    } else {
+        None
+    }
+}
+
 /// The environment's claim of this number.
 pub(crate) fn claim_held(rows: &[Row], env: u8, id: u32) -> Option<Claim>
+    requires { AreRising rows.now }
     ensures { result ≡ option_map claim_seen (find (λ (r : RowValue). is_claim env id r.claim) rows.now) }
 {
-    for row in rows {
-        if row.is_claim(env, id) {
-            return Some(row.claim());
-        }
+    let row = &rows[place_numbered(rows, id)?];
+    if row.is_of_env(env) {
+        Some(row.claim())
+    } else {
+        None
     }
-    None
 }
 
 /// The handler of the claim of this number, if it has one.
 pub(crate) fn claim_handler(rows: &[Row], id: u32) -> Option<&Handler>
+    requires { AreRising rows.now }
     ensures { option_map (λ handler. handler.now) result ≡ option_flatten (option_map (λ (r : RowValue). r.handler) (find (λ (r : RowValue). is_numbered id r.claim) rows.now)) }
 {
-    for row in rows {
-        if row.is_numbered(id) {
-            return row.handler();
-        }
-    }
-    None
+    rows[place_numbered(rows, id)?].handler()
 }
 
 /// The claim of this number.
 pub(crate) fn claim_numbered(rows: &[Row], id: u32) -> Option<Claim>
+    requires { AreRising rows.now }
     ensures { result ≡ option_map claim_seen (find (λ (r : RowValue). is_numbered id r.claim) rows.now) }
 {
-    for row in rows {
-        if row.is_numbered(id) {
-            return Some(row.claim());
-        }
-    }
-    None
+    Some(rows[place_numbered(rows, id)?].claim())
 }

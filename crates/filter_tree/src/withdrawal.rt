@@ -1,10 +1,11 @@
 //! Claims that are withdrawn, claims whose buffers take turns, and claims that get a handler.
 ghost use Rattle.std.specs.Prelude.{◌≡◌, filter, map, not, vec_capacity};
 ghost use Rattle.std.specs.Option.{option_map};
-ghost use Rattle.filter_tree.specs.ClaimBook.{RowValue, is_of_env};
+ghost use Rattle.filter_tree.specs.ClaimBook.{AreRising, RowValue, is_of_env};
 ghost use Rattle.filter_tree.specs.Claims.{handled_if, is_claim, is_into, turned_if};
 
 use crate::row::Row;
+use crate::search::place_numbered;
 use handler_code::Handler;
 
 /// Withdraws the environment's claim of this number.
@@ -33,6 +34,7 @@ pub(crate) fn withdraw_of(rows: &mut Vec<Row>, env: u8)
 
 /// The next packet of the claim of this number goes into the other buffer.
 pub(crate) fn turn(rows: &mut Vec<Row>, id: u32)
+    requires { AreRising rows.old.items }
     ensures rows { rows.new.items ≡ map (turned_if id) rows.old.items }
     ensures room { vec_capacity rows.new ≡ vec_capacity rows.old }
 {
@@ -41,15 +43,17 @@ pub(crate) fn turn(rows: &mut Vec<Row>, id: u32)
 
 /// The same in a slice of claims.
 fn turn_in(rows: &mut [Row], id: u32)
+    requires { AreRising rows.old }
     ensures { rows.new ≡ map (turned_if id) rows.old }
 {
-    for row in rows.iter_mut() {
-        row.turn(id);
+    if let Some(place) = place_numbered(rows, id) {
+        rows[place].turn();
     }
 }
 
 /// The claim of this number has a copy of the handler from now on, or none.
 pub(crate) fn download(rows: &mut Vec<Row>, id: u32, handler: Option<&Handler>)
+    requires { AreRising rows.old.items }
     ensures rows { rows.new.items ≡ map (handled_if id (option_map (λ handler. handler.now) handler.entry)) rows.old.items }
     ensures room { vec_capacity rows.new ≡ vec_capacity rows.old }
 {
@@ -58,9 +62,10 @@ pub(crate) fn download(rows: &mut Vec<Row>, id: u32, handler: Option<&Handler>)
 
 /// The same in a slice of claims.
 fn download_in(rows: &mut [Row], id: u32, handler: Option<&Handler>)
+    requires { AreRising rows.old }
     ensures { rows.new ≡ map (handled_if id (option_map (λ handler. handler.now) handler.entry)) rows.old }
 {
-    for row in rows.iter_mut() {
-        row.download(id, handler);
+    if let Some(place) = place_numbered(rows, id) {
+        rows[place].download(handler);
     }
 }

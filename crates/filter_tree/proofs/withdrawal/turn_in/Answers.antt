@@ -1,9 +1,12 @@
-use Rattle.std.proofs.Common.{◌∙◌, ap, set}
-use Rattle.filter_tree.specs.Claims.{turned_if}
-use Rattle.filter_tree.proofs.Turning.{one_more}
+use Rattle.std.proofs.Common.{sym, ap, set, ◌∙◌}
+use Rattle.filter_tree.specs.Claims.{turned}
+use Rattle.filter_tree.proofs.Halving.{none_changes, one_changes}
 use Rattle.filter_tree.proofs.withdrawal.turn_in.Goals as goal
 
-pub loop-row-preserved : goal.loop-row-preserved
-loop-row-preserved c =
-    ap (set c.loop-row.rows c.loop-row.row-index) c.turn.ensures
-    ∙ one_more (turned_if c.args.id) c.args.rows.now c.loop-row.rows c.loop-row.row-index c.row-item.result c.loop-row-test.true c.loop-row.invariant
+pub returns-in-Some : goal.returns-in-Some
+returns-in-Some c =
+    ap (set c.args.rows.now c.in-Some.place) c.turn.ensures
+    ∙ sym (one_changes turned c.args.id c.in-Some.place c.index-rows-place.result c.args.rows.now c.requires c.in-Some.ensures.within (c.in-Some.ensures.some c.index-rows-place.result))
+
+pub returns-in_default : goal.returns-in_default
+returns-in_default c = sym (none_changes turned c.args.id c.args.rows.now c.in_default.ensures.none)

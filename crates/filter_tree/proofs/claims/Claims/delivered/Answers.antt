@@ -1,4 +1,5 @@
 use Rattle.filter_tree.specs.Claims.{turned_if}
+use Rattle.filter_tree.proofs.Halving.{numbered_rising}
 use Rattle.filter_tree.proofs.Numbers.{same_claim}
 use Rattle.filter_tree.proofs.Planting.{has_same}
 use Rattle.filter_tree.proofs.Room.{room_turned}
@@ -10,3 +11,6 @@ invariant_of-self c = record {
   claims = rw c.turn.ensures.rows (has_same (turned_if c.args.id) (same_claim c.args.id) _ _ c.self.invariant.claims);
   enough = c.self.invariant.enough;
 }
+
+pub turn-requires : goal.turn-requires
+turn-requires c = numbered_rising 0 c.self.inside.next c.self.inside.rows.items c.self.invariant.kept.numbered

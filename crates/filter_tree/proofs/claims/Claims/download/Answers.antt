@@ -1,5 +1,6 @@
 use Rattle.std.specs.Option.{option_map}
 use Rattle.filter_tree.specs.Claims.{handled_if}
+use Rattle.filter_tree.proofs.Halving.{numbered_rising}
 use Rattle.filter_tree.proofs.Numbers.{still_claim}
 use Rattle.filter_tree.proofs.Planting.{has_same}
 use Rattle.filter_tree.proofs.Room.{room_handled}
@@ -11,3 +12,6 @@ invariant_of-self c = record {
   claims = rw c.download.ensures.rows (has_same (handled_if c.args.id (option_map (λ handler. handler.now) c.args.handler)) (still_claim c.args.id (option_map (λ handler. handler.now) c.args.handler)) _ _ c.self.invariant.claims);
   enough = c.self.invariant.enough;
 }
+
+pub download-requires : goal.download-requires
+download-requires c = numbered_rising 0 c.self.inside.next c.self.inside.rows.items c.self.invariant.kept.numbered

@@ -1,6 +1,7 @@
 use Rattle.std.proofs.Common.{arith, sym, ◌∙◌}
 use Rattle.filter_tree.specs.ClaimBook.{ClaimBook}
 use Rattle.filter_tree.specs.Claims.{is_for}
+use Rattle.filter_tree.proofs.Halving.{numbered_rising}
 use Rattle.filter_tree.proofs.Counting.{few_prefixes}
 use Rattle.filter_tree.proofs.Planting.{has_prefixes, none_found, one_found}
 use Rattle.filter_tree.proofs.claims.Claims.find.Goals as goal
@@ -31,3 +32,6 @@ returns-clause-steps g c =
 pub returns-clause-prefixes : goal.returns-clause-prefixes
 returns-clause-prefixes g c =
     rw (← c.self.view_is) (omega (arith, c.find.ensures.steps, has_prefixes c.self.inside.tree.leaves c.self.inside.rows.items c.self.invariant.claims))
+
+pub claim_numbered-requires : goal.claim_numbered-requires
+claim_numbered-requires g c = rw c.deref.ensures.value (numbered_rising 0 c.self.inside.next c.self.inside.rows.items c.self.invariant.kept.numbered)
