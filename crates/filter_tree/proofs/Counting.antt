@@ -1,7 +1,7 @@
 -- How many different prefixes there are.
 use Rattle.std.proofs.Common.{◌≡◌, ℕ, ◌+◌, ◌≤◌, ◌⊎◌, Bool, true, false, not, List, [], ◌∷◌, ◌++◌, length, drop, refl, sym, ap, subst, ◌∙◌, arith, inl, inr}
 use Rattle.std.specs.List.{flat_map, list_all, list_any}
-use Rattle.std.specs.Prelude.{◌==◌, ◌&&◌, ◌||◌, filter, map, sum_by, if◌then◌else◌}
+use Rattle.std.specs.Prelude.{◌==◌, ◌&&◌, ◌||◌, filter, map, slice_index_or, sum_by, if◌then◌else◌}
 use Rattle.std.proofs.lemmas.Bool.{and_parts, cases_Bool, eq-eqb, eqb-true}
 use Rattle.std.proofs.lemmas.List.Folds.{list_all-append, list_all-map, list_any-append}
 use Rattle.std.proofs.lemmas.List.Sums.{sum_by-cons}
@@ -364,3 +364,24 @@ length_of (r ∷ rows) =
 
 pub few_prefixes : (book : ClaimBook) → prefixes book ≤ atom_count book
 few_prefixes book = omega (arith, distinct_few (of_claims 0 (map claim_in book.rows)), length_of book.rows)
+
+-- and as many as atoms where there is one claim
+distinct_all : (shapes : List Shape) → distinct (prefixes_of shapes) ≡ length shapes
+distinct_all [] = refl
+distinct_all (s ∷ shapes) =
+    let alone : is_in (s ∷ []) (map (λ prefix. s ∷ prefix) (prefixes_of shapes)) ≡ false = front_in s [] (prefixes_of shapes) ∙ none_empty shapes in
+    rw alone (omega (arith, distinct_front s (prefixes_of shapes), distinct_all shapes))
+
+pub prefixes_alone : (depth : ℕ) (c : ClaimValue) → length (drop depth c.filter) ≤ prefixes_from depth (c ∷ [])
+prefixes_alone depth c =
+    let joined : of_claims depth (c ∷ []) ≡ of_claim depth c = append_none (of_claim depth c) in
+    rw joined (omega (arith, distinct_all (shapes_from depth c), length_map shape_of (drop depth c.filter)))
+  where
+    append_none : {X : Type 0} (xs : List X) → xs ++ [] ≡ xs
+    append_none [] = refl
+    append_none (x ∷ xs) = ap (λ ys. x ∷ ys) (append_none xs)
+
+pub alone_prefixes : (depth : ℕ) (claims : List ClaimValue) (d : ClaimValue) → length claims ≡ 1 → length (drop depth (slice_index_or claims 0 d).filter) ≤ prefixes_from depth claims
+alone_prefixes depth [] d one = absurd (omega (arith, one))
+alone_prefixes depth (c ∷ []) d one = prefixes_alone depth c
+alone_prefixes depth (c ∷ e ∷ claims) d one = absurd (omega (arith, one))

@@ -7,4 +7,5 @@ pub mod Order
 pub mod Planting
 pub mod Reaching
 pub mod Room
+pub mod Rooted
 pub mod Splitting

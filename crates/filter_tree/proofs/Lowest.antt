@@ -1,7 +1,7 @@
 -- The lowest number of the claims that pass a test.
-use Rattle.std.proofs.Common.{◌≡◌, ℕ, suc, ◌<◌, ◌≤◌, Bool, true, false, not, List, [], ◌∷◌, ◌++◌, Option, Some, None, refl, sym, ap, ◌∙◌, arith, inl, inr}
+use Rattle.std.proofs.Common.{◌≡◌, ℕ, suc, ◌<◌, ◌≤◌, Bool, true, false, not, List, [], ◌∷◌, ◌++◌, Option, Some, None, length, refl, sym, ap, ◌∙◌, arith, inl, inr}
 use Rattle.std.specs.List.{list_all}
-use Rattle.std.specs.Prelude.{◌&&◌, nat_le, filter, find, map}
+use Rattle.std.specs.Prelude.{◌&&◌, nat_le, filter, find, map, slice_index_or}
 use Rattle.std.specs.Option.{option_map}
 use Rattle.std.proofs.lemmas.Bool.{and_parts, cases_Bool, cases_lt, le-leb, lt-leb}
 use Rattle.filter_tree.specs.ClaimBook.{ClaimValue, RowValue, are_numbered, claim_in}
@@ -13,7 +13,7 @@ lower_none None = refl
 lower_none (Some a) = refl
 
 -- the lower of two numbers, by cases
-lower_left : (a b : ℕ) → a ≤ b → lower (Some a) (Some b) ≡ Some a
+pub lower_left : (a b : ℕ) → a ≤ b → lower (Some a) (Some b) ≡ Some a
 lower_left a b below = rw (le-leb a b below) refl
 
 lower_right : (a b : ℕ) → b ≤ a → lower (Some a) (Some b) ≡ Some b
@@ -57,8 +57,14 @@ lower_join (Some a) (Some b) (Some c) =
           ]
     ]
 
+-- one claim alone
+pub lowest_alone : (t : ClaimValue → Bool) (claims : List ClaimValue) (c : ClaimValue) → length claims ≡ 1 → c ≡ slice_index_or claims 0 c → number_if t c ≡ lowest t claims
+lowest_alone t [] c one is = absurd (omega (arith, one))
+lowest_alone t (d ∷ []) c one is = ap (number_if t) is ∙ sym (lower_none (number_if t d))
+lowest_alone t (d ∷ e ∷ claims) c one is = absurd (omega (arith, one))
+
 -- the first of two numbers goes behind the second
-lower_turn : (a b c : Option ℕ) → lower a (lower b c) ≡ lower b (lower a c)
+pub lower_turn : (a b c : Option ℕ) → lower a (lower b c) ≡ lower b (lower a c)
 lower_turn a b c = lower_join a b c ∙ ap (λ x. lower x c) (lower_swap a b) ∙ sym (lower_join b a c)
 
 -- among some claims and all others

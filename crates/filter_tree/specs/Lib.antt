@@ -1,3 +1,4 @@
+pub mod Branches
 pub mod ClaimBook
 pub mod Claims
 pub mod Laws

@@ -22,7 +22,7 @@ fn lower(left: Option<u32>, right: Option<u32>) -> Option<u32>
 }
 
 /// How many leaves at the front begin as the first does, with this atom's shape.
-fn branch_length(leaves: &[Leaf], depth: usize, atom: &Atom) -> usize
+pub(crate) fn branch_length(leaves: &[Leaf], depth: usize, atom: &Atom) -> usize
     requires order { AreInOrder depth leaves.now }
     requires first { starts_with depth atom.now leaves.now ≡ true }
     ensures { IsSplit (begins depth atom.now) leaves.now result }
@@ -107,6 +107,9 @@ pub(crate) fn lowest<L: Ledger>(
     ensures answer { result ≡ lowest (matches_from depth packet.now) leaves.now }
     ensures steps { steps.new ≤ steps.old + prefixes_from depth leaves.now }
 {
+    if leaves.len() == 1 {
+        return leaves[0].number_if(depth, packet, steps);
+    }
     let mut found = None;
     let mut start = 0;
     while start < leaves.len() {
@@ -128,7 +131,7 @@ pub(crate) fn lowest<L: Ledger>(
 }
 
 /// The first so many leaves.
-fn front(leaves: &[Leaf], end: usize) -> &[Leaf]
+pub(crate) fn front(leaves: &[Leaf], end: usize) -> &[Leaf]
     requires { end ≤ length leaves.now }
     ensures { result.now ≡ take end leaves.now }
 {
@@ -136,7 +139,7 @@ fn front(leaves: &[Leaf], end: usize) -> &[Leaf]
 }
 
 /// The leaves behind the first so many.
-fn behind(leaves: &[Leaf], start: usize) -> &[Leaf]
+pub(crate) fn behind(leaves: &[Leaf], start: usize) -> &[Leaf]
     requires { start ≤ length leaves.now }
     ensures { result.now ≡ drop start leaves.now }
 {

@@ -1,12 +1,16 @@
 //! The leaves of the tree of claims.
-ghost use Rattle.std.specs.Prelude.{◌≡◌, ◌<◌, ◌+◌, [], ◌∷◌, drop, IfNone, IfSome, true};
+ghost use Rattle.std.specs.Prelude.{◌≡◌, ◌<◌, ◌≤◌, ◌+◌, [], ◌∷◌, drop, length, IfNone, IfSome, true};
+ghost use Rattle.std.specs.List.{list_all};
 ghost use Rattle.filter_core.specs.Filters.{is_atom, most_atoms};
+ghost use Rattle.filter_core.specs.Matching.{matches};
 ghost use Rattle.filter_tree.specs.ClaimBook.{is_of_env};
 ghost use Rattle.filter_tree.specs.Claims.{is_claim, is_into};
-ghost use Rattle.filter_tree.specs.Tree.{begins, has_shape, is_before, numbers, value_at};
+ghost use Rattle.filter_tree.specs.Tree.{begins, has_shape, is_before, matches_from, number_if, numbers, value_at};
 
-use filter_core::{Atom, Filter};
+use crate::steps::Steps;
+use filter_core::{Atom, Filter, Packet};
 use std::marker::Model;
+use std::sync::ledger::Ledger;
 
 /// A claim, as the tree has it.
 #[derive(Drop)]
@@ -64,6 +68,39 @@ impl Leaf {
         self.filter.atoms().get(depth).copied()
     }
 
+    /// Its number, if its atoms from a depth on match a packet. Each field that is read of the packet is a step.
+    #[inline(always)]
+    pub(crate) fn number_if<L: Ledger>(
+        &self,
+        depth: usize,
+        packet: &Packet<'_>,
+        steps: &mut Steps<L>,
+    ) -> Option<u32>
+        ensures answer { result ≡ number_if (matches_from depth packet.now) self.now }
+        ensures steps { steps.new ≤ steps.old + length (drop depth self.now.filter) }
+    {
+        self.law_atoms();
+        if all_match(self.rest(depth), packet, steps) {
+            Some(self.id)
+        } else {
+            None
+        }
+    }
+
+    /// Its atoms from a depth on.
+    fn rest(&self, depth: usize) -> &[Atom]
+        ensures { result.now ≡ drop depth self.now.filter }
+    {
+        self.filter.atoms().get(depth..).unwrap_or(&[])
+    }
+
+    /// Law: its atoms may stand in a filter.
+    fn law_atoms(&self)
+        ensures { list_all is_atom self.now.filter ≡ true }
+    {
+        let _atoms = self.filter.atoms();
+    }
+
     /// Whether its atom at a depth is there and has the shape of this one.
     pub(crate) fn begins(&self, depth: usize, atom: &Atom) -> bool
         ensures { result ≡ begins depth atom.now self.now }
@@ -90,6 +127,22 @@ impl Leaf {
     {
         is_before(self.filter.atoms(), filter.atoms())
     }
+}
+
+/// Whether each of some atoms matches a packet. Each field that is read of the packet is a step.
+#[inline(always)]
+fn all_match<L: Ledger>(atoms: &[Atom], packet: &Packet<'_>, steps: &mut Steps<L>) -> bool
+    requires { list_all is_atom atoms.now ≡ true }
+    ensures answer { result ≡ matches atoms.now packet.now }
+    ensures steps { steps.new ≤ steps.old + length atoms.now }
+{
+    for atom in atoms {
+        steps.tick();
+        if !atom.matches(packet) {
+            return false;
+        }
+    }
+    true
 }
 
 /// Whether two atoms have the same shape.

@@ -5,6 +5,7 @@
 //! environment (`docs/FORMATS.md`, "Packet filters").
 #![tactic(auto)]
 
+mod branch;
 mod branching;
 mod claim;
 mod claims;

@@ -5,7 +5,7 @@ ghost use Rattle.filter_tree.specs.Claims.{is_claim, is_for, is_into};
 ghost use Rattle.filter_tree.specs.Prefixes.{prefixes_from};
 ghost use Rattle.filter_tree.specs.Tree.{lowest, place_of, planted};
 
-use crate::branching::lowest;
+use crate::branch::{Branch, lowest_of, make_branches};
 use crate::leaf::Leaf;
 use crate::steps::Steps;
 use aegis_limits::OutOfMemory;
@@ -16,21 +16,23 @@ use std::sync::ledger::Ledger;
 
 /// The claims as one tree. A node of the tree is a row of neighbours whose filters begin alike: under it they part by the
 /// shape of their next atom, and then by its value. So the field of a shape is read once for all of them, and the claims
-/// that ask for what it holds are found by halving.
+/// that ask for what it holds are found by halving. The branches of the root are kept besides, by the lowest claim of each.
 #[derive(Drop)]
 pub(crate) struct Tree {
     leaves: Vec<Leaf>,
+    branches: Vec<Branch>,
 }
 
 impl Model for Tree {
-    ghost use Rattle.std.specs.Prelude.{vec_capacity};
-    ghost use Rattle.filter_tree.specs.Tree.{AreInOrder, TreeValue};
+    ghost use Rattle.std.specs.Prelude.{min, vec_capacity};
+    ghost use Rattle.filter_tree.specs.Branches.{IsTree};
+    ghost use Rattle.filter_tree.specs.Tree.{TreeValue};
 
     ghost Value = { TreeValue };
 
-    ghost view = { λ tree. record { leaves = tree.leaves.items; room = vec_capacity tree.leaves } };
+    ghost view = { λ tree. record { leaves = tree.leaves.items; room = min (vec_capacity tree.leaves) (vec_capacity tree.branches) } };
 
-    ghost invariant = { λ tree. AreInOrder 0 tree.leaves.items };
+    ghost invariant = { λ tree. IsTree tree.leaves.items tree.branches.items (vec_capacity tree.branches) };
 }
 
 /// Behind how many leaves a filter has its place.
@@ -52,7 +54,8 @@ impl Tree {
         ensures room { IfOk result (λ tree. room ≤ tree.room) }
     {
         let leaves = Vec::with_capacity(alloc, room)?;
-        Ok(Tree { leaves })
+        let branches = Vec::with_capacity(alloc, room)?;
+        Ok(Tree { leaves, branches })
     }
 
     /// Puts a claim in its place. There is room for it.
@@ -63,6 +66,7 @@ impl Tree {
     {
         let place = place_of(&self.leaves, &leaf.filter);
         self.leaves.insert(place, leaf).unwrap();
+        make_branches(&self.leaves, &mut self.branches);
     }
 
     /// The lowest claim whose filter matches a packet. Each field that is read of the packet is a step.
@@ -70,30 +74,33 @@ impl Tree {
         ensures answer { result ≡ lowest (is_for packet.now) self.now.leaves }
         ensures steps { steps.new ≤ steps.old + prefixes_from 0 self.now.leaves }
     {
-        lowest(&self.leaves, 0, packet, steps)
+        lowest_of(&self.leaves, &self.branches, packet, steps)
     }
 
     /// Takes the environment's claim of this number away.
     pub(crate) fn withdraw(&mut self, env: u8, id: u32)
         ensures leaves { self.new.leaves ≡ filter (λ c. not (is_claim env id c)) self.old.leaves }
-        ensures room { self.new.room ≡ self.old.room }
+        ensures room { self.old.room ≤ self.new.room }
     {
         self.leaves.retain(|leaf| !leaf.is_claim(env, id));
+        make_branches(&self.leaves, &mut self.branches);
     }
 
     /// Takes the claims away whose packets go into a page.
     pub(crate) fn withdraw_into(&mut self, page: u32)
         ensures leaves { self.new.leaves ≡ filter (λ c. not (is_into page c)) self.old.leaves }
-        ensures room { self.new.room ≡ self.old.room }
+        ensures room { self.old.room ≤ self.new.room }
     {
         self.leaves.retain(|leaf| !leaf.is_into(page));
+        make_branches(&self.leaves, &mut self.branches);
     }
 
     /// Takes the claims of an environment away.
     pub(crate) fn withdraw_of(&mut self, env: u8)
         ensures leaves { self.new.leaves ≡ filter (λ c. not (is_of_env env c)) self.old.leaves }
-        ensures room { self.new.room ≡ self.old.room }
+        ensures room { self.old.room ≤ self.new.room }
     {
         self.leaves.retain(|leaf| !leaf.is_of_env(env));
+        make_branches(&self.leaves, &mut self.branches);
     }
 }

@@ -1,10 +1,20 @@
-use Rattle.std.proofs.Common.{arith, ◌∙◌, ◌≡◌, ap, true, filter, drop, length-drop}
+use Rattle.std.proofs.Common.{arith, ◌∙◌, ◌≡◌, ap, true, filter, drop, length, length-drop}
 use Rattle.std.proofs.lemmas.List.Kept.{AllPairs-filter}
+use Rattle.filter_tree.specs.ClaimBook.{ClaimValue}
 use Rattle.filter_tree.specs.Prefixes.{prefixes_from}
 use Rattle.filter_tree.specs.Tree.{begins, comes_before, lowest, matches_from}
-use Rattle.filter_tree.proofs.Counting.{prefixes_apart}
+use Rattle.filter_tree.proofs.Counting.{alone_prefixes, prefixes_apart}
 use Rattle.filter_tree.proofs.Reaching.{behind_is, branch_is, join_step, starts}
 use Rattle.filter_tree.proofs.branching.+lowest.Goals as goal
+
+pub returns-then-leaves-eq1-clause-steps : goal.returns-then-leaves-eq1-clause-steps
+returns-then-leaves-eq1-clause-steps g t c =
+    omega (arith, c.number_if.ensures.steps, ap (λ (x : ClaimValue). length (drop c.args.depth x.filter)) c.index-leaves-0.is, alone_prefixes c.args.depth c.args.leaves.now c.index-leaves-0.result c.if-leaves-eq1.true)
+
+pub reached-branch-requires-clause-order : goal.reached-branch-requires-clause-order
+reached-branch-requires-clause-order g t c =
+    rw (c.front.ensures, c.branch_length-end.ensures.front, c.behind-rest.ensures)
+    (AllPairs-filter (λ x y. comes_before c.args.depth x y ≡ true) (begins c.args.depth c.in-Some.atom) _ c.loop-start.invariant.order)
 
 pub reached-branch-requires-clause-branch : goal.reached-branch-requires-clause-branch
 reached-branch-requires-clause-branch g t c =

@@ -1,3 +1,4 @@
+use Rattle.std.proofs.Common.{arith}
 use Rattle.filter_tree.specs.Claims.{is_claim}
 use Rattle.filter_tree.proofs.Planting.{has_without}
 use Rattle.filter_tree.proofs.Room.{room_without}
@@ -7,5 +8,5 @@ pub invariant_of-self : goal.invariant_of-self
 invariant_of-self c = record {
   kept = rw (c.withdraw.ensures.rows, c.withdraw.ensures.room) (room_without (is_claim c.args.env c.args.id) _ _ c.self.invariant.kept);
   claims = rw (c.withdraw.ensures.rows, c.withdraw-2.ensures.leaves) (has_without (is_claim c.args.env c.args.id) _ _ c.self.invariant.claims);
-  enough = rw c.withdraw-2.ensures.room c.self.invariant.enough;
+  enough = omega (arith, c.withdraw-2.ensures.room, c.self.invariant.enough);
 }

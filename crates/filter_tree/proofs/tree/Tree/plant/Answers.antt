@@ -10,12 +10,25 @@ insert-requires c = omega (arith, c.place_of-place.ensures, place_within c.leaf.
 pub unwrap-requires : goal.unwrap-requires
 unwrap-requires c = let below = rw (← c.self.view_is) at c.requires in c.insert.ensures.succeeds (omega (arith, c.self.inside.leaves.ok.0, below))
 
+pub make_branches-requires-clause-order : goal.make_branches-requires-clause-order
+make_branches-requires-clause-order c =
+    let items = rw c.unwrap.ensures at c.insert.ensures.items in
+    let place = c.place_of-place.ensures ∙ ap (place_of c.leaf.inside.filter) c.deref.ensures.value ∙ ap (λ (x : ClaimValue). place_of x.filter c.self.inside.leaves.items) c.leaf.view_is in
+    let all = items ∙ ap (λ n. insert c.self.inside.leaves.items n c.args.leaf) place ∙ planted_is c.args.leaf c.self.inside.leaves.items in
+    subst (AreInOrder 0) (sym (c.deref-2.ensures.value ∙ all)) (planted_order c.args.leaf c.self.inside.leaves.items c.self.invariant.order)
+
 pub invariant_of-self : goal.invariant_of-self
 invariant_of-self c =
     let items = rw c.unwrap.ensures at c.insert.ensures.items in
     let place = c.place_of-place.ensures ∙ ap (place_of c.leaf.inside.filter) c.deref.ensures.value ∙ ap (λ (x : ClaimValue). place_of x.filter c.self.inside.leaves.items) c.leaf.view_is in
     let all = items ∙ ap (λ n. insert c.self.inside.leaves.items n c.args.leaf) place ∙ planted_is c.args.leaf c.self.inside.leaves.items in
-    subst (AreInOrder 0) (sym all) (planted_order c.args.leaf c.self.inside.leaves.items c.self.invariant)
+    let below = rw (← c.self.view_is) at c.requires in
+    let len = rw c.unwrap.ensures at c.insert.ensures.len in
+    record {
+      order = subst (AreInOrder 0) (sym all) (planted_order c.args.leaf c.self.inside.leaves.items c.self.invariant.order);
+      branched = rw c.deref-2.ensures.value at c.make_branches.ensures.branches;
+      enough = omega (arith, c.insert.new.self.ok.0, len, c.self.inside.leaves.ok.0, below, c.make_branches.ensures.room);
+    }
 
 pub returns-clause-leaves : goal.returns-clause-leaves
 returns-clause-leaves c =
