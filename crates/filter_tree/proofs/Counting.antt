@@ -12,7 +12,7 @@ use Rattle.filter_tree.specs.Prefixes.{Shape, distinct, prefixes, prefixes_from,
 use Rattle.filter_tree.specs.Tree.{begins, begins_with, is_branch, starts_with, value_at}
 use Rattle.filter_tree.proofs.Atoms.{drop_one}
 
-or_cases : (a b : Bool) → (a || b) ≡ true → (a ≡ true) ⊎ (b ≡ true)
+pub or_cases : (a b : Bool) → (a || b) ≡ true → (a ≡ true) ⊎ (b ≡ true)
 or_cases true b is = inl refl
 or_cases false b is = inr is
 
@@ -330,7 +330,7 @@ pub in_joined : (p : List Shape) (some more : List (List Shape)) → is_in p (so
 in_joined p some more = list_any-append (same_shapes p) some more
 
 -- there are no more prefixes than atoms
-distinct_few : (lists : List (List Shape)) → distinct lists ≤ length lists
+pub distinct_few : (lists : List (List Shape)) → distinct lists ≤ length lists
 distinct_few [] = omega arith
 distinct_few (p ∷ lists) =
     elim (cases_Bool (is_in p lists)) [
@@ -342,7 +342,7 @@ length_map : {X Y : Type 0} (f : X → Y) (xs : List X) → length (map f xs) �
 length_map f [] = refl
 length_map f (x ∷ xs) = omega (arith, length_map f xs)
 
-length_prefixes : (shapes : List Shape) → length (prefixes_of shapes) ≡ length shapes
+pub length_prefixes : (shapes : List Shape) → length (prefixes_of shapes) ≡ length shapes
 length_prefixes [] = refl
 length_prefixes (s ∷ shapes) = omega (arith, length_map (λ prefix. s ∷ prefix) (prefixes_of shapes), length_prefixes shapes)
 

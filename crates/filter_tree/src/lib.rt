@@ -19,6 +19,6 @@ mod withdrawal;
 
 pub use claim::{Claim, ClaimNo};
 pub use claims::Claims;
-pub use laws::law_numbered;
+pub use laws::{law_alike, law_numbered};
 pub use search::MOST_CLAIMS;
 pub use steps::Steps;
