@@ -2,7 +2,7 @@
 use Rattle.std.proofs.Common.{◌≡◌, ℕ, zero, suc, ◌+◌, ◌*◌, ◌<◌, ◌≤◌, Bool, true, false, cond, not, List, [], ◌∷◌, ◌++◌, length, Option, Some, None, refl, sym, ap, subst, ◌∙◌, arith, inl, inr}
 use Rattle.std.proofs.lemmas.Bool.{cases_Bool, cases_eq, cases_lt, eq-eqb, le-leb, ne_eqb}
 use Rattle.std.proofs.lemmas.List.Sums.{sum_by-cons, sum_by_push}
-use Rattle.std.specs.List.{AllByRecursion}
+use Rattle.std.specs.List.{AllByRecursion, list_any}
 use Rattle.std.specs.Prelude.{filter, find, map, count_by, nat_le, if◌then◌else◌}
 use Rattle.std.specs.Option.{option_map}
 use Rattle.filter_core.specs.declared.atom.Atom.{Atom}
@@ -191,3 +191,15 @@ refused_by_rows e atoms rows =
     ap (λ (n : ℕ). if nat_le most_claims n then Some Full else option_map (λ (c : ClaimValue). Overlap c.id) (find (is_in_the_way e atoms) (map claim_in rows))) (counted_in_rows (is_of_env e) rows)
     ∙ ap (λ (o : Option ClaimNo). if nat_le most_claims (count_by (λ (r : RowValue). is_of_env e r.claim) rows) then Some Full else o)
     (ap (option_map (λ (c : ClaimValue). Overlap c.id)) (found_in_rows (is_in_the_way e atoms) rows) ∙ number_of (λ (c : ClaimValue). Overlap c.id) (find (λ (r : RowValue). is_in_the_way e atoms r.claim) rows))
+
+-- where none of some claims goes, all stay
+pub none_goes : {X : Type 0} (p : X → Bool) (xs : List X) → list_any p xs ≡ false → filter (λ x. not (p x)) xs ≡ xs
+none_goes p [] none = refl
+none_goes p (x ∷ xs) none =
+    elim (cases_Bool (p x)) [
+      | inl is ↦ cc (rw is at none)
+      | inr other ↦ rw other (ap (λ ys. x ∷ ys) (none_goes p xs (rw other at none)))
+    ]
+
+pub same_without : (gone : ClaimValue → Bool) (book : ClaimBook) → list_any (λ (r : RowValue). gone r.claim) book.rows ≡ false → book ≡ without gone book
+same_without gone book none = ap (λ (rows : List RowValue). record book { rows = rows }) (sym (none_goes (λ (r : RowValue). gone r.claim) book.rows none))

@@ -8,7 +8,7 @@ ghost use Rattle.filter_tree.specs.Claims.{atom_count, claim_answer, claim_for, 
 use crate::claim::{Claim, ClaimNo};
 use crate::leaf::Leaf;
 use crate::row::Row;
-use crate::search::{MOST_CLAIMS, claim_handler, claim_held, claim_numbered, refusal};
+use crate::search::{MOST_CLAIMS, claim_handler, claim_held, claim_numbered, has_into, refusal};
 use crate::steps::Steps;
 use crate::tree::Tree;
 use crate::withdrawal::{download, turn, withdraw, withdraw_into, withdraw_of};
@@ -187,6 +187,9 @@ impl Claims {
     pub fn drop_page(&mut self, page: u32)
         ensures { self.new ≡ without (is_into page) self.old }
     {
+        if !has_into(&self.rows, page) {
+            return;
+        }
         withdraw_into(&mut self.rows, page);
         self.tree.withdraw_into(page);
     }

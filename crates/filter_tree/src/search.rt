@@ -1,8 +1,9 @@
 //! Searches through the claims: for one of a number by halving, and else through all.
 ghost use Rattle.std.specs.Prelude.{◌≡◌, ◌<◌, IfNone, IfSome, None, Some, count_by, find, length, slice_index_or};
+ghost use Rattle.std.specs.List.{list_any};
 ghost use Rattle.std.specs.Option.{option_flatten, option_map};
 ghost use Rattle.filter_tree.specs.ClaimBook.{AreRising, RowValue, is_of_env};
-ghost use Rattle.filter_tree.specs.Claims.{claim_seen, is_claim, is_in_the_way, is_numbered, row_refusal};
+ghost use Rattle.filter_tree.specs.Claims.{claim_seen, is_claim, is_in_the_way, is_into, is_numbered, row_refusal};
 
 use crate::claim::{Claim, ClaimNo};
 use crate::row::Row;
@@ -17,6 +18,13 @@ fn count_of_env(rows: &[Row], env: u8) -> usize
     ensures { result ≡ count_by (λ (r : RowValue). is_of_env env r.claim) rows.now }
 {
     rows.iter().filter(|row| row.is_of_env(env)).count()
+}
+
+/// Whether the packets of some claim go into the page.
+pub(crate) fn has_into(rows: &[Row], page: u32) -> bool
+    ensures { result ≡ list_any (λ (r : RowValue). is_into page r.claim) rows.now }
+{
+    rows.iter().any(|row| row.is_into(page))
 }
 
 /// The lowest claim of another environment whose filter overlaps this one.
