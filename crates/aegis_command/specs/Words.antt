@@ -7,7 +7,7 @@ use Rattle.command_work.specs.Command.{CommandValue, of_one_name}
 use Rattle.command_work.specs.ListElf.{list_elf}
 use Rattle.command_work.specs.MakeImage.{make_image}
 use Rattle.aegis_command.specs.declared.words.Words.{Words}
-use Rattle.aegis_command.specs.declared.words.Words.TheVariants.{Run, Assemble, List as ListFile, Image, Load}
+use Rattle.aegis_command.specs.declared.words.Words.TheVariants.{RunImage, Asm, ListElf, MakeImage, LoadSeed}
 use Rattle.aegis_command.specs.LoadSeed.{load_seed, load_words}
 use Rattle.aegis_command.specs.RunImage.{run_image, run_words}
 
@@ -27,8 +27,8 @@ asked_by words = command_of (map string_bytes words)
 
 -- the command of the words that were taken apart
 abbrev pub command_seen : Words → CommandValue
-command_seen (Run c) = run_image c.image.now c.schedule.now c.ticks.number
-command_seen (Assemble c) = asm c.source.now
-command_seen (ListFile c) = list_elf c.elf.now
-command_seen (Image c) = make_image c.manifest.now
-command_seen (Load c) = load_seed c.seed
+command_seen (RunImage c) = run_image c.image.now c.schedule.now c.ticks.number
+command_seen (Asm c) = asm c.source.now
+command_seen (ListElf c) = list_elf c.elf.now
+command_seen (MakeImage c) = make_image c.manifest.now
+command_seen (LoadSeed c) = load_seed c.seed

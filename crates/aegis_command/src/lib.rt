@@ -5,8 +5,8 @@
 //! is, and how a call ends, is defined in `command_work`, on which this stands; `Words` here has the table of commands.
 #![tactic(auto)]
 
-mod loading;
-mod running;
+mod load_seed;
+mod run_image;
 mod ticks;
 mod top;
 mod words;

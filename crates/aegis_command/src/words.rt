@@ -7,8 +7,8 @@ ghost use Rattle.command_work.specs.Files.{IsServed};
 ghost use Rattle.command_work.specs.Work.{Performed, Stopped, StopsByWantAlone};
 ghost use Rattle.aegis_command.specs.Words.{asked_by, command_seen};
 
-use crate::loading::LoadSeed;
-use crate::running::RunImage;
+use crate::load_seed::LoadSeed;
+use crate::run_image::RunImage;
 use command_work::{Answer, Asm, ListElf, MakeImage, Stop, perform};
 use edge_io::Shelf;
 use std::alloc::Global;
@@ -17,15 +17,15 @@ use std::alloc::Global;
 #[derive(Clone, Copy)]
 pub enum Words<'a> {
     /// `run IMAGE SCHEDULE TICKS`.
-    Run(RunImage<'a>),
+    RunImage(RunImage<'a>),
     /// `asm SOURCE`.
-    Assemble(Asm<'a>),
+    Asm(Asm<'a>),
     /// `list ELF`.
-    List(ListElf<'a>),
+    ListElf(ListElf<'a>),
     /// `image MANIFEST`.
-    Image(MakeImage<'a>),
+    MakeImage(MakeImage<'a>),
     /// `load SEED`.
-    Load(LoadSeed),
+    LoadSeed(LoadSeed),
 }
 
 /// The one word that there is.
@@ -47,22 +47,22 @@ pub fn parse(words: &[String]) -> Option<Words<'_>>
     };
     let word = word.as_str();
     if word == "run" {
-        return Some(Words::Run(RunImage::parse(rest)?));
+        return Some(Words::RunImage(RunImage::parse(rest)?));
     }
     if word == "asm" {
         let source = only_name(rest)?;
-        return Some(Words::Assemble(Asm { source }));
+        return Some(Words::Asm(Asm { source }));
     }
     if word == "list" {
         let elf = only_name(rest)?;
-        return Some(Words::List(ListElf { elf }));
+        return Some(Words::ListElf(ListElf { elf }));
     }
     if word == "image" {
         let manifest = only_name(rest)?;
-        return Some(Words::Image(MakeImage { manifest }));
+        return Some(Words::MakeImage(MakeImage { manifest }));
     }
     if word == "load" {
-        return Some(Words::Load(LoadSeed::parse(rest)?));
+        return Some(Words::LoadSeed(LoadSeed::parse(rest)?));
     }
     None
 }
@@ -78,10 +78,10 @@ pub fn perform_words<S: Shelf>(
     ensures sure { IsServed (names_of (command_seen words.entry)) (shelf_edge S.Shelf shelf.old shelf.new) → StopsByWantAlone result }
 {
     match words {
-        Words::Run(command) => perform(alloc, &command, shelf),
-        Words::Assemble(command) => perform(alloc, &command, shelf),
-        Words::List(command) => perform(alloc, &command, shelf),
-        Words::Image(command) => perform(alloc, &command, shelf),
-        Words::Load(command) => perform(alloc, &command, shelf),
+        Words::RunImage(command) => perform(alloc, &command, shelf),
+        Words::Asm(command) => perform(alloc, &command, shelf),
+        Words::ListElf(command) => perform(alloc, &command, shelf),
+        Words::MakeImage(command) => perform(alloc, &command, shelf),
+        Words::LoadSeed(command) => perform(alloc, &command, shelf),
     }
 }

@@ -5,21 +5,21 @@
 //! for every command and every shelf.
 #![tactic(auto)]
 
-mod assembling;
+mod asm;
 mod contents;
-mod imaging;
 mod laws;
-mod listing;
+mod list_elf;
+mod make_image;
 mod performing;
 mod reading;
 mod status;
 mod work;
 
-pub use assembling::Asm;
+pub use asm::Asm;
 pub use contents::{behind_first, content};
-pub use imaging::MakeImage;
 pub use laws::whole_files_are_due;
-pub use listing::ListElf;
+pub use list_elf::ListElf;
+pub use make_image::MakeImage;
 pub use performing::{Command, perform};
 pub use status::Status;
 pub use work::{Answer, Stop};

@@ -7,7 +7,7 @@ use Rattle.run_report.specs.Report.{report_text}
 use Rattle.board_world.specs.Showing.{world_of}
 use Rattle.aegis_command.specs.RunImage.{report_after}
 use Rattle.aegis_command.proofs.Texts.{same_text}
-use Rattle.aegis_command.proofs.running.report_after.Goals as goal
+use Rattle.aegis_command.proofs.run_image.report_after.Goals as goal
 
 pub returns : goal.returns
 unfolding report_after
