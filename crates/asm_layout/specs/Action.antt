@@ -1,5 +1,5 @@
 -- What a statement asks for.
-use Rattle.std.specs.Prelude.{ℕ, List, [], ◌∷◌, ◌++◌, Option, Result, Ok, Err, map, replicate, codes}
+use Rattle.std.specs.Prelude.{ℕ, List, [], ◌∷◌, ◌++◌, Option, Result, Ok, Err, map, replicate, length, ◌==◌, if◌then◌else◌, codes}
 use Rattle.std.specs.Map.{lookup}
 use Rattle.std.specs.Option.{ok_or}
 use Rattle.std.specs.Str.{bytes_eq}
@@ -95,28 +95,34 @@ text_in ending operands = do
   bs ← quoted_in operands
   Ok (Put (Given (bs ++ ending)))
 
--- a number without openings
-abbrev pub number_alone : List ℕ → InnerValue → Result ℕ AsmWhy
-number_alone [] (Number n) = Ok n
-number_alone _ _ = Err Syntax
+-- what stands inside an expression of which no half is taken
+abbrev pub inside : ExpressionValue → Result InnerValue AsmWhy
+inside e = if length e.halves == 0 then Ok e.inner else Err Syntax
+
+abbrev pub number_form : InnerValue → Result ℕ AsmWhy
+number_form (Number n) = Ok n
+number_form _ = Err Syntax
+
+abbrev pub name_form : InnerValue → Result (List ℕ) AsmWhy
+name_form (Name name) = Ok name
+name_form _ = Err Syntax
 
 -- an expression that is written as a number
 abbrev pub written_number : ExpressionValue → Result ℕ AsmWhy
-written_number e = number_alone e.openings e.inner
+written_number e = do
+  inner ← inside e
+  number_form inner
+
+-- an expression that is written as a name
+abbrev pub written_name : ExpressionValue → Result (List ℕ) AsmWhy
+written_name e = do
+  inner ← inside e
+  name_form inner
 
 abbrev pub number_in : List OperandValue → Result ℕ AsmWhy
 number_in operands = do
   e ← value_in operands
   written_number e
-
--- a name without openings
-abbrev pub name_alone : List ℕ → InnerValue → Result (List ℕ) AsmWhy
-name_alone [] (Name name) = Ok name
-name_alone _ _ = Err Syntax
-
--- an expression that is written as a name
-abbrev pub written_name : ExpressionValue → Result (List ℕ) AsmWhy
-written_name e = name_alone e.openings e.inner
 
 -- a name and an expression
 abbrev pub definition_in : List OperandValue → Result (List ℕ × ExpressionValue) AsmWhy

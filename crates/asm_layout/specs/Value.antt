@@ -1,9 +1,9 @@
 -- Values of names and of expressions. A value is a number modulo 2 ^ 32.
-use Rattle.std.specs.Prelude.{ℕ, ◌+◌, ◌/◌, ◌%◌, ◌^◌, List, [], ◌∷◌, Option, Some, Result, ◌==◌, if◌then◌else◌}
+use Rattle.std.specs.Prelude.{ℕ, ◌+◌, ◌%◌, ◌^◌, List, Option, Some, Result}
 use Rattle.std.specs.Map.{lookup}
 use Rattle.std.specs.Option.{ok_or, option_map}
-use Rattle.std.specs.Str.{byte, bytes_eq}
-use Rattle.asm_parse.specs.Expression.{ExpressionValue, InnerValue, Number, Name, Sum}
+use Rattle.std.specs.Str.{bytes_eq}
+use Rattle.asm_parse.specs.Expression.{ExpressionValue, InnerValue, Number, Name, Sum, halves_of}
 use Rattle.asm_parse.specs.declared.fault.AsmWhy.{AsmWhy}
 use Rattle.asm_parse.specs.declared.fault.AsmWhy.TheVariants.{Undefined}
 
@@ -20,18 +20,9 @@ value_of_inner names (Number n) = Some n
 value_of_inner names (Name name) = value_of_name name names
 value_of_inner names (Sum name n) = option_map (λ v. (v + n) % 2 ^ 32) (value_of_name name names)
 
--- the half that an opening takes: `hi(` bits 31:16 and `lo(` bits 15:0, as its first letter says
-abbrev pub half_of : ℕ → ℕ → ℕ
-half_of b v = if b == byte "h" then v / 2 ^ 16 else if b == byte "l" then v % 2 ^ 16 else v
-
--- a value inside openings, the outermost of which comes first
-abbrev pub halves_of : List ℕ → ℕ → ℕ
-halves_of [] v = v
-halves_of (b ∷ bs) v = half_of b (halves_of bs v)
-
 -- the value of an expression, where its name has one
 unfoldable pub value_of : Names → ExpressionValue → Option ℕ
-value_of names e = option_map (halves_of e.openings) (value_of_inner names e.inner)
+value_of names e = option_map (halves_of e.halves) (value_of_inner names e.inner)
 
 -- the value of an expression whose name has one
 abbrev pub defined : Names → ExpressionValue → Result ℕ AsmWhy

@@ -1,7 +1,7 @@
 //! What statements ask for.
 ghost use Rattle.std.specs.Prelude.{◌≡◌, map};
 ghost use Rattle.asm_parse.specs.Seen.{arg_seen, expression_seen};
-ghost use Rattle.asm_layout.specs.Action.{Put, action_of, definition_in, directed, number_in, quoted_in, text_in, values_in};
+ghost use Rattle.asm_layout.specs.Action.{Put, action_of, definition_in, directed, number_in, quoted_in, text_in, values_in, written_name};
 ghost use Rattle.asm_layout.specs.Content.{Instruction};
 ghost use Rattle.asm_parse.specs.declared.syntax.AsmBody.TheVariants.{Op};
 ghost use Rattle.asm_layout.specs.declared.directive.Directive.TheVariants.{Enter, Numbers};
@@ -167,11 +167,21 @@ fn number(operands: &[Arg<'_>]) -> Result<u32, Failure<AsmWhy>>
     match &a.operand {
         Operand::Value(
             Expression {
-                openings: [],
+                openings,
                 inner: Inner::Number(number),
             },
-        ) => Ok(*number),
+        ) if openings.is_empty() => Ok(*number),
         _ => Err(Failure::Fault(AsmWhy::Syntax)),
+    }
+}
+
+/// The name that an expression is written as.
+fn written_name<'a>(expression: &Expression<'a>) -> Result<&'a [u8], AsmWhy>
+    ensures { ok_seen (λ name. name.now) result ≡ written_name (expression_seen expression.now) }
+{
+    match expression.inner {
+        Inner::Name(name) if expression.openings.is_empty() => Ok(name),
+        _ => Err(AsmWhy::Syntax),
     }
 }
 
@@ -183,15 +193,7 @@ fn definition<'a>(operands: &[Arg<'a>]) -> Result<(&'a [u8], Expression<'a>), As
         return Err(AsmWhy::Syntax);
     };
     match (&a.operand, &b.operand) {
-        (
-            Operand::Value(
-                Expression {
-                    openings: [],
-                    inner: Inner::Name(name),
-                },
-            ),
-            Operand::Value(value),
-        ) => Ok((*name, *value)),
+        (Operand::Value(name), Operand::Value(value)) => Ok((written_name(name)?, *value)),
         _ => Err(AsmWhy::Syntax),
     }
 }

@@ -1,37 +1,34 @@
 -- A half of an expression is an expression.
-use Rattle.std.proofs.Common.{◌≡◌, ℕ, suc, ◌+◌, ◌-◌, ◌/◌, ◌<◌, ◌≤◌, List, [], ◌∷◌, ◌++◌, Bool, true, false, Option, Some, None, length, drop, refl, ap, arith, length-append, inl, inr}
+use Rattle.std.proofs.Common.{◌≡◌, ℕ, suc, ◌+◌, ◌-◌, ◌*◌, ◌<◌, ◌≤◌, List, [], ◌∷◌, ◌++◌, Bool, true, false, Option, Some, None, length, drop, refl, ap, arith, length-append, inl, inr}
 use Rattle.std.proofs.Math.Bool.{and-false}
 use Rattle.std.proofs.lemmas.Bool.{cases_lt, le-leb, lt-leb}
 use Rattle.std.proofs.lemmas.List.{drop-append-le, take-append-le}
 use Rattle.std.specs.Prelude.{◌==◌, ◌&&◌, codes}
 use Rattle.std.specs.List.{list_all}
 use Rattle.std.specs.Option.{option_map, option_and_then}
-use Rattle.asm_parse.specs.Expression.{ExpressionValue, InnerValue, begins_opening, openings_of, without_closings, inner_of, expression_of, enclosed}
+use Rattle.asm_parse.specs.Expression.{ExpressionValue, InnerValue, half_opened, half_before, halves_opened, without_closings, inner_of, expression_of, taken}
+use Rattle.asm_parse.specs.declared.openings.Half.{Half}
+use Rattle.asm_parse.specs.declared.openings.Half.TheVariants.{High, Low}
 
-not_opening : (a b : ℕ) → begins_opening (a ∷ b ∷ 41 ∷ []) ≡ false
+not_opening : (a b : ℕ) → half_opened (a ∷ b ∷ 41 ∷ []) ≡ None
 not_opening a b = simp and-false
 
 -- a closing bracket behind bytes makes no opening
-openings_closed : (bs : List ℕ) → openings_of (bs ++ 41 ∷ []) ≡ openings_of bs
-openings_closed [] = refl
-openings_closed (a ∷ []) = refl
-openings_closed (a ∷ b ∷ []) = rw (not_opening a b) refl
-openings_closed (a ∷ b ∷ c ∷ bs) = by_opening (openings_closed bs) (begins_opening (a ∷ b ∷ c ∷ [])) refl
-  where
-    by_opening : openings_of (bs ++ 41 ∷ []) ≡ openings_of bs → (v : Bool) → begins_opening (a ∷ b ∷ c ∷ []) ≡ v →
-        openings_of ((a ∷ b ∷ c ∷ bs) ++ 41 ∷ []) ≡ openings_of (a ∷ b ∷ c ∷ bs)
-    by_opening after true is = rw (is, after) refl
-    by_opening after false is = rw is refl
+opened_closed : (bs : List ℕ) → halves_opened (bs ++ 41 ∷ []) ≡ halves_opened bs
+opened_closed [] = refl
+opened_closed (a ∷ []) = refl
+opened_closed (a ∷ b ∷ []) = rw (not_opening a b) refl
+opened_closed (a ∷ b ∷ c ∷ bs) = ap (half_before (half_opened (a ∷ b ∷ c ∷ []))) (opened_closed bs)
 
-openings_short : (bs : List ℕ) → length (openings_of bs) ≤ length bs
-openings_short [] = omega arith
-openings_short (a ∷ []) = omega arith
-openings_short (a ∷ b ∷ []) = omega arith
-openings_short (a ∷ b ∷ c ∷ bs) = by_opening (openings_short bs) (begins_opening (a ∷ b ∷ c ∷ [])) refl
-  where
-    by_opening : length (openings_of bs) ≤ length bs → (v : Bool) → begins_opening (a ∷ b ∷ c ∷ []) ≡ v → length (openings_of (a ∷ b ∷ c ∷ bs)) ≤ length (a ∷ b ∷ c ∷ bs)
-    by_opening after true is = rw is (omega (arith, after))
-    by_opening after false is = rw is (omega arith)
+opened_more : (first : Option Half) (halves : List Half) (n : ℕ) → 3 * length halves ≤ n → 3 * length (half_before first halves) ≤ n + 3
+opened_more None halves n short = omega arith
+opened_more (Some half) halves n short = omega (arith, short)
+
+opened_short : (bs : List ℕ) → 3 * length (halves_opened bs) ≤ length bs
+opened_short [] = omega arith
+opened_short (a ∷ []) = omega arith
+opened_short (a ∷ b ∷ []) = omega arith
+opened_short (a ∷ b ∷ c ∷ bs) = omega (arith, opened_more (half_opened (a ∷ b ∷ c ∷ [])) (halves_opened bs) (length bs) (opened_short bs))
 
 abbrev is_closing : ℕ → Bool
 is_closing b = b == 41
@@ -65,33 +62,33 @@ enough depth bs some =
 closings_more : (depth : ℕ) (bs : List ℕ) → without_closings (depth + 1) (bs ++ 41 ∷ []) ≡ without_closings depth bs
 closings_more depth bs = elim (cases_lt (length bs) depth) [ inl few ↦ too_few depth bs few | inr some ↦ enough depth bs some ]
 
-abbrev expression_at : List ℕ → InnerValue → ExpressionValue
-expression_at openings inner = record { openings = openings; inner = inner }
+abbrev expression_at : List Half → InnerValue → ExpressionValue
+expression_at halves inner = record { halves = halves; inner = inner }
 
--- the same inside, behind other openings
-behind_openings : (opening openings : List ℕ) (inside : Option (List ℕ)) →
-    option_and_then (λ i. option_map (λ inner. expression_at (opening ++ openings) inner) (inner_of i)) inside
-    ≡ enclosed opening (option_and_then (λ i. option_map (λ inner. expression_at openings inner) (inner_of i)) inside)
-behind_openings opening openings None = refl
-behind_openings opening openings (Some i) = by_inner (inner_of i)
+-- the same inside, of which one more half is taken
+inside_taken : (half : Half) (halves : List Half) (inside : Option (List ℕ)) →
+    option_and_then (λ i. option_map (λ inner. expression_at (half ∷ halves) inner) (inner_of i)) inside
+    ≡ option_map (taken half) (option_and_then (λ i. option_map (λ inner. expression_at halves inner) (inner_of i)) inside)
+inside_taken half halves None = refl
+inside_taken half halves (Some i) = by_inner (inner_of i)
   where
-    by_inner : (o : Option InnerValue) → option_map (λ inner. expression_at (opening ++ openings) inner) o ≡ enclosed opening (option_map (λ inner. expression_at openings inner) o)
+    by_inner : (o : Option InnerValue) → option_map (λ inner. expression_at (half ∷ halves) inner) o ≡ option_map (taken half) (option_map (λ inner. expression_at halves inner) o)
     by_inner None = refl
     by_inner (Some inner) = refl
 
--- three bytes that are an opening, and a closing bracket, around bytes
-around : (a b c : ℕ) (bs : List ℕ) → begins_opening (a ∷ b ∷ c ∷ []) ≡ true →
-    expression_of (a ∷ b ∷ c ∷ (bs ++ 41 ∷ [])) ≡ enclosed (a ∷ b ∷ c ∷ []) (expression_of bs)
+-- three bytes that open a half, and a closing bracket, around bytes
+around : (a b c : ℕ) (half : Half) (bs : List ℕ) → half_opened (a ∷ b ∷ c ∷ []) ≡ Some half →
+    expression_of (a ∷ b ∷ c ∷ (bs ++ 41 ∷ [])) ≡ option_map (taken half) (expression_of bs)
 unfolding expression_of
-around a b c bs is =
-    let openings = openings_of bs in
-    let depth : suc (suc (suc (length openings))) / 3 ≡ length openings / 3 + 1 = omega arith in
-    let short = openings_short bs in
-    rw (is, openings_closed bs, depth, drop-append-le (length openings) bs (41 ∷ []) short, closings_more (length openings / 3) (drop (length openings) bs))
-    (behind_openings (a ∷ b ∷ c ∷ []) openings (without_closings (length openings / 3) (drop (length openings) bs)))
+around a b c half bs is =
+    let depth = length (halves_opened bs) in
+    let one_more : suc depth ≡ depth + 1 = omega arith in
+    let three : 3 * (depth + 1) ≡ suc (suc (suc (3 * depth))) = omega arith in
+    rw (is, opened_closed bs, one_more, three, drop-append-le (3 * depth) bs (41 ∷ []) (opened_short bs), closings_more depth (drop (3 * depth) bs))
+    (inside_taken half (halves_opened bs) (without_closings depth (drop (3 * depth) bs)))
 
-pub high_enclosed : (bs : List ℕ) → expression_of (codes "hi(" ++ bs ++ codes ")") ≡ enclosed (codes "hi(") (expression_of bs)
-high_enclosed bs = around 104 105 40 bs refl
+pub high_enclosed : (bs : List ℕ) → expression_of (codes "hi(" ++ bs ++ codes ")") ≡ option_map (taken High) (expression_of bs)
+high_enclosed bs = around 104 105 40 High bs refl
 
-pub low_enclosed : (bs : List ℕ) → expression_of (codes "lo(" ++ bs ++ codes ")") ≡ enclosed (codes "lo(") (expression_of bs)
-low_enclosed bs = around 108 111 40 bs refl
+pub low_enclosed : (bs : List ℕ) → expression_of (codes "lo(" ++ bs ++ codes ")") ≡ option_map (taken Low) (expression_of bs)
+low_enclosed bs = around 108 111 40 Low bs refl

@@ -18,7 +18,7 @@ pub data OperandValue : Type 0 where
 
 -- the expression before brackets, which is 0 where nothing stands there
 abbrev pub offset_of : List ℕ → Option ExpressionValue
-offset_of bs = if length bs == 0 then Some (record { openings = []; inner = Number 0 }) else expression_of bs
+offset_of bs = if length bs == 0 then Some (record { halves = []; inner = Number 0 }) else expression_of bs
 
 -- a register in brackets, and before it an expression or nothing
 unfoldable pub based_of : List ℕ → Option OperandValue

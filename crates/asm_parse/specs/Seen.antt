@@ -1,12 +1,14 @@
 -- What the program holds, as plain data.
-use Rattle.std.specs.Prelude.{ℕ}
+use Rattle.std.specs.Prelude.{ℕ, List}
 use Rattle.std.specs.Option.{option_map}
-use Rattle.asm_parse.specs.Expression.{ExpressionValue, InnerValue, Number, Name, Sum}
+use Rattle.asm_parse.specs.Expression.{ExpressionValue, InnerValue, Number, Name, Sum, halves_opened}
 use Rattle.asm_parse.specs.Arg.{ArgValue}
 use Rattle.asm_parse.specs.Operand.{OperandValue, Register, Value, Based, Quoted}
 use Rattle.asm_parse.specs.declared.expression.Expression.{Expression}
 use Rattle.asm_parse.specs.declared.expression.Inner.{Inner}
 use Rattle.asm_parse.specs.declared.expression.Inner.TheVariants as inner
+use Rattle.asm_parse.specs.declared.openings.Half.{Half}
+use Rattle.asm_parse.specs.declared.openings.Openings.{Openings}
 use Rattle.asm_parse.specs.declared.register.Register as registers
 use Rattle.asm_parse.specs.declared.syntax.Operand.{Operand}
 use Rattle.asm_parse.specs.declared.syntax.Operand.TheVariants as operand
@@ -17,8 +19,11 @@ inner_seen (inner.Number n) = Number n
 inner_seen (inner.Name name) = Name name.now
 inner_seen (inner.Sum name number) = Sum name.now number
 
+abbrev pub openings_seen : Openings → List Half
+openings_seen o = halves_opened o.bytes.now
+
 abbrev pub expression_seen : Expression → ExpressionValue
-expression_seen e = record { openings = e.openings.now; inner = inner_seen e.inner }
+expression_seen e = record { halves = openings_seen e.openings; inner = inner_seen e.inner }
 
 abbrev pub number_seen : registers.Register → ℕ
 number_seen register = register.number

@@ -3,20 +3,14 @@ ghost use Rattle.std.specs.Prelude.{◌≡◌, ◌≤◌, length};
 ghost use Rattle.std.specs.List.{prefix_len, suffix_len};
 ghost use Rattle.line_text.specs.Characters.{is_blank};
 
-use line_text::is_blank;
+use line_text::{first_solid, is_blank};
 
 /// How many blanks stand at the front.
-#[tactic(auto, using(std::proofs::lemmas::List::Sums::prefix_len_is))]
 pub(crate) fn blanks_before(bytes: &[u8]) -> usize
     ensures count { result ≡ prefix_len is_blank bytes.now }
     ensures within { result ≤ length bytes.now }
 {
-    for (place, byte) in bytes.iter().enumerate() {
-        if !is_blank(*byte) {
-            return place;
-        }
-    }
-    bytes.len()
+    first_solid(bytes).unwrap_or(bytes.len())
 }
 
 /// How many blanks stand at the end.

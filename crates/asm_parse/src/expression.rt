@@ -1,21 +1,21 @@
 //! Expressions, read without recursion.
-ghost use Rattle.std.specs.Prelude.{◌≡◌, ◌∷◌, ◌+◌, ◌*◌, ◌/◌, ◌<◌, ◌≤◌, ◌==◌, length, take, IsTrue};
+ghost use Rattle.std.specs.Prelude.{◌≡◌, [], ◌∷◌, ◌==◌};
 ghost use Rattle.std.specs.List.{list_all};
 ghost use Rattle.std.specs.Str.{byte};
 ghost use Rattle.std.specs.Option.{option_map, option_copied};
 ghost use Rattle.asm_parse.specs.Seen.{expression_seen, inner_seen};
-ghost use Rattle.asm_parse.specs.Expression.{begins_opening, expression_of, inner_of, named, number_of, openings_of, without_closings};
+ghost use Rattle.asm_parse.specs.Expression.{Number, expression_of, inner_of, named, number_of, without_closings};
 
+use crate::openings::{OPENING_LENGTH, Openings, opening_count};
 use crate::words::{begins_name, name_length};
 use line_text::numeral;
 
-/// An expression: its openings, and what stands inside the last of them.
+/// An expression: the halves that it takes of what stands inside.
 #[derive(Clone, Copy)]
 pub struct Expression<'a> {
-    /// The openings `hi(` and `lo(` as they stand, the outermost first. Each takes a half of the value
-    /// of what it encloses: bits 31:16 or bits 15:0.
-    pub openings: &'a [u8],
-    /// What stands inside the last of them.
+    /// The halves, by the openings `hi(` and `lo(`.
+    pub openings: Openings<'a>,
+    /// What stands inside the last of the openings.
     pub inner: Inner<'a>,
 }
 
@@ -35,16 +35,18 @@ pub enum Inner<'a> {
     },
 }
 
-impl Expression<'static> {
-    /// The number 0.
-    pub const ZERO: Expression<'static> = Expression {
-        openings: b"",
+/// The number 0.
+pub(crate) fn zero() -> Expression<'static>
+    ensures { expression_seen result ≡ record { halves = []; inner = Number 0 } }
+{
+    Expression {
+        openings: Openings {
+            bytes: b"",
+            depth: 0,
+        },
         inner: Inner::Number(0),
-    };
+    }
 }
-
-/// The bytes that an opening has: `hi(` or `lo(`.
-const OPENING_LENGTH: usize = 3;
 
 /// The largest number that may stand behind a minus sign.
 const MOST_NEGATIVE: u32 = 1 << 31;
@@ -54,31 +56,11 @@ const MOST_NEGATIVE: u32 = 1 << 31;
 pub(crate) fn read_expression(bytes: &[u8]) -> Option<Expression<'_>>
     ensures { option_map expression_seen result ≡ expression_of bytes.now }
 {
-    let length = openings_length(bytes);
-    let (openings, rest) = bytes.split_at(length);
-    let inner = read_inner(without_closings(rest, length / OPENING_LENGTH)?)?;
+    let depth = opening_count(bytes);
+    let inside = without_closings(&bytes[OPENING_LENGTH * depth..], depth)?;
+    let inner = read_inner(inside)?;
+    let openings = Openings { bytes, depth };
     Some(Expression { openings, inner })
-}
-
-/// How many bytes the openings at the front take.
-fn openings_length(bytes: &[u8]) -> usize
-    ensures length { result ≡ length (openings_of bytes.now) }
-    ensures front { take result bytes.now ≡ openings_of bytes.now }
-    ensures within { result ≤ length bytes.now }
-{
-    let mut length = 0;
-    while begins_opening(&bytes[length..]) {
-        length += OPENING_LENGTH;
-    }
-    length
-}
-
-/// Whether bytes begin with `hi(` or `lo(`.
-fn begins_opening(bytes: &[u8]) -> bool
-    ensures value { result ≡ begins_opening bytes.now }
-    ensures long { IsTrue result → 3 ≤ length bytes.now }
-{
-    bytes.starts_with(b"hi(") || bytes.starts_with(b"lo(")
 }
 
 /// Bytes less so many closing brackets at their end.

@@ -1,6 +1,6 @@
 //! Operands.
 ghost use Rattle.std.specs.Prelude.{◌≡◌, ◌+◌, ◌<◌, ◌≤◌, ◌==◌, length, IfOk};
-ghost use Rattle.std.specs.List.{position_or_len};
+ghost use Rattle.std.specs.List.{position, position_or_len};
 ghost use Rattle.std.specs.Str.{byte};
 ghost use Rattle.std.specs.Option.{option_map};
 ghost use Rattle.asm_parse.specs.Form.{arg_of, args_at, operands_of};
@@ -9,7 +9,7 @@ ghost use Rattle.asm_parse.specs.PieceSeen.{piece_seen};
 ghost use Rattle.asm_parse.specs.Seen.{arg_seen, expression_seen, operand_seen};
 
 use crate::blanks::blanks_before;
-use crate::expression::{Expression, read_expression};
+use crate::expression::{Expression, read_expression, zero};
 use crate::marks::mark_place;
 use crate::piece::Piece;
 use crate::quoted::unquoted;
@@ -60,24 +60,25 @@ fn read_offset(bytes: &[u8]) -> Option<Expression<'_>>
     ensures { option_map expression_seen result ≡ offset_of bytes.now }
 {
     if bytes.is_empty() {
-        Some(Expression::ZERO)
+        Some(zero())
     } else {
         read_expression(bytes)
     }
 }
 
 /// The place of the first `$`, or the length where there is none.
-#[tactic(auto, using(std::proofs::lemmas::List::Sums::position_or_len_is))]
 fn dollar_place(bytes: &[u8]) -> usize
     ensures place { result ≡ position_or_len (λ b. b == byte "$") bytes.now }
     ensures within { result ≤ length bytes.now }
 {
-    for (place, byte) in bytes.iter().enumerate() {
-        if *byte == b'$' {
-            return place;
-        }
-    }
-    bytes.len()
+    first_dollar(bytes).unwrap_or(bytes.len())
+}
+
+/// The place of the first `$`.
+fn first_dollar(bytes: &[u8]) -> Option<usize>
+    ensures { result ≡ position (λ b. b == byte "$") bytes.now }
+{
+    bytes.iter().position(|byte| *byte == b'$')
 }
 
 /// The operands behind a name, if they have the form: none, or a blank and then operands with a comma

@@ -1,6 +1,6 @@
 //! Names and registers.
-ghost use Rattle.std.specs.Prelude.{◌≡◌, ◌≤◌, length};
-ghost use Rattle.std.specs.List.{list_all, prefix_len};
+ghost use Rattle.std.specs.Prelude.{◌≡◌, ◌≤◌, length, not};
+ghost use Rattle.std.specs.List.{list_all, position, prefix_len};
 ghost use Rattle.std.specs.Char.{is_ascii_alphanumeric};
 ghost use Rattle.asm_parse.specs.Bytes.{is_name_byte};
 ghost use Rattle.asm_parse.specs.Words.{begins_name, is_register};
@@ -8,17 +8,18 @@ ghost use Rattle.asm_parse.specs.Words.{begins_name, is_register};
 use crate::bytes::{is_name_byte, is_name_start};
 
 /// How many bytes of a name stand at the front.
-#[tactic(auto, using(std::proofs::lemmas::List::Sums::prefix_len_is))]
 pub(crate) fn name_length(bytes: &[u8]) -> usize
     ensures count { result ≡ prefix_len is_name_byte bytes.now }
     ensures within { result ≤ length bytes.now }
 {
-    for (place, byte) in bytes.iter().enumerate() {
-        if !is_name_byte(*byte) {
-            return place;
-        }
-    }
-    bytes.len()
+    first_other(bytes).unwrap_or(bytes.len())
+}
+
+/// The place of the first byte with which no name goes on.
+fn first_other(bytes: &[u8]) -> Option<usize>
+    ensures { result ≡ position (λ b. not (is_name_byte b)) bytes.now }
+{
+    bytes.iter().position(|byte| !is_name_byte(*byte))
 }
 
 /// Whether bytes begin as a name does.

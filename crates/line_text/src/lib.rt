@@ -16,7 +16,7 @@ mod word_lists;
 
 pub use characters::{is_blank, is_text};
 pub use failure::{Failure, LineFault, TextFailure, at_line};
-pub use line_words::{Words, words_of};
+pub use line_words::{Words, first_solid, words_of};
 pub use lines::{Line, Lines, cut};
 pub use numbers::{decimal, number, number_within, numeral};
 pub use print::{push_dec, push_hex, push_quoted};

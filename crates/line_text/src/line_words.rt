@@ -99,7 +99,7 @@ fn split_word(bytes: &[u8]) -> (&[u8], &[u8])
 }
 
 /// The place of the first byte that is no blank.
-fn first_solid(bytes: &[u8]) -> Option<usize>
+pub fn first_solid(bytes: &[u8]) -> Option<usize>
     ensures { result ≡ position (λ b. not (is_blank b)) bytes.now }
 {
     bytes.iter().position(|byte| !is_blank(*byte))

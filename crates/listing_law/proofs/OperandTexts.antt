@@ -1,6 +1,7 @@
 -- Printed operands, read again.
 use Rattle.std.proofs.Common.{◌≡◌, ℕ, suc, ◌+◌, ◌-◌, ◌^◌, ◌<◌, ◌≤◌, ◌∙◌, Bool, true, false, List, [], ◌∷◌, ◌++◌, Option, Some, None, length, take, drop, refl, ap, arith, lt-ltb, le-leb}
 use Rattle.std.specs.Prelude.{◌==◌, ◌&&◌, ◌||◌, not, nat_le, nat_eq, codes, if◌then◌else◌}
+use Rattle.std.proofs.lemmas.Bool.{and_parts}
 use Rattle.std.proofs.lemmas.Bool.Decides.{nat_tests}
 use Rattle.std.proofs.Math.Seq.{take-length, drop-length}
 use Rattle.std.specs.List.{list_all, ends_with, position_or_len}
@@ -9,23 +10,19 @@ use Rattle.std.specs.Char.{is_ascii_alphanumeric}
 use Rattle.std.proofs.lemmas.List.{take_at, drop_at, length-append}
 use Rattle.line_text.specs.Text.{dec_text}
 use Rattle.asm_parse.specs.Bytes.{is_name_start}
-use Rattle.asm_parse.specs.Expression.{ExpressionValue, Number, expression_of, inner_of, number_of, openings_of, without_closings}
+use Rattle.asm_parse.specs.Expression.{ExpressionValue, Number, expression_of, halves_opened, inner_of, number_of, without_closings}
 use Rattle.asm_parse.specs.Operand.{OperandValue, Register, Value, Based, based_of, operand_of, offset_of}
 use Rattle.asm_parse.specs.Register.{number_of_register, register_of}
 use Rattle.asm_parse.specs.Words.{is_register}
 use Rattle.listing_law.proofs.Numbers.{list_all_weaker, is_decimal, digit_range, decimal_digits, decimal_some, numeral_decimal}
 
--- a number without openings
+-- a number, of which no half is taken
 abbrev pub number_value : ℕ → ExpressionValue
-number_value n = record { openings = []; inner = Number n }
+number_value n = record { halves = []; inner = Number n }
 
 -- what a printed number begins with: a digit, or a minus sign
 abbrev pub begins_number : ℕ → Bool
 begins_number c = (c == 45) || (nat_le 48 c && nat_le c 57)
-
-both : (a b : Bool) → (a && b) ≡ true → (a ≡ true) × (b ≡ true)
-both true b h = (refl, h)
-both false b h = cc
 
 -- Bytes.
 
@@ -43,10 +40,10 @@ no_low c is = grind (arith, nat_tests)
 
 -- Expressions.
 
-openings_none : (c : ℕ) (cs : List ℕ) → begins_number c ≡ true → openings_of (c ∷ cs) ≡ []
-openings_none c [] is = refl
-openings_none c (a ∷ []) is = refl
-openings_none c (a ∷ b ∷ cs) is = rw (no_high c is, no_low c is) refl
+opened_none : (c : ℕ) (cs : List ℕ) → begins_number c ≡ true → halves_opened (c ∷ cs) ≡ []
+opened_none c [] is = refl
+opened_none c (a ∷ []) is = refl
+opened_none c (a ∷ b ∷ cs) is = rw (no_high c is, no_low c is) refl
 
 sub_zero : (n : ℕ) → n - 0 ≡ n
 sub_zero n = omega arith
@@ -62,11 +59,11 @@ inner_number c cs is = rw (no_name c is) refl
 
 pub expression_number : (c : ℕ) (cs : List ℕ) (n : ℕ) → begins_number c ≡ true → number_of (c ∷ cs) ≡ Some n → expression_of (c ∷ cs) ≡ Some (number_value n)
 unfolding expression_of
-expression_number c cs n is reads = rw (openings_none c cs is, closings_none (c ∷ cs), inner_number c cs is, reads) refl
+expression_number c cs n is reads = rw (opened_none c cs is, closings_none (c ∷ cs), inner_number c cs is, reads) refl
 
 pub expression_none : (c : ℕ) (cs : List ℕ) → begins_number c ≡ true → number_of (c ∷ cs) ≡ None → expression_of (c ∷ cs) ≡ None
 unfolding expression_of
-expression_none c cs is none = rw (openings_none c cs is, closings_none (c ∷ cs), inner_number c cs is, none) refl
+expression_none c cs is none = rw (opened_none c cs is, closings_none (c ∷ cs), inner_number c cs is, none) refl
 
 pub register_none : (c : ℕ) (cs : List ℕ) → begins_number c ≡ true → is_register (c ∷ cs) ≡ false
 register_none c cs is = rw (no_dollar c is) refl
@@ -104,7 +101,7 @@ operand_register n small = rw (register_form n small, register_number n small) r
 dollar_at : (xs ys : List ℕ) → list_all (λ b. not (b == 36)) xs ≡ true → position_or_len (λ b. b == 36) (xs ++ 36 ∷ ys) ≡ length xs
 dollar_at [] ys none = refl
 dollar_at (x ∷ xs) ys none =
-    let parts = both (not (x == 36)) (list_all (λ b. not (b == 36)) xs) none in
+    let parts = and_parts (not (x == 36)) (list_all (λ b. not (b == 36)) xs) none in
     let next : 1 + length xs ≡ suc (length xs) = omega arith in
     rw (parts.0, dollar_at xs ys parts.1, next) refl
 

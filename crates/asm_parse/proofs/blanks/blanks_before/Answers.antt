@@ -1,8 +1,8 @@
-use Rattle.std.proofs.Common.{arith, length, sym}
-use Rattle.std.proofs.lemmas.List.Sums.{prefix_len_is}
+use Rattle.std.proofs.Common.{◌∙◌, ap, length}
 use Rattle.line_text.specs.Characters.{is_blank}
+use Rattle.std.specs.Option.{unwrap_or}
+use Rattle.asm_parse.proofs.FrontLemmas.{front_place}
 use Rattle.asm_parse.proofs.blanks.blanks_before.Goals as goal
 
 pub returns-clause-count : goal.returns-clause-count
-returns-clause-count c =
-    sym (prefix_len_is is_blank c.args.bytes.now (length c.args.bytes.now) 0 (omega arith) (λ k below. c.loop-place.invariant k (omega arith)) (λ more. absurd (omega arith)))
+returns-clause-count c = c.unwrap_or.ensures ∙ ap (λ place. unwrap_or place (length c.args.bytes.now)) c.first_solid.ensures ∙ front_place is_blank c.args.bytes.now

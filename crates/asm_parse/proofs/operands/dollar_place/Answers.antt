@@ -1,8 +1,8 @@
-use Rattle.std.proofs.Common.{arith, length, sym}
+use Rattle.std.proofs.Common.{◌∙◌, ap, length}
 use Rattle.std.specs.Prelude.{◌==◌}
-use Rattle.std.proofs.lemmas.List.Sums.{position_or_len_is}
+use Rattle.std.specs.Option.{unwrap_or}
+use Rattle.asm_parse.proofs.FrontLemmas.{first_place}
 use Rattle.asm_parse.proofs.operands.dollar_place.Goals as goal
 
 pub returns-clause-place : goal.returns-clause-place
-returns-clause-place c =
-    sym (position_or_len_is (λ b. b == 36) c.args.bytes.now (length c.args.bytes.now) 0 (omega arith) (λ k below. c.loop-place.invariant k (omega arith)) (λ more. absurd (omega arith)))
+returns-clause-place c = c.unwrap_or.ensures ∙ ap (λ place. unwrap_or place (length c.args.bytes.now)) c.first_dollar.ensures ∙ first_place (λ b. b == 36) c.args.bytes.now
