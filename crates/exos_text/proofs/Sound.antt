@@ -3,7 +3,7 @@ use Rattle.std.proofs.Common.{◌≡◌, ◌≤◌, ◌<◌, ◌∙◌, ℕ, zer
 use Rattle.std.specs.Prelude.{sum_by, ◌&&◌, ◌==◌}
 use Rattle.std.specs.List.{AllByRecursion, list_all, range_with_len}
 use Rattle.std.specs.Fmt.{digits}
-use Rattle.std.proofs.lemmas.Bool.{eqb-true}
+use Rattle.std.proofs.lemmas.Bool.{and_parts, eqb-true}
 use Rattle.std.proofs.lemmas.List.Sums.{sum_by-cons}
 use Rattle.line_text.specs.Text.{dec_text}
 use Rattle.elf_static.specs.ElfValue.{elf_of}
@@ -38,16 +38,12 @@ bodies_are (name ∷ names) (suc count) is short = (no_fault, short, bodies_are 
 abbrev pub is_load_name : List ℕ → Bool
 is_load_name name = is_name name && (length name == 8)
 
-both_true : (a b : Bool) → (a && b) ≡ true → (a ≡ true) × (b ≡ true)
-both_true true b is = (refl, is)
-both_true false b is = absurd cc
-
 few_mappings : (name : List ℕ) → guaranteed_mappings (named name) ≤ 3
 few_mappings name = omega (arith, pages_at_most)
 
 fits : (name : List ℕ) → is_load_name name ≡ true → IsFitting (named name)
 fits name is =
-    let tests = both_true (is_name name) (length name == 8) is in
+    let tests = and_parts (is_name name) (length name == 8) is in
     record {
       name = tests.0;
       name_length = eqb-true (length name) 8 tests.1;
@@ -60,7 +56,7 @@ fits name is =
 all_fit : (names : List (List ℕ)) → list_all is_load_name names ≡ true → AllByRecursion IsFitting (map named names)
 all_fit [] are = tt
 all_fit (name ∷ names) are =
-    let tests = both_true (is_load_name name) (list_all is_load_name names) are in
+    let tests = and_parts (is_load_name name) (list_all is_load_name names) are in
     (fits name tests.0, all_fit names tests.1)
 
 -- they need three pages each, at most

@@ -1,6 +1,6 @@
 -- Rows of a table, one after another.
 use Rattle.std.proofs.Common.{◌≡◌, ℕ, ◌+◌, ◌<◌, List, [], ◌∷◌, Option, Some, Bool, true, false, ◌&&◌, length, drop, get_or, refl, ap, sym, ◌∙◌, add-one, drop-cons, suc, cond, IfSome, nat_lt}
-use Rattle.std.proofs.lemmas.Bool.{ltb-true}
+use Rattle.std.proofs.lemmas.Bool.{and_parts, ltb-true}
 use Rattle.std.specs.List.{list_all}
 use Rattle.std.specs.Map.{lookup}
 use Rattle.std.specs.Str.{bytes_eq}
@@ -26,10 +26,6 @@ said_later name rows i row within is other =
     ap (λ rs. lookup (bytes_eq name) (rows_seen rs)) (drop_item rows i row within is)
     ∙ ap (λ b. cond b (Some row.1) (said_from name rows (i + 1))) other
 
-both : (a b : Bool) → (a && b) ≡ true → (a ≡ true) × (b ≡ true)
-both true b h = (refl, h)
-both false b h = cc
-
 below_cond : {T : Type 0} (size : T → ℕ) (n : ℕ) (b : Bool) (x : T) (rest : Option T) → size x < n → IfSome rest (λ v. size v < n) → IfSome (cond b (Some x) rest) (λ v. size v < n)
 below_cond size n true x rest here later = here
 below_cond size n false x rest here later = later
@@ -38,5 +34,5 @@ below_cond size n false x rest here later = later
 pub lookup_below : {T : Type 0} (size : T → ℕ) (n : ℕ) (test : List ℕ → Bool) (rows : List (List ℕ × T)) → list_all (λ r. nat_lt (size r.1) n) rows ≡ true → IfSome (lookup test rows) (λ v. size v < n)
 lookup_below size n test [] all = tt
 lookup_below size n test (r ∷ rows) all =
-    let small = both (nat_lt (size r.1) n) (list_all (λ q. nat_lt (size q.1) n) rows) all in
+    let small = and_parts (nat_lt (size r.1) n) (list_all (λ q. nat_lt (size q.1) n) rows) all in
     below_cond size n (test r.0) r.1 (lookup test rows) (ltb-true (size r.1) n small.0) (lookup_below size n test rows small.1)

@@ -1,6 +1,7 @@
 -- Operands with commas between them, read again.
 use Rattle.std.proofs.Common.{◌≡◌, ℕ, ◌+◌, ◌-◌, ◌<◌, ◌∙◌, Bool, true, false, List, [], ◌∷◌, ◌++◌, Option, Some, length, map, refl, sym, ap, subst, arith, append_assoc}
 use Rattle.std.specs.Prelude.{◌==◌, ◌&&◌}
+use Rattle.std.proofs.lemmas.Bool.{and_parts}
 use Rattle.std.proofs.lemmas.Bool.Decides.{nat_tests}
 use Rattle.std.proofs.Math.Bool.{and-false}
 use Rattle.std.proofs.Math.Seq.{take-length}
@@ -12,10 +13,6 @@ use Rattle.asm_parse.specs.Operand.{OperandValue}
 use Rattle.asm_parse.specs.Form.{Piece, arg_of, args_at, args_of, before_blanks, behind, is_outside, parts_at}
 use Rattle.mips_list.specs.WordText.{joined, spaced}
 use Rattle.listing_law.proofs.NumberTexts.{IsOperand, is_plain}
-
-pub both : (a b : Bool) → (a && b) ≡ true → (a ≡ true) × (b ≡ true)
-both true b h = (refl, h)
-both false b h = cc
 
 -- Bytes.
 
@@ -33,14 +30,14 @@ plain_no_blank b is = grind (arith, nat_tests)
 parts_one : (q : _) (bs : List ℕ) → ((b : ℕ) → is_plain b ≡ true → behind q b ≡ q) → list_all is_plain bs ≡ true → parts_at 44 q bs ≡ bs ∷ []
 parts_one q [] stays plain = refl
 parts_one q (b ∷ bs) stays plain =
-    let parts = both (is_plain b) (list_all is_plain bs) plain in
+    let parts = and_parts (is_plain b) (list_all is_plain bs) plain in
     rw (plain_no_comma b parts.0, and-false (is_outside q), stays b parts.0, parts_one q bs stays parts.1) refl
 
 parts_then : (q : _) (bs rest : List ℕ) → ((b : ℕ) → is_plain b ≡ true → behind q b ≡ q) → parts_at 44 q (44 ∷ rest) ≡ [] ∷ parts_at 44 q rest
     → list_all is_plain bs ≡ true → parts_at 44 q (bs ++ 44 ∷ rest) ≡ bs ∷ parts_at 44 q rest
 parts_then q [] rest stays mark plain = mark
 parts_then q (b ∷ bs) rest stays mark plain =
-    let parts = both (is_plain b) (list_all is_plain bs) plain in
+    let parts = and_parts (is_plain b) (list_all is_plain bs) plain in
     rw (plain_no_comma b parts.0, and-false (is_outside q), stays b parts.0, parts_then q bs rest stays mark parts.1) refl
 
 -- each text is an operand
@@ -71,15 +68,15 @@ ends_behind front bs ends = record { front = front ++ ends.front; last = ends.la
 
 pub plain_ends : (bs : List ℕ) → list_all is_plain bs ≡ true → 0 < length bs → EndsPlain bs
 plain_ends [] plain some = absurd (omega arith)
-plain_ends (b ∷ []) plain some = record { front = []; last = b; cut = refl; plain = (both (is_plain b) true plain).0 }
-plain_ends (b ∷ c ∷ bs) plain some = ends_behind (b ∷ []) (c ∷ bs) (plain_ends (c ∷ bs) (both (is_plain b) (list_all is_plain (c ∷ bs)) plain).1 (omega arith))
+plain_ends (b ∷ []) plain some = record { front = []; last = b; cut = refl; plain = (and_parts (is_plain b) true plain).0 }
+plain_ends (b ∷ c ∷ bs) plain some = ends_behind (b ∷ []) (c ∷ bs) (plain_ends (c ∷ bs) (and_parts (is_plain b) (list_all is_plain (c ∷ bs)) plain).1 (omega arith))
 
 pub no_blanks_behind : (bs : List ℕ) → EndsPlain bs → suffix_len is_blank bs ≡ 0
 no_blanks_behind bs ends = rw (ends.cut, reverse-append ends.front (ends.last ∷ []), plain_no_blank ends.last ends.plain) refl
 
 pub no_blanks_before : (bs : List ℕ) → list_all is_plain bs ≡ true → 0 < length bs → prefix_len is_blank bs ≡ 0
 no_blanks_before [] plain some = refl
-no_blanks_before (b ∷ bs) plain some = rw (plain_no_blank b (both (is_plain b) (list_all is_plain bs) plain).0) refl
+no_blanks_before (b ∷ bs) plain some = rw (plain_no_blank b (and_parts (is_plain b) (list_all is_plain bs) plain).0) refl
 
 sub_zero : (n : ℕ) → n - 0 ≡ n
 sub_zero n = omega arith

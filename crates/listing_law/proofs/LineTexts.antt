@@ -1,6 +1,7 @@
 -- A line that is an operation and its operands, read again.
 use Rattle.std.proofs.Common.{◌≡◌, ℕ, zero, suc, ◌+◌, ◌-◌, ◌<◌, ◌∙◌, Bool, true, false, List, [], ◌∷◌, ◌++◌, Option, Some, None, length, drop, refl, sym, ap, subst, arith}
 use Rattle.std.specs.Prelude.{◌==◌, ◌&&◌, not, nat_le, nat_eq, codes, if◌then◌else◌}
+use Rattle.std.proofs.lemmas.Bool.{and_parts}
 use Rattle.std.proofs.lemmas.Bool.Decides.{nat_tests}
 use Rattle.std.proofs.Math.Bool.{and-false}
 use Rattle.std.specs.List.{list_all, starts_with, prefix_len, onto_first, take_while}
@@ -19,7 +20,7 @@ use Rattle.asm_parse.specs.declared.syntax.AsmLine.{AsmLine}
 use Rattle.mips_list.specs.WordText.{joined, spaced}
 use Rattle.listing_law.proofs.Numbers.{list_all_weaker}
 use Rattle.listing_law.proofs.NumberTexts.{IsOperand, is_plain}
-use Rattle.listing_law.proofs.ArgTexts.{AreOperands, AreRead, EndsPlain, args_spaced, before_none, both, ends_behind, plain_ends}
+use Rattle.listing_law.proofs.ArgTexts.{AreOperands, AreRead, EndsPlain, args_spaced, before_none, ends_behind, plain_ends}
 
 -- a byte of a line without quoted texts and comments
 abbrev pub is_said : ℕ → Bool
@@ -56,24 +57,24 @@ suc_not_zero n = grind (arith, nat_tests)
 
 one_piece : (bs : List ℕ) → list_all is_said bs ≡ true → 0 < length bs → pieces_of bs ≡ bs ∷ []
 one_piece [] all some = absurd (omega arith)
-one_piece (b ∷ []) all some = rw (said_no_feed b (both (is_said b) true all).0) refl
+one_piece (b ∷ []) all some = rw (said_no_feed b (and_parts (is_said b) true all).0) refl
 one_piece (b ∷ c ∷ bs) all some =
-    let parts = both (is_said b) (list_all is_said (c ∷ bs)) all in
+    let parts = and_parts (is_said b) (list_all is_said (c ∷ bs)) all in
     let more : pieces_of (c ∷ bs) ≡ (c ∷ bs) ∷ [] = one_piece (c ∷ bs) parts.1 (omega arith) in
     rw (said_no_feed b parts.0) (ap (onto_first b) more)
 
 all_behind : (n : ℕ) (bs : List ℕ) → list_all is_said bs ≡ true → list_all is_said (drop n bs) ≡ true
 all_behind zero bs all = all
 all_behind (suc n) [] all = refl
-all_behind (suc n) (b ∷ bs) all = all_behind n bs (both (is_said b) (list_all is_said bs) all).1
+all_behind (suc n) (b ∷ bs) all = all_behind n bs (and_parts (is_said b) (list_all is_said bs) all).1
 
 no_feed : (bs : List ℕ) → list_all is_said bs ≡ true → pointwise nat_eq (codes "\n") bs ≡ false
 no_feed [] all = refl
-no_feed (b ∷ bs) all = rw (said_no_feed_turned b (both (is_said b) (list_all is_said bs) all).0) refl
+no_feed (b ∷ bs) all = rw (said_no_feed_turned b (and_parts (is_said b) (list_all is_said bs) all).0) refl
 
 no_return : (bs : List ℕ) → list_all is_said bs ≡ true → pointwise nat_eq (codes "\r\n") bs ≡ false
 no_return [] all = refl
-no_return (b ∷ bs) all = rw (said_no_return_turned b (both (is_said b) (list_all is_said bs) all).0) refl
+no_return (b ∷ bs) all = rw (said_no_return_turned b (and_parts (is_said b) (list_all is_said bs) all).0) refl
 
 no_end : (bs : List ℕ) → list_all is_said bs ≡ true → without_end bs ≡ bs
 no_end bs all = rw (no_return (drop (length bs - 2) bs) (all_behind (length bs - 2) bs all), no_feed (drop (length bs - 1) bs) (all_behind (length bs - 1) bs all)) refl
@@ -87,7 +88,7 @@ one_line bs all some = ap (lines_from 1 0) (one_piece bs all some) ∙ ap (λ te
 no_comment : (q : _) (bs : List ℕ) → ((b : ℕ) → is_said b ≡ true → behind q b ≡ q) → list_all is_said bs ≡ true → before_mark 35 q bs ≡ bs
 no_comment q [] stays all = refl
 no_comment q (b ∷ bs) stays all =
-    let parts = both (is_said b) (list_all is_said bs) all in
+    let parts = and_parts (is_said b) (list_all is_said bs) all in
     rw (said_no_comment b parts.0, and-false (is_outside q), stays b parts.0, no_comment q bs stays parts.1) refl
 
 -- the name of an operation
@@ -103,7 +104,7 @@ name_length : (name rest : List ℕ) → list_all is_name_byte name ≡ true →
 name_length [] [] all follows = refl
 name_length [] (b ∷ rest) all follows = rw follows refl
 name_length (c ∷ name) rest all follows =
-    let parts = both (is_name_byte c) (list_all is_name_byte name) all in
+    let parts = and_parts (is_name_byte c) (list_all is_name_byte name) all in
     let next : 1 + length name ≡ suc (length name) = omega arith in
     rw (parts.0, name_length name rest parts.1 follows, next) refl
 
@@ -158,7 +159,7 @@ body_read : (start : ℕ) (name : List ℕ) (ts : List (List ℕ)) (args : List 
     → body_of (record { start = start; bytes = name ++ spaced ts }) ≡ Some (body_named name args)
 unfolding body_of
 body_read start name ts args is reads =
-    let parts = both (begins_name name) (list_all is_name_byte name) is in
+    let parts = and_parts (begins_name name) (list_all is_name_byte name) is in
     rw (named_before name (spaced ts) parts.1 (follows_spaced ts), some_length name (spaced ts) parts.0, parts.0, drop_at name (spaced ts) (length name) refl, reads) refl
 
 statement_read : (number start : ℕ) (name : List ℕ) (ts : List (List ℕ)) (args : List ArgValue) → is_name name ≡ true → operands_of (record { start = start + length name; bytes = spaced ts }) ≡ Some args
@@ -166,7 +167,7 @@ statement_read : (number start : ℕ) (name : List ℕ) (ts : List (List ℕ)) (
     ≡ Some (record { line = number; start = start; end = start + length (name ++ spaced ts); label = None; body = body_named name args })
 unfolding statement_of
 statement_read number start name ts args is reads =
-    let parts = both (begins_name name) (list_all is_name_byte name) is in
+    let parts = and_parts (begins_name name) (list_all is_name_byte name) is in
     rw (no_label name (spaced ts) parts.1 (follows_spaced ts), body_read start name ts args is reads) refl
 
 -- All bytes of a line.
@@ -196,7 +197,7 @@ pub record IsLine (bs : List ℕ) : Type 0 where
 
 pub text_is_line : (name : List ℕ) (ts : List (List ℕ)) (os : List OperandValue) → is_name name ≡ true → AreOperands ts os → IsLine (name ++ spaced ts)
 text_is_line name [] [] is are =
-    let parts = both (begins_name name) (list_all is_name_byte name) is in
+    let parts = and_parts (begins_name name) (list_all is_name_byte name) is in
     subst IsLine (sym (append-nil name)) (record { bytes = plain_bytes name (name_bytes name parts.1); ends = plain_ends name (name_bytes name parts.1) (positive name parts.0) })
   where
     positive : (name : List ℕ) → begins_name name ≡ true → 0 < length name
@@ -205,7 +206,7 @@ text_is_line name [] [] is are =
 text_is_line name [] (o ∷ os) is are = absurd are
 text_is_line name (t ∷ ts) [] is are = absurd are
 text_is_line name (t ∷ ts) (o ∷ os) is are =
-    let parts = both (begins_name name) (list_all is_name_byte name) is in
+    let parts = and_parts (begins_name name) (list_all is_name_byte name) is in
     record {
       bytes = rw (list_all-append is_said name (32 ∷ joined (t ∷ ts)), plain_bytes name (name_bytes name parts.1), joined_bytes t ts o os are.0 are.1) refl;
       ends = ends_behind name (32 ∷ joined (t ∷ ts)) (ends_behind (32 ∷ []) (joined (t ∷ ts)) (joined_ends t ts o os are.0 are.1));
@@ -213,7 +214,7 @@ text_is_line name (t ∷ ts) (o ∷ os) is are =
 
 no_blanks_named : (name rest : List ℕ) → is_name name ≡ true → prefix_len is_blank (name ++ rest) ≡ 0
 no_blanks_named [] rest is = cc
-no_blanks_named (c ∷ cs) rest is = rw (no_blank c (both (is_name_start c) (list_all is_name_byte (c ∷ cs)) is).0) refl
+no_blanks_named (c ∷ cs) rest is = rw (no_blank c (and_parts (is_name_start c) (list_all is_name_byte (c ∷ cs)) is).0) refl
   where
     no_blank : (b : ℕ) → is_name_start b ≡ true → is_blank b ≡ false
     no_blank b is = grind (arith, nat_tests)
@@ -244,7 +245,7 @@ pub line_read : (number start : ℕ) (name : List ℕ) (ts : List (List ℕ)) (a
     → line_of (record { number = number; start = start; text = name ++ spaced ts })
     ≡ Some (Some (record { line = number; start = start; end = start + length (name ++ spaced ts); label = None; body = body_named name args }))
 line_read number start name ts args is line reads =
-    let parts = both (begins_name name) (list_all is_name_byte name) is in
+    let parts = and_parts (begins_name name) (list_all is_name_byte name) is in
     let text : list_all is_text_byte (name ++ spaced ts) ≡ true = list_all_weaker is_said is_text_byte said_text (name ++ spaced ts) line.bytes in
     line_from (record { number = number; start = start; text = name ++ spaced ts }) (record { start = start; bytes = name ++ spaced ts }) _ text
     (said_whole number start name ts is line ∙ ap (λ n. record { start = n; bytes = name ++ spaced ts }) (add_zero start))

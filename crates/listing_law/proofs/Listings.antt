@@ -1,6 +1,7 @@
 -- A source of the texts of words, assembled.
 use Rattle.std.proofs.Common.{◌≡◌, ℕ, ◌+◌, ◌-◌, ◌*◌, ◌%◌, ◌^◌, ◌<◌, ◌≤◌, ◌∙◌, true, false, List, [], ◌∷◌, ◌++◌, None, Some, Result, Ok, length, drop, refl, ap, arith, append_assoc, append-nil, length-append, le-leb, eq-eqb}
 use Rattle.std.specs.Prelude.{◌==◌}
+use Rattle.std.proofs.lemmas.Bool.{and_parts}
 use Rattle.std.proofs.lemmas.Bool.Decides.{nat_tests}
 use Rattle.std.specs.List.{AllByRecursion, flat_map, list_all, onto_first}
 use Rattle.std.proofs.lemmas.List.{take_at, drop_at}
@@ -17,7 +18,7 @@ use Rattle.asm_layout.specs.Layout.{Layout, Placed, acted, laid, laid_from, noth
 use Rattle.mips_asm.specs.Second.{Sections, emitted, filled, filled_from}
 use Rattle.listing_law.specs.Statement.{Puts}
 use Rattle.listing_law.specs.Texts.{program_of_words, texts_from}
-use Rattle.listing_law.proofs.ArgTexts.{EndsPlain, both}
+use Rattle.listing_law.proofs.ArgTexts.{EndsPlain}
 use Rattle.listing_law.proofs.NumberTexts.{is_plain}
 use Rattle.listing_law.proofs.LineTexts.{IsLine, is_said, said_no_feed}
 use Rattle.listing_law.proofs.Statements.{text_is_line_of, word_statement}
@@ -28,7 +29,7 @@ use Rattle.listing_law.proofs.Statements.{text_is_line_of, word_statement}
 first_piece : (bs rest : List ℕ) → list_all is_said bs ≡ true → pieces_of (bs ++ 10 ∷ rest) ≡ (bs ++ 10 ∷ []) ∷ pieces_of rest
 first_piece [] rest all = refl
 first_piece (b ∷ bs) rest all =
-    let parts = both (is_said b) (list_all is_said bs) all in
+    let parts = and_parts (is_said b) (list_all is_said bs) all in
     rw (said_no_feed b parts.0) (ap (onto_first b) (first_piece bs rest parts.1))
 
 no_return : (b : ℕ) → is_plain b ≡ true → (13 == b) ≡ false

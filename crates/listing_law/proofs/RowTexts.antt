@@ -1,13 +1,12 @@
 -- The rows of words, and what is read by them.
 use Rattle.std.proofs.Common.{◌≡◌, ℕ, ◌+◌, inl, inr, Bool, true, false, List, [], ◌∷◌, ◌++◌, Some, refl, subst, eqb-true, eq-eqb}
 use Rattle.std.specs.Prelude.{◌&&◌, not, nat_eq, codes}
-use Rattle.std.proofs.lemmas.Bool.{cases_Bool}
+use Rattle.std.proofs.lemmas.Bool.{and_parts, cases_Bool}
 use Rattle.std.specs.List.{find, list_all, starts_with}
 use Rattle.std.specs.Map.{lookup}
 use Rattle.std.specs.Str.{bytes_eq}
 use Rattle.mips_text.specs.Texts.{TextValue, further_rows, text_of}
 use Rattle.mips_text.specs.WordRows.{main_rows, operand_bits, row_of, spells}
-use Rattle.listing_law.proofs.ArgTexts.{both}
 use Rattle.listing_law.proofs.LineTexts.{is_name}
 use Rattle.listing_law.proofs.WordTexts.{is_one_word}
 
@@ -27,7 +26,7 @@ find_passes test (r ∷ rows) row found =
 find_holds : (p test : List ℕ × TextValue → Bool) (rows : List (List ℕ × TextValue)) (row : List ℕ × TextValue) → list_all p rows ≡ true → find test rows ≡ Some row → p row ≡ true
 find_holds p test [] row all found = cc
 find_holds p test (r ∷ rows) row all found =
-    let parts = both (p r) (list_all p rows) all in
+    let parts = and_parts (p r) (list_all p rows) all in
     elim (cases_Bool (test r)) [
       | inl here ↦ subst (λ x. p x ≡ true) (same_row r row (rw here at found)) parts.0
       | inr later ↦ find_holds p test rows row parts.1 (rw later at found)
@@ -51,7 +50,7 @@ named_text : (test : List ℕ × TextValue → Bool) (rows more : List (List ℕ
     → lookup (bytes_eq row.0) (rows ++ more) ≡ Some row.1
 named_text test [] more row apart found = cc
 named_text test (r ∷ rows) more row apart found =
-    let parts = both (list_all (λ other. not (bytes_eq other.0 r.0)) rows) (are_apart rows) apart in
+    let parts = and_parts (list_all (λ other. not (bytes_eq other.0 r.0)) rows) (are_apart rows) apart in
     elim (cases_Bool (test r)) [
       | inl here ↦
           let is : r ≡ row = same_row r row (rw here at found) in
@@ -79,8 +78,8 @@ unfolding row_of text_of
 row_found word row found =
     let test : List ℕ × TextValue → Bool = λ r. spells r.1 word in
     let holds = find_holds is_instruction test main_rows row refl found in
-    let parts = both (is_name row.0) (not (starts_with nat_eq row.0 (codes ".")) && is_one_word row.1.operands) holds in
-    let more = both (not (starts_with nat_eq row.0 (codes "."))) (is_one_word row.1.operands) parts.1 in
+    let parts = and_parts (is_name row.0) (not (starts_with nat_eq row.0 (codes ".")) && is_one_word row.1.operands) holds in
+    let more = and_parts (not (starts_with nat_eq row.0 (codes "."))) (is_one_word row.1.operands) parts.1 in
     record {
       name = parts.0;
       no_directive = from_not (starts_with nat_eq row.0 (codes ".")) more.0;

@@ -1,6 +1,6 @@
 -- What is assembled can be written as an ELF file.
 use Rattle.std.proofs.Common.{◌≡◌, ℕ, ◌+◌, ◌%◌, ◌<◌, ◌≤◌, Bool, true, false, not, List, [], ◌∷◌, Option, Some, None, Result, Ok, Err, ◌==◌, ◌&&◌, nat_le, nat_lt, if◌then◌else◌, length, refl, sym, subst, arith, lit<, lit≤, IfOk}
-use Rattle.std.proofs.lemmas.Bool.{eqb-true, eqb-false, leb-true, ltb-true}
+use Rattle.std.proofs.lemmas.Bool.{and_parts, eqb-false, eqb-true, leb-true, ltb-true}
 use Rattle.std.specs.Option.{unwrap_or}
 use Rattle.line_text.specs.declared.failure.Failure.{Failure}
 use Rattle.line_text.specs.declared.failure.LineFault.{LineFault}
@@ -60,15 +60,11 @@ passes : (b : Bool) (why : AsmWhy) (rest : Option AsmWhy) → (if not b then Som
 passes true why rest h = (refl, h)
 passes false why rest h = cc
 
-both : (a b : Bool) → (a && b) ≡ true → (a ≡ true) × (b ≡ true)
-both true b h = (refl, h)
-both false b h = cc
-
 good_entry : (size place : ℕ) → start_fault size place ≡ None → IsEntry size place
 good_entry size place h =
     let aligned = passes (place % 4 == 0) Unaligned (if not (is_in_text size place) then Some OutOfRange else None) h in
     let inside = passes (is_in_text size place) OutOfRange None aligned.1 in
-    let ends = both (nat_le 0x00400000 place) (nat_lt place (0x00400000 + size)) inside.0 in
+    let ends = and_parts (nat_le 0x00400000 place) (nat_lt place (0x00400000 + size)) inside.0 in
     record { aligned = eqb-true _ _ aligned.0; from = leb-true _ _ ends.0; to = ltb-true _ _ ends.1 }
 
 entry_of : (size : ℕ) (start : Option ℕ) (placed : List Placed) → 0 < size → StartIsGood size placed → StartIn start placed → IsEntry size (unwrap_or start 0x00400000)

@@ -177,8 +177,5 @@ fn push_all(out: &mut Vec<u8>, size: NumberSize, values: &[u32]) -> Result<(), A
 fn push_zeros(out: &mut Vec<u8>, count: u32) -> Result<(), AllocError>
     ensures { OnOk result (out.new.items ≡ out.old.items ++ replicate count 0) }
 {
-    for _ in 0..count {
-        out.push(0)?;
-    }
-    Ok(())
+    out.resize(out.len() + count as usize, 0)
 }
