@@ -3,13 +3,14 @@ use Rattle.std.specs.Prelude.{ℕ, List, [], ◌∷◌, ◌++◌, Option, Some, 
 use Rattle.std.specs.Option.{option_and_then}
 use Rattle.line_text.specs.Number.{digits_number}
 use Rattle.line_text.specs.Text.{dec_text}
+use Rattle.line_text.specs.WrittenLine.{line}
 use Rattle.boot_image.specs.ImageValue.{ImageValue}
 use Rattle.external_event.specs.EventValue.{EventValue}
 use Rattle.exos_text.specs.LoadImage.{load_image_value}
 use Rattle.exos_text.specs.LoadSchedule.{load_events}
 use Rattle.world_model.specs.Event.{schedule_of}
 use Rattle.run_model.specs.Run.{world_after, end_of_run}
-use Rattle.run_report.specs.Report.{line, summary_text}
+use Rattle.run_report.specs.Report.{summary_text}
 use Rattle.command_work.specs.Command.{CommandValue, no_further, only_name}
 use Rattle.command_work.specs.Due.{Whole}
 

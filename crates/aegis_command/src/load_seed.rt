@@ -4,7 +4,7 @@ ghost use Rattle.boot_image.specs.ImageFaults.{image_fault};
 ghost use Rattle.boot_image.specs.ImageValue.{image_of};
 ghost use Rattle.external_event.specs.Order.{are_in_order};
 ghost use Rattle.line_text.specs.Text.{dec_text};
-ghost use Rattle.run_report.specs.Report.{line};
+ghost use Rattle.line_text.specs.WrittenLine.{line};
 ghost use Rattle.aegis_command.specs.LoadSeed.{load_seed, load_summary, load_ticks, load_words, summary_after};
 
 use crate::ticks::Ticks;
@@ -14,7 +14,7 @@ use boot_image::{Image, read_image};
 use command_work::{Answer, Command, Status};
 use exos_text::{load_image, load_schedule};
 use external_event::Event;
-use line_text::{decimal, push_dec};
+use line_text::{Word, decimal, push_line};
 use run_report::push_summary;
 use std::alloc::Global;
 
@@ -79,13 +79,12 @@ fn push_run(
 }
 
 /// The line that names the seed.
+#[tactic(auto, unfolding(line_text::specs::WrittenLine::line_of))]
 fn seed_line(alloc: Global, seed: u32) -> Result<Vec<u8>, OutOfMemory>
     ensures { IfOk result (λ text. text.items ≡ line (codes "load" ∷ dec_text seed ∷ [])) }
 {
     let mut text = Vec::new(alloc);
-    text.extend_from_slice(b"load ")?;
-    push_dec(&mut text, u64::from(seed))?;
-    text.push(b'\n')?;
+    push_line(&mut text, b"load", &[Word::Number(u64::from(seed))])?;
     Ok(text)
 }
 

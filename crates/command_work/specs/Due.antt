@@ -1,6 +1,7 @@
 -- What is to be written for a command.
-use Rattle.std.specs.Prelude.{ℕ, List, [], ◌∷◌, ◌++◌, Option, Some, None, codes}
+use Rattle.std.specs.Prelude.{ℕ, List, [], ◌∷◌, Option, Some, None, codes}
 use Rattle.line_text.specs.Text.{dec_text}
+use Rattle.line_text.specs.WrittenLine.{label, line}
 use Rattle.command_work.specs.declared.status.Status.{Status}
 use Rattle.command_work.specs.declared.status.Status.TheVariants as status
 
@@ -23,11 +24,11 @@ status_of (Whole text) = status.Done
 status_of (Found text) = status.Found
 
 abbrev pub usage_text : List ℕ
-usage_text = codes "aegis: usage" ++ 10 ∷ []
+usage_text = line (label (codes "aegis") ∷ codes "usage" ∷ [])
 
 -- which file, what is wrong with it, and where
 unfoldable pub refusal_text : List ℕ → List ℕ → ℕ → List ℕ
-refusal_text name why place = codes "aegis: " ++ name ++ codes ": " ++ why ++ codes " " ++ dec_text place ++ 10 ∷ []
+refusal_text name why place = line (label (codes "aegis") ∷ label name ∷ why ∷ dec_text place ∷ [])
 
 -- a file of this name is refused for this, at this place
 abbrev pub refused : List ℕ → List ℕ → ℕ → Due

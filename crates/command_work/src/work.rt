@@ -1,12 +1,12 @@
 //! What the work of a command gives: an answer to be written, or why there is none.
-ghost use Rattle.std.specs.Prelude.{◌≡◌, ◌++◌, IfOk, OnOk, OnErr};
+ghost use Rattle.std.specs.Prelude.{◌≡◌, IfOk};
 ghost use Rattle.command_work.specs.Due.{Refusal, refusal_text};
 ghost use Rattle.command_work.specs.Work.{Settles};
 
 use crate::status::Status;
 use aegis_limits::OutOfMemory;
 use edge_io::ReadFail;
-use line_text::push_dec;
+use line_text::{Word, push_line};
 use std::alloc::{AllocError, AllocFailed, Global};
 
 /// What is to be written, and the status once it is.
@@ -84,27 +84,22 @@ impl From<OutOfMemory> for Stop {
     }
 }
 
-/// Appends a text. An `Err` changes nothing.
-fn push(out: &mut Vec<u8>, text: &[u8]) -> Result<(), OutOfMemory>
-    ensures ok { OnOk result (out.new.items ≡ out.old.items ++ text.now) }
-    ensures err { OnErr result (out.new.items ≡ out.old.items) }
-{
-    out.extend_from_slice(text)?;
-    Ok(())
-}
-
 /// Which file is refused, why, and where.
-#[tactic(auto, unfolding(crate::specs::Due::refusal_text))]
-fn refusal_text(alloc: Global, name: &str, why: &str, place: u32) -> Result<Vec<u8>, OutOfMemory>
+#[tactic(auto, unfolding(crate::specs::Due::refusal_text, line_text::specs::WrittenLine::line_of))]
+fn refusal_text<'a>(
+    alloc: Global,
+    name: &'a str,
+    why: &'a str,
+    place: u32,
+) -> Result<Vec<u8>, OutOfMemory>
     ensures { IfOk result (λ text. text.items ≡ refusal_text name.now why.now place) }
 {
     let mut text = Vec::new(alloc);
-    push(&mut text, b"aegis: ")?;
-    push(&mut text, name.as_bytes())?;
-    push(&mut text, b": ")?;
-    push(&mut text, why.as_bytes())?;
-    push(&mut text, b" ")?;
-    push_dec(&mut text, u64::from(place))?;
-    push(&mut text, b"\n")?;
+    let words = [
+        Word::Label(name.as_bytes()),
+        Word::Text(why.as_bytes()),
+        Word::Number(u64::from(place)),
+    ];
+    push_line(&mut text, b"aegis:", &words)?;
     Ok(text)
 }

@@ -1,5 +1,6 @@
 pub mod Characters
 pub mod Failing
+pub mod Growth
 pub mod LineView
 pub mod Lines
 pub mod Number
@@ -8,3 +9,4 @@ pub mod Table
 pub mod Text
 pub mod WordView
 pub mod Words
+pub mod WrittenLine

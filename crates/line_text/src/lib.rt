@@ -1,5 +1,5 @@
 //! Texts: their lines with their places, their statements, the words of a line, the numbers that are
-//! read in them, and the numbers and bytes that are written into them; and tables of names. Every reader
+//! read in them, and the numbers, bytes and lines that are written into them; and tables of names. Every reader
 //! of texts stands on these, so that a line number, a place, a word and a number mean the same in each;
 //! and every writer appends exactly its definition of printed text.
 #![tactic(auto)]
@@ -7,6 +7,7 @@
 mod characters;
 mod failure;
 mod line_words;
+mod line_writing;
 mod lines;
 mod numbers;
 mod print;
@@ -17,6 +18,7 @@ mod word_lists;
 pub use characters::{is_blank, is_text};
 pub use failure::{Failure, LineFault, TextFailure, at_line};
 pub use line_words::{Words, first_solid, words_of};
+pub use line_writing::{Word, end_line, push_line, push_spaced, push_word};
 pub use lines::{Line, Lines, cut};
 pub use numbers::{decimal, number, number_within, numeral};
 pub use print::{push_dec, push_hex, push_quoted};

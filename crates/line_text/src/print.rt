@@ -24,7 +24,8 @@ pub fn push_dec(out: &mut Vec<u8>, n: u64) -> Result<(), OutOfMemory>
     Ok(())
 }
 
-/// Appends this many low hexadecimal digits of a number, in lower case and with leading zeros.
+/// Appends this many low hexadecimal digits of a number, in lower case and with leading zeros. The crate `hex`
+/// writes whole bytes, and a virtual page number has five digits.
 pub fn push_hex(out: &mut Vec<u8>, n: u32, digits: u8) -> Result<(), OutOfMemory>
     requires { (1 ≤ digits) × (digits ≤ 8) }
     ensures ok { OnOk result (out.new.items ≡ out.old.items ++ hex_text digits n) }

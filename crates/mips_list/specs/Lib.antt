@@ -1,3 +1,2 @@
 pub mod WordText
 pub mod Listed
-pub mod Growth

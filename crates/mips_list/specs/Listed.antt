@@ -1,15 +1,15 @@
 -- The listing of a program: a line for each whole word of its read-only segments.
-use Rattle.std.specs.Prelude.{ℕ, ◌+◌, ◌-◌, ◌*◌, ◌/◌, ◌%◌, List, [], ◌∷◌, ◌++◌, if◌then◌else◌, length}
+use Rattle.std.specs.Prelude.{ℕ, ◌+◌, ◌-◌, ◌*◌, ◌/◌, ◌%◌, List, [], ◌∷◌, if◌then◌else◌, length}
 use Rattle.std.specs.List.{flat_map, range_with_len}
-use Rattle.std.specs.Str.{byte}
 use Rattle.byte_numbers.specs.Numbers.{word_at}
 use Rattle.line_text.specs.Text.{hex_text}
+use Rattle.line_text.specs.WrittenLine.{line}
 use Rattle.elf_static.specs.ElfValue.{ElfValue, SegmentValue}
 use Rattle.mips_list.specs.WordText.{word_text}
 
 -- the line of a word at an address
 unfoldable pub line_text : ℕ → ℕ → List ℕ
-line_text address word = hex_text 8 address ++ byte " " ∷ hex_text 8 word ++ byte " " ∷ word_text word address ++ 10 ∷ []
+line_text address word = line (hex_text 8 address ∷ hex_text 8 word ∷ word_text word address ∷ [])
 
 -- how many bytes stand before the first address that is a multiple of 4
 abbrev pub lead : ℕ → ℕ

@@ -8,7 +8,6 @@
 
 mod listing;
 mod operand;
-mod piece;
 mod word;
 
 pub use listing::list;

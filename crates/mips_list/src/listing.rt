@@ -9,13 +9,11 @@ use crate::word::push_word_text;
 use aegis_limits::OutOfMemory;
 use byte_numbers::word_at;
 use elf_static::{Elf, Segment};
-use line_text::push_hex;
+use line_text::{Word, end_line, push_spaced, push_word};
 use std::alloc::Global;
 
 /// The bytes of a word.
 const WORD_SIZE: usize = 4;
-/// The hexadecimal digits of an address and of a word.
-const WORD_DIGITS: u8 = 8;
 
 /// The listing of a program (`docs/ASSEMBLER.md`, "Listings"): for each of its read-only segments in
 /// order, and each whole word that the file gives at an address that is a multiple of 4, a line with the
@@ -79,11 +77,9 @@ fn lead(vaddr: u32) -> usize
 fn push_line(address: u32, word: u32, out: &mut Vec<u8>) -> Result<(), OutOfMemory>
     ensures { OnOk result (out.new.items ≡ out.old.items ++ line_text address word) }
 {
-    push_hex(out, address, WORD_DIGITS)?;
-    out.push(b' ')?;
-    push_hex(out, word, WORD_DIGITS)?;
-    out.push(b' ')?;
+    push_word(out, Word::Hexadecimal(address))?;
+    push_spaced(out, Word::Hexadecimal(word))?;
+    push_word(out, Word::Text(b" "))?;
     push_word_text(word, address, out)?;
-    out.push(b'\n')?;
-    Ok(())
+    end_line(out)
 }

@@ -1,10 +1,10 @@
 //! The operands of instructions, as the bits of a word say them.
 ghost use Rattle.std.specs.Prelude.{◌≡◌, ◌++◌, ◌∷◌, ◌≤◌, OnOk, ◌<◌, ◌^◌};
-ghost use Rattle.mips_list.specs.Growth.{Keeps};
+ghost use Rattle.line_text.specs.Growth.{Keeps};
 ghost use Rattle.mips_list.specs.WordText.{based_text, branch_target, field_text, hexadecimal, is_written, jump_target, operand_text, operand_texts, signed_text, slot_text, spaced};
 
-use crate::piece::{push_bytes, push_decimal, push_digits};
 use aegis_limits::OutOfMemory;
+use line_text::{Word, push_hex, push_word};
 use mips_codec::sign16;
 use mips_text::{Field, OperandForm, Slot};
 
@@ -70,8 +70,8 @@ fn push_slot(mark: u8, slot: Slot, word: u32, out: &mut Vec<u8>) -> Result<(), O
     ensures ok { OnOk result (out.new.items ≡ out.old.items ++ mark ∷ slot_text slot word) }
     ensures keeps { Keeps out.old.items out.new.items }
 {
-    push_bytes(&[mark, b'$'], out)?;
-    push_decimal(u32::from(slot.get(word)), out)
+    push_word(out, Word::Text(&[mark, b'$']))?;
+    push_word(out, Word::Number(u64::from(slot.get(word))))
 }
 
 /// Appends a mark, a signed half, and a register in brackets.
@@ -81,7 +81,7 @@ fn push_based(mark: u8, word: u32, address: u32, out: &mut Vec<u8>) -> Result<()
 {
     push_field(mark, Field::Signed, word, address, out)?;
     push_slot(b'(', Slot::Rs, word, out)?;
-    push_bytes(b")", out)
+    push_word(out, Word::Text(b")"))
 }
 
 /// Appends a mark and the number in a field of a word that stands at an address.
@@ -95,7 +95,7 @@ fn push_field(
     ensures ok { OnOk result (out.new.items ≡ out.old.items ++ mark ∷ field_text field word address) }
     ensures keeps { Keeps out.old.items out.new.items }
 {
-    push_bytes(&[mark], out)?;
+    push_word(out, Word::Text(&[mark]))?;
     push_value(field, word, address, out)
 }
 
@@ -106,7 +106,7 @@ fn push_value(field: Field, word: u32, address: u32, out: &mut Vec<u8>) -> Resul
 {
     let number = field.get(word);
     match field {
-        Field::Amount | Field::Code => push_decimal(number, out),
+        Field::Amount | Field::Code => push_word(out, Word::Number(u64::from(number))),
         Field::Signed => push_signed(number as u16, out),
         Field::Unsigned => push_hexadecimal(number, 4, out),
         Field::Branch => push_hexadecimal(branch_target(address, number as u16), 8, out),
@@ -120,10 +120,10 @@ fn push_signed(half: u16, out: &mut Vec<u8>) -> Result<(), OutOfMemory>
     ensures keeps { Keeps out.old.items out.new.items }
 {
     if half < 0x8000 {
-        return push_decimal(u32::from(half), out);
+        return push_word(out, Word::Number(u64::from(half)));
     }
-    push_bytes(b"-", out)?;
-    push_decimal(0x1_0000 - u32::from(half), out)
+    push_word(out, Word::Text(b"-"))?;
+    push_word(out, Word::Number(0x1_0000 - u64::from(half)))
 }
 
 /// Appends `0x` and so many hexadecimal digits of a number.
@@ -132,8 +132,8 @@ pub(crate) fn push_hexadecimal(n: u32, digits: u8, out: &mut Vec<u8>) -> Result<
     ensures ok { OnOk result (out.new.items ≡ out.old.items ++ hexadecimal digits n) }
     ensures keeps { Keeps out.old.items out.new.items }
 {
-    push_bytes(b"0x", out)?;
-    push_digits(n, digits, out)
+    push_word(out, Word::Text(b"0x"))?;
+    push_hex(out, n, digits)
 }
 
 /// Where a branch with this half goes, from an address.

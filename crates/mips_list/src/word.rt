@@ -1,13 +1,12 @@
 //! The text of a word.
 ghost use Rattle.std.specs.Prelude.{◌≡◌, ◌++◌, OnErr, OnOk};
 ghost use Rattle.mips_text.specs.Seen.{row_seen};
-ghost use Rattle.mips_list.specs.Growth.{Keeps};
+ghost use Rattle.line_text.specs.Growth.{Keeps};
 ghost use Rattle.mips_list.specs.WordText.{data_text, row_text, word_text};
 
 use crate::operand::{push_hexadecimal, push_operands};
-use crate::piece::push_bytes;
 use aegis_limits::OutOfMemory;
-use line_text::Row;
+use line_text::{Row, Word, push_word};
 use mips_text::{Text, find_word};
 
 /// Appends the text of a word that stands at an address: the instruction that it spells, as the assembler
@@ -42,7 +41,7 @@ fn push_row(row: Row<Text>, word: u32, address: u32, out: &mut Vec<u8>) -> Resul
     ensures ok { OnOk result (out.new.items ≡ out.old.items ++ row_text (row_seen row) word address) }
     ensures keeps { Keeps out.old.items out.new.items }
 {
-    push_bytes(row.0, out)?;
+    push_word(out, Word::Text(row.0))?;
     push_operands(row.1.1, word, address, out)
 }
 
@@ -51,6 +50,6 @@ fn push_number(word: u32, out: &mut Vec<u8>) -> Result<(), OutOfMemory>
     ensures ok { OnOk result (out.new.items ≡ out.old.items ++ data_text word) }
     ensures keeps { Keeps out.old.items out.new.items }
 {
-    push_bytes(b".word ", out)?;
+    push_word(out, Word::Text(b".word "))?;
     push_hexadecimal(word, 8, out)
 }

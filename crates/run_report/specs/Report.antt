@@ -3,7 +3,8 @@ use Rattle.std.specs.Prelude.{ℕ, zero, suc, ◌+◌, List, [], ◌∷◌, ◌+
 use Rattle.std.specs.List.{flat_map}
 use Rattle.sha2.specs.Sha256.{sha256}
 use Rattle.hex.specs.Hex.{encode_lower}
-use Rattle.line_text.specs.Text.{dec_text, hex_text, quoted_text}
+use Rattle.line_text.specs.Text.{dec_text, hex_text}
+use Rattle.line_text.specs.WrittenLine.{bytes_text, flag_text, line, or_dash, quotation, spaced}
 use Rattle.boot_image.specs.ImageValue.{name_text}
 use Rattle.bind_book.specs.declared.binding.Binding.{Binding}
 use Rattle.bind_book.specs.Stripe.{stripe_rows}
@@ -30,20 +31,6 @@ abbrev pub for_each : (ℕ → List ℕ) → ℕ → List ℕ
 for_each text zero = []
 for_each text (suc n) = for_each text n ++ text n
 
--- a word behind the space that parts it from the word before it
-abbrev pub spaced : List ℕ → List ℕ
-spaced word = 32 ∷ word
-
--- A line is its words, parted by single spaces, and a line feed.
-abbrev pub line : List (List ℕ) → List ℕ
-line [] = 10 ∷ []
-line (word ∷ words) = word ++ flat_map spaced words ++ 10 ∷ []
-
--- a number in decimal, or a dash where there is none
-abbrev pub or_dash : Option ℕ → List ℕ
-or_dash None = codes "-"
-or_dash (Some n) = dec_text n
-
 -- a line of a name and numbers
 unfoldable pub numbers_line : List ℕ → List (Option ℕ) → List ℕ
 numbers_line name numbers = name ++ flat_map (λ n. spaced (or_dash n)) numbers ++ 10 ∷ []
@@ -51,10 +38,6 @@ numbers_line name numbers = name ++ flat_map (λ n. spaced (or_dash n)) numbers 
 -- eight hexadecimal digits
 abbrev pub word_text : ℕ → List ℕ
 word_text n = hex_text 8 n
-
-abbrev pub flag_text : Bool → List ℕ
-flag_text true = codes "1"
-flag_text false = codes "0"
 
 -- an exception's name
 abbrev pub exception_text : ExcCode → List ℕ
@@ -81,10 +64,6 @@ life_words (Dead cause.Excess) = codes "dead" ∷ codes "excess" ∷ []
 
 unfoldable pub env_line : ℕ → Solo → List ℕ
 env_line e s = line (codes "env" ∷ dec_text e ∷ name_text s.name ∷ life_words s.life)
-
--- bytes between quotation marks
-abbrev pub quotation : List ℕ → List ℕ
-quotation bytes = 34 ∷ quoted_text bytes ++ 34 ∷ []
 
 -- the console: its length, and its bytes
 unfoldable pub out_line : ℕ → Solo → List ℕ
@@ -163,10 +142,6 @@ living_lines w e =
 abbrev pub if_live : Life → List ℕ → List ℕ
 if_live Live text = text
 if_live (Dead cause) text = []
-
--- bytes in hexadecimal digits, two for each
-abbrev pub bytes_text : List ℕ → List ℕ
-bytes_text bytes = flat_map (hex_text 2) bytes
 
 -- a packet that an environment sent: its length, and its bytes
 unfoldable pub sent_line : ℕ → List ℕ → List ℕ

@@ -2,14 +2,16 @@
 ghost use Rattle.std.specs.Prelude.{◌≡◌, ◌++◌, ◌∷◌, ◌<◌, ◌==◌, codes, OnOk, IfOk, position};
 ghost use Rattle.line_text.specs.Text.{dec_text};
 ghost use Rattle.boot_image.specs.ImageValue.{name_text};
-ghost use Rattle.run_report.specs.Report.{line, life_words, exception_text, env_line, out_line, excess_line, living_lines, if_live, env_text};
+ghost use Rattle.line_text.specs.WrittenLine.{line};
+ghost use Rattle.run_report.specs.Report.{life_words, exception_text, env_line, out_line, excess_line, living_lines, if_live, env_text};
 
 use crate::binding::push_bind_lines;
 use crate::page::{push_keep_lines, push_page_lines};
 use crate::processor::{push_cpu_line, push_regs_line, shown_cpu};
 use crate::sending::push_sent_lines;
-use crate::words::{Word, env, number, push_line};
+use crate::words::{env, number};
 use aegis_limits::OutOfMemory;
+use line_text::{Word, push_line};
 use mips_exec::ExcCode;
 use std::alloc::Global;
 use world_model::{Cause, Life, WorldView};
@@ -69,7 +71,7 @@ fn name_text(name: &[u8]) -> &[u8]
 }
 
 /// Appends the line of an environment of this name that lives or died so.
-#[tactic(auto, unfolding(crate::specs::Words::line_of))]
+#[tactic(auto, unfolding(line_text::specs::WrittenLine::line_of))]
 fn push_life_line(out: &mut Vec<u8>, who: u8, name: &[u8], life: Life) -> Result<(), OutOfMemory>
     ensures { OnOk result (out.new.items ≡ out.old.items ++ line (codes "env" ∷ dec_text who ∷ name.now ∷ life_words life)) }
 {
@@ -116,7 +118,7 @@ fn exception_text(code: ExcCode) -> &'static [u8]
 }
 
 /// Appends the line of an environment's console.
-#[tactic(auto, unfolding(crate::specs::Report::out_line, crate::specs::Words::line_of))]
+#[tactic(auto, unfolding(crate::specs::Report::out_line, line_text::specs::WrittenLine::line_of))]
 fn push_out_line<V: WorldView>(out: &mut Vec<u8>, view: &V, who: u8) -> Result<(), OutOfMemory>
     requires { who < (V.world view.now).count }
     ensures { OnOk result (out.new.items ≡ out.old.items ++ out_line who ((V.world view.now).solos who)) }
@@ -131,7 +133,7 @@ fn push_out_line<V: WorldView>(out: &mut Vec<u8>, view: &V, who: u8) -> Result<(
 }
 
 /// Appends the line of an environment's excess.
-#[tactic(auto, unfolding(crate::specs::Report::numbers_line, crate::specs::Words::line_of))]
+#[tactic(auto, unfolding(crate::specs::Report::numbers_line, line_text::specs::WrittenLine::line_of))]
 fn push_excess_line(out: &mut Vec<u8>, who: u8, excess: u32) -> Result<(), OutOfMemory>
     ensures { OnOk result (out.new.items ≡ out.old.items ++ excess_line who excess) }
 {

@@ -3,9 +3,10 @@ ghost use Rattle.std.specs.Prelude.{◌≡◌, ◌++◌, [], ◌∷◌, Some, On
 ghost use Rattle.std.specs.List.{flat_map};
 ghost use Rattle.run_report.specs.Report.{numbers_line, row_line};
 
-use crate::words::{env, env_or_dash, number, number_or_dash, push_line};
+use crate::words::{env, env_or_dash, number, number_or_dash};
 use aegis_limits::OutOfMemory;
 use kernel_journal::Row;
+use line_text::push_line;
 
 /// Appends the rows.
 pub(crate) fn push_rows(out: &mut Vec<u8>, rows: &[Row]) -> Result<(), OutOfMemory>
@@ -18,7 +19,7 @@ pub(crate) fn push_rows(out: &mut Vec<u8>, rows: &[Row]) -> Result<(), OutOfMemo
 }
 
 /// Appends the row of what befell an environment in a slot.
-#[tactic(auto, unfolding(crate::specs::Report::numbers_line, crate::specs::Words::line_of))]
+#[tactic(auto, unfolding(crate::specs::Report::numbers_line, line_text::specs::WrittenLine::line_of))]
 fn push_turn(
     out: &mut Vec<u8>,
     name: &[u8],
@@ -32,7 +33,7 @@ fn push_turn(
 }
 
 /// Appends the row of what went from one environment to another in a slot.
-#[tactic(auto, unfolding(crate::specs::Report::numbers_line, crate::specs::Words::line_of))]
+#[tactic(auto, unfolding(crate::specs::Report::numbers_line, line_text::specs::WrittenLine::line_of))]
 fn push_move(
     out: &mut Vec<u8>,
     name: &[u8],
@@ -47,7 +48,7 @@ fn push_move(
 }
 
 /// Appends a row: its time, and its numbers in their order.
-#[tactic(auto, unfolding(crate::specs::Report::numbers_line, crate::specs::Words::line_of))]
+#[tactic(auto, unfolding(crate::specs::Report::numbers_line, line_text::specs::WrittenLine::line_of))]
 fn push_row(out: &mut Vec<u8>, row: Row) -> Result<(), OutOfMemory>
     ensures { OnOk result (out.new.items ≡ out.old.items ++ row_line row) }
 {

@@ -3,8 +3,9 @@ ghost use Rattle.std.specs.Prelude.{◌≡◌, ◌++◌, ◌<◌, OnOk};
 ghost use Rattle.world_model.specs.View.{view_seen};
 ghost use Rattle.run_report.specs.Report.{fingerprint, keep_line, keep_lines, page_line, owned_line, page_lines};
 
-use crate::words::{Word, env, number, push_line};
+use crate::words::{env, number};
 use aegis_limits::OutOfMemory;
+use line_text::{Word, push_line};
 use sha2::{Digest, Sha256};
 use world_model::{PageView, WorldView};
 
@@ -22,7 +23,7 @@ pub(crate) fn fingerprint(bytes: &[u8]) -> [u8; FINGERPRINT_SIZE]
 }
 
 /// Appends the line of a page.
-#[tactic(auto, unfolding(crate::specs::Report::keep_line, crate::specs::Words::line_of))]
+#[tactic(auto, unfolding(crate::specs::Report::keep_line, line_text::specs::WrittenLine::line_of))]
 fn push_keep_line(out: &mut Vec<u8>, who: u8, page: PageView<'_>) -> Result<(), OutOfMemory>
     ensures { OnOk result (out.new.items ≡ out.old.items ++ keep_line who (view_seen page.entry)) }
 {
@@ -53,7 +54,7 @@ pub(crate) fn push_keep_lines<V: WorldView>(
 }
 
 /// Appends the line of a page that an environment owns.
-#[tactic(auto, unfolding(crate::specs::Report::page_line, crate::specs::Words::line_of))]
+#[tactic(auto, unfolding(crate::specs::Report::page_line, line_text::specs::WrittenLine::line_of))]
 fn push_page_line(out: &mut Vec<u8>, who: u8, page: u32, bytes: &[u8]) -> Result<(), OutOfMemory>
     ensures { OnOk result (out.new.items ≡ out.old.items ++ page_line who page bytes.now) }
 {

@@ -2,10 +2,12 @@
 ghost use Rattle.std.specs.Prelude.{◌≡◌, ◌++◌, ◌<◌, OnOk};
 ghost use Rattle.std.specs.List.{flat_map};
 ghost use Rattle.world_model.specs.Table.{listed};
-ghost use Rattle.run_report.specs.Report.{spaced, shown_cpu, cpu_line, register_text, regs_line};
+ghost use Rattle.line_text.specs.WrittenLine.{spaced};
+ghost use Rattle.run_report.specs.Report.{shown_cpu, cpu_line, register_text, regs_line};
 
-use crate::words::{Word, end_line, env, push_line, push_text, push_word};
+use crate::words::env;
 use aegis_limits::OutOfMemory;
+use line_text::{Word, end_line, push_line, push_spaced, push_word};
 use mips_exec::Cpu;
 use world_model::WorldView;
 
@@ -27,17 +29,17 @@ pub(crate) fn shown_cpu<V: WorldView>(view: &V, env: u8) -> Cpu
 }
 
 /// Appends the line of the program counters, the slot flag, HI and LO.
-#[tactic(auto, unfolding(crate::specs::Report::cpu_line, crate::specs::Words::line_of))]
+#[tactic(auto, unfolding(crate::specs::Report::cpu_line, line_text::specs::WrittenLine::line_of))]
 pub(crate) fn push_cpu_line(out: &mut Vec<u8>, who: u8, cpu: &Cpu) -> Result<(), OutOfMemory>
     ensures { OnOk result (out.new.items ≡ out.old.items ++ cpu_line who cpu.now) }
 {
     let words = [
         env(who),
-        Word::Register(cpu.pc),
-        Word::Register(cpu.next),
+        Word::Hexadecimal(cpu.pc),
+        Word::Hexadecimal(cpu.next),
         Word::Flag(cpu.slot),
-        Word::Register(cpu.hi),
-        Word::Register(cpu.lo),
+        Word::Hexadecimal(cpu.hi),
+        Word::Hexadecimal(cpu.lo),
     ];
     push_line(out, b"cpu", &words)
 }
@@ -47,8 +49,8 @@ pub(crate) fn push_cpu_line(out: &mut Vec<u8>, who: u8, cpu: &Cpu) -> Result<(),
 pub(crate) fn push_regs_line(out: &mut Vec<u8>, who: u8, cpu: &Cpu) -> Result<(), OutOfMemory>
     ensures { OnOk result (out.new.items ≡ out.old.items ++ regs_line who cpu.now) }
 {
-    push_text(out, b"regs")?;
-    push_word(out, env(who))?;
+    push_word(out, Word::Text(b"regs"))?;
+    push_spaced(out, env(who))?;
     push_registers(out, cpu)?;
     end_line(out)
 }
@@ -59,7 +61,7 @@ fn push_registers(out: &mut Vec<u8>, cpu: &Cpu) -> Result<(), OutOfMemory>
     ensures { OnOk result (out.new.items ≡ out.old.items ++ flat_map spaced (listed (register_text cpu.now) 31)) }
 {
     for behind in 0..SHOWN_REGISTERS {
-        push_word(out, Word::Register(cpu.reg(behind + 1)))?;
+        push_spaced(out, Word::Hexadecimal(cpu.reg(behind + 1)))?;
     }
     Ok(())
 }

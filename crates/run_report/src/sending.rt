@@ -2,12 +2,13 @@
 ghost use Rattle.std.specs.Prelude.{◌≡◌, ◌++◌, ◌<◌, OnOk};
 ghost use Rattle.run_report.specs.Report.{sent_line, sent_lines};
 
-use crate::words::{Word, env, push_line};
+use crate::words::env;
 use aegis_limits::OutOfMemory;
+use line_text::{Word, push_line};
 use world_model::WorldView;
 
 /// Appends the line of a packet.
-#[tactic(auto, unfolding(crate::specs::Report::sent_line, crate::specs::Words::line_of))]
+#[tactic(auto, unfolding(crate::specs::Report::sent_line, line_text::specs::WrittenLine::line_of))]
 fn push_sent_line(out: &mut Vec<u8>, who: u8, packet: &[u8]) -> Result<(), OutOfMemory>
     ensures { OnOk result (out.new.items ≡ out.old.items ++ sent_line who packet.now) }
 {

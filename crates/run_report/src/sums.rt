@@ -4,9 +4,10 @@ ghost use Rattle.std.specs.Prelude.{◌≡◌, ◌++◌, count_by, OnOk};
 ghost use Rattle.run_model.specs.Excess.{is_run_of, is_pay_of, is_over_of};
 ghost use Rattle.run_report.specs.Report.{sum_line};
 
-use crate::words::{Word, env, push_line};
+use crate::words::env;
 use aegis_limits::OutOfMemory;
 use kernel_journal::Row;
+use line_text::{Word, push_line};
 
 /// Whether a row is a turn of the environment.
 fn is_run_of(row: &Row, env: u8) -> bool
@@ -60,7 +61,7 @@ fn overs_of(rows: &[Row], env: u8) -> usize
 }
 
 /// Appends the line of an environment's sums.
-#[tactic(auto, unfolding(crate::specs::Report::numbers_line, crate::specs::Words::line_of))]
+#[tactic(auto, unfolding(crate::specs::Report::numbers_line, line_text::specs::WrittenLine::line_of))]
 pub(crate) fn push_sum_line(out: &mut Vec<u8>, rows: &[Row], who: u8) -> Result<(), OutOfMemory>
     ensures { OnOk result (out.new.items ≡ out.old.items ++ sum_line rows.now who) }
 {

@@ -7,9 +7,10 @@ use crate::ledger::push_rows;
 use crate::page::fingerprint;
 use crate::room::room;
 use crate::sums::push_sum_line;
-use crate::words::{Word, number, push_line, push_text};
+use crate::words::number;
 use aegis_limits::OutOfMemory;
 use kernel_journal::RunEnd;
+use line_text::{Word, push_line, push_word};
 use std::alloc::Global;
 use world_model::WorldView;
 
@@ -20,12 +21,12 @@ pub fn report<V: WorldView>(alloc: Global, view: &V, end: RunEnd) -> Result<Vec<
     ensures { IfOk result (λ v. v.items ≡ report_text (V.world view.now) end) }
 {
     let mut out = Vec::with_capacity(alloc, room(view))?;
-    push_text(&mut out, b"aegis run\n")?;
+    push_word(&mut out, Word::Text(b"aegis run\n"))?;
     push_end_line(&mut out, view, end)?;
     push_envs(&mut out, view)?;
     push_rows(&mut out, view.journal())?;
     push_sums(&mut out, view)?;
-    push_text(&mut out, b"done\n")?;
+    push_word(&mut out, Word::Text(b"done\n"))?;
     Ok(out)
 }
 
@@ -43,11 +44,11 @@ pub fn push_summary<V: WorldView>(
     push_end_line(out, view, end)?;
     push_sums(out, view)?;
     push_report_line(alloc, out, view, end)?;
-    push_text(out, b"done\n")
+    push_word(out, Word::Text(b"done\n"))
 }
 
 /// Appends the line of a report's fingerprint. The report is made, and given up again.
-#[tactic(auto, unfolding(crate::specs::Report::report_line, crate::specs::Words::line_of))]
+#[tactic(auto, unfolding(crate::specs::Report::report_line, line_text::specs::WrittenLine::line_of))]
 fn push_report_line<V: WorldView>(
     alloc: Global,
     out: &mut Vec<u8>,
@@ -62,7 +63,7 @@ fn push_report_line<V: WorldView>(
 }
 
 /// Appends the line of how the run ended, and when.
-#[tactic(auto, unfolding(crate::specs::Report::end_line, crate::specs::Words::line_of))]
+#[tactic(auto, unfolding(crate::specs::Report::end_line, line_text::specs::WrittenLine::line_of))]
 fn push_end_line<V: WorldView>(out: &mut Vec<u8>, view: &V, end: RunEnd) -> Result<(), OutOfMemory>
     ensures { OnOk result (out.new.items ≡ out.old.items ++ end_line (V.world view.now) end) }
 {

@@ -1,5 +1,5 @@
 use Rattle.std.proofs.Common.{◌≡◌, ◌++◌, drop}
-use Rattle.mips_list.specs.Growth.{Keeps}
+use Rattle.line_text.specs.Growth.{Keeps}
 use Rattle.mips_list.specs.WordText.{operand_texts}
 use Rattle.mips_list.proofs.Operands.{marked}
 use Rattle.mips_list.proofs.operand.push_operands.Given as goal

@@ -1,7 +1,8 @@
 use Rattle.std.proofs.Common.{◌≡◌, ◌++◌}
 use Rattle.std.specs.List.{flat_map}
 use Rattle.world_model.specs.Table.{listed}
-use Rattle.run_report.specs.Report.{spaced, register_text}
+use Rattle.line_text.specs.WrittenLine.{spaced}
+use Rattle.run_report.specs.Report.{register_text}
 use Rattle.run_report.proofs.processor.push_registers.Given as goal
 
 abbrev pub invariant-loop-behind : goal.invariant-loop-behind
