@@ -1,85 +1,22 @@
 //! The board before it runs: without programs, and with one more.
-ghost use Rattle.std.specs.Prelude.{◌≡◌, ◌≤◌, ◌<◌, ◌+◌, ◌-◌, ◌*◌, None, IfOk, IfSome, All, length, replicate};
+ghost use Rattle.std.specs.Prelude.{◌≡◌, ◌≤◌, ◌<◌, ◌+◌, ◌-◌, IfOk, IfSome, All, length};
 ghost use Rattle.boot_image.specs.ImageValue.{guaranteed_mappings};
 ghost use Rattle.aegis_limits.specs.Limits.{least_pages, most_pages, least_quantum, most_quantum, most_slots, most_environments};
-ghost use Rattle.frame_store.specs.Pages.{zeroed};
-ghost use Rattle.bind_book.specs.Stripe.{stripe_rows};
-ghost use Rattle.page_book.specs.declared.row.PageRow.TheVariants.{Free};
 ghost use Rattle.page_book.specs.Rows.{free_pages};
-ghost use Rattle.run_model.specs.Boot.{own_row, own_rows, bare_world, added};
-ghost use Rattle.world_model.specs.Book.{own_hold};
-ghost use Rattle.std.specs.Option.{option_map};
+ghost use Rattle.run_model.specs.Boot.{bare_world, added};
 ghost use Rattle.board_world.specs.Showing.{world_of};
-ghost use Rattle.board_world.specs.Doing.{with_rows};
 
 use crate::board::Board;
 use aegis_limits::OutOfMemory;
-use bind_book::Bindings;
+use board_parts::{bare_memory, boot_journal};
 use board_world::{Lines, Roster};
 use boot_image::Program;
 use boot_pages::load;
 use filter_tree::Claims;
-use frame_store::Frames;
-use kernel_journal::{Journal, Row};
 use mips_exec::Cpu;
-use page_book::Pages;
 use revocation_book::Revocations;
 use slot_vector::Slots;
 use std::alloc::Global;
-
-/// Writes the row of a slot, where it has an owner.
-fn push_owner(journal: &mut Journal, slot: u32, owner: Option<u8>)
-    requires { 0 < journal.old.spare }
-    ensures rows { journal.new ≡ with_rows journal.old (own_row slot (option_map own_hold owner)) }
-    ensures room { journal.old.spare ≤ journal.new.spare + 1 }
-{
-    if owner.is_some() {
-        journal.push(Row::Own {
-            time: 0,
-            slot,
-            owner,
-            holder: owner,
-        });
-    }
-}
-
-/// Writes a row for each slot that has an owner.
-fn push_owners(journal: &mut Journal, slots: &[Option<u8>])
-    requires room { length slots.now ≤ journal.old.spare }
-    requires count { length slots.now ≤ most_slots }
-    ensures { journal.new ≡ with_rows journal.old (own_rows slots.now (length slots.now)) }
-{
-    for (slot, owner) in slots.iter().enumerate() {
-        push_owner(journal, slot as u32, *owner);
-    }
-}
-
-/// The ledger at boot.
-fn boot_journal(alloc: Global, slots: &[Option<u8>]) -> Result<Journal, OutOfMemory>
-    requires { length slots.now ≤ most_slots }
-    ensures { IfOk result (λ j. j.rows ≡ own_rows slots.now (length slots.now)) }
-{
-    let mut journal = Journal::new(alloc);
-    journal.room(slots.len() as u32)?;
-    push_owners(&mut journal, slots);
-    Ok(journal)
-}
-
-/// So many pages of zeros, of which nobody owns one and none of so many environments has bound one.
-fn bare_memory(
-    alloc: Global,
-    pages: u32,
-    envs: u8,
-) -> Result<(Frames, Pages, Bindings), OutOfMemory>
-    requires pages { least_pages ≤ pages × pages ≤ most_pages }
-    requires envs { envs ≤ most_environments }
-    ensures { IfOk result (λ m. (m.0 ≡ zeroed pages) × (m.1 ≡ replicate pages Free) × (m.2 ≡ replicate (envs * stripe_rows) None)) }
-{
-    let frames = Frames::new(alloc, pages)?;
-    let rows = Pages::new(alloc, pages)?;
-    let bindings = Bindings::new(alloc, envs)?;
-    Ok((frames, rows, bindings))
-}
 
 impl Board {
     ghost use Rattle.board_world.specs.Loading.{IsBare};

@@ -1,32 +1,18 @@
 //! Kernel calls: a call is decided, answered, and what it does is done.
 ghost use Rattle.std.specs.Prelude.{◌≡◌, ◌<◌, ◌^◌, Some};
 ghost use Rattle.world_model.specs.Book.{running};
-ghost use Rattle.world_model.specs.Item.{answered_cpu};
 ghost use Rattle.world_model.specs.May.{May};
 
 use crate::board::Board;
+use board_parts::answer;
 use call_verdicts::{decide, deed_of, law_granted};
-use mips_exec::Cpu;
 use world_model::{Call, Cause, Deed, EXIT, Verdict};
 
-/// The register of a call's number and of an answer's code.
-const CODE_REGISTER: u8 = 2;
-
-/// The register of an answer's value.
-const VALUE_REGISTER: u8 = 3;
+/// The register of a call's number.
+const CALL_NUMBER: u8 = 2;
 
 /// The register of an exit's code.
 const EXIT_CODE: u8 = 4;
-
-/// A call's caller finds the answer, and goes on behind the call.
-pub(crate) fn answer(cpu: &mut Cpu, verdict: Verdict)
-    ensures { cpu.new ≡ answered_cpu verdict cpu.old }
-{
-    cpu.set_reg(CODE_REGISTER, verdict.code());
-    cpu.set_reg(VALUE_REGISTER, verdict.value());
-    cpu.pc = cpu.pc.wrapping_add(4);
-    cpu.next = cpu.next.wrapping_add(4);
-}
 
 impl Board {
     ghost use Rattle.board_world.specs.Doing.{answered, called_by, granted, served};
@@ -88,8 +74,8 @@ impl Board {
             Deed::Unbinds(vpn) => self.unbind(env, vpn),
             Deed::TakesSlot(slot) => self.take_slot(env, slot),
             Deed::DropsSlot(slot) => self.drop_slot(env, slot),
-            Deed::TakesLine(line) => self.take_line(env, line),
-            Deed::DropsLine(line) => self.drop_line(env, line),
+            Deed::TakesLine(line) => self.set_line(line, Some(env)),
+            Deed::DropsLine(line) => self.set_line(line, None),
             Deed::Unclaims(claim) => self.unclaim(env, claim),
             Deed::Loads(page) => self.load(env, page),
         }
@@ -120,7 +106,7 @@ impl Board {
         requires numbers { self.old.claims.next < 2 ^ 32 }
         ensures { self.new ≡ called_by self.old env }
     {
-        let number = self.cpu.reg(CODE_REGISTER);
+        let number = self.cpu.reg(CALL_NUMBER);
         if number == EXIT {
             let code = self.cpu.reg(EXIT_CODE);
             return self.die(env, Cause::Exit(code));

@@ -1,24 +1,13 @@
 //! What granted calls do to claims of packets.
 ghost use Rattle.std.specs.Prelude.{◌≡◌, ◌<◌, ◌^◌, Some};
 ghost use Rattle.world_model.specs.Book.{running};
-ghost use Rattle.std.specs.Option.{option_map};
-ghost use Rattle.world_model.specs.Downloads.{MayDownload, handler_of};
+ghost use Rattle.world_model.specs.Downloads.{MayDownload};
 ghost use Rattle.world_model.specs.May.{MayClaim};
 ghost use Rattle.board_world.specs.Showing.{world_of};
 
 use crate::board::Board;
+use board_parts::unless_empty;
 use call_verdicts::{claimed_filter, named_handler};
-use handler_code::Handler;
-
-/// A handler, but none of no words.
-fn unless_empty(handler: &Handler) -> Option<&Handler>
-    ensures { option_map (λ handler. handler.now) result ≡ handler_of handler.now }
-{
-    if handler.words().is_empty() {
-        return None;
-    }
-    Some(handler)
-}
 
 impl Board {
     ghost use Rattle.board_world.specs.Doing.{with_claimed, with_downloaded, with_unclaimed};

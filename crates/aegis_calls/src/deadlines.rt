@@ -1,28 +1,12 @@
 //! Deadlines: what is taken once they have come.
-ghost use Rattle.std.specs.Prelude.{◌≡◌, ◌≤◌, ◌<◌, fold, length, IfSome};
+ghost use Rattle.std.specs.Prelude.{◌≡◌, ◌≤◌, ◌<◌, fold, length};
 ghost use Rattle.revocation_book.specs.RevocationBook.{books_of};
-ghost use Rattle.board_world.specs.Doing.{copied_to};
 ghost use Rattle.revocation_book.specs.Takings.{AreTakable, IsTakable};
 
 use crate::board::Board;
-use frame_store::Frames;
+use board_parts::copy_to_backup;
 use kernel_journal::Row;
 use revocation_book::{Taking, law_few_takings, law_takable};
-
-/// Copies a page to a backup, if there is one.
-fn copy(frames: &mut Frames, page: u32, backup: Option<u32>)
-    requires page { page < length frames.old }
-    requires backup { IfSome backup (λ n. n < length frames.old) }
-    ensures frames { frames.new ≡ copied_to page backup frames.old }
-    ensures size { length frames.new ≡ length frames.old }
-{
-    if let Some(backup) = backup {
-        // Reads both pages, and with it that they have their size.
-        let _page = frames.page(page);
-        let _backup = frames.page(backup);
-        frames.copy_page(page, backup);
-    }
-}
 
 impl Board {
     ghost use Rattle.board_world.specs.Doing.{deadlines_served, repossessed};
@@ -35,7 +19,7 @@ impl Board {
         ensures { self.new ≡ repossessed self.old taking }
     {
         let Taking { env, page, backup } = taking;
-        copy(&mut self.frames, page, backup);
+        copy_to_backup(&mut self.frames, page, backup);
         let frame = self.roster.frame(env);
         frame.record(&mut self.frames, page, backup);
         let _used = self.revocations.backup(env);

@@ -1,46 +1,22 @@
 //! What the layers above read of a board.
 ghost use Rattle.std.specs.Prelude.{◌≡◌, ◌<◌, ◌≤◌, Some, OnOk, OnErr, IsOk, length, slice_get};
 ghost use Rattle.std.specs.Option.{option_map};
-ghost use Rattle.page_book.specs.Row.{is_owned_by};
 ghost use Rattle.board_world.specs.Shown.{with_spare};
-ghost use Rattle.board_world.specs.Showing.{page_seen};
-ghost use Rattle.world_model.specs.View.{view_seen};
 
 use crate::board::Board;
 use aegis_limits::OutOfMemory;
 use bind_book::{Binding, Bindings};
-use env_frames::{Env, Mapping};
+use board_parts::{is_owned, page_behind};
+use env_frames::Env;
 use frame_store::Frames;
 use kernel_journal::Row;
 use mips_exec::Cpu;
-use page_book::{PageRow, Pages};
+use page_book::Pages;
 use slot_vector::Slots;
 use world_model::{Life, PageView, WorldView};
 
-/// Whether the page with this row is one that the environment allocated.
-fn is_owned(row: PageRow, env: u8) -> bool
-    ensures { result ≡ is_owned_by env row }
-{
-    match row {
-        PageRow::Owned { owner, .. } => owner == env,
-        PageRow::Free | PageRow::Guaranteed { .. } => false,
-    }
-}
-
 impl Board {
     ghost use Rattle.board_world.specs.Showing.{world_of};
-
-    /// The page that a mapping leads to.
-    fn page_through(&self, mapping: Mapping) -> PageView<'_>
-        requires { mapping.page < length self.now.frames }
-        ensures { view_seen result ≡ page_seen self.now.frames mapping }
-    {
-        PageView {
-            vpn: mapping.vpn,
-            writable: mapping.writable,
-            bytes: self.frames.page(mapping.page),
-        }
-    }
 
     /// Physical memory.
     pub fn frames(&self) -> &Frames
@@ -141,7 +117,7 @@ impl WorldView for Board {
         if place >= mappings.len() {
             return None;
         }
-        Some(self.page_through(mappings[place]))
+        Some(page_behind(&self.frames, mappings[place]))
     }
 
     fn page_count(&self) -> u32 {

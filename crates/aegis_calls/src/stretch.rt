@@ -1,14 +1,13 @@
 //! Stretches of ticks in which the runner steps and nothing else happens, each as one call.
-ghost use Rattle.std.specs.Prelude.{◌≡◌, ◌≤◌, ◌+◌, ◌-◌, Some};
+ghost use Rattle.std.specs.Prelude.{◌≡◌, ◌≤◌, ◌+◌, Some};
 ghost use Rattle.aegis_limits.specs.Limits.{most_ticks};
-ghost use Rattle.revocation_book.specs.RevocationBook.{next_deadline};
-ghost use Rattle.slot_vector.specs.Slices.{left_of};
 ghost use Rattle.world_model.specs.Book.{is_idle_book, running};
 ghost use Rattle.world_model.specs.Event.{Schedule};
 ghost use Rattle.run_model.specs.Run.{run_on};
 ghost use Rattle.board_world.specs.Stretch.{ArePlain, IsQuiet, stretched};
 
 use crate::board::Board;
+use board_parts::plain_most;
 use board_world::law_stretch;
 use guest_memory::Space;
 use guest_step::run_guest;
@@ -16,17 +15,6 @@ use world_model::WorldView;
 
 impl Board {
     ghost use Rattle.board_world.specs.Showing.{world_of};
-
-    /// How many of so many ticks come before the runner's last one, and before the next deadline.
-    fn plain_most(&self, most: u32) -> u32
-        ensures most { result ≤ most }
-        ensures left { result ≤ left_of self.now.slots.runner - 1 }
-        ensures early { result ≤ next_deadline self.now.revocations - self.now.time }
-    {
-        let left = self.slots.left().saturating_sub(1);
-        let early = self.revocations.next_deadline().saturating_sub(self.time);
-        most.min(left).min(early)
-    }
 
     /// The runner makes plain ticks, at most so many; the result is how many.
     fn run_plain(&mut self, env: u8, most: u32) -> u32
@@ -36,7 +24,7 @@ impl Board {
         ensures plain { ArePlain self.old env result }
         ensures most { result ≤ most }
     {
-        let most = self.plain_most(most);
+        let most = plain_most(&self.slots, &self.revocations, self.time, most);
         let space = Space {
             env: self.roster.frame(env),
             bindings: &self.bindings,

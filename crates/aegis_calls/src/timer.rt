@@ -1,49 +1,14 @@
 //! The timer, and the stop of a runner: what they do to the board's parts.
-ghost use Rattle.std.specs.Prelude.{◌≡◌, ◌<◌, ◌+◌, ◌^◌, ◌-◌, length, true, Some};
-ghost use Rattle.kernel_journal.specs.Ledger.{with_row};
-ghost use Rattle.kernel_journal.specs.declared.row.Row.TheVariants as row;
-ghost use Rattle.slot_vector.specs.Slices.{most_numbers, timer_answer};
+ghost use Rattle.std.specs.Prelude.{◌≡◌, ◌<◌, ◌^◌, ◌-◌, length, true, Some};
+ghost use Rattle.slot_vector.specs.Slices.{timer_answer};
 ghost use Rattle.world_model.specs.Book.{running};
-ghost use Rattle.board_world.specs.Doing.{ledger_settled, settled};
 
 use crate::board::Board;
-use crate::death::release_slots;
+use board_parts::settle;
 use env_frames::Context;
-use kernel_journal::{Journal, Row};
-use slot_vector::{Slots, Timer};
+use kernel_journal::Row;
+use slot_vector::Timer;
 use world_model::{Cause, WorldView};
-
-/// The ledger says that a quantum of grace is over, and what the environment's excess is now.
-fn push_over(journal: &mut Journal, slots: &Slots, time: u32, env: u8, excess: u32)
-    requires { 0 < journal.old.spare }
-    ensures { journal.new ≡ with_row journal.old (row.Over time slots.now.cursor env excess) }
-{
-    journal.push(Row::Over {
-        time,
-        slot: slots.slot(),
-        env,
-        excess,
-    });
-}
-
-/// Settles what the timer brought to a runner, before anything else happens: the ledger tells of a quantum of grace
-/// that is over, and the slots of a runner that is to die are released.
-fn settle(slots: &mut Slots, journal: &mut Journal, time: u32, env: u8, timer: Timer)
-    requires number { env < most_numbers }
-    requires room { length slots.old.slots + 1 < journal.old.spare }
-    ensures slots { slots.new ≡ settled env slots.old timer }
-    ensures journal { journal.new ≡ ledger_settled time env slots.old journal.old timer }
-{
-    match timer {
-        Timer::Nothing | Timer::End | Timer::Stop => {}
-        Timer::Over(excess) => push_over(journal, slots, time, env, excess),
-        Timer::Kill => {
-            let excess = slots.excess(env);
-            push_over(journal, slots, time, env, excess);
-            release_slots(slots, journal, time, env);
-        }
-    }
-}
 
 impl Board {
     ghost use Rattle.board_world.specs.Doing.{brought, counted, ended, has_end, kept_stopped, stopped, used};

@@ -1,23 +1,25 @@
 -- What the runner does to its claims, on the world that is shown.
-use Rattle.std.proofs.Common.{◌≡◌, ℕ, ◌+◌, List, [], ◌∷◌, ◌++◌, true, Option, Some, None, Result, Ok, refl, sym, ◌∙◌, ap, arith}
+use Rattle.std.proofs.Common.{◌≡◌, ◌≢◌, ℕ, ◌+◌, List, [], ◌∷◌, ◌++◌, true, Option, Some, None, Result, Ok, refl, sym, ◌∙◌, ap, arith}
 use Rattle.std.specs.Prelude.{is_some, map}
 use Rattle.filter_core.specs.declared.atom.Atom.{Atom}
-use Rattle.filter_tree.specs.ClaimBook.{are_numbered, claims_in}
-use Rattle.filter_tree.specs.Claims.{book_unless, claim_refusal, claimed, downloaded, is_claim, with_claim}
+use Rattle.filter_tree.specs.ClaimBook.{ClaimBook, are_numbered, claims_in}
+use Rattle.filter_tree.specs.Claims.{book_unless, claim_refusal, claimed, downloaded, is_claim, with_claim, without}
 use Rattle.filter_tree.specs.Laws.{FirstIsNumbered}
 use Rattle.world_model.specs.declared.code.Code.{Code}
-use Rattle.world_model.specs.Book.{running}
+use Rattle.world_model.specs.Book.{Book, running}
 use Rattle.packet_ring.specs.declared.buffer.Buffer.TheVariants.{First}
+use Rattle.world_model.specs.declared.call.Deed.{Deed}
 use Rattle.world_model.specs.declared.call.Deed.TheVariants.{Claims, Unclaims, Downloads}
 use Rattle.world_model.specs.declared.verdict.Verdict.TheVariants.{Grant}
 use Rattle.world_model.specs.ClaimCalls.{atoms_or_none, filter_at}
 use Rattle.world_model.specs.Downloads.{MayDownload, handler_at, handler_of, handler_or_none}
-use Rattle.world_model.specs.Item.{answered_cpu}
+use Rattle.world_model.specs.Item.{answered_cpu, own_part}
 use Rattle.world_model.specs.May.{MayClaim}
 use Rattle.world_model.specs.Page.{Mapped}
 use Rattle.world_model.specs.Rings.{handled_if, ring_of}
 use Rattle.world_model.specs.Solo.{Solo, sight}
 use Rattle.world_model.specs.Verdict.{done}
+use Rattle.world_model.specs.World.{no_items}
 use Rattle.board_world.specs.declared.roster.Environment.{Environment}
 use Rattle.board_world.specs.Rings.{rings_of}
 use Rattle.board_world.specs.Shown.{Shown}
@@ -37,28 +39,21 @@ module _ (b : Shown) (e : ℕ) (x : Environment) (r : Runs b e x) (sound : IsSou
       ap (λ (look : ℕ → Option Mapped). filter_at look address atoms) (λ k v. its_look b e x r sound v k)
       ∙ ap (λ s. filter_at (sight s) address atoms) (sym (runner_seen b e x r))
 
-  pub claims : (claim address atoms page v : ℕ) → MayClaim (world_of b) e claim address atoms page → Serves b e (deeded (Claims claim address atoms page) v (solo_of b e)) (done (world_of b) e (Claims claim address atoms page)) (doing.granted b e v (Claims claim address atoms page))
-  claims claim address atoms page v may =
-      let filter = atoms_or_none (filter_at (doing.look_of b e) address atoms) in
-      let now = doing.granted b e v (Claims claim address atoms page) in
-      let still : Runs now e x = record { at = r.at; lives = r.lives; runs = r.runs } in
+  -- a deed that changes claims alone: the runner has those of the book, as it says, and the others keep theirs
+  changes_claims : (d : Deed) (v : ℕ) (claims : ClaimBook) (book : Book) → book_of (record b { claims = claims }) ≡ book → record (runner_solo b e x) { rings = rings_of claims e } ≡ own_part d (runner_solo b e x) → ((i : ℕ) → i ≢ e → rings_of claims i ≡ rings_of b.claims i)
+      → Serves b e (deeded d v (solo_of b e)) (record { book = book; items = no_items; rows = [] }) (doing.answered (record b { claims = claims }) (Grant v))
+  changes_claims d v claims book books own others =
+      let now = doing.answered (record b { claims = claims }) (Grant v) in
       record {
-        book = λ k. record (book_of b) {
-          claims = (claims_more b.claims e filter page
-              ∙ (λ j. (book_of b).claims ++ record { id = sym may.number j; env = e; filter = atoms_or_none (its_filter address atoms j); page = page } ∷ [])) k;
-          next_claim = b.claims.next + 1;
-        };
+        book = books;
         count = refl;
-        solos = one_changed (solo_of b) (solo_of now) e (deeded (Claims claim address atoms page) v (solo_of b e))
-            (runner_seen now e x still
-            ∙ (λ k. record (runner_solo b e x) {
-              cpu = answered_cpu (Grant v) b.cpu;
-              rings = (rings_claimed b.claims e filter page ∙ (λ j. rings_of b.claims e ++ record { claim = sym may.number j; page = page; next = First; handler = None } ∷ [])) k;
-            })
-            ∙ deeded_seen b e x r (Claims claim address atoms page) v)
+        solos = one_changed (solo_of b) (solo_of now) e (deeded d v (solo_of b e))
+            (runner_seen now e x (record { at = r.at; lives = r.lives; runs = r.runs })
+            ∙ ap (λ (s : Solo). record s { cpu = answered_cpu (Grant v) b.cpu }) own
+            ∙ deeded_seen b e x r d v)
             (λ i ne. same_solo i now b (record {
               record_is = refl;
-              rings = rings_claimed_else b.claims e filter page i ne;
+              rings = others i ne;
               idles = r.runs.others i ne;
               idled = r.runs.others i ne;
               pages = refl;
@@ -71,63 +66,38 @@ module _ (b : Shown) (e : ℕ) (x : Environment) (r : Runs b e x) (sound : IsSou
         time = refl;
       }
 
+  pub claims : (claim address atoms page v : ℕ) → MayClaim (world_of b) e claim address atoms page → Serves b e (deeded (Claims claim address atoms page) v (solo_of b e)) (done (world_of b) e (Claims claim address atoms page)) (doing.granted b e v (Claims claim address atoms page))
+  claims claim address atoms page v may =
+      let filter = atoms_or_none (filter_at (doing.look_of b e) address atoms) in
+      changes_claims (Claims claim address atoms page) v (with_claim b.claims e filter page) (done (world_of b) e (Claims claim address atoms page)).book
+      (λ k. record (book_of b) {
+        claims = (claims_more b.claims e filter page
+            ∙ (λ j. (book_of b).claims ++ record { id = sym may.number j; env = e; filter = atoms_or_none (its_filter address atoms j); page = page } ∷ [])) k;
+        next_claim = b.claims.next + 1;
+      })
+      (λ k. record (runner_solo b e x) {
+        rings = (rings_claimed b.claims e filter page ∙ (λ j. rings_of b.claims e ++ record { claim = sym may.number j; page = page; next = First; handler = None } ∷ [])) k;
+      })
+      (rings_claimed_else b.claims e filter page)
+
   pub unclaims : (claim v : ℕ) → Serves b e (deeded (Unclaims claim) v (solo_of b e)) (done (world_of b) e (Unclaims claim)) (doing.granted b e v (Unclaims claim))
   unclaims claim v =
-      let now = doing.granted b e v (Unclaims claim) in
-      let still : Runs now e x = record { at = r.at; lives = r.lives; runs = r.runs } in
-      record {
-        book = λ k. record (book_of b) { claims = claims_without (is_claim e claim) b.claims k };
-        count = refl;
-        solos = one_changed (solo_of b) (solo_of now) e (deeded (Unclaims claim) v (solo_of b e))
-            (runner_seen now e x still
-            ∙ (λ k. record (runner_solo b e x) { cpu = answered_cpu (Grant v) b.cpu; rings = rings_unclaimed b.claims e claim k })
-            ∙ deeded_seen b e x r (Unclaims claim) v)
-            (λ i ne. same_solo i now b (record {
-              record_is = refl;
-              rings = rings_unclaimed_else b.claims e claim i ne;
-              idles = r.runs.others i ne;
-              idled = r.runs.others i ne;
-              pages = refl;
-              binds = refl;
-              sights = refl;
-            }));
-        rows = sym (append_nothing b.ledger.rows);
-        room = omega arith;
-        spare = refl;
-        time = refl;
-      }
+      changes_claims (Unclaims claim) v (without (is_claim e claim) b.claims) (done (world_of b) e (Unclaims claim)).book
+      (λ k. record (book_of b) { claims = claims_without (is_claim e claim) b.claims k })
+      (λ k. record (runner_solo b e x) { rings = rings_unclaimed b.claims e claim k })
+      (rings_unclaimed_else b.claims e claim)
 
   pub downloads : FirstIsNumbered → are_numbered 0 b.claims.next b.claims.rows ≡ true → (claim address words v : ℕ) → MayDownload (solo_of b e) claim address words → Serves b e (deeded (Downloads claim address words) v (solo_of b e)) (done (world_of b) e (Downloads claim address words)) (doing.granted b e v (Downloads claim address words))
   downloads law numbered claim address words v may =
       let handler = handler_or_none (handler_at (doing.look_of b e) address words) in
       let looks : doing.look_of b e ≡ sight (runner_solo b e x) = λ k v. its_look b e x r sound v k in
-      let now = doing.granted b e v (Downloads claim address words) in
-      let still : Runs now e x = record { at = r.at; lives = r.lives; runs = r.runs } in
       let own : is_some (ring_of (rings_of b.claims e) claim) ≡ true = ap (λ (s : Solo). is_some (ring_of s.rings claim)) (sym (runner_seen b e x r)) ∙ may.own in
-      record {
-        book = λ k. record (book_of b) { claims = claims_downloaded b.claims claim handler k };
-        count = refl;
-        solos = one_changed (solo_of b) (solo_of now) e (deeded (Downloads claim address words) v (solo_of b e))
-            (runner_seen now e x still
-            ∙ (λ k. record (runner_solo b e x) {
-              cpu = answered_cpu (Grant v) b.cpu;
-              rings = (rings_downloaded b.claims claim e handler ∙ (λ j. map (handled_if claim (handler_or_none (handler_at (looks j) address words))) (rings_of b.claims e))) k;
-            })
-            ∙ deeded_seen b e x r (Downloads claim address words) v)
-            (λ i ne. same_solo i now b (record {
-              record_is = refl;
-              rings = rings_downloaded_else law b.claims e claim i handler numbered own ne;
-              idles = r.runs.others i ne;
-              idled = r.runs.others i ne;
-              pages = refl;
-              binds = refl;
-              sights = refl;
-            }));
-        rows = sym (append_nothing b.ledger.rows);
-        room = omega arith;
-        spare = refl;
-        time = refl;
-      }
+      changes_claims (Downloads claim address words) v (downloaded claim handler b.claims) (book_of b)
+      (λ k. record (book_of b) { claims = claims_downloaded b.claims claim handler k })
+      (λ k. record (runner_solo b e x) {
+        rings = (rings_downloaded b.claims claim e handler ∙ (λ j. map (handled_if claim (handler_or_none (handler_at (looks j) address words))) (rings_of b.claims e))) k;
+      })
+      (λ i ne. rings_downloaded_else law b.claims e claim i handler numbered own ne)
 
 -- the book of claims where a filter that is named is granted
 pub claimed_board : (b : Shown) (e address atoms page : ℕ) (filter : List Atom) → IsSound b → running b.slots.runner ≡ Some e → filter_at (sight (solo_of b e)) address atoms ≡ Ok filter → claim_refusal (claims_in b.claims) e filter ≡ None

@@ -202,8 +202,8 @@ stored_if false true x bytes = refl
 stored_if false false x bytes = refl
 
 -- the bytes once a store is in a page
-abbrev with_store : ℕ → Store → (ℕ → List ℕ) → ℕ → List ℕ
-with_store page x bytes = set_at page (with_bytes (bytes page) x.offset x.bytes) bytes
+abbrev bytes_with_store : ℕ → Store → (ℕ → List ℕ) → ℕ → List ℕ
+bytes_with_store page x bytes = set_at page (with_bytes (bytes page) x.offset x.bytes) bytes
 
 pub writer_sees : WriterSees
 writer_sees e page x pages stripe bytes s seen named = record {
@@ -211,8 +211,8 @@ writer_sees e page x pages stripe bytes s seen named = record {
   seen = λ p. (λ k. if is_physical p (named k) then option_map (stored_sight x) (seen.seen p k) else seen.seen p k) ∙ after p;
 }
   where
-    after : (p : ℕ) → (if page == p then option_map (stored_sight x) (seen_in e pages stripe bytes p) else seen_in e pages stripe bytes p) ≡ seen_in e pages stripe (with_store page x bytes) p
-    after = by_number (λ p. if page == p then option_map (stored_sight x) (seen_in e pages stripe bytes p) else seen_in e pages stripe bytes p) (seen_in e pages stripe (with_store page x bytes)) page
+    after : (p : ℕ) → (if page == p then option_map (stored_sight x) (seen_in e pages stripe bytes p) else seen_in e pages stripe bytes p) ≡ seen_in e pages stripe (bytes_with_store page x bytes) p
+    after = by_number (λ p. if page == p then option_map (stored_sight x) (seen_in e pages stripe bytes p) else seen_in e pages stripe bytes p) (seen_in e pages stripe (bytes_with_store page x bytes)) page
         (rw (eq-eqb page page refl) (stored_if (is_owned_by e (pages page)) (is_bound page stripe) x (bytes page)))
         (λ p ne. rw (ne_eqb page p (λ same. ne (sym same)), ne_eqb p page ne) refl)
 
@@ -223,14 +223,14 @@ left_store page x = record { key = Physical page; offset = x.offset; bytes = x.b
 pub readers_see : ReadersSee
 readers_see i page x b bytes s seen lives = by_sees (sees b i page) refl
   where
-    by_sees : (t : Bool) → sees b i page ≡ t → Sees i b.pages (b.binds i) (with_store page x bytes) (absorb_all s (left_if t page x))
+    by_sees : (t : Bool) → sees b i page ≡ t → Sees i b.pages (b.binds i) (bytes_with_store page x bytes) (absorb_all s (left_if t page x))
     by_sees true is =
-        subst (λ (y : Solo). Sees i b.pages (b.binds i) (with_store page x bytes) y) (sym (ap (λ life. if is_dead life then s else stored (left_store page x) s) lives))
+        subst (λ (y : Solo). Sees i b.pages (b.binds i) (bytes_with_store page x bytes) y) (sym (ap (λ life. if is_dead life then s else stored (left_store page x) s) lives))
         (writer_sees i page (left_store page x) b.pages (b.binds i) bytes s seen refl)
     by_sees false is = record {
       binds = seen.binds;
-      seen = by_number s.seen (seen_in i b.pages (b.binds i) (with_store page x bytes)) page
-          (seen.seen page ∙ unseen (bytes page) ∙ sym (unseen (with_store page x bytes page)))
+      seen = by_number s.seen (seen_in i b.pages (b.binds i) (bytes_with_store page x bytes)) page
+          (seen.seen page ∙ unseen (bytes page) ∙ sym (unseen (bytes_with_store page x bytes page)))
           (λ p ne. rw (ne_eqb p page ne) (seen.seen p));
     }
       where

@@ -95,7 +95,7 @@ pub(crate) fn mask_of(slots: &[Option<Hold>], env: u8) -> u64
 }
 
 /// The slot once the environment is gone.
-fn released(slot: Option<Hold>, env: u8) -> Option<Hold>
+fn hold_without(slot: Option<Hold>, env: u8) -> Option<Hold>
     ensures { result ≡ released env slot }
 {
     let hold = slot?;
@@ -114,6 +114,6 @@ pub(crate) fn release(slots: &mut [Option<Hold>], env: u8)
     ensures numbered { All IsNumbered slots.old → All IsNumbered slots.new }
 {
     for slot in slots.iter_mut() {
-        *slot = released(*slot, env);
+        *slot = hold_without(*slot, env);
     }
 }

@@ -10,8 +10,8 @@ use Rattle.aegis_calls.proofs.readers.BoardWorldView.kept_page.Goals as goal
 abbrev pub no_mapping : Mapping
 no_mapping = record { vpn = 0; page = 0; writable = false }
 
-pub page_through-requires : goal.page_through-requires
-page_through-requires c =
+pub page_behind-requires : goal.page_behind-requires
+page_behind-requires c =
     let ms = c.mappings-mappings.result.now in
     let at = ap (λ (xs : List Mapping). slice_get xs c.args.place) (sym c.frame.ensures.mappings ∙ sym c.mappings-mappings.ensures.value) ∙ slice_get-get_or ms c.args.place no_mapping c.if-place-mappings.false in
     omega (arith, guaranteed_there c.self.inside.frames c.self.inside.pages c.self.inside.roster.list c.self.invariant.memory c.args.env c.args.place (slice_index_or ms c.args.place no_mapping) at, ap (λ (b : Shown). length b.frames) c.self.view_is)

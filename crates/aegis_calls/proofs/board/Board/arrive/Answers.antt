@@ -1,0 +1,57 @@
+-- The claim's environment lives, its ring is there, and the board stays sound.
+use Rattle.std.proofs.Common.{◌≡◌, ℕ, Bool, true, false, List, Option, Some, None, length, sym, ap, ◌∙◌}
+use Rattle.env_frames.specs.declared.post.PostWord.TheVariants as post
+use Rattle.filter_tree.specs.declared.claim.Claim.{Claim}
+use Rattle.filter_tree.specs.Claims.{claim_for, claim_handler}
+use Rattle.frame_store.specs.Pages.{page_at}
+use Rattle.packet_ring.specs.Ring.{is_full}
+use Rattle.board_world.specs.Doing.{arrived_by, arrived, counted_for, delivered_by, delivered_if, delivered_to}
+use Rattle.board_world.specs.Shown.{Shown, shown}
+use Rattle.board_world.specs.Sound.{IsSound}
+use Rattle.board_world.proofs.Claiming.{delivered_claimed}
+use Rattle.board_world.proofs.Happening.{claim_there}
+use Rattle.board_world.proofs.Parted.{context_there}
+use Rattle.board_world.proofs.Sound.{keeps_replying}
+use Rattle.board_world.proofs.Staying.{sound_claims, sound_env, sound_frames}
+use Rattle.aegis_calls.proofs.board.Board.arrive.Goals as goal
+
+-- a board stays sound where a packet for a claim comes
+delivered_sound : (b : Shown) (c : Claim) (packet : List ℕ) → length (delivered_to b c packet).frames ≡ length b.frames → IsSound b → IsSound (delivered_to b c packet)
+delivered_sound b c packet same sound = by_handler (claim_handler b.claims c.id) same
+  where
+    by_full : (full : Bool) → length (delivered_if full (counted_for b post.Packets c.env) c packet).frames ≡ length b.frames → IsSound (delivered_if full (counted_for b post.Packets c.env) c packet)
+    by_full true same = sound_frames _ same sound
+    by_full false same = sound_claims _ (delivered_claimed b.claims b.pages b.roster c.id sound.claims) (sound_frames _ same sound)
+
+    by_handler : (h : Option (List ℕ)) → length (delivered_by h (counted_for b post.Packets c.env) c packet).frames ≡ length b.frames → IsSound (delivered_by h (counted_for b post.Packets c.env) c packet)
+    by_handler None same = by_full (is_full (page_at (counted_for b post.Packets c.env).frames c.page) c.next) same
+    by_handler (Some words) same = sound_env _ (keeps_replying _) c.env (sound_frames _ same sound)
+
+pub deliver-requires : goal.deliver-requires
+deliver-requires c =
+    let i = c.self.inside in
+    let b = shown i.frames i.pages i.bindings i.lines i.claims i.revocations i.slots i.cpu i.roster i.time i.journal in
+    let claim = c.in-Some.claim in
+    let there = claim_there b c.of-packet.result.now claim c.self.invariant (sym c.claim_for.ensures ∙ c.in-Some.is) in
+    record {
+      ring = there.1;
+      there = there.0.0;
+      page = context_there i.frames i.pages i.roster.list c.self.invariant.memory claim.env;
+    }
+
+pub invariant_of-self-in-Some : goal.invariant_of-self-in-Some
+invariant_of-self-in-Some c =
+    let i = c.self.inside in
+    let b = shown i.frames i.pages i.bindings i.lines i.claims i.revocations i.slots i.cpu i.roster i.time i.journal in
+    let same = ap (λ (s : Shown). length s.frames) (sym (c.deliver.ensures.after b)) ∙ c.deliver.ensures.size in
+    rw (c.deliver.ensures.after b) (delivered_sound b c.in-Some.claim c.of-packet.result.now same c.self.invariant)
+
+pub returns-in-Some : goal.returns-in-Some
+returns-in-Some c =
+    let i = c.self.inside in
+    let b = shown i.frames i.pages i.bindings i.lines i.claims i.revocations i.slots i.cpu i.roster i.time i.journal in
+    let packet = c.args.packet.now in
+    c.deliver.ensures.after b
+    ∙ ap (delivered_to b c.in-Some.claim) c.of-packet.ensures
+    ∙ ap (arrived_by b packet) (sym (sym (ap (claim_for b.claims) c.of-packet.ensures) ∙ c.claim_for.ensures ∙ c.in-Some.is))
+    ∙ ap (λ (s : Shown). arrived s packet) c.self.view_is

@@ -1,0 +1,54 @@
+-- The target lives and has its context page; the slots, whom it accepts and which registers are kept change nobody's life or pages.
+use Rattle.std.proofs.Common.{ap, sym, subst, ◌≡◌, ◌∙◌}
+use Rattle.env_frames.specs.Transfer.{hands_slot}
+use Rattle.mips_exec.specs.declared.registers.Cpu.{Cpu}
+use Rattle.slot_vector.specs.Slices.{Slices, given_to}
+use Rattle.world_model.specs.Book.{running}
+use Rattle.world_model.specs.Item.{answered_cpu}
+use Rattle.world_model.specs.declared.verdict.Verdict.TheVariants.{Grant}
+use Rattle.board_world.specs.Doing.{accepting, entered, handed_on, roster_entered, with_registers}
+use Rattle.board_world.specs.Shown.{Environments, Shown, shown, with_list}
+use Rattle.board_world.specs.Sound.{IsLive}
+use Rattle.board_world.proofs.Parted.{context_there}
+use Rattle.board_world.proofs.Sound.{given_manned, keeps_accepting, keeps_registers, runner_within}
+use Rattle.board_world.proofs.Staying.{sound_env, sound_frames, sound_machine, sound_slots}
+use Rattle.aegis_calls.proofs.board.Board.transfer.Goals as goal
+
+pub enter-requires : goal.enter-requires
+enter-requires c =
+    let i = c.self.inside in
+    let live = subst (λ (s : Shown). IsLive s.roster.list c.args.target) (sym c.self.view_is) c.requires.lives in
+    record {
+      caller = runner_within i.slots i.roster c.args.env c.self.invariant.book (ap (λ (s : Shown). running s.slots.runner) c.self.view_is ∙ c.requires.runs);
+      there = live.0;
+      open = rw c.self.view_is c.requires.open;
+      page = context_there i.frames i.pages i.roster.list c.self.invariant.memory c.args.target;
+    }
+
+pub invariant_of-self : goal.invariant_of-self
+invariant_of-self c =
+    let i = c.self.inside in
+    let e = c.args.env in
+    let t = c.args.target in
+    let b = shown i.frames i.pages i.bindings i.lines i.claims i.revocations i.slots i.cpu i.roster i.time i.journal in
+    let handed = shown i.frames i.pages i.bindings i.lines i.claims i.revocations c.hand_on.new.slots i.cpu i.roster i.time c.hand_on.new.journal in
+    let live = subst (λ (s : Shown). IsLive s.roster.list t) (sym c.self.view_is) c.requires.lives in
+    let cpu : Cpu = answered_cpu (Grant c.args.value) i.cpu in
+    let slots : c.hand_on.new.slots ≡ given_to t (hands_slot c.args.kind) i.slots = ap (λ (s : Shown). s.slots) (c.hand_on.ensures b) in
+    let kept : c.enter.new.roster ≡ with_list i.roster (roster_entered b e c.args.value t) = ap (λ (s : Shown). s.roster) (c.enter.ensures.after handed) in
+    rw (kept, slots)
+    (sound_machine
+    (sound_frames _ c.enter.ensures.size
+    (sound_env (with_registers cpu) (keeps_registers cpu) e
+    (sound_env (accepting 0) (keeps_accepting 0) t
+    (sound_slots _ (given_manned i.slots i.roster t (hands_slot c.args.kind) c.self.invariant.book live) c.self.invariant)))))
+
+pub returns : goal.returns
+returns c =
+    let i = c.self.inside in
+    let e = c.args.env in
+    let t = c.args.target in
+    let b = shown i.frames i.pages i.bindings i.lines i.claims i.revocations i.slots i.cpu i.roster i.time i.journal in
+    let handed = shown i.frames i.pages i.bindings i.lines i.claims i.revocations c.hand_on.new.slots i.cpu i.roster i.time c.hand_on.new.journal in
+    c.enter.ensures.after handed
+    ∙ ap (λ (s : Shown). entered s e c.args.value t c.args.kind) (c.hand_on.ensures b ∙ ap (λ (s : Shown). handed_on s e t c.args.kind) c.self.view_is)
