@@ -4,7 +4,7 @@ use Rattle.std.proofs.lemmas.Bool.{cases_eq, cases_lt, and_right, eq-eqb, ne_eqb
 use Rattle.std.proofs.lemmas.List.{length-replicate, get_or-replicate, get_or_past}
 use Rattle.std.proofs.lemmas.Nat.{same_from_place}
 use Rattle.bind_book.specs.declared.binding.Binding.{Binding}
-use Rattle.bind_book.specs.Stripe.{stripe_rows, row_of, place_of, HasStripe, stripes, binding_at}
+use Rattle.bind_book.specs.Stripe.{stripe_rows, row_of, stripe_place, HasStripe, stripes, binding_at}
 
 -- rows that are all empty
 empty_place : (places place : ℕ) → get_or (replicate {A = Option Binding} places None) place None ≡ None
@@ -17,26 +17,26 @@ empty_place places place =
 pub empty_row : (places e row : ℕ) → stripes (replicate places None) e row ≡ None
 empty_row places e row =
     elim (cases_lt row stripe_rows) [
-      | inl below ↦ rw (lt-ltb row stripe_rows below) (empty_place places (place_of e row))
+      | inl below ↦ rw (lt-ltb row stripe_rows below) (empty_place places (stripe_place e row))
       | inr past ↦ rw (le-ltb row stripe_rows past) refl
     ]
 
 -- what stands at a place of the rows after a write at another row of a stripe, or at the same
-set_place : (binds : List (Option Binding)) (e row i r : ℕ) (x : Option Binding) → HasStripe binds e → row < stripe_rows → r < stripe_rows → get_or (slice_set binds (place_of e row) x) (place_of i r) None ≡ cond (eqb i e && eqb r row) x (get_or binds (place_of i r) None)
+set_place : (binds : List (Option Binding)) (e row i r : ℕ) (x : Option Binding) → HasStripe binds e → row < stripe_rows → r < stripe_rows → get_or (slice_set binds (stripe_place e row) x) (stripe_place i r) None ≡ cond (eqb i e && eqb r row) x (get_or binds (stripe_place i r) None)
 set_place binds e row i r x has below within =
     elim (cases_eq i e) [
       | inl same_env ↦
           elim (cases_eq r row) [
-            | inl same_row ↦ rw (eq-eqb i e same_env, eq-eqb r row same_row, same_env, same_row) (get_or-set_same binds (place_of e row) x None (omega arith))
-            | inr other_row ↦ let apart : place_of i r ≢ place_of e row = λ p. other_row (same_from_place i r e row stripe_rows within below p).1 in
-                rw (ne_eqb r row other_row, and_right (eqb i e) false refl) (get_or-set_other binds (place_of e row) (place_of i r) x None apart)
+            | inl same_row ↦ rw (eq-eqb i e same_env, eq-eqb r row same_row, same_env, same_row) (get_or-set_same binds (stripe_place e row) x None (omega arith))
+            | inr other_row ↦ let apart : stripe_place i r ≢ stripe_place e row = λ p. other_row (same_from_place i r e row stripe_rows within below p).1 in
+                rw (ne_eqb r row other_row, and_right (eqb i e) false refl) (get_or-set_other binds (stripe_place e row) (stripe_place i r) x None apart)
           ]
-      | inr other_env ↦ let apart : place_of i r ≢ place_of e row = λ p. other_env (same_from_place i r e row stripe_rows within below p).0 in
-          rw (ne_eqb i e other_env) (get_or-set_other binds (place_of e row) (place_of i r) x None apart)
+      | inr other_env ↦ let apart : stripe_place i r ≢ stripe_place e row = λ p. other_env (same_from_place i r e row stripe_rows within below p).0 in
+          rw (ne_eqb i e other_env) (get_or-set_other binds (stripe_place e row) (stripe_place i r) x None apart)
     ]
 
 -- what is put into a row of a stripe stands in that row alone
-pub row_set : (binds : List (Option Binding)) (e row : ℕ) (x : Option Binding) → HasStripe binds e → row < stripe_rows → (i r : ℕ) → stripes (slice_set binds (place_of e row) x) i r ≡ cond (eqb i e && eqb r row) x (stripes binds i r)
+pub row_set : (binds : List (Option Binding)) (e row : ℕ) (x : Option Binding) → HasStripe binds e → row < stripe_rows → (i r : ℕ) → stripes (slice_set binds (stripe_place e row) x) i r ≡ cond (eqb i e && eqb r row) x (stripes binds i r)
 row_set binds e row x has below i r =
     elim (cases_lt r stripe_rows) [
       | inl within ↦ rw (lt-ltb r stripe_rows within) (set_place binds e row i r x has below within)
@@ -46,12 +46,12 @@ row_set binds e row x has below i r =
     ]
 
 -- the row in which a binding is found is there
-pub found_there : (binds : List (Option Binding)) (e vpn : ℕ) → is_some (binding_at (stripes binds e) vpn) ≡ true → place_of e (row_of vpn) < length binds
+pub found_there : (binds : List (Option Binding)) (e vpn : ℕ) → is_some (binding_at (stripes binds e) vpn) ≡ true → stripe_place e (row_of vpn) < length binds
 found_there binds e vpn found =
-    elim (cases_lt (place_of e (row_of vpn)) (length binds)) [
+    elim (cases_lt (stripe_place e (row_of vpn)) (length binds)) [
       | inl below ↦ below
       | inr past ↦
           let below : row_of vpn < stripe_rows = omega arith in
-          let none = get_or_past binds (place_of e (row_of vpn)) None past in
+          let none = get_or_past binds (stripe_place e (row_of vpn)) None past in
           cc (rw (lt-ltb (row_of vpn) stripe_rows below, none) at found)
     ]

@@ -3,7 +3,7 @@ use Rattle.std.proofs.Common.{arith, refl, ap, ◌∙◌, ◌≡◌, ◌+◌, �
 use Rattle.std.proofs.lemmas.Bool.{cases_lt, lt-ltb, le-ltb}
 use Rattle.std.proofs.lemmas.Nat.{div-mul-add}
 use Rattle.bind_book.specs.declared.binding.Binding.{Binding}
-use Rattle.bind_book.specs.Stripe.{stripe_rows, place_of, stripes, without, swept_from, swept}
+use Rattle.bind_book.specs.Stripe.{stripe_rows, stripe_place, stripes, without, swept_from, swept}
 
 swept_place : (place : ℕ) (broken : ℕ → Binding → Bool) (binds : List (Option Binding)) (i : ℕ) → get_or (swept_from place broken binds) i None ≡ without (broken ((place + i) / stripe_rows)) (get_or binds i None)
 swept_place place broken [] i = refl
@@ -18,8 +18,8 @@ unfolding swept
 swept_row broken binds e row =
     elim (cases_lt row stripe_rows) [
       | inl below ↦
-          let env : (0 + place_of e row) / stripe_rows ≡ e = ap (λ (n : ℕ). n / stripe_rows) (omega arith) ∙ div-mul-add e stripe_rows row below in
-          rw (lt-ltb row stripe_rows below) (swept_place 0 broken binds (place_of e row) ∙ ap (λ (n : ℕ). without (broken n) (get_or binds (place_of e row) None)) env)
+          let env : (0 + stripe_place e row) / stripe_rows ≡ e = ap (λ (n : ℕ). n / stripe_rows) (omega arith) ∙ div-mul-add e stripe_rows row below in
+          rw (lt-ltb row stripe_rows below) (swept_place 0 broken binds (stripe_place e row) ∙ ap (λ (n : ℕ). without (broken n) (get_or binds (stripe_place e row) None)) env)
       | inr past ↦ rw (le-ltb row stripe_rows past) refl
     ]
 

@@ -18,8 +18,8 @@ abbrev pub row_of : ℕ → ℕ
 row_of vpn = vpn % stripe_rows
 
 -- the place of an environment's row among all
-abbrev pub place_of : ℕ → ℕ → ℕ
-place_of e row = e * stripe_rows + row
+abbrev pub stripe_place : ℕ → ℕ → ℕ
+stripe_place e row = e * stripe_rows + row
 
 -- the environment has its stripe
 abbrev pub HasStripe : List (Option Binding) → ℕ → Type 0
@@ -27,7 +27,7 @@ HasStripe binds e = e * stripe_rows + stripe_rows ≤ length binds
 
 -- the rows of all environments: by environment, the binding that stands in each row of its stripe
 abbrev pub stripes : List (Option Binding) → ℕ → ℕ → Option Binding
-stripes binds e row = if nat_lt row stripe_rows then slice_index_or binds (place_of e row) None else None
+stripes binds e row = if nat_lt row stripe_rows then slice_index_or binds (stripe_place e row) None else None
 
 -- the binding in a row, if it is that of this VPN
 abbrev pub of_number : ℕ → Option Binding → Option Binding
@@ -40,7 +40,7 @@ binding_at stripe vpn = of_number vpn (stripe (row_of vpn))
 
 -- the rows once the binding of an environment's VPN, if there is one, is gone
 abbrev pub unbound : List (Option Binding) → ℕ → ℕ → List (Option Binding)
-unbound binds e vpn = if is_some (binding_at (stripes binds e) vpn) then slice_set binds (place_of e (row_of vpn)) None else binds
+unbound binds e vpn = if is_some (binding_at (stripes binds e) vpn) then slice_set binds (stripe_place e (row_of vpn)) None else binds
 
 -- whether the binding in a row is of this page
 abbrev pub is_of_page : ℕ → Option Binding → Bool

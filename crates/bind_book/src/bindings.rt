@@ -2,7 +2,7 @@
 ghost use Rattle.std.specs.Prelude.{◌≡◌, ◌<◌, ◌≤◌, ◌*◌, length, replicate, is_some, slice_set, IfOk};
 ghost use Rattle.aegis_limits.specs.Limits.{most_environments, vpn_end};
 ghost use Rattle.page_book.specs.Rows.{most_rows, row_in};
-ghost use Rattle.bind_book.specs.Stripe.{stripe_rows, row_of, place_of, HasStripe, stripes, binding_at, unbound, breaks_page, goes_with, swept};
+ghost use Rattle.bind_book.specs.Stripe.{stripe_rows, row_of, stripe_place, HasStripe, stripes, binding_at, unbound, breaks_page, goes_with, swept};
 
 use crate::binding::Binding;
 use crate::sweep::{break_page, clear_env};
@@ -49,7 +49,7 @@ impl Bindings {
         requires number { vpn < vpn_end }
         requires page { page < most_rows }
         ensures replaced { result ≡ stripes self.old env (row_of vpn) }
-        ensures after { self.new ≡ slice_set self.old (place_of env (row_of vpn)) (Some (record { vpn = vpn; page = page; writable = writable })) }
+        ensures after { self.new ≡ slice_set self.old (stripe_place env (row_of vpn)) (Some (record { vpn = vpn; page = page; writable = writable })) }
         ensures count { length self.new ≡ length self.old }
     {
         let row = vpn % STRIPE_ROWS;
@@ -117,7 +117,7 @@ impl Bindings {
 /// The place of an environment's row among all rows.
 fn place(env: u8, row: u32) -> usize
     requires { row < stripe_rows }
-    ensures { result ≡ place_of env row }
+    ensures { result ≡ stripe_place env row }
 {
     env as usize * STRIPE_ROWS as usize + row as usize
 }

@@ -1,7 +1,7 @@
 //! The laws of stripes.
 ghost use Rattle.std.specs.Prelude.{◌≡◌, ◌<◌, ◌==◌, ◌&&◌, ◌↔◌, if◌then◌else◌, ℕ, Bool, false, List, Option, replicate, slice_set};
 ghost use Rattle.bind_book.specs.declared.binding.Binding.{Binding};
-ghost use Rattle.bind_book.specs.Stripe.{stripe_rows, place_of, HasStripe, stripes, is_of_page, is_bound, without, swept};
+ghost use Rattle.bind_book.specs.Stripe.{stripe_rows, stripe_place, HasStripe, stripes, is_of_page, is_bound, without, swept};
 
 /// A sweep leaves in each row of each environment what was there, if it isn't broken for that environment.
 pub fn law_swept()
@@ -10,7 +10,7 @@ pub fn law_swept()
 
 /// What is put into a row of an environment that has a stripe stands in that row alone.
 pub fn law_row_set()
-    ensures { (binds : List (Option Binding)) (e row : ℕ) (x : Option Binding) → HasStripe binds e → row < stripe_rows → (i r : ℕ) → stripes (slice_set binds (place_of e row) x) i r ≡ (if i == e && r == row then x else stripes binds i r) }
+    ensures { (binds : List (Option Binding)) (e row : ℕ) (x : Option Binding) → HasStripe binds e → row < stripe_rows → (i r : ℕ) → stripes (slice_set binds (stripe_place e row) x) i r ≡ (if i == e && r == row then x else stripes binds i r) }
 {}
 
 /// A page is bound in a stripe exactly if a row has a binding of it.

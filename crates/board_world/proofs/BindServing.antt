@@ -8,7 +8,7 @@ use Rattle.page_book.specs.declared.row.PageRow.TheVariants.{Free, Guaranteed, O
 use Rattle.page_book.specs.Row.{is_owned_by, owner_of}
 use Rattle.page_book.specs.Rows.{row_in}
 use Rattle.bind_book.specs.declared.binding.Binding.{Binding}
-use Rattle.bind_book.specs.Stripe.{HasStripe, binding_at, is_bound, place_of, row_of, stripe_rows, stripes}
+use Rattle.bind_book.specs.Stripe.{HasStripe, binding_at, is_bound, stripe_place, row_of, stripe_rows, stripes}
 use Rattle.page_sight.specs.Sight.{Sees, seen_if, seen_in}
 use Rattle.page_sight.proofs.Sights.{binder_sees, unbinder_loses}
 use Rattle.world_model.specs.declared.call.Deed.TheVariants.{Binds, Unbinds}
@@ -101,7 +101,7 @@ module _ (b : Shown) (e : ℕ) (x : Environment) (r : Runs b e x) (sound : IsSou
   pub binds : (y : Binding) (word v : ℕ) → MayBind (world_of b) e y word → Serves b e (deeded (Binds y word) v (solo_of b e)) (done (world_of b) e (Binds y word)) (doing.granted b e v (Binds y word))
   binds y word v may =
       let mine = set_at (row_of y.vpn) (Some y) (stripes b.binds e) in
-      let rows = slice_set b.binds (place_of e (row_of y.vpn)) (Some y) in
+      let rows = slice_set b.binds (stripe_place e (row_of y.vpn)) (Some y) in
       let set = stripe_set b.binds e (row_of y.vpn) (Some y) striped (row_within y.vpn) in
       let sees = binder_sees e y (row_in b.pages) (stripe_of b e) (page_at b.frames) (runner_solo b e x) (own_sees b e x) in
       let owned : IsOwned (row_in b.pages y.page) = subst IsOwned (sym may.right.owned) tt in

@@ -8,7 +8,7 @@ use Rattle.page_book.specs.declared.row.PageRow.TheVariants.{Free, Guaranteed, O
 use Rattle.page_book.specs.Row.{belongs_to, owner_of, released}
 use Rattle.page_book.specs.Rows.{row_in}
 use Rattle.bind_book.specs.declared.binding.Binding.{Binding}
-use Rattle.bind_book.specs.Stripe.{HasStripe, breaks_page, goes_with, place_of, row_of, stripe_rows, stripes, swept, without}
+use Rattle.bind_book.specs.Stripe.{HasStripe, breaks_page, goes_with, stripe_place, row_of, stripe_rows, stripes, swept, without}
 use Rattle.bind_book.proofs.Rows.{row_set}
 use Rattle.bind_book.proofs.Swept.{length-swept, swept_row}
 use Rattle.world_model.specs.declared.life.Cause.{Cause}
@@ -89,7 +89,7 @@ free_booked pages binds r page within are = record {
 
 -- a row of a stripe takes a binding, or none
 module _ (pages : List PageRow) (binds : List (Option Binding)) (r : Environments) (e row : ℕ) (y : Option Binding) (are : AreBooked pages binds r) (lives : IsLive r.list e) (below : row < stripe_rows) where
-  here_or_before : (i at : ℕ) (x : Binding) → stripes (slice_set binds (place_of e row) y) i at ≡ Some x → (P : Type 0) → (i ≡ e → y ≡ Some x → P) → (stripes binds i at ≡ Some x → P) → P
+  here_or_before : (i at : ℕ) (x : Binding) → stripes (slice_set binds (stripe_place e row) y) i at ≡ Some x → (P : Type 0) → (i ≡ e → y ≡ Some x → P) → (stripes binds i at ≡ Some x → P) → P
   here_or_before i at x is P here before = by_test (i == e) (at == row) refl (sym (row_set binds e row y (its_stripe pages binds r e are lives.0) below i at) ∙ is)
     where
       by_test : (its same : Bool) → (i == e) ≡ its → (if its && same then y else stripes binds i at) ≡ Some x → P
@@ -97,20 +97,20 @@ module _ (pages : List PageRow) (binds : List (Option Binding)) (r : Environment
       by_test true false env is = before is
       by_test false same env is = before is
 
-  pub row_booked : ((x : Binding) → y ≡ Some x → IsOwned (row_in pages x.page)) → AreBooked pages (slice_set binds (place_of e row) y) r
+  pub row_booked : ((x : Binding) → y ≡ Some x → IsOwned (row_in pages x.page)) → AreBooked pages (slice_set binds (stripe_place e row) y) r
   row_booked owned = record {
-    striped = length-set binds (place_of e row) y ∙ are.striped;
+    striped = length-set binds (stripe_place e row) y ∙ are.striped;
     owners = are.owners;
     binders = λ i at x is. here_or_before i at x is (IsLive r.list i) (λ same its. subst (IsLive r.list) (sym same) lives) (are.binders i at x);
     bound = λ i at x is. here_or_before i at x is (IsOwned (row_in pages x.page)) (λ same its. owned x its) (are.bound i at x);
   }
 
 -- a VPN is bound, to a page that somebody owns
-pub bind_booked : (pages : List PageRow) (binds : List (Option Binding)) (r : Environments) (e : ℕ) (x : Binding) → IsLive r.list e → IsOwned (row_in pages x.page) → AreBooked pages binds r → AreBooked pages (slice_set binds (place_of e (row_of x.vpn)) (Some x)) r
+pub bind_booked : (pages : List PageRow) (binds : List (Option Binding)) (r : Environments) (e : ℕ) (x : Binding) → IsLive r.list e → IsOwned (row_in pages x.page) → AreBooked pages binds r → AreBooked pages (slice_set binds (stripe_place e (row_of x.vpn)) (Some x)) r
 bind_booked pages binds r e x lives owned are = row_booked pages binds r e (row_of x.vpn) (Some x) are lives (row_within x.vpn) (λ y is. let same : x ≡ y = cc in subst (λ (z : Binding). IsOwned (row_in pages z.page)) same owned)
 
 -- or unbound, if it was bound
-pub unbind_booked : (pages : List PageRow) (binds : List (Option Binding)) (r : Environments) (e vpn : ℕ) (bound : Bool) → IsLive r.list e → AreBooked pages binds r → AreBooked pages (if bound then slice_set binds (place_of e (row_of vpn)) None else binds) r
+pub unbind_booked : (pages : List PageRow) (binds : List (Option Binding)) (r : Environments) (e vpn : ℕ) (bound : Bool) → IsLive r.list e → AreBooked pages binds r → AreBooked pages (if bound then slice_set binds (stripe_place e (row_of vpn)) None else binds) r
 unbind_booked pages binds r e vpn true lives are = row_booked pages binds r e (row_of vpn) None are lives (row_within vpn) (λ x is. cc)
 unbind_booked pages binds r e vpn false lives are = are
 

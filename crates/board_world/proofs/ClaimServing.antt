@@ -16,7 +16,7 @@ use Rattle.world_model.specs.Downloads.{MayDownload, handler_at, handler_of, han
 use Rattle.world_model.specs.Item.{answered_cpu, own_part}
 use Rattle.world_model.specs.May.{MayClaim}
 use Rattle.world_model.specs.Page.{Mapped}
-use Rattle.world_model.specs.Rings.{handled_if, ring_of}
+use Rattle.world_model.specs.Rings.{ring_with_handler_if, ring_of}
 use Rattle.world_model.specs.Solo.{Solo, sight}
 use Rattle.world_model.specs.Verdict.{done}
 use Rattle.world_model.specs.World.{no_items}
@@ -95,7 +95,7 @@ module _ (b : Shown) (e : ℕ) (x : Environment) (r : Runs b e x) (sound : IsSou
       changes_claims (Downloads claim address words) v (downloaded claim handler b.claims) (book_of b)
       (λ k. record (book_of b) { claims = claims_downloaded b.claims claim handler k })
       (λ k. record (runner_solo b e x) {
-        rings = (rings_downloaded b.claims claim e handler ∙ (λ j. map (handled_if claim (handler_or_none (handler_at (looks j) address words))) (rings_of b.claims e))) k;
+        rings = (rings_downloaded b.claims claim e handler ∙ (λ j. map (ring_with_handler_if claim (handler_or_none (handler_at (looks j) address words))) (rings_of b.claims e))) k;
       })
       (λ i ne. rings_downloaded_else law b.claims e claim i handler numbered own ne)
 

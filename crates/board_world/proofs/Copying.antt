@@ -19,7 +19,7 @@ use Rattle.world_model.specs.Book.{sees}
 use Rattle.world_model.specs.Item.{absorb_all}
 use Rattle.world_model.specs.PageCalls.{left_by, left_if}
 use Rattle.world_model.specs.Rings.{page_store}
-use Rattle.world_model.specs.Solo.{Solo, Store, kept_after, stored}
+use Rattle.world_model.specs.Solo.{Solo, Store, kept_after, with_store}
 use Rattle.world_model.specs.Table.{set_at}
 use Rattle.board_world.specs.declared.roster.Environment.{Environment}
 use Rattle.board_world.specs.Shown.{Shown, mappings_in, mappings_of}
@@ -69,14 +69,14 @@ module _ (b : Shown) (sound : IsSound b) (e page : ℕ) (own : is_owned_by e (ro
   its_maps : mappings_of b.roster.list e ≡ x.env.mappings
   its_maps = ap mappings_in at
 
-  pub stored_here : solo_of now e ≡ stored store (solo_of b e)
+  pub stored_here : solo_of now e ≡ with_store store (solo_of b e)
   stored_here =
       let kept : pages_seen memory x.env.mappings ≡ kept_after owner.kept store =
       ap (pages_seen memory) (sym its_maps) ∙ pages_stay e ∙ ap (pages_seen b.frames) its_maps ∙ sym (kept_as_was owner.kept page 0 bytes) in
-      let sights = given_sights e (stored store owner) (writer_sees e page store (row_in b.pages) (stripe_of b e) (page_at b.frames) owner (record { binds = λ row. refl; seen = λ p. refl }) refl) in
+      let sights = given_sights e (with_store store owner) (writer_sees e page store (row_in b.pages) (stripe_of b e) (page_at b.frames) owner (record { binds = λ row. refl; seen = λ p. refl }) refl) in
       ap (solo_or_absent now e) at
       ∙ (λ k. record (solo_seen b e x) { life = lives k; kept = kept k; seen = sights k })
-      ∙ ap (stored store) (sym (ap (solo_or_absent b e) at ∙ (λ k. record (solo_seen b e x) { life = lives k })))
+      ∙ ap (with_store store) (sym (ap (solo_or_absent b e) at ∙ (λ k. record (solo_seen b e x) { life = lives k })))
 
   -- whoever else sees the page
   reader : (i : ℕ) → i ≢ e → (z : Environment) → slice_get b.roster.list i ≡ Some z → z.life ≡ Live → sees (book_of b) i page ≡ true → solo_of now i ≡ absorb_all (solo_of b i) (left_if true page store)

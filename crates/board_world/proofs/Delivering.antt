@@ -47,7 +47,7 @@ module _ (law : FirstIsNumbered) (b : Shown) (sound : IsSound b) (numbered : are
       ∙ ap turned (copying.stored_here b sound e page own x at lives bytes)
     where
       turned : Solo → Solo
-      turned s = record s { rings = map (ring.turned_if r.claim.id) s.rings }
+      turned s = record s { rings = map (ring.ring_after_packet_if r.claim.id) s.rings }
 
   -- whoever else sees the page
   pub ring_left : (i : ℕ) → i ≢ e → solo_of now i ≡ absorb_all (solo_of b i) (left_by (book_of b) e (page_store page bytes) i)

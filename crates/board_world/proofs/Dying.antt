@@ -22,7 +22,7 @@ use Rattle.slot_vector.specs.Slices.{excess_of, hold_at, without_env}
 use Rattle.slot_vector.proofs.Owed.{excess_set}
 use Rattle.world_model.specs.declared.slot.Hold.{Hold}
 use Rattle.world_model.specs.declared.life.Cause.{Cause}
-use Rattle.world_model.specs.Book.{released, has_part, is_runner}
+use Rattle.world_model.specs.Book.{hold_without, has_part, is_runner}
 use Rattle.world_model.specs.Item.{absorb_all}
 use Rattle.world_model.specs.Solo.{dead}
 use Rattle.world_model.specs.Death.{death, death_items, lost_with, released_row, released_rows}
@@ -46,13 +46,13 @@ use Rattle.board_world.proofs.Tables.{row_past, row_released}
 use Rattle.board_world.proofs.Wired.{line_freed}
 
 -- The slots once an environment is gone.
-pub hold_at-map : (e : ℕ) (slots : List (Option Hold)) (k : ℕ) → hold_at (map (released e) slots) k ≡ released e (hold_at slots k)
+pub hold_at-map : (e : ℕ) (slots : List (Option Hold)) (k : ℕ) → hold_at (map (hold_without e) slots) k ≡ hold_without e (hold_at slots k)
 hold_at-map e [] k = refl
 hold_at-map e (hold ∷ slots) zero = refl
 hold_at-map e (hold ∷ slots) (suc k) = hold_at-map e slots k
 
 one_row : (t e k : ℕ) (hold : Option Hold) → length (released_row t e k hold) ≤ 1
-one_row t e k hold = elim (has_part e hold) as (λ part. length (if part then slot_row t k (released e hold) ∷ [] else []) ≤ 1) [ true ↦ omega arith | false ↦ omega arith ]
+one_row t e k hold = elim (has_part e hold) as (λ part. length (if part then slot_row t k (hold_without e hold) ∷ [] else []) ≤ 1) [ true ↦ omega arith | false ↦ omega arith ]
 
 pub few_rows : (t e : ℕ) (slots : ℕ → Option Hold) (k : ℕ) → length (released_rows t e slots k) ≤ k
 few_rows t e slots zero = omega arith
@@ -161,7 +161,7 @@ module _ (b : Shown) (e : ℕ) (x : Environment) (r : Runs b e x) (may : MayDie 
         let ended : (without_env e b.slots).runner ≡ None = rw r.runs.its refl in
         let forgiven : excess_of (without_env e b.slots).excess ≡ set_at e 0 (excess_of b.slots.excess) = excess_set b.slots.excess e 0 may.numbered in
         λ k. record {
-          slot_count = length-map b.slots.slots (released e) k;
+          slot_count = length-map b.slots.slots (hold_without e) k;
           slots = λ n. hold_at-map e b.slots.slots n k;
           quantum = b.slots.quantum;
           cursor = b.slots.cursor;

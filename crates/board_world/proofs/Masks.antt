@@ -7,7 +7,7 @@ use Rattle.kernel_journal.specs.Ledger.{Ledger, with_row}
 use Rattle.kernel_journal.specs.declared.row.Row.{Row}
 use Rattle.slot_vector.specs.Slices.{bit, hold_at, mask_of}
 use Rattle.world_model.specs.declared.slot.Hold.{Hold}
-use Rattle.world_model.specs.Book.{released, has_part}
+use Rattle.world_model.specs.Book.{hold_without, has_part}
 use Rattle.world_model.specs.Death.{released_rows}
 use Rattle.world_model.specs.SlotCalls.{slot_row}
 use Rattle.board_world.specs.Doing.{mask_rows, shifted, with_rows}
@@ -40,17 +40,17 @@ named_row : (t k : ℕ) (b : Bool) (hold : Option Hold) → (if bit b == 1 then 
 named_row t k true hold = refl
 named_row t k false hold = refl
 
-rows_below : (t e : ℕ) (slots : List (Option Hold)) (k : ℕ) → mask_rows t (mask_of e slots) (hold_at (map (released e) slots)) k ≡ released_rows t e (hold_at slots) k
+rows_below : (t e : ℕ) (slots : List (Option Hold)) (k : ℕ) → mask_rows t (mask_of e slots) (hold_at (map (hold_without e) slots)) k ≡ released_rows t e (hold_at slots) k
 rows_below t e slots zero = refl
 rows_below t e slots (suc k) =
-    ap (λ rows. rows ++ (if shifted (mask_of e slots) k % 2 == 1 then slot_row t k (hold_at (map (released e) slots) k) ∷ [] else [])) (rows_below t e slots k)
-    ∙ ap (λ (n : ℕ). released_rows t e (hold_at slots) k ++ (if n == 1 then slot_row t k (hold_at (map (released e) slots) k) ∷ [] else [])) (mask_bit e slots k)
-    ∙ ap (λ rows. released_rows t e (hold_at slots) k ++ rows) (named_row t k (has_part e (hold_at slots k)) (hold_at (map (released e) slots) k))
+    ap (λ rows. rows ++ (if shifted (mask_of e slots) k % 2 == 1 then slot_row t k (hold_at (map (hold_without e) slots) k) ∷ [] else [])) (rows_below t e slots k)
+    ∙ ap (λ (n : ℕ). released_rows t e (hold_at slots) k ++ (if n == 1 then slot_row t k (hold_at (map (hold_without e) slots) k) ∷ [] else [])) (mask_bit e slots k)
+    ∙ ap (λ rows. released_rows t e (hold_at slots) k ++ rows) (named_row t k (has_part e (hold_at slots k)) (hold_at (map (hold_without e) slots) k))
     ∙ ap (λ hold. released_rows t e (hold_at slots) k ++ (if has_part e (hold_at slots k) then slot_row t k hold ∷ [] else [])) (hold_at-released e slots k)
 
 -- the rows that the mask names once the environment is gone
-pub rows_named : (t e : ℕ) (slots : List (Option Hold)) → mask_rows t (mask_of e slots) (hold_at (map (released e) slots)) (length (map (released e) slots)) ≡ released_rows t e (hold_at slots) (length slots)
-rows_named t e slots = ap (mask_rows t (mask_of e slots) (hold_at (map (released e) slots))) (length-map slots (released e)) ∙ rows_below t e slots (length slots)
+pub rows_named : (t e : ℕ) (slots : List (Option Hold)) → mask_rows t (mask_of e slots) (hold_at (map (hold_without e) slots)) (length (map (hold_without e) slots)) ≡ released_rows t e (hold_at slots) (length slots)
+rows_named t e slots = ap (mask_rows t (mask_of e slots) (hold_at (map (hold_without e) slots))) (length-map slots (hold_without e)) ∙ rows_below t e slots (length slots)
 
 -- few rows
 pub few_named : (t mask : ℕ) (slots : ℕ → Option Hold) (k : ℕ) → length (mask_rows t mask slots k) ≤ k

@@ -31,7 +31,7 @@ use Rattle.world_model.specs.PageCalls.{breaks, page_bytes}
 use Rattle.world_model.specs.Post.{post_word}
 use Rattle.world_model.specs.Repossession.{copied, counted_taking, recorded, taken}
 use Rattle.world_model.specs.Rings.{page_store}
-use Rattle.world_model.specs.Solo.{Physical, bytes_in, bytes_of, bytes_seen, kept_at, stored}
+use Rattle.world_model.specs.Solo.{Physical, bytes_in, bytes_of, bytes_seen, kept_at, with_store}
 use Rattle.world_model.specs.Tick.{served}
 use Rattle.world_model.specs.World.{World, Reply, after, run_phases}
 use Rattle.board_world.specs.declared.roster.Environment.{Environment}
@@ -242,7 +242,7 @@ module _ (b : Shown) (sound : IsSound b) (x : Taking) (may : IsTakable (books_of
   copied_here None is = refl
   copied_here (Some backup) is =
       copying.stored_here b sound e backup (backup_own backup is) its lived.1.0 lived.1.1 (page_at b.frames x.page)
-      ∙ ap (λ bytes. stored (page_store backup bytes) (solo_of b e)) (sym page_is)
+      ∙ ap (λ bytes. with_store (page_store backup bytes) (solo_of b e)) (sym page_is)
 
   copied_else : (o : Option ℕ) → x.backup ≡ o → (i : ℕ) → i ≢ e → solo_of (record b { frames = copied_to x.page o b.frames }) i ≡ absorb_all (solo_of b i) (copy_left (world_of b) x o i)
   copied_else None is i ne = refl

@@ -20,7 +20,7 @@ use Rattle.world_model.specs.declared.slot.Runner.{Runner}
 use Rattle.world_model.specs.declared.slot.Turn.{Turn}
 use Rattle.world_model.specs.declared.slot.Phase.{Phase}
 use Rattle.world_model.specs.declared.slot.Phase.TheVariants as phase
-use Rattle.world_model.specs.Book.{excess_limit, first_turn, has_part, is_runner, own_hold, released, running, turn_or}
+use Rattle.world_model.specs.Book.{excess_limit, first_turn, has_part, is_runner, own_hold, hold_without, running, turn_or}
 use Rattle.world_model.specs.SlotCalls.{dropped, handed, held_by}
 use Rattle.world_model.specs.declared.life.Life.TheVariants.{Live}
 use Rattle.world_model.specs.declared.life.Cause.{Cause}
@@ -199,14 +199,14 @@ pub runner_within : (v : Slices) (r : Environments) (e : ℕ) → IsManned v r �
 runner_within v r e manned runs = (runner_alive v r e manned runs).0
 
 -- the slots once one is gone
-pub hold_at-released : (e : ℕ) (slots : List (Option Hold)) (k : ℕ) → hold_at (map (released e) slots) k ≡ released e (hold_at slots k)
+pub hold_at-released : (e : ℕ) (slots : List (Option Hold)) (k : ℕ) → hold_at (map (hold_without e) slots) k ≡ hold_without e (hold_at slots k)
 hold_at-released e [] k = refl
 hold_at-released e (hold ∷ slots) zero = refl
 hold_at-released e (hold ∷ slots) (suc k) = hold_at-released e slots k
 
 -- a release leaves it none
 module _ (v : Slices) (r : Environments) (e : ℕ) where
-  released_part : (hold : Option Hold) → has_part e (released e hold) ≡ false
+  released_part : (hold : Option Hold) → has_part e (hold_without e hold) ≡ false
   released_part None = refl
   released_part (Some h) = by_owner (h.owner == e) refl
     where
@@ -229,7 +229,7 @@ module _ (v : Slices) (r : Environments) (e : ℕ) where
   pub none_left : HasNoPart e (without_env e v)
   none_left = record { runs = ended v.runner; parts = λ k. rw (hold_at-released e v.slots k) (released_part (hold_at v.slots k)) }
 
-  released_undead : (hold : Option Hold) → IfSome hold (λ h. IsUndead r h.owner × IsUndead r h.holder) → IfSome (released e hold) (λ h. IsUndead r h.owner × IsUndead r h.holder)
+  released_undead : (hold : Option Hold) → IfSome hold (λ h. IsUndead r h.owner × IsUndead r h.holder) → IfSome (hold_without e hold) (λ h. IsUndead r h.owner × IsUndead r h.holder)
   released_undead None undead = undead
   released_undead (Some h) undead = by_owner (h.owner == e)
     where
@@ -247,7 +247,7 @@ module _ (v : Slices) (r : Environments) (e : ℕ) where
     ticks = tt;
     runner = tt;
     holds = λ k. rw (hold_at-released e v.slots k) (released_undead (hold_at v.slots k) (manned.holds k));
-    count = omega (arith, length-map v.slots (released e), manned.count);
+    count = omega (arith, length-map v.slots (hold_without e), manned.count);
     numbered = length-set v.excess e 0 ∙ manned.numbered;
     owes = λ i. set_all (λ n. n ≤ excess_limit) v.excess e i 0 0 (omega arith) (manned.owes i);
   })

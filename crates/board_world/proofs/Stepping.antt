@@ -35,7 +35,7 @@ use Rattle.filter_tree.specs.ClaimBook.{are_numbered}
 use Rattle.filter_tree.specs.Laws.{FirstIsNumbered}
 use Rattle.world_model.specs.Item.{Item, Step as AStep, absorb, absorb_all}
 use Rattle.world_model.specs.PageCalls.{left_at, left_if}
-use Rattle.world_model.specs.Solo.{Solo, Store, Key, Kept, Physical, bound_place, kept_after, place_at, store_of, store_through, stored}
+use Rattle.world_model.specs.Solo.{Solo, Store, Key, Kept, Physical, bound_place, kept_after, place_at, store_of, store_through, with_store}
 use Rattle.world_model.specs.Step.{Act, act_of, acted, call_act, step_alone, stepped, store_act, trap_act}
 use Rattle.world_model.specs.World.{World, after, in_turn, no_change, only, run_phases, tells}
 use Rattle.world_model.specs.Tick as tick
@@ -196,7 +196,7 @@ module _ (b : Shown) (e : ℕ) (x : Environment) (r : Runs b e x) (sound : IsSou
       own_pages =
           ap (pages_seen (memory_after b w y.page)) (sym ms_are) ∙ pages_stay e ∙ ap (pages_seen b.frames) ms_are
           ∙ sym (kept_as_was (pages_seen b.frames x.env.mappings) y.page (w.address % page_size) w.bytes);
-      own_sights = given_sights e (stored (store_to w y.page) (runner_solo b e x)) (writer_sees e y.page (store_to w y.page) (row_in b.pages) (stripe_of b e) (page_at b.frames) (runner_solo b e x) (record { binds = λ row. refl; seen = λ p. refl }) refl);
+      own_sights = given_sights e (with_store (store_to w y.page) (runner_solo b e x)) (writer_sees e y.page (store_to w y.page) (row_in b.pages) (stripe_of b e) (page_at b.frames) (runner_solo b e x) (record { binds = λ row. refl; seen = λ p. refl }) refl);
       others = other;
     }
 

@@ -17,7 +17,7 @@ use Rattle.env_frames.specs.Frame.{mapping_at}
 use Rattle.guest_memory.specs.Look.{written_through}
 use Rattle.world_model.specs.Table.{set_at}
 use Rattle.world_model.specs.Page.{KeptPage}
-use Rattle.world_model.specs.Solo.{Store, Kept, Physical, kept_at, kept_after, page_after}
+use Rattle.world_model.specs.Solo.{Store, Kept, Physical, kept_at, kept_after, kept_page_after}
 use Rattle.page_sight.specs.Sight.{seen_if, seen_in}
 use Rattle.page_sight.proofs.Stripes.{bound_nowhere}
 use Rattle.page_sight.proofs.Tables.{by_number, set_here, set_else}
@@ -52,7 +52,7 @@ kept_without (p ∷ kept) x v key none = by_test (p.vpn == v) refl none (λ furt
     by_test : (here : Bool) → (p.vpn == v) ≡ here → (if here then Some p else kept_at kept v) ≡ None → (kept_at kept v ≡ None → kept_after kept x ≡ kept) → kept_after (p ∷ kept) x ≡ p ∷ kept
     by_test true is none tail = cc
     by_test false is none tail =
-        let head : page_after x p ≡ p = rw (key, is) refl in
+        let head : kept_page_after x p ≡ p = rw (key, is) refl in
         let rest = tail none in
         cc
 

@@ -8,7 +8,7 @@ use Rattle.page_book.specs.declared.row.PageRow.TheVariants.{Free}
 use Rattle.page_book.specs.Row.{released}
 use Rattle.page_book.specs.Rows.{row_in}
 use Rattle.bind_book.specs.declared.binding.Binding.{Binding}
-use Rattle.bind_book.specs.Stripe.{HasStripe, binding_at, place_of, row_of, stripe_rows, stripes}
+use Rattle.bind_book.specs.Stripe.{HasStripe, binding_at, stripe_place, row_of, stripe_rows, stripes}
 use Rattle.bind_book.proofs.Rows.{row_set}
 use Rattle.world_model.specs.Table.{set_at}
 use Rattle.world_model.specs.PageCalls.{without_number}
@@ -42,7 +42,7 @@ row_released e (row ∷ pages) zero = refl
 row_released e (row ∷ pages) (suc page) = row_released e pages page
 
 -- the stripes once a row of one of them is set
-pub stripe_set : (binds : List (Option Binding)) (e row : ℕ) (x : Option Binding) → HasStripe binds e → row < stripe_rows → (i r : ℕ) → stripes (slice_set binds (place_of e row) x) i r ≡ set_at e (set_at row x (stripes binds e)) (stripes binds) i r
+pub stripe_set : (binds : List (Option Binding)) (e row : ℕ) (x : Option Binding) → HasStripe binds e → row < stripe_rows → (i r : ℕ) → stripes (slice_set binds (stripe_place e row) x) i r ≡ set_at e (set_at row x (stripes binds e)) (stripes binds) i r
 stripe_set binds e row x has below i r =
     row_set binds e row x has below i r
     ∙ by_env (λ j. if j == e && r == row then x else stripes binds j r) (λ j. set_at e (set_at row x (stripes binds e)) (stripes binds) j r) e
@@ -52,9 +52,9 @@ stripe_set binds e row x has below i r =
 
 -- the stripes once a binding of one of them went, if there was one
 pub stripe_without : (binds : List (Option Binding)) (e vpn : ℕ) → HasStripe binds e → row_of vpn < stripe_rows → (i r : ℕ) →
-    stripes (if is_some (binding_at (stripes binds e) vpn) then slice_set binds (place_of e (row_of vpn)) None else binds) i r ≡ set_at e (without_number vpn (stripes binds e)) (stripes binds) i r
+    stripes (if is_some (binding_at (stripes binds e) vpn) then slice_set binds (stripe_place e (row_of vpn)) None else binds) i r ≡ set_at e (without_number vpn (stripes binds e)) (stripes binds) i r
 stripe_without binds e vpn has below i r = by_test (is_some (binding_at (stripes binds e) vpn))
   where
-    by_test : (t : Bool) → stripes (if t then slice_set binds (place_of e (row_of vpn)) None else binds) i r ≡ set_at e (if t then set_at (row_of vpn) None (stripes binds e) else stripes binds e) (stripes binds) i r
+    by_test : (t : Bool) → stripes (if t then slice_set binds (stripe_place e (row_of vpn)) None else binds) i r ≡ set_at e (if t then set_at (row_of vpn) None (stripes binds e) else stripes binds e) (stripes binds) i r
     by_test true = stripe_set binds e (row_of vpn) None has below i r
     by_test false = λ k. sym (set_same e (stripes binds) i) k r

@@ -40,7 +40,7 @@ use Rattle.page_book.specs.declared.row.Capabilities.{Capabilities}
 use Rattle.page_book.specs.Row.{released}
 use Rattle.page_book.specs.Rows.{row_in}
 use Rattle.bind_book.specs.declared.binding.Binding.{Binding}
-use Rattle.bind_book.specs.Stripe.{breaks_page, goes_with, place_of, row_of, swept, unbound}
+use Rattle.bind_book.specs.Stripe.{breaks_page, goes_with, stripe_place, row_of, swept, unbound}
 use Rattle.guest_memory.specs.Look.{look, frames_after, guest_step}
 use Rattle.guest_memory.specs.Space.{lookup}
 use Rattle.slot_vector.specs.declared.turn.NextTurn.{NextTurn}
@@ -419,7 +419,7 @@ with_downloaded b e claim address words = record b { claims = downloaded claim (
 
 -- Bind: the binding stands in its row.
 abbrev pub with_bound : Shown → ℕ → Binding → Shown
-with_bound b e x = record b { binds = slice_set b.binds (place_of e (row_of x.vpn)) (Some x) }
+with_bound b e x = record b { binds = slice_set b.binds (stripe_place e (row_of x.vpn)) (Some x) }
 
 -- Unbind: the row of the VPN is empty, if its binding stood there.
 abbrev pub with_unbound : Shown → ℕ → ℕ → Shown

@@ -23,7 +23,7 @@ struct GuestBus<'a> {
 
 impl Bus for GuestBus<'_> {
     ghost use Rattle.std.proofs.Common.{refl, sym, ◌∙◌, ap};
-    ghost use Rattle.guest_step.specs.Lent.{IsKept, IsStored, answers_of, stored};
+    ghost use Rattle.guest_step.specs.Lent.{IsKept, IsStored, answers_of, frames_with_store};
 
     ghost answers = { λ b. answers_of b.frames.now b.space.now };
 
@@ -37,7 +37,7 @@ impl Bus for GuestBus<'_> {
 
     ghost keeps_answers = { λ a b kept. ap (λ pages. answers_of pages a.space.now) (sym kept.frames) ∙ ap (answers_of b.frames.now) (sym kept.space) };
 
-    ghost stores_on = { λ a b c address bytes kept then. record { lent = then.lent ∙ kept.lent; frames = then.frames ∙ ap (λ pages. stored pages b.space.now address bytes) kept.frames ∙ ap (λ space. stored a.frames.now space address bytes) kept.space; space = then.space ∙ kept.space } };
+    ghost stores_on = { λ a b c address bytes kept then. record { lent = then.lent ∙ kept.lent; frames = then.frames ∙ ap (λ pages. frames_with_store pages b.space.now address bytes) kept.frames ∙ ap (λ space. frames_with_store a.frames.now space address bytes) kept.space; space = then.space ∙ kept.space } };
 
     fn fetch(&mut self, va: u32) -> Result<u32, Exc> {
         let mapping = locate(self.frames, self.space, Purpose::Fetch, va)?;

@@ -12,7 +12,7 @@ use Rattle.bind_book.specs.declared.binding.Binding.{Binding}
 use Rattle.bind_book.specs.Stripe.{binding_at, breaks_page, is_but, is_bound, is_of_page, row_of, without}
 use Rattle.world_model.specs.declared.life.Life.TheVariants.{Live}
 use Rattle.world_model.specs.Table.{set_at}
-use Rattle.world_model.specs.Solo.{Solo, Seen, Store, Physical, is_dead, is_physical, stored, stored_sight}
+use Rattle.world_model.specs.Solo.{Solo, Seen, Store, Physical, is_dead, is_physical, with_store, stored_sight}
 use Rattle.world_model.specs.Holding.{bound, gained, is_owned, lost, owning, still_seen, unbound, with_binds}
 use Rattle.world_model.specs.Item.{Lost, absorb_all}
 use Rattle.world_model.specs.Book.{sees}
@@ -225,7 +225,7 @@ readers_see i page x b bytes s seen lives = by_sees (sees b i page) refl
   where
     by_sees : (t : Bool) → sees b i page ≡ t → Sees i b.pages (b.binds i) (bytes_with_store page x bytes) (absorb_all s (left_if t page x))
     by_sees true is =
-        subst (λ (y : Solo). Sees i b.pages (b.binds i) (bytes_with_store page x bytes) y) (sym (ap (λ life. if is_dead life then s else stored (left_store page x) s) lives))
+        subst (λ (y : Solo). Sees i b.pages (b.binds i) (bytes_with_store page x bytes) y) (sym (ap (λ life. if is_dead life then s else with_store (left_store page x) s) lives))
         (writer_sees i page (left_store page x) b.pages (b.binds i) bytes s seen refl)
     by_sees false is = record {
       binds = seen.binds;

@@ -3,7 +3,7 @@ use Rattle.std.proofs.Common.{◌≡◌, ◌≢◌, ℕ, zero, suc, ◌<◌, Boo
 use Rattle.std.specs.Prelude.{◌==◌, List, if◌then◌else◌, slice_index_or}
 use Rattle.std.proofs.lemmas.Bool.{ne_eqb, eq-eqb, eqb-true, eqb-false, le-ltb, both_ways, cases_lt, or_cases, or_left, or_right, false_from_ne_true}
 use Rattle.bind_book.specs.declared.binding.Binding.{Binding}
-use Rattle.bind_book.specs.Stripe.{stripe_rows, is_of_page, is_bound_below, is_bound, place_of, row_of, stripes, without}
+use Rattle.bind_book.specs.Stripe.{stripe_rows, is_of_page, is_bound_below, is_bound, stripe_place, row_of, stripes, without}
 use Rattle.world_model.specs.Table.{set_at}
 use Rattle.page_sight.specs.Sight.{IsStripe}
 use Rattle.page_sight.proofs.Tables.{set_here}
@@ -125,7 +125,7 @@ nothing_goes page broken f ends unbound of_page row = kept_row broken (f row) (�
 
 -- each environment's rows are a stripe
 pub stripes_end : (binds : List (Option Binding)) (e : ℕ) → IsStripe (stripes binds e)
-stripes_end binds e row behind = ap (λ t. if t then slice_index_or binds (place_of e row) None else None) (le-ltb row stripe_rows behind)
+stripes_end binds e row behind = ap (λ t. if t then slice_index_or binds (stripe_place e row) None else None) (le-ltb row stripe_rows behind)
 
 -- so is a stripe without some of its bindings
 pub without_ends : (broken : Binding → Bool) (f : ℕ → Option Binding) → IsStripe f → IsStripe (λ row. without broken (f row))

@@ -9,7 +9,7 @@ use Rattle.bind_book.specs.declared.binding.Binding.{Binding}
 use Rattle.bind_book.specs.Stripe.{breaks_page, goes_with, is_bound, row_of, without}
 use Rattle.world_model.specs.declared.life.Life.TheVariants.{Live}
 use Rattle.world_model.specs.Table.{set_at}
-use Rattle.world_model.specs.Solo.{Solo, Store, Physical, stored}
+use Rattle.world_model.specs.Solo.{Solo, Store, Physical, with_store}
 use Rattle.world_model.specs.Holding.{owning, gained, lost, bound, unbound}
 use Rattle.world_model.specs.Item.{absorb_all}
 use Rattle.world_model.specs.Book.{Book, sees}
@@ -77,7 +77,7 @@ MournersLose = (gone i : ℕ) (b : Book) (bytes : ℕ → List ℕ) (s : Solo) �
 abbrev pub WriterSees : Type 0
 WriterSees = (e page : ℕ) (x : Store) (pages : ℕ → PageRow) (stripe : ℕ → Option Binding) (bytes : ℕ → List ℕ) (s : Solo) →
     Sees e pages stripe bytes s → x.key ≡ Physical page →
-    Sees e pages stripe (set_at page (with_bytes (bytes page) x.offset x.bytes) bytes) (stored x s)
+    Sees e pages stripe (set_at page (with_bytes (bytes page) x.offset x.bytes) bytes) (with_store x s)
 
 -- So does everybody else who owns the page or has bound it, to whom they are left.
 abbrev pub ReadersSee : Type 0

@@ -29,7 +29,7 @@ use Rattle.revocation_book.specs.declared.revocation.Pending.{Pending}
 use Rattle.revocation_book.specs.Pending.{lowered}
 use Rattle.revocation_book.specs.Backups.{loaded, unloaded}
 use Rattle.world_model.specs.Table.{set_at}
-use Rattle.world_model.specs.Book.{broken, own_hold, released, withdrawn}
+use Rattle.world_model.specs.Book.{broken, own_hold, hold_without, withdrawn}
 use Rattle.world_model.specs.Call.{called}
 use Rattle.world_model.specs.Death.{death, lost_with}
 use Rattle.world_model.specs.Item.{Item, Step, Start, Transfer, Answer, Gained, Lost, absorb, absorb_all, deed_at}
@@ -88,7 +88,7 @@ mild_accounts w r good mild =
 
 -- who has slots, or runs, after a death lived and isn't the dead one
 released_lives : (w v : World) (e : ℕ) → ((i : ℕ) → (i == e) ≡ false → Lives w i → Lives v i) → (old : Option Hold) → ((hold : Hold) → old ≡ Some hold → Lives w hold.owner × Lives w hold.holder)
-    → (hold : Hold) → released e old ≡ Some hold → Lives v hold.owner × Lives v hold.holder
+    → (hold : Hold) → hold_without e old ≡ Some hold → Lives v hold.owner × Lives v hold.holder
 released_lives w v e still None lived hold is = cc
 released_lives w v e still (Some old) lived hold is = by_owner (old.owner == e) refl is
   where
@@ -111,7 +111,7 @@ pub record Mourns (w : World) (e : ℕ) (r : Reply) (left : ℕ → ℕ) : Type 
   pub gone : Lives (after w r) e → ⊥
   pub others : (i : ℕ) → (i == e) ≡ false → (absorb_all (w.solos i) (r.items i)).life ≡ (w.solos i).life
   pub excess : (i : ℕ) → (i == e) ≡ false → r.book.excess i ≡ left i
-  pub slots : (k : ℕ) → r.book.slots k ≡ released e (w.book.slots k)
+  pub slots : (k : ℕ) → r.book.slots k ≡ hold_without e (w.book.slots k)
   pub runner : r.book.runner ≡ None
 
 pub mourning_is_calm : (w : World) (e : ℕ) (r : Reply) (left : ℕ → ℕ) → AreSlotsLive w w.book.slots → Mourns w e r left → Calm w r left

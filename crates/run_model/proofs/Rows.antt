@@ -7,7 +7,7 @@ use Rattle.std.proofs.lemmas.List.Sums.{sum_by_push}
 use Rattle.kernel_journal.specs.declared.row.Row.{Row}
 use Rattle.kernel_journal.specs.declared.row.Row.TheVariants as row
 use Rattle.world_model.specs.declared.slot.Hold.{Hold}
-use Rattle.world_model.specs.Book.{has_part, lowered, released}
+use Rattle.world_model.specs.Book.{has_part, lowered, hold_without}
 use Rattle.run_model.specs.Excess.{AreLawfulAfter, IsLawful, Lives, is_over_of, is_pay_of, overs, pays}
 use Rattle.world_model.specs.Table.{set_at}
 use Rattle.world_model.specs.Death.{released_row, released_rows}
@@ -93,8 +93,8 @@ quiet_both (x ∷ xs) ys (quiet, rest) second = (quiet, quiet_both xs ys rest se
 quiet_released : (t e k : ℕ) (hold : Option Hold) → AreQuiet (released_row t e k hold)
 quiet_released t e k hold = by_test (has_part e hold)
   where
-    by_test : (b : Bool) → AreQuiet (if b then slot_row t k (released e hold) ∷ [] else [])
-    by_test true = (quiet_slot t k (released e hold), tt)
+    by_test : (b : Bool) → AreQuiet (if b then slot_row t k (hold_without e hold) ∷ [] else [])
+    by_test true = (quiet_slot t k (hold_without e hold), tt)
     by_test false = tt
 
 pub quiet_releases : (t e : ℕ) (slots : ℕ → Option Hold) (count : ℕ) → AreQuiet (released_rows t e slots count)

@@ -19,7 +19,7 @@ use Rattle.world_model.specs.Book.{Book, sees}
 use Rattle.world_model.specs.Death.{death, death_items, lost_with}
 use Rattle.world_model.specs.Item.{Item, absorb_all}
 use Rattle.world_model.specs.PageCalls.{left_at, left_by, left_if, page_bytes}
-use Rattle.world_model.specs.Solo.{Solo, Store, Key, Kept, Physical, dead, is_physical, stored, stored_sight}
+use Rattle.world_model.specs.Solo.{Solo, Store, Key, Kept, Physical, dead, is_physical, with_store, stored_sight}
 use Rattle.world_model.specs.Step.{Stores}
 use Rattle.world_model.specs.World.{World, no_items}
 use Rattle.run_model.specs.Acting.{Acts, Does}
@@ -114,17 +114,17 @@ module _ (w : World) (e : ℕ) (sound : Sound w) (lives : (w.solos e).life ≡ L
     abbrev writer : Solo
     writer = record (w.solos e) { cpu = cpu }
 
-    kept_sights : (v : ℕ) → x.key ≡ Kept v → (stored x writer).seen ≡ (w.solos e).seen
+    kept_sights : (v : ℕ) → x.key ≡ Kept v → (with_store x writer).seen ≡ (w.solos e).seen
     kept_sights v is = λ k page. (if is_physical page (is k) then option_map (stored_sight x) ((w.solos e).seen page) else (w.solos e).seen page)
 
     -- the bytes once they are in the page
     abbrev written : ℕ → ℕ → List ℕ
     written page = set_at page (with_bytes (page_bytes w page) x.offset x.bytes) (page_bytes w)
 
-    to_bound : (page : ℕ) → x.key ≡ Physical page → Brings w e (stored x writer) w.book (left_at w.book e x (Physical page))
+    to_bound : (page : ℕ) → x.key ≡ Physical page → Brings w e (with_store x writer) w.book (left_at w.book e x (Physical page))
     to_bound page is = record {
       bytes = written page;
-      own = subst (λ its. Sees e w.book.pages (w.book.binds e) (written page) (absorb_all (stored x writer) its)) (ap (λ t. if t then [] else left_if (sees w.book e page) page x) (sym (eq-eqb e e refl)))
+      own = subst (λ its. Sees e w.book.pages (w.book.binds e) (written page) (absorb_all (with_store x writer) its)) (ap (λ t. if t then [] else left_if (sees w.book e page) page x) (sym (eq-eqb e e refl)))
           (writer_sees e page x w.book.pages (w.book.binds e) (page_bytes w) writer (as_before e w.book.pages (w.book.binds e) (page_bytes w) (w.solos e) writer refl refl (sound.agreed e)) is);
       others = λ i ne live.
           subst (λ its. Sees i w.book.pages (w.book.binds i) (written page) (absorb_all (w.solos i) its)) (ap (λ t. if t then [] else left_if (sees w.book i page) page x) (sym (ne_eqb i e ne)))
@@ -140,11 +140,11 @@ module _ (w : World) (e : ℕ) (sound : Sound w) (lives : (w.solos e).life ≡ L
         by_page o p owns true same = Written owns e x acts (is ∙ ap Physical (sym (eqb-true p page same))) (ap (λ (n : ℕ). with_bytes (page_bytes w n) x.offset x.bytes) (sym (eqb-true p page same)))
         by_page o p owns false other = Stays owns refl
 
-    by_key : (key : Key) → x.key ≡ key → Brings w e (stored x writer) w.book (left_at w.book e x key)
-    by_key (Kept v) is = silent (stored x writer) lives refl (kept_sights v is)
+    by_key : (key : Key) → x.key ≡ key → Brings w e (with_store x writer) w.book (left_at w.book e x key)
+    by_key (Kept v) is = silent (with_store x writer) lives refl (kept_sights v is)
     by_key (Physical page) is = to_bound page is
 
-    pub store_brings : Brings w e (stored x writer) w.book (left_by w.book e x)
+    pub store_brings : Brings w e (with_store x writer) w.book (left_by w.book e x)
     store_brings = by_key x.key refl
 
   -- A death.

@@ -22,7 +22,7 @@ use Rattle.world_model.specs.Item.{Item, Packet, absorb_all}
 use Rattle.world_model.specs.PageCalls.{bytes_owned, left_if, page_bytes}
 use Rattle.world_model.specs.Post.{counted}
 use Rattle.world_model.specs.Rings.{Reception, Loses, Queues, Handles, page_left, page_store, received_as, received_by, received_in, reception, ring_of}
-use Rattle.world_model.specs.Solo.{Solo, Ring, Physical, bytes_seen, stored}
+use Rattle.world_model.specs.Solo.{Solo, Ring, Physical, bytes_seen, with_store}
 use Rattle.world_model.specs.Table.{set_at}
 use Rattle.world_model.specs.World.{World, Reply, after}
 use Rattle.run_model.specs.Run.{System, given_at, moment}
@@ -59,7 +59,7 @@ left_size (Some words) r packet page bytes is =
 -- What its environment is once the packet is there: these bytes are stored in the ring page, and the claims have their pages.
 record IsPut (s t : Solo) (page : ℕ) (bytes : List ℕ) : Type 0 where
   binds : t.binds ≡ s.binds
-  seen : t.seen ≡ (stored (page_store page bytes) s).seen
+  seen : t.seen ≡ (with_store (page_store page bytes) s).seen
   rings : map ring_page t.rings ≡ map ring_page s.rings
   life : t.life ≡ s.life
 
@@ -67,10 +67,10 @@ puts : (r : Ring) (becomes : Reception) (s : Solo) (bytes : List ℕ) → page_l
 puts r Loses s bytes is = cc
 puts r (Queues page) s bytes is =
     let same : page ≡ bytes = cc in
-    record { binds = refl; seen = ap (λ (left : List ℕ). (stored (page_store r.page left) s).seen) same; rings = rings_turned r.claim s.rings; life = refl }
+    record { binds = refl; seen = ap (λ (left : List ℕ). (with_store (page_store r.page left) s).seen) same; rings = rings_turned r.claim s.rings; life = refl }
 puts r (Handles page replies) s bytes is =
     let same : page ≡ bytes = cc in
-    record { binds = refl; seen = ap (λ (left : List ℕ). (stored (page_store r.page left) s).seen) same; rings = refl; life = refl }
+    record { binds = refl; seen = ap (λ (left : List ℕ). (with_store (page_store r.page left) s).seen) same; rings = refl; life = refl }
 
 -- or once it is lost
 lost_rests : (r : Ring) (becomes : Reception) (s : Solo) → page_left becomes ≡ None → IsRested s (received_as r becomes (counted post.Packets s))
@@ -197,7 +197,7 @@ module _ (w : World) (c : ClaimValue) (packet : List ℕ) (sound : Sound w) (cla
 
     own_sees : Sees c.env w.book.pages (w.book.binds c.env) bytes_now holder
     own_sees =
-        as_before c.env w.book.pages (w.book.binds c.env) bytes_now (stored (page_store its.ring.page bytes) once) holder put.binds put.seen
+        as_before c.env w.book.pages (w.book.binds c.env) bytes_now (with_store (page_store its.ring.page bytes) once) holder put.binds put.seen
         (writer_sees c.env c.page (page_store its.ring.page bytes) w.book.pages (w.book.binds c.env) (page_bytes w) once
         (as_before c.env w.book.pages (w.book.binds c.env) (page_bytes w) s once refl refl (sound.agreed c.env)) (ap Physical its.page))
 

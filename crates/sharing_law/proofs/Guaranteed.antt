@@ -19,7 +19,7 @@ use Rattle.revocation_book.specs.declared.revocation.Taking.{Taking}
 use Rattle.world_model.specs.Item.{Item, Boot, Step, Start, End, Transfer, Killed, Answer, Gained, Lost, Left, Packet, Line, Asked, Taken, absorb, absorb_all, absorbed}
 use Rattle.world_model.specs.Page.{KeptPage}
 use Rattle.world_model.specs.Post.{post_word, signalled}
-use Rattle.world_model.specs.Solo.{Solo, Store, Key, Kept, Physical, bytes_in, is_dead, kept_after, kept_at, store_of, stored, stored_page}
+use Rattle.world_model.specs.Solo.{Solo, Store, Key, Kept, Physical, bytes_in, is_dead, kept_after, kept_at, store_of, with_store, stored_page}
 use Rattle.world_model.specs.Step.{Act, Nothing, Stores, Calls, Raises, Dies, act_at_call, act_of, acted, step_alone, store_act}
 use Rattle.world_model.specs.Tick.{phases_after}
 use Rattle.world_model.specs.Upcalls.{enter, end_slice, raise, with_context}
@@ -56,7 +56,7 @@ module _ (s : Solo) (vpn : ℕ) where
 
   module _ (x : Store) (cpu : Cpu) (acts : act_of s (step_alone s) ≡ Stores x) where
     abbrev writer : Solo
-    writer = stored x (record s { cpu = cpu })
+    writer = with_store x (record s { cpu = cpu })
 
     here : x.key ≡ Kept vpn → HasStore s writer vpn x
     here into =

@@ -7,7 +7,7 @@ use Rattle.world_model.specs.declared.slot.Turn.{Turn}
 use Rattle.world_model.specs.declared.slot.Phase.{Phase}
 use Rattle.world_model.specs.declared.slot.Phase.TheVariants as phase
 use Rattle.world_model.specs.declared.code.Code.{Code}
-use Rattle.world_model.specs.Book.{Told, excess_limit, first_turn, owed, own_hold, released, has_part, is_runner, told_turn}
+use Rattle.world_model.specs.Book.{Told, excess_limit, first_turn, owed, own_hold, hold_without, has_part, is_runner, told_turn}
 use Rattle.world_model.specs.SlotCalls.{drop_refusal, gift_refusal, handed, held_by, take_refusal}
 use Rattle.slot_vector.specs.declared.turn.NextTurn.{NextTurn}
 use Rattle.slot_vector.specs.declared.turn.NextTurn.TheVariants as next
@@ -167,7 +167,7 @@ mask_of e (slot ∷ slots) = bit (has_part e slot) + 2 * mask_of e slots
 
 -- the vector once an environment is gone: its turn ends, if it runs, and it owes nothing
 abbrev pub without_env : ℕ → Slices → Slices
-without_env e v = record v { slots = map (released e) v.slots; runner = if is_runner e v.runner then None else v.runner; excess = slice_set v.excess e 0 }
+without_env e v = record v { slots = map (hold_without e) v.slots; runner = if is_runner e v.runner then None else v.runner; excess = slice_set v.excess e 0 }
 
 -- the vector once a slot has this hold
 abbrev pub with_hold : Slices → ℕ → Option Hold → Slices

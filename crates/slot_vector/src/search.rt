@@ -2,7 +2,7 @@
 ghost use Rattle.std.specs.Prelude.{◌≡◌, ◌<◌, ◌≤◌, All, IfSome, length, map};
 ghost use Rattle.std.specs.Option.{option_map};
 ghost use Rattle.aegis_limits.specs.Limits.{most_slots};
-ghost use Rattle.world_model.specs.Book.{first_turn, has_part, own_hold, released};
+ghost use Rattle.world_model.specs.Book.{first_turn, has_part, own_hold, hold_without};
 ghost use Rattle.slot_vector.specs.Slices.{IsNumbered, bit, hold_at, mask_of, most_numbers};
 
 use aegis_limits::MOST_SLOTS;
@@ -96,7 +96,7 @@ pub(crate) fn mask_of(slots: &[Option<Hold>], env: u8) -> u64
 
 /// The slot once the environment is gone.
 fn hold_without(slot: Option<Hold>, env: u8) -> Option<Hold>
-    ensures { result ≡ released env slot }
+    ensures { result ≡ hold_without env slot }
 {
     let hold = slot?;
     if hold.owner == env {
@@ -110,7 +110,7 @@ fn hold_without(slot: Option<Hold>, env: u8) -> Option<Hold>
 
 /// Empties each slot that the environment owns, and gives back each that it holds for another.
 pub(crate) fn release(slots: &mut [Option<Hold>], env: u8)
-    ensures released { slots.new ≡ map (released env) slots.old }
+    ensures released { slots.new ≡ map (hold_without env) slots.old }
     ensures numbered { All IsNumbered slots.old → All IsNumbered slots.new }
 {
     for slot in slots.iter_mut() {

@@ -132,9 +132,9 @@ abbrev pub own_hold : ℕ → Hold
 own_hold e = record { owner = e; holder = e }
 
 -- a slot once an environment is gone: what it owned is empty, and what it held for another is its owner's again
-abbrev pub released : ℕ → Option Hold → Option Hold
-released e None = None
-released e (Some hold) = if hold.owner == e then None else (if hold.holder == e then Some (own_hold hold.owner) else Some hold)
+abbrev pub hold_without : ℕ → Option Hold → Option Hold
+hold_without e None = None
+hold_without e (Some hold) = if hold.owner == e then None else (if hold.holder == e then Some (own_hold hold.owner) else Some hold)
 
 -- whether an environment owns or holds a slot, which then changes once it is gone
 abbrev pub has_part : ℕ → Option Hold → Bool

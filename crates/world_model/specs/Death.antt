@@ -7,7 +7,7 @@ use Rattle.page_book.specs.Row.{released as freed_row}
 use Rattle.bind_book.specs.Stripe.{goes_with, without}
 use Rattle.world_model.specs.declared.slot.Hold.{Hold}
 use Rattle.world_model.specs.Table.{set_at}
-use Rattle.world_model.specs.Book.{Book, released, has_part, withdrawn}
+use Rattle.world_model.specs.Book.{Book, hold_without, has_part, withdrawn}
 use Rattle.filter_tree.specs.ClaimBook.{is_of_env}
 use Rattle.world_model.specs.Item.{Item}
 use Rattle.world_model.specs.World.{World, Reply}
@@ -36,7 +36,7 @@ without_pages_of gone b = record b {
 
 -- the row of a slot that an environment owns or holds, once it is gone
 abbrev pub released_row : ℕ → ℕ → ℕ → Option Hold → List Row
-released_row t e k hold = if has_part e hold then slot_row t k (released e hold) ∷ [] else []
+released_row t e k hold = if has_part e hold then slot_row t k (hold_without e hold) ∷ [] else []
 
 -- the rows of the slots below k that change once an environment is gone, by rising slot
 abbrev pub released_rows : ℕ → ℕ → (ℕ → Option Hold) → ℕ → List Row
@@ -46,7 +46,7 @@ released_rows t e slots (suc k) = released_rows t e slots k ++ released_row t e 
 -- the runner's death: its slots are empty, its pages free, its lines nobody's, it owes nothing, and the rest of its slice is dropped
 abbrev pub death : World → ℕ → Reply
 death w e = record {
-  book = without_pages_of e (record w.book { slots = λ k. released e (w.book.slots k); runner = None; excess = set_at e 0 w.book.excess; lines = λ line. line_without e (w.book.lines line) });
+  book = without_pages_of e (record w.book { slots = λ k. hold_without e (w.book.slots k); runner = None; excess = set_at e 0 w.book.excess; lines = λ line. line_without e (w.book.lines line) });
   items = death_items w.book e;
   rows = row.Dead w.book.time w.book.cursor e ∷ released_rows w.book.time e w.book.slots w.book.slot_count;
 }

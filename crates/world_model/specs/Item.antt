@@ -11,7 +11,7 @@ use Rattle.world_model.specs.declared.verdict.Verdict.{Verdict}
 use Rattle.world_model.specs.declared.verdict.Verdict.TheVariants.{Refuse, Grant}
 use Rattle.world_model.specs.Answer.{verdict_code, verdict_value}
 use Rattle.world_model.specs.Page.{KeptPage}
-use Rattle.world_model.specs.Solo.{Solo, Physical, bare_solo, dead, is_dead, stored}
+use Rattle.world_model.specs.Solo.{Solo, Physical, bare_solo, dead, is_dead, with_store}
 use Rattle.world_model.specs.Holding.{bound, unbound, owning, gained, lost}
 use Rattle.world_model.specs.Upcalls.{start, end_slice, enter}
 use Rattle.world_model.specs.Post.{asked_for, signalled}
@@ -105,7 +105,7 @@ absorbed s Killed = dead cause.Excess s
 absorbed s (Answer verdict) = answered verdict s
 absorbed s (Gained page writable bytes) = gained page bytes s
 absorbed s (Lost page) = lost page s
-absorbed s (Left page offset bytes) = stored (record { key = Physical page; offset = offset; bytes = bytes }) s
+absorbed s (Left page offset bytes) = with_store (record { key = Physical page; offset = offset; bytes = bytes }) s
 absorbed s (Packet claim packet) = received claim packet s
 absorbed s (Line line) = signalled line s
 absorbed s (Asked outstanding deadline) = asked_for outstanding deadline s

@@ -5,13 +5,13 @@ use Rattle.env_frames.specs.Post.{most_records, record_bytes, record_offset}
 use Rattle.world_model.specs.Holding.{lost}
 use Rattle.world_model.specs.Post.{counted, post_word}
 use Rattle.world_model.specs.Rings.{page_store}
-use Rattle.world_model.specs.Solo.{Solo, Physical, bytes_of, stored}
+use Rattle.world_model.specs.Solo.{Solo, Physical, bytes_of, with_store}
 use Rattle.world_model.specs.Upcalls.{with_context}
 
 -- a backup gets a copy of the page
 abbrev pub copied : ℕ → Option ℕ → Solo → Solo
 copied page None s = s
-copied page (Some backup) s = stored (page_store backup (bytes_of s (Physical page))) s
+copied page (Some backup) s = with_store (page_store backup (bytes_of s (Physical page))) s
 
 -- the page and the backup are recorded in the context page, as the record of this number, if there is room for it
 abbrev pub recorded : ℕ → ℕ → Option ℕ → Solo → Solo

@@ -6,7 +6,7 @@ use Rattle.env_frames.specs.declared.post.PostWord.TheVariants as post
 use Rattle.packet_ring.specs.declared.buffer.Buffer.TheVariants.{First}
 use Rattle.packet_ring.specs.Ring.{is_full, other_buffer, with_packet}
 use Rattle.world_model.specs.Post.{counted}
-use Rattle.world_model.specs.Solo.{Solo, Store, Ring, Physical, bytes_of, stored}
+use Rattle.world_model.specs.Solo.{Solo, Store, Ring, Physical, bytes_of, with_store}
 
 abbrev pub is_ring : ℕ → Ring → Bool
 is_ring claim r = r.claim == claim
@@ -24,21 +24,21 @@ abbrev pub without_ring : ℕ → Solo → Solo
 without_ring claim s = record s { rings = filter (λ (r : Ring). not (is_ring claim r)) s.rings }
 
 -- the two buffers of a claim take turns
-abbrev pub turned : Ring → Ring
-turned r = record r { next = other_buffer r.next }
+abbrev pub ring_after_packet : Ring → Ring
+ring_after_packet r = record r { next = other_buffer r.next }
 
-abbrev pub turned_if : ℕ → Ring → Ring
-turned_if claim r = if is_ring claim r then turned r else r
+abbrev pub ring_after_packet_if : ℕ → Ring → Ring
+ring_after_packet_if claim r = if is_ring claim r then ring_after_packet r else r
 
 -- the handler of a claim is this from now on, or it has none
-abbrev pub handled : Option (List ℕ) → Ring → Ring
-handled handler r = record r { handler = handler }
+abbrev pub ring_with_handler : Option (List ℕ) → Ring → Ring
+ring_with_handler handler r = record r { handler = handler }
 
-abbrev pub handled_if : ℕ → Option (List ℕ) → Ring → Ring
-handled_if claim handler r = if is_ring claim r then handled handler r else r
+abbrev pub ring_with_handler_if : ℕ → Option (List ℕ) → Ring → Ring
+ring_with_handler_if claim handler r = if is_ring claim r then ring_with_handler handler r else r
 
 abbrev pub with_handler : ℕ → Option (List ℕ) → Solo → Solo
-with_handler claim handler s = record s { rings = map (handled_if claim handler) s.rings }
+with_handler claim handler s = record s { rings = map (ring_with_handler_if claim handler) s.rings }
 
 -- What becomes of a packet at the ring of its claim: it is lost; or it goes into the buffer whose turn it is, which leaves
 -- this of the ring page; or the claim's handler takes it, which leaves this of the page and makes these replies.
@@ -79,8 +79,8 @@ replied sent replies = take most_sent (sent ++ replies)
 -- One that a handler takes is a store of the ring page too; the buffer whose turn it is stays, and the replies are sent.
 abbrev pub received_as : Ring → Reception → Solo → Solo
 received_as r Loses s = counted post.Lost s
-received_as r (Queues page) s = record (stored (page_store r.page page) s) { rings = map (turned_if r.claim) s.rings }
-received_as r (Handles page replies) s = record (stored (page_store r.page page) s) { sent = replied s.sent replies }
+received_as r (Queues page) s = record (with_store (page_store r.page page) s) { rings = map (ring_after_packet_if r.claim) s.rings }
+received_as r (Handles page replies) s = record (with_store (page_store r.page page) s) { sent = replied s.sent replies }
 
 abbrev pub received_in : Option Ring → List ℕ → Solo → Solo
 received_in None packet s = s

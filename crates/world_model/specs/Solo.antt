@@ -148,12 +148,12 @@ abbrev pub stored_page : Store → KeptPage → KeptPage
 stored_page x p = record p { bytes = with_bytes p.bytes x.offset x.bytes }
 
 -- a store changes the page that it names
-abbrev pub page_after : Store → KeptPage → KeptPage
-page_after x p = if is_key_of p x.key then stored_page x p else p
+abbrev pub kept_page_after : Store → KeptPage → KeptPage
+kept_page_after x p = if is_key_of p x.key then stored_page x p else p
 
 -- the guaranteed pages after a store
 abbrev pub kept_after : List KeptPage → Store → List KeptPage
-kept_after kept x = map (page_after x) kept
+kept_after kept x = map (kept_page_after x) kept
 
 abbrev pub is_physical : ℕ → Key → Bool
 is_physical page (Kept vpn) = false
@@ -167,5 +167,5 @@ abbrev pub sight_after : Store → ℕ → Option Seen → Option Seen
 sight_after x page seen = if is_physical page x.key then option_map (stored_sight x) seen else seen
 
 -- the environment after a store
-abbrev pub stored : Store → Solo → Solo
-stored x s = record s { kept = kept_after s.kept x; seen = λ page. sight_after x page (s.seen page) }
+abbrev pub with_store : Store → Solo → Solo
+with_store x s = record s { kept = kept_after s.kept x; seen = λ page. sight_after x page (s.seen page) }

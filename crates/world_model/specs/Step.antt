@@ -9,7 +9,7 @@ use Rattle.world_model.specs.declared.life.Cause.{Cause}
 use Rattle.world_model.specs.declared.life.Cause.TheVariants as cause
 use Rattle.world_model.specs.Call.{called, exit_number}
 use Rattle.world_model.specs.Page.{answers_by}
-use Rattle.world_model.specs.Solo.{Solo, Store, sight, store_of, stored, dead}
+use Rattle.world_model.specs.Solo.{Solo, Store, sight, store_of, with_store, dead}
 use Rattle.world_model.specs.Upcalls.{raise}
 
 -- what the step of its machine comes to
@@ -50,7 +50,7 @@ act_of s (Trapped exc) = trap_act s.handlers.exception exc
 -- the environment after its act
 abbrev pub acted : Act → Solo → Solo
 acted Nothing s = s
-acted (Stores x) s = stored x s
+acted (Stores x) s = with_store x s
 acted (Calls call) s = s
 acted (Raises exc) s = raise exc s
 acted (Dies cause) s = dead cause s

@@ -4,7 +4,7 @@ use Rattle.std.proofs.lemmas.List.{length-map}
 use Rattle.kernel_journal.specs.Ledger.{Ledger, with_row}
 use Rattle.kernel_journal.specs.declared.row.Row.TheVariants as row
 use Rattle.slot_vector.specs.Slices.{Slices, hold_at, mask_of}
-use Rattle.world_model.specs.Book.{released}
+use Rattle.world_model.specs.Book.{hold_without}
 use Rattle.board_world.specs.Doing.{mask_rows, with_rows}
 use Rattle.board_world.proofs.Masks.{rows_named}
 use Rattle.board_parts.proofs.slot_rows.release_slots.Goals as goal
@@ -16,7 +16,7 @@ push_slots-requires c =
       c.requires.room,
       ap (λ (l : Ledger). l.spare) c.push.ensures,
       ap (λ (v : Slices). length v.slots) c.release_env-mask.ensures.after,
-      length-map c.args.slots.now.slots (released c.args.env),
+      length-map c.args.slots.now.slots (hold_without c.args.env),
     )
 
 pub returns-clause-journal : goal.returns-clause-journal
