@@ -15,12 +15,12 @@ const CALL_NUMBER: u8 = 2;
 const EXIT_CODE: u8 = 4;
 
 impl Board {
-    ghost use Rattle.board_world.specs.Doing.{answered, called_by, granted, served};
+    ghost use Rattle.board_world.specs.Doing.{after_answer, after_runner_call, after_grant, after_decision};
     ghost use Rattle.board_world.specs.Showing.{world_of};
 
     /// The runner's call is answered.
     fn answer(&mut self, verdict: Verdict)
-        ensures { self.new ≡ answered self.old verdict }
+        ensures { self.new ≡ after_answer self.old verdict }
     {
         answer(&mut self.cpu, verdict);
     }
@@ -31,7 +31,7 @@ impl Board {
         requires room { 64 < self.old.ledger.spare }
         requires numbers { self.old.claims.next < 2 ^ 32 }
         requires may { May (world_of self.old) env deed }
-        ensures { self.new ≡ granted self.old env value deed }
+        ensures { self.new ≡ after_grant self.old env value deed }
     {
         // Reads a part, and with it that the board is sound, as below.
         let _ = &self.time;
@@ -86,7 +86,7 @@ impl Board {
         requires runs { running self.old.slots.runner ≡ Some env }
         requires room { 64 < self.old.ledger.spare }
         requires numbers { self.old.claims.next < 2 ^ 32 }
-        ensures { self.new ≡ served self.old env call }
+        ensures { self.new ≡ after_decision self.old env call }
     {
         let _ = &self.time;
         match decide(self, env, call) {
@@ -104,7 +104,7 @@ impl Board {
         requires runs { running self.old.slots.runner ≡ Some env }
         requires room { 64 < self.old.ledger.spare }
         requires numbers { self.old.claims.next < 2 ^ 32 }
-        ensures { self.new ≡ called_by self.old env }
+        ensures { self.new ≡ after_runner_call self.old env }
     {
         let number = self.cpu.reg(CALL_NUMBER);
         if number == EXIT {

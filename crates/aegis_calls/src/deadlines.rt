@@ -9,14 +9,14 @@ use kernel_journal::Row;
 use revocation_book::{Taking, law_few_takings, law_takable};
 
 impl Board {
-    ghost use Rattle.board_world.specs.Doing.{deadlines_served, repossessed};
+    ghost use Rattle.board_world.specs.Doing.{after_deadlines, after_taking};
 
     /// A page is taken by force: the backup gets a copy and is an ordinary page again, its owner finds the record, and the
     /// page is nobody's.
     fn take(&mut self, taking: Taking)
         requires may { IsTakable (books_of self.old.pages self.old.revocations) self.old.time taking }
         requires room { 0 < self.old.ledger.spare }
-        ensures { self.new ≡ repossessed self.old taking }
+        ensures { self.new ≡ after_taking self.old taking }
     {
         let Taking { env, page, backup } = taking;
         copy_to_backup(&mut self.frames, page, backup);
@@ -38,7 +38,7 @@ impl Board {
     fn take_all(&mut self, takings: &[Taking])
         requires may { AreTakable (books_of self.old.pages self.old.revocations) self.old.time takings.now }
         requires room { length takings.now ≤ self.old.ledger.spare }
-        ensures { self.new ≡ fold repossessed self.old takings.now }
+        ensures { self.new ≡ fold after_taking self.old takings.now }
     {
         for taking in takings {
             // Reads a part, and with it that the board is sound.
@@ -53,7 +53,7 @@ impl Board {
     #[inline(never)]
     fn take_due(&mut self)
         requires { length self.old.pages ≤ self.old.ledger.spare }
-        ensures { self.new ≡ deadlines_served self.old }
+        ensures { self.new ≡ after_deadlines self.old }
     {
         law_takable();
         law_few_takings();
@@ -66,7 +66,7 @@ impl Board {
     /// The same, in a tick of which few have a deadline: where none has come, nothing is done.
     pub(crate) fn serve_deadlines(&mut self)
         requires { length self.old.pages ≤ self.old.ledger.spare }
-        ensures { self.new ≡ deadlines_served self.old }
+        ensures { self.new ≡ after_deadlines self.old }
     {
         if self.revocations.is_due(self.time) {
             self.take_due();

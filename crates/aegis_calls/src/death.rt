@@ -8,7 +8,7 @@ use board_parts::release_slots;
 use world_model::Cause;
 
 impl Board {
-    ghost use Rattle.board_world.specs.Doing.{buried, died};
+    ghost use Rattle.board_world.specs.Doing.{after_burial, after_death};
 
     /// What an environment has whose slots are released goes: its pages are free, neither its bindings nor those of
     /// its pages are left, its interrupt lines are nobody's, its claims are withdrawn, nothing is asked of it, and it is
@@ -16,7 +16,7 @@ impl Board {
     pub(crate) fn bury(&mut self, env: u8, cause: Cause)
         requires there { env < length self.old.roster.list }
         requires released { HasNoPart env self.old.slots }
-        ensures { self.new ≡ buried self.old env cause }
+        ensures { self.new ≡ after_burial self.old env cause }
     {
         self.bindings.clear_env(env, &self.pages);
         self.pages.release_env(env);
@@ -30,7 +30,7 @@ impl Board {
     pub(crate) fn die(&mut self, env: u8, cause: Cause)
         requires runs { running self.old.slots.runner ≡ Some env }
         requires room { 64 < self.old.ledger.spare }
-        ensures { self.new ≡ died self.old env cause }
+        ensures { self.new ≡ after_death self.old env cause }
     {
         release_slots(&mut self.slots, &mut self.journal, self.time, env);
         self.bury(env, cause);

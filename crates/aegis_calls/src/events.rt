@@ -13,13 +13,13 @@ use revocation_book::Pending;
 use world_model::Life;
 
 impl Board {
-    ghost use Rattle.board_world.specs.Doing.{arrived, revoked, signalled};
+    ghost use Rattle.board_world.specs.Doing.{after_arrival, after_revocation, after_signal};
 
     /// A packet comes: for the lowest claim whose filter matches it, or for nobody. Then it is dropped, and the ledger tells
     /// its length.
     pub(crate) fn arrive(&mut self, packet: &PacketBytes)
         requires { 0 < self.old.ledger.spare }
-        ensures { self.new ≡ arrived self.old packet.now }
+        ensures { self.new ≡ after_arrival self.old packet.now }
     {
         let packet = Packet::of(packet);
         match self.claims.claim_for(&packet) {
@@ -40,7 +40,7 @@ impl Board {
     /// A signal on an interrupt line sets the line's bit in its owner's context page, if it has an owner.
     pub(crate) fn signal(&mut self, line: u8)
         requires { line < lines }
-        ensures { self.new ≡ signalled self.old line }
+        ensures { self.new ≡ after_signal self.old line }
     {
         if let Some(owner) = self.lines.owner(line) {
             self.roster.frame(owner).signal(&mut self.frames, line);
@@ -51,7 +51,7 @@ impl Board {
     /// then, it finds in its context page how many, and until when.
     pub(crate) fn revoke(&mut self, env: u8, count: u32, deadline: u32)
         requires { 0 < self.old.ledger.spare }
-        ensures { self.new ≡ revoked self.old env count deadline }
+        ensures { self.new ≡ after_revocation self.old env count deadline }
     {
         let Some(Life::Live) = self.life_at(u32::from(env)) else {
             return;

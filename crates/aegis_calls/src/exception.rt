@@ -7,13 +7,13 @@ use mips_exec::Exc;
 use world_model::Cause;
 
 impl Board {
-    ghost use Rattle.board_world.specs.Doing.{trapped};
+    ghost use Rattle.board_world.specs.Doing.{after_trap};
 
     /// The runner goes on at its handler of exceptions, and where it has none it dies.
     pub(crate) fn trap(&mut self, env: u8, exc: &Exc)
         requires runs { running self.old.slots.runner ≡ Some env }
         requires room { 64 < self.old.ledger.spare }
-        ensures { self.new ≡ trapped self.old env exc.now }
+        ensures { self.new ≡ after_trap self.old env exc.now }
     {
         let frame = self.roster.frame(env);
         if !frame.raise(&mut self.frames, &mut self.cpu, exc) {

@@ -9,12 +9,12 @@ use guest_step::step_guest;
 use mips_exec::Outcome;
 
 impl Board {
-    ghost use Rattle.board_world.specs.Doing.{came_to, ran, step_seen};
+    ghost use Rattle.board_world.specs.Doing.{after_runner_step, after_machine_step, step_seen};
 
     /// The machine makes one step for the runner.
     pub(crate) fn run_machine(&mut self, env: u8) -> Outcome
         requires { running self.old.slots.runner ≡ Some env }
-        ensures shown { self.new ≡ ran self.old env (step_seen self.old env) }
+        ensures shown { self.new ≡ after_machine_step self.old env (step_seen self.old env) }
         ensures outcome { result ≡ outcome_of (step_seen self.old env) }
     {
         let space = Space {
@@ -30,7 +30,7 @@ impl Board {
         requires runs { running self.old.slots.runner ≡ Some env }
         requires room { 64 < self.old.ledger.spare }
         requires numbers { self.old.claims.next < 2 ^ 32 }
-        ensures { self.new ≡ came_to self.old env (step_seen self.old env) }
+        ensures { self.new ≡ after_runner_step self.old env (step_seen self.old env) }
     {
         match self.run_machine(env) {
             Outcome::Retired => {}

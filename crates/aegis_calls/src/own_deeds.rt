@@ -12,14 +12,14 @@ use board_parts::{put, send};
 use world_model::OwnDeed;
 
 impl Board {
-    ghost use Rattle.board_world.specs.Doing.{own_done, with_bound, with_unbound};
+    ghost use Rattle.board_world.specs.Doing.{after_own_deed, with_bound, with_unbound};
     ghost use Rattle.board_world.specs.Showing.{solo_of};
 
     /// The runner does this to itself alone, which it may.
     pub(crate) fn do_own(&mut self, env: u8, own: OwnDeed)
         requires runs { running self.old.slots.runner ≡ Some env }
         requires may { MayOwn (solo_of self.old env) own }
-        ensures { self.new ≡ own_done self.old env own }
+        ensures { self.new ≡ after_own_deed self.old env own }
     {
         // Reads a part, and with it that the board is sound.
         let _ = &self.time;

@@ -9,13 +9,13 @@ use crate::board::Board;
 use page_book::Capabilities;
 
 impl Board {
-    ghost use Rattle.board_world.specs.Doing.{with_broken, with_freed, with_given_back, with_loaded, with_taken};
+    ghost use Rattle.board_world.specs.Doing.{with_broken, with_freed, with_given_back, with_loaded, with_allocated};
 
     /// A free page is the runner's own from now on, with these words, and holds zeros.
     pub(crate) fn allocate(&mut self, env: u8, page: u32, words: Capabilities)
         requires runs { running self.old.slots.runner ≡ Some env }
         requires may { MayAllocate (book_of self.old) page }
-        ensures { self.new ≡ with_taken self.old env page words }
+        ensures { self.new ≡ with_allocated self.old env page words }
     {
         self.pages.alloc_at(env, page, words).unwrap();
         self.frames.zero(page);

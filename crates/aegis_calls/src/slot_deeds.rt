@@ -16,14 +16,14 @@ use env_frames::TransferKind;
 use kernel_journal::Row;
 
 impl Board {
-    ghost use Rattle.board_world.specs.Doing.{given, transferred, with_slot};
+    ghost use Rattle.board_world.specs.Doing.{after_gift, after_transfer, with_slot};
 
     /// The rest of the runner's slice goes to another environment, which starts.
     pub(crate) fn give(&mut self, env: u8, target: u8)
         requires runs { running self.old.slots.runner ≡ Some env }
         requires lives { IsLive self.old.roster.list target }
         requires room { 0 < self.old.ledger.spare }
-        ensures { self.new ≡ given self.old env target }
+        ensures { self.new ≡ after_gift self.old env target }
     {
         let kept = self.cpu;
         self.slots.donate(target, false);
@@ -44,7 +44,7 @@ impl Board {
         requires lives { IsLive self.old.roster.list target }
         requires open { handler_of (handlers_of self.old.roster.list target) (entry_context kind) ≢ 0 }
         requires room { 1 < self.old.ledger.spare }
-        ensures { self.new ≡ transferred self.old env value target kind }
+        ensures { self.new ≡ after_transfer self.old env value target kind }
     {
         hand_on(
             &mut self.slots,

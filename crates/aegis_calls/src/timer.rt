@@ -11,13 +11,13 @@ use slot_vector::Timer;
 use world_model::{Cause, WorldView};
 
 impl Board {
-    ghost use Rattle.board_world.specs.Doing.{brought, counted, ended, has_end, kept_stopped, stopped, used};
+    ghost use Rattle.board_world.specs.Doing.{after_timer_by, after_timer_phase, after_end, has_end, with_stop_kept, after_stop, after_use};
 
     /// The registers of an environment that is stopped are kept, and the ledger says so.
     fn keep_stopped(&mut self, env: u8)
         requires there { env < length self.old.roster.list }
         requires room { 0 < self.old.ledger.spare }
-        ensures { self.new ≡ kept_stopped self.old env }
+        ensures { self.new ≡ with_stop_kept self.old env }
     {
         self.roster.keep(env, &self.cpu);
         self.journal.push(Row::Stop {
@@ -31,7 +31,7 @@ impl Board {
     pub(crate) fn stop(&mut self, env: u8)
         requires runs { running self.old.slots.runner ≡ Some env }
         requires room { 0 < self.old.ledger.spare }
-        ensures { self.new ≡ stopped self.old env }
+        ensures { self.new ≡ after_stop self.old env }
     {
         self.slots.give_up();
         self.keep_stopped(env);
@@ -42,7 +42,7 @@ impl Board {
         requires there { env < length self.old.roster.list }
         requires handled { has_end self.old env ≡ true }
         requires room { 0 < self.old.ledger.spare }
-        ensures { self.new ≡ record (ended self.old env) { slots = self.old.slots } }
+        ensures { self.new ≡ record (after_end self.old env) { slots = self.old.slots } }
     {
         let frame = self.roster.frame(env);
         frame.end(&mut self.frames, &mut self.cpu);
@@ -58,7 +58,7 @@ impl Board {
         requires runs { running self.old.slots.runner ≡ Some env }
         requires room { 65 < self.old.ledger.spare }
         ensures answer { result ≡ timer_answer self.old.slots (has_end self.old env) }
-        ensures after { self.new ≡ used self.old env result }
+        ensures after { self.new ≡ after_use self.old env result }
     {
         let end = self.roster.frame(env).handler(Context::End);
         let timer = self.slots.timer(end != 0);
@@ -71,7 +71,7 @@ impl Board {
     fn count_down(&mut self, env: u8)
         requires runs { running self.old.slots.runner ≡ Some env }
         requires room { 65 < self.old.ledger.spare }
-        ensures { self.new ≡ brought self.old env (timer_answer self.old.slots (has_end self.old env)) }
+        ensures { self.new ≡ after_timer_by self.old env (timer_answer self.old.slots (has_end self.old env)) }
     {
         // Reads a part, and with it that the board is sound.
         let _ = &self.time;
@@ -87,7 +87,7 @@ impl Board {
     pub(crate) fn count(&mut self)
         requires room { 65 < self.old.ledger.spare }
         requires time { self.old.time < 2 ^ 32 - 1 }
-        ensures { self.new ≡ counted self.old }
+        ensures { self.new ≡ after_timer_phase self.old }
     {
         if let Some(env) = self.runner() {
             self.count_down(env);

@@ -9,7 +9,7 @@ use slot_vector::NextTurn;
 use world_model::WorldView;
 
 impl Board {
-    ghost use Rattle.board_world.specs.Doing.{came_next, start_frames, start_registers, turned};
+    ghost use Rattle.board_world.specs.Doing.{after_next, start_frames, start_registers, after_turn_phase};
 
     /// An environment starts: at its handler of starts, or without one where its registers were kept.
     pub(crate) fn start(&mut self, env: u8)
@@ -25,7 +25,7 @@ impl Board {
         requires whole { self.old.roster.spare ≡ 0 }
         requires room { 0 < self.old.ledger.spare }
         ensures turn { result ≡ next_turn self.old.slots }
-        ensures after { self.new ≡ came_next self.old result }
+        ensures after { self.new ≡ after_next self.old result }
     {
         let next = self.slots.next_turn();
         match next {
@@ -52,7 +52,7 @@ impl Board {
     pub(crate) fn take_turn(&mut self)
         requires whole { self.old.roster.spare ≡ 0 }
         requires room { owed_by_all self.old.slots < self.old.ledger.spare }
-        ensures after { self.new ≡ turned self.old }
+        ensures after { self.new ≡ after_turn_phase self.old }
         ensures time { self.new.time ≡ self.old.time }
         ensures whole { self.new.roster.spare ≡ 0 }
         ensures room { self.old.ledger.spare ≤ self.new.ledger.spare + owed_by_all self.old.slots + 1 }

@@ -1,6 +1,6 @@
 //! The copy of a page that is taken.
 ghost use Rattle.std.specs.Prelude.{◌≡◌, ◌<◌, length, IfSome};
-ghost use Rattle.board_world.specs.Doing.{copied_to};
+ghost use Rattle.board_world.specs.Doing.{frames_after_copy};
 
 use frame_store::Frames;
 
@@ -8,7 +8,7 @@ use frame_store::Frames;
 pub fn copy_to_backup(frames: &mut Frames, page: u32, backup: Option<u32>)
     requires page { page < length frames.old }
     requires backup { IfSome backup (λ n. n < length frames.old) }
-    ensures frames { frames.new ≡ copied_to page backup frames.old }
+    ensures frames { frames.new ≡ frames_after_copy page backup frames.old }
     ensures size { length frames.new ≡ length frames.old }
 {
     if let Some(backup) = backup {

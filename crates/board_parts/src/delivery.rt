@@ -5,7 +5,7 @@ ghost use Rattle.env_frames.specs.Frame.{page_of};
 ghost use Rattle.filter_tree.specs.Claims.{claim_handler};
 ghost use Rattle.frame_store.specs.Pages.{after_put};
 ghost use Rattle.board_world.specs.Shown.{Shown, changed, mappings_of, with_list};
-ghost use Rattle.board_world.specs.Doing.{delivered_by, delivered_to, replying};
+ghost use Rattle.board_world.specs.Doing.{after_delivery_by, after_delivery, with_replies_sent};
 ghost use Rattle.board_parts.specs.Delivery.{claim_run};
 ghost use Rattle.board_parts.specs.Parts.{with_mail};
 
@@ -40,7 +40,7 @@ fn run_in(
 /// dropped.
 fn send_replies(roster: &mut Roster, env: u8, replies: &Replies)
     requires { env < length roster.old.list }
-    ensures { roster.new ≡ with_list roster.old (changed (replying replies.now) roster.old.list env) }
+    ensures { roster.new ≡ with_list roster.old (changed (with_replies_sent replies.now) roster.old.list env) }
 {
     roster.law_no_reply(env);
     for n in 0..replies.count() {
@@ -60,7 +60,7 @@ fn queue(
     requires ring { claim.page < length frames.old }
     requires there { claim.env < length roster.now.list }
     requires page { IfSome (page_of (mappings_of roster.now.list claim.env) context_number) (λ page. page < length frames.old) }
-    ensures after { (b : Shown) → with_mail b frames.new claims.new roster.now ≡ delivered_by None (with_mail b frames.old claims.old roster.now) claim packet.now }
+    ensures after { (b : Shown) → with_mail b frames.new claims.new roster.now ≡ after_delivery_by None (with_mail b frames.old claims.old roster.now) claim packet.now }
     ensures size { length frames.new ≡ length frames.old }
 {
     if is_full(frames, claim.page, claim.next) {
@@ -83,7 +83,7 @@ fn handle(
     requires ring { claim.page < length frames.old }
     requires there { claim.env < length roster.old.list }
     requires handler { is_some (claim_handler claims.now claim.id) ≡ true }
-    ensures after { (b : Shown) → with_mail b frames.new claims.now roster.new ≡ delivered_by (claim_handler claims.now claim.id) (with_mail b frames.old claims.now roster.old) claim packet.now }
+    ensures after { (b : Shown) → with_mail b frames.new claims.now roster.new ≡ after_delivery_by (claim_handler claims.now claim.id) (with_mail b frames.old claims.now roster.old) claim packet.now }
     ensures size { length frames.new ≡ length frames.old }
 {
     let handler = claims.handler(claim.id).unwrap();
@@ -104,7 +104,7 @@ pub fn deliver(
     requires ring { claim.page < length frames.old }
     requires there { claim.env < length roster.old.list }
     requires page { IfSome (page_of (mappings_of roster.old.list claim.env) context_number) (λ page. page < length frames.old) }
-    ensures after { (b : Shown) → with_mail b frames.new claims.new roster.new ≡ delivered_to (with_mail b frames.old claims.old roster.old) claim packet.now }
+    ensures after { (b : Shown) → with_mail b frames.new claims.new roster.new ≡ after_delivery (with_mail b frames.old claims.old roster.old) claim packet.now }
     ensures size { length frames.new ≡ length frames.old }
 {
     roster.frame(claim.env).count(frames, PostWord::Packets);

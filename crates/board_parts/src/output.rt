@@ -8,7 +8,7 @@ ghost use Rattle.guest_memory.specs.Space.{lookup};
 ghost use Rattle.world_model.specs.Call.{good_range};
 ghost use Rattle.world_model.specs.OwnCalls.{put_bytes as bytes_to_put};
 ghost use Rattle.board_world.specs.Shown.{changed, console_of, sent_of, with_list};
-ghost use Rattle.board_world.specs.Doing.{putting, sending};
+ghost use Rattle.board_world.specs.Doing.{with_bytes_put, with_packet_sent};
 ghost use Rattle.board_parts.specs.Parts.{look_in};
 
 use bind_book::Bindings;
@@ -38,7 +38,7 @@ pub fn put(
     requires there { env < length roster.old.list }
     requires good { is_some (bytes_to_put (look_in frames.now bindings.now roster.old.list env) address size) ≡ true }
     requires room { length (console_of roster.old.list env) + size ≤ console_size }
-    ensures { roster.new ≡ with_list roster.old (changed (putting (unwrap_or (bytes_to_put (look_in frames.now bindings.now roster.old.list env) address size) [])) roster.old.list env) }
+    ensures { roster.new ≡ with_list roster.old (changed (with_bytes_put (unwrap_or (bytes_to_put (look_in frames.now bindings.now roster.old.list env) address size) [])) roster.old.list env) }
 {
     let space = Space {
         env: roster.frame(env),
@@ -62,7 +62,7 @@ pub fn send(
     requires most { size ≤ most_packet_size }
     requires good { is_some (good_range (look_in frames.now bindings.now roster.old.list env) address size) ≡ true }
     requires room { length (sent_of roster.old.list env) < most_sent }
-    ensures { roster.new ≡ with_list roster.old (changed (sending (unwrap_or (good_range (look_in frames.now bindings.now roster.old.list env) address size) [])) roster.old.list env) }
+    ensures { roster.new ≡ with_list roster.old (changed (with_packet_sent (unwrap_or (good_range (look_in frames.now bindings.now roster.old.list env) address size) [])) roster.old.list env) }
 {
     let space = Space {
         env: roster.frame(env),

@@ -4,7 +4,7 @@ ghost use Rattle.kernel_journal.specs.Ledger.{with_row};
 ghost use Rattle.kernel_journal.specs.declared.row.Row.TheVariants as row;
 ghost use Rattle.slot_vector.specs.Slices.{hold_at, most_numbers, without_env};
 ghost use Rattle.world_model.specs.SlotCalls.{slot_row};
-ghost use Rattle.board_world.specs.Doing.{ledger_released, ledger_settled, mask_rows, settled, with_rows};
+ghost use Rattle.board_world.specs.Doing.{ledger_after_release, ledger_after_timer, mask_rows, slots_settled, with_rows};
 
 use kernel_journal::{Journal, Row};
 use slot_vector::{Slots, Timer};
@@ -42,7 +42,7 @@ pub fn release_slots(slots: &mut Slots, journal: &mut Journal, time: u32, env: u
     requires number { env < most_numbers }
     requires room { length slots.old.slots < journal.old.spare }
     ensures slots { slots.new ≡ without_env env slots.old }
-    ensures journal { journal.new ≡ ledger_released time env slots.old journal.old }
+    ensures journal { journal.new ≡ ledger_after_release time env slots.old journal.old }
 {
     journal.push(Row::Dead {
         time,
@@ -71,8 +71,8 @@ fn push_over(journal: &mut Journal, slots: &Slots, time: u32, env: u8, excess: u
 pub fn settle(slots: &mut Slots, journal: &mut Journal, time: u32, env: u8, timer: Timer)
     requires number { env < most_numbers }
     requires room { length slots.old.slots + 1 < journal.old.spare }
-    ensures slots { slots.new ≡ settled env slots.old timer }
-    ensures journal { journal.new ≡ ledger_settled time env slots.old journal.old timer }
+    ensures slots { slots.new ≡ slots_settled env slots.old timer }
+    ensures journal { journal.new ≡ ledger_after_timer time env slots.old journal.old timer }
 {
     match timer {
         Timer::Nothing | Timer::End | Timer::Stop => {}

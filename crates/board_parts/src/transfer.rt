@@ -5,7 +5,7 @@ ghost use Rattle.env_frames.specs.Frame.{page_of};
 ghost use Rattle.env_frames.specs.Transfer.{entry_context};
 ghost use Rattle.slot_vector.specs.Slices.{most_numbers};
 ghost use Rattle.board_world.specs.Shown.{Shown, handlers_of, mappings_of};
-ghost use Rattle.board_world.specs.Doing.{entered, handed_on};
+ghost use Rattle.board_world.specs.Doing.{after_entry, after_hand_on};
 ghost use Rattle.board_parts.specs.Parts.{with_entry, with_turns};
 
 use crate::answers::answer;
@@ -30,7 +30,7 @@ pub fn hand_on(
     requires runs { IsSome slots.old.runner }
     requires number { target < most_numbers }
     requires room { 1 < journal.old.spare }
-    ensures { (b : Shown) → with_turns b slots.new time journal.new ≡ handed_on (with_turns b slots.old time journal.old) env target kind }
+    ensures { (b : Shown) → with_turns b slots.new time journal.new ≡ after_hand_on (with_turns b slots.old time journal.old) env target kind }
 {
     slots.donate(target, kind.hands_slot());
     let slot = slots.slot();
@@ -68,7 +68,7 @@ pub fn enter(
     requires there { target < length roster.old.list }
     requires open { handler_of (handlers_of roster.old.list target) (entry_context kind) ≢ 0 }
     requires page { IfSome (page_of (mappings_of roster.old.list target) context_number) (λ page. page < length frames.old) }
-    ensures after { (b : Shown) → with_entry b frames.new cpu.new roster.new ≡ entered (with_entry b frames.old cpu.old roster.old) env value target kind }
+    ensures after { (b : Shown) → with_entry b frames.new cpu.new roster.new ≡ after_entry (with_entry b frames.old cpu.old roster.old) env value target kind }
     ensures size { length frames.new ≡ length frames.old }
 {
     let entered = roster.enter(target, frames, env, kind, cpu);

@@ -65,7 +65,7 @@ module _ (b : Shown) (e : ℕ) (x : Environment) (r : Runs b e x) (sound : IsSou
   -- Where the runner has other bindings, and is answered.
   module _ (binds : List (Option Binding)) (mine : ℕ → Option Binding) (v : ℕ) (is : (i n : ℕ) → stripes binds i n ≡ set_at e mine (stripes b.binds) i n) where
     abbrev rebound : Shown
-    rebound = doing.answered (record b { binds = binds }) (Grant v)
+    rebound = doing.after_answer (record b { binds = binds }) (Grant v)
 
     own_stripe : (n : ℕ) → stripe_of rebound e n ≡ mine n
     own_stripe n = is e n ∙ (λ k. set_here e mine (stripes b.binds) k n)
@@ -98,7 +98,7 @@ module _ (b : Shown) (e : ℕ) (x : Environment) (r : Runs b e x) (sound : IsSou
         })
 
   -- Bind.
-  pub binds : (y : Binding) (word v : ℕ) → MayBind (world_of b) e y word → Serves b e (deeded (Binds y word) v (solo_of b e)) (done (world_of b) e (Binds y word)) (doing.granted b e v (Binds y word))
+  pub binds : (y : Binding) (word v : ℕ) → MayBind (world_of b) e y word → Serves b e (deeded (Binds y word) v (solo_of b e)) (done (world_of b) e (Binds y word)) (doing.after_grant b e v (Binds y word))
   binds y word v may =
       let mine = set_at (row_of y.vpn) (Some y) (stripes b.binds e) in
       let rows = slice_set b.binds (stripe_place e (row_of y.vpn)) (Some y) in
@@ -109,7 +109,7 @@ module _ (b : Shown) (e : ℕ) (x : Environment) (r : Runs b e x) (sound : IsSou
       record {
         book = rebound_book rows mine v set;
         count = refl;
-        solos = one_given (solo_of b) (solo_of (doing.granted b e v (Binds y word))) e (deeded (Binds y word) v (solo_of b e)) (Gained y.page y.writable theirs ∷ [])
+        solos = one_given (solo_of b) (solo_of (doing.after_grant b e v (Binds y word))) e (deeded (Binds y word) v (solo_of b e)) (Gained y.page y.writable theirs ∷ [])
             (rebound_seen rows mine v set (gained y.page (page_at b.frames y.page) (bound y (runner_solo b e x))) sees
             ∙ (λ k. absorb_all (record (bound y (runner_solo b e x)) { cpu = answered_cpu (Grant v) b.cpu }) (Gained y.page y.writable (sym (bytes_owned b y.page sound owned) k) ∷ []))
             ∙ ap (λ s. absorb_all s (Gained y.page y.writable theirs ∷ [])) (deeded_seen b e x r (Binds y word) v))
@@ -121,7 +121,7 @@ module _ (b : Shown) (e : ℕ) (x : Environment) (r : Runs b e x) (sound : IsSou
       }
 
   -- Unbind.
-  pub unbinds : (vpn v : ℕ) → Serves b e (deeded (Unbinds vpn) v (solo_of b e)) (done (world_of b) e (Unbinds vpn)) (doing.granted b e v (Unbinds vpn))
+  pub unbinds : (vpn v : ℕ) → Serves b e (deeded (Unbinds vpn) v (solo_of b e)) (done (world_of b) e (Unbinds vpn)) (doing.after_grant b e v (Unbinds vpn))
   unbinds vpn v =
       let mine = calls.without_number vpn (stripes b.binds e) in
       let rows = (doing.with_unbound b e vpn).binds in
@@ -130,7 +130,7 @@ module _ (b : Shown) (e : ℕ) (x : Environment) (r : Runs b e x) (sound : IsSou
       record {
         book = rebound_book rows mine v set;
         count = refl;
-        solos = one_changed (solo_of b) (solo_of (doing.granted b e v (Unbinds vpn))) e (deeded (Unbinds vpn) v (solo_of b e))
+        solos = one_changed (solo_of b) (solo_of (doing.after_grant b e v (Unbinds vpn))) e (deeded (Unbinds vpn) v (solo_of b e))
             (rebound_seen rows mine v set (unbound vpn (runner_solo b e x)) sees
             ∙ (λ k. record (sym (unbound_keeps vpn (runner_solo b e x)) k) { cpu = answered_cpu (Grant v) b.cpu })
             ∙ deeded_seen b e x r (Unbinds vpn) v)

@@ -41,9 +41,9 @@ module _ (b : Shown) (e : ℕ) (x : Environment) (r : Runs b e x) (sound : IsSou
 
   -- a deed that changes claims alone: the runner has those of the book, as it says, and the others keep theirs
   changes_claims : (d : Deed) (v : ℕ) (claims : ClaimBook) (book : Book) → book_of (record b { claims = claims }) ≡ book → record (runner_solo b e x) { rings = rings_of claims e } ≡ own_part d (runner_solo b e x) → ((i : ℕ) → i ≢ e → rings_of claims i ≡ rings_of b.claims i)
-      → Serves b e (deeded d v (solo_of b e)) (record { book = book; items = no_items; rows = [] }) (doing.answered (record b { claims = claims }) (Grant v))
+      → Serves b e (deeded d v (solo_of b e)) (record { book = book; items = no_items; rows = [] }) (doing.after_answer (record b { claims = claims }) (Grant v))
   changes_claims d v claims book books own others =
-      let now = doing.answered (record b { claims = claims }) (Grant v) in
+      let now = doing.after_answer (record b { claims = claims }) (Grant v) in
       record {
         book = books;
         count = refl;
@@ -66,7 +66,7 @@ module _ (b : Shown) (e : ℕ) (x : Environment) (r : Runs b e x) (sound : IsSou
         time = refl;
       }
 
-  pub claims : (claim address atoms page v : ℕ) → MayClaim (world_of b) e claim address atoms page → Serves b e (deeded (Claims claim address atoms page) v (solo_of b e)) (done (world_of b) e (Claims claim address atoms page)) (doing.granted b e v (Claims claim address atoms page))
+  pub claims : (claim address atoms page v : ℕ) → MayClaim (world_of b) e claim address atoms page → Serves b e (deeded (Claims claim address atoms page) v (solo_of b e)) (done (world_of b) e (Claims claim address atoms page)) (doing.after_grant b e v (Claims claim address atoms page))
   claims claim address atoms page v may =
       let filter = atoms_or_none (filter_at (doing.look_of b e) address atoms) in
       changes_claims (Claims claim address atoms page) v (with_claim b.claims e filter page) (done (world_of b) e (Claims claim address atoms page)).book
@@ -80,14 +80,14 @@ module _ (b : Shown) (e : ℕ) (x : Environment) (r : Runs b e x) (sound : IsSou
       })
       (rings_claimed_else b.claims e filter page)
 
-  pub unclaims : (claim v : ℕ) → Serves b e (deeded (Unclaims claim) v (solo_of b e)) (done (world_of b) e (Unclaims claim)) (doing.granted b e v (Unclaims claim))
+  pub unclaims : (claim v : ℕ) → Serves b e (deeded (Unclaims claim) v (solo_of b e)) (done (world_of b) e (Unclaims claim)) (doing.after_grant b e v (Unclaims claim))
   unclaims claim v =
       changes_claims (Unclaims claim) v (without (is_claim e claim) b.claims) (done (world_of b) e (Unclaims claim)).book
       (λ k. record (book_of b) { claims = claims_without (is_claim e claim) b.claims k })
       (λ k. record (runner_solo b e x) { rings = rings_unclaimed b.claims e claim k })
       (rings_unclaimed_else b.claims e claim)
 
-  pub downloads : FirstIsNumbered → are_numbered 0 b.claims.next b.claims.rows ≡ true → (claim address words v : ℕ) → MayDownload (solo_of b e) claim address words → Serves b e (deeded (Downloads claim address words) v (solo_of b e)) (done (world_of b) e (Downloads claim address words)) (doing.granted b e v (Downloads claim address words))
+  pub downloads : FirstIsNumbered → are_numbered 0 b.claims.next b.claims.rows ≡ true → (claim address words v : ℕ) → MayDownload (solo_of b e) claim address words → Serves b e (deeded (Downloads claim address words) v (solo_of b e)) (done (world_of b) e (Downloads claim address words)) (doing.after_grant b e v (Downloads claim address words))
   downloads law numbered claim address words v may =
       let handler = handler_or_none (handler_at (doing.look_of b e) address words) in
       let looks : doing.look_of b e ≡ sight (runner_solo b e x) = λ k v. its_look b e x r sound v k in

@@ -18,7 +18,7 @@ use Rattle.board_world.specs.Rings.{ring_in}
 use Rattle.board_world.specs.Shown.{Shown}
 use Rattle.board_world.specs.Showing.{book_of, solo_of, solo_or_absent, solo_seen}
 use Rattle.board_world.specs.Sound.{IsSound, has_own_page}
-use Rattle.board_world.specs.Doing.{handled, replying}
+use Rattle.board_world.specs.Doing.{after_handler, with_replies_sent}
 use Rattle.board_world.proofs.Claimed.{rings_turned, rings_turned_else}
 use Rattle.board_world.proofs.Copying as copying
 use Rattle.board_world.proofs.Lists.{changed_else, changed_here}
@@ -67,13 +67,13 @@ module _ (b : Shown) (sound : IsSound b) (r : RowValue) (own : has_own_page b.pa
   owner = r.claim.env
 
   abbrev reply : Environment → Environment
-  reply = replying run.replies
+  reply = with_replies_sent run.replies
 
   abbrev page_written : Shown
   page_written = record b { frames = after_put b.frames r.claim.page 0 run.page }
 
   abbrev after_run : Shown
-  after_run = handled b (claim_seen r) run
+  after_run = after_handler b (claim_seen r) run
 
   -- the claim's environment has its page as the handler left it, and sent the replies
   pub run_here : solo_of after_run owner ≡ received_as (ring_in r) (Handles run.page run.replies) (solo_of b owner)

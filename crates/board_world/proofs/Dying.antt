@@ -116,7 +116,7 @@ may_die b e x at sound = let within = get_within b.roster.list e x at in record 
 
 module _ (b : Shown) (e : ℕ) (x : Environment) (r : Runs b e x) (may : MayDie b e) (cause : Cause) where
   abbrev after_death : Shown
-  after_death = doing.died b e cause
+  after_death = doing.after_death b e cause
 
   swept_stripe : (i row : ℕ) → stripe_of after_death i row ≡ without (goes_with (row_in b.pages) e i) (stripe_of b i row)
   swept_stripe i row = swept_row (goes_with (row_in b.pages) e) b.binds i row
@@ -191,5 +191,5 @@ module _ (b : Shown) (e : ℕ) (x : Environment) (r : Runs b e x) (may : MayDie 
     time = refl;
   }
 
-pub died_serves : (b : Shown) (e : ℕ) (x : Environment) → Runs b e x → IsSound b → (cause : Cause) → Serves b e (dead cause (solo_of b e)) (death (world_of b) e) (doing.died b e cause)
+pub died_serves : (b : Shown) (e : ℕ) (x : Environment) → Runs b e x → IsSound b → (cause : Cause) → Serves b e (dead cause (solo_of b e)) (death (world_of b) e) (doing.after_death b e cause)
 died_serves b e x r sound cause = dies b e x r (may_die b e x r.at sound) cause

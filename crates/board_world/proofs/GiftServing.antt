@@ -82,10 +82,10 @@ module _ (b : Shown) (e : ℕ) (x : Environment) (r : Runs b e x) (sound : IsSou
   -- The target is started.
   module _ (t : ℕ) (y : Environment) (there : IsThere b.roster.list t y) (other : t ≢ e) (v : ℕ) where
     abbrev now : Shown
-    now = doing.answered b (Grant v)
+    now = doing.after_answer b (Grant v)
 
     abbrev new : Shown
-    new = doing.given now e t
+    new = doing.after_gift now e t
 
     runs_next : Runs new t y
     runs_next = record { at = changed_else (doing.with_registers now.cpu) b.roster.list e t other ∙ there.at; lives = there.lives; runs = handed_named e t b.slots.runner r.runs.its }
@@ -143,18 +143,18 @@ module _ (b : Shown) (e : ℕ) (x : Environment) (r : Runs b e x) (sound : IsSou
       time = refl;
     }
 
-  pub gives : (t v : ℕ) → MayReach (world_of b) e t false → Serves b e (deeded (Gives t) v (solo_of b e)) (done (world_of b) e (Gives t)) (doing.granted b e v (Gives t))
+  pub gives : (t v : ℕ) → MayReach (world_of b) e t false → Serves b e (deeded (Gives t) v (solo_of b e)) (done (world_of b) e (Gives t)) (doing.after_grant b e v (Gives t))
   gives t v may = let target = other_in b e t may.other in gives_to t target.its target.there target.other v
 
   -- Yield without a target.
-  pub stops_itself : (v : ℕ) → Serves b e (deeded Stops v (solo_of b e)) (done (world_of b) e Stops) (doing.granted b e v Stops)
+  pub stops_itself : (v : ℕ) → Serves b e (deeded Stops v (solo_of b e)) (done (world_of b) e Stops) (doing.after_grant b e v Stops)
   stops_itself v =
-      let now = doing.answered b (Grant v) in
+      let now = doing.after_answer b (Grant v) in
       let still : Runs now e x = record { at = r.at; lives = r.lives; runs = r.runs } in
       record {
-        book = λ k. record (book_of (doing.stopped now e)) { kept = λ i. stopped_mappings now e x still i k };
+        book = λ k. record (book_of (doing.after_stop now e)) { kept = λ i. stopped_mappings now e x still i k };
         count = stopped_count now e x still;
-        solos = one_changed (solo_of b) (solo_of (doing.stopped now e)) e (deeded Stops v (solo_of b e))
+        solos = one_changed (solo_of b) (solo_of (doing.after_stop now e)) e (deeded Stops v (solo_of b e))
             (stopped_solo now e x still ∙ answered_seen b e x r (Grant v) ∙ deeded_seen b e x r Stops v)
             (λ i ne. stopped_others now e x still i ne ∙ answered_others b e x r (Grant v) i ne);
         rows = refl;

@@ -34,7 +34,7 @@ use Rattle.board_world.specs.Rings.{ring_in}
 use Rattle.board_world.specs.Shown.{Shown}
 use Rattle.board_world.specs.Showing.{book_of, solo_of, solo_or_absent, solo_seen, world_of}
 use Rattle.board_world.specs.Sound.{IsLive, IsSound, has_own_page}
-use Rattle.board_world.specs.Doing.{arrived_by, asked_by, revoked, context_of, counted_for, delivered_by, delivered_if, delivered_to, dropped_packet, handled, happened, replying, signalled, signalled_to}
+use Rattle.board_world.specs.Doing.{after_arrival_for, with_asked, after_revocation, context_of, with_count, after_delivery_by, after_queue, after_delivery, after_drop, after_handler, after_event, with_replies_sent, after_signal, after_signal_to}
 use Rattle.board_world.proofs.Asked.{nothing_pending, pending_set}
 use Rattle.board_world.proofs.Lists.{get_within, length-changed}
 use Rattle.board_world.proofs.Claimed.{claims_turned, found_owned, found_without, ring_found}
@@ -54,11 +54,11 @@ use Rattle.board_world.proofs.Staying.{sound_frames}
 use Rattle.board_world.proofs.Stepping.{owner_is}
 
 -- a packet that is dropped changes no environment
-dropped_solo : (b : Shown) (packet : List ℕ) (i : ℕ) → solo_of (dropped_packet b packet) i ≡ solo_of b i
-dropped_solo b packet i = like_solo i (dropped_packet b packet) b (record { record_is = refl; rings = refl; cpu = λ kept. refl; pages = refl; binds = refl; sights = refl })
+dropped_solo : (b : Shown) (packet : List ℕ) (i : ℕ) → solo_of (after_drop b packet) i ≡ solo_of b i
+dropped_solo b packet i = like_solo i (after_drop b packet) b (record { record_is = refl; rings = refl; cpu = λ kept. refl; pages = refl; binds = refl; sights = refl })
 
-dropped_world : (b : Shown) (packet : List ℕ) → world_of (dropped_packet b packet) ≡ after (world_of b) (drops_packet packet (world_of b))
-dropped_world b packet = worlds (world_of (dropped_packet b packet)) (after (world_of b) (drops_packet packet (world_of b))) refl refl (dropped_solo b packet) refl
+dropped_world : (b : Shown) (packet : List ℕ) → world_of (after_drop b packet) ≡ after (world_of b) (drops_packet packet (world_of b))
+dropped_world b packet = worlds (world_of (after_drop b packet)) (after (world_of b) (drops_packet packet (world_of b))) refl refl (dropped_solo b packet) refl
 
 -- a signal on a line of an environment that lives
 signalled_changed : (line : ℕ) (page : Option ℕ) (frames : List (List ℕ)) → signalled_in line page frames ≡ changed_in post.Lines (λ n. bit_or n (2 ^ line)) page frames
@@ -67,7 +67,7 @@ signalled_changed line (Some page) frames = refl
 
 module _ (b : Shown) (sound : IsSound b) (line e : ℕ) (x : Environment) (at : slice_get b.roster.list e ≡ Some x) (lives : x.life ≡ Live) where
   abbrev signalled_board : Shown
-  signalled_board = signalled_to b line (Some e)
+  signalled_board = after_signal_to b line (Some e)
 
   board_is : signalled_board ≡ with_word b e post.Lines (λ n. bit_or n (2 ^ line))
   board_is = λ k. record b { frames = signalled_changed line (context_of b e) b.frames k }
@@ -89,10 +89,10 @@ module _ (b : Shown) (sound : IsSound b) (line e : ℕ) (x : Environment) (at : 
       (λ i ne. ap (λ (y : Shown). solo_of y i) board_is ∙ worded_others b sound e x at lives (λ n. bit_or n (2 ^ line)) post.Lines i ne))
       (sym (append_nothing b.ledger.rows))
 
-signalled_world : (b : Shown) → IsSound b → (line : ℕ) → world_of (signalled b line) ≡ after (world_of b) (signals line (line_at b.lines line) (world_of b))
+signalled_world : (b : Shown) → IsSound b → (line : ℕ) → world_of (after_signal b line) ≡ after (world_of b) (signals line (line_at b.lines line) (world_of b))
 signalled_world b sound line = by_owner (line_at b.lines line) (sound.lines.owners line)
   where
-    by_owner : (owner : Option ℕ) → IfSome owner (IsLive b.roster.list) → world_of (signalled_to b line owner) ≡ after (world_of b) (signals line owner (world_of b))
+    by_owner : (owner : Option ℕ) → IfSome owner (IsLive b.roster.list) → world_of (after_signal_to b line owner) ≡ after (world_of b) (signals line owner (world_of b))
     by_owner None live = quiet_world (world_of b)
     by_owner (Some e) live = let x = live_record b.roster.list e live.1 in owner_world b sound line e x.0 x.1.0 x.1.1
 
@@ -105,16 +105,16 @@ counted_changed word None frames = refl
 counted_changed word (Some page) frames = refl
 
 module _ (b : Shown) (sound : IsSound b) (e : ℕ) (x : Environment) (at : slice_get b.roster.list e ≡ Some x) (lives : x.life ≡ Live) (word : PostWord) where
-  counted_is : counted_for b word e ≡ with_word b e word counts
+  counted_is : with_count b word e ≡ with_word b e word counts
   counted_is = λ k. record b { frames = counted_changed word (context_of b e) b.frames k }
 
-  counted_seen : solo_of (counted_for b word e) e ≡ counted_word word (solo_of b e)
+  counted_seen : solo_of (with_count b word e) e ≡ counted_word word (solo_of b e)
   counted_seen = ap (λ (y : Shown). solo_of y e) counted_is ∙ worded_seen b sound e x at lives counts word
 
-  counted_others : (i : ℕ) → i ≢ e → solo_of (counted_for b word e) i ≡ solo_of b i
+  counted_others : (i : ℕ) → i ≢ e → solo_of (with_count b word e) i ≡ solo_of b i
   counted_others i ne = ap (λ (y : Shown). solo_of y i) counted_is ∙ worded_others b sound e x at lives counts word i ne
 
-  counted_sound : IsSound (counted_for b word e)
+  counted_sound : IsSound (with_count b word e)
   counted_sound = sound_frames (counted_in word (context_of b e) b.frames) (ap length (counted_changed word (context_of b e) b.frames) ∙ same_size word counts (context_of b e) b.frames) sound
 
 -- a packet for a claim that is found
@@ -133,7 +133,7 @@ module _ (law : FirstIsNumbered) (b : Shown) (sound : IsSound b) (numbered : are
   before = solo_of b e
 
   abbrev counted : Shown
-  counted = counted_for b post.Packets e
+  counted = with_count b post.Packets e
 
   abbrev sound_counted : IsSound counted
   sound_counted = counted_sound b sound e x at lives post.Packets
@@ -199,42 +199,42 @@ module _ (law : FirstIsNumbered) (b : Shown) (sound : IsSound b) (numbered : are
   its_handler : claim_handler b.claims id ≡ r.handler
   its_handler = ap (λ o. option_flatten (option_map (λ (y : RowValue). y.handler) o)) first
 
-  delivered_world : world_of (delivered_to b (claim_seen r) packet) ≡ after (world_of b) (delivers r.claim packet (world_of b))
-  delivered_world = ap (λ h. world_of (delivered_by h counted (claim_seen r) packet)) its_handler ∙ by_handler r.handler refl
+  delivered_world : world_of (after_delivery b (claim_seen r) packet) ≡ after (world_of b) (delivers r.claim packet (world_of b))
+  delivered_world = ap (λ h. world_of (after_delivery_by h counted (claim_seen r) packet)) its_handler ∙ by_handler r.handler refl
     where
-      by_full : (full : Bool) → r.handler ≡ None → is_full (page_at counted.frames page) r.next ≡ full → world_of (delivered_if full counted (claim_seen r) packet) ≡ after (world_of b) (delivers r.claim packet (world_of b))
+      by_full : (full : Bool) → r.handler ≡ None → is_full (page_at counted.frames page) r.next ≡ full → world_of (after_queue full counted (claim_seen r) packet) ≡ after (world_of b) (delivers r.claim packet (world_of b))
       by_full true none is =
-          worlds (world_of (delivered_if true counted (claim_seen r) packet)) (after (world_of b) (delivers r.claim packet (world_of b))) refl refl
-          (given Loses (queues true none is) (delivered_if true counted (claim_seen r) packet)
+          worlds (world_of (after_queue true counted (claim_seen r) packet)) (after (world_of b) (delivers r.claim packet (world_of b))) refl refl
+          (given Loses (queues true none is) (after_queue true counted (claim_seen r) packet)
           (counted_seen counted sound_counted e x at lives post.Lost)
           (λ i ne. counted_others counted sound_counted e x at lives post.Lost i ne ∙ counted_others b sound e x at lives post.Packets i ne))
           (sym (append_nothing b.ledger.rows))
       by_full false none is =
           let bytes = with_packet (page_at counted.frames page) r.next packet in
-          worlds (world_of (delivered_if false counted (claim_seen r) packet)) (after (world_of b) (delivers r.claim packet (world_of b)))
+          worlds (world_of (after_queue false counted (claim_seen r) packet)) (after (world_of b) (delivers r.claim packet (world_of b)))
           (λ k. record (book_of b) { claims = claims_turned b.claims id k }) refl
-          (given (Queues bytes) (queues false none is) (delivered_if false counted (claim_seen r) packet)
+          (given (Queues bytes) (queues false none is) (after_queue false counted (claim_seen r) packet)
           (delivering.ring_filled law counted sound_counted numbered r first own x at lives bytes)
           (λ i ne. delivering.ring_left law counted sound_counted numbered r first own x at lives bytes i ne
           ∙ ap (λ (s : Solo). absorb_all s (ring_left (book_of b) e page (Some bytes) i)) (counted_others b sound e x at lives post.Packets i ne)))
           (sym (append_nothing b.ledger.rows))
 
-      by_run : (run : HandlerRun) → what ≡ Handles run.page run.replies → world_of (handled counted (claim_seen r) run) ≡ after (world_of b) (delivers r.claim packet (world_of b))
+      by_run : (run : HandlerRun) → what ≡ Handles run.page run.replies → world_of (after_handler counted (claim_seen r) run) ≡ after (world_of b) (delivers r.claim packet (world_of b))
       by_run run is =
-          worlds (world_of (handled counted (claim_seen r) run)) (after (world_of b) (delivers r.claim packet (world_of b)))
-          (λ k. record (book_of b) { kept = λ i. kept_mappings (replying run.replies) (keeps_replying run.replies) b.roster.list e i k })
-          (length-changed (replying run.replies) b.roster.list e)
-          (given (Handles run.page run.replies) is (handled counted (claim_seen r) run)
+          worlds (world_of (after_handler counted (claim_seen r) run)) (after (world_of b) (delivers r.claim packet (world_of b)))
+          (λ k. record (book_of b) { kept = λ i. kept_mappings (with_replies_sent run.replies) (keeps_replying run.replies) b.roster.list e i k })
+          (length-changed (with_replies_sent run.replies) b.roster.list e)
+          (given (Handles run.page run.replies) is (after_handler counted (claim_seen r) run)
           (delivering.run_here counted sound_counted r own x at lives run)
           (λ i ne. delivering.run_else counted sound_counted r own x at lives run i ne
           ∙ ap (λ (s : Solo). absorb_all s (ring_left (book_of b) e page (Some run.page) i)) (counted_others b sound e x at lives post.Packets i ne)))
           (sym (append_nothing b.ledger.rows))
 
-      by_handler : (h : Option (List ℕ)) → r.handler ≡ h → world_of (delivered_by h counted (claim_seen r) packet) ≡ after (world_of b) (delivers r.claim packet (world_of b))
+      by_handler : (h : Option (List ℕ)) → r.handler ≡ h → world_of (after_delivery_by h counted (claim_seen r) packet) ≡ after (world_of b) (delivers r.claim packet (world_of b))
       by_handler None none = by_full (is_full (page_at counted.frames page) r.next) none refl
       by_handler (Some words) some = by_run (handler_run words packet id (page_at counted.frames page)) (ap (λ h. received_by h (ring_in r) packet (page_at counted.frames page)) some)
 
-arrived_world : FirstIsNumbered → (b : Shown) (packet : List ℕ) → IsSound b → are_numbered 0 b.claims.next b.claims.rows ≡ true → (o : Option RowValue) → first_row (is_for packet) b.claims ≡ o → world_of (arrived_by b packet (option_map claim_seen o)) ≡ after (world_of b) (arrives packet (option_map claim_in o) (world_of b))
+arrived_world : FirstIsNumbered → (b : Shown) (packet : List ℕ) → IsSound b → are_numbered 0 b.claims.next b.claims.rows ≡ true → (o : Option RowValue) → first_row (is_for packet) b.claims ≡ o → world_of (after_arrival_for b packet (option_map claim_seen o)) ≡ after (world_of b) (arrives packet (option_map claim_in o) (world_of b))
 arrived_world law b packet sound numbered None found = dropped_world b packet
 arrived_world law b packet sound numbered (Some r) found =
     let first = law b.claims (is_for packet) r numbered found in
@@ -250,7 +250,7 @@ asked_changed outstanding deadline (Some page) frames = refl
 
 module _ (b : Shown) (sound : IsSound b) (e : ℕ) (x : Environment) (at : slice_get b.roster.list e ≡ Some x) (lives : x.life ≡ Live) (p : Pending) where
   abbrev asked_board : Shown
-  asked_board = asked_by b e (Some p)
+  asked_board = with_asked b e (Some p)
 
   abbrev told : Shown
   told = with_word b e post.Outstanding (λ n. p.outstanding)
@@ -306,32 +306,32 @@ living_record b e is = by_record (slice_get b.roster.list e) refl (is_there b.ro
         let lives : (solo_of b e).life ≡ Live = by_life (solo_of b e).life (both_true (nat_lt e (length b.roster.list)) (not (is_dead (solo_of b e).life)) is).1 in
         (y, (at, ap (λ o. (solo_or_absent b e o).life) (sym at) ∙ lives))
 
-revoked_world : (b : Shown) (e count deadline : ℕ) → IsSound b → world_of (revoked b e count deadline) ≡ after (world_of b) (revokes e count deadline (world_of b))
+revoked_world : (b : Shown) (e count deadline : ℕ) → IsSound b → world_of (after_revocation b e count deadline) ≡ after (world_of b) (revokes e count deadline (world_of b))
 revoked_world b e count deadline sound = by_living (is_living (world_of b) e) refl
   where
     -- nothing was pending, and nothing is
-    quiet : (x : Environment) → slice_get b.roster.list e ≡ Some x → pending_at b.revocations e ≡ None → world_of (asked_by b e None) ≡ world_of b
+    quiet : (x : Environment) → slice_get b.roster.list e ≡ Some x → pending_at b.revocations e ≡ None → world_of (with_asked b e None) ≡ world_of b
     quiet x at none =
-        worlds (world_of (asked_by b e None)) (world_of b)
+        worlds (world_of (with_asked b e None)) (world_of b)
         (λ k. record (book_of b) {
           pending = λ i. (pending_set b.revocations e None (omega (arith, get_within b.roster.list e x at, sound.few, sound.revocations.pending)) i
               ∙ (λ j. set_at e (sym none j) (pending_at b.revocations) i)
               ∙ set_same e (pending_at b.revocations) i) k;
         })
         refl
-        (λ i. like_solo i (asked_by b e None) b (record { record_is = refl; rings = refl; cpu = λ kept. refl; pages = refl; binds = refl; sights = refl }))
+        (λ i. like_solo i (with_asked b e None) b (record { record_is = refl; rings = refl; cpu = λ kept. refl; pages = refl; binds = refl; sights = refl }))
         refl
 
-    by_pending : (x : Environment) → slice_get b.roster.list e ≡ Some x → x.life ≡ Live → (o : Option Pending) → asked count deadline (pending_at b.revocations e) ≡ o → world_of (asked_by b e o) ≡ after (world_of b) (asks e o (world_of b))
+    by_pending : (x : Environment) → slice_get b.roster.list e ≡ Some x → x.life ≡ Live → (o : Option Pending) → asked count deadline (pending_at b.revocations e) ≡ o → world_of (with_asked b e o) ≡ after (world_of b) (asks e o (world_of b))
     by_pending x at lives None is = quiet x at (nothing_pending count deadline (pending_at b.revocations e) (sound.revocations.some e) is) ∙ quiet_world (world_of b)
     by_pending x at lives (Some p) is = asked_world b sound e x at lives p
 
-    by_living : (t : Bool) → is_living (world_of b) e ≡ t → world_of (if t then asked_by b e (asked count deadline (pending_at b.revocations e)) else b) ≡ after (world_of b) (if t then asks e (asked count deadline (pending_at b.revocations e)) (world_of b) else no_change (world_of b))
+    by_living : (t : Bool) → is_living (world_of b) e ≡ t → world_of (if t then with_asked b e (asked count deadline (pending_at b.revocations e)) else b) ≡ after (world_of b) (if t then asks e (asked count deadline (pending_at b.revocations e)) (world_of b) else no_change (world_of b))
     by_living true living = let x = living_record b e living in by_pending x.0 x.1.0 x.1.1 (asked count deadline (pending_at b.revocations e)) refl
     by_living false gone = quiet_world (world_of b)
 
 -- each kind of event
-pub happened_world : FirstIsNumbered → (b : Shown) (what : Occurrence) → IsSound b → are_numbered 0 b.claims.next b.claims.rows ≡ true → world_of (happened what b) ≡ after (world_of b) (happen what (world_of b))
+pub happened_world : FirstIsNumbered → (b : Shown) (what : Occurrence) → IsSound b → are_numbered 0 b.claims.next b.claims.rows ≡ true → world_of (after_event what b) ≡ after (world_of b) (happen what (world_of b))
 happened_world law b (outside.Packet packet) sound numbered =
     arrived_world law b packet sound numbered (first_row (is_for packet) b.claims) refl
     ∙ ap (λ o. after (world_of b) (arrives packet o (world_of b))) (sym (found_without (is_for packet) b.claims))
@@ -339,32 +339,32 @@ happened_world law b (outside.Line line) sound numbered = signalled_world b soun
 happened_world law b (outside.Revoke env count grace) sound numbered = revoked_world b env count (b.time + grace) sound
 
 -- it writes few rows, and all environments stay
-pub happened_leaves : (b : Shown) (what : Occurrence) → Leaves b (happened what b)
+pub happened_leaves : (b : Shown) (what : Occurrence) → Leaves b (after_event what b)
 happened_leaves b (outside.Packet packet) = by_claim (claim_for b.claims packet)
   where
-    by_full : (c : Claim) (full : Bool) → Leaves b (delivered_if full (counted_for b post.Packets c.env) c packet)
+    by_full : (c : Claim) (full : Bool) → Leaves b (after_queue full (with_count b post.Packets c.env) c packet)
     by_full c true = record { room = omega arith; spare = refl; time = refl; numbers = omega arith }
     by_full c false = record { room = omega arith; spare = refl; time = refl; numbers = omega arith }
 
-    by_handler : (c : Claim) (h : Option (List ℕ)) → Leaves b (delivered_by h (counted_for b post.Packets c.env) c packet)
-    by_handler c None = by_full c (is_full (page_at (counted_for b post.Packets c.env).frames c.page) c.next)
+    by_handler : (c : Claim) (h : Option (List ℕ)) → Leaves b (after_delivery_by h (with_count b post.Packets c.env) c packet)
+    by_handler c None = by_full c (is_full (page_at (with_count b post.Packets c.env).frames c.page) c.next)
     by_handler c (Some words) = record { room = omega arith; spare = refl; time = refl; numbers = omega arith }
 
-    by_claim : (o : Option Claim) → Leaves b (arrived_by b packet o)
+    by_claim : (o : Option Claim) → Leaves b (after_arrival_for b packet o)
     by_claim None = record { room = omega arith; spare = refl; time = refl; numbers = omega arith }
     by_claim (Some c) = by_handler c (claim_handler b.claims c.id)
 happened_leaves b (outside.Line line) = by_owner (line_at b.lines line)
   where
-    by_owner : (owner : Option ℕ) → Leaves b (signalled_to b line owner)
+    by_owner : (owner : Option ℕ) → Leaves b (after_signal_to b line owner)
     by_owner None = record { room = omega arith; spare = refl; time = refl; numbers = omega arith }
     by_owner (Some e) = record { room = omega arith; spare = refl; time = refl; numbers = omega arith }
 happened_leaves b (outside.Revoke env count grace) = by_living (is_living (world_of b) env)
   where
-    by_pending : (o : Option Pending) → Leaves b (asked_by b env o)
+    by_pending : (o : Option Pending) → Leaves b (with_asked b env o)
     by_pending None = record { room = omega arith; spare = refl; time = refl; numbers = omega arith }
     by_pending (Some p) = record { room = omega arith; spare = refl; time = refl; numbers = omega arith }
 
-    by_living : (t : Bool) → Leaves b (if t then asked_by b env (asked count (b.time + grace) (pending_at b.revocations env)) else b)
+    by_living : (t : Bool) → Leaves b (if t then with_asked b env (asked count (b.time + grace) (pending_at b.revocations env)) else b)
     by_living true = by_pending (asked count (b.time + grace) (pending_at b.revocations env))
     by_living false = record { room = omega arith; spare = refl; time = refl; numbers = omega arith }
 

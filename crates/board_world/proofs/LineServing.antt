@@ -34,11 +34,11 @@ line_set lines line owner within =
 module _ (b : Shown) (e : ℕ) (x : Environment) (r : Runs b e x) (sound : IsSound b) where
   -- a line has another owner, and the runner does nothing to itself
   sets_line : (d : Deed) (v line : ℕ) (owner : Option ℕ) → line < length b.lines → own_part d (runner_solo b e x) ≡ runner_solo b e x →
-      Serves b e (deeded d v (solo_of b e)) (with_line (world_of b) line owner) (doing.answered (doing.with_line b line owner) (Grant v))
+      Serves b e (deeded d v (solo_of b e)) (with_line (world_of b) line owner) (doing.after_answer (doing.with_line b line owner) (Grant v))
   sets_line d v line owner within own = record {
     book = λ j. record (book_of b) { lines = λ n. line_set b.lines line owner within n j };
     count = refl;
-    solos = one_changed (solo_of b) (solo_of (doing.answered (doing.with_line b line owner) (Grant v))) e (deeded d v (solo_of b e))
+    solos = one_changed (solo_of b) (solo_of (doing.after_answer (doing.with_line b line owner) (Grant v))) e (deeded d v (solo_of b e))
         (answered_seen b e x r (Grant v)
         ∙ ap (λ (s : Solo). record s { cpu = answered_cpu (Grant v) b.cpu }) (sym own)
         ∙ deeded_seen b e x r d v)
@@ -50,11 +50,11 @@ module _ (b : Shown) (e : ℕ) (x : Environment) (r : Runs b e x) (sound : IsSou
   }
 
   -- a page is the last of the runner's backups
-  pub loads_page : (page v : ℕ) → Serves b e (deeded (Loads page) v (solo_of b e)) (done (world_of b) e (Loads page)) (doing.granted b e v (Loads page))
+  pub loads_page : (page v : ℕ) → Serves b e (deeded (Loads page) v (solo_of b e)) (done (world_of b) e (Loads page)) (doing.after_grant b e v (Loads page))
   loads_page page v = record {
     book = λ j. record (book_of b) { backups = λ n. backups_set b.revocations e (loaded page (backups_at b.revocations e)) (omega (arith, get_within b.roster.list e x r.at, sound.few, sound.revocations.backups)) n j };
     count = refl;
-    solos = one_changed (solo_of b) (solo_of (doing.answered (doing.with_loaded b e page) (Grant v))) e (deeded (Loads page) v (solo_of b e))
+    solos = one_changed (solo_of b) (solo_of (doing.after_answer (doing.with_loaded b e page) (Grant v))) e (deeded (Loads page) v (solo_of b e))
         (answered_seen b e x r (Grant v)
         ∙ deeded_seen b e x r (Loads page) v)
         (answered_others b e x r (Grant v));
@@ -64,8 +64,8 @@ module _ (b : Shown) (e : ℕ) (x : Environment) (r : Runs b e x) (sound : IsSou
     time = refl;
   }
 
-  pub takes_line : (line v : ℕ) → MayTakeLine (book_of b) e line → Serves b e (deeded (TakesLine line) v (solo_of b e)) (done (world_of b) e (TakesLine line)) (doing.granted b e v (TakesLine line))
+  pub takes_line : (line v : ℕ) → MayTakeLine (book_of b) e line → Serves b e (deeded (TakesLine line) v (solo_of b e)) (done (world_of b) e (TakesLine line)) (doing.after_grant b e v (TakesLine line))
   takes_line line v may = sets_line (TakesLine line) v line (Some e) (omega (arith, may.there, sound.lines.count)) refl
 
-  pub drops_line : (line v : ℕ) → MayDropLine (book_of b) e line → Serves b e (deeded (DropsLine line) v (solo_of b e)) (done (world_of b) e (DropsLine line)) (doing.granted b e v (DropsLine line))
+  pub drops_line : (line v : ℕ) → MayDropLine (book_of b) e line → Serves b e (deeded (DropsLine line) v (solo_of b e)) (done (world_of b) e (DropsLine line)) (doing.after_grant b e v (DropsLine line))
   drops_line line v may = sets_line (DropsLine line) v line None (omega (arith, may.there, sound.lines.count)) refl

@@ -35,17 +35,17 @@ module _ (b : Shown) (e : ℕ) (x : Environment) (r : Runs b e x) (sound : IsSou
   looks = λ k v. its_look b e x r sound v k
 
   -- what its record shows of each deed, once its call is answered
-  shows : (own : OwnDeed) (v : ℕ) → runner_solo (doing.answered (doing.own_done b e own) (Grant v)) e (doing.own_record b e own x) ≡ deeded (Own own) v (runner_solo b e x)
+  shows : (own : OwnDeed) (v : ℕ) → runner_solo (doing.after_answer (doing.after_own_deed b e own) (Grant v)) e (doing.own_record b e own x) ≡ deeded (Own own) v (runner_solo b e x)
   shows (Puts address size) v = λ k. record (runner_solo b e x) { cpu = answered_cpu (Grant v) b.cpu; console = x.output.console ++ unwrap_or (put_bytes (looks k) address size) [] }
   shows (Sends address size) v = λ k. record (runner_solo b e x) { cpu = answered_cpu (Grant v) b.cpu; sent = x.output.sent ++ unwrap_or (good_range (looks k) address size) [] ∷ [] }
   shows (Handles kind address) v = refl
   shows (Accepts mask) v = refl
 
-  pub own_serves : (own : OwnDeed) (v : ℕ) → Serves b e (deeded (Own own) v (solo_of b e)) (done (world_of b) e (Own own)) (doing.granted b e v (Own own))
+  pub own_serves : (own : OwnDeed) (v : ℕ) → Serves b e (deeded (Own own) v (solo_of b e)) (done (world_of b) e (Own own)) (doing.after_grant b e v (Own own))
   own_serves own v =
       let f = doing.own_record b e own in
       let keeps = keeps_own b e own in
-      let now = doing.granted b e v (Own own) in
+      let now = doing.after_grant b e v (Own own) in
       let still : Runs now e (f x) = record { at = changed_here f b.roster.list e ∙ ap (option_map f) r.at; lives = keeps.life x ∙ r.lives; runs = r.runs } in
       record {
         book = λ k. record (book_of now) { kept = λ i. kept_mappings f keeps b.roster.list e i k };

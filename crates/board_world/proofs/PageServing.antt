@@ -80,7 +80,7 @@ module _ (b : Shown) (e : ℕ) (x : Environment) (r : Runs b e x) (sound : IsSou
   -- Allocation.
   module _ (page : ℕ) (words : Capabilities) (zeros : List ℕ) (may : MayAllocate (book_of b) page) (v : ℕ) where
     abbrev taken : Shown
-    taken = doing.answered (record b { frames = with_page b.frames page zeros; pages = slice_set b.pages page (Owned e words) }) (Grant v)
+    taken = doing.after_answer (record b { frames = with_page b.frames page zeros; pages = slice_set b.pages page (Owned e words) }) (Grant v)
 
     abbrev taken_reply : Reply
     taken_reply = record {
@@ -142,13 +142,13 @@ module _ (b : Shown) (e : ℕ) (x : Environment) (r : Runs b e x) (sound : IsSou
           time = refl;
         }
 
-  pub allocates : (page : ℕ) (words : Capabilities) (v : ℕ) → MayAllocate (book_of b) page → Serves b e (deeded (Allocates page words) v (solo_of b e)) (done (world_of b) e (Allocates page words)) (doing.granted b e v (Allocates page words))
+  pub allocates : (page : ℕ) (words : Capabilities) (v : ℕ) → MayAllocate (book_of b) page → Serves b e (deeded (Allocates page words) v (solo_of b e)) (done (world_of b) e (Allocates page words)) (doing.after_grant b e v (Allocates page words))
   allocates page words v may = takes page words zero_page may v
 
   -- Pages that are changed, and the runner's registers.
   module _ (page : ℕ) (row : PageRow) (but : Option ℕ) (v : ℕ) (within : page < length b.pages) where
     abbrev changed : Shown
-    changed = doing.answered (doing.with_broken b page row but) (Grant v)
+    changed = doing.after_answer (doing.with_broken b page row but) (Grant v)
 
     changed_book : book_of changed ≡ broken page but (record (book_of b) { pages = set_at page row (row_in b.pages) })
     changed_book = broken_book b page row but within
@@ -175,9 +175,9 @@ module _ (b : Shown) (e : ℕ) (x : Environment) (r : Runs b e x) (sound : IsSou
   its_place = let within = get_within b.roster.list e x r.at in (omega (arith, within, sound.few, sound.revocations.pending), omega (arith, within, sound.few, sound.revocations.backups))
 
   -- Free.
-  pub frees : (page v : ℕ) → MayChange (book_of b) e page → Serves b e (deeded (Frees page) v (solo_of b e)) (done (world_of b) e (Frees page)) (doing.granted b e v (Frees page))
+  pub frees : (page v : ℕ) → MayChange (book_of b) e page → Serves b e (deeded (Frees page) v (solo_of b e)) (done (world_of b) e (Frees page)) (doing.after_grant b e v (Frees page))
   frees page v may =
-      let now = doing.granted b e v (Frees page) in
+      let now = doing.after_grant b e v (Frees page) in
       let still : Runs now e x = record { at = r.at; lives = r.lives; runs = r.runs } in
       let sees : Sees e (row_in now.pages) (stripe_of now e) (page_at b.frames) (lost page (runner_solo b e x)) =
       changed_own page Free None v may.there (lost page (runner_solo b e x)) (freer_loses e page Free (row_in b.pages) (stripe_of b e) (page_at b.frames) (runner_solo b e x) (own_sees b e x) refl) in
@@ -209,7 +209,7 @@ module _ (b : Shown) (e : ℕ) (x : Environment) (r : Runs b e x) (sound : IsSou
       }
 
   -- Recap.
-  pub recaps : (page : ℕ) (words : Capabilities) (v : ℕ) → MayChange (book_of b) e page → Serves b e (deeded (Recaps page words) v (solo_of b e)) (done (world_of b) e (Recaps page words)) (doing.granted b e v (Recaps page words))
+  pub recaps : (page : ℕ) (words : Capabilities) (v : ℕ) → MayChange (book_of b) e page → Serves b e (deeded (Recaps page words) v (solo_of b e)) (done (world_of b) e (Recaps page words)) (doing.after_grant b e v (Recaps page words))
   recaps page words v may =
       let row = Owned e words in
       let now = changed page row (Some e) v may.there in

@@ -55,22 +55,22 @@ abbrev pub deeded : Deed → ℕ → Solo → Solo
 deeded d v s = record (own_part d s) { cpu = answered_cpu (Grant v) s.cpu }
 
 module _ (b : Shown) (e : ℕ) (x : Environment) (r : Runs b e x) where
-  pub answered_others : (verdict : Verdict) (i : ℕ) → i ≢ e → solo_of (doing.answered b verdict) i ≡ solo_of b i
-  answered_others verdict i ne = same_solo i (doing.answered b verdict) b (record { record_is = refl; rings = refl; idles = r.runs.others i ne; idled = r.runs.others i ne; pages = refl; binds = refl; sights = refl })
+  pub answered_others : (verdict : Verdict) (i : ℕ) → i ≢ e → solo_of (doing.after_answer b verdict) i ≡ solo_of b i
+  answered_others verdict i ne = same_solo i (doing.after_answer b verdict) b (record { record_is = refl; rings = refl; idles = r.runs.others i ne; idled = r.runs.others i ne; pages = refl; binds = refl; sights = refl })
 
-  pub answered_seen : (verdict : Verdict) → solo_of (doing.answered b verdict) e ≡ record (runner_solo b e x) { cpu = answered_cpu verdict b.cpu }
-  answered_seen verdict = runner_seen (doing.answered b verdict) e x (record { at = r.at; lives = r.lives; runs = r.runs })
+  pub answered_seen : (verdict : Verdict) → solo_of (doing.after_answer b verdict) e ≡ record (runner_solo b e x) { cpu = answered_cpu verdict b.cpu }
+  answered_seen verdict = runner_seen (doing.after_answer b verdict) e x (record { at = r.at; lives = r.lives; runs = r.runs })
 
   -- what the runner does is what is done of it as it is shown
   pub deeded_seen : (d : Deed) (v : ℕ) → deeded d v (runner_solo b e x) ≡ deeded d v (solo_of b e)
   deeded_seen d v = ap (deeded d v) (sym (runner_seen b e x r))
 
   -- a call is refused
-  pub refuses : (why : Code) (v : ℕ) → Serves b e (solo_of b e) (reply_of (world_of b) e (Refuse why v)) (doing.answered b (Refuse why v))
+  pub refuses : (why : Code) (v : ℕ) → Serves b e (solo_of b e) (reply_of (world_of b) e (Refuse why v)) (doing.after_answer b (Refuse why v))
   refuses why v = record {
     book = refl;
     count = refl;
-    solos = one_given (solo_of b) (solo_of (doing.answered b (Refuse why v))) e (solo_of b e) (Answer (Refuse why v) ∷ [])
+    solos = one_given (solo_of b) (solo_of (doing.after_answer b (Refuse why v))) e (solo_of b e) (Answer (Refuse why v) ∷ [])
         (answered_seen (Refuse why v) ∙ ap (λ s. absorb_all s (Answer (Refuse why v) ∷ [])) (sym (runner_seen b e x r)))
         (answered_others (Refuse why v));
     rows = sym (append_nothing b.ledger.rows);
@@ -80,11 +80,11 @@ module _ (b : Shown) (e : ℕ) (x : Environment) (r : Runs b e x) where
   }
 
   -- a call is answered, and that is all
-  pub answers : (v : ℕ) → Serves b e (deeded Answers v (solo_of b e)) (no_change (world_of b)) (doing.answered b (Grant v))
+  pub answers : (v : ℕ) → Serves b e (deeded Answers v (solo_of b e)) (no_change (world_of b)) (doing.after_answer b (Grant v))
   answers v = record {
     book = refl;
     count = refl;
-    solos = one_changed (solo_of b) (solo_of (doing.answered b (Grant v))) e (deeded Answers v (solo_of b e)) (answered_seen (Grant v) ∙ deeded_seen Answers v) (answered_others (Grant v));
+    solos = one_changed (solo_of b) (solo_of (doing.after_answer b (Grant v))) e (deeded Answers v (solo_of b e)) (answered_seen (Grant v) ∙ deeded_seen Answers v) (answered_others (Grant v));
     rows = sym (append_nothing b.ledger.rows);
     room = omega arith;
     spare = refl;

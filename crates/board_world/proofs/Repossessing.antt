@@ -38,7 +38,7 @@ use Rattle.board_world.specs.declared.roster.Environment.{Environment}
 use Rattle.board_world.specs.Shown.{Shown, mappings_in, mappings_of}
 use Rattle.board_world.specs.Showing.{book_of, page_seen, pages_seen, solo_of, solo_or_absent, solo_seen, world_of}
 use Rattle.board_world.specs.Sound.{IsLive, IsSound}
-use Rattle.board_world.specs.Doing.{context_of, copied_to, deadlines_over, deadlines_served, repossessed, takings_in, with_freed}
+use Rattle.board_world.specs.Doing.{context_of, frames_after_copy, with_deadlines_over, after_deadlines, after_taking, takings_in, with_freed}
 use Rattle.board_world.proofs.Asked.{backups_set, pending_served, taken_asked}
 use Rattle.board_world.proofs.Booked.{free_booked}
 use Rattle.board_world.proofs.Breaking.{freed_book, freed_else, freed_own}
@@ -214,17 +214,17 @@ module _ (b : Shown) (sound : IsSound b) (x : Taking) (may : IsTakable (books_of
 
   -- First the copy,
   abbrev copied_board : Shown
-  copied_board = record b { frames = copied_to x.page x.backup b.frames }
+  copied_board = record b { frames = frames_after_copy x.page x.backup b.frames }
 
-  pub copy_size : length (copied_to x.page x.backup b.frames) ≡ length b.frames
+  pub copy_size : length (frames_after_copy x.page x.backup b.frames) ≡ length b.frames
   copy_size = by_backup x.backup
     where
-      by_backup : (o : Option ℕ) → length (copied_to x.page o b.frames) ≡ length b.frames
+      by_backup : (o : Option ℕ) → length (frames_after_copy x.page o b.frames) ≡ length b.frames
       by_backup None = refl
       by_backup (Some backup) = length-set b.frames backup _
 
   copied_sound : IsSound copied_board
-  copied_sound = sound_frames (copied_to x.page x.backup b.frames) copy_size sound
+  copied_sound = sound_frames (frames_after_copy x.page x.backup b.frames) copy_size sound
 
   -- the page, as its owner sees it
   page_is : bytes_of (solo_of b e) (Physical x.page) ≡ page_at b.frames x.page
@@ -238,13 +238,13 @@ module _ (b : Shown) (sound : IsSound b) (x : Taking) (may : IsTakable (books_of
       by_row (Guaranteed owner) own = cc
       by_row (Owned owner words) own = ap (λ n. bytes_seen ((solo_of b n).seen x.page)) (eqb-true owner e own) ∙ page_is
 
-  copied_here : (o : Option ℕ) → x.backup ≡ o → solo_of (record b { frames = copied_to x.page o b.frames }) e ≡ copied x.page o (solo_of b e)
+  copied_here : (o : Option ℕ) → x.backup ≡ o → solo_of (record b { frames = frames_after_copy x.page o b.frames }) e ≡ copied x.page o (solo_of b e)
   copied_here None is = refl
   copied_here (Some backup) is =
       copying.stored_here b sound e backup (backup_own backup is) its lived.1.0 lived.1.1 (page_at b.frames x.page)
       ∙ ap (λ bytes. with_store (page_store backup bytes) (solo_of b e)) (sym page_is)
 
-  copied_else : (o : Option ℕ) → x.backup ≡ o → (i : ℕ) → i ≢ e → solo_of (record b { frames = copied_to x.page o b.frames }) i ≡ absorb_all (solo_of b i) (copy_left (world_of b) x o i)
+  copied_else : (o : Option ℕ) → x.backup ≡ o → (i : ℕ) → i ≢ e → solo_of (record b { frames = frames_after_copy x.page o b.frames }) i ≡ absorb_all (solo_of b i) (copy_left (world_of b) x o i)
   copied_else None is i ne = refl
   copied_else (Some backup) is i ne =
       copying.stored_else b sound e backup (backup_own backup is) its lived.1.0 lived.1.1 (page_at b.frames x.page) i ne
@@ -259,7 +259,7 @@ module _ (b : Shown) (sound : IsSound b) (x : Taking) (may : IsTakable (books_of
 
   -- and then the page goes
   abbrev gone : Shown
-  gone = repossessed b x
+  gone = after_taking b x
 
   gone_like : (i : ℕ) → solo_of gone i ≡ solo_of (with_freed recorded_board x.page) i
   gone_like i = like_solo i gone (with_freed recorded_board x.page) (record {
@@ -309,7 +309,7 @@ module _ (b : Shown) (sound : IsSound b) (x : Taking) (may : IsTakable (books_of
       (sound_machine recorded_sound)
 
 -- What is taken is taken one after another.
-pub taken_books : (b : Shown) (x : Taking) → x.page < length b.pages → x.env < length b.revocations.backups → books_of (repossessed b x).pages (repossessed b x).revocations ≡ books_taken x (books_of b.pages b.revocations)
+pub taken_books : (b : Shown) (x : Taking) → x.page < length b.pages → x.env < length b.revocations.backups → books_of (after_taking b x).pages (after_taking b x).revocations ≡ books_taken x (books_of b.pages b.revocations)
 taken_books b x there place = λ k. record {
   pages = λ p. table_set b.pages x.page Free Free there p k;
   page_count = length-set b.pages x.page Free k;
@@ -317,31 +317,31 @@ taken_books b x there place = λ k. record {
   backups = λ i. backups_set b.revocations x.env (drop 1 (backups_at b.revocations x.env)) place i k;
 }
 
-all_taken : (b : Shown) (xs : List Taking) → IsSound b → AreTakable (books_of b.pages b.revocations) b.time xs → (world_of (fold repossessed b xs) ≡ run_phases (world_of b) (map takes xs)) × IsSound (fold repossessed b xs)
+all_taken : (b : Shown) (xs : List Taking) → IsSound b → AreTakable (books_of b.pages b.revocations) b.time xs → (world_of (fold after_taking b xs) ≡ run_phases (world_of b) (map takes xs)) × IsSound (fold after_taking b xs)
 all_taken b [] sound may = (refl, sound)
 all_taken b (x ∷ xs) sound may =
     let there = page_there b sound x may.0 in
-    let rest = all_taken (repossessed b x) xs (taken_sound b sound x may.0) (subst (λ books. AreTakable books b.time xs) (sym (taken_books b x there (its_place b sound x may.0))) may.1) in
+    let rest = all_taken (after_taking b x) xs (taken_sound b sound x may.0) (subst (λ books. AreTakable books b.time xs) (sym (taken_books b x there (its_place b sound x may.0))) may.1) in
     (rest.0 ∙ ap (λ w. run_phases w (map takes xs)) (taken_world b sound x may.0), rest.1)
 
 -- the deadlines are over
-over_world : (b : Shown) → world_of (deadlines_over b) ≡ after (world_of b) (settles (world_of b))
+over_world : (b : Shown) → world_of (with_deadlines_over b) ≡ after (world_of b) (settles (world_of b))
 over_world b =
-    worlds (world_of (deadlines_over b)) (after (world_of b) (settles (world_of b)))
+    worlds (world_of (with_deadlines_over b)) (after (world_of b) (settles (world_of b)))
     (λ k. record (book_of b) { pending = λ i. pending_served b.revocations b.time i k })
     refl
-    (λ i. like_solo i (deadlines_over b) b (record { record_is = refl; rings = refl; cpu = λ kept. refl; pages = refl; binds = refl; sights = refl }))
+    (λ i. like_solo i (with_deadlines_over b) b (record { record_is = refl; rings = refl; cpu = λ kept. refl; pages = refl; binds = refl; sights = refl }))
     (sym (append_nothing b.ledger.rows))
 
 run_last : (w : World) (xs : List (World → Reply)) (phase : World → Reply) → run_phases w (xs ++ phase ∷ []) ≡ (let v = run_phases w xs in after v (phase v))
 run_last w [] phase = refl
 run_last w (x ∷ xs) phase = run_last (after w (x w)) xs phase
 
-pub served_world : TakingsAreTakable → (b : Shown) → IsSound b → world_of (deadlines_served b) ≡ served (world_of b)
+pub served_world : TakingsAreTakable → (b : Shown) → IsSound b → world_of (after_deadlines b) ≡ served (world_of b)
 served_world law b sound =
     let xs = takings_in b in
     let taken = all_taken b xs sound (law (books_of b.pages b.revocations) b.time (length b.roster.list)) in
-    over_world (fold repossessed b xs)
+    over_world (fold after_taking b xs)
     ∙ ap (λ w. after w (settles w)) taken.0
     ∙ sym (run_last (world_of b) (map takes xs) settles)
 
@@ -363,9 +363,9 @@ none_over (pending ∷ list) time none =
     let both = neither (is_due time pending) (list_any (is_due time) list) none in
     λ k. ap (λ t. if t then None else pending) both.0 k ∷ none_over list time both.1 k
 
-pub nothing_due : (b : Shown) → is_any_due b.revocations b.time ≡ false → b ≡ deadlines_served b
+pub nothing_due : (b : Shown) → is_any_due b.revocations b.time ≡ false → b ≡ after_deadlines b
 nothing_due b none =
-    sym ((λ k. deadlines_over (fold repossessed b (none_taken (books_of b.pages b.revocations) b.time (length b.roster.list) (λ e. not_due b.revocations.pending b.time e none) k)))
+    sym ((λ k. with_deadlines_over (fold after_taking b (none_taken (books_of b.pages b.revocations) b.time (length b.roster.list) (λ e. not_due b.revocations.pending b.time e none) k)))
     ∙ (λ k. record b { revocations = record b.revocations { pending = none_over b.revocations.pending b.time none k } }))
 
 -- What is left as it was, and how many rows are written.
@@ -376,13 +376,13 @@ pub record IsServed (b new : Shown) (rows : ℕ) : Type 0 where
   pub whole : new.roster.spare ≡ b.roster.spare
   pub room : b.ledger.spare ≤ new.ledger.spare + rows
 
-taken_leaves : (b : Shown) (xs : List Taking) → IsServed b (fold repossessed b xs) (length xs)
+taken_leaves : (b : Shown) (xs : List Taking) → IsServed b (fold after_taking b xs) (length xs)
 taken_leaves b [] = record { slots = refl; time = refl; numbers = refl; whole = refl; room = omega arith }
 taken_leaves b (x ∷ xs) =
-    let rest = taken_leaves (repossessed b x) xs in
+    let rest = taken_leaves (after_taking b x) xs in
     record { slots = rest.slots; time = rest.time; numbers = rest.numbers; whole = rest.whole; room = omega (arith, rest.room) }
 
-pub served_leaves : TakingsAreFew → (b : Shown) → IsSound b → IsServed b (deadlines_served b) most_pages
+pub served_leaves : TakingsAreFew → (b : Shown) → IsSound b → IsServed b (after_deadlines b) most_pages
 served_leaves few b sound =
     let left = taken_leaves b (takings_in b) in
     record {

@@ -7,7 +7,7 @@ use Rattle.external_event.specs.Limits.{most_sent}
 use Rattle.world_model.specs.Rings.{replied}
 use Rattle.board_world.specs.declared.roster.Environment.{Environment}
 use Rattle.board_world.specs.Shown.{changed, sent_of}
-use Rattle.board_world.specs.Doing.{replying}
+use Rattle.board_world.specs.Doing.{with_replies_sent}
 
 -- the first of what begins with the first
 taken_twice : {A : Type 0} (n : ℕ) (xs ys : List A) → take n (take n xs ++ ys) ≡ take n (xs ++ ys)
@@ -19,7 +19,7 @@ taken_twice (suc n) (x ∷ xs) ys = ap (λ rest. x ∷ rest) (taken_twice n xs y
 replied_twice : (sent some more : List (List ℕ)) → replied (replied sent some) more ≡ replied sent (some ++ more)
 replied_twice sent some more = taken_twice most_sent (sent ++ some) more ∙ ap (take most_sent) (append_assoc sent some more)
 
-pub replying_twice : (some more : List (List ℕ)) (list : List Environment) (e : ℕ) → changed (replying more) (changed (replying some) list e) e ≡ changed (replying (some ++ more)) list e
+pub replying_twice : (some more : List (List ℕ)) (list : List Environment) (e : ℕ) → changed (with_replies_sent more) (changed (with_replies_sent some) list e) e ≡ changed (with_replies_sent (some ++ more)) list e
 replying_twice some more [] e = refl
 replying_twice some more (x ∷ list) zero = λ k. record x { output = record x.output { sent = replied_twice x.output.sent some more k } } ∷ list
 replying_twice some more (x ∷ list) (suc e) = ap (λ xs. x ∷ xs) (replying_twice some more list e)
@@ -28,7 +28,7 @@ replying_twice some more (x ∷ list) (suc e) = ap (λ xs. x ∷ xs) (replying_t
 replied_none : (sent : List (List ℕ)) → length sent ≤ most_sent → replied sent [] ≡ sent
 replied_none sent few = ap (take most_sent) (append-nil sent) ∙ take_all most_sent sent few
 
-pub replying_none : (list : List Environment) (e : ℕ) → length (sent_of list e) ≤ most_sent → changed (replying []) list e ≡ list
+pub replying_none : (list : List Environment) (e : ℕ) → length (sent_of list e) ≤ most_sent → changed (with_replies_sent []) list e ≡ list
 replying_none [] e few = refl
 replying_none (x ∷ list) zero few = λ k. record x { output = record x.output { sent = replied_none x.output.sent few k } } ∷ list
 replying_none (x ∷ list) (suc e) few = ap (λ xs. x ∷ xs) (replying_none list e few)

@@ -48,7 +48,7 @@ use Rattle.board_world.proofs.TransferServing.{entered_room, transfers}
 
 module _ (b : Shown) (e : ℕ) (x : Environment) (r : Runs b e x) (sound : IsSound b) (unique : FirstIsNumbered) (numbered : are_numbered 0 b.claims.next b.claims.rows ≡ true) where
   -- each deed
-  does : (d : Deed) (v : ℕ) → May (world_of b) e d → Serves b e (deeded d v (solo_of b e)) (done (world_of b) e d) (doing.granted b e v d)
+  does : (d : Deed) (v : ℕ) → May (world_of b) e d → Serves b e (deeded d v (solo_of b e)) (done (world_of b) e d) (doing.after_grant b e v d)
   does Answers v may = answers b e x r v
   does (Own own) v may = own_serves b e x r sound own v
   does Stops v may = stops_itself b e x r sound v
@@ -69,31 +69,31 @@ module _ (b : Shown) (e : ℕ) (x : Environment) (r : Runs b e x) (sound : IsSou
   does (Loads page) v may = loads_page b e x r sound page v
 
   -- each verdict on a call
-  judged : GrantedMay → (which : Verdict) → verdict (world_of b) e (called b.cpu) ≡ which → Serves b e (solo_of b e) (reply_of (world_of b) e which) (doing.served_by b e (called b.cpu) which)
+  judged : GrantedMay → (which : Verdict) → verdict (world_of b) e (called b.cpu) ≡ which → Serves b e (solo_of b e) (reply_of (world_of b) e which) (doing.after_verdict b e (called b.cpu) which)
   judged law (Refuse why v) is = refuses b e x r why v
   judged law (Grant v) is =
       let same = ap (λ (s : Solo). s.cpu) (runner_seen b e x r) in
-      granted_serves b e x r v (doing.granted b e v (deed_of (called b.cpu) v b.cpu))
-      (subst (λ cpu. Serves b e (deeded (deed_of (called cpu) v cpu) v (solo_of b e)) (done (world_of b) e (deed_of (called cpu) v cpu)) (doing.granted b e v (deed_of (called b.cpu) v b.cpu))) (sym same)
+      granted_serves b e x r v (doing.after_grant b e v (deed_of (called b.cpu) v b.cpu))
+      (subst (λ cpu. Serves b e (deeded (deed_of (called cpu) v cpu) v (solo_of b e)) (done (world_of b) e (deed_of (called cpu) v cpu)) (doing.after_grant b e v (deed_of (called b.cpu) v b.cpu))) (sym same)
       (does (deed_of (called b.cpu) v b.cpu) v (subst (λ cpu. May (world_of b) e (deed_of (called b.cpu) v cpu)) same (law (world_of b) e (called b.cpu) v is))))
 
-  pub call_serves : GrantedMay → (exits : Bool) → Serves b e (acted (act_at_call b.cpu exits) (solo_of b e)) (tick.brings e (act_at_call b.cpu exits) (world_of b)) (doing.called_when b e exits)
+  pub call_serves : GrantedMay → (exits : Bool) → Serves b e (acted (act_at_call b.cpu exits) (solo_of b e)) (tick.brings e (act_at_call b.cpu exits) (world_of b)) (doing.after_exit_or_call b e exits)
   call_serves law true = died_serves b e x r sound (cause.Exit (reg b.cpu 4))
   call_serves law false = judged law (verdict (world_of b) e (called b.cpu)) refl
 
 -- What is shown after a call, apart from a tick.
-pub called_world : GrantedMay → FirstIsNumbered → (b : Shown) (e : ℕ) → IsSound b → are_numbered 0 b.claims.next b.claims.rows ≡ true → running b.slots.runner ≡ Some e → world_of (doing.called_by b e) ≡ tick.called_world (world_of b) e
+pub called_world : GrantedMay → FirstIsNumbered → (b : Shown) (e : ℕ) → IsSound b → are_numbered 0 b.claims.next b.claims.rows ≡ true → running b.slots.runner ≡ Some e → world_of (doing.after_runner_call b e) ≡ tick.called_world (world_of b) e
 called_world law unique b e sound numbered runs =
     let x = runner_runs b e sound runs in
-    alone b e (call_act b.cpu) (doing.called_by b e) (call_serves b e x.0 x.1 sound unique numbered law (reg b.cpu 2 == exit_number))
+    alone b e (call_act b.cpu) (doing.after_runner_call b e) (call_serves b e x.0 x.1 sound unique numbered law (reg b.cpu 2 == exit_number))
     ∙ ap (λ (s : Solo). tick.act_world (world_of b) e (call_act s.cpu)) (sym (runner_seen b e x.0 x.1))
 
 -- and after a death
-pub death_serves : (b : Shown) (e : ℕ) (cause : Cause) → IsSound b → running b.slots.runner ≡ Some e → Serves b e (dead cause (solo_of b e)) (death (world_of b) e) (doing.died b e cause)
+pub death_serves : (b : Shown) (e : ℕ) (cause : Cause) → IsSound b → running b.slots.runner ≡ Some e → Serves b e (dead cause (solo_of b e)) (death (world_of b) e) (doing.after_death b e cause)
 death_serves b e cause sound runs = let x = runner_runs b e sound runs in died_serves b e x.0 x.1 sound cause
 
-pub died_world : (b : Shown) (e : ℕ) (cause : Cause) → IsSound b → running b.slots.runner ≡ Some e → world_of (doing.died b e cause) ≡ tick.died (world_of b) e cause
-died_world b e cause sound runs = alone b e (Dies cause) (doing.died b e cause) (death_serves b e cause sound runs)
+pub died_world : (b : Shown) (e : ℕ) (cause : Cause) → IsSound b → running b.slots.runner ≡ Some e → world_of (doing.after_death b e cause) ≡ tick.died (world_of b) e cause
+died_world b e cause sound runs = alone b e (Dies cause) (doing.after_death b e cause) (death_serves b e cause sound runs)
 
 -- Of a world whose verdict is a refusal: an exit has none, and the reply is the answer alone.
 module _ (w : World) (e : ℕ) (lives : (w.solos e).life ≡ Live) (why : Code) (v : ℕ) where
@@ -118,7 +118,7 @@ module _ (w : World) (e : ℕ) (lives : (w.solos e).life ≡ Live) (why : Code) 
       by_exit true is = cc
       by_exit false is = let named : verdict w e (called (w.solos e).cpu) ≡ Refuse why v = cc in refusal_world (called (w.solos e).cpu) named
 
-pub refused_world : GrantedMay → FirstIsNumbered → (b : Shown) (e : ℕ) (why : Code) (v : ℕ) → IsSound b → are_numbered 0 b.claims.next b.claims.rows ≡ true → running b.slots.runner ≡ Some e → verdict_now (world_of b) e ≡ Some (Refuse why v) → world_of (doing.called_by b e) ≡ tick.refused_world (world_of b) e why v
+pub refused_world : GrantedMay → FirstIsNumbered → (b : Shown) (e : ℕ) (why : Code) (v : ℕ) → IsSound b → are_numbered 0 b.claims.next b.claims.rows ≡ true → running b.slots.runner ≡ Some e → verdict_now (world_of b) e ≡ Some (Refuse why v) → world_of (doing.after_runner_call b e) ≡ tick.refused_world (world_of b) e why v
 refused_world law unique b e why v sound numbered runs is =
     let x = runner_runs b e sound runs in
     called_world law unique b e sound numbered runs ∙ refused_is (world_of b) e (ap (λ (s : Solo). s.life) (runner_seen b e x.0 x.1)) why v is
@@ -130,7 +130,7 @@ pub record Leaves (b new : Shown) : Type 0 where
   pub time : new.time ≡ b.time
   pub numbers : new.claims.next ≤ b.claims.next + 1
 
-deed_leaves : (b : Shown) (e v : ℕ) (d : Deed) → Leaves b (doing.granted b e v d)
+deed_leaves : (b : Shown) (e v : ℕ) (d : Deed) → Leaves b (doing.after_grant b e v d)
 deed_leaves b e v Answers = record { room = omega arith; spare = refl; time = refl; numbers = omega arith }
 deed_leaves b e v (Own own) = record { room = omega arith; spare = refl; time = refl; numbers = omega arith }
 deed_leaves b e v Stops = record { room = omega arith; spare = refl; time = refl; numbers = omega arith }
@@ -150,10 +150,10 @@ deed_leaves b e v (Unclaims claim) = record { room = omega arith; spare = refl; 
 deed_leaves b e v (Downloads claim address words) = record { room = omega arith; spare = refl; time = refl; numbers = omega arith }
 deed_leaves b e v (Loads page) = record { room = omega arith; spare = refl; time = refl; numbers = omega arith }
 
-verdict_leaves : (b : Shown) (e : ℕ) (c : Option Call) (which : Verdict) → Leaves b (doing.served_by b e c which)
+verdict_leaves : (b : Shown) (e : ℕ) (c : Option Call) (which : Verdict) → Leaves b (doing.after_verdict b e c which)
 verdict_leaves b e c (Refuse why v) = record { room = omega arith; spare = refl; time = refl; numbers = omega arith }
 verdict_leaves b e c (Grant v) = deed_leaves b e v (deed_of c v b.cpu)
 
-pub called_leaves : (b : Shown) (e : ℕ) (exits : Bool) → IsSound b → running b.slots.runner ≡ Some e → Leaves b (doing.called_when b e exits)
+pub called_leaves : (b : Shown) (e : ℕ) (exits : Bool) → IsSound b → running b.slots.runner ≡ Some e → Leaves b (doing.after_exit_or_call b e exits)
 called_leaves b e true sound runs = let s = death_serves b e (cause.Exit (reg b.cpu 4)) sound runs in record { room = s.room; spare = s.spare; time = s.time; numbers = omega arith }
 called_leaves b e false sound runs = verdict_leaves b e (called b.cpu) (verdict (world_of b) e (called b.cpu))

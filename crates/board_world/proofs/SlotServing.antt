@@ -24,11 +24,11 @@ use Rattle.board_world.proofs.Slots.{hold_set}
 module _ (b : Shown) (e : ℕ) (x : Environment) (r : Runs b e x) where
   -- a slot has another hold, and the runner does nothing to itself
   sets_slot : (d : Deed) (v k : ℕ) (hold : Option Hold) → k < length b.slots.slots → own_part d (runner_solo b e x) ≡ runner_solo b e x →
-      Serves b e (deeded d v (solo_of b e)) (with_slot (world_of b) k hold) (doing.answered (doing.with_slot b k hold) (Grant v))
+      Serves b e (deeded d v (solo_of b e)) (with_slot (world_of b) k hold) (doing.after_answer (doing.with_slot b k hold) (Grant v))
   sets_slot d v k hold within own = record {
     book = λ j. record (book_of b) { slot_count = length-set b.slots.slots k hold j; slots = λ n. hold_set b.slots.slots k hold within n j };
     count = refl;
-    solos = one_changed (solo_of b) (solo_of (doing.answered (doing.with_slot b k hold) (Grant v))) e (deeded d v (solo_of b e))
+    solos = one_changed (solo_of b) (solo_of (doing.after_answer (doing.with_slot b k hold) (Grant v))) e (deeded d v (solo_of b e))
         (answered_seen b e x r (Grant v)
         ∙ ap (λ (s : Solo). record s { cpu = answered_cpu (Grant v) b.cpu }) (sym own)
         ∙ deeded_seen b e x r d v)
@@ -39,8 +39,8 @@ module _ (b : Shown) (e : ℕ) (x : Environment) (r : Runs b e x) where
     time = refl;
   }
 
-  pub takes : (k v : ℕ) → MayTake (book_of b) k → Serves b e (deeded (TakesSlot k) v (solo_of b e)) (done (world_of b) e (TakesSlot k)) (doing.granted b e v (TakesSlot k))
+  pub takes : (k v : ℕ) → MayTake (book_of b) k → Serves b e (deeded (TakesSlot k) v (solo_of b e)) (done (world_of b) e (TakesSlot k)) (doing.after_grant b e v (TakesSlot k))
   takes k v may = sets_slot (TakesSlot k) v k (Some (own_hold e)) may.there refl
 
-  pub drops : (k v : ℕ) → MayDrop (book_of b) e k → Serves b e (deeded (DropsSlot k) v (solo_of b e)) (done (world_of b) e (DropsSlot k)) (doing.granted b e v (DropsSlot k))
+  pub drops : (k v : ℕ) → MayDrop (book_of b) e k → Serves b e (deeded (DropsSlot k) v (solo_of b e)) (done (world_of b) e (DropsSlot k)) (doing.after_grant b e v (DropsSlot k))
   drops k v may = sets_slot (DropsSlot k) v k (dropped e (hold_at b.slots.slots k)) may.there refl

@@ -9,7 +9,7 @@ use Rattle.world_model.specs.declared.slot.Phase.TheVariants as phase
 use Rattle.world_model.specs.declared.slot.Runner.{Runner}
 use Rattle.world_model.specs.Book.{excess_limit, running}
 use Rattle.board_world.specs.Shown.{Shown}
-use Rattle.board_world.specs.Doing.{brought, counted_down, has_end}
+use Rattle.board_world.specs.Doing.{after_timer_by, after_count_down, has_end}
 
 -- what two tests tell together, and one that fails
 pub both_true : (x y : Bool) → (x && y) ≡ true → (x ≡ true) × (y ≡ true)
@@ -41,6 +41,6 @@ end_handled v false is = absurd (by_runner v.runner is)
     by_runner (Some x) is = by_left x (x.left == 1) (excess_of v.excess x.env) is
 
 -- the timer counts for the runner
-pub counts_for : (b : Shown) (o : Option Runner) (e : ℕ) → running o ≡ Some e → counted_down b o ≡ brought b e (timer_answer b.slots (has_end b e))
+pub counts_for : (b : Shown) (o : Option Runner) (e : ℕ) → running o ≡ Some e → after_count_down b o ≡ after_timer_by b e (timer_answer b.slots (has_end b e))
 counts_for b None e runs = cc
-counts_for b (Some r) e runs = let same : r.env ≡ e = cc in ap (λ n. brought b n (timer_answer b.slots (has_end b n))) same
+counts_for b (Some r) e runs = let same : r.env ≡ e = cc in ap (λ n. after_timer_by b n (timer_answer b.slots (has_end b n))) same

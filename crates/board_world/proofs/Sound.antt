@@ -27,7 +27,7 @@ use Rattle.world_model.specs.declared.life.Cause.{Cause}
 use Rattle.board_world.specs.declared.roster.Environment.{Environment}
 use Rattle.board_world.specs.Shown.{Environments, changed, with_list}
 use Rattle.board_world.specs.Sound.{HasNoPart, IsAlive, IsLive, IsUndead, IsManned}
-use Rattle.board_world.specs.Doing.{accepting, putting, replying, sending, settled, with_registers, handling, dead_frame}
+use Rattle.board_world.specs.Doing.{with_mask, with_bytes_put, with_replies_sent, with_packet_sent, slots_settled, with_registers, with_handler_at, dead_frame}
 use Rattle.board_world.proofs.Lists.{changed_else, length-changed}
 use Rattle.board_world.proofs.Seen.{runner_live}
 
@@ -136,19 +136,19 @@ pub record Keeps (f : Environment → Environment) : Type 0 where
 pub keeps_registers : (cpu : Cpu) → Keeps (with_registers cpu)
 keeps_registers cpu = record { life = λ x. refl; mappings = λ x. refl }
 
-pub keeps_handling : (context : Context) (address : ℕ) → Keeps (handling context address)
+pub keeps_handling : (context : Context) (address : ℕ) → Keeps (with_handler_at context address)
 keeps_handling context address = record { life = λ x. refl; mappings = λ x. refl }
 
-pub keeps_accepting : (mask : ℕ) → Keeps (accepting mask)
+pub keeps_accepting : (mask : ℕ) → Keeps (with_mask mask)
 keeps_accepting mask = record { life = λ x. refl; mappings = λ x. refl }
 
-pub keeps_putting : (bytes : List ℕ) → Keeps (putting bytes)
+pub keeps_putting : (bytes : List ℕ) → Keeps (with_bytes_put bytes)
 keeps_putting bytes = record { life = λ x. refl; mappings = λ x. refl }
 
-pub keeps_sending : (bytes : List ℕ) → Keeps (sending bytes)
+pub keeps_sending : (bytes : List ℕ) → Keeps (with_packet_sent bytes)
 keeps_sending bytes = record { life = λ x. refl; mappings = λ x. refl }
 
-pub keeps_replying : (replies : List (List ℕ)) → Keeps (replying replies)
+pub keeps_replying : (replies : List (List ℕ)) → Keeps (with_replies_sent replies)
 keeps_replying replies = record { life = λ x. refl; mappings = λ x. refl }
 
 pub if_both : {A : Type 0} {P Q : A → Type 0} (x : Option A) → ((a : A) → x ≡ Some a → P a → Q a) → IfSome x P → IfSome x Q
@@ -288,7 +288,7 @@ set_again (z ∷ xs) (suc k) x y = ap (λ ys. z ∷ ys) (set_again xs k x y)
 
 -- the vector once what the timer brought is settled
 abbrev use_of : ℕ → Slices → Timer → Slices
-use_of e v answer = settled e (after_timer v answer) answer
+use_of e v answer = slots_settled e (after_timer v answer) answer
 
 -- a runner of too much excess is released at once
 killed_is : (v : Slices) (x : Runner) → v.runner ≡ Some x → without_env x.env (after_timer v timer.Kill) ≡ without_env x.env v

@@ -46,7 +46,7 @@ use Rattle.board_world.specs.declared.roster.Environment.{Environment}
 use Rattle.board_world.specs.Shown.{Shown, handlers_in, handlers_of, mappings_in, mappings_of}
 use Rattle.board_world.specs.Showing.{world_of, book_of, solo_of, solo_or_absent, solo_seen, cpu_seen, page_seen, pages_seen}
 use Rattle.board_world.specs.Sound.{IsSound, IsLive, IsOwned}
-use Rattle.board_world.specs.Doing.{died, step_seen, lookup_of, ran, raised, trapped, called_by, came_to}
+use Rattle.board_world.specs.Doing.{after_death, step_seen, lookup_of, after_machine_step, after_raise, after_trap, after_runner_call, after_runner_step}
 use Rattle.board_world.proofs.Contexts.{left_by, left_others, left_own, left_sights, left_store}
 use Rattle.board_world.proofs.Looks.{leads_by}
 use Rattle.board_world.proofs.Pages.{its_store}
@@ -85,7 +85,7 @@ seer_live b i page sound is = by_cause (either (is_owned_by i (row_in b.pages pa
     by_cause (inr binds) = let there = bound_row page (stripe_of b i) binds in by_row there.0 (stripe_of b i there.0) refl there.1
 
 -- a step that is a call changed nothing yet
-pub came_called : (b : Shown) (e : ℕ) (st : Step) → outcome_of st ≡ outcome.Call → called_by (ran b e st) e ≡ came_to b e st
+pub came_called : (b : Shown) (e : ℕ) (st : Step) → outcome_of st ≡ outcome.Call → after_runner_call (after_machine_step b e st) e ≡ after_runner_step b e st
 came_called b e (Retired cpu write) is = cc
 came_called b e Called is = refl
 came_called b e (Trapped exc) is = cc
@@ -258,39 +258,39 @@ module _ (b : Shown) (e : ℕ) (x : Environment) (r : Runs b e x) (sound : IsSou
       ∙ ap (λ (more : List Item). absorb_all (absorb_all (solo_of b e) (only e (AStep ∷ []) e)) more) (sym (writer_left (world_of b) e y)))
       (λ i ne. strikes.others i ne ∙ ap (λ (its : List Item). absorb_all (absorb_all (solo_of b i) its) (left i)) (sym (only_else e i (AStep ∷ []) ne)))
 
-  retired : (cpu : Cpu) (w : Option Write) → step_alone (runner_solo b e x) ≡ Retired cpu w → world_of (ran b e (Retired cpu w)) ≡ stepping (act_of (runner_solo b e x) (Retired cpu w))
+  retired : (cpu : Cpu) (w : Option Write) → step_alone (runner_solo b e x) ≡ Retired cpu w → world_of (after_machine_step b e (Retired cpu w)) ≡ stepping (act_of (runner_solo b e x) (Retired cpu w))
   retired cpu w at = by_store (store_of (runner_solo b e x) w) (wrote_strikes b e x r sound cpu w) (absorbs (Retired cpu w) at)
     where
       rows : (b.ledger.rows ++ []) ++ [] ≡ b.ledger.rows
       rows = append_nothing (b.ledger.rows ++ []) ∙ append_nothing b.ledger.rows
 
       by_store : (y : Option Store) → Strikes b e x cpu (frames_after b.frames (lookup_of b e) w) y → absorb (solo_of b e) AStep ≡ acted (store_act y) (record (runner_solo b e x) { cpu = cpu }) →
-          world_of (ran b e (Retired cpu w)) ≡ stepping (store_act y)
+          world_of (after_machine_step b e (Retired cpu w)) ≡ stepping (store_act y)
       by_store None strikes steps =
-          worlds (world_of (ran b e (Retired cpu w))) (run_phases (world_of b) (tells e AStep ∷ tick.brings e (store_act None) ∷ [])) refl refl
+          worlds (world_of (after_machine_step b e (Retired cpu w))) (run_phases (world_of b) (tells e AStep ∷ tick.brings e (store_act None) ∷ [])) refl refl
           (struck_solos cpu (frames_after b.frames (lookup_of b e) w) None strikes steps) (sym rows)
           ∙ sym (each_in_turn (world_of b) (tells e AStep ∷ tick.brings e (store_act None) ∷ []))
       by_store (Some y) strikes steps =
-          worlds (world_of (ran b e (Retired cpu w))) (run_phases (world_of b) (tells e AStep ∷ tick.brings e (store_act (Some y)) ∷ [])) refl refl
+          worlds (world_of (after_machine_step b e (Retired cpu w))) (run_phases (world_of b) (tells e AStep ∷ tick.brings e (store_act (Some y)) ∷ [])) refl refl
           (struck_solos cpu (frames_after b.frames (lookup_of b e) w) (Some y) strikes steps) (sym rows)
           ∙ sym (each_in_turn (world_of b) (tells e AStep ∷ tick.brings e (store_act (Some y)) ∷ []))
 
   -- a step that retires is the model's
-  pub retired_step : (o : Option Runner) → running o ≡ Some e → (cpu : Cpu) (w : Option Write) → step_seen b e ≡ Retired cpu w → world_of (ran b e (step_seen b e)) ≡ after (world_of b) (tick.step_when (world_of b) o)
+  pub retired_step : (o : Option Runner) → running o ≡ Some e → (cpu : Cpu) (w : Option Write) → step_seen b e ≡ Retired cpu w → world_of (after_machine_step b e (step_seen b e)) ≡ after (world_of b) (tick.step_when (world_of b) o)
   retired_step None is cpu w at = cc
   retired_step (Some runner) is cpu w at =
       let same : e ≡ runner.env = cc in
-      ap (λ st. world_of (ran b e st)) at
+      ap (λ st. world_of (after_machine_step b e st)) at
       ∙ retired cpu w (sym (its_step b e x r sound) ∙ at)
       ∙ ap (λ st. stepping (act_of (runner_solo b e x) st)) (sym at ∙ its_step b e x r sound)
       ∙ ap (λ (s : Solo). stepping (act_of s (step_alone s))) (sym (runner_seen b e x r))
       ∙ ap (λ n. after (world_of b) (in_turn (tells n AStep ∷ tick.brings n (tick.act_now (world_of b) n) ∷ []) (world_of b))) same
 
   -- The runner's exception goes to its handler: the words stand in its context page, and nobody else's page changes.
-  raised_serves : (exc : Exc) → Serves b e (raise exc (solo_of b e)) (no_change (world_of b)) (raised b e (handlers_of b.roster.list e).exception exc)
+  raised_serves : (exc : Exc) → Serves b e (raise exc (solo_of b e)) (no_change (world_of b)) (after_raise b e (handlers_of b.roster.list e).exception exc)
   raised_serves exc =
       let w : Write = record { address = page_size; bytes = exception_bytes exc b.cpu } in
-      let now = raised b e (handlers_of b.roster.list e).exception exc in
+      let now = after_raise b e (handlers_of b.roster.list e).exception exc in
       let maps = its_mappings b e x r in
       let pages : pages_seen now.frames x.env.mappings ≡ kept_after (pages_seen b.frames x.env.mappings) (left_store w) =
       ap (pages_seen (left_by b e w)) (sym maps) ∙ left_own b sound e w refl ∙ ap (λ ms. kept_after (pages_seen b.frames ms) (left_store w)) maps in
@@ -318,27 +318,27 @@ module _ (b : Shown) (e : ℕ) (x : Environment) (r : Runs b e x) (sound : IsSou
         time = refl;
       }
 
-  trapped_serves : (exc : Exc) → Serves b e (acted (trap_act x.env.handlers.exception exc) (solo_of b e)) (tick.brings e (trap_act x.env.handlers.exception exc) (world_of b)) (trapped b e exc)
+  trapped_serves : (exc : Exc) → Serves b e (acted (trap_act x.env.handlers.exception exc) (solo_of b e)) (tick.brings e (trap_act x.env.handlers.exception exc) (world_of b)) (after_trap b e exc)
   trapped_serves exc =
       let handler : (handlers_of b.roster.list e).exception ≡ x.env.handlers.exception = ap (λ o. (handlers_in o).exception) r.at in
-      subst (λ h. Serves b e (acted (trap_act h exc) (solo_of b e)) (tick.brings e (trap_act h exc) (world_of b)) (trapped b e exc)) handler
+      subst (λ h. Serves b e (acted (trap_act h exc) (solo_of b e)) (tick.brings e (trap_act h exc) (world_of b)) (after_trap b e exc)) handler
       (by_test ((handlers_of b.roster.list e).exception == 0) refl)
     where
-      by_test : (none : Bool) → ((handlers_of b.roster.list e).exception == 0) ≡ none → Serves b e (acted (trap_act (handlers_of b.roster.list e).exception exc) (solo_of b e)) (tick.brings e (trap_act (handlers_of b.roster.list e).exception exc) (world_of b)) (trapped b e exc)
+      by_test : (none : Bool) → ((handlers_of b.roster.list e).exception == 0) ≡ none → Serves b e (acted (trap_act (handlers_of b.roster.list e).exception exc) (solo_of b e)) (tick.brings e (trap_act (handlers_of b.roster.list e).exception exc) (world_of b)) (after_trap b e exc)
       by_test true none = rw none (died_serves b e x r sound (cause.Trapped exc.code))
       by_test false some = rw some (raised_serves exc)
 
   -- whatever the step comes to
-  came : GrantedMay → FirstIsNumbered → are_numbered 0 b.claims.next b.claims.rows ≡ true → (st : Step) → step_alone (runner_solo b e x) ≡ st → world_of (came_to b e st) ≡ stepping (act_of (runner_solo b e x) st)
+  came : GrantedMay → FirstIsNumbered → are_numbered 0 b.claims.next b.claims.rows ≡ true → (st : Step) → step_alone (runner_solo b e x) ≡ st → world_of (after_runner_step b e st) ≡ stepping (act_of (runner_solo b e x) st)
   came law unique numbered (Retired cpu w) at = retired cpu w at
   came law unique numbered Called at =
       let act = call_act b.cpu in
-      told b e AStep act (called_by b e) (call_serves b e x r sound unique numbered law (reg b.cpu 2 == exit_number)) (acts Called at refl)
+      told b e AStep act (after_runner_call b e) (call_serves b e x r sound unique numbered law (reg b.cpu 2 == exit_number)) (acts Called at refl)
   came law unique numbered (Trapped exc) at =
       let act = trap_act x.env.handlers.exception exc in
-      told b e AStep act (trapped b e exc) (trapped_serves exc) (acts (Trapped exc) at refl)
+      told b e AStep act (after_trap b e exc) (trapped_serves exc) (acts (Trapped exc) at refl)
 
-  stepped_alone : GrantedMay → FirstIsNumbered → are_numbered 0 b.claims.next b.claims.rows ≡ true → (o : Option Runner) → running o ≡ Some e → world_of (came_to b e (step_seen b e)) ≡ after (world_of b) (tick.step_when (world_of b) o)
+  stepped_alone : GrantedMay → FirstIsNumbered → are_numbered 0 b.claims.next b.claims.rows ≡ true → (o : Option Runner) → running o ≡ Some e → world_of (after_runner_step b e (step_seen b e)) ≡ after (world_of b) (tick.step_when (world_of b) o)
   stepped_alone law unique numbered None is = cc
   stepped_alone law unique numbered (Some runner) is =
       let same : e ≡ runner.env = cc in
@@ -348,16 +348,16 @@ module _ (b : Shown) (e : ℕ) (x : Environment) (r : Runs b e x) (sound : IsSou
       ∙ ap (λ n. after (world_of b) (in_turn (tells n AStep ∷ tick.brings n (tick.act_now (world_of b) n) ∷ []) (world_of b))) same
 
 -- The same of any board.
-pub stepped_world : GrantedMay → FirstIsNumbered → (b : Shown) (e : ℕ) → IsSound b → are_numbered 0 b.claims.next b.claims.rows ≡ true → running b.slots.runner ≡ Some e → world_of (came_to b e (step_seen b e)) ≡ after (world_of b) (tick.step (world_of b))
+pub stepped_world : GrantedMay → FirstIsNumbered → (b : Shown) (e : ℕ) → IsSound b → are_numbered 0 b.claims.next b.claims.rows ≡ true → running b.slots.runner ≡ Some e → world_of (after_runner_step b e (step_seen b e)) ≡ after (world_of b) (tick.step (world_of b))
 stepped_world law unique b e sound numbered runs = let x = runner_runs b e sound runs in stepped_alone b e x.0 x.1 sound law unique numbered b.slots.runner runs
 
-pub came_leaves : (b : Shown) (e : ℕ) (st : Step) → IsSound b → running b.slots.runner ≡ Some e → Leaves b (came_to b e st)
+pub came_leaves : (b : Shown) (e : ℕ) (st : Step) → IsSound b → running b.slots.runner ≡ Some e → Leaves b (after_runner_step b e st)
 came_leaves b e (Retired cpu w) sound runs = record { room = omega arith; spare = refl; time = refl; numbers = omega arith }
 came_leaves b e Called sound runs = called_leaves b e (reg b.cpu 2 == exit_number) sound runs
 came_leaves b e (Trapped exc) sound runs =
     let x = runner_runs b e sound runs in
     let s = trapped_serves b e x.0 x.1 sound exc in record { room = s.room; spare = s.spare; time = s.time; numbers = by_handler ((handlers_of b.roster.list e).exception == 0) }
   where
-    by_handler : (none : Bool) → (if none then died b e (cause.Trapped exc.code) else raised b e (handlers_of b.roster.list e).exception exc).claims.next ≤ b.claims.next + 1
+    by_handler : (none : Bool) → (if none then after_death b e (cause.Trapped exc.code) else after_raise b e (handlers_of b.roster.list e).exception exc).claims.next ≤ b.claims.next + 1
     by_handler true = omega arith
     by_handler false = omega arith

@@ -28,7 +28,7 @@ use Rattle.world_model.specs.World.{World, after, run_phases}
 use Rattle.run_model.specs.Run.{next_world}
 use Rattle.run_model.proofs.Phases.{run_append, tick_in_two}
 use Rattle.board_world.specs.declared.roster.Environment.{Environment}
-use Rattle.board_world.specs.Doing.{brought, counted_down, has_end, lookup_of, ran, step_seen, ticked}
+use Rattle.board_world.specs.Doing.{after_timer_by, after_count_down, has_end, lookup_of, after_machine_step, step_seen, with_next_time}
 use Rattle.board_world.specs.Laws.{ServingIsServing, TimerIsTimer}
 use Rattle.board_world.specs.Shown.{Environments, Shown}
 use Rattle.board_world.specs.Showing.{world_of}
@@ -127,19 +127,19 @@ retires (Retired cpu w) is = (cpu, w, refl)
 retires Called is = cc
 retires (Trapped exc) is = cc
 
-stepped : (b : Shown) (e : ℕ) → IsSound b → running b.slots.runner ≡ Some e → outcome_of (step_seen b e) ≡ outcome.Retired → world_of (ran b e (step_seen b e)) ≡ after (world_of b) (step (world_of b))
+stepped : (b : Shown) (e : ℕ) → IsSound b → running b.slots.runner ≡ Some e → outcome_of (step_seen b e) ≡ outcome.Retired → world_of (after_machine_step b e (step_seen b e)) ≡ after (world_of b) (step (world_of b))
 stepped b e sound runs retired =
     let x = runner_runs b e sound runs in
     let st = retires (step_seen b e) retired in
     retired_step b e x.0 x.1 sound b.slots.runner runs st.0 st.1 st.2
 
 -- the timer of a runner that has ticks left behind this one
-counts_on : (b now : Shown) (o : Option Runner) → now.slots.runner ≡ o → 1 < left_of o → ticked (counted_down now o) ≡ record now { slots = after_ticks 1 now.slots; time = now.time + 1 }
+counts_on : (b now : Shown) (o : Option Runner) → now.slots.runner ≡ o → 1 < left_of o → with_next_time (after_count_down now o) ≡ record now { slots = after_ticks 1 now.slots; time = now.time + 1 }
 counts_on b now None is more = absurd (omega arith)
 counts_on b now (Some r) is more =
     let answer : timer_answer now.slots (has_end now r.env) ≡ timers.Nothing =
     ap (λ o. timer_by o (has_end now r.env) (excess_of now.slots.excess)) is ∙ rw (ne_eqb r.left 1 (λ same. omega arith)) refl in
-    ap (λ (t : Timer). ticked (brought now r.env t)) answer
+    ap (λ (t : Timer). with_next_time (after_timer_by now r.env t)) answer
 
 -- a tick by its parts
 in_parts : (w : World) → tick_step w ≡ (let v = served w in let u = after v (turn v) in let t = after u (step u) in after t (timer t))
@@ -150,7 +150,7 @@ module _ (serves : ServingIsServing) (times : TimerIsTimer) where
   plain_tick b e sound runs retired more none =
       let w = world_of b in
       let st = step_seen b e in
-      let now = ran b e st in
+      let now = after_machine_step b e st in
       let none_served : w ≡ served w = ap world_of (nothing_due b none) ∙ serves b sound in
       let none_turned : w ≡ after w (turn w) = sym (still w b.slots.runner e runs) in
       let size : length now.frames ≡ length b.frames = step_size b.frames (lookup_of b e) (write_after st) in

@@ -44,12 +44,12 @@ given_holds false target b k = refl
 given_holds true target b k = hold_changed (held_by target) b.slots.slots b.slots.cursor k
 
 -- The ledger: a row, or two.
-entered_rows : (b : Shown) (e t : ℕ) (kind : TransferKind) → (doing.ledger_entered b e t kind).rows ≡ b.ledger.rows ++ transfer_rows (book_of b) e t kind
+entered_rows : (b : Shown) (e t : ℕ) (kind : TransferKind) → (doing.ledger_after_hand_on b e t kind).rows ≡ b.ledger.rows ++ transfer_rows (book_of b) e t kind
 entered_rows b e t kind.Asynchronous = refl
 entered_rows b e t kind.Synchronous =
     append_assoc b.ledger.rows (row.Sync b.time b.slots.cursor e t ∷ []) (slot_row b.time b.slots.cursor (option_map (held_by t) (hold_at b.slots.slots b.slots.cursor)) ∷ [])
 
-pub entered_room : (b : Shown) (e t : ℕ) (kind : TransferKind) → b.ledger.spare ≤ (doing.ledger_entered b e t kind).spare + 128
+pub entered_room : (b : Shown) (e t : ℕ) (kind : TransferKind) → b.ledger.spare ≤ (doing.ledger_after_hand_on b e t kind).spare + 128
 entered_room b e t kind.Asynchronous = omega arith
 entered_room b e t kind.Synchronous = omega arith
 
@@ -61,13 +61,13 @@ module _ (b : Shown) (e : ℕ) (x : Environment) (r : Runs b e x) (sound : IsSou
   -- The target is entered.
   module _ (t : ℕ) (y : Environment) (there : IsThere b.roster.list t y) (other : t ≢ e) (kind : TransferKind) (v : ℕ) where
     abbrev new : Shown
-    new = doing.transferred b e v t kind
+    new = doing.after_transfer b e v t kind
 
     abbrev keeping : Environment → Environment
     keeping = doing.with_registers (answered_cpu (Grant v) b.cpu)
 
     abbrev closed_list : List Environment
-    closed_list = changed (doing.accepting 0) b.roster.list t
+    closed_list = changed (doing.with_mask 0) b.roster.list t
 
     abbrev write : Write
     write = entry_write e kind (registers_of b.roster.list t)
@@ -75,16 +75,16 @@ module _ (b : Shown) (e : ℕ) (x : Environment) (r : Runs b e x) (sound : IsSou
     not_target : e ≢ t
     not_target same = other (sym same)
 
-    target_at : slice_get new.roster.list t ≡ Some (doing.accepting 0 y)
-    target_at = changed_else keeping closed_list e t other ∙ changed_here (doing.accepting 0) b.roster.list t ∙ ap (option_map (doing.accepting 0)) there.at
+    target_at : slice_get new.roster.list t ≡ Some (doing.with_mask 0 y)
+    target_at = changed_else keeping closed_list e t other ∙ changed_here (doing.with_mask 0) b.roster.list t ∙ ap (option_map (doing.with_mask 0)) there.at
 
     caller_at : slice_get new.roster.list e ≡ Some (keeping x)
-    caller_at = changed_here keeping closed_list e ∙ ap (option_map keeping) (changed_else (doing.accepting 0) b.roster.list t e not_target ∙ r.at)
+    caller_at = changed_here keeping closed_list e ∙ ap (option_map keeping) (changed_else (doing.with_mask 0) b.roster.list t e not_target ∙ r.at)
 
     other_at : (i : ℕ) → i ≢ e → i ≢ t → slice_get new.roster.list i ≡ slice_get b.roster.list i
-    other_at i ne ne_t = changed_else keeping closed_list e i ne ∙ changed_else (doing.accepting 0) b.roster.list t i ne_t
+    other_at i ne ne_t = changed_else keeping closed_list e i ne ∙ changed_else (doing.with_mask 0) b.roster.list t i ne_t
 
-    runs_next : Runs new t (doing.accepting 0 y)
+    runs_next : Runs new t (doing.with_mask 0 y)
     runs_next = record { at = target_at; lives = there.lives; runs = handed_named e t b.slots.runner r.runs.its }
 
     -- in its context page it finds where it stood, and who calls it
@@ -97,7 +97,7 @@ module _ (b : Shown) (e : ℕ) (x : Environment) (r : Runs b e x) (sound : IsSou
         ∙ left_own b sound t write refl
         ∙ (λ k. kept_after (pages_seen b.frames (maps k)) (left_store (entry_write e kind (registers_in (there.at k)))))
 
-    entered : record (waiting b t y) { cpu = doing.entered_registers b t kind; mask = 0; kept = pages_seen new.frames y.env.mappings } ≡ enter e kind (carried b.cpu) (waiting b t y)
+    entered : record (waiting b t y) { cpu = doing.entry_registers b t kind; mask = 0; kept = pages_seen new.frames y.env.mappings } ≡ enter e kind (carried b.cpu) (waiting b t y)
     entered = λ k. record (waiting b t y) {
       cpu = entered_cpu (handler_of (handlers_in (there.at k)) (entry_context kind)) (carried b.cpu);
       mask = 0;
@@ -106,8 +106,8 @@ module _ (b : Shown) (e : ℕ) (x : Environment) (r : Runs b e x) (sound : IsSou
 
     target_solo : solo_of new t ≡ absorb_all (solo_of b t) (Transfer e kind (carried (solo_of b e).cpu) ∷ [])
     target_solo =
-        runner_seen new t (doing.accepting 0 y) runs_next
-        ∙ (λ k. record (runner_solo new t (doing.accepting 0 y)) { seen = λ p. left_sights b sound t write refl t p k })
+        runner_seen new t (doing.with_mask 0 y) runs_next
+        ∙ (λ k. record (runner_solo new t (doing.with_mask 0 y)) { seen = λ p. left_sights b sound t write refl t p k })
         ∙ entered
         ∙ ap (λ s. absorb_all s (Transfer e kind (carried b.cpu) ∷ [])) (sym (waiting_seen b e x r sound t y there other v))
         ∙ ap (λ (s : Solo). absorb_all (solo_of b t) (Transfer e kind (carried s.cpu) ∷ [])) (sym (runner_seen b e x r))
@@ -140,12 +140,12 @@ module _ (b : Shown) (e : ℕ) (x : Environment) (r : Runs b e x) (sound : IsSou
     entered_mappings : (i : ℕ) → mappings_of new.roster.list i ≡ mappings_of b.roster.list i
     entered_mappings i =
         kept_mappings keeping (keeps_registers (answered_cpu (Grant v) b.cpu)) closed_list e i
-        ∙ kept_mappings (doing.accepting 0) (keeps_accepting 0) b.roster.list t i
+        ∙ kept_mappings (doing.with_mask 0) (keeps_accepting 0) b.roster.list t i
 
     transfers_to : Serves b e (deeded (Transfers t kind) v (solo_of b e)) (done (world_of b) e (Transfers t kind)) new
     transfers_to = record {
       book = λ k. record (book_of new) { slot_count = given_count (hands_slot kind) t b.slots k; slots = λ i. given_holds (hands_slot kind) t b i k; kept = λ i. entered_mappings i k };
-      count = length-changed keeping closed_list e ∙ length-changed (doing.accepting 0) b.roster.list t;
+      count = length-changed keeping closed_list e ∙ length-changed (doing.with_mask 0) b.roster.list t;
       solos = other_given (solo_of b) (solo_of new) e t (deeded (Transfers t kind) v (solo_of b e)) (Transfer e kind (carried (solo_of b e).cpu) ∷ []) other
           (caller_solo ∙ deeded_seen b e x r (Transfers t kind) v)
           target_solo
@@ -156,5 +156,5 @@ module _ (b : Shown) (e : ℕ) (x : Environment) (r : Runs b e x) (sound : IsSou
       time = refl;
     }
 
-  pub transfers : (t : ℕ) (kind : TransferKind) (v : ℕ) → MayEnter (world_of b) e t kind → Serves b e (deeded (Transfers t kind) v (solo_of b e)) (done (world_of b) e (Transfers t kind)) (doing.granted b e v (Transfers t kind))
+  pub transfers : (t : ℕ) (kind : TransferKind) (v : ℕ) → MayEnter (world_of b) e t kind → Serves b e (deeded (Transfers t kind) v (solo_of b e)) (done (world_of b) e (Transfers t kind)) (doing.after_grant b e v (Transfers t kind))
   transfers t kind v may = let target = other_in b e t may.reach.other in transfers_to t target.its target.there target.other kind v

@@ -31,7 +31,7 @@ use Rattle.board_world.specs.declared.roster.Environment.{Environment}
 use Rattle.board_world.specs.Shown.{Shown, handlers_in, handlers_of, mappings_of}
 use Rattle.board_world.specs.Showing.{world_of, book_of, solo_of, solo_or_absent, solo_seen, cpu_seen, pages_seen}
 use Rattle.board_world.specs.Sound.{IsSound}
-use Rattle.board_world.specs.Doing.{brought, counted, counted_down, died, ended, has_end, ledger_released, over_row, overrun, paid, start_registers, started, stopped, ticked, turned, turned_by, turned_to, turned_when, with_registers}
+use Rattle.board_world.specs.Doing.{after_timer_by, after_timer_phase, after_count_down, after_death, after_end, has_end, ledger_after_release, over_row, with_overrun, after_forfeit, start_registers, after_start, after_stop, with_next_time, after_turn_phase, after_told, after_start_if, after_turn_when, with_registers}
 use Rattle.board_world.proofs.Contexts.{left_by, left_others, left_own, left_sights, left_store, start_others, start_seen, start_sights, waiting}
 use Rattle.board_world.proofs.Dying.{MayDie, dies as dying, may_die, numbered_within}
 use Rattle.board_world.proofs.Lists.{changed_here, changed_else, length-changed}
@@ -54,17 +54,17 @@ module _ (b : Shown) (sound : IsSound b) (t : Turn) (x : Environment) (at : slic
       let cpu : cpu_seen b t.env x.env.cpu ≡ x.env.cpu = rw (idle_names b t.env none) refl in
       ap (solo_or_absent b t.env) at ∙ (λ k. record (solo_seen b t.env x) { life = lives k; cpu = cpu k })
 
-  starts : solo_of (started b t) t.env ≡ absorb_all (solo_of b t.env) (Start ∷ [])
+  starts : solo_of (after_start b t) t.env ≡ absorb_all (solo_of b t.env) (Start ∷ [])
   starts =
-      let new = started b t in
+      let new = after_start b t in
       let cpu : cpu_seen new t.env x.env.cpu ≡ start_registers b.roster.list t.env = rw (eq-eqb t.env t.env refl) refl in
       ap (solo_or_absent new t.env) at
       ∙ (λ k. record (solo_seen new t.env x) { life = lives k; cpu = cpu k; seen = λ p. start_sights b sound t.env t.env p k })
       ∙ start_seen b sound t.env x at
       ∙ ap (λ s. absorb_all s (Start ∷ [])) (sym waiting_seen)
 
-  others : (i : ℕ) → i ≢ t.env → solo_of (started b t) i ≡ solo_of b i
-  others i ne = same_solo i (started b t) b (record {
+  others : (i : ℕ) → i ≢ t.env → solo_of (after_start b t) i ≡ solo_of b i
+  others i ne = same_solo i (after_start b t) b (record {
     record_is = refl;
     rings = refl;
     idles = ne_eqb t.env i (λ same. ne (sym same));
@@ -74,25 +74,25 @@ module _ (b : Shown) (sound : IsSound b) (t : Turn) (x : Environment) (at : slic
     sights = λ k p. start_sights b sound t.env i p k;
   })
 
-  pub started_world : world_of (started b t) ≡ after (world_of b) (tick.take_turn (world_of b) (record { pays = []; runs = Some t; excess = excess_of b.slots.excess; cursor = t.slot }) (Some t))
+  pub started_world : world_of (after_start b t) ≡ after (world_of b) (tick.take_turn (world_of b) (record { pays = []; runs = Some t; excess = excess_of b.slots.excess; cursor = t.slot }) (Some t))
   started_world =
-      worlds (world_of (started b t)) (after (world_of b) (tick.take_turn (world_of b) (record { pays = []; runs = Some t; excess = excess_of b.slots.excess; cursor = t.slot }) (Some t))) refl refl
-      (one_absorbed (solo_of b) (solo_of (started b t)) t.env (Start ∷ []) starts others)
+      worlds (world_of (after_start b t)) (after (world_of b) (tick.take_turn (world_of b) (record { pays = []; runs = Some t; excess = excess_of b.slots.excess; cursor = t.slot }) (Some t))) refl refl
+      (one_absorbed (solo_of b) (solo_of (after_start b t)) t.env (Start ∷ []) starts others)
       refl
 
 -- a forfeit changes no environment
-paid_solo : (b : Shown) (t : Turn) (i : ℕ) → solo_of (paid b t) i ≡ solo_of b i
-paid_solo b t i = like_solo i (paid b t) b (record { record_is = refl; rings = refl; cpu = λ kept. refl; pages = refl; binds = refl; sights = refl })
+paid_solo : (b : Shown) (t : Turn) (i : ℕ) → solo_of (after_forfeit b t) i ≡ solo_of b i
+paid_solo b t i = like_solo i (after_forfeit b t) b (record { record_is = refl; rings = refl; cpu = λ kept. refl; pages = refl; binds = refl; sights = refl })
 
 -- the turn as the model tells it
 abbrev told_world : Shown → Told → World
 told_world b told = after (world_of b) (tick.take_turn (world_of b) told told.runs)
 
 -- a forfeit, and then the rest of the turn, in which somebody runs
-forfeit_first : (b : Shown) (t : Turn) (rest : Told) (runs : Option Turn) → rest.runs ≡ runs → runs ≢ None → told_world (paid b t) rest ≡ told_world b (pays_first t rest)
+forfeit_first : (b : Shown) (t : Turn) (rest : Told) (runs : Option Turn) → rest.runs ≡ runs → runs ≢ None → told_world (after_forfeit b t) rest ≡ told_world b (pays_first t rest)
 forfeit_first b t rest None is some = absurd (some refl)
 forfeit_first b t rest (Some u) is some =
-    let before = world_of (paid b t) in
+    let before = world_of (after_forfeit b t) in
     let w = world_of b in
     ap (λ o. after before (tick.take_turn before rest o)) is
     ∙ worlds (after before (tick.take_turn before rest (Some u))) (after w (tick.take_turn w (pays_first t rest) (Some u))) refl refl
@@ -111,10 +111,10 @@ pays_runs b t is none =
 
 -- the turn is the model's, where that of a board after a forfeit is
 abbrev IsTold : Shown → Type 0
-IsTold b = world_of (turned_by b (told_of b.slots)) ≡ told_world b (told_of b.slots)
+IsTold b = world_of (after_told b (told_of b.slots)) ≡ told_world b (told_of b.slots)
 
 module _ (b : Shown) (sound : IsSound b) (whole : b.roster.spare ≡ 0) (none : b.slots.runner ≡ None) where
-  told_next : ((t : Turn) → next_turn b.slots ≡ next.Pay t → IsTold (paid b t)) → (comes : NextTurn) → next_turn b.slots ≡ comes → IsTold b
+  told_next : ((t : Turn) → next_turn b.slots ≡ next.Pay t → IsTold (after_forfeit b t)) → (comes : NextTurn) → next_turn b.slots ≡ comes → IsTold b
   told_next later next.Idle is = rw (idle_step b.slots is) (quiet_world (world_of b))
   told_next later (next.Run t) is =
       let held = (ran_is (excess_of b.slots.excess) (next_held b.slots) t is).0 in
@@ -130,43 +130,43 @@ told_within : (n : ℕ) (b : Shown) → owed_by_all b.slots < n → IsSound b �
 told_within zero b enough sound whole none = absurd (omega arith)
 told_within (suc n) b enough sound whole none =
     told_next b sound whole none
-    (λ t is. told_within n (paid b t) (let less = pay_lowers b.slots t is in omega (arith, less)) (paid_sound b t sound) whole none)
+    (λ t is. told_within n (after_forfeit b t) (let less = pay_lowers b.slots t is in omega (arith, less)) (paid_sound b t sound) whole none)
     (next_turn b.slots) refl
 
-pub turned_world : (b : Shown) → IsSound b → b.roster.spare ≡ 0 → world_of (turned b) ≡ after (world_of b) (tick.turn (world_of b))
+pub turned_world : (b : Shown) → IsSound b → b.roster.spare ≡ 0 → world_of (after_turn_phase b) ≡ after (world_of b) (tick.turn (world_of b))
 turned_world b sound whole = by_runner b.slots.runner refl
   where
-    by_runner : (r : Option Runner) → b.slots.runner ≡ r → world_of (turned_when b r) ≡ after (world_of b) (tick.turn_when (world_of b) r)
+    by_runner : (r : Option Runner) → b.slots.runner ≡ r → world_of (after_turn_when b r) ≡ after (world_of b) (tick.turn_when (world_of b) r)
     by_runner (Some r) is = quiet_world (world_of b)
     by_runner None is = told_within (suc (owed_by_all b.slots)) b (omega arith) sound whole is
 
 -- after the turn of a board that isn't idle somebody runs
-pub turned_runs : (b : Shown) → is_idle_book (book_of b) ≡ false → IsSome (turned b).slots.runner
+pub turned_runs : (b : Shown) → is_idle_book (book_of b) ≡ false → IsSome (after_turn_phase b).slots.runner
 turned_runs b busy = by_runner b.slots.runner refl
   where
-    by_told : (start : Shown) (runs : Option Turn) → (told_of b.slots).runs ≡ runs → b.slots.runner ≡ None → IsSome (turned_to start runs).slots.runner
+    by_told : (start : Shown) (runs : Option Turn) → (told_of b.slots).runs ≡ runs → b.slots.runner ≡ None → IsSome (after_start_if start runs).slots.runner
     by_told start None is none =
         let held : next_held b.slots ≡ None = (is_idle b.slots).0 is in
         let idle : is_idle_book (book_of b) ≡ true = rw (none, held) refl in
         let both : true ≡ false = sym idle ∙ busy in cc
     by_told start (Some t) is none = refl
 
-    by_runner : (o : Option Runner) → b.slots.runner ≡ o → IsSome (turned_when b o).slots.runner
+    by_runner : (o : Option Runner) → b.slots.runner ≡ o → IsSome (after_turn_when b o).slots.runner
     by_runner None is = by_told _ (told_of b.slots).runs refl is
     by_runner (Some r) is = rw is refl
 
 -- the runner is stopped
 module _ (b : Shown) (e : ℕ) (x : Environment) (r : Runs b e x) where
-  pub stopped_solo : solo_of (stopped b e) e ≡ solo_of b e
+  pub stopped_solo : solo_of (after_stop b e) e ≡ solo_of b e
   stopped_solo =
       let cpu : cpu_seen b e x.env.cpu ≡ b.cpu = rw r.runs.its refl in
-      ap (solo_or_absent (stopped b e) e) (changed_here (with_registers b.cpu) b.roster.list e ∙ ap (option_map (with_registers b.cpu)) r.at)
+      ap (solo_or_absent (after_stop b e) e) (changed_here (with_registers b.cpu) b.roster.list e ∙ ap (option_map (with_registers b.cpu)) r.at)
       ∙ (λ k. record (solo_seen b e x) { cpu = sym cpu k })
       ∙ sym (ap (solo_or_absent b e) r.at)
 
-  pub stopped_others : (i : ℕ) → i ≢ e → solo_of (stopped b e) i ≡ solo_of b i
+  pub stopped_others : (i : ℕ) → i ≢ e → solo_of (after_stop b e) i ≡ solo_of b i
   stopped_others i ne =
-      same_solo i (stopped b e) b (record {
+      same_solo i (after_stop b e) b (record {
         record_is = changed_else (with_registers b.cpu) b.roster.list e i ne;
         rings = refl;
         idles = refl;
@@ -176,18 +176,18 @@ module _ (b : Shown) (e : ℕ) (x : Environment) (r : Runs b e x) where
         sights = refl;
       })
 
-  pub stopped_mappings : (i : ℕ) → mappings_of (stopped b e).roster.list i ≡ mappings_of b.roster.list i
+  pub stopped_mappings : (i : ℕ) → mappings_of (after_stop b e).roster.list i ≡ mappings_of b.roster.list i
   stopped_mappings i = kept_mappings (with_registers b.cpu) (keeps_registers b.cpu) b.roster.list e i
 
-  pub stopped_count : (world_of (stopped b e)).count ≡ (world_of b).count
+  pub stopped_count : (world_of (after_stop b e)).count ≡ (world_of b).count
   stopped_count = length-changed (with_registers b.cpu) b.roster.list e
 
 -- The timer. A board at the next time is the same to everybody.
-ticked_solo : (b : Shown) (i : ℕ) → solo_of (ticked b) i ≡ solo_of b i
-ticked_solo b i = like_solo i (ticked b) b (record { record_is = refl; rings = refl; cpu = λ kept. refl; pages = refl; binds = refl; sights = refl })
+ticked_solo : (b : Shown) (i : ℕ) → solo_of (with_next_time b) i ≡ solo_of b i
+ticked_solo b i = like_solo i (with_next_time b) b (record { record_is = refl; rings = refl; cpu = λ kept. refl; pages = refl; binds = refl; sights = refl })
 
-ticked_world : (b : Shown) → world_of (ticked b) ≡ after (world_of b) (tick.clock (world_of b))
-ticked_world b = worlds (world_of (ticked b)) (after (world_of b) (tick.clock (world_of b))) refl refl (ticked_solo b) (sym (append_nothing b.ledger.rows))
+ticked_world : (b : Shown) → world_of (with_next_time b) ≡ after (world_of b) (tick.clock (world_of b))
+ticked_world b = worlds (world_of (with_next_time b)) (after (world_of b) (tick.clock (world_of b))) refl refl (ticked_solo b) (sym (append_nothing b.ledger.rows))
 
 -- a runner goes on, with other ticks left
 abbrev going_on : Shown → Runner → Shown
@@ -213,16 +213,16 @@ goes_on b r runs =
 -- by its runner, who has ticks left
 module _ (b : Shown) (sound : IsSound b) (r : Runner) (is : b.slots.runner ≡ Some r) (x : Environment) (runs : Runs b r.env x) where
   -- nothing
-  counts_on : r.left ≢ 1 → 1 ≤ r.left → world_of (brought b r.env timer.Nothing) ≡ after (world_of b) (tick.count_down r (r.left - 1) (world_of b))
+  counts_on : r.left ≢ 1 → 1 ≤ r.left → world_of (after_timer_by b r.env timer.Nothing) ≡ after (world_of b) (tick.count_down r (r.left - 1) (world_of b))
   counts_on more some =
       ap (λ o. world_of (record b { slots = record b.slots { runner = option_map counted_runner o } })) is
       ∙ goes_on b (record r { left = r.left - 1 }) (ap running is)
       ∙ rw (ne_eqb (r.left - 1) 0 (λ zero. more (omega (arith, some, zero)))) refl
 
   -- the end of its slice, where it has no handler of ends
-  stops : world_of (brought b r.env timer.Stop) ≡ after (world_of b) (tick.slice_end r.env 0 (world_of b))
+  stops : world_of (after_timer_by b r.env timer.Stop) ≡ after (world_of b) (tick.slice_end r.env 0 (world_of b))
   stops =
-      let now = stopped b r.env in
+      let now = after_stop b r.env in
       worlds (world_of now) (after (world_of b) (tick.slice_end r.env 0 (world_of b)))
       (λ k. record (book_of now) { kept = λ i. stopped_mappings b r.env x runs i k })
       (stopped_count b r.env x runs)
@@ -233,10 +233,10 @@ module _ (b : Shown) (sound : IsSound b) (r : Runner) (is : b.slots.runner ≡ S
   in_grace = ap (in_grace_again b.slots) is
 
   -- and where it has one
-  ends : (h : ℕ) → (h == 0) ≡ false → (handlers_of b.roster.list r.env).end ≡ h → world_of (brought b r.env timer.End) ≡ after (world_of b) (tick.slice_end r.env h (world_of b))
+  ends : (h : ℕ) → (h == 0) ≡ false → (handlers_of b.roster.list r.env).end ≡ h → world_of (after_timer_by b r.env timer.End) ≡ after (world_of b) (tick.slice_end r.env h (world_of b))
   ends h some handler =
       let e = r.env in
-      let now = ended b e in
+      let now = after_end b e in
       let w : Write = record { address = page_size + end_area; bytes = end_bytes b.cpu } in
       let reply : Reply = record {
         book = record (book_of b) { runner = Some (tick.grace_of (world_of b) e) };
@@ -289,7 +289,7 @@ module _ (b : Shown) (sound : IsSound b) (r : Runner) (is : b.slots.runner ≡ S
   owes = get_or-set_same b.slots.excess r.env owing 0 within
 
   -- another quantum of grace
-  goes_over : world_of (brought b r.env (timer.Over owing)) ≡ after (world_of over) (tick.goes_on (tick.grace_of (world_of over) r.env) (world_of over))
+  goes_over : world_of (after_timer_by b r.env (timer.Over owing)) ≡ after (world_of over) (tick.goes_on (tick.grace_of (world_of over) r.env) (world_of over))
   goes_over =
       ap (λ o. world_of (record over { slots = record b.slots { runner = in_grace_again b.slots o; excess = raised_for o owing b.slots.excess } })) is
       ∙ goes_on over (tick.grace_of (world_of over) r.env) (ap running is)
@@ -304,37 +304,37 @@ module _ (b : Shown) (sound : IsSound b) (r : Runner) (is : b.slots.runner ≡ S
   spent_ends : (o : Option Runner) → o ≡ Some r → (if is_runner r.env (option_map spent o) then None else option_map spent o) ≡ (if is_runner r.env o then None else o)
   spent_ends o is = rw is (rw (eq-eqb r.env r.env refl) refl)
 
-  same_death : died (overrun b r.env) r.env cause.Excess ≡ died over r.env cause.Excess
+  same_death : after_death (with_overrun b r.env) r.env cause.Excess ≡ after_death over r.env cause.Excess
   same_death =
       let once : raised_once b.slots.runner b.slots.excess ≡ over.slots.excess = ap (λ o. raised_once o b.slots.excess) is in
-      λ k. record (died over r.env cause.Excess) {
+      λ k. record (after_death over r.env cause.Excess) {
         slots = record (without_env r.env over.slots) { runner = spent_ends b.slots.runner is k; excess = slice_set (once k) r.env 0 };
-        ledger = ledger_released b.time r.env b.slots (over_row b r.env ((ap (λ all. excess_of all r.env) once ∙ owes) k));
+        ledger = ledger_after_release b.time r.env b.slots (over_row b r.env ((ap (λ all. excess_of all r.env) once ∙ owes) k));
       }
 
-  dies : world_of (brought b r.env timer.Kill) ≡ after (world_of over) (tick.kill r.env (world_of over))
+  dies : world_of (after_timer_by b r.env timer.Kill) ≡ after (world_of over) (tick.kill r.env (world_of over))
   dies =
       let e = r.env in
       let lives : (solo_of over e).life ≡ Live = ap (λ (s : Solo). s.life) (runner_seen over e x over_runs) in
       ap world_of same_death
-      ∙ told over e Killed (Dies cause.Excess) (died over e cause.Excess) (dying over e x over_runs may cause.Excess)
+      ∙ told over e Killed (Dies cause.Excess) (after_death over e cause.Excess) (dying over e x over_runs may cause.Excess)
       (ap (λ (life : Life). if is_dead life then solo_of over e else dead cause.Excess (solo_of over e)) lives)
 
   -- which of both
   judged : (much : Bool) → nat_lt excess_limit owing ≡ much
-      → world_of (brought b r.env (if much then timer.Kill else timer.Over owing)) ≡ after (world_of over) (tick.judged r.env (world_of over))
+      → world_of (after_timer_by b r.env (if much then timer.Kill else timer.Over owing)) ≡ after (world_of over) (tick.judged r.env (world_of over))
   judged true is_much = dies ∙ rw (ap (nat_lt excess_limit) owes ∙ is_much) refl
   judged false is_little = goes_over ∙ rw (ap (nat_lt excess_limit) owes ∙ is_little) refl
 
   -- by the phase of what it used up
-  runs_out : (p : Phase) → world_of (brought b r.env (timer_at_end p (has_end b r.env) (excess_of b.slots.excess r.env))) ≡ after (world_of b) (tick.run_out r.env p (world_of b))
+  runs_out : (p : Phase) → world_of (after_timer_by b r.env (timer_at_end p (has_end b r.env) (excess_of b.slots.excess r.env))) ≡ after (world_of b) (tick.run_out r.env p (world_of b))
   runs_out phase.Own =
       let handler : (handlers_of b.roster.list r.env).end ≡ (solo_of b r.env).handlers.end = ap (λ o. (handlers_in o).end) runs.at ∙ ap (λ (s : Solo). s.handlers.end) (sym (runner_seen b r.env x runs)) in
-      subst (λ h. world_of (brought b r.env (timer_at_end phase.Own (has_end b r.env) (excess_of b.slots.excess r.env))) ≡ after (world_of b) (tick.slice_end r.env h (world_of b))) handler
+      subst (λ h. world_of (after_timer_by b r.env (timer_at_end phase.Own (has_end b r.env) (excess_of b.slots.excess r.env))) ≡ after (world_of b) (tick.slice_end r.env h (world_of b))) handler
       (by_test ((handlers_of b.roster.list r.env).end == 0) refl)
     where
       by_test : (none : Bool) → ((handlers_of b.roster.list r.env).end == 0) ≡ none →
-          world_of (brought b r.env (timer_at_end phase.Own (not none) (excess_of b.slots.excess r.env))) ≡ after (world_of b) (tick.slice_end r.env (handlers_of b.roster.list r.env).end (world_of b))
+          world_of (after_timer_by b r.env (timer_at_end phase.Own (not none) (excess_of b.slots.excess r.env))) ≡ after (world_of b) (tick.slice_end r.env (handlers_of b.roster.list r.env).end (world_of b))
       by_test true none = rw (eqb-true (handlers_of b.roster.list r.env).end 0 none) stops
       by_test false some = ends (handlers_of b.roster.list r.env).end some refl
   runs_out phase.Grace =
@@ -344,24 +344,24 @@ module _ (b : Shown) (sound : IsSound b) (r : Runner) (is : b.slots.runner ≡ S
 
   -- by whether it has one tick left
   counts : (last : Bool) → (r.left == 1) ≡ last → 1 ≤ r.left
-      → world_of (brought b r.env (if last then timer_at_end r.phase (has_end b r.env) (excess_of b.slots.excess r.env) else timer.Nothing)) ≡ after (world_of b) (tick.count_down r (r.left - 1) (world_of b))
+      → world_of (after_timer_by b r.env (if last then timer_at_end r.phase (has_end b r.env) (excess_of b.slots.excess r.env) else timer.Nothing)) ≡ after (world_of b) (tick.count_down r (r.left - 1) (world_of b))
   counts true one some =
       let none : r.left - 1 ≡ 0 = omega (arith, eqb-true r.left 1 one) in
       runs_out r.phase ∙ rw (eq-eqb (r.left - 1) 0 none) refl
   counts false more some = counts_on (eqb-false r.left 1 more) some
 
-pub counted_world : (b : Shown) → IsSound b → world_of (counted b) ≡ after (world_of b) (tick.timer (world_of b))
+pub counted_world : (b : Shown) → IsSound b → world_of (after_timer_phase b) ≡ after (world_of b) (tick.timer (world_of b))
 counted_world b sound = by_runner b.slots.runner refl sound.book.ticks
   where
-    counted : (o : Option Runner) → b.slots.runner ≡ o → HasTicks o → world_of (counted_down b o) ≡ after (world_of b) (tick.count_when o (world_of b))
-    counted None is some = quiet_world (world_of b)
-    counted (Some r) is some =
+    after_timer_phase : (o : Option Runner) → b.slots.runner ≡ o → HasTicks o → world_of (after_count_down b o) ≡ after (world_of b) (tick.count_when o (world_of b))
+    after_timer_phase None is some = quiet_world (world_of b)
+    after_timer_phase (Some r) is some =
         let x = runner_runs b r.env sound (ap running is) in
-        ap (λ o. world_of (brought b r.env (timer_by o (has_end b r.env) (excess_of b.slots.excess)))) is
+        ap (λ o. world_of (after_timer_by b r.env (timer_by o (has_end b r.env) (excess_of b.slots.excess)))) is
         ∙ counts b sound r is x.0 x.1 (r.left == 1) refl some
 
-    by_runner : (o : Option Runner) → b.slots.runner ≡ o → HasTicks o → world_of (ticked (counted_down b o)) ≡ after (world_of b) (in_turn (tick.count_when o ∷ tick.clock ∷ []) (world_of b))
+    by_runner : (o : Option Runner) → b.slots.runner ≡ o → HasTicks o → world_of (with_next_time (after_count_down b o)) ≡ after (world_of b) (in_turn (tick.count_when o ∷ tick.clock ∷ []) (world_of b))
     by_runner o is some =
-        ticked_world (counted_down b o)
-        ∙ ap (λ v. after v (tick.clock v)) (counted o is some)
+        ticked_world (after_count_down b o)
+        ∙ ap (λ v. after v (tick.clock v)) (after_timer_phase o is some)
         ∙ sym (each_in_turn (world_of b) (tick.count_when o ∷ tick.clock ∷ []))

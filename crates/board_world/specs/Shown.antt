@@ -63,13 +63,13 @@ registers_in (Some x) = x.env.cpu
 abbrev pub registers_of : List Environment → ℕ → Cpu
 registers_of list e = registers_in (slice_get list e)
 
-abbrev pub mask_in : Option Environment → ℕ
-mask_in None = 0
-mask_in (Some x) = x.env.mask
+abbrev pub accept_mask_in : Option Environment → ℕ
+accept_mask_in None = 0
+accept_mask_in (Some x) = x.env.mask
 
 -- the mask of those whom an environment accepts
-abbrev pub mask_of : List Environment → ℕ → ℕ
-mask_of list e = mask_in (slice_get list e)
+abbrev pub accept_mask_of : List Environment → ℕ → ℕ
+accept_mask_of list e = accept_mask_in (slice_get list e)
 
 -- nothing is put out yet
 abbrev pub no_output : Output

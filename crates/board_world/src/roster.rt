@@ -6,8 +6,8 @@ ghost use Rattle.env_frames.specs.Context.{context_number, handler_of};
 ghost use Rattle.env_frames.specs.Frame.{left_in, page_of};
 ghost use Rattle.env_frames.specs.Transfer.{carried, entered_cpu, entry_area, entry_bytes, entry_context};
 ghost use Rattle.std.specs.Option.{option_map};
-ghost use Rattle.board_world.specs.Shown.{changed, console_of, handlers_of, mappings_of, mask_of, no_output, registers_of, sent_of, with_list};
-ghost use Rattle.board_world.specs.Doing.{with_registers, accepting, handling, dead_frame, putting, replying, sending};
+ghost use Rattle.board_world.specs.Shown.{changed, console_of, handlers_of, mappings_of, accept_mask_of, no_output, registers_of, sent_of, with_list};
+ghost use Rattle.board_world.specs.Doing.{with_registers, with_mask, with_handler_at, dead_frame, with_bytes_put, with_replies_sent, with_packet_sent};
 ghost use Rattle.world_model.specs.declared.life.Life.TheVariants.{Live};
 
 use crate::console::Console;
@@ -83,7 +83,7 @@ impl Roster {
         ensures mappings { result.now.mappings ≡ mappings_of self.now.list env }
         ensures registers { result.now.cpu ≡ registers_of self.now.list env }
         ensures handlers { result.now.handlers ≡ handlers_of self.now.list env }
-        ensures mask { result.now.mask ≡ mask_of self.now.list env }
+        ensures mask { result.now.mask ≡ accept_mask_of self.now.list env }
     {
         &self.at(env).env
     }
@@ -125,7 +125,7 @@ impl Roster {
     pub fn put(&mut self, env: u8, bytes: &[u8])
         requires there { env < length self.old.list }
         requires room { length (console_of self.old.list env) + length bytes.now ≤ console_size }
-        ensures { self.new ≡ with_list self.old (changed (putting bytes.now) self.old.list env) }
+        ensures { self.new ≡ with_list self.old (changed (with_bytes_put bytes.now) self.old.list env) }
     {
         put_in(&mut self.list, usize::from(env), bytes);
     }
@@ -143,7 +143,7 @@ impl Roster {
         requires there { env < length self.old.list }
         requires size { length bytes.now ≤ most_packet_size }
         requires room { length (sent_of self.old.list env) < most_sent }
-        ensures { self.new ≡ with_list self.old (changed (sending bytes.now) self.old.list env) }
+        ensures { self.new ≡ with_list self.old (changed (with_packet_sent bytes.now) self.old.list env) }
     {
         send_in(&mut self.list, usize::from(env), bytes);
     }
@@ -153,7 +153,7 @@ impl Roster {
     pub fn reply(&mut self, env: u8, bytes: &[u8])
         requires there { env < length self.old.list }
         requires size { length bytes.now ≤ most_packet_size }
-        ensures { self.new ≡ with_list self.old (changed (replying (bytes.now ∷ [])) self.old.list env) }
+        ensures { self.new ≡ with_list self.old (changed (with_replies_sent (bytes.now ∷ [])) self.old.list env) }
     {
         reply_in(&mut self.list, usize::from(env), bytes);
     }
@@ -161,7 +161,7 @@ impl Roster {
     /// Law: no replies change nothing, since each environment holds at most 256 packets.
     pub fn law_no_reply(&self, env: u8)
         requires { env < length self.now.list }
-        ensures { changed (replying []) self.now.list env ≡ self.now.list }
+        ensures { changed (with_replies_sent []) self.now.list env ≡ self.now.list }
     {
         self.sent(env).law_few();
     }
@@ -177,7 +177,7 @@ impl Roster {
     /// The handler of a context of the environment of this number stands at an address from now on; 0 is none.
     pub fn handle(&mut self, env: u8, context: Context, address: u32)
         requires { env < length self.old.list }
-        ensures { self.new ≡ with_list self.old (changed (handling context address) self.old.list env) }
+        ensures { self.new ≡ with_list self.old (changed (with_handler_at context address) self.old.list env) }
     {
         handle_in(&mut self.list, usize::from(env), context, address);
     }
@@ -185,7 +185,7 @@ impl Roster {
     /// The environment of this number accepts the yields and transfers of those in this mask, and of no others.
     pub fn accept(&mut self, env: u8, mask: u32)
         requires { env < length self.old.list }
-        ensures { self.new ≡ with_list self.old (changed (accepting mask) self.old.list env) }
+        ensures { self.new ≡ with_list self.old (changed (with_mask mask) self.old.list env) }
     {
         accept_in(&mut self.list, usize::from(env), mask);
     }
@@ -205,7 +205,7 @@ impl Roster {
         requires page { IfSome (page_of (mappings_of self.old.list env) context_number) (λ page. page < length frames.old) }
         ensures cpu { result ≡ entered_cpu (handler_of (handlers_of self.old.list env) (entry_context kind)) (carried caller.now) }
         ensures frames { frames.new ≡ left_in entry_area (entry_bytes from kind (registers_of self.old.list env)) (page_of (mappings_of self.old.list env) context_number) frames.old }
-        ensures roster { self.new ≡ with_list self.old (changed (accepting 0) self.old.list env) }
+        ensures roster { self.new ≡ with_list self.old (changed (with_mask 0) self.old.list env) }
         ensures size { length frames.new ≡ length frames.old }
     {
         enter_in(&mut self.list, usize::from(env), frames, from, kind, caller)
@@ -235,7 +235,7 @@ fn empty_outputs(alloc: Global, count: u8) -> Result<Vec<Output>, OutOfMemory>
 fn put_in(list: &mut [Environment], place: usize, bytes: &[u8])
     requires there { place < length list.old }
     requires room { length (console_of list.old place) + length bytes.now ≤ console_size }
-    ensures { list.new ≡ changed (putting bytes.now) list.old place }
+    ensures { list.new ≡ changed (with_bytes_put bytes.now) list.old place }
 {
     let environment = &mut list[place];
     environment.output.console.put(bytes);
@@ -246,7 +246,7 @@ fn send_in(list: &mut [Environment], place: usize, bytes: &[u8])
     requires there { place < length list.old }
     requires size { length bytes.now ≤ most_packet_size }
     requires room { length (sent_of list.old place) < most_sent }
-    ensures { list.new ≡ changed (sending bytes.now) list.old place }
+    ensures { list.new ≡ changed (with_packet_sent bytes.now) list.old place }
 {
     let environment = &mut list[place];
     environment.output.sent.send(bytes);
@@ -256,7 +256,7 @@ fn send_in(list: &mut [Environment], place: usize, bytes: &[u8])
 fn reply_in(list: &mut [Environment], place: usize, bytes: &[u8])
     requires there { place < length list.old }
     requires size { length bytes.now ≤ most_packet_size }
-    ensures { list.new ≡ changed (replying (bytes.now ∷ [])) list.old place }
+    ensures { list.new ≡ changed (with_replies_sent (bytes.now ∷ [])) list.old place }
 {
     let environment = &mut list[place];
     environment.output.sent.reply(bytes);
@@ -274,7 +274,7 @@ fn keep_in(list: &mut [Environment], place: usize, cpu: &Cpu)
 /// Sets the handler of a context of the environment at a place.
 fn handle_in(list: &mut [Environment], place: usize, context: Context, address: u32)
     requires { place < length list.old }
-    ensures { list.new ≡ changed (handling context address) list.old place }
+    ensures { list.new ≡ changed (with_handler_at context address) list.old place }
 {
     let environment = &mut list[place];
     environment.env.set_handler(context, address);
@@ -283,7 +283,7 @@ fn handle_in(list: &mut [Environment], place: usize, context: Context, address: 
 /// Sets whom the environment at a place accepts.
 fn accept_in(list: &mut [Environment], place: usize, mask: u32)
     requires { place < length list.old }
-    ensures { list.new ≡ changed (accepting mask) list.old place }
+    ensures { list.new ≡ changed (with_mask mask) list.old place }
 {
     let environment = &mut list[place];
     environment.env.set_accept(mask);
@@ -303,7 +303,7 @@ fn enter_in(
     requires page { IfSome (page_of (mappings_of list.old place) context_number) (λ page. page < length frames.old) }
     ensures cpu { result ≡ entered_cpu (handler_of (handlers_of list.old place) (entry_context kind)) (carried caller.now) }
     ensures frames { frames.new ≡ left_in entry_area (entry_bytes from kind (registers_of list.old place)) (page_of (mappings_of list.old place) context_number) frames.old }
-    ensures list { list.new ≡ changed (accepting 0) list.old place }
+    ensures list { list.new ≡ changed (with_mask 0) list.old place }
     ensures size { length frames.new ≡ length frames.old }
 {
     let environment = &mut list[place];

@@ -7,7 +7,7 @@ use Rattle.env_frames.specs.Transfer.{hands_slot}
 use Rattle.world_model.specs.declared.slot.Hold.{Hold}
 use Rattle.world_model.specs.SlotCalls.{held_by, slot_row}
 use Rattle.slot_vector.specs.Slices.{Slices, given_to, hold_at, slots_given}
-use Rattle.board_world.specs.Doing.{ledger_entered}
+use Rattle.board_world.specs.Doing.{ledger_after_hand_on}
 use Rattle.board_world.proofs.Slots.{handed_here}
 use Rattle.board_parts.specs.Parts.{with_turns}
 use Rattle.board_parts.proofs.transfer.hand_on.Goals as goal
@@ -34,10 +34,10 @@ returns-in-Asynchronous c b =
     let before = with_turns b v time c.args.journal.now in
     let slots : c.donate.new.self ≡ given_to t (hands_slot c.args.kind) v = c.donate.ensures ∙ ap (λ (later : Bool). given_to t later v) c.hands_slot.ensures in
     let cursor = c.slot-slot.ensures.cursor ∙ ap (λ (x : Slices). x.cursor) c.donate.ensures in
-    let ledger : c.push.new.self ≡ ledger_entered before e t c.args.kind =
+    let ledger : c.push.new.self ≡ ledger_after_hand_on before e t c.args.kind =
     c.push.ensures
     ∙ ap (λ (n : ℕ). with_row c.args.journal.now (row.Async time n e t)) cursor
-    ∙ ap (ledger_entered before e t) (sym c.in-Asynchronous.is) in
+    ∙ ap (ledger_after_hand_on before e t) (sym c.in-Asynchronous.is) in
     λ i. with_turns b (slots i) time (ledger i)
 
 pub returns-in-Synchronous : goal.returns-in-Synchronous
@@ -51,9 +51,9 @@ returns-in-Synchronous c b =
     let slots : c.donate.new.self ≡ given_to t (hands_slot c.args.kind) v = c.donate.ensures ∙ ap (λ (later : Bool). given_to t later v) c.hands_slot.ensures in
     let given : c.donate.new.self ≡ given_to t true v = c.donate.ensures ∙ ap (λ (later : Bool). given_to t later v) hands in
     let k = c.slot-slot.result in
-    let ledger : c.push_slot.new.journal ≡ ledger_entered before e t c.args.kind =
+    let ledger : c.push_slot.new.journal ≡ ledger_after_hand_on before e t c.args.kind =
     c.push_slot.ensures
     ∙ ap (λ (l : Ledger). with_row l (slot_row time k (hold_at c.donate.new.self.slots k))) c.push-in-Synchronous.ensures
     ∙ handed_rows v c.donate.new.self c.args.journal.now time e t k given c.slot-slot.ensures.cursor
-    ∙ ap (ledger_entered before e t) (sym c.in-Synchronous.is) in
+    ∙ ap (ledger_after_hand_on before e t) (sym c.in-Synchronous.is) in
     λ i. with_turns b (slots i) time (ledger i)

@@ -2,7 +2,7 @@
 use Rattle.std.proofs.Common.{ap, ◌∙◌}
 use Rattle.std.specs.Prelude.{slice_index_or, slice_set}
 use Rattle.env_frames.specs.Frame.{EnvValue}
-use Rattle.board_world.specs.Doing.{accepting}
+use Rattle.board_world.specs.Doing.{with_mask}
 use Rattle.board_world.proofs.Lists.{changed_set}
 use Rattle.board_world.proofs.roster.enter_in.Goals as goal
 
@@ -10,4 +10,4 @@ pub returns-clause-list : goal.returns-clause-list
 returns-clause-list c =
     let x = slice_index_or c.args.list.now c.args.place c.index-list-place.result in
     ap (λ (v : EnvValue). slice_set c.args.list.now c.args.place (record x { env = v })) c.enter.ensures.env
-    ∙ changed_set (accepting 0) c.args.list.now c.args.place c.index-list-place.result c.requires.there
+    ∙ changed_set (with_mask 0) c.args.list.now c.args.place c.index-list-place.result c.requires.there

@@ -2,7 +2,7 @@
 use Rattle.std.proofs.Common.{ap, ◌∙◌}
 use Rattle.std.specs.Prelude.{slice_index_or, slice_set}
 use Rattle.env_frames.specs.Frame.{EnvValue}
-use Rattle.board_world.specs.Doing.{handling}
+use Rattle.board_world.specs.Doing.{with_handler_at}
 use Rattle.board_world.proofs.Lists.{changed_set}
 use Rattle.board_world.proofs.roster.handle_in.Goals as goal
 
@@ -10,4 +10,4 @@ pub returns : goal.returns
 returns c =
     let x = slice_index_or c.args.list.now c.args.place c.index-list-place.result in
     ap (λ (v : EnvValue). slice_set c.args.list.now c.args.place (record x { env = v })) c.set_handler.ensures
-    ∙ changed_set (handling c.args.context c.args.address) c.args.list.now c.args.place c.index-list-place.result c.requires
+    ∙ changed_set (with_handler_at c.args.context c.args.address) c.args.list.now c.args.place c.index-list-place.result c.requires

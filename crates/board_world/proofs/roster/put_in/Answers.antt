@@ -2,7 +2,7 @@
 use Rattle.std.proofs.Common.{List, ℕ, length, ap, ◌∙◌, arith}
 use Rattle.std.specs.Prelude.{slice_index_or, slice_set}
 use Rattle.board_world.specs.Shown.{console_in}
-use Rattle.board_world.specs.Doing.{putting}
+use Rattle.board_world.specs.Doing.{with_bytes_put}
 use Rattle.board_world.proofs.Lists.{changed_set}
 use Rattle.std.proofs.lemmas.Option.{slice_get-get_or}
 use Rattle.board_world.proofs.roster.put_in.Goals as goal
@@ -16,4 +16,4 @@ pub returns : goal.returns
 returns c =
     let x = slice_index_or c.args.list.now c.args.place c.index-list-place.result in
     ap (λ (bytes : List ℕ). slice_set c.args.list.now c.args.place (record x { output = record x.output { console = bytes } })) c.put.ensures
-    ∙ changed_set (putting c.args.bytes.now) c.args.list.now c.args.place c.index-list-place.result c.requires.there
+    ∙ changed_set (with_bytes_put c.args.bytes.now) c.args.list.now c.args.place c.index-list-place.result c.requires.there

@@ -5,7 +5,7 @@ use Rattle.filter_tree.specs.declared.claim.Claim.{Claim}
 use Rattle.filter_tree.specs.Claims.{claim_for, claim_handler}
 use Rattle.frame_store.specs.Pages.{page_at}
 use Rattle.packet_ring.specs.Ring.{is_full}
-use Rattle.board_world.specs.Doing.{arrived_by, arrived, counted_for, delivered_by, delivered_if, delivered_to}
+use Rattle.board_world.specs.Doing.{after_arrival_for, after_arrival, with_count, after_delivery_by, after_queue, after_delivery}
 use Rattle.board_world.specs.Shown.{Shown, shown}
 use Rattle.board_world.specs.Sound.{IsSound}
 use Rattle.board_world.proofs.Claiming.{delivered_claimed}
@@ -16,15 +16,15 @@ use Rattle.board_world.proofs.Staying.{sound_claims, sound_env, sound_frames}
 use Rattle.aegis_calls.proofs.board.Board.arrive.Goals as goal
 
 -- a board stays sound where a packet for a claim comes
-delivered_sound : (b : Shown) (c : Claim) (packet : List ℕ) → length (delivered_to b c packet).frames ≡ length b.frames → IsSound b → IsSound (delivered_to b c packet)
+delivered_sound : (b : Shown) (c : Claim) (packet : List ℕ) → length (after_delivery b c packet).frames ≡ length b.frames → IsSound b → IsSound (after_delivery b c packet)
 delivered_sound b c packet same sound = by_handler (claim_handler b.claims c.id) same
   where
-    by_full : (full : Bool) → length (delivered_if full (counted_for b post.Packets c.env) c packet).frames ≡ length b.frames → IsSound (delivered_if full (counted_for b post.Packets c.env) c packet)
+    by_full : (full : Bool) → length (after_queue full (with_count b post.Packets c.env) c packet).frames ≡ length b.frames → IsSound (after_queue full (with_count b post.Packets c.env) c packet)
     by_full true same = sound_frames _ same sound
     by_full false same = sound_claims _ (delivered_claimed b.claims b.pages b.roster c.id sound.claims) (sound_frames _ same sound)
 
-    by_handler : (h : Option (List ℕ)) → length (delivered_by h (counted_for b post.Packets c.env) c packet).frames ≡ length b.frames → IsSound (delivered_by h (counted_for b post.Packets c.env) c packet)
-    by_handler None same = by_full (is_full (page_at (counted_for b post.Packets c.env).frames c.page) c.next) same
+    by_handler : (h : Option (List ℕ)) → length (after_delivery_by h (with_count b post.Packets c.env) c packet).frames ≡ length b.frames → IsSound (after_delivery_by h (with_count b post.Packets c.env) c packet)
+    by_handler None same = by_full (is_full (page_at (with_count b post.Packets c.env).frames c.page) c.next) same
     by_handler (Some words) same = sound_env _ (keeps_replying _) c.env (sound_frames _ same sound)
 
 pub deliver-requires : goal.deliver-requires
@@ -52,6 +52,6 @@ returns-in-Some c =
     let b = shown i.frames i.pages i.bindings i.lines i.claims i.revocations i.slots i.cpu i.roster i.time i.journal in
     let packet = c.args.packet.now in
     c.deliver.ensures.after b
-    ∙ ap (delivered_to b c.in-Some.claim) c.of-packet.ensures
-    ∙ ap (arrived_by b packet) (sym (sym (ap (claim_for b.claims) c.of-packet.ensures) ∙ c.claim_for.ensures ∙ c.in-Some.is))
-    ∙ ap (λ (s : Shown). arrived s packet) c.self.view_is
+    ∙ ap (after_delivery b c.in-Some.claim) c.of-packet.ensures
+    ∙ ap (after_arrival_for b packet) (sym (sym (ap (claim_for b.claims) c.of-packet.ensures) ∙ c.claim_for.ensures ∙ c.in-Some.is))
+    ∙ ap (λ (s : Shown). after_arrival s packet) c.self.view_is

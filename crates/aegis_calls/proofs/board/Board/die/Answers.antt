@@ -2,7 +2,7 @@
 use Rattle.std.proofs.Common.{◌≡◌, ap, ◌∙◌, arith}
 use Rattle.world_model.specs.Book.{running}
 use Rattle.board_world.specs.Shown.{Shown, shown}
-use Rattle.board_world.specs.Doing.{buried, died}
+use Rattle.board_world.specs.Doing.{after_burial, after_death}
 use Rattle.board_world.proofs.Seen.{named}
 use Rattle.board_world.proofs.Sound.{none_left, release_manned, runner_within}
 use Rattle.board_world.proofs.Staying.{sound_machine, sound_slots}
@@ -35,5 +35,5 @@ pub returns : goal.returns
 returns c =
     let b = c.self.inside in
     c.bury.ensures
-    ∙ (λ k. buried (shown b.frames b.pages b.bindings b.lines b.claims b.revocations (c.release_slots.ensures.slots k) b.cpu b.roster b.time (c.release_slots.ensures.journal k)) c.args.env c.args.cause)
-    ∙ ap (λ (s : Shown). died s c.args.env c.args.cause) c.self.view_is
+    ∙ (λ k. after_burial (shown b.frames b.pages b.bindings b.lines b.claims b.revocations (c.release_slots.ensures.slots k) b.cpu b.roster b.time (c.release_slots.ensures.journal k)) c.args.env c.args.cause)
+    ∙ ap (λ (s : Shown). after_death s c.args.env c.args.cause) c.self.view_is

@@ -7,7 +7,7 @@ use Rattle.world_model.specs.Call.{good_range}
 use Rattle.world_model.specs.OwnCalls.{MayOwn, MayPut, MaySend, put_bytes}
 use Rattle.world_model.specs.Page.{Mapped}
 use Rattle.world_model.specs.declared.call.OwnDeed.TheVariants.{Puts, Sends}
-use Rattle.board_world.specs.Doing.{look_of, own_done}
+use Rattle.board_world.specs.Doing.{look_of, after_own_deed}
 use Rattle.board_world.specs.Shown.{Shown, console_of, sent_of, shown}
 use Rattle.board_world.specs.Showing.{solo_of}
 use Rattle.board_world.specs.Sound.{IsSound}

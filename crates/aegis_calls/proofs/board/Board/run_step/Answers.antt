@@ -5,20 +5,20 @@ use Rattle.mips_exec.specs.declared.exception.Outcome.TheVariants as outcome
 use Rattle.mips_exec.specs.Step.{Step, Retired, Called, Trapped, outcome_of}
 use Rattle.world_model.specs.Book.{running}
 use Rattle.board_world.specs.Shown.{Shown}
-use Rattle.board_world.specs.Doing.{called_by, came_to, ran, step_seen, trapped}
+use Rattle.board_world.specs.Doing.{after_runner_call, after_runner_step, after_machine_step, step_seen, after_trap}
 use Rattle.board_world.proofs.Stepping.{came_called}
 use Rattle.aegis_calls.proofs.board.Board.run_step.Goals as goal
 
-came_retired : (b : Shown) (e : ℕ) (step : Step) → outcome_of step ≡ outcome.Retired → ran b e step ≡ came_to b e step
+came_retired : (b : Shown) (e : ℕ) (step : Step) → outcome_of step ≡ outcome.Retired → after_machine_step b e step ≡ after_runner_step b e step
 came_retired b e (Retired cpu write) is = refl
 came_retired b e Called is = cc
 came_retired b e (Trapped exc) is = cc
 
 -- a step that trapped changed nothing yet
-came_trapped : (b : Shown) (e : ℕ) (step : Step) (exc : Exc) → outcome_of step ≡ outcome.Trap exc → trapped (ran b e step) e exc ≡ came_to b e step
+came_trapped : (b : Shown) (e : ℕ) (step : Step) (exc : Exc) → outcome_of step ≡ outcome.Trap exc → after_trap (after_machine_step b e step) e exc ≡ after_runner_step b e step
 came_trapped b e (Retired cpu write) exc is = cc
 came_trapped b e Called exc is = cc
-came_trapped b e (Trapped raised) exc is = let same : exc ≡ raised = cc in ap (trapped b e) same
+came_trapped b e (Trapped raised) exc is = let same : exc ≡ raised = cc in ap (after_trap b e) same
 
 pub take_call-requires-clause-runs : goal.take_call-requires-clause-runs
 take_call-requires-clause-runs c = ap (λ (s : Shown). running s.slots.runner) c.run_machine.ensures.shown ∙ c.requires.runs
@@ -38,13 +38,13 @@ returns-in-Retired c = c.run_machine.ensures.shown ∙ came_retired c.args.self.
 pub returns-in-Call : goal.returns-in-Call
 returns-in-Call c =
     c.take_call.ensures
-    ∙ ap (λ (b : Shown). called_by b c.args.env) c.run_machine.ensures.shown
+    ∙ ap (λ (b : Shown). after_runner_call b c.args.env) c.run_machine.ensures.shown
     ∙ came_called c.args.self.now c.args.env (step_seen c.args.self.now c.args.env) (sym c.run_machine.ensures.outcome ∙ c.in-Call.is)
 
 pub returns-in-Trap : goal.returns-in-Trap
 returns-in-Trap c =
     c.trap.ensures
-    ∙ ap (λ (s : Shown). trapped s c.args.env c.in-Trap.exc) c.run_machine.ensures.shown
+    ∙ ap (λ (s : Shown). after_trap s c.args.env c.in-Trap.exc) c.run_machine.ensures.shown
     ∙ came_trapped c.args.self.now c.args.env (step_seen c.args.self.now c.args.env) c.in-Trap.exc (sym c.run_machine.ensures.outcome ∙ c.in-Trap.is)
 
 pub take_call-requires-clause-numbers : goal.take_call-requires-clause-numbers

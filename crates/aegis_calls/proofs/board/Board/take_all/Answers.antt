@@ -6,7 +6,7 @@ use Rattle.revocation_book.specs.declared.revocation.Taking.{Taking}
 use Rattle.revocation_book.specs.RevocationBook.{books_of}
 use Rattle.revocation_book.specs.Takings.{AreTakable, Books}
 use Rattle.board_world.specs.Shown.{Shown}
-use Rattle.board_world.specs.Doing.{repossessed}
+use Rattle.board_world.specs.Doing.{after_taking}
 use Rattle.board_world.specs.Sound.{IsSound}
 use Rattle.board_world.proofs.Repossessing.{its_place, page_there, taken_books}
 use Rattle.aegis_calls.proofs.board.Board.take_all.Goals as goal
@@ -38,7 +38,7 @@ loop-taking-preserved c =
     let may = subst (AreTakable (books_of b.pages b.revocations) b.time) is c.loop-taking.invariant.may in
     let books = sym (taken_books b x (page_there b sound x may.0) (its_place b sound x may.0)) in
     record {
-      rest = ap (λ s. fold repossessed s rest) c.take.ensures ∙ ap (fold repossessed b) (sym is) ∙ c.loop-taking.invariant.rest;
+      rest = ap (λ s. fold after_taking s rest) c.take.ensures ∙ ap (fold after_taking b) (sym is) ∙ c.loop-taking.invariant.rest;
       may = subst (λ (s : Shown). AreTakable (books_of s.pages s.revocations) s.time rest) (sym c.take.ensures) (subst (λ (books : Books). AreTakable books b.time rest) books may.1);
       room = omega (arith, ap length is, ap (λ (s : Shown). s.ledger.spare) c.take.ensures, c.loop-taking.invariant.room);
     }

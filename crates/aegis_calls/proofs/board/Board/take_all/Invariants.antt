@@ -2,12 +2,12 @@
 use Rattle.std.proofs.Common.{◌≡◌, ◌≤◌, drop, fold, length}
 use Rattle.revocation_book.specs.RevocationBook.{books_of}
 use Rattle.revocation_book.specs.Takings.{AreTakable}
-use Rattle.board_world.specs.Doing.{repossessed}
+use Rattle.board_world.specs.Doing.{after_taking}
 use Rattle.aegis_calls.proofs.board.Board.take_all.Given as goal
 
 abbrev pub invariant-loop-taking : goal.invariant-loop-taking
 invariant-loop-taking l = record {
-  rest : fold repossessed l.self (drop l.taking-index l.takings) ≡ fold repossessed l.fn.self l.takings;
+  rest : fold after_taking l.self (drop l.taking-index l.takings) ≡ fold after_taking l.fn.self l.takings;
   may : AreTakable (books_of l.self.pages l.self.revocations) l.self.time (drop l.taking-index l.takings);
   room : length (drop l.taking-index l.takings) ≤ l.self.ledger.spare;
 }

@@ -4,7 +4,7 @@ use Rattle.slot_vector.specs.Laws.{owed_by_all}
 use Rattle.slot_vector.specs.Slices.{told_of}
 use Rattle.slot_vector.proofs.Whole.{pay_lowers}
 use Rattle.board_world.specs.Shown.{Shown}
-use Rattle.board_world.specs.Doing.{turned_by}
+use Rattle.board_world.specs.Doing.{after_told}
 use Rattle.board_world.proofs.Turns.{pay_turned}
 use Rattle.aegis_calls.proofs.board.Board.take_turn.Goals as goal
 
@@ -19,7 +19,7 @@ loop-preserved c =
     let after = c.in-Pay.ensures.after in
     let so_far = c.loop.invariant in
     record {
-      turn = ap (λ (s : Shown). turned_by s (told_of s.slots)) after ∙ pay_turned b t pays ∙ so_far.turn;
+      turn = ap (λ (s : Shown). after_told s (told_of s.slots)) after ∙ pay_turned b t pays ∙ so_far.turn;
       nobody = ap (λ (s : Shown). s.slots.runner) after ∙ so_far.nobody;
       time = ap (λ (s : Shown). s.time) after ∙ so_far.time;
       whole = ap (λ (s : Shown). s.roster.spare) after ∙ so_far.whole;

@@ -6,7 +6,7 @@ use Rattle.slot_vector.specs.Slices.{Slices, given_to}
 use Rattle.world_model.specs.Book.{running}
 use Rattle.world_model.specs.Item.{answered_cpu}
 use Rattle.world_model.specs.declared.verdict.Verdict.TheVariants.{Grant}
-use Rattle.board_world.specs.Doing.{accepting, entered, handed_on, roster_entered, with_registers}
+use Rattle.board_world.specs.Doing.{with_mask, after_entry, after_hand_on, entry_roster, with_registers}
 use Rattle.board_world.specs.Shown.{Environments, Shown, shown, with_list}
 use Rattle.board_world.specs.Sound.{IsLive}
 use Rattle.board_world.proofs.Parted.{context_there}
@@ -35,12 +35,12 @@ invariant_of-self c =
     let live = subst (λ (s : Shown). IsLive s.roster.list t) (sym c.self.view_is) c.requires.lives in
     let cpu : Cpu = answered_cpu (Grant c.args.value) i.cpu in
     let slots : c.hand_on.new.slots ≡ given_to t (hands_slot c.args.kind) i.slots = ap (λ (s : Shown). s.slots) (c.hand_on.ensures b) in
-    let kept : c.enter.new.roster ≡ with_list i.roster (roster_entered b e c.args.value t) = ap (λ (s : Shown). s.roster) (c.enter.ensures.after handed) in
+    let kept : c.enter.new.roster ≡ with_list i.roster (entry_roster b e c.args.value t) = ap (λ (s : Shown). s.roster) (c.enter.ensures.after handed) in
     rw (kept, slots)
     (sound_machine
     (sound_frames _ c.enter.ensures.size
     (sound_env (with_registers cpu) (keeps_registers cpu) e
-    (sound_env (accepting 0) (keeps_accepting 0) t
+    (sound_env (with_mask 0) (keeps_accepting 0) t
     (sound_slots _ (given_manned i.slots i.roster t (hands_slot c.args.kind) c.self.invariant.book live) c.self.invariant)))))
 
 pub returns : goal.returns
@@ -51,4 +51,4 @@ returns c =
     let b = shown i.frames i.pages i.bindings i.lines i.claims i.revocations i.slots i.cpu i.roster i.time i.journal in
     let handed = shown i.frames i.pages i.bindings i.lines i.claims i.revocations c.hand_on.new.slots i.cpu i.roster i.time c.hand_on.new.journal in
     c.enter.ensures.after handed
-    ∙ ap (λ (s : Shown). entered s e c.args.value t c.args.kind) (c.hand_on.ensures b ∙ ap (λ (s : Shown). handed_on s e t c.args.kind) c.self.view_is)
+    ∙ ap (λ (s : Shown). after_entry s e c.args.value t c.args.kind) (c.hand_on.ensures b ∙ ap (λ (s : Shown). after_hand_on s e t c.args.kind) c.self.view_is)
