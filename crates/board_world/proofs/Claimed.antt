@@ -182,17 +182,17 @@ module _ (id : ℕ) (f : RowValue → RowValue) (g : Ring → Ring) (same : (r :
 
 -- the buffers of a claim take turns
 pub claims_turned : (claims : ClaimBook) (id : ℕ) → claims_in (delivered id claims) ≡ claims_in claims
-claims_turned claims id = same_claims id book.turned ring.ring_after_packet (λ r. refl) (λ r. refl) claims.rows
+claims_turned claims id = same_claims id book.row_after_packet ring.ring_after_packet (λ r. refl) (λ r. refl) claims.rows
 
 pub rings_turned : (claims : ClaimBook) (id e : ℕ) → rings_of (delivered id claims) e ≡ map (ring.ring_after_packet_if id) (rings_of claims e)
-rings_turned claims id e = rows_rings id book.turned ring.ring_after_packet (λ r. refl) (λ r. refl) e claims.rows
+rings_turned claims id e = rows_rings id book.row_after_packet ring.ring_after_packet (λ r. refl) (λ r. refl) e claims.rows
 
 -- a claim has another handler
 pub claims_downloaded : (claims : ClaimBook) (id : ℕ) (handler : Option (List ℕ)) → claims_in (downloaded id handler claims) ≡ claims_in claims
-claims_downloaded claims id handler = same_claims id (book.handled handler) (ring.ring_with_handler handler) (λ r. refl) (λ r. refl) claims.rows
+claims_downloaded claims id handler = same_claims id (book.row_with_handler handler) (ring.ring_with_handler handler) (λ r. refl) (λ r. refl) claims.rows
 
 pub rings_downloaded : (claims : ClaimBook) (id e : ℕ) (handler : Option (List ℕ)) → rings_of (downloaded id handler claims) e ≡ map (ring.ring_with_handler_if id handler) (rings_of claims e)
-rings_downloaded claims id e handler = rows_rings id (book.handled handler) (ring.ring_with_handler handler) (λ r. refl) (λ r. refl) e claims.rows
+rings_downloaded claims id e handler = rows_rings id (book.row_with_handler handler) (ring.ring_with_handler handler) (λ r. refl) (λ r. refl) e claims.rows
 
 -- an environment has a claim exactly where the book has it
 pub ring_held : (claims : ClaimBook) (e id : ℕ) → is_some (ring_of (rings_of claims e) id) ≡ is_some (claim_held claims e id)
@@ -242,13 +242,13 @@ pub rings_turned_else : FirstIsNumbered → (claims : ClaimBook) (r : RowValue) 
     → rings_of (delivered r.claim.id claims) i ≡ rings_of claims i
 rings_turned_else law claims r i numbered first ne =
     rings_turned claims r.claim.id i
-    ∙ none_changed r.claim.id book.turned ring.ring_after_packet (λ r. refl) (λ r. refl) i claims.rows (no_other law claims r i numbered first ne)
+    ∙ none_changed r.claim.id book.row_after_packet ring.ring_after_packet (λ r. refl) (λ r. refl) i claims.rows (no_other law claims r i numbered first ne)
 
 pub rings_downloaded_else : FirstIsNumbered → (claims : ClaimBook) (e id i : ℕ) (handler : Option (List ℕ)) → are_numbered 0 claims.next claims.rows ≡ true → is_some (ring_of (rings_of claims e) id) ≡ true → i ≢ e
     → rings_of (downloaded id handler claims) i ≡ rings_of claims i
 rings_downloaded_else law claims e id i handler numbered own ne =
     rings_downloaded claims id i handler
-    ∙ none_changed id (book.handled handler) (ring.ring_with_handler handler) (λ r. refl) (λ r. refl) i claims.rows (by_found (first_row (is_claim e id) claims) refl (sym (ring_held claims e id) ∙ own))
+    ∙ none_changed id (book.row_with_handler handler) (ring.ring_with_handler handler) (λ r. refl) (λ r. refl) i claims.rows (by_found (first_row (is_claim e id) claims) refl (sym (ring_held claims e id) ∙ own))
   where
     by_found : (o : Option RowValue) → first_row (is_claim e id) claims ≡ o → is_some (option_map book.claim_seen (first_row (is_claim e id) claims)) ≡ true → first_row (is_claim i id) claims ≡ None
     by_found None is some = let none : false ≡ true = ap (λ (o : Option RowValue). is_some (option_map book.claim_seen o)) (sym is) ∙ some in cc

@@ -117,23 +117,23 @@ same_own pages f same (x ∷ rows) all =
 
 -- the buffers of a claim take turns
 pub delivered_claimed : (claims : ClaimBook) (pages : List PageRow) (r : Environments) (id : ℕ) → AreClaimed claims pages r → AreClaimed (delivered id claims) pages r
-delivered_claimed claims pages r id are = record { owned = same_own pages (book.turned_if id) same claims.rows are.owned; count = are.count }
+delivered_claimed claims pages r id are = record { owned = same_own pages (book.row_after_packet_if id) same claims.rows are.owned; count = are.count }
   where
-    same : (x : RowValue) → (book.turned_if id x).claim ≡ x.claim
+    same : (x : RowValue) → (book.row_after_packet_if id x).claim ≡ x.claim
     same x = by_test (is_numbered id x.claim)
       where
-        by_test : (t : Bool) → (if t then book.turned x else x).claim ≡ x.claim
+        by_test : (t : Bool) → (if t then book.row_after_packet x else x).claim ≡ x.claim
         by_test true = refl
         by_test false = refl
 
 -- a claim has another handler, or none
 pub downloaded_claimed : (claims : ClaimBook) (pages : List PageRow) (r : Environments) (id : ℕ) (handler : Option (List ℕ)) → AreClaimed claims pages r → AreClaimed (downloaded id handler claims) pages r
-downloaded_claimed claims pages r id handler are = record { owned = same_own pages (book.handled_if id handler) same claims.rows are.owned; count = are.count }
+downloaded_claimed claims pages r id handler are = record { owned = same_own pages (book.row_with_handler_if id handler) same claims.rows are.owned; count = are.count }
   where
-    same : (x : RowValue) → (book.handled_if id handler x).claim ≡ x.claim
+    same : (x : RowValue) → (book.row_with_handler_if id handler x).claim ≡ x.claim
     same x = by_test (is_numbered id x.claim)
       where
-        by_test : (t : Bool) → (if t then book.handled handler x else x).claim ≡ x.claim
+        by_test : (t : Bool) → (if t then book.row_with_handler handler x else x).claim ≡ x.claim
         by_test true = refl
         by_test false = refl
 

@@ -3,7 +3,7 @@ use Rattle.std.proofs.Common.{◌≡◌, ℕ, suc, ◌+◌, ◌≤◌, Bool, tru
 use Rattle.std.specs.Prelude.{◌&&◌, nat_le, filter, find, map, if◌then◌else◌}
 use Rattle.std.proofs.lemmas.Bool.{cases_Bool, eq-eqb, le-leb, leb-true, ne_eqb}
 use Rattle.filter_tree.specs.ClaimBook.{ClaimValue, RowValue, are_numbered}
-use Rattle.filter_tree.specs.Claims.{handled, handled_if, is_numbered, turned, turned_if}
+use Rattle.filter_tree.specs.Claims.{row_with_handler, row_with_handler_if, is_numbered, row_after_packet, row_after_packet_if}
 use Rattle.filter_tree.specs.Laws.{FirstIsNumbered}
 
 -- both of two tests
@@ -44,18 +44,18 @@ numbered_more least end (x ∷ rows) r next is =
     and_both (nat_le least x.claim.id) (are_numbered (suc x.claim.id) (end + 1) (rows ++ r ∷ [])) parts.0 (numbered_more (suc x.claim.id) end rows r next parts.1)
 
 -- a claim is the same whichever buffer is next
-pub same_claim : (id : ℕ) (r : RowValue) → (turned_if id r).claim ≡ r.claim
+pub same_claim : (id : ℕ) (r : RowValue) → (row_after_packet_if id r).claim ≡ r.claim
 same_claim id r = by_test (is_numbered id r.claim)
   where
-    by_test : (t : Bool) → (if t then turned r else r).claim ≡ r.claim
+    by_test : (t : Bool) → (if t then row_after_packet r else r).claim ≡ r.claim
     by_test true = refl
     by_test false = refl
 
 -- and whichever handler it has
-pub still_claim : (id : ℕ) (handler : Option (List ℕ)) (r : RowValue) → (handled_if id handler r).claim ≡ r.claim
+pub still_claim : (id : ℕ) (handler : Option (List ℕ)) (r : RowValue) → (row_with_handler_if id handler r).claim ≡ r.claim
 still_claim id handler r = by_test (is_numbered id r.claim)
   where
-    by_test : (t : Bool) → (if t then handled handler r else r).claim ≡ r.claim
+    by_test : (t : Bool) → (if t then row_with_handler handler r else r).claim ≡ r.claim
     by_test true = refl
     by_test false = refl
 

@@ -9,7 +9,7 @@ use Rattle.filter_core.specs.declared.atom.Atom.{Atom}
 use Rattle.filter_tree.specs.ClaimBook.{ClaimBook, ClaimValue, IsKept, RowValue, claim_in, claims_in, is_of_env, most_claims}
 use Rattle.filter_tree.specs.declared.claim.ClaimNo.{ClaimNo}
 use Rattle.filter_tree.specs.declared.claim.ClaimNo.TheVariants.{Full, Overlap}
-use Rattle.filter_tree.specs.Claims.{claim_refusal, is_in_the_way, row_refusal, delivered, downloaded, handled_if, new_row, turned_if, with_claim, without}
+use Rattle.filter_tree.specs.Claims.{claim_refusal, is_in_the_way, row_refusal, delivered, downloaded, row_with_handler_if, new_row, row_after_packet_if, with_claim, without}
 use Rattle.filter_tree.proofs.Numbers.{numbered_filter, numbered_more, numbered_same, same_claim, still_claim}
 
 all_kept : {X : Type 0} (P : X → Type 0) (t : X → Bool) (xs : List X) → AllByRecursion P xs → AllByRecursion P (filter t xs)
@@ -167,10 +167,10 @@ room_same f same book room has = record {
 }
 
 pub room_turned : (id : ℕ) (book : ClaimBook) (room : ℕ) → IsKept book room → IsKept (delivered id book) room
-room_turned id = room_same (turned_if id) (same_claim id)
+room_turned id = room_same (row_after_packet_if id) (same_claim id)
 
 pub room_handled : (id : ℕ) (handler : Option (List ℕ)) (book : ClaimBook) (room : ℕ) → IsKept book room → IsKept (downloaded id handler book) room
-room_handled id handler = room_same (handled_if id handler) (still_claim id handler)
+room_handled id handler = room_same (row_with_handler_if id handler) (still_claim id handler)
 
 -- the claims as lists of one kind or the other
 found_in_rows : (p : ClaimValue → Bool) (rows : List RowValue) → find p (map claim_in rows) ≡ option_map claim_in (find (λ (r : RowValue). p r.claim) rows)

@@ -86,30 +86,30 @@ abbrev pub claim_for : ClaimBook → List ℕ → Option Claim
 claim_for book packet = option_map claim_seen (first_row (is_for packet) book)
 
 -- a claim once its next packet is in its buffer: the one after it goes into the other
-abbrev pub turned : RowValue → RowValue
-turned r = record r { next = other_buffer r.next }
+abbrev pub row_after_packet : RowValue → RowValue
+row_after_packet r = record r { next = other_buffer r.next }
 
-abbrev pub turned_if : ℕ → RowValue → RowValue
-turned_if id r = if is_numbered id r.claim then turned r else r
+abbrev pub row_after_packet_if : ℕ → RowValue → RowValue
+row_after_packet_if id r = if is_numbered id r.claim then row_after_packet r else r
 
 -- the book once a packet of a claim's is in its buffer
 abbrev pub delivered : ℕ → ClaimBook → ClaimBook
-delivered id book = record book { rows = map (turned_if id) book.rows }
+delivered id book = record book { rows = map (row_after_packet_if id) book.rows }
 
 -- the atoms of all claims
 abbrev pub atom_count : ClaimBook → ℕ
 atom_count book = sum_by (λ (r : RowValue). length r.claim.filter) book.rows
 
 -- a claim with a handler, or with none
-abbrev pub handled : Option (List ℕ) → RowValue → RowValue
-handled handler r = record r { handler = handler }
+abbrev pub row_with_handler : Option (List ℕ) → RowValue → RowValue
+row_with_handler handler r = record r { handler = handler }
 
-abbrev pub handled_if : ℕ → Option (List ℕ) → RowValue → RowValue
-handled_if id handler r = if is_numbered id r.claim then handled handler r else r
+abbrev pub row_with_handler_if : ℕ → Option (List ℕ) → RowValue → RowValue
+row_with_handler_if id handler r = if is_numbered id r.claim then row_with_handler handler r else r
 
 -- the book once a handler is downloaded for a claim, or its handler removed
 abbrev pub downloaded : ℕ → Option (List ℕ) → ClaimBook → ClaimBook
-downloaded id handler book = record book { rows = map (handled_if id handler) book.rows }
+downloaded id handler book = record book { rows = map (row_with_handler_if id handler) book.rows }
 
 -- the handler of the claim of this number, if it stands and has one
 abbrev pub claim_handler : ClaimBook → ℕ → Option (List ℕ)

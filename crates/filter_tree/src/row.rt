@@ -2,7 +2,7 @@
 ghost use Rattle.std.specs.Prelude.{◌≡◌};
 ghost use Rattle.std.specs.Option.{option_map};
 ghost use Rattle.filter_tree.specs.ClaimBook.{is_of_env};
-ghost use Rattle.filter_tree.specs.Claims.{claim_seen, handled, is_claim, is_in_the_way, is_into, is_numbered, turned};
+ghost use Rattle.filter_tree.specs.Claims.{claim_seen, row_with_handler, is_claim, is_in_the_way, is_into, is_numbered, row_after_packet};
 
 use crate::claim::Claim;
 use filter_core::{Filter, Layout};
@@ -56,7 +56,7 @@ impl Row {
 
     /// The next packet goes into the other buffer.
     pub(crate) fn turn(&mut self)
-        ensures { self.new ≡ turned self.old }
+        ensures { self.new ≡ row_after_packet self.old }
     {
         self.claim.next = self.claim.next.other();
     }
@@ -84,7 +84,7 @@ impl Row {
 
     /// The handler is its own from now on; with none it has none.
     pub(crate) fn download(&mut self, handler: Option<&Handler>)
-        ensures { self.new ≡ handled (option_map (λ handler. handler.now) handler.entry) self.old }
+        ensures { self.new ≡ row_with_handler (option_map (λ handler. handler.now) handler.entry) self.old }
     {
         self.handler = handler.map(Handler::copy);
     }

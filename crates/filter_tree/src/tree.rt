@@ -3,7 +3,7 @@ ghost use Rattle.std.specs.Prelude.{◌≡◌, ◌<◌, ◌≤◌, ◌+◌, [], 
 ghost use Rattle.filter_tree.specs.ClaimBook.{is_of_env};
 ghost use Rattle.filter_tree.specs.Claims.{is_claim, is_for, is_into};
 ghost use Rattle.filter_tree.specs.Prefixes.{prefixes_from};
-ghost use Rattle.filter_tree.specs.Tree.{lowest, place_of, planted};
+ghost use Rattle.filter_tree.specs.Tree.{lowest, leaf_place, planted};
 
 use crate::branch::{Branch, lowest_of, make_branches};
 use crate::leaf::Leaf;
@@ -37,7 +37,7 @@ impl Model for Tree {
 
 /// Behind how many leaves a filter has its place.
 fn place_of(leaves: &[Leaf], filter: &Filter) -> usize
-    ensures { result ≡ place_of filter.now leaves.now }
+    ensures { result ≡ leaf_place filter.now leaves.now }
 {
     for (place, leaf) in leaves.iter().enumerate() {
         if !leaf.is_before(filter) {

@@ -2,7 +2,7 @@
 ghost use Rattle.std.specs.Prelude.{◌≡◌, filter, map, not, vec_capacity};
 ghost use Rattle.std.specs.Option.{option_map};
 ghost use Rattle.filter_tree.specs.ClaimBook.{AreRising, RowValue, is_of_env};
-ghost use Rattle.filter_tree.specs.Claims.{handled_if, is_claim, is_into, turned_if};
+ghost use Rattle.filter_tree.specs.Claims.{row_with_handler_if, is_claim, is_into, row_after_packet_if};
 
 use crate::row::Row;
 use crate::search::place_numbered;
@@ -35,7 +35,7 @@ pub(crate) fn withdraw_of(rows: &mut Vec<Row>, env: u8)
 /// The next packet of the claim of this number goes into the other buffer.
 pub(crate) fn turn(rows: &mut Vec<Row>, id: u32)
     requires { AreRising rows.old.items }
-    ensures rows { rows.new.items ≡ map (turned_if id) rows.old.items }
+    ensures rows { rows.new.items ≡ map (row_after_packet_if id) rows.old.items }
     ensures room { vec_capacity rows.new ≡ vec_capacity rows.old }
 {
     turn_in(rows, id);
@@ -44,7 +44,7 @@ pub(crate) fn turn(rows: &mut Vec<Row>, id: u32)
 /// The same in a slice of claims.
 fn turn_in(rows: &mut [Row], id: u32)
     requires { AreRising rows.old }
-    ensures { rows.new ≡ map (turned_if id) rows.old }
+    ensures { rows.new ≡ map (row_after_packet_if id) rows.old }
 {
     if let Some(place) = place_numbered(rows, id) {
         rows[place].turn();
@@ -54,7 +54,7 @@ fn turn_in(rows: &mut [Row], id: u32)
 /// The claim of this number has a copy of the handler from now on, or none.
 pub(crate) fn download(rows: &mut Vec<Row>, id: u32, handler: Option<&Handler>)
     requires { AreRising rows.old.items }
-    ensures rows { rows.new.items ≡ map (handled_if id (option_map (λ handler. handler.now) handler.entry)) rows.old.items }
+    ensures rows { rows.new.items ≡ map (row_with_handler_if id (option_map (λ handler. handler.now) handler.entry)) rows.old.items }
     ensures room { vec_capacity rows.new ≡ vec_capacity rows.old }
 {
     download_in(rows, id, handler);
@@ -63,7 +63,7 @@ pub(crate) fn download(rows: &mut Vec<Row>, id: u32, handler: Option<&Handler>)
 /// The same in a slice of claims.
 fn download_in(rows: &mut [Row], id: u32, handler: Option<&Handler>)
     requires { AreRising rows.old }
-    ensures { rows.new ≡ map (handled_if id (option_map (λ handler. handler.now) handler.entry)) rows.old }
+    ensures { rows.new ≡ map (row_with_handler_if id (option_map (λ handler. handler.now) handler.entry)) rows.old }
 {
     if let Some(place) = place_numbered(rows, id) {
         rows[place].download(handler);

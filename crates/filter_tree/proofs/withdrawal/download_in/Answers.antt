@@ -1,13 +1,13 @@
 use Rattle.std.proofs.Common.{sym, ap, set, ◌∙◌}
 use Rattle.std.specs.Option.{option_map}
-use Rattle.filter_tree.specs.Claims.{handled}
+use Rattle.filter_tree.specs.Claims.{row_with_handler}
 use Rattle.filter_tree.proofs.Halving.{none_changes, one_changes}
 use Rattle.filter_tree.proofs.withdrawal.download_in.Goals as goal
 
 pub returns-in-Some : goal.returns-in-Some
 returns-in-Some c =
     ap (set c.args.rows.now c.in-Some.place) c.download.ensures
-    ∙ sym (one_changes (handled (option_map (λ handler. handler.now) c.args.handler)) c.args.id c.in-Some.place c.index-rows-place.result c.args.rows.now c.requires c.in-Some.ensures.within (c.in-Some.ensures.some c.index-rows-place.result))
+    ∙ sym (one_changes (row_with_handler (option_map (λ handler. handler.now) c.args.handler)) c.args.id c.in-Some.place c.index-rows-place.result c.args.rows.now c.requires c.in-Some.ensures.within (c.in-Some.ensures.some c.index-rows-place.result))
 
 pub returns-in_default : goal.returns-in_default
-returns-in_default c = sym (none_changes (handled (option_map (λ handler. handler.now) c.args.handler)) c.args.id c.args.rows.now c.in_default.ensures.none)
+returns-in_default c = sym (none_changes (row_with_handler (option_map (λ handler. handler.now) c.args.handler)) c.args.id c.args.rows.now c.in_default.ensures.none)

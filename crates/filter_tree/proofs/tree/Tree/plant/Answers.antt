@@ -1,6 +1,6 @@
 use Rattle.std.proofs.Common.{arith, ◌∙◌, sym, subst, ap, insert}
 use Rattle.filter_tree.specs.ClaimBook.{ClaimValue}
-use Rattle.filter_tree.specs.Tree.{AreInOrder, place_of}
+use Rattle.filter_tree.specs.Tree.{AreInOrder, leaf_place}
 use Rattle.filter_tree.proofs.Planting.{place_within, planted_is, planted_order}
 use Rattle.filter_tree.proofs.tree.Tree.plant.Goals as goal
 
@@ -13,14 +13,14 @@ unwrap-requires c = let below = rw (← c.self.view_is) at c.requires in c.inser
 pub make_branches-requires-clause-order : goal.make_branches-requires-clause-order
 make_branches-requires-clause-order c =
     let items = rw c.unwrap.ensures at c.insert.ensures.items in
-    let place = c.place_of-place.ensures ∙ ap (place_of c.leaf.inside.filter) c.deref.ensures.value ∙ ap (λ (x : ClaimValue). place_of x.filter c.self.inside.leaves.items) c.leaf.view_is in
+    let place = c.place_of-place.ensures ∙ ap (leaf_place c.leaf.inside.filter) c.deref.ensures.value ∙ ap (λ (x : ClaimValue). leaf_place x.filter c.self.inside.leaves.items) c.leaf.view_is in
     let all = items ∙ ap (λ n. insert c.self.inside.leaves.items n c.args.leaf) place ∙ planted_is c.args.leaf c.self.inside.leaves.items in
     subst (AreInOrder 0) (sym (c.deref-2.ensures.value ∙ all)) (planted_order c.args.leaf c.self.inside.leaves.items c.self.invariant.order)
 
 pub invariant_of-self : goal.invariant_of-self
 invariant_of-self c =
     let items = rw c.unwrap.ensures at c.insert.ensures.items in
-    let place = c.place_of-place.ensures ∙ ap (place_of c.leaf.inside.filter) c.deref.ensures.value ∙ ap (λ (x : ClaimValue). place_of x.filter c.self.inside.leaves.items) c.leaf.view_is in
+    let place = c.place_of-place.ensures ∙ ap (leaf_place c.leaf.inside.filter) c.deref.ensures.value ∙ ap (λ (x : ClaimValue). leaf_place x.filter c.self.inside.leaves.items) c.leaf.view_is in
     let all = items ∙ ap (λ n. insert c.self.inside.leaves.items n c.args.leaf) place ∙ planted_is c.args.leaf c.self.inside.leaves.items in
     let below = rw (← c.self.view_is) at c.requires in
     let len = rw c.unwrap.ensures at c.insert.ensures.len in
@@ -33,5 +33,5 @@ invariant_of-self c =
 pub returns-clause-leaves : goal.returns-clause-leaves
 returns-clause-leaves c =
     let items = rw c.unwrap.ensures at c.insert.ensures.items in
-    let place = c.place_of-place.ensures ∙ ap (place_of c.leaf.inside.filter) c.deref.ensures.value ∙ ap (λ (x : ClaimValue). place_of x.filter c.self.inside.leaves.items) c.leaf.view_is in
+    let place = c.place_of-place.ensures ∙ ap (leaf_place c.leaf.inside.filter) c.deref.ensures.value ∙ ap (λ (x : ClaimValue). leaf_place x.filter c.self.inside.leaves.items) c.leaf.view_is in
     rw (← c.self.view_is) (items ∙ ap (λ n. insert c.self.inside.leaves.items n c.args.leaf) place ∙ planted_is c.args.leaf c.self.inside.leaves.items)
