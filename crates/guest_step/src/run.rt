@@ -47,17 +47,24 @@ impl CodePage {
         address - address % PAGE_BYTES + address % 4 == self.base
     }
 
-    /// This page, where it has the address, else the page of the address.
+    /// Becomes the page of an address, unless it has it: whether that may be fetched from. Each number is kept by itself,
+    /// since both as one value would be packed and taken apart again in each step.
     #[inline(always)]
-    fn or_of(self, frames: &Frames, space: &Space<'_>, address: u32) -> Option<CodePage>
-        requires { IsCode frames.now (lookup space.now) self }
-        ensures code { IfSome result (λ c. IsCode frames.now (lookup space.now) c) }
-        ensures has { IfSome result (λ c. has c address ≡ true) }
+    fn follow(&mut self, frames: &Frames, space: &Space<'_>, address: u32) -> bool
+        requires { IsCode frames.now (lookup space.now) self.old }
+        ensures code { IsCode frames.now (lookup space.now) self.new }
+        ensures has { result ≡ true → has self.new address ≡ true }
     {
         if self.has(address) {
-            Some(self)
-        } else {
-            CodePage::of(frames, space, address)
+            return true;
+        }
+        match CodePage::of(frames, space, address) {
+            Some(found) => {
+                self.base = found.base;
+                self.page = found.page;
+                true
+            }
+            None => false,
         }
     }
 
@@ -80,13 +87,13 @@ pub fn run_guest(cpu: &mut Cpu, frames: &mut Frames, space: &Space<'_>, most: u3
     ensures most { result ≤ most }
     ensures size { length frames.new ≡ length frames.old }
 {
-    let Some(mut code) = CodePage::of(frames, space, cpu.pc) else {
+    let Some(CodePage { base, page }) = CodePage::of(frames, space, cpu.pc) else {
         return 0;
     };
+    let mut code = CodePage { base, page };
     for done in 0..most {
-        match code.or_of(frames, space, cpu.pc) {
-            Some(page) => code = page,
-            None => return done,
+        if !code.follow(frames, space, cpu.pc) {
+            return done;
         }
         let word = code.word(frames, space, cpu.pc);
         if !retire_guest(cpu, frames, space, word) {

@@ -59,9 +59,9 @@ impl ExcCode {
 /// An exception, as a step reports it.
 #[derive(Clone, Copy)]
 pub struct Exc {
-    pub code: ExcCode,
     /// The address that was asked for; 0 where the exception has none.
     pub bad: u32,
+    pub code: ExcCode,
     /// The coprocessor that may not be used; 0 for other codes.
     pub unit: u8,
 }

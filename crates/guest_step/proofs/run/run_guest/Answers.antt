@@ -13,6 +13,6 @@ loop-done-preserved c =
     record {
       machine = after ∙ after_one_more space start here c.loop-done.done c.loop-done.invariant.machine;
       retire = all_and_one_more space start here c.loop-done.done c.loop-done.invariant.machine (sym c.retire_guest.ensures.retired ∙ c.if-not-retire_guest.false) c.loop-done.invariant.retire;
-      code = still_code c.loop-done.frames c.retire_guest.new.frames space c.in-Some-or_of.page c.retire_guest.ensures.size c.in-Some-or_of.ensures.code;
+      code = still_code c.loop-done.frames c.retire_guest.new.frames space c.follow.new.self c.retire_guest.ensures.size c.follow.ensures.code;
       size = c.retire_guest.ensures.size ∙ c.loop-done.invariant.size;
     }
