@@ -15,5 +15,5 @@ unfolding line_text
 returns c =
     on_ok_weaker c.end_line.result
     (λ is. is ∙ rw (c.in_ok-push_word_text.ensures.ok, c.in_ok-push_word-2.ensures.ok, c.in_ok-push_spaced.ensures.ok, c.in_ok-push_word.ensures.ok)
-        (three_words c.args.out.now.items (hex_text 8 c.args.address) (hex_text 8 c.args.word) (word_text c.args.word c.args.address)))
+    (three_words c.args.out.now.items (hex_text 8 c.args.address) (hex_text 8 c.args.word) (word_text c.args.word c.args.address)))
     c.end_line.ensures.ok
