@@ -23,16 +23,25 @@ impl Board {
     {
         // Reads a part, and with it that the board is sound.
         let _ = &self.time;
-        let roster = &mut self.roster;
         match own {
-            OwnDeed::Puts { address, size } => {
-                put(roster, &self.frames, &self.bindings, env, address, size);
-            }
-            OwnDeed::Sends { address, size } => {
-                send(roster, &self.frames, &self.bindings, env, address, size);
-            }
-            OwnDeed::Handles { context, address } => roster.handle(env, context, address),
-            OwnDeed::Accepts(mask) => roster.accept(env, mask),
+            OwnDeed::Puts { address, size } => put(
+                &mut self.roster,
+                &self.frames,
+                &self.bindings,
+                env,
+                address,
+                size,
+            ),
+            OwnDeed::Sends { address, size } => send(
+                &mut self.roster,
+                &self.frames,
+                &self.bindings,
+                env,
+                address,
+                size,
+            ),
+            OwnDeed::Handles { context, address } => self.roster.handle(env, context, address),
+            OwnDeed::Accepts(mask) => self.roster.accept(env, mask),
         }
     }
 

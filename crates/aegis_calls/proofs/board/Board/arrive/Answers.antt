@@ -32,19 +32,19 @@ deliver-requires c =
     let i = c.self.inside in
     let b = shown i.frames i.pages i.bindings i.lines i.claims i.revocations i.slots i.cpu i.roster i.time i.journal in
     let claim = c.in-Some.claim in
-    let there = claim_there b c.of-packet.result.now claim c.self.invariant (sym c.claim_for.ensures ∙ c.in-Some.is) in
+    let there = claim_there b c.of-packet.result claim c.self.invariant (sym c.claim_for.ensures ∙ c.in-Some.is) in
     record {
       ring = there.1;
       there = there.0.0;
       page = context_there i.frames i.pages i.roster.list c.self.invariant.memory claim.env;
     }
 
-pub invariant_of-self-in-Some : goal.invariant_of-self-in-Some
-invariant_of-self-in-Some c =
+pub invariant_of-self : goal.invariant_of-self
+invariant_of-self c =
     let i = c.self.inside in
     let b = shown i.frames i.pages i.bindings i.lines i.claims i.revocations i.slots i.cpu i.roster i.time i.journal in
     let same = ap (λ (s : Shown). length s.frames) (sym (c.deliver.ensures.after b)) ∙ c.deliver.ensures.size in
-    rw (c.deliver.ensures.after b) (delivered_sound b c.in-Some.claim c.of-packet.result.now same c.self.invariant)
+    rw (c.deliver.ensures.after b) (delivered_sound b c.in-Some.claim c.of-packet.result same c.self.invariant)
 
 pub returns-in-Some : goal.returns-in-Some
 returns-in-Some c =
@@ -53,5 +53,5 @@ returns-in-Some c =
     let packet = c.args.packet.now in
     c.deliver.ensures.after b
     ∙ ap (after_delivery b c.in-Some.claim) c.of-packet.ensures
-    ∙ ap (after_arrival_for b packet) (sym (sym (ap (claim_for b.claims) c.of-packet.ensures) ∙ c.claim_for.ensures ∙ c.in-Some.is))
+    ∙ ap (after_arrival_for b packet) (sym c.in-Some.is ∙ c.claim_for.ensures ∙ ap (claim_for b.claims) c.of-packet.ensures)
     ∙ ap (λ (s : Shown). after_arrival s packet) c.self.view_is

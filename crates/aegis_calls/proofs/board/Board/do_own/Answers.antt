@@ -6,9 +6,8 @@ use Rattle.world_model.specs.Book.{running}
 use Rattle.world_model.specs.Call.{good_range}
 use Rattle.world_model.specs.OwnCalls.{MayOwn, MayPut, MaySend, put_bytes}
 use Rattle.world_model.specs.Page.{Mapped}
-use Rattle.world_model.specs.declared.call.OwnDeed.TheVariants.{Puts, Sends}
-use Rattle.board_world.specs.Doing.{look_of, after_own_deed}
-use Rattle.board_world.specs.Shown.{Shown, console_of, sent_of, shown}
+use Rattle.board_world.specs.Doing.{look_of}
+use Rattle.board_world.specs.Shown.{Shown, console_of, sent_of}
 use Rattle.board_world.specs.Showing.{solo_of}
 use Rattle.board_world.specs.Sound.{IsSound}
 use Rattle.board_world.proofs.Reading.{console_same, runner_look, sent_same}
@@ -53,14 +52,14 @@ send-requires c =
       room = subst (λ (packets : List (List ℕ)). length packets < most_sent) (sym (ap (λ (s : Shown). sent_of s.roster.list e) c.self.view_is ∙ sent_same now e)) may.room;
     }
 
-pub invariant_of-self-in-Puts : goal.invariant_of-self-in-Puts
-invariant_of-self-in-Puts c = rw c.put.ensures (sound_env _ (keeps_putting _) c.args.env c.self.invariant)
+pub invariant_of-self : goal.invariant_of-self
+invariant_of-self c = rw c.put.ensures (sound_env _ (keeps_putting _) c.args.env c.self.invariant)
 
 pub invariant_of-self-in-Sends : goal.invariant_of-self-in-Sends
 invariant_of-self-in-Sends c = rw c.send.ensures (sound_env _ (keeps_sending _) c.args.env c.self.invariant)
 
 pub invariant_of-self-in-Handles : goal.invariant_of-self-in-Handles
-invariant_of-self-in-Handles c = rw c.handle.ensures (sound_env _ (keeps_handling _ _) c.args.env c.self.invariant)
+invariant_of-self-in-Handles c = rw c.handle.ensures (sound_env _ (keeps_handling c.in-Handles.context c.in-Handles.address) c.args.env c.self.invariant)
 
 pub invariant_of-self-in-Accepts : goal.invariant_of-self-in-Accepts
 invariant_of-self-in-Accepts c = rw c.accept.ensures (sound_env _ (keeps_accepting _) c.args.env c.self.invariant)

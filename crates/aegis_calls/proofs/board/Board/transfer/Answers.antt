@@ -1,13 +1,14 @@
 -- The target lives and has its context page; the slots, whom it accepts and which registers are kept change nobody's life or pages.
-use Rattle.std.proofs.Common.{ap, sym, subst, ◌≡◌, ◌∙◌}
-use Rattle.env_frames.specs.Transfer.{hands_slot}
+use Rattle.std.proofs.Common.{ap, sym, subst, ◌≡◌, ◌≢◌, ◌∙◌}
+use Rattle.env_frames.specs.Context.{handler_of}
+use Rattle.env_frames.specs.Transfer.{entry_context, hands_slot}
 use Rattle.mips_exec.specs.declared.registers.Cpu.{Cpu}
-use Rattle.slot_vector.specs.Slices.{Slices, given_to}
+use Rattle.slot_vector.specs.Slices.{given_to}
 use Rattle.world_model.specs.Book.{running}
 use Rattle.world_model.specs.Item.{answered_cpu}
 use Rattle.world_model.specs.declared.verdict.Verdict.TheVariants.{Grant}
 use Rattle.board_world.specs.Doing.{with_mask, after_entry, after_hand_on, entry_roster, with_registers}
-use Rattle.board_world.specs.Shown.{Environments, Shown, shown, with_list}
+use Rattle.board_world.specs.Shown.{Shown, handlers_of, shown, with_list}
 use Rattle.board_world.specs.Sound.{IsLive}
 use Rattle.board_world.proofs.Parted.{context_there}
 use Rattle.board_world.proofs.Sound.{given_manned, keeps_accepting, keeps_registers, runner_within}
@@ -21,7 +22,7 @@ enter-requires c =
     record {
       caller = runner_within i.slots i.roster c.args.env c.self.invariant.book (ap (λ (s : Shown). running s.slots.runner) c.self.view_is ∙ c.requires.runs);
       there = live.0;
-      open = rw c.self.view_is c.requires.open;
+      «open» = subst (λ (s : Shown). handler_of (handlers_of s.roster.list c.args.target) (entry_context c.args.kind) ≢ 0) (sym c.self.view_is) c.requires.«open»;
       page = context_there i.frames i.pages i.roster.list c.self.invariant.memory c.args.target;
     }
 

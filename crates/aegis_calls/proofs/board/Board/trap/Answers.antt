@@ -1,9 +1,5 @@
 -- The runner's context page is there, and a board whose exception nobody handles is as it was.
-use Rattle.std.proofs.Common.{ap, ◌∙◌}
-use Rattle.world_model.specs.Book.{running}
-use Rattle.board_world.specs.Shown.{Shown}
 use Rattle.board_world.proofs.Parted.{context_there}
-use Rattle.board_world.proofs.Staying.{sound_frames, sound_machine}
 use Rattle.aegis_calls.proofs.board.Board.trap.Goals as goal
 
 pub raise-requires : goal.raise-requires
