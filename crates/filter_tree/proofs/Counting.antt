@@ -1,11 +1,12 @@
 -- How many different prefixes there are.
-use Rattle.std.proofs.Common.{◌≡◌, ℕ, ◌+◌, ◌≤◌, ◌⊎◌, Bool, true, false, not, List, [], ◌∷◌, ◌++◌, length, drop, refl, sym, ap, subst, ◌∙◌, arith, inl, inr}
+use Rattle.std.proofs.Common.{◌≡◌, ℕ, ◌+◌, ◌≤◌, ◌⊎◌, Bool, true, false, not, List, [], ◌∷◌, ◌++◌, length, length-drop, drop, take, ◌<◌, refl, sym, ap, subst, ◌∙◌, arith, inl, inr}
 use Rattle.std.specs.List.{flat_map, list_all, list_any}
 use Rattle.std.specs.Prelude.{◌==◌, ◌&&◌, ◌||◌, filter, map, slice_index_or, sum_by, if◌then◌else◌}
 use Rattle.std.proofs.lemmas.Bool.{and_parts, cases_Bool, eq-eqb, eqb-true}
 use Rattle.std.proofs.lemmas.List.Folds.{list_all-append, list_all-map, list_any-append}
 use Rattle.std.proofs.lemmas.List.Sums.{sum_by-cons}
 use Rattle.filter_core.specs.declared.atom.Atom.{Atom}
+use Rattle.filter_tree.proofs.Rooted.{drop_at}
 use Rattle.filter_tree.specs.ClaimBook.{ClaimBook, ClaimValue, RowValue, claim_in}
 use Rattle.filter_tree.specs.Claims.{atom_count}
 use Rattle.filter_tree.specs.Prefixes.{Shape, distinct, prefixes, prefixes_from, prefixes_of, same_shape, same_shapes, shape_of, shapes_from}
@@ -385,3 +386,10 @@ pub alone_prefixes : (depth : ℕ) (claims : List ClaimValue) (d : ClaimValue) �
 alone_prefixes depth [] d one = absurd (omega (arith, one))
 alone_prefixes depth (c ∷ []) d one = prefixes_alone depth c
 alone_prefixes depth (c ∷ e ∷ claims) d one = absurd (omega (arith, one))
+
+-- one claim among some others, by itself
+pub alone_part : (n count : ℕ) (claims : List ClaimValue) (d : ClaimValue) → count ≡ 1 → count ≤ length (drop n claims)
+    → length (drop 0 (slice_index_or claims n d).filter) ≤ prefixes_from 0 (take count (drop n claims))
+alone_part n count claims d one within =
+    let there : n < length claims = omega (arith, one, within, length-drop n claims) in
+    rw (one, drop_at n d claims there) (prefixes_alone 0 (slice_index_or claims n d))
