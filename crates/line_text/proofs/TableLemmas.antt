@@ -1,5 +1,5 @@
 -- Rows of a table, one after another.
-use Rattle.std.proofs.Common.{◌≡◌, ℕ, ◌+◌, ◌<◌, List, [], ◌∷◌, Option, Some, Bool, true, false, ◌&&◌, length, drop, get_or, refl, ap, sym, ◌∙◌, add-one, drop-cons, suc, cond, IfSome, nat_lt}
+use Rattle.std.proofs.Common.{◌≡◌, ℕ, ◌+◌, ◌<◌, List, [], ◌∷◌, Option, Some, Bool, true, false, length, drop, get_or, ap, sym, ◌∙◌, add-one, drop-cons, suc, cond, IfSome, nat_lt}
 use Rattle.std.proofs.lemmas.Bool.{and_parts, ltb-true}
 use Rattle.std.specs.List.{list_all}
 use Rattle.std.specs.Map.{lookup}
