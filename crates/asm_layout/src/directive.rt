@@ -3,7 +3,7 @@ ghost use Rattle.std.specs.Prelude.{◌≡◌};
 
 use crate::number::NumberSize;
 use crate::section::Section;
-use line_text::{Row, find};
+use line_text::{TableRow, find};
 
 /// An operation that is no instruction.
 #[derive(Clone, Copy)]
@@ -25,17 +25,17 @@ pub(crate) enum Directive {
 }
 
 /// The directives by name.
-const DIRECTIVES: [Row<Directive>; 10] = [
-    Row(b".text", Directive::Enter(Section::Text)),
-    Row(b".data", Directive::Enter(Section::Data)),
-    Row(b".word", Directive::Numbers(NumberSize::Word)),
-    Row(b".half", Directive::Numbers(NumberSize::Half)),
-    Row(b".byte", Directive::Numbers(NumberSize::Byte)),
-    Row(b".ascii", Directive::Ascii),
-    Row(b".asciiz", Directive::Asciiz),
-    Row(b".space", Directive::Space),
-    Row(b".align", Directive::Align),
-    Row(b".equ", Directive::Equ),
+const DIRECTIVES: [TableRow<Directive>; 10] = [
+    TableRow(b".text", Directive::Enter(Section::Text)),
+    TableRow(b".data", Directive::Enter(Section::Data)),
+    TableRow(b".word", Directive::Numbers(NumberSize::Word)),
+    TableRow(b".half", Directive::Numbers(NumberSize::Half)),
+    TableRow(b".byte", Directive::Numbers(NumberSize::Byte)),
+    TableRow(b".ascii", Directive::Ascii),
+    TableRow(b".asciiz", Directive::Asciiz),
+    TableRow(b".space", Directive::Space),
+    TableRow(b".align", Directive::Align),
+    TableRow(b".equ", Directive::Equ),
 ];
 
 impl Directive {

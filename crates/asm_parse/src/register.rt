@@ -2,7 +2,7 @@
 ghost use Rattle.std.specs.Prelude.{◌≡◌, ◌<◌, IfSome, drop};
 ghost use Rattle.asm_parse.specs.Register.{number_of_register};
 
-use line_text::{Row, find, numeral};
+use line_text::{TableRow, find, numeral};
 
 /// The number of registers.
 const REGISTER_COUNT: u32 = 32;
@@ -16,39 +16,39 @@ pub struct Register {
 }
 
 /// The registers by name.
-const NAMES: [Row<u8>; 32] = [
-    Row(b"zero", 0),
-    Row(b"at", 1),
-    Row(b"v0", 2),
-    Row(b"v1", 3),
-    Row(b"a0", 4),
-    Row(b"a1", 5),
-    Row(b"a2", 6),
-    Row(b"a3", 7),
-    Row(b"t0", 8),
-    Row(b"t1", 9),
-    Row(b"t2", 10),
-    Row(b"t3", 11),
-    Row(b"t4", 12),
-    Row(b"t5", 13),
-    Row(b"t6", 14),
-    Row(b"t7", 15),
-    Row(b"s0", 16),
-    Row(b"s1", 17),
-    Row(b"s2", 18),
-    Row(b"s3", 19),
-    Row(b"s4", 20),
-    Row(b"s5", 21),
-    Row(b"s6", 22),
-    Row(b"s7", 23),
-    Row(b"t8", 24),
-    Row(b"t9", 25),
-    Row(b"k0", 26),
-    Row(b"k1", 27),
-    Row(b"gp", 28),
-    Row(b"sp", 29),
-    Row(b"fp", 30),
-    Row(b"ra", 31),
+const NAMES: [TableRow<u8>; 32] = [
+    TableRow(b"zero", 0),
+    TableRow(b"at", 1),
+    TableRow(b"v0", 2),
+    TableRow(b"v1", 3),
+    TableRow(b"a0", 4),
+    TableRow(b"a1", 5),
+    TableRow(b"a2", 6),
+    TableRow(b"a3", 7),
+    TableRow(b"t0", 8),
+    TableRow(b"t1", 9),
+    TableRow(b"t2", 10),
+    TableRow(b"t3", 11),
+    TableRow(b"t4", 12),
+    TableRow(b"t5", 13),
+    TableRow(b"t6", 14),
+    TableRow(b"t7", 15),
+    TableRow(b"s0", 16),
+    TableRow(b"s1", 17),
+    TableRow(b"s2", 18),
+    TableRow(b"s3", 19),
+    TableRow(b"s4", 20),
+    TableRow(b"s5", 21),
+    TableRow(b"s6", 22),
+    TableRow(b"s7", 23),
+    TableRow(b"t8", 24),
+    TableRow(b"t9", 25),
+    TableRow(b"k0", 26),
+    TableRow(b"k1", 27),
+    TableRow(b"gp", 28),
+    TableRow(b"sp", 29),
+    TableRow(b"fp", 30),
+    TableRow(b"ra", 31),
 ];
 
 impl Register {

@@ -165,7 +165,7 @@ fn give_zeros(
 
 /// The frame of an environment, which has this number, at its program's entry. Its context page is the lowest free
 /// page.
-fn enter(frames: &mut Frames, pages: &mut Pages, number: u8, program: &Program<'_>) -> Env
+fn entry_frame(frames: &mut Frames, pages: &mut Pages, number: u8, program: &Program<'_>) -> Env
     requires same { HasPages frames.old pages.old }
     requires free { 0 < free_pages pages.old }
     ensures cpu { result.cpu ≡ boot_registers program.now.body.entry }
@@ -197,7 +197,7 @@ pub fn load(frames: &mut Frames, pages: &mut Pages, number: u8, program: &Progra
     ensures given { AreGiven number (guaranteed_mappings program.now) pages.old pages.new frames.old frames.new }
 {
     let stack = STACK_END - program.stack;
-    let mut env = enter(frames, pages, number, program);
+    let mut env = entry_frame(frames, pages, number, program);
     give_body(frames, pages, number, &mut env, &program.body);
     give_zeros(frames, pages, number, &mut env, stack, program.stack);
     env

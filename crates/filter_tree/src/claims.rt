@@ -7,7 +7,7 @@ ghost use Rattle.filter_tree.specs.Claims.{atom_count, claim_answer, claim_for, 
 
 use crate::claim::{Claim, ClaimNo};
 use crate::leaf::Leaf;
-use crate::row::Row;
+use crate::row::ClaimRow;
 use crate::search::{MOST_CLAIMS, claim_handler, claim_held, claim_numbered, has_into, refusal};
 use crate::steps::Steps;
 use crate::tree::Tree;
@@ -24,7 +24,7 @@ use std::sync::ledger::{Blank, Ledger};
 /// takes memory.
 #[derive(Drop)]
 pub struct Claims {
-    rows: Vec<Row>,
+    rows: Vec<ClaimRow>,
     tree: Tree,
     next: u64,
     envs: u8,
@@ -83,7 +83,7 @@ impl Claims {
             filter: filter.copy(),
         });
         self.rows
-            .push(Row {
+            .push(ClaimRow {
                 claim,
                 filter,
                 handler: None,

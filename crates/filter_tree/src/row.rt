@@ -11,13 +11,13 @@ use std::marker::Model;
 
 /// A claim with its filter, and with its handler if it has one.
 #[derive(Drop)]
-pub(crate) struct Row {
+pub(crate) struct ClaimRow {
     pub(crate) claim: Claim,
     pub(crate) filter: Filter,
     pub(crate) handler: Option<Handler>,
 }
 
-impl Model for Row {
+impl Model for ClaimRow {
     ghost use Rattle.filter_tree.specs.ClaimBook.{RowValue};
 
     ghost Value = { RowValue };
@@ -25,7 +25,7 @@ impl Model for Row {
     ghost view = { λ row. record { claim = record { id = row.claim.id; env = row.claim.env; filter = row.filter; page = row.claim.page }; next = row.claim.next; handler = row.handler } };
 }
 
-impl Row {
+impl ClaimRow {
     /// The claim.
     pub(crate) fn claim(&self) -> Claim
         ensures { result ≡ claim_seen self.now }

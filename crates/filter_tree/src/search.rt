@@ -6,7 +6,7 @@ ghost use Rattle.filter_tree.specs.ClaimBook.{AreRising, RowValue, is_of_env};
 ghost use Rattle.filter_tree.specs.Claims.{claim_seen, is_claim, is_in_the_way, is_into, is_numbered, row_refusal};
 
 use crate::claim::{Claim, ClaimNo};
-use crate::row::Row;
+use crate::row::ClaimRow;
 use filter_core::{Filter, Layout};
 use handler_code::Handler;
 
@@ -14,21 +14,21 @@ use handler_code::Handler;
 pub const MOST_CLAIMS: usize = 8;
 
 /// How many claims are the environment's.
-fn count_of_env(rows: &[Row], env: u8) -> usize
+fn count_of_env(rows: &[ClaimRow], env: u8) -> usize
     ensures { result ≡ count_by (λ (r : RowValue). is_of_env env r.claim) rows.now }
 {
     rows.iter().filter(|row| row.is_of_env(env)).count()
 }
 
 /// Whether the packets of some claim go into the page.
-pub(crate) fn has_into(rows: &[Row], page: u32) -> bool
+pub(crate) fn has_into(rows: &[ClaimRow], page: u32) -> bool
     ensures { result ≡ list_any (λ (r : RowValue). is_into page r.claim) rows.now }
 {
     rows.iter().any(|row| row.is_into(page))
 }
 
 /// The lowest claim of another environment whose filter overlaps this one.
-fn in_the_way(rows: &[Row], env: u8, filter: &Filter) -> Option<Claim>
+fn in_the_way(rows: &[ClaimRow], env: u8, filter: &Filter) -> Option<Claim>
     ensures { result ≡ option_map claim_seen (find (λ (r : RowValue). is_in_the_way env filter.now r.claim) rows.now) }
 {
     let layout = Layout::of(filter);
@@ -41,7 +41,7 @@ fn in_the_way(rows: &[Row], env: u8, filter: &Filter) -> Option<Claim>
 }
 
 /// Why the environment's filter is refused, if it is.
-pub(crate) fn refusal(rows: &[Row], env: u8, filter: &Filter) -> Option<ClaimNo>
+pub(crate) fn refusal(rows: &[ClaimRow], env: u8, filter: &Filter) -> Option<ClaimNo>
     ensures { result ≡ row_refusal rows.now env filter.now }
 {
     if count_of_env(rows, env) >= MOST_CLAIMS {
@@ -52,7 +52,7 @@ pub(crate) fn refusal(rows: &[Row], env: u8, filter: &Filter) -> Option<ClaimNo>
 }
 
 /// The place of the claim of this number, if it stands. It is found by halving.
-pub(crate) fn place_numbered(rows: &[Row], id: u32) -> Option<usize>
+pub(crate) fn place_numbered(rows: &[ClaimRow], id: u32) -> Option<usize>
     requires { AreRising rows.now }
     ensures within { IfSome result (λ k. k < length rows.now) }
     ensures some { IfSome result (λ k. (d : RowValue) → find (λ (r : RowValue). is_numbered id r.claim) rows.now ≡ Some (slice_index_or rows.now k d)) }
@@ -67,7 +67,7 @@ pub(crate) fn place_numbered(rows: &[Row], id: u32) -> Option<usize>
 }
 
 /// The environment's claim of this number.
-pub(crate) fn claim_held(rows: &[Row], env: u8, id: u32) -> Option<Claim>
+pub(crate) fn claim_held(rows: &[ClaimRow], env: u8, id: u32) -> Option<Claim>
     requires { AreRising rows.now }
     ensures { result ≡ option_map claim_seen (find (λ (r : RowValue). is_claim env id r.claim) rows.now) }
 {
@@ -80,7 +80,7 @@ pub(crate) fn claim_held(rows: &[Row], env: u8, id: u32) -> Option<Claim>
 }
 
 /// The handler of the claim of this number, if it has one.
-pub(crate) fn claim_handler(rows: &[Row], id: u32) -> Option<&Handler>
+pub(crate) fn claim_handler(rows: &[ClaimRow], id: u32) -> Option<&Handler>
     requires { AreRising rows.now }
     ensures { option_map (λ handler. handler.now) result ≡ option_flatten (option_map (λ (r : RowValue). r.handler) (find (λ (r : RowValue). is_numbered id r.claim) rows.now)) }
 {
@@ -88,7 +88,7 @@ pub(crate) fn claim_handler(rows: &[Row], id: u32) -> Option<&Handler>
 }
 
 /// The claim of this number.
-pub(crate) fn claim_numbered(rows: &[Row], id: u32) -> Option<Claim>
+pub(crate) fn claim_numbered(rows: &[ClaimRow], id: u32) -> Option<Claim>
     requires { AreRising rows.now }
     ensures { result ≡ option_map claim_seen (find (λ (r : RowValue). is_numbered id r.claim) rows.now) }
 {

@@ -4,12 +4,12 @@ ghost use Rattle.std.specs.Option.{option_map};
 ghost use Rattle.filter_tree.specs.ClaimBook.{AreRising, RowValue, is_of_env};
 ghost use Rattle.filter_tree.specs.Claims.{row_with_handler_if, is_claim, is_into, row_after_packet_if};
 
-use crate::row::Row;
+use crate::row::ClaimRow;
 use crate::search::place_numbered;
 use handler_code::Handler;
 
 /// Withdraws the environment's claim of this number.
-pub(crate) fn withdraw(rows: &mut Vec<Row>, env: u8, id: u32)
+pub(crate) fn withdraw(rows: &mut Vec<ClaimRow>, env: u8, id: u32)
     ensures rows { rows.new.items ≡ filter (λ (r : RowValue). not (is_claim env id r.claim)) rows.old.items }
     ensures room { vec_capacity rows.new ≡ vec_capacity rows.old }
 {
@@ -17,7 +17,7 @@ pub(crate) fn withdraw(rows: &mut Vec<Row>, env: u8, id: u32)
 }
 
 /// Withdraws the claims whose packets go into a page.
-pub(crate) fn withdraw_into(rows: &mut Vec<Row>, page: u32)
+pub(crate) fn withdraw_into(rows: &mut Vec<ClaimRow>, page: u32)
     ensures rows { rows.new.items ≡ filter (λ (r : RowValue). not (is_into page r.claim)) rows.old.items }
     ensures room { vec_capacity rows.new ≡ vec_capacity rows.old }
 {
@@ -25,7 +25,7 @@ pub(crate) fn withdraw_into(rows: &mut Vec<Row>, page: u32)
 }
 
 /// Withdraws the claims of an environment.
-pub(crate) fn withdraw_of(rows: &mut Vec<Row>, env: u8)
+pub(crate) fn withdraw_of(rows: &mut Vec<ClaimRow>, env: u8)
     ensures rows { rows.new.items ≡ filter (λ (r : RowValue). not (is_of_env env r.claim)) rows.old.items }
     ensures room { vec_capacity rows.new ≡ vec_capacity rows.old }
 {
@@ -33,7 +33,7 @@ pub(crate) fn withdraw_of(rows: &mut Vec<Row>, env: u8)
 }
 
 /// The next packet of the claim of this number goes into the other buffer.
-pub(crate) fn turn(rows: &mut Vec<Row>, id: u32)
+pub(crate) fn turn(rows: &mut Vec<ClaimRow>, id: u32)
     requires { AreRising rows.old.items }
     ensures rows { rows.new.items ≡ map (row_after_packet_if id) rows.old.items }
     ensures room { vec_capacity rows.new ≡ vec_capacity rows.old }
@@ -42,7 +42,7 @@ pub(crate) fn turn(rows: &mut Vec<Row>, id: u32)
 }
 
 /// The same in a slice of claims.
-fn turn_in(rows: &mut [Row], id: u32)
+fn turn_in(rows: &mut [ClaimRow], id: u32)
     requires { AreRising rows.old }
     ensures { rows.new ≡ map (row_after_packet_if id) rows.old }
 {
@@ -52,7 +52,7 @@ fn turn_in(rows: &mut [Row], id: u32)
 }
 
 /// The claim of this number has a copy of the handler from now on, or none.
-pub(crate) fn download(rows: &mut Vec<Row>, id: u32, handler: Option<&Handler>)
+pub(crate) fn download(rows: &mut Vec<ClaimRow>, id: u32, handler: Option<&Handler>)
     requires { AreRising rows.old.items }
     ensures rows { rows.new.items ≡ map (row_with_handler_if id (option_map (λ handler. handler.now) handler.entry)) rows.old.items }
     ensures room { vec_capacity rows.new ≡ vec_capacity rows.old }
@@ -61,7 +61,7 @@ pub(crate) fn download(rows: &mut Vec<Row>, id: u32, handler: Option<&Handler>)
 }
 
 /// The same in a slice of claims.
-fn download_in(rows: &mut [Row], id: u32, handler: Option<&Handler>)
+fn download_in(rows: &mut [ClaimRow], id: u32, handler: Option<&Handler>)
     requires { AreRising rows.old }
     ensures { rows.new ≡ map (row_with_handler_if id (option_map (λ handler. handler.now) handler.entry)) rows.old }
 {

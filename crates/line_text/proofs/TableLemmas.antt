@@ -4,23 +4,23 @@ use Rattle.std.proofs.lemmas.Bool.{and_parts, ltb-true}
 use Rattle.std.specs.List.{list_all}
 use Rattle.std.specs.Map.{lookup}
 use Rattle.std.specs.Str.{bytes_eq}
-use Rattle.line_text.specs.declared.table.Row.{Row}
+use Rattle.line_text.specs.declared.table.TableRow.{TableRow}
 use Rattle.line_text.specs.Table.{rows_seen}
 
 -- what the rows from a place on say of a name
-abbrev pub said_from : {T : Type 0} → List ℕ → List (Row T) → ℕ → Option T
+abbrev pub said_from : {T : Type 0} → List ℕ → List (TableRow T) → ℕ → Option T
 said_from name rows i = lookup (bytes_eq name) (rows_seen (drop i rows))
 
-drop_item : {T : Type 0} (rows : List (Row T)) (i : ℕ) (row : Row T) → i < length rows → row ≡ get_or rows i row → drop i rows ≡ row ∷ drop (i + 1) rows
+drop_item : {T : Type 0} (rows : List (TableRow T)) (i : ℕ) (row : TableRow T) → i < length rows → row ≡ get_or rows i row → drop i rows ≡ row ∷ drop (i + 1) rows
 drop_item rows i row within is = rw (add-one, drop-cons rows i row within) (ap (λ r. r ∷ drop (suc i) rows) (sym is))
 
-pub said_here : {T : Type 0} (name : List ℕ) (rows : List (Row T)) (i : ℕ) (row : Row T) → i < length rows → row ≡ get_or rows i row →
+pub said_here : {T : Type 0} (name : List ℕ) (rows : List (TableRow T)) (i : ℕ) (row : TableRow T) → i < length rows → row ≡ get_or rows i row →
     bytes_eq name row.0.now ≡ true → said_from name rows i ≡ Some row.1
 said_here name rows i row within is same =
     ap (λ rs. lookup (bytes_eq name) (rows_seen rs)) (drop_item rows i row within is)
     ∙ ap (λ b. cond b (Some row.1) (said_from name rows (i + 1))) same
 
-pub said_later : {T : Type 0} (name : List ℕ) (rows : List (Row T)) (i : ℕ) (row : Row T) → i < length rows → row ≡ get_or rows i row →
+pub said_later : {T : Type 0} (name : List ℕ) (rows : List (TableRow T)) (i : ℕ) (row : TableRow T) → i < length rows → row ≡ get_or rows i row →
     bytes_eq name row.0.now ≡ false → said_from name rows i ≡ said_from name rows (i + 1)
 said_later name rows i row within is other =
     ap (λ rs. lookup (bytes_eq name) (rows_seen rs)) (drop_item rows i row within is)

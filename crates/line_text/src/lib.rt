@@ -23,5 +23,5 @@ pub use lines::{Line, Lines, cut};
 pub use numbers::{decimal, number, number_within, numeral};
 pub use print::{push_dec, push_hex, push_quoted};
 pub use statements::{Statements, end_of, statements_of};
-pub use table::{Row, find};
+pub use table::{TableRow, find};
 pub use word_lists::few_words;

@@ -6,10 +6,10 @@ ghost use Rattle.line_text.specs.Table.{rows_seen};
 
 /// A name, and what it means.
 #[derive(Clone, Copy)]
-pub struct Row<T: Copy>(pub &'static [u8], pub T);
+pub struct TableRow<T: Copy>(pub &'static [u8], pub T);
 
 /// What a name means, by the first row that has it.
-pub fn find<T: Copy>(rows: &[Row<T>], name: &[u8]) -> Option<T>
+pub fn find<T: Copy>(rows: &[TableRow<T>], name: &[u8]) -> Option<T>
     ensures { result ≡ lookup (bytes_eq name.now) (rows_seen rows.now) }
 {
     for row in rows {

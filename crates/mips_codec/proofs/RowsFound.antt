@@ -6,7 +6,7 @@ use Rattle.std.specs.Prelude.{IsTrue, ◌==◌, ◌&&◌, if◌then◌else◌}
 use Rattle.mips_isa.specs.declared.insn.Insn.{Insn}
 use Rattle.mips_isa.specs.declared.insn.Insn.TheVariants.{Cop, Reserved}
 use Rattle.mips_isa.specs.Fields.{opcode_of, rs_of, rt_of, rd_of, sh_of, function_of, code_of, imm_of, target_of}
-use Rattle.mips_isa.specs.Encoding.{Form, Register, Coded, Immediate, Jump, Coprocessor, Whole, FormFits, form_of, form_word, is_coprocessor, IsRow, Row, entry, find_row, special_rows, special_of, regimm_rows, regimm_of, system_operation_rows, system_operation_of, system_rows, system_of, opcode_rows, coprocessor_of, insn_of}
+use Rattle.mips_isa.specs.Encoding.{Form, Register, Coded, Immediate, Jump, Coprocessor, Whole, FormFits, form_of, form_word, is_coprocessor, IsRow, EncodingRow, entry, find_row, special_rows, special_of, regimm_rows, regimm_of, system_operation_rows, system_operation_of, system_rows, system_of, opcode_rows, coprocessor_of, insn_of}
 use Rattle.mips_codec.proofs.RowsRead.{opcode_in, rs_in, rt_in, function_in, operation_in}
 
 -- a row has w, or the instruction is the reserved word w
@@ -64,12 +64,12 @@ key_of form =
     else Opcode (opcode_in form)))
 
 -- the row of a list with this key
-abbrev pub at : ℕ → List Row → Row
+abbrev pub at : ℕ → List EncodingRow → EncodingRow
 at key [] = entry key false (Reserved 0)
 at key (r ∷ rows) = if key == r.key then r else at key rows
 
 -- the row of a word with a key, in its table
-abbrev pub row_at : ℕ → Key → Row
+abbrev pub row_at : ℕ → Key → EncodingRow
 row_at w (Special function) = at function (special_rows w)
 row_at w (Regimm rt) = at rt (regimm_rows w)
 row_at w (System rs) = at rs (system_rows w)
@@ -77,7 +77,7 @@ row_at w (Operation low) = at low system_operation_rows
 row_at w (Opcode op) = at op (opcode_rows w)
 
 -- the row with an instruction's key
-abbrev pub row_for : ℕ → Insn → Row
+abbrev pub row_for : ℕ → Insn → EncodingRow
 row_for w insn = row_at w (key_of (form_of insn))
 
 -- the instruction is one of a row
@@ -104,7 +104,7 @@ has_row w insn listed key clear = has_form w (form_of (row_for w insn).insn) (se
 -- Tables.
 
 -- each row with this key and clear fields has an instruction of which P holds
-abbrev AllRows : (Insn → Type 0) → ℕ → List Row → Type 0
+abbrev AllRows : (Insn → Type 0) → ℕ → List EncodingRow → Type 0
 AllRows P key [] = Unit {0}
 AllRows P key (r ∷ rows) = (key ≡ r.key → IsTrue r.is_clear → P r.insn) × AllRows P key rows
 
@@ -119,7 +119,7 @@ by_key P key k hit rest on_hit on_rest =
       | inr (test, is) ↦ rw test on_rest
     ]
 
-find_row-All : (P : Insn → Type 0) (key : ℕ) (rows : List Row) (other : Insn) → AllRows P key rows → P other → P (find_row key rows other)
+find_row-All : (P : Insn → Type 0) (key : ℕ) (rows : List EncodingRow) (other : Insn) → AllRows P key rows → P other → P (find_row key rows other)
 find_row-All P key [] other all on_other = on_other
 find_row-All P key (r ∷ rows) other all on_other =
     by_key P key r.key _ _
@@ -128,22 +128,22 @@ find_row-All P key (r ∷ rows) other all on_other =
 
 -- of a row, the row and the key that its instruction has, and whether that is one of a row
 record Seen : Type 0 where
-  row : Row
+  row : EncodingRow
   key : Key
   listed : Bool
 
-abbrev seen : ℕ → Row → Seen
+abbrev seen : ℕ → EncodingRow → Seen
 seen w r = record { row = row_for w r.insn; key = key_of (form_of r.insn); listed = is_listed r.insn }
 
 -- what is to be seen of a row, where the table has these keys
-abbrev meant : (ℕ → Key) → Row → Seen
+abbrev meant : (ℕ → Key) → EncodingRow → Seen
 meant key r = record { row = r; key = key r.key; listed = true }
 
-row_found : (w : ℕ) (r : Row) (insn : Insn) → row_for w insn ≡ r → is_listed insn ≡ true → HasKey w (key_of (form_of insn)) → IsTrue r.is_clear → IsFound w r.insn
+row_found : (w : ℕ) (r : EncodingRow) (insn : Insn) → row_for w insn ≡ r → is_listed insn ≡ true → HasKey w (key_of (form_of insn)) → IsTrue r.is_clear → IsFound w r.insn
 row_found w r insn is listed key clear = subst (λ q. IsTrue q.is_clear → IsFound w q.insn) is (λ c. inl (has_row w insn listed key c)) clear
 
 -- that it is seen of each row is a matter of computing
-rows_found : (w k : ℕ) (key : ℕ → Key) → ((n : ℕ) → k ≡ n → HasKey w (key n)) → (rows : List Row) → map (seen w) rows ≡ map (meant key) rows → AllRows (IsFound w) k rows
+rows_found : (w k : ℕ) (key : ℕ → Key) → ((n : ℕ) → k ≡ n → HasKey w (key n)) → (rows : List EncodingRow) → map (seen w) rows ≡ map (meant key) rows → AllRows (IsFound w) k rows
 rows_found w k key has [] is = tt
 rows_found w k key has (r ∷ rows) is =
     let first : seen w r ≡ meant key r = cc in

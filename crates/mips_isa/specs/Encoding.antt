@@ -91,22 +91,22 @@ form_of (Cop op rest) = Coprocessor op rest
 form_of (Reserved value) = Whole value
 
 -- a row of a table: the key of its words, whether the unused fields are 0, and the instruction
-pub record Row : Type 0 where
+pub record EncodingRow : Type 0 where
   pub key : ℕ
   pub is_clear : Bool
   pub insn : Insn
 
 -- such a row, written on one line
-abbrev pub entry : ℕ → Bool → Insn → Row
+abbrev pub entry : ℕ → Bool → Insn → EncodingRow
 entry key is_clear insn = record { key = key; is_clear = is_clear; insn = insn }
 
 -- the instruction of the row with this key, if its unused fields are 0, else the other one
-abbrev pub find_row : ℕ → List Row → Insn → Insn
+abbrev pub find_row : ℕ → List EncodingRow → Insn → Insn
 find_row key [] other = other
 find_row key (r ∷ rows) other = if key == r.key then (if r.is_clear then r.insn else other) else find_row key rows other
 
 -- opcode 0, by function
-abbrev pub special_rows : ℕ → List Row
+abbrev pub special_rows : ℕ → List EncodingRow
 special_rows w =
     let rs = rs_of w in
     let rt = rt_of w in
@@ -146,7 +146,7 @@ unfoldable pub special_of : ℕ → Insn
 special_of w = find_row (function_of w) (special_rows w) (Reserved w)
 
 -- opcode 1, by the field rt
-abbrev pub regimm_rows : ℕ → List Row
+abbrev pub regimm_rows : ℕ → List EncodingRow
 regimm_rows w =
     let rs = rs_of w in
     let imm = imm_of w in
@@ -160,14 +160,14 @@ unfoldable pub regimm_of : ℕ → Insn
 regimm_of w = find_row (rt_of w) (regimm_rows w) (Reserved w)
 
 -- opcode 16 and rs 16, by bits 20:0
-abbrev pub system_operation_rows : List Row
+abbrev pub system_operation_rows : List EncodingRow
 system_operation_rows = entry 1 true Tlbr ∷ entry 2 true Tlbwi ∷ entry 6 true Tlbwr ∷ entry 8 true Tlbp ∷ entry 16 true Rfe ∷ []
 
 unfoldable pub system_operation_of : ℕ → Insn
 system_operation_of w = find_row (w % 2 ^ 21) system_operation_rows (Reserved w)
 
 -- opcode 16, by the field rs
-abbrev pub system_rows : ℕ → List Row
+abbrev pub system_rows : ℕ → List EncodingRow
 system_rows w =
     entry 16 true (system_operation_of w)
     ∷ entry 0 (w % 2 ^ 11 == 0) (Mfc0 (rt_of w) (rd_of w))
@@ -178,7 +178,7 @@ unfoldable pub system_of : ℕ → Insn
 system_of w = find_row (rs_of w) (system_rows w) (Reserved w)
 
 -- all words, by opcode
-abbrev pub opcode_rows : ℕ → List Row
+abbrev pub opcode_rows : ℕ → List EncodingRow
 opcode_rows w =
     let rs = rs_of w in
     let rt = rt_of w in

@@ -6,7 +6,7 @@ ghost use Rattle.mips_list.specs.WordText.{data_text, row_text, word_text};
 
 use crate::operand::{push_hexadecimal, push_operands};
 use aegis_limits::OutOfMemory;
-use line_text::{Row, Word, push_word};
+use line_text::{TableRow, Word, push_word};
 use mips_text::{Text, find_word};
 
 /// Appends the text of a word that stands at an address: the instruction that it spells, as the assembler
@@ -37,7 +37,12 @@ fn push_text(word: u32, address: u32, out: &mut Vec<u8>) -> Result<(), OutOfMemo
 }
 
 /// Appends an instruction by its row.
-fn push_row(row: Row<Text>, word: u32, address: u32, out: &mut Vec<u8>) -> Result<(), OutOfMemory>
+fn push_row(
+    row: TableRow<Text>,
+    word: u32,
+    address: u32,
+    out: &mut Vec<u8>,
+) -> Result<(), OutOfMemory>
     ensures ok { OnOk result (out.new.items ≡ out.old.items ++ row_text (row_seen row) word address) }
     ensures keeps { Keeps out.old.items out.new.items }
 {

@@ -4,7 +4,7 @@ use Rattle.std.specs.Prelude.{◌%◌, ◌^◌, ◌==◌, if◌then◌else◌}
 use Rattle.mips_isa.specs.declared.insn.Insn.{Insn}
 use Rattle.mips_isa.specs.declared.insn.Insn.TheVariants.{Reserved}
 use Rattle.mips_isa.specs.Fields.{opcode_of, rs_of}
-use Rattle.mips_isa.specs.Encoding.{Row, find_row, system_of, system_operation_of, system_operation_rows, system_rows}
+use Rattle.mips_isa.specs.Encoding.{EncodingRow, find_row, system_of, system_operation_of, system_operation_rows, system_rows}
 use Rattle.mips_exec.specs.declared.registers.Cpu.{Cpu}
 use Rattle.mips_exec.specs.declared.change.Change.TheVariants.{Raises}
 use Rattle.mips_exec.specs.Access.{access}
@@ -12,7 +12,7 @@ use Rattle.mips_exec.specs.Effect.{effect}
 use Rattle.mips_exec.specs.Exception.{unusable}
 
 -- the instruction of each row is one of these
-abbrev Each : (Insn → Type 0) → List Row → Type 0
+abbrev Each : (Insn → Type 0) → List EncodingRow → Type 0
 Each P [] = Unit {0}
 Each P (r ∷ rows) = P r.insn × Each P rows
 
@@ -20,7 +20,7 @@ either : (P : Insn → Type 0) (test : Bool) (a b : Insn) → P a → P b → P 
 either P true a b p q = p
 either P false a b p q = q
 
-found : (P : Insn → Type 0) (key : ℕ) (rows : List Row) (other : Insn) → Each P rows → P other → P (find_row key rows other)
+found : (P : Insn → Type 0) (key : ℕ) (rows : List EncodingRow) (other : Insn) → Each P rows → P other → P (find_row key rows other)
 found P key [] other each p = p
 found P key (r ∷ rows) other each p =
     either P (key == r.key) (if r.is_clear then r.insn else other) (find_row key rows other)

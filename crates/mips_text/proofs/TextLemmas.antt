@@ -3,7 +3,7 @@ use Rattle.std.proofs.Common.{◌≡◌, ◌<◌, ◌≤◌, ◌∙◌, ℕ, Lis
 use Rattle.std.specs.Prelude.{IfSome}
 use Rattle.std.specs.Map.{lookup}
 use Rattle.std.specs.Option.{option_map}
-use Rattle.line_text.specs.declared.table.Row.{Row}
+use Rattle.line_text.specs.declared.table.TableRow.{TableRow}
 use Rattle.line_text.specs.Table.{rows_seen}
 use Rattle.line_text.proofs.TableLemmas.{lookup_below}
 use Rattle.mips_isa.specs.Encoding.{form_of}
@@ -16,7 +16,7 @@ lookup_cond true x rest = refl
 lookup_cond false x rest = refl
 
 -- what is found among texts is what is found among them as plain data
-pub lookup_seen : (test : List ℕ → Bool) (texts : List (Row Text)) → option_map text_seen (lookup test (rows_seen texts)) ≡ lookup test (map row_seen texts)
+pub lookup_seen : (test : List ℕ → Bool) (texts : List (TableRow Text)) → option_map text_seen (lookup test (rows_seen texts)) ≡ lookup test (map row_seen texts)
 lookup_seen test [] = refl
 lookup_seen test (row ∷ texts) =
     lookup_cond (test row.0.now) row.1 (lookup test (rows_seen texts))

@@ -1,7 +1,7 @@
 -- Rows that spell words.
 use Rattle.std.proofs.Common.{◌≡◌, ◌-◌, List, [], ◌∷◌, Option, Some, Bool, true, false, refl, map, length, take, sym, ap, ◌∙◌, cond}
 use Rattle.std.proofs.lemmas.List.{length-map, take-map}
-use Rattle.line_text.specs.declared.table.Row.{Row}
+use Rattle.line_text.specs.declared.table.TableRow.{TableRow}
 use Rattle.mips_text.specs.Seen.{row_seen}
 use Rattle.mips_text.specs.Texts.{rows}
 use Rattle.mips_text.specs.WordRows.{main_rows}
@@ -21,7 +21,7 @@ find_seen view test (x ∷ xs) =
     ∙ ap (cond (test (view x)) (Some (view x))) (find_seen view test xs)
 
 -- the rows of all texts without the last five are the main ones
-pub main_seen : (texts : List (Row Text)) → map row_seen texts ≡ rows → map row_seen (take (length texts - 5) texts) ≡ main_rows
+pub main_seen : (texts : List (TableRow Text)) → map row_seen texts ≡ rows → map row_seen (take (length texts - 5) texts) ≡ main_rows
 main_seen texts is =
     let count : length texts ≡ length rows = sym (length-map texts row_seen) ∙ ap length is in
     sym (take-map row_seen (length texts - 5) texts) ∙ ap (take (length texts - 5)) is ∙ ap (λ n. take (n - 5) rows) count

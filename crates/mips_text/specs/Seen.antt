@@ -1,11 +1,11 @@
 -- What the program holds, as plain data.
 use Rattle.std.specs.Prelude.{ℕ, List}
-use Rattle.line_text.specs.declared.table.Row.{Row}
+use Rattle.line_text.specs.declared.table.TableRow.{TableRow}
 use Rattle.mips_text.specs.Texts.{TextValue}
 use Rattle.mips_text.specs.declared.text.Text.{Text}
 
 abbrev pub text_seen : Text → TextValue
 text_seen text = record { word = text.0; operands = text.1.now }
 
-abbrev pub row_seen : Row Text → List ℕ × TextValue
+abbrev pub row_seen : TableRow Text → List ℕ × TextValue
 row_seen row = (row.0.now, text_seen row.1)
