@@ -68,6 +68,21 @@ impl Leaf {
         self.filter.atoms().get(depth).copied()
     }
 
+    /// Whether its atoms from a depth on match a packet. Each field that is read of the packet is a step.
+    #[inline(always)]
+    pub(crate) fn matches<L: Ledger>(
+        &self,
+        depth: usize,
+        packet: &Packet<'_>,
+        steps: &mut Steps<L>,
+    ) -> bool
+        ensures answer { result ≡ matches_from depth packet.now self.now }
+        ensures steps { steps.new ≤ steps.old + length (drop depth self.now.filter) }
+    {
+        self.law_atoms();
+        all_match(self.rest(depth), packet, steps)
+    }
+
     /// Its number, if its atoms from a depth on match a packet. Each field that is read of the packet is a step.
     #[inline(always)]
     pub(crate) fn number_if<L: Ledger>(
@@ -79,8 +94,7 @@ impl Leaf {
         ensures answer { result ≡ number_if (matches_from depth packet.now) self.now }
         ensures steps { steps.new ≤ steps.old + length (drop depth self.now.filter) }
     {
-        self.law_atoms();
-        if all_match(self.rest(depth), packet, steps) {
+        if self.matches(depth, packet, steps) {
             Some(self.id)
         } else {
             None
