@@ -3,6 +3,8 @@
 #![tactic(auto)]
 
 mod running;
+#[cfg(test)]
+mod tests;
 
 pub use aegis_command::Status;
 pub use edge_memory::{MemoryShelf, MemorySink};
