@@ -1,37 +1,35 @@
 -- A program of a file without a fault is within its limits.
 use Rattle.std.proofs.Common.{◌≡◌, ◌≤◌, ◌<◌, ◌%◌, ℕ, zero, suc, ◌+◌, Bool, true, false, List, [], ◌∷◌, ◌++◌, Option, None, Some, map, length, refl, sym, arith, subst}
-use Rattle.std.specs.Prelude.{IfOk, Result, Ok, Err, ◌||◌, ◌&&◌, ◌==◌, if◌then◌else◌}
+use Rattle.std.specs.Prelude.{IfOk, Result, Ok, Err, ◌&&◌, ◌==◌, if◌then◌else◌}
 use Rattle.std.specs.List.{AllByRecursion, list_any, filter}
+use Rattle.std.proofs.lemmas.Bool.{or_parts}
 use Rattle.std.proofs.lemmas.List.{append-nil, length-take}
 use Rattle.std.proofs.lemmas.List.Folds.{Any-from_list_any}
 use Rattle.elf_static.specs.declared.fault.ElfFault.{ElfFault}
 use Rattle.elf_static.specs.ElfValue.{SegmentValue, ElfValue, entry_in, first_header, header_count_in, headers_from, headers, is_kept, memsz_in, filesz_in, segment_at, segments_of, elf_of}
-use Rattle.elf_static.specs.ElfFaults.{◌or_else◌, meets, is_in_range, is_covered, header_fault, headers_fault, place_fault, entry_fault, elf_fault}
-use Rattle.elf_static.specs.Answers.{Answers}
-use Rattle.elf_static.specs.AcceptedElf.{Covers, IsSegment, AreApart, NoTwoMeet, IsAcceptedElf}
+use Rattle.elf_static.specs.ElfFaults.{meets, is_in_range, is_covered, header_fault, headers_fault, place_fault, entry_fault, elf_fault}
+use Rattle.elf_static.specs.Apart.{AreApart, NoTwoMeet}
+use Rattle.elf_static.specs.Faulting.{◌or_else◌, Answers}
+use Rattle.elf_static.specs.AcceptedElf.{Covers, IsSegment, IsAcceptedElf}
 
 -- neither of two things has a fault
-pub neither : (a b : Option ElfFault) → (a or_else b) ≡ None → (a ≡ None) × (b ≡ None)
+pub neither : {F : Type 0} (a b : Option F) → (a or_else b) ≡ None → (a ≡ None) × (b ≡ None)
 neither None b none = (refl, none)
 neither (Some fault) b none = absurd cc
 
-neither_passes : (a b : Bool) → (a || b) ≡ false → (a ≡ false) × (b ≡ false)
-neither_passes false b none = (refl, none)
-neither_passes true b none = absurd cc
-
 -- a segment without a fault lies apart from each earlier one
-apart : (segment other : SegmentValue) → meets segment other ≡ false → AreApart other segment
+apart : (segment other : SegmentValue) → meets segment other ≡ false → AreApart Covers other segment
 apart segment other none address in_other in_segment = grind (arith, none, in_other, in_segment)
 
-apart_from_all : (segment : SegmentValue) (earlier : List SegmentValue) → list_any (meets segment) earlier ≡ false → AllByRecursion (λ other. AreApart other segment) earlier
+apart_from_all : (segment : SegmentValue) (earlier : List SegmentValue) → list_any (meets segment) earlier ≡ false → AllByRecursion (λ other. AreApart Covers other segment) earlier
 apart_from_all segment [] none = tt
 apart_from_all segment (other ∷ earlier) none =
-    let parts = neither_passes (meets segment other) (list_any (meets segment) earlier) none in
+    let parts = or_parts (meets segment other) (list_any (meets segment) earlier) none in
     (apart segment other parts.0, apart_from_all segment earlier parts.1)
 
 record Passes (segment : SegmentValue) (earlier : List SegmentValue) : Type 0 where
   pub fits : IsSegment segment
-  pub apart : AllByRecursion (λ other. AreApart other segment) earlier
+  pub apart : AllByRecursion (λ other. AreApart Covers other segment) earlier
 
 record Header (file : List ℕ) (earlier : List SegmentValue) (header : ℕ) : Type 0 where
   pub filled : 0 < memsz_in file header
@@ -61,19 +59,19 @@ passes file earlier header none kept =
 -- segments behind earlier ones
 record AllPass (earlier segments : List SegmentValue) : Type 0 where
   pub fit : AllByRecursion IsSegment segments
-  pub apart : NoTwoMeet segments
-  pub behind : AllByRecursion (λ segment. AllByRecursion (λ other. AreApart other segment) earlier) segments
+  pub apart : NoTwoMeet Covers segments
+  pub behind : AllByRecursion (λ segment. AllByRecursion (λ other. AreApart Covers other segment) earlier) segments
 
-first_of : (first segment : SegmentValue) (earlier : List SegmentValue) → AllByRecursion (λ other. AreApart other segment) (earlier ++ first ∷ [])
-    → AllByRecursion (λ other. AreApart other segment) earlier × AreApart first segment
+first_of : (first segment : SegmentValue) (earlier : List SegmentValue) → AllByRecursion (λ other. AreApart Covers other segment) (earlier ++ first ∷ [])
+    → AllByRecursion (λ other. AreApart Covers other segment) earlier × AreApart Covers first segment
 first_of first segment [] all = (tt, all.0)
 first_of first segment (other ∷ earlier) all =
     let others = first_of first segment earlier all.1 in
     ((all.0, others.0), others.1)
 
 firsts_of : (first : SegmentValue) (earlier segments : List SegmentValue)
-    → AllByRecursion (λ segment. AllByRecursion (λ other. AreApart other segment) (earlier ++ first ∷ [])) segments
-    → AllByRecursion (λ segment. AllByRecursion (λ other. AreApart other segment) earlier) segments × AllByRecursion (AreApart first) segments
+    → AllByRecursion (λ segment. AllByRecursion (λ other. AreApart Covers other segment) (earlier ++ first ∷ [])) segments
+    → AllByRecursion (λ segment. AllByRecursion (λ other. AreApart Covers other segment) earlier) segments × AllByRecursion (AreApart Covers first) segments
 firsts_of first earlier [] all = (tt, tt)
 firsts_of first earlier (segment ∷ segments) all =
     let one = first_of first segment earlier all.0 in

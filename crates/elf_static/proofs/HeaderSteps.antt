@@ -6,7 +6,8 @@ use Rattle.std.proofs.lemmas.List.{map_push, append-nil}
 use Rattle.elf_static.specs.declared.segment.Segment.{Segment}
 use Rattle.elf_static.specs.declared.fault.ElfFault.{ElfFault}
 use Rattle.elf_static.specs.ElfValue.{SegmentValue, headers_from, is_kept, segment_at, segments_of}
-use Rattle.elf_static.specs.ElfFaults.{◌or_else◌, header_fault, headers_fault}
+use Rattle.elf_static.specs.Faulting.{◌or_else◌}
+use Rattle.elf_static.specs.ElfFaults.{header_fault, headers_fault}
 use Rattle.elf_static.specs.ElfParts.{kept_at, kept_seen}
 use Rattle.elf_static.specs.SegmentSeen.{segment_seen, segments_seen}
 

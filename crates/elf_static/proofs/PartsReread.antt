@@ -8,11 +8,13 @@ use Rattle.std.proofs.lemmas.List.Concat.{flat_map-cons}
 use Rattle.std.proofs.lemmas.List.Folds.{list_any-append, list_any_at}
 use Rattle.std.proofs.lemmas.List.Sums.{sum_by-cons}
 use Rattle.elf_static.specs.declared.fault.ElfFault.{ElfFault}
+use Rattle.elf_static.specs.Apart.{AreApart, NoTwoMeet}
+use Rattle.elf_static.specs.Faulting.{◌or_else◌}
 use Rattle.elf_static.specs.ObjectValue.{ObjectValue, PartValue}
-use Rattle.elf_static.specs.Writable.{Covers, IsInRange, AreApart, NoTwoMeet, IsWritable}
+use Rattle.elf_static.specs.Writable.{Covers, IsInRange, IsWritable}
 use Rattle.elf_static.specs.Layout.{bytes_start, bodies_length, file_header, program_header, program_headers, bodies, elf_text}
 use Rattle.elf_static.specs.ElfValue.{SegmentValue, first_header, header_count_in, headers_from, segments_of, elf_of}
-use Rattle.elf_static.specs.ElfFaults.{◌or_else◌, meets, is_covered, headers_fault, entry_fault, elf_fault}
+use Rattle.elf_static.specs.ElfFaults.{meets, is_covered, headers_fault, entry_fault, elf_fault}
 use Rattle.elf_static.specs.Loaded.{has_bytes, segment_of, loaded}
 use Rattle.elf_static.proofs.HeaderSteps.{segments_of_cons}
 use Rattle.elf_static.proofs.HeaderReread.{behind, header_reads}
@@ -20,7 +22,7 @@ use Rattle.elf_static.proofs.FileReread.{FileHeader, file_header_read, kind_pass
 use Rattle.elf_static.proofs.Sizes.{file_header_size, program_header_size, program_headers_size, elf_text_size}
 
 -- parts that lie apart are segments that don't meet
-apart_segments : (part other : PartValue) → AreApart part other → meets (segment_of other) (segment_of part) ≡ false
+apart_segments : (part other : PartValue) → AreApart Covers part other → meets (segment_of other) (segment_of part) ≡ false
 apart_segments part other apart =
     let start = max other.vaddr part.vaddr in
     let end = min (other.vaddr + length other.bytes) (part.vaddr + length part.bytes) in
@@ -38,7 +40,7 @@ one_more : (has : Bool) (part other : PartValue) (earlier : List SegmentValue) �
 one_more true part other earlier apart none = list_any-append (meets (segment_of other)) earlier (segment_of part ∷ []) ∙ rw (none, apart) refl
 one_more false part other earlier apart none = ap (list_any (meets (segment_of other))) (append-nil earlier) ∙ none
 
-all_more : (part : PartValue) (parts : List PartValue) (earlier : List SegmentValue) → AllByRecursion (AreApart part) parts → MeetNone earlier parts
+all_more : (part : PartValue) (parts : List PartValue) (earlier : List SegmentValue) → AllByRecursion (AreApart Covers part) parts → MeetNone earlier parts
     → MeetNone (earlier ++ map segment_of (filter has_bytes (part ∷ []))) parts
 all_more part [] earlier apart none = tt
 all_more part (other ∷ parts) earlier apart none =
@@ -60,7 +62,7 @@ record AllRead (file : List ℕ) (earlier : List SegmentValue) (header : ℕ) (p
 
 parts_read : (parts : List PartValue) (file : List ℕ) (earlier : List SegmentValue) (header offset : ℕ) (rest : List ℕ) → drop header file ≡ program_headers offset parts ++ rest
     → drop offset file ≡ bodies parts → offset + bodies_length parts ≤ length file → length file < 2 ^ 32
-    → AllByRecursion IsInRange parts → NoTwoMeet parts → MeetNone earlier parts → AllRead file earlier header parts
+    → AllByRecursion IsInRange parts → NoTwoMeet Covers parts → MeetNone earlier parts → AllRead file earlier header parts
 parts_read [] file earlier header offset rest stands bytes within small ranges apart none = record { faults = refl; segments = refl }
 parts_read (part ∷ parts) file earlier header offset rest stands bytes within small ranges apart none =
     let next = offset + length part.bytes in

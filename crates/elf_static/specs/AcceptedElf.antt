@@ -1,6 +1,7 @@
 -- What holds of each program of an ELF file that has no fault.
-use Rattle.std.specs.Prelude.{ℕ, ◌≡◌, ◌≤◌, ◌<◌, ◌+◌, ◌%◌, List, [], ◌∷◌, length}
+use Rattle.std.specs.Prelude.{ℕ, ◌≡◌, ◌≤◌, ◌<◌, ◌+◌, ◌%◌, length}
 use Rattle.std.specs.List.{AllByRecursion, Any}
+use Rattle.elf_static.specs.Apart.{NoTwoMeet}
 use Rattle.elf_static.specs.ElfValue.{SegmentValue, ElfValue}
 
 -- the address is that of a byte of the segment
@@ -14,19 +15,10 @@ pub record IsSegment (segment : SegmentValue) : Type 0 where
   pub above : 0x2000 ≤ segment.vaddr
   pub below : segment.vaddr + segment.memsz ≤ 0x7FF00000
 
--- no address is that of a byte of both
-abbrev pub AreApart : SegmentValue → SegmentValue → Type 0
-AreApart segment other = (address : ℕ) → Covers segment address → Covers other address → ⊥
-
--- no two of the segments meet
-abbrev pub NoTwoMeet : List SegmentValue → Type 0
-NoTwoMeet [] = Unit {0}
-NoTwoMeet (segment ∷ segments) = AllByRecursion (AreApart segment) segments × NoTwoMeet segments
-
 -- a program within its limits
 pub record IsAcceptedElf (elf : ElfValue) : Type 0 where
   pub most : length elf.segments ≤ 64
   pub segments : AllByRecursion IsSegment elf.segments
-  pub apart : NoTwoMeet elf.segments
+  pub apart : NoTwoMeet Covers elf.segments
   pub aligned : elf.entry % 4 ≡ 0
   pub entered : Any (λ segment. Covers segment elf.entry) elf.segments

@@ -4,16 +4,11 @@ use Rattle.std.specs.List.{list_any, starts_with}
 use Rattle.elf_static.specs.declared.fault.ElfFault.{ElfFault}
 use Rattle.elf_static.specs.declared.fault.ElfWhy.{ElfWhy}
 use Rattle.elf_static.specs.declared.fault.ElfWhy.TheVariants.{Short, NotElf, WrongClass, WrongOrder, WrongKind, WrongMachine, WrongArch, BadHeaders, Dynamic, BadRange, Overlap, BadEntry}
+use Rattle.elf_static.specs.Faulting.{◌or_else◌}
 use Rattle.elf_static.specs.ElfValue.{SegmentValue, ElfValue, class_in, order_in, kind_in, machine_in, arch_in, header_size_in, header_count_in, first_header, headers, type_in, offset_in, vaddr_in, filesz_in, memsz_in, is_loaded, segment_at, segments_of, elf_of}
 
 abbrev pub fault : ElfWhy → ℕ → Option ElfFault
 fault why place = Some (record { place = place; why = why })
-
--- the first of two faults
-infixr 4 ◌or_else◌
-abbrev pub ◌or_else◌ : Option ElfFault → Option ElfFault → Option ElfFault
-None or_else later = later
-(Some first) or_else later = Some first
 
 -- whether the file begins with 0x7F and ELF
 abbrev pub has_magic : List ℕ → Bool

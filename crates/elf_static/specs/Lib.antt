@@ -6,7 +6,8 @@ pub mod ElfValue
 pub mod ElfFaults
 pub mod ElfNames
 pub mod SegmentSeen
-pub mod Answers
+pub mod Faulting
+pub mod Apart
 pub mod AcceptedElf
 pub mod ElfParts
 pub mod Loaded

@@ -1,6 +1,7 @@
 -- Which programs an ELF file holds.
-use Rattle.std.specs.Prelude.{◌≡◌, ◌≤◌, ◌<◌, ◌+◌, ◌%◌, ◌^◌, ℕ, List, [], ◌∷◌, length}
+use Rattle.std.specs.Prelude.{◌≡◌, ◌≤◌, ◌<◌, ◌+◌, ◌%◌, ◌^◌, ℕ, length}
 use Rattle.std.specs.List.{AllByRecursion, Any}
+use Rattle.elf_static.specs.Apart.{NoTwoMeet}
 use Rattle.elf_static.specs.ObjectValue.{ObjectValue, PartValue}
 use Rattle.elf_static.specs.Layout.{file_length}
 
@@ -12,15 +13,6 @@ Covers part address = (part.vaddr ≤ address) × (address < part.vaddr + length
 abbrev pub IsInRange : PartValue → Type 0
 IsInRange part = (address : ℕ) → Covers part address → (0x2000 ≤ address) × (address < 0x7FF00000)
 
--- no address is that of a byte of both
-abbrev pub AreApart : PartValue → PartValue → Type 0
-AreApart part other = (address : ℕ) → Covers part address → Covers other address → ⊥
-
--- no two of the parts meet
-abbrev pub NoTwoMeet : List PartValue → Type 0
-NoTwoMeet [] = Unit {0}
-NoTwoMeet (part ∷ parts) = AllByRecursion (AreApart part) parts × NoTwoMeet parts
-
 -- The program has one to 64 parts, which lie in the range of programs and don't meet; its entry is a
 -- multiple of 4 and the address of a byte of one of them; and its file is below 2 ^ 27 bytes. A part
 -- without bytes may have any address.
@@ -28,7 +20,7 @@ pub record IsWritable (object : ObjectValue) : Type 0 where
   pub fewest : 1 ≤ length object.parts
   pub most : length object.parts ≤ 64
   pub ranges : AllByRecursion IsInRange object.parts
-  pub apart : NoTwoMeet object.parts
+  pub apart : NoTwoMeet Covers object.parts
   pub aligned : object.entry % 4 ≡ 0
   pub entered : Any (λ part. Covers part object.entry) object.parts
   pub room : file_length object.parts < 2 ^ 27

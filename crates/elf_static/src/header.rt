@@ -1,37 +1,27 @@
 //! The file header.
 ghost use Rattle.std.specs.Prelude.{◌+◌, ◌*◌, ◌<◌, ◌≤◌, ◌^◌, IfOk, IfErr, OnOk, length};
 ghost use Rattle.elf_static.specs.ElfFaults.{kind_fault, place_fault};
-ghost use Rattle.elf_static.specs.Answers.{Answers};
+ghost use Rattle.elf_static.specs.Faulting.{Answers};
 ghost use Rattle.elf_static.specs.ElfParts.{table_of, table_seen};
 
 use crate::fault::{ElfFault, ElfWhy};
+use crate::layout::{
+    BITS_32, EXECUTABLE, FILE_HEADER_SIZE, IDENTIFICATION, LOWEST_FIRST, MAGIC_SIZE, MIPS,
+    PROGRAM_HEADER_SIZE,
+};
 use byte_numbers::{half_at, word_at};
 
-/// What an ELF file begins with.
-const MAGIC: &[u8; 4] = b"\x7FELF";
-/// The bytes of the file header.
-const FILE_HEADER_SIZE: usize = 52;
-/// The bytes of a program header.
-pub(crate) const PROGRAM_HEADER_SIZE: usize = 32;
 /// The most program headers.
 const MOST_HEADERS: u16 = 64;
 
 /// Where the class stands.
 const CLASS_AT: usize = 4;
-/// The class of 32 bits.
-const BITS_32: u8 = 1;
 /// Where the order of the bytes of a number stands.
 const ORDER_AT: usize = 5;
-/// The order in which the lowest byte is first.
-const LOWEST_FIRST: u8 = 1;
 /// Where the file's type stands.
 const KIND_AT: usize = 16;
-/// The type of a file that is executable.
-const EXECUTABLE: u16 = 2;
 /// Where the machine stands.
 const MACHINE_AT: usize = 18;
-/// The machine MIPS.
-const MIPS: u16 = 8;
 /// Where the entry stands.
 pub(crate) const ENTRY_AT: usize = 24;
 /// Where the place of the program headers stands.
@@ -65,7 +55,7 @@ pub(crate) fn check_kind(file: &[u8]) -> Result<(), ElfFault>
     if file.len() < FILE_HEADER_SIZE {
         return Err(ElfFault::at(ElfWhy::Short, file.len()));
     }
-    if !file.starts_with(MAGIC) {
+    if !file.starts_with(&IDENTIFICATION[..MAGIC_SIZE]) {
         return Err(ElfFault::at(ElfWhy::NotElf, 0));
     }
     if file[CLASS_AT] != BITS_32 {

@@ -13,6 +13,7 @@ mod elf;
 mod fault;
 mod header;
 mod law;
+mod layout;
 mod object;
 mod reading;
 mod segment;

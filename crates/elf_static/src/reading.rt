@@ -2,7 +2,7 @@
 ghost use Rattle.std.specs.Prelude.{◌≡◌, ◌≤◌, ◌<◌, ◌^◌, Some, None, IfOk, IfErr, length};
 ghost use Rattle.elf_static.specs.ElfValue.{elf_of};
 ghost use Rattle.elf_static.specs.ElfFaults.{elf_fault};
-ghost use Rattle.elf_static.specs.Answers.{Answers};
+ghost use Rattle.elf_static.specs.Faulting.{Answers};
 ghost use Rattle.elf_static.specs.AcceptedElf.{IsAcceptedElf};
 
 use crate::elf::Elf;

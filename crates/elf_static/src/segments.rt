@@ -3,12 +3,13 @@ ghost use Rattle.std.specs.Prelude.{◌≡◌, ◌+◌, ◌*◌, ◌<◌, ◌≤
 ghost use Rattle.std.specs.List.{list_any};
 ghost use Rattle.elf_static.specs.ElfValue.{headers_from, segments_of, segment_at};
 ghost use Rattle.elf_static.specs.ElfFaults.{header_fault, headers_fault, is_in_range, is_covered, meets};
-ghost use Rattle.elf_static.specs.Answers.{Answers};
+ghost use Rattle.elf_static.specs.Faulting.{Answers};
 ghost use Rattle.elf_static.specs.SegmentSeen.{segment_seen, segments_seen};
 ghost use Rattle.elf_static.specs.ElfParts.{kept_at, kept_seen};
 
 use crate::fault::{ElfFault, ElfWhy};
-use crate::header::{PROGRAM_HEADER_SIZE, Table};
+use crate::header::Table;
+use crate::layout::{DYNAMIC, INTERPRETER, LOADED, PROGRAM_HEADER_SIZE, WRITE};
 use crate::segment::{LEAST_VADDR, Segment};
 use arrayvec::ArrayVec;
 use byte_numbers::word_at;
@@ -23,15 +24,6 @@ const FILESZ_AT: usize = 16;
 const MEMSZ_AT: usize = 20;
 /// Where the flags stand.
 const FLAGS_AT: usize = 24;
-
-/// The type of a segment that is loaded.
-const LOADED: u32 = 1;
-/// The type of the information for dynamic linking.
-const DYNAMIC: u32 = 2;
-/// The type of the name of an interpreter.
-const INTERPRETER: u32 = 3;
-/// The flag of a segment that may be written, which is a power of 2.
-const WRITABLE: u32 = 2;
 
 /// The end of the addresses at which a segment may stand.
 const SEGMENT_LIMIT: u64 = 0x7FF0_0000;
@@ -119,7 +111,7 @@ fn segment_at(file: &[u8], header: usize) -> Segment<'_>
         vaddr: word_at(file, header + VADDR_AT),
         bytes: &file[offset..offset + filesz],
         memsz: word_at(file, header + MEMSZ_AT),
-        writable: word_at(file, header + FLAGS_AT) / WRITABLE % 2 == 1,
+        writable: word_at(file, header + FLAGS_AT) / WRITE % 2 == 1,
     }
 }
 

@@ -4,31 +4,15 @@ ghost use Rattle.elf_static.specs.Layout.{halves, words, file_header, program_he
 ghost use Rattle.elf_static.specs.Seen.{part_seen, parts_seen, object_seen};
 ghost use Rattle.elf_static.specs.Writable.{IsWritable};
 
+use crate::layout::{
+    EXECUTABLE, EXECUTE, FILE_HEADER_SIZE, IDENTIFICATION, LOADED, MIPS, PROGRAM_HEADER_SIZE, READ,
+    VERSION, WRITE,
+};
 use crate::object::{Object, Part};
 use aegis_limits::OutOfMemory;
 use byte_numbers::{push_half, push_word};
 use std::alloc::Global;
 
-/// The bytes of a file header.
-const FILE_HEADER_SIZE: u16 = 52;
-/// The bytes of a program header.
-const PROGRAM_HEADER_SIZE: u16 = 32;
-
-/// `0x7F` and `ELF`; 32 bits, the lowest byte first, version 1; and nine zeros.
-const IDENTIFICATION: [u8; 16] = [0x7F, b'E', b'L', b'F', 1, 1, 1, 0, 0, 0, 0, 0, 0, 0, 0, 0];
-/// The type of a file that is executable.
-const EXECUTABLE: u16 = 2;
-/// The machine MIPS.
-const MIPS: u16 = 8;
-/// The version of the format.
-const VERSION: u32 = 1;
-
-/// The type of a header whose part is loaded.
-const LOADABLE: u32 = 1;
-/// The flags of a part from which may be read, and into which may be written.
-const READ_WRITE: u32 = 6;
-/// The flags of a part from which may be read, and whose instructions may be executed.
-const READ_EXECUTE: u32 = 5;
 /// The alignment of a part that may stand anywhere.
 const UNALIGNED: u32 = 1;
 
@@ -81,7 +65,14 @@ fn push_file_header(file: &mut Vec<u8>, object: &Object) -> Result<(), OutOfMemo
     push_words(file, &[VERSION, object.entry, headers_start, 0, 0])?;
     push_halves(
         file,
-        &[FILE_HEADER_SIZE, PROGRAM_HEADER_SIZE, count, 0, 0, 0],
+        &[
+            FILE_HEADER_SIZE as u16,
+            PROGRAM_HEADER_SIZE as u16,
+            count,
+            0,
+            0,
+            0,
+        ],
     )
 }
 
@@ -107,14 +98,14 @@ fn push_program_header(file: &mut Vec<u8>, offset: u32, part: &Part) -> Result<(
 {
     let size = part.bytes.len() as u32;
     let flags = if part.writable {
-        READ_WRITE
+        READ + WRITE
     } else {
-        READ_EXECUTE
+        READ + EXECUTE
     };
     push_words(
         file,
         &[
-            LOADABLE, offset, part.vaddr, part.vaddr, size, size, flags, UNALIGNED,
+            LOADED, offset, part.vaddr, part.vaddr, size, size, flags, UNALIGNED,
         ],
     )
 }

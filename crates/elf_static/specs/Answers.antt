@@ -1,8 +1,0 @@
--- What a reader answers.
-use Rattle.std.specs.Prelude.{◌≡◌, Option, None, Some, Result, Ok, Err}
-use Rattle.elf_static.specs.declared.fault.ElfFault.{ElfFault}
-
--- A reader answers the fault, where there is one, and else the value.
-abbrev pub Answers : {X Y : Type 0} → (X → Y) → Result X ElfFault → Option ElfFault → Y → Type 0
-Answers seen (Ok x) fault value = (fault ≡ None) × (seen x ≡ value)
-Answers seen (Err found) fault value = fault ≡ Some found
