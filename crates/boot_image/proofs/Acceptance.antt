@@ -9,19 +9,13 @@ use Rattle.elf_static.specs.declared.fault.ElfFault.{ElfFault}
 use Rattle.elf_static.specs.ElfFaults.{elf_fault}
 use Rattle.elf_static.specs.AcceptedElf.{IsAcceptedElf}
 use Rattle.elf_static.specs.ElfValue.{elf_of}
-use Rattle.elf_static.proofs.Acceptance.{accepted as elf_accepted}
+use Rattle.elf_static.proofs.Acceptance.{accepted as elf_accepted, neither}
 use Rattle.std.proofs.lemmas.Bool.{cases_eq, eqb-true}
 use Rattle.std.proofs.lemmas.List.{length-take, length-drop, length-map}
-use Rattle.boot_image.specs.declared.fault.ImageFault.{ImageFault}
 use Rattle.boot_image.specs.ImageValue.{ImageValue, pages_in, quantum_in, environments_in, slots_in, slot_bytes, owner_of, first_header, name_in, base_in, stack_in, kind_in, length_in, bytes_in, body_end, body_of, flat_body, headers_from, headers, program_at, image_of, guaranteed_mappings}
-use Rattle.boot_image.specs.ImageFaults.{fault, ◌or_else◌, is_name, is_base, is_flat_base, header_fault, slot_fault, owners_fault, slots_fault, program_header_fault, body_fault, elf_fault_at, program_fault, first_fault, mappings_fault, pages_fault, image_fault}
+use Rattle.boot_image.specs.ImageFaults.{is_name, is_base, is_flat_base, header_fault, slot_fault, owners_fault, slots_fault, program_header_fault, body_fault, elf_fault_at, program_fault, first_fault, mappings_fault, pages_fault, image_fault}
 use Rattle.boot_image.specs.Accepted.{IsFitting, IsOwnerBelow, IsAccepted}
 use Rattle.boot_image.proofs.Programs.{length-headers_from}
-
--- neither of two things has a fault
-pub neither : (a b : Option ImageFault) → (a or_else b) ≡ None → (a ≡ None) × (b ≡ None)
-neither None b none = (refl, none)
-neither (Some fault) b none = absurd cc
 
 record Header (file : List ℕ) : Type 0 where
   pub pages_least : 16 ≤ pages_in file

@@ -6,7 +6,8 @@ use Rattle.std.specs.Option.{option_or}
 use Rattle.std.specs.Prelude.{nat_lt, Bool, ◌≢◌, true, false, if◌then◌else◌}
 use Rattle.aegis_limits.specs.Limits.{most_mappings}
 use Rattle.boot_image.specs.declared.fault.ImageWhy.TheVariants.{TooMany}
-use Rattle.boot_image.specs.ImageFaults.{fault, ◌or_else◌, first_fault}
+use Rattle.elf_static.specs.Faulting.{◌or_else◌}
+use Rattle.boot_image.specs.ImageFaults.{fault, first_fault}
 use Rattle.boot_image.specs.Parts.{if_fitting}
 
 -- so many programs have so many headers

@@ -14,7 +14,8 @@ use Rattle.elf_static.specs.ElfFaults.{elf_fault}
 use Rattle.elf_static.specs.AcceptedElf.{IsAcceptedElf}
 use Rattle.boot_image.proofs.Bytes.{half_is, word_is}
 use Rattle.boot_image.specs.ImageValue.{ProgramValue, ImageValue, pages_in, quantum_in, environments_in, slots_in, slot_bytes, owner_of, first_header, name_in, base_in, stack_in, accept_in, kind_in, length_in, bytes_in, body_of, body_end, bodies_end, headers_from, headers, program_at, image_of, guaranteed_mappings}
-use Rattle.boot_image.specs.ImageFaults.{fault, ◌or_else◌, is_within, has_magic, is_name, is_base, header_fault, slot_fault, slots_fault, owners_fault, program_header_fault, body_fault, elf_fault_at, program_fault, first_fault, trailing_fault, mappings_fault, pages_fault, image_fault}
+use Rattle.elf_static.specs.Faulting.{◌or_else◌}
+use Rattle.boot_image.specs.ImageFaults.{fault, is_within, has_magic, is_name, is_base, header_fault, slot_fault, slots_fault, owners_fault, program_header_fault, body_fault, elf_fault_at, program_fault, first_fault, trailing_fault, mappings_fault, pages_fault, image_fault}
 use Rattle.boot_image.specs.Accepted.{IsFitting, IsOwnerBelow, IsAccepted}
 use Rattle.boot_image.specs.Spelling.{Kind, Flat, Elf, EntryValue, PlanValue, kind_number, base_number, slot_byte, program_text, programs_text, image_text, program_with, programs_with, image_with, IsBody, AreBodies}
 

@@ -12,7 +12,8 @@ use Rattle.boot_image.proofs.Bytes.{IsBytes-drop, IsBytes-take, half_is, word_is
 use Rattle.boot_image.specs.ImageValue.{pages_in, quantum_in, slots_in, slot_bytes, owner_of, environments_in, first_header, name_in, base_in, stack_in, accept_in, kind_in, length_in, bytes_in, body_of, body_end, bodies_end, headers_from, headers, program_at, image_of}
 use Rattle.boot_image.specs.ImageFaults.{has_magic, is_flat_base, header_fault, slots_fault, program_header_fault, body_fault, program_fault, first_fault, trailing_fault, image_fault}
 use Rattle.boot_image.specs.Spelling.{slot_byte, kind_number, base_number, kind_at, entry_at, plan_of, bodies_of, program_text, programs_text, image_text, program_with, programs_with, image_with}
-use Rattle.boot_image.proofs.Acceptance.{Program, neither, program_passes, body_size, count_of_slots}
+use Rattle.elf_static.proofs.Acceptance.{neither}
+use Rattle.boot_image.proofs.Acceptance.{Program, program_passes, body_size, count_of_slots}
 use Rattle.boot_image.proofs.Programs.{length-headers_from}
 
 -- From place i of the file up to place j stands this text.

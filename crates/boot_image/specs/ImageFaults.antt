@@ -5,18 +5,13 @@ use Rattle.aegis_limits.specs.Limits.{page_size, least_pages, most_pages, least_
 use Rattle.boot_image.specs.declared.fault.ImageFault.{ImageFault}
 use Rattle.boot_image.specs.declared.fault.ImageWhy.{ImageWhy}
 use Rattle.boot_image.specs.declared.fault.ImageWhy.TheVariants.{Short, Magic, Pages, Quantum, Envs, Slots, SlotOwner, Name, Kind, Stack, Base, Empty, Elf, Trailing, TooMany, TooBig}
+use Rattle.elf_static.specs.Faulting.{◌or_else◌}
 use Rattle.elf_static.specs.declared.fault.ElfFault.{ElfFault}
 use Rattle.elf_static.specs.ElfFaults.{elf_fault}
 use Rattle.boot_image.specs.ImageValue.{ImageValue, name_text, guaranteed_mappings, pages_in, quantum_in, environments_in, slots_in, slot_bytes, first_header, name_in, base_in, stack_in, kind_in, length_in, bytes_in, body_end, bodies_end, headers, program_at, image_of}
 
 abbrev pub fault : ImageWhy → ℕ → Option ImageFault
 fault why place = Some (record { place = place; why = why })
-
--- the first of two faults
-infixr 4 ◌or_else◌
-abbrev pub ◌or_else◌ : Option ImageFault → Option ImageFault → Option ImageFault
-None or_else later = later
-(Some first) or_else later = Some first
 
 -- the first fault of the things in a list
 abbrev pub first_fault : {X : Type 0} → (X → Option ImageFault) → List X → Option ImageFault

@@ -49,6 +49,12 @@ environments_in file = half_at file 12
 abbrev pub slots_in : List ℕ → ℕ
 slots_in file = half_at file 14
 
+pub record HeaderValue : Type 0 where
+  pub pages : ℕ
+  pub quantum : ℕ
+  pub environments : ℕ
+  pub slots : ℕ
+
 -- After it a byte for each slot: its owner, or 255 where the slot is empty.
 abbrev pub slot_bytes : List ℕ → List ℕ
 slot_bytes file = take (slots_in file) (drop 16 file)

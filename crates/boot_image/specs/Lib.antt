@@ -4,6 +4,6 @@ pub mod Bytes
 pub mod ImageValue
 pub mod ImageFaults
 pub mod Accepted
-pub mod Seen
 pub mod Parts
 pub mod Spelling
+pub mod Seen

@@ -4,16 +4,10 @@ use Rattle.boot_image.specs.declared.header.Header.{Header}
 use Rattle.boot_image.specs.declared.program.Placed.{Placed}
 use Rattle.boot_image.specs.declared.program.Programs.{Programs}
 use Rattle.aegis_limits.specs.Limits.{most_mappings, most_stack_pages}
-use Rattle.boot_image.specs.ImageValue.{ProgramValue, pages_in, quantum_in, environments_in, slots_in, headers_from, bodies_end, body_end, name_in, base_in, stack_in, kind_in, length_in, program_at, guaranteed_mappings}
+use Rattle.boot_image.specs.ImageValue.{HeaderValue, ProgramValue, pages_in, quantum_in, environments_in, slots_in, headers_from, bodies_end, body_end, name_in, base_in, stack_in, kind_in, length_in, program_at, guaranteed_mappings}
 use Rattle.boot_image.specs.ImageFaults.{first_fault, is_base, is_name, mappings_fault}
 
--- the header's numbers
-pub record HeaderValue : Type 0 where
-  pub pages : ℕ
-  pub quantum : ℕ
-  pub environments : ℕ
-  pub slots : ℕ
-
+-- the numbers of the header
 abbrev pub header_of : List ℕ → HeaderValue
 header_of file = record { pages = pages_in file; quantum = quantum_in file; environments = environments_in file; slots = slots_in file }
 

@@ -1,8 +1,14 @@
--- What a reader's answer shows.
-use Rattle.std.specs.Prelude.{◌≡◌, Option, None, Some, Result, Ok, Err}
-use Rattle.boot_image.specs.declared.fault.ImageFault.{ImageFault}
+-- What the code's values show.
+use Rattle.boot_image.specs.Spelling.{EntryValue, Kind, Flat, Elf}
+use Rattle.boot_image.specs.declared.entry.Entry.{Entry}
+use Rattle.boot_image.specs.declared.entry.Kind.{Kind as CodeKind}
+use Rattle.boot_image.specs.declared.entry.Kind.TheVariants as code
 
--- A reader answers the fault, where there is one, and else the value.
-abbrev pub Answers : {X Y : Type 0} → (X → Y) → Result X ImageFault → Option ImageFault → Y → Type 0
-Answers seen (Ok x) fault value = (fault ≡ None) × (seen x ≡ value)
-Answers seen (Err found) fault value = fault ≡ Some found
+-- how a body is spelled
+abbrev pub kind_seen : CodeKind → Kind
+kind_seen (code.Flat base) = Flat base
+kind_seen code.Elf = Elf
+
+-- a program without the bytes of its body
+abbrev pub entry_seen : Entry → EntryValue
+entry_seen entry = record { name = entry.name; kind = kind_seen entry.kind; stack = entry.stack; accept = entry.accept }

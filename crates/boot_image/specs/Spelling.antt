@@ -3,7 +3,7 @@ use Rattle.std.specs.Prelude.{ℕ, ◌≡◌, ◌<◌, ◌%◌, ◌^◌, ◌==�
 use Rattle.std.specs.Int.{w16, w32, to_le_bytes}
 use Rattle.aegis_limits.specs.Limits.{page_size}
 use Rattle.elf_static.specs.ElfFaults.{elf_fault}
-use Rattle.boot_image.specs.ImageValue.{ProgramValue, ImageValue, body_of, pages_in, quantum_in, slot_bytes, owner_of, headers, name_in, base_in, stack_in, accept_in, kind_in, bytes_in}
+use Rattle.boot_image.specs.ImageValue.{HeaderValue, ProgramValue, ImageValue, body_of, pages_in, quantum_in, slot_bytes, owner_of, headers, name_in, base_in, stack_in, accept_in, kind_in, bytes_in}
 
 -- how a body is spelled: as what it has in memory from a base on, or as an ELF file
 pub data Kind : Type 0 where
@@ -49,12 +49,19 @@ programs_text [] bodies = []
 programs_text (entry ∷ entries) [] = []
 programs_text (entry ∷ entries) (bytes ∷ bodies) = program_text entry bytes ++ programs_text entries bodies
 
--- an image: magic, pages, quantum, environments, slots, the slot bytes, and the programs
+-- the numbers of the header
+abbrev pub header_in : PlanValue → HeaderValue
+header_in plan = record { pages = plan.pages; quantum = plan.quantum; environments = length plan.entries; slots = length plan.slots }
+
+-- a header: magic, pages, quantum, environments, slots
+abbrev pub header_text : HeaderValue → List ℕ
+header_text header =
+    codes "AEG1" ++ to_le_bytes w32 header.pages ++ to_le_bytes w32 header.quantum
+    ++ to_le_bytes w16 header.environments ++ to_le_bytes w16 header.slots
+
+-- an image: the header, the slot bytes, and the programs
 abbrev pub image_text : PlanValue → List (List ℕ) → List ℕ
-image_text plan bodies =
-    codes "AEG1" ++ to_le_bytes w32 plan.pages ++ to_le_bytes w32 plan.quantum
-    ++ to_le_bytes w16 (length plan.entries) ++ to_le_bytes w16 (length plan.slots)
-    ++ map slot_byte plan.slots ++ programs_text plan.entries bodies
+image_text plan bodies = header_text (header_in plan) ++ map slot_byte plan.slots ++ programs_text plan.entries bodies
 
 -- the program that an entry and a body's bytes spell
 abbrev pub program_with : EntryValue → List ℕ → ProgramValue

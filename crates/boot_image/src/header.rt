@@ -3,39 +3,29 @@ ghost use Rattle.std.specs.Prelude.{◌≡◌, ◌+◌, ◌<◌, ◌≤◌, ◌^
 ghost use Rattle.aegis_limits.specs.Limits.{most_environments, most_slots};
 ghost use Rattle.boot_image.specs.ImageValue.{environments_in, slots_in, owner_of, slot_bytes};
 ghost use Rattle.boot_image.specs.ImageFaults.{is_within, header_fault, slots_fault, slot_fault, owners_fault};
-ghost use Rattle.boot_image.specs.Seen.{Answers};
+ghost use Rattle.elf_static.specs.Faulting.{Answers};
 ghost use Rattle.boot_image.specs.Parts.{header_of, header_seen};
 
 use crate::fault::{ImageFault, ImageWhy};
 use crate::image::Owners;
+use crate::layout::{ENVIRONMENTS_AT, HEADER_SIZE, MAGIC, NOBODY, PAGES_AT, QUANTUM_AT, SLOTS_AT};
 use crate::limits::{
     LEAST_PAGES, LEAST_QUANTUM, MOST_ENVIRONMENTS, MOST_PAGES, MOST_QUANTUM, MOST_SLOTS,
 };
 use arrayvec::ArrayVec;
 use byte_numbers::{half_at, word_at};
 
-/// What an image begins with.
-const MAGIC: &[u8; 4] = b"AEG1";
-/// The bytes of the header, after which the slot bytes stand.
-pub(crate) const HEADER_SIZE: usize = 16;
-/// Where the pages stand.
-pub(crate) const PAGES_AT: usize = 4;
-/// Where the quantum stands.
-const QUANTUM_AT: usize = 8;
-/// Where the number of environments stands.
-const ENVIRONMENTS_AT: usize = 12;
-/// Where the number of slots stands.
-const SLOTS_AT: usize = 14;
-/// The slot byte of an empty slot, which nobody owns.
-const NOBODY: u8 = 255;
-
-/// The header's numbers, each within its limits.
-#[derive(Drop)]
-pub(crate) struct Header {
-    pub(crate) pages: u32,
-    pub(crate) quantum: u32,
-    pub(crate) environments: u16,
-    pub(crate) slots: u16,
+/// The numbers of an image's header.
+#[derive(Clone, Copy)]
+pub struct Header {
+    /// How many pages the machine has.
+    pub pages: u32,
+    /// How many ticks a slice has.
+    pub quantum: u32,
+    /// How many environments there are.
+    pub environments: u16,
+    /// How many slots there are.
+    pub slots: u16,
 }
 
 fn is_within(least: u32, most: u32, number: u32) -> bool
@@ -44,7 +34,7 @@ fn is_within(least: u32, most: u32, number: u32) -> bool
     least <= number && number <= most
 }
 
-/// The header of the file.
+/// The header of the file, whose numbers are within their limits.
 #[tactic(auto, unfolding(crate::specs::ImageFaults::header_fault))]
 pub(crate) fn read_header(file: &[u8]) -> Result<Header, ImageFault>
     requires { length file.now < 2 ^ 27 }

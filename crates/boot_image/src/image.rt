@@ -5,6 +5,7 @@ ghost use Rattle.boot_image.specs.ImageValue.{guaranteed_mappings};
 ghost use Rattle.boot_image.specs.ImageFaults.{is_name};
 ghost use Rattle.boot_image.specs.Parts.{if_fitting};
 
+use crate::layout::NAME_SIZE;
 use crate::limits::MOST_MAPPINGS;
 use aegis_limits::{MOST_ENVIRONMENTS, MOST_SLOTS};
 use arrayvec::ArrayVec;
@@ -44,7 +45,7 @@ impl<'a> Model for Image<'a> {
 #[derive(Drop)]
 pub struct Program<'a> {
     /// The text of the name, one to eight of `a` to `z`, `0` to `9` and `_`, and then zeros.
-    pub name: [u8; 8],
+    pub name: [u8; NAME_SIZE],
     /// How many pages of stack it asks for, at most 16.
     pub stack: u32,
     /// The environments from which it accepts yields and transfers, a bit each.
@@ -68,7 +69,7 @@ impl<'a> Model for Program<'a> {
 impl<'a> Program<'a> {
     /// The program with these parts, if it needs no more mappings than an environment may have.
     pub(crate) fn fitting(
-        name: [u8; 8],
+        name: [u8; NAME_SIZE],
         stack: u32,
         accept: u32,
         body: Elf<'a>,

@@ -6,17 +6,24 @@
 //! test nothing again.
 #![tactic(auto)]
 
+mod entry;
 mod fault;
 mod header;
 mod image;
 mod law;
+mod layout;
 mod limits;
 mod name;
 mod program;
 mod reading;
+mod writing;
 
+pub use entry::{Entry, Kind};
 pub use fault::{ImageFault, ImageWhy};
+pub use header::Header;
 pub use image::{Image, Program};
 pub use law::{law_accepted, law_reads_what_is_spelled, law_spelled};
+pub use layout::{HEADER_SIZE, NAME_SIZE, PAGES_AT, PROGRAM_HEADER_SIZE};
 pub use program::is_name;
 pub use reading::read_image;
+pub use writing::{push_header, push_program, push_slot};

@@ -6,33 +6,20 @@ ghost use Rattle.aegis_limits.specs.Limits.{most_environments};
 ghost use Rattle.boot_image.specs.ImageValue.{body_end, body_of, bytes_in, flat_body, base_in, kind_in, headers_from, name_text, guaranteed_mappings};
 ghost use Rattle.boot_image.specs.ImageFaults.{is_name, is_name_byte, is_base, is_flat_base, program_fault, program_header_fault, body_fault, first_fault};
 ghost use Rattle.boot_image.specs.Parts.{ArePrograms, IsSoundHeader, placed_at, placed_seen};
-ghost use Rattle.boot_image.specs.Seen.{Answers};
+ghost use Rattle.elf_static.specs.Faulting.{Answers};
 
 use crate::fault::{ImageFault, ImageWhy};
 use crate::image::Program;
+use crate::layout::{
+    ACCEPT_AT, BASE_AT, ELF, FLAT, KIND_AT, LENGTH_AT, NAME_SIZE, NO_BASE, PROGRAM_HEADER_SIZE,
+    STACK_AT,
+};
 use crate::limits::{BODY_LIMIT, LEAST_BASE, MOST_STACK_PAGES, PAGE_SIZE};
 use crate::name::name_at;
 use aegis_limits::MOST_ENVIRONMENTS;
 use arrayvec::ArrayVec;
 use byte_numbers::word_at;
 use elf_static::{Elf, Segment, read};
-
-/// The bytes of a program's header.
-pub(crate) const HEADER_SIZE: usize = 28;
-/// Where the base stands in it.
-const BASE_AT: usize = 8;
-/// Where the stack pages stand in it.
-const STACK_AT: usize = 12;
-/// Where the accept mask stands in it.
-const ACCEPT_AT: usize = 16;
-/// Where the kind stands in it.
-const KIND_AT: usize = 20;
-/// Where the body's length stands in it.
-const LENGTH_AT: usize = 24;
-/// The kind of a flat body.
-const FLAT: u32 = 0;
-/// The kind of an ELF body, the last kind.
-const ELF: u32 = 1;
 
 /// A program, if it needs no more mappings than an environment may have, and where its body ends.
 #[derive(Drop)]
@@ -69,7 +56,7 @@ fn check_program(file: &[u8], header: usize) -> Result<usize, ImageFault>
     ensures whole { IfOk result (λ end. end ≤ length file.now) }
     ensures sound { OnOk result (IsSoundHeader file.now header) }
 {
-    let body = header + HEADER_SIZE;
+    let body = header + PROGRAM_HEADER_SIZE;
     if file.len() < body {
         return Err(ImageFault::at(ImageWhy::Short, file.len()));
     }
@@ -104,7 +91,7 @@ fn is_base(kind: u32, base: u32, length: u32) -> bool
     if kind == FLAT {
         is_flat_base(base, length)
     } else {
-        base == 0
+        base == NO_BASE
     }
 }
 
@@ -124,7 +111,7 @@ fn read_body(file: &[u8], header: usize) -> Result<Elf<'_>, ImageFault>
     requires sound { IsSoundHeader file.now header }
     ensures { Answers (λ body. body) result (body_fault file.now header) (body_of (kind_in file.now header) (base_in file.now header) (bytes_in file.now header)) }
 {
-    let start = header + HEADER_SIZE;
+    let start = header + PROGRAM_HEADER_SIZE;
     let length = word_at(file, header + LENGTH_AT) as usize;
     let bytes = &file[start..start + length];
     if word_at(file, header + KIND_AT) == FLAT {
@@ -158,7 +145,7 @@ fn flat_body(base: u32, bytes: &[u8]) -> Elf<'_>
 /// Whether these bytes are the name of a program: one to eight of `a` to `z`, `0` to `9` and `_`, and then zeros.
 /// `docs/FORMATS.md`, "Image", has the rule.
 #[tactic(auto, unfolding(crate::specs::ImageFaults::is_name))]
-pub fn is_name(name: &[u8; 8]) -> bool
+pub fn is_name(name: &[u8; NAME_SIZE]) -> bool
     ensures { result ≡ is_name name.now }
 {
     let (text, rest) = parted(name);

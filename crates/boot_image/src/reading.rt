@@ -2,11 +2,12 @@
 ghost use Rattle.std.specs.Prelude.{◌≡◌, ◌<◌, ◌^◌, Some, None, IfOk, IfErr, length};
 ghost use Rattle.boot_image.specs.ImageValue.{image_of};
 ghost use Rattle.boot_image.specs.ImageFaults.{image_fault};
-ghost use Rattle.boot_image.specs.Seen.{Answers};
+ghost use Rattle.elf_static.specs.Faulting.{Answers};
 
 use crate::fault::{ImageFault, ImageWhy};
-use crate::header::{HEADER_SIZE, PAGES_AT, read_header, read_slots};
+use crate::header::{read_header, read_slots};
 use crate::image::Image;
+use crate::layout::{HEADER_SIZE, PAGES_AT};
 use crate::program::{needed_pages, read_programs};
 
 /// Reads an image, or answers its first fault. `docs/FORMATS.md`, "Image", has the format and the

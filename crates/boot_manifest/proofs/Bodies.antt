@@ -6,7 +6,7 @@ use Rattle.std.specs.Prelude.{sum_by}
 use Rattle.std.specs.Global.{Vec}
 use Rattle.std.specs.List.{AllByRecursion}
 use Rattle.boot_image.specs.Spelling.{program_text, programs_text}
-use Rattle.boot_manifest.specs.ManifestValue.{ManifestEntry, entries_in}
+use Rattle.boot_manifest.specs.ManifestValue.{ManifestEntryValue, entries_in}
 use Rattle.boot_manifest.specs.Layout.{bodies_seen, IsShort}
 
 pub first_of : {X : Type 0} (xs : List X) (i : ℕ) (x : X) → i < length xs → x ≡ get_or xs i x → drop i xs ≡ x ∷ drop (i + 1) xs
@@ -30,10 +30,10 @@ short_left bodies i body within read short =
     let P : List (Vec ℕ) → Type 0 = λ left. AllByRecursion IsShort (bodies_seen left) in
     subst P (first_of bodies i body within read) short
 
-pub programs_left : (entries : List ManifestEntry) (bodies : List (Vec ℕ)) (i : ℕ) (entry : ManifestEntry) (body : Vec ℕ)
+pub programs_left : (entries : List ManifestEntryValue) (bodies : List (Vec ℕ)) (i : ℕ) (entry : ManifestEntryValue) (body : Vec ℕ)
     → i < length entries → entry ≡ get_or entries i entry → i < length bodies → body ≡ get_or bodies i body
     → programs_text (entries_in (drop i entries)) (bodies_seen (drop i bodies))
     ≡ program_text entry.entry body.items ++ programs_text (entries_in (drop (i + 1) entries)) (bodies_seen (drop (i + 1) bodies))
 programs_left entries bodies i entry body within read inside stands =
-    ap (λ (left : List ManifestEntry). programs_text (entries_in left) (bodies_seen (drop i bodies))) (first_of entries i entry within read)
+    ap (λ (left : List ManifestEntryValue). programs_text (entries_in left) (bodies_seen (drop i bodies))) (first_of entries i entry within read)
     ∙ ap (λ (left : List (Vec ℕ)). programs_text (entries_in (entry ∷ drop (i + 1) entries)) (bodies_seen left)) (first_of bodies i body inside stands)

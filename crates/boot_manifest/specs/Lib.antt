@@ -1,5 +1,4 @@
 pub mod ManifestValue
-pub mod Seen
 pub mod Limited
 pub mod Layout
 pub mod Forms

@@ -5,10 +5,10 @@ use Rattle.aegis_limits.specs.Limits.{least_pages, most_pages, least_quantum, mo
 use Rattle.boot_image.specs.Accepted.{IsOwnerBelow}
 use Rattle.boot_image.specs.ImageFaults.{is_name}
 use Rattle.boot_image.specs.Spelling.{base_number}
-use Rattle.boot_manifest.specs.ManifestValue.{ManifestEntry, ManifestValue}
+use Rattle.boot_manifest.specs.ManifestValue.{ManifestEntryValue, ManifestValue}
 
 -- an entry within its limits
-pub record IsEntry (e : ManifestEntry) : Type 0 where
+pub record IsEntry (e : ManifestEntryValue) : Type 0 where
   pub name : IsTrue (is_name e.entry.name)
   pub name_length : length e.entry.name ≡ 8
   pub base : base_number e.entry.kind < 2 ^ 32

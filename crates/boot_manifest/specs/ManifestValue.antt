@@ -3,7 +3,7 @@ use Rattle.std.specs.Prelude.{ℕ, List, map, Option}
 use Rattle.boot_image.specs.Spelling.{EntryValue, PlanValue}
 
 -- an entry: a program without its body, and the name of the file that has the body
-pub record ManifestEntry : Type 0 where
+pub record ManifestEntryValue : Type 0 where
   pub entry : EntryValue
   pub file : List ℕ
 
@@ -12,11 +12,11 @@ pub record ManifestValue : Type 0 where
   pub pages : ℕ
   pub quantum : ℕ
   pub slots : List (Option ℕ)
-  pub entries : List ManifestEntry
+  pub entries : List ManifestEntryValue
 
 -- the programs of entries, without their bodies
-abbrev pub entries_in : List ManifestEntry → List EntryValue
-entries_in entries = map (λ (e : ManifestEntry). e.entry) entries
+abbrev pub entries_in : List ManifestEntryValue → List EntryValue
+entries_in entries = map (λ (e : ManifestEntryValue). e.entry) entries
 
 -- what it says of the image
 abbrev pub plan_in : ManifestValue → PlanValue
@@ -29,4 +29,4 @@ plan_in manifest = record {
 
 -- the names of its files, one for each entry
 abbrev pub files_in : ManifestValue → List (List ℕ)
-files_in manifest = map (λ (e : ManifestEntry). e.file) manifest.entries
+files_in manifest = map (λ (e : ManifestEntryValue). e.file) manifest.entries

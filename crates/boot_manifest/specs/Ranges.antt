@@ -7,7 +7,7 @@ use Rattle.line_text.specs.Number.{number_of, number_within}
 use Rattle.boot_image.specs.ImageFaults.{is_name}
 use Rattle.boot_image.specs.Spelling.{EntryValue, Kind, Flat, Elf}
 use Rattle.boot_manifest.specs.Forms.{EnvWords}
-use Rattle.boot_manifest.specs.ManifestValue.{ManifestEntry}
+use Rattle.boot_manifest.specs.ManifestValue.{ManifestEntryValue}
 
 -- the owner of a slot: an environment's number, or `-` for an empty slot
 abbrev pub owner_in : List ℕ → Option (Option ℕ)
@@ -44,5 +44,5 @@ program_in words =
     (name_in words.name)
 
 -- an entry: a program and the name of its file
-abbrev pub entry_in : EnvWords → Option ManifestEntry
+abbrev pub entry_in : EnvWords → Option ManifestEntryValue
 entry_in words = option_map (λ entry. record { entry = entry; file = words.file }) (program_in words)

@@ -14,7 +14,7 @@ use Rattle.boot_manifest.specs.declared.fault.ManifestWhy.{ManifestWhy}
 use Rattle.boot_manifest.specs.declared.fault.ManifestWhy.TheVariants.{Syntax, Range, Many}
 use Rattle.boot_manifest.specs.Forms.{count_form, env_form, slots_form}
 use Rattle.boot_manifest.specs.Ranges.{entry_in, owners_in}
-use Rattle.boot_manifest.specs.ManifestValue.{ManifestEntry, ManifestValue}
+use Rattle.boot_manifest.specs.ManifestValue.{ManifestEntryValue, ManifestValue}
 
 -- what the words of a form mean, unless the line has another form
 abbrev pub in_range : {W X : Type 0} → (W → Option X) → Option W → Result X ManifestWhy
@@ -40,11 +40,11 @@ abbrev pub slots_said : List ℕ → Result (List (Option ℕ)) ManifestWhy
 slots_said text = said slots_form owners_in text
 
 -- `env ..`
-abbrev pub entry_said : List ℕ → Result ManifestEntry ManifestWhy
+abbrev pub entry_said : List ℕ → Result ManifestEntryValue ManifestWhy
 entry_said text = said env_form entry_in text
 
 -- the entries that lines say
-abbrev pub entries_said : List LineValue → List ManifestEntry
+abbrev pub entries_said : List LineValue → List ManifestEntryValue
 entries_said lines = filter_map (λ (line : LineValue). result_ok (entry_said line.text)) lines
 
 -- the fault of an environment's line which those of so many others stand before

@@ -14,6 +14,6 @@ mod statement;
 mod writing;
 
 pub use fault::ManifestWhy;
-pub use manifest::{Entry, EntryBody, Manifest};
+pub use manifest::{Manifest, ManifestEntry};
 pub use reading::read_manifest;
 pub use writing::{image_length, write_image};

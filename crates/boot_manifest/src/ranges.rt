@@ -5,34 +5,23 @@ ghost use Rattle.std.specs.Option.{option_copied, option_map};
 ghost use Rattle.aegis_limits.specs.Limits.{most_environments, most_stack_pages};
 ghost use Rattle.boot_image.specs.Accepted.{IsOwnerBelow};
 ghost use Rattle.boot_image.specs.ImageFaults.{is_name};
+ghost use Rattle.boot_image.specs.Seen.{entry_seen, kind_seen};
 ghost use Rattle.line_text.specs.Characters.{is_text_byte};
 ghost use Rattle.line_text.specs.WordView.{words_seen};
 ghost use Rattle.boot_manifest.specs.Ranges.{entry_in, kind_in, name_in, owner_in, owners_in, program_in};
-ghost use Rattle.boot_manifest.specs.Answers.{parts_seen, program_seen};
-ghost use Rattle.boot_manifest.specs.Seen.{kind_seen};
+ghost use Rattle.boot_manifest.specs.Answers.{parts_seen};
 
-use crate::manifest::{Entry, EntryBody};
+use crate::manifest::ManifestEntry;
 use crate::statement::EnvParts;
 use aegis_limits::{MOST_ENVIRONMENTS, MOST_STACK_PAGES};
-use boot_image::is_name;
+use boot_image::{Entry, Kind, NAME_SIZE, is_name};
 use line_text::{number, number_within};
 use std::alloc::{AllocError, Global};
 
-/// The bytes of a name in an image.
-const NAME_SIZE: usize = 8;
 /// The greatest number of an environment.
 const LAST_ENVIRONMENT: u32 = MOST_ENVIRONMENTS as u32 - 1;
 /// The owner of an empty slot.
 const NOBODY: &[u8] = b"-";
-
-/// A program without its body.
-#[derive(Clone, Copy)]
-struct Program {
-    name: [u8; NAME_SIZE],
-    body: EntryBody,
-    stack: u32,
-    accept: u32,
-}
 
 /// The owner of a slot: the number of an environment, or `-` for an empty slot.
 fn owner_of(word: &[u8]) -> Option<Option<u8>>
@@ -78,58 +67,49 @@ fn name_of(word: &[u8]) -> Option<[u8; NAME_SIZE]>
     if is_name(&name) { Some(name) } else { None }
 }
 
-/// How a body stands in its file.
-fn body_of(base: Option<&[u8]>) -> Option<EntryBody>
+/// How a body is spelled: at its base, if it has one.
+fn kind_of(base: Option<&[u8]>) -> Option<Kind>
     ensures { option_map kind_seen result ≡ kind_in (option_copied base.entry) }
 {
     match base {
         Some(word) => {
             let base = number(word)?;
-            Some(EntryBody::Flat { base })
+            Some(Kind::Flat { base })
         }
-        None => Some(EntryBody::Elf),
+        None => Some(Kind::Elf),
     }
 }
 
 /// The program of an environment's line.
-fn program_of(parts: &EnvParts<'_>) -> Option<Program>
-    ensures value { option_map program_seen result ≡ program_in (parts_seen parts.now) }
-    ensures name { IfSome result (λ program. IsTrue (is_name program.name)) }
-    ensures stack { IfSome result (λ program. program.stack ≤ most_stack_pages) }
+fn program_of(parts: &EnvParts<'_>) -> Option<Entry>
+    ensures value { option_map entry_seen result ≡ program_in (parts_seen parts.now) }
+    ensures name { IfSome result (λ entry. IsTrue (is_name entry.name)) }
+    ensures stack { IfSome result (λ entry. entry.stack ≤ most_stack_pages) }
 {
     let name = name_of(parts.name)?;
-    let body = body_of(parts.base)?;
+    let kind = kind_of(parts.base)?;
     let stack = number_within(parts.stack, 0, MOST_STACK_PAGES)?;
     let accept = number(parts.accept)?;
-    Some(Program {
+    Some(Entry {
         name,
-        body,
+        kind,
         stack,
         accept,
     })
 }
 
 /// The entry of an environment's line.
-pub(crate) fn entry_of(alloc: Global, parts: &EnvParts<'_>) -> Result<Option<Entry>, AllocError>
+pub(crate) fn entry_of(
+    alloc: Global,
+    parts: &EnvParts<'_>,
+) -> Result<Option<ManifestEntry>, AllocError>
     requires { list_all is_text_byte parts.now.file.now ≡ true }
     ensures { IfOk result (λ found. found ≡ entry_in (parts_seen parts.now)) }
 {
-    let Some(program) = program_of(parts) else {
+    let Some(entry) = program_of(parts) else {
         return Ok(None);
     };
     // The bytes of a text are ASCII, so none of them is replaced.
     let file = String::from_utf8_lossy(alloc, parts.file)?;
-    let Program {
-        name,
-        body,
-        stack,
-        accept,
-    } = program;
-    Ok(Some(Entry {
-        name,
-        body,
-        stack,
-        accept,
-        file,
-    }))
+    Ok(Some(ManifestEntry { entry, file }))
 }

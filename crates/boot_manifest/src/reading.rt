@@ -12,7 +12,7 @@ ghost use Rattle.boot_manifest.specs.Limited.{IsEntry};
 ghost use Rattle.boot_manifest.specs.Reading.{count_said, entries_said, entry_said, lines_fault, manifest_fault, manifest_of, slots_said};
 
 use crate::fault::ManifestWhy;
-use crate::manifest::{Entry, Manifest};
+use crate::manifest::{Manifest, ManifestEntry};
 use crate::ranges::{entry_of, owners_of};
 use crate::statement::{MOST_WORDS, count_word, env_parts, slots_form};
 use aegis_limits::{LEAST_PAGES, LEAST_QUANTUM, MOST_ENVIRONMENTS, MOST_PAGES, MOST_QUANTUM};
@@ -109,7 +109,7 @@ fn read_entries(
     alloc: Global,
     lines: Statements<'_>,
     text: &[u8],
-) -> Result<Vec<Entry>, TextFailure<ManifestWhy>>
+) -> Result<Vec<ManifestEntry>, TextFailure<ManifestWhy>>
     requires { length text.now < 2 ^ 27 }
     ensures fault { IfErr result (IsFound (lines_fault (end_of text.now) 3 lines.entry)) }
     ensures none { OnOk result (lines_fault (end_of text.now) 3 lines.entry ≡ None) }
@@ -133,7 +133,7 @@ fn read_entries(
 }
 
 /// The entry of an environment's line.
-fn read_entry(alloc: Global, line: &Line<'_>) -> Result<Entry, TextFailure<ManifestWhy>>
+fn read_entry(alloc: Global, line: &Line<'_>) -> Result<ManifestEntry, TextFailure<ManifestWhy>>
     ensures said { Gives (λ entry. entry) result (in_line line.now.number (entry_said line.now.text.now)) }
     ensures limits { IfOk result IsEntry }
 {
@@ -142,7 +142,7 @@ fn read_entry(alloc: Global, line: &Line<'_>) -> Result<Entry, TextFailure<Manif
     };
     match entry_of(alloc, &parts)? {
         Some(entry) => {
-            let _ = &entry.stack;
+            let _ = &entry.entry;
             Ok(entry)
         }
         None => Err(line.breaks(ManifestWhy::Range)),

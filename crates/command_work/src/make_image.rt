@@ -2,7 +2,7 @@
 ghost use Rattle.std.specs.Prelude.{◌≡◌, ◌<◌, ◌^◌, IfOk, length, map, string_bytes};
 ghost use Rattle.std.specs.List.{AllByRecursion};
 ghost use Rattle.boot_manifest.specs.Layout.{IsShort as IsShortBody, bodies_seen};
-ghost use Rattle.boot_manifest.specs.ManifestValue.{ManifestEntry, plan_in};
+ghost use Rattle.boot_manifest.specs.ManifestValue.{ManifestEntryValue, plan_in};
 ghost use Rattle.boot_manifest.specs.Reading.{manifest_fault};
 ghost use Rattle.boot_image.specs.Spelling.{image_text};
 ghost use Rattle.command_work.specs.MakeImage.{image_due, make_image, files_named, sized_due};
@@ -13,15 +13,13 @@ use crate::performing::Command;
 use crate::status::Status;
 use crate::work::Answer;
 use aegis_limits::OutOfMemory;
-use boot_image::{ImageWhy, read_image};
-use boot_manifest::{Entry, Manifest, image_length, read_manifest, write_image};
+use boot_image::{ImageWhy, PAGES_AT, read_image};
+use boot_manifest::{Manifest, ManifestEntry, image_length, read_manifest, write_image};
 use line_text::Failure;
 use std::alloc::Global;
 
 /// A made image has fewer bytes than this.
 const IMAGE_LIMIT: u64 = 1 << 27;
-/// Where an image has its number of pages, at which one that is too long is refused.
-const PAGES_AT: u32 = 4;
 
 /// `image MANIFEST`: the image of a manifest and the files that it names.
 #[derive(Clone, Copy)]
@@ -56,15 +54,15 @@ fn due_image(
     ensures { IfOk result (Settles (sized_due name.now (image_text (plan_in manifest.now) (bodies_seen bodies.now)))) }
 {
     if image_length(manifest, bodies) >= IMAGE_LIMIT {
-        return Answer::refusal(alloc, name, ImageWhy::TooBig.name(), PAGES_AT);
+        return Answer::refusal(alloc, name, ImageWhy::TooBig.name(), PAGES_AT as u32);
     }
     let image = write_image(alloc, manifest, bodies)?;
     due_made(alloc, name, image)
 }
 
 /// The names of the files of entries, in order.
-fn entry_files(alloc: Global, entries: &[Entry]) -> Result<Vec<String>, OutOfMemory>
-    ensures { IfOk result (λ names. map string_bytes names.items ≡ map (λ (e : ManifestEntry). e.file) entries.now) }
+fn entry_files(alloc: Global, entries: &[ManifestEntry]) -> Result<Vec<String>, OutOfMemory>
+    ensures { IfOk result (λ names. map string_bytes names.items ≡ map (λ (e : ManifestEntryValue). e.file) entries.now) }
 {
     let mut names = Vec::new(alloc);
     for entry in entries {

@@ -1,5 +1,5 @@
 -- The image of the load is within the limits, and so it is read without a fault.
-use Rattle.std.proofs.Common.{◌≡◌, ◌≤◌, ◌<◌, ◌∙◌, ℕ, zero, suc, ◌+◌, ◌*◌, ◌%◌, ◌^◌, Bool, true, false, List, [], ◌∷◌, Some, None, length, map, replicate, Result, Ok, Err, IfOk, ap, arith, refl, subst, sym}
+use Rattle.std.proofs.Common.{◌≡◌, ◌≤◌, ◌<◌, ◌∙◌, ℕ, zero, suc, ◌+◌, ◌*◌, ◌%◌, ◌^◌, Bool, true, List, [], ◌∷◌, Some, None, length, map, replicate, Result, Ok, Err, IfOk, ap, arith, refl, subst, sym}
 use Rattle.std.specs.Prelude.{sum_by, ◌&&◌, ◌==◌}
 use Rattle.std.specs.List.{AllByRecursion, list_all, range_with_len}
 use Rattle.std.specs.Fmt.{digits}

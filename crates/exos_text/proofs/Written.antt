@@ -1,20 +1,18 @@
 -- What is written, part by part, is the image's file.
 use Rattle.std.proofs.Common.{◌≡◌, ◌∙◌, ℕ, List, [], ◌++◌, length, map, ap, refl, sym}
-use Rattle.std.specs.Prelude.{codes}
-use Rattle.std.specs.Int.{w16, w32, to_le_bytes}
 use Rattle.std.specs.List.{flat_map, range_with_len}
 use Rattle.std.specs.Fmt.{digits}
 use Rattle.line_text.specs.Text.{dec_text}
-use Rattle.boot_image.specs.Spelling.{EntryValue, programs_text, slot_byte}
+use Rattle.boot_image.specs.ImageValue.{HeaderValue}
+use Rattle.boot_image.specs.Spelling.{EntryValue, header_text, programs_text, slot_byte}
 use Rattle.exos_text.specs.declared.image.TheConstants.{NAMES}
 use Rattle.exos_text.specs.LoadImage.{load_bodies, load_entries, load_entry, load_image_text, load_name, load_quantum, load_slots, named_text}
 use Rattle.exos_text.proofs.Programs.{with_one_body}
 
 -- texts one behind the other
-joined : (none one two three four five six seven magic pages quantum environments slots owners programs : List ℕ) → none ≡ [] → one ≡ none ++ magic → two ≡ one ++ pages
-    → three ≡ two ++ quantum → four ≡ three ++ environments → five ≡ four ++ slots → six ≡ five ++ owners → seven ≡ six ++ programs
-    → seven ≡ magic ++ pages ++ quantum ++ environments ++ slots ++ owners ++ programs
-joined none one two three four five six seven magic pages quantum environments slots owners programs empty a b c d e f g = rw (g, f, e, d, c, b, a, empty) refl
+joined : (none one two three header owners programs : List ℕ) → none ≡ [] → one ≡ none ++ header → two ≡ one ++ owners → three ≡ two ++ programs
+    → three ≡ header ++ owners ++ programs
+joined none one two three header owners programs empty a b c = rw (c, b, a, empty) refl
 
 -- the names are l0 to l15
 names_are : NAMES ≡ map load_name (range_with_len 0 16)
@@ -34,19 +32,20 @@ programs_are names are =
     sym (with_one_body names 16 (ap length are))
     ∙ ap (λ (entries : List EntryValue). programs_text entries load_bodies) (entries_are names are)
 
+-- the header, with a quantum
+abbrev header : ℕ → ℕ → HeaderValue
+header quantum environments = record { pages = 256; quantum = quantum; environments = environments; slots = 64 }
+
 text_is : (seed : ℕ) (programs : List ℕ) → programs ≡ programs_text load_entries load_bodies
-    → codes "AEG1" ++ to_le_bytes w32 256 ++ to_le_bytes w32 (load_quantum seed) ++ to_le_bytes w16 16 ++ to_le_bytes w16 64 ++ map slot_byte load_slots ++ programs ≡ load_image_text seed
+    → header_text (header (load_quantum seed) 16) ++ map slot_byte load_slots ++ programs ≡ load_image_text seed
 unfolding load_image_text
 text_is seed programs are =
-    let whole = λ (count : ℕ) (text : List ℕ).
-    codes "AEG1" ++ to_le_bytes w32 256 ++ to_le_bytes w32 (load_quantum seed) ++ to_le_bytes w16 count ++ to_le_bytes w16 64 ++ map slot_byte load_slots ++ text in
+    let whole = λ (count : ℕ) (text : List ℕ). header_text (header (load_quantum seed) count) ++ map slot_byte load_slots ++ text in
     ap (whole 16) are ∙ ap (λ (count : ℕ). whole count (programs_text load_entries load_bodies)) (sym entries_count)
 
-pub written : (seed q : ℕ) (none one two three four five six seven : List ℕ) → q ≡ load_quantum seed → none ≡ [] → one ≡ none ++ codes "AEG1" → two ≡ one ++ to_le_bytes w32 256
-    → three ≡ two ++ to_le_bytes w32 q → four ≡ three ++ to_le_bytes w16 16 → five ≡ four ++ to_le_bytes w16 64 → six ≡ five ++ map slot_byte load_slots → seven ≡ six ++ flat_map named_text NAMES
-    → seven ≡ load_image_text seed
-written seed q none one two three four five six seven is empty a b c d e f g =
-    let drawn : three ≡ two ++ to_le_bytes w32 (load_quantum seed) = c ∙ ap (λ (n : ℕ). two ++ to_le_bytes w32 n) is in
-    joined none one two three four five six seven (codes "AEG1") (to_le_bytes w32 256) (to_le_bytes w32 (load_quantum seed)) (to_le_bytes w16 16) (to_le_bytes w16 64)
-    (map slot_byte load_slots) (flat_map named_text NAMES) empty a b drawn d e f g
+pub written : (seed q : ℕ) (none one two three : List ℕ) → q ≡ load_quantum seed → none ≡ [] → one ≡ none ++ header_text (header q 16)
+    → two ≡ one ++ map slot_byte load_slots → three ≡ two ++ flat_map named_text NAMES → three ≡ load_image_text seed
+written seed q none one two three is empty a b c =
+    let drawn : one ≡ none ++ header_text (header (load_quantum seed) 16) = a ∙ ap (λ (n : ℕ). none ++ header_text (header n 16)) is in
+    joined none one two three (header_text (header (load_quantum seed) 16)) (map slot_byte load_slots) (flat_map named_text NAMES) empty drawn b c
     ∙ text_is seed (flat_map named_text NAMES) (programs_are NAMES names_are)

@@ -9,11 +9,11 @@ ghost use Rattle.exos_text.specs.LoadImage.{load_image_text, load_image_value, l
 use crate::draws::Draws;
 use crate::program::load_elf;
 use aegis_limits::OutOfMemory;
-use byte_numbers::{push_half, push_word};
+use boot_image::{
+    Entry, HEADER_SIZE, Header, Kind, NAME_SIZE, PROGRAM_HEADER_SIZE, push_header, push_program,
+    push_slot,
+};
 use std::alloc::Global;
-
-/// What an image begins with.
-const MAGIC: [u8; 4] = *b"AEG1";
 
 /// How many pages the machine has.
 const PAGES: u32 = 256;
@@ -23,9 +23,6 @@ const SLOTS: u16 = 64;
 
 /// How many environments there are, each of which owns every sixteenth slot.
 const ENVIRONMENTS: u16 = 16;
-
-/// The bytes of a name.
-const NAME_SIZE: usize = 8;
 
 /// Their names.
 const NAMES: [[u8; NAME_SIZE]; 16] = [
@@ -52,18 +49,8 @@ const LEAST_QUANTUM: u32 = 64;
 
 const QUANTA: u32 = 64;
 
-/// The kind of a body that is an ELF file, which has no base of its own.
-const ELF: u32 = 1;
-
-const NO_BASE: u32 = 0;
-
-/// A program has no stack, and accepts transfers from nobody.
-const STACK: u32 = 0;
-
-const ACCEPT: u32 = 0;
-
-/// The bytes of the image: its header, a byte for each slot, and for each environment a header of 28 bytes and a body.
-const IMAGE_SIZE: usize = 16 + 64 + 16 * (28 + 216);
+/// How many bytes the image has: its header, a byte for each slot, and for each environment a header and a body.
+const IMAGE_SIZE: usize = HEADER_SIZE + 64 + 16 * (PROGRAM_HEADER_SIZE + 216);
 
 /// The quantum that a seed gives.
 #[tactic(auto, using(crate::proofs::Drawing::drawn_one))]
@@ -79,24 +66,22 @@ fn push_slots(file: &mut Vec<u8>) -> Result<(), OutOfMemory>
     ensures { OnOk result (file.new.items ≡ file.old.items ++ map slot_byte load_slots) }
 {
     for slot in 0..SLOTS {
-        file.push((slot % ENVIRONMENTS) as u8)?;
+        push_slot(file, Some((slot % ENVIRONMENTS) as u8))?;
     }
     Ok(())
 }
 
-/// A program of this name.
-fn push_program(file: &mut Vec<u8>, name: &[u8]) -> Result<(), OutOfMemory>
+/// A program of this name, which has no stack and accepts transfers from nobody.
+fn push_named(file: &mut Vec<u8>, name: &[u8; NAME_SIZE]) -> Result<(), OutOfMemory>
     ensures { OnOk result (file.new.items ≡ file.old.items ++ named_text name.now) }
 {
-    let body = load_elf();
-    file.extend_from_slice(name)?;
-    push_word(file, NO_BASE)?;
-    push_word(file, STACK)?;
-    push_word(file, ACCEPT)?;
-    push_word(file, ELF)?;
-    push_word(file, body.len() as u32)?;
-    file.extend_from_slice(body)?;
-    Ok(())
+    let entry = Entry {
+        name: *name,
+        kind: Kind::Elf,
+        stack: 0,
+        accept: 0,
+    };
+    push_program(file, &entry, load_elf())
 }
 
 /// The programs of these names.
@@ -104,7 +89,7 @@ fn push_programs(file: &mut Vec<u8>, names: &[[u8; NAME_SIZE]]) -> Result<(), Ou
     ensures { OnOk result (file.new.items ≡ file.old.items ++ flat_map named_text names.now) }
 {
     for name in names {
-        push_program(file, name)?;
+        push_named(file, name)?;
     }
     Ok(())
 }
@@ -114,11 +99,13 @@ fn write_image(alloc: Global, seed: u32) -> Result<Vec<u8>, OutOfMemory>
     ensures { IfOk result (λ file. file.items ≡ load_image_text seed) }
 {
     let mut file = Vec::with_capacity(alloc, IMAGE_SIZE)?;
-    file.extend_from_slice(&MAGIC)?;
-    push_word(&mut file, PAGES)?;
-    push_word(&mut file, quantum(seed))?;
-    push_half(&mut file, ENVIRONMENTS)?;
-    push_half(&mut file, SLOTS)?;
+    let header = Header {
+        pages: PAGES,
+        quantum: quantum(seed),
+        environments: ENVIRONMENTS,
+        slots: SLOTS,
+    };
+    push_header(&mut file, &header)?;
     push_slots(&mut file)?;
     push_programs(&mut file, &NAMES)?;
     Ok(file)

@@ -2,7 +2,8 @@
 use Rattle.std.proofs.Common.{◌≡◌, ◌+◌, ◌-◌, List, [], ◌∷◌, ◌++◌, Option, Some, map, ap, sym, ◌∙◌, arith}
 use Rattle.boot_image.specs.declared.fault.ImageFault.{ImageFault}
 use Rattle.boot_image.specs.ImageValue.{ProgramValue, body_end, program_at, headers_from}
-use Rattle.boot_image.specs.ImageFaults.{◌or_else◌, first_fault, mappings_fault, program_fault}
+use Rattle.elf_static.specs.Faulting.{◌or_else◌}
+use Rattle.boot_image.specs.ImageFaults.{first_fault, mappings_fault, program_fault}
 use Rattle.boot_image.specs.Parts.{PlacedValue, if_fitting}
 use Rattle.boot_image.proofs.Programs.{bodies_end-step, fault-step, later-step, list-step, fitting_some, fitting_none, or_is, none_or_some}
 use Rattle.boot_image.proofs.program.read_programs.Goals as goal

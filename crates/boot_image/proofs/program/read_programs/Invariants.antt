@@ -1,7 +1,8 @@
 -- The programs that were read, and those that are left.
 use Rattle.std.proofs.Common.{◌≡◌, ◌≤◌, ◌-◌, ◌++◌, None, length, map}
 use Rattle.boot_image.specs.ImageValue.{program_at, headers_from, bodies_end}
-use Rattle.boot_image.specs.ImageFaults.{◌or_else◌, first_fault, program_fault, mappings_fault}
+use Rattle.elf_static.specs.Faulting.{◌or_else◌}
+use Rattle.boot_image.specs.ImageFaults.{first_fault, program_fault, mappings_fault}
 use Rattle.boot_image.proofs.program.read_programs.Given as goal
 
 -- The programs so far and those that are left are all of the file's, and the rest has the first fault.

@@ -4,7 +4,7 @@ use Rattle.std.specs.Prelude.{sum_by}
 use Rattle.boot_image.specs.ImageValue.{image_of, pages_in, quantum_in, environments_in, first_header, headers, headers_from, program_at, guaranteed_mappings}
 use Rattle.boot_image.specs.ImageFaults.{first_fault, program_fault, mappings_fault}
 use Rattle.boot_image.specs.Accepted.{IsAccepted}
-use Rattle.boot_image.specs.Parts.{HeaderValue}
+use Rattle.boot_image.specs.ImageValue.{HeaderValue}
 use Rattle.boot_image.proofs.Acceptance.{parts_accepted}
 use Rattle.boot_image.proofs.reading.read.Goals as goal
 
