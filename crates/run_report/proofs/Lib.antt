@@ -1,4 +1,4 @@
 pub mod Registers
 pub mod Places
-pub mod Inserting
+pub mod Rising
 pub mod Lines

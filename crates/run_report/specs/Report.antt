@@ -1,6 +1,7 @@
 -- The text of a report.
-use Rattle.std.specs.Prelude.{ℕ, zero, suc, ◌+◌, List, [], ◌∷◌, ◌++◌, length, count_by, codes, Bool, true, false, nat_lt, if◌then◌else◌, Option, Some, None}
-use Rattle.std.specs.List.{flat_map}
+use Rattle.std.specs.Prelude.{ℕ, zero, suc, ◌+◌, ◌^◌, List, [], ◌∷◌, ◌++◌, length, count_by, codes, Bool, true, false, ◌==◌, if◌then◌else◌, Option, Some, None}
+use Rattle.std.specs.List.{filter, flat_map}
+use Rattle.std.specs.Option.{option_to_list}
 use Rattle.sha2.specs.Sha256.{sha256}
 use Rattle.hex.specs.Hex.{encode_lower}
 use Rattle.line_text.specs.Text.{dec_text, hex_text}
@@ -26,10 +27,10 @@ use Rattle.world_model.specs.World.{World}
 use Rattle.world_model.specs.Table.{listed}
 use Rattle.run_model.specs.Excess.{is_over_of, is_pay_of, is_run_of}
 
--- the texts of 0, 1 and so on, so many
-abbrev pub for_each : (ℕ → List ℕ) → ℕ → List ℕ
-for_each text zero = []
-for_each text (suc n) = for_each text n ++ text n
+-- the lists of 0, 1 and so on, so many, end to end
+abbrev pub for_each : {X : Type 0} → (ℕ → List X) → ℕ → List X
+for_each items zero = []
+for_each items (suc n) = for_each items n ++ items n
 
 -- a line of a name and numbers
 unfoldable pub numbers_line : List ℕ → List (Option ℕ) → List ℕ
@@ -112,22 +113,16 @@ mode_text false = codes "r"
 unfoldable pub bind_line : ℕ → Binding → List ℕ
 bind_line e b = line (codes "bind" ∷ dec_text e ∷ hex_text 5 b.vpn ∷ dec_text b.page ∷ mode_text b.writable ∷ [])
 
--- a binding among others by rising VPN
-abbrev pub inserted : Binding → List Binding → List Binding
-inserted b [] = b ∷ []
-inserted b (x ∷ xs) = if nat_lt b.vpn x.vpn then b ∷ x ∷ xs else x ∷ inserted b xs
+-- the bindings in a stripe, by rising row
+abbrev pub bindings_of : (ℕ → Option Binding) → List Binding
+bindings_of stripe = for_each (λ row. option_to_list (stripe row)) stripe_rows
 
-abbrev pub inserted_row : Option Binding → List Binding → List Binding
-inserted_row None bindings = bindings
-inserted_row (Some b) bindings = inserted b bindings
-
--- the bindings in the first rows of a stripe, so many, by rising VPN
-abbrev pub rising_bindings : (ℕ → Option Binding) → ℕ → List Binding
-rising_bindings stripe zero = []
-rising_bindings stripe (suc row) = inserted_row (stripe row) (rising_bindings stripe row)
+-- the same by rising VPN, which has 32 bits: those of each VPN in turn
+unfoldable pub rising_bindings : (ℕ → Option Binding) → List Binding
+rising_bindings stripe = for_each (λ vpn. filter (λ b. b.vpn == vpn) (bindings_of stripe)) (2 ^ 32)
 
 abbrev pub bind_lines : ℕ → (ℕ → Option Binding) → List ℕ
-bind_lines e stripe = flat_map (bind_line e) (rising_bindings stripe stripe_rows)
+bind_lines e stripe = flat_map (bind_line e) (rising_bindings stripe)
 
 -- the registers that are shown: those of an environment that doesn't run at rest
 unfoldable pub shown_cpu : World → ℕ → Cpu
