@@ -4,7 +4,7 @@ use Rattle.mips_exec.specs.declared.exception.Outcome.TheVariants as outcome
 use Rattle.mips_exec.specs.Step.{Step, Retired, Called, Trapped, outcome_of}
 use Rattle.env_frames.specs.declared.mapping.Mapping.{Mapping}
 use Rattle.guest_memory.specs.Steps.{AllRetire, Machine, after_steps, next_step, stepped_by}
-use Rattle.mips_step.specs.Accessed.{has_retired}
+use Rattle.mips_step.specs.WordStep.{has_retired}
 use Rattle.guest_step.specs.declared.run.CodePage.{CodePage}
 use Rattle.guest_step.specs.Code.{IsCode}
 

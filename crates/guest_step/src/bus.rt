@@ -4,7 +4,7 @@ ghost use Rattle.byteorder.specs.Endian.{little_number};
 ghost use Rattle.mips_exec.specs.Step.{cpu_after, outcome_of, write_after};
 ghost use Rattle.guest_memory.specs.Space.{lookup};
 ghost use Rattle.guest_memory.specs.Look.{frames_after, guest_step};
-ghost use Rattle.mips_step.specs.Accessed.{has_retired};
+ghost use Rattle.mips_step.specs.WordStep.{has_retired};
 ghost use Rattle.guest_step.specs.Lent.{answers_of};
 
 use byteorder::{ByteOrder, LittleEndian};

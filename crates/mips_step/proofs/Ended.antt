@@ -8,7 +8,7 @@ use Rattle.mips_exec.specs.declared.exception.Outcome.{Outcome}
 use Rattle.mips_exec.specs.declared.exception.Outcome.TheVariants as outcome
 use Rattle.mips_exec.specs.Effect.{changed}
 use Rattle.mips_exec.specs.Step.{cpu_after, ended, outcome_of, report_of}
-use Rattle.mips_step.specs.Accessed.{has_retired}
+use Rattle.mips_step.specs.WordStep.{has_retired}
 
 pub cpu_ended : (c : Cpu) (e : Change) (w : Option Write) → cpu_after c (ended c e w) ≡ changed c e
 cpu_ended c Calls w = refl

@@ -1,1 +1,1 @@
-pub mod Accessed
+pub mod WordStep

@@ -3,7 +3,7 @@ ghost use Rattle.std.specs.Prelude.{◌≡◌, ◌≢◌, ◌+◌, ◌%◌, ◌<
 ghost use Rattle.mips_exec.specs.Access.{IsSpot, low_bytes, place_of};
 ghost use Rattle.mips_exec.specs.declared.reach.Access.TheVariants.{Load, Store};
 ghost use Rattle.mips_exec.specs.Step.{Answers, without_value};
-ghost use Rattle.mips_step.specs.Accessed.{got};
+ghost use Rattle.mips_step.specs.WordStep.{access_answer};
 
 use mips_exec::{Exc, ExcCode, Spot};
 
@@ -58,7 +58,7 @@ pub trait Bus {
 pub(crate) fn load<B: Bus>(bus: &mut B, spot: Spot) -> Result<u32, Exc>
     requires spot { IsSpot spot }
     requires whole { spot.width ≢ 3 }
-    ensures answer { result ≡ got (B.answers bus.old) (Load spot) }
+    ensures answer { result ≡ access_answer (B.answers bus.old) (Load spot) }
     ensures kept { B.Kept bus.old bus.new }
 {
     if !spot.is_aligned() {
@@ -74,7 +74,7 @@ pub(crate) fn load<B: Bus>(bus: &mut B, spot: Spot) -> Result<u32, Exc>
 #[inline(always)]
 pub(crate) fn store<B: Bus>(bus: &mut B, spot: Spot, value: u32) -> Result<(), Exc>
     requires spot { IsSpot spot }
-    ensures answer { without_value result ≡ got (B.answers bus.old) (Store spot value) }
+    ensures answer { without_value result ≡ access_answer (B.answers bus.old) (Store spot value) }
     ensures stored { OnOk result (B.Stored bus.old (place_of spot) (low_bytes spot.width value) bus.new) }
     ensures kept { OnErr result (B.Kept bus.old bus.new) }
 {

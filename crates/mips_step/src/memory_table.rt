@@ -4,7 +4,7 @@ ghost use Rattle.std.specs.Prelude.{◌≡◌, ◌≤◌, ◌^◌};
 ghost use Rattle.mips_isa.specs.Encoding.{insn_of};
 ghost use Rattle.mips_exec.specs.Access.{access};
 ghost use Rattle.mips_exec.specs.Step.{Wrote, write_after};
-ghost use Rattle.mips_step.specs.Accessed.{fetched_step, settled};
+ghost use Rattle.mips_step.specs.WordStep.{fetched_step, step_of_change};
 
 use crate::arithmetic::{extend_byte, extend_half};
 use crate::memory::{Bus, load, store};
@@ -12,12 +12,12 @@ use crate::table::{rs_value, rt_value, signed_imm};
 use mips_codec::{merge_left, merge_right, opcode, rt};
 use mips_exec::{Change, Cpu, Exc, ExcCode, Spot};
 
-/// What a word from 2^31 on does, once memory has answered its load or store, or what the access raises.
+/// The change of a word from 2^31 on, once memory has answered its load or store, or what the access raises.
 #[tactic(auto, unfolding(mips_isa::specs::Encoding::insn_of, mips_exec::specs::Effect::effect, mips_exec::specs::Access::access))]
 #[inline(always)]
-pub(crate) fn accessed<B: Bus>(cpu: &Cpu, bus: &mut B, word: u32) -> Result<Change, Exc>
+pub(crate) fn change_after_access<B: Bus>(cpu: &Cpu, bus: &mut B, word: u32) -> Result<Change, Exc>
     requires { 2 ^ 31 ≤ word }
-    ensures step { settled cpu.now (access (insn_of word) cpu.now) result ≡ fetched_step (B.answers bus.old) cpu.now word }
+    ensures step { step_of_change cpu.now (access (insn_of word) cpu.now) result ≡ fetched_step (B.answers bus.old) cpu.now word }
     ensures memory { Wrote B.Kept B.Stored bus.old (write_after (fetched_step (B.answers bus.old) cpu.now word)) bus.new }
 {
     let address = rs_value(cpu, word).wrapping_add(signed_imm(word));

@@ -3,27 +3,27 @@ ghost use Rattle.std.specs.Prelude.{◌≡◌};
 ghost use Rattle.mips_isa.specs.Encoding.{insn_of};
 ghost use Rattle.mips_exec.specs.Access.{access};
 ghost use Rattle.mips_exec.specs.Step.{cpu_after, outcome_of, step_of, view_of, write_after, Wrote};
-ghost use Rattle.mips_step.specs.Accessed.{fetched_step, has_retired, settled};
+ghost use Rattle.mips_step.specs.WordStep.{fetched_step, has_retired, step_of_change};
 
 use crate::change::apply;
 use crate::memory::Bus;
-use crate::memory_table::accessed;
-use crate::table::computed;
+use crate::memory_table::change_after_access;
+use crate::table::change_without_access;
 use mips_exec::{Change, Cpu, Exc, ExcCode, Outcome};
 
 /// Words from this one on are loads, stores and coprocessors.
 const ACCESSES: u32 = 0x8000_0000;
 
-/// What a word does, once memory has answered its load or store, or what the access raises.
+/// The change of a word, once memory has answered its load or store, or what the access raises.
 #[inline(always)]
-fn done<B: Bus>(cpu: &Cpu, bus: &mut B, word: u32) -> Result<Change, Exc>
-    ensures step { settled cpu.now (access (insn_of word) cpu.now) result ≡ fetched_step (B.answers bus.old) cpu.now word }
+fn change_of_word<B: Bus>(cpu: &Cpu, bus: &mut B, word: u32) -> Result<Change, Exc>
+    ensures step { step_of_change cpu.now (access (insn_of word) cpu.now) result ≡ fetched_step (B.answers bus.old) cpu.now word }
     ensures memory { Wrote B.Kept B.Stored bus.old (write_after (fetched_step (B.answers bus.old) cpu.now word)) bus.new }
 {
     if word < ACCESSES {
-        Ok(computed(cpu, word))
+        Ok(change_without_access(cpu, word))
     } else {
-        accessed(cpu, bus, word)
+        change_after_access(cpu, bus, word)
     }
 }
 
@@ -36,7 +36,7 @@ pub fn step_fetched<B: Bus>(cpu: &mut Cpu, bus: &mut B, word: u32) -> Outcome
     ensures outcome { result ≡ outcome_of (fetched_step (B.answers bus.old) cpu.old word) }
     ensures memory { Wrote B.Kept B.Stored bus.old (write_after (fetched_step (B.answers bus.old) cpu.old word)) bus.new }
 {
-    match done(cpu, bus, word) {
+    match change_of_word(cpu, bus, word) {
         Ok(change) => apply(cpu, change),
         Err(exc) => Outcome::Trap(exc),
     }
@@ -50,7 +50,7 @@ pub fn retire_fetched<B: Bus>(cpu: &mut Cpu, bus: &mut B, word: u32) -> bool
     ensures retired { result ≡ has_retired (fetched_step (B.answers bus.old) cpu.old word) }
     ensures memory { Wrote B.Kept B.Stored bus.old (write_after (fetched_step (B.answers bus.old) cpu.old word)) bus.new }
 {
-    match done(cpu, bus, word) {
+    match change_of_word(cpu, bus, word) {
         Ok(change) => matches!(apply(cpu, change), Outcome::Retired),
         Err(_) => false,
     }

@@ -173,10 +173,10 @@ fn regimm(cpu: &Cpu, word: u32) -> Change
     }
 }
 
-/// What a word below 2^31 does, by its opcode.
+/// The change of a word below 2^31, which neither loads nor stores, by its opcode.
 #[tactic(auto, using(crate::proofs::System::system_effect, crate::proofs::System::system_access), unfolding(mips_isa::specs::Encoding::insn_of, mips_exec::specs::Effect::effect, mips_exec::specs::Access::access))]
 #[inline(always)]
-pub(crate) fn computed(cpu: &Cpu, word: u32) -> Change
+pub(crate) fn change_without_access(cpu: &Cpu, word: u32) -> Change
     requires { word < 2 ^ 31 }
     ensures value { result ≡ effect (insn_of word) cpu.now 0 }
     ensures plain { access (insn_of word) cpu.now ≡ None }

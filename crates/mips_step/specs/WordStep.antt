@@ -1,4 +1,4 @@
--- What an instruction gets of its load or store, and the step that it comes to.
+-- The step of a word that was fetched: the answer to its load or store, its write, and whether it retires.
 use Rattle.std.specs.Prelude.{ℕ, Bool, true, false, Option, Some, None, Result, Ok, Err}
 use Rattle.mips_exec.specs.declared.registers.Cpu.{Cpu}
 use Rattle.mips_exec.specs.declared.reach.Access.{Access}
@@ -9,23 +9,23 @@ use Rattle.mips_exec.specs.Access.{Write, write_of}
 use Rattle.mips_exec.specs.Step.{Answers, Step, Retired, Called, Trapped, access_after, answered, decoded, ended, named_by}
 
 -- an exception gets the address that the instruction names
-abbrev pub named : ℕ → Result ℕ Exc → Result ℕ Exc
-named address (Ok x) = Ok x
-named address (Err exc) = Err (at_address exc address)
+abbrev pub with_address : ℕ → Result ℕ Exc → Result ℕ Exc
+with_address address (Ok x) = Ok x
+with_address address (Err exc) = Err (at_address exc address)
 
--- what the instruction gets of a load or store
-abbrev pub got : Answers → Access → Result ℕ Exc
-got answers a = named (named_by a) (answered answers a)
+-- the answer that the instruction gets of its load or store
+abbrev pub access_answer : Answers → Access → Result ℕ Exc
+access_answer answers a = with_address (named_by a) (answered answers a)
 
--- what a load or store writes, if there is one
-abbrev pub written : Option Access → Option Write
-written None = None
-written (Some a) = write_of a
+-- the write of a load or store, if there is one
+abbrev pub access_write : Option Access → Option Write
+access_write None = None
+access_write (Some a) = write_of a
 
--- the step that does this, and writes what its access writes; or that traps
-abbrev pub settled : Cpu → Option Access → Result Change Exc → Step
-settled cpu a (Ok change) = ended cpu change (written a)
-settled cpu a (Err exc) = Trapped exc
+-- the step of a change, with the write of its access; or of the exception that the access raises
+abbrev pub step_of_change : Cpu → Option Access → Result Change Exc → Step
+step_of_change cpu a (Ok change) = ended cpu change (access_write a)
+step_of_change cpu a (Err exc) = Trapped exc
 
 -- the step of a word that was fetched, over memory that answers so
 abbrev pub fetched_step : Answers → Cpu → ℕ → Step
