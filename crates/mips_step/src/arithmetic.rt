@@ -1,7 +1,7 @@
 //! What instructions compute of words.
-ghost use Rattle.std.specs.Prelude.{◌≡◌, ◌+◌, ◌<◌, ◌+ℤ◌, ◌-ℤ◌, ◌*ℤ◌, ◌||◌, ◌==◌};
+ghost use Rattle.std.specs.Prelude.{◌≡◌, ◌+◌, ◌*◌, ◌<◌, ◌+ℤ◌, ◌-ℤ◌, ◌*ℤ◌, ◌||◌, ◌==◌, int_lt};
 ghost use Rattle.std.specs.Int.{cast_unsigned, w64};
-ghost use Rattle.mips_exec.specs.Word.{is_negative, shifted_with_sign, sign_extended, signed, low_word};
+ghost use Rattle.mips_exec.specs.Word.{flag, is_negative, shifted_with_sign, sign_extended, signed, low_word};
 ghost use Rattle.mips_exec.specs.Effect.{divides, divides_signed, puts_fitting, puts_product};
 
 use mips_exec::{Change, Exc, ExcCode};
@@ -21,7 +21,7 @@ pub(crate) fn is_at_most_zero(word: u32) -> bool
 }
 
 /// The word shifted to the right, with copies of its sign from the left.
-pub(crate) fn shift_with_sign(word: u32, by: u32) -> u32
+pub(crate) fn signed_shift(word: u32, by: u32) -> u32
     requires { by < 32 }
     ensures { result ≡ shifted_with_sign word by }
 {
@@ -54,8 +54,15 @@ pub(crate) fn extend_half(half: u32) -> u32
     }
 }
 
+/// 1 if the first word with its sign is less than the second with its own, else 0.
+pub(crate) fn signed_less(a: u32, b: u32) -> u32
+    ensures { result ≡ flag (int_lt (signed a) (signed b)) }
+{
+    u32::from(a.cast_signed() < b.cast_signed())
+}
+
 /// The 64 bits of the signed product.
-pub(crate) fn signed_product(a: u32, b: u32) -> u64
+fn signed_product_bits(a: u32, b: u32) -> u64
     ensures { result ≡ cast_unsigned w64 (signed a *ℤ signed b) }
 {
     (i64::from(a.cast_signed()) * i64::from(b.cast_signed())).cast_unsigned()
@@ -81,11 +88,25 @@ pub(crate) fn difference(n: u8, a: u32, b: u32) -> Change
     }
 }
 
-/// HI and LO take the two words of the product.
-pub(crate) fn product(product: u64) -> Change
+/// HI and LO take the two words of 64 bits.
+fn puts_product(product: u64) -> Change
     ensures { result ≡ puts_product product }
 {
     Change::PutsHiLo((product >> 32) as u32, (product & 0xffff_ffff) as u32)
+}
+
+/// HI and LO take the signed product.
+pub(crate) fn signed_product(a: u32, b: u32) -> Change
+    ensures { result ≡ puts_product (cast_unsigned w64 (signed a *ℤ signed b)) }
+{
+    puts_product(signed_product_bits(a, b))
+}
+
+/// HI and LO take the product without sign.
+pub(crate) fn product(a: u32, b: u32) -> Change
+    ensures { result ≡ puts_product (a * b) }
+{
+    puts_product(u64::from(a) * u64::from(b))
 }
 
 /// LO takes the signed quotient and HI the remainder.

@@ -1,17 +1,17 @@
 //! What each word does that neither loads nor stores (`docs/MACHINE.md`, "Effect"): a match on the opcode, with one on the
 //! function of opcode 0 and one on the field `rt` of opcode 1, each in the order of the table of the encoding.
-ghost use Rattle.std.specs.Prelude.{◌≡◌, ◌<◌, ◌^◌, None};
+ghost use Rattle.std.specs.Prelude.{◌≡◌, ◌<◌, ◌%◌, ◌^◌, ◌==◌, ◌&&◌, None};
 ghost use Rattle.mips_isa.specs.Encoding.{insn_of, regimm_of, special_of};
-ghost use Rattle.mips_isa.specs.Fields.{imm_of, opcode_of, rs_of, rt_of, target_of};
+ghost use Rattle.mips_isa.specs.Fields.{imm_of, opcode_of, rd_of, rs_of, rt_of, sh_of, target_of};
 ghost use Rattle.mips_isa.specs.Word.{sign16_of};
 ghost use Rattle.mips_exec.specs.Access.{access};
 ghost use Rattle.mips_exec.specs.Cpu.{branch_target, jump_target, reg};
-ghost use Rattle.mips_exec.specs.declared.change.Change.TheVariants.{Jumps, JumpsAndLinks};
+ghost use Rattle.mips_exec.specs.declared.change.Change.TheVariants.{Jumps, JumpsAndLinks, Puts};
 ghost use Rattle.mips_exec.specs.Effect.{effect};
 
 use crate::arithmetic::{
-    difference, is_at_most_zero, is_negative, product, quotient, shift_with_sign, signed_product,
-    signed_quotient, sum,
+    difference, is_at_most_zero, is_negative, product, quotient, signed_less, signed_product,
+    signed_quotient, signed_shift, sum,
 };
 use mips_codec::{COP0, REGIMM, SPECIAL, function, imm, opcode, rd, rs, rt, sh, sign16, target};
 use mips_exec::{Change, Cpu, Exc, ExcCode};
@@ -31,6 +31,41 @@ pub(crate) fn rt_value(cpu: &Cpu, word: u32) -> u32
     ensures { result ≡ reg cpu.now (rt_of word) }
 {
     cpu.reg(rt(word))
+}
+
+/// The amount of a shift by the register of bits 25:21.
+fn rs_shift(cpu: &Cpu, word: u32) -> u32
+    ensures { result ≡ reg cpu.now (rs_of word) % 32 }
+{
+    rs_value(cpu, word) % 32
+}
+
+/// Of the fields between opcode and function, all but `rs` are 0.
+fn has_only_rs(word: u32) -> bool
+    ensures { result ≡ (rt_of word == 0 && rd_of word == 0 && sh_of word == 0) }
+{
+    rt(word) == 0 && rd(word) == 0 && sh(word) == 0
+}
+
+/// Of the fields between opcode and function, all but `rd` are 0.
+fn has_only_rd(word: u32) -> bool
+    ensures { result ≡ (rs_of word == 0 && rt_of word == 0 && sh_of word == 0) }
+{
+    rs(word) == 0 && rt(word) == 0 && sh(word) == 0
+}
+
+/// Of the fields between opcode and function, all but `rs` and `rt` are 0.
+fn has_only_rs_rt(word: u32) -> bool
+    ensures { result ≡ (rd_of word == 0 && sh_of word == 0) }
+{
+    rd(word) == 0 && sh(word) == 0
+}
+
+/// The register of bits 15:11 takes the value.
+fn puts_rd(word: u32, value: u32) -> Change
+    ensures { result ≡ Puts (rd_of word) value }
+{
+    Change::Puts(rd(word), value)
 }
 
 /// Bits 15:0 as a word with its sign.
@@ -84,73 +119,35 @@ fn special(cpu: &Cpu, word: u32) -> Change
     ensures plain { access (special_of word) cpu.now ≡ None }
 {
     match function(word) {
-        0 if rs(word) == 0 => Change::Puts(rd(word), rt_value(cpu, word) << sh(word)),
-        2 if rs(word) == 0 => Change::Puts(rd(word), rt_value(cpu, word) >> sh(word)),
-        3 if rs(word) == 0 => Change::Puts(
-            rd(word),
-            shift_with_sign(rt_value(cpu, word), u32::from(sh(word))),
-        ),
-        4 if sh(word) == 0 => Change::Puts(
-            rd(word),
-            rt_value(cpu, word) << (rs_value(cpu, word) % 32),
-        ),
-        6 if sh(word) == 0 => Change::Puts(
-            rd(word),
-            rt_value(cpu, word) >> (rs_value(cpu, word) % 32),
-        ),
-        7 if sh(word) == 0 => Change::Puts(
-            rd(word),
-            shift_with_sign(rt_value(cpu, word), rs_value(cpu, word) % 32),
-        ),
-        8 if rt(word) == 0 && rd(word) == 0 && sh(word) == 0 => Change::Jumps(rs_value(cpu, word)),
+        0 if rs(word) == 0 => puts_rd(word, rt_value(cpu, word) << sh(word)),
+        2 if rs(word) == 0 => puts_rd(word, rt_value(cpu, word) >> sh(word)),
+        3 if rs(word) == 0 => puts_rd(word, signed_shift(rt_value(cpu, word), u32::from(sh(word)))),
+        4 if sh(word) == 0 => puts_rd(word, rt_value(cpu, word) << rs_shift(cpu, word)),
+        6 if sh(word) == 0 => puts_rd(word, rt_value(cpu, word) >> rs_shift(cpu, word)),
+        7 if sh(word) == 0 => puts_rd(word, signed_shift(rt_value(cpu, word), rs_shift(cpu, word))),
+        8 if has_only_rs(word) => Change::Jumps(rs_value(cpu, word)),
         9 if rt(word) == 0 && sh(word) == 0 => Change::JumpsAndLinks(rd(word), rs_value(cpu, word)),
         12 if cpu.slot => Change::Raises(Exc::plain(ExcCode::Sys)),
         12 => Change::Calls,
         13 => Change::Raises(Exc::plain(ExcCode::Bp)),
-        16 if rs(word) == 0 && rt(word) == 0 && sh(word) == 0 => Change::Puts(rd(word), cpu.hi),
-        17 if rt(word) == 0 && rd(word) == 0 && sh(word) == 0 => Change::PutsHiLo(
-            rs_value(cpu, word),
-            cpu.lo,
-        ),
-        18 if rs(word) == 0 && rt(word) == 0 && sh(word) == 0 => Change::Puts(rd(word), cpu.lo),
-        19 if rt(word) == 0 && rd(word) == 0 && sh(word) == 0 => Change::PutsHiLo(
-            cpu.hi,
-            rs_value(cpu, word),
-        ),
-        24 if rd(word) == 0 && sh(word) == 0 => product(signed_product(
-            rs_value(cpu, word),
-            rt_value(cpu, word),
-        )),
-        25 if rd(word) == 0 && sh(word) == 0 => product(
-            u64::from(rs_value(cpu, word)) * u64::from(rt_value(cpu, word)),
-        ),
-        26 if rd(word) == 0 && sh(word) == 0 => signed_quotient(
-            rs_value(cpu, word),
-            rt_value(cpu, word),
-        ),
-        27 if rd(word) == 0 && sh(word) == 0 => quotient(rs_value(cpu, word), rt_value(cpu, word)),
+        16 if has_only_rd(word) => puts_rd(word, cpu.hi),
+        17 if has_only_rs(word) => Change::PutsHiLo(rs_value(cpu, word), cpu.lo),
+        18 if has_only_rd(word) => puts_rd(word, cpu.lo),
+        19 if has_only_rs(word) => Change::PutsHiLo(cpu.hi, rs_value(cpu, word)),
+        24 if has_only_rs_rt(word) => signed_product(rs_value(cpu, word), rt_value(cpu, word)),
+        25 if has_only_rs_rt(word) => product(rs_value(cpu, word), rt_value(cpu, word)),
+        26 if has_only_rs_rt(word) => signed_quotient(rs_value(cpu, word), rt_value(cpu, word)),
+        27 if has_only_rs_rt(word) => quotient(rs_value(cpu, word), rt_value(cpu, word)),
         32 if sh(word) == 0 => sum(rd(word), rs_value(cpu, word), rt_value(cpu, word)),
-        33 if sh(word) == 0 => Change::Puts(
-            rd(word),
-            rs_value(cpu, word).wrapping_add(rt_value(cpu, word)),
-        ),
+        33 if sh(word) == 0 => puts_rd(word, rs_value(cpu, word).wrapping_add(rt_value(cpu, word))),
         34 if sh(word) == 0 => difference(rd(word), rs_value(cpu, word), rt_value(cpu, word)),
-        35 if sh(word) == 0 => Change::Puts(
-            rd(word),
-            rs_value(cpu, word).wrapping_sub(rt_value(cpu, word)),
-        ),
-        36 if sh(word) == 0 => Change::Puts(rd(word), rs_value(cpu, word) & rt_value(cpu, word)),
-        37 if sh(word) == 0 => Change::Puts(rd(word), rs_value(cpu, word) | rt_value(cpu, word)),
-        38 if sh(word) == 0 => Change::Puts(rd(word), rs_value(cpu, word) ^ rt_value(cpu, word)),
-        39 if sh(word) == 0 => Change::Puts(rd(word), !(rs_value(cpu, word) | rt_value(cpu, word))),
-        42 if sh(word) == 0 => Change::Puts(
-            rd(word),
-            u32::from(rs_value(cpu, word).cast_signed() < rt_value(cpu, word).cast_signed()),
-        ),
-        43 if sh(word) == 0 => Change::Puts(
-            rd(word),
-            u32::from(rs_value(cpu, word) < rt_value(cpu, word)),
-        ),
+        35 if sh(word) == 0 => puts_rd(word, rs_value(cpu, word).wrapping_sub(rt_value(cpu, word))),
+        36 if sh(word) == 0 => puts_rd(word, rs_value(cpu, word) & rt_value(cpu, word)),
+        37 if sh(word) == 0 => puts_rd(word, rs_value(cpu, word) | rt_value(cpu, word)),
+        38 if sh(word) == 0 => puts_rd(word, rs_value(cpu, word) ^ rt_value(cpu, word)),
+        39 if sh(word) == 0 => puts_rd(word, !(rs_value(cpu, word) | rt_value(cpu, word))),
+        42 if sh(word) == 0 => puts_rd(word, signed_less(rs_value(cpu, word), rt_value(cpu, word))),
+        43 if sh(word) == 0 => puts_rd(word, u32::from(rs_value(cpu, word) < rt_value(cpu, word))),
         _ => Change::Raises(Exc::plain(ExcCode::Ri)),
     }
 }
@@ -192,10 +189,7 @@ pub(crate) fn change_without_access(cpu: &Cpu, word: u32) -> Change
         7 if rt(word) == 0 => branch(cpu, !is_at_most_zero(rs_value(cpu, word)), word),
         8 => sum(rt(word), rs_value(cpu, word), signed_imm(word)),
         9 => Change::Puts(rt(word), rs_value(cpu, word).wrapping_add(signed_imm(word))),
-        10 => Change::Puts(
-            rt(word),
-            u32::from(rs_value(cpu, word).cast_signed() < signed_imm(word).cast_signed()),
-        ),
+        10 => Change::Puts(rt(word), signed_less(rs_value(cpu, word), signed_imm(word))),
         11 => Change::Puts(rt(word), u32::from(rs_value(cpu, word) < signed_imm(word))),
         12 => Change::Puts(rt(word), rs_value(cpu, word) & u32::from(imm(word))),
         13 => Change::Puts(rt(word), rs_value(cpu, word) | u32::from(imm(word))),

@@ -4,7 +4,7 @@ use Rattle.std.specs.Prelude.{unsigned_abs}
 use Rattle.std.proofs.lemmas.Int.{to_z-of_z, fits_signed_mul}
 use mathlib.Core.Path.{ap}
 use Rattle.mips_exec.specs.Word.{signed}
-use Rattle.mips_step.proofs.arithmetic.signed_product.Goals as goal
+use Rattle.mips_step.proofs.arithmetic.signed_product_bits.Goals as goal
 
 abs_signed : (a : ℕ) → a < 2 ^ 32 → unsigned_abs (signed a) ≤ 2 ^ 31
 abs_signed a h = grind arith
