@@ -24,6 +24,6 @@ pub use header::Header;
 pub use image::{Image, Program};
 pub use law::{law_accepted, law_reads_what_is_spelled, law_spelled};
 pub use layout::{HEADER_SIZE, NAME_SIZE, PAGES_AT, PROGRAM_HEADER_SIZE};
-pub use program::is_name;
+pub use program::{is_name, name_text};
 pub use reading::read_image;
 pub use writing::{push_header, push_program, push_slot};

@@ -152,6 +152,13 @@ pub fn is_name(name: &[u8; NAME_SIZE]) -> bool
     !text.is_empty() && is_text(text) && is_zeros(rest)
 }
 
+/// A name without the zeros after it.
+pub fn name_text(name: &[u8; NAME_SIZE]) -> &[u8]
+    ensures { result.now ≡ name_text name.now }
+{
+    parted(name).0
+}
+
 /// A name's text, and what follows it.
 fn parted(name: &[u8]) -> (&[u8], &[u8])
     ensures text { result.0.now ≡ name_text name.now }

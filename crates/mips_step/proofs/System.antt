@@ -1,4 +1,4 @@
--- A word of coprocessor 0 neither loads nor stores, and record { value = refl; plain = refl } that the coprocessor may not be used.
+-- A word of coprocessor 0 neither loads nor stores, and raises that the coprocessor may not be used.
 use Rattle.std.proofs.Common.{◌≡◌, ℕ, Bool, true, false, List, [], ◌∷◌, None, refl, arith}
 use Rattle.std.specs.Prelude.{◌%◌, ◌^◌, ◌==◌, if◌then◌else◌}
 use Rattle.mips_isa.specs.declared.insn.Insn.{Insn}
@@ -27,7 +27,7 @@ found P key (r ∷ rows) other each p =
     (either P r.is_clear r.insn other each.0 p)
     (found P key rows other each.1 p)
 
--- it neither loads nor stores, and record { value = refl; plain = refl } this
+-- it neither loads nor stores, and raises this
 record IsSystem (c : Cpu) (insn : Insn) : Type 0 where
   value : effect insn c 0 ≡ Raises (unusable 0)
   plain : access insn c ≡ None

@@ -1,7 +1,6 @@
 //! What a report shows of an environment.
-ghost use Rattle.std.specs.Prelude.{◌≡◌, ◌++◌, ◌∷◌, ◌<◌, ◌==◌, codes, OnOk, IfOk, position};
+ghost use Rattle.std.specs.Prelude.{◌≡◌, ◌++◌, ◌∷◌, ◌<◌, codes, OnOk, IfOk};
 ghost use Rattle.line_text.specs.Text.{dec_text};
-ghost use Rattle.boot_image.specs.ImageValue.{name_text};
 ghost use Rattle.line_text.specs.WrittenLine.{line};
 ghost use Rattle.run_report.specs.Report.{life_words, exception_text, env_line, out_line, excess_line, living_lines, if_live, env_text};
 
@@ -11,6 +10,7 @@ use crate::processor::{push_cpu_line, push_regs_line, shown_cpu};
 use crate::sending::push_sent_lines;
 use crate::words::{env, number};
 use aegis_limits::OutOfMemory;
+use boot_image::name_text;
 use line_text::{Word, push_line};
 use mips_exec::ExcCode;
 use std::alloc::Global;
@@ -50,24 +50,6 @@ fn push_env_line<V: WorldView>(out: &mut Vec<u8>, view: &V, env: u8) -> Result<(
     ensures { OnOk result (out.new.items ≡ out.old.items ++ env_line env ((V.world view.now).solos env)) }
 {
     push_life_line(out, env, name_text(&view.name(env)), view.life(env))
-}
-
-/// Where the first zero of a name stands, if it has one.
-fn first_zero(name: &[u8]) -> Option<usize>
-    ensures { result ≡ position (λ byte. byte == 0) name.now }
-{
-    name.iter().position(|byte| *byte == 0)
-}
-
-/// A name without the zeros after it.
-fn name_text(name: &[u8]) -> &[u8]
-    ensures { result.now ≡ name_text name.now }
-{
-    let length = match first_zero(name) {
-        Some(place) => place,
-        None => name.len(),
-    };
-    name.split_at(length).0
 }
 
 /// Appends the line of an environment of this name that lives or died so.
