@@ -6,10 +6,6 @@ use Rattle.page_book.specs.declared.row.PageRow.TheVariants.{Free}
 use Rattle.page_book.specs.declared.refusal.PageNo.{PageNo}
 use Rattle.page_book.specs.Row.{is_free}
 
--- how many pages there may be
-abbrev pub most_rows : ℕ
-most_rows = 4096
-
 -- the row of a page number; behind the last one it is a free page's
 abbrev pub row_in : List PageRow → ℕ → PageRow
 row_in rows page = slice_index_or rows page Free

@@ -1,11 +1,11 @@
 //! The book of pages.
 ghost use Rattle.std.specs.Prelude.{◌≡◌, ◌<◌, ◌≤◌, ◌+◌, false, length, replicate, map, slice_get, slice_set, IsNone, IsSome, IsOk, OnOk, IfOk};
 ghost use Rattle.std.specs.Option.{ok_or};
-ghost use Rattle.aegis_limits.specs.Limits.{least_pages};
+ghost use Rattle.aegis_limits.specs.Limits.{least_pages, most_pages};
 ghost use Rattle.page_book.specs.declared.row.PageRow.TheVariants.{Free, Guaranteed, Owned};
 ghost use Rattle.page_book.specs.declared.refusal.PageNo.TheVariants.{NoneFree};
 ghost use Rattle.page_book.specs.Row.{is_free, is_guaranteed, owner_of, alloc_refusal, change_refusal, bind_refusal, released, unless};
-ghost use Rattle.page_book.specs.Rows.{most_rows, row_in, first_free, free_pages, given, changed_unless};
+ghost use Rattle.page_book.specs.Rows.{row_in, first_free, free_pages, given, changed_unless};
 
 use crate::refusal::PageNo;
 use crate::row::{Capabilities, PageRow};
@@ -14,7 +14,7 @@ use aegis_limits::OutOfMemory;
 use std::alloc::Global;
 use std::marker::Model;
 
-/// Whose each page of physical memory is: from 16 to 4,096 pages, numbered from 0.
+/// Whose each page of physical memory is: from 16 to 1,024 pages, numbered from 0.
 #[derive(Drop)]
 pub struct Pages {
     rows: Vec<PageRow>,
@@ -22,33 +22,32 @@ pub struct Pages {
 
 impl Model for Pages {
     ghost use Rattle.std.specs.Prelude.{◌≤◌, List, length};
-    ghost use Rattle.aegis_limits.specs.Limits.{least_pages};
+    ghost use Rattle.aegis_limits.specs.Limits.{least_pages, most_pages};
     ghost use Rattle.page_book.specs.declared.row.PageRow.{PageRow as Row};
-    ghost use Rattle.page_book.specs.Rows.{most_rows};
 
     ghost Value = { List Row };
 
     ghost view = { λ p. p.rows.items };
 
-    ghost invariant = { λ p. (least_pages ≤ length p.rows.items) × (length p.rows.items ≤ most_rows) };
+    ghost invariant = { λ p. (least_pages ≤ length p.rows.items) × (length p.rows.items ≤ most_pages) };
 }
 
 impl Pages {
-    /// So many free pages, from 16 to 4,096. An `Err` says that there is no memory for the book.
+    /// So many free pages, from 16 to 1,024. An `Err` says that there is no memory for the book.
     pub fn new(alloc: Global, pages: u32) -> Result<Pages, OutOfMemory>
         requires enough { least_pages ≤ pages }
-        requires within { pages ≤ most_rows }
+        requires within { pages ≤ most_pages }
         ensures { IfOk result (λ p. p ≡ replicate pages Free) }
     {
         let rows = vec![in alloc; PageRow::Free; pages as usize]?;
         Ok(Pages { rows })
     }
 
-    /// How many pages there are, from 16 to 4,096.
+    /// How many pages there are, from 16 to 1,024.
     pub fn pages(&self) -> u32
         ensures count { result ≡ length self.now }
         ensures least { least_pages ≤ result }
-        ensures most { result ≤ most_rows }
+        ensures most { result ≤ most_pages }
     {
         self.rows.len() as u32
     }

@@ -1,13 +1,14 @@
 //! What is found in, and done to, the rows as a list.
 ghost use Rattle.std.specs.Prelude.{◌≡◌, ◌≤◌, length, map};
+ghost use Rattle.aegis_limits.specs.Limits.{most_pages};
 ghost use Rattle.page_book.specs.Row.{released};
-ghost use Rattle.page_book.specs.Rows.{most_rows, first_free, free_pages};
+ghost use Rattle.page_book.specs.Rows.{first_free, free_pages};
 
 use crate::row::PageRow;
 
 /// The lowest free page.
 pub(crate) fn first_free(rows: &[PageRow]) -> Option<u32>
-    requires { length rows.now ≤ most_rows }
+    requires { length rows.now ≤ most_pages }
     ensures { result ≡ first_free rows.now }
 {
     for (page, row) in rows.iter().enumerate() {
@@ -20,7 +21,7 @@ pub(crate) fn first_free(rows: &[PageRow]) -> Option<u32>
 
 /// How many pages are free.
 pub(crate) fn count_free(rows: &[PageRow]) -> u32
-    requires { length rows.now ≤ most_rows }
+    requires { length rows.now ≤ most_pages }
     ensures { result ≡ free_pages rows.now }
 {
     let mut count = 0;

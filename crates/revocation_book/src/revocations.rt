@@ -9,12 +9,13 @@ use crate::deadlines::{Deadlines, MOST_NUMBERS};
 use crate::laws::law_few_takings;
 use crate::pending::{asked, lowered};
 use crate::revocation::{LoadNo, Pending, Taking};
+use aegis_limits::MOST_PAGES;
 use arrayvec::ArrayVec;
 use page_book::{PageRow, Pages};
 use std::marker::Model;
 
 /// The most pages that are taken at a time: all that there may be.
-pub const MOST_TAKINGS: usize = 4096;
+pub const MOST_TAKINGS: usize = MOST_PAGES as usize;
 
 /// What each environment, of at most 32, is asked for and hasn't given back, and which pages it loaded as backups.
 #[derive(Drop)]
