@@ -2,10 +2,11 @@
 use Rattle.std.proofs.Common.{◌≡◌, ℕ, zero, suc, ◌*◌, true, List, [], ◌∷◌, refl, sym, ap, ◌∙◌, arith, inl, inr}
 use Rattle.std.specs.List.{AllByRecursion}
 use Rattle.std.specs.Prelude.{map}
+use Rattle.std.proofs.lemmas.Bool.{or_cases}
 use Rattle.filter_tree.specs.ClaimBook.{RowValue, claim_in}
 use Rattle.filter_tree.specs.Laws.{AlikeAreFew, ExampleHasThree, example_book, example_filter, example_rows}
 use Rattle.filter_tree.specs.Prefixes.{Shape, prefixes_of, shape_of}
-use Rattle.filter_tree.proofs.Counting.{distinct_below, distinct_few, in_joined, is_in, length_prefixes, of_claim, of_claims, or_cases}
+use Rattle.filter_tree.proofs.Counting.{distinct_below, distinct_few, in_joined, is_in, length_prefixes, of_claim, of_claims}
 
 abbrev has_shapes : List Shape → RowValue → Type 0
 has_shapes shapes r = map shape_of r.claim.filter ≡ shapes

@@ -2,32 +2,16 @@
 use Rattle.std.proofs.Common.{◌≡◌, ℕ, ◌+◌, ◌≤◌, ◌⊎◌, Bool, true, false, not, List, [], ◌∷◌, ◌++◌, length, length-drop, drop, take, ◌<◌, refl, sym, ap, subst, ◌∙◌, arith, inl, inr}
 use Rattle.std.specs.List.{flat_map, list_all, list_any}
 use Rattle.std.specs.Prelude.{◌==◌, ◌&&◌, ◌||◌, filter, map, slice_index_or, sum_by, if◌then◌else◌}
-use Rattle.std.proofs.lemmas.Bool.{and_parts, cases_Bool, eq-eqb, eqb-true}
+use Rattle.std.proofs.lemmas.Bool.{and_parts, cases_Bool, eq-eqb, eqb-true, or_cases, or_left, or_parts, or_right}
+use Rattle.std.proofs.lemmas.List.{append-nil, drop_more, length-append, length-map, map-append}
 use Rattle.std.proofs.lemmas.List.Folds.{list_all-append, list_all-map, list_any-append}
 use Rattle.std.proofs.lemmas.List.Sums.{sum_by-cons}
 use Rattle.filter_core.specs.declared.atom.Atom.{Atom}
-use Rattle.filter_tree.proofs.Rooted.{drop_at}
 use Rattle.filter_tree.specs.ClaimBook.{ClaimBook, ClaimValue, RowValue, claim_in}
 use Rattle.filter_tree.specs.Claims.{atom_count}
 use Rattle.filter_tree.specs.Prefixes.{Shape, distinct, prefixes, prefixes_from, prefixes_of, same_shape, same_shapes, shape_of, shapes_from}
 use Rattle.filter_tree.specs.Tree.{begins, begins_with, is_branch, starts_with, value_at}
 use Rattle.filter_tree.proofs.Atoms.{drop_one}
-
-pub or_cases : (a b : Bool) → (a || b) ≡ true → (a ≡ true) ⊎ (b ≡ true)
-or_cases true b is = inl refl
-or_cases false b is = inr is
-
-or_right : (a b : Bool) → b ≡ true → (a || b) ≡ true
-or_right true b is = refl
-or_right false b is = is
-
-or_left : (a b : Bool) → a ≡ true → (a || b) ≡ true
-or_left a b is = rw is refl
-
--- neither
-neither : (a b : Bool) → (a || b) ≡ false → (a ≡ false) × (b ≡ false)
-neither true b is = cc
-neither false b is = (refl, is)
 
 -- equal shapes, and lists of them
 shape_same : (s t : Shape) → same_shape s t ≡ true → s ≡ t
@@ -71,7 +55,7 @@ others p lists = filter (λ q. not (same_shapes p q)) lists
 none_else : (p : List Shape) (lists : List (List Shape)) → is_in p lists ≡ false → others p lists ≡ lists
 none_else p [] is = refl
 none_else p (q ∷ lists) is =
-    let parts = neither (same_shapes p q) (is_in p lists) is in
+    let parts = or_parts (same_shapes p q) (is_in p lists) is in
     rw parts.0 (ap (λ x. q ∷ x) (none_else p lists parts.1))
 
 still_in : (p q : List Shape) (lists : List (List Shape)) → same_shapes p q ≡ false → is_in q (others p lists) ≡ is_in q lists
@@ -180,10 +164,6 @@ claim_begins : (depth : ℕ) (a : Atom) (c : ClaimValue) → begins depth a c �
     → of_claim depth c ≡ (shape_of a ∷ []) ∷ map (λ prefix. shape_of a ∷ prefix) (of_claim (depth + 1) c)
 claim_begins depth a c is = rw (drop_one depth c.filter) (prefixes_begin a (drop depth c.filter) is)
 
-pub map_append : {X Y : Type 0} (f : X → Y) (xs ys : List X) → map f (xs ++ ys) ≡ map f xs ++ map f ys
-map_append f [] ys = refl
-map_append f (x ∷ xs) ys = ap (λ zs. f x ∷ zs) (map_append f xs ys)
-
 -- what stands behind a shape stands behind it among all
 behind_shape : (depth v : ℕ) (a : Atom) (claims : List ClaimValue) (p : List Shape) → list_all (begins depth a) claims ≡ true
     → is_in p (map (λ prefix. shape_of a ∷ prefix) (of_claims (depth + 1) (filter (λ c. v == value_at depth c) claims))) ≡ true → is_in p (of_claims depth claims) ≡ true
@@ -198,7 +178,7 @@ behind_shape depth v a (c ∷ claims) p all is =
           let front : List (List Shape) = map (λ prefix. shape_of a ∷ prefix) (of_claim (depth + 1) c) in
           let back : List (List Shape) = map (λ prefix. shape_of a ∷ prefix) (of_claims (depth + 1) (filter (λ d. v == value_at depth d) claims)) in
           let cut : is_in p (front ++ back) ≡ true =
-          ap (is_in p) (sym (map_append (λ prefix. shape_of a ∷ prefix) (of_claim (depth + 1) c) (of_claims (depth + 1) (filter (λ d. v == value_at depth d) claims)))) ∙ whole in
+          ap (is_in p) (sym (map-append (λ prefix. shape_of a ∷ prefix) (of_claim (depth + 1) c) (of_claims (depth + 1) (filter (λ d. v == value_at depth d) claims)))) ∙ whole in
           elim (or_cases (is_in p front) (is_in p back) (sym (list_any-append (same_shapes p) front back) ∙ cut)) [
             | inl here ↦ joined ∙ or_left (is_in p (of_claim depth c)) (is_in p (of_claims depth claims)) (ap (is_in p) own ∙ or_right (same_shapes p (shape_of a ∷ [])) (is_in p front) here)
             | inr there ↦ joined ∙ or_right (is_in p (of_claim depth c)) (is_in p (of_claims depth claims)) (behind_shape depth v a claims p parts.1 there)
@@ -339,26 +319,18 @@ distinct_few (p ∷ lists) =
       | inr other ↦ rw other (omega (arith, distinct_few lists))
     ]
 
-length_map : {X Y : Type 0} (f : X → Y) (xs : List X) → length (map f xs) ≡ length xs
-length_map f [] = refl
-length_map f (x ∷ xs) = omega (arith, length_map f xs)
-
 pub length_prefixes : (shapes : List Shape) → length (prefixes_of shapes) ≡ length shapes
 length_prefixes [] = refl
-length_prefixes (s ∷ shapes) = omega (arith, length_map (λ prefix. s ∷ prefix) (prefixes_of shapes), length_prefixes shapes)
-
-length_joined : {X : Type 0} (xs ys : List X) → length (xs ++ ys) ≡ length xs + length ys
-length_joined [] ys = omega arith
-length_joined (x ∷ xs) ys = omega (arith, length_joined xs ys)
+length_prefixes (s ∷ shapes) = omega (arith, length-map (prefixes_of shapes) (λ prefix. s ∷ prefix), length_prefixes shapes)
 
 length_of : (rows : List RowValue) → length (of_claims 0 (map claim_in rows)) ≡ sum_by (λ (r : RowValue). length r.claim.filter) rows
 length_of [] = refl
 length_of (r ∷ rows) =
     omega (
       arith,
-      length_joined (of_claim 0 r.claim) (of_claims 0 (map claim_in rows)),
+      length-append (of_claim 0 r.claim) (of_claims 0 (map claim_in rows)),
       length_prefixes (shapes_from 0 r.claim),
-      length_map shape_of r.claim.filter,
+      length-map r.claim.filter shape_of,
       length_of rows,
       sum_by-cons (λ (x : RowValue). length x.claim.filter) r rows,
     )
@@ -375,12 +347,8 @@ distinct_all (s ∷ shapes) =
 
 pub prefixes_alone : (depth : ℕ) (c : ClaimValue) → length (drop depth c.filter) ≤ prefixes_from depth (c ∷ [])
 prefixes_alone depth c =
-    let joined : of_claims depth (c ∷ []) ≡ of_claim depth c = append_none (of_claim depth c) in
-    rw joined (omega (arith, distinct_all (shapes_from depth c), length_map shape_of (drop depth c.filter)))
-  where
-    append_none : {X : Type 0} (xs : List X) → xs ++ [] ≡ xs
-    append_none [] = refl
-    append_none (x ∷ xs) = ap (λ ys. x ∷ ys) (append_none xs)
+    let joined : of_claims depth (c ∷ []) ≡ of_claim depth c = append-nil (of_claim depth c) in
+    rw joined (omega (arith, distinct_all (shapes_from depth c), length-map (drop depth c.filter) shape_of))
 
 pub alone_prefixes : (depth : ℕ) (claims : List ClaimValue) (d : ClaimValue) → length claims ≡ 1 → length (drop depth (slice_index_or claims 0 d).filter) ≤ prefixes_from depth claims
 alone_prefixes depth [] d one = absurd (omega (arith, one))
@@ -392,4 +360,4 @@ pub alone_part : (n count : ℕ) (claims : List ClaimValue) (d : ClaimValue) →
     → length (drop 0 (slice_index_or claims n d).filter) ≤ prefixes_from 0 (take count (drop n claims))
 alone_part n count claims d one within =
     let there : n < length claims = omega (arith, one, within, length-drop n claims) in
-    rw (one, drop_at n d claims there) (prefixes_alone 0 (slice_index_or claims n d))
+    rw (one, drop_more claims n d there) (prefixes_alone 0 (slice_index_or claims n d))

@@ -2,11 +2,10 @@
 use Rattle.std.proofs.Common.{◌≡◌, ℕ, zero, suc, ◌<◌, ◌≤◌, Bool, true, false, List, [], ◌∷◌, Some, None, length, set, refl, sym, ap, subst, ◌∙◌, arith, inl, inr}
 use Rattle.std.specs.Prelude.{All, find, map, nat_le, nat_lt, if◌then◌else◌, slice_index_or}
 use Rattle.std.specs.List.Sorted.{IsNonDecreasingBy}
-use Rattle.std.proofs.lemmas.Bool.{cases_Bool, cases_eq, eqb-true, leb-true, ltb-false, ltb-true, ne_eqb}
+use Rattle.std.proofs.lemmas.Bool.{and_parts, cases_Bool, cases_eq, eqb-true, leb-true, ltb-false, ltb-true, ne_eqb}
 use Rattle.std.proofs.lemmas.List.Kept.{AllPairs-cons}
 use Rattle.filter_tree.specs.ClaimBook.{AreRising, RowValue, are_numbered, is_of_env}
 use Rattle.filter_tree.specs.Claims.{is_claim, is_numbered}
-use Rattle.filter_tree.proofs.Numbers.{both}
 
 abbrev pub numbered : ℕ → RowValue → Bool
 numbered id r = is_numbered id r.claim
@@ -25,15 +24,15 @@ rising_ids rows rise i j d before within =
 -- the claims of a book rise
 all_from : (least end : ℕ) (rows : List RowValue) → are_numbered least end rows ≡ true → (k : ℕ) (d : RowValue) → k < length rows → least ≤ (slice_index_or rows k d).claim.id
 all_from least end [] is k d within = absurd (omega (arith, within))
-all_from least end (r ∷ rows) is zero d within = leb-true least r.claim.id (both (nat_le least r.claim.id) (are_numbered (suc r.claim.id) end rows) is).0
+all_from least end (r ∷ rows) is zero d within = leb-true least r.claim.id (and_parts (nat_le least r.claim.id) (are_numbered (suc r.claim.id) end rows) is).0
 all_from least end (r ∷ rows) is (suc k) d within =
-    let parts = both (nat_le least r.claim.id) (are_numbered (suc r.claim.id) end rows) is in
+    let parts = and_parts (nat_le least r.claim.id) (are_numbered (suc r.claim.id) end rows) is in
     omega (arith, leb-true least r.claim.id parts.0, all_from (suc r.claim.id) end rows parts.1 k d (omega (arith, within)))
 
 pub numbered_rising : (least end : ℕ) (rows : List RowValue) → are_numbered least end rows ≡ true → AreRising rows
 numbered_rising least end [] is = λ i j d before within. absurd (omega (arith, within))
 numbered_rising least end (r ∷ rows) is =
-    let parts = both (nat_le least r.claim.id) (are_numbered (suc r.claim.id) end rows) is in
+    let parts = and_parts (nat_le least r.claim.id) (are_numbered (suc r.claim.id) end rows) is in
     let later : All (λ (s : RowValue). r.claim.id < s.claim.id) rows = λ k d within. (let from = all_from (suc r.claim.id) end rows parts.1 k d within in omega (arith, from)) in
     AllPairs-cons (λ (s t : RowValue). s.claim.id < t.claim.id) r rows later (numbered_rising (suc r.claim.id) end rows parts.1)
 

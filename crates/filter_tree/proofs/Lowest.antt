@@ -6,7 +6,7 @@ use Rattle.std.specs.Option.{option_map}
 use Rattle.std.proofs.lemmas.Bool.{and_parts, cases_Bool, cases_lt, le-leb, lt-leb}
 use Rattle.filter_tree.specs.ClaimBook.{ClaimValue, RowValue, are_numbered, claim_in}
 use Rattle.filter_tree.specs.Tree.{comes_before, lower, lowest, number_if, planted}
-use Rattle.filter_tree.proofs.Numbers.{above, both}
+use Rattle.filter_tree.proofs.Numbers.{above}
 
 pub lower_none : (a : Option ℕ) → lower a None ≡ a
 lower_none None = refl
@@ -124,7 +124,7 @@ pub lowest_is_first : (t : ClaimValue → Bool) (least end : ℕ) (rows : List R
     → lowest t (map claim_in rows) ≡ option_map (λ (r : RowValue). r.claim.id) (find (λ (r : RowValue). t r.claim) rows)
 lowest_is_first t least end [] is = refl
 lowest_is_first t least end (r ∷ rows) is =
-    let parts = both (nat_le least r.claim.id) (are_numbered (suc r.claim.id) end rows) is in
+    let parts = and_parts (nat_le least r.claim.id) (are_numbered (suc r.claim.id) end rows) is in
     let rest = lowest_is_first t (suc r.claim.id) end rows parts.1 in
     elim (cases_Bool (t r.claim)) [
       | inl here ↦ rw here (ap (lower (Some r.claim.id)) rest ∙ first_is_lowest (suc r.claim.id) end r.claim.id t rows parts.1 (omega arith) _ refl)

@@ -1,36 +1,26 @@
 -- The numbers of claims rise.
 use Rattle.std.proofs.Common.{◌≡◌, ℕ, suc, ◌+◌, ◌≤◌, Bool, true, false, Option, List, [], ◌∷◌, ◌++◌, Some, refl, ap, ◌∙◌, arith, inl, inr}
 use Rattle.std.specs.Prelude.{◌&&◌, nat_le, filter, find, map, if◌then◌else◌}
-use Rattle.std.proofs.lemmas.Bool.{cases_Bool, eq-eqb, le-leb, leb-true, ne_eqb}
+use Rattle.std.proofs.lemmas.Bool.{and_from, and_parts, cases_Bool, eq-eqb, le-leb, leb-true, ne_eqb}
 use Rattle.filter_tree.specs.ClaimBook.{ClaimValue, RowValue, are_numbered}
 use Rattle.filter_tree.specs.Claims.{row_with_handler, row_with_handler_if, is_numbered, row_after_packet, row_after_packet_if}
 use Rattle.filter_tree.specs.Laws.{FirstIsNumbered}
-
--- both of two tests
-pub both : (a b : Bool) → (a && b) ≡ true → (a ≡ true) × (b ≡ true)
-both true b is = (refl, is)
-both false b is = cc
-
-pub and_both : (a b : Bool) → a ≡ true → b ≡ true → (a && b) ≡ true
-and_both true true is other = refl
-and_both true false is other = cc
-and_both false b is other = cc
 
 -- from a lower number on they rise too
 from_lower : (low least end : ℕ) (rows : List RowValue) → low ≤ least → are_numbered least end rows ≡ true → are_numbered low end rows ≡ true
 from_lower low least end [] below is = le-leb low end (omega (arith, leb-true least end is))
 from_lower low least end (r ∷ rows) below is =
-    let parts = both (nat_le least r.claim.id) (are_numbered (suc r.claim.id) end rows) is in
-    and_both (nat_le low r.claim.id) (are_numbered (suc r.claim.id) end rows) (le-leb low r.claim.id (omega (arith, leb-true least r.claim.id parts.0))) parts.1
+    let parts = and_parts (nat_le least r.claim.id) (are_numbered (suc r.claim.id) end rows) is in
+    and_from (nat_le low r.claim.id) (are_numbered (suc r.claim.id) end rows) (le-leb low r.claim.id (omega (arith, leb-true least r.claim.id parts.0))) parts.1
 
 -- some of them rise
 pub numbered_filter : (keep : RowValue → Bool) (least end : ℕ) (rows : List RowValue) → are_numbered least end rows ≡ true → are_numbered least end (filter keep rows) ≡ true
 numbered_filter keep least end [] is = is
 numbered_filter keep least end (r ∷ rows) is =
-    let parts = both (nat_le least r.claim.id) (are_numbered (suc r.claim.id) end rows) is in
+    let parts = and_parts (nat_le least r.claim.id) (are_numbered (suc r.claim.id) end rows) is in
     let rest = numbered_filter keep (suc r.claim.id) end rows parts.1 in
     elim (cases_Bool (keep r)) [
-      | inl stays ↦ rw stays (and_both (nat_le least r.claim.id) (are_numbered (suc r.claim.id) end (filter keep rows)) parts.0 rest)
+      | inl stays ↦ rw stays (and_from (nat_le least r.claim.id) (are_numbered (suc r.claim.id) end (filter keep rows)) parts.0 rest)
       | inr goes ↦ rw goes (from_lower least (suc r.claim.id) end (filter keep rows) (omega (arith, leb-true least r.claim.id parts.0)) rest)
     ]
 
@@ -38,10 +28,10 @@ numbered_filter keep least end (r ∷ rows) is =
 pub numbered_more : (least end : ℕ) (rows : List RowValue) (r : RowValue) → r.claim.id ≡ end → are_numbered least end rows ≡ true → are_numbered least (end + 1) (rows ++ r ∷ []) ≡ true
 numbered_more least end [] r next is =
     let below = leb-true least end is in
-    and_both (nat_le least r.claim.id) (nat_le (suc r.claim.id) (end + 1)) (le-leb least r.claim.id (omega (arith, below, next))) (le-leb (suc r.claim.id) (end + 1) (omega (arith, next)))
+    and_from (nat_le least r.claim.id) (nat_le (suc r.claim.id) (end + 1)) (le-leb least r.claim.id (omega (arith, below, next))) (le-leb (suc r.claim.id) (end + 1) (omega (arith, next)))
 numbered_more least end (x ∷ rows) r next is =
-    let parts = both (nat_le least x.claim.id) (are_numbered (suc x.claim.id) end rows) is in
-    and_both (nat_le least x.claim.id) (are_numbered (suc x.claim.id) (end + 1) (rows ++ r ∷ [])) parts.0 (numbered_more (suc x.claim.id) end rows r next parts.1)
+    let parts = and_parts (nat_le least x.claim.id) (are_numbered (suc x.claim.id) end rows) is in
+    and_from (nat_le least x.claim.id) (are_numbered (suc x.claim.id) (end + 1) (rows ++ r ∷ [])) parts.0 (numbered_more (suc x.claim.id) end rows r next parts.1)
 
 -- a claim is the same whichever buffer is next
 pub same_claim : (id : ℕ) (r : RowValue) → (row_after_packet_if id r).claim ≡ r.claim
@@ -64,15 +54,15 @@ pub numbered_same : (f : RowValue → RowValue) → ((r : RowValue) → (f r).cl
     → are_numbered least end (map f rows) ≡ true
 numbered_same f same least end [] is = is
 numbered_same f same least end (r ∷ rows) is =
-    let parts = both (nat_le least r.claim.id) (are_numbered (suc r.claim.id) end rows) is in
+    let parts = and_parts (nat_le least r.claim.id) (are_numbered (suc r.claim.id) end rows) is in
     ap (λ (c : ClaimValue). nat_le least c.id && are_numbered (suc c.id) end (map f rows)) (same r)
-    ∙ and_both (nat_le least r.claim.id) (are_numbered (suc r.claim.id) end (map f rows)) parts.0 (numbered_same f same (suc r.claim.id) end rows parts.1)
+    ∙ and_from (nat_le least r.claim.id) (are_numbered (suc r.claim.id) end (map f rows)) parts.0 (numbered_same f same (suc r.claim.id) end rows parts.1)
 
 -- the numbers of later claims are not below
 pub above : (test : ClaimValue → Bool) (least end : ℕ) (rows : List RowValue) (r : RowValue) → are_numbered least end rows ≡ true → find (λ (x : RowValue). test x.claim) rows ≡ Some r → least ≤ r.claim.id
 above test least end [] r is found = cc
 above test least end (x ∷ rows) r is found =
-    let parts = both (nat_le least x.claim.id) (are_numbered (suc x.claim.id) end rows) is in
+    let parts = and_parts (nat_le least x.claim.id) (are_numbered (suc x.claim.id) end rows) is in
     let low = leb-true least x.claim.id parts.0 in
     elim (cases_Bool (test x.claim)) [
       | inl here ↦ let same : x ≡ r = cc (rw here at found) in omega (arith, low, ap (λ (y : RowValue). y.claim.id) same)
@@ -83,7 +73,7 @@ pub first_numbered : (test : ClaimValue → Bool) (least end : ℕ) (rows : List
     → find (λ (x : RowValue). is_numbered r.claim.id x.claim) rows ≡ Some r
 first_numbered test least end [] r is found = cc
 first_numbered test least end (x ∷ rows) r is found =
-    let parts = both (nat_le least x.claim.id) (are_numbered (suc x.claim.id) end rows) is in
+    let parts = and_parts (nat_le least x.claim.id) (are_numbered (suc x.claim.id) end rows) is in
     elim (cases_Bool (test x.claim)) [
       | inl here ↦
           let same : x ≡ r = cc (rw here at found) in

@@ -1,8 +1,9 @@
 -- The claims to which a packet comes.
 use Rattle.std.proofs.Common.{◌≡◌, ℕ, zero, suc, ◌+◌, ◌<◌, Bool, true, false, not, List, [], ◌∷◌, Option, Some, None, length, drop, refl, sym, ap, ◌∙◌, arith, inl, inr}
+use Rattle.std.proofs.Math.Seq.{drop-nil}
 use Rattle.std.specs.List.{list_all}
 use Rattle.std.specs.Prelude.{◌==◌, ◌&&◌, nat_le, filter, slice_index_or, bit_and, if◌then◌else◌}
-use Rattle.std.proofs.lemmas.Bool.{and_parts, cases_Bool, eqb-true}
+use Rattle.std.proofs.lemmas.Bool.{and_from, and_parts, cases_Bool, eqb-true}
 use Rattle.std.proofs.lemmas.List.Kept.{AllPairs-filter}
 use Rattle.filter_core.specs.declared.atom.Atom.{Atom}
 use Rattle.filter_core.specs.Matching.{field, matches}
@@ -10,7 +11,6 @@ use Rattle.filter_tree.specs.ClaimBook.{ClaimValue}
 use Rattle.filter_tree.specs.Tree.{AreInOrder, IsSplit, begins, begins_with, comes_before, first_value, is_branch, lower, lowest, matches_from, starts_with, value_at}
 use Rattle.filter_tree.proofs.Atoms.{drop_one}
 use Rattle.filter_tree.proofs.Lowest.{lower_join, lowest_filter, lowest_parts, lowest_none, lowest_same}
-use Rattle.filter_tree.proofs.Numbers.{and_both}
 use Rattle.filter_tree.proofs.Order.{all_at, has_own_shape, shape_is, tails_before}
 
 -- a field that was read, or not
@@ -101,8 +101,8 @@ pub branch_is : (depth : ℕ) (a : Atom) (claims : List ClaimValue) → starts_w
 branch_is depth a [] first = cc
 branch_is depth a (c ∷ claims) first =
     let kept : filter (begins depth a) (c ∷ claims) ≡ c ∷ filter (begins depth a) claims = rw first refl in
-    ap (is_branch depth a) kept ∙ and_both (begins depth a c) (begins depth a c && list_all (begins depth a) (filter (begins depth a) claims)) first
-    (and_both (begins depth a c) (list_all (begins depth a) (filter (begins depth a) claims)) first (passes (begins depth a) claims))
+    ap (is_branch depth a) kept ∙ and_from (begins depth a c) (begins depth a c && list_all (begins depth a) (filter (begins depth a) claims)) first
+    (and_from (begins depth a c) (list_all (begins depth a) (filter (begins depth a) claims)) first (passes (begins depth a) claims))
 
 -- where the first has no more atoms
 pub first_ends : (depth : ℕ) (packet : List ℕ) (claims : List ClaimValue) (c : ClaimValue) → 0 < length claims → c ≡ slice_index_or claims 0 c → drop depth c.filter ≡ []
@@ -112,17 +112,13 @@ first_ends depth packet (d ∷ claims) c some is none =
     let same : drop depth d.filter ≡ [] = ap (λ (x : ClaimValue). drop depth x.filter) (sym is) ∙ none in
     rw (same, ap (λ (x : ClaimValue). x.id) is) refl
 
-pub drop_more : {X : Type 0} (n m : ℕ) (xs : List X) → drop (n + m) xs ≡ drop m (drop n xs)
-drop_more zero m xs = ap (λ k. drop k xs) (omega arith)
-drop_more (suc n) m [] = drop_none (suc n + m) ∙ sym (drop_none m)
-  where
-    drop_none : {Y : Type 0} (k : ℕ) → drop {A = Y} k [] ≡ []
-    drop_none zero = refl
-    drop_none (suc k) = refl
-drop_more (suc n) m (x ∷ xs) = let e : suc n + m ≡ suc (n + m) = omega arith in rw e (drop_more n m xs)
+pub drop_twice : {X : Type 0} (n m : ℕ) (xs : List X) → drop (n + m) xs ≡ drop m (drop n xs)
+drop_twice zero m xs = ap (λ k. drop k xs) (omega arith)
+drop_twice (suc n) m [] = drop-nil (suc n + m) ∙ sym (drop-nil m)
+drop_twice (suc n) m (x ∷ xs) = let e : suc n + m ≡ suc (n + m) = omega arith in rw e (drop_twice n m xs)
 
 pub behind_is : {X : Type 0} (p : X → Bool) (xs : List X) (start end : ℕ) → IsSplit p (drop start xs) end → drop (start + end) xs ≡ filter (λ x. not (p x)) (drop start xs)
-behind_is p xs start end split = drop_more start end xs ∙ split.back
+behind_is p xs start end split = drop_twice start end xs ∙ split.back
 
 -- a branch after what was found
 pub join_step : (t q : ClaimValue → Bool) (found : Option ℕ) (rest all : List ClaimValue) → lower found (lowest t rest) ≡ lowest t all
