@@ -8,6 +8,7 @@ use Rattle.std.proofs.lemmas.List.Splits.{slice_split-cons_yes, slice_split-cons
 use Rattle.std.proofs.lemmas.List.Sums.{fails_before_first}
 use Rattle.std.specs.Prelude.{◌&&◌, ◌-◌, not}
 use Rattle.std.specs.List.{All, filter, list_all, onto_first, position, position_or_len, slice_split}
+use Rattle.std.proofs.lemmas.Bool.{and_parts}
 use Rattle.line_text.specs.Characters.{is_blank}
 use Rattle.line_text.specs.Words.{before_comment, is_word, words_in, words_of}
 
@@ -102,17 +103,13 @@ no_words_left bs none =
     no_words bs (λ k within. is_not_solid (get_or bs k 0) (fails_before_first solid bs k 0 (omega (arith, beyond))))
 
 -- What holds of each byte of a line holds of each byte of its words.
-and_both : (a b : Bool) → (a && b) ≡ true → (a ≡ true) × (b ≡ true)
-and_both true b both = (refl, both)
-and_both false b both = absurd cc
-
 all_first : (test : ℕ → Bool) (b : ℕ) (parts : List (List ℕ)) → test b ≡ true → list_all (list_all test) parts ≡ true → list_all (list_all test) (onto_first b parts) ≡ true
 all_first test b [] here rest = rw here refl
 all_first test b (part ∷ parts) here rest = rw here rest
 
 all_parts : (test : ℕ → Bool) (bs : List ℕ) → list_all test bs ≡ true → list_all (list_all test) (slice_split is_blank bs) ≡ true
 all_parts test [] all = refl
-all_parts test (b ∷ bs) all = by_byte (and_both (test b) (list_all test bs) all) (all_parts test bs) (is_blank b) refl
+all_parts test (b ∷ bs) all = by_byte (and_parts (test b) (list_all test bs) all) (all_parts test bs) (is_blank b) refl
   where
     by_byte : (test b ≡ true) × (list_all test bs ≡ true) → (list_all test bs ≡ true → list_all (list_all test) (slice_split is_blank bs) ≡ true) → (v : Bool) → is_blank b ≡ v →
         list_all (list_all test) (slice_split is_blank (b ∷ bs)) ≡ true
@@ -121,7 +118,7 @@ all_parts test (b ∷ bs) all = by_byte (and_both (test b) (list_all test bs) al
 
 all_kept : (test : List ℕ → Bool) (parts : List (List ℕ)) → list_all test parts ≡ true → list_all test (filter is_word parts) ≡ true
 all_kept test [] all = refl
-all_kept test (part ∷ parts) all = by_part (and_both (test part) (list_all test parts) all) (all_kept test parts) (is_word part) refl
+all_kept test (part ∷ parts) all = by_part (and_parts (test part) (list_all test parts) all) (all_kept test parts) (is_word part) refl
   where
     by_part : (test part ≡ true) × (list_all test parts ≡ true) → (list_all test parts ≡ true → list_all test (filter is_word parts) ≡ true) → (v : Bool) → is_word part ≡ v →
         list_all test (filter is_word (part ∷ parts)) ≡ true
@@ -132,7 +129,7 @@ all_front : (test : ℕ → Bool) (n : ℕ) (bs : List ℕ) → list_all test bs
 all_front test zero bs all = refl
 all_front test (suc n) [] all = refl
 all_front test (suc n) (b ∷ bs) all =
-    let both = and_both (test b) (list_all test bs) all in
+    let both = and_parts (test b) (list_all test bs) all in
     rw both.0 (all_front test n bs both.1)
 
 pub all_words : (test : ℕ → Bool) (line : List ℕ) → list_all test line ≡ true → list_all (list_all test) (words_of line) ≡ true

@@ -1,6 +1,7 @@
 -- Printed fields, as the assembler takes them.
 use Rattle.std.proofs.Common.{◌≡◌, ℕ, ◌+◌, ◌-◌, ◌*◌, ◌/◌, ◌%◌, ◌^◌, ◌<◌, ◌≤◌, ◌∙◌, Bool, true, false, Result, Ok, refl, arith, ltb-true, ltb-false, le-leb, eq-eqb}
 use Rattle.std.specs.Prelude.{◌==◌, ◌||◌, nat_lt, nat_le, if◌then◌else◌}
+use Rattle.std.proofs.lemmas.Bool.{or_right}
 use Rattle.asm_parse.specs.Expression.{negated}
 use Rattle.asm_parse.specs.declared.fault.AsmWhy.{AsmWhy}
 use Rattle.mips_text.specs.WordRows.{field_of}
@@ -27,10 +28,6 @@ field_text_read Unsigned word address = half_text_read (field_of Unsigned word) 
 field_text_read Code word address = decimal_text (field_of Code word) (omega arith)
 field_text_read Branch word address = word_text_read (branch_target address (field_of Branch word)) (omega arith)
 field_text_read Jump word address = word_text_read (jump_target address (field_of Jump word)) (omega arith)
-
-or_right : (a b : Bool) → b ≡ true → (a || b) ≡ true
-or_right true b is = refl
-or_right false b is = is
 
 within_high : (low high v : ℕ) → v ≤ high → lies low high v ≡ true
 within_high low high v is = rw (le-leb v high is) refl

@@ -6,6 +6,7 @@ use Rattle.std.proofs.Math.Bool.{and-false}
 use Rattle.std.specs.List.{list_all, starts_with}
 use Rattle.std.specs.Char.{is_ascii_alphanumeric}
 use Rattle.std.proofs.lemmas.List.Folds.{list_all-append}
+use Rattle.std.proofs.lemmas.Bool.{and_parts}
 use Rattle.line_text.specs.Number.{numeral_of}
 use Rattle.line_text.specs.Text.{dec_text, hex_text}
 use Rattle.asm_parse.specs.Expression.{negated, number_of}
@@ -44,11 +45,7 @@ digit_begins c is = let r = digit_range c is in grind (arith, nat_tests)
 
 digits_begin : (bs : List ℕ) → list_all is_decimal bs ≡ true → 0 < length bs → (c : ℕ) × (cs : List ℕ) × (bs ≡ c ∷ cs) × (begins_number c ≡ true)
 digits_begin [] all some = absurd (omega arith)
-digits_begin (c ∷ cs) all some = (c, cs, refl, digit_begins c (first (is_decimal c) (list_all is_decimal cs) all))
-  where
-    first : (a r : Bool) → (a && r) ≡ true → a ≡ true
-    first true r h = refl
-    first false r h = cc
+digits_begin (c ∷ cs) all some = (c, cs, refl, digit_begins c (and_parts (is_decimal c) (list_all is_decimal cs) all).0)
 
 pub decimal_text : (n : ℕ) → n < 2 ^ 32 → IsNumber (dec_text n) n
 decimal_text n small =
@@ -134,24 +131,17 @@ numeral_none most ds rest = rw (list_all-append is_decimal ds (40 ∷ rest), and
 not_hexadecimal_then : (ds rest : List ℕ) → list_all is_decimal ds ≡ true → 0 < length ds → starts_with nat_eq (ds ++ 40 ∷ rest) (codes "0x") ≡ false
 not_hexadecimal_then [] rest all some = absurd (omega arith)
 not_hexadecimal_then (c ∷ []) rest all some = and-false (48 == c)
-not_hexadecimal_then (c ∷ d ∷ ds) rest all some = let x = digit_not_x d (second (is_decimal c) (is_decimal d) (list_all is_decimal ds) all) in rw (x, and-false (48 == c)) refl
+not_hexadecimal_then (c ∷ d ∷ ds) rest all some =
+    let digits = (and_parts (is_decimal c) (list_all is_decimal (d ∷ ds)) all).1 in
+    let x = digit_not_x d (and_parts (is_decimal d) (list_all is_decimal ds) digits).0 in rw (x, and-false (48 == c)) refl
   where
-    second : (a b r : Bool) → (a && (b && r)) ≡ true → b ≡ true
-    second true true r h = refl
-    second true false r h = cc
-    second false b r h = cc
-
     digit_not_x : (d : ℕ) → is_decimal d ≡ true → (120 == d) ≡ false
     digit_not_x d is = let r = digit_range d is in grind (arith, nat_tests)
 
 not_signed_then : (ds rest : List ℕ) → list_all is_decimal ds ≡ true → 0 < length ds → starts_with nat_eq (ds ++ 40 ∷ rest) (codes "-") ≡ false
 not_signed_then [] rest all some = absurd (omega arith)
-not_signed_then (c ∷ cs) rest all some = let x = digit_not_sign c (first (is_decimal c) (list_all is_decimal cs) all) in rw x refl
+not_signed_then (c ∷ cs) rest all some = let x = digit_not_sign c (and_parts (is_decimal c) (list_all is_decimal cs) all).0 in rw x refl
   where
-    first : (a r : Bool) → (a && r) ≡ true → a ≡ true
-    first true r h = refl
-    first false r h = cc
-
     digit_not_sign : (d : ℕ) → is_decimal d ≡ true → (45 == d) ≡ false
     digit_not_sign d is = let r = digit_range d is in grind (arith, nat_tests)
 

@@ -110,24 +110,17 @@ numeral_half n small = let writes : Writes 4 n = omega arith in numeral_hex 3 n 
 not_hexadecimal : (ds : List ℕ) → list_all is_decimal ds ≡ true → starts_with nat_eq ds (codes "0x") ≡ false
 not_hexadecimal [] all = refl
 not_hexadecimal (c ∷ []) all = and-false (48 == c)
-not_hexadecimal (c ∷ d ∷ ds) all = let x = digit_not_x d (second (is_decimal c) (is_decimal d) (list_all is_decimal ds) all) in rw (x, and-false) refl
+not_hexadecimal (c ∷ d ∷ ds) all =
+    let rest = (and_parts (is_decimal c) (list_all is_decimal (d ∷ ds)) all).1 in
+    let x = digit_not_x d (and_parts (is_decimal d) (list_all is_decimal ds) rest).0 in rw (x, and-false) refl
   where
-    second : (a b r : Bool) → (a && (b && r)) ≡ true → b ≡ true
-    second true true r h = refl
-    second true false r h = cc
-    second false b r h = cc
-
     digit_not_x : (d : ℕ) → is_decimal d ≡ true → (120 == d) ≡ false
     digit_not_x d is = let r = digit_range d is in grind (arith, nat_tests)
 
 not_signed : (ds : List ℕ) → list_all is_decimal ds ≡ true → starts_with nat_eq ds (codes "-") ≡ false
 not_signed [] all = refl
-not_signed (c ∷ cs) all = let x = digit_not_sign c (first (is_decimal c) (list_all is_decimal cs) all) in rw x refl
+not_signed (c ∷ cs) all = let x = digit_not_sign c (and_parts (is_decimal c) (list_all is_decimal cs) all).0 in rw x refl
   where
-    first : (a r : Bool) → (a && r) ≡ true → a ≡ true
-    first true r h = refl
-    first false r h = cc
-
     digit_not_sign : (d : ℕ) → is_decimal d ≡ true → (45 == d) ≡ false
     digit_not_sign d is = let r = digit_range d is in grind (arith, nat_tests)
 

@@ -1,7 +1,7 @@
 -- The rows of words, and what is read by them.
 use Rattle.std.proofs.Common.{◌≡◌, ℕ, ◌+◌, inl, inr, Bool, true, false, List, [], ◌∷◌, ◌++◌, Some, refl, subst, eqb-true, eq-eqb}
 use Rattle.std.specs.Prelude.{◌&&◌, not, nat_eq, codes}
-use Rattle.std.proofs.lemmas.Bool.{and_parts, cases_Bool}
+use Rattle.std.proofs.lemmas.Bool.{and_parts, cases_Bool, not-true}
 use Rattle.std.specs.List.{find, list_all, starts_with}
 use Rattle.std.specs.Map.{lookup}
 use Rattle.std.specs.Str.{bytes_eq}
@@ -41,10 +41,6 @@ same_bytes : (bs : List ℕ) → bytes_eq bs bs ≡ true
 same_bytes [] = refl
 same_bytes (b ∷ bs) = rw (eq-eqb b b refl, same_bytes bs) refl
 
-from_not : (a : Bool) → not a ≡ true → a ≡ false
-from_not true is = cc
-from_not false is = refl
-
 -- the name of a row that is found leads to the row's text
 named_text : (test : List ℕ × TextValue → Bool) (rows more : List (List ℕ × TextValue)) (row : List ℕ × TextValue) → are_apart rows ≡ true → find test rows ≡ Some row
     → lookup (bytes_eq row.0) (rows ++ more) ≡ Some row.1
@@ -57,7 +53,7 @@ named_text test (r ∷ rows) more row apart found =
           subst (λ x. lookup (bytes_eq x.0) ((r ∷ rows) ++ more) ≡ Some x.1) is (rw (same_bytes r.0) refl)
       | inr later ↦
           let found_later : find test rows ≡ Some row = rw later at found in
-          let other : bytes_eq row.0 r.0 ≡ false = from_not (bytes_eq row.0 r.0) (find_holds (λ x. not (bytes_eq x.0 r.0)) test rows row parts.0 found_later) in
+          let other : bytes_eq row.0 r.0 ≡ false = not-true (bytes_eq row.0 r.0) (find_holds (λ x. not (bytes_eq x.0 r.0)) test rows row parts.0 found_later) in
           rw other (named_text test rows more row parts.1 found_later)
     ]
 
@@ -82,7 +78,7 @@ row_found word row found =
     let more = and_parts (not (starts_with nat_eq row.0 (codes "."))) (is_one_word row.1.operands) parts.1 in
     record {
       name = parts.0;
-      no_directive = from_not (starts_with nat_eq row.0 (codes ".")) more.0;
+      no_directive = not-true (starts_with nat_eq row.0 (codes ".")) more.0;
       one_word = more.1;
       text = named_text test main_rows further_rows row refl found;
       whole = eqb-true word (row.1.word + operand_bits row.1.operands word) (find_passes test main_rows row found);

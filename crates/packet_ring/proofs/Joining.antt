@@ -1,7 +1,7 @@
 -- Bytes that are put into a page in two parts.
 use Rattle.std.proofs.Common.{◌≡◌, ℕ, ◌+◌, ◌<◌, ◌≤◌, List, [], ◌++◌, length, take, drop, sym, ◌∙◌, ap, arith, append_assoc, append-nil, length-append, length-drop}
 use Rattle.std.specs.Prelude.{Bool, true, false, ◌&&◌, nat_le}
-use Rattle.std.proofs.lemmas.Bool.{leb-true}
+use Rattle.std.proofs.lemmas.Bool.{and_parts, leb-true}
 use Rattle.std.proofs.lemmas.List.{drop-drop, drop_all, length-take-le, set-set, take_at}
 use Rattle.std.proofs.Math.Seq.{drop-append-add, get_or-set_same}
 use Rattle.aegis_limits.specs.Limits.{page_size}
@@ -58,11 +58,7 @@ put_joined frames page buffer first packet there size within word =
 
 -- a packet's length is a word's
 pub short : (packet : List ℕ) → is_packet packet ≡ true → length packet ≤ most_packet_size
-short packet is = omega (arith, leb-true (length packet) most_packet_size (second (nat_le 1 (length packet)) (nat_le (length packet) most_packet_size) is))
-  where
-    second : (a b : Bool) → (a && b) ≡ true → b ≡ true
-    second true b both = both
-    second false b both = cc
+short packet is = omega (arith, leb-true (length packet) most_packet_size (and_parts (nat_le 1 (length packet)) (nat_le (length packet) most_packet_size) is).1)
 
 -- each buffer has room for it
 pub has_room : (buffer : Buffer) (packet : List ℕ) → is_packet packet ≡ true → buffer_offset buffer + 4 + length packet ≤ page_size
