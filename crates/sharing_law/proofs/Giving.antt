@@ -1,7 +1,7 @@
 -- What each phase of a tick gives to an environment: at most its first item changes guaranteed pages, or life.
 use Rattle.std.proofs.Common.{ap, ◌+◌, ◌≡◌, ◌≢◌, ℕ, List, [], ◌∷◌, ◌++◌, Bool, true, false, Option, Some, None, refl, sym, ◌∙◌, subst}
 use Rattle.std.specs.Prelude.{◌==◌, ◌&&◌, ◌-◌, nat_lt, not, if◌then◌else◌}
-use Rattle.std.proofs.lemmas.Bool.{eq-eqb, eqb-true}
+use Rattle.std.proofs.lemmas.Bool.{and_parts, eq-eqb, eqb-true}
 use Rattle.env_frames.specs.Transfer.{carried}
 use Rattle.bind_book.specs.Stripe.{is_bound}
 use Rattle.kernel_journal.specs.declared.row.Row.TheVariants as row
@@ -42,14 +42,10 @@ use Rattle.run_model.proofs.Telling.{call_stands, deed_may, call_named}
 use Rattle.sharing_law.proofs.Given.{AreTold, Gives, Hands, IsHanded, Led, Leads, Rests, Tells, gives_led, gives_own, led_more, led_only, told_at, told_both, told_death, told_left, told_lost_if, told_only}
 
 -- what may be reached is another
-both_true : (a b : Bool) → (a && b) ≡ true → (a ≡ true) × (b ≡ true)
-both_true true b is = (refl, is)
-both_true false b is = cc
-
 pub other_than : (w : World) (e target : ℕ) → is_other w e target ≡ true → e ≢ target
 other_than w e target its same =
     let alive = not (is_dead (w.solos target).life) in
-    let parts = both_true alive (not (target == e)) (both_true (nat_lt target w.count) (alive && not (target == e)) its).1 in
+    let parts = and_parts alive (not (target == e)) (and_parts (nat_lt target w.count) (alive && not (target == e)) its).1 in
     let clash : not true ≡ true = ap not (sym (eq-eqb target e (sym same))) ∙ parts.1 in
     cc
 

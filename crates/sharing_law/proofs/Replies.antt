@@ -1,7 +1,7 @@
 -- What the runner's step does to a binding that is listed, and to its page.
 use Rattle.std.proofs.Common.{◌≡◌, ℕ, Bool, true, false, ◌&&◌, Option, Some, None, is_some, refl, sym, ◌∙◌, ap, subst, inl, inr}
 use Rattle.std.specs.Prelude.{◌==◌, ◌⊎◌, not, if◌then◌else◌}
-use Rattle.std.proofs.lemmas.Bool.{and_cases, or_parts, eqb-true, eq-eqb}
+use Rattle.std.proofs.lemmas.Bool.{and_cases, eq-eqb, eqb-true, not-false, or_parts}
 use Rattle.page_book.specs.declared.row.Capabilities.{Capabilities}
 use Rattle.page_book.specs.declared.row.PageRow.{PageRow}
 use Rattle.page_book.specs.declared.row.PageRow.TheVariants.{Free, Guaranteed, Owned}
@@ -104,13 +104,9 @@ recaps w e page words owned = record {
       inr (record { listed = before.0; carried = by_test i b (b.page == page) refl before.1 });
 }
   where
-    its : (t : Bool) → not t ≡ false → t ≡ true
-    its true is = refl
-    its false is = cc
-
     by_test : (i : ℕ) (b : Binding) (t : Bool) → (b.page == page) ≡ t → (t && not (e == i)) ≡ false → IsCarried i (w.book.pages b.page) (if t then Owned e words else w.book.pages b.page)
     by_test i b true is spared =
-        let own : e ≡ i = eqb-true e i (its (e == i) spared) in
+        let own : e ≡ i = eqb-true e i (not-false (e == i) spared) in
         inr (
           subst (λ (n : ℕ). is_owned_by n (w.book.pages b.page) ≡ true) own (ap (λ (p : ℕ). is_owned_by e (w.book.pages p)) (eqb-true b.page page is) ∙ owned),
           eq-eqb e i own,
