@@ -1,7 +1,7 @@
 -- The book of revocations stays sound: each backup is a page of its environment's own.
 use Rattle.std.proofs.Common.{◌≡◌, ◌≢◌, ◌<◌, ◌+◌, ◌-◌, min, arith, ℕ, zero, suc, List, [], ◌∷◌, length, map, drop, Bool, true, false, Option, None, Some, IfSome, refl, sym, ◌∙◌, ap, subst, inl, inr, length-set}
 use Rattle.std.specs.Prelude.{◌==◌, ◌||◌, not, if◌then◌else◌, slice_set, slice_index_or}
-use Rattle.std.proofs.lemmas.Bool.{cases_eq, eq-eqb, eqb-true, eqb-false, ne_eqb}
+use Rattle.std.proofs.lemmas.Bool.{cases_eq, eq-eqb, eqb-false, eqb-true, ne_eqb, or_right}
 use Rattle.std.proofs.lemmas.List.{length-map}
 use Rattle.page_book.specs.declared.row.Capabilities.{Capabilities}
 use Rattle.page_book.specs.declared.row.PageRow.{PageRow}
@@ -114,10 +114,6 @@ module _ (book : RevocationBook) (pages given : List PageRow) (e : ℕ) (backups
       ]
 
 -- whether a page is loaded among others
-either : (s t : Bool) → (s || t) ≡ true → (s ≡ false) → t ≡ true
-either true t is none = cc
-either false t is none = is
-
 loaded_next : (t : Bool) (rest more : Bool) → (t || rest) ≡ true → (rest ≡ true → more ≡ true) → (t || more) ≡ true
 loaded_next true rest more is next = refl
 loaded_next false rest more is next = next is
@@ -127,11 +123,7 @@ loaded_last [] page p is other = let none : (page == p) ≡ false = ne_eqb page 
 loaded_last (b ∷ backups) page p is other = loaded_next (b == p) (is_loaded (loaded page backups) p) (is_loaded backups p) is (λ rest. loaded_last backups page p rest other)
 
 left_one : (b page p : ℕ) (rest more : Bool) → (t : Bool) → (b == page) ≡ t → (if not t then b == p || rest else rest) ≡ true → (rest ≡ true → (more ≡ true) × (p ≢ page)) → ((b == p || more) ≡ true) × (p ≢ page)
-left_one b page p rest more true same is next = let its = next is in (later (b == p) its.0, its.1)
-  where
-    later : (t : Bool) → more ≡ true → (t || more) ≡ true
-    later true is = refl
-    later false is = is
+left_one b page p rest more true same is next = let its = next is in (or_right (b == p) more its.0, its.1)
 left_one b page p rest more false other is next = by_test (b == p) refl is
   where
     by_test : (t : Bool) → (b == p) ≡ t → (t || rest) ≡ true → ((t || more) ≡ true) × (p ≢ page)

@@ -2,6 +2,8 @@
 use Rattle.std.proofs.Common.{◌≡◌, ◌≢◌, ◌<◌, ℕ, List, [], ◌∷◌, Bool, true, false, Option, Some, None, is_some, refl, sym, ◌∙◌, ap, arith, subst}
 use Rattle.std.specs.Prelude.{if◌then◌else◌, slice_set}
 use Rattle.std.proofs.lemmas.Bool.{eq-eqb}
+use Rattle.std.proofs.lemmas.Option.{slice_get_within}
+use Rattle.std.proofs.lemmas.List.{append-nil}
 use Rattle.frame_store.specs.Pages.{page_at}
 use Rattle.page_book.specs.declared.row.PageRow.{PageRow}
 use Rattle.page_book.specs.declared.row.PageRow.TheVariants.{Free, Guaranteed, Owned}
@@ -26,9 +28,8 @@ use Rattle.board_world.specs.Showing.{world_of, book_of, solo_of, solo_or_absent
 use Rattle.board_world.specs.Sound.{IsSound, IsOwned}
 use Rattle.board_world.specs.Doing as doing
 use Rattle.board_world.proofs.Losing.{resighted}
-use Rattle.board_world.proofs.Lists.{get_within}
 use Rattle.board_world.proofs.PageServing.{own_sees}
-use Rattle.board_world.proofs.Parts.{append_nothing, one_changed, one_given, set_here, set_else}
+use Rattle.board_world.proofs.Parts.{one_changed, one_given, set_here, set_else}
 use Rattle.board_world.proofs.Replying.{Serves, deeded, deeded_seen}
 use Rattle.board_world.proofs.Seen.{same_solo, Runs, runner_solo, runner_seen, live_record, stripe_of}
 use Rattle.board_world.proofs.Tables.{stripe_set, stripe_without}
@@ -57,7 +58,7 @@ bytes_owned b page sound owned = by_row (row_in b.pages page) refl owned
 
 module _ (b : Shown) (e : ℕ) (x : Environment) (r : Runs b e x) (sound : IsSound b) where
   striped : HasStripe b.binds e
-  striped = omega (arith, sound.books.striped, get_within b.roster.list e x r.at)
+  striped = omega (arith, sound.books.striped, slice_get_within b.roster.list e x r.at)
 
   row_within : (v : ℕ) → row_of v < stripe_rows
   row_within v = omega arith
@@ -114,7 +115,7 @@ module _ (b : Shown) (e : ℕ) (x : Environment) (r : Runs b e x) (sound : IsSou
             ∙ (λ k. absorb_all (record (bound y (runner_solo b e x)) { cpu = answered_cpu (Grant v) b.cpu }) (Gained y.page y.writable (sym (bytes_owned b y.page sound owned) k) ∷ []))
             ∙ ap (λ s. absorb_all s (Gained y.page y.writable theirs ∷ [])) (deeded_seen b e x r (Binds y word) v))
             (rebound_others rows mine v set);
-        rows = sym (append_nothing b.ledger.rows);
+        rows = sym (append-nil b.ledger.rows);
         room = omega arith;
         spare = refl;
         time = refl;
@@ -135,7 +136,7 @@ module _ (b : Shown) (e : ℕ) (x : Environment) (r : Runs b e x) (sound : IsSou
             ∙ (λ k. record (sym (unbound_keeps vpn (runner_solo b e x)) k) { cpu = answered_cpu (Grant v) b.cpu })
             ∙ deeded_seen b e x r (Unbinds vpn) v)
             (rebound_others rows mine v set);
-        rows = sym (append_nothing b.ledger.rows);
+        rows = sym (append-nil b.ledger.rows);
         room = omega arith;
         spare = refl;
         time = refl;

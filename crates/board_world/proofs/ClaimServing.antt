@@ -1,6 +1,7 @@
 -- What the runner does to its claims, on the world that is shown.
 use Rattle.std.proofs.Common.{◌≡◌, ◌≢◌, ℕ, ◌+◌, List, [], ◌∷◌, ◌++◌, true, Option, Some, None, Result, Ok, refl, sym, ◌∙◌, ap, arith}
 use Rattle.std.specs.Prelude.{is_some, map}
+use Rattle.std.proofs.lemmas.List.{append-nil}
 use Rattle.filter_core.specs.declared.atom.Atom.{Atom}
 use Rattle.filter_tree.specs.ClaimBook.{ClaimBook, are_numbered, claims_in}
 use Rattle.filter_tree.specs.Claims.{book_unless, claim_refusal, claimed, downloaded, is_claim, with_claim, without}
@@ -27,7 +28,7 @@ use Rattle.board_world.specs.Showing.{world_of, book_of, solo_of}
 use Rattle.board_world.specs.Sound.{IsSound}
 use Rattle.board_world.specs.Doing as doing
 use Rattle.board_world.proofs.Claimed.{claims_downloaded, claims_more, claims_without, rings_claimed, rings_claimed_else, rings_downloaded, rings_downloaded_else, rings_unclaimed, rings_unclaimed_else}
-use Rattle.board_world.proofs.Parts.{append_nothing, one_changed}
+use Rattle.board_world.proofs.Parts.{one_changed}
 use Rattle.board_world.proofs.Reading.{runner_look}
 use Rattle.board_world.proofs.Replying.{Serves, deeded, deeded_seen}
 use Rattle.board_world.proofs.Seen.{Runs, its_look, runner_seen, runner_solo, same_solo}
@@ -60,7 +61,7 @@ module _ (b : Shown) (e : ℕ) (x : Environment) (r : Runs b e x) (sound : IsSou
               binds = refl;
               sights = refl;
             }));
-        rows = sym (append_nothing b.ledger.rows);
+        rows = sym (append-nil b.ledger.rows);
         room = omega arith;
         spare = refl;
         time = refl;

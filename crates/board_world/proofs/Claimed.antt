@@ -3,7 +3,7 @@ use Rattle.std.proofs.Common.{◌≡◌, ◌≢◌, ℕ, List, [], ◌∷◌, �
 use Rattle.std.specs.Prelude.{◌==◌, ◌&&◌, not, if◌then◌else◌, filter, find, map, is_some}
 use Rattle.std.specs.Option.{option_map}
 use Rattle.std.specs.List.{list_all}
-use Rattle.std.proofs.lemmas.Bool.{cases_Bool, eqb-true, eq-eqb, ne_eqb}
+use Rattle.std.proofs.lemmas.Bool.{and_parts, and_right, cases_Bool, eq-eqb, eqb-true, ne_eqb}
 use Rattle.std.proofs.lemmas.List.{map-append}
 use Rattle.std.proofs.lemmas.List.Elements.{filter-append}
 use Rattle.filter_core.specs.declared.atom.Atom.{Atom}
@@ -83,11 +83,7 @@ not_both : (i e : ℕ) (c : ClaimValue) → i ≢ e → is_of_env i c ≡ true �
 not_both i e c ne its = ne_eqb c.env e (λ same. ne (sym (eqb-true c.env i its) ∙ same))
 
 pub rings_unclaimed_else : (claims : ClaimBook) (e claim i : ℕ) → i ≢ e → rings_of (without (is_claim e claim) claims) i ≡ rings_of claims i
-rings_unclaimed_else claims e claim i ne = nothing_sifted i (is_claim e claim) (λ r its. neither (is_numbered claim r.claim) (of e r) (not_both i e r.claim ne its)) claims.rows
-  where
-    neither : (a b : Bool) → b ≡ false → (a && b) ≡ false
-    neither true b is = is
-    neither false b is = refl
+rings_unclaimed_else claims e claim i ne = nothing_sifted i (is_claim e claim) (λ r its. and_right (is_numbered claim r.claim) (of e r) (not_both i e r.claim ne its)) claims.rows
 
 -- an environment is gone
 pub rings_gone : (claims : ClaimBook) (e : ℕ) → rings_of (without (is_of_env e) claims) e ≡ []
@@ -220,10 +216,6 @@ found_is test (y ∷ rows) x is =
     ]
 
 -- and the claim of a number is its environment's alone
-two_tests : (a b : Bool) → (a && b) ≡ true → (a ≡ true) × (b ≡ true)
-two_tests true b is = (refl, is)
-two_tests false b is = cc
-
 no_other : FirstIsNumbered → (claims : ClaimBook) (r : RowValue) (i : ℕ) → are_numbered 0 claims.next claims.rows ≡ true → first_row (is_numbered r.claim.id) claims ≡ Some r → i ≢ r.claim.env
     → first_row (is_claim i r.claim.id) claims ≡ None
 no_other law claims r i numbered first ne = by_found (first_row (is_claim i r.claim.id) claims) refl
@@ -231,7 +223,7 @@ no_other law claims r i numbered first ne = by_found (first_row (is_claim i r.cl
     by_found : (o : Option RowValue) → first_row (is_claim i r.claim.id) claims ≡ o → o ≡ None
     by_found None is = refl
     by_found (Some x) is =
-        let parts = two_tests (is_numbered r.claim.id x.claim) (of i x) (found_is (is_claim i r.claim.id) claims.rows x is) in
+        let parts = and_parts (is_numbered r.claim.id x.claim) (of i x) (found_is (is_claim i r.claim.id) claims.rows x is) in
         let same_id : x.claim.id ≡ r.claim.id = eqb-true x.claim.id r.claim.id parts.0 in
         let again = law claims (is_claim i r.claim.id) x numbered is in
         let same : Some x ≡ Some r = sym again ∙ ap (λ (n : ℕ). first_row (is_numbered n) claims) same_id ∙ first in
@@ -253,7 +245,7 @@ rings_downloaded_else law claims e id i handler numbered own ne =
     by_found : (o : Option RowValue) → first_row (is_claim e id) claims ≡ o → is_some (option_map book.claim_seen (first_row (is_claim e id) claims)) ≡ true → first_row (is_claim i id) claims ≡ None
     by_found None is some = let none : false ≡ true = ap (λ (o : Option RowValue). is_some (option_map book.claim_seen o)) (sym is) ∙ some in cc
     by_found (Some r) is some =
-        let parts = two_tests (is_numbered id r.claim) (of e r) (found_is (is_claim e id) claims.rows r is) in
+        let parts = and_parts (is_numbered id r.claim) (of e r) (found_is (is_claim e id) claims.rows r is) in
         let same_id : r.claim.id ≡ id = eqb-true r.claim.id id parts.0 in
         let env : r.claim.env ≡ e = eqb-true r.claim.env e parts.1 in
         ap (λ (n : ℕ). first_row (is_claim i n) claims) (sym same_id)
@@ -296,28 +288,20 @@ ring_found claims r first = by_rows claims.rows first
 pub found_owned : (pages : List PageRow) (test : ClaimValue → Bool) (rows : List RowValue) (r : RowValue) → list_all (λ (x : RowValue). has_own_page pages x.claim) rows ≡ true → find (λ (x : RowValue). test x.claim) rows ≡ Some r → has_own_page pages r.claim ≡ true
 found_owned pages test [] r all is = cc
 found_owned pages test (x ∷ rows) r all is =
-    let parts = both_true (has_own_page pages x.claim) (list_all (λ (y : RowValue). has_own_page pages y.claim) rows) all in
+    let parts = and_parts (has_own_page pages x.claim) (list_all (λ (y : RowValue). has_own_page pages y.claim) rows) all in
     elim (cases_Bool (test x.claim)) [
       | inl here ↦ let same : x ≡ r = cc (rw here at is) in ap (λ (y : RowValue). has_own_page pages y.claim) (sym same) ∙ parts.0
       | inr other ↦ found_owned pages test rows r parts.1 (rw other at is)
     ]
-  where
-    both_true : (a b : Bool) → (a && b) ≡ true → (a ≡ true) × (b ≡ true)
-    both_true true b is = (refl, is)
-    both_true false b is = cc
 
 -- a page that an environment doesn't own is no ring of its own
 pub no_ring : (claims : ClaimBook) (pages : List PageRow) (i page : ℕ) → list_all (λ (x : RowValue). has_own_page pages x.claim) claims.rows ≡ true → is_owned_by i (row_in pages page) ≡ false → rings_but page (rings_of claims i) ≡ rings_of claims i
 no_ring claims pages i page all others = by_rows claims.rows all
   where
-    both_true : (a b : Bool) → (a && b) ≡ true → (a ≡ true) × (b ≡ true)
-    both_true true b is = (refl, is)
-    both_true false b is = cc
-
     by_rows : (rows : List RowValue) → list_all (λ (x : RowValue). has_own_page pages x.claim) rows ≡ true → rings_but page (its_rings i rows) ≡ its_rings i rows
     by_rows [] all = refl
     by_rows (x ∷ rows) all =
-        let parts = both_true (has_own_page pages x.claim) (list_all (λ (y : RowValue). has_own_page pages y.claim) rows) all in
+        let parts = and_parts (has_own_page pages x.claim) (list_all (λ (y : RowValue). has_own_page pages y.claim) rows) all in
         by_test (of i x) refl parts.0 (by_rows rows parts.1)
       where
         by_test : (its : Bool) → of i x ≡ its → has_own_page pages x.claim ≡ true → rings_but page (its_rings i rows) ≡ its_rings i rows → rings_but page (its_rings i (x ∷ rows)) ≡ its_rings i (x ∷ rows)

@@ -2,7 +2,7 @@
 use Rattle.std.proofs.Common.{◌≡◌, ◌≢◌, ℕ, ◌+◌, ◌-◌, ◌<◌, List, [], ◌∷◌, ◌++◌, length, map, Bool, true, false, Option, refl, sym, ◌∙◌, ap, subst, inl, inr}
 use Rattle.std.specs.Prelude.{◌==◌, ◌&&◌, not, if◌then◌else◌, filter, slice_set}
 use Rattle.std.specs.List.{list_all}
-use Rattle.std.proofs.lemmas.Bool.{cases_Bool, eqb-true, eqb-false, eq-eqb, ne_eqb}
+use Rattle.std.proofs.lemmas.Bool.{and_from, and_parts, cases_Bool, eq-eqb, eqb-false, eqb-true, ne_eqb, not-true}
 use Rattle.filter_core.specs.declared.atom.Atom.{Atom}
 use Rattle.filter_tree.specs.ClaimBook.{ClaimBook, ClaimValue, RowValue, is_of_env}
 use Rattle.filter_tree.specs.Claims as book
@@ -25,30 +25,22 @@ use Rattle.board_world.proofs.Tables.{row_released}
 abbrev are_own : List PageRow → List RowValue → Bool
 are_own pages rows = list_all (λ (x : RowValue). has_own_page pages x.claim) rows
 
-both : (a b : Bool) → (a && b) ≡ true → (a ≡ true) × (b ≡ true)
-both true b is = (refl, is)
-both false b is = cc
-
-and_both : (a b : Bool) → a ≡ true → b ≡ true → (a && b) ≡ true
-and_both true b is other = other
-and_both false b is other = cc
-
 -- the claims that are left have it by other pages, if each of them had
 still_own : (pages rows_now : List PageRow) (keep : RowValue → Bool) → ((x : RowValue) → keep x ≡ true → has_own_page pages x.claim ≡ true → has_own_page rows_now x.claim ≡ true)
     → (rows : List RowValue) → are_own pages rows ≡ true → are_own rows_now (filter keep rows) ≡ true
 still_own pages rows_now keep stays [] all = refl
 still_own pages rows_now keep stays (x ∷ rows) all =
-    let parts = both (has_own_page pages x.claim) (are_own pages rows) all in
+    let parts = and_parts (has_own_page pages x.claim) (are_own pages rows) all in
     elim (cases_Bool (keep x)) [
-      | inl is ↦ rw is (and_both (has_own_page rows_now x.claim) (are_own rows_now (filter keep rows)) (stays x is parts.0) (still_own pages rows_now keep stays rows parts.1))
+      | inl is ↦ rw is (and_from (has_own_page rows_now x.claim) (are_own rows_now (filter keep rows)) (stays x is parts.0) (still_own pages rows_now keep stays rows parts.1))
       | inr goes ↦ rw goes (still_own pages rows_now keep stays rows parts.1)
     ]
 
 each_own : (pages rows_now : List PageRow) → ((c : ClaimValue) → has_own_page pages c ≡ true → has_own_page rows_now c ≡ true) → (rows : List RowValue) → are_own pages rows ≡ true → are_own rows_now rows ≡ true
 each_own pages rows_now stays [] all = refl
 each_own pages rows_now stays (x ∷ rows) all =
-    let parts = both (has_own_page pages x.claim) (are_own pages rows) all in
-    and_both (has_own_page rows_now x.claim) (are_own rows_now rows) (stays x.claim parts.0) (each_own pages rows_now stays rows parts.1)
+    let parts = and_parts (has_own_page pages x.claim) (are_own pages rows) all in
+    and_from (has_own_page rows_now x.claim) (are_own rows_now rows) (stays x.claim parts.0) (each_own pages rows_now stays rows parts.1)
 
 -- a change of an environment that keeps how many there are
 pub keep_claimed : (f : Environment → Environment) (claims : ClaimBook) (pages : List PageRow) (r : Environments) (e : ℕ) → AreClaimed claims pages r → AreClaimed claims pages (with_list r (changed f r.list e))
@@ -80,16 +72,12 @@ recapped_claimed claims pages r page e words within owned are = record {
   count = are.count;
 }
 
-unnegated : (t : Bool) → not t ≡ true → t ≡ false
-unnegated true is = cc
-unnegated false is = refl
-
 -- a page is freed, and is no ring any more
 pub freed_claimed : (claims : ClaimBook) (pages : List PageRow) (r : Environments) (page : ℕ) → page < length pages → AreClaimed claims pages r → AreClaimed (without (is_into page) claims) (slice_set pages page Free) r
 freed_claimed claims pages r page within are = record {
   owned = still_own pages (slice_set pages page Free) (λ (x : RowValue). not (is_into page x.claim)) (λ x keeps own.
       by_page (λ row. is_owned_by x.claim.env row ≡ true) pages page x.claim.page Free within
-      (λ same. absurd (eqb-false x.claim.page page (unnegated (x.claim.page == page) keeps) same))
+      (λ same. absurd (eqb-false x.claim.page page (not-true (x.claim.page == page) keeps) same))
       (λ other. own)) claims.rows are.owned;
   count = are.count;
 }
@@ -103,17 +91,17 @@ pub with_claim_claimed : (claims : ClaimBook) (pages : List PageRow) (r : Enviro
 with_claim_claimed claims pages r e atoms page own are = record { owned = and_one claims.rows are.owned; count = are.count }
   where
     and_one : (rows : List RowValue) → are_own pages rows ≡ true → are_own pages (rows ++ new_row claims e atoms page ∷ []) ≡ true
-    and_one [] all = and_both (is_owned_by e (row_in pages page)) true own refl
+    and_one [] all = and_from (is_owned_by e (row_in pages page)) true own refl
     and_one (x ∷ rows) all =
-        let parts = both (has_own_page pages x.claim) (are_own pages rows) all in
-        and_both (has_own_page pages x.claim) (are_own pages (rows ++ new_row claims e atoms page ∷ [])) parts.0 (and_one rows parts.1)
+        let parts = and_parts (has_own_page pages x.claim) (are_own pages rows) all in
+        and_from (has_own_page pages x.claim) (are_own pages (rows ++ new_row claims e atoms page ∷ [])) parts.0 (and_one rows parts.1)
 
 -- where rows keep their claims, so do the pages
 same_own : (pages : List PageRow) (f : RowValue → RowValue) → ((x : RowValue) → (f x).claim ≡ x.claim) → (rows : List RowValue) → are_own pages rows ≡ true → are_own pages (map f rows) ≡ true
 same_own pages f same [] all = refl
 same_own pages f same (x ∷ rows) all =
-    let parts = both (has_own_page pages x.claim) (are_own pages rows) all in
-    and_both (has_own_page pages (f x).claim) (are_own pages (map f rows)) (ap (has_own_page pages) (same x) ∙ parts.0) (same_own pages f same rows parts.1)
+    let parts = and_parts (has_own_page pages x.claim) (are_own pages rows) all in
+    and_from (has_own_page pages (f x).claim) (are_own pages (map f rows)) (ap (has_own_page pages) (same x) ∙ parts.0) (same_own pages f same rows parts.1)
 
 -- the buffers of a claim take turns
 pub delivered_claimed : (claims : ClaimBook) (pages : List PageRow) (r : Environments) (id : ℕ) → AreClaimed claims pages r → AreClaimed (delivered id claims) pages r
@@ -149,7 +137,7 @@ released_else (Owned owner words) i e ne own =
 pub death_claimed : (cause : Cause) (claims : ClaimBook) (pages : List PageRow) (r : Environments) (e : ℕ) → AreClaimed claims pages r → AreClaimed (without (is_of_env e) claims) (map (released e) pages) (with_list r (changed (dead_frame cause) r.list e))
 death_claimed cause claims pages r e are = record {
   owned = still_own pages (map (released e) pages) (λ (x : RowValue). not (is_of_env e x.claim)) (λ x keeps own.
-      ap (is_owned_by x.claim.env) (row_released e pages x.claim.page) ∙ released_else (row_in pages x.claim.page) x.claim.env e (eqb-false x.claim.env e (unnegated (x.claim.env == e) keeps)) own) claims.rows are.owned;
+      ap (is_owned_by x.claim.env) (row_released e pages x.claim.page) ∙ released_else (row_in pages x.claim.page) x.claim.env e (eqb-false x.claim.env e (not-true (x.claim.env == e) keeps)) own) claims.rows are.owned;
   count = are.count ∙ ap (λ n. n + r.spare) (sym (length-changed (dead_frame cause) r.list e));
 }
 

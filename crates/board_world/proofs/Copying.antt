@@ -1,7 +1,7 @@
 -- Bytes that the kernel puts into a page for its owner, as all bytes of it, on the world that is shown.
 use Rattle.std.proofs.Common.{◌+◌, ◌++◌, drop, ◌≡◌, ◌≢◌, ◌<◌, ℕ, List, [], length, Bool, true, false, Some, refl, sym, ◌∙◌, ap, arith, get_or-set_other}
 use Rattle.std.specs.Prelude.{if◌then◌else◌, slice_get}
-use Rattle.std.proofs.lemmas.Bool.{ne_eqb}
+use Rattle.std.proofs.lemmas.Bool.{ne_eqb, or_parts}
 use Rattle.std.proofs.lemmas.List.{append-nil}
 use Rattle.std.proofs.Math.Seq.{drop-length}
 use Rattle.frame_store.specs.Pages.{after_put, page_at, with_bytes, with_page}
@@ -26,7 +26,6 @@ use Rattle.board_world.specs.Shown.{Shown, mappings_in, mappings_of}
 use Rattle.board_world.specs.Showing.{book_of, pages_seen, solo_of, solo_or_absent, solo_seen}
 use Rattle.board_world.specs.Sound.{IsOwned, IsSound}
 use Rattle.board_world.proofs.Seen.{like_solo, live_record, owned_taken, row_there, stripe_of}
-use Rattle.board_world.proofs.Sound.{neither}
 use Rattle.board_world.proofs.Stepping.{seer_live}
 use Rattle.board_world.proofs.Stores.{bound_kept, kept_as_was, put_table, sights_stay}
 
@@ -103,7 +102,7 @@ module _ (b : Shown) (sound : IsSound b) (e page : ℕ) (own : is_owned_by e (ro
           let z = live_record b.roster.list i live.1 in
           reader i ne z.0 z.1.0 z.1.1 seen ∙ ap (λ t. absorb_all (solo_of b i) (left_if t page store)) (sym seen)
       by_sight false blind =
-          let apart = neither (is_owned_by i (row_in b.pages page)) (is_bound page (stripe_of b i)) blind in
+          let apart = or_parts (is_owned_by i (row_in b.pages page)) (is_bound page (stripe_of b i)) blind in
           like_solo i now b (record {
             record_is = refl;
             rings = refl;

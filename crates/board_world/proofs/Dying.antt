@@ -5,6 +5,7 @@ use Rattle.std.proofs.lemmas.List.{length-map, length-append}
 use Rattle.std.specs.Prelude.{◌==◌, if◌then◌else◌, slice_get}
 use Rattle.std.specs.Option.{option_map}
 use Rattle.std.specs.List.{list_all}
+use Rattle.std.proofs.lemmas.Option.{slice_get_within}
 use Rattle.filter_tree.specs.ClaimBook.{RowValue, is_of_env}
 use Rattle.frame_store.specs.Pages.{page_at}
 use Rattle.aegis_limits.specs.Limits.{most_slots}
@@ -36,7 +37,7 @@ use Rattle.revocation_book.specs.RevocationBook.{with_pending}
 use Rattle.board_world.proofs.Asked.{backups_set, pending_set}
 use Rattle.board_world.proofs.Claimed.{claims_without, no_ring, rings_gone, rings_gone_else}
 use Rattle.board_world.specs.Doing as doing
-use Rattle.board_world.proofs.Lists.{changed_here, changed_else, get_within, length-changed}
+use Rattle.board_world.proofs.Lists.{changed_here, changed_else, length-changed}
 use Rattle.board_world.proofs.Losing.{dropped, HasNone, losses_keep, no_losses, nothing_seen, rings_but, sees_by}
 use Rattle.board_world.proofs.Mappings.{dead_mappings}
 use Rattle.board_world.proofs.Parts.{by_env, set_here, set_else}
@@ -102,10 +103,10 @@ pub record MayDie (b : Shown) (e : ℕ) : Type 0 where
 
 -- each environment of the board has an excess
 pub numbered_within : (b : Shown) (e : ℕ) (x : Environment) → slice_get b.roster.list e ≡ Some x → IsSound b → e < length b.slots.excess
-numbered_within b e x at sound = omega (arith, get_within b.roster.list e x at, sound.few, sound.book.numbered)
+numbered_within b e x at sound = omega (arith, slice_get_within b.roster.list e x at, sound.few, sound.book.numbered)
 
 pub may_die : (b : Shown) (e : ℕ) (x : Environment) → slice_get b.roster.list e ≡ Some x → IsSound b → MayDie b e
-may_die b e x at sound = let within = get_within b.roster.list e x at in record {
+may_die b e x at sound = let within = slice_get_within b.roster.list e x at in record {
   numbered = numbered_within b e x at sound;
   count = sound.book.count;
   books = sound.books;

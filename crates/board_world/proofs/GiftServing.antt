@@ -2,7 +2,7 @@
 use Rattle.std.proofs.Common.{◌≡◌, ◌≢◌, ℕ, List, [], ◌∷◌, length, true, false, Option, Some, None, is_some, inl, inr, refl, sym, ◌∙◌, ap, arith}
 use Rattle.std.specs.Prelude.{◌==◌, ◌&&◌, nat_lt, not, slice_get}
 use Rattle.std.specs.Option.{option_map}
-use Rattle.std.proofs.lemmas.Bool.{cases_eq, ne_eqb, eq-eqb}
+use Rattle.std.proofs.lemmas.Bool.{and_parts, cases_eq, eq-eqb, ne_eqb}
 use Rattle.world_model.specs.declared.call.Deed.TheVariants.{Gives, Stops}
 use Rattle.world_model.specs.declared.verdict.Verdict.TheVariants.{Grant}
 use Rattle.world_model.specs.declared.life.Life.{Life}
@@ -29,7 +29,7 @@ use Rattle.board_world.proofs.Replying.{Serves, answered_others, answered_seen, 
 use Rattle.board_world.proofs.Seen.{same_solo, IsNamed, Runs, runner_seen, runner_solo}
 use Rattle.board_world.proofs.Slots.{is_there}
 use Rattle.board_world.proofs.Sound.{keeps_registers}
-use Rattle.board_world.proofs.Slotted.{both_true, differs}
+use Rattle.board_world.proofs.Slotted.{differs}
 use Rattle.board_world.proofs.Turning.{stopped_solo, stopped_others, stopped_count, stopped_mappings}
 
 -- who has the slice runs
@@ -70,11 +70,11 @@ other_in b e t is = by_record (slice_get b.roster.list t) refl (is_there b.roste
         → (nat_lt t (length b.roster.list) && (not (is_dead (solo_of b t).life) && not (t == e))) ≡ true → IsOther b.roster.list e t
     by_record None at within is =
         let none : nat_lt t (length b.roster.list) ≡ false = within ∙ ap is_some at in
-        let never : false ≡ true = sym none ∙ (both_true (nat_lt t (length b.roster.list)) (not (is_dead (solo_of b t).life) && not (t == e)) is).0 in
+        let never : false ≡ true = sym none ∙ (and_parts (nat_lt t (length b.roster.list)) (not (is_dead (solo_of b t).life) && not (t == e)) is).0 in
         cc
     by_record (Some y) at within is =
-        let rest = (both_true (nat_lt t (length b.roster.list)) (not (is_dead (solo_of b t).life) && not (t == e)) is).1 in
-        let parts = both_true (not (is_dead (solo_of b t).life)) (not (t == e)) rest in
+        let rest = (and_parts (nat_lt t (length b.roster.list)) (not (is_dead (solo_of b t).life) && not (t == e)) is).1 in
+        let parts = and_parts (not (is_dead (solo_of b t).life)) (not (t == e)) rest in
         let lives : (solo_of b t).life ≡ Live = by_life (solo_of b t).life parts.0 in
         record { its = y; there = record { at = at; lives = ap (λ o. (solo_or_absent b t o).life) (sym at) ∙ lives }; other = differs t e parts.1 }
 

@@ -2,6 +2,9 @@
 use Rattle.std.proofs.Common.{◌≡◌, ◌≢◌, ◌<◌, ℕ, ◌+◌, ◌^◌, List, [], ◌∷◌, length, Bool, true, false, Option, Some, None, IfSome, refl, sym, ◌∙◌, ap, subst, arith}
 use Rattle.std.specs.Prelude.{bit_or, is_some, nat_lt, not, ◌&&◌, slice_get, if◌then◌else◌}
 use Rattle.std.specs.Option.{option_flatten, option_map}
+use Rattle.std.proofs.lemmas.Bool.{and_parts}
+use Rattle.std.proofs.lemmas.Option.{slice_get_within}
+use Rattle.std.proofs.lemmas.List.{append-nil}
 use Rattle.external_event.specs.declared.event.Occurrence.{Occurrence}
 use Rattle.external_event.specs.declared.event.Occurrence.TheVariants as outside
 use Rattle.frame_store.specs.Pages.{page_at}
@@ -36,11 +39,11 @@ use Rattle.board_world.specs.Showing.{book_of, solo_of, solo_or_absent, solo_see
 use Rattle.board_world.specs.Sound.{IsLive, IsSound, has_own_page}
 use Rattle.board_world.specs.Doing.{after_arrival_for, with_asked, after_revocation, context_of, with_count, after_delivery_by, after_queue, after_delivery, after_drop, after_handler, after_event, with_replies_sent, after_signal, after_signal_to}
 use Rattle.board_world.proofs.Asked.{nothing_pending, pending_set}
-use Rattle.board_world.proofs.Lists.{get_within, length-changed}
+use Rattle.board_world.proofs.Lists.{length-changed}
 use Rattle.board_world.proofs.Claimed.{claims_turned, found_owned, found_without, ring_found}
 use Rattle.board_world.proofs.Delivering as delivering
 use Rattle.board_world.proofs.Mappings.{kept_mappings}
-use Rattle.board_world.proofs.Parts.{append_nothing, by_env, one_absorbed, set_else, set_here, worlds}
+use Rattle.board_world.proofs.Parts.{by_env, one_absorbed, set_else, set_here, worlds}
 use Rattle.board_world.proofs.Phases.{quiet_world}
 use Rattle.page_sight.proofs.Tables.{set_same}
 use Rattle.world_model.specs.Table.{set_at}
@@ -48,7 +51,6 @@ use Rattle.board_world.proofs.Posting.{changed_in, same_size, with_word, worded,
 use Rattle.board_world.proofs.Seen.{like_solo, live_record, row_there}
 use Rattle.board_world.proofs.Serving.{Leaves}
 use Rattle.board_world.proofs.Slots.{is_there}
-use Rattle.board_world.proofs.Slotted.{both_true}
 use Rattle.board_world.proofs.Sound.{keeps_replying}
 use Rattle.board_world.proofs.Staying.{sound_frames}
 use Rattle.board_world.proofs.Stepping.{owner_is}
@@ -87,7 +89,7 @@ module _ (b : Shown) (sound : IsSound b) (line e : ℕ) (x : Environment) (at : 
       worlds (world_of signalled_board) (after (world_of b) (tells e (Line line) (world_of b))) refl refl
       (one_absorbed (solo_of b) (solo_of signalled_board) e (Line line ∷ []) signalled_here
       (λ i ne. ap (λ (y : Shown). solo_of y i) board_is ∙ worded_others b sound e x at lives (λ n. bit_or n (2 ^ line)) post.Lines i ne))
-      (sym (append_nothing b.ledger.rows))
+      (sym (append-nil b.ledger.rows))
 
 signalled_world : (b : Shown) → IsSound b → (line : ℕ) → world_of (after_signal b line) ≡ after (world_of b) (signals line (line_at b.lines line) (world_of b))
 signalled_world b sound line = by_owner (line_at b.lines line) (sound.lines.owners line)
@@ -208,7 +210,7 @@ module _ (law : FirstIsNumbered) (b : Shown) (sound : IsSound b) (numbered : are
           (given Loses (queues true none is) (after_queue true counted (claim_seen r) packet)
           (counted_seen counted sound_counted e x at lives post.Lost)
           (λ i ne. counted_others counted sound_counted e x at lives post.Lost i ne ∙ counted_others b sound e x at lives post.Packets i ne))
-          (sym (append_nothing b.ledger.rows))
+          (sym (append-nil b.ledger.rows))
       by_full false none is =
           let bytes = with_packet (page_at counted.frames page) r.next packet in
           worlds (world_of (after_queue false counted (claim_seen r) packet)) (after (world_of b) (delivers r.claim packet (world_of b)))
@@ -217,7 +219,7 @@ module _ (law : FirstIsNumbered) (b : Shown) (sound : IsSound b) (numbered : are
           (delivering.ring_filled law counted sound_counted numbered r first own x at lives bytes)
           (λ i ne. delivering.ring_left law counted sound_counted numbered r first own x at lives bytes i ne
           ∙ ap (λ (s : Solo). absorb_all s (ring_left (book_of b) e page (Some bytes) i)) (counted_others b sound e x at lives post.Packets i ne)))
-          (sym (append_nothing b.ledger.rows))
+          (sym (append-nil b.ledger.rows))
 
       by_run : (run : HandlerRun) → what ≡ Handles run.page run.replies → world_of (after_handler counted (claim_seen r) run) ≡ after (world_of b) (delivers r.claim packet (world_of b))
       by_run run is =
@@ -228,7 +230,7 @@ module _ (law : FirstIsNumbered) (b : Shown) (sound : IsSound b) (numbered : are
           (delivering.run_here counted sound_counted r own x at lives run)
           (λ i ne. delivering.run_else counted sound_counted r own x at lives run i ne
           ∙ ap (λ (s : Solo). absorb_all s (ring_left (book_of b) e page (Some run.page) i)) (counted_others b sound e x at lives post.Packets i ne)))
-          (sym (append_nothing b.ledger.rows))
+          (sym (append-nil b.ledger.rows))
 
       by_handler : (h : Option (List ℕ)) → r.handler ≡ h → world_of (after_delivery_by h counted (claim_seen r) packet) ≡ after (world_of b) (delivers r.claim packet (world_of b))
       by_handler None none = by_full (is_full (page_at counted.frames page) r.next) none refl
@@ -275,7 +277,7 @@ module _ (b : Shown) (sound : IsSound b) (e : ℕ) (x : Environment) (at : slice
       ∙ ap (λ (s : Solo). absorb_all s (Asked p.outstanding p.deadline ∷ [])) (sym live_asked)
 
   asked_place : e < length b.revocations.pending
-  asked_place = omega (arith, get_within b.roster.list e x at, sound.few, sound.revocations.pending)
+  asked_place = omega (arith, slice_get_within b.roster.list e x at, sound.few, sound.revocations.pending)
 
   asked_world : world_of asked_board ≡ after (world_of b) (asks e (Some p) (world_of b))
   asked_world =
@@ -300,10 +302,10 @@ living_record b e is = by_record (slice_get b.roster.list e) refl (is_there b.ro
         → (nat_lt e (length b.roster.list) && not (is_dead (solo_of b e).life)) ≡ true → (x : Environment) × ((slice_get b.roster.list e ≡ Some x) × (x.life ≡ Live))
     by_record None at within is =
         let none : nat_lt e (length b.roster.list) ≡ false = within ∙ ap is_some at in
-        let never : false ≡ true = sym none ∙ (both_true (nat_lt e (length b.roster.list)) (not (is_dead (solo_of b e).life)) is).0 in
+        let never : false ≡ true = sym none ∙ (and_parts (nat_lt e (length b.roster.list)) (not (is_dead (solo_of b e).life)) is).0 in
         cc
     by_record (Some y) at within is =
-        let lives : (solo_of b e).life ≡ Live = by_life (solo_of b e).life (both_true (nat_lt e (length b.roster.list)) (not (is_dead (solo_of b e).life)) is).1 in
+        let lives : (solo_of b e).life ≡ Live = by_life (solo_of b e).life (and_parts (nat_lt e (length b.roster.list)) (not (is_dead (solo_of b e).life)) is).1 in
         (y, (at, ap (λ o. (solo_or_absent b e o).life) (sym at) ∙ lives))
 
 revoked_world : (b : Shown) (e count deadline : ℕ) → IsSound b → world_of (after_revocation b e count deadline) ≡ after (world_of b) (revokes e count deadline (world_of b))
@@ -314,7 +316,7 @@ revoked_world b e count deadline sound = by_living (is_living (world_of b) e) re
     quiet x at none =
         worlds (world_of (with_asked b e None)) (world_of b)
         (λ k. record (book_of b) {
-          pending = λ i. (pending_set b.revocations e None (omega (arith, get_within b.roster.list e x at, sound.few, sound.revocations.pending)) i
+          pending = λ i. (pending_set b.revocations e None (omega (arith, slice_get_within b.roster.list e x at, sound.few, sound.revocations.pending)) i
               ∙ (λ j. set_at e (sym none j) (pending_at b.revocations) i)
               ∙ set_same e (pending_at b.revocations) i) k;
         })

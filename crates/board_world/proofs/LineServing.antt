@@ -1,6 +1,8 @@
 -- What the runner does to interrupt lines and to its backups, on the world that is shown.
 use Rattle.std.proofs.Common.{◌≡◌, ◌<◌, ℕ, List, length, Option, Some, None, refl, sym, ◌∙◌, ap, arith, get_or-set_same, get_or-set_other}
 use Rattle.std.specs.Prelude.{slice_set}
+use Rattle.std.proofs.lemmas.Option.{slice_get_within}
+use Rattle.std.proofs.lemmas.List.{append-nil}
 use Rattle.world_model.specs.declared.call.Deed.{Deed}
 use Rattle.world_model.specs.declared.call.Deed.TheVariants.{TakesLine, DropsLine, Loads}
 use Rattle.world_model.specs.declared.verdict.Verdict.TheVariants.{Grant}
@@ -19,8 +21,7 @@ use Rattle.board_world.specs.Doing as doing
 use Rattle.revocation_book.specs.Backups.{loaded}
 use Rattle.revocation_book.specs.RevocationBook.{backups_at}
 use Rattle.board_world.proofs.Asked.{backups_set}
-use Rattle.board_world.proofs.Lists.{get_within}
-use Rattle.board_world.proofs.Parts.{append_nothing, by_env, one_changed, set_here, set_else}
+use Rattle.board_world.proofs.Parts.{by_env, one_changed, set_here, set_else}
 use Rattle.board_world.proofs.Replying.{Serves, answered_others, answered_seen, deeded, deeded_seen}
 use Rattle.board_world.proofs.Seen.{Runs, runner_solo}
 
@@ -43,7 +44,7 @@ module _ (b : Shown) (e : ℕ) (x : Environment) (r : Runs b e x) (sound : IsSou
         ∙ ap (λ (s : Solo). record s { cpu = answered_cpu (Grant v) b.cpu }) (sym own)
         ∙ deeded_seen b e x r d v)
         (answered_others b e x r (Grant v));
-    rows = sym (append_nothing b.ledger.rows);
+    rows = sym (append-nil b.ledger.rows);
     room = omega arith;
     spare = refl;
     time = refl;
@@ -52,13 +53,13 @@ module _ (b : Shown) (e : ℕ) (x : Environment) (r : Runs b e x) (sound : IsSou
   -- a page is the last of the runner's backups
   pub loads_page : (page v : ℕ) → Serves b e (deeded (Loads page) v (solo_of b e)) (done (world_of b) e (Loads page)) (doing.after_grant b e v (Loads page))
   loads_page page v = record {
-    book = λ j. record (book_of b) { backups = λ n. backups_set b.revocations e (loaded page (backups_at b.revocations e)) (omega (arith, get_within b.roster.list e x r.at, sound.few, sound.revocations.backups)) n j };
+    book = λ j. record (book_of b) { backups = λ n. backups_set b.revocations e (loaded page (backups_at b.revocations e)) (omega (arith, slice_get_within b.roster.list e x r.at, sound.few, sound.revocations.backups)) n j };
     count = refl;
     solos = one_changed (solo_of b) (solo_of (doing.after_answer (doing.with_loaded b e page) (Grant v))) e (deeded (Loads page) v (solo_of b e))
         (answered_seen b e x r (Grant v)
         ∙ deeded_seen b e x r (Loads page) v)
         (answered_others b e x r (Grant v));
-    rows = sym (append_nothing b.ledger.rows);
+    rows = sym (append-nil b.ledger.rows);
     room = omega arith;
     spare = refl;
     time = refl;

@@ -44,12 +44,6 @@ pub past_get : {A : Type 0} (xs : List A) → slice_get xs (length xs) ≡ None
 past_get [] = refl
 past_get (x ∷ xs) = past_get xs
 
--- what is there lies within
-pub get_within : {A : Type 0} (xs : List A) (i : ℕ) (x : A) → slice_get xs i ≡ Some x → i < length xs
-get_within [] i x is = cc
-get_within (y ∷ xs) zero x is = omega arith
-get_within (y ∷ xs) (suc i) x is = let there = get_within xs i x is in omega arith
-
 -- a change that changes nothing
 pub changed_nothing : {A : Type 0} (f : A → A) (xs : List A) (e : ℕ) → ((x : A) → f x ≡ x) → changed f xs e ≡ xs
 changed_nothing f [] e same = refl

@@ -1,7 +1,7 @@
 -- The rows of the slots that a mask names.
 use Rattle.std.proofs.Common.{◌≡◌, ◌≢◌, ◌≤◌, ℕ, zero, suc, ◌+◌, ◌-◌, ◌*◌, ◌/◌, ◌%◌, List, [], ◌∷◌, ◌++◌, length, map, Bool, true, false, Option, refl, sym, ◌∙◌, ap, arith, append_assoc, add-one}
 use Rattle.std.specs.Prelude.{◌==◌, if◌then◌else◌}
-use Rattle.std.proofs.lemmas.List.{length-map, length-append}
+use Rattle.std.proofs.lemmas.List.{append-nil, length-append, length-map}
 use Rattle.std.proofs.lemmas.Bool.{ne_eqb, eq-eqb}
 use Rattle.kernel_journal.specs.Ledger.{Ledger, with_row}
 use Rattle.kernel_journal.specs.declared.row.Row.{Row}
@@ -11,7 +11,6 @@ use Rattle.world_model.specs.Book.{hold_without, has_part}
 use Rattle.world_model.specs.Death.{released_rows}
 use Rattle.world_model.specs.SlotCalls.{slot_row}
 use Rattle.board_world.specs.Doing.{mask_rows, mask_from, with_rows}
-use Rattle.board_world.proofs.Parts.{append_nothing}
 use Rattle.board_world.proofs.Sound.{hold_at-released}
 
 pub shifted_on : (mask k : ℕ) → mask_from mask (suc k) ≡ mask_from mask k / 2
@@ -85,7 +84,7 @@ pub unnamed_on : (j : Ledger) (t mask : ℕ) (slots : ℕ → Option Hold) (k re
     with_rows j (mask_rows t mask slots k) ≡ with_rows j (mask_rows t mask slots (k + 1))
 unnamed_on j t mask slots k rest is even =
     let test : (mask_from mask k % 2 == 1) ≡ false = ne_eqb (mask_from mask k % 2) 1 (λ odd. even (ap (λ (n : ℕ). n % 2) is ∙ odd)) in
-    ap (with_rows j) (sym (append_nothing (mask_rows t mask slots k)))
+    ap (with_rows j) (sym (append-nil (mask_rows t mask slots k)))
     ∙ ap (λ (b : Bool). with_rows j (mask_rows t mask slots k ++ (if b then slot_row t k (slots k) ∷ [] else []))) (sym test)
     ∙ ap (with_rows j) (sym (longer t mask slots k))
 

@@ -2,6 +2,7 @@
 use Rattle.std.proofs.Common.{◌≡◌, ℕ, [], ◌∷◌, ◌++◌, refl, sym, ◌∙◌, ap, arith}
 use Rattle.std.specs.Prelude.{unwrap_or}
 use Rattle.std.specs.Option.{option_map}
+use Rattle.std.proofs.lemmas.List.{append-nil}
 use Rattle.world_model.specs.declared.call.Deed.TheVariants.{Own}
 use Rattle.world_model.specs.declared.call.OwnDeed.{OwnDeed}
 use Rattle.world_model.specs.declared.call.OwnDeed.TheVariants.{Puts, Sends, Handles, Accepts}
@@ -18,7 +19,7 @@ use Rattle.board_world.specs.Sound.{IsSound}
 use Rattle.board_world.specs.Doing as doing
 use Rattle.board_world.proofs.Lists.{changed_here, changed_else, length-changed}
 use Rattle.board_world.proofs.Mappings.{kept_mappings}
-use Rattle.board_world.proofs.Parts.{append_nothing, one_changed}
+use Rattle.board_world.proofs.Parts.{one_changed}
 use Rattle.board_world.proofs.Replying.{Serves, deeded, deeded_seen}
 use Rattle.board_world.proofs.Seen.{same_solo, Runs, runner_seen, runner_solo, its_look}
 use Rattle.board_world.proofs.Sound.{Keeps, keeps_accepting, keeps_handling, keeps_putting, keeps_sending}
@@ -61,7 +62,7 @@ module _ (b : Shown) (e : ℕ) (x : Environment) (r : Runs b e x) (sound : IsSou
               binds = refl;
               sights = refl;
             }));
-        rows = sym (append_nothing b.ledger.rows);
+        rows = sym (append-nil b.ledger.rows);
         room = omega arith;
         spare = refl;
         time = refl;

@@ -2,7 +2,8 @@
 use Rattle.std.proofs.Common.{◌≡◌, ◌≢◌, ◌<◌, ℕ, suc, List, [], ◌∷◌, length, true, false, Option, Some, None, refl, sym, ◌∙◌, ap, arith, subst, get_or-set_other}
 use Rattle.std.specs.Prelude.{slice_get, slice_set}
 use Rattle.std.proofs.lemmas.Bool.{ne_eqb}
-use Rattle.std.proofs.lemmas.List.{length-set}
+use Rattle.std.proofs.lemmas.List.{append-nil, length-set}
+use Rattle.std.proofs.lemmas.Option.{slice_get_within}
 use Rattle.frame_store.specs.Pages.{page_at, with_page, zero_page}
 use Rattle.env_frames.specs.declared.mapping.Mapping.{Mapping}
 use Rattle.page_book.specs.declared.row.Capabilities.{Capabilities}
@@ -35,12 +36,11 @@ use Rattle.revocation_book.specs.Backups.{unloaded}
 use Rattle.revocation_book.specs.Pending.{lowered}
 use Rattle.revocation_book.specs.RevocationBook.{backups_at, pending_at, with_pending}
 use Rattle.board_world.proofs.Asked.{backups_set, pending_set}
-use Rattle.board_world.proofs.Lists.{get_within}
 use Rattle.board_world.proofs.Breaking.{broken_book, broken_else, broken_sees, freed_else, set_owns}
 use Rattle.board_world.proofs.Losing.{dropped, sees_by}
 use Rattle.filter_tree.specs.Claims.{is_into}
 use Rattle.board_world.proofs.Claimed.{claims_without, rings_dropped}
-use Rattle.board_world.proofs.Parts.{append_nothing, one_given}
+use Rattle.board_world.proofs.Parts.{one_given}
 use Rattle.board_world.proofs.Replying.{Serves, all_given, deeded, deeded_seen}
 use Rattle.board_world.proofs.Seen.{Runs, like_solo, runner_solo, runner_seen, its_mappings, stripe_of}
 use Rattle.board_world.proofs.Tables.{table_set}
@@ -136,7 +136,7 @@ module _ (b : Shown) (e : ℕ) (x : Environment) (r : Runs b e x) (sound : IsSou
               ∙ (λ k. record (runner_solo b e x) { cpu = answered_cpu (Grant v) b.cpu; kept = kept k; binds = λ row. sym (taken_sees.binds row) k; seen = λ p. sym (taken_sees.seen p) k })
               ∙ ap (λ s. absorb_all s (Gained page true zeros ∷ [])) (deeded_seen b e x r (Allocates page words) v))
               taken_others;
-          rows = sym (append_nothing b.ledger.rows);
+          rows = sym (append-nil b.ledger.rows);
           room = omega arith;
           spare = refl;
           time = refl;
@@ -172,7 +172,7 @@ module _ (b : Shown) (e : ℕ) (x : Environment) (r : Runs b e x) (sound : IsSou
 
   -- the runner's place in the book of revocations
   its_place : (e < length b.revocations.pending) × (e < length b.revocations.backups)
-  its_place = let within = get_within b.roster.list e x r.at in (omega (arith, within, sound.few, sound.revocations.pending), omega (arith, within, sound.few, sound.revocations.backups))
+  its_place = let within = slice_get_within b.roster.list e x r.at in (omega (arith, within, sound.few, sound.revocations.pending), omega (arith, within, sound.few, sound.revocations.backups))
 
   -- Free.
   pub frees : (page v : ℕ) → MayChange (book_of b) e page → Serves b e (deeded (Frees page) v (solo_of b e)) (done (world_of b) e (Frees page)) (doing.after_grant b e v (Frees page))
@@ -202,7 +202,7 @@ module _ (b : Shown) (e : ℕ) (x : Environment) (r : Runs b e x) (sound : IsSou
               sights = refl;
             })
             ∙ freed_else b page may.there sound e may.owned i ne);
-        rows = sym (append_nothing b.ledger.rows);
+        rows = sym (append-nil b.ledger.rows);
         room = omega arith;
         spare = refl;
         time = refl;
@@ -224,7 +224,7 @@ module _ (b : Shown) (e : ℕ) (x : Environment) (r : Runs b e x) (sound : IsSou
             ∙ (λ k. record (runner_solo b e x) { cpu = answered_cpu (Grant v) b.cpu; binds = λ n. sym (sees.binds n) k; seen = λ p. sym (sees.seen p) k })
             ∙ deeded_seen b e x r (Recaps page words) v)
             (λ i ne. changed_others page row (Some e) v may.there may.owned i ne (λ same. ne (some_same i e (sym same))) (ne_eqb e i (λ same. ne (sym same))));
-        rows = sym (append_nothing b.ledger.rows);
+        rows = sym (append-nil b.ledger.rows);
         room = omega arith;
         spare = refl;
         time = refl;

@@ -6,10 +6,6 @@ use Rattle.world_model.specs.Table.{set_at}
 use Rattle.world_model.specs.World.{World, only}
 pub use Rattle.page_sight.proofs.Tables.{by_number as by_env, set_here, set_else}
 
-pub append_nothing : {A : Type 0} (xs : List A) → xs ++ [] ≡ xs
-append_nothing [] = refl
-append_nothing (x ∷ xs) = ap (λ ys. x ∷ ys) (append_nothing xs)
-
 pub worlds : (v w : World) → v.book ≡ w.book → v.count ≡ w.count → ((i : ℕ) → v.solos i ≡ w.solos i) → v.rows ≡ w.rows → v ≡ w
 worlds v w book count solos rows = λ k. record { book = book k; count = count k; solos = λ i. solos i k; rows = rows k }
 

@@ -1,18 +1,19 @@
 -- Phases in turn are phases one after another, and what an environment does after it was told something.
 use Rattle.std.proofs.Common.{◌≡◌, ℕ, List, [], ◌∷◌, Option, refl, sym, ◌∙◌, ap, append_assoc}
 use Rattle.std.proofs.lemmas.List.Sums.{fold-append}
+use Rattle.std.proofs.lemmas.List.{append-nil}
 use Rattle.world_model.specs.declared.call.Call.{Call}
 use Rattle.world_model.specs.Item.{Item, absorb, absorb_all}
 use Rattle.world_model.specs.Step.{Act, Nothing, Stores, Calls, Raises, Dies, acted}
 use Rattle.world_model.specs.Table.{set_at}
 use Rattle.world_model.specs.Tick as tick
 use Rattle.world_model.specs.World.{World, Reply, after, followed, in_turn, no_change, only, run_phases, tells}
-use Rattle.board_world.proofs.Parts.{append_nothing, by_env, only_here, only_else, set_here, set_else, worlds}
+use Rattle.board_world.proofs.Parts.{by_env, only_here, only_else, set_here, set_else, worlds}
 use Rattle.page_sight.proofs.Tables.{set_same}
 
 -- a world in which nothing happens
 pub quiet_world : (w : World) → w ≡ after w (no_change w)
-quiet_world w = worlds w (after w (no_change w)) refl refl (λ i. refl) (sym (append_nothing w.rows))
+quiet_world w = worlds w (after w (no_change w)) refl refl (λ i. refl) (sym (append-nil w.rows))
 
 after_both : (w : World) (r s : Reply) → after w (followed r s) ≡ after (after w r) s
 after_both w r s = worlds (after w (followed r s)) (after (after w r) s) refl refl (λ i. fold-append absorb (w.solos i) (r.items i) (s.items i)) (sym (append_assoc w.rows r.rows s.rows))
@@ -44,7 +45,7 @@ told_acted w e item act acts =
     (by_env (λ i. absorb_all (w.solos i) (only e (item ∷ []) i)) (set_at e (acted act (w.solos e)) w.solos) e
     (ap (absorb_all (w.solos e)) (only_here e (item ∷ [])) ∙ acts ∙ sym (set_here e (acted act (w.solos e)) w.solos))
     (λ i ne. ap (absorb_all (w.solos i)) (only_else e i (item ∷ []) ne) ∙ sym (set_else e i (acted act (w.solos e)) w.solos ne)))
-    (append_nothing w.rows)
+    (append-nil w.rows)
 
 -- it is told, and then comes what the act brings
 pub told_first : (w : World) (e : ℕ) (item : Item) (act : Act) → absorb (w.solos e) item ≡ acted act (w.solos e) → after w (in_turn (tells e item ∷ tick.brings e act ∷ []) w) ≡ tick.act_world w e act

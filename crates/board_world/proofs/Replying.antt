@@ -1,6 +1,7 @@
 -- What an act or a call of the runner leaves, where it brings a reply.
 use Rattle.std.proofs.Common.{◌≡◌, ◌≢◌, ◌≤◌, ℕ, ◌+◌, List, [], ◌∷◌, ◌++◌, length, refl, sym, ◌∙◌, ap, arith}
 use Rattle.std.proofs.lemmas.List.Sums.{fold-append}
+use Rattle.std.proofs.lemmas.List.{append-nil}
 use Rattle.world_model.specs.declared.code.Code.{Code}
 use Rattle.world_model.specs.declared.call.Deed.{Deed}
 use Rattle.world_model.specs.declared.call.Deed.TheVariants.{Answers}
@@ -17,7 +18,7 @@ use Rattle.board_world.specs.declared.roster.Environment.{Environment}
 use Rattle.board_world.specs.Shown.{Shown}
 use Rattle.board_world.specs.Showing.{world_of, book_of, solo_of}
 use Rattle.board_world.specs.Doing as doing
-use Rattle.board_world.proofs.Parts.{append_nothing, worlds, by_env, set_here, set_else, one_changed, one_given}
+use Rattle.board_world.proofs.Parts.{worlds, by_env, set_here, set_else, one_changed, one_given}
 use Rattle.board_world.proofs.Phases.{acted_brings, acted_world, told_first}
 use Rattle.board_world.proofs.Seen.{same_solo, Runs, runner_solo, runner_seen}
 
@@ -73,7 +74,7 @@ module _ (b : Shown) (e : ℕ) (x : Environment) (r : Runs b e x) where
     solos = one_given (solo_of b) (solo_of (doing.after_answer b (Refuse why v))) e (solo_of b e) (Answer (Refuse why v) ∷ [])
         (answered_seen (Refuse why v) ∙ ap (λ s. absorb_all s (Answer (Refuse why v) ∷ [])) (sym (runner_seen b e x r)))
         (answered_others (Refuse why v));
-    rows = sym (append_nothing b.ledger.rows);
+    rows = sym (append-nil b.ledger.rows);
     room = omega arith;
     spare = refl;
     time = refl;
@@ -85,7 +86,7 @@ module _ (b : Shown) (e : ℕ) (x : Environment) (r : Runs b e x) where
     book = refl;
     count = refl;
     solos = one_changed (solo_of b) (solo_of (doing.after_answer b (Grant v))) e (deeded Answers v (solo_of b e)) (answered_seen (Grant v) ∙ deeded_seen Answers v) (answered_others (Grant v));
-    rows = sym (append_nothing b.ledger.rows);
+    rows = sym (append-nil b.ledger.rows);
     room = omega arith;
     spare = refl;
     time = refl;

@@ -2,7 +2,7 @@
 use Rattle.std.proofs.Common.{◌≡◌, ◌≢◌, ◌<◌, ◌≤◌, ℕ, zero, suc, ◌+◌, ◌/◌, ◌%◌, List, [], ◌∷◌, ◌++◌, length, map, drop, fold, Bool, true, false, Option, Some, None, IfSome, IsSome, refl, sym, ◌∙◌, ap, subst, arith, length-set}
 use Rattle.std.specs.Prelude.{◌||◌, if◌then◌else◌, nat_lt, slice_get, slice_index_or}
 use Rattle.std.specs.Option.{option_map}
-use Rattle.std.proofs.lemmas.Bool.{eq-eqb, eqb-true, ltb-true}
+use Rattle.std.proofs.lemmas.Bool.{eq-eqb, eqb-true, ltb-true, or_parts}
 use Rattle.std.proofs.lemmas.List.Sums.{fold-append}
 use Rattle.aegis_limits.specs.Limits.{most_pages, page_size}
 use Rattle.frame_store.specs.Pages.{page_at, word_at}
@@ -22,7 +22,7 @@ use Rattle.revocation_book.specs.Pending.{is_due, unless_due}
 use Rattle.revocation_book.specs.RevocationBook.{backups_at, books_of, is_any_due, pending_at}
 use Rattle.revocation_book.specs.Takings.{AreTakable, Books, IsTakable, TakingsAreFew, TakingsAreTakable, taken as books_taken, paired, takings_below, takings_of, victims}
 use Rattle.std.specs.List.{list_any}
-use Rattle.board_world.proofs.Sound.{neither}
+use Rattle.std.proofs.lemmas.List.{append-nil}
 use Rattle.world_model.specs.declared.life.Life.TheVariants.{Live}
 use Rattle.world_model.specs.Deadlines.{copy_left, settles, takes}
 use Rattle.world_model.specs.Item.{Taken, absorb, absorb_all}
@@ -48,7 +48,7 @@ use Rattle.board_world.proofs.Happening.{counted_changed, counts}
 use Rattle.board_world.proofs.Pages.{seen_kept}
 use Rattle.board_world.proofs.Parted.{row_parted}
 use Rattle.board_world.proofs.Allowed.{owned_by_none}
-use Rattle.board_world.proofs.Parts.{append_nothing, by_env, set_here, set_else, worlds}
+use Rattle.board_world.proofs.Parts.{by_env, set_here, set_else, worlds}
 use Rattle.board_world.proofs.Posting.{changed_in, context_bytes, left_else, left_here, left_with, same_size, with_left, with_word, worded, worded_others, worded_seen}
 use Rattle.board_world.proofs.Seen.{like_solo, live_record, row_there}
 use Rattle.board_world.proofs.Staying.{sound_frames, sound_machine, sound_memory}
@@ -331,7 +331,7 @@ over_world b =
     (λ k. record (book_of b) { pending = λ i. pending_served b.revocations b.time i k })
     refl
     (λ i. like_solo i (with_deadlines_over b) b (record { record_is = refl; rings = refl; cpu = λ kept. refl; pages = refl; binds = refl; sights = refl }))
-    (sym (append_nothing b.ledger.rows))
+    (sym (append-nil b.ledger.rows))
 
 run_last : (w : World) (xs : List (World → Reply)) (phase : World → Reply) → run_phases w (xs ++ phase ∷ []) ≡ (let v = run_phases w xs in after v (phase v))
 run_last w [] phase = refl
@@ -348,8 +348,8 @@ served_world law b sound =
 -- Where no deadline has come nothing is taken, and none is over.
 not_due : (list : List (Option Pending)) (time e : ℕ) → list_any (is_due time) list ≡ false → is_due time (slice_index_or list e None) ≡ false
 not_due [] time e none = refl
-not_due (pending ∷ list) time zero none = (neither (is_due time pending) (list_any (is_due time) list) none).0
-not_due (pending ∷ list) time (suc e) none = not_due list time e (neither (is_due time pending) (list_any (is_due time) list) none).1
+not_due (pending ∷ list) time zero none = (or_parts (is_due time pending) (list_any (is_due time) list) none).0
+not_due (pending ∷ list) time (suc e) none = not_due list time e (or_parts (is_due time pending) (list_any (is_due time) list) none).1
 
 none_taken : (books : Books) (time n : ℕ) → ((e : ℕ) → is_due time (books.pending e) ≡ false) → takings_below books time n ≡ []
 none_taken books time zero none = refl
@@ -360,7 +360,7 @@ none_taken books time (suc e) none =
 none_over : (list : List (Option Pending)) (time : ℕ) → list_any (is_due time) list ≡ false → map (unless_due time) list ≡ list
 none_over [] time none = refl
 none_over (pending ∷ list) time none =
-    let both = neither (is_due time pending) (list_any (is_due time) list) none in
+    let both = or_parts (is_due time pending) (list_any (is_due time) list) none in
     λ k. ap (λ t. if t then None else pending) both.0 k ∷ none_over list time both.1 k
 
 pub nothing_due : (b : Shown) → is_any_due b.revocations b.time ≡ false → b ≡ after_deadlines b

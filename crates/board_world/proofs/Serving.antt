@@ -1,6 +1,7 @@
 -- The runner's calls and its death, on the world that is shown.
 use Rattle.std.proofs.Common.{◌≡◌, ◌≤◌, ◌+◌, ℕ, arith, [], ◌∷◌, Bool, true, false, Option, Some, None, refl, sym, ◌∙◌, ap, subst}
 use Rattle.std.specs.Prelude.{◌==◌, if◌then◌else◌}
+use Rattle.std.proofs.lemmas.List.{append-nil}
 use Rattle.mips_exec.specs.Cpu.{reg}
 use Rattle.world_model.specs.declared.call.Call.{Call}
 use Rattle.world_model.specs.declared.code.Code.{Code}
@@ -31,7 +32,7 @@ use Rattle.board_world.specs.Shown.{Shown}
 use Rattle.board_world.specs.Showing.{world_of, solo_of}
 use Rattle.board_world.specs.Sound.{IsSound}
 use Rattle.board_world.specs.Doing as doing
-use Rattle.board_world.proofs.Parts.{append_nothing, worlds, by_env, set_here, set_else, only_here, only_else}
+use Rattle.board_world.proofs.Parts.{worlds, by_env, set_here, set_else, only_here, only_else}
 use Rattle.board_world.proofs.Seen.{Runs, runner_seen, runner_runs}
 use Rattle.board_world.proofs.BindServing.{binds, unbinds}
 use Rattle.board_world.proofs.OwnServing.{own_serves}
@@ -103,7 +104,7 @@ module _ (w : World) (e : ℕ) (lives : (w.solos e).life ≡ Live) (why : Code) 
       (by_env (λ i. absorb_all (w.solos i) (only e (Answer (Refuse why v) ∷ []) i)) (set_at e (answered (Refuse why v) (w.solos e)) w.solos) e
       (ap (absorb_all (w.solos e)) (only_here e (Answer (Refuse why v) ∷ [])) ∙ rw lives refl ∙ sym (set_here e (answered (Refuse why v) (w.solos e)) w.solos))
       (λ i ne. ap (absorb_all (w.solos i)) (only_else e i (Answer (Refuse why v) ∷ []) ne) ∙ sym (set_else e i (answered (Refuse why v) (w.solos e)) w.solos ne)))
-      (append_nothing w.rows)
+      (append-nil w.rows)
 
   refusal_world : (c : Option Call) → verdict w e c ≡ Refuse why v → tick.act_world w e (Calls c) ≡ tick.refused_world w e why v
   refusal_world c is =

@@ -11,11 +11,7 @@ use Rattle.world_model.specs.Book.{excess_limit, running}
 use Rattle.board_world.specs.Shown.{Shown}
 use Rattle.board_world.specs.Doing.{after_timer_by, after_count_down, has_end}
 
--- what two tests tell together, and one that fails
-pub both_true : (x y : Bool) → (x && y) ≡ true → (x ≡ true) × (y ≡ true)
-both_true true y is = (refl, is)
-both_true false y is = cc
-
+-- a test that fails
 pub differs : (m n : ℕ) → not (m == n) ≡ true → m ≢ n
 differs m n is same = let no : true ≡ false = sym is ∙ ap not (eq-eqb m n same) in cc
 

@@ -3,7 +3,7 @@ use Rattle.std.proofs.Common.{◌≡◌, ◌≢◌, ℕ, zero, suc, ◌+◌, ◌
 use Rattle.std.specs.Option.{option_map}
 use Rattle.std.specs.Prelude.{◌==◌, ◌-◌, ◌||◌, if◌then◌else◌, nat_lt, All, slice_get, slice_index_or, slice_set}
 use Rattle.std.proofs.Common.{length-set}
-use Rattle.std.proofs.lemmas.Bool.{eq-eqb, eqb-false, ltb-false}
+use Rattle.std.proofs.lemmas.Bool.{eq-eqb, eqb-false, ltb-false, or_parts}
 use Rattle.std.proofs.lemmas.List.{length-map}
 use Rattle.std.proofs.lemmas.List.Sums.{sum_by-le}
 use Rattle.aegis_limits.specs.Limits.{most_slots}
@@ -30,11 +30,6 @@ use Rattle.board_world.specs.Sound.{HasNoPart, IsAlive, IsLive, IsUndead, IsMann
 use Rattle.board_world.specs.Doing.{with_mask, with_bytes_put, with_replies_sent, with_packet_sent, slots_settled, with_registers, with_handler_at, dead_frame}
 use Rattle.board_world.proofs.Lists.{changed_else, length-changed}
 use Rattle.board_world.proofs.Seen.{runner_live}
-
--- neither of two
-pub neither : (x y : Bool) → (x || y) ≡ false → (x ≡ false) × (y ≡ false)
-neither true y is = cc
-neither false y is = (refl, is)
 
 -- whoever will live lives, once all are there
 undead_alive : (list : List Environment) (e : ℕ) → e < length list → IfSome (slice_get list e) (λ x. x.life ≡ Live) → IsAlive (slice_get list e)
@@ -260,7 +255,7 @@ module _ (v : Slices) (r : Environments) (e : ℕ) (cause : Cause) (none : HasNo
   still_undead : (hold : Option Hold) → has_part e hold ≡ false → IfSome hold (λ h. IsUndead r h.owner × IsUndead r h.holder) → IfSome hold (λ h. IsUndead (with_list r (changed (dead_frame cause) r.list e)) h.owner × IsUndead (with_list r (changed (dead_frame cause) r.list e)) h.holder)
   still_undead None apart undead = tt
   still_undead (Some h) apart undead =
-      let others = neither (h.owner == e) (h.holder == e) apart in (
+      let others = or_parts (h.owner == e) (h.holder == e) apart in (
         changed_undead r (dead_frame cause) e h.owner (eqb-false h.owner e others.0) undead.0,
         changed_undead r (dead_frame cause) e h.holder (eqb-false h.holder e others.1) undead.1,
       )

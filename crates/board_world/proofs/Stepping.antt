@@ -2,7 +2,8 @@
 use Rattle.std.proofs.Common.{◌≤◌, ◌+◌, ◌≡◌, ◌≢◌, ℕ, ◌/◌, ◌%◌, ◌<◌, List, [], ◌∷◌, ◌++◌, length, Bool, true, false, Option, Some, None, ◌⊎◌, inl, inr, refl, sym, ◌∙◌, ap, subst, arith, get_or-set_other}
 use Rattle.std.specs.Prelude.{◌==◌, ◌||◌, if◌then◌else◌, slice_get}
 use Rattle.std.specs.Option.{option_map, option_or}
-use Rattle.std.proofs.lemmas.Bool.{ne_eqb, eq-eqb, eqb-true}
+use Rattle.std.proofs.lemmas.Bool.{eq-eqb, eqb-true, ne_eqb, or_cases, or_parts}
+use Rattle.std.proofs.lemmas.List.{append-nil}
 use Rattle.aegis_limits.specs.Limits.{page_size}
 use Rattle.mips_exec.specs.Cpu.{reg}
 use Rattle.mips_exec.specs.declared.registers.Cpu.{Cpu}
@@ -50,21 +51,16 @@ use Rattle.board_world.specs.Doing.{after_death, step_seen, lookup_of, after_mac
 use Rattle.board_world.proofs.Contexts.{left_by, left_others, left_own, left_sights, left_store}
 use Rattle.board_world.proofs.Looks.{leads_by}
 use Rattle.board_world.proofs.Pages.{its_store}
-use Rattle.board_world.proofs.Parts.{append_nothing, worlds, by_env, set_here, set_else, only_here, only_else}
+use Rattle.board_world.proofs.Parts.{worlds, by_env, set_here, set_else, only_here, only_else}
 use Rattle.board_world.proofs.Phases.{each_in_turn}
 use Rattle.board_world.proofs.Seen.{same_solo, stripe_of, sights_of, Runs, runner_solo, runner_seen, runner_runs, its_mappings, its_step, live_record, found_in_row, bound_there}
 use Rattle.board_world.proofs.Serving.{Leaves, Serves, told, call_serves, called_leaves, died_serves}
-use Rattle.board_world.proofs.Sound.{neither}
 use Rattle.board_world.proofs.Stores.{own_kept, other_kept, guaranteed_sights, sights_stay, put_table, kept_as_was, bound_kept}
 
 -- the mapping that a VPN has, by the parts of what an environment sees
 opened_lookup : (b : Shown) (e v : ℕ) → lookup_of b e v ≡ mapping_in (mappings_of b.roster.list e) (stripe_of b e) v
 unfolding lookup
 opened_lookup b e v = refl
-
-either : (x y : Bool) → (x || y) ≡ true → (x ≡ true) ⊎ (y ≡ true)
-either true y is = inl refl
-either false y is = inr is
 
 -- who owns a page is its row's owner
 pub owner_is : (i : ℕ) (row : PageRow) → is_owned_by i row ≡ true → owner_of row ≡ Some i
@@ -74,7 +70,7 @@ owner_is i (Owned owner words) is = ap Some (eqb-true owner i is)
 
 -- who sees a page that isn't guaranteed lives
 pub seer_live : (b : Shown) (i page : ℕ) → IsSound b → sees (book_of b) i page ≡ true → IsLive b.roster.list i
-seer_live b i page sound is = by_cause (either (is_owned_by i (row_in b.pages page)) (is_bound page (stripe_of b i)) is)
+seer_live b i page sound is = by_cause (or_cases (is_owned_by i (row_in b.pages page)) (is_bound page (stripe_of b i)) is)
   where
     by_row : (row : ℕ) (o : Option Binding) → stripe_of b i row ≡ o → is_of_page page o ≡ true → IsLive b.roster.list i
     by_row row None at its = cc
@@ -185,7 +181,7 @@ module _ (b : Shown) (e : ℕ) (x : Environment) (r : Runs b e x) (sound : IsSou
             let z = live_record b.roster.list i live.1 in
             reader i ne z.0 z.1.0 z.1.1 seen ∙ ap (λ t. absorb_all (solo_of b i) (left_if t y.page (store_to w y.page))) (sym seen)
         by_sight false blind =
-            let apart = neither (is_owned_by i (row_in b.pages y.page)) (is_bound y.page (stripe_of b i)) blind in
+            let apart = or_parts (is_owned_by i (row_in b.pages y.page)) (is_bound y.page (stripe_of b i)) blind in
             as_was i (memory_after b w y.page) ne (pages_stay i)
             (sights_stay i (row_in b.pages) (stripe_of b i) (page_at b.frames) (page_at (memory_after b w y.page)) y.page apart.0 apart.1
             (λ p differs. get_or-set_other b.frames y.page p (with_bytes (page_at b.frames y.page) (w.address % page_size) w.bytes) [] differs))
@@ -262,7 +258,7 @@ module _ (b : Shown) (e : ℕ) (x : Environment) (r : Runs b e x) (sound : IsSou
   retired cpu w at = by_store (store_of (runner_solo b e x) w) (wrote_strikes b e x r sound cpu w) (absorbs (Retired cpu w) at)
     where
       rows : (b.ledger.rows ++ []) ++ [] ≡ b.ledger.rows
-      rows = append_nothing (b.ledger.rows ++ []) ∙ append_nothing b.ledger.rows
+      rows = append-nil (b.ledger.rows ++ []) ∙ append-nil b.ledger.rows
 
       by_store : (y : Option Store) → Strikes b e x cpu (frames_after b.frames (lookup_of b e) w) y → absorb (solo_of b e) AStep ≡ acted (store_act y) (record (runner_solo b e x) { cpu = cpu }) →
           world_of (after_machine_step b e (Retired cpu w)) ≡ stepping (store_act y)
@@ -312,7 +308,7 @@ module _ (b : Shown) (e : ℕ) (x : Environment) (r : Runs b e x) (sound : IsSou
               sights = λ k p. left_sights b sound e w refl i p k;
             })
             ∙ sym (set_else e i (raise exc (solo_of b e)) (solo_of b) ne));
-        rows = sym (append_nothing b.ledger.rows);
+        rows = sym (append-nil b.ledger.rows);
         room = omega arith;
         spare = refl;
         time = refl;

@@ -3,6 +3,7 @@ use Rattle.std.proofs.Common.{◌≡◌, ◌≢◌, ℕ, zero, suc, ◌+◌, ◌
 use Rattle.std.specs.Prelude.{◌==◌, nat_lt, if◌then◌else◌, slice_get, slice_set}
 use Rattle.std.specs.Option.{option_map}
 use Rattle.std.proofs.lemmas.Bool.{ne_eqb, eq-eqb, eqb-true, eqb-false}
+use Rattle.std.proofs.lemmas.List.{append-nil}
 use Rattle.aegis_limits.specs.Limits.{page_size}
 use Rattle.mips_exec.specs.Access.{Write}
 use Rattle.env_frames.specs.Context.{end_area, end_bytes, resumed_cpu}
@@ -36,7 +37,7 @@ use Rattle.board_world.proofs.Contexts.{left_by, left_others, left_own, left_sig
 use Rattle.board_world.proofs.Dying.{MayDie, dies as dying, may_die, numbered_within}
 use Rattle.board_world.proofs.Lists.{changed_here, changed_else, length-changed}
 use Rattle.board_world.proofs.Mappings.{kept_mappings}
-use Rattle.board_world.proofs.Parts.{append_nothing, by_env, worlds, one_absorbed}
+use Rattle.board_world.proofs.Parts.{by_env, worlds, one_absorbed}
 use Rattle.board_world.proofs.Phases.{each_in_turn, quiet_world}
 use Rattle.board_world.proofs.Replying.{told}
 use Rattle.board_world.proofs.Seen.{like_solo, same_solo, named, Runs, its_mappings, live_record, runner_runs, runner_seen, runner_solo}
@@ -187,7 +188,7 @@ ticked_solo : (b : Shown) (i : ℕ) → solo_of (with_next_time b) i ≡ solo_of
 ticked_solo b i = like_solo i (with_next_time b) b (record { record_is = refl; rings = refl; cpu = λ kept. refl; pages = refl; binds = refl; sights = refl })
 
 ticked_world : (b : Shown) → world_of (with_next_time b) ≡ after (world_of b) (tick.clock (world_of b))
-ticked_world b = worlds (world_of (with_next_time b)) (after (world_of b) (tick.clock (world_of b))) refl refl (ticked_solo b) (sym (append_nothing b.ledger.rows))
+ticked_world b = worlds (world_of (with_next_time b)) (after (world_of b) (tick.clock (world_of b))) refl refl (ticked_solo b) (sym (append-nil b.ledger.rows))
 
 -- a runner goes on, with other ticks left
 abbrev going_on : Shown → Runner → Shown
@@ -208,7 +209,7 @@ goes_on b r runs =
       binds = refl;
       sights = refl;
     }))
-    (sym (append_nothing b.ledger.rows))
+    (sym (append-nil b.ledger.rows))
 
 -- by its runner, who has ticks left
 module _ (b : Shown) (sound : IsSound b) (r : Runner) (is : b.slots.runner ≡ Some r) (x : Environment) (runs : Runs b r.env x) where
