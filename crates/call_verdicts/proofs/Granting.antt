@@ -2,7 +2,7 @@
 use Rattle.std.proofs.Common.{◌≡◌, ◌<◌, ◌≤◌, ◌+◌, ℕ, List, Bool, true, false, Option, Some, None, is_none, is_some, Result, Ok, Err, arith, refl, ap, subst, ◌∙◌, inl, inr, ◌⊎◌, length}
 use Rattle.std.specs.Prelude.{not, ◌==◌, ◌&&◌, ◌||◌, nat_le, nat_lt, if◌then◌else◌, ok_or}
 use Rattle.std.specs.Option.{option_map, option_or}
-use Rattle.std.proofs.lemmas.Bool.{eqb-true, ltb-true, ltb-false, leb-true, leb-false}
+use Rattle.std.proofs.lemmas.Bool.{and_parts, eqb-true, leb-false, leb-true, ltb-false, ltb-true, not-false}
 use Rattle.aegis_limits.specs.Limits.{console_size, vpn_end}
 use Rattle.external_event.specs.Limits.{least_frame_size, lines, most_packet_size, most_sent}
 use Rattle.mips_exec.specs.Cpu.{reg}
@@ -38,14 +38,15 @@ use Rattle.world_model.specs.ClaimCalls.{claim_by, claim_verdict, filter_at, pag
 use Rattle.revocation_book.specs.Backups.{load_refusal}
 use Rattle.world_model.specs.BackupCalls.{code_of_load, refusal_of_load}
 use Rattle.world_model.specs.LineCalls.{is_line_of, is_line_of_other, refusal_of_line, refusal_of_line_drop, refusal_of_line_take}
-use Rattle.world_model.specs.OwnCalls.{MayPut, MaySend, is_frame_size, put_bytes, put_refusal, send_refusal}
+use Rattle.world_model.specs.OwnCalls.{MayPut, MaySend, is_frame_size, put_bytes}
 use Rattle.world_model.specs.May.{HasRight, May, MayAllocate, MayClaim, MayBind, MayChange, MayDrop, MayEnter, MayLoad, MayMap, MayReach, MayTake}
-use Rattle.world_model.specs.PageCalls.{chosen_page, is_guaranteed, named_page, vpn_refusal, refusal_of_bind, refusal_of_change}
+use Rattle.world_model.specs.PageCalls.{chosen_page, is_guaranteed, named_page, vpn_refusal, refusal_of_change}
 use Rattle.world_model.specs.SlotCalls.{accepts, drop_refusal, gift_refusal, is_other, refusal_of_gift, refusal_of_giving, slot_at, take_refusal, turn_slot, yield_by}
 use Rattle.world_model.specs.Solo.{Solo, sight}
 use Rattle.world_model.specs.Transfers.{is_open, refusal_of_transfer, transfer_by}
 use Rattle.world_model.specs.World.{World}
 use Rattle.call_verdicts.specs.Granted.{GrantedMay}
+use Rattle.call_verdicts.specs.Refusals.{refusal_of_bind_call, refusal_of_put_call, refusal_of_send_call}
 
 -- what isn't refused
 not_refused : (why : Option Code) (v value : ℕ) → unless why v ≡ Grant value → why ≡ None
@@ -64,12 +65,8 @@ neither : {A : Type 0} (first second : Option A) → option_or first second ≡ 
 neither None second none = (refl, none)
 neither (Some x) second none = cc
 
-both : (a b : Bool) → (a && b) ≡ true → (a ≡ true) × (b ≡ true)
-both true b is = (refl, is)
-both false b is = cc
-
 -- a put
-may_put : (s : Solo) → put_refusal s.cpu (sight s) (length s.console) ≡ None → MayPut s (reg s.cpu 4) (reg s.cpu 5)
+may_put : (s : Solo) → refusal_of_put_call s ≡ None → MayPut s (reg s.cpu 4) (reg s.cpu 5)
 may_put s none = by_range (put_bytes (sight s) (reg s.cpu 4) (reg s.cpu 5)) (nat_lt console_size (length s.console + reg s.cpu 5)) refl refl none
   where
     by_range : (o : Option (List ℕ)) (much : Bool) → put_bytes (sight s) (reg s.cpu 4) (reg s.cpu 5) ≡ o → nat_lt console_size (length s.console + reg s.cpu 5) ≡ much
@@ -81,14 +78,10 @@ may_put s none = by_range (put_bytes (sight s) (reg s.cpu 4) (reg s.cpu 5)) (nat
 -- a packet
 frame_size : (size : ℕ) → not (is_frame_size size) ≡ false → (least_frame_size ≤ size) × (size ≤ most_packet_size)
 frame_size size is =
-    let parts = both (nat_le least_frame_size size) (nat_le size most_packet_size) (unnegated (is_frame_size size) is) in
+    let parts = and_parts (nat_le least_frame_size size) (nat_le size most_packet_size) (not-false (is_frame_size size) is) in
     (leb-true least_frame_size size parts.0, leb-true size most_packet_size parts.1)
-  where
-    unnegated : (t : Bool) → not t ≡ false → t ≡ true
-    unnegated true is = refl
-    unnegated false is = cc
 
-may_send : (s : Solo) → send_refusal s.cpu (sight s) (length s.sent) ≡ None → MaySend s (reg s.cpu 4) (reg s.cpu 5)
+may_send : (s : Solo) → refusal_of_send_call s ≡ None → MaySend s (reg s.cpu 4) (reg s.cpu 5)
 may_send s none =
     by_tests (not (is_frame_size (reg s.cpu 5))) (good_range (sight s) (reg s.cpu 4) (reg s.cpu 5)) (nat_le most_sent (length s.sent)) refl refl refl none
   where
@@ -156,7 +149,7 @@ has_right e writable word (Owned owner words) none = record { owner = owner; wor
     by_test false true own gives none = inr gives
     by_test false false own gives none = cc
 
-may_bind : (w : World) (e : ℕ) → let s = w.solos e in refusal_of_bind e s.cpu (is_guaranteed s (reg s.cpu 4)) (page_row w.book (reg s.cpu 5)) ≡ None → MayBind w e (binding_of s.cpu) (presented s.cpu)
+may_bind : (w : World) (e : ℕ) → refusal_of_bind_call w e ≡ None → let s = w.solos e in MayBind w e (binding_of s.cpu) (presented s.cpu)
 may_bind w e none =
     let s = w.solos e in
     let page = reg s.cpu 5 in
@@ -189,7 +182,7 @@ may_give w e target none =
 may_enter : (w : World) (e target : ℕ) (kind : TransferKind) → refusal_of_transfer w e target kind ≡ None → MayEnter w e target kind
 may_enter w e target kind none =
     let parts = giving (is_other w e target) (gift_refusal (hands_slot kind) w.book.runner (turn_slot w.book)) (accepts (w.solos target).mask e && is_open (w.solos target) kind) none in
-    let accepted = both (accepts (w.solos target).mask e) (is_open (w.solos target) kind) parts.2 in
+    let accepted = and_parts (accepts (w.solos target).mask e) (is_open (w.solos target) kind) parts.2 in
     record { reach = record { other = parts.0; gift = parts.1; accepted = accepted.0 }; entry = accepted.1 }
 
 yields : (w : World) (e target value : ℕ) (t : Bool) → yield_by w e target t ≡ Grant value → May w e (yield_deed target t)
@@ -291,15 +284,13 @@ may_load w e page none =
 pub granted_may : ((pages : ℕ → PageRow) (count : ℕ) → IsLowestFree pages count (lowest_free pages count)) → GrantedMay
 granted_may lowest w e None value is = tt
 granted_may lowest w e (Some call.Yield) value is = let target = reg (w.solos e).cpu 4 in yields w e target value (target == any) is
-granted_may lowest w e (Some call.Put) value is = let s = w.solos e in may_put s (not_refused (put_refusal s.cpu (sight s) (length s.console)) (reg s.cpu 5) value is)
+granted_may lowest w e (Some call.Put) value is = let s = w.solos e in may_put s (not_refused (refusal_of_put_call s) (reg s.cpu 5) value is)
 granted_may lowest w e (Some call.Alloc) value is =
     let page = reg (w.solos e).cpu 4 in
     may_allocate w.book page value (lowest w.book.pages w.book.page_count) (answered (chosen_page w.book page) value is)
 granted_may lowest w e (Some call.Free) value is = let page = reg (w.solos e).cpu 4 in may_change w e page (not_refused (refusal_of_change w e page) 0 value is)
 granted_may lowest w e (Some call.Recap) value is = let page = reg (w.solos e).cpu 4 in may_change w e page (not_refused (refusal_of_change w e page) 0 value is)
-granted_may lowest w e (Some call.Bind) value is =
-    let s = w.solos e in
-    may_bind w e (not_refused (refusal_of_bind e s.cpu (is_guaranteed s (reg s.cpu 4)) (page_row w.book (reg s.cpu 5))) 0 value is)
+granted_may lowest w e (Some call.Bind) value is = may_bind w e (not_refused (refusal_of_bind_call w e) 0 value is)
 granted_may lowest w e (Some call.Unbind) value is =
     let s = w.solos e in
     let vpn = reg s.cpu 4 in
@@ -321,6 +312,6 @@ granted_may lowest w e (Some call.Unclaim) value is = tt
 granted_may lowest w e (Some call.Handler) value is = let s = w.solos e in may_download s (reg s.cpu 4) (reg s.cpu 5) (reg s.cpu 6) value is
 granted_may lowest w e (Some call.Line) value is = let cpu = (w.solos e).cpu in may_line w e (reg cpu 4) (reg cpu 5) value is
 granted_may lowest w e (Some call.Backup) value is = let page = reg (w.solos e).cpu 4 in may_load w e page (not_refused (refusal_of_load w e page) 0 value is)
-granted_may lowest w e (Some call.Send) value is = let s = w.solos e in may_send s (not_refused (send_refusal s.cpu (sight s) (length s.sent)) 0 value is)
+granted_may lowest w e (Some call.Send) value is = let s = w.solos e in may_send s (not_refused (refusal_of_send_call s) 0 value is)
 granted_may lowest w e (Some call.OwnNumber) value is = tt
 granted_may lowest w e (Some call.Clock) value is = tt

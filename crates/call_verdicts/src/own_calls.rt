@@ -1,8 +1,8 @@
 //! Why calls that read and change their caller alone are refused.
-ghost use Rattle.std.specs.Prelude.{◌≡◌, Some, length};
+ghost use Rattle.std.specs.Prelude.{◌≡◌, Some};
 ghost use Rattle.world_model.specs.Book.{running};
-ghost use Rattle.world_model.specs.OwnCalls.{put_refusal, refusal_of_context, send_refusal};
-ghost use Rattle.world_model.specs.Solo.{sight};
+ghost use Rattle.world_model.specs.OwnCalls.{refusal_of_context};
+ghost use Rattle.call_verdicts.specs.Refusals.{refusal_of_put_call, refusal_of_send_call};
 
 use crate::arguments::{FIRST_ARGUMENT, SECOND_ARGUMENT};
 use crate::view::CallView;
@@ -18,7 +18,7 @@ const USER_END: u32 = 0x8000_0000;
 /// Why the runner's put is refused, in the order of testing.
 pub(crate) fn refuse_put<V: CallView>(view: &V, env: u8) -> Option<Code>
     requires { running (V.world view.now).book.runner ≡ Some env }
-    ensures { result ≡ put_refusal ((V.world view.now).solos env).cpu (sight ((V.world view.now).solos env)) (length ((V.world view.now).solos env).console) }
+    ensures { result ≡ refusal_of_put_call ((V.world view.now).solos env) }
 {
     let cpu = view.registers(env);
     let address = cpu.reg(FIRST_ARGUMENT);
@@ -35,7 +35,7 @@ pub(crate) fn refuse_put<V: CallView>(view: &V, env: u8) -> Option<Code>
 /// Why the runner's send is refused, in the order of testing.
 pub(crate) fn refuse_send<V: CallView>(view: &V, env: u8) -> Option<Code>
     requires { running (V.world view.now).book.runner ≡ Some env }
-    ensures { result ≡ send_refusal ((V.world view.now).solos env).cpu (sight ((V.world view.now).solos env)) (length ((V.world view.now).solos env).sent) }
+    ensures { result ≡ refusal_of_send_call ((V.world view.now).solos env) }
 {
     let cpu = view.registers(env);
     let size = cpu.reg(SECOND_ARGUMENT);

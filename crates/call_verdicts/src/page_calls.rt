@@ -1,11 +1,11 @@
 //! Why calls on pages are refused.
 ghost use Rattle.std.specs.Prelude.{◌≡◌, Some};
 ghost use Rattle.std.specs.Option.{option_map};
-ghost use Rattle.mips_exec.specs.Cpu.{reg};
 ghost use Rattle.page_book.specs.Row.{alloc_refusal, bind_refusal, change_refusal};
 ghost use Rattle.world_model.specs.Code.{code_of};
 ghost use Rattle.world_model.specs.Book.{page_row, running};
-ghost use Rattle.world_model.specs.PageCalls.{chosen_page, is_guaranteed, vpn_refusal, refusal_of_bind, refusal_of_change};
+ghost use Rattle.world_model.specs.PageCalls.{chosen_page, is_guaranteed, vpn_refusal, refusal_of_change};
+ghost use Rattle.call_verdicts.specs.Refusals.{refusal_of_bind_call};
 
 use crate::arguments::{ANY, binding, presented};
 use crate::view::CallView;
@@ -94,7 +94,7 @@ fn refuse_right(env: u8, writable: bool, word: u64, row: Option<PageRow>) -> Opt
 /// Why the runner's bind is refused, in the order of testing.
 pub(crate) fn refuse_bind<V: CallView>(view: &V, env: u8) -> Option<Code>
     requires { running (V.world view.now).book.runner ≡ Some env }
-    ensures { result ≡ refusal_of_bind env ((V.world view.now).solos env).cpu (is_guaranteed ((V.world view.now).solos env) (reg ((V.world view.now).solos env).cpu 4)) (page_row (V.world view.now).book (reg ((V.world view.now).solos env).cpu 5)) }
+    ensures { result ≡ refusal_of_bind_call (V.world view.now) env }
 {
     let cpu = view.registers(env);
     let named = binding(cpu);
