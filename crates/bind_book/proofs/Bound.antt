@@ -2,6 +2,7 @@
 use Rattle.std.proofs.Common.{arith, refl, inl, inr, ◌≡◌, ◌<◌, ℕ, zero, suc, Bool, false, Option, None, Some}
 use Rattle.std.proofs.lemmas.Bool.{cases_eq, cases_Bool, or_parts, or_from}
 use Rattle.bind_book.specs.declared.binding.Binding.{Binding}
+use Rattle.bind_book.specs.Laws.{StaysUnbound}
 use Rattle.bind_book.specs.Stripe.{stripe_rows, is_of_page, is_bound_below, is_bound, without}
 
 unbound_below : (page : ℕ) (stripe : ℕ → Option Binding) (rows : ℕ) → is_bound_below page stripe rows ≡ false → (r : ℕ) → r < rows → is_of_page page (stripe r) ≡ false
@@ -35,5 +36,5 @@ without_other page broken (Some b) other =
     elim (cases_Bool (broken b)) [ inl gone ↦ rw gone refl | inr stays ↦ rw stays other ]
 
 -- a page that isn't bound in a stripe isn't once bindings are broken
-pub stays_unbound : (page : ℕ) (broken : Binding → Bool) (stripe : ℕ → Option Binding) → is_bound page stripe ≡ false → is_bound page (λ r. without broken (stripe r)) ≡ false
+pub stays_unbound : StaysUnbound
 stays_unbound page broken stripe none = rows_unbound page (λ r. without broken (stripe r)) (λ r below. without_other page broken (stripe r) (unbound_rows page stripe none r below))

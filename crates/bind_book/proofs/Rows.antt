@@ -4,6 +4,7 @@ use Rattle.std.proofs.lemmas.Bool.{cases_eq, cases_lt, and_right, eq-eqb, ne_eqb
 use Rattle.std.proofs.lemmas.List.{length-replicate, get_or-replicate, get_or_past}
 use Rattle.std.proofs.lemmas.Nat.{same_from_place}
 use Rattle.bind_book.specs.declared.binding.Binding.{Binding}
+use Rattle.bind_book.specs.Laws.{SetInOneRow}
 use Rattle.bind_book.specs.Stripe.{stripe_rows, row_of, stripe_place, HasStripe, stripes, binding_at}
 
 -- rows that are all empty
@@ -36,7 +37,7 @@ set_place binds e row i r x has below within =
     ]
 
 -- what is put into a row of a stripe stands in that row alone
-pub row_set : (binds : List (Option Binding)) (e row : ℕ) (x : Option Binding) → HasStripe binds e → row < stripe_rows → (i r : ℕ) → stripes (slice_set binds (stripe_place e row) x) i r ≡ cond (eqb i e && eqb r row) x (stripes binds i r)
+pub row_set : SetInOneRow
 row_set binds e row x has below i r =
     elim (cases_lt r stripe_rows) [
       | inl within ↦ rw (lt-ltb r stripe_rows within) (set_place binds e row i r x has below within)

@@ -3,7 +3,8 @@ use Rattle.std.proofs.Common.{arith, refl, ap, ◌∙◌, ◌≡◌, ◌+◌, �
 use Rattle.std.proofs.lemmas.Bool.{cases_lt, lt-ltb, le-ltb}
 use Rattle.std.proofs.lemmas.Nat.{div-mul-add}
 use Rattle.bind_book.specs.declared.binding.Binding.{Binding}
-use Rattle.bind_book.specs.Stripe.{stripe_rows, stripe_place, stripes, without, swept_from, swept}
+use Rattle.bind_book.specs.Laws.{SweptByRow}
+use Rattle.bind_book.specs.Stripe.{stripe_rows, stripe_place, without, swept_from, swept}
 
 swept_place : (place : ℕ) (broken : ℕ → Binding → Bool) (binds : List (Option Binding)) (i : ℕ) → get_or (swept_from place broken binds) i None ≡ without (broken ((place + i) / stripe_rows)) (get_or binds i None)
 swept_place place broken [] i = refl
@@ -13,7 +14,7 @@ swept_place place broken (row ∷ rows) (suc i) =
     rw next (swept_place (place + 1) broken rows i)
 
 -- a sweep leaves in each row what was there, if it isn't broken for its environment
-pub swept_row : (broken : ℕ → Binding → Bool) (binds : List (Option Binding)) (e row : ℕ) → stripes (swept broken binds) e row ≡ without (broken e) (stripes binds e row)
+pub swept_row : SweptByRow
 unfolding swept
 swept_row broken binds e row =
     elim (cases_lt row stripe_rows) [

@@ -38,6 +38,10 @@ of_number vpn (Some b) = if b.vpn == vpn then Some b else None
 abbrev pub binding_at : (ℕ → Option Binding) → ℕ → Option Binding
 binding_at stripe vpn = of_number vpn (stripe (row_of vpn))
 
+-- the rows with an environment's binding in the row of its VPN
+abbrev pub rows_with_binding : List (Option Binding) → ℕ → Binding → List (Option Binding)
+rows_with_binding binds e b = slice_set binds (stripe_place e (row_of b.vpn)) (Some b)
+
 -- the rows once the binding of an environment's VPN, if there is one, is gone
 abbrev pub unbound : List (Option Binding) → ℕ → ℕ → List (Option Binding)
 unbound binds e vpn = if is_some (binding_at (stripes binds e) vpn) then slice_set binds (stripe_place e (row_of vpn)) None else binds

@@ -1,8 +1,8 @@
 //! The book of bindings.
-ghost use Rattle.std.specs.Prelude.{◌≡◌, ◌<◌, ◌≤◌, ◌*◌, length, replicate, is_some, slice_set, IfOk};
+ghost use Rattle.std.specs.Prelude.{◌≡◌, ◌<◌, ◌≤◌, ◌*◌, length, replicate, is_some, IfOk};
 ghost use Rattle.aegis_limits.specs.Limits.{most_environments, vpn_end};
 ghost use Rattle.page_book.specs.Rows.{most_rows, row_in};
-ghost use Rattle.bind_book.specs.Stripe.{stripe_rows, row_of, stripe_place, HasStripe, stripes, binding_at, unbound, breaks_page, goes_with, swept};
+ghost use Rattle.bind_book.specs.Stripe.{stripe_rows, row_of, stripe_place, HasStripe, stripes, binding_at, unbound, rows_with_binding, breaks_page, goes_with, swept};
 
 use crate::binding::Binding;
 use crate::sweep::{break_page, clear_env};
@@ -49,7 +49,7 @@ impl Bindings {
         requires number { vpn < vpn_end }
         requires page { page < most_rows }
         ensures replaced { result ≡ stripes self.old env (row_of vpn) }
-        ensures after { self.new ≡ slice_set self.old (stripe_place env (row_of vpn)) (Some (record { vpn = vpn; page = page; writable = writable })) }
+        ensures after { self.new ≡ rows_with_binding self.old env (record { vpn = vpn; page = page; writable = writable }) }
         ensures count { length self.new ≡ length self.old }
     {
         let row = vpn % STRIPE_ROWS;
