@@ -1,8 +1,8 @@
 -- The spans of what is said.
 use Rattle.std.proofs.Common.{◌≡◌, ℕ, ◌+◌, ◌<◌, List, [], ◌∷◌, ◌++◌, Bool, true, false, Option, Some, None, cond, length, refl, ap, sym, ◌∙◌, subst, arith, length-append}
 use Rattle.std.proofs.Math.Seq.{take-append_seam, drop-append-add}
-use Rattle.std.proofs.lemmas.Bool.{eqb-true}
-use Rattle.std.specs.Prelude.{◌==◌, ◌&&◌}
+use Rattle.std.proofs.lemmas.Bool.{and_parts, eqb-true}
+use Rattle.std.specs.Prelude.{◌==◌}
 use Rattle.line_text.specs.Characters.{is_blank}
 use Rattle.std.proofs.lemmas.Option.{none-some, same_Some}
 use Rattle.std.specs.List.{AllByRecursion, join_with_byte, onto_first, prefix_len}
@@ -102,12 +102,8 @@ join_empty : (parts : List (List ℕ)) → 0 < length parts → join_with_byte 4
 join_empty [] some = absurd (omega arith)
 join_empty (part ∷ parts) some = refl
 
-second_true : (x y : Bool) → (x && y) ≡ true → y ≡ true
-second_true true y is = is
-second_true false y is = cc
-
 mark_is : (q : Quoting) (b : ℕ) → is_mark 44 q b ≡ true → b ≡ 44
-mark_is q b is = eqb-true b 44 (second_true (is_outside q) (b == 44) is)
+mark_is q b is = eqb-true b 44 (and_parts (is_outside q) (b == 44) is).1
 
 joined_parts : (q : Quoting) (bs : List ℕ) → join_with_byte 44 (parts_at 44 q bs) ≡ bs
 joined_parts q [] = refl

@@ -35,7 +35,11 @@ unquoted_from false (b ∷ bs) =
     option_map (λ text. b ∷ text) (unquoted_from false bs)
 unquoted_from true (b ∷ bs) = option_and_then (λ e. option_map (λ text. e ∷ text) (unquoted_from false bs)) (escaped b)
 
+-- the bytes that a quoted text means, by what stands behind its opening mark
+abbrev pub meant : List ℕ → Option (List ℕ)
+meant bs = unquoted_from false bs
+
 -- the bytes that a quoted text means
 abbrev pub unquoted : List ℕ → Option (List ℕ)
 unquoted [] = None
-unquoted (b ∷ bs) = if b == byte "\"" then unquoted_from false bs else None
+unquoted (b ∷ bs) = if b == byte "\"" then meant bs else None

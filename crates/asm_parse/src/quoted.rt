@@ -1,8 +1,8 @@
 //! Quoted texts.
-ghost use Rattle.std.specs.Prelude.{◌≡◌, ◌<◌, [], ◌∷◌, Some, None, false, if◌then◌else◌, length, codes, IfOk, IfSome, IfNone};
+ghost use Rattle.std.specs.Prelude.{◌≡◌, ◌<◌, [], ◌∷◌, Some, None, if◌then◌else◌, length, codes, IfOk, IfSome, IfNone};
 ghost use Rattle.std.specs.Str.{bytes_eq};
 ghost use Rattle.std.specs.Option.{option_map};
-ghost use Rattle.asm_parse.specs.Words.{escaped, unquoted, unquoted_from};
+ghost use Rattle.asm_parse.specs.Words.{escaped, meant, unquoted};
 
 use std::alloc::{AllocError, Global};
 
@@ -21,7 +21,7 @@ pub(crate) fn unquoted(alloc: Global, text: &[u8]) -> Result<Option<Vec<u8>>, Al
 
 /// The bytes that a quoted text means, behind its opening mark.
 fn meant(alloc: Global, quoted: &[u8]) -> Result<Option<Vec<u8>>, AllocError>
-    ensures { IfOk result (λ found. option_map (λ v. v.items) found ≡ unquoted_from false quoted.now) }
+    ensures { IfOk result (λ found. option_map (λ v. v.items) found ≡ meant quoted.now) }
 {
     let mut text = Vec::new(alloc);
     let mut rest = quoted;
@@ -38,9 +38,9 @@ fn meant(alloc: Global, quoted: &[u8]) -> Result<Option<Vec<u8>>, AllocError>
 
 /// The first byte that is meant, where one is, and what stands behind it.
 fn first_meant(quoted: &[u8]) -> Option<(u8, &[u8])>
-    ensures some { IfSome result (λ first. unquoted_from false quoted.now ≡ option_map (λ text. first.0 ∷ text) (unquoted_from false first.1.now)) }
+    ensures some { IfSome result (λ first. meant quoted.now ≡ option_map (λ text. first.0 ∷ text) (meant first.1.now)) }
     ensures shorter { IfSome result (λ first. length first.1.now < length quoted.now) }
-    ensures none { IfNone result (unquoted_from false quoted.now ≡ (if bytes_eq quoted.now (codes "\"") then Some [] else None)) }
+    ensures none { IfNone result (meant quoted.now ≡ (if bytes_eq quoted.now (codes "\"") then Some [] else None)) }
 {
     match quoted {
         [b'\\', byte, behind @ ..] => Some((escaped(*byte)?, behind)),
