@@ -1,5 +1,5 @@
 //! What the runner puts out: bytes on its console, and packets.
-ghost use Rattle.std.specs.Prelude.{◌≡◌, ◌<◌, ◌≤◌, ◌+◌, [], is_some, length, true, unwrap_or};
+ghost use Rattle.std.specs.Prelude.{◌≡◌, ◌<◌, ◌≤◌, ◌+◌, is_some, length, true};
 ghost use Rattle.std.specs.Option.{option_map};
 ghost use Rattle.aegis_limits.specs.Limits.{console_size};
 ghost use Rattle.external_event.specs.Limits.{most_packet_size, most_sent};
@@ -7,14 +7,26 @@ ghost use Rattle.guest_memory.specs.Look.{look};
 ghost use Rattle.guest_memory.specs.Space.{lookup};
 ghost use Rattle.world_model.specs.Call.{good_range};
 ghost use Rattle.world_model.specs.OwnCalls.{put_bytes as bytes_to_put};
-ghost use Rattle.board_world.specs.Shown.{changed, console_of, sent_of, with_list};
-ghost use Rattle.board_world.specs.Doing.{with_bytes_put, with_packet_sent};
-ghost use Rattle.board_parts.specs.Parts.{look_in};
+ghost use Rattle.board_world.specs.Shown.{console_of, sent_of};
+ghost use Rattle.board_parts.specs.Parts.{look_in, roster_after_put, roster_after_send, space_in};
 
 use bind_book::Bindings;
 use board_world::Roster;
 use frame_store::Frames;
 use guest_memory::{Space, guest_range};
+
+/// What an environment sees: its guaranteed mappings, and its bindings.
+#[inline(always)]
+fn space_in<'a>(roster: &'a Roster, bindings: &'a Bindings, env: u8) -> Space<'a>
+    requires { env < length roster.now.list }
+    ensures { result ≡ space_in bindings.now roster.now.list env }
+{
+    Space {
+        env: roster.frame(env),
+        bindings,
+        number: env,
+    }
+}
 
 /// The bytes of a put, so many from an address on, if their range is good; none need no range.
 fn put_bytes<'a>(frames: &'a Frames, space: &Space<'_>, address: u32, size: u32) -> Option<&'a [u8]>
@@ -38,13 +50,9 @@ pub fn put(
     requires there { env < length roster.old.list }
     requires good { is_some (bytes_to_put (look_in frames.now bindings.now roster.old.list env) address size) ≡ true }
     requires room { length (console_of roster.old.list env) + size ≤ console_size }
-    ensures { roster.new ≡ with_list roster.old (changed (with_bytes_put (unwrap_or (bytes_to_put (look_in frames.now bindings.now roster.old.list env) address size) [])) roster.old.list env) }
+    ensures { roster.new ≡ roster_after_put (look_in frames.now bindings.now roster.old.list env) roster.old env address size }
 {
-    let space = Space {
-        env: roster.frame(env),
-        bindings,
-        number: env,
-    };
+    let space = space_in(roster, bindings, env);
     let bytes = put_bytes(frames, &space, address, size).unwrap();
     roster.put(env, bytes);
 }
@@ -62,13 +70,9 @@ pub fn send(
     requires most { size ≤ most_packet_size }
     requires good { is_some (good_range (look_in frames.now bindings.now roster.old.list env) address size) ≡ true }
     requires room { length (sent_of roster.old.list env) < most_sent }
-    ensures { roster.new ≡ with_list roster.old (changed (with_packet_sent (unwrap_or (good_range (look_in frames.now bindings.now roster.old.list env) address size) [])) roster.old.list env) }
+    ensures { roster.new ≡ roster_after_send (look_in frames.now bindings.now roster.old.list env) roster.old env address size }
 {
-    let space = Space {
-        env: roster.frame(env),
-        bindings,
-        number: env,
-    };
+    let space = space_in(roster, bindings, env);
     let bytes = guest_range(frames, &space, address, size).unwrap();
     roster.send(env, bytes);
 }
