@@ -74,6 +74,10 @@ without gone book = record book { rows = filter (λ (r : RowValue). not (gone r.
 abbrev pub first_row : (ClaimValue → Bool) → ClaimBook → Option RowValue
 first_row test book = find (λ (r : RowValue). test r.claim) book.rows
 
+-- the row of the claim of this number, if it stands
+abbrev pub row_numbered : ℕ → List RowValue → Option RowValue
+row_numbered id rows = find (λ (r : RowValue). is_numbered id r.claim) rows
+
 -- the claim of this number, if it stands and is the environment's
 abbrev pub claim_held : ClaimBook → ℕ → ℕ → Option Claim
 claim_held book env id = option_map claim_seen (first_row (is_claim env id) book)

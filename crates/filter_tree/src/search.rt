@@ -3,7 +3,7 @@ ghost use Rattle.std.specs.Prelude.{◌≡◌, ◌<◌, IfNone, IfSome, None, So
 ghost use Rattle.std.specs.List.{list_any};
 ghost use Rattle.std.specs.Option.{option_flatten, option_map};
 ghost use Rattle.filter_tree.specs.ClaimBook.{AreRising, RowValue, is_of_env};
-ghost use Rattle.filter_tree.specs.Claims.{claim_seen, is_claim, is_in_the_way, is_into, is_numbered, row_refusal};
+ghost use Rattle.filter_tree.specs.Claims.{claim_seen, is_claim, is_in_the_way, is_into, row_numbered, row_refusal};
 
 use crate::claim::{Claim, ClaimNo};
 use crate::row::ClaimRow;
@@ -55,8 +55,8 @@ pub(crate) fn refusal(rows: &[ClaimRow], env: u8, filter: &Filter) -> Option<Cla
 pub(crate) fn place_numbered(rows: &[ClaimRow], id: u32) -> Option<usize>
     requires { AreRising rows.now }
     ensures within { IfSome result (λ k. k < length rows.now) }
-    ensures some { IfSome result (λ k. (d : RowValue) → find (λ (r : RowValue). is_numbered id r.claim) rows.now ≡ Some (slice_index_or rows.now k d)) }
-    ensures none { IfNone result (find (λ (r : RowValue). is_numbered id r.claim) rows.now ≡ None) }
+    ensures some { IfSome result (λ k. (d : RowValue) → row_numbered id rows.now ≡ Some (slice_index_or rows.now k d)) }
+    ensures none { IfNone result (row_numbered id rows.now ≡ None) }
 {
     let place = rows.partition_point(|row| row.id() < id);
     if place < rows.len() && rows[place].is_numbered(id) {
@@ -82,7 +82,7 @@ pub(crate) fn claim_held(rows: &[ClaimRow], env: u8, id: u32) -> Option<Claim>
 /// The handler of the claim of this number, if it has one.
 pub(crate) fn claim_handler(rows: &[ClaimRow], id: u32) -> Option<&Handler>
     requires { AreRising rows.now }
-    ensures { option_map (λ handler. handler.now) result ≡ option_flatten (option_map (λ (r : RowValue). r.handler) (find (λ (r : RowValue). is_numbered id r.claim) rows.now)) }
+    ensures { option_map (λ handler. handler.now) result ≡ option_flatten (option_map (λ (r : RowValue). r.handler) (row_numbered id rows.now)) }
 {
     rows[place_numbered(rows, id)?].handler()
 }
@@ -90,7 +90,7 @@ pub(crate) fn claim_handler(rows: &[ClaimRow], id: u32) -> Option<&Handler>
 /// The claim of this number.
 pub(crate) fn claim_numbered(rows: &[ClaimRow], id: u32) -> Option<Claim>
     requires { AreRising rows.now }
-    ensures { result ≡ option_map claim_seen (find (λ (r : RowValue). is_numbered id r.claim) rows.now) }
+    ensures { result ≡ option_map claim_seen (row_numbered id rows.now) }
 {
     Some(rows[place_numbered(rows, id)?].claim())
 }
