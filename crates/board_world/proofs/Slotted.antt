@@ -1,6 +1,6 @@
 -- What two tests tell, and what the timer brings.
 use Rattle.std.proofs.Common.{◌≡◌, ◌≢◌, ◌+◌, ℕ, Bool, true, false, Option, Some, None, refl, sym, ◌∙◌, ap}
-use Rattle.std.specs.Prelude.{◌==◌, ◌&&◌, if◌then◌else◌, nat_lt, not}
+use Rattle.std.specs.Prelude.{◌==◌, if◌then◌else◌, nat_lt, not}
 use Rattle.std.proofs.lemmas.Bool.{eq-eqb}
 use Rattle.slot_vector.specs.declared.timer.Timer.TheVariants as timer
 use Rattle.slot_vector.specs.Slices.{Slices, excess_of, timer_answer, timer_at_end, timer_by}

@@ -1,7 +1,7 @@
 -- The slots of a board go on being sound.
 use Rattle.std.proofs.Common.{◌≡◌, ◌≢◌, ℕ, zero, suc, ◌+◌, ◌-◌, ◌%◌, ◌<◌, ◌≤◌, List, [], ◌∷◌, length, map, Bool, true, false, Option, Some, None, IfSome, refl, sym, ◌∙◌, ap, subst, arith}
 use Rattle.std.specs.Option.{option_map}
-use Rattle.std.specs.Prelude.{◌==◌, ◌-◌, ◌||◌, if◌then◌else◌, nat_lt, All, slice_get, slice_index_or, slice_set}
+use Rattle.std.specs.Prelude.{◌==◌, ◌-◌, if◌then◌else◌, nat_lt, All, slice_get, slice_index_or, slice_set}
 use Rattle.std.proofs.Common.{length-set}
 use Rattle.std.proofs.lemmas.Bool.{eq-eqb, eqb-false, ltb-false, or_parts}
 use Rattle.std.proofs.lemmas.List.{length-map}

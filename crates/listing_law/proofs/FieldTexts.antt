@@ -1,6 +1,6 @@
 -- Printed fields, as the assembler takes them.
 use Rattle.std.proofs.Common.{◌≡◌, ℕ, ◌+◌, ◌-◌, ◌*◌, ◌/◌, ◌%◌, ◌^◌, ◌<◌, ◌≤◌, ◌∙◌, Bool, true, false, Result, Ok, refl, arith, ltb-true, ltb-false, le-leb, eq-eqb}
-use Rattle.std.specs.Prelude.{◌==◌, ◌||◌, nat_lt, nat_le, if◌then◌else◌}
+use Rattle.std.specs.Prelude.{◌==◌, nat_lt, nat_le, if◌then◌else◌}
 use Rattle.std.proofs.lemmas.Bool.{or_right}
 use Rattle.asm_parse.specs.Expression.{negated}
 use Rattle.asm_parse.specs.declared.fault.AsmWhy.{AsmWhy}

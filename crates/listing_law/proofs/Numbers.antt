@@ -1,6 +1,6 @@
 -- Printed numbers, read again.
 use Rattle.std.proofs.Common.{◌≡◌, ℕ, zero, suc, ◌-◌, ◌/◌, ◌%◌, ◌^◌, ◌<◌, ◌≤◌, Bool, true, false, List, [], ◌∷◌, ◌++◌, Some, length, refl, sym, arith, lt-ltb, le-leb, ltb-true}
-use Rattle.std.specs.Prelude.{◌==◌, ◌&&◌, nat_eq, codes}
+use Rattle.std.specs.Prelude.{◌==◌, nat_eq, codes}
 use Rattle.std.proofs.lemmas.Bool.{and_parts}
 use Rattle.std.proofs.lemmas.Bool.Decides.{nat_tests}
 use Rattle.std.proofs.Math.Bool.{and-false}

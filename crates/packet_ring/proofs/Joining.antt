@@ -1,6 +1,6 @@
 -- Bytes that are put into a page in two parts.
 use Rattle.std.proofs.Common.{◌≡◌, ℕ, ◌+◌, ◌<◌, ◌≤◌, List, [], ◌++◌, length, take, drop, sym, ◌∙◌, ap, arith, append_assoc, append-nil, length-append, length-drop}
-use Rattle.std.specs.Prelude.{Bool, true, false, ◌&&◌, nat_le}
+use Rattle.std.specs.Prelude.{true, nat_le}
 use Rattle.std.proofs.lemmas.Bool.{and_parts, leb-true}
 use Rattle.std.proofs.lemmas.List.{drop-drop, drop_all, length-take-le, set-set, take_at}
 use Rattle.std.proofs.Math.Seq.{drop-append-add, get_or-set_same}
