@@ -2,7 +2,7 @@
 use Rattle.std.proofs.Common.{◌≡◌, ◌≤◌, ◌<◌, ℕ, ◌+◌, ◌*◌, Bool, true, false, List, [], ◌∷◌, length, map, refl, sym, ◌∙◌, ap, arith}
 use Rattle.std.specs.Prelude.{◌==◌, ◌&&◌, ◌||◌, not, nat_lt, nat_le, min, max, fold, if◌then◌else◌, slice_index, ◌-◌, Ok}
 use Rattle.std.specs.List.{filter, list_any}
-use Rattle.std.proofs.lemmas.Bool.{eqb-true}
+use Rattle.std.proofs.lemmas.Bool.{and_left, eqb-true}
 use Rattle.elf_static.specs.ObjectValue.{ObjectValue, PartValue}
 use Rattle.elf_static.specs.Layout.{elf_text}
 use Rattle.elf_static.specs.ElfValue.{ElfValue, SegmentValue, elf_of}
@@ -51,13 +51,10 @@ byte_loaded address byte (part ∷ parts) = by_size (λ b. byte_loaded address b
 pub pages_are : (object : ObjectValue) (vpn : ℕ) → has_page (loaded object) vpn ≡ has_memory object.parts vpn
 pages_are object vpn = any_loaded (touches vpn) object.parts (λ part none. empty_is_nowhere vpn part.vaddr (length part.bytes) none)
 
-fails_and : (found other : Bool) → found ≡ false → (found && other) ≡ false
-fails_and found other is = rw is refl
-
 pub stores_are : (object : ObjectValue) (vpn : ℕ) → is_writable (loaded object) vpn ≡ is_open object.parts vpn
 stores_are object vpn =
     any_loaded (λ segment. touches vpn segment && segment.writable) object.parts
-    (λ part none. fails_and (touches vpn (segment_of part)) part.writable (empty_is_nowhere vpn part.vaddr (length part.bytes) none))
+    (λ part none. and_left (touches vpn (segment_of part)) part.writable (empty_is_nowhere vpn part.vaddr (length part.bytes) none))
 
 bytes_from_are : (object : ObjectValue) (address count : ℕ) → bytes_from (loaded object) address count ≡ memory_from object.parts address count
 unfolding bytes_from memory_from

@@ -2,7 +2,7 @@
 use Rattle.std.proofs.Common.{◌≡◌, ◌≤◌, ◌<◌, ℕ, zero, suc, ◌+◌, ◌-◌, Bool, true, false, List, [], ◌∷◌, ◌++◌, Option, None, Some, length, take, get_or, min, refl, ap, sym, subst, ◌∙◌, inl, inr, arith}
 use Rattle.std.specs.Prelude.{◌||◌, IfSome, IfNone}
 use Rattle.std.specs.List.{list_any, filter, AllByRecursion}
-use Rattle.std.proofs.lemmas.Bool.{cases_lt}
+use Rattle.std.proofs.lemmas.Bool.{cases_lt, or_from, or_left, or_right}
 use Rattle.std.proofs.lemmas.List.{take_more, length-map, get_or-map}
 use Rattle.std.proofs.lemmas.List.Folds.{list_any-append}
 use Rattle.aegis_limits.specs.Limits.{vpn_end}
@@ -13,18 +13,8 @@ use Rattle.elf_static.specs.ElfValue.{SegmentValue, ElfValue}
 use Rattle.segment_pages.specs.FirstPage.{TouchesFirst, IsFirstPage, lesser}
 use Rattle.segment_pages.specs.Pages.{numbers_from, touches, has_page, pages_from}
 
-both_fail : (a b : Bool) → a ≡ false → b ≡ false → (a || b) ≡ false
-both_fail a b x y = rw (x, y) refl
-
-one_passes : (a b : Bool) → a ≡ true → (a || b) ≡ true
-one_passes a b x = rw x refl
-
-other_passes : (a b : Bool) → b ≡ true → (a || b) ≡ true
-other_passes true b x = refl
-other_passes false b x = x
-
 neither_touches : (k : ℕ) (xs ys : List SegmentValue) → list_any (touches k) xs ≡ false → list_any (touches k) ys ≡ false → list_any (touches k) (xs ++ ys) ≡ false
-neither_touches k xs ys x y = list_any-append (touches k) xs ys ∙ both_fail (list_any (touches k) xs) (list_any (touches k) ys) x y
+neither_touches k xs ys x y = list_any-append (touches k) xs ys ∙ or_from (list_any (touches k) xs) (list_any (touches k) ys) x y
 
 -- the first page of some segments, before which others have none
 first_of_left : (first : ℕ) (xs ys : List SegmentValue) (vpn : ℕ) → TouchesFirst first xs vpn → ((k : ℕ) → first ≤ k → k < vpn → list_any (touches k) ys ≡ false) → TouchesFirst first (xs ++ ys) vpn
@@ -32,7 +22,7 @@ first_of_left first xs ys vpn t none = record {
   from = t.from;
   above = t.above;
   below = t.below;
-  touched = list_any-append (touches vpn) xs ys ∙ one_passes (list_any (touches vpn) xs) (list_any (touches vpn) ys) t.touched;
+  touched = list_any-append (touches vpn) xs ys ∙ or_left (list_any (touches vpn) xs) (list_any (touches vpn) ys) t.touched;
   before = λ k from before. neither_touches k xs ys (t.before k from before) (none k from before);
 }
 
@@ -41,7 +31,7 @@ first_of_right first xs ys vpn t none = record {
   from = t.from;
   above = t.above;
   below = t.below;
-  touched = list_any-append (touches vpn) xs ys ∙ other_passes (list_any (touches vpn) xs) (list_any (touches vpn) ys) t.touched;
+  touched = list_any-append (touches vpn) xs ys ∙ or_right (list_any (touches vpn) xs) (list_any (touches vpn) ys) t.touched;
   before = λ k from before. neither_touches k xs ys (none k from before) (t.before k from before);
 }
 
