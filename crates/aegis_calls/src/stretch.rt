@@ -2,9 +2,8 @@
 ghost use Rattle.std.specs.Prelude.{◌≡◌, ◌≤◌, ◌+◌, Some};
 ghost use Rattle.aegis_limits.specs.Limits.{most_ticks};
 ghost use Rattle.world_model.specs.Book.{is_idle_book, running};
-ghost use Rattle.world_model.specs.Event.{Schedule};
-ghost use Rattle.run_model.specs.Run.{run_on};
-ghost use Rattle.board_world.specs.Stretch.{ArePlain, IsQuiet, stretched};
+ghost use Rattle.board_world.specs.Stretch.{ArePlain, stretched};
+ghost use Rattle.aegis_calls.specs.QuietTicks.{AreQuietTicks};
 
 use crate::board::Board;
 use board_parts::plain_most;
@@ -41,7 +40,7 @@ impl Board {
     /// are left to a tick by its parts. It writes no row, and changes no claim.
     pub fn stretch(&mut self, most: u32) -> u32
         requires time { self.old.time + most ≤ most_ticks }
-        ensures world { (schedule : Schedule) → IsQuiet schedule self.old.time (self.old.time + result) → world_of self.new ≡ run_on schedule (world_of self.old) result }
+        ensures world { AreQuietTicks self.old self.new result }
         ensures idle { is_idle_book (world_of self.new).book ≡ is_idle_book (world_of self.old).book }
         ensures most { result ≤ most }
         ensures time { self.new.time ≡ self.old.time + result }

@@ -2,12 +2,12 @@
 use Rattle.std.proofs.Common.{◌≡◌, ◌<◌, ℕ, length, Option, Some, None, refl, ap, sym, ◌∙◌, arith}
 use Rattle.std.specs.Prelude.{slice_get}
 use Rattle.std.specs.Option.{option_map}
+use Rattle.std.proofs.lemmas.Option.{slice_get_within}
 use Rattle.world_model.specs.declared.life.Life.{Life}
 use Rattle.world_model.specs.Queries.{life_at}
 use Rattle.board_world.specs.declared.roster.Environment.{Environment}
 use Rattle.board_world.specs.Shown.{Shown, shown}
 use Rattle.board_world.specs.Showing.{world_of}
-use Rattle.board_world.proofs.Lists.{get_within}
 use Rattle.board_world.proofs.Parted.{context_there}
 use Rattle.board_world.proofs.Reading.{life_same}
 use Rattle.aegis_calls.proofs.board.Board.revoke.Goals as goal
@@ -18,7 +18,7 @@ there b e life lives = by_record (slice_get b.roster.list e) refl (life_same b e
   where
     by_record : (o : Option Environment) → slice_get b.roster.list e ≡ o → option_map (λ (x : Environment). x.life) o ≡ Some life → e < length b.roster.list
     by_record None at lives = cc
-    by_record (Some x) at lives = get_within b.roster.list e x at
+    by_record (Some x) at lives = slice_get_within b.roster.list e x at
 
 pub ask-requires : goal.ask-requires
 ask-requires c =
