@@ -1,5 +1,6 @@
 -- The atom at a depth.
-use Rattle.std.proofs.Common.{◌≡◌, ℕ, zero, suc, ◌+◌, List, [], ◌∷◌, drop, refl, sym, ap, ◌∙◌, arith, Some, None}
+use Rattle.std.proofs.Common.{◌≡◌, ℕ, zero, suc, ◌+◌, List, [], ◌∷◌, drop, refl, sym, ap, ◌∙◌, Some, None}
+use Rattle.std.proofs.lemmas.List.{drop-drop}
 use Rattle.std.specs.Prelude.{slice_get}
 
 pub no_atom : {X : Type 0} (d : ℕ) (xs : List X) → None ≡ slice_get xs d → drop d xs ≡ []
@@ -15,9 +16,7 @@ an_atom (suc d) x [] some = cc
 an_atom (suc d) x (y ∷ xs) some = an_atom d x xs some
 
 pub drop_one : {X : Type 0} (d : ℕ) (xs : List X) → drop (d + 1) xs ≡ drop 1 (drop d xs)
-drop_one zero xs = refl
-drop_one (suc d) [] = let e : suc d + 1 ≡ suc (d + 1) = omega arith in rw e refl
-drop_one (suc d) (x ∷ xs) = let e : suc d + 1 ≡ suc (d + 1) = omega arith in rw e (drop_one d xs)
+drop_one d xs = sym (drop-drop 1 d xs)
 
 pub next_atom : {X : Type 0} (d : ℕ) (x : X) (xs : List X) → Some x ≡ slice_get xs d → drop d xs ≡ x ∷ drop (d + 1) xs
 next_atom d x xs some = an_atom d x xs some ∙ ap (λ ys. x ∷ ys) (sym (drop_one d xs))

@@ -1,10 +1,10 @@
 -- The claims to which a packet comes.
-use Rattle.std.proofs.Common.{◌≡◌, ℕ, zero, suc, ◌+◌, ◌<◌, Bool, true, false, not, List, [], ◌∷◌, Option, Some, None, length, drop, refl, sym, ap, ◌∙◌, arith, inl, inr}
-use Rattle.std.proofs.Math.Seq.{drop-nil}
+use Rattle.std.proofs.Common.{◌≡◌, ℕ, ◌+◌, ◌<◌, Bool, true, false, not, List, [], ◌∷◌, Option, Some, None, length, drop, refl, sym, ap, ◌∙◌, arith, inl, inr}
 use Rattle.std.specs.List.{list_all}
 use Rattle.std.specs.Prelude.{◌==◌, ◌&&◌, nat_le, filter, slice_index_or, bit_and, if◌then◌else◌}
 use Rattle.std.proofs.lemmas.Bool.{and_from, and_parts, cases_Bool, eqb-true}
 use Rattle.std.proofs.lemmas.List.Kept.{AllPairs-filter}
+use Rattle.std.proofs.lemmas.List.{drop-drop}
 use Rattle.filter_core.specs.declared.atom.Atom.{Atom}
 use Rattle.filter_core.specs.Matching.{field, matches}
 use Rattle.filter_tree.specs.ClaimBook.{ClaimValue}
@@ -112,13 +112,8 @@ first_ends depth packet (d ∷ claims) c some is none =
     let same : drop depth d.filter ≡ [] = ap (λ (x : ClaimValue). drop depth x.filter) (sym is) ∙ none in
     rw (same, ap (λ (x : ClaimValue). x.id) is) refl
 
-pub drop_twice : {X : Type 0} (n m : ℕ) (xs : List X) → drop (n + m) xs ≡ drop m (drop n xs)
-drop_twice zero m xs = ap (λ k. drop k xs) (omega arith)
-drop_twice (suc n) m [] = drop-nil (suc n + m) ∙ sym (drop-nil m)
-drop_twice (suc n) m (x ∷ xs) = let e : suc n + m ≡ suc (n + m) = omega arith in rw e (drop_twice n m xs)
-
 pub behind_is : {X : Type 0} (p : X → Bool) (xs : List X) (start end : ℕ) → IsSplit p (drop start xs) end → drop (start + end) xs ≡ filter (λ x. not (p x)) (drop start xs)
-behind_is p xs start end split = drop_twice start end xs ∙ split.back
+behind_is p xs start end split = sym (drop-drop end start xs) ∙ split.back
 
 -- a branch after what was found
 pub join_step : (t q : ClaimValue → Bool) (found : Option ℕ) (rest all : List ClaimValue) → lower found (lowest t rest) ≡ lowest t all

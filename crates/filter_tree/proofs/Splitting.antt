@@ -13,12 +13,6 @@ all_pass : {X : Type 0} (p : X → Bool) (xs : List X) → ((k : ℕ) (d : X) �
 all_pass p [] all = refl
 all_pass p (x ∷ xs) all = rw (all 0 x (omega arith)) (ap (λ ys. x ∷ ys) (all_pass p xs (λ k d within. all (suc k) d (omega (arith, within)))))
 
-not_true : {b : Bool} → b ≡ true → not b ≡ false
-not_true is = ap not is
-
-not_false : {b : Bool} → b ≡ false → not b ≡ true
-not_false is = ap not is
-
 pub front_is : {X : Type 0} (p : X → Bool) (xs : List X) (n : ℕ) → n ≤ length xs → ((k : ℕ) (d : X) → k < n → p (slice_index_or xs k d) ≡ true)
     → ((k : ℕ) (d : X) → n ≤ k → k < length xs → p (slice_index_or xs k d) ≡ false) → take n xs ≡ filter p xs
 front_is p xs zero within pass fail = none_pass p xs (λ k d below. fail k d (omega arith) below)
@@ -28,7 +22,7 @@ front_is p (x ∷ xs) (suc n) within pass fail =
 
 pub back_is : {X : Type 0} (p : X → Bool) (xs : List X) (n : ℕ) → n ≤ length xs → ((k : ℕ) (d : X) → k < n → p (slice_index_or xs k d) ≡ true)
     → ((k : ℕ) (d : X) → n ≤ k → k < length xs → p (slice_index_or xs k d) ≡ false) → drop n xs ≡ filter (λ x. not (p x)) xs
-back_is p xs zero within pass fail = all_pass (λ x. not (p x)) xs (λ k d below. not_false (fail k d (omega arith) below))
+back_is p xs zero within pass fail = all_pass (λ x. not (p x)) xs (λ k d below. ap not (fail k d (omega arith) below))
 back_is p [] (suc n) within pass fail = absurd (omega (arith, within))
 back_is p (x ∷ xs) (suc n) within pass fail =
     rw (pass 0 x (omega arith)) (back_is p xs n (omega (arith, within)) (λ k d below. pass (suc k) d (omega (arith, below))) (λ k d from below. fail (suc k) d (omega (arith, from)) (omega (arith, below))))
