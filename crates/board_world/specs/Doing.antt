@@ -309,10 +309,14 @@ after_gift b e target = record b {
   ledger = with_row b.ledger (row.Give b.time b.slots.cursor e target);
 }
 
+-- physical memory once a transfer enters an environment of a list
+abbrev pub frames_once_entered : List Environment → ℕ → ℕ → TransferKind → List (List ℕ) → List (List ℕ)
+frames_once_entered list from target kind frames =
+    left_in entry_area (entry_bytes from kind (registers_of list target)) (page_of (mappings_of list target) context_number) frames
+
 -- Transfer: the runner's registers are kept behind its call, which is answered; another environment goes on at its entry with those that the runner had at the call, for the rest of the slice, and holds the slot or not.
 abbrev pub entry_frames : Shown → ℕ → ℕ → TransferKind → List (List ℕ)
-entry_frames b e target kind =
-    left_in entry_area (entry_bytes e kind (registers_of b.roster.list target)) (page_of (mappings_of b.roster.list target) context_number) b.frames
+entry_frames b e target kind = frames_once_entered b.roster.list e target kind b.frames
 
 abbrev pub entry_registers : Shown → ℕ → TransferKind → Cpu
 entry_registers b target kind = entered_cpu (handler_of (handlers_of b.roster.list target) (entry_context kind)) (carried b.cpu)

@@ -1,5 +1,5 @@
 -- What a board shows: its parts as plain data.
-use Rattle.std.specs.Prelude.{ℕ, zero, suc, List, [], ◌∷◌, Option, Some, None, slice_get}
+use Rattle.std.specs.Prelude.{ℕ, zero, suc, ◌-◌, List, [], ◌∷◌, ◌++◌, Option, Some, None, slice_get}
 use Rattle.kernel_journal.specs.Ledger.{Ledger}
 use Rattle.mips_exec.specs.declared.registers.Cpu.{Cpu}
 use Rattle.mips_exec.specs.Cpu.{blank_cpu}
@@ -9,8 +9,10 @@ use Rattle.slot_vector.specs.Slices.{Slices}
 use Rattle.env_frames.specs.declared.context.Handlers.{Handlers}
 use Rattle.env_frames.specs.declared.mapping.Mapping.{Mapping}
 use Rattle.env_frames.specs.Context.{no_handlers}
+use Rattle.env_frames.specs.Frame.{EnvValue}
 use Rattle.filter_tree.specs.ClaimBook.{ClaimBook}
 use Rattle.revocation_book.specs.RevocationBook.{RevocationBook}
+use Rattle.world_model.specs.declared.life.Life.TheVariants.{Live}
 use Rattle.board_world.specs.declared.output.Output.{Output}
 use Rattle.board_world.specs.declared.roster.Environment.{Environment}
 
@@ -74,6 +76,10 @@ accept_mask_of list e = accept_mask_in (slice_get list e)
 -- nothing is put out yet
 abbrev pub no_output : Output
 no_output = record { console = []; sent = [] }
+
+-- the environments and a new one, which lives and put out nothing
+abbrev pub with_newcomer : List ℕ → EnvValue → Environments → Environments
+with_newcomer name env r = record { list = r.list ++ record { name = name; life = Live; env = env; output = no_output } ∷ []; spare = r.spare - 1 }
 
 abbrev pub console_in : Option Environment → List ℕ
 console_in None = []

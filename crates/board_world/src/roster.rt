@@ -1,14 +1,13 @@
 //! The environments of a board.
-ghost use Rattle.std.specs.Prelude.{◌≡◌, ◌≢◌, ◌<◌, ◌≤◌, ◌+◌, ◌-◌, [], ◌∷◌, ◌++◌, length, replicate, slice_get, Some, IfOk, IfSome};
+ghost use Rattle.std.specs.Prelude.{◌≡◌, ◌≢◌, ◌<◌, ◌≤◌, ◌+◌, [], ◌∷◌, length, replicate, slice_get, Some, IfOk, IfSome};
 ghost use Rattle.aegis_limits.specs.Limits.{console_size};
 ghost use Rattle.external_event.specs.Limits.{most_packet_size, most_sent};
 ghost use Rattle.env_frames.specs.Context.{context_number, handler_of};
-ghost use Rattle.env_frames.specs.Frame.{left_in, page_of};
-ghost use Rattle.env_frames.specs.Transfer.{carried, entered_cpu, entry_area, entry_bytes, entry_context};
+ghost use Rattle.env_frames.specs.Frame.{page_of};
+ghost use Rattle.env_frames.specs.Transfer.{carried, entered_cpu, entry_context};
 ghost use Rattle.std.specs.Option.{option_map};
-ghost use Rattle.board_world.specs.Shown.{changed, console_of, handlers_of, mappings_of, accept_mask_of, no_output, registers_of, sent_of, with_list};
-ghost use Rattle.board_world.specs.Doing.{with_registers, with_mask, with_handler_at, dead_frame, with_bytes_put, with_replies_sent, with_packet_sent};
-ghost use Rattle.world_model.specs.declared.life.Life.TheVariants.{Live};
+ghost use Rattle.board_world.specs.Shown.{changed, console_of, handlers_of, mappings_of, accept_mask_of, no_output, registers_of, sent_of, with_list, with_newcomer};
+ghost use Rattle.board_world.specs.Doing.{frames_once_entered, with_registers, with_mask, with_handler_at, dead_frame, with_bytes_put, with_replies_sent, with_packet_sent};
 
 use crate::console::Console;
 use crate::output::Output;
@@ -100,7 +99,7 @@ impl Roster {
     /// nothing.
     pub fn push(&mut self, name: [u8; 8], env: Env)
         requires { 0 < self.old.spare }
-        ensures { self.new ≡ record { list = self.old.list ++ record { name = name; life = Live; env = env; output = no_output } ∷ []; spare = self.old.spare - 1 } }
+        ensures { self.new ≡ with_newcomer name env self.old }
     {
         let output = self.spare.pop().unwrap();
         self.list
@@ -204,7 +203,7 @@ impl Roster {
         requires open { handler_of (handlers_of self.old.list env) (entry_context kind) ≢ 0 }
         requires page { IfSome (page_of (mappings_of self.old.list env) context_number) (λ page. page < length frames.old) }
         ensures cpu { result ≡ entered_cpu (handler_of (handlers_of self.old.list env) (entry_context kind)) (carried caller.now) }
-        ensures frames { frames.new ≡ left_in entry_area (entry_bytes from kind (registers_of self.old.list env)) (page_of (mappings_of self.old.list env) context_number) frames.old }
+        ensures frames { frames.new ≡ frames_once_entered self.old.list from env kind frames.old }
         ensures roster { self.new ≡ with_list self.old (changed (with_mask 0) self.old.list env) }
         ensures size { length frames.new ≡ length frames.old }
     {
@@ -302,7 +301,7 @@ fn enter_in(
     requires open { handler_of (handlers_of list.old place) (entry_context kind) ≢ 0 }
     requires page { IfSome (page_of (mappings_of list.old place) context_number) (λ page. page < length frames.old) }
     ensures cpu { result ≡ entered_cpu (handler_of (handlers_of list.old place) (entry_context kind)) (carried caller.now) }
-    ensures frames { frames.new ≡ left_in entry_area (entry_bytes from kind (registers_of list.old place)) (page_of (mappings_of list.old place) context_number) frames.old }
+    ensures frames { frames.new ≡ frames_once_entered list.old from place kind frames.old }
     ensures list { list.new ≡ changed (with_mask 0) list.old place }
     ensures size { length frames.new ≡ length frames.old }
 {
