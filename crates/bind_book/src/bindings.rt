@@ -1,7 +1,7 @@
 //! The book of bindings.
 ghost use Rattle.std.specs.Prelude.{◌≡◌, ◌<◌, ◌≤◌, ◌*◌, length, replicate, is_some, IfOk};
 ghost use Rattle.aegis_limits.specs.Limits.{most_environments, vpn_end};
-ghost use Rattle.page_book.specs.Rows.{most_rows, row_in};
+ghost use Rattle.page_book.specs.Rows.{row_in};
 ghost use Rattle.bind_book.specs.Stripe.{stripe_rows, row_of, stripe_place, HasStripe, stripes, binding_at, unbound, rows_with_binding, breaks_page, goes_with, swept};
 
 use crate::binding::Binding;
@@ -42,12 +42,11 @@ impl Bindings {
         Ok(Bindings { rows })
     }
 
-    /// Binds a page, below 4,096, to the environment's VPN, below 0x80000. What stood in the row of that
+    /// Binds a page to the environment's VPN, below 0x80000. What stood in the row of that
     /// number gives way, and is the answer. All other rows stay.
     pub fn bind(&mut self, env: u8, vpn: u32, page: u32, writable: bool) -> Option<Binding>
         requires stripe { HasStripe self.old env }
         requires number { vpn < vpn_end }
-        requires page { page < most_rows }
         ensures replaced { result ≡ stripes self.old env (row_of vpn) }
         ensures after { self.new ≡ rows_with_binding self.old env (record { vpn = vpn; page = page; writable = writable }) }
         ensures count { length self.new ≡ length self.old }
