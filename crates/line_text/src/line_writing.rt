@@ -5,14 +5,11 @@ ghost use Rattle.std.specs.List.{flat_map};
 ghost use Rattle.line_text.specs.Growth.{Keeps};
 ghost use Rattle.line_text.specs.WrittenLine.{bytes_text, label, line_of, quotation, spaced, text_of};
 
-use crate::print::{push_dec, push_hex, push_quoted};
+use crate::print::{WORD_DIGITS, push_dec, push_hex, push_quoted};
 use aegis_limits::OutOfMemory;
 
 /// The hexadecimal digits of a virtual page number.
 const PAGE_NUMBER_DIGITS: u8 = 5;
-
-/// The hexadecimal digits of a number of 32 bits.
-const HEXADECIMAL_DIGITS: u8 = 8;
 
 /// The hexadecimal digits of a byte.
 const BYTE_DIGITS: u8 = 2;
@@ -90,7 +87,7 @@ pub fn push_word(out: &mut Vec<u8>, word: Word<'_>) -> Result<(), OutOfMemory>
         Word::Number(n) => push_dec(out, n),
         Word::Dash => push_text(out, b"-"),
         Word::PageNumber(n) => push_hex(out, n, PAGE_NUMBER_DIGITS),
-        Word::Hexadecimal(n) => push_hex(out, n, HEXADECIMAL_DIGITS),
+        Word::Hexadecimal(n) => push_hex(out, n, WORD_DIGITS as u8),
         Word::Flag(flag) => push_text(out, if flag { b"1" } else { b"0" }),
         Word::Quotation(bytes) => push_quotation(out, bytes),
         Word::Bytes(bytes) => push_bytes(out, bytes),

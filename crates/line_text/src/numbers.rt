@@ -2,11 +2,10 @@
 ghost use Rattle.std.specs.Prelude.{◌≡◌, ◌+◌, ◌*◌, ◌≤◌, IfSome};
 ghost use Rattle.line_text.specs.Number.{digits_number, number_of, number_within, numeral_of};
 
+use crate::print::WORD_DIGITS;
+
 /// The number of decimal digits that a number has at most.
 const DECIMAL_DIGITS: usize = 10;
-
-/// The number of hexadecimal digits that a number has at most.
-const HEX_DIGITS: usize = 8;
 
 /// The number that a word spells, below 2^32: one to ten decimal digits, or `0x` and one to eight
 /// hexadecimal digits of either case. None for every other word.
@@ -15,7 +14,7 @@ pub fn number(word: &[u8]) -> Option<u32>
     ensures { result ≡ number_of word.now }
 {
     match word.strip_prefix(b"0x") {
-        Some(digits) => short_numeral(digits, 16, HEX_DIGITS),
+        Some(digits) => short_numeral(digits, 16, WORD_DIGITS),
         None => decimal(word),
     }
 }

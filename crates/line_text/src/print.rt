@@ -7,8 +7,8 @@ ghost use Rattle.line_text.specs.Text.{dec_text, hex_text, quoted_byte, quoted_t
 use aegis_limits::OutOfMemory;
 use itoa::Buffer;
 
-/// The most hexadecimal digits that `push_hex` writes.
-const MAX_HEX_DIGITS: usize = 8;
+/// The hexadecimal digits of a number of 32 bits.
+pub(crate) const WORD_DIGITS: usize = 8;
 
 /// The most glyphs that a byte takes between quotation marks.
 const QUOTED_GLYPHS: usize = 4;
@@ -31,9 +31,9 @@ pub fn push_hex(out: &mut Vec<u8>, n: u32, digits: u8) -> Result<(), OutOfMemory
     ensures ok { OnOk result (out.new.items ≡ out.old.items ++ hex_text digits n) }
     ensures err { OnErr result (out.new.items ≡ out.old.items) }
 {
-    let mut text = [0; MAX_HEX_DIGITS];
+    let mut text = [0; WORD_DIGITS];
     let mut rest = n;
-    let mut place = MAX_HEX_DIGITS;
+    let mut place = WORD_DIGITS;
     for _ in 0..digits {
         place -= 1;
         text[place] = hex_glyph(rest % 16);
