@@ -36,10 +36,6 @@ for_each items (suc n) = for_each items n ++ items n
 unfoldable pub numbers_line : List ℕ → List (Option ℕ) → List ℕ
 numbers_line name numbers = name ++ flat_map (λ n. spaced (or_dash n)) numbers ++ 10 ∷ []
 
--- eight hexadecimal digits
-abbrev pub word_text : ℕ → List ℕ
-word_text n = hex_text 8 n
-
 -- an exception's name
 abbrev pub exception_text : ExcCode → List ℕ
 exception_text exc.Int = codes "int"
@@ -71,11 +67,11 @@ unfoldable pub out_line : ℕ → Solo → List ℕ
 out_line e s = line (codes "out" ∷ dec_text e ∷ dec_text (length s.console) ∷ quotation s.console ∷ [])
 
 unfoldable pub cpu_line : ℕ → Cpu → List ℕ
-cpu_line e cpu = line (codes "cpu" ∷ dec_text e ∷ word_text cpu.pc ∷ word_text cpu.next ∷ flag_text cpu.slot ∷ word_text cpu.hi ∷ word_text cpu.lo ∷ [])
+cpu_line e cpu = line (codes "cpu" ∷ dec_text e ∷ hex_text 8 cpu.pc ∷ hex_text 8 cpu.next ∷ flag_text cpu.slot ∷ hex_text 8 cpu.hi ∷ hex_text 8 cpu.lo ∷ [])
 
 -- the register after register i
 abbrev pub register_text : Cpu → ℕ → List ℕ
-register_text cpu i = word_text (reg cpu (i + 1))
+register_text cpu i = hex_text 8 (reg cpu (i + 1))
 
 -- registers 1 to 31
 unfoldable pub regs_line : ℕ → Cpu → List ℕ

@@ -1,9 +1,8 @@
 -- The packet at each place below the count is there, and its line is one more.
-use Rattle.std.proofs.Common.{Vec, Global, ◌<◌, ◌++◌, ◌∙◌, ap, sym, ℕ, List, length, append_assoc, arith}
+use Rattle.std.proofs.Common.{Vec, Global, ◌<◌, ◌∙◌, ap, ℕ, List, length, arith}
 use Rattle.std.specs.Borrow.{Bor}
-use Rattle.std.specs.Option.{option_map}
 use Rattle.run_report.specs.Report.{sent_line}
-use Rattle.run_report.proofs.Places.{line_more, is_there}
+use Rattle.run_report.proofs.Places.{next_line, is_found}
 use Rattle.run_report.proofs.sending.push_sent_lines.Goals as goal
 use Rattle.run_report.proofs.sending.push_sent_lines.Goals.{in-Some+in_ok-push_sent_line, in_default}
 
@@ -14,15 +13,9 @@ loop-place-preserved g c =
     let now = λ (r : Bor (List ℕ)). r.now in
     elim c.match-sent_packet.branch [
       | in-Some+in_ok-push_sent_line w ↦
-          let packet = w.in-Some.packet.now in
-          let there = sym c.sent_packet.ensures ∙ ap (option_map now) w.in-Some.is in
-          let lines = sent_line c.args.env packet in
           ap (λ (v : Vec ℕ Global). v.items) w.out-is
-          ∙ w.in_ok-push_sent_line.ensures
-          ∙ ap (λ items. items ++ lines) c.loop-place.invariant
-          ∙ append_assoc c.args.out.now.items _ lines
-          ∙ ap (λ more. c.args.out.now.items ++ more) (sym (line_more (sent_line c.args.env) place sent packet there))
+          ∙ next_line now (sent_line c.args.env) sent place _ w.in-Some.packet c.args.out.now.items _ _ c.sent_packet.ensures w.in-Some.is c.loop-place.invariant w.in_ok-push_sent_line.ensures
       | in_default w ↦
           let within : place < length sent = omega (arith, c.loop-place-test.true, c.sent_count-place-end.ensures) in
-          absurd (is_there sent place within (sym c.sent_packet.ensures ∙ ap (option_map now) w.in_default.is))
+          absurd (is_found now sent place _ c.sent_packet.ensures within w.in_default.is)
     ]
