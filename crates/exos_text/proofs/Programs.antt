@@ -4,7 +4,15 @@ use Rattle.std.specs.List.{flat_map, range_with_len}
 use Rattle.std.proofs.lemmas.List.FromFn.{map-range_with_len_more}
 use Rattle.boot_image.specs.Spelling.{programs_text}
 use Rattle.exos_text.specs.LoadElf.{load_elf}
-use Rattle.exos_text.specs.LoadImage.{load_entry, named_text}
+use Rattle.exos_text.specs.LoadImage.{load_entries, load_entry, load_name, named_text}
+
+-- the names of the programs
+abbrev pub names : List (List ℕ)
+names = map load_name (range_with_len 0 16)
+
+pub entries_are : load_entries ≡ map load_entry names
+unfolding load_entries
+entries_are = refl
 
 -- programs with one body stand one after another
 pub with_one_body : (names : List (List ℕ)) (count : ℕ) → length names ≡ count → programs_text (map load_entry names) (replicate count load_elf) ≡ flat_map named_text names

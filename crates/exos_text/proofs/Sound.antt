@@ -14,8 +14,9 @@ use Rattle.boot_image.specs.Accepted.{IsAccepted, IsFitting, IsOwnerBelow}
 use Rattle.boot_image.specs.Spelling.{AreBodies, EntryValue, image_with, programs_with}
 use Rattle.boot_image.proofs.Read.{read_again}
 use Rattle.exos_text.specs.LoadElf.{load_elf}
-use Rattle.exos_text.specs.LoadImage.{load_bodies, load_entries, load_entry, load_image_text, load_image_value, load_name, load_plan, load_slots}
+use Rattle.exos_text.specs.LoadImage.{load_bodies, load_entries, load_entry, load_image_text, load_image_value, load_plan, load_slots}
 use Rattle.exos_text.proofs.Body.{no_fault, pages_at_most}
+use Rattle.exos_text.proofs.Programs.{entries_are, names}
 
 -- the program of this name
 abbrev pub named : List ℕ → ProgramValue
@@ -69,21 +70,13 @@ owners_below : (first count : ℕ) → AllByRecursion (IsOwnerBelow 16) (map (λ
 owners_below first zero = tt
 owners_below first (suc count) = (omega arith, owners_below (first + 1) count)
 
--- the names, and what they are
-abbrev pub names : List (List ℕ)
-names = map load_name (range_with_len 0 16)
-
-names_are : list_all is_load_name names ≡ true
+names_pass : list_all is_load_name names ≡ true
 unfolding dec_text digits is_name
-names_are = refl
+names_pass = refl
 
 elf_size : length load_elf ≡ 216
 unfolding load_elf
 elf_size = refl
-
-entries_are : load_entries ≡ map load_entry names
-unfolding load_entries
-entries_are = refl
 
 programs_are : programs_with load_entries load_bodies ≡ map named names
 programs_are = ap (λ (entries : List EntryValue). programs_with entries load_bodies) entries_are ∙ programs_named names 16 refl
@@ -103,7 +96,7 @@ within_limits seed =
       owners = subst (λ (n : ℕ). AllByRecursion (IsOwnerBelow n) load_slots) (sym count) (owners_below 0 64);
       programs_least = omega (arith, count);
       programs_most = omega (arith, count);
-      programs = subst (AllByRecursion IsFitting) (sym programs_are) (all_fit names names_are);
+      programs = subst (AllByRecursion IsFitting) (sym programs_are) (all_fit names names_pass);
       room = omega (arith, needed);
     }
 

@@ -1,13 +1,13 @@
 -- What is written, part by part, is the image's file.
 use Rattle.std.proofs.Common.{◌≡◌, ◌∙◌, ℕ, List, [], ◌++◌, length, map, ap, refl, sym}
-use Rattle.std.specs.List.{flat_map, range_with_len}
+use Rattle.std.specs.List.{flat_map}
 use Rattle.std.specs.Fmt.{digits}
 use Rattle.line_text.specs.Text.{dec_text}
 use Rattle.boot_image.specs.ImageValue.{HeaderValue}
 use Rattle.boot_image.specs.Spelling.{EntryValue, header_text, programs_text, slot_byte}
 use Rattle.exos_text.specs.declared.image.TheConstants.{NAMES}
-use Rattle.exos_text.specs.LoadImage.{load_bodies, load_entries, load_entry, load_image_text, load_name, load_quantum, load_slots, named_text}
-use Rattle.exos_text.proofs.Programs.{with_one_body}
+use Rattle.exos_text.specs.LoadImage.{load_bodies, load_entries, load_entry, load_image_text, load_quantum, load_slots, named_text}
+use Rattle.exos_text.proofs.Programs.{entries_are, names, with_one_body}
 
 -- texts one behind the other
 joined : (none one two three header owners programs : List ℕ) → none ≡ [] → one ≡ none ++ header → two ≡ one ++ owners → three ≡ two ++ programs
@@ -15,7 +15,7 @@ joined : (none one two three header owners programs : List ℕ) → none ≡ [] 
 joined none one two three header owners programs empty a b c = rw (c, b, a, empty) refl
 
 -- the names are l0 to l15
-names_are : NAMES ≡ map load_name (range_with_len 0 16)
+names_are : NAMES ≡ names
 unfolding dec_text digits
 names_are = refl
 
@@ -23,14 +23,10 @@ entries_count : length load_entries ≡ 16
 unfolding load_entries
 entries_count = refl
 
-entries_are : (names : List (List ℕ)) → names ≡ map load_name (range_with_len 0 16) → map load_entry names ≡ load_entries
-unfolding load_entries
-entries_are names are = ap (map load_entry) are
-
-programs_are : (names : List (List ℕ)) → names ≡ map load_name (range_with_len 0 16) → flat_map named_text names ≡ programs_text load_entries load_bodies
-programs_are names are =
-    sym (with_one_body names 16 (ap length are))
-    ∙ ap (λ (entries : List EntryValue). programs_text entries load_bodies) (entries_are names are)
+programs_are : (written : List (List ℕ)) → written ≡ names → flat_map named_text written ≡ programs_text load_entries load_bodies
+programs_are written are =
+    sym (with_one_body written 16 (ap length are))
+    ∙ ap (λ (entries : List EntryValue). programs_text entries load_bodies) (ap (map load_entry) are ∙ sym entries_are)
 
 -- the header, with a quantum
 abbrev header : ℕ → ℕ → HeaderValue
