@@ -6,7 +6,7 @@ use Rattle.asm_parse.specs.Expression.{ExpressionValue}
 use Rattle.asm_parse.specs.Form.{due_of}
 use Rattle.asm_parse.specs.declared.fault.AsmWhy.{AsmWhy}
 use Rattle.asm_parse.specs.declared.fault.AsmWhy.TheVariants.{OutOfRange, Redefined}
-use Rattle.asm_layout.specs.Outcome.{◌>>=◌}
+use Rattle.line_text.specs.Outcome.{◌>>=◌}
 use Rattle.line_text.specs.declared.failure.LineFault.{LineFault}
 use Rattle.line_text.specs.declared.failure.Failure.{Failure}
 use Rattle.line_text.specs.Failing.{Gives}

@@ -9,7 +9,7 @@ use Rattle.line_text.specs.Failing.{Gives, at_line}
 use Rattle.line_text.specs.Lines.{LineValue}
 use Rattle.line_text.proofs.FailingLemmas.{line_gives}
 use Rattle.asm_layout.specs.Layout.{Layout, added, line_added, stated}
-use Rattle.asm_layout.specs.Outcome.{◌>>=◌}
+use Rattle.line_text.specs.Outcome.{◌>>=◌}
 
 -- what is due of its statement is due of a line
 pub statement_gives : {X : Type 0} (view : X → Layout) (line : LineValue) (statement : AsmLine) (before : Layout) (answer : Result X (Failure AsmWhy)) (given : Result X (Failure (LineFault AsmWhy))) →

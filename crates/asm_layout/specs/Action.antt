@@ -18,7 +18,7 @@ use Rattle.asm_layout.specs.declared.section.Section.TheVariants.{Text, Data}
 use Rattle.asm_layout.specs.Content.{Content, Instruction, Numbers, Given}
 use Rattle.asm_layout.specs.Draft.{draft_of}
 use Rattle.mips_text.specs.Texts.{text_of}
-use Rattle.asm_layout.specs.Outcome.{◌>>=◌}
+use Rattle.line_text.specs.Outcome.{◌>>=◌}
 
 pub data Action : Type 0 where
   -- put a content at the place

@@ -5,7 +5,7 @@ use Rattle.asm_parse.specs.Expression.{ExpressionValue}
 use Rattle.asm_parse.specs.declared.fault.AsmWhy.{AsmWhy}
 use Rattle.asm_parse.specs.declared.fault.AsmWhy.TheVariants.{Syntax, UnknownName}
 use Rattle.asm_parse.specs.Operand.{OperandValue, Register, Value, Based}
-use Rattle.asm_layout.specs.Outcome.{◌>>=◌}
+use Rattle.line_text.specs.Outcome.{◌>>=◌}
 use Rattle.mips_text.specs.Texts.{TextValue, slot_word}
 use Rattle.mips_text.specs.declared.shape.Field.{Field}
 use Rattle.mips_text.specs.declared.shape.Field.TheVariants.{Signed}

@@ -14,7 +14,7 @@ use Rattle.asm_layout.specs.declared.section.Section.{Section}
 use Rattle.asm_layout.specs.declared.section.Section.TheVariants.{Text, Data}
 use Rattle.asm_layout.specs.Action.{Action, Put, Align, Enter, Define, action_of}
 use Rattle.asm_layout.specs.Content.{Content, Given, alignment, content_length}
-use Rattle.asm_layout.specs.Outcome.{◌>>=◌}
+use Rattle.line_text.specs.Outcome.{◌>>=◌}
 use Rattle.asm_layout.specs.Value.{Names, defined, value_of_name}
 
 -- what a statement puts, and where

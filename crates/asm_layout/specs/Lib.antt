@@ -3,7 +3,6 @@ pub mod Content
 pub mod Draft
 pub mod Laid
 pub mod Layout
-pub mod Outcome
 pub mod Room
 pub mod Seen
 pub mod Value

@@ -6,7 +6,7 @@ ghost use Rattle.asm_layout.specs.Content.{Instruction};
 ghost use Rattle.asm_parse.specs.declared.syntax.AsmBody.TheVariants.{Op};
 ghost use Rattle.asm_layout.specs.declared.directive.Directive.TheVariants.{Enter, Numbers};
 ghost use Rattle.line_text.specs.Failing.{Gives};
-ghost use Rattle.asm_layout.specs.Outcome.{ok_seen};
+ghost use Rattle.line_text.specs.Outcome.{ok_seen};
 ghost use Rattle.asm_layout.specs.Seen.{action_seen, draft_seen, expressions_seen, operands_seen};
 
 use crate::content::Content;

@@ -29,7 +29,7 @@ pub enum Filling<'a> {
 impl<'a> Draft<'a> {
     ghost use Rattle.std.specs.Prelude.{◌≡◌, ◌<◌, ◌≤◌, length};
     ghost use Rattle.mips_text.specs.Seen.{text_seen};
-    ghost use Rattle.asm_layout.specs.Outcome.{ok_seen};
+    ghost use Rattle.line_text.specs.Outcome.{ok_seen};
     ghost use Rattle.asm_layout.specs.Content.{draft_length};
     ghost use Rattle.asm_layout.specs.Draft.{draft_of};
     ghost use Rattle.asm_layout.specs.Seen.{draft_seen, operands_seen};

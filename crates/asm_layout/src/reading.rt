@@ -21,7 +21,7 @@ impl<'a> Reading<'a> {
     ghost use Rattle.std.specs.Prelude.{◌≡◌, ◌+◌, ◌<◌, ◌≤◌, ◌^◌, IfOk, length};
     ghost use Rattle.std.specs.Option.{option_map, unwrap_or};
     ghost use Rattle.mips_text.specs.Seen.{text_seen};
-    ghost use Rattle.asm_layout.specs.Outcome.{ok_seen};
+    ghost use Rattle.line_text.specs.Outcome.{ok_seen};
     ghost use Rattle.asm_layout.specs.Draft.{read_operand, read_text};
     ghost use Rattle.asm_layout.specs.Seen.{operand_in, operands_seen, reading_seen};
 

@@ -4,6 +4,7 @@ pub mod Growth
 pub mod LineView
 pub mod Lines
 pub mod Number
+pub mod Outcome
 pub mod Statements
 pub mod Table
 pub mod Text

@@ -20,7 +20,7 @@ use Rattle.asm_layout.specs.Action.{Action, Put, action_of, directed, directive_
 use Rattle.asm_layout.specs.Content.{Content, Given, Instruction, alignment, content_length}
 use Rattle.asm_layout.specs.Draft.{Draft, draft_of}
 use Rattle.asm_layout.specs.Layout.{nothing_placed}
-use Rattle.asm_layout.specs.Outcome.{◌>>=◌}
+use Rattle.line_text.specs.Outcome.{◌>>=◌}
 use Rattle.asm_layout.specs.Value.{Names, value_of}
 use Rattle.mips_asm.specs.Emission.{bytes_of}
 use Rattle.listing_law.specs.Statement.{Puts}

@@ -17,7 +17,7 @@ use Rattle.asm_layout.specs.Content.{Content, Instruction, Numbers, Given, conte
 use Rattle.asm_layout.specs.Draft.{Filling, Whole, Filled, Halves}
 use Rattle.asm_layout.specs.Laid.{HasStart, length_in, total}
 use Rattle.asm_layout.specs.Layout.{Layout, Placed}
-use Rattle.asm_layout.specs.Outcome.{◌>>=◌}
+use Rattle.line_text.specs.Outcome.{◌>>=◌}
 use Rattle.line_text.specs.Failing.{in_line}
 use Rattle.asm_layout.specs.Value.{Names, defined}
 use Rattle.asm_layout.proofs.OutcomeLemmas.{bind_ok, chosen_ok, in_line_ok, ok_is}

@@ -12,7 +12,7 @@ use Rattle.elf_static.specs.ObjectValue.{ObjectValue, PartValue}
 use Rattle.elf_static.specs.Writable.{IsWritable}
 use Rattle.asm_layout.specs.Laid.{IsLaid, StartIn}
 use Rattle.asm_layout.specs.Layout.{Layout, Placed, laid}
-use Rattle.asm_layout.specs.Outcome.{◌>>=◌}
+use Rattle.line_text.specs.Outcome.{◌>>=◌}
 use Rattle.asm_layout.proofs.LaidLemmas.{laid_laid}
 use Rattle.asm_layout.proofs.OutcomeLemmas.{bind_ok, ok_is, other_ok}
 use Rattle.mips_asm.specs.Assembled.{assembled, program_of}

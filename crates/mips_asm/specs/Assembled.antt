@@ -8,7 +8,7 @@ use Rattle.asm_parse.specs.declared.fault.AsmWhy.TheVariants.{Empty}
 use Rattle.elf_static.specs.ObjectValue.{ObjectValue, PartValue}
 use Rattle.asm_layout.specs.declared.section.Section.TheVariants.{Text, Data}
 use Rattle.asm_layout.specs.Layout.{Layout, base_of, laid}
-use Rattle.asm_layout.specs.Outcome.{◌>>=◌}
+use Rattle.line_text.specs.Outcome.{◌>>=◌}
 use Rattle.mips_asm.specs.Second.{Sections, filled}
 
 -- the text, which may not be written, and the data where there is any

@@ -5,7 +5,7 @@ use Rattle.asm_parse.specs.declared.fault.AsmWhy.{AsmWhy}
 use Rattle.asm_layout.specs.Content.{Content, Instruction, Numbers, Given}
 use Rattle.asm_layout.specs.declared.number.NumberSize.{NumberSize}
 use Rattle.asm_layout.specs.Draft.{Draft}
-use Rattle.asm_layout.specs.Outcome.{◌>>=◌}
+use Rattle.line_text.specs.Outcome.{◌>>=◌}
 use Rattle.asm_layout.specs.Value.{Names, defined}
 use Rattle.mips_asm.specs.Number.{numbers_bytes}
 use Rattle.mips_asm.specs.Words.{words_bytes, words_of}

@@ -6,7 +6,7 @@ use Rattle.asm_parse.specs.declared.fault.AsmWhy.TheVariants.{OutOfRange, Unalig
 use Rattle.mips_text.specs.Texts.{field_word}
 use Rattle.mips_text.specs.declared.shape.Field.{Field}
 use Rattle.mips_text.specs.declared.shape.Field.TheVariants.{Amount, Signed, Unsigned, Code, Branch, Jump}
-use Rattle.asm_layout.specs.Outcome.{◌>>=◌}
+use Rattle.line_text.specs.Outcome.{◌>>=◌}
 use Rattle.asm_layout.specs.Value.{Names, defined}
 
 -- whether a value is equal to a number from -low to high, modulo 2 ^ 32

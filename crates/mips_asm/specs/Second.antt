@@ -9,7 +9,7 @@ use Rattle.asm_parse.specs.declared.fault.AsmWhy.TheVariants.{OutOfRange, Unalig
 use Rattle.asm_layout.specs.declared.section.Section.{Section}
 use Rattle.asm_layout.specs.declared.section.Section.TheVariants.{Text, Data}
 use Rattle.asm_layout.specs.Layout.{Layout, Placed, base_of}
-use Rattle.asm_layout.specs.Outcome.{◌>>=◌}
+use Rattle.line_text.specs.Outcome.{◌>>=◌}
 use Rattle.asm_layout.specs.Value.{Names}
 use Rattle.mips_asm.specs.Emission.{bytes_of}
 

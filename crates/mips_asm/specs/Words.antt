@@ -7,7 +7,7 @@ use Rattle.asm_parse.specs.declared.fault.AsmWhy.{AsmWhy}
 use Rattle.mips_isa.specs.Encoding.{word_of}
 use Rattle.mips_isa.specs.declared.insn.Insn.TheVariants.{Lui, Ori}
 use Rattle.asm_layout.specs.Draft.{Draft, Filling, Whole, Filled, Halves}
-use Rattle.asm_layout.specs.Outcome.{◌>>=◌}
+use Rattle.line_text.specs.Outcome.{◌>>=◌}
 use Rattle.asm_layout.specs.Value.{Names, defined}
 use Rattle.mips_text.specs.WordRows.{slot_of}
 use Rattle.mips_text.specs.declared.shape.Slot.TheVariants.{Rt}

@@ -2,7 +2,7 @@
 ghost use Rattle.std.specs.Prelude.{◌≡◌, ◌+◌, ◌<◌, ◌^◌, ◌++◌, OnOk};
 ghost use Rattle.mips_isa.specs.Encoding.{IsEncodable, word_of};
 ghost use Rattle.asm_parse.specs.Seen.{expression_seen};
-ghost use Rattle.asm_layout.specs.Outcome.{ok_seen};
+ghost use Rattle.line_text.specs.Outcome.{ok_seen};
 ghost use Rattle.asm_layout.specs.Seen.{draft_seen};
 ghost use Rattle.mips_asm.specs.Seen.{words_seen};
 ghost use Rattle.mips_asm.specs.Words.{halves_in, words_bytes, words_of};
