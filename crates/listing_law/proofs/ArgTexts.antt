@@ -11,7 +11,7 @@ use Rattle.asm_parse.specs.Arg.{ArgValue}
 use Rattle.line_text.specs.Characters.{is_blank}
 use Rattle.asm_parse.specs.Operand.{OperandValue}
 use Rattle.asm_parse.specs.Form.{Piece, arg_of, args_at, args_of, before_blanks, behind, is_outside, parts_at}
-use Rattle.mips_list.specs.WordText.{joined, spaced}
+use Rattle.mips_list.specs.WordText.{after_name, joined}
 use Rattle.listing_law.proofs.NumberTexts.{IsOperand, is_plain}
 
 -- Bytes.
@@ -120,7 +120,7 @@ args_plain start (t ∷ ts) (o ∷ os) are =
 parts_spaced : (q : _) (bs : List ℕ) → behind q 32 ≡ q → parts_at 44 q (32 ∷ bs) ≡ onto_first 32 (parts_at 44 q bs)
 parts_spaced q bs stays = rw (and-false (is_outside q), stays) refl
 
-args_cut : (q : _) (p : Piece) (t : List ℕ) (ts : List (List ℕ)) (o : OperandValue) (os : List OperandValue) → p.bytes ≡ spaced (t ∷ ts)
+args_cut : (q : _) (p : Piece) (t : List ℕ) (ts : List (List ℕ)) (o : OperandValue) (os : List OperandValue) → p.bytes ≡ after_name (t ∷ ts)
     → ((b : ℕ) → is_plain b ≡ true → behind q b ≡ q) → behind q 32 ≡ q → ((rest : List ℕ) → parts_at 44 q (44 ∷ rest) ≡ [] ∷ parts_at 44 q rest)
     → IsOperand t o → AreOperands ts os → AreRead (args_of p.start (parts_at 44 q p.bytes)) (o ∷ os)
 args_cut q p t ts o os is stays space marks here rest =
@@ -130,7 +130,7 @@ args_cut q p t ts o os is stays space marks here rest =
     (args_then p.start (32 ∷ t) ts _ o os (arg_spaced p.start t o here) refl (args_plain (p.start + (length (32 ∷ t) + 1)) ts os rest))
 
 -- operands behind a name
-pub args_spaced : (p : Piece) (t : List ℕ) (ts : List (List ℕ)) (o : OperandValue) (os : List OperandValue) → p.bytes ≡ spaced (t ∷ ts) → IsOperand t o → AreOperands ts os
+pub args_spaced : (p : Piece) (t : List ℕ) (ts : List (List ℕ)) (o : OperandValue) (os : List OperandValue) → p.bytes ≡ after_name (t ∷ ts) → IsOperand t o → AreOperands ts os
     → AreRead (args_at p) (o ∷ os)
 args_spaced p t ts o os is here rest =
     args_cut _ p t ts o os is (λ b plain. rw (plain_no_quote b plain) refl) refl (λ more. refl) here rest

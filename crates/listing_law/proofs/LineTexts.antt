@@ -17,7 +17,7 @@ use Rattle.asm_parse.specs.Operand.{OperandValue}
 use Rattle.asm_parse.specs.Words.{begins_name}
 use Rattle.asm_parse.specs.Form.{Piece, args_at, before_mark, behind, is_outside, body_named, body_of, label_of, line_of, operands_of, said, statement_of, trimmed}
 use Rattle.asm_parse.specs.declared.syntax.AsmLine.{AsmLine}
-use Rattle.mips_list.specs.WordText.{joined, spaced}
+use Rattle.mips_list.specs.WordText.{after_name, joined}
 use Rattle.listing_law.proofs.Numbers.{list_all_weaker}
 use Rattle.listing_law.proofs.NumberTexts.{IsOperand, is_plain}
 use Rattle.listing_law.proofs.ArgTexts.{AreOperands, AreRead, EndsPlain, args_spaced, before_none, ends_behind, plain_ends}
@@ -125,13 +125,13 @@ unfolding operands_of
 behind_blank p some blank = rw (some, blank) refl
 
 -- the operands behind a name
-pub operands_read : (start : ℕ) (ts : List (List ℕ)) (os : List OperandValue) → AreOperands ts os → AreRead (operands_of (record { start = start; bytes = spaced ts })) os
+pub operands_read : (start : ℕ) (ts : List (List ℕ)) (os : List OperandValue) → AreOperands ts os → AreRead (operands_of (record { start = start; bytes = after_name ts })) os
 unfolding operands_of
 operands_read start [] [] are = record { found = []; is = refl; operands = refl }
 operands_read start [] (o ∷ os) are = absurd are
 operands_read start (t ∷ ts) [] are = absurd are
 operands_read start (t ∷ ts) (o ∷ os) are =
-    let p : Piece = record { start = start; bytes = spaced (t ∷ ts) } in
+    let p : Piece = record { start = start; bytes = after_name (t ∷ ts) } in
     subst (λ (args : Option (List ArgValue)). AreRead args (o ∷ os))
     (sym (behind_blank p (suc_not_zero (length (joined (t ∷ ts)))) (one_more_not_zero (prefix_len is_blank (joined (t ∷ ts))))))
     (args_spaced p t ts o os refl are.0 are.1)
@@ -139,9 +139,9 @@ operands_read start (t ∷ ts) (o ∷ os) are =
     one_more_not_zero : (n : ℕ) → (1 + n == 0) ≡ false
     one_more_not_zero n = grind (arith, nat_tests)
 
-follows_spaced : (ts : List (List ℕ)) → Follows (spaced ts)
-follows_spaced [] = tt
-follows_spaced (t ∷ ts) = refl
+follows_name : (ts : List (List ℕ)) → Follows (after_name ts)
+follows_name [] = tt
+follows_name (t ∷ ts) = refl
 
 some_name : (name : List ℕ) → begins_name name ≡ true → (c : ℕ) × (cs : List ℕ) × (name ≡ c ∷ cs)
 some_name [] begins = cc
@@ -155,20 +155,20 @@ some_length : (name rest : List ℕ) → begins_name name ≡ true → (length (
 some_length [] rest begins = cc
 some_length (c ∷ cs) rest begins = suc_not_zero (length (cs ++ rest))
 
-body_read : (start : ℕ) (name : List ℕ) (ts : List (List ℕ)) (args : List ArgValue) → is_name name ≡ true → operands_of (record { start = start + length name; bytes = spaced ts }) ≡ Some args
-    → body_of (record { start = start; bytes = name ++ spaced ts }) ≡ Some (body_named name args)
+body_read : (start : ℕ) (name : List ℕ) (ts : List (List ℕ)) (args : List ArgValue) → is_name name ≡ true → operands_of (record { start = start + length name; bytes = after_name ts }) ≡ Some args
+    → body_of (record { start = start; bytes = name ++ after_name ts }) ≡ Some (body_named name args)
 unfolding body_of
 body_read start name ts args is reads =
     let parts = and_parts (begins_name name) (list_all is_name_byte name) is in
-    rw (named_before name (spaced ts) parts.1 (follows_spaced ts), some_length name (spaced ts) parts.0, parts.0, drop_at name (spaced ts) (length name) refl, reads) refl
+    rw (named_before name (after_name ts) parts.1 (follows_name ts), some_length name (after_name ts) parts.0, parts.0, drop_at name (after_name ts) (length name) refl, reads) refl
 
-statement_read : (number start : ℕ) (name : List ℕ) (ts : List (List ℕ)) (args : List ArgValue) → is_name name ≡ true → operands_of (record { start = start + length name; bytes = spaced ts }) ≡ Some args
-    → statement_of number (record { start = start; bytes = name ++ spaced ts })
-    ≡ Some (record { line = number; start = start; end = start + length (name ++ spaced ts); label = None; body = body_named name args })
+statement_read : (number start : ℕ) (name : List ℕ) (ts : List (List ℕ)) (args : List ArgValue) → is_name name ≡ true → operands_of (record { start = start + length name; bytes = after_name ts }) ≡ Some args
+    → statement_of number (record { start = start; bytes = name ++ after_name ts })
+    ≡ Some (record { line = number; start = start; end = start + length (name ++ after_name ts); label = None; body = body_named name args })
 unfolding statement_of
 statement_read number start name ts args is reads =
     let parts = and_parts (begins_name name) (list_all is_name_byte name) is in
-    rw (no_label name (spaced ts) parts.1 (follows_spaced ts), body_read start name ts args is reads) refl
+    rw (no_label name (after_name ts) parts.1 (follows_name ts), body_read start name ts args is reads) refl
 
 -- All bytes of a line.
 
@@ -195,7 +195,7 @@ pub record IsLine (bs : List ℕ) : Type 0 where
   pub bytes : list_all is_said bs ≡ true
   pub ends : EndsPlain bs
 
-pub text_is_line : (name : List ℕ) (ts : List (List ℕ)) (os : List OperandValue) → is_name name ≡ true → AreOperands ts os → IsLine (name ++ spaced ts)
+pub text_is_line : (name : List ℕ) (ts : List (List ℕ)) (os : List OperandValue) → is_name name ≡ true → AreOperands ts os → IsLine (name ++ after_name ts)
 text_is_line name [] [] is are =
     let parts = and_parts (begins_name name) (list_all is_name_byte name) is in
     subst IsLine (sym (append-nil name)) (record { bytes = plain_bytes name (name_bytes name parts.1); ends = plain_ends name (name_bytes name parts.1) (positive name parts.0) })
@@ -222,11 +222,11 @@ no_blanks_named (c ∷ cs) rest is = rw (no_blank c (and_parts (is_name_start c)
 said_line : (line : LineValue) → list_all is_said line.text ≡ true → said line ≡ trimmed (record { start = line.start; bytes = line.text })
 said_line line all = ap (λ bs. trimmed (record { start = line.start; bytes = bs })) (no_comment _ line.text (λ b is. rw (said_no_quote b is) refl) all)
 
-said_whole : (number start : ℕ) (name : List ℕ) (ts : List (List ℕ)) → is_name name ≡ true → IsLine (name ++ spaced ts)
-    → said (record { number = number; start = start; text = name ++ spaced ts }) ≡ record { start = start + 0; bytes = name ++ spaced ts }
+said_whole : (number start : ℕ) (name : List ℕ) (ts : List (List ℕ)) → is_name name ≡ true → IsLine (name ++ after_name ts)
+    → said (record { number = number; start = start; text = name ++ after_name ts }) ≡ record { start = start + 0; bytes = name ++ after_name ts }
 said_whole number start name ts is line =
-    said_line (record { number = number; start = start; text = name ++ spaced ts }) line.bytes
-    ∙ rw (no_blanks_named name (spaced ts) is) (before_none (start + 0) (name ++ spaced ts) line.ends)
+    said_line (record { number = number; start = start; text = name ++ after_name ts }) line.bytes
+    ∙ rw (no_blanks_named name (after_name ts) is) (before_none (start + 0) (name ++ after_name ts) line.ends)
 
 add_zero : (n : ℕ) → n + 0 ≡ n
 add_zero n = omega arith
@@ -240,14 +240,14 @@ line_from line p statement text is some reads =
     rw text (ap by is ∙ found)
 
 -- a line that is an operation and its operands
-pub line_read : (number start : ℕ) (name : List ℕ) (ts : List (List ℕ)) (args : List ArgValue) → is_name name ≡ true → IsLine (name ++ spaced ts)
-    → operands_of (record { start = start + length name; bytes = spaced ts }) ≡ Some args
-    → line_of (record { number = number; start = start; text = name ++ spaced ts })
-    ≡ Some (Some (record { line = number; start = start; end = start + length (name ++ spaced ts); label = None; body = body_named name args }))
+pub line_read : (number start : ℕ) (name : List ℕ) (ts : List (List ℕ)) (args : List ArgValue) → is_name name ≡ true → IsLine (name ++ after_name ts)
+    → operands_of (record { start = start + length name; bytes = after_name ts }) ≡ Some args
+    → line_of (record { number = number; start = start; text = name ++ after_name ts })
+    ≡ Some (Some (record { line = number; start = start; end = start + length (name ++ after_name ts); label = None; body = body_named name args }))
 line_read number start name ts args is line reads =
     let parts = and_parts (begins_name name) (list_all is_name_byte name) is in
-    let text : list_all is_text_byte (name ++ spaced ts) ≡ true = list_all_weaker is_said is_text_byte said_text (name ++ spaced ts) line.bytes in
-    line_from (record { number = number; start = start; text = name ++ spaced ts }) (record { start = start; bytes = name ++ spaced ts }) _ text
-    (said_whole number start name ts is line ∙ ap (λ n. record { start = n; bytes = name ++ spaced ts }) (add_zero start))
-    (some_length name (spaced ts) parts.0)
+    let text : list_all is_text_byte (name ++ after_name ts) ≡ true = list_all_weaker is_said is_text_byte said_text (name ++ after_name ts) line.bytes in
+    line_from (record { number = number; start = start; text = name ++ after_name ts }) (record { start = start; bytes = name ++ after_name ts }) _ text
+    (said_whole number start name ts is line ∙ ap (λ n. record { start = n; bytes = name ++ after_name ts }) (add_zero start))
+    (some_length name (after_name ts) parts.0)
     (statement_read number start name ts args is reads)

@@ -15,7 +15,7 @@ use Rattle.mips_isa.specs.Encoding.{insn_of}
 use Rattle.mips_text.specs.Texts.{TextValue, text_of}
 use Rattle.mips_text.specs.WordRows.{is_nameless, row_of}
 use Rattle.mips_text.proofs.NamedWords.{nameless_rows}
-use Rattle.mips_list.specs.WordText.{data_text, hexadecimal, operand_texts, row_text, spaced, text_by, word_text}
+use Rattle.mips_list.specs.WordText.{after_name, data_text, hexadecimal, operand_texts, row_text, text_by, word_text}
 use Rattle.asm_layout.specs.Action.{Action, Put, action_of, directed, directive_of, operands_in}
 use Rattle.asm_layout.specs.Content.{Content, Given, Instruction, alignment, content_length}
 use Rattle.asm_layout.specs.Draft.{Draft, draft_of}
@@ -55,7 +55,7 @@ row_puts number start word address row is aligned below =
     let args = operands_read (start + length row.0) ts os are in
     let makes = makes_word row.1 word address is.one_word is.whole aligned below in
     record {
-      statement = record { line = number; start = start; end = start + length (row.0 ++ spaced ts); label = None; body = body_named row.0 args.found };
+      statement = record { line = number; start = start; end = start + length (row.0 ++ after_name ts); label = None; body = body_named row.0 args.found };
       content = Instruction makes.made;
       is = line_read number start row.0 ts args.found is.name (text_is_line row.0 ts os is.name are) args.is;
       unlabelled = refl;
@@ -107,7 +107,7 @@ data_puts number start word address small =
     let are : AreOperands ts (word_operands word) = (number_operand (hexadecimal 8 word) word (word_text_read word small), tt) in
     let args = operands_read (start + length name) ts (word_operands word) are in
     record {
-      statement = record { line = number; start = start; end = start + length (name ++ spaced ts); label = None; body = body_named name args.found };
+      statement = record { line = number; start = start; end = start + length (name ++ after_name ts); label = None; body = body_named name args.found };
       content = put_by (word_action word);
       is = line_read number start name ts args.found refl (text_is_line name ts (word_operands word) refl are) args.is;
       unlabelled = refl;

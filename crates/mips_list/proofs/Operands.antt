@@ -1,6 +1,6 @@
 -- Operands, one after another.
 use Rattle.std.proofs.Common.{◌≡◌, ℕ, List, [], ◌∷◌, ◌++◌, refl, ap, append-nil}
-use Rattle.mips_list.specs.WordText.{joined, spaced}
+use Rattle.mips_list.specs.WordText.{after_name, joined}
 
 -- texts with a mark before the first, and a comma before each further one
 abbrev pub marked : ℕ → List (List ℕ) → List ℕ
@@ -12,6 +12,6 @@ joined_marked text [] = append-nil text
 joined_marked text (next ∷ texts) = ap (λ rest. text ++ 44 ∷ rest) (joined_marked next texts)
 
 -- operands behind a name, in this form
-pub spaced_marked : (texts : List (List ℕ)) → marked 32 texts ≡ spaced texts
-spaced_marked [] = refl
-spaced_marked (text ∷ texts) = ap (λ rest. 32 ∷ rest) (joined_marked text texts)
+pub after_name_marked : (texts : List (List ℕ)) → marked 32 texts ≡ after_name texts
+after_name_marked [] = refl
+after_name_marked (text ∷ texts) = ap (λ rest. 32 ∷ rest) (joined_marked text texts)

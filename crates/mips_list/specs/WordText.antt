@@ -70,13 +70,13 @@ joined (text ∷ []) = text
 joined (text ∷ next ∷ texts) = text ++ byte "," ∷ joined (next ∷ texts)
 
 -- operands behind a name: a space before them, where there are any
-abbrev pub spaced : List (List ℕ) → List ℕ
-spaced [] = []
-spaced (text ∷ texts) = byte " " ∷ joined (text ∷ texts)
+abbrev pub after_name : List (List ℕ) → List ℕ
+after_name [] = []
+after_name (text ∷ texts) = byte " " ∷ joined (text ∷ texts)
 
 -- an instruction by its row: its name and its operands
 abbrev pub row_text : List ℕ × TextValue → ℕ → ℕ → List ℕ
-row_text row word address = row.0 ++ spaced (operand_texts row.1.operands word address)
+row_text row word address = row.0 ++ after_name (operand_texts row.1.operands word address)
 
 -- a word as a number
 abbrev pub data_text : ℕ → List ℕ

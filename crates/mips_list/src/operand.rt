@@ -1,7 +1,7 @@
 //! The operands of instructions, as the bits of a word say them.
 ghost use Rattle.std.specs.Prelude.{◌≡◌, ◌++◌, ◌∷◌, ◌≤◌, OnOk, ◌<◌, ◌^◌};
 ghost use Rattle.line_text.specs.Growth.{Keeps};
-ghost use Rattle.mips_list.specs.WordText.{based_text, branch_target, field_text, hexadecimal, is_written, jump_target, operand_text, operand_texts, signed_text, slot_text, spaced};
+ghost use Rattle.mips_list.specs.WordText.{after_name, based_text, branch_target, field_text, hexadecimal, is_written, jump_target, operand_text, operand_texts, signed_text, slot_text};
 
 use aegis_limits::OutOfMemory;
 use line_text::{Word, push_hex, push_word};
@@ -21,7 +21,7 @@ pub(crate) fn push_operands(
     address: u32,
     out: &mut Vec<u8>,
 ) -> Result<(), OutOfMemory>
-    ensures ok { OnOk result (out.new.items ≡ out.old.items ++ spaced (operand_texts forms.now word address)) }
+    ensures ok { OnOk result (out.new.items ≡ out.old.items ++ after_name (operand_texts forms.now word address)) }
     ensures keeps { Keeps out.old.items out.new.items }
 {
     let mut mark = FIRST;
