@@ -2,6 +2,8 @@
 use Rattle.std.specs.Prelude.{ℕ, ◌+◌, false, List, [], ◌∷◌, ◌++◌}
 use Rattle.std.specs.List.{flat_map}
 use Rattle.std.specs.Int.{w32, to_le_bytes}
+use Rattle.asm_layout.specs.declared.section.Section.TheVariants.{Text}
+use Rattle.asm_layout.specs.Layout.{base_of}
 use Rattle.elf_static.specs.ObjectValue.{ObjectValue}
 use Rattle.mips_list.specs.WordText.{word_text}
 
@@ -13,6 +15,6 @@ texts_from address (word ∷ words) = word_text word address ++ 10 ∷ texts_fro
 -- words from the text's first address on, where the program begins
 abbrev pub program_of_words : List ℕ → ObjectValue
 program_of_words words = record {
-  entry = 0x00400000;
-  parts = (record { vaddr = 0x00400000; bytes = flat_map (to_le_bytes w32) words; writable = false }) ∷ [];
+  entry = base_of Text;
+  parts = (record { vaddr = base_of Text; bytes = flat_map (to_le_bytes w32) words; writable = false }) ∷ [];
 }

@@ -6,6 +6,7 @@ ghost use Rattle.mips_asm.specs.Field.{bits_of, distance, field_bits_in, lies};
 
 use asm_layout::{Names, defined};
 use asm_parse::{AsmWhy, Expression};
+use mips_codec::CODE_LIMIT;
 use mips_text::Field;
 
 /// Whether a value is equal to a number from `-low` to `high`, modulo 2^32.
@@ -74,15 +75,12 @@ fn unsigned(value: u32) -> Result<u32, AsmWhy>
     }
 }
 
-/// The most that a code can be.
-const LAST_CODE: u32 = (1 << 20) - 1;
-
 /// The bits of a trap's code, in the word.
 fn code(value: u32) -> Result<u32, AsmWhy>
     ensures value { result ≡ bits_of Code 0 value }
     ensures within { IfOk result (λ bits. bits < 2 ^ 26) }
 {
-    if lies(0, LAST_CODE, value) {
+    if lies(0, CODE_LIMIT - 1, value) {
         Ok(value << 6)
     } else {
         Err(AsmWhy::OutOfRange)

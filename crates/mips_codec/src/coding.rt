@@ -13,7 +13,7 @@ use mips_isa::Insn;
 const REGISTER_LIMIT: u8 = 32;
 
 /// Codes of SYSCALL and BREAK are below this.
-const CODE_LIMIT: u32 = 1 << 20;
+pub const CODE_LIMIT: u32 = 1 << 20;
 
 /// Targets of jumps are below this.
 const TARGET_LIMIT: u32 = 1 << 26;

@@ -11,7 +11,7 @@ mod fields;
 mod laws;
 mod words;
 
-pub use coding::{decode, encode};
+pub use coding::{CODE_LIMIT, decode, encode};
 pub use fields::{COP0, REGIMM, SPECIAL, code, function, imm, opcode, rd, rs, rt, sh, target};
 pub use laws::{
     each_word_spells_one_instruction, one_word_spells_each_instruction, only_word_spells,
