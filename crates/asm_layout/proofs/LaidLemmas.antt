@@ -17,7 +17,7 @@ use Rattle.asm_layout.specs.declared.section.Section.TheVariants.{Text, Data}
 use Rattle.asm_layout.specs.Action.{Action, Put, Align, Enter, Define, action_of}
 use Rattle.asm_layout.specs.Content.{Content, Given, content_length}
 use Rattle.asm_layout.specs.Laid.{HasStart, IsLaid, StartIn, length_in, total}
-use Rattle.asm_layout.specs.Layout.{Layout, Placed, acted, added, appended, equated, is_start, labelled, laid, laid_from, named, nothing_placed, padding, place_of, put, started, stated, used_by}
+use Rattle.asm_layout.specs.Layout.{Layout, Placed, acted, added, appended, equated, grown_by, is_start, labelled, laid, laid_from, named, nothing_placed, padding, place_of, put, started, stated, used_by}
 use Rattle.asm_layout.specs.Value.{Names, defined, value_of_name}
 use Rattle.asm_layout.proofs.OutcomeLemmas.{bind_ok, chosen_ok, in_line_ok, ok_is, other_ok}
 
@@ -50,38 +50,37 @@ pub record IsPut (starts : Bool) (before after : Layout) : Type 0 where
   pub data_is : after.data_bytes ≡ before.data_bytes + length_in Data before.section (content_length statement.content)
   pub start_is : after.start ≡ before.start
 
-appended_put : (line : ℕ) (starts : Bool) (content : Content) (section : Section) (text data_bytes : ℕ) (names : Names) (start : Option ℕ) (placed : List Placed) →
-    let before : Layout = record { section = section; text = text; data_bytes = data_bytes; names = names; start = start; placed = placed } in
-    content_length content ≤ 1048576 - used_by section before → IsPut starts before (appended line starts content before)
-appended_put line starts content Text text data_bytes names start placed fits = record {
-  statement = record { line = line; section = Text; place = 0x00400000 + text; is_start = starts; content = content };
-  where_it_is = refl;
-  place_is = refl;
-  starts_is = refl;
-  fits = fits;
-  placed_is = refl;
-  text_is = refl;
-  data_is = omega arith;
-  start_is = refl;
-}
-appended_put line starts content Data text data_bytes names start placed fits = record {
-  statement = record { line = line; section = Data; place = 0x10000000 + data_bytes; is_start = starts; content = content };
-  where_it_is = refl;
-  place_is = refl;
-  starts_is = refl;
-  fits = fits;
-  placed_is = refl;
-  text_is = omega arith;
-  data_is = refl;
-  start_is = refl;
-}
+-- what bytes more in a section change, and what they leave
+grown_is : (section : Section) (n : ℕ) (before : Layout) →
+    let after = grown_by section n before in
+    (after.placed ≡ before.placed) × (after.text ≡ before.text + length_in Text section n)
+    × (after.data_bytes ≡ before.data_bytes + length_in Data section n) × (after.start ≡ before.start)
+grown_is Text n before = (refl, refl, omega arith, refl)
+grown_is Data n before = (refl, omega arith, refl, refl)
+
+appended_put : (line : ℕ) (starts : Bool) (content : Content) (before : Layout) → content_length content ≤ 1048576 - used_by before.section before
+    → IsPut starts before (appended line starts content before)
+appended_put line starts content before fits =
+    let statement : Placed = record { line = line; section = before.section; place = place_of before; is_start = starts; content = content } in
+    let grown = grown_is before.section (content_length content) (record before { placed = before.placed ++ statement ∷ [] }) in
+    record {
+      statement = statement;
+      where_it_is = refl;
+      place_is = refl;
+      starts_is = refl;
+      fits = fits;
+      placed_is = grown.0;
+      text_is = grown.1;
+      data_is = grown.2;
+      start_is = grown.3;
+    }
 
 put_is : (line : ℕ) (starts : Bool) (content : Content) (before after : Layout) → put line starts content before ≡ Ok after → IsPut starts before after
 put_is line starts content before after h =
     let aligned = chosen_ok _ _ _ after h in
     let fits = chosen_ok _ _ _ after aligned.1 in
     subst (IsPut starts before) (ok_is _ after fits.1)
-    (appended_put line starts content before.section before.text before.data_bytes before.names before.start before.placed (leb-true _ _ fits.0))
+    (appended_put line starts content before (leb-true _ _ fits.0))
 
 -- a name changes nothing else
 named_is : (name : List ℕ) (value : ℕ) (before after : Layout) → named name value before ≡ Ok after → (names : Names) × (after ≡ record before { names = names })
@@ -95,6 +94,21 @@ equated_is name e before after h =
     let step = bind_ok value next after new.1 in
     named_is name step.0 before after step.2
 
+-- neither other names before nor another section after change what is put
+moved : (starts : Bool) (before after : Layout) (names : Names) (section : Section) → IsPut starts (record before { names = names }) after
+    → IsPut starts before (record after { section = section })
+moved starts before after names section p = record {
+  statement = p.statement;
+  where_it_is = p.where_it_is;
+  place_is = p.place_is;
+  starts_is = p.starts_is;
+  fits = p.fits;
+  placed_is = p.placed_is;
+  text_is = p.text_is;
+  data_is = p.data_is;
+  start_is = p.start_is;
+}
+
 pub acted_is : (line : ℕ) (starts : Bool) (action : Action) (before after : Layout) → acted line starts action before ≡ Ok after → IsPut starts before after
 unfolding acted
 acted_is line starts (Put content) before after h = put_is line starts content before after h
@@ -106,34 +120,13 @@ acted_is line starts (Enter section) before after h =
     let enter : Layout → Layout = λ l. record l { section = section } in
     let next : Layout → Result Layout AsmWhy = λ l. Ok (enter l) in
     let step = bind_ok (put line starts (Given []) before) next after h in
-    let p = put_is line starts (Given []) before step.0 step.1 in
-    let entered : IsPut starts before (enter step.0) = record {
-      statement = p.statement;
-      where_it_is = p.where_it_is;
-      place_is = p.place_is;
-      starts_is = p.starts_is;
-      fits = p.fits;
-      placed_is = p.placed_is;
-      text_is = p.text_is;
-      data_is = p.data_is;
-      start_is = p.start_is;
-    } in
+    let entered = moved starts before step.0 before.names section (put_is line starts (Given []) before step.0 step.1) in
     subst (IsPut starts before) (ok_is (enter step.0) after step.2) entered
 acted_is line starts (Define name e) before after h =
     let step = bind_ok _ _ after h in
     let new = equated_is name e before step.0 step.1 in
-    let p = put_is line starts (Given []) (record before { names = new.0 }) after (subst (λ l. put line starts (Given []) l ≡ Ok after) new.1 step.2) in
-    record {
-      statement = p.statement;
-      where_it_is = p.where_it_is;
-      place_is = p.place_is;
-      starts_is = p.starts_is;
-      fits = p.fits;
-      placed_is = p.placed_is;
-      text_is = p.text_is;
-      data_is = p.data_is;
-      start_is = p.start_is;
-    }
+    moved starts before after new.0 after.section
+    (put_is line starts (Given []) (record before { names = new.0 }) after (subst (λ l. put line starts (Given []) l ≡ Ok after) new.1 step.2))
 
 -- a label gives a name, and `start` its place
 labelled_is : (label : Option (List ℕ)) (before after : Layout) → labelled label before ≡ Ok after →

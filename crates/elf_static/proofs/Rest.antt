@@ -1,5 +1,7 @@
 -- The parts before one of them, and those that are left, from it on.
 use Rattle.std.proofs.Common.{◌≡◌, ℕ, ◌+◌, ◌<◌, List, [], ◌∷◌, ◌++◌, length, get_or, take, drop, suc, sym, ap, ◌∙◌, add-one}
+use Rattle.std.specs.Int.{Width, to_le_bytes}
+use Rattle.std.specs.List.{flat_map}
 use Rattle.std.proofs.Math.Seq.{drop-cons}
 use Rattle.std.proofs.lemmas.List.{flat_map_more, map_push, take_more}
 use Rattle.std.proofs.lemmas.List.Sums.{sum_by-cons}
@@ -33,3 +35,8 @@ bodies_more before parts i part within read =
     let seen = ap parts_seen taken ∙ map_push part_seen (take i parts) part in
     flat_map_more (λ (part : PartValue). part.bytes) before (parts_seen (take i parts)) (part_seen part)
     ∙ ap (λ (parts : List PartValue). before ++ bodies parts) (sym seen)
+
+-- numbers of one width that were written, and one more
+pub numbers_more : (width : Width) (before : List ℕ) (numbers : List ℕ) (i : ℕ) → i < length numbers
+    → (before ++ flat_map (to_le_bytes width) (take i numbers)) ++ to_le_bytes width (get_or numbers i 0) ≡ before ++ flat_map (to_le_bytes width) (take (i + 1) numbers)
+numbers_more width before numbers i within = rw (take_more numbers i 0 within) (flat_map_more (to_le_bytes width) before (take i numbers) (get_or numbers i 0))

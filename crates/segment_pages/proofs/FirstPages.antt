@@ -119,8 +119,3 @@ pages_begin program first (Some vpn) t = some_page program first vpn t
 pub pages_end : (program : ElfValue) (first : ℕ) (result : Option ℕ) → IsFirstPage first program.segments result → IfNone result (pages_from program first ≡ [])
 pages_end program first None none = no_page program first none
 pages_end program first (Some vpn) t = tt
-
--- a test of what is seen of some segment
-pub list_any_seen : (test : SegmentValue → Bool) (segments : List Segment) → list_any (λ segment. test (segment_seen segment)) segments ≡ list_any test (segments_seen segments)
-list_any_seen test [] = refl
-list_any_seen test (segment ∷ segments) = ap (λ (found : Bool). test (segment_seen segment) || found) (list_any_seen test segments)

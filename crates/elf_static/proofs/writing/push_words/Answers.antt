@@ -1,17 +1,10 @@
-use Rattle.std.proofs.Common.{ℕ, List, ◌++◌, get_or, take, ap, sym, ◌∙◌}
-use Rattle.std.specs.Int.{w32, to_le_bytes}
-use Rattle.std.proofs.lemmas.List.{flat_map_more, take_more}
+use Rattle.std.proofs.Common.{◌∙◌}
+use Rattle.std.specs.Int.{w32}
 use Rattle.elf_static.specs.Layout.{words}
+use Rattle.elf_static.proofs.Rest.{numbers_more}
 use Rattle.elf_static.proofs.writing.push_words.Goals as goal
 
 pub loop-number-preserved : goal.loop-number-preserved
 unfolding words
 loop-number-preserved c =
-    let before = c.args.file.now.items in
-    let numbers = c.args.numbers.now in
-    let i = c.loop-number.number-index in
-    let number = get_or numbers i 0 in
-    c.in_ok-push_word.ensures.ok
-    ∙ ap (λ (written : List ℕ). written ++ to_le_bytes w32 number) c.loop-number.invariant
-    ∙ flat_map_more (to_le_bytes w32) before (take i numbers) number
-    ∙ ap (λ (numbers : List ℕ). before ++ words numbers) (sym (take_more numbers i 0 c.loop-number-test.true))
+    c.in_ok-push_word.ensures.ok ∙ rw c.loop-number.invariant (numbers_more w32 c.args.file.now.items c.args.numbers.now c.loop-number.number-index c.loop-number-test.true)

@@ -6,8 +6,8 @@ use Rattle.std.proofs.lemmas.Iterator.Search.{any_from_yields_List}
 use Rattle.elf_static.specs.declared.segment.Segment.{Segment}
 use Rattle.elf_static.specs.ElfValue.{SegmentValue}
 use Rattle.elf_static.specs.SegmentSeen.{segment_seen}
+use Rattle.elf_static.proofs.HeaderSteps.{list_any_seen}
 use Rattle.segment_pages.specs.Pages.{touches}
-use Rattle.segment_pages.proofs.FirstPages.{list_any_seen}
 use Rattle.segment_pages.proofs.vpns.is_any_writable.Goals as goal
 
 pub returns : goal.returns
