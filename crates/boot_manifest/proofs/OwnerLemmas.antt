@@ -3,7 +3,6 @@ use Rattle.std.proofs.Common.{◌≡◌, ℕ, ◌+◌, ◌<◌, ◌≤◌, List,
 use Rattle.std.proofs.Math.Seq.{drop-cons}
 use Rattle.std.proofs.lemmas.List.{append-nil, drop_all}
 use Rattle.std.specs.Borrow.{Bor}
-use Rattle.std.specs.List.{AllByRecursion}
 use Rattle.std.specs.Option.{option_map}
 use Rattle.line_text.specs.WordView.{words_seen}
 use Rattle.boot_manifest.specs.Ranges.{owner_in, owners_in}
@@ -33,8 +32,3 @@ owner_none d words i owners all within is so_far = rw (drop-cons words i d withi
 pub owners_end : (words : List (Bor (List ℕ))) (i : ℕ) (owners : List (Option ℕ)) (all : Option (List (Option ℕ)))
     → length words ≤ i → before_owners owners (owners_in (words_seen (drop i words))) ≡ all → Some owners ≡ all
 owners_end words i owners all none so_far = ap Some (sym (append-nil owners)) ∙ (rw (drop_all i words none) at so_far)
-
--- what holds of each owner, and of one more
-pub all_and_one : {X : Type 0} (P : X → Type 0) (xs : List X) (x : X) → AllByRecursion P xs → P x → AllByRecursion P (xs ++ x ∷ [])
-all_and_one P [] x are is = (is, tt)
-all_and_one P (y ∷ xs) x are is = (are.0, all_and_one P xs x are.1 is)
