@@ -7,7 +7,7 @@ use Rattle.std.specs.Global.{Vec}
 use Rattle.std.specs.List.{AllByRecursion}
 use Rattle.boot_image.specs.Spelling.{program_text, programs_text}
 use Rattle.boot_manifest.specs.ManifestValue.{ManifestEntryValue, entries_in}
-use Rattle.boot_manifest.specs.Layout.{bodies_seen, IsShort}
+use Rattle.boot_manifest.specs.Layout.{bodies_seen, HasWordLength}
 
 pub first_of : {X : Type 0} (xs : List X) (i : ℕ) (x : X) → i < length xs → x ≡ get_or xs i x → drop i xs ≡ x ∷ drop (i + 1) xs
 first_of {X} xs i x within read =
@@ -25,9 +25,9 @@ sizes_left bodies i body within read =
     ∙ sum_by-cons program_size body.items (bodies_seen (drop (i + 1) bodies))
 
 pub short_left : (bodies : List (Vec ℕ)) (i : ℕ) (body : Vec ℕ) → i < length bodies → body ≡ get_or bodies i body
-    → AllByRecursion IsShort (bodies_seen (drop i bodies)) → (length body.items < 2 ^ 32) × AllByRecursion IsShort (bodies_seen (drop (i + 1) bodies))
+    → AllByRecursion HasWordLength (bodies_seen (drop i bodies)) → (length body.items < 2 ^ 32) × AllByRecursion HasWordLength (bodies_seen (drop (i + 1) bodies))
 short_left bodies i body within read short =
-    let P : List (Vec ℕ) → Type 0 = λ left. AllByRecursion IsShort (bodies_seen left) in
+    let P : List (Vec ℕ) → Type 0 = λ left. AllByRecursion HasWordLength (bodies_seen left) in
     subst P (first_of bodies i body within read) short
 
 pub programs_left : (entries : List ManifestEntryValue) (bodies : List (Vec ℕ)) (i : ℕ) (entry : ManifestEntryValue) (body : Vec ℕ)

@@ -7,5 +7,5 @@ abbrev pub bodies_seen : List (Vec ℕ) → List (List ℕ)
 bodies_seen bodies = map (λ (body : Vec ℕ). body.items) bodies
 
 -- the length of a body is a word
-abbrev pub IsShort : List ℕ → Type 0
-IsShort bytes = length bytes < 2 ^ 32
+abbrev pub HasWordLength : List ℕ → Type 0
+HasWordLength bytes = length bytes < 2 ^ 32

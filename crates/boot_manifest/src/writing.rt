@@ -5,7 +5,7 @@ ghost use Rattle.aegis_limits.specs.Limits.{most_environments};
 ghost use Rattle.boot_image.specs.Spelling.{header_in, image_text, programs_text, slot_byte};
 ghost use Rattle.boot_image.specs.Parts.{header_seen};
 ghost use Rattle.boot_manifest.specs.ManifestValue.{plan_in, entries_in};
-ghost use Rattle.boot_manifest.specs.Layout.{bodies_seen, IsShort};
+ghost use Rattle.boot_manifest.specs.Layout.{bodies_seen, HasWordLength};
 
 use crate::manifest::{Manifest, ManifestEntry};
 use aegis_limits::OutOfMemory;
@@ -20,7 +20,7 @@ pub fn write_image(
     bodies: &[Vec<u8>],
 ) -> Result<Vec<u8>, OutOfMemory>
     requires count { length bodies.now ≡ length manifest.now.entries }
-    requires short { AllByRecursion IsShort (bodies_seen bodies.now) }
+    requires short { AllByRecursion HasWordLength (bodies_seen bodies.now) }
     ensures { IfOk result (λ file. file.items ≡ image_text (plan_in manifest.now) (bodies_seen bodies.now)) }
 {
     let length = image_length(manifest, bodies) as usize;
@@ -34,7 +34,7 @@ pub fn write_image(
 /// How many bytes the image of a manifest and of a body for each of its entries has.
 pub fn image_length(manifest: &Manifest, bodies: &[Vec<u8>]) -> u64
     requires count { length bodies.now ≡ length manifest.now.entries }
-    requires short { AllByRecursion IsShort (bodies_seen bodies.now) }
+    requires short { AllByRecursion HasWordLength (bodies_seen bodies.now) }
     ensures { result ≡ length (image_text (plan_in manifest.now) (bodies_seen bodies.now)) }
 {
     HEADER_SIZE as u64 + manifest.slots.len() as u64 + programs_length(bodies)
@@ -44,7 +44,7 @@ pub fn image_length(manifest: &Manifest, bodies: &[Vec<u8>]) -> u64
 #[tactic(auto, using(crate::proofs::Bodies::sizes_left, crate::proofs::Bodies::short_left))]
 fn programs_length(bodies: &[Vec<u8>]) -> u64
     requires count { length bodies.now ≤ most_environments }
-    requires short { AllByRecursion IsShort (bodies_seen bodies.now) }
+    requires short { AllByRecursion HasWordLength (bodies_seen bodies.now) }
     ensures length { result ≡ sum_by (λ bytes. 28 + length bytes) (bodies_seen bodies.now) }
     ensures most { result ≤ 2 ^ 37 }
 {
@@ -85,7 +85,7 @@ fn push_programs(
     bodies: &[Vec<u8>],
 ) -> Result<(), OutOfMemory>
     requires count { length bodies.now ≡ length entries.now }
-    requires short { AllByRecursion IsShort (bodies_seen bodies.now) }
+    requires short { AllByRecursion HasWordLength (bodies_seen bodies.now) }
     ensures { OnOk result (file.new.items ≡ file.old.items ++ programs_text (entries_in entries.now) (bodies_seen bodies.now)) }
 {
     for (i, entry) in entries.iter().enumerate() {

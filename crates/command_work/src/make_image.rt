@@ -1,7 +1,7 @@
 //! The command `image MANIFEST`.
 ghost use Rattle.std.specs.Prelude.{◌≡◌, ◌<◌, ◌^◌, IfOk, length, map, string_bytes};
 ghost use Rattle.std.specs.List.{AllByRecursion};
-ghost use Rattle.boot_manifest.specs.Layout.{IsShort as IsShortBody, bodies_seen};
+ghost use Rattle.boot_manifest.specs.Layout.{HasWordLength, bodies_seen};
 ghost use Rattle.boot_manifest.specs.ManifestValue.{ManifestEntryValue, plan_in};
 ghost use Rattle.boot_manifest.specs.Reading.{manifest_fault};
 ghost use Rattle.boot_image.specs.Spelling.{image_text};
@@ -50,7 +50,7 @@ fn due_image(
     bodies: &[Vec<u8>],
 ) -> Result<Answer, OutOfMemory>
     requires count { length bodies.now ≡ length manifest.now.entries }
-    requires short { AllByRecursion IsShortBody (bodies_seen bodies.now) }
+    requires short { AllByRecursion HasWordLength (bodies_seen bodies.now) }
     ensures { IfOk result (Settles (sized_due name.now (image_text (plan_in manifest.now) (bodies_seen bodies.now)))) }
 {
     if image_length(manifest, bodies) >= IMAGE_LIMIT {
@@ -87,7 +87,7 @@ fn files_named(alloc: Global, text: &[u8]) -> Result<Vec<String>, OutOfMemory>
 fn due(alloc: Global, name: &str, text: &[u8], bodies: &[Vec<u8>]) -> Result<Answer, OutOfMemory>
     requires text { length text.now < 2 ^ 27 }
     requires count { length bodies.now ≡ length (files_named text.now (manifest_fault text.now)) }
-    requires short { AllByRecursion IsShortBody (bodies_seen bodies.now) }
+    requires short { AllByRecursion HasWordLength (bodies_seen bodies.now) }
     ensures { IfOk result (Settles (image_due name.now text.now (bodies_seen bodies.now) (manifest_fault text.now))) }
 {
     match read_manifest(alloc, text) {

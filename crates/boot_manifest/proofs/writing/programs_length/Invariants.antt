@@ -1,7 +1,7 @@
 use Rattle.std.proofs.Common.{◌≡◌, ◌+◌, ◌*◌, ◌≤◌, ◌^◌, drop}
 use Rattle.std.specs.Prelude.{sum_by}
 use Rattle.std.specs.List.{AllByRecursion}
-use Rattle.boot_manifest.specs.Layout.{bodies_seen, IsShort}
+use Rattle.boot_manifest.specs.Layout.{bodies_seen, HasWordLength}
 use Rattle.boot_manifest.proofs.Bodies.{program_size}
 use Rattle.boot_manifest.proofs.writing.programs_length.Given as goal
 
@@ -10,5 +10,5 @@ abbrev pub invariant-loop-body : goal.invariant-loop-body
 invariant-loop-body l = record {
   counted : l.length + sum_by program_size (bodies_seen (drop l.body-index l.bodies)) ≡ sum_by program_size (bodies_seen l.bodies);
   most : l.length ≤ l.body-index * 2 ^ 33;
-  short : AllByRecursion IsShort (bodies_seen (drop l.body-index l.bodies));
+  short : AllByRecursion HasWordLength (bodies_seen (drop l.body-index l.bodies));
 }

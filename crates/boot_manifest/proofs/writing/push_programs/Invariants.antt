@@ -2,7 +2,7 @@ use Rattle.std.proofs.Common.{◌≡◌, ◌++◌, drop}
 use Rattle.std.specs.List.{AllByRecursion}
 use Rattle.boot_image.specs.Spelling.{programs_text}
 use Rattle.boot_manifest.specs.ManifestValue.{entries_in}
-use Rattle.boot_manifest.specs.Layout.{bodies_seen, IsShort}
+use Rattle.boot_manifest.specs.Layout.{bodies_seen, HasWordLength}
 use Rattle.boot_manifest.proofs.writing.push_programs.Given as goal
 
 -- the programs that stand, and those that are left, are all of them
@@ -11,5 +11,5 @@ invariant-loop-i l = record {
   text :
       l.file.items ++ programs_text (entries_in (drop l.i l.entries)) (bodies_seen (drop l.i l.bodies))
       ≡ l.fn.file.items ++ programs_text (entries_in l.entries) (bodies_seen l.bodies);
-  short : AllByRecursion IsShort (bodies_seen (drop l.i l.bodies));
+  short : AllByRecursion HasWordLength (bodies_seen (drop l.i l.bodies));
 }
