@@ -4,7 +4,7 @@ use Rattle.std.proofs.lemmas.List.{drop-set}
 use Rattle.std.specs.Char.{digit_char}
 use Rattle.line_text.specs.Text.{hex_text}
 
-hex_more : (k n : ℕ) → hex_text (suc k) n ≡ hex_text k (n / 16) ++ digit_char (n % 16) ∷ []
+pub hex_more : (k n : ℕ) → hex_text (suc k) n ≡ hex_text k (n / 16) ++ digit_char (n % 16) ∷ []
 unfolding hex_text
 hex_more k n = refl
 

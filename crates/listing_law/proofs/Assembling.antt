@@ -24,7 +24,7 @@ one_placed line content = record {
   placed = (record { line = line; section = nothing_placed.section; place = 0x00400000; is_start = false; content = content }) ∷ [];
 }
 
-abbrev text_alone : List ℕ → Sections
+abbrev pub text_alone : List ℕ → Sections
 text_alone bytes = record { text = bytes; data_bytes = [] }
 
 abbrev text_program : List ℕ → ObjectValue

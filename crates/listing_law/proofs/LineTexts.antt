@@ -6,6 +6,7 @@ use Rattle.std.proofs.lemmas.Bool.Decides.{nat_tests}
 use Rattle.std.proofs.Math.Bool.{and-false}
 use Rattle.std.specs.List.{list_all, starts_with, prefix_len, onto_first, take_while}
 use Rattle.std.specs.Option.{option_map}
+use lib.Dec.{eqb-suc-zero}
 use lib.Pointwise.{pointwise}
 use Rattle.std.proofs.lemmas.List.{append-nil, take_at, drop_at}
 use Rattle.std.proofs.lemmas.List.Folds.{list_all-append}
@@ -49,9 +50,6 @@ said_no_feed_turned b is = grind (arith, nat_tests)
 
 said_no_return_turned : (b : ℕ) → is_said b ≡ true → (13 == b) ≡ false
 said_no_return_turned b is = grind (arith, nat_tests)
-
-suc_not_zero : (n : ℕ) → (suc n == 0) ≡ false
-suc_not_zero n = grind (arith, nat_tests)
 
 -- A text of one line.
 
@@ -133,7 +131,7 @@ operands_read start (t ∷ ts) [] are = absurd are
 operands_read start (t ∷ ts) (o ∷ os) are =
     let p : Piece = record { start = start; bytes = after_name (t ∷ ts) } in
     subst (λ (args : Option (List ArgValue)). AreRead args (o ∷ os))
-    (sym (behind_blank p (suc_not_zero (length (joined (t ∷ ts)))) (one_more_not_zero (prefix_len is_blank (joined (t ∷ ts))))))
+    (sym (behind_blank p (eqb-suc-zero (length (joined (t ∷ ts)))) (one_more_not_zero (prefix_len is_blank (joined (t ∷ ts))))))
     (args_spaced p t ts o os refl are.0 are.1)
   where
     one_more_not_zero : (n : ℕ) → (1 + n == 0) ≡ false
@@ -153,7 +151,7 @@ begins_behind (c ∷ cs) rest begins = begins
 
 some_length : (name rest : List ℕ) → begins_name name ≡ true → (length (name ++ rest) == 0) ≡ false
 some_length [] rest begins = cc
-some_length (c ∷ cs) rest begins = suc_not_zero (length (cs ++ rest))
+some_length (c ∷ cs) rest begins = eqb-suc-zero (length (cs ++ rest))
 
 body_read : (start : ℕ) (name : List ℕ) (ts : List (List ℕ)) (args : List ArgValue) → is_name name ≡ true → operands_of (record { start = start + length name; bytes = after_name ts }) ≡ Some args
     → body_of (record { start = start; bytes = name ++ after_name ts }) ≡ Some (body_named name args)

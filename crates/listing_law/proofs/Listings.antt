@@ -15,10 +15,11 @@ use Rattle.mips_asm.specs.Assembled.{assembled}
 use Rattle.mips_asm.specs.Emission.{bytes_of}
 use Rattle.asm_layout.specs.Content.{Content}
 use Rattle.asm_layout.specs.Layout.{Layout, Placed, acted, laid, laid_from, nothing_placed, stated}
-use Rattle.mips_asm.specs.Second.{Sections, emitted, filled, filled_from}
+use Rattle.mips_asm.specs.Second.{emitted, filled, filled_from}
 use Rattle.listing_law.specs.Statement.{Puts}
 use Rattle.listing_law.specs.Texts.{program_of_words, texts_from}
 use Rattle.listing_law.proofs.ArgTexts.{EndsPlain}
+use Rattle.listing_law.proofs.Assembling.{text_alone}
 use Rattle.listing_law.proofs.NumberTexts.{is_plain}
 use Rattle.listing_law.proofs.LineTexts.{IsLine, is_said, said_no_feed}
 use Rattle.listing_law.proofs.Statements.{text_is_line_of, word_statement}
@@ -86,9 +87,6 @@ due_is line address bytes puts = rw (puts.is) refl
 laid_first : (n : ℕ) (placed : List Placed) (line : LineValue) (lines : List LineValue) (bytes : List ℕ) (puts : Puts line (0x00400000 + n) bytes) → n % 4 ≡ 0 → n + 4 ≤ 1048576
     → laid_from (text_layout n placed) (line ∷ lines) ≡ laid_from (text_layout (n + 4) (placed ++ placed_at n puts.statement.line puts.content ∷ [])) lines
 laid_first n placed line lines bytes puts aligned room = rw (due_is line (0x00400000 + n) bytes puts, stated_at n placed line bytes puts aligned room) refl
-
-abbrev text_alone : List ℕ → Sections
-text_alone bytes = record { text = bytes; data_bytes = [] }
 
 filled_first : (size n line_number : ℕ) (front : List ℕ) (content : Content) (rest : List Placed) (bytes : List ℕ) → bytes_of [] (0x00400000 + n) content ≡ Ok bytes
     → filled_from [] size (text_alone front) (placed_at n line_number content ∷ rest) ≡ filled_from [] size (text_alone (front ++ bytes)) rest

@@ -1,6 +1,7 @@
 -- Printed numbers as operands.
 use Rattle.std.proofs.Common.{◌≡◌, ℕ, ◌-◌, ◌^◌, ◌<◌, ◌≤◌, Bool, true, false, List, [], ◌∷◌, ◌++◌, Some, None, length, refl, sym, subst, arith}
 use Rattle.std.specs.Prelude.{◌==◌, ◌&&◌, not, nat_lt, nat_le, nat_eq, codes, if◌then◌else◌}
+use Rattle.std.proofs.lemmas.Bool.{and_parts}
 use Rattle.std.proofs.lemmas.Bool.Decides.{nat_tests}
 use Rattle.std.proofs.Math.Bool.{and-false}
 use Rattle.std.specs.List.{list_all, starts_with}
@@ -12,7 +13,7 @@ use Rattle.line_text.specs.Text.{dec_text, hex_text}
 use Rattle.asm_parse.specs.Expression.{negated, number_of}
 use Rattle.asm_parse.specs.Operand.{OperandValue, Register, Value, operand_of}
 use Rattle.mips_list.specs.WordText.{hexadecimal, signed_text}
-use Rattle.listing_law.proofs.Numbers.{list_all_weaker, is_decimal, digit_range, decimal_digits, decimal_some, number_decimal, number_negative, number_hexadecimal, numeral_word, numeral_half, hex_bytes}
+use Rattle.listing_law.proofs.Numbers.{list_all_weaker, is_decimal, digit_range, decimal_digits, decimal_some, number_decimal, number_negative, number_hexadecimal, numeral_word, numeral_half, hex_bytes, second_not_x, first_not_sign}
 use Rattle.listing_law.proofs.OperandTexts.{begins_number, number_value, operand_number, operand_register, decimal_bytes}
 
 -- a byte of an operand that is no quoted text: no blank, no comma, and neither `"` nor `#`
@@ -131,19 +132,11 @@ numeral_none most ds rest = rw (list_all-append is_decimal ds (40 ∷ rest), and
 not_hexadecimal_then : (ds rest : List ℕ) → list_all is_decimal ds ≡ true → 0 < length ds → starts_with nat_eq (ds ++ 40 ∷ rest) (codes "0x") ≡ false
 not_hexadecimal_then [] rest all some = absurd (omega arith)
 not_hexadecimal_then (c ∷ []) rest all some = and-false (48 == c)
-not_hexadecimal_then (c ∷ d ∷ ds) rest all some =
-    let digits = (and_parts (is_decimal c) (list_all is_decimal (d ∷ ds)) all).1 in
-    let x = digit_not_x d (and_parts (is_decimal d) (list_all is_decimal ds) digits).0 in rw (x, and-false (48 == c)) refl
-  where
-    digit_not_x : (d : ℕ) → is_decimal d ≡ true → (120 == d) ≡ false
-    digit_not_x d is = let r = digit_range d is in grind (arith, nat_tests)
+not_hexadecimal_then (c ∷ d ∷ ds) rest all some = let x = second_not_x c d ds all in rw (x, and-false (48 == c)) refl
 
 not_signed_then : (ds rest : List ℕ) → list_all is_decimal ds ≡ true → 0 < length ds → starts_with nat_eq (ds ++ 40 ∷ rest) (codes "-") ≡ false
 not_signed_then [] rest all some = absurd (omega arith)
-not_signed_then (c ∷ cs) rest all some = let x = digit_not_sign c (and_parts (is_decimal c) (list_all is_decimal cs) all).0 in rw x refl
-  where
-    digit_not_sign : (d : ℕ) → is_decimal d ≡ true → (45 == d) ≡ false
-    digit_not_sign d is = let r = digit_range d is in grind (arith, nat_tests)
+not_signed_then (c ∷ cs) rest all some = let x = first_not_sign c cs all in rw x refl
 
 pub decimal_then : (n : ℕ) (rest : List ℕ) → n < 2 ^ 64 → number_of (dec_text n ++ 40 ∷ rest) ≡ None
 unfolding number_of

@@ -16,6 +16,7 @@ use Rattle.std.proofs.lemmas.List.Folds.{list_all-append}
 use Rattle.std.proofs.lemmas.List.{length-append}
 use Rattle.line_text.specs.Number.{numeral_of}
 use Rattle.line_text.specs.Text.{dec_text, hex_text}
+use Rattle.line_text.proofs.HexLemmas.{hex_more}
 use Rattle.asm_parse.specs.Expression.{negated, number_of}
 
 -- what holds of each byte of which another thing holds
@@ -54,10 +55,6 @@ numeral_decimal most n small within =
     rw (lt-ltb 0 (length (dec_text n)) (decimal_some n small), decimal_digits n small, decimal_value n small, le-leb n most within) refl
 
 -- Hexadecimal digits.
-
-hex_more : (k n : ℕ) → hex_text (suc k) n ≡ hex_text k (n / 16) ++ digit_char (n % 16) ∷ []
-unfolding hex_text
-hex_more k n = refl
 
 hex_none : (n : ℕ) → hex_text zero n ≡ []
 unfolding hex_text
@@ -106,23 +103,31 @@ numeral_half n small = let writes : Writes 4 n = omega arith in numeral_hex 3 n 
 
 -- Numbers of the assembler.
 
--- decimal digits begin with neither `0x` nor a sign
-not_hexadecimal : (ds : List ℕ) → list_all is_decimal ds ≡ true → starts_with nat_eq ds (codes "0x") ≡ false
-not_hexadecimal [] all = refl
-not_hexadecimal (c ∷ []) all = and-false (48 == c)
-not_hexadecimal (c ∷ d ∷ ds) all =
-    let rest = (and_parts (is_decimal c) (list_all is_decimal (d ∷ ds)) all).1 in
-    let x = digit_not_x d (and_parts (is_decimal d) (list_all is_decimal ds) rest).0 in rw (x, and-false) refl
+-- the second of decimal digits is no `x`
+pub second_not_x : (c d : ℕ) (ds : List ℕ) → list_all is_decimal (c ∷ d ∷ ds) ≡ true → (120 == d) ≡ false
+second_not_x c d ds all =
+    let others = and_parts (is_decimal c) (list_all is_decimal (d ∷ ds)) all in
+    digit_not_x d (and_parts (is_decimal d) (list_all is_decimal ds) others.1).0
   where
     digit_not_x : (d : ℕ) → is_decimal d ≡ true → (120 == d) ≡ false
     digit_not_x d is = let r = digit_range d is in grind (arith, nat_tests)
 
-not_signed : (ds : List ℕ) → list_all is_decimal ds ≡ true → starts_with nat_eq ds (codes "-") ≡ false
-not_signed [] all = refl
-not_signed (c ∷ cs) all = let x = digit_not_sign c (and_parts (is_decimal c) (list_all is_decimal cs) all).0 in rw x refl
+-- the first is no sign
+pub first_not_sign : (c : ℕ) (cs : List ℕ) → list_all is_decimal (c ∷ cs) ≡ true → (45 == c) ≡ false
+first_not_sign c cs all = digit_not_sign c (and_parts (is_decimal c) (list_all is_decimal cs) all).0
   where
     digit_not_sign : (d : ℕ) → is_decimal d ≡ true → (45 == d) ≡ false
     digit_not_sign d is = let r = digit_range d is in grind (arith, nat_tests)
+
+-- decimal digits begin with neither `0x` nor a sign
+not_hexadecimal : (ds : List ℕ) → list_all is_decimal ds ≡ true → starts_with nat_eq ds (codes "0x") ≡ false
+not_hexadecimal [] all = refl
+not_hexadecimal (c ∷ []) all = and-false (48 == c)
+not_hexadecimal (c ∷ d ∷ ds) all = let x = second_not_x c d ds all in rw (x, and-false) refl
+
+not_signed : (ds : List ℕ) → list_all is_decimal ds ≡ true → starts_with nat_eq ds (codes "-") ≡ false
+not_signed [] all = refl
+not_signed (c ∷ cs) all = let x = first_not_sign c cs all in rw x refl
 
 pub number_decimal : (n : ℕ) → n < 2 ^ 32 → number_of (dec_text n) ≡ Some n
 unfolding number_of

@@ -4,6 +4,7 @@ use Rattle.std.specs.Prelude.{◌==◌, ◌&&◌, ◌||◌, not, nat_le, nat_eq,
 use Rattle.std.proofs.lemmas.Bool.{and_parts}
 use Rattle.std.proofs.lemmas.Bool.Decides.{nat_tests}
 use Rattle.std.proofs.Math.Seq.{take-length, drop-length}
+use lib.Dec.{eqb-suc-zero}
 use Rattle.std.specs.List.{list_all, ends_with, position_or_len}
 use Rattle.std.specs.Option.{option_map}
 use Rattle.std.specs.Char.{is_ascii_alphanumeric}
@@ -115,11 +116,8 @@ without_last xs b =
     let last : length (xs ++ b ∷ []) - 1 ≡ length xs = omega (arith, length-append xs (b ∷ [])) in
     rw (last, take_at xs (b ∷ []) (length xs) refl) refl
 
-some_length : (n : ℕ) → (suc n == 0) ≡ false
-some_length n = grind (arith, nat_tests)
-
 some_offset : (c : ℕ) (cs : List ℕ) → offset_of (c ∷ cs) ≡ expression_of (c ∷ cs)
-some_offset c cs = rw (some_length (length cs)) refl
+some_offset c cs = rw (eqb-suc-zero (length cs)) refl
 
 -- what is read of two parts, the second of which begins at the first `$`
 based_read : List ℕ → List ℕ → Option OperandValue
