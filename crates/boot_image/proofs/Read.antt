@@ -5,24 +5,20 @@ use Rattle.boot_image.specs.declared.fault.ImageWhy.TheVariants.{TooMany}
 use Rattle.std.proofs.lemmas.Bool.{eqb-true}
 use Rattle.std.specs.List.{AllByRecursion}
 use Rattle.std.specs.Int.{w16, w32, to_le_bytes, from_le_bytes}
-use Rattle.std.proofs.lemmas.List.{length-drop, length-append, length-map, take_at, drop_at, drop-drop, append-nil}
+use Rattle.std.proofs.lemmas.List.{length-drop, length-append, length-map, take_at, append-nil}
 use Rattle.std.proofs.lemmas.Nat.{from_le_bytes-to_le_bytes_2, from_le_bytes-to_le_bytes_4}
 use lib.Pointwise.{bytes_decides}
 use Rattle.boot_image.specs.declared.fault.ImageFault.{ImageFault}
 use Rattle.byte_numbers.specs.Numbers.{half_at, word_at}
 use Rattle.elf_static.specs.ElfFaults.{elf_fault}
 use Rattle.elf_static.specs.AcceptedElf.{IsAcceptedElf}
+use Rattle.elf_static.proofs.HeaderReread.{behind}
 use Rattle.boot_image.proofs.Bytes.{half_is, word_is}
 use Rattle.boot_image.specs.ImageValue.{ProgramValue, ImageValue, pages_in, quantum_in, environments_in, slots_in, slot_bytes, owner_of, first_header, name_in, base_in, stack_in, accept_in, kind_in, length_in, bytes_in, body_of, body_end, bodies_end, headers_from, headers, program_at, image_of, guaranteed_mappings}
 use Rattle.elf_static.specs.Faulting.{◌or_else◌}
 use Rattle.boot_image.specs.ImageFaults.{fault, is_within, has_magic, is_name, is_base, header_fault, slot_fault, slots_fault, owners_fault, program_header_fault, body_fault, elf_fault_at, program_fault, first_fault, trailing_fault, mappings_fault, pages_fault, image_fault}
 use Rattle.boot_image.specs.Accepted.{IsFitting, IsOwnerBelow, IsAccepted}
 use Rattle.boot_image.specs.Spelling.{Kind, Flat, Elf, EntryValue, PlanValue, kind_number, base_number, slot_byte, program_text, programs_text, image_text, program_with, programs_with, image_with, IsBody, AreBodies}
-
--- what stands behind a text
-behind : (file : List ℕ) (i : ℕ) (text rest : List ℕ) (j : ℕ) → drop i file ≡ text ++ rest → i + length text ≡ j → drop j file ≡ rest
-behind file i text rest j stands ends =
-    ap (λ (k : ℕ). drop k file) (sym ends) ∙ sym (drop-drop (length text) i file) ∙ ap (drop (length text)) stands ∙ drop_at text rest (length text) refl
 
 -- a file is as long as what stands in it
 long : (file : List ℕ) (i : ℕ) (text rest : List ℕ) → drop i file ≡ text ++ rest → 0 < length text → i + length text ≤ length file
