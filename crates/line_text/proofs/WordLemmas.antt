@@ -9,7 +9,6 @@ use Rattle.std.proofs.lemmas.List.Splits.{slice_split-cons_yes, slice_split-cons
 use Rattle.std.proofs.lemmas.List.Sums.{fails_before_first}
 use Rattle.std.specs.Prelude.{◌-◌, not}
 use Rattle.std.specs.List.{All, filter, list_all, onto_first, position, position_or_len, slice_split}
-use Rattle.std.proofs.lemmas.Bool.{and_parts}
 use Rattle.line_text.specs.Characters.{is_blank}
 use Rattle.line_text.specs.Words.{before_comment, is_word, words_in, words_of}
 

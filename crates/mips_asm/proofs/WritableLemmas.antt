@@ -6,7 +6,6 @@ use Rattle.line_text.specs.declared.failure.Failure.{Failure}
 use Rattle.line_text.specs.declared.failure.LineFault.{LineFault}
 use Rattle.line_text.specs.Failing.{Gives, fault_at}
 use Rattle.asm_parse.specs.declared.fault.AsmWhy.{AsmWhy}
-use Rattle.asm_parse.specs.declared.fault.AsmWhy.{AsmWhy}
 use Rattle.asm_parse.specs.declared.fault.AsmWhy.TheVariants.{Empty, OutOfRange, Unaligned}
 use Rattle.elf_static.specs.ObjectValue.{ObjectValue, PartValue}
 use Rattle.elf_static.specs.Writable.{IsWritable}
