@@ -1,7 +1,8 @@
 -- What a read tells.
-use Rattle.std.specs.Prelude.{◌≡◌, ℕ, List, [], ◌∷◌, Option, Some, None, Result, Ok, Err, ⊤, IsSomeAnd, String, Vec, option_map}
+use Rattle.std.specs.Prelude.{◌≡◌, ℕ, ◌≤◌, List, [], ◌∷◌, ◌++◌, Option, Some, None, Result, Ok, Err, ⊤, IsSomeAnd, String, Vec, length, map, option_map}
 use Rattle.std.specs.Global.{Global}
 use Rattle.std.specs.String.{string_bytes}
+use Rattle.edge_io.specs.Limits.{file_limit}
 use Rattle.edge_io.specs.declared.shelf.ReadFail.{ReadFail}
 use Rattle.edge_io.specs.declared.shelf.ReadFail.TheVariants.{Failed, OutOfMemory}
 
@@ -15,19 +16,17 @@ abbrev pub IsFileOf : Option (List ℕ → Option (List ℕ)) → List ℕ → O
 IsFileOf None name left = ⊤
 IsFileOf (Some files) name left = IsSomeAnd left (λ bytes. files name ≡ Some bytes)
 
--- the bytes that a read answered, if it answered any
-abbrev pub answered : Result (Vec ℕ Global) ReadFail → Option (List ℕ)
-answered (Ok v) = Some v.items
-answered (Err why) = None
+-- what files hold
+abbrev pub held : List (Vec ℕ Global) → List (List ℕ)
+held files = map (λ (file : Vec ℕ Global). file.items) files
 
--- The reads that took a shelf from one state to another were of these names, one after another, and answered these
--- bytes, or none.
-abbrev pub AreAsked : {S : Type 0} → (S → List ℕ → Option (List ℕ) → S → Type 0) → S → List (List ℕ) → List (Option (List ℕ)) → S → Type 0
-AreAsked Asked before [] [] after = after ≡ before
-AreAsked Asked before [] (answer ∷ answers) after = ⊥
-AreAsked Asked before (name ∷ names) [] after = ⊥
-AreAsked {S} Asked before (name ∷ names) (answer ∷ answers) after =
-    (between : S) × Asked before name answer between × AreAsked Asked between names answers after
+-- One content more was read, by this name, behind those before: the one that is told of the name, where one is. It is
+-- no longer than a file may be.
+pub record Gains (told : Option (List ℕ → Option (List ℕ))) (name : List ℕ) (before after : List (List ℕ)) : Type 0 where
+  pub bytes : List ℕ
+  pub appended : after ≡ before ++ bytes ∷ []
+  pub is_told : Tells told name bytes
+  pub within_limit : length bytes ≤ file_limit
 
 -- the fact holds where the read failed for another cause than want of memory
 abbrev pub OnFailed : {T : Type 0} → Result T ReadFail → Type 0 → Type 0

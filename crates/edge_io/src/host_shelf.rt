@@ -1,15 +1,16 @@
 //! Files in a folder, as the host's.
-ghost use Rattle.std.specs.Prelude.{◌≡◌, ◌<◌, ◌≤◌, None, IfOk, IfSome, IsErr, length};
-ghost use Rattle.edge_io.specs.Faults.{one_more};
+ghost use Rattle.std.specs.Prelude.{◌≡◌, ◌<◌, ◌≤◌, [], None, IfOk, IfSome, IsErr, length, map, string_bytes};
 ghost use Rattle.edge_io.specs.Limits.{file_limit};
-ghost use Rattle.edge_io.specs.Reads.{Tells, name_bytes};
+ghost use Rattle.edge_io.specs.Reads.{Tells, held, name_bytes};
 
 use crate::folder::{Folder, Opened};
+use crate::readings::Readings;
 use crate::shelf::{FILE_LIMIT, ReadFail, Shelf};
 use std::alloc::Global;
 use std::io::Read;
 
-/// The files of a folder. It tells of them what the folder tells: of the host's, nothing.
+/// The files of a folder. It tells of them what the folder tells: of the host's, nothing. What it
+/// read it keeps.
 #[derive(Drop)]
 pub struct HostShelf<D: Folder> {
     folder: D,
@@ -19,20 +20,28 @@ pub struct HostShelf<D: Folder> {
     pub faults: u64,
     /// The name of the read that failed last.
     pub failed: Option<String>,
+    /// How many reads there were once it had failed, or 0.
+    pub failed_call: u64,
+    /// The files that were read.
+    pub kept: Readings,
 }
 
 impl<D: Folder> HostShelf<D> {
-    /// A shelf over this folder, with no call and no fault so far.
-    pub fn new(folder: D) -> HostShelf<D>
+    /// A shelf over this folder, with no call, no fault and no file so far.
+    pub fn new(alloc: Global, folder: D) -> HostShelf<D>
         ensures no_calls { result.calls ≡ 0 }
         ensures no_faults { result.faults ≡ 0 }
         ensures none_failed { result.failed ≡ None }
+        ensures none_named { map string_bytes result.kept.names.items ≡ [] }
+        ensures none_read { held result.kept.contents.items ≡ [] }
     {
         HostShelf {
             folder,
             calls: 0,
             faults: 0,
             failed: None,
+            failed_call: 0,
+            kept: Readings::new(alloc),
         }
     }
 }
@@ -71,23 +80,39 @@ fn read_file<D: Folder>(folder: &D, alloc: Global, name: &str) -> Result<Vec<u8>
 impl<D: Folder> Shelf for HostShelf<D> {
     ghost told = { λ s. D.told s.folder };
 
-    ghost Asked = { λ s _ _ t. (t.folder ≡ s.folder) × (t.calls ≡ one_more s.calls) };
+    ghost names_read = { λ s. map string_bytes s.kept.names.items };
+
+    ghost contents_read = { λ s. held s.kept.contents.items };
+
+    ghost calls = { λ s. s.calls };
 
     ghost faults = { λ s. s.faults };
 
     ghost failed = { λ s. name_bytes s.failed };
 
+    ghost failed_call = { λ s. s.failed_call };
+
     // Nothing is sure of the host.
     ghost Serves = { λ _ _. ⊥ };
 
-    fn read(&mut self, alloc: Global, name: &str) -> Result<Vec<u8>, ReadFail> {
+    ghost Refuses = { λ _. ⊥ };
+
+    fn read(&mut self, alloc: Global, name: &str) -> Result<(), ReadFail> {
         self.calls = self.calls.saturating_add(1);
         let title = String::from_str(alloc, name)?;
-        let answer = read_file(&self.folder, alloc, name);
-        if let Err(ReadFail::Failed) = answer {
-            self.faults = self.faults.saturating_add(1);
-            self.failed = Some(title);
+        match read_file(&self.folder, alloc, name) {
+            Ok(bytes) => Ok(self.kept.keep(title, bytes)?),
+            Err(ReadFail::Failed) => {
+                self.faults = self.faults.saturating_add(1);
+                self.failed = Some(title);
+                self.failed_call = self.calls;
+                Err(ReadFail::Failed)
+            }
+            Err(ReadFail::OutOfMemory) => Err(ReadFail::OutOfMemory),
         }
-        answer
+    }
+
+    fn contents(&self) -> &[Vec<u8>] {
+        &self.kept.contents
     }
 }

@@ -44,10 +44,9 @@ fn write_some<W: Write>(out: &mut W, piece: &[u8]) -> Option<usize>
 }
 
 impl<W: Write> Sink for HostSink<W> {
-    ghost use Rattle.std.specs.Prelude.{◌≡◌, ℕ, ◌-◌, ◌<◌, ◌≤◌, None, IsOk, IfOk, OnOk, OnErr, length, take};
+    ghost use Rattle.std.specs.Prelude.{◌≡◌, ◌<◌, ◌≤◌, None, IfOk, OnOk, OnErr, length};
     ghost use Rattle.std.specs.Io.KnownBytes.{WriteAppends};
     ghost use Rattle.edge_io.specs.Faults.{one_more};
-    ghost use Rattle.edge_io.specs.Written.{Appends};
 
     ghost written = { λ _. None };
 
@@ -62,14 +61,12 @@ impl<W: Write> Sink for HostSink<W> {
 
         ensures told { WriteAppends (W.contents self.old.out) (W.contents self.new.out) result piece.now }
 
-        // What every sink ensures.
+        // What every sink ensures, as far as the clause above and the members don't say it.
         ensures some_taken { IfOk result (λ n. 0 < n) }
         ensures within_piece { IfOk result (λ n. n ≤ length piece.now) }
-        ensures appended { IfOk result (λ n. Appends None None (take n piece.now)) }
         ensures no_fault { OnOk result (self.new.faults ≡ self.old.faults) }
         ensures failed_counted { OnErr result (self.new.faults ≡ one_more self.old.faults) }
         ensures never_falls { self.old.faults ≤ self.new.faults }
-        ensures sure { (k : ℕ) → ⊥ → length piece.now ≤ k → IsOk result }
     {
         match write_some(&mut self.out, piece) {
             Some(n) => Ok(n),

@@ -1,8 +1,7 @@
 //! What files are read from.
-ghost use Rattle.std.specs.Prelude.{◌≡◌, ◌↔◌, ℕ, ◌≤◌, List, Option, Some, IfOk, length};
+ghost use Rattle.std.specs.Prelude.{◌≡◌, ◌↔◌, ℕ, ◌≤◌, List, [], ◌∷◌, ◌++◌, Option, Some, OnOk, OnErr};
 ghost use Rattle.edge_io.specs.Faults.{one_more};
-ghost use Rattle.edge_io.specs.Limits.{file_limit};
-ghost use Rattle.edge_io.specs.Reads.{Tells, OnFailed, UnlessFailed, answered};
+ghost use Rattle.edge_io.specs.Reads.{Gains, OnFailed, UnlessFailed, held};
 ghost use Rattle.std.specs.IoError.{error_kind};
 ghost use Rattle.std.specs.declared.io.ErrorKind.TheVariants as kind;
 ghost use Rattle.edge_io.specs.declared.shelf.ReadFail.TheVariants.{OutOfMemory};
@@ -20,7 +19,7 @@ pub enum ReadFail {
     /// The file couldn't be read, there is none, or it has more than `FILE_LIMIT` bytes. The shelf
     /// counted it as a fault.
     Failed,
-    /// No memory was found for the name or for the bytes.
+    /// No memory was found for the name or for the bytes, or to keep them.
     OutOfMemory,
 }
 
@@ -52,13 +51,19 @@ impl From<io::Error> for ReadFail {
     }
 }
 
-/// Files by name.
+/// Files by name. A shelf keeps the files that it read, and lends their contents.
 pub trait Shelf {
     // The bytes of each name, where the shelf says what it holds. No call changes it.
     ghost told: { Self → Option (List ℕ → Option (List ℕ)) };
 
-    // One read, of this name, answered these bytes, or none, and took the shelf from the first state to the second.
-    ghost Asked: { Self → List ℕ → Option (List ℕ) → Self → Type 0 };
+    // The names of the files that were read, in the order of the reads.
+    ghost names_read: { Self → List (List ℕ) };
+
+    // Their contents, in the same order.
+    ghost contents_read: { Self → List (List ℕ) };
+
+    // How many reads there were, whatever they answered. It stays at the counter's last value.
+    ghost calls: { Self → ℕ };
 
     // How many reads failed. It stays at the counter's last value.
     ghost faults: { Self → ℕ };
@@ -66,24 +71,42 @@ pub trait Shelf {
     // The name of the read that failed last.
     ghost failed: { Self → Option (List ℕ) };
 
+    // How many reads there were once it had failed.
+    ghost failed_call: { Self → ℕ };
+
     // A read of this name is sure not to fail but for want of memory.
     ghost Serves: { Self → List ℕ → Type 0 };
 
-    /// The bytes of the file of this name, at most `FILE_LIMIT`. The memory for the name is taken
-    /// first, so that a shelf can keep the name of a read that fails.
-    fn read(&mut self, alloc: Global, name: &str) -> Result<Vec<u8>, ReadFail>
-        ensures same_files { told self.new ≡ told self.old }
-        ensures bytes { IfOk result (λ v. Tells (told self.old) name.now v.items) }
-        ensures within_limit { IfOk result (λ v. length v.items ≤ file_limit) }
-        ensures asked { Asked self.old name.now (answered result) self.new }
+    // The next read is sure to give no bytes.
+    ghost Refuses: { Self → Type 0 };
 
-        // A failure is counted and named; any other answer leaves count and name.
+    /// Reads the file of this name, of at most `FILE_LIMIT` bytes, and keeps its name and its bytes
+    /// behind those of the files before. The memory for the name is taken first, so that a shelf can
+    /// keep the name of a read that fails.
+    fn read(&mut self, alloc: Global, name: &str) -> Result<(), ReadFail>
+        ensures same_files { told self.new ≡ told self.old }
+        ensures call_counted { calls self.new ≡ one_more (calls self.old) }
+
+        // The name and the bytes of a file that was read are kept; any other answer leaves both lists.
+        ensures name_kept { OnOk result (names_read self.new ≡ names_read self.old ++ name.now ∷ []) }
+        ensures bytes_kept { OnOk result (Gains (told self.old) name.now (contents_read self.old) (contents_read self.new)) }
+        ensures else_names { OnErr result (names_read self.new ≡ names_read self.old) }
+        ensures else_contents { OnErr result (contents_read self.new ≡ contents_read self.old) }
+
+        // A failure is counted, named and numbered; any other answer leaves count, name and number.
         ensures failed_counted { OnFailed result (faults self.new ≡ one_more (faults self.old)) }
         ensures failed_named { OnFailed result (failed self.new ≡ Some name.now) }
+        ensures failed_numbered { OnFailed result (failed_call self.new ≡ calls self.new) }
         ensures else_count { UnlessFailed result (faults self.new ≡ faults self.old) }
         ensures else_name { UnlessFailed result (failed self.new ≡ failed self.old) }
+        ensures else_number { UnlessFailed result (failed_call self.new ≡ failed_call self.old) }
         ensures never_falls { faults self.old ≤ faults self.new }
 
         ensures served { OnFailed result (¬ Serves self.old name.now) }
-        ensures serves_on { (n : List ℕ) → Serves self.old n → Serves self.new n };
+        ensures serves_on { (n : List ℕ) → Serves self.old n → Serves self.new n }
+        ensures refused { OnOk result (¬ Refuses self.old) };
+
+    /// The contents of all files that were read, in the order of the reads.
+    fn contents(&self) -> &[Vec<u8>]
+        ensures { held result.now ≡ contents_read self.now };
 }

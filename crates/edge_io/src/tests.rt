@@ -55,10 +55,14 @@ impl Folder for Drawer {
 #[test]
 fn a_file_is_read_whole_or_not_at_all(rt: HostRuntime) -> Result<(), Fail> {
     for (forecast, fails_at) in [(0usize, 6usize), (2, 6), (5, 6), (9, 6), (5, 5), (5, 1)] {
-        let mut shelf = HostShelf::new(Drawer { forecast, fails_at });
-        match shelf.read(rt.alloc(), "hello.txt") {
-            Ok(bytes) => assert_eq!(rt; (bytes.as_slice(), fails_at), (HELLO.as_slice(), 6)),
-            Err(fail) => assert!(rt; matches!(fail, ReadFail::Failed) && fails_at < 6),
+        let mut shelf = HostShelf::new(rt.alloc(), Drawer { forecast, fails_at });
+        let answer = shelf.read(rt.alloc(), "hello.txt");
+        match (answer, shelf.contents()) {
+            (Ok(()), [bytes]) => {
+                assert_eq!(rt; (bytes.as_slice(), fails_at), (HELLO.as_slice(), 6));
+            }
+            (Err(ReadFail::Failed), []) => assert!(rt; fails_at < 6),
+            _ => return Err(Fail::new("a read that neither kept its file nor failed")),
         }
         assert_eq!(rt; (shelf.calls, shelf.faults == 1), (1, fails_at < 6));
     }
