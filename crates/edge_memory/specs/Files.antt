@@ -1,12 +1,10 @@
 -- Files by name.
-use Rattle.std.specs.Prelude.{◌≡◌, ◌⊎◌, ℕ, ◌==◌, ◌≤◌, List, [], Bool, Option, Some, None, option_map, IfSome, IsSomeAnd, String, Vec, length, nat_le, if◌then◌else◌}
+use Rattle.std.specs.Prelude.{◌≡◌, ℕ, ◌==◌, ◌≤◌, List, [], Bool, Option, Some, None, option_map, IsSomeAnd, String, Vec, length, nat_le, if◌then◌else◌}
 use Rattle.std.specs.List.{find, list_any}
 use Rattle.std.specs.String.{string_bytes}
 use Rattle.std.specs.Str.{bytes_eq}
 use Rattle.std.specs.Global.{Global}
-use Rattle.edge_io.specs.Faults.{one_more}
 use Rattle.edge_io.specs.Limits.{file_limit}
-use Rattle.edge_io.specs.Reads.{name_bytes}
 use Rattle.edge_memory.specs.declared.shelf.MemoryShelf.{MemoryShelf}
 
 -- a file: its name and its bytes
@@ -42,12 +40,3 @@ abbrev pub IsSureOf : MemoryShelf → List ℕ → Type 0
 IsSureOf shelf name =
     (shelf.fails.items ≡ [])
     × IsSomeAnd (file_named shelf.files.items name) (λ bytes. length bytes ≤ file_limit)
-
--- One read, of this name: a call more, over the same files. What it answered is what it found, and no other name than
--- this failed in it.
-pub record WasAsked (before : MemoryShelf) (name : List ℕ) (answer : Option (List ℕ)) (after : MemoryShelf) : Type 0 where
-  pub counted : after.calls ≡ one_more before.calls
-  pub same_files : after.files ≡ before.files
-  pub same_fails : after.fails ≡ before.fails
-  pub found : IfSome answer (λ bytes. found before name ≡ Some bytes)
-  pub failed : (after.failed ≡ before.failed) ⊎ (name_bytes after.failed ≡ Some name)

@@ -56,10 +56,9 @@ impl MemorySink {
 }
 
 impl Sink for MemorySink {
-    ghost use Rattle.std.specs.Prelude.{◌≡◌, ℕ, ◌-◌, ◌<◌, ◌≤◌, ◌++◌, true, false, Some, IsOk, IsErr, IfOk, OnOk, OnErr, length, take};
+    ghost use Rattle.std.specs.Prelude.{◌≡◌, ◌<◌, ◌≤◌, ◌++◌, true, false, Some, IsErr, IfOk, OnOk, OnErr, length, take};
     ghost use Rattle.edge_io.specs.Faults.{one_more};
     ghost use Rattle.edge_memory.specs.Room.{HasRoomFor, is_refused, is_set_to_fail, taken_of};
-    ghost use Rattle.edge_io.specs.Written.{Appends};
 
     ghost written = { λ s. Some s.bytes.items };
 
@@ -84,16 +83,9 @@ impl Sink for MemorySink {
         ensures same_room { self.new.room ≡ self.old.room }
         ensures same_most { self.new.most ≡ self.old.most }
 
-        // What every sink ensures.
-        ensures some_taken { IfOk result (λ n. 0 < n) }
-        ensures within_piece { IfOk result (λ n. n ≤ length piece.now) }
-        ensures appended { IfOk result (λ n.
-            Appends (Some self.old.bytes.items) (Some self.new.bytes.items) (take n piece.now)) }
+        // What every sink ensures, as far as the clauses above don't say it.
         ensures no_fault { OnOk result (self.new.faults ≡ self.old.faults) }
         ensures never_falls { self.old.faults ≤ self.new.faults }
-        ensures sure { (k : ℕ) → HasRoomFor self.old k → length piece.now ≤ k → IsOk result }
-        ensures sure_of_rest { IfOk result (λ n.
-            (k : ℕ) → HasRoomFor self.old k → HasRoomFor self.new (k - n)) }
     {
         let call = self.calls;
         self.calls = call.saturating_add(1);
