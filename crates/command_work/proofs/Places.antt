@@ -3,7 +3,8 @@ use Rattle.std.proofs.Common.{◌≡◌, ◌<◌, ℕ, zero, suc, List, [], ◌�
 use Rattle.std.specs.Prelude.{Vec, slice_index_or}
 use Rattle.std.specs.Global.{Global}
 use Rattle.std.specs.List.{AllByRecursion}
-use Rattle.command_work.specs.Command.{IsShort, content, held}
+use Rattle.edge_io.specs.Reads.{held}
+use Rattle.command_work.specs.Command.{IsShort, content}
 
 -- what the file at a place holds
 pub content_at : (files : List (Vec ℕ Global)) (place : ℕ) (file : Vec ℕ Global) → file ≡ slice_index_or files place file → place < length files → content (held files) place ≡ file.items

@@ -1,12 +1,12 @@
 -- Reads one after another.
-use Rattle.std.proofs.Common.{◌≡◌, ℕ, zero, suc, ◌+◌, ◌≤◌, List, [], ◌∷◌, ◌++◌, Option, Some, None, IfSome, length, map, take, Result, Ok, Err, IfErr, IsErrAnd, refl, sym, ◌∙◌, ap, subst, arith, add-one, append_assoc}
-use Rattle.std.specs.Prelude.{◌<◌, String, Vec, slice_get, slice_index_or, string_bytes}
+use Rattle.std.proofs.Common.{◌≡◌, ℕ, zero, suc, ◌+◌, ◌≤◌, List, [], ◌∷◌, ◌++◌, Option, Some, None, IfSome, drop, length, map, take, Result, Ok, Err, IfErr, IsErrAnd, refl, sym, ◌∙◌, ap, subst, arith, add-one, append_assoc}
+use Rattle.std.specs.Prelude.{◌<◌, String, slice_get, slice_index_or, string_bytes}
 use Rattle.std.specs.Global.{Global}
 use Rattle.std.specs.List.{AllByRecursion}
-use Rattle.std.proofs.lemmas.List.{append-nil, length-append, length-take, map-append, take-append-le}
-use Rattle.std.proofs.Math.Seq.{take-append-add, take-append_seam, take-length}
-use Rattle.edge_io.specs.Faults.{one_more}
-use Rattle.edge_io.specs.Reads.{AreAsked, OnFailed, Tells, UnlessFailed}
+use Rattle.std.proofs.lemmas.List.{append-nil, length-append, length-take, take-append-le}
+use Rattle.std.proofs.Math.Seq.{drop-append_seam, take-append-add, take-append_seam, take-length}
+use Rattle.edge_io.specs.Faults.{one_more, raised}
+use Rattle.edge_io.specs.Reads.{Gains, OnFailed, Tells, UnlessFailed}
 use Rattle.edge_io.specs.declared.shelf.ReadFail.{ReadFail}
 use Rattle.edge_io.specs.declared.shelf.ReadFail.TheVariants.{Failed, OutOfMemory}
 use Rattle.edge_io.specs.declared.shelf.Shelf.{Ghosts as OfShelf}
@@ -16,7 +16,7 @@ use Rattle.command_work.specs.declared.work.Stop.TheVariants as stop
 use Rattle.command_work.specs.Command.{CommandValue, IsShort, names_of}
 use Rattle.command_work.specs.Due.{Due}
 use Rattle.command_work.specs.Edges.{ShelfEdge, shelf_edge}
-use Rattle.command_work.specs.Files.{Names, AreRead, CameFar, CameTo, IsServed, WereRead, all_answered, at_most_one, just, names_so_far, next_name, not_answered}
+use Rattle.command_work.specs.Files.{Names, AreRead, CameTo, Got, IsServed, WereRead, got_contents, just, names_so_far, next_name, reads_of}
 use Rattle.command_work.specs.Stopping.{stop_of}
 use Rattle.command_work.specs.Work.{IsSettled, Performed, Stopped, StopsByWantAlone}
 
@@ -33,18 +33,36 @@ read_append told [] more (b ∷ contents) others read then_read = absurd read
 read_append told (n ∷ names) more [] others read then_read = absurd read
 read_append told (n ∷ names) more (b ∷ contents) others read then_read = (read.0, read_append told names more contents others read.1 then_read)
 
--- what was asked for, and then more
-pub asked_append : {S : Type 0} (Asked : S → List ℕ → Option (List ℕ) → S → Type 0) (before between after : S) (names more : List (List ℕ)) (answers others : List (Option (List ℕ)))
-    → AreAsked Asked before names answers between → AreAsked Asked between more others after → AreAsked Asked before (names ++ more) (answers ++ others) after
-asked_append Asked before between after [] more [] others asked next = subst (λ s. AreAsked Asked s more others after) asked next
-asked_append Asked before between after [] more (a ∷ answers) others asked next = absurd asked
-asked_append Asked before between after (n ∷ names) more [] others asked next = absurd asked
-asked_append Asked before between after (n ∷ names) more (a ∷ answers) others asked next = (asked.0, asked.1, asked_append Asked asked.0 between after names more answers others asked.2 next)
+-- so many higher, and then more
+raised_twice : (count m n : ℕ) → raised (raised count m) n ≡ raised count (m + n)
+raised_twice count m zero = let same : m ≡ m + 0 = omega arith in ap (raised count) same
+raised_twice count m (suc n) =
+    let same : suc (m + n) ≡ m + suc n = omega arith in
+    ap one_more (raised_twice count m n) ∙ ap (raised count) same
 
--- one name more was asked for
-pub asked_one : {S : Type 0} (Asked : S → List ℕ → Option (List ℕ) → S → Type 0) (before between after : S) (names : List (List ℕ)) (answers : List (Option (List ℕ))) (name : List ℕ) (answer : Option (List ℕ))
-    → AreAsked Asked before names answers between → Asked between name answer after → AreAsked Asked before (names ++ name ∷ []) (answers ++ answer ∷ []) after
-asked_one Asked before between after names answers name answer asked next = asked_append Asked before between after names (name ∷ []) answers (answer ∷ []) asked (after, next, refl)
+-- what is lent from where the call began is what the shelf got
+pub got_is : (s : ShelfEdge) (names contents : List (List ℕ)) (more : ℕ) → Got s names contents more → got_contents s ≡ contents
+got_is s names contents more g = ap (drop (length s.contents_before)) g.contents_read ∙ drop-append_seam s.contents_before contents
+
+module _ {S : Type 0} (of : OfShelf S) where
+  -- nothing was read
+  pub got_none : (before : S) → Got (shelf_edge of before before) [] [] 0
+  got_none before = record {
+    names_read = sym (append-nil (of.names_read before));
+    contents_read = sym (append-nil (of.contents_read before));
+    calls = refl;
+  }
+
+  -- some files were read, and then more
+  pub got_both : (before between after : S) (names more contents others : List (List ℕ)) (n : ℕ) → Got (shelf_edge of before between) names contents 0 → Got (shelf_edge of between after) more others n
+      → Got (shelf_edge of before after) (names ++ more) (contents ++ others) n
+  got_both before between after names more contents others n first next =
+      let count : length contents + 0 + (length others + n) ≡ length (contents ++ others) + n = omega (arith, length-append contents others) in
+      record {
+        names_read = next.names_read ∙ ap (λ (ns : List (List ℕ)). ns ++ more) first.names_read ∙ append_assoc (of.names_read before) names more;
+        contents_read = next.contents_read ∙ ap (λ (cs : List (List ℕ)). cs ++ others) first.contents_read ∙ append_assoc (of.contents_read before) contents others;
+        calls = next.calls ∙ ap (λ (c : ℕ). raised c (length others + n)) first.calls ∙ raised_twice (of.calls before) (length contents + 0) (length others + n) ∙ ap (raised (of.calls before)) count;
+      }
 
 -- as many were read as names
 pub read_length : (told : Option (List ℕ → Option (List ℕ))) (names contents : List (List ℕ)) → AreRead told names contents → length contents ≡ length names
@@ -73,19 +91,19 @@ wants_alike why (Ok v) wants is = tt
 wants_alike why (Err w) wants is = is ∙ wants
 
 -- a read that is served stops the work for want of memory alone
-pub wants_by_read : {U : Type 0} (e : ReadFail) (r : Result U Stop) (P : Type 0) → OnFailed {T = Vec ℕ Global} (Err e) (¬ P) → P → IsErrAnd r (λ why. why ≡ stop_of e) → StopsByWantAlone r
-wants_by_read e (Ok v) P unserved served is = tt
-wants_by_read Failed (Err why) P unserved served is = absurd (unserved served)
-wants_by_read OutOfMemory (Err why) P unserved served is = is
+pub wants_by_read : {U : Type 0} (T : Type 0) (e : ReadFail) (r : Result U Stop) (P : Type 0) → OnFailed {T = T} (Err e) (¬ P) → P → IsErrAnd r (λ why. why ≡ stop_of e) → StopsByWantAlone r
+wants_by_read T e (Ok v) P unserved served is = tt
+wants_by_read T Failed (Err why) P unserved served is = absurd (unserved served)
+wants_by_read T OutOfMemory (Err why) P unserved served is = is
 
 -- a read that answered nothing stops the reading
-stopped_by : (names : Names) (s : ShelfEdge) (name : List ℕ) (e : ReadFail) (before : ℕ) → CameTo names s (Some name) → before ≡ s.faults_before
-    → OnFailed {T = Vec ℕ Global} (Err e) (s.faults_after ≡ one_more before) → OnFailed {T = Vec ℕ Global} (Err e) (s.failed ≡ Some name) → UnlessFailed {T = Vec ℕ Global} (Err e) (s.faults_after ≡ before)
+stopped_by : (T : Type 0) (names : Names) (s : ShelfEdge) (name : List ℕ) (e : ReadFail) (before : ℕ) → CameTo names s (Some name) → before ≡ s.faults_before
+    → OnFailed {T = T} (Err e) (s.faults_after ≡ one_more before) → OnFailed {T = T} (Err e) (s.failed ≡ Some name) → OnFailed {T = T} (Err e) (s.failed_call ≡ s.calls_after) → UnlessFailed {T = T} (Err e) (s.faults_after ≡ before)
     → Stopped names s (stop_of e)
-stopped_by names s name Failed before came same counted named kept = record { name = name; came = came; failed = named; fault = counted ∙ ap one_more same }
-stopped_by names s name OutOfMemory before came same counted named kept = record { last = Some name; came = came; no_fault = kept ∙ same }
+stopped_by T names s name Failed before came same counted named numbered kept = record { name = name; came = came; failed = named; last = numbered; fault = counted ∙ ap one_more same }
+stopped_by T names s name OutOfMemory before came same counted named numbered kept = record { last = Some name; came = came; no_fault = kept ∙ same }
 
--- All of the names were read, and no more was asked for.
+-- All of the names were read, and there was no other read.
 pub came_all : (names : Names) (s : ShelfEdge) (contents : List (List ℕ)) → WereRead names s contents → CameTo names s None
 came_all names s contents w =
     let whole : names contents ≡ names_so_far names contents
@@ -94,71 +112,101 @@ came_all names s contents w =
       contents = contents;
       read = subst (λ (ns : List (List ℕ)). AreRead s.told ns contents) whole w.read;
       is_next = tt;
-      asked = subst (λ (ns : List (List ℕ)). s.Asked ns (all_answered contents ++ [])) (whole ∙ sym (append-nil (names_so_far names contents)))
-          (subst (λ (answers : List (Option (List ℕ))). s.Asked (names contents) answers) (sym (append-nil (all_answered contents))) w.asked);
+      got = subst (λ (ns : List (List ℕ)). Got s ns contents 0) whole w.got;
     }
 
 -- where all were read, the work stops for want of memory alone
 pub stopped_by_want : {U : Type 0} (names : Names) (s : ShelfEdge) (contents : List (List ℕ)) (r : Result U Stop) → WereRead names s contents → IsErrAnd r (λ why. why ≡ stop.OutOfMemory) → IfErr r (Stopped names s)
 stopped_by_want names s contents r w is = stops names s stop.OutOfMemory r (record { last = None; came = came_all names s contents w; no_fault = w.no_fault }) is
 
--- so many files of the names were read, one after another
-module _ {S : Type 0} (of : OfShelf S) (before between after : S) (names contents : List (List ℕ)) (i : ℕ) (read : AreRead (of.told before) (take i names) contents)
-    (asked : AreAsked of.Asked before (take i names) (all_answered contents) between) (count : length contents ≡ i) (same : of.faults between ≡ of.faults before) where
-  -- and then one was asked for that answered nothing
-  pub came_to : (name : List ℕ) → slice_get names i ≡ Some name → of.Asked between name None after → CameTo (just names) (shelf_edge of before after) (Some name)
-  came_to name is next = record {
-    contents = contents;
-    read = subst (λ (n : ℕ). AreRead (of.told before) (take n names) contents) (sym count) read;
-    is_next = subst (λ (n : ℕ). slice_get names n ≡ Some name) (sym count) is;
-    asked = subst (λ (n : ℕ). AreAsked of.Asked before (take n names ++ name ∷ []) (all_answered contents ++ None ∷ []) after) (sym count)
-        (asked_one of.Asked before between after (take i names) (all_answered contents) name None asked next);
-  }
-
-  pub read_stops : {U : Type 0} (name : List ℕ) (e : ReadFail) (r : Result U Stop) → slice_get names i ≡ Some name → of.Asked between name None after
-      → OnFailed {T = Vec ℕ Global} (Err e) (of.faults after ≡ one_more (of.faults between)) → OnFailed {T = Vec ℕ Global} (Err e) (of.failed after ≡ Some name)
-      → UnlessFailed {T = Vec ℕ Global} (Err e) (of.faults after ≡ of.faults between) → IsErrAnd r (λ why. why ≡ stop_of e) → IfErr r (Stopped (just names) (shelf_edge of before after))
-  read_stops name e r is next counted named kept gave =
-      stops (just names) (shelf_edge of before after) (stop_of e) r (stopped_by (just names) (shelf_edge of before after) name e (of.faults between) (came_to name is next) same counted named kept) gave
-
-  -- or memory was wanting
-  pub want_stops : {U : Type 0} (r : Result U Stop) → after ≡ between → IsErrAnd r (λ why. why ≡ stop.OutOfMemory) → IfErr r (Stopped (just names) (shelf_edge of before after))
-  want_stops r is gave =
-      stops (just names) (shelf_edge of before after) stop.OutOfMemory r
-      (record {
-        last = None;
-        came = record {
-          contents = contents;
-          read = subst (λ (n : ℕ). AreRead (of.told before) (take n names) contents) (sym count) read;
-          is_next = tt;
-          asked = subst (λ (ns : List (List ℕ)). AreAsked of.Asked before ns (all_answered contents ++ []) after) (ap (λ (n : ℕ). take n names) (sym count) ∙ sym (append-nil (take (length contents) names)))
-              (subst (λ (answers : List (Option (List ℕ))). AreAsked of.Asked before (take i names) answers after) (sym (append-nil (all_answered contents)))
-              (subst (λ (s : S). AreAsked of.Asked before (take i names) (all_answered contents) s) (sym is) asked));
-        };
-        no_fault = ap of.faults is ∙ same;
-      })
-      gave
-
--- nothing was asked for
-pub none_asked : {S : Type 0} (of : OfShelf S) (names : Names) (before : S) → CameFar names (shelf_edge of before before)
-none_asked of names before = record {
-  last = None;
-  came = record { contents = []; read = tt; is_next = tt; asked = refl };
-  no_fault = refl;
-}
-
 -- one more of the names was read
-pub read_one : (told : Option (List ℕ → Option (List ℕ))) (names contents : List (List ℕ)) (i : ℕ) (name bytes : List ℕ) → slice_get names i ≡ Some name → AreRead told (take i names) contents → Tells told name bytes
+read_one : (told : Option (List ℕ → Option (List ℕ))) (names contents : List (List ℕ)) (i : ℕ) (name bytes : List ℕ) → slice_get names i ≡ Some name → AreRead told (take i names) contents → Tells told name bytes
     → AreRead told (take (i + 1) names) (contents ++ bytes ∷ [])
 read_one told names contents i name bytes is read tells =
     subst (λ (ns : List (List ℕ)). AreRead told ns (contents ++ bytes ∷ [])) (sym (take_next names i name is)) (read_append told (take i names) (name ∷ []) contents (bytes ∷ []) read (tells, tt))
 
-pub asked_next : {S : Type 0} (Asked : S → List ℕ → Option (List ℕ) → S → Type 0) (before between after : S) (names contents : List (List ℕ)) (i : ℕ) (name bytes : List ℕ) → slice_get names i ≡ Some name
-    → AreAsked Asked before (take i names) (all_answered contents) between → Asked between name (Some bytes) after → AreAsked Asked before (take (i + 1) names) (all_answered (contents ++ bytes ∷ [])) after
-asked_next Asked before between after names contents i name bytes is asked next =
-    subst (λ (ns : List (List ℕ)). AreAsked Asked before ns (all_answered (contents ++ bytes ∷ [])) after) (sym (take_next names i name is))
-    (subst (λ (answers : List (Option (List ℕ))). AreAsked Asked before (take i names ++ name ∷ []) answers after) (sym (map-append (λ (b : List ℕ). Some b) contents (bytes ∷ [])))
-    (asked_one Asked before between after (take i names) (all_answered contents) name (Some bytes) asked next))
+-- So many files of the names were read, one after another. A shelf that is sure to refuse its next read is as it was.
+pub record Reached {S : Type 0} (of : OfShelf S) (before now : S) (names : List (List ℕ)) (i : ℕ) : Type 0 where
+  pub contents : List (List ℕ)
+  pub count : length contents ≡ i
+  pub read : AreRead (of.told before) (take i names) contents
+  pub got : Got (shelf_edge of before now) (take i names) contents 0
+  pub short : AllByRecursion IsShort contents
+  pub told : of.told now ≡ of.told before
+  pub faults : of.faults now ≡ of.faults before
+  pub serves : (n : List ℕ) → of.Serves before n → of.Serves now n
+  pub refused : of.Refuses before → (i ≡ 0) × (now ≡ before)
+
+module _ {S : Type 0} (of : OfShelf S) (before : S) (names : List (List ℕ)) where
+  pub reached_none : Reached of before before names 0
+  reached_none = record {
+    contents = [];
+    count = refl;
+    read = tt;
+    got = got_none of before;
+    short = tt;
+    told = refl;
+    faults = refl;
+    serves = λ n served. served;
+    refused = λ refuses. (refl, refl);
+  }
+
+  -- and then one more
+  pub reached_next : (between after : S) (i : ℕ) (name : List ℕ) → Reached of before between names i → slice_get names i ≡ Some name
+      → of.told after ≡ of.told between → of.calls after ≡ one_more (of.calls between) → of.names_read after ≡ of.names_read between ++ name ∷ [] → Gains (of.told between) name (of.contents_read between) (of.contents_read after)
+      → of.faults after ≡ of.faults between → ((n : List ℕ) → of.Serves between n → of.Serves after n) → ¬ of.Refuses between → Reached of before after names (i + 1)
+  reached_next between after i name r is same called named gained calm on unrefused =
+      let bytes = gained.bytes in
+      let tells : Tells (of.told before) name bytes = subst (λ (t : Option (List ℕ → Option (List ℕ))). Tells t name bytes) r.told gained.is_told in
+      let one : Got (shelf_edge of between after) (name ∷ []) (bytes ∷ []) 0 = record { names_read = named; contents_read = gained.appended; calls = called } in
+      let all = got_both of before between after (take i names) (name ∷ []) r.contents (bytes ∷ []) 0 r.got one in
+      record {
+        contents = r.contents ++ bytes ∷ [];
+        count = length-append r.contents (bytes ∷ []) ∙ ap (λ (n : ℕ). n + 1) r.count;
+        read = read_one (of.told before) names r.contents i name bytes is r.read tells;
+        got = subst (λ (ns : List (List ℕ)). Got (shelf_edge of before after) ns (r.contents ++ bytes ∷ []) 0) (sym (take_next names i name is)) all;
+        short = short_append r.contents (bytes ∷ []) r.short (omega (arith, gained.within_limit), tt);
+        told = same ∙ r.told;
+        faults = calm ∙ r.faults;
+        serves = λ n served. on n (r.serves n served);
+        refused = λ refuses. absurd (unrefused (subst of.Refuses (sym (r.refused refuses).1) refuses));
+      }
+
+  -- and then a read gave nothing
+  came_to : (between after : S) (i : ℕ) (name : List ℕ) → Reached of before between names i → slice_get names i ≡ Some name
+      → of.calls after ≡ one_more (of.calls between) → of.names_read after ≡ of.names_read between → of.contents_read after ≡ of.contents_read between → CameTo (just names) (shelf_edge of before after) (Some name)
+  came_to between after i name r is called named kept =
+      let one : Got (shelf_edge of between after) [] [] 1 = record { names_read = named ∙ sym (append-nil (of.names_read between)); contents_read = kept ∙ sym (append-nil (of.contents_read between)); calls = called } in
+      let all = got_both of before between after (take i names) [] r.contents [] 1 r.got one in
+      record {
+        contents = r.contents;
+        read = subst (λ (n : ℕ). AreRead (of.told before) (take n names) r.contents) (sym r.count) r.read;
+        is_next = subst (λ (n : ℕ). slice_get names n ≡ Some name) (sym r.count) is;
+        got = subst (λ (cs : List (List ℕ)). Got (shelf_edge of before after) (take (length r.contents) names) cs 1) (append-nil r.contents)
+            (subst (λ (ns : List (List ℕ)). Got (shelf_edge of before after) ns (r.contents ++ []) 1) (append-nil (take i names) ∙ ap (λ (n : ℕ). take n names) (sym r.count)) all);
+      }
+
+  pub read_stops : {U : Type 0} (T : Type 0) (between after : S) (i : ℕ) (name : List ℕ) (e : ReadFail) (result : Result U Stop) → Reached of before between names i → slice_get names i ≡ Some name
+      → of.calls after ≡ one_more (of.calls between) → of.names_read after ≡ of.names_read between → of.contents_read after ≡ of.contents_read between
+      → OnFailed {T = T} (Err e) (of.faults after ≡ one_more (of.faults between)) → OnFailed {T = T} (Err e) (of.failed after ≡ Some name) → OnFailed {T = T} (Err e) (of.failed_call after ≡ of.calls after)
+      → UnlessFailed {T = T} (Err e) (of.faults after ≡ of.faults between) → IsErrAnd result (λ why. why ≡ stop_of e) → IfErr result (Stopped (just names) (shelf_edge of before after))
+  read_stops T between after i name e result r is called named kept counted failed numbered calm gave =
+      stops (just names) (shelf_edge of before after) (stop_of e) result
+      (stopped_by T (just names) (shelf_edge of before after) name e (of.faults between) (came_to between after i name r is called named kept) r.faults counted failed numbered calm) gave
+
+  -- all of them were read
+  pub reached_all : (after : S) (i : ℕ) → i ≡ length names → Reached of before after names i → WereRead (just names) (shelf_edge of before after) (got_contents (shelf_edge of before after))
+  reached_all after i all r =
+      let s : ShelfEdge = shelf_edge of before after in
+      let whole : take i names ≡ names = ap (λ (n : ℕ). take n names) all ∙ take-length names in
+      subst (WereRead (just names) s) (sym (got_is s (take i names) r.contents 0 r.got)) (record {
+        read = subst (λ (ns : List (List ℕ)). AreRead (of.told before) ns r.contents) whole r.read;
+        got = subst (λ (ns : List (List ℕ)). Got s ns r.contents 0) whole r.got;
+        no_fault = r.faults;
+      })
+
+  pub reached_short : (after : S) (i : ℕ) → Reached of before after names i → AllByRecursion IsShort (got_contents (shelf_edge of before after))
+  reached_short after i r = subst (AllByRecursion IsShort) (sym (got_is (shelf_edge of before after) (take i names) r.contents 0 r.got)) r.short
 
 -- the name at a place of the names
 pub name_at : (names : List (String Global)) (i : ℕ) (x : String Global) (name : List ℕ) → x ≡ slice_index_or names i x → name ≡ string_bytes x → i < length names → slice_get (map string_bytes names) i ≡ Some name
@@ -184,11 +232,11 @@ first_came c s last came =
       contents = came.contents;
       read = subst (λ (ns : List (List ℕ)). AreRead s.told ns came.contents) (sym same) came.read;
       is_next = next_first c.names _ (length came.contents) last came.is_next;
-      asked = subst (λ (ns : List (List ℕ)). s.Asked (ns ++ at_most_one last) (all_answered came.contents ++ not_answered last)) (sym same) came.asked;
+      got = subst (λ (ns : List (List ℕ)). Got s ns came.contents (reads_of last)) (sym same) came.got;
     }
 
 pub first_stopped : (c : CommandValue) (s : ShelfEdge) (why : Stop) → Stopped (just c.names) s why → Stopped (names_of c) s why
-first_stopped c s stop.ReadFault f = record { name = f.name; came = first_came c s (Some f.name) f.came; failed = f.failed; fault = f.fault }
+first_stopped c s stop.ReadFault f = record { name = f.name; came = first_came c s (Some f.name) f.came; failed = f.failed; last = f.last; fault = f.fault }
 first_stopped c s stop.OutOfMemory f = record { last = f.last; came = first_came c s f.last f.came; no_fault = f.no_fault }
 
 serves_first : (P : List ℕ → Type 0) (names more : List (List ℕ)) (i : ℕ) → IfSome (slice_get (names ++ more) i) P → IfSome (slice_get names i) P
@@ -235,11 +283,10 @@ module _ (c : CommandValue) (xs more : List (List ℕ)) (count : length xs ≡ l
     pub both_read : (ys : List (List ℕ)) → WereRead (just more) (shelf_edge of between after) ys → WereRead (names_of c) (shelf_edge of before after) (xs ++ ys)
     both_read ys w =
         let read = read_append (of.told before) c.names more xs ys first.read (read_of more ys w.read) in
-        let asked = asked_append of.Asked before between after c.names more (all_answered xs) (all_answered ys) first.asked w.asked in
+        let got = got_both of before between after c.names more xs ys 0 first.got w.got in
         record {
           read = subst (λ (ns : List (List ℕ)). AreRead (of.told before) ns (xs ++ ys)) (sym (all_names ys)) read;
-          asked = subst (λ (ns : List (List ℕ)). AreAsked of.Asked before ns (all_answered (xs ++ ys)) after) (sym (all_names ys))
-              (subst (λ (answers : List (Option (List ℕ))). AreAsked of.Asked before (c.names ++ more) answers after) (sym (map-append (λ (b : List ℕ). Some b) xs ys)) asked);
+          got = subst (λ (ns : List (List ℕ)). Got (shelf_edge of before after) ns (xs ++ ys) 0) (sym (all_names ys)) got;
           no_fault = w.no_fault ∙ first.no_fault;
         }
 
@@ -247,21 +294,16 @@ module _ (c : CommandValue) (xs more : List (List ℕ)) (count : length xs ≡ l
     second_came last came =
         let ys = came.contents in
         let read = read_append (of.told before) c.names (take (length ys) more) xs ys first.read (read_of (take (length ys) more) ys came.read) in
-        let asked = asked_append of.Asked before between after c.names (take (length ys) more ++ at_most_one last) (all_answered xs) (all_answered ys ++ not_answered last) first.asked came.asked in
-        let names : c.names ++ (take (length ys) more ++ at_most_one last) ≡ names_so_far (names_of c) (xs ++ ys) ++ at_most_one last
-        = sym (append_assoc c.names (take (length ys) more) (at_most_one last)) ∙ ap (λ (ns : List (List ℕ)). ns ++ at_most_one last) (sym (so_far ys)) in
-        let answers : all_answered xs ++ (all_answered ys ++ not_answered last) ≡ all_answered (xs ++ ys) ++ not_answered last
-        = sym (append_assoc (all_answered xs) (all_answered ys) (not_answered last)) ∙ ap (λ (as_read : List (Option (List ℕ))). as_read ++ not_answered last) (sym (map-append (λ (b : List ℕ). Some b) xs ys)) in
+        let got = got_both of before between after c.names (take (length ys) more) xs ys (reads_of last) first.got came.got in
         record {
           contents = xs ++ ys;
           read = subst (λ (ns : List (List ℕ)). AreRead (of.told before) ns (xs ++ ys)) (sym (so_far ys)) read;
           is_next = next_of ys last came.is_next;
-          asked = subst (λ (ns : List (List ℕ)). AreAsked of.Asked before ns (all_answered (xs ++ ys) ++ not_answered last) after) names
-              (subst (λ (as_read : List (Option (List ℕ))). AreAsked of.Asked before (c.names ++ (take (length ys) more ++ at_most_one last)) as_read after) answers asked);
+          got = subst (λ (ns : List (List ℕ)). Got (shelf_edge of before after) ns (xs ++ ys) (reads_of last)) (sym (so_far ys)) got;
         }
 
     pub second_stopped : (why : Stop) → Stopped (just more) (shelf_edge of between after) why → Stopped (names_of c) (shelf_edge of before after) why
-    second_stopped stop.ReadFault f = record { name = f.name; came = second_came (Some f.name) f.came; failed = f.failed; fault = f.fault ∙ ap one_more first.no_fault }
+    second_stopped stop.ReadFault f = record { name = f.name; came = second_came (Some f.name) f.came; failed = f.failed; last = f.last; fault = f.fault ∙ ap one_more first.no_fault }
     second_stopped stop.OutOfMemory f = record { last = f.last; came = second_came f.last f.came; no_fault = f.no_fault ∙ first.no_fault }
 
     pub second_served : ((n : List ℕ) → of.Serves before n → of.Serves between n) → IsServed (names_of c) (shelf_edge of before after) → IsServed (just more) (shelf_edge of between after)

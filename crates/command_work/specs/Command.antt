@@ -1,6 +1,5 @@
 -- What a command is.
-use Rattle.std.specs.Prelude.{ℕ, ◌<◌, ◌^◌, List, [], ◌∷◌, ◌++◌, Option, Some, None, option_map, Vec, length, map, take, slice_index_or}
-use Rattle.std.specs.Global.{Global}
+use Rattle.std.specs.Prelude.{ℕ, ◌<◌, ◌^◌, List, [], ◌∷◌, ◌++◌, Option, Some, None, option_map, length, take, slice_index_or}
 use Rattle.command_work.specs.Due.{Due}
 
 -- A command: the names of files that its words give, the names that follow from what those files hold, and what is
@@ -17,10 +16,6 @@ no_further contents = []
 -- the names of a command's files, in the order in which they are read, as far as what was read tells them
 abbrev pub names_of : CommandValue → List (List ℕ) → List (List ℕ)
 names_of command contents = command.names ++ command.further (take (length command.names) contents)
-
--- what files hold
-abbrev pub held : List (Vec ℕ Global) → List (List ℕ)
-held files = map (λ (file : Vec ℕ Global). file.items) files
 
 -- what the file at a place holds
 abbrev pub content : List (List ℕ) → ℕ → List ℕ

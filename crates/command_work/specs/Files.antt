@@ -1,6 +1,6 @@
 -- Which files are read, and how far the reading came.
-use Rattle.std.specs.Prelude.{◌≡◌, ℕ, List, [], ◌∷◌, ◌++◌, Option, Some, None, IfSome, length, map, take, slice_get}
-use Rattle.edge_io.specs.Faults.{one_more}
+use Rattle.std.specs.Prelude.{◌≡◌, ℕ, ◌+◌, List, [], ◌∷◌, ◌++◌, Option, Some, None, IfSome, drop, length, take, slice_get}
+use Rattle.edge_io.specs.Faults.{one_more, raised}
 use Rattle.edge_io.specs.Reads.{Tells}
 use Rattle.command_work.specs.Edges.{ShelfEdge}
 
@@ -40,39 +40,42 @@ AreTold (Some files) names contents = AreRead (Some files) names contents
 abbrev pub IsServed : Names → ShelfEdge → Type 0
 IsServed names s = (contents : List (List ℕ)) → AreFirst names s.told contents → IfSome (next_name names contents) s.Serves
 
--- each read answered what its file holds
-abbrev pub all_answered : List (List ℕ) → List (Option (List ℕ))
-all_answered contents = map (λ (bytes : List ℕ). Some bytes) contents
+-- the contents that the shelf got in the call
+abbrev pub got_contents : ShelfEdge → List (List ℕ)
+got_contents s = drop (length s.contents_before) s.contents_after
 
--- All files were read, each once and in order, and the reads answered these contents. No read failed.
+-- In the call the shelf read the files of these names, each once and in order, and got these contents. So many reads
+-- more gave nothing.
+pub record Got (s : ShelfEdge) (names contents : List (List ℕ)) (more : ℕ) : Type 0 where
+  pub names_read : s.names_after ≡ s.names_before ++ names
+  pub contents_read : s.contents_after ≡ s.contents_before ++ contents
+  pub calls : s.calls_after ≡ raised s.calls_before (length contents + more)
+
+-- All files were read, each once and in order, and the shelf got these contents. No read failed.
 pub record WereRead (names : Names) (s : ShelfEdge) (contents : List (List ℕ)) : Type 0 where
   pub read : AreRead s.told (names contents) contents
-  pub asked : s.Asked (names contents) (all_answered contents)
+  pub got : Got s (names contents) contents 0
   pub no_fault : s.faults_after ≡ s.faults_before
 
--- one name, or none
-abbrev pub at_most_one : Option (List ℕ) → List (List ℕ)
-at_most_one None = []
-at_most_one (Some name) = name ∷ []
+-- how many reads this is: one, or none
+abbrev pub reads_of : Option (List ℕ) → ℕ
+reads_of None = 0
+reads_of (Some name) = 1
 
--- its read answered no bytes
-abbrev pub not_answered : Option (List ℕ) → List (Option (List ℕ))
-not_answered None = []
-not_answered (Some name) = None ∷ []
-
--- Some first files were read, each once and in order, and the reads answered their contents. Then nothing more was
--- asked for, or the last name, whose read answered nothing.
+-- Some first files were read, each once and in order, and the shelf got their contents. There was no other read, or one,
+-- for the next name, which gave nothing.
 pub record CameTo (names : Names) (s : ShelfEdge) (last : Option (List ℕ)) : Type 0 where
   pub contents : List (List ℕ)
   pub read : AreFirst names s.told contents
   pub is_next : IfSome last (λ name. next_name names contents ≡ Some name)
-  pub asked : s.Asked (names_so_far names contents ++ at_most_one last) (all_answered contents ++ not_answered last)
+  pub got : Got s (names_so_far names contents) contents (reads_of last)
 
 -- The read of a due file failed, and it was the last one.
 pub record FailedAt (names : Names) (s : ShelfEdge) : Type 0 where
   pub name : List ℕ
   pub came : CameTo names s (Some name)
   pub failed : s.failed ≡ Some name
+  pub last : s.failed_call ≡ s.calls_after
   pub fault : s.faults_after ≡ one_more s.faults_before
 
 -- No read failed. Memory was wanting for a file, between two reads, or once all files were read.

@@ -9,7 +9,7 @@ use Rattle.command_work.specs.Command.{CommandValue, names_of}
 use Rattle.command_work.specs.Files.{WereRead, FailedAt, CameFar}
 use Rattle.command_work.specs.Due.{Due, text_of, status_of, usage_text}
 
--- All files were read, and this is due for what the reads answered.
+-- All files of the command were read, these are the contents that the shelf got in the call, and this is due for them.
 pub record Decided (command : CommandValue) (s : ShelfEdge) : Type 0 where
   pub contents : List (List ℕ)
   pub read : WereRead (names_of command) s contents

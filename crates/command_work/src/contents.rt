@@ -1,7 +1,8 @@
 //! What the files of a command hold, by their places.
 ghost use Rattle.std.specs.Prelude.{◌≡◌, ◌+◌, ◌<◌, ◌^◌, drop, length};
 ghost use Rattle.std.specs.List.{AllByRecursion};
-ghost use Rattle.command_work.specs.Command.{IsShort, content, held};
+ghost use Rattle.edge_io.specs.Reads.{held};
+ghost use Rattle.command_work.specs.Command.{IsShort, content};
 
 /// What the file at a place holds.
 pub fn content(contents: &[Vec<u8>], place: usize) -> &[u8]

@@ -1,12 +1,13 @@
 //! A command, and its work, which touches the shelf alone.
-ghost use Rattle.std.specs.Prelude.{◌≡◌, IfOk, IfErr, length, map, string_bytes};
+ghost use Rattle.std.specs.Prelude.{◌≡◌, ◌≤◌, IfOk, IfErr, IsErr, OnOk, length, map, string_bytes};
 ghost use Rattle.std.specs.List.{AllByRecursion};
-ghost use Rattle.command_work.specs.Command.{CommandValue, IsShort, held, names_of};
+ghost use Rattle.edge_io.specs.Reads.{held};
+ghost use Rattle.command_work.specs.Command.{CommandValue, IsShort, names_of};
 ghost use Rattle.command_work.specs.Edges.{shelf_edge};
-ghost use Rattle.command_work.specs.Files.{IsServed, WereRead};
+ghost use Rattle.command_work.specs.Files.{IsServed, WereRead, got_contents};
 ghost use Rattle.command_work.specs.Work.{IsSettled, Performed, Stopped, StopsByWantAlone};
 
-use crate::reading::read_files;
+use crate::reading::{count_read, read_behind, read_files};
 use crate::work::{Answer, Stop};
 use aegis_limits::OutOfMemory;
 use edge_io::Shelf;
@@ -35,22 +36,19 @@ pub trait Command {
 }
 
 /// Reads the files of a command: those that its words name, and those that follow from what they hold.
-fn read_all<C: Command, S: Shelf>(
-    alloc: Global,
-    command: &C,
-    shelf: &mut S,
-) -> Result<Vec<Vec<u8>>, Stop>
-    ensures ok { IfOk result (λ v. WereRead (names_of (C.value command.now)) (shelf_edge S.Shelf shelf.old shelf.new) (held v.items)) }
-    ensures short { IfOk result (λ files. AllByRecursion IsShort (held files.items)) }
+fn read_all<C: Command, S: Shelf>(alloc: Global, command: &C, shelf: &mut S) -> Result<(), Stop>
+    ensures ok { OnOk result (WereRead (names_of (C.value command.now)) (shelf_edge S.Shelf shelf.old shelf.new) (got_contents (shelf_edge S.Shelf shelf.old shelf.new))) }
+    ensures short { OnOk result (AllByRecursion IsShort (got_contents (shelf_edge S.Shelf shelf.old shelf.new))) }
     ensures err { IfErr result (Stopped (names_of (C.value command.now)) (shelf_edge S.Shelf shelf.old shelf.new)) }
     ensures sure { IsServed (names_of (C.value command.now)) (shelf_edge S.Shelf shelf.old shelf.new) → StopsByWantAlone result }
+    ensures refused { S.Refuses shelf.old → 1 ≤ length (C.value command.now).names → IsErr result }
 {
+    let start = count_read(shelf);
     let names = command.names(alloc)?;
-    let mut contents = read_files(alloc, &names, shelf)?;
-    let further = command.further(alloc, &contents)?;
-    let mut rest = read_files(alloc, &further, shelf)?;
-    contents.append(&mut rest)?;
-    Ok(contents)
+    read_files(alloc, &names, shelf)?;
+    let further = command.further(alloc, read_behind(shelf, start))?;
+    read_files(alloc, &further, shelf)?;
+    Ok(())
 }
 
 /// Reads the files of a command, and does its work.
@@ -62,7 +60,9 @@ pub fn perform<C: Command, S: Shelf>(
     ensures ok { IfOk result (Performed (C.value command.now) (shelf_edge S.Shelf shelf.old shelf.new)) }
     ensures err { IfErr result (Stopped (names_of (C.value command.now)) (shelf_edge S.Shelf shelf.old shelf.new)) }
     ensures sure { IsServed (names_of (C.value command.now)) (shelf_edge S.Shelf shelf.old shelf.new) → StopsByWantAlone result }
+    ensures refused { S.Refuses shelf.old → 1 ≤ length (C.value command.now).names → IsErr result }
 {
-    let contents = read_all(alloc, command, shelf)?;
-    Ok(command.answer(alloc, &contents)?)
+    let start = count_read(shelf);
+    read_all(alloc, command, shelf)?;
+    Ok(command.answer(alloc, read_behind(shelf, start))?)
 }

@@ -1,7 +1,8 @@
 -- What all files hold is short, so what this one holds is.
 use Rattle.std.proofs.Common.{◌≡◌, ◌<◌, ◌∙◌, ℕ, length, subst, sym}
 use Rattle.std.proofs.lemmas.List.{length-map}
-use Rattle.command_work.specs.Command.{IsShort, content, held}
+use Rattle.edge_io.specs.Reads.{held}
+use Rattle.command_work.specs.Command.{IsShort, content}
 use Rattle.command_work.proofs.Places.{content_at, short_at}
 use Rattle.command_work.proofs.contents.content.Goals as goal
 
