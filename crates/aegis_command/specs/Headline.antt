@@ -1,5 +1,5 @@
 -- What a call of the program promises where its shelf tells its files.
-use Rattle.std.specs.Prelude.{◌≡◌, ◌≢◌, ◌⊎◌, ℕ, List, [], ◌∷◌, Option, Some, None, IfSome, length, codes}
+use Rattle.std.specs.Prelude.{◌≡◌, ◌≢◌, ◌⊎◌, ◌≤◌, ℕ, List, [], ◌∷◌, Option, Some, None, IfSome, length, codes}
 use Rattle.boot_image.specs.ImageFaults.{image_fault}
 use Rattle.boot_image.specs.ImageValue.{image_of}
 use Rattle.boot_schedule.specs.Schedule.{events_of, schedule_fault}
@@ -30,6 +30,12 @@ IsWanting k result = (result ≡ status.OutOfMemory) × (k.written_after ≡ k.w
 -- A shelf that is sure to serve a command's names gives no fault of reading.
 abbrev pub IsGiven : Option CommandValue → ShelfEdge → Status → Type 0
 IsGiven words s result = IfSome words (λ command. IsServed (names_of command) s → result ≢ status.ReadFault)
+
+-- A shelf whose next read is sure to give no bytes ends a command that names a file by a fault of reading, or memory was
+-- wanting.
+abbrev pub IsDenied : Option CommandValue → ShelfEdge → Status → Type 0
+IsDenied words s result =
+    IfSome words (λ command. s.Refuses → 1 ≤ length command.names → (result ≡ status.ReadFault) ⊎ (result ≡ status.OutOfMemory))
 
 -- what is due, if anything, was written whole, or memory was wanting and nothing was written
 abbrev pub Ends : Option Due → SinkEdge → Status → Type 0

@@ -2,7 +2,7 @@
 ghost use Rattle.std.specs.Prelude.{◌≡◌, IfNone, length, map, string_bytes};
 ghost use Rattle.command_work.specs.Edges.{shelf_edge, sink_edge};
 ghost use Rattle.command_work.specs.Outcome.{Finished, IsOutcome, IsUsage};
-ghost use Rattle.aegis_command.specs.Headline.{IsComplete, IsGiven, IsHeadline, IsLoad, IsTaken};
+ghost use Rattle.aegis_command.specs.Headline.{IsComplete, IsDenied, IsGiven, IsHeadline, IsLoad, IsTaken};
 ghost use Rattle.aegis_command.specs.Words.{asked_by};
 
 use crate::words::{parse, perform_words};
@@ -30,6 +30,7 @@ fn respond<S: Shelf, K: Sink>(alloc: Global, words: &[String], shelf: &mut S, ou
     ensures usage { IsUsage (asked_by words.now) (sink_edge K.Sink out.old out.new) result }
     ensures outcome { IsOutcome (asked_by words.now) (shelf_edge S.Shelf shelf.old shelf.new) (sink_edge K.Sink out.old out.new) result }
     ensures served { IsGiven (asked_by words.now) (shelf_edge S.Shelf shelf.old shelf.new) result }
+    ensures refused { IsDenied (asked_by words.now) (shelf_edge S.Shelf shelf.old shelf.new) result }
     ensures taken { IsTaken (asked_by words.now) (shelf_edge S.Shelf shelf.old shelf.new) (sink_edge K.Sink out.old out.new) result }
 {
     let Some(words) = parse(words) else {
@@ -64,12 +65,15 @@ pub fn aegis<S: Shelf, K: Sink>(
     ensures unread { IfNone (asked_by words.now) (shelf.new ≡ shelf.old) }
     ensures usage { IsUsage (asked_by words.now) (sink_edge K.Sink out.old out.new) result }
 
-    // What holds for words of a command, by the status, of what was read and what was written; no other status
-    // comes.
+    // What holds for words of a command, by the status, of what was read and what was written: what is written is due for
+    // what the shelf's reads gave in this call, by the names that were read. No other status comes.
     ensures outcome { IsOutcome (asked_by words.now) (shelf_edge S.Shelf shelf.old shelf.new) (sink_edge K.Sink out.old out.new) result }
 
     // A shelf that is sure to serve the names gives no fault of reading.
     ensures served { IsGiven (asked_by words.now) (shelf_edge S.Shelf shelf.old shelf.new) result }
+
+    // A shelf that is sure to refuse its next read gives no file.
+    ensures refused { IsDenied (asked_by words.now) (shelf_edge S.Shelf shelf.old shelf.new) result }
 
     // A sink that is sure to take what is due, or the usage, gives no fault of writing.
     ensures taken { IsTaken (asked_by words.now) (shelf_edge S.Shelf shelf.old shelf.new) (sink_edge K.Sink out.old out.new) result }

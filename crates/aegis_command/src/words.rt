@@ -1,5 +1,5 @@
 //! The words of the command line, and the work that they ask for.
-ghost use Rattle.std.specs.Prelude.{◌≡◌, IfOk, IfErr, option_map, map, string_bytes};
+ghost use Rattle.std.specs.Prelude.{◌≡◌, ◌≤◌, IfOk, IfErr, IsErr, length, option_map, map, string_bytes};
 ghost use Rattle.std.specs.Option.{option_copied};
 ghost use Rattle.command_work.specs.Command.{names_of, only_name};
 ghost use Rattle.command_work.specs.Edges.{shelf_edge};
@@ -76,6 +76,7 @@ pub fn perform_words<S: Shelf>(
     ensures ok { IfOk result (Performed (command_seen words.entry) (shelf_edge S.Shelf shelf.old shelf.new)) }
     ensures err { IfErr result (Stopped (names_of (command_seen words.entry)) (shelf_edge S.Shelf shelf.old shelf.new)) }
     ensures sure { IsServed (names_of (command_seen words.entry)) (shelf_edge S.Shelf shelf.old shelf.new) → StopsByWantAlone result }
+    ensures refused { S.Refuses shelf.old → 1 ≤ length (command_seen words.entry).names → IsErr result }
 {
     match words {
         Words::RunImage(command) => perform(alloc, &command, shelf),
