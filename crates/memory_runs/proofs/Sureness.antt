@@ -1,13 +1,11 @@
 -- From the clauses of the top call to what holds in memory.
-use Rattle.std.proofs.Common.{◌≡◌, ◌≢◌, ◌<◌, ◌≤◌, ℕ, zero, suc, ◌+◌, List, [], ◌∷◌, ◌++◌, Option, Some, None, IfSome, length, take, inl, inr, refl, sym, ◌∙◌, ap, subst, arith}
-use Rattle.std.specs.Prelude.{◌⊎◌, Bool, IsSomeAnd, if◌then◌else◌, slice_get, true}
+use Rattle.std.proofs.Common.{◌≡◌, ◌≢◌, ◌<◌, ◌≤◌, ℕ, zero, suc, ◌+◌, List, [], ◌∷◌, ◌++◌, Option, Some, IfSome, length, take, inl, inr, refl, sym, ◌∙◌, ap, subst, arith}
+use Rattle.std.specs.Prelude.{◌⊎◌, IsSomeAnd, slice_get, true}
 use Rattle.std.specs.List.{AllByRecursion}
 use Rattle.std.proofs.lemmas.Bool.{cases_lt}
-use Rattle.std.proofs.lemmas.List.{length-append}
 use Rattle.edge_io.specs.Limits.{file_limit}
-use Rattle.edge_io.specs.Reads.{AreAsked}
 use Rattle.edge_io.specs.Written.{Appends}
-use Rattle.edge_memory.specs.Files.{IsSureOf, WasAsked, file_named, found, is_set_to_fail, within_limit}
+use Rattle.edge_memory.specs.Files.{IsSureOf, file_named, is_set_to_fail}
 use Rattle.edge_memory.specs.Room.{HasRoomFor}
 use Rattle.edge_memory.specs.declared.shelf.MemoryShelf.{MemoryShelf}
 use Rattle.edge_memory.specs.declared.sink.MemorySink.{MemorySink}
@@ -16,9 +14,9 @@ use Rattle.command_work.specs.declared.status.Status.TheVariants as status
 use Rattle.command_work.specs.Command.{CommandValue, names_of}
 use Rattle.command_work.specs.Due.{Due, status_of, text_of}
 use Rattle.command_work.specs.Edges.{ShelfEdge, SinkEdge}
-use Rattle.command_work.specs.Files.{AreRead, AreTold, IsServed, all_answered, names_so_far, next_name}
-use Rattle.command_work.specs.Outcome.{Decided, IsOutcome, Outcome, Wrote}
-use Rattle.aegis_command.specs.Headline.{IsGiven, IsTaken, IsWanting, IsWritten}
+use Rattle.command_work.specs.Files.{AreRead, AreTold, IsServed, names_so_far, next_name}
+use Rattle.command_work.specs.Outcome.{IsOutcome, Outcome, Wrote}
+use Rattle.aegis_command.specs.Headline.{IsDenied, IsGiven, IsTaken, IsWanting, IsWritten}
 use Rattle.aegis_command.proofs.Completeness.{told_due}
 use Rattle.memory_runs.specs.InMemory.{HasAnswer, IsRefused, IsSure, IsWithinLimit, IsWanting as IsWantingInMemory, IsWritten as IsWrittenInMemory}
 
@@ -112,36 +110,18 @@ sure words s k shelf before after result is_told is_sure takes was is outcome gi
     let no_write = subst (λ (o : Option CommandValue). IsTaken o s k result) named taken contents due told is_due takes_all in
     in_memory k before after result (status_of due) (text_of due) was is (ends_sure c s k result contents due (of_words (λ d. Outcome d s k result) words c named outcome) told is_due no_read no_write)
 
--- A read that is set to fail answers nothing.
-set_fails : (shelf after : MemoryShelf) (names contents : List (List ℕ)) → 1 ≤ length names → is_set_to_fail shelf ≡ true → AreAsked WasAsked shelf names (all_answered contents) after → ⊥
-set_fails shelf after [] contents some set asked = absurd (omega arith)
-set_fails shelf after (n ∷ names) [] some set asked = asked
-set_fails shelf after (n ∷ names) (b ∷ contents) some set asked =
-    let none : found shelf n ≡ None = ap (λ (t : Bool). if t then None else within_limit (file_named shelf.files.items n)) set in
-    let bytes : found shelf n ≡ Some b = asked.1.found in
-    absurd cc
-
-module _ (c : CommandValue) (s : ShelfEdge) (k : SinkEdge) (shelf after : MemoryShelf) (some : 1 ≤ length c.names) (set : is_set_to_fail shelf ≡ true)
-    (asked : (names : List (List ℕ)) (answers : List (Option (List ℕ))) → s.Asked names answers → AreAsked WasAsked shelf names answers after) where
-  undecided : Decided c s → ⊥
-  undecided d = set_fails shelf after (names_of c d.contents) d.contents (omega (arith, length-append c.names (c.further (take (length c.names) d.contents)), some)) set (asked (names_of c d.contents) (all_answered d.contents) d.read.asked)
-
-  pub first_refused : (result : Status) → Outcome c s k result → ((result ≡ status.ReadFault) ⊎ (result ≡ status.OutOfMemory)) × (k.written_after ≡ k.written_before)
-  first_refused status.Done w = absurd (undecided w.0)
-  first_refused status.Found w = absurd (undecided w.0)
-  first_refused status.Usage w = absurd w
-  first_refused status.Refused w = absurd (undecided w.0)
-  first_refused status.ReadFault w = (inl refl, w.1.nothing)
-  first_refused status.WriteFault w = absurd (undecided w.0)
-  first_refused status.OutOfMemory w = (inr refl, w.1.nothing)
+-- a call that ends by a fault of reading, or for want of memory, wrote nothing
+unwritten : (c : CommandValue) (s : ShelfEdge) (k : SinkEdge) (result : Status) → Outcome c s k result → (result ≡ status.ReadFault) ⊎ (result ≡ status.OutOfMemory) → k.written_after ≡ k.written_before
+unwritten c s k result outcome (inl is) = let w : Outcome c s k status.ReadFault = subst (Outcome c s k) is outcome in w.1.nothing
+unwritten c s k result outcome (inr is) = let w : Outcome c s k status.OutOfMemory = subst (Outcome c s k) is outcome in w.1.nothing
 
 -- Where the first read is set to fail, nothing is written.
-pub refused : (words : Option CommandValue) (s : ShelfEdge) (k : SinkEdge) (shelf last : MemoryShelf) (before after : MemorySink) (result : Status)
-    → ((names : List (List ℕ)) (answers : List (Option (List ℕ))) → s.Asked names answers → AreAsked WasAsked shelf names answers last)
-    → k.written_before ≡ Some before.bytes.items → k.written_after ≡ Some after.bytes.items → IsOutcome words s k result → IsRefused words shelf before after result
-refused words s k shelf last before after result asked was is outcome = λ c named some set.
-    let w = first_refused c s k shelf last some set asked result (of_words (λ d. Outcome d s k result) words c named outcome) in
-    (w.0, (let same : Some after.bytes.items ≡ Some before.bytes.items = sym is ∙ w.1 ∙ was in cc))
+pub refused : (words : Option CommandValue) (s : ShelfEdge) (k : SinkEdge) (shelf : MemoryShelf) (before after : MemorySink) (result : Status) → (is_set_to_fail shelf ≡ true → s.Refuses)
+    → k.written_before ≡ Some before.bytes.items → k.written_after ≡ Some after.bytes.items → IsOutcome words s k result → IsDenied words s result → IsRefused words shelf before after result
+refused words s k shelf before after result refuses was is outcome denied = λ c named some set.
+    let ended = of_words (λ d. s.Refuses → 1 ≤ length d.names → (result ≡ status.ReadFault) ⊎ (result ≡ status.OutOfMemory)) words c named denied (refuses set) some in
+    let nothing = unwritten c s k result (of_words (λ d. Outcome d s k result) words c named outcome) ended in
+    (ended, (let same : Some after.bytes.items ≡ Some before.bytes.items = sym is ∙ nothing ∙ was in cc))
 
 -- With an empty sink on which nothing is set to fail, what was written is the answer.
 pub answered : (words : Option CommandValue) (shelf : MemoryShelf) (before after : MemorySink) (result : Status) (room : ℕ) → shelf.fails.items ≡ [] → before.bytes.items ≡ [] → before.fails.items ≡ [] → before.room ≡ room

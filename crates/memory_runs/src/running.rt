@@ -42,13 +42,7 @@ pub fn call(
 ) -> Result<Output, OutOfMemory>
     ensures { IfOk result (HasAnswer (asked_by words.now) files.items room) }
 {
-    let mut shelf = MemoryShelf {
-        files,
-        fails: Vec::new(alloc),
-        calls: 0,
-        faults: 0,
-        failed: None,
-    };
+    let mut shelf = MemoryShelf::new(alloc, files, Vec::new(alloc));
     let mut out = MemorySink::new(alloc, room, usize::MAX, Vec::new(alloc))?;
     let status = run_in_memory(alloc, words, &mut shelf, &mut out);
     let MemorySink { bytes, .. } = out;

@@ -143,13 +143,8 @@ fn program_and_image(alloc: Global) -> Result<(Vec<u8>, Vec<u8>), Fail> {
 /// How a call over these files ends.
 fn ended(alloc: Global, call: &Call<'_>, named: &[(&str, &[u8])]) -> Result<End, Fail> {
     let words = strings(alloc, call.words)?;
-    let mut shelf = MemoryShelf {
-        files: files(alloc, named)?,
-        fails: vec![in alloc; call.read]?,
-        calls: 0,
-        faults: 0,
-        failed: None,
-    };
+    let fails = vec![in alloc; call.read]?;
+    let mut shelf = MemoryShelf::new(alloc, files(alloc, named)?, fails);
     let fails = vec![in alloc; call.write]?;
     let mut out = MemorySink::new(alloc, call.room, call.most.max(1), fails)
         .ok()

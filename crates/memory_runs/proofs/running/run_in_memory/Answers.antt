@@ -11,5 +11,5 @@ returns-clause-sure c =
 
 pub returns-clause-refused : goal.returns-clause-refused
 returns-clause-refused c =
-    refused (asked_by c.args.words.now) _ _ c.args.shelf.now c.aegis.new.shelf c.args.out.now c.aegis.new.out c.aegis.result
-    (λ names answers asked. asked) refl refl c.aegis.ensures.outcome
+    refused (asked_by c.args.words.now) _ _ c.args.shelf.now c.args.out.now c.aegis.new.out c.aegis.result
+    (λ set. set) refl refl c.aegis.ensures.outcome c.aegis.ensures.refused
