@@ -22,7 +22,7 @@ fn main(rt: HostRuntime) -> ExitCode {
     let Ok(words) = arguments(&rt) else {
         return ExitCode::from(Status::OutOfMemory.code());
     };
-    let mut shelf = HostShelf::new(&rt);
+    let mut shelf = HostShelf::new(rt.alloc(), &rt);
     let mut out = HostSink::new(io::writer(&rt));
     let status = aegis(rt.alloc(), &words, &mut shelf, &mut out);
     ExitCode::from(status.code())
