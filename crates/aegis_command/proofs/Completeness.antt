@@ -1,5 +1,5 @@
 -- From what holds by the status to what is written where no fault is met.
-use Rattle.std.proofs.Common.{◌≡◌, ◌≢◌, ◌≤◌, length, ℕ, List, [], ◌∷◌, ◌++◌, Option, Some, None, inl, inr, sym, ◌∙◌, ap, refl, subst, take, IfSome, rules}
+use Rattle.std.proofs.Common.{◌≡◌, ◌≢◌, ◌≤◌, length, ℕ, List, [], ◌∷◌, ◌++◌, Option, Some, None, ◌⊎◌, inl, inr, sym, ◌∙◌, ap, refl, subst, take, IfSome, rules}
 use Rattle.boot_image.specs.declared.fault.ImageFault.{ImageFault}
 use Rattle.boot_image.specs.ImageFaults.{image_fault}
 use Rattle.boot_image.specs.ImageValue.{image_of}
@@ -16,7 +16,8 @@ use Rattle.command_work.specs.Files.{AreRead, AreTold}
 use Rattle.command_work.specs.Due.{Due, Refusal, Whole, Found, text_of, status_of, unless_refused}
 use Rattle.command_work.specs.Outcome.{Decided, IsWhole, IsPart, Outcome, Finished}
 use Rattle.command_work.specs.Work.{Performed}
-use Rattle.aegis_command.specs.Headline.{NoFault, Ends, IsComplete, IsHeadline, IsLoad, IsTaken}
+use Rattle.aegis_command.specs.Headline.{NoFault, Ends, IsComplete, IsHeadline, IsLoad, IsReadHeadline, IsTaken, IsWanting, WroteReport}
+use Rattle.std.specs.Io.KnownBytes.{Appends}
 use Rattle.std.specs.Option.{option_map}
 use Rattle.aegis_command.specs.Words.{command_of}
 use Rattle.aegis_command.specs.LoadSeed.{load_seed}
@@ -112,6 +113,47 @@ is_headline words s k result outcome image_name schedule_name number ticks files
     let due = due_whole image_name schedule_name ticks image schedule image_ok schedule_ok in
     let read : AreTold s.told (image_name ∷ schedule_name ∷ []) (image ∷ schedule ∷ []) = subst (λ (t : Option (List ℕ → Option (List ℕ))). AreTold t (image_name ∷ schedule_name ∷ []) (image ∷ schedule ∷ [])) (sym told) (image_is, (schedule_is, tt)) in
     subst (λ (d : Option Due). Ends d k result) due (is_complete (command_of words) s k result outcome (run_image image_name schedule_name ticks) (image ∷ schedule ∷ []) is read calm)
+
+-- what is read of two names is two contents
+two_contents : (told : Option (List ℕ → Option (List ℕ))) (one other : List ℕ) (contents : List (List ℕ)) → AreRead told (one ∷ other ∷ []) contents
+    → (a : List ℕ) × (b : List ℕ) × (contents ≡ a ∷ b ∷ [])
+two_contents told one other [] read = absurd read
+two_contents told one other (a ∷ []) read = absurd read.1
+two_contents told one other (a ∷ b ∷ []) read = (a, b, refl)
+two_contents told one other (a ∷ b ∷ c ∷ contents) read = absurd read.1.1
+
+-- what was written whole of a run is the report of what was read
+wrote_report : (image_name schedule_name : List ℕ) (ticks : ℕ) (s : ShelfEdge) (k : SinkEdge) (result : Status) (decided : Decided (run_image image_name schedule_name ticks) s)
+    → status_of decided.due ≡ result → IsWhole k (text_of decided.due) → WroteReport image_name schedule_name ticks s k result
+wrote_report image_name schedule_name ticks s k result decided settled whole =
+    let two = two_contents s.told image_name schedule_name decided.contents decided.read.read in
+    record {
+      image = two.0;
+      schedule = two.1;
+      names_read = decided.read.got.names_read;
+      contents_read = decided.read.got.contents_read ∙ ap (λ (contents : List (List ℕ)). s.contents_before ++ contents) two.2;
+      report = λ image_ok schedule_ok.
+          let text = report_after (image_of two.0) (events_of two.1) ticks in
+          let is : Some decided.due ≡ Some (Whole text) = sym decided.is_due ∙ ap (run_image image_name schedule_name ticks).due two.2 ∙ due_whole image_name schedule_name ticks two.0 two.1 image_ok schedule_ok in
+          let one : decided.due ≡ Whole text = cc in
+          (sym settled ∙ ap status_of one, subst (λ (d : Due). Appends k.written_before k.written_after (text_of d)) one whole.appended);
+    }
+
+run_ends : (image_name schedule_name : List ℕ) (ticks : ℕ) (s : ShelfEdge) (k : SinkEdge) (result : Status) → Outcome (run_image image_name schedule_name ticks) s k result → NoFault s k
+    → WroteReport image_name schedule_name ticks s k result ⊎ IsWanting k result
+run_ends image_name schedule_name ticks s k status.Done w calm = inl (wrote_report image_name schedule_name ticks s k status.Done w.0 w.1 w.2)
+run_ends image_name schedule_name ticks s k status.Found w calm = inl (wrote_report image_name schedule_name ticks s k status.Found w.0 w.1 w.2)
+run_ends image_name schedule_name ticks s k status.Usage w calm = absurd w
+run_ends image_name schedule_name ticks s k status.Refused w calm = inl (wrote_report image_name schedule_name ticks s k status.Refused w.0 w.1 w.2)
+run_ends image_name schedule_name ticks s k status.ReadFault w calm = absurd (calm.read (rose s.faults_before s.faults_after w.0.fault))
+run_ends image_name schedule_name ticks s k status.WriteFault w calm = absurd (calm.write (rose k.faults_before k.faults_after w.1.fault))
+run_ends image_name schedule_name ticks s k status.OutOfMemory w calm = inr (refl, w.1.nothing)
+
+-- the headline by what was read
+pub is_read_headline : (words : List (List ℕ)) (s : ShelfEdge) (k : SinkEdge) (result : Status) → IfSome (command_of words) (λ c. Outcome c s k result) → IsReadHeadline words s k result
+is_read_headline words s k result outcome image_name schedule_name number ticks are ticks_are calm =
+    let is : command_of words ≡ Some (run_image image_name schedule_name ticks) = ap command_of are ∙ ap (option_map (run_image image_name schedule_name)) ticks_are in
+    run_ends image_name schedule_name ticks s k result (subst (λ (o : Option CommandValue). IfSome o (λ c. Outcome c s k result)) is outcome) calm
 
 -- no due status is that of a fault of writing
 due_status : (due : Due) → status_of due ≢ status.WriteFault

@@ -1,10 +1,10 @@
 -- What a call of the program promises where its shelf tells its files.
-use Rattle.std.specs.Prelude.{◌≡◌, ◌≢◌, ◌⊎◌, ◌≤◌, ℕ, List, [], ◌∷◌, Option, Some, None, IfSome, length, codes}
+use Rattle.std.specs.Prelude.{◌≡◌, ◌≢◌, ◌⊎◌, ◌≤◌, ℕ, List, [], ◌∷◌, ◌++◌, Option, Some, None, IfSome, length, codes}
 use Rattle.boot_image.specs.ImageFaults.{image_fault}
 use Rattle.boot_image.specs.ImageValue.{image_of}
 use Rattle.boot_schedule.specs.Schedule.{events_of, schedule_fault}
 use Rattle.edge_io.specs.Faults.{Rose}
-use Rattle.edge_io.specs.Written.{Appends}
+use Rattle.std.specs.Io.KnownBytes.{Appends}
 use Rattle.command_work.specs.declared.status.Status.{Status}
 use Rattle.command_work.specs.declared.status.Status.TheVariants as status
 use Rattle.command_work.specs.Command.{CommandValue, names_of}
@@ -66,6 +66,22 @@ IsHeadline words s k result =
     files image_name ≡ Some image → files schedule_name ≡ Some schedule →
     image_fault image ≡ None → schedule_fault schedule ≡ None → NoFault s k →
     IsWritten status.Done (report_after (image_of image) (events_of schedule) ticks) k result ⊎ IsWanting k result
+
+-- A run read these two files in the call, and the report of what they hold was written, if neither has a fault.
+pub record WroteReport (image_name schedule_name : List ℕ) (ticks : ℕ) (s : ShelfEdge) (k : SinkEdge) (result : Status) : Type 0 where
+  pub image : List ℕ
+  pub schedule : List ℕ
+  pub names_read : s.names_after ≡ s.names_before ++ image_name ∷ schedule_name ∷ []
+  pub contents_read : s.contents_after ≡ s.contents_before ++ image ∷ schedule ∷ []
+  pub report : image_fault image ≡ None → schedule_fault schedule ≡ None → IsWritten status.Done (report_after (image_of image) (events_of schedule) ticks) k result
+
+-- The headline by what was read, also of a shelf that tells nothing of its files, as the host's: for the words
+-- `run IMAGE SCHEDULE TICKS`, where no fault is met, the two files of these names were read, and what is written is the
+-- report of what the reads gave, or memory was wanting.
+abbrev pub IsReadHeadline : List (List ℕ) → ShelfEdge → SinkEdge → Status → Type 0
+IsReadHeadline words s k result =
+    (image_name schedule_name number : List ℕ) (ticks : ℕ) → words ≡ codes "run" ∷ image_name ∷ schedule_name ∷ number ∷ [] → ticks_of number ≡ Some ticks →
+    NoFault s k → WroteReport image_name schedule_name ticks s k result ⊎ IsWanting k result
 
 -- For the words `load SEED`, where no fault is met, the run of the seed's image and events is written in short, or memory
 -- was wanting. There is no file that could be refused.

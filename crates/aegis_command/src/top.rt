@@ -2,7 +2,7 @@
 ghost use Rattle.std.specs.Prelude.{◌≡◌, IfNone, length, map, string_bytes};
 ghost use Rattle.command_work.specs.Edges.{shelf_edge, sink_edge};
 ghost use Rattle.command_work.specs.Outcome.{Finished, IsOutcome, IsUsage};
-ghost use Rattle.aegis_command.specs.Headline.{IsComplete, IsDenied, IsGiven, IsHeadline, IsLoad, IsTaken};
+ghost use Rattle.aegis_command.specs.Headline.{IsComplete, IsDenied, IsGiven, IsHeadline, IsLoad, IsReadHeadline, IsTaken};
 ghost use Rattle.aegis_command.specs.Words.{asked_by};
 
 use crate::words::{parse, perform_words};
@@ -54,6 +54,9 @@ pub fn aegis<S: Shelf, K: Sink>(
 ) -> Status
     // The headline: what run writes is the report of the world.
     ensures headline { IsHeadline (map string_bytes words.now) (shelf_edge S.Shelf shelf.old shelf.new) (sink_edge K.Sink out.old out.new) result }
+
+    // The same by what was read, also where the shelf tells nothing of its files, as the host's.
+    ensures read { IsReadHeadline (map string_bytes words.now) (shelf_edge S.Shelf shelf.old shelf.new) (sink_edge K.Sink out.old out.new) result }
 
     // What load writes is a run in short, of the image and the schedule that its number gives. It is never refused.
     ensures load { IsLoad (map string_bytes words.now) (shelf_edge S.Shelf shelf.old shelf.new) (sink_edge K.Sink out.old out.new) result }

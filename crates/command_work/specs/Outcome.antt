@@ -1,7 +1,8 @@
 -- How a call of the program ends, by its status.
 use Rattle.std.specs.Prelude.{◌≡◌, ◌⊎◌, ℕ, List, Option, Some, IfSome, IfNone}
 use Rattle.edge_io.specs.Faults.{one_more}
-use Rattle.edge_io.specs.Written.{Appends, AppendsPart}
+use Rattle.edge_io.specs.Written.{AppendsPart}
+use Rattle.std.specs.Io.KnownBytes.{Appends}
 use Rattle.command_work.specs.declared.status.Status.{Status}
 use Rattle.command_work.specs.declared.status.Status.TheVariants as status
 use Rattle.command_work.specs.Edges.{ShelfEdge, SinkEdge}

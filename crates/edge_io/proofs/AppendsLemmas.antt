@@ -1,13 +1,15 @@
 -- What is appended piece by piece.
-use Rattle.std.proofs.Common.{arith, length-drop, length-take, ◌≡◌, ◌≤◌, ℕ, ◌+◌, ◌-◌, List, ◌++◌, take, drop, length, ap, sym, ◌∙◌, Option, Some, None, append_assoc, refl, subst}
+use Rattle.std.proofs.Common.{arith, length-drop, length-take, ◌≡◌, ◌≤◌, ℕ, ◌+◌, ◌-◌, List, ◌++◌, take, drop, length, ap, sym, ◌∙◌, Option, Some, None, append_assoc, subst}
 use Rattle.std.proofs.Math.Seq.{take-add}
 use Rattle.std.proofs.lemmas.List.{take_rest}
-use Rattle.edge_io.specs.Written.{Appends}
+use Rattle.std.specs.Io.KnownBytes.{Appends}
 
 -- one piece after another is the two joined
 pub Appends-joined : (a b c : Option (List ℕ)) (x y : List ℕ) → Appends a b x → Appends b c y → Appends a c (x ++ y)
-Appends-joined None b c x y p q = rw (q, p) refl
-Appends-joined (Some ws) b c x y p q = rw (q, p) (ap Some (append_assoc ws x y))
+Appends-joined None b c x y p q = tt
+Appends-joined (Some ws) None c x y p q = absurd p
+Appends-joined (Some ws) (Some bs) None x y p q = absurd q
+Appends-joined (Some ws) (Some bs) (Some cs) x y p q = rw (q, p) (append_assoc ws x y)
 
 -- the first bytes, and then the first of those after them
 pub take-rest : (bytes : List ℕ) (done n : ℕ) → take done bytes ++ take n (take (length bytes - done) (drop done bytes)) ≡ take (done + n) bytes

@@ -1,11 +1,8 @@
 -- What was written.
-use Rattle.std.specs.Prelude.{◌≡◌, ℕ, ◌<◌, List, ◌++◌, Option, option_map, length, take}
+use Rattle.std.specs.Prelude.{ℕ, ◌<◌, List, Option, length, take}
+use Rattle.std.specs.Io.KnownBytes.{Appends}
 
--- what is written now is what was written before and then the bytes, where the sink says what was written
-abbrev pub Appends : Option (List ℕ) → Option (List ℕ) → List ℕ → Type 0
-Appends before now bytes = now ≡ option_map (λ written. written ++ bytes) before
-
--- a first part of the bytes was appended, and not all
+-- a first part of the bytes was appended to what was written, where that is told, and not all
 pub record AppendsPart (before now : Option (List ℕ)) (bytes : List ℕ) : Type 0 where
   pub count : ℕ
   pub fewer : count < length bytes

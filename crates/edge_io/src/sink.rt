@@ -1,7 +1,7 @@
 //! What the output is written to.
 ghost use Rattle.std.specs.Prelude.{◌≡◌, ℕ, ◌-◌, ◌<◌, ◌≤◌, List, Option, IsOk, IfOk, OnOk, OnErr, length, take};
 ghost use Rattle.edge_io.specs.Faults.{one_more};
-ghost use Rattle.edge_io.specs.Written.{Appends};
+ghost use Rattle.std.specs.Io.KnownBytes.{Appends, Keeps};
 
 /// Why a write took nothing.
 #[derive(Clone, Copy)]
@@ -33,7 +33,7 @@ pub trait Sink {
 
         // A failure is counted, and nothing of the piece was appended.
         ensures failed_counted { OnErr result (faults self.new ≡ one_more (faults self.old)) }
-        ensures failed_nothing { OnErr result (written self.new ≡ written self.old) }
+        ensures failed_nothing { OnErr result (Keeps (written self.old) (written self.new)) }
         ensures never_falls { faults self.old ≤ faults self.new }
 
         ensures sure { (k : ℕ) → Takes self.old k → length piece.now ≤ k → IsOk result }

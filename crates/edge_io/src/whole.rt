@@ -1,7 +1,8 @@
 //! Writing all of some bytes.
 ghost use Rattle.std.specs.Prelude.{◌≡◌, ◌≤◌, IsOk, OnOk, OnErr, length};
 ghost use Rattle.edge_io.specs.Faults.{one_more};
-ghost use Rattle.edge_io.specs.Written.{Appends, AppendsPart};
+ghost use Rattle.std.specs.Io.KnownBytes.{Appends};
+ghost use Rattle.edge_io.specs.Written.{AppendsPart};
 
 use crate::sink::{Sink, WriteFail};
 

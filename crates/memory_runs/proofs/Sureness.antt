@@ -4,7 +4,7 @@ use Rattle.std.specs.Prelude.{◌⊎◌, IsSomeAnd, slice_get, true}
 use Rattle.std.specs.List.{AllByRecursion}
 use Rattle.std.proofs.lemmas.Bool.{cases_lt}
 use Rattle.edge_io.specs.Limits.{file_limit}
-use Rattle.edge_io.specs.Written.{Appends}
+use Rattle.std.specs.Io.KnownBytes.{Appends}
 use Rattle.edge_memory.specs.Files.{IsSureOf, file_named, is_set_to_fail}
 use Rattle.edge_memory.specs.Room.{HasRoomFor}
 use Rattle.edge_memory.specs.declared.shelf.MemoryShelf.{MemoryShelf}
@@ -93,8 +93,8 @@ of_words P words c is holds = subst (λ (o : Option CommandValue). IfSome o P) i
 in_memory : (k : SinkEdge) (before after : MemorySink) (result intended : Status) (text : List ℕ) → k.written_before ≡ Some before.bytes.items → k.written_after ≡ Some after.bytes.items
     → IsWritten intended text k result ⊎ IsWanting k result → IsWrittenInMemory intended text before after result ⊎ IsWantingInMemory before after result
 in_memory k before after result intended text was is (inl w) =
-    let same : Some after.bytes.items ≡ Some (before.bytes.items ++ text) = sym is ∙ subst (λ (o : Option (List ℕ)). Appends o k.written_after text) was w.1 in
-    inl (w.0, cc)
+    let from_before = subst (λ (o : Option (List ℕ)). Appends o k.written_after text) was w.1 in
+    inl (w.0, subst (λ (o : Option (List ℕ)). Appends (Some before.bytes.items) o text) is from_before)
 in_memory k before after result intended text was is (inr w) =
     let same : Some after.bytes.items ≡ Some before.bytes.items = sym is ∙ w.1 ∙ was in
     inr (w.0, cc)

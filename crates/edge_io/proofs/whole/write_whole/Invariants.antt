@@ -1,5 +1,5 @@
 use Rattle.std.proofs.Common.{length, ◌-◌, ◌≡◌, ◌≤◌, take}
-use Rattle.edge_io.specs.Written.{Appends}
+use Rattle.std.specs.Io.KnownBytes.{Appends}
 use Rattle.edge_io.proofs.whole.write_whole.Given as goal
 
 abbrev pub invariant-loop-done : goal.invariant-loop-done
