@@ -19,7 +19,7 @@ pub record NoFault (s : ShelfEdge) (k : SinkEdge) : Type 0 where
   pub read : ¬ Rose s.faults_before s.faults_after
   pub write : ¬ Rose k.faults_before k.faults_after
 
--- the text was written whole, with this status
+-- the text was written whole, as far as the sink tells what was written, with this status
 abbrev pub IsWritten : Status → List ℕ → SinkEdge → Status → Type 0
 IsWritten intended text k result = (result ≡ intended) × Appends k.written_before k.written_after text
 
@@ -67,7 +67,8 @@ IsHeadline words s k result =
     image_fault image ≡ None → schedule_fault schedule ≡ None → NoFault s k →
     IsWritten status.Done (report_after (image_of image) (events_of schedule) ticks) k result ⊎ IsWanting k result
 
--- A run read these two files in the call, and the report of what they hold was written, if neither has a fault.
+-- A run read just these two files in the call, and what the reads gave is the image and the schedule: if neither has a
+-- fault, the report was written.
 pub record WroteReport (image_name schedule_name : List ℕ) (ticks : ℕ) (s : ShelfEdge) (k : SinkEdge) (result : Status) : Type 0 where
   pub image : List ℕ
   pub schedule : List ℕ

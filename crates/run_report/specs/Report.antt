@@ -113,7 +113,7 @@ bind_line e b = line (codes "bind" ∷ dec_text e ∷ hex_text 5 b.vpn ∷ dec_t
 abbrev pub bindings_of : (ℕ → Option Binding) → List Binding
 bindings_of stripe = for_each (λ row. option_to_list (stripe row)) stripe_rows
 
--- the same by rising VPN, which has 32 bits: those of each VPN in turn
+-- the same by rising VPN: those of each VPN in turn, which is a word at most
 unfoldable pub rising_bindings : (ℕ → Option Binding) → List Binding
 rising_bindings stripe = for_each (λ vpn. filter (λ b. b.vpn == vpn) (bindings_of stripe)) (2 ^ 32)
 
