@@ -1,11 +1,11 @@
 -- A word has a row where its instruction has a name, and only there. The proof is by keys, and by computing
 -- over the rows: an instruction needs no line of its own.
-use Rattle.std.proofs.Common.{◌≡◌, ℕ, ◌+◌, ◌^◌, ◌∙◌, inl, inr, Bool, true, false, List, [], ◌∷◌, Option, Some, None, refl, sym, ap, map, arith, eq-eqb, subst}
+use Rattle.std.proofs.Common.{◌≡◌, ℕ, ◌+◌, ◌^◌, ◌∙◌, inl, inr, Bool, true, false, List, [], ◌∷◌, refl, sym, ap, map, arith, eq-eqb, subst}
 use Rattle.std.proofs.lemmas.Bool.{cases_Bool, true≢false}
 use Rattle.std.proofs.lemmas.Bool.Decides.{eqb_tells}
-use Rattle.std.specs.Prelude.{IsTrue, ◌==◌, ◌&&◌}
+use Rattle.std.specs.Prelude.{◌==◌}
 use Rattle.std.specs.List.{find}
-use Rattle.std.specs.Option.{is_some, is_none, unwrap_or}
+use Rattle.std.specs.Option.{is_none, unwrap_or}
 use Rattle.mips_isa.specs.declared.insn.Insn.{Insn}
 use Rattle.mips_isa.specs.declared.insn.Insn.TheVariants.{Cop, Reserved}
 use Rattle.mips_isa.specs.Encoding.{Spells, Whole, form_of, insn_of, special_of, regimm_of, system_of, system_operation_of}
@@ -31,10 +31,6 @@ has_key_of insn row = number_of (key_of (Whole row.1.word)) == number_of (key_of
 abbrev text_at : List (List ℕ × TextValue) → Insn → TextValue
 text_at rows insn = (unwrap_or (find (has_key_of insn) rows) ([], record { word = 0; operands = [] })).1
 
-both_true : (a b : Bool) → IsTrue a → IsTrue b → IsTrue (a && b)
-both_true true b left right = right
-both_true false b left right = cc
-
 -- a word of the text with an instruction's key is one of an instruction with a name
 name_at : (w : ℕ) (insn : Insn) → is_nameless insn ≡ false → w ≡ (text_at main_rows insn).word + operand_bits (text_at main_rows insn).operands w
     → is_nameless (insn_of w) ≡ false
@@ -43,7 +39,7 @@ name_at w (Cop op rest) name is = cc
 name_at w (Reserved value) name is = cc
 name_at w insn name is =
     ap is_nameless
-    (insn_of-row w (row_for w insn).insn (has_row w insn refl (omega arith) (search (arith, eq-eqb, both_true))))
+    (insn_of-row w (row_for w insn).insn (has_row w insn refl (omega arith) (search arith)))
 
 -- where one of these rows is a word's, its instruction has a name
 abbrev Name : ℕ → List (List ℕ × TextValue) → Type 0
@@ -51,16 +47,12 @@ Name w [] = Unit {0}
 Name w (row ∷ rows) = (w ≡ row.1.word + operand_bits row.1.operands w → is_nameless (insn_of w) ≡ false) × Name w rows
 
 -- of a row, the text with the key of its word's instruction, and whether that has no name
-record Seen : Type 0 where
-  text : TextValue
-  nameless : Bool
-
-abbrev seen : List ℕ × TextValue → Seen
-seen row = record { text = text_at main_rows (insn_of row.1.word); nameless = is_nameless (insn_of row.1.word) }
+abbrev seen : List ℕ × TextValue → TextValue × Bool
+seen row = (text_at main_rows (insn_of row.1.word), is_nameless (insn_of row.1.word))
 
 -- what is to be seen of a row
-abbrev meant : List ℕ × TextValue → Seen
-meant row = record { text = row.1; nameless = false }
+abbrev meant : List ℕ × TextValue → TextValue × Bool
+meant row = (row.1, false)
 
 name_of : (w : ℕ) (text : TextValue) (insn : Insn) → text_at main_rows insn ≡ text → is_nameless insn ≡ false → w ≡ text.word + operand_bits text.operands w → is_nameless (insn_of w) ≡ false
 name_of w text insn is name spelled = name_at w insn name (subst (λ (t : TextValue). w ≡ t.word + operand_bits t.operands w) (sym is) spelled)
@@ -70,13 +62,13 @@ names_of w [] is = tt
 names_of w (row ∷ rows) is =
     let first : seen row ≡ meant row = cc in
     let rest : map seen rows ≡ map meant rows = cc in
-    (name_of w row.1 (insn_of row.1.word) (ap (λ (s : Seen). s.text) first) (ap (λ (s : Seen). s.nameless) first), names_of w rows rest)
+    (name_of w row.1 (insn_of row.1.word) (ap (λ (s : TextValue × Bool). s.0) first) (ap (λ (s : TextValue × Bool). s.1) first), names_of w rows rest)
 
 main_name : (w : ℕ) → Name w main_rows
 unfolding form_of insn_of special_of regimm_of system_of system_operation_of
 main_name w = names_of w main_rows refl
 
-name_found : (w : ℕ) (rows : List (List ℕ × TextValue)) → Name w rows → is_some (find (λ row. spells row.1 w) rows) ≡ true → is_nameless (insn_of w) ≡ false
+name_found : (w : ℕ) (rows : List (List ℕ × TextValue)) → Name w rows → is_none (find (λ row. spells row.1 w) rows) ≡ false → is_nameless (insn_of w) ≡ false
 name_found w [] names found = cc
 name_found w (row ∷ rows) names found =
     elim (eqb_tells w (row.1.word + operand_bits row.1.operands w)) [
@@ -85,8 +77,8 @@ name_found w (row ∷ rows) names found =
     ]
 
 -- a text that has an instruction's key is that of a row
-found_at : (w : ℕ) (test : List ℕ × TextValue → Bool) (other : List ℕ × TextValue) (rows : List (List ℕ × TextValue)) → is_some (find test rows) ≡ true
-    → spells (unwrap_or (find test rows) other).1 w ≡ true → is_some (find (λ row. spells row.1 w) rows) ≡ true
+found_at : (w : ℕ) (test : List ℕ × TextValue → Bool) (other : List ℕ × TextValue) (rows : List (List ℕ × TextValue)) → is_none (find test rows) ≡ false
+    → spells (unwrap_or (find test rows) other).1 w ≡ true → is_none (find (λ row. spells row.1 w) rows) ≡ false
 found_at w test other [] known is = cc
 found_at w test other (row ∷ rows) known is =
     elim (cases_Bool (spells row.1 w)) [
@@ -97,33 +89,25 @@ found_at w test other (row ∷ rows) known is =
       ])
     ]
 
-has : (w : ℕ) (insn : Insn) → is_some (find (has_key_of insn) main_rows) ≡ true → w ≡ (text_at main_rows insn).word + operand_bits (text_at main_rows insn).operands w
-    → is_some (row_of w) ≡ true
+has : (w : ℕ) (insn : Insn) → is_none (find (has_key_of insn) main_rows) ≡ false → w ≡ (text_at main_rows insn).word + operand_bits (text_at main_rows insn).operands w
+    → is_none (row_of w) ≡ false
 unfolding row_of
 has w insn known is = found_at w (has_key_of insn) _ main_rows known (eq-eqb _ _ is)
 
 -- an instruction with a name has a row
-row_spelled : (w : ℕ) (insn : Insn) → Spells w insn → is_nameless insn ≡ false → is_some (row_of w) ≡ true
+row_spelled : (w : ℕ) (insn : Insn) → Spells w insn → is_nameless insn ≡ false → is_none (row_of w) ≡ false
 unfolding form_of
 row_spelled w (Cop op rest) s name = cc
 row_spelled w (Reserved value) s name = cc
 row_spelled w insn s name = has w insn refl (omega arith)
 
-none_from : (o : Option (List ℕ × TextValue)) → is_some o ≡ false → is_none o ≡ true
-none_from None is = refl
-none_from (Some x) is = cc
-
-some_from : (o : Option (List ℕ × TextValue)) → is_some o ≡ true → is_none o ≡ false
-some_from None is = cc
-some_from (Some x) is = refl
-
 -- a word has no row just where its instruction has no name
 pub nameless_rows : (w : ℕ) → is_none (row_of w) ≡ is_nameless (insn_of w)
 unfolding row_of
 nameless_rows w = elim (cases_Bool (is_nameless (insn_of w))) [
-  | inl nameless ↦ elim (cases_Bool (is_some (row_of w))) [
-    | inl found ↦ absurd (true≢false (sym nameless ∙ name_found w main_rows (main_name w) found))
-    | inr none ↦ none_from (row_of w) none ∙ sym nameless
+  | inl nameless ↦ elim (cases_Bool (is_none (row_of w))) [
+    | inl none ↦ none ∙ sym nameless
+    | inr found ↦ absurd (true≢false (sym nameless ∙ name_found w main_rows (main_name w) found))
   ]
-  | inr name ↦ some_from (row_of w) (row_spelled w (insn_of w) (spells_insn_of w) name) ∙ sym name
+  | inr name ↦ row_spelled w (insn_of w) (spells_insn_of w) name ∙ sym name
 ]

@@ -1,5 +1,5 @@
 -- Rows that spell words.
-use Rattle.std.proofs.Common.{◌≡◌, ◌-◌, List, [], ◌∷◌, Option, Some, Bool, true, false, refl, map, length, take, sym, ap, ◌∙◌, cond}
+use Rattle.std.proofs.Common.{◌≡◌, ◌-◌, List, [], ◌∷◌, Bool, refl, map, length, take, sym, ap, ◌∙◌, arith}
 use Rattle.std.proofs.lemmas.List.{length-map, take-map}
 use Rattle.line_text.specs.declared.table.TableRow.{TableRow}
 use Rattle.mips_text.specs.Seen.{row_seen}
@@ -9,16 +9,10 @@ use Rattle.mips_text.specs.declared.text.Text.{Text}
 use Rattle.std.specs.List.{find}
 use Rattle.std.specs.Option.{option_map}
 
-find_cond : {A B : Type 0} (view : A → B) (b : Bool) (x : A) (rest : Option A) → option_map view (cond b (Some x) rest) ≡ cond b (Some (view x)) (option_map view rest)
-find_cond view true x rest = refl
-find_cond view false x rest = refl
-
 -- a view of what is found is what is found in the view
 pub find_seen : {A B : Type 0} (view : A → B) (test : B → Bool) (xs : List A) → option_map view (find (λ x. test (view x)) xs) ≡ find test (map view xs)
 find_seen view test [] = refl
-find_seen view test (x ∷ xs) =
-    find_cond view (test (view x)) x (find (λ y. test (view y)) xs)
-    ∙ ap (cond (test (view x)) (Some (view x))) (find_seen view test xs)
+find_seen view test (x ∷ xs) = grind (arith, find_seen view test xs)
 
 -- the rows of all texts without the last five are the main ones
 pub main_seen : (texts : List (TableRow Text)) → map row_seen texts ≡ rows → map row_seen (take (length texts - 5) texts) ≡ main_rows

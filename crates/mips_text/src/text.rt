@@ -154,13 +154,6 @@ fn find_spelled(rows: &[TableRow<Text>], word: u32) -> Option<&TableRow<Text>>
     rows.iter().find(|row| row.1.spells(word))
 }
 
-/// The same, copied.
-fn row_in(rows: &[TableRow<Text>], word: u32) -> Option<TableRow<Text>>
-    ensures { option_map row_seen result ≡ find (λ row. spells row.1 word) (map row_seen rows.now) }
-{
-    find_spelled(rows, word).copied()
-}
-
 /// The name and the text of the instruction that a word spells. None where it spells one for another
 /// coprocessor, or is a reserved word. Further forms, as `nop`, are of no word.
 #[tactic(auto, unfolding(crate::specs::WordRows::row_of))]
@@ -168,5 +161,5 @@ pub fn find_word(word: u32) -> Option<TableRow<Text>>
     ensures { option_map row_seen result ≡ row_of word }
 {
     let rows = texts();
-    row_in(&rows[..rows.len() - FURTHER_ROWS], word)
+    find_spelled(&rows[..rows.len() - FURTHER_ROWS], word).copied()
 }
