@@ -1,15 +1,9 @@
 -- That it holds of each layout of the first pass.
-use Rattle.std.proofs.Common.{◌≡◌, ℕ, ◌+◌, ◌-◌, ◌≤◌, Bool, true, false, inl, inr, List, [], ◌∷◌, ◌++◌, Option, Some, None, Result, Ok, Err, nat_le, replicate, ◌^◌, refl, ap, sym, subst, ◌∙◌, arith, lit≤, IfOk}
+use Rattle.std.proofs.Common.{◌≡◌, ℕ, ◌+◌, ◌-◌, ◌≤◌, Bool, true, false, inl, inr, List, [], ◌∷◌, ◌++◌, Option, Some, None, refl, arith, lit≤, IfOk, nat_le}
 use Rattle.std.proofs.lemmas.Bool.{leb-true}
-use Rattle.std.specs.Option.{is_some}
+use Rattle.std.proofs.lemmas.Result.{IfOk-weaker}
 use Rattle.asm_parse.specs.Expression.{ExpressionValue}
 use Rattle.asm_parse.specs.Form.{due_of}
-use Rattle.asm_parse.specs.declared.fault.AsmWhy.{AsmWhy}
-use Rattle.asm_parse.specs.declared.fault.AsmWhy.TheVariants.{OutOfRange, Redefined}
-use Rattle.line_text.specs.Outcome.{◌>>=◌}
-use Rattle.line_text.specs.declared.failure.LineFault.{LineFault}
-use Rattle.line_text.specs.declared.failure.Failure.{Failure}
-use Rattle.line_text.specs.Failing.{Gives}
 use Rattle.asm_parse.specs.declared.syntax.AsmLine.{AsmLine}
 use Rattle.line_text.specs.Lines.{LineValue, lines_of}
 use Rattle.asm_layout.specs.declared.section.Section.{Section}
@@ -17,9 +11,9 @@ use Rattle.asm_layout.specs.declared.section.Section.TheVariants.{Text, Data}
 use Rattle.asm_layout.specs.Action.{Action, Put, Align, Enter, Define, action_of}
 use Rattle.asm_layout.specs.Content.{Content, Given, content_length}
 use Rattle.asm_layout.specs.Laid.{HasStart, IsLaid, StartIn, length_in, total}
-use Rattle.asm_layout.specs.Layout.{Layout, Placed, acted, added, appended, equated, grown_by, is_start, labelled, laid, laid_from, named, nothing_placed, padding, place_of, put, started, stated, used_by}
-use Rattle.asm_layout.specs.Value.{Names, defined, value_of_name}
-use Rattle.asm_layout.proofs.OutcomeLemmas.{bind_ok, chosen_ok, in_line_ok, ok_is, other_ok}
+use Rattle.asm_layout.specs.Layout.{Layout, Placed, acted, added, appended, equated, grown_by, is_start, labelled, laid, laid_from, line_added, named, nothing_placed, place_of, put, started, stated, used_by}
+use Rattle.asm_layout.specs.Value.{Names}
+use Rattle.asm_layout.proofs.OutcomeLemmas.{any_then, if_chosen, if_in_line, if_other, if_then}
 
 total-append : (section : Section) (ps : List Placed) (p : Placed) → total section (ps ++ p ∷ []) ≡ total section ps + length_in section p.section (content_length p.content)
 total-append section [] p = omega arith
@@ -38,171 +32,91 @@ StartIn-later : (start : Option ℕ) (ps : List Placed) (p : Placed) → StartIn
 StartIn-later None ps p has = tt
 StartIn-later (Some place) ps p has = HasStart-later place ps p has
 
--- a content is put at the place, which is that of `start` or isn't
-pub record IsPut (starts : Bool) (before after : Layout) : Type 0 where
-  pub statement : Placed
-  pub where_it_is : statement.section ≡ before.section
-  pub place_is : statement.place ≡ place_of before
-  pub starts_is : statement.is_start ≡ starts
-  pub fits : content_length statement.content ≤ 1048576 - used_by before.section before
-  pub placed_is : after.placed ≡ before.placed ++ statement ∷ []
-  pub text_is : after.text ≡ before.text + length_in Text before.section (content_length statement.content)
-  pub data_is : after.data_bytes ≡ before.data_bytes + length_in Data before.section (content_length statement.content)
-  pub start_is : after.start ≡ before.start
+-- the sections are within their limit, and as long as what stands in them
+abbrev IsSized : Layout → Type 0
+IsSized layout = (section : Section) → (used_by section layout ≤ 1048576) × (used_by section layout ≡ total section layout.placed)
 
--- what bytes more in a section change, and what they leave
-grown_is : (section : Section) (n : ℕ) (before : Layout) →
-    let after = grown_by section n before in
-    (after.placed ≡ before.placed) × (after.text ≡ before.text + length_in Text section n)
-    × (after.data_bytes ≡ before.data_bytes + length_in Data section n) × (after.start ≡ before.start)
-grown_is Text n before = (refl, refl, omega arith, refl)
-grown_is Data n before = (refl, omega arith, refl, refl)
+-- The parts of a layout that is laid. They hold whatever its names and the section for what comes.
+abbrev HasParts : Layout → Type 0
+HasParts layout = IsSized layout × StartIn layout.start layout.placed
 
-appended_put : (line : ℕ) (starts : Bool) (content : Content) (before : Layout) → content_length content ≤ 1048576 - used_by before.section before
-    → IsPut starts before (appended line starts content before)
-appended_put line starts content before fits =
-    let statement : Placed = record { line = line; section = before.section; place = place_of before; is_start = starts; content = content } in
-    let grown = grown_is before.section (content_length content) (record before { placed = before.placed ++ statement ∷ [] }) in
-    record {
-      statement = statement;
-      where_it_is = refl;
-      place_is = refl;
-      starts_is = refl;
-      fits = fits;
-      placed_is = grown.0;
-      text_is = grown.1;
-      data_is = grown.2;
-      start_is = grown.3;
-    }
+-- what is laid, where the next statement's label may be `start`
+abbrev IsReady : Bool → Layout → Type 0
+IsReady starts layout = IsSized layout × ((p : Placed) → p.is_start ≡ starts → p.place ≡ place_of layout → StartIn layout.start (layout.placed ++ p ∷ []))
 
-put_is : (line : ℕ) (starts : Bool) (content : Content) (before after : Layout) → put line starts content before ≡ Ok after → IsPut starts before after
-put_is line starts content before after h =
-    let aligned = chosen_ok _ _ _ after h in
-    let fits = chosen_ok _ _ _ after aligned.1 in
-    subst (IsPut starts before) (ok_is _ after fits.1)
-    (appended_put line starts content before (leb-true _ _ fits.0))
+-- one statement more in a section that has room for it
+grown_sized : (section other : Section) (p : Placed) (layout : Layout) → p.section ≡ section → content_length p.content ≤ 1048576 - used_by section layout → IsSized layout
+    → let after = grown_by section (content_length p.content) (record layout { placed = layout.placed ++ p ∷ [] }) in (used_by other after ≤ 1048576) × (used_by other after ≡ total other after.placed)
+grown_sized Text Text p layout is room sized = let s = sized Text in rw (total-append Text layout.placed p, is) (omega arith, omega arith)
+grown_sized Text Data p layout is room sized = let s = sized Data in rw (total-append Data layout.placed p, is) (omega arith, omega arith)
+grown_sized Data Text p layout is room sized = let s = sized Text in rw (total-append Text layout.placed p, is) (omega arith, omega arith)
+grown_sized Data Data p layout is room sized = let s = sized Data in rw (total-append Data layout.placed p, is) (omega arith, omega arith)
+
+grown_start : (section : Section) (n : ℕ) (layout : Layout) → StartIn layout.start layout.placed → StartIn (grown_by section n layout).start (grown_by section n layout).placed
+grown_start Text n layout has = has
+grown_start Data n layout has = has
+
+appended_laid : (line : ℕ) (starts : Bool) (content : Content) (layout : Layout) → IsReady starts layout → nat_le (content_length content) (1048576 - used_by layout.section layout) ≡ true
+    → HasParts (appended line starts content layout)
+appended_laid line starts content layout ready fits =
+    let p : Placed = record { line = line; section = layout.section; place = place_of layout; is_start = starts; content = content } in
+    ((λ section. grown_sized layout.section section p layout refl (leb-true _ _ fits) ready.0), grown_start layout.section _ _ (ready.1 p refl refl))
+
+put_laid : (line : ℕ) (starts : Bool) (content : Content) (layout : Layout) → IsReady starts layout → IfOk (put line starts content layout) HasParts
+put_laid line starts content layout ready = search (if_chosen, appended_laid line starts content layout ready)
 
 -- a name changes nothing else
-named_is : (name : List ℕ) (value : ℕ) (before after : Layout) → named name value before ≡ Ok after → (names : Names) × (after ≡ record before { names = names })
-named_is name value before after h = let new = other_ok _ _ _ after h in (before.names ++ (name, value) ∷ [], sym (ok_is _ after new.1))
+named_any : (P : Layout → Type 0) (name : List ℕ) (value : ℕ) (layout : Layout) → ((names : Names) → P (record layout { names = names })) → IfOk (named name value layout) P
+named_any P name value layout any = search (if_other, any)
 
-equated_is : (name : List ℕ) (e : ExpressionValue) (before after : Layout) → equated name e before ≡ Ok after → (names : Names) × (after ≡ record before { names = names })
-equated_is name e before after h =
-    let value : Result ℕ AsmWhy = defined before.names e in
-    let next : ℕ → Result Layout AsmWhy = λ v. named name v before in
-    let new = other_ok (is_some (value_of_name name before.names)) (value >>= next) Redefined after h in
-    let step = bind_ok value next after new.1 in
-    named_is name step.0 before after step.2
+equated_any : (P : Layout → Type 0) (name : List ℕ) (e : ExpressionValue) (layout : Layout) → ((names : Names) → P (record layout { names = names })) → IfOk (equated name e layout) P
+equated_any P name e layout any = search (if_other, any_then, named_any P, any)
 
--- neither other names before nor another section after change what is put
-moved : (starts : Bool) (before after : Layout) (names : Names) (section : Section) → IsPut starts (record before { names = names }) after
-    → IsPut starts before (record after { section = section })
-moved starts before after names section p = record {
-  statement = p.statement;
-  where_it_is = p.where_it_is;
-  place_is = p.place_is;
-  starts_is = p.starts_is;
-  fits = p.fits;
-  placed_is = p.placed_is;
-  text_is = p.text_is;
-  data_is = p.data_is;
-  start_is = p.start_is;
-}
-
-pub acted_is : (line : ℕ) (starts : Bool) (action : Action) (before after : Layout) → acted line starts action before ≡ Ok after → IsPut starts before after
+acted_laid : (line : ℕ) (starts : Bool) (action : Action) (layout : Layout) → IsReady starts layout → IfOk (acted line starts action layout) HasParts
 unfolding acted
-acted_is line starts (Put content) before after h = put_is line starts content before after h
-acted_is line starts (Align n) before after h =
-    let content : Content = Given (replicate (padding (place_of before) (2 ^ n)) 0) in
-    let small = chosen_ok (nat_le n 12) (put line starts content before) OutOfRange after h in
-    put_is line starts content before after small.1
-acted_is line starts (Enter section) before after h =
-    let enter : Layout → Layout = λ l. record l { section = section } in
-    let next : Layout → Result Layout AsmWhy = λ l. Ok (enter l) in
-    let step = bind_ok (put line starts (Given []) before) next after h in
-    let entered = moved starts before step.0 before.names section (put_is line starts (Given []) before step.0 step.1) in
-    subst (IsPut starts before) (ok_is (enter step.0) after step.2) entered
-acted_is line starts (Define name e) before after h =
-    let step = bind_ok _ _ after h in
-    let new = equated_is name e before step.0 step.1 in
-    moved starts before after new.0 after.section
-    (put_is line starts (Given []) (record before { names = new.0 }) after (subst (λ l. put line starts (Given []) l ≡ Ok after) new.1 step.2))
+acted_laid line starts (Put content) layout ready = put_laid line starts content layout ready
+acted_laid line starts (Align n) layout ready = search (if_chosen, put_laid, ready)
+acted_laid line starts (Enter section) layout ready = if_then HasParts HasParts _ _ (put_laid line starts (Given []) layout ready) (λ after parts. parts)
+acted_laid line starts (Define name e) layout ready =
+    if_then (IsReady starts) HasParts _ _ (equated_any (IsReady starts) name e layout (λ names. ready)) (λ after. put_laid line starts (Given []) after)
 
--- a label gives a name, and `start` its place
-labelled_is : (label : Option (List ℕ)) (before after : Layout) → labelled label before ≡ Ok after →
-    (names : Names) × (after ≡ started (is_start label) (place_of before) (record before { names = names }))
-labelled_is None before after h = (before.names, sym (ok_is before after h))
-labelled_is (Some name) before after h =
-    let next : Layout → Result Layout AsmWhy = λ l. Ok (started (is_start (Some name)) (place_of before) l) in
-    let step = bind_ok (named name (place_of before) before) next after h in
-    let new = named_is name (place_of before) before step.0 step.1 in
-    (new.0, sym (ok_is _ after step.2) ∙ ap (started (is_start (Some name)) (place_of before)) new.1)
+started_ready : (starts : Bool) (layout : Layout) → HasParts layout → IsReady starts (started starts (place_of layout) layout)
+started_ready true layout parts = (parts.0, λ p starts is. HasStart-last (place_of layout) layout.placed p starts is)
+started_ready false layout parts = (parts.0, λ p _ _. StartIn-later layout.start layout.placed p parts.1)
 
--- what is laid stays so where a content is put
-grows : (section other : Section) (used n length : ℕ) → used ≤ 1048576 → (section ≡ other → n ≤ 1048576 - used) → length ≡ used + length_in section other n → length ≤ 1048576
-grows Text Text used n length fits room is = let r = room refl in omega arith
-grows Text Data used n length fits room is = omega arith
-grows Data Text used n length fits room is = omega arith
-grows Data Data used n length fits room is = let r = room refl in omega arith
+labelled_ready : (label : Option (List ℕ)) (layout : Layout) → HasParts layout → IfOk (labelled label layout) (IsReady (is_start label))
+labelled_ready None layout parts = started_ready false layout parts
+labelled_ready (Some name) layout parts =
+    let Ready = IsReady (is_start (Some name)) in
+    if_then (λ after. Ready (started (is_start (Some name)) (place_of layout) after)) Ready _ _
+    (named_any _ name (place_of layout) layout (λ names. started_ready (is_start (Some name)) (record layout { names = names }) parts))
+    (λ after ready. ready)
 
-totalled : (section : Section) (before after : Layout) (statement : Placed) (used : ℕ) → used ≡ total section before.placed → statement.section ≡ before.section →
-    after.placed ≡ before.placed ++ statement ∷ [] → used + length_in section before.section (content_length statement.content) ≡ total section after.placed
-totalled section before after statement used is where_it_is placed_is =
-    ap (λ n. n + length_in section before.section (content_length statement.content)) is
-    ∙ ap (λ s. total section before.placed + length_in section s (content_length statement.content)) (sym where_it_is)
-    ∙ sym (ap (total section) placed_is ∙ total-append section before.placed statement)
-
-put_laid : (starts : Bool) (before after : Layout) (names : Names) → IsLaid before →
-    IsPut starts (started starts (place_of before) (record before { names = names })) after → IsLaid after
-put_laid true before after names known p = record {
-  text_fits = grows Text before.section before.text (content_length p.statement.content) after.text known.text_fits (λ is. subst (λ s. content_length p.statement.content ≤ 1048576 - used_by s before) (sym is) p.fits) p.text_is;
-  data_fits = grows Data before.section before.data_bytes (content_length p.statement.content) after.data_bytes known.data_fits (λ is. subst (λ s. content_length p.statement.content ≤ 1048576 - used_by s before) (sym is) p.fits) p.data_is;
-  text_is = p.text_is ∙ totalled Text before after p.statement before.text known.text_is p.where_it_is p.placed_is;
-  data_is = p.data_is ∙ totalled Data before after p.statement before.data_bytes known.data_is p.where_it_is p.placed_is;
-  start_is = subst (λ o. StartIn o after.placed) (sym p.start_is) (subst (HasStart (place_of before)) (sym p.placed_is) (HasStart-last (place_of before) before.placed p.statement p.starts_is p.place_is));
-}
-put_laid false before after names known p = record {
-  text_fits = grows Text before.section before.text (content_length p.statement.content) after.text known.text_fits (λ is. subst (λ s. content_length p.statement.content ≤ 1048576 - used_by s before) (sym is) p.fits) p.text_is;
-  data_fits = grows Data before.section before.data_bytes (content_length p.statement.content) after.data_bytes known.data_fits (λ is. subst (λ s. content_length p.statement.content ≤ 1048576 - used_by s before) (sym is) p.fits) p.data_is;
-  text_is = p.text_is ∙ totalled Text before after p.statement before.text known.text_is p.where_it_is p.placed_is;
-  data_is = p.data_is ∙ totalled Data before after p.statement before.data_bytes known.data_is p.where_it_is p.placed_is;
-  start_is = subst (λ o. StartIn o after.placed) (sym p.start_is) (subst (StartIn before.start) (sym p.placed_is) (StartIn-later before.start before.placed p.statement known.start_is));
-}
-
-stated_laid : (statement : AsmLine) (before after : Layout) → stated statement before ≡ Ok after → IsLaid before → IsLaid after
+stated_laid : (statement : AsmLine) (layout : Layout) → HasParts layout → IfOk (stated statement layout) HasParts
 unfolding stated
-stated_laid statement before after h known =
-    let line = statement.line in
-    let starts : Bool = is_start statement.label in
-    let last : Action → Layout → Result Layout AsmWhy = λ action l. acted line starts action l in
-    let next : Action → Result Layout AsmWhy = λ action. labelled statement.label before >>= last action in
-    let reads = bind_ok (action_of before.section statement.body) next after h in
-    let labels = bind_ok (labelled statement.label before) (last reads.0) after reads.2 in
-    let named = labelled_is statement.label before labels.0 labels.1 in
-    let acts : acted line starts reads.0 (started starts (place_of before) (record before { names = named.0 })) ≡ Ok after = subst (λ l. acted line starts reads.0 l ≡ Ok after) named.1 labels.2 in
-    put_laid starts before after named.0 known (acted_is line starts reads.0 _ after acts)
+stated_laid statement layout parts =
+    let starts = is_start statement.label in
+    any_then HasParts (action_of layout.section statement.body) _ (λ action.
+    if_then (IsReady starts) HasParts _ _ (labelled_ready statement.label layout parts) (λ after. acted_laid statement.line starts action after))
 
-added_laid : (said : Option AsmLine) (before after : Layout) → added said before ≡ Ok after → IsLaid before → IsLaid after
-added_laid None before after h known = subst IsLaid (ok_is before after h) known
-added_laid (Some statement) before after h known =
-    stated_laid statement before after (in_line_ok statement.line (stated statement before) after h) known
+added_laid : (said : Option AsmLine) (layout : Layout) → HasParts layout → IfOk (added said layout) HasParts
+added_laid None layout parts = parts
+added_laid (Some statement) layout parts = if_in_line HasParts statement.line _ (stated_laid statement layout parts)
 
-laid_from_laid : (before after : Layout) (lines : List LineValue) → laid_from before lines ≡ Ok after → IsLaid before → IsLaid after
-laid_from_laid before after [] h known = subst IsLaid (ok_is before after h) known
-laid_from_laid before after (line ∷ lines) h known =
-    let last : Layout → Result Layout (LineFault AsmWhy) = λ l. laid_from l lines in
-    let next : Option AsmLine → Result Layout (LineFault AsmWhy) = λ said. added said before >>= last in
-    let says = bind_ok (due_of line) next after h in
-    let adds = bind_ok (added says.0 before) last after says.2 in
-    laid_from_laid adds.0 after lines adds.2 (added_laid says.0 before adds.0 adds.1 known)
+laid_from_laid : (layout : Layout) (lines : List LineValue) → HasParts layout → IfOk (laid_from layout lines) HasParts
+laid_from_laid layout [] parts = parts
+laid_from_laid layout (line ∷ lines) parts =
+    if_then HasParts HasParts (line_added line layout) _
+    (any_then HasParts (due_of line) _ (λ said. added_laid said layout parts))
+    (λ after. laid_from_laid after lines)
+
+nothing_sized : (section : Section) → (used_by section nothing_placed ≤ 1048576) × (used_by section nothing_placed ≡ 0)
+nothing_sized Text = (lit≤ tt, refl)
+nothing_sized Data = (lit≤ tt, refl)
 
 -- each layout of the first pass
-pub laid_laid : (source : List ℕ) (layout : Layout) → laid source ≡ Ok layout → IsLaid layout
+pub laid_laid : (source : List ℕ) → IfOk (laid source) IsLaid
 unfolding laid
-laid_laid source layout h =
-    laid_from_laid nothing_placed layout (lines_of source) h (record { text_fits = lit≤ tt; data_fits = lit≤ tt; text_is = refl; data_is = refl; start_is = tt })
-
--- an answer that is due
-pub gives_laid : {X : Type 0} (view : X → Layout) (source : List ℕ) (answer : Result X (Failure (LineFault AsmWhy))) → Gives view answer (laid source) → IfOk answer (λ x. IsLaid (view x))
-gives_laid view source (Ok x) gives = laid_laid source (view x) gives
-gives_laid view source (Err e) gives = tt
+laid_laid source =
+    IfOk-weaker _ HasParts IsLaid (λ layout parts. record { fits = λ section. (parts.0 section).0; is = λ section. (parts.0 section).1; start_is = parts.1 })
+    (laid_from_laid nothing_placed (lines_of source) ((λ section. nothing_sized section), tt))

@@ -55,38 +55,17 @@ in_text Data = Err Syntax
 
 -- Operands of directives: another form or number of them is Syntax.
 
-abbrev pub value_form : OperandValue → Result ExpressionValue AsmWhy
-value_form (Value e) = Ok e
-value_form _ = Err Syntax
-
-abbrev pub quoted_form : OperandValue → Result (List ℕ) AsmWhy
-quoted_form (Quoted text) = Ok text
-quoted_form _ = Err Syntax
-
-abbrev pub nothing_in : List OperandValue → Result (Unit {0}) AsmWhy
-nothing_in [] = Ok tt
-nothing_in _ = Err Syntax
-
-abbrev pub value_in : List OperandValue → Result ExpressionValue AsmWhy
-value_in (a ∷ []) = value_form a
-value_in _ = Err Syntax
-
 -- each operand an expression
 abbrev pub values_in : List OperandValue → Result (List ExpressionValue) AsmWhy
 values_in [] = Ok []
-values_in (a ∷ rest) = do
-  e ← value_form a
+values_in (Value e ∷ rest) = do
   es ← values_in rest
   Ok (e ∷ es)
-
--- one expression or more
-abbrev pub some_values_in : List OperandValue → Result (List ExpressionValue) AsmWhy
-some_values_in [] = Err Syntax
-some_values_in (a ∷ rest) = values_in (a ∷ rest)
+values_in _ = Err Syntax
 
 -- the bytes that a quoted text means
 abbrev pub quoted_in : List OperandValue → Result (List ℕ) AsmWhy
-quoted_in (a ∷ []) = quoted_form a
+quoted_in (Quoted text ∷ []) = Ok text
 quoted_in _ = Err Syntax
 
 -- to put the bytes that a quoted text means, and an ending behind them
@@ -120,42 +99,27 @@ written_name e = do
   name_form inner
 
 abbrev pub number_in : List OperandValue → Result ℕ AsmWhy
-number_in operands = do
-  e ← value_in operands
-  written_number e
+number_in (Value e ∷ []) = written_number e
+number_in _ = Err Syntax
 
--- a name and an expression
-abbrev pub definition_in : List OperandValue → Result (List ℕ × ExpressionValue) AsmWhy
-definition_in (a ∷ b ∷ []) = do
-  a ← value_form a
-  e ← value_form b
-  name ← written_name a
-  Ok (name, e)
-definition_in _ = Err Syntax
-
--- what a directive with these operands asks for
+-- what a directive with these operands asks for: another form or number of them is Syntax
 unfoldable pub directed : Directive → List OperandValue → Result Action AsmWhy
-directed (directives.Enter section) operands = do
-  none ← nothing_in operands
-  Ok (Enter section)
-directed (directives.Numbers size) operands = do
-  es ← some_values_in operands
+directed (directives.Enter section) [] = Ok (Enter section)
+directed (directives.Numbers size) (a ∷ more) = do
+  es ← values_in (a ∷ more)
   Ok (Put (Numbers size es))
-directed directives.Ascii operands = do
-  bs ← quoted_in operands
-  Ok (Put (Given bs))
-directed directives.Asciiz operands = do
-  bs ← quoted_in operands
-  Ok (Put (Given (bs ++ 0 ∷ [])))
+directed directives.Ascii operands = text_in [] operands
+directed directives.Asciiz operands = text_in (0 ∷ []) operands
 directed directives.Space operands = do
   n ← number_in operands
   Ok (Put (Given (replicate n 0)))
 directed directives.Align operands = do
   n ← number_in operands
   Ok (Align n)
-directed directives.Equ operands = do
-  definition ← definition_in operands
-  Ok (Define definition.0 definition.1)
+directed directives.Equ (Value a ∷ Value e ∷ []) = do
+  name ← written_name a
+  Ok (Define name e)
+directed _ _ = Err Syntax
 
 -- operands without their places
 abbrev pub operands_in : List ArgValue → List OperandValue

@@ -3,7 +3,7 @@ use Rattle.std.specs.Prelude.{◌≡◌, ℕ, ◌+◌, ◌≤◌, true, ◌⊎�
 use Rattle.asm_layout.specs.declared.section.Section.{Section}
 use Rattle.asm_layout.specs.declared.section.Section.TheVariants.{Text, Data}
 use Rattle.asm_layout.specs.Content.{content_length}
-use Rattle.asm_layout.specs.Layout.{Layout, Placed, section_limit}
+use Rattle.asm_layout.specs.Layout.{Layout, Placed, section_limit, used_by}
 
 -- so many bytes, where they stand in this section
 abbrev pub length_in : Section → Section → ℕ → ℕ
@@ -29,8 +29,6 @@ StartIn (Some place) ps = HasStart place ps
 
 -- a section is within its limit, and as long as what its statements put into it
 pub record IsLaid (layout : Layout) : Type 0 where
-  pub text_fits : layout.text ≤ section_limit
-  pub data_fits : layout.data_bytes ≤ section_limit
-  pub text_is : layout.text ≡ total Text layout.placed
-  pub data_is : layout.data_bytes ≡ total Data layout.placed
+  pub fits : (section : Section) → used_by section layout ≤ section_limit
+  pub is : (section : Section) → used_by section layout ≡ total section layout.placed
   pub start_is : StartIn layout.start layout.placed

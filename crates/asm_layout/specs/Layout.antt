@@ -159,8 +159,7 @@ line_added line layout = do
 abbrev pub laid_from : Layout → List LineValue → Result Layout (LineFault AsmWhy)
 laid_from layout [] = Ok layout
 laid_from layout (line ∷ lines) = do
-  said ← due_of line
-  after ← added said layout
+  after ← line_added line layout
   laid_from after lines
 
 -- the first pass over a source

@@ -3,6 +3,5 @@ pub mod Content
 pub mod Draft
 pub mod Laid
 pub mod Layout
-pub mod Room
 pub mod Seen
 pub mod Value

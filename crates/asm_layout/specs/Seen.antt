@@ -2,7 +2,7 @@
 use Rattle.std.specs.Prelude.{List, map, replicate}
 use Rattle.asm_parse.specs.Expression.{ExpressionValue}
 use Rattle.asm_parse.specs.Operand.{OperandValue}
-use Rattle.asm_parse.specs.Seen.{arg_seen, expression_seen, operand_seen}
+use Rattle.asm_parse.specs.Seen.{arg_seen, expression_seen}
 use Rattle.asm_parse.specs.declared.syntax.Arg.{Arg}
 use Rattle.asm_parse.specs.declared.expression.Expression.{Expression}
 use Rattle.asm_layout.specs.Action as actions
@@ -23,9 +23,6 @@ use Rattle.asm_layout.specs.declared.reading.Reading.{Reading}
 
 abbrev pub operands_seen : List Arg → List OperandValue
 operands_seen args = operands_in (map arg_seen args)
-
-abbrev pub operand_in : Arg → OperandValue
-operand_in arg = operand_seen arg.operand
 
 abbrev pub filling_seen : Filling → drafts.Filling
 filling_seen filling.Whole = drafts.Whole

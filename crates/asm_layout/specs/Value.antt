@@ -1,5 +1,6 @@
 -- Values of names and of expressions. A value is a number modulo 2 ^ 32.
-use Rattle.std.specs.Prelude.{ℕ, ◌+◌, ◌%◌, ◌^◌, List, Option, Some, Result}
+use Rattle.std.specs.Prelude.{ℕ, ◌+◌, ◌%◌, ◌^◌, List, Option, Some, Result, Vec, map}
+use Rattle.std.specs.declared.alloc.Global.{Global}
 use Rattle.std.specs.Map.{lookup}
 use Rattle.std.specs.Option.{ok_or, option_map}
 use Rattle.std.specs.Str.{bytes_eq}
@@ -10,6 +11,10 @@ use Rattle.asm_parse.specs.declared.fault.AsmWhy.TheVariants.{Undefined}
 -- the names that have a value, each with it, in the order in which they got it
 abbrev pub Names : Type 0
 Names = List (List ℕ × ℕ)
+
+-- the same of a map whose keys are the names
+abbrev pub names_of : List (Vec ℕ Global × ℕ) → Names
+names_of entries = map (λ e. (e.0.items, e.1)) entries
 
 -- the value of a name, where it has one
 abbrev pub value_of_name : List ℕ → Names → Option ℕ

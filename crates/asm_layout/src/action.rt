@@ -1,10 +1,10 @@
 //! What statements ask for.
 ghost use Rattle.std.specs.Prelude.{◌≡◌, map};
 ghost use Rattle.asm_parse.specs.Seen.{arg_seen, expression_seen};
-ghost use Rattle.asm_layout.specs.Action.{Put, action_of, definition_in, directed, number_in, quoted_in, text_in, values_in, written_name};
+ghost use Rattle.asm_layout.specs.Action.{Put, action_of, directed, number_in, quoted_in, text_in, values_in, written_name};
 ghost use Rattle.asm_layout.specs.Content.{Instruction};
 ghost use Rattle.asm_parse.specs.declared.syntax.AsmBody.TheVariants.{Op};
-ghost use Rattle.asm_layout.specs.declared.directive.Directive.TheVariants.{Enter, Numbers};
+ghost use Rattle.asm_layout.specs.declared.directive.Directive.TheVariants.{Equ};
 ghost use Rattle.line_text.specs.Failing.{Gives};
 ghost use Rattle.line_text.specs.Outcome.{ok_seen};
 ghost use Rattle.asm_layout.specs.Seen.{action_seen, draft_seen, expressions_seen, operands_seen};
@@ -77,44 +77,18 @@ fn directed<'a>(
     ensures { Gives action_seen result (directed directive (operands_seen operands.now)) }
 {
     match directive {
-        Directive::Enter(section) => enter(section, operands),
-        Directive::Numbers(size) => numbers(alloc, size, operands),
+        Directive::Enter(section) if operands.is_empty() => Ok(Action::Enter(section)),
+        Directive::Numbers(size) if !operands.is_empty() => {
+            let expressions = values(alloc, operands)?;
+            Ok(Action::Put(Content::Numbers(size, expressions)))
+        }
+        Directive::Enter(_) | Directive::Numbers(_) => Err(Failure::Fault(AsmWhy::Syntax)),
         Directive::Ascii => text(alloc, b"", operands),
         Directive::Asciiz => text(alloc, b"\0", operands),
         Directive::Space => Ok(Action::Put(Content::Zeros(number(operands)?))),
         Directive::Align => Ok(Action::Align(number(operands)?)),
-        Directive::Equ => {
-            let (name, value) = definition(operands)?;
-            Ok(Action::Define(name, value))
-        }
+        Directive::Equ => define(operands),
     }
-}
-
-/// To go on in a section.
-#[tactic(auto, unfolding(crate::specs::Action::directed))]
-fn enter<'a>(section: Section, operands: &[Arg<'a>]) -> Result<Action<'a>, Failure<AsmWhy>>
-    ensures { Gives action_seen result (directed (Enter section) (operands_seen operands.now)) }
-{
-    match operands {
-        [] => Ok(Action::Enter(section)),
-        _ => Err(Failure::Fault(AsmWhy::Syntax)),
-    }
-}
-
-/// To put one number or more.
-#[tactic(auto, unfolding(crate::specs::Action::directed))]
-fn numbers<'a>(
-    alloc: Global,
-    size: NumberSize,
-    operands: &[Arg<'a>],
-) -> Result<Action<'a>, Failure<AsmWhy>>
-    ensures { Gives action_seen result (directed (Numbers size) (operands_seen operands.now)) }
-{
-    if operands.is_empty() {
-        return Err(Failure::Fault(AsmWhy::Syntax));
-    }
-    let expressions = values(alloc, operands)?;
-    Ok(Action::Put(Content::Numbers(size, expressions)))
 }
 
 /// Each operand an expression.
@@ -185,15 +159,18 @@ fn written_name<'a>(expression: &Expression<'a>) -> Result<&'a [u8], AsmWhy>
     }
 }
 
-/// A name, and the expression whose value it gets.
-fn definition<'a>(operands: &[Arg<'a>]) -> Result<(&'a [u8], Expression<'a>), AsmWhy>
-    ensures { ok_seen (λ d. (d.0.now, expression_seen d.1)) result ≡ definition_in (operands_seen operands.now) }
+/// To give a name the value of an expression.
+#[tactic(auto, unfolding(crate::specs::Action::directed))]
+fn define<'a>(operands: &[Arg<'a>]) -> Result<Action<'a>, Failure<AsmWhy>>
+    ensures { Gives action_seen result (directed Equ (operands_seen operands.now)) }
 {
     let [a, b] = operands else {
-        return Err(AsmWhy::Syntax);
+        return Err(Failure::Fault(AsmWhy::Syntax));
     };
     match (&a.operand, &b.operand) {
-        (Operand::Value(name), Operand::Value(value)) => Ok((written_name(name)?, *value)),
-        _ => Err(AsmWhy::Syntax),
+        (Operand::Value(name), Operand::Value(value)) => {
+            Ok(Action::Define(written_name(name)?, *value))
+        }
+        _ => Err(Failure::Fault(AsmWhy::Syntax)),
     }
 }

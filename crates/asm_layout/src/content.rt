@@ -2,7 +2,6 @@
 
 use crate::draft::Draft;
 use crate::number::NumberSize;
-use crate::room::times_within;
 use asm_parse::Expression;
 
 /// What a statement puts into its section.
@@ -19,9 +18,8 @@ pub enum Content<'a> {
 }
 
 impl<'a> Content<'a> {
-    ghost use Rattle.std.specs.Prelude.{◌≡◌, ◌<◌};
+    ghost use Rattle.std.specs.Prelude.{◌≡◌, ◌-◌, ◌<◌, ◌^◌, min};
     ghost use Rattle.asm_layout.specs.Content.{alignment, content_length};
-    ghost use Rattle.asm_layout.specs.Room.{within};
     ghost use Rattle.asm_layout.specs.Seen.{content_seen};
 
     /// What its place is a multiple of.
@@ -37,15 +35,15 @@ impl<'a> Content<'a> {
         }
     }
 
-    /// How many bytes it takes, where these are at most so many.
-    pub(crate) fn length_within(&self, room: u32) -> Option<u32>
-        ensures { result ≡ within room (content_length (content_seen self.now)) }
+    /// How many bytes it takes, up to 2^64 - 1.
+    pub(crate) fn length(&self) -> usize
+        ensures { result ≡ min (content_length (content_seen self.now)) (2 ^ 64 - 1) }
     {
         match self {
-            Content::Instruction(draft) => times_within(1, draft.length(), room),
-            Content::Numbers(size, numbers) => times_within(numbers.len(), size.length(), room),
-            Content::Bytes(bytes) => times_within(bytes.len(), 1, room),
-            Content::Zeros(count) => times_within(*count as usize, 1, room),
+            Content::Instruction(draft) => draft.length() as usize,
+            Content::Numbers(size, numbers) => numbers.len().saturating_mul(size.length() as usize),
+            Content::Bytes(bytes) => bytes.len(),
+            Content::Zeros(count) => *count as usize,
         }
     }
 }

@@ -36,8 +36,7 @@ impl<'a> Draft<'a> {
 
     /// How many bytes its instructions take.
     pub(crate) fn length(&self) -> u32
-        ensures value { result ≡ draft_length (draft_seen self.now) }
-        ensures some { 0 < result }
+        ensures { result ≡ draft_length (draft_seen self.now) }
     {
         match self.filling {
             Filling::Halves(_) => 8,

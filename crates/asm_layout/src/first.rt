@@ -11,21 +11,13 @@ use line_text::{TextFailure, cut};
 use std::alloc::Global;
 
 /// What the lines of a source place, or the first fault of the first pass (`docs/ASSEMBLER.md`).
+#[tactic(auto, unfolding(crate::specs::Layout::laid))]
 pub fn lay_out<'a>(alloc: Global, source: &'a [u8]) -> Result<Layout<'a>, TextFailure<AsmWhy>>
     requires { length source.now < 2 ^ 27 }
     // It is what the source's lines place; a fault is the one that the source has.
     ensures value { Gives layout_seen result (laid source.now) }
     // The sections are within their limit, and as long as what stands in them; `start` is one of the labels.
     ensures sound { IfOk result (λ layout. IsLaid (layout_seen layout)) }
-{
-    laid(alloc, source)
-}
-
-/// What the lines of a source place.
-#[tactic(auto, unfolding(crate::specs::Layout::laid))]
-fn laid<'a>(alloc: Global, source: &'a [u8]) -> Result<Layout<'a>, TextFailure<AsmWhy>>
-    requires { length source.now < 2 ^ 27 }
-    ensures { Gives layout_seen result (laid source.now) }
 {
     let mut layout = Layout::new(alloc);
     for line in cut(source) {

@@ -1,12 +1,11 @@
 //! The first pass: where each statement stands, and the values of the names.
-ghost use Rattle.std.specs.Prelude.{◌≤◌, ◌<◌};
+ghost use Rattle.std.specs.Prelude.{◌≡◌, ◌≤◌, ◌<◌};
+ghost use Rattle.asm_layout.specs.Layout.{is_start};
 
 use crate::action::{Action, read_action};
 use crate::content::Content;
 use crate::names::Names;
-use crate::padding::padding;
 use crate::section::{SECTION_LIMIT, Section};
-use crate::start::is_start;
 use crate::value::defined;
 use asm_parse::{AsmLine, AsmWhy, Expression, Name, parse_line};
 use line_text::{Failure, Line, TextFailure, at_line};
@@ -165,7 +164,8 @@ impl<'a> Layout<'a> {
         if power > LARGEST_ALIGNMENT {
             return Err(Failure::Fault(AsmWhy::OutOfRange));
         }
-        let count = padding(self.place(), 1 << power);
+        let multiple = 1 << power;
+        let count = (multiple - self.place() % multiple) % multiple;
         self.put(line, is_start, Content::Zeros(count))
     }
 
@@ -198,10 +198,11 @@ impl<'a> Layout<'a> {
         if self.place() % content.alignment() != 0 {
             return Err(Failure::Fault(AsmWhy::Unaligned));
         }
-        match content.length_within(SECTION_LIMIT - self.used()) {
-            Some(length) => self.append(line, is_start, content, length),
-            None => Err(Failure::Fault(AsmWhy::OutOfRange)),
+        let length = content.length();
+        if length > (SECTION_LIMIT - self.used()) as usize {
+            return Err(Failure::Fault(AsmWhy::OutOfRange));
         }
+        self.append(line, is_start, content, length as u32)
     }
 
     /// Puts a content at the place.
@@ -229,5 +230,18 @@ impl<'a> Layout<'a> {
             Section::Data => self.data_bytes += length,
         }
         Ok(())
+    }
+}
+
+/// The name of the label at which a program begins.
+const START: &[u8] = b"start";
+
+/// Whether a label is `start`.
+fn is_start(label: &Option<Name>) -> bool
+    ensures { result ≡ is_start label.now }
+{
+    match label {
+        Some(name) => name.bytes() == START,
+        None => false,
     }
 }

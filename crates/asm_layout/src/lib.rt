@@ -13,11 +13,8 @@ mod first;
 mod layout;
 mod names;
 mod number;
-mod padding;
 mod reading;
-mod room;
 mod section;
-mod start;
 mod value;
 
 pub use content::Content;

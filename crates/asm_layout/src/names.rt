@@ -13,11 +13,11 @@ pub struct Names {
 }
 
 impl Model for Names {
-    ghost use Rattle.std.specs.Prelude.{ℕ, List, map};
+    ghost use Rattle.asm_layout.specs.Value.{Names as NameValues, names_of};
 
-    ghost Value = { List (List ℕ × ℕ) };
+    ghost Value = { NameValues };
 
-    ghost view = { λ names. map (λ e. (e.0.items, e.1)) names.values.entries };
+    ghost view = { λ names. names_of names.values.entries };
 }
 
 impl Names {

@@ -21,9 +21,10 @@ impl<'a> Reading<'a> {
     ghost use Rattle.std.specs.Prelude.{◌≡◌, ◌+◌, ◌<◌, ◌≤◌, ◌^◌, IfOk, length};
     ghost use Rattle.std.specs.Option.{option_map, unwrap_or};
     ghost use Rattle.mips_text.specs.Seen.{text_seen};
+    ghost use Rattle.asm_parse.specs.Seen.{arg_seen};
     ghost use Rattle.line_text.specs.Outcome.{ok_seen};
     ghost use Rattle.asm_layout.specs.Draft.{read_operand, read_text};
-    ghost use Rattle.asm_layout.specs.Seen.{operand_in, operands_seen, reading_seen};
+    ghost use Rattle.asm_layout.specs.Seen.{operands_seen, reading_seen};
 
     /// What is read of an instruction with these operands. The fault is Syntax.
     pub(crate) fn of(text: Text, operands: &[Arg<'a>]) -> Result<Reading<'a>, AsmWhy>
@@ -49,7 +50,7 @@ impl<'a> Reading<'a> {
     /// What is read with one operand more, or without it. The fault is Syntax.
     fn with(self, form: OperandForm, arg: Option<&Arg<'a>>) -> Result<Reading<'a>, AsmWhy>
         requires { unwrap_or self.word 0 < 0xd0000000 }
-        ensures value { ok_seen reading_seen result ≡ read_operand form (option_map (λ a. operand_in a.now) arg.entry) (reading_seen self.entry) }
+        ensures value { ok_seen reading_seen result ≡ read_operand form (option_map (λ a. (arg_seen a.now).operand) arg.entry) (reading_seen self.entry) }
         ensures grows { IfOk result (λ reading. unwrap_or reading.word 0 < unwrap_or self.entry.word 0 + 2 ^ 26) }
     {
         let Reading { word, filling } = self;

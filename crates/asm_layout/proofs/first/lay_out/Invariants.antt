@@ -3,7 +3,7 @@ use Rattle.std.specs.List.{AllByRecursion}
 use Rattle.line_text.specs.Lines.{IsPlaced, lines_of}
 use Rattle.asm_layout.specs.Layout.{laid_from, nothing_placed}
 use Rattle.asm_layout.specs.Seen.{layout_seen}
-use Rattle.asm_layout.proofs.first.laid.Given as goal
+use Rattle.asm_layout.proofs.first.lay_out.Given as goal
 
 -- what is placed so far, with the lines to come, is what all lines place
 abbrev pub invariant-loop-line : goal.invariant-loop-line
