@@ -1,6 +1,6 @@
 -- Operands with commas between them, read again.
-use Rattle.std.proofs.Common.{◌≡◌, ℕ, ◌+◌, ◌-◌, ◌<◌, ◌∙◌, Bool, true, false, List, [], ◌∷◌, ◌++◌, Option, Some, length, map, refl, sym, ap, subst, arith, append_assoc}
-use Rattle.std.specs.Prelude.{◌==◌, ◌&&◌}
+use Rattle.std.proofs.Common.{◌≡◌, ℕ, ◌+◌, ◌-◌, ◌<◌, ◌∙◌, true, false, List, [], ◌∷◌, ◌++◌, Option, Some, length, map, refl, sym, ap, subst, arith, append_assoc, append-nil}
+use Rattle.std.specs.Prelude.{◌==◌}
 use Rattle.std.proofs.lemmas.Bool.{and_parts}
 use Rattle.std.proofs.lemmas.Bool.Decides.{nat_tests}
 use Rattle.std.proofs.Math.Bool.{and-false}
@@ -11,7 +11,7 @@ use Rattle.asm_parse.specs.Arg.{ArgValue}
 use Rattle.line_text.specs.Characters.{is_blank}
 use Rattle.asm_parse.specs.Operand.{OperandValue}
 use Rattle.asm_parse.specs.Form.{Piece, arg_of, args_at, args_of, before_blanks, behind, is_outside, parts_at}
-use Rattle.mips_list.specs.WordText.{after_name, joined}
+use Rattle.mips_list.specs.WordText.{after_name, marked}
 use Rattle.listing_law.proofs.NumberTexts.{IsOperand, is_plain}
 
 -- Bytes.
@@ -47,9 +47,14 @@ AreOperands [] (o ∷ os) = ⊥
 AreOperands (t ∷ ts) [] = ⊥
 AreOperands (t ∷ ts) (o ∷ os) = IsOperand t o × AreOperands ts os
 
+-- texts with a comma between each two
+abbrev pub joined : List (List ℕ) → List ℕ
+joined [] = []
+joined (text ∷ texts) = text ++ marked 44 texts
+
 parts_joined : (q : _) (t : List ℕ) (ts : List (List ℕ)) (o : OperandValue) (os : List OperandValue) → ((b : ℕ) → is_plain b ≡ true → behind q b ≡ q)
     → ((rest : List ℕ) → parts_at 44 q (44 ∷ rest) ≡ [] ∷ parts_at 44 q rest) → IsOperand t o → AreOperands ts os → parts_at 44 q (joined (t ∷ ts)) ≡ t ∷ ts
-parts_joined q t [] o os stays marks here rest = parts_one q t stays here.plain
+parts_joined q t [] o os stays marks here rest = rw (append-nil t) (parts_one q t stays here.plain)
 parts_joined q t (u ∷ us) o [] stays marks here rest = absurd rest
 parts_joined q t (u ∷ us) o (p ∷ ps) stays marks here rest =
     parts_then q t (joined (u ∷ us)) stays (marks (joined (u ∷ us))) here.plain ∙ ap (λ xs. t ∷ xs) (parts_joined q u us p ps stays marks rest.0 rest.1)

@@ -18,10 +18,10 @@ use Rattle.asm_parse.specs.Operand.{OperandValue}
 use Rattle.asm_parse.specs.Words.{begins_name}
 use Rattle.asm_parse.specs.Form.{Piece, args_at, before_mark, behind, is_outside, body_named, body_of, label_of, line_of, operands_of, said, statement_of, trimmed}
 use Rattle.asm_parse.specs.declared.syntax.AsmLine.{AsmLine}
-use Rattle.mips_list.specs.WordText.{after_name, joined}
+use Rattle.mips_list.specs.WordText.{after_name}
 use Rattle.listing_law.proofs.Numbers.{list_all_weaker}
 use Rattle.listing_law.proofs.NumberTexts.{IsOperand, is_plain}
-use Rattle.listing_law.proofs.ArgTexts.{AreOperands, AreRead, EndsPlain, args_spaced, before_none, ends_behind, plain_ends}
+use Rattle.listing_law.proofs.ArgTexts.{AreOperands, AreRead, EndsPlain, args_spaced, before_none, ends_behind, joined, plain_ends}
 
 -- a byte of a line without quoted texts and comments
 abbrev pub is_said : ℕ → Bool
@@ -141,14 +141,6 @@ follows_name : (ts : List (List ℕ)) → Follows (after_name ts)
 follows_name [] = tt
 follows_name (t ∷ ts) = refl
 
-some_name : (name : List ℕ) → begins_name name ≡ true → (c : ℕ) × (cs : List ℕ) × (name ≡ c ∷ cs)
-some_name [] begins = cc
-some_name (c ∷ cs) begins = (c, cs, refl)
-
-begins_behind : (name rest : List ℕ) → begins_name name ≡ true → begins_name (name ++ rest) ≡ true
-begins_behind [] rest begins = cc
-begins_behind (c ∷ cs) rest begins = begins
-
 some_length : (name rest : List ℕ) → begins_name name ≡ true → (length (name ++ rest) == 0) ≡ false
 some_length [] rest begins = cc
 some_length (c ∷ cs) rest begins = eqb-suc-zero (length (cs ++ rest))
@@ -177,13 +169,13 @@ plain_bytes : (bs : List ℕ) → list_all is_plain bs ≡ true → list_all is_
 plain_bytes bs all = list_all_weaker is_plain is_said plain_said bs all
 
 joined_bytes : (t : List ℕ) (ts : List (List ℕ)) (o : OperandValue) (os : List OperandValue) → IsOperand t o → AreOperands ts os → list_all is_said (joined (t ∷ ts)) ≡ true
-joined_bytes t [] o os here rest = plain_bytes t here.plain
+joined_bytes t [] o os here rest = rw (append-nil t) (plain_bytes t here.plain)
 joined_bytes t (u ∷ us) o [] here rest = absurd rest
 joined_bytes t (u ∷ us) o (p ∷ ps) here rest =
     rw (list_all-append is_said t (44 ∷ joined (u ∷ us)), plain_bytes t here.plain, joined_bytes u us p ps rest.0 rest.1) refl
 
 joined_ends : (t : List ℕ) (ts : List (List ℕ)) (o : OperandValue) (os : List OperandValue) → IsOperand t o → AreOperands ts os → EndsPlain (joined (t ∷ ts))
-joined_ends t [] o os here rest = plain_ends t here.plain here.some
+joined_ends t [] o os here rest = rw (append-nil t) (plain_ends t here.plain here.some)
 joined_ends t (u ∷ us) o [] here rest = absurd rest
 joined_ends t (u ∷ us) o (p ∷ ps) here rest =
     ends_behind t (44 ∷ joined (u ∷ us)) (ends_behind (44 ∷ []) (joined (u ∷ us)) (joined_ends u us p ps rest.0 rest.1))

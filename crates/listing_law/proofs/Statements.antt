@@ -99,6 +99,9 @@ asks_word : (word : ℕ) (args : List ArgValue) → operands_in args ≡ word_op
 unfolding action_of
 asks_word word args reads = rw reads refl
 
+data_line : (word : ℕ) → codes ".word" ++ after_name (hexadecimal 8 word ∷ []) ≡ data_text word
+data_line word = ap (λ text. codes ".word " ++ text) (append-nil (hexadecimal 8 word))
+
 data_puts : (number start word address : ℕ) → word < 2 ^ 32
     → Puts (record { number = number; start = start; text = data_text word }) address (to_le_bytes w32 word)
 data_puts number start word address small =
@@ -106,7 +109,7 @@ data_puts number start word address small =
     let ts : List (List ℕ) = hexadecimal 8 word ∷ [] in
     let are : AreOperands ts (word_operands word) = (number_operand (hexadecimal 8 word) word (word_text_read word small), tt) in
     let args = operands_read (start + length name) ts (word_operands word) are in
-    record {
+    subst (λ (text : List ℕ). Puts (record { number = number; start = start; text = text }) address (to_le_bytes w32 word)) (data_line word) (record {
       statement = record { line = number; start = start; end = start + length (name ++ after_name ts); label = None; body = body_named name args.found };
       content = put_by (word_action word);
       is = line_read number start name ts args.found refl (text_is_line name ts (word_operands word) refl are) args.is;
@@ -115,7 +118,7 @@ data_puts number start word address small =
       aligned = word_aligned word;
       size = word_size word;
       puts = λ names. word_puts names word address;
-    }
+    })
 
 -- Any word.
 
@@ -144,7 +147,8 @@ word_statement number start word address small aligned below =
 -- the text of a word is one line
 by_is_line : (word address : ℕ) (row : Option (List ℕ × TextValue)) → row_of word ≡ row → word < 2 ^ 32 → IsLine (text_by row word address)
 by_is_line word address None is small =
-    text_is_line (codes ".word") (hexadecimal 8 word ∷ []) (word_operands word) refl (number_operand (hexadecimal 8 word) word (word_text_read word small), tt)
+    subst IsLine (data_line word)
+    (text_is_line (codes ".word") (hexadecimal 8 word ∷ []) (word_operands word) refl (number_operand (hexadecimal 8 word) word (word_text_read word small), tt))
 by_is_line word address (Some row) is small =
     text_is_line row.0 (operand_texts row.1.operands word address) (operand_values row.1.operands word address) (row_found word row is).name (texts_read row.1.operands word address)
 

@@ -1,3 +1,2 @@
 pub mod WordTexts
 pub mod Lines
-pub mod Operands

@@ -63,16 +63,14 @@ is_written _ word = true
 abbrev pub operand_texts : List OperandForm → ℕ → ℕ → List (List ℕ)
 operand_texts forms word address = map (λ form. operand_text form word address) (filter (λ form. is_written form word) forms)
 
--- texts with a comma between each two
-abbrev pub joined : List (List ℕ) → List ℕ
-joined [] = []
-joined (text ∷ []) = text
-joined (text ∷ next ∷ texts) = text ++ byte "," ∷ joined (next ∷ texts)
+-- texts with a mark before the first, and a comma before each further one
+abbrev pub marked : ℕ → List (List ℕ) → List ℕ
+marked mark [] = []
+marked mark (text ∷ texts) = mark ∷ text ++ marked (byte ",") texts
 
--- operands behind a name: a space before them, where there are any
+-- operands behind a name
 abbrev pub after_name : List (List ℕ) → List ℕ
-after_name [] = []
-after_name (text ∷ texts) = byte " " ∷ joined (text ∷ texts)
+after_name texts = marked (byte " ") texts
 
 -- an instruction by its row: its name and its operands
 abbrev pub row_text : List ℕ × TextValue → ℕ → ℕ → List ℕ

@@ -96,14 +96,6 @@ fn push_field(
     ensures keeps { Keeps out.old.items out.new.items }
 {
     push_word(out, Word::Text(&[mark]))?;
-    push_value(field, word, address, out)
-}
-
-/// Appends the number in a field of a word that stands at an address.
-fn push_value(field: Field, word: u32, address: u32, out: &mut Vec<u8>) -> Result<(), OutOfMemory>
-    ensures ok { OnOk result (out.new.items ≡ out.old.items ++ field_text field word address) }
-    ensures keeps { Keeps out.old.items out.new.items }
-{
     let number = field.get(word);
     match field {
         Field::Amount | Field::Code => push_word(out, Word::Number(u64::from(number))),

@@ -1,7 +1,6 @@
 use Rattle.std.proofs.Common.{◌≡◌, ◌++◌, drop}
 use Rattle.line_text.specs.Growth.{Keeps}
-use Rattle.mips_list.specs.WordText.{operand_texts}
-use Rattle.mips_list.proofs.Operands.{marked}
+use Rattle.mips_list.specs.WordText.{marked, operand_texts}
 use Rattle.mips_list.proofs.operand.push_operands.Given as goal
 
 -- what is written so far and what is to come is all
