@@ -1,7 +1,5 @@
 -- What stands after a statement's bytes are put, or a fault.
-use Rattle.std.proofs.Common.{◌≡◌, ◌∙◌, ℕ, ◌+◌, ◌<◌, List, ◌++◌, length, get_or, take, Option, Some, None, Result, Ok, Err, refl, ap, sym, subst}
-use Rattle.std.proofs.lemmas.List.{flat_map_more, take_more}
-use Rattle.std.specs.List.{flat_map}
+use Rattle.std.proofs.Common.{◌≡◌, ℕ, List, Option, Some, None, Result, Ok, Err, refl, ap}
 use Rattle.asm_parse.specs.declared.fault.AsmWhy.{AsmWhy}
 use Rattle.line_text.specs.declared.failure.Failure.{Failure}
 use Rattle.line_text.specs.declared.failure.Failure.TheVariants.{Fault, OutOfMemory}
@@ -23,16 +21,4 @@ start_gives (Some why) (Err (Fault w)) old new (Err e) gives =
 pub emit_gives : (start cause : Option AsmWhy) (pushed answer : Result (Unit {0}) (Failure AsmWhy)) (old new : List ℕ) (due : Result (List ℕ) AsmWhy) →
     start ≡ cause → answer ≡ unless_start_failure start pushed → Gives (λ _. new) pushed (onto old due) →
     Gives (λ _. new) answer (onto old (unless_start cause due))
-emit_gives start cause pushed answer old new due same is gives =
-    let P : Option AsmWhy → Type 0 = λ s. Gives (λ _. new) (unless_start_failure start pushed) (onto old (unless_start s due)) in
-    let Q : Result (Unit {0}) (Failure AsmWhy) → Type 0 = λ r. Gives (λ _. new) r (onto old (unless_start cause due)) in
-    subst Q (sym is) (subst P same (start_gives start pushed old new due gives))
-
--- the bytes of one more value behind those of the first ones
-pub one_more : (bytes : ℕ → List ℕ) (old before after values : List ℕ) (i d : ℕ) → before ≡ old ++ flat_map bytes (take i values) → after ≡ before ++ bytes (get_or values i d) → i < length values →
-    after ≡ old ++ flat_map bytes (take (i + 1) values)
-one_more bytes old before after values i d was is within =
-    is
-    ∙ ap (λ xs. xs ++ bytes (get_or values i d)) was
-    ∙ flat_map_more bytes old (take i values) (get_or values i d)
-    ∙ ap (λ first. old ++ flat_map bytes first) (sym (take_more values i d within))
+emit_gives start cause pushed answer old new due same is gives = rw (is, ← same) (start_gives start pushed old new due gives)

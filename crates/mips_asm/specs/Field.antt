@@ -42,14 +42,8 @@ bits_of field place v = do
   n ← field_of field place v
   Ok (field_word field n)
 
--- the field of an expression, in an instruction at a place
-abbrev pub field_in : Names → Field → ℕ → ExpressionValue → Result ℕ AsmWhy
-field_in names field place e = do
-  v ← defined names e
-  field_of field place v
-
--- the bits of the word that it fills
+-- the bits of the word that the field of an expression fills
 abbrev pub field_bits_in : Names → Field → ℕ → ExpressionValue → Result ℕ AsmWhy
 field_bits_in names field place e = do
-  n ← field_in names field place e
-  Ok (field_word field n)
+  v ← defined names e
+  bits_of field place v

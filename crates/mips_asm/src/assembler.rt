@@ -20,21 +20,13 @@ const EMPTY_LINE: u32 = 1;
 /// The program of a source in the language of `docs/ASSEMBLER.md`, or the first fault: of the first pass
 /// in the order of the lines, that there is no byte of text, or of the second pass in the order of the
 /// lines.
+#[tactic(auto, unfolding(crate::specs::Assembled::assembled))]
 pub fn assemble(alloc: Global, source: &[u8]) -> Result<Object, TextFailure<AsmWhy>>
     requires { length source.now < 2 ^ 27 }
     // The program is the one that the source means; a fault is the one that the source has.
     ensures value { Gives object_seen result (assembled source.now) }
     // The program can be written as an ELF file.
     ensures writable { IfOk result (λ object. IsWritable (object_seen object)) }
-{
-    assembly(alloc, source)
-}
-
-/// The program of a source.
-#[tactic(auto, unfolding(crate::specs::Assembled::assembled))]
-fn assembly(alloc: Global, source: &[u8]) -> Result<Object, TextFailure<AsmWhy>>
-    requires { length source.now < 2 ^ 27 }
-    ensures { Gives object_seen result (assembled source.now) }
 {
     linked(alloc, &lay_out(alloc, source)?)
 }

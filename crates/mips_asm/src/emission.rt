@@ -1,14 +1,14 @@
 //! The bytes of statements.
-ghost use Rattle.std.specs.Prelude.{◌≡◌, ◌+◌, ◌<◌, ◌^◌, ◌++◌, OnOk, replicate};
+ghost use Rattle.std.specs.Prelude.{◌≡◌, ◌+◌, ◌<◌, ◌^◌, ◌++◌, OnOk};
 ghost use Rattle.std.specs.List.{flat_map, list_all};
 ghost use Rattle.line_text.specs.Failing.{Gives};
 ghost use Rattle.asm_layout.specs.Seen.{content_seen, draft_seen, expressions_seen, placed_seen};
 ghost use Rattle.mips_asm.specs.Emission.{bytes_of, draft_bytes, expressions_bytes, values_of};
 ghost use Rattle.mips_asm.specs.Number.{number_bytes, number_fits, numbers_bytes};
-ghost use Rattle.mips_asm.specs.Second.{earlier, emitted, onto, start_fault, start_fault_of, unless_start_failure};
+ghost use Rattle.mips_asm.specs.Second.{earlier, emitted, onto, start_fault_of, unless_start_failure};
 
 use crate::number::{fits, push_number};
-use crate::words::{draft_words, push_words};
+use crate::words::push_draft;
 use asm_layout::{Content, Draft, Names, NumberSize, Placed, Section, defined};
 use asm_parse::{AsmWhy, Expression};
 use line_text::Failure;
@@ -16,7 +16,7 @@ use std::alloc::{AllocError, Global};
 
 /// Puts the bytes of a statement at the end, in a text of so many bytes. The fault is Undefined,
 /// Unaligned or OutOfRange, or that memory ran out.
-#[tactic(auto, unfolding(crate::specs::Second::emitted))]
+#[tactic(auto, using(crate::proofs::EmissionLemmas::emit_gives), unfolding(crate::specs::Second::emitted))]
 pub(crate) fn emit(
     out: &mut Vec<u8>,
     alloc: Global,
@@ -58,23 +58,15 @@ fn earlier(why: AsmWhy, other: AsmWhy) -> AsmWhy
     }
 }
 
-/// What is wrong with `start`, where it is the label of a statement.
+/// What is wrong with `start`, where it is the label of a statement, in a text of so many bytes.
 fn start_fault_of(size: u32, placed: &Placed<'_>) -> Option<AsmWhy>
     ensures { result ≡ start_fault_of size (placed_seen placed.now) }
 {
-    if placed.is_start {
-        start_fault(size, placed.place)
-    } else {
-        None
-    }
-}
-
-/// What is wrong with `start` at a place, in a text of so many bytes.
-fn start_fault(size: u32, place: u32) -> Option<AsmWhy>
-    ensures { result ≡ start_fault size place }
-{
     let base = Section::Text.base();
-    if place % 4 != 0 {
+    let place = placed.place;
+    if !placed.is_start {
+        None
+    } else if place % 4 != 0 {
         Some(AsmWhy::Unaligned)
     } else if place < base || place - base >= size {
         Some(AsmWhy::OutOfRange)
@@ -97,23 +89,8 @@ fn push_content(
         Content::Instruction(draft) => push_draft(out, names, placed.place, *draft),
         Content::Numbers(size, numbers) => push_expressions(out, alloc, names, *size, numbers),
         Content::Bytes(bytes) => Ok(out.extend_from_slice(bytes)?),
-        Content::Zeros(count) => Ok(push_zeros(out, *count)?),
+        Content::Zeros(count) => Ok(out.resize(out.len() + *count as usize, 0)?),
     }
-}
-
-/// Puts the words of an instruction at a place at the end. The fault is Undefined, Unaligned or OutOfRange.
-fn push_draft(
-    out: &mut Vec<u8>,
-    names: &Names,
-    place: u32,
-    draft: Draft<'_>,
-) -> Result<(), Failure<AsmWhy>>
-    requires { place + 4 < 2 ^ 32 }
-    ensures { Gives (λ _. out.new.items) result (onto out.old.items (draft_bytes names.now place (draft_seen draft.entry))) }
-{
-    let words = draft_words(draft, names, place)?;
-    push_words(out, words)?;
-    Ok(())
 }
 
 /// Puts the values of expressions at the end. The fault is Undefined or OutOfRange.
@@ -171,11 +148,4 @@ fn push_all(out: &mut Vec<u8>, size: NumberSize, values: &[u32]) -> Result<(), A
         push_number(out, size, *value)?;
     }
     Ok(())
-}
-
-/// Puts so many zeros at the end.
-fn push_zeros(out: &mut Vec<u8>, count: u32) -> Result<(), AllocError>
-    ensures { OnOk result (out.new.items ≡ out.old.items ++ replicate count 0) }
-{
-    out.resize(out.len() + count as usize, 0)
 }

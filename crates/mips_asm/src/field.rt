@@ -1,8 +1,7 @@
 //! The fields that values give.
 ghost use Rattle.std.specs.Prelude.{◌≡◌, ◌<◌, ◌^◌, ◌+◌, IfOk};
 ghost use Rattle.asm_parse.specs.Seen.{expression_seen};
-ghost use Rattle.mips_text.specs.declared.shape.Field.TheVariants.{Amount, Branch, Code, Jump, Signed, Unsigned};
-ghost use Rattle.mips_asm.specs.Field.{bits_of, distance, field_bits_in, lies};
+ghost use Rattle.mips_asm.specs.Field.{bits_of, distance, field_bits_in, lies, ranged};
 
 use asm_layout::{Names, defined};
 use asm_parse::{AsmWhy, Expression};
@@ -28,63 +27,7 @@ pub(crate) fn field_bits(
     ensures value { result ≡ field_bits_in names.now field place (expression_seen expression.entry) }
     ensures within { IfOk result (λ bits. bits < 2 ^ 26) }
 {
-    let value = defined(names, expression)?;
-    match field {
-        Field::Amount => amount(value),
-        Field::Signed => signed(value),
-        Field::Unsigned => unsigned(value),
-        Field::Code => code(value),
-        Field::Branch => branch(place, value),
-        Field::Jump => jump(place, value),
-    }
-}
-
-/// The bits of a shift amount, in the word.
-fn amount(value: u32) -> Result<u32, AsmWhy>
-    ensures value { result ≡ bits_of Amount 0 value }
-    ensures within { IfOk result (λ bits. bits < 2 ^ 26) }
-{
-    if lies(0, 31, value) {
-        Ok(value << 6)
-    } else {
-        Err(AsmWhy::OutOfRange)
-    }
-}
-
-/// The bits of a half that is extended with its sign.
-fn signed(value: u32) -> Result<u32, AsmWhy>
-    ensures value { result ≡ bits_of Signed 0 value }
-    ensures within { IfOk result (λ bits. bits < 2 ^ 26) }
-{
-    if lies(32768, 32767, value) {
-        Ok(value & 0xffff)
-    } else {
-        Err(AsmWhy::OutOfRange)
-    }
-}
-
-/// The bits of a half that is extended with zeros.
-fn unsigned(value: u32) -> Result<u32, AsmWhy>
-    ensures value { result ≡ bits_of Unsigned 0 value }
-    ensures within { IfOk result (λ bits. bits < 2 ^ 26) }
-{
-    if lies(0, 65535, value) {
-        Ok(value)
-    } else {
-        Err(AsmWhy::OutOfRange)
-    }
-}
-
-/// The bits of a trap's code, in the word.
-fn code(value: u32) -> Result<u32, AsmWhy>
-    ensures value { result ≡ bits_of Code 0 value }
-    ensures within { IfOk result (λ bits. bits < 2 ^ 26) }
-{
-    if lies(0, CODE_LIMIT - 1, value) {
-        Ok(value << 6)
-    } else {
-        Err(AsmWhy::OutOfRange)
-    }
+    value_bits(field, place, defined(names, expression)?)
 }
 
 /// How far a branch reaches back, in bytes.
@@ -93,21 +36,41 @@ const BRANCH_BACK: u32 = 1 << 17;
 /// How far a branch reaches on, in bytes.
 const BRANCH_ON: u32 = BRANCH_BACK - 4;
 
-/// The bits of a branch at a place: how many words it goes on from the word after it, modulo 2^16.
-fn branch(place: u32, target: u32) -> Result<u32, AsmWhy>
+/// How many bytes a jump may reach.
+const JUMP_REGION: u32 = 1 << 28;
+
+/// The bits that the field of a value fills, in an instruction at a place. The fault is Unaligned or
+/// OutOfRange.
+fn value_bits(field: Field, place: u32, value: u32) -> Result<u32, AsmWhy>
     requires { place + 4 < 2 ^ 32 }
-    ensures value { result ≡ bits_of Branch place target }
+    ensures value { result ≡ bits_of field place value }
     ensures within { IfOk result (λ bits. bits < 2 ^ 26) }
 {
-    if target % 4 != 0 {
-        return Err(AsmWhy::Unaligned);
+    match field {
+        Field::Branch | Field::Jump if value % 4 != 0 => Err(AsmWhy::Unaligned),
+        Field::Amount => ranged(lies(0, 31, value), value << 6),
+        Field::Signed => ranged(lies(32768, 32767, value), value & 0xffff),
+        Field::Unsigned => ranged(lies(0, 65535, value), value),
+        Field::Code => ranged(lies(0, CODE_LIMIT - 1, value), value << 6),
+        Field::Branch => {
+            let distance = distance(place, value);
+            ranged(
+                lies(BRANCH_BACK, BRANCH_ON, distance),
+                distance / 4 % (1 << 16),
+            )
+        }
+        Field::Jump => {
+            let near = value / JUMP_REGION == (place + 4) / JUMP_REGION;
+            ranged(near, value % JUMP_REGION / 4)
+        }
     }
-    let distance = distance(place, target);
-    if lies(BRANCH_BACK, BRANCH_ON, distance) {
-        Ok(distance / 4 % (1 << 16))
-    } else {
-        Err(AsmWhy::OutOfRange)
-    }
+}
+
+/// A number, where a value passes a test.
+fn ranged(fits: bool, number: u32) -> Result<u32, AsmWhy>
+    ensures { result ≡ ranged fits number }
+{
+    fits.then_some(number).ok_or(AsmWhy::OutOfRange)
 }
 
 /// How far an address lies behind the word after a place, modulo 2^32.
@@ -116,23 +79,4 @@ fn distance(place: u32, address: u32) -> u32
     ensures { result ≡ distance place address }
 {
     address.wrapping_sub(place + 4)
-}
-
-/// How many bytes a jump may reach.
-const JUMP_REGION: u32 = 1 << 28;
-
-/// The bits of a jump's target, for a jump at a place.
-fn jump(place: u32, target: u32) -> Result<u32, AsmWhy>
-    requires { place + 4 < 2 ^ 32 }
-    ensures value { result ≡ bits_of Jump place target }
-    ensures within { IfOk result (λ bits. bits < 2 ^ 26) }
-{
-    if target % 4 != 0 {
-        return Err(AsmWhy::Unaligned);
-    }
-    if target / JUMP_REGION == (place + 4) / JUMP_REGION {
-        Ok(target % JUMP_REGION / 4)
-    } else {
-        Err(AsmWhy::OutOfRange)
-    }
 }

@@ -4,7 +4,7 @@ use crate::emission::emit;
 use asm_layout::{Layout, Names, Placed, Section};
 use asm_parse::AsmWhy;
 use line_text::{TextFailure, at_line};
-use std::alloc::{AllocError, Global};
+use std::alloc::Global;
 
 /// The bytes of the sections.
 #[derive(Drop)]
@@ -16,10 +16,9 @@ pub(crate) struct Sections {
 }
 
 impl Sections {
-    ghost use Rattle.std.specs.Prelude.{◌≡◌, [], IfOk};
     ghost use Rattle.line_text.specs.Failing.{Gives};
-    ghost use Rattle.asm_layout.specs.Seen.{all_placed_seen, layout_seen, placed_seen};
-    ghost use Rattle.mips_asm.specs.Second.{filled, filled_from, widened};
+    ghost use Rattle.asm_layout.specs.Seen.{layout_seen, placed_seen};
+    ghost use Rattle.mips_asm.specs.Second.{filled, widened};
     ghost use Rattle.mips_asm.specs.Seen.{sections_seen};
 
     /// The sections of what the first pass has placed.
@@ -27,28 +26,14 @@ impl Sections {
     pub(crate) fn of(alloc: Global, layout: &Layout<'_>) -> Result<Sections, TextFailure<AsmWhy>>
         ensures { Gives sections_seen result (filled (layout_seen layout.now)) }
     {
-        let mut sections = Sections::empty(alloc, layout)?;
-        sections.fill(alloc, layout)?;
-        Ok(sections)
-    }
-
-    /// No bytes yet, with room for those of a layout.
-    fn empty(alloc: Global, layout: &Layout<'_>) -> Result<Sections, AllocError>
-        ensures { IfOk result (λ sections. sections_seen sections ≡ record { text = []; data_bytes = [] }) }
-    {
-        let text = Vec::with_capacity(alloc, layout.text as usize)?;
-        let data_bytes = Vec::with_capacity(alloc, layout.data_bytes as usize)?;
-        Ok(Sections { text, data_bytes })
-    }
-
-    /// Adds the bytes of each statement of a layout.
-    fn fill(&mut self, alloc: Global, layout: &Layout<'_>) -> Result<(), TextFailure<AsmWhy>>
-        ensures { Gives (λ _. sections_seen self.new) result (filled_from layout.now.names layout.now.text (sections_seen self.old) (all_placed_seen layout.now.placed.items)) }
-    {
+        let mut sections = Sections {
+            text: Vec::with_capacity(alloc, layout.text as usize)?,
+            data_bytes: Vec::with_capacity(alloc, layout.data_bytes as usize)?,
+        };
         for placed in &layout.placed {
-            self.add(alloc, &layout.names, layout.text, placed)?;
+            sections.add(alloc, &layout.names, layout.text, placed)?;
         }
-        Ok(())
+        Ok(sections)
     }
 
     /// Adds the bytes of a statement, in a text of so many bytes.
