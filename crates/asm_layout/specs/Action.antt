@@ -63,20 +63,10 @@ values_in (Value e ∷ rest) = do
   Ok (e ∷ es)
 values_in _ = Err Syntax
 
--- the bytes that a quoted text means
-abbrev pub quoted_in : List OperandValue → Result (List ℕ) AsmWhy
-quoted_in (Quoted text ∷ []) = Ok text
-quoted_in _ = Err Syntax
-
 -- to put the bytes that a quoted text means, and an ending behind them
 abbrev pub text_in : List ℕ → List OperandValue → Result Action AsmWhy
-text_in ending operands = do
-  bs ← quoted_in operands
-  Ok (Put (Given (bs ++ ending)))
-
--- what stands inside an expression of which no half is taken
-abbrev pub inside : ExpressionValue → Result InnerValue AsmWhy
-inside e = if length e.halves == 0 then Ok e.inner else Err Syntax
+text_in ending (Quoted text ∷ []) = Ok (Put (Given (text ++ ending)))
+text_in _ _ = Err Syntax
 
 abbrev pub number_form : InnerValue → Result ℕ AsmWhy
 number_form (Number n) = Ok n
@@ -86,17 +76,13 @@ abbrev pub name_form : InnerValue → Result (List ℕ) AsmWhy
 name_form (Name name) = Ok name
 name_form _ = Err Syntax
 
--- an expression that is written as a number
+-- an expression that is written as a number: no half of it is taken
 abbrev pub written_number : ExpressionValue → Result ℕ AsmWhy
-written_number e = do
-  inner ← inside e
-  number_form inner
+written_number e = if length e.halves == 0 then number_form e.inner else Err Syntax
 
--- an expression that is written as a name
+-- an expression that is written as a name: no half of it is taken
 abbrev pub written_name : ExpressionValue → Result (List ℕ) AsmWhy
-written_name e = do
-  inner ← inside e
-  name_form inner
+written_name e = if length e.halves == 0 then name_form e.inner else Err Syntax
 
 abbrev pub number_in : List OperandValue → Result ℕ AsmWhy
 number_in (Value e ∷ []) = written_number e

@@ -1,7 +1,7 @@
 //! What statements ask for.
 ghost use Rattle.std.specs.Prelude.{◌≡◌, map};
 ghost use Rattle.asm_parse.specs.Seen.{arg_seen, expression_seen};
-ghost use Rattle.asm_layout.specs.Action.{Put, action_of, directed, number_in, quoted_in, text_in, values_in, written_name};
+ghost use Rattle.asm_layout.specs.Action.{Put, action_of, directed, number_in, text_in, values_in, written_name};
 ghost use Rattle.asm_layout.specs.Content.{Instruction};
 ghost use Rattle.asm_parse.specs.declared.syntax.AsmBody.TheVariants.{Op};
 ghost use Rattle.asm_layout.specs.declared.directive.Directive.TheVariants.{Equ};
@@ -113,22 +113,15 @@ fn text<'a>(
 ) -> Result<Action<'a>, Failure<AsmWhy>>
     ensures { Gives action_seen result (text_in ending.now (operands_seen operands.now)) }
 {
-    let mut bytes = Vec::from_slice(alloc, quoted(operands)?)?;
-    bytes.extend_from_slice(ending)?;
-    Ok(Action::Put(Content::Bytes(bytes)))
-}
-
-/// The bytes of the quoted text that the one operand is.
-fn quoted<'b>(operands: &'b [Arg<'_>]) -> Result<&'b [u8], Failure<AsmWhy>>
-    ensures { Gives (λ text. text.now) result (quoted_in (operands_seen operands.now)) }
-{
     let [a] = operands else {
         return Err(Failure::Fault(AsmWhy::Syntax));
     };
-    match &a.operand {
-        Operand::Quoted(text) => Ok(text.as_slice()),
-        _ => Err(Failure::Fault(AsmWhy::Syntax)),
-    }
+    let Operand::Quoted(text) = &a.operand else {
+        return Err(Failure::Fault(AsmWhy::Syntax));
+    };
+    let mut bytes = Vec::from_slice(alloc, text)?;
+    bytes.extend_from_slice(ending)?;
+    Ok(Action::Put(Content::Bytes(bytes)))
 }
 
 /// The number that the one operand is written as.

@@ -4,7 +4,7 @@ ghost use Rattle.std.specs.List.{flat_map, list_all};
 ghost use Rattle.line_text.specs.Failing.{Gives};
 ghost use Rattle.asm_layout.specs.Seen.{content_seen, draft_seen, expressions_seen, placed_seen};
 ghost use Rattle.mips_asm.specs.Emission.{bytes_of, draft_bytes, expressions_bytes, values_of};
-ghost use Rattle.mips_asm.specs.Number.{number_bytes, number_fits, numbers_bytes};
+ghost use Rattle.mips_asm.specs.Number.{number_bytes, number_fits};
 ghost use Rattle.mips_asm.specs.Second.{earlier, emitted, onto, start_fault_of, unless_start_failure};
 
 use crate::number::{fits, push_number};
@@ -104,7 +104,10 @@ fn push_expressions(
     ensures { Gives (λ _. out.new.items) result (onto out.old.items (expressions_bytes names.now size (expressions_seen expressions.now))) }
 {
     let values = values(alloc, names, expressions)?;
-    push_numbers(out, size, &values)
+    if !all_fit(size, &values) {
+        return Err(Failure::Fault(AsmWhy::OutOfRange));
+    }
+    Ok(push_all(out, size, &values)?)
 }
 
 /// The values of expressions. The fault is Undefined.
@@ -120,17 +123,6 @@ fn values(
         values.push(defined(names, *expression)?)?;
     }
     Ok(values)
-}
-
-/// Puts numbers at the end. The fault is OutOfRange.
-fn push_numbers(out: &mut Vec<u8>, size: NumberSize, values: &[u32]) -> Result<(), Failure<AsmWhy>>
-    ensures { Gives (λ _. out.new.items) result (onto out.old.items (numbers_bytes size values.now)) }
-{
-    if !all_fit(size, values) {
-        return Err(Failure::Fault(AsmWhy::OutOfRange));
-    }
-    push_all(out, size, values)?;
-    Ok(())
 }
 
 /// Whether each value lies in the range of such numbers.
