@@ -51,6 +51,7 @@ fn push_segment(segment: &Segment<'_>, out: &mut Vec<u8>) -> Result<(), OutOfMem
 }
 
 /// Appends the lines of a segment's words.
+#[tactic(auto, using(crate::proofs::Lines::lines_more))]
 fn push_words(segment: &Segment<'_>, out: &mut Vec<u8>) -> Result<(), OutOfMemory>
     requires { IsSegment (segment_seen segment.now) }
     ensures { OnOk result (out.new.items ≡ out.old.items ++ word_lines (segment_seen segment.now)) }
@@ -73,7 +74,7 @@ fn lead(vaddr: u32) -> usize
 }
 
 /// Appends the line of a word at an address.
-#[tactic(auto, unfolding(crate::specs::Listed::line_text))]
+#[tactic(auto, using(crate::proofs::Lines::three_words), unfolding(crate::specs::Listed::line_text))]
 fn push_line(address: u32, word: u32, out: &mut Vec<u8>) -> Result<(), OutOfMemory>
     ensures { OnOk result (out.new.items ≡ out.old.items ++ line_text address word) }
 {
