@@ -25,7 +25,7 @@ pub fn push_word_text(word: u32, address: u32, out: &mut Vec<u8>) -> Result<(), 
 }
 
 /// The same, as far as memory reaches.
-#[tactic(auto, unfolding(crate::specs::WordText::word_text))]
+#[tactic(auto, using(crate::proofs::WordTexts::word_text_by_row), unfolding(crate::specs::WordText::word_text))]
 fn push_text(word: u32, address: u32, out: &mut Vec<u8>) -> Result<(), OutOfMemory>
     ensures ok { OnOk result (out.new.items ≡ out.old.items ++ word_text word address) }
     ensures keeps { Keeps out.old.items out.new.items }
