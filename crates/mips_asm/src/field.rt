@@ -53,6 +53,7 @@ fn value_bits(field: Field, place: u32, value: u32) -> Result<u32, AsmWhy>
         Field::Unsigned => ranged(lies(0, 65535, value), value),
         Field::Code => ranged(lies(0, CODE_LIMIT - 1, value), value << 6),
         Field::Branch => {
+            // How many words it goes on from the word after it, modulo 2^16.
             let distance = distance(place, value);
             ranged(
                 lies(BRANCH_BACK, BRANCH_ON, distance),

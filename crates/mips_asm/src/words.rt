@@ -34,6 +34,7 @@ pub(crate) fn push_draft(
             Ok(push_word(out, word + bits)?)
         }
         Filling::Halves(e) => {
+            // LUI of the high half and ORI of the low half, into one register.
             let value = defined(names, e)?;
             let rt = Slot::Rt.get(word);
             push_word(out, load_upper(rt, (value / (1 << 16)) as u16))?;
