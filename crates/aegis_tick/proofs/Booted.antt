@@ -6,7 +6,7 @@ use Rattle.std.proofs.lemmas.List.{length-append, append-nil}
 use Rattle.boot_image.specs.ImageValue.{ImageValue, ProgramValue}
 use Rattle.world_model.specs.Book.{Book}
 use Rattle.world_model.specs.Solo.{Solo, absent}
-use Rattle.world_model.specs.Item.{Item, absorb_all}
+use Rattle.world_model.specs.Item.{absorb_all}
 use Rattle.world_model.specs.World.{World, only}
 use Rattle.run_model.specs.Boot.{record_items, bare_world, added, boot_world, with_kept, with_all_kept, boot_book}
 use Rattle.board_world.proofs.Lists.{last_get, other_get, past_get}
@@ -26,10 +26,6 @@ kept_more e (q ∷ ps) p b =
     let next : e + suc (length ps) ≡ e + 1 + length ps = omega arith in
     ap (λ (n : ℕ). with_kept n p (with_all_kept (e + 1) ps (with_kept e q b))) next
     ∙ kept_more (e + 1) ps p (with_kept e q b)
-
--- what the next environment is given, and no other
-added_items : ℕ → ProgramValue → ℕ → List Item
-added_items n p e = only n (record_items n (Some p)) e
 
 next_solo : (ps : List ProgramValue) (p : ProgramValue) (e : ℕ) → absorb_all (booted_solo ps e) (only (length ps) (record_items (length ps) (Some p)) e) ≡ booted_solo (ps ++ p ∷ []) e
 next_solo ps p e = by_number (cases_eq e (length ps))

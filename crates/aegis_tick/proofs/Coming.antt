@@ -1,5 +1,5 @@
 -- The events that are still to come, in order: those of a time stand first.
-use Rattle.std.proofs.Common.{◌≡◌, ◌≢◌, ℕ, suc, ◌+◌, ◌<◌, ◌≤◌, Bool, true, List, [], ◌∷◌, take, drop, length, refl, sym, ◌∙◌, ap, subst, arith, inl, inr}
+use Rattle.std.proofs.Common.{◌≡◌, ℕ, suc, ◌+◌, ◌<◌, ◌≤◌, Bool, true, List, [], ◌∷◌, take, drop, length, refl, sym, ◌∙◌, ap, subst, arith, inl, inr}
 use Rattle.std.specs.Prelude.{◌==◌, nat_le, filter}
 use Rattle.std.specs.List.{prefix_len, take_while}
 use Rattle.std.proofs.lemmas.List.{drop-drop, length-drop}
@@ -72,11 +72,6 @@ behind t later (x ∷ xs) after =
           rw (eq-eqb x.time t here, ne_eqb x.time later (λ same. omega arith)) (behind t later xs after ∙ ap (λ (m : ℕ). filter (is_at later) (drop m (x ∷ xs))) (sym one))
       | inr other ↦ rw (ne_eqb x.time t other) refl
     ]
-
--- none is of a time, where the first isn't
-pub not_yet : (t : ℕ) (xs : List EventValue) → t ≢ next_time_of xs → [] ≡ take_while (λ (x : EventValue). x.time == t) xs
-not_yet t [] other = refl
-not_yet t (x ∷ xs) other = rw (ne_eqb x.time t (λ same. other (sym same))) refl
 
 -- and they are in order from the next time on
 rest_in_order : (t : ℕ) (xs : List EventValue) → are_in_order t xs ≡ true → are_in_order (t + 1) (drop (first_at t xs) xs) ≡ true

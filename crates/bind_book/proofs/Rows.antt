@@ -1,11 +1,11 @@
 -- The rows of a stripe: at the start, after a write, and where a binding is found.
-use Rattle.std.proofs.Common.{arith, refl, inl, inr, ◌≡◌, ◌≢◌, ◌<◌, ℕ, true, false, cond, eqb, ◌&&◌, List, length, Option, None, is_some, get_or, replicate, slice_set, get_or-set_same, get_or-set_other}
+use Rattle.std.proofs.Common.{arith, refl, inl, inr, ◌≡◌, ◌≢◌, ◌<◌, ℕ, false, cond, eqb, ◌&&◌, List, Option, None, get_or, replicate, slice_set, get_or-set_same, get_or-set_other}
 use Rattle.std.proofs.lemmas.Bool.{cases_eq, cases_lt, and_right, eq-eqb, ne_eqb, lt-ltb, le-ltb}
 use Rattle.std.proofs.lemmas.List.{length-replicate, get_or-replicate, get_or_past}
 use Rattle.std.proofs.lemmas.Nat.{same_from_place}
 use Rattle.bind_book.specs.declared.binding.Binding.{Binding}
 use Rattle.bind_book.specs.Laws.{SetInOneRow}
-use Rattle.bind_book.specs.Stripe.{stripe_rows, row_of, stripe_place, HasStripe, stripes, binding_at}
+use Rattle.bind_book.specs.Stripe.{stripe_rows, stripe_place, HasStripe, stripes}
 
 -- rows that are all empty
 empty_place : (places place : ℕ) → get_or (replicate {A = Option Binding} places None) place None ≡ None
@@ -44,15 +44,4 @@ row_set binds e row x has below i r =
       | inr past ↦
           let other : eqb r row ≡ false = ne_eqb r row (λ e. absurd (omega (arith, e, past))) in
           rw (le-ltb r stripe_rows past, other, and_right (eqb i e) false refl) refl
-    ]
-
--- the row in which a binding is found is there
-pub found_there : (binds : List (Option Binding)) (e vpn : ℕ) → is_some (binding_at (stripes binds e) vpn) ≡ true → stripe_place e (row_of vpn) < length binds
-found_there binds e vpn found =
-    elim (cases_lt (stripe_place e (row_of vpn)) (length binds)) [
-      | inl below ↦ below
-      | inr past ↦
-          let below : row_of vpn < stripe_rows = omega arith in
-          let none = get_or_past binds (stripe_place e (row_of vpn)) None past in
-          cc (rw (lt-ltb (row_of vpn) stripe_rows below, none) at found)
     ]

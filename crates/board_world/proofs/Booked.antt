@@ -1,15 +1,14 @@
 -- The books stay sound: pages and bindings are those of environments that live, and what is bound is owned.
-use Rattle.std.proofs.Common.{◌≡◌, ◌≢◌, ℕ, ◌+◌, ◌*◌, ◌<◌, List, length, map, Bool, true, false, Option, Some, None, refl, sym, ◌∙◌, ap, subst, arith, inl, inr, get_or-set_same, length-set}
-use Rattle.std.specs.Prelude.{◌==◌, ◌&&◌, if◌then◌else◌, slice_set}
-use Rattle.std.proofs.lemmas.Bool.{cases_eq, eq-eqb, eqb-true, eqb-false, or_parts}
+use Rattle.std.proofs.Common.{◌≡◌, ◌≢◌, ℕ, ◌+◌, ◌*◌, ◌<◌, List, length, map, Bool, true, false, Option, Some, None, refl, sym, ◌∙◌, ap, subst, inl, inr, get_or-set_same}
+use Rattle.std.specs.Prelude.{◌==◌, if◌then◌else◌, slice_set}
+use Rattle.std.proofs.lemmas.Bool.{cases_eq, eq-eqb, eqb-false, or_parts}
 use Rattle.page_book.specs.declared.row.Capabilities.{Capabilities}
 use Rattle.page_book.specs.declared.row.PageRow.{PageRow}
 use Rattle.page_book.specs.declared.row.PageRow.TheVariants.{Free, Guaranteed, Owned}
 use Rattle.page_book.specs.Row.{belongs_to, owner_of, released}
 use Rattle.page_book.specs.Rows.{row_in}
 use Rattle.bind_book.specs.declared.binding.Binding.{Binding}
-use Rattle.bind_book.specs.Stripe.{HasStripe, breaks_page, goes_with, stripe_place, row_of, stripe_rows, stripes, swept, without}
-use Rattle.bind_book.proofs.Rows.{row_set}
+use Rattle.bind_book.specs.Stripe.{breaks_page, goes_with, stripe_rows, stripes, swept, without}
 use Rattle.bind_book.proofs.Swept.{length-swept, swept_row}
 use Rattle.world_model.specs.declared.life.Cause.{Cause}
 use Rattle.board_world.specs.declared.roster.Environment.{Environment}
@@ -18,13 +17,8 @@ use Rattle.board_world.specs.Sound.{AreBooked, IsLive, IsOwned}
 use Rattle.board_world.specs.Doing.{dead_frame}
 use Rattle.board_world.proofs.Lists.{length-changed}
 use Rattle.board_world.proofs.Parted.{other_row}
-use Rattle.board_world.proofs.Seen.{row_within}
 use Rattle.board_world.proofs.Sound.{Keeps, kept_live, others_live}
 use Rattle.board_world.proofs.Tables.{row_released}
-
--- each environment of the board has a stripe
-pub its_stripe : (pages : List PageRow) (binds : List (Option Binding)) (r : Environments) (e : ℕ) → AreBooked pages binds r → e < length r.list → HasStripe binds e
-its_stripe pages binds r e are within = omega (arith, are.striped, within)
 
 -- a change of an environment that leaves its life
 pub keep_booked : (f : Environment → Environment) → Keeps f → (pages : List PageRow) (binds : List (Option Binding)) (r : Environments) (e : ℕ) → AreBooked pages binds r → AreBooked pages binds (with_list r (changed f r.list e))
@@ -86,33 +80,6 @@ free_booked pages binds r page within are = record {
   where
     of_page : (i : ℕ) (x : Binding) → x.page ≡ page → breaks_page page None i x ≡ false → ⊥
     of_page i x same spared = let broken : breaks_page page None i x ≡ true = rw (eq-eqb x.page page same) refl in cc
-
--- a row of a stripe takes a binding, or none
-module _ (pages : List PageRow) (binds : List (Option Binding)) (r : Environments) (e row : ℕ) (y : Option Binding) (are : AreBooked pages binds r) (lives : IsLive r.list e) (below : row < stripe_rows) where
-  here_or_before : (i at : ℕ) (x : Binding) → stripes (slice_set binds (stripe_place e row) y) i at ≡ Some x → (P : Type 0) → (i ≡ e → y ≡ Some x → P) → (stripes binds i at ≡ Some x → P) → P
-  here_or_before i at x is P here before = by_test (i == e) (at == row) refl (sym (row_set binds e row y (its_stripe pages binds r e are lives.0) below i at) ∙ is)
-    where
-      by_test : (its same : Bool) → (i == e) ≡ its → (if its && same then y else stripes binds i at) ≡ Some x → P
-      by_test true true env is = here (eqb-true i e env) is
-      by_test true false env is = before is
-      by_test false same env is = before is
-
-  pub row_booked : ((x : Binding) → y ≡ Some x → IsOwned (row_in pages x.page)) → AreBooked pages (slice_set binds (stripe_place e row) y) r
-  row_booked owned = record {
-    striped = length-set binds (stripe_place e row) y ∙ are.striped;
-    owners = are.owners;
-    binders = λ i at x is. here_or_before i at x is (IsLive r.list i) (λ same its. subst (IsLive r.list) (sym same) lives) (are.binders i at x);
-    bound = λ i at x is. here_or_before i at x is (IsOwned (row_in pages x.page)) (λ same its. owned x its) (are.bound i at x);
-  }
-
--- a VPN is bound, to a page that somebody owns
-pub bind_booked : (pages : List PageRow) (binds : List (Option Binding)) (r : Environments) (e : ℕ) (x : Binding) → IsLive r.list e → IsOwned (row_in pages x.page) → AreBooked pages binds r → AreBooked pages (slice_set binds (stripe_place e (row_of x.vpn)) (Some x)) r
-bind_booked pages binds r e x lives owned are = row_booked pages binds r e (row_of x.vpn) (Some x) are lives (row_within x.vpn) (λ y is. let same : x ≡ y = cc in subst (λ (z : Binding). IsOwned (row_in pages z.page)) same owned)
-
--- or unbound, if it was bound
-pub unbind_booked : (pages : List PageRow) (binds : List (Option Binding)) (r : Environments) (e vpn : ℕ) (bound : Bool) → IsLive r.list e → AreBooked pages binds r → AreBooked pages (if bound then slice_set binds (stripe_place e (row_of vpn)) None else binds) r
-unbind_booked pages binds r e vpn true lives are = row_booked pages binds r e (row_of vpn) None are lives (row_within vpn) (λ x is. cc)
-unbind_booked pages binds r e vpn false lives are = are
 
 -- an environment dies
 module _ (cause : Cause) (pages : List PageRow) (binds : List (Option Binding)) (r : Environments) (e : ℕ) (are : AreBooked pages binds r) where

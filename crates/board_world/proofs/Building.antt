@@ -26,7 +26,7 @@ use Rattle.world_model.specs.declared.life.Life.TheVariants.{Live}
 use Rattle.world_model.specs.declared.slot.Runner.{Runner}
 use Rattle.world_model.specs.Book.{is_runner, own_hold}
 use Rattle.run_model.specs.Boot.{boot_slot, bare_world, added, kept_of, mappings_over, own_rows, record_items}
-use Rattle.world_model.specs.Item.{Item, absorb_all, boot_cpu}
+use Rattle.world_model.specs.Item.{absorb_all, boot_cpu}
 use Rattle.world_model.specs.Solo.{absent}
 use Rattle.world_model.specs.World.{only}
 use Rattle.page_sight.specs.Sight.{seen_if}
@@ -166,9 +166,6 @@ owner_is i (Owned owner words) is = ap Some (eqb-true owner i is)
 
 -- One environment more.
 module _ (r : Environments) (x : Environment) (lives : x.life ≡ Live) (room : 0 < r.spare) where
-  more : Environments
-  more = record { list = r.list ++ x ∷ []; spare = r.spare - 1 }
-
   one_longer : length (r.list ++ x ∷ []) ≡ length r.list + 1
   one_longer = length-append r.list (x ∷ [])
 
@@ -294,9 +291,6 @@ added_sound b x count frames pages sound gives its lives room = record {
 module _ (b : Shown) (x : Environment) (frames : List (List ℕ)) (pages : List PageRow) (p : ProgramValue) (sound : IsSound b) (gives : AreGiven (length b.roster.list) (guaranteed_mappings p) b.pages pages b.frames frames)
     (name : x.name ≡ p.name) (lives : x.life ≡ Live) (cpu : x.env.cpu ≡ boot_cpu p.body.entry) (handlers : x.env.handlers ≡ no_handlers) (mask : x.env.mask ≡ p.accept) (output : x.output ≡ no_output) (kept : pages_seen frames x.env.mappings ≡ kept_of p)
     (maps : x.env.mappings ≡ mappings_over (length b.roster.list) (length b.pages) (row_in b.pages) (kept_of p)) where
-  its_items : List Item
-  its_items = record_items (length b.roster.list) (Some p)
-
   unrun : is_runner (length b.roster.list) b.slots.runner ≡ false
   unrun = by_runner b.slots.runner sound.book.runner
     where

@@ -3,10 +3,9 @@ use Rattle.std.proofs.Common.{◌≡◌, ◌≢◌, ℕ, ◌+◌, ◌-◌, ◌<�
 use Rattle.std.specs.Prelude.{◌==◌, not, if◌then◌else◌, filter, slice_set}
 use Rattle.std.specs.List.{list_all}
 use Rattle.std.proofs.lemmas.Bool.{and_from, and_parts, cases_Bool, eq-eqb, eqb-false, eqb-true, ne_eqb, not-true}
-use Rattle.filter_core.specs.declared.atom.Atom.{Atom}
 use Rattle.filter_tree.specs.ClaimBook.{ClaimBook, ClaimValue, RowValue, is_of_env}
 use Rattle.filter_tree.specs.Claims as book
-use Rattle.filter_tree.specs.Claims.{delivered, downloaded, is_into, is_numbered, new_row, with_claim, without}
+use Rattle.filter_tree.specs.Claims.{delivered, downloaded, is_into, is_numbered, without}
 use Rattle.page_book.specs.declared.row.Capabilities.{Capabilities}
 use Rattle.page_book.specs.declared.row.PageRow.{PageRow}
 use Rattle.page_book.specs.declared.row.PageRow.TheVariants.{Free, Guaranteed, Owned}
@@ -85,16 +84,6 @@ freed_claimed claims pages r page within are = record {
 -- claims are withdrawn
 pub withdrawn_claimed : (gone : ClaimValue → Bool) (claims : ClaimBook) (pages : List PageRow) (r : Environments) → AreClaimed claims pages r → AreClaimed (without gone claims) pages r
 withdrawn_claimed gone claims pages r are = record { owned = still_own pages pages (λ (x : RowValue). not (gone x.claim)) (λ x keeps own. own) claims.rows are.owned; count = are.count }
-
--- one claim more
-pub with_claim_claimed : (claims : ClaimBook) (pages : List PageRow) (r : Environments) (e : ℕ) (atoms : List Atom) (page : ℕ) → is_owned_by e (row_in pages page) ≡ true → AreClaimed claims pages r → AreClaimed (with_claim claims e atoms page) pages r
-with_claim_claimed claims pages r e atoms page own are = record { owned = and_one claims.rows are.owned; count = are.count }
-  where
-    and_one : (rows : List RowValue) → are_own pages rows ≡ true → are_own pages (rows ++ new_row claims e atoms page ∷ []) ≡ true
-    and_one [] all = and_from (is_owned_by e (row_in pages page)) true own refl
-    and_one (x ∷ rows) all =
-        let parts = and_parts (has_own_page pages x.claim) (are_own pages rows) all in
-        and_from (has_own_page pages x.claim) (are_own pages (rows ++ new_row claims e atoms page ∷ [])) parts.0 (and_one rows parts.1)
 
 -- where rows keep their claims, so do the pages
 same_own : (pages : List PageRow) (f : RowValue → RowValue) → ((x : RowValue) → (f x).claim ≡ x.claim) → (rows : List RowValue) → are_own pages rows ≡ true → are_own pages (map f rows) ≡ true

@@ -2,7 +2,7 @@
 use Rattle.std.proofs.Common.{◌≡◌, ◌≢◌, ℕ, List, [], ◌∷◌, length, true, false, Option, Some, None, is_some, inl, inr, refl, sym, ◌∙◌, ap, arith}
 use Rattle.std.specs.Prelude.{◌==◌, ◌&&◌, nat_lt, not, slice_get}
 use Rattle.std.specs.Option.{option_map}
-use Rattle.std.proofs.lemmas.Bool.{and_parts, cases_eq, eq-eqb, ne_eqb}
+use Rattle.std.proofs.lemmas.Bool.{and_parts, cases_eq, eq-eqb, ne_eqb, not_from_true}
 use Rattle.world_model.specs.declared.call.Deed.TheVariants.{Gives, Stops}
 use Rattle.world_model.specs.declared.verdict.Verdict.TheVariants.{Grant}
 use Rattle.world_model.specs.declared.life.Life.{Life}
@@ -29,7 +29,6 @@ use Rattle.board_world.proofs.Replying.{Serves, answered_others, answered_seen, 
 use Rattle.board_world.proofs.Seen.{same_solo, IsNamed, Runs, runner_seen, runner_solo}
 use Rattle.board_world.proofs.Slots.{is_there}
 use Rattle.board_world.proofs.Sound.{keeps_registers}
-use Rattle.board_world.proofs.Slotted.{differs}
 use Rattle.board_world.proofs.Turning.{stopped_solo, stopped_others, stopped_count, stopped_mappings}
 
 -- who has the slice runs
@@ -76,7 +75,7 @@ other_in b e t is = by_record (slice_get b.roster.list t) refl (is_there b.roste
         let rest = (and_parts (nat_lt t (length b.roster.list)) (not (is_dead (solo_of b t).life) && not (t == e)) is).1 in
         let parts = and_parts (not (is_dead (solo_of b t).life)) (not (t == e)) rest in
         let lives : (solo_of b t).life ≡ Live = by_life (solo_of b t).life parts.0 in
-        record { its = y; there = record { at = at; lives = ap (λ o. (solo_or_absent b t o).life) (sym at) ∙ lives }; other = differs t e parts.1 }
+        record { its = y; there = record { at = at; lives = ap (λ o. (solo_or_absent b t o).life) (sym at) ∙ lives }; other = λ same. let no : false ≡ true = sym (not_from_true (t == e) (eq-eqb t e same)) ∙ parts.1 in cc }
 
 module _ (b : Shown) (e : ℕ) (x : Environment) (r : Runs b e x) (sound : IsSound b) where
   -- The target is started.

@@ -49,7 +49,6 @@ use Rattle.page_sight.proofs.Tables.{set_same}
 use Rattle.world_model.specs.Table.{set_at}
 use Rattle.board_world.proofs.Posting.{changed_in, same_size, with_word, worded, worded_others, worded_seen}
 use Rattle.board_world.proofs.Seen.{like_solo, live_record, row_there}
-use Rattle.board_world.proofs.Serving.{Leaves}
 use Rattle.board_world.proofs.Slots.{is_there}
 use Rattle.board_world.proofs.Sound.{keeps_replying}
 use Rattle.board_world.proofs.Staying.{sound_frames}
@@ -339,36 +338,6 @@ happened_world law b (outside.Packet packet) sound numbered =
     ∙ ap (λ o. after (world_of b) (arrives packet o (world_of b))) (sym (found_without (is_for packet) b.claims))
 happened_world law b (outside.Line line) sound numbered = signalled_world b sound line
 happened_world law b (outside.Revoke env count grace) sound numbered = revoked_world b env count (b.time + grace) sound
-
--- it writes few rows, and all environments stay
-pub happened_leaves : (b : Shown) (what : Occurrence) → Leaves b (after_event what b)
-happened_leaves b (outside.Packet packet) = by_claim (claim_for b.claims packet)
-  where
-    by_full : (c : Claim) (full : Bool) → Leaves b (after_queue full (with_count b post.Packets c.env) c packet)
-    by_full c true = record { room = omega arith; spare = refl; time = refl; numbers = omega arith }
-    by_full c false = record { room = omega arith; spare = refl; time = refl; numbers = omega arith }
-
-    by_handler : (c : Claim) (h : Option (List ℕ)) → Leaves b (after_delivery_by h (with_count b post.Packets c.env) c packet)
-    by_handler c None = by_full c (is_full (page_at (with_count b post.Packets c.env).frames c.page) c.next)
-    by_handler c (Some words) = record { room = omega arith; spare = refl; time = refl; numbers = omega arith }
-
-    by_claim : (o : Option Claim) → Leaves b (after_arrival_for b packet o)
-    by_claim None = record { room = omega arith; spare = refl; time = refl; numbers = omega arith }
-    by_claim (Some c) = by_handler c (claim_handler b.claims c.id)
-happened_leaves b (outside.Line line) = by_owner (line_at b.lines line)
-  where
-    by_owner : (owner : Option ℕ) → Leaves b (after_signal_to b line owner)
-    by_owner None = record { room = omega arith; spare = refl; time = refl; numbers = omega arith }
-    by_owner (Some e) = record { room = omega arith; spare = refl; time = refl; numbers = omega arith }
-happened_leaves b (outside.Revoke env count grace) = by_living (is_living (world_of b) env)
-  where
-    by_pending : (o : Option Pending) → Leaves b (with_asked b env o)
-    by_pending None = record { room = omega arith; spare = refl; time = refl; numbers = omega arith }
-    by_pending (Some p) = record { room = omega arith; spare = refl; time = refl; numbers = omega arith }
-
-    by_living : (t : Bool) → Leaves b (if t then with_asked b env (asked count (b.time + grace) (pending_at b.revocations env)) else b)
-    by_living true = by_pending (asked count (b.time + grace) (pending_at b.revocations env))
-    by_living false = record { room = omega arith; spare = refl; time = refl; numbers = omega arith }
 
 -- A claim that is found is of an environment that lives, and its ring is there.
 pub claim_there : (b : Shown) (packet : List ℕ) (c : Claim) → IsSound b → claim_for b.claims packet ≡ Some c → IsLive b.roster.list c.env × (c.page < length b.frames)

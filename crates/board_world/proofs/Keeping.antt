@@ -1,16 +1,14 @@
 -- The lowest free pages are guaranteed to an environment, one after another.
-use Rattle.std.proofs.Common.{◌≡◌, ◌≢◌, ℕ, zero, suc, ◌+◌, List, [], ◌∷◌, ◌++◌, length, Bool, true, false, Option, Some, None, ◌⊎◌, inl, inr, refl, sym, ◌∙◌, ap, arith, add-zero, add-suc, append_assoc, length-set, get_or-set_same, get_or-set_other}
-use Rattle.std.specs.Prelude.{◌==◌, if◌then◌else◌, slice_set}
+use Rattle.std.proofs.Common.{◌≡◌, ◌≢◌, ℕ, zero, suc, ◌+◌, List, [], ◌∷◌, ◌++◌, length, Bool, true, false, Option, Some, None, ◌⊎◌, inl, inr, refl, sym, ◌∙◌, ap, arith, add-zero, add-suc, append_assoc}
+use Rattle.std.specs.Prelude.{◌==◌, if◌then◌else◌}
 use Rattle.std.proofs.lemmas.Bool.{eqb-true}
-use Rattle.frame_store.specs.Pages.{with_page}
 use Rattle.env_frames.specs.declared.mapping.Mapping.{Mapping}
 use Rattle.page_book.specs.declared.row.PageRow.{PageRow}
 use Rattle.page_book.specs.declared.row.PageRow.TheVariants.{Free, Guaranteed}
-use Rattle.page_book.specs.Rows.{first_free, free_pages, lowest_free, row_in, IsLowest}
+use Rattle.page_book.specs.Rows.{first_free, lowest_free, row_in, IsLowest}
 use Rattle.page_book.proofs.Free.{is_lowest}
 use Rattle.world_model.specs.Page.{KeptPage}
 use Rattle.run_model.specs.Boot.{keep_lowest, keep_pages, mapped_to, mappings_over}
-use Rattle.page_sight.proofs.Tables.{by_number, set_here, set_else}
 use Rattle.board_world.specs.Loading.{AreGiven, with_mapped}
 
 -- a row stays, or it was that of a free page, which is guaranteed to the environment
@@ -68,10 +66,6 @@ pub taken_row : (e : ℕ) (old new : PageRow) → IsGivenRow e old new → old �
 taken_row e old new (inl stays) taken = stays
 taken_row e old new (inr given) taken = absurd (taken given.0)
 
--- nothing given yet
-pub given_none : (e : ℕ) (pages : List PageRow) (frames : List (List ℕ)) → AreGiven e 0 pages pages frames frames
-given_none e pages frames = record { rows = refl; size = refl; free = omega arith; left = record { size = refl; left = λ n taken. refl } }
-
 -- some pages given, and then some more
 pub given_both : (e m n : ℕ) (old mid new : List PageRow) (before between after : List (List ℕ)) → AreGiven e m old mid before between → AreGiven e n mid new between after → AreGiven e (m + n) old new before after
 given_both e m n old mid new before between after first second = record {
@@ -98,30 +92,6 @@ mapped_more e n old mid before between xs ys ms given size =
     ∙ (λ k. ms ++ (first ++ mappings_over e (length old) (keep_pages e (length old) (sym size k) (row_in old)) ys))
     ∙ ap (λ all. ms ++ all) (sym (mapped_both e (length old) (row_in old) xs ys))
 
--- One page given: the lowest free one, which got some bytes.
-module _ (e page : ℕ) (pages : List PageRow) (frames : List (List ℕ)) (bytes : List ℕ) (lowest : first_free pages ≡ Some page) where
-  is_one : IsLowest (row_in pages) (length pages) page
-  is_one = is_lowest (row_in pages) (length pages) page lowest
-
-  one_row : (p : ℕ) → row_in (slice_set pages page (Guaranteed e)) p ≡ keep_lowest e (first_free pages) (row_in pages) p
-  one_row p =
-      by_number (row_in (slice_set pages page (Guaranteed e))) (keep_lowest e (Some page) (row_in pages)) page
-      (get_or-set_same pages page (Guaranteed e) Free is_one.below ∙ sym (set_here page (Guaranteed e) (row_in pages)))
-      (λ i ne. get_or-set_other pages page i (Guaranteed e) Free ne ∙ sym (set_else page i (Guaranteed e) (row_in pages) ne))
-      p
-      ∙ ap (λ o. keep_lowest e o (row_in pages) p) (sym lowest)
-
-  -- its mapping
-  pub mapped_one : (p : KeptPage) (ms : List Mapping) → ms ++ record { vpn = p.vpn; page = page; writable = p.writable } ∷ [] ≡ with_mapped e pages (p ∷ []) ms
-  mapped_one p ms = ap (λ o. ms ++ (mapped_to p o ++ [])) (sym lowest)
-
-  pub given_one : free_pages pages ≡ free_pages (slice_set pages page (Guaranteed e)) + 1 → AreGiven e 1 pages (slice_set pages page (Guaranteed e)) frames (with_page frames page bytes)
-  given_one less = record {
-    rows = λ k p. one_row p k;
-    size = length-set pages page (Guaranteed e);
-    free = less;
-    left = record {
-      size = length-set frames page bytes;
-      left = λ n taken. get_or-set_other frames page n bytes [] (λ same. taken (ap (row_in pages) same ∙ is_one.free));
-    };
-  }
+-- the mapping of one page: it leads to the lowest free one
+pub mapped_one : (e page : ℕ) (pages : List PageRow) (p : KeptPage) (ms : List Mapping) → first_free pages ≡ Some page → ms ++ record { vpn = p.vpn; page = page; writable = p.writable } ∷ [] ≡ with_mapped e pages (p ∷ []) ms
+mapped_one e page pages p ms lowest = ap (λ o. ms ++ (mapped_to p o ++ [])) (sym lowest)

@@ -38,7 +38,6 @@ pub mod Sending
 pub mod Serving
 pub mod SlotServing
 pub mod Slots
-pub mod Slotted
 pub mod Sound
 pub mod Staying
 pub mod Stepping

@@ -43,9 +43,3 @@ other_get (y ∷ xs) x (suc i) ne = other_get xs x i (λ same. ne (ap suc same))
 pub past_get : {A : Type 0} (xs : List A) → slice_get xs (length xs) ≡ None
 past_get [] = refl
 past_get (x ∷ xs) = past_get xs
-
--- a change that changes nothing
-pub changed_nothing : {A : Type 0} (f : A → A) (xs : List A) (e : ℕ) → ((x : A) → f x ≡ x) → changed f xs e ≡ xs
-changed_nothing f [] e same = refl
-changed_nothing f (x ∷ xs) zero same = ap (λ y. y ∷ xs) (same x)
-changed_nothing f (x ∷ xs) (suc e) same = ap (λ ys. x ∷ ys) (changed_nothing f xs e same)

@@ -9,7 +9,7 @@ use Rattle.bind_book.specs.Stripe.{binding_at, is_bound}
 use Rattle.env_frames.specs.declared.mapping.Mapping.{Mapping}
 use Rattle.env_frames.specs.Frame.{mapping_at}
 use Rattle.guest_memory.specs.Look.{bound_mapping, look, look_through, mapping_in}
-use Rattle.world_model.specs.Solo.{Solo, Seen, Place, place_at, bound_place, kept_at, leads, bytes_in, bytes_seen, sight, mapped}
+use Rattle.world_model.specs.Solo.{Solo, Seen, place_at, bound_place, kept_at, leads, bytes_in, bytes_seen, sight, mapped}
 use Rattle.page_sight.specs.Sight.{seen_if, seen_in}
 use Rattle.board_world.specs.Showing.{page_seen, pages_seen}
 use Rattle.board_world.proofs.Pages.{AreInside, page_there, seen_kept, placed}
@@ -23,10 +23,6 @@ module _ (frames : List (List ℕ)) (e : ℕ) (pages : ℕ → PageRow) (stripe 
     (kept : s.kept ≡ pages_seen frames ms) (binds : s.binds ≡ stripe) (seen : s.seen ≡ seen_in e pages stripe (page_at frames)) where
   kept_is : (v : ℕ) → kept_at s.kept v ≡ option_map (page_seen frames) (mapping_at ms v)
   kept_is v = ap (λ ps. kept_at ps v) kept ∙ seen_kept frames ms v
-
-  -- where a VPN leads, by the mapping and the binding there
-  abbrev place_by : ℕ → Option Mapping → Option Binding → Option Place
-  place_by v m y = option_or (option_map (place_at v) (option_map (page_seen frames) m)) (option_map bound_place y)
 
   pub leads_by : (v : ℕ) → leads s v ≡ option_or (option_map (place_at v) (option_map (page_seen frames) (mapping_at ms v))) (option_map bound_place (binding_at stripe v))
   leads_by v =

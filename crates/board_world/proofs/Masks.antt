@@ -1,5 +1,5 @@
 -- The rows of the slots that a mask names.
-use Rattle.std.proofs.Common.{◌≡◌, ◌≢◌, ◌≤◌, ℕ, zero, suc, ◌+◌, ◌-◌, ◌*◌, ◌/◌, ◌%◌, List, [], ◌∷◌, ◌++◌, length, map, Bool, true, false, Option, refl, sym, ◌∙◌, ap, arith, append_assoc, add-one}
+use Rattle.std.proofs.Common.{◌≡◌, ◌≢◌, ℕ, zero, suc, ◌+◌, ◌-◌, ◌*◌, ◌/◌, ◌%◌, List, [], ◌∷◌, ◌++◌, length, map, Bool, true, false, Option, refl, sym, ◌∙◌, ap, arith, append_assoc, add-one}
 use Rattle.std.specs.Prelude.{◌==◌, if◌then◌else◌}
 use Rattle.std.proofs.lemmas.List.{append-nil, length-append, length-map}
 use Rattle.std.proofs.lemmas.Bool.{ne_eqb, eq-eqb}
@@ -50,18 +50,6 @@ rows_below t e slots (suc k) =
 -- the rows that the mask names once the environment is gone
 pub rows_named : (t e : ℕ) (slots : List (Option Hold)) → mask_rows t (mask_of e slots) (hold_at (map (hold_without e) slots)) (length (map (hold_without e) slots)) ≡ released_rows t e (hold_at slots) (length slots)
 rows_named t e slots = ap (mask_rows t (mask_of e slots) (hold_at (map (hold_without e) slots))) (length-map slots (hold_without e)) ∙ rows_below t e slots (length slots)
-
--- few rows
-pub few_named : (t mask : ℕ) (slots : ℕ → Option Hold) (k : ℕ) → length (mask_rows t mask slots k) ≤ k
-few_named t mask slots zero = omega arith
-few_named t mask slots (suc k) =
-    let so_far = few_named t mask slots k in
-    let row = one (mask_from mask k % 2 == 1) in
-    omega (arith, so_far, row, length-append (mask_rows t mask slots k) (if mask_from mask k % 2 == 1 then slot_row t k (slots k) ∷ [] else []))
-  where
-    one : (b : Bool) → length (if b then slot_row t k (slots k) ∷ [] else []) ≤ 1
-    one true = omega arith
-    one false = omega arith
 
 -- The rows so far, and that of the next slot, if the mask names it.
 both_rows : (j : Ledger) (xs ys : List Row) → with_rows (with_rows j xs) ys ≡ with_rows j (xs ++ ys)

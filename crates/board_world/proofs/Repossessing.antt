@@ -94,10 +94,6 @@ recorded_frames page backup frames None = by_test (nat_lt (word_at [] (post_offs
     by_test false = refl
 recorded_frames page backup frames (Some m) = refl
 
-if_frames : (t : Bool) (b : Shown) (e n page : ℕ) (backup : Option ℕ) → record b { frames = if t then left_in (record_offset n) (record_bytes page backup) (context_of b e) b.frames else b.frames } ≡ recorded_if t b e n page backup
-if_frames true b e n page backup = refl
-if_frames false b e n page backup = refl
-
 module _ (b : Shown) (sound : IsSound b) (e : ℕ) (x : Environment) (at : slice_get b.roster.list e ≡ Some x) (lives : x.life ≡ Live) (page : ℕ) (backup : Option ℕ) where
   abbrev n : ℕ
   n = records b e

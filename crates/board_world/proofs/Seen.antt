@@ -1,7 +1,6 @@
 -- What a board shows of its environments.
 use Rattle.std.proofs.Common.{◌≡◌, ◌≢◌, ℕ, zero, suc, ◌<◌, List, [], ◌∷◌, length, Bool, true, false, Option, Some, None, IfSome, refl, sym, ◌∙◌, ap, subst, arith}
 use Rattle.std.specs.Prelude.{◌==◌, if◌then◌else◌, slice_get}
-use Rattle.std.specs.Option.{option_map}
 use Rattle.std.proofs.lemmas.Bool.{ne_eqb, eq-eqb}
 use Rattle.mips_exec.specs.declared.registers.Cpu.{Cpu}
 use Rattle.mips_exec.specs.Step.{step_of, view_of}
@@ -25,7 +24,7 @@ use Rattle.world_model.specs.Step.{step_alone}
 use Rattle.board_world.specs.declared.roster.Environment.{Environment}
 use Rattle.board_world.specs.Rings.{rings_of}
 use Rattle.board_world.specs.Shown.{Shown, mappings_in, mappings_of}
-use Rattle.board_world.specs.Showing.{solo_of, solo_or_absent, solo_seen, cpu_seen, page_seen, pages_seen}
+use Rattle.board_world.specs.Showing.{solo_of, solo_or_absent, solo_seen, cpu_seen, pages_seen}
 use Rattle.board_world.specs.Sound.{IsSound, IsParted, IsAlive, IsLive, IsOwned}
 use Rattle.board_world.specs.Doing.{step_seen, look_of}
 use Rattle.board_world.proofs.Looks.{seen_look}
@@ -181,11 +180,3 @@ kept_seen b e = by_record (slice_get b.roster.list e) refl
     by_record : (y : Option Environment) → slice_get b.roster.list e ≡ y → (solo_or_absent b e y).kept ≡ pages_seen b.frames (mappings_in y)
     by_record None is = refl
     by_record (Some x) is = refl
-
-get-seen : (frames : List (List ℕ)) (ms : List Mapping) (a : ℕ) → slice_get (pages_seen frames ms) a ≡ option_map (page_seen frames) (slice_get ms a)
-get-seen frames [] a = refl
-get-seen frames (m ∷ ms) zero = refl
-get-seen frames (m ∷ ms) (suc a) = get-seen frames ms a
-
-pub page_at_place : (b : Shown) (e a : ℕ) (m : Option Mapping) → slice_get (mappings_of b.roster.list e) a ≡ m → option_map (page_seen b.frames) m ≡ slice_get (solo_of b e).kept a
-page_at_place b e a m is = ap (option_map (page_seen b.frames)) (sym is) ∙ sym (get-seen b.frames (mappings_of b.roster.list e) a) ∙ ap (λ ps. slice_get ps a) (sym (kept_seen b e))

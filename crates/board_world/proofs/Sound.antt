@@ -249,9 +249,6 @@ module _ (v : Slices) (r : Environments) (e : ℕ) where
 
 -- and then it may die
 module _ (v : Slices) (r : Environments) (e : ℕ) (cause : Cause) (none : HasNoPart e v) where
-  gone : Environments
-  gone = with_list r (changed (dead_frame cause) r.list e)
-
   still_undead : (hold : Option Hold) → has_part e hold ≡ false → IfSome hold (λ h. IsUndead r h.owner × IsUndead r h.holder) → IfSome hold (λ h. IsUndead (with_list r (changed (dead_frame cause) r.list e)) h.owner × IsUndead (with_list r (changed (dead_frame cause) r.list e)) h.holder)
   still_undead None apart undead = tt
   still_undead (Some h) apart undead =
@@ -413,9 +410,6 @@ given_manned v r target later manned lives = record {
     given_count : (b : Bool) → length (slots_given b target v) ≤ most_slots
     given_count false = manned.count
     given_count true = omega (arith, length-set v.slots v.cursor (option_map (held_by target) (hold_at v.slots v.cursor)), manned.count)
-
-pub take_manned : (v : Slices) (r : Environments) (e k : ℕ) → IsManned v r → IsLive r.list e → IsManned (with_hold v k (Some (own_hold e))) r
-take_manned v r e k manned live = hold_manned v r k (Some (own_hold e)) manned (live_undead r e live, live_undead r e live)
 
 pub drop_manned : (v : Slices) (r : Environments) (e k : ℕ) → IsManned v r → IsManned (with_hold v k (dropped e (hold_at v.slots k))) r
 drop_manned v r e k manned = hold_manned v r k (dropped e (hold_at v.slots k)) manned (by_hold (hold_at v.slots k) (manned.holds k))

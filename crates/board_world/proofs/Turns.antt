@@ -2,11 +2,11 @@
 use Rattle.std.proofs.Common.{◌≡◌, ap, sym}
 use Rattle.slot_vector.specs.declared.turn.NextTurn.TheVariants as next
 use Rattle.slot_vector.specs.Slices.{next_turn, told_of}
-use Rattle.slot_vector.proofs.Whole.{idle_step, pay_step, run_step}
+use Rattle.slot_vector.proofs.Whole.{pay_step}
 use Rattle.world_model.specs.declared.slot.Turn.{Turn}
 use Rattle.board_world.specs.Shown.{Shown}
 use Rattle.board_world.specs.Sound.{IsSound}
-use Rattle.board_world.specs.Doing.{after_forfeit, after_start, after_told}
+use Rattle.board_world.specs.Doing.{after_forfeit, after_told}
 use Rattle.board_world.proofs.Sound.{pay_manned}
 
 -- a forfeit leaves a board sound
@@ -16,11 +16,3 @@ paid_sound b t sound = record { few = sound.few; book = pay_manned b.slots b.ros
 -- a forfeit comes first, and then the rest of the turn
 pub pay_turned : (b : Shown) (t : Turn) → next_turn b.slots ≡ next.Pay t → after_told (after_forfeit b t) (told_of (after_forfeit b t).slots) ≡ after_told b (told_of b.slots)
 pay_turned b t is = sym (ap (after_told b) (pay_step b.slots t is))
-
--- a start ends it
-pub run_turned : (b : Shown) (t : Turn) → next_turn b.slots ≡ next.Run t → after_start b t ≡ after_told b (told_of b.slots)
-run_turned b t is = sym (ap (after_told b) (run_step b.slots t is))
-
--- where nobody is next there is none
-pub idle_turned : (b : Shown) → next_turn b.slots ≡ next.Idle → b ≡ after_told b (told_of b.slots)
-idle_turned b is = sym (ap (after_told b) (idle_step b.slots is))

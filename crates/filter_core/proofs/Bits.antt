@@ -1,5 +1,5 @@
 -- Bits that are both of two numbers, and bits of either.
-use Rattle.std.proofs.Common.{◌≡◌, ℕ, refl, arith}
+use Rattle.std.proofs.Common.{◌≡◌, ℕ, arith}
 use Rattle.std.proofs.lemmas.Nat.Bits.{bit_at_and, bit_at_or, same_from_bits}
 use Rattle.std.specs.Prelude.{bit_and, bit_or}
 
@@ -19,9 +19,6 @@ within_right v m n is = same_from_bits _ _ (λ i. let within = bit_at_and v n i 
 -- the bits of three numbers, in another order
 pub swap_last : (a b c : ℕ) → bit_and (bit_and a b) c ≡ bit_and (bit_and a c) b
 swap_last a b c = same_from_bits _ _ (λ i. omega (arith, bit_at_and (bit_and a b) c i, bit_at_and a b i, bit_at_and (bit_and a c) b i, bit_at_and a c i))
-
-pub zero_left : (a : ℕ) → bit_and 0 a ≡ 0
-zero_left a = refl
 
 pub zero_right : (a : ℕ) → bit_and a 0 ≡ 0
 zero_right a = same_from_bits _ _ (λ i. omega (arith, bit_at_and a 0 i))

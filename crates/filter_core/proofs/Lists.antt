@@ -1,5 +1,5 @@
 -- What holds of each element of a list.
-use Rattle.std.proofs.Common.{◌≡◌, ℕ, zero, suc, ◌<◌, Bool, true, List, [], ◌∷◌, length, get_or, refl, arith}
+use Rattle.std.proofs.Common.{◌≡◌, ℕ, Bool, true, List, [], ◌∷◌, refl}
 use Rattle.std.proofs.lemmas.Bool.{and_from, and_parts}
 use Rattle.std.specs.List.{AllByRecursion, list_all}
 
@@ -31,9 +31,3 @@ all_swap R xs (y ∷ ys) all = (
   all_map (λ x. R x y × AllByRecursion (λ z. R x z) ys) (λ x. R x y) (λ x both. both.0) xs all,
   all_swap R xs ys (all_map (λ x. R x y × AllByRecursion (λ z. R x z) ys) (λ x. AllByRecursion (λ z. R x z) ys) (λ x both. both.1) xs all),
 )
-
--- what holds of each element holds of the one at an index
-pub list_all_get : {X : Type 0} (t : X → Bool) (xs : List X) (i : ℕ) (d : X) → list_all t xs ≡ true → i < length xs → t (get_or xs i d) ≡ true
-list_all_get t [] i d all below = absurd (omega arith)
-list_all_get t (x ∷ xs) zero d all below = (and_parts (t x) (list_all t xs) all).0
-list_all_get t (x ∷ xs) (suc i) d all below = list_all_get t xs i d (and_parts (t x) (list_all t xs) all).1 (omega arith)

@@ -1,12 +1,12 @@
 -- Atoms in tables, and held against them.
-use Rattle.std.proofs.Common.{◌≡◌, ◌≢◌, ℕ, zero, suc, ◌+◌, ◌-◌, ◌<◌, ◌≤◌, true, false, List, length, slice_index, get_or, set, drop, sym, ap, ◌∙◌, arith, add-one, inl, inr, get_or-set_same, get_or-set_other, replicate}
-use Rattle.std.proofs.lemmas.Bool.{and_from, and_left, and_right, cases_eq, cases_lt, eq-eqb, ne_eqb}
+use Rattle.std.proofs.Common.{◌≡◌, ◌≢◌, ℕ, ◌+◌, ◌-◌, ◌<◌, ◌≤◌, true, List, length, slice_index, get_or, set, drop, sym, ap, ◌∙◌, arith, add-one, inl, inr, get_or-set_same, get_or-set_other, replicate}
+use Rattle.std.proofs.lemmas.Bool.{and_from, cases_eq, cases_lt, eq-eqb}
 use Rattle.std.proofs.lemmas.List.{at_drop_more, drop_all, get_or-replicate, get_or_past, length-replicate}
 use Rattle.std.specs.Int.{byte_at}
 use Rattle.std.specs.Prelude.{bit_and, bit_or}
 use Rattle.filter_core.specs.declared.atom.Atom.{Atom}
 use Rattle.filter_core.specs.Asking.{asked, byte_for}
-use Rattle.filter_core.specs.Holding.{is_held_at, is_held_on_first, is_held}
+use Rattle.filter_core.specs.Holding.{is_held_on_first}
 use Rattle.filter_core.proofs.Asks.{byte_inside, byte_elsewhere}
 use Rattle.filter_core.proofs.Bits.{or_assoc, or_zero, zero_or}
 
@@ -19,24 +19,6 @@ held_more masks values a i offset width mask value at_offset of_width below is_m
     let inside : i < a.width = omega arith in
     let found = rw (is_mask, is_value, at_offset, of_width, ← byte_inside a a.mask i inside, ← byte_inside a a.value i inside) at same in
     rw add-one (and_from (is_held_on_first i masks values a) _ so_far (eq-eqb _ _ found))
-
--- one that doesn't
-fails_first : (masks values : List ℕ) (a : Atom) (i n : ℕ) → i < n → is_held_at masks values (a.offset + i) a ≡ false → is_held_on_first n masks values a ≡ false
-fails_first masks values a i zero below fails = absurd (omega arith)
-fails_first masks values a i (suc n) below fails =
-    elim (cases_eq i n) [
-      | inl last ↦ and_right (is_held_on_first n masks values a) _ (rw last at fails)
-      | inr other ↦ and_left _ (is_held_at masks values (a.offset + n) a) (fails_first masks values a i n (omega (arith, other)) fails)
-    ]
-
-pub held_fails : (masks values : List ℕ) (a : Atom) (i offset width mask value : ℕ) → offset ≡ a.offset → width ≡ a.width → i < width
-    → mask ≡ byte_at (width - 1 - i) a.mask → value ≡ byte_at (width - 1 - i) a.value
-    → (bit_and (slice_index values (offset + i)) mask ≡ bit_and value (slice_index masks (offset + i)) → ⊥)
-    → is_held masks values a ≡ false
-held_fails masks values a i offset width mask value at_offset of_width below is_mask is_value differ =
-    let inside : i < a.width = omega arith in
-    let found = rw (is_mask, is_value, at_offset, of_width, ← byte_inside a a.mask i inside, ← byte_inside a a.value i inside) at differ in
-    fails_first masks values a i a.width inside (ne_eqb _ _ found)
 
 -- a table with one more byte of a number
 pub added_inside : (old table : List ℕ) (a : Atom) (number i byte : ℕ) → i < a.width → a.offset + i < length table → byte ≡ byte_at (a.width - 1 - i) number

@@ -3,7 +3,7 @@ use Rattle.std.proofs.Common.{◌≡◌, ℕ, ◌+◌, ◌≤◌, Bool, true, fa
 use Rattle.std.specs.List.{flat_map, list_all, list_any}
 use Rattle.std.specs.Prelude.{◌==◌, ◌&&◌, ◌||◌, filter, map, slice_index_or, sum_by, if◌then◌else◌}
 use Rattle.std.proofs.lemmas.Bool.{and_parts, cases_Bool, eq-eqb, eqb-true, or_cases, or_left, or_parts, or_right}
-use Rattle.std.proofs.lemmas.List.{append-nil, drop_more, length-append, length-map, map-append}
+use Rattle.std.proofs.lemmas.List.{append-nil, drop-drop, drop_more, length-append, length-map, map-append}
 use Rattle.std.proofs.lemmas.List.Folds.{list_all-append, list_all-map, list_any-append}
 use Rattle.std.proofs.lemmas.List.Sums.{sum_by-cons}
 use Rattle.filter_core.specs.declared.atom.Atom.{Atom}
@@ -11,7 +11,6 @@ use Rattle.filter_tree.specs.ClaimBook.{ClaimBook, ClaimValue, RowValue, claim_i
 use Rattle.filter_tree.specs.Claims.{atom_count}
 use Rattle.filter_tree.specs.Prefixes.{Shape, distinct, prefixes, prefixes_from, prefixes_of, same_shape, same_shapes, shape_of, shapes_from}
 use Rattle.filter_tree.specs.Tree.{begins, begins_with, is_branch, starts_with, value_at}
-use Rattle.filter_tree.proofs.Atoms.{drop_one}
 
 -- equal shapes, and lists of them
 shape_same : (s t : Shape) → same_shape s t ≡ true → s ≡ t
@@ -162,7 +161,7 @@ prefixes_begin a (b ∷ f) is =
 
 claim_begins : (depth : ℕ) (a : Atom) (c : ClaimValue) → begins depth a c ≡ true
     → of_claim depth c ≡ (shape_of a ∷ []) ∷ map (λ prefix. shape_of a ∷ prefix) (of_claim (depth + 1) c)
-claim_begins depth a c is = rw (drop_one depth c.filter) (prefixes_begin a (drop depth c.filter) is)
+claim_begins depth a c is = rw (← drop-drop 1 depth c.filter) (prefixes_begin a (drop depth c.filter) is)
 
 -- what stands behind a shape stands behind it among all
 behind_shape : (depth v : ℕ) (a : Atom) (claims : List ClaimValue) (p : List Shape) → list_all (begins depth a) claims ≡ true

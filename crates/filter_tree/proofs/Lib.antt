@@ -1,5 +1,4 @@
 pub mod Alike
-pub mod Atoms
 pub mod Counting
 pub mod Halving
 pub mod Lowest

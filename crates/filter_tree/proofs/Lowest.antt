@@ -1,7 +1,7 @@
 -- The lowest number of the claims that pass a test.
-use Rattle.std.proofs.Common.{◌≡◌, ℕ, suc, ◌<◌, ◌≤◌, Bool, true, false, not, List, [], ◌∷◌, ◌++◌, Option, Some, None, length, refl, sym, ap, ◌∙◌, arith, inl, inr}
+use Rattle.std.proofs.Common.{◌≡◌, ℕ, suc, ◌<◌, ◌≤◌, Bool, true, false, not, List, [], ◌∷◌, ◌++◌, Option, Some, None, refl, sym, ap, ◌∙◌, arith, inl, inr}
 use Rattle.std.specs.List.{list_all}
-use Rattle.std.specs.Prelude.{◌&&◌, nat_le, filter, find, map, slice_index_or}
+use Rattle.std.specs.Prelude.{◌&&◌, nat_le, filter, find, map}
 use Rattle.std.specs.Option.{option_map}
 use Rattle.std.proofs.lemmas.Bool.{and_parts, cases_Bool, cases_lt, le-leb, lt-leb}
 use Rattle.filter_tree.specs.ClaimBook.{ClaimValue, RowValue, are_numbered, claim_in}
@@ -56,12 +56,6 @@ lower_join (Some a) (Some b) (Some c) =
                 ∙ sym (ap (λ x. lower x (Some c)) (lower_right a b ba) ∙ lower_right b c cb)
           ]
     ]
-
--- one claim alone
-pub lowest_alone : (t : ClaimValue → Bool) (claims : List ClaimValue) (c : ClaimValue) → length claims ≡ 1 → c ≡ slice_index_or claims 0 c → number_if t c ≡ lowest t claims
-lowest_alone t [] c one is = absurd (omega (arith, one))
-lowest_alone t (d ∷ []) c one is = ap (number_if t) is ∙ sym (lower_none (number_if t d))
-lowest_alone t (d ∷ e ∷ claims) c one is = absurd (omega (arith, one))
 
 -- the first of two numbers goes behind the second
 pub lower_turn : (a b c : Option ℕ) → lower a (lower b c) ≡ lower b (lower a c)

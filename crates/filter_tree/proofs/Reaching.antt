@@ -9,7 +9,6 @@ use Rattle.filter_core.specs.declared.atom.Atom.{Atom}
 use Rattle.filter_core.specs.Matching.{field, matches}
 use Rattle.filter_tree.specs.ClaimBook.{ClaimValue}
 use Rattle.filter_tree.specs.Tree.{AreInOrder, IsSplit, begins, begins_with, comes_before, first_value, is_branch, lower, lowest, matches_from, starts_with, value_at}
-use Rattle.filter_tree.proofs.Atoms.{drop_one}
 use Rattle.filter_tree.proofs.Lowest.{lower_join, lowest_filter, lowest_parts, lowest_none, lowest_same}
 use Rattle.filter_tree.proofs.Order.{all_at, has_own_shape, shape_is, tails_before}
 
@@ -47,7 +46,7 @@ both_after : (depth v : ℕ) (a : Atom) (c d : ClaimValue) → begins depth a c 
     → comes_before depth c d ≡ true → comes_before (depth + 1) c d ≡ true
 both_after depth v a c d left right own other is =
     let same : first_value (drop depth c.filter) ≡ first_value (drop depth d.filter) = sym (eqb-true v (value_at depth c) own) ∙ eqb-true v (value_at depth d) other in
-    rw (drop_one depth c.filter, drop_one depth d.filter) (tails_before a (drop depth c.filter) (drop depth d.filter) left right same is)
+    rw (← drop-drop 1 depth c.filter, ← drop-drop 1 depth d.filter) (tails_before a (drop depth c.filter) (drop depth d.filter) left right same is)
 
 pub reached_order : (depth v : ℕ) (a : Atom) (claims : List ClaimValue) → AreInOrder depth claims → list_all (begins depth a) claims ≡ true
     → AreInOrder (depth + 1) (filter (λ c. v == value_at depth c) claims)
@@ -82,7 +81,7 @@ pub reached_lowest : (depth v : ℕ) (a : Atom) (packet : List ℕ) (claims : Li
 reached_lowest depth v a packet claims fits is all =
     lowest_filter (matches_from (depth + 1) packet) (asks depth v) claims
     ∙ lowest_same (begins depth a) (λ c. asks depth v c && matches_from (depth + 1) packet c) (matches_from depth packet)
-    (λ c begin. rw (drop_one depth c.filter, is) (one_atom a packet (drop depth c.filter) fits begin)) claims all
+    (λ c begin. rw (← drop-drop 1 depth c.filter, is) (one_atom a packet (drop depth c.filter) fits begin)) claims all
 
 pub reached_none : (depth : ℕ) (a : Atom) (packet : List ℕ) (claims : List ClaimValue) → nat_le (a.offset + a.width) (length packet) ≡ false
     → list_all (begins depth a) claims ≡ true → None ≡ lowest (matches_from depth packet) claims
@@ -103,14 +102,6 @@ branch_is depth a (c ∷ claims) first =
     let kept : filter (begins depth a) (c ∷ claims) ≡ c ∷ filter (begins depth a) claims = rw first refl in
     ap (is_branch depth a) kept ∙ and_from (begins depth a c) (begins depth a c && list_all (begins depth a) (filter (begins depth a) claims)) first
     (and_from (begins depth a c) (list_all (begins depth a) (filter (begins depth a) claims)) first (passes (begins depth a) claims))
-
--- where the first has no more atoms
-pub first_ends : (depth : ℕ) (packet : List ℕ) (claims : List ClaimValue) (c : ClaimValue) → 0 < length claims → c ≡ slice_index_or claims 0 c → drop depth c.filter ≡ []
-    → lower (Some c.id) (lowest (matches_from depth packet) (drop 1 claims)) ≡ lowest (matches_from depth packet) claims
-first_ends depth packet [] c some is none = absurd (omega (arith, some))
-first_ends depth packet (d ∷ claims) c some is none =
-    let same : drop depth d.filter ≡ [] = ap (λ (x : ClaimValue). drop depth x.filter) (sym is) ∙ none in
-    rw (same, ap (λ (x : ClaimValue). x.id) is) refl
 
 pub behind_is : {X : Type 0} (p : X → Bool) (xs : List X) (start end : ℕ) → IsSplit p (drop start xs) end → drop (start + end) xs ≡ filter (λ x. not (p x)) (drop start xs)
 behind_is p xs start end split = sym (drop-drop end start xs) ∙ split.back

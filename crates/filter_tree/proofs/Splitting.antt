@@ -62,17 +62,6 @@ just_between x y =
           ]
     ]
 
--- a list of one
-pub alone_in : {X : Type 0} (p : X → Bool) (xs : List X) → length xs ≡ 1 → ((d : X) → p (slice_index_or xs 0 d) ≡ true) → xs ≡ filter p xs
-alone_in p [] one is = absurd (omega (arith, one))
-alone_in p (x ∷ []) one is = rw (is x) refl
-alone_in p (x ∷ y ∷ xs) one is = absurd (omega (arith, one))
-
-pub alone_out : {X : Type 0} (p : X → Bool) (xs : List X) → length xs ≡ 1 → ((d : X) → p (slice_index_or xs 0 d) ≡ false) → [] ≡ filter p xs
-alone_out p [] one is = refl
-alone_out p (x ∷ []) one is = rw (is x) refl
-alone_out p (x ∷ y ∷ xs) one is = absurd (omega (arith, one))
-
 -- what is left behind a place is all of it
 pub all_left : {X : Type 0} (xs : List X) (n : ℕ) → take (length xs - n) (drop n xs) ≡ drop n xs
 all_left xs n = ap (λ (m : ℕ). take m (drop n xs)) (sym (length-drop n xs)) ∙ take-length (drop n xs)

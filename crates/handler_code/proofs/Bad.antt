@@ -1,7 +1,7 @@
 -- The first bad word, as it is searched.
 use Rattle.std.specs.Prelude.{if◌then◌else◌}
 use Rattle.std.specs.Option.{option_or}
-use Rattle.std.proofs.Common.{arith, refl, inl, inr, ◌≡◌, ◌<◌, ◌+◌, ℕ, zero, suc, Bool, true, false, List, length, Option, None, Some}
+use Rattle.std.proofs.Common.{arith, refl, inl, inr, ◌≡◌, ◌<◌, ℕ, zero, suc, Bool, true, false, List, length, Option, None, Some}
 use Rattle.std.proofs.lemmas.Bool.{cases_eq, le-ltb}
 use Rattle.handler_code.specs.Laws.{AreGood, FirstBadIsFirst, IsFirstBad}
 use Rattle.handler_code.specs.Verification.{first_bad_below, is_bad_word, most_words}
@@ -16,12 +16,6 @@ pub record IsFirstIn (words : List ℕ) (count at : ℕ) : Type 0 where
 abbrev pub IsFirstBelow : List ℕ → ℕ → Option ℕ → Type 0
 IsFirstBelow words count None = AreGood words count
 IsFirstBelow words count (Some at) = IsFirstIn words count at
-
--- one more word isn't bad
-pub none_more : (words : List ℕ) (at : ℕ) → first_bad_below words at ≡ None → is_bad_word words at ≡ false → first_bad_below words (at + 1) ≡ None
-none_more words at none good =
-    let next : at + 1 ≡ suc at = omega arith in
-    rw (next, none, good) refl
 
 -- the first bad word that is found is the first of all
 pub found_first : (words : List ℕ) (at count : ℕ) → first_bad_below words at ≡ None → is_bad_word words at ≡ true → at < count → first_bad_below words count ≡ Some at

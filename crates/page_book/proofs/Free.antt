@@ -13,12 +13,6 @@ free_is Free free = refl
 free_is (Guaranteed owner) free = cc
 free_is (Owned owner words) free = cc
 
--- the page after those of which none is free
-pub none_more : (rows : ℕ → PageRow) (page : ℕ) → lowest_free rows page ≡ None → is_free (rows page) ≡ false → lowest_free rows (page + 1) ≡ None
-none_more rows page none kept =
-    let next : page + 1 ≡ suc page = omega arith in
-    rw (next, none, kept) refl
-
 -- the first free page that is found is the lowest of all
 pub found_first : (rows : ℕ → PageRow) (page count : ℕ) → lowest_free rows page ≡ None → is_free (rows page) ≡ true → page < count → lowest_free rows count ≡ Some page
 found_first rows page zero none free below = absurd (omega arith)

@@ -1,6 +1,5 @@
 -- The page was free, and was filled from the body.
 use Rattle.segment_pages.specs.Pages.{is_writable, page_bytes}
-use Rattle.std.proofs.Common.{[]}
 use Rattle.run_model.specs.Boot.{body_page}
 use Rattle.board_world.proofs.Giving.{given_guaranteed, given_page}
 use Rattle.board_world.proofs.Keeping.{mapped_one}
@@ -9,7 +8,7 @@ use Rattle.boot_pages.proofs.loading.give_page.Goals as goal
 pub returns-clause-mapped : goal.returns-clause-mapped
 returns-clause-mapped c =
     rw (c.guarantee.ensures.mapping, c.is_writable.ensures)
-    (mapped_one c.args.number c.keep_page-page.result c.args.pages.now c.args.frames.now [] c.keep_page-page.ensures.lowest (body_page c.args.body.now c.args.vpn) c.args.env.now.mappings)
+    (mapped_one c.args.number c.keep_page-page.result c.args.pages.now (body_page c.args.body.now c.args.vpn) c.args.env.now.mappings c.keep_page-page.ensures.lowest)
 
 pub returns-clause-seen : goal.returns-clause-seen
 returns-clause-seen c =
