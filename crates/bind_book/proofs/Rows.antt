@@ -1,11 +1,12 @@
 -- The rows of a stripe: at the start, after a write, and where a binding is found.
-use Rattle.std.proofs.Common.{arith, refl, inl, inr, ◌≡◌, ◌≢◌, ◌<◌, ℕ, false, cond, eqb, ◌&&◌, List, Option, None, get_or, replicate, slice_set, get_or-set_same, get_or-set_other}
+use Rattle.std.proofs.Common.{arith, refl, inl, inr, ◌≡◌, ◌≢◌, ◌<◌, ℕ, false, cond, eqb, ◌&&◌, List, Option, None, get_or, replicate, slice_set, get_or-set_same, get_or-set_other, Some, Bool, true}
 use Rattle.std.proofs.lemmas.Bool.{cases_eq, cases_lt, and_right, eq-eqb, ne_eqb, lt-ltb, le-ltb}
 use Rattle.std.proofs.lemmas.List.{length-replicate, get_or-replicate, get_or_past}
 use Rattle.std.proofs.lemmas.Nat.{same_from_place}
+use Rattle.std.specs.Prelude.{◌==◌, if◌then◌else◌}
 use Rattle.bind_book.specs.declared.binding.Binding.{Binding}
 use Rattle.bind_book.specs.Laws.{SetInOneRow}
-use Rattle.bind_book.specs.Stripe.{stripe_rows, stripe_place, HasStripe, stripes}
+use Rattle.bind_book.specs.Stripe.{stripe_rows, stripe_place, HasStripe, stripes, of_number, row_of}
 
 -- rows that are all empty
 empty_place : (places place : ℕ) → get_or (replicate {A = Option Binding} places None) place None ≡ None
@@ -45,3 +46,16 @@ row_set binds e row x has below i r =
           let other : eqb r row ≡ false = ne_eqb r row (λ e. absurd (omega (arith, e, past))) in
           rw (le-ltb r stripe_rows past, other, and_right (eqb i e) false refl) refl
     ]
+
+-- each VPN has a row
+pub row_within : (vpn : ℕ) → row_of vpn < stripe_rows
+row_within vpn = omega arith
+
+-- a binding that is found by its VPN in a row stands there
+pub found_in_row : (vpn : ℕ) (row : Option Binding) (b : Binding) → of_number vpn row ≡ Some b → row ≡ Some b
+found_in_row vpn None b is = cc
+found_in_row vpn (Some x) b is = by_test (x.vpn == vpn) is
+  where
+    by_test : (t : Bool) → (if t then Some x else None) ≡ Some b → Some x ≡ Some b
+    by_test true is = is
+    by_test false is = cc

@@ -1,10 +1,12 @@
 -- What a sweep leaves.
-use Rattle.std.proofs.Common.{arith, refl, ap, ◌∙◌, ◌≡◌, ◌+◌, ◌/◌, ℕ, zero, suc, Bool, inl, inr, List, [], ◌∷◌, length, Option, None, get_or}
-use Rattle.std.proofs.lemmas.Bool.{cases_lt, lt-ltb, le-ltb}
+use Rattle.std.proofs.Common.{arith, refl, ap, ◌∙◌, ◌≡◌, ◌+◌, ◌/◌, ℕ, zero, suc, Bool, inl, inr, List, [], ◌∷◌, length, Option, None, get_or, true, false, Some, sym}
+use Rattle.std.proofs.lemmas.Bool.{cases_lt, lt-ltb, le-ltb, eq-eqb}
 use Rattle.std.proofs.lemmas.Nat.{div-mul-add}
+use Rattle.std.specs.Prelude.{if◌then◌else◌}
+use Rattle.page_book.specs.declared.row.PageRow.{PageRow}
 use Rattle.bind_book.specs.declared.binding.Binding.{Binding}
 use Rattle.bind_book.specs.Laws.{SweptByRow}
-use Rattle.bind_book.specs.Stripe.{stripe_rows, stripe_place, without, swept_from, swept}
+use Rattle.bind_book.specs.Stripe.{stripe_rows, stripe_place, without, swept_from, swept, goes_with}
 
 swept_place : (place : ℕ) (broken : ℕ → Binding → Bool) (binds : List (Option Binding)) (i : ℕ) → get_or (swept_from place broken binds) i None ≡ without (broken ((place + i) / stripe_rows)) (get_or binds i None)
 swept_place place broken [] i = refl
@@ -37,3 +39,17 @@ length-swept broken binds = length_from 0 broken binds
 pub swept_none : (broken : ℕ → Binding → Bool) (binds : List (Option Binding)) → swept_from 0 broken binds ≡ swept broken binds
 unfolding swept
 swept_none broken binds = refl
+
+-- what is left in a row was there, and isn't broken
+pub left_in_row : (broken : Binding → Bool) (row : Option Binding) (b : Binding) → without broken row ≡ Some b → (row ≡ Some b) × (broken b ≡ false)
+left_in_row broken None b is = cc
+left_in_row broken (Some x) b is = by_test (broken x) refl is
+  where
+    by_test : (t : Bool) → broken x ≡ t → (if t then None else Some x) ≡ Some b → (Some x ≡ Some b) × (broken b ≡ false)
+    by_test true gone is = cc
+    by_test false spared is = let same : x ≡ b = cc in (is, ap broken (sym same) ∙ spared)
+
+-- the bindings of an environment that is gone go
+pub own_goes : (pages : ℕ → PageRow) (e : ℕ) (row : Option Binding) → without (goes_with pages e e) row ≡ None
+own_goes pages e None = refl
+own_goes pages e (Some b) = rw (eq-eqb e e refl) refl

@@ -8,14 +8,16 @@ use Rattle.page_book.specs.declared.row.PageRow.{PageRow}
 use Rattle.page_book.specs.declared.row.PageRow.TheVariants.{Free, Owned}
 use Rattle.page_book.specs.Row.{is_owned_by, released}
 use Rattle.page_book.specs.Rows.{row_in}
+use Rattle.page_book.proofs.Owners.{same_owner}
 use Rattle.revocation_book.specs.declared.revocation.Pending.{Pending}
 use Rattle.revocation_book.specs.Backups.{is_loaded, loaded, unloaded}
 use Rattle.revocation_book.specs.Pending.{asked, is_due, lowered, most_outstanding, pending_of, unless_due}
 use Rattle.revocation_book.specs.RevocationBook.{RevocationBook, backups_at, most_numbers, once_freed, once_gone, once_served, pending_at, with_backups, with_pending}
+use Rattle.revocation_book.proofs.Takable.{rest_loaded}
 use Rattle.world_model.specs.Table.{set_at}
 use Rattle.board_world.specs.Sound.{AreAsked}
 use Rattle.board_world.proofs.Booked.{by_page}
-use Rattle.board_world.proofs.Claiming.{one_owner, released_else}
+use Rattle.board_world.proofs.Claiming.{released_else}
 use Rattle.board_world.proofs.Parts.{set_here, set_else}
 use Rattle.board_world.proofs.Sound.{set_all}
 use Rattle.board_world.proofs.Tables.{row_released, table_set}
@@ -140,14 +142,6 @@ unloaded_still (b ∷ backups) page p is =
     by_test true is = is
     by_test false is = is
 
-pub dropped_still : (backups : List ℕ) (p : ℕ) → is_loaded (drop 1 backups) p ≡ true → is_loaded backups p ≡ true
-dropped_still [] p is = is
-dropped_still (b ∷ backups) p is = by_test (b == p)
-  where
-    by_test : (t : Bool) → (t || is_loaded backups p) ≡ true
-    by_test true = refl
-    by_test false = is
-
 -- a page is loaded
 pub loaded_asked : (book : RevocationBook) (pages : List PageRow) (e page : ℕ) → e < most_numbers → is_owned_by e (row_in pages page) ≡ true → AreAsked book pages → AreAsked (with_backups book e (loaded page (backups_at book e))) pages
 loaded_asked book pages e page within own are =
@@ -166,7 +160,7 @@ module _ (book : RevocationBook) (pages : List PageRow) (e page : ℕ) (there : 
   pub freed_others : (i p : ℕ) → i ≢ e → is_loaded (backups_at book i) p ≡ true → is_owned_by i (row_in (slice_set pages page Free) p) ≡ true
   freed_others i p other is =
       let its = are.owned i p is in
-      freed_row i p (λ same. other (one_owner i e (row_in pages page) (subst (λ n. is_owned_by i (row_in pages n) ≡ true) same its) own)) its
+      freed_row i p (λ same. other (same_owner i e (row_in pages page) (subst (λ n. is_owned_by i (row_in pages n) ≡ true) same its) own)) its
 
 -- by its owner
 pub freed_asked : (book : RevocationBook) (pages : List PageRow) (e page : ℕ) → e < most_numbers → page < length pages → is_owned_by e (row_in pages page) ≡ true → AreAsked book pages → AreAsked (once_freed book e page) (slice_set pages page Free)
@@ -180,7 +174,7 @@ pub taken_asked : (book : RevocationBook) (pages : List PageRow) (e page : ℕ) 
 taken_asked book pages e page within there own spared are =
     rebacked book pages (slice_set pages page Free) e (drop 1 (backups_at book e)) within are
     (λ p is.
-    let still = dropped_still (backups_at book e) p is in
+    let still = rest_loaded (backups_at book e) p is in
     freed_row book pages e page there own are e p (λ same. let both : true ≡ false = sym still ∙ ap (is_loaded (backups_at book e)) same ∙ spared in cc) (are.owned e p still))
     (freed_others book pages e page there own are)
 
@@ -195,7 +189,7 @@ allocated_asked book pages page e words within free are = repaged book pages (sl
 pub recapped_asked : (book : RevocationBook) (pages : List PageRow) (page e : ℕ) (words : Capabilities) → page < length pages → is_owned_by e (row_in pages page) ≡ true → AreAsked book pages → AreAsked book (slice_set pages page (Owned e words))
 recapped_asked book pages page e words within owned are = repaged book pages (slice_set pages page (Owned e words)) (λ i p is own.
     by_page (λ row. is_owned_by i row ≡ true) pages page p (Owned e words) within
-    (λ same. eq-eqb e i (sym (one_owner i e (row_in pages page) (subst (λ (n : ℕ). is_owned_by i (row_in pages n) ≡ true) same own) owned)))
+    (λ same. eq-eqb e i (sym (same_owner i e (row_in pages page) (subst (λ (n : ℕ). is_owned_by i (row_in pages n) ≡ true) same own) owned)))
     (λ other. own)) are
 
 -- pages that are free are given

@@ -1,5 +1,5 @@
 -- What the runner does to its bindings, on the world that is shown.
-use Rattle.std.proofs.Common.{◌≡◌, ◌≢◌, ◌<◌, ℕ, List, [], ◌∷◌, Bool, true, false, Option, Some, None, is_some, refl, sym, ◌∙◌, ap, arith, subst}
+use Rattle.std.proofs.Common.{◌≡◌, ◌≢◌, ℕ, List, [], ◌∷◌, Bool, true, false, Option, Some, None, is_some, refl, sym, ◌∙◌, ap, arith, subst}
 use Rattle.std.specs.Prelude.{if◌then◌else◌, slice_set}
 use Rattle.std.proofs.lemmas.Bool.{eq-eqb}
 use Rattle.std.proofs.lemmas.Option.{slice_get_within}
@@ -10,7 +10,8 @@ use Rattle.page_book.specs.declared.row.PageRow.TheVariants.{Free, Guaranteed, O
 use Rattle.page_book.specs.Row.{is_owned_by, owner_of}
 use Rattle.page_book.specs.Rows.{row_in}
 use Rattle.bind_book.specs.declared.binding.Binding.{Binding}
-use Rattle.bind_book.specs.Stripe.{HasStripe, binding_at, is_bound, stripe_place, row_of, stripe_rows, stripes}
+use Rattle.bind_book.specs.Stripe.{HasStripe, binding_at, is_bound, stripe_place, row_of, stripes}
+use Rattle.bind_book.proofs.Rows.{row_within}
 use Rattle.page_sight.specs.Sight.{Sees, seen_if, seen_in}
 use Rattle.page_sight.proofs.Sights.{binder_sees, unbinder_loses}
 use Rattle.world_model.specs.declared.call.Deed.TheVariants.{Binds, Unbinds}
@@ -59,9 +60,6 @@ bytes_owned b page sound owned = by_row (row_in b.pages page) refl owned
 module _ (b : Shown) (e : ℕ) (x : Environment) (r : Runs b e x) (sound : IsSound b) where
   striped : HasStripe b.binds e
   striped = omega (arith, sound.books.striped, slice_get_within b.roster.list e x r.at)
-
-  row_within : (v : ℕ) → row_of v < stripe_rows
-  row_within v = omega arith
 
   -- Where the runner has other bindings, and is answered.
   module _ (binds : List (Option Binding)) (mine : ℕ → Option Binding) (v : ℕ) (is : (i n : ℕ) → stripes binds i n ≡ set_at e mine (stripes b.binds) i n) where

@@ -8,8 +8,8 @@ use Rattle.page_book.specs.declared.row.PageRow.TheVariants.{Free, Guaranteed, O
 use Rattle.page_book.specs.Row.{belongs_to, owner_of, released}
 use Rattle.page_book.specs.Rows.{row_in}
 use Rattle.bind_book.specs.declared.binding.Binding.{Binding}
-use Rattle.bind_book.specs.Stripe.{breaks_page, goes_with, stripe_rows, stripes, swept, without}
-use Rattle.bind_book.proofs.Swept.{length-swept, swept_row}
+use Rattle.bind_book.specs.Stripe.{breaks_page, goes_with, stripe_rows, stripes, swept}
+use Rattle.bind_book.proofs.Swept.{length-swept, swept_row, left_in_row}
 use Rattle.world_model.specs.declared.life.Cause.{Cause}
 use Rattle.board_world.specs.declared.roster.Environment.{Environment}
 use Rattle.board_world.specs.Shown.{Environments, changed, with_list}
@@ -46,17 +46,8 @@ owned_booked pages binds r page e words within lives are = record {
   bound = λ i row x is. by_page IsOwned pages page x.page (Owned e words) within (λ same. tt) (λ other. are.bound i row x is);
 }
 
--- what a sweep leaves was there, and isn't broken
-left_row : (broken : Binding → Bool) (row : Option Binding) (x : Binding) → without broken row ≡ Some x → (row ≡ Some x) × (broken x ≡ false)
-left_row broken None x is = cc
-left_row broken (Some y) x is = by_test (broken y) refl is
-  where
-    by_test : (t : Bool) → broken y ≡ t → (if t then None else Some y) ≡ Some x → (Some y ≡ Some x) × (broken x ≡ false)
-    by_test true gone is = cc
-    by_test false spared is = let same : y ≡ x = cc in (is, ap broken (sym same) ∙ spared)
-
 left_binding : (broken : ℕ → Binding → Bool) (binds : List (Option Binding)) (e row : ℕ) (x : Binding) → stripes (swept broken binds) e row ≡ Some x → (stripes binds e row ≡ Some x) × (broken e x ≡ false)
-left_binding broken binds e row x is = left_row (broken e) (stripes binds e row) x (sym (swept_row broken binds e row) ∙ is)
+left_binding broken binds e row x is = left_in_row (broken e) (stripes binds e row) x (sym (swept_row broken binds e row) ∙ is)
 
 -- bindings are broken
 pub sweep_booked : (broken : ℕ → Binding → Bool) (pages : List PageRow) (binds : List (Option Binding)) (r : Environments) → AreBooked pages binds r → AreBooked pages (swept broken binds) r

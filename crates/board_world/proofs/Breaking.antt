@@ -1,19 +1,20 @@
 -- A page whose bindings are broken, or that is freed, on the world that is shown.
-use Rattle.std.proofs.Common.{◌≡◌, ◌≢◌, ◌<◌, ℕ, length, Bool, true, false, Option, Some, None, refl, sym, ◌∙◌, ap}
-use Rattle.std.specs.Prelude.{◌==◌, if◌then◌else◌, slice_get}
-use Rattle.std.proofs.lemmas.Bool.{ne_eqb, eqb-true}
+use Rattle.std.proofs.Common.{◌≡◌, ◌≢◌, ◌<◌, ℕ, length, true, false, Option, Some, None, refl, sym, ◌∙◌, ap}
+use Rattle.std.specs.Prelude.{slice_get}
 use Rattle.std.proofs.lemmas.List.{length-set}
 use Rattle.frame_store.specs.Pages.{page_at}
 use Rattle.page_book.specs.declared.row.PageRow.{PageRow}
-use Rattle.page_book.specs.declared.row.PageRow.TheVariants.{Free, Guaranteed, Owned}
+use Rattle.page_book.specs.declared.row.PageRow.TheVariants.{Free}
 use Rattle.page_book.specs.Row.{is_owned_by}
 use Rattle.page_book.specs.Rows.{row_in}
+use Rattle.page_book.proofs.Owners.{anothers}
 use Rattle.bind_book.specs.Stripe.{breaks_page, is_bound, without}
 use Rattle.bind_book.proofs.Swept.{swept_row}
 use Rattle.filter_tree.specs.Claims.{is_into}
 use Rattle.page_sight.specs.Sight.{Sees}
 use Rattle.page_sight.proofs.Sights.{freer_loses, others_lose}
 use Rattle.page_sight.proofs.Stripes.{stripes_end}
+use Rattle.page_sight.proofs.Tables.{set_owns}
 use Rattle.world_model.specs.Book.{broken}
 use Rattle.world_model.specs.Holding.{lost}
 use Rattle.world_model.specs.Item.{absorb_all}
@@ -29,20 +30,6 @@ use Rattle.board_world.proofs.Claimed.{claims_without, no_ring, rings_dropped}
 use Rattle.board_world.proofs.Losing.{dropped, lost_keeps, nothing_lost, rings_but, sees_by}
 use Rattle.board_world.proofs.Seen.{like_solo, stripe_of}
 use Rattle.board_world.proofs.Tables.{table_set}
-
--- who owns no page owns none with another's row for one of them
-pub set_owns : (i page : ℕ) (row : PageRow) (pages : ℕ → PageRow) → is_owned_by i row ≡ false → ((p : ℕ) → is_owned_by i (pages p) ≡ false) → (p : ℕ) → is_owned_by i (set_at page row pages p) ≡ false
-set_owns i page row pages after before p = by_test (p == page)
-  where
-    by_test : (t : Bool) → is_owned_by i (if t then row else pages p) ≡ false
-    by_test true = after
-    by_test false = before p
-
--- a page that one owns no other does
-pub anothers : (e i : ℕ) (row : PageRow) → i ≢ e → is_owned_by e row ≡ true → is_owned_by i row ≡ false
-anothers e i Free ne owned = refl
-anothers e i (Guaranteed owner) ne owned = refl
-anothers e i (Owned owner words) ne owned = ne_eqb owner i (λ same. ne (sym same ∙ eqb-true owner e owned))
 
 -- The page has another row, and its bindings are broken, but for those of one environment.
 module _ (b : Shown) (page : ℕ) (row : PageRow) (but : Option ℕ) (within : page < length b.pages) where

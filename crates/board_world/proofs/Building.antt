@@ -14,6 +14,7 @@ use Rattle.page_book.specs.declared.row.PageRow.{PageRow}
 use Rattle.page_book.specs.declared.row.PageRow.TheVariants.{Free, Guaranteed, Owned}
 use Rattle.page_book.specs.Row.{is_owned_by, owner_of}
 use Rattle.page_book.specs.Rows.{free_below, free_pages, row_in}
+use Rattle.page_book.proofs.Owners.{owner_is}
 use Rattle.bind_book.specs.declared.binding.Binding.{Binding}
 use Rattle.bind_book.specs.Stripe.{is_bound, is_of_page, stripe_rows, stripes}
 use Rattle.bind_book.proofs.Rows.{empty_row}
@@ -157,12 +158,6 @@ built_world pages envs quantum owners b free unbound untaken unclaimed first una
     (ap length none)
     (λ e. ap (λ list. solo_or_absent b e (slice_get list e)) none)
     rows
-
--- who owns a page is its row's owner
-owner_is : (i : ℕ) (row : PageRow) → is_owned_by i row ≡ true → owner_of row ≡ Some i
-owner_is i Free is = cc
-owner_is i (Guaranteed owner) is = cc
-owner_is i (Owned owner words) is = ap Some (eqb-true owner i is)
 
 -- One environment more.
 module _ (r : Environments) (x : Environment) (lives : x.life ≡ Live) (room : 0 < r.spare) where

@@ -11,6 +11,7 @@ use Rattle.page_book.specs.declared.row.PageRow.{PageRow}
 use Rattle.page_book.specs.declared.row.PageRow.TheVariants.{Free, Guaranteed, Owned}
 use Rattle.page_book.specs.Row.{is_owned_by, released}
 use Rattle.page_book.specs.Rows.{row_in}
+use Rattle.page_book.proofs.Owners.{same_owner}
 use Rattle.world_model.specs.declared.life.Cause.{Cause}
 use Rattle.board_world.specs.declared.roster.Environment.{Environment}
 use Rattle.board_world.specs.Shown.{Environments, changed, with_list}
@@ -55,18 +56,12 @@ allocated_claimed claims pages r page e words within free are = record {
   count = are.count;
 }
 
--- who owns a page is one
-pub one_owner : (i e : ℕ) (row : PageRow) → is_owned_by i row ≡ true → is_owned_by e row ≡ true → i ≡ e
-one_owner i e Free is its = cc
-one_owner i e (Guaranteed owner) is its = cc
-one_owner i e (Owned owner words) is its = sym (eqb-true owner i is) ∙ eqb-true owner e its
-
 -- a page gets other words
 pub recapped_claimed : (claims : ClaimBook) (pages : List PageRow) (r : Environments) (page e : ℕ) (words : Capabilities) → page < length pages → is_owned_by e (row_in pages page) ≡ true → AreClaimed claims pages r → AreClaimed claims (slice_set pages page (Owned e words)) r
 recapped_claimed claims pages r page e words within owned are = record {
   owned = each_own pages (slice_set pages page (Owned e words)) (λ c own.
       by_page (λ row. is_owned_by c.env row ≡ true) pages page c.page (Owned e words) within
-      (λ same. eq-eqb e c.env (sym (one_owner c.env e (row_in pages page) (subst (λ (p : ℕ). is_owned_by c.env (row_in pages p) ≡ true) same own) owned)))
+      (λ same. eq-eqb e c.env (sym (same_owner c.env e (row_in pages page) (subst (λ (p : ℕ). is_owned_by c.env (row_in pages p) ≡ true) same own) owned)))
       (λ other. own)) claims.rows are.owned;
   count = are.count;
 }

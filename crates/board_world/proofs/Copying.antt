@@ -21,13 +21,14 @@ use Rattle.world_model.specs.PageCalls.{left_by, left_if}
 use Rattle.world_model.specs.Rings.{page_store}
 use Rattle.world_model.specs.Solo.{Solo, Store, kept_after, with_store}
 use Rattle.world_model.specs.Table.{set_at}
+use Rattle.world_model.proofs.Stores.{kept_as_was}
 use Rattle.board_world.specs.declared.roster.Environment.{Environment}
 use Rattle.board_world.specs.Shown.{Shown, mappings_in, mappings_of}
 use Rattle.board_world.specs.Showing.{book_of, pages_seen, solo_of, solo_or_absent, solo_seen}
 use Rattle.board_world.specs.Sound.{IsOwned, IsSound}
 use Rattle.board_world.proofs.Seen.{like_solo, live_record, owned_taken, row_there, stripe_of}
 use Rattle.board_world.proofs.Stepping.{seer_live}
-use Rattle.board_world.proofs.Stores.{bound_kept, kept_as_was, put_table, sights_stay}
+use Rattle.board_world.proofs.Stores.{bound_kept, put_table, sights_stay}
 
 module _ (b : Shown) (sound : IsSound b) (e page : ℕ) (own : is_owned_by e (row_in b.pages page) ≡ true) (x : Environment) (at : slice_get b.roster.list e ≡ Some x) (lives : x.life ≡ Live) (bytes : List ℕ) where
   abbrev store : Store

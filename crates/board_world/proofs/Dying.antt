@@ -1,8 +1,8 @@
 -- The runner's death, on the world that is shown.
-use Rattle.std.proofs.Common.{◌≡◌, ◌≢◌, ◌≤◌, ◌<◌, ℕ, List, [], ◌∷◌, length, map, suc, zero, Bool, true, false, Option, Some, None, refl, sym, ◌∙◌, ap, arith, append_assoc}
+use Rattle.std.proofs.Common.{◌≡◌, ◌≢◌, ◌≤◌, ◌<◌, ℕ, [], ◌∷◌, length, suc, zero, true, false, Option, Some, None, refl, sym, ◌∙◌, ap, arith, append_assoc}
 use Rattle.std.proofs.lemmas.Bool.{ne_eqb, eq-eqb, eqb-true}
 use Rattle.std.proofs.lemmas.List.{length-map, length-append}
-use Rattle.std.specs.Prelude.{◌==◌, if◌then◌else◌, slice_get}
+use Rattle.std.specs.Prelude.{if◌then◌else◌, slice_get}
 use Rattle.std.specs.Option.{option_map}
 use Rattle.std.specs.List.{list_all}
 use Rattle.std.proofs.lemmas.Option.{slice_get_within}
@@ -14,11 +14,12 @@ use Rattle.page_book.specs.declared.row.PageRow.{PageRow}
 use Rattle.page_book.specs.declared.row.PageRow.TheVariants.{Free, Guaranteed, Owned}
 use Rattle.page_book.specs.Row.{belongs_to, is_owned_by, released as released_page}
 use Rattle.page_book.specs.Rows.{row_in}
-use Rattle.bind_book.specs.declared.binding.Binding.{Binding}
+use Rattle.page_book.proofs.Owners.{released_none, released_own}
 use Rattle.bind_book.specs.Stripe.{goes_with, without}
-use Rattle.bind_book.proofs.Swept.{swept_row}
+use Rattle.bind_book.proofs.Swept.{swept_row, own_goes}
 use Rattle.page_sight.proofs.Mourning.{mourners_lose}
 use Rattle.page_sight.proofs.Stripes.{stripes_end}
+use Rattle.page_sight.proofs.Sights.{HasNone, nothing_seen}
 use Rattle.slot_vector.specs.Slices.{excess_of, hold_at, without_env}
 use Rattle.slot_vector.proofs.Owed.{excess_set}
 use Rattle.world_model.specs.declared.slot.Hold.{Hold}
@@ -38,19 +39,14 @@ use Rattle.board_world.proofs.Asked.{backups_set, pending_set}
 use Rattle.board_world.proofs.Claimed.{claims_without, no_ring, rings_gone, rings_gone_else}
 use Rattle.board_world.specs.Doing as doing
 use Rattle.board_world.proofs.Lists.{changed_here, changed_else, length-changed}
-use Rattle.board_world.proofs.Losing.{dropped, HasNone, losses_keep, no_losses, nothing_seen, rings_but, sees_by}
+use Rattle.board_world.proofs.Losing.{dropped, losses_keep, no_losses, rings_but, sees_by}
 use Rattle.board_world.proofs.Mappings.{dead_mappings}
 use Rattle.board_world.proofs.Parts.{by_env, set_here, set_else}
 use Rattle.board_world.proofs.Replying.{Serves}
 use Rattle.board_world.proofs.Seen.{Runs, runner_seen, stripe_of}
 use Rattle.board_world.proofs.Tables.{row_past, row_released}
 use Rattle.board_world.proofs.Wired.{line_freed}
-
--- The slots once an environment is gone.
-pub hold_at-map : (e : ℕ) (slots : List (Option Hold)) (k : ℕ) → hold_at (map (hold_without e) slots) k ≡ hold_without e (hold_at slots k)
-hold_at-map e [] k = refl
-hold_at-map e (hold ∷ slots) zero = refl
-hold_at-map e (hold ∷ slots) (suc k) = hold_at-map e slots k
+use Rattle.board_world.proofs.Sound.{hold_at-released}
 
 one_row : (t e k : ℕ) (hold : Option Hold) → length (released_row t e k hold) ≤ 1
 one_row t e k hold = elim (has_part e hold) as (λ part. length (if part then slot_row t k (hold_without e hold) ∷ [] else []) ≤ 1) [ true ↦ omega arith | false ↦ omega arith ]
@@ -59,38 +55,11 @@ pub few_rows : (t e : ℕ) (slots : ℕ → Option Hold) (k : ℕ) → length (r
 few_rows t e slots zero = omega arith
 few_rows t e slots (suc k) = let so_far = few_rows t e slots k in let row = one_row t e k (slots k) in omega (arith, so_far, row, length-append (released_rows t e slots k) (released_row t e k (slots k)))
 
--- nothing that is released is still the same environment's
-released_owner : (e : ℕ) (row : PageRow) → is_owned_by e (released_page e row) ≡ false
-released_owner e Free = refl
-released_owner e (Guaranteed owner) = by_test (owner == e)
-  where
-    by_test : (t : Bool) → is_owned_by e (if t then Free else Guaranteed owner) ≡ false
-    by_test true = refl
-    by_test false = refl
-released_owner e (Owned owner words) = by_test (owner == e) refl
-  where
-    by_test : (t : Bool) → (owner == e) ≡ t → is_owned_by e (if t then Free else Owned owner words) ≡ false
-    by_test true same = refl
-    by_test false other = other
-
--- who owned nothing owns nothing of what is released
-released_none : (e i : ℕ) (row : PageRow) → is_owned_by i row ≡ false → is_owned_by i (released_page e row) ≡ false
-released_none e i row none = by_test (belongs_to e row)
-  where
-    by_test : (t : Bool) → is_owned_by i (if t then Free else row) ≡ false
-    by_test true = refl
-    by_test false = none
-
 -- a page that belongs to one no other owns
 not_its : (i e : ℕ) (row : PageRow) → i ≢ e → belongs_to e row ≡ true → is_owned_by i row ≡ false
 not_its i e Free ne its = refl
 not_its i e (Guaranteed owner) ne its = refl
 not_its i e (Owned owner words) ne its = ne_eqb owner i (λ same. ne (sym same ∙ eqb-true owner e its))
-
--- the bindings of one that is gone go
-own_goes : (pages : ℕ → PageRow) (e : ℕ) (x : Option Binding) → without (goes_with pages e e) x ≡ None
-own_goes pages e None = refl
-own_goes pages e (Some x) = rw (eq-eqb e e refl) refl
 
 -- What a death reads of a sound board.
 pub record MayDie (b : Shown) (e : ℕ) : Type 0 where
@@ -125,7 +94,7 @@ module _ (b : Shown) (e : ℕ) (x : Environment) (r : Runs b e x) (may : MayDie 
   has_nothing : HasNone e (row_in after_death.pages) (stripe_of after_death e)
   has_nothing = record {
     binds = λ row. swept_stripe e row ∙ own_goes (row_in b.pages) e (stripe_of b e row);
-    owns = λ page. ap (is_owned_by e) (row_released e b.pages page) ∙ released_owner e (row_in b.pages page);
+    owns = λ page. ap (is_owned_by e) (row_released e b.pages page) ∙ released_own e (row_in b.pages page);
   }
 
   dead_solo : solo_of after_death e ≡ dead cause (solo_of b e)
@@ -163,7 +132,7 @@ module _ (b : Shown) (e : ℕ) (x : Environment) (r : Runs b e x) (may : MayDie 
         let forgiven : excess_of (without_env e b.slots).excess ≡ set_at e 0 (excess_of b.slots.excess) = excess_set b.slots.excess e 0 may.numbered in
         λ k. record {
           slot_count = length-map b.slots.slots (hold_without e) k;
-          slots = λ n. hold_at-map e b.slots.slots n k;
+          slots = λ n. hold_at-released e b.slots.slots n k;
           quantum = b.slots.quantum;
           cursor = b.slots.cursor;
           runner = ended k;

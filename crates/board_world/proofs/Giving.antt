@@ -14,7 +14,6 @@ use Rattle.page_book.specs.Rows.{row_in}
 use Rattle.env_frames.specs.declared.mapping.Mapping.{Mapping}
 use Rattle.env_frames.specs.Frame.{IsAbove, IsRising, numbers}
 use Rattle.kernel_journal.specs.Ledger.{Ledger}
-use Rattle.kernel_journal.specs.declared.row.Row.{Row}
 use Rattle.world_model.specs.Page.{KeptPage}
 use Rattle.world_model.specs.Book.{own_hold}
 use Rattle.world_model.specs.Table.{listed}
@@ -24,6 +23,7 @@ use Rattle.board_world.specs.Loading.{HasPages}
 use Rattle.board_world.specs.Showing.{page_seen, pages_seen}
 use Rattle.board_world.specs.Sound.{AreGuaranteed}
 use Rattle.board_world.proofs.Lists.{last_get, other_get}
+use Rattle.board_world.proofs.Masks.{both_rows}
 
 -- other pages stay
 other_pages : (frames : List (List ℕ)) (n : ℕ) (bytes : List ℕ) (ms : List Mapping) → ((a : ℕ) (m : Mapping) → slice_get ms a ≡ Some m → m.page ≢ n) → pages_seen (with_page frames n bytes) ms ≡ pages_seen frames ms
@@ -138,14 +138,9 @@ one_more old now next f i page longer so_far is =
 pub more_owners : (j : Ledger) (owners : List (Option ℕ)) (k : ℕ) (d : Option ℕ) → k < length owners → with_rows (with_rows j (own_rows owners k)) (own_row k (option_map own_hold (slice_index_or owners k d))) ≡ with_rows j (own_rows owners (k + 1))
 more_owners j owners k d within =
     let hold : option_map own_hold (slice_index_or owners k d) ≡ boot_slot owners k = ap (λ o. option_map own_hold (option_flatten o)) (sym (slice_get-get_or owners k d within)) in
-    more j (own_rows owners k) (own_row k (option_map own_hold (slice_index_or owners k d)))
+    both_rows j (own_rows owners k) (own_row k (option_map own_hold (slice_index_or owners k d)))
     ∙ ap (λ h. with_rows j (own_rows owners k ++ own_row k h)) hold
     ∙ ap (with_rows j) (sym (longer owners k))
   where
-    more : (j : Ledger) (xs ys : List Row) → with_rows (with_rows j xs) ys ≡ with_rows j (xs ++ ys)
-    more j xs ys =
-        let spare : j.spare - length xs - length ys ≡ j.spare - length (xs ++ ys) = omega (arith, length-append xs ys) in
-        λ i. record { rows = append_assoc j.rows xs ys i; spare = spare i }
-
     longer : (owners : List (Option ℕ)) (k : ℕ) → own_rows owners (k + 1) ≡ own_rows owners k ++ own_row k (boot_slot owners k)
     longer owners k = rw add-one refl

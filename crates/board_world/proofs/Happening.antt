@@ -11,6 +11,7 @@ use Rattle.frame_store.specs.Pages.{page_at}
 use Rattle.mips_exec.specs.Word.{low_word}
 use Rattle.page_book.specs.Row.{is_owned_by}
 use Rattle.page_book.specs.Rows.{row_in}
+use Rattle.page_book.proofs.Owners.{owner_is}
 use Rattle.env_frames.specs.declared.post.PostWord.{PostWord}
 use Rattle.env_frames.specs.declared.post.PostWord.TheVariants as post
 use Rattle.env_frames.specs.Post.{asked_in, counted_in, signalled_in}
@@ -52,7 +53,6 @@ use Rattle.board_world.proofs.Seen.{like_solo, live_record, row_there}
 use Rattle.board_world.proofs.Slots.{is_there}
 use Rattle.board_world.proofs.Sound.{keeps_replying}
 use Rattle.board_world.proofs.Staying.{sound_frames}
-use Rattle.board_world.proofs.Stepping.{owner_is}
 
 -- a packet that is dropped changes no environment
 dropped_solo : (b : Shown) (packet : List ℕ) (i : ℕ) → solo_of (after_drop b packet) i ≡ solo_of b i

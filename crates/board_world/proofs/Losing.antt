@@ -10,10 +10,9 @@ use Rattle.page_book.specs.declared.row.PageRow.TheVariants.{Free, Guaranteed, O
 use Rattle.page_book.specs.Row.{belongs_to, is_owned_by, owner_of}
 use Rattle.page_book.specs.Rows.{row_in}
 use Rattle.bind_book.specs.declared.binding.Binding.{Binding}
-use Rattle.bind_book.specs.Stripe.{is_bound, is_of_page}
-use Rattle.page_sight.specs.Sight.{Sees, seen_if, seen_in}
-use Rattle.page_sight.proofs.Sights.{nothing_of}
-use Rattle.page_sight.proofs.Stripes.{bound_nowhere}
+use Rattle.bind_book.specs.Stripe.{is_bound}
+use Rattle.page_sight.specs.Sight.{Sees, seen_if}
+use Rattle.page_sight.proofs.Sights.{HasNone, nothing_seen, unbound_page}
 use Rattle.world_model.specs.declared.life.Life.{Life}
 use Rattle.world_model.specs.declared.life.Life.TheVariants.{Live, Dead}
 use Rattle.world_model.specs.Book.{Book}
@@ -70,18 +69,6 @@ losses_keep b gone i (suc n) s others =
     by_part : (u : Solo) (t : Bool) → belongs_to gone (b.pages n) ≡ t → u.rings ≡ s.rings → absorb_all u (if t then lost_if (is_bound n (b.binds i)) n else []) ≡ resighted u (absorb_all u (if t then lost_if (is_bound n (b.binds i)) n else []))
     by_part u true is same = lost_keeps u (is_bound n (b.binds i)) n (ap (rings_but n) same ∙ others n is ∙ sym same)
     by_part u false is same = refl
-
--- an environment with no bindings that owns no page
-pub record HasNone (i : ℕ) (pages : ℕ → PageRow) (stripe : ℕ → Option Binding) : Type 0 where
-  pub binds : (row : ℕ) → stripe row ≡ None
-  pub owns : (page : ℕ) → is_owned_by i (pages page) ≡ false
-
--- where nothing is bound, a page isn't
-pub unbound_page : (stripe : ℕ → Option Binding) → ((row : ℕ) → stripe row ≡ None) → (page : ℕ) → is_bound page stripe ≡ false
-unbound_page stripe none page = bound_nowhere page stripe (λ row. ap (is_of_page page) (none row))
-
-pub nothing_seen : (i : ℕ) (pages : ℕ → PageRow) (stripe : ℕ → Option Binding) (bytes : ℕ → List ℕ) → HasNone i pages stripe → (page : ℕ) → seen_in i pages stripe bytes page ≡ None
-nothing_seen i pages stripe bytes none page = nothing_of (is_owned_by i (pages page)) (is_bound page stripe) (bytes page) (none.owns page) (unbound_page stripe none.binds page)
 
 -- and nothing is lost
 pub nothing_lost : (stripe : ℕ → Option Binding) → ((row : ℕ) → stripe row ≡ None) → (page : ℕ) → lost_if (is_bound page stripe) page ≡ []

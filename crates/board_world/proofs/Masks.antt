@@ -52,7 +52,7 @@ pub rows_named : (t e : ℕ) (slots : List (Option Hold)) → mask_rows t (mask_
 rows_named t e slots = ap (mask_rows t (mask_of e slots) (hold_at (map (hold_without e) slots))) (length-map slots (hold_without e)) ∙ rows_below t e slots (length slots)
 
 -- The rows so far, and that of the next slot, if the mask names it.
-both_rows : (j : Ledger) (xs ys : List Row) → with_rows (with_rows j xs) ys ≡ with_rows j (xs ++ ys)
+pub both_rows : (j : Ledger) (xs ys : List Row) → with_rows (with_rows j xs) ys ≡ with_rows j (xs ++ ys)
 both_rows j xs ys =
     let spare : j.spare - length xs - length ys ≡ j.spare - length (xs ++ ys) = omega (arith, length-append xs ys) in
     λ i. record { rows = append_assoc j.rows xs ys i; spare = spare i }

@@ -16,6 +16,7 @@ use Rattle.bind_book.specs.Stripe.{breaks_page, is_bound, is_of_page, without}
 use Rattle.page_sight.specs.Sight.{Sees}
 use Rattle.page_sight.proofs.Sights.{allocator_sees, others_dont, freer_loses, recapper_keeps}
 use Rattle.page_sight.proofs.Stripes.{bound_nowhere}
+use Rattle.page_sight.proofs.Tables.{set_owns}
 use Rattle.world_model.specs.declared.call.Deed.TheVariants.{Allocates, Frees, Recaps}
 use Rattle.world_model.specs.declared.verdict.Verdict.TheVariants.{Grant}
 use Rattle.world_model.specs.Book.{broken}
@@ -36,7 +37,7 @@ use Rattle.revocation_book.specs.Backups.{unloaded}
 use Rattle.revocation_book.specs.Pending.{lowered}
 use Rattle.revocation_book.specs.RevocationBook.{backups_at, pending_at, with_pending}
 use Rattle.board_world.proofs.Asked.{backups_set, pending_set}
-use Rattle.board_world.proofs.Breaking.{broken_book, broken_else, broken_sees, freed_else, set_owns}
+use Rattle.board_world.proofs.Breaking.{broken_book, broken_else, broken_sees, freed_else}
 use Rattle.board_world.proofs.Losing.{dropped, sees_by}
 use Rattle.filter_tree.specs.Claims.{is_into}
 use Rattle.board_world.proofs.Claimed.{claims_without, rings_dropped}
@@ -54,9 +55,6 @@ kept_else frames page bytes (m ∷ ms) other =
     (get_or-set_other frames page m.page bytes [] (other 0 m refl)) in
     let tail = kept_else frames page bytes ms (λ a k. other (suc a) k) in
     cc
-
-some_same : (i e : ℕ) → Some i ≡ Some e → i ≡ e
-some_same i e is = cc
 
 -- the runner sees what it sees
 pub own_sees : (b : Shown) (e : ℕ) (x : Environment) → Sees e (row_in b.pages) (stripe_of b e) (page_at b.frames) (runner_solo b e x)
@@ -223,7 +221,7 @@ module _ (b : Shown) (e : ℕ) (x : Environment) (r : Runs b e x) (sound : IsSou
             (runner_seen now e x still
             ∙ (λ k. record (runner_solo b e x) { cpu = answered_cpu (Grant v) b.cpu; binds = λ n. sym (sees.binds n) k; seen = λ p. sym (sees.seen p) k })
             ∙ deeded_seen b e x r (Recaps page words) v)
-            (λ i ne. changed_others page row (Some e) v may.there may.owned i ne (λ same. ne (some_same i e (sym same))) (ne_eqb e i (λ same. ne (sym same))));
+            (λ i ne. changed_others page row (Some e) v may.there may.owned i ne (λ same. let its : i ≡ e = cc in ne its) (ne_eqb e i (λ same. ne (sym same))));
         rows = sym (append-nil b.ledger.rows);
         room = omega arith;
         spare = refl;

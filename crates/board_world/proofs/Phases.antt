@@ -1,26 +1,19 @@
 -- Phases in turn are phases one after another, and what an environment does after it was told something.
-use Rattle.std.proofs.Common.{◌≡◌, ℕ, List, [], ◌∷◌, Option, refl, sym, ◌∙◌, ap, append_assoc}
-use Rattle.std.proofs.lemmas.List.Sums.{fold-append}
+use Rattle.std.proofs.Common.{◌≡◌, ℕ, [], ◌∷◌, Option, refl, sym, ◌∙◌, ap}
 use Rattle.std.proofs.lemmas.List.{append-nil}
 use Rattle.world_model.specs.declared.call.Call.{Call}
 use Rattle.world_model.specs.Item.{Item, absorb, absorb_all}
 use Rattle.world_model.specs.Step.{Act, Nothing, Stores, Calls, Raises, Dies, acted}
 use Rattle.world_model.specs.Table.{set_at}
 use Rattle.world_model.specs.Tick as tick
-use Rattle.world_model.specs.World.{World, Reply, after, followed, in_turn, no_change, only, run_phases, tells}
+use Rattle.world_model.specs.World.{World, after, in_turn, no_change, only, tells}
+use Rattle.run_model.proofs.Phases.{after_no_change, in_turn_is_each}
 use Rattle.board_world.proofs.Parts.{by_env, only_here, only_else, set_here, set_else, worlds}
 use Rattle.page_sight.proofs.Tables.{set_same}
 
 -- a world in which nothing happens
 pub quiet_world : (w : World) → w ≡ after w (no_change w)
-quiet_world w = worlds w (after w (no_change w)) refl refl (λ i. refl) (sym (append-nil w.rows))
-
-after_both : (w : World) (r s : Reply) → after w (followed r s) ≡ after (after w r) s
-after_both w r s = worlds (after w (followed r s)) (after (after w r) s) refl refl (λ i. fold-append absorb (w.solos i) (r.items i) (s.items i)) (sym (append_assoc w.rows r.rows s.rows))
-
-pub each_in_turn : (w : World) (phases : List (World → Reply)) → after w (in_turn phases w) ≡ run_phases w phases
-each_in_turn w [] = sym (quiet_world w)
-each_in_turn w (phase ∷ phases) = after_both w (phase w) (in_turn phases (after w (phase w))) ∙ each_in_turn (after w (phase w)) phases
+quiet_world w = sym (after_no_change w)
 
 -- the world in which an environment has done its act
 abbrev pub acted_world : World → ℕ → Act → World
@@ -50,5 +43,5 @@ told_acted w e item act acts =
 -- it is told, and then comes what the act brings
 pub told_first : (w : World) (e : ℕ) (item : Item) (act : Act) → absorb (w.solos e) item ≡ acted act (w.solos e) → after w (in_turn (tells e item ∷ tick.brings e act ∷ []) w) ≡ tick.act_world w e act
 told_first w e item act acts =
-    each_in_turn w (tells e item ∷ tick.brings e act ∷ [])
+    in_turn_is_each w (tells e item ∷ tick.brings e act ∷ [])
     ∙ ap (λ v. after v (tick.brings e act v)) (told_acted w e item act acts)

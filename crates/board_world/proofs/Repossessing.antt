@@ -15,6 +15,7 @@ use Rattle.page_book.specs.declared.row.PageRow.{PageRow}
 use Rattle.page_book.specs.declared.row.PageRow.TheVariants.{Free, Guaranteed, Owned}
 use Rattle.page_book.specs.Row.{is_owned_by, owner_of}
 use Rattle.page_book.specs.Rows.{row_in}
+use Rattle.page_book.proofs.Owners.{owner_is}
 use Rattle.revocation_book.specs.declared.revocation.Pending.{Pending}
 use Rattle.revocation_book.specs.declared.revocation.Taking.{Taking}
 use Rattle.revocation_book.specs.Backups.{is_loaded}
@@ -52,7 +53,6 @@ use Rattle.board_world.proofs.Parts.{by_env, set_here, set_else, worlds}
 use Rattle.board_world.proofs.Posting.{changed_in, context_bytes, left_else, left_here, left_with, same_size, with_left, with_word, worded, worded_others, worded_seen}
 use Rattle.board_world.proofs.Seen.{like_solo, live_record, row_there}
 use Rattle.board_world.proofs.Staying.{sound_frames, sound_machine, sound_memory}
-use Rattle.board_world.proofs.Stepping.{owner_is}
 use Rattle.board_world.proofs.Tables.{table_set}
 use Rattle.world_model.specs.Holding.{lost}
 

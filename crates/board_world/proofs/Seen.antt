@@ -1,6 +1,6 @@
 -- What a board shows of its environments.
-use Rattle.std.proofs.Common.{◌≡◌, ◌≢◌, ℕ, zero, suc, ◌<◌, List, [], ◌∷◌, length, Bool, true, false, Option, Some, None, IfSome, refl, sym, ◌∙◌, ap, subst, arith}
-use Rattle.std.specs.Prelude.{◌==◌, if◌then◌else◌, slice_get}
+use Rattle.std.proofs.Common.{◌≡◌, ◌≢◌, ℕ, zero, suc, ◌<◌, List, [], ◌∷◌, length, true, false, Option, Some, None, IfSome, refl, sym, ◌∙◌, ap, subst, arith}
+use Rattle.std.specs.Prelude.{slice_get}
 use Rattle.std.proofs.lemmas.Bool.{ne_eqb, eq-eqb}
 use Rattle.mips_exec.specs.declared.registers.Cpu.{Cpu}
 use Rattle.mips_exec.specs.Step.{step_of, view_of}
@@ -10,7 +10,8 @@ use Rattle.page_book.specs.declared.row.PageRow.{PageRow}
 use Rattle.page_book.specs.declared.row.PageRow.TheVariants.{Free, Guaranteed, Owned}
 use Rattle.page_book.specs.Rows.{row_in}
 use Rattle.bind_book.specs.declared.binding.Binding.{Binding}
-use Rattle.bind_book.specs.Stripe.{binding_at, is_bound, is_of_page, of_number, row_of, stripe_rows, stripes}
+use Rattle.bind_book.specs.Stripe.{binding_at, is_bound, is_of_page, row_of, stripes}
+use Rattle.bind_book.proofs.Rows.{found_in_row, row_within}
 use Rattle.page_sight.specs.Sight.{seen_in}
 use Rattle.page_sight.proofs.Stripes.{bound_somewhere}
 use Rattle.guest_memory.specs.Look.{look, mapping_in}
@@ -104,26 +105,10 @@ owned_taken Free owned is = owned
 owned_taken (Guaranteed owner) owned is = owned
 owned_taken (Owned owner words) owned is = cc
 
--- each VPN has a row
-pub row_within : (v : ℕ) → row_of v < stripe_rows
-row_within v = omega arith
-
--- the binding that is found for a VPN stands in a row
-pub found_in_row : (stripe : ℕ → Option Binding) (v : ℕ) (y : Binding) → binding_at stripe v ≡ Some y → stripe (row_of v) ≡ Some y
-found_in_row stripe v y found = by_row (stripe (row_of v)) refl found
-  where
-    by_number : (x : Binding) (test : Bool) → (if test then Some x else None) ≡ Some y → Some x ≡ Some y
-    by_number x true is = is
-    by_number x false is = cc
-
-    by_row : (o : Option Binding) → stripe (row_of v) ≡ o → of_number v o ≡ Some y → o ≡ Some y
-    by_row None is found = cc
-    by_row (Some x) is found = by_number x (x.vpn == v) found
-
 -- a page that is bound is there, and is bound
 pub bound_there : (b : Shown) (e v : ℕ) (y : Binding) → IsSound b → binding_at (stripe_of b e) v ≡ Some y → (y.page < length b.frames) × (is_bound y.page (stripe_of b e) ≡ true)
 bound_there b e v y sound found =
-    let at = found_in_row (stripe_of b e) v y found in
+    let at = found_in_row v (stripe_of b e (row_of v)) y found in
     let there = row_there b.pages y.page (owned_taken (row_in b.pages y.page) (sound.books.bound e (row_of v) y at)) in
     (omega (arith, sound.memory.same, there), bound_somewhere y.page (stripe_of b e) (row_of v) (row_within v) (ap (is_of_page y.page) at ∙ eq-eqb y.page y.page refl))
 

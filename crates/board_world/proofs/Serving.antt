@@ -40,7 +40,7 @@ use Rattle.board_world.proofs.PageServing.{allocates, frees, recaps}
 use Rattle.board_world.proofs.Phases.{called_still}
 use Rattle.board_world.proofs.Replying.{alone, answers, deeded, granted_serves, refuses}
 pub use Rattle.board_world.proofs.Replying.{Serves, told}
-pub use Rattle.board_world.proofs.Dying.{died_serves, hold_at-map}
+pub use Rattle.board_world.proofs.Dying.{died_serves}
 use Rattle.board_world.proofs.ClaimServing.{claims, downloads, unclaims}
 use Rattle.board_world.proofs.GiftServing.{gives, stops_itself}
 use Rattle.board_world.proofs.LineServing.{drops_line, loads_page, takes_line}

@@ -2,7 +2,7 @@
 use Rattle.std.proofs.Common.{◌≤◌, ◌+◌, ◌≡◌, ◌≢◌, ℕ, ◌/◌, ◌%◌, ◌<◌, List, [], ◌∷◌, ◌++◌, length, Bool, true, false, Option, Some, None, ◌⊎◌, inl, inr, refl, sym, ◌∙◌, ap, subst, arith, get_or-set_other}
 use Rattle.std.specs.Prelude.{◌==◌, if◌then◌else◌, slice_get}
 use Rattle.std.specs.Option.{option_map, option_or}
-use Rattle.std.proofs.lemmas.Bool.{eq-eqb, eqb-true, ne_eqb, or_cases, or_parts}
+use Rattle.std.proofs.lemmas.Bool.{eq-eqb, ne_eqb, or_cases, or_parts}
 use Rattle.std.proofs.lemmas.List.{append-nil}
 use Rattle.aegis_limits.specs.Limits.{page_size}
 use Rattle.mips_exec.specs.Cpu.{reg}
@@ -12,12 +12,12 @@ use Rattle.mips_exec.specs.declared.exception.Outcome.TheVariants as outcome
 use Rattle.mips_exec.specs.Access.{Write}
 use Rattle.mips_exec.specs.Step.{Step, Retired, Called, Trapped, cpu_after, outcome_of}
 use Rattle.frame_store.specs.Pages.{page_at, after_put, with_bytes}
-use Rattle.page_book.specs.declared.row.PageRow.{PageRow}
-use Rattle.page_book.specs.declared.row.PageRow.TheVariants.{Free, Guaranteed, Owned}
-use Rattle.page_book.specs.Row.{is_owned_by, owner_of}
+use Rattle.page_book.specs.Row.{is_owned_by}
 use Rattle.page_book.specs.Rows.{row_in}
+use Rattle.page_book.proofs.Owners.{owner_is}
 use Rattle.bind_book.specs.declared.binding.Binding.{Binding}
 use Rattle.bind_book.specs.Stripe.{binding_at, is_bound, is_of_page, row_of}
+use Rattle.bind_book.proofs.Rows.{found_in_row}
 use Rattle.env_frames.specs.declared.mapping.Mapping.{Mapping}
 use Rattle.env_frames.specs.Context.{exception_bytes, raised_cpu}
 use Rattle.env_frames.specs.Frame.{mapping_at}
@@ -40,9 +40,11 @@ use Rattle.world_model.specs.Solo.{Solo, Store, Key, Kept, Physical, bound_place
 use Rattle.world_model.specs.Step.{Act, act_of, acted, call_act, step_alone, stepped, store_act, trap_act}
 use Rattle.world_model.specs.World.{World, after, in_turn, no_change, only, run_phases, tells}
 use Rattle.world_model.specs.Tick as tick
+use Rattle.world_model.proofs.Stores.{kept_as_was}
 use Rattle.page_sight.specs.Sight.{Sees, seen_in}
 use Rattle.page_sight.proofs.Sights.{readers_see, writer_sees}
 use Rattle.page_sight.proofs.Stripes.{bound_row}
+use Rattle.run_model.proofs.Phases.{in_turn_is_each}
 use Rattle.board_world.specs.declared.roster.Environment.{Environment}
 use Rattle.board_world.specs.Shown.{Shown, handlers_in, handlers_of, mappings_in, mappings_of}
 use Rattle.board_world.specs.Showing.{world_of, book_of, solo_of, solo_or_absent, solo_seen, cpu_seen, page_seen, pages_seen}
@@ -52,21 +54,14 @@ use Rattle.board_world.proofs.Contexts.{left_by, left_others, left_own, left_sig
 use Rattle.board_world.proofs.Looks.{leads_by}
 use Rattle.board_world.proofs.Pages.{its_store}
 use Rattle.board_world.proofs.Parts.{worlds, by_env, set_here, set_else, only_here, only_else}
-use Rattle.board_world.proofs.Phases.{each_in_turn}
-use Rattle.board_world.proofs.Seen.{same_solo, stripe_of, sights_of, Runs, runner_solo, runner_seen, runner_runs, its_mappings, its_step, live_record, found_in_row, bound_there}
+use Rattle.board_world.proofs.Seen.{same_solo, stripe_of, sights_of, Runs, runner_solo, runner_seen, runner_runs, its_mappings, its_step, live_record, bound_there}
 use Rattle.board_world.proofs.Serving.{Leaves, Serves, told, call_serves, called_leaves, died_serves}
-use Rattle.board_world.proofs.Stores.{own_kept, other_kept, guaranteed_sights, sights_stay, put_table, kept_as_was, bound_kept}
+use Rattle.board_world.proofs.Stores.{own_kept, other_kept, guaranteed_sights, sights_stay, put_table, bound_kept}
 
 -- the mapping that a VPN has, by the parts of what an environment sees
 opened_lookup : (b : Shown) (e v : ℕ) → lookup_of b e v ≡ mapping_in (mappings_of b.roster.list e) (stripe_of b e) v
 unfolding lookup
 opened_lookup b e v = refl
-
--- who owns a page is its row's owner
-pub owner_is : (i : ℕ) (row : PageRow) → is_owned_by i row ≡ true → owner_of row ≡ Some i
-owner_is i Free is = cc
-owner_is i (Guaranteed owner) is = cc
-owner_is i (Owned owner words) is = ap Some (eqb-true owner i is)
 
 -- who sees a page that isn't guaranteed lives
 pub seer_live : (b : Shown) (i page : ℕ) → IsSound b → sees (book_of b) i page ≡ true → IsLive b.roster.list i
@@ -139,7 +134,7 @@ module _ (b : Shown) (e : ℕ) (x : Environment) (r : Runs b e x) (sound : IsSou
     there = (bound_there b e (w.address / page_size) y sound found).0
 
     lent : IsOwned (row_in b.pages y.page)
-    lent = sound.books.bound e (row_of (w.address / page_size)) y (found_in_row (stripe_of b e) (w.address / page_size) y found)
+    lent = sound.books.bound e (row_of (w.address / page_size)) y (found_in_row (w.address / page_size) (stripe_of b e (row_of (w.address / page_size))) y found)
 
     table : (p : ℕ) → page_at (memory_after b w y.page) p ≡ set_at y.page (with_bytes (page_at b.frames y.page) (w.address % page_size) w.bytes) (page_at b.frames) p
     table = put_table b.frames y.page (w.address % page_size) w.bytes there
@@ -265,11 +260,11 @@ module _ (b : Shown) (e : ℕ) (x : Environment) (r : Runs b e x) (sound : IsSou
       by_store None strikes steps =
           worlds (world_of (after_machine_step b e (Retired cpu w))) (run_phases (world_of b) (tells e AStep ∷ tick.brings e (store_act None) ∷ [])) refl refl
           (struck_solos cpu (frames_after b.frames (lookup_of b e) w) None strikes steps) (sym rows)
-          ∙ sym (each_in_turn (world_of b) (tells e AStep ∷ tick.brings e (store_act None) ∷ []))
+          ∙ sym (in_turn_is_each (world_of b) (tells e AStep ∷ tick.brings e (store_act None) ∷ []))
       by_store (Some y) strikes steps =
           worlds (world_of (after_machine_step b e (Retired cpu w))) (run_phases (world_of b) (tells e AStep ∷ tick.brings e (store_act (Some y)) ∷ [])) refl refl
           (struck_solos cpu (frames_after b.frames (lookup_of b e) w) (Some y) strikes steps) (sym rows)
-          ∙ sym (each_in_turn (world_of b) (tells e AStep ∷ tick.brings e (store_act (Some y)) ∷ []))
+          ∙ sym (in_turn_is_each (world_of b) (tells e AStep ∷ tick.brings e (store_act (Some y)) ∷ []))
 
   -- a step that retires is the model's
   pub retired_step : (o : Option Runner) → running o ≡ Some e → (cpu : Cpu) (w : Option Write) → step_seen b e ≡ Retired cpu w → world_of (after_machine_step b e (step_seen b e)) ≡ after (world_of b) (tick.step_when (world_of b) o)

@@ -17,7 +17,7 @@ use Rattle.env_frames.specs.Frame.{mapping_at}
 use Rattle.guest_memory.specs.Look.{written_through}
 use Rattle.world_model.specs.Table.{set_at}
 use Rattle.world_model.specs.Page.{KeptPage}
-use Rattle.world_model.specs.Solo.{Store, Kept, Physical, kept_at, kept_after, kept_page_after}
+use Rattle.world_model.specs.Solo.{Store, Kept, kept_at, kept_after, kept_page_after}
 use Rattle.page_sight.specs.Sight.{seen_if, seen_in}
 use Rattle.page_sight.proofs.Stripes.{bound_nowhere}
 use Rattle.page_sight.proofs.Tables.{by_number, set_here, set_else}
@@ -39,11 +39,6 @@ put_table frames n offset bytes within =
     by_number (page_at (after_put frames n offset bytes)) (set_at n new (page_at frames)) n
     (get_or-set_same frames n new [] within ∙ sym (set_here n new (page_at frames)))
     (λ p ne. get_or-set_other frames n p new [] ne ∙ sym (set_else n p new (page_at frames) ne))
-
--- a store that names no guaranteed page of these changes none
-pub kept_as_was : (kept : List KeptPage) (page offset : ℕ) (bytes : List ℕ) → kept_after kept (record { key = Physical page; offset = offset; bytes = bytes }) ≡ kept
-kept_as_was [] page offset bytes = refl
-kept_as_was (p ∷ kept) page offset bytes = ap (λ ps. p ∷ ps) (kept_as_was kept page offset bytes)
 
 pub kept_without : (kept : List KeptPage) (x : Store) (v : ℕ) → x.key ≡ Kept v → kept_at kept v ≡ None → kept_after kept x ≡ kept
 kept_without [] x v key none = refl

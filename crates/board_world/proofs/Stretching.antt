@@ -1,5 +1,5 @@
 -- Plain ticks of a board are ticks of the model.
-use Rattle.std.proofs.Common.{◌≡◌, ◌<◌, ℕ, zero, suc, ◌+◌, ◌-◌, ◌/◌, ◌%◌, List, [], ◌∷◌, length, length-set, Bool, false, Option, None, Some, IfSome, refl, sym, ◌∙◌, ap, add-zero, arith}
+use Rattle.std.proofs.Common.{◌≡◌, ◌<◌, ℕ, zero, suc, ◌+◌, ◌-◌, ◌/◌, ◌%◌, List, [], length, length-set, Bool, false, Option, None, Some, IfSome, refl, sym, ◌∙◌, ap, add-zero, arith}
 use Rattle.std.specs.Prelude.{◌&&◌, is_none, map, unwrap_or}
 use Rattle.std.specs.Option.{option_map}
 use Rattle.std.proofs.lemmas.Bool.{ne_eqb}
@@ -23,10 +23,10 @@ use Rattle.world_model.specs.declared.slot.Runner.{Runner}
 use Rattle.world_model.specs.Book.{is_idle_book, running}
 use Rattle.world_model.specs.Deadlines.{takings}
 use Rattle.world_model.specs.Event.{Schedule, happen}
-use Rattle.world_model.specs.Tick.{phases_after, serve_phases, served, step, tick_step, timer, turn, turn_when}
+use Rattle.world_model.specs.Tick.{phases_after, served, step, tick_step, timer, turn, turn_when}
 use Rattle.world_model.specs.World.{World, after, run_phases}
 use Rattle.run_model.specs.Run.{next_world}
-use Rattle.run_model.proofs.Phases.{run_append, tick_in_two}
+use Rattle.run_model.proofs.Phases.{tick_in_parts}
 use Rattle.board_world.specs.declared.roster.Environment.{Environment}
 use Rattle.board_world.specs.Doing.{after_timer_by, after_count_down, has_end, lookup_of, after_machine_step, step_seen, with_next_time}
 use Rattle.board_world.specs.Laws.{ServingIsServing, TimerIsTimer}
@@ -141,10 +141,6 @@ counts_on b now (Some r) is more =
     ap (λ o. timer_by o (has_end now r.env) (excess_of now.slots.excess)) is ∙ rw (ne_eqb r.left 1 (λ same. omega arith)) refl in
     ap (λ (t : Timer). with_next_time (after_timer_by now r.env t)) answer
 
--- a tick by its parts
-in_parts : (w : World) → tick_step w ≡ (let v = served w in let u = after v (turn v) in let t = after u (step u) in after t (timer t))
-in_parts w = ap (run_phases w) (tick_in_two (takings w)) ∙ run_append w (serve_phases (takings w)) (turn ∷ step ∷ timer ∷ [])
-
 module _ (serves : ServingIsServing) (times : TimerIsTimer) where
   plain_tick : (b : Shown) (e : ℕ) → IsSound b → running b.slots.runner ≡ Some e → outcome_of (step_seen b e) ≡ outcome.Retired → 1 < left_of b.slots.runner → is_any_due b.revocations b.time ≡ false → world_of (stretched b e 1) ≡ tick_step (world_of b)
   plain_tick b e sound runs retired more none =
@@ -168,7 +164,7 @@ module _ (serves : ServingIsServing) (times : TimerIsTimer) where
       ∙ ap (λ u. after u (timer u)) (stepped b e sound runs retired)
       ∙ ap (λ u. let t = after u (step u) in after t (timer t)) none_turned
       ∙ ap (λ v. let u = after v (turn v) in let t = after u (step u) in after t (timer t)) none_served
-      ∙ sym (in_parts w)
+      ∙ sym (tick_in_parts w)
 
   -- a tick of a run in which nothing happens from outside
   quiet_tick : (schedule : Schedule) (w : World) → is_idle_book w.book ≡ false → schedule w.book.time ≡ [] → tick_step w ≡ next_world schedule w

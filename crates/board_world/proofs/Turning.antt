@@ -28,6 +28,7 @@ use Rattle.world_model.specs.Solo.{Solo, dead, is_dead, kept_after}
 use Rattle.world_model.specs.Step.{Dies}
 use Rattle.world_model.specs.World.{World, Reply, after, in_turn, only}
 use Rattle.world_model.specs.Tick as tick
+use Rattle.run_model.proofs.Phases.{in_turn_is_each}
 use Rattle.board_world.specs.declared.roster.Environment.{Environment}
 use Rattle.board_world.specs.Shown.{Shown, handlers_in, handlers_of, mappings_of}
 use Rattle.board_world.specs.Showing.{world_of, book_of, solo_of, solo_or_absent, solo_seen, cpu_seen, pages_seen}
@@ -38,7 +39,7 @@ use Rattle.board_world.proofs.Dying.{MayDie, dies as dying, may_die, numbered_wi
 use Rattle.board_world.proofs.Lists.{changed_here, changed_else, length-changed}
 use Rattle.board_world.proofs.Mappings.{kept_mappings}
 use Rattle.board_world.proofs.Parts.{by_env, worlds, one_absorbed}
-use Rattle.board_world.proofs.Phases.{each_in_turn, quiet_world}
+use Rattle.board_world.proofs.Phases.{quiet_world}
 use Rattle.board_world.proofs.Replying.{told}
 use Rattle.board_world.proofs.Seen.{like_solo, same_solo, named, Runs, its_mappings, live_record, runner_runs, runner_seen, runner_solo}
 use Rattle.board_world.proofs.Sound.{held_live, keeps_registers}
@@ -341,7 +342,7 @@ module _ (b : Shown) (sound : IsSound b) (r : Runner) (is : b.slots.runner ≡ S
   runs_out phase.Grace =
       judged (nat_lt excess_limit owing) refl
       ∙ ap (λ v. after v (tick.judged r.env v)) over_world
-      ∙ sym (each_in_turn (world_of b) (tick.owes_more r.env ∷ tick.judged r.env ∷ []))
+      ∙ sym (in_turn_is_each (world_of b) (tick.owes_more r.env ∷ tick.judged r.env ∷ []))
 
   -- by whether it has one tick left
   counts : (last : Bool) → (r.left == 1) ≡ last → 1 ≤ r.left
@@ -365,4 +366,4 @@ counted_world b sound = by_runner b.slots.runner refl sound.book.ticks
     by_runner o is some =
         ticked_world (after_count_down b o)
         ∙ ap (λ v. after v (tick.clock v)) (after_timer_phase o is some)
-        ∙ sym (each_in_turn (world_of b) (tick.count_when o ∷ tick.clock ∷ []))
+        ∙ sym (in_turn_is_each (world_of b) (tick.count_when o ∷ tick.clock ∷ []))

@@ -20,7 +20,7 @@ use Rattle.world_model.specs.PageCalls.{left_if, lost_if, without_number}
 use Rattle.page_sight.specs.Sight.{IsStripe, Sees, seen_if, seen_in}
 use Rattle.page_sight.specs.Laws.{AllocatorSees, BinderSees, FreerLoses, OthersDont, OthersLose, ReadersSee, RecapperKeeps, UnbinderLoses, WriterSees, broken_stripe, with_row}
 use Rattle.page_sight.proofs.Tables.{by_number, set_here, set_else}
-use Rattle.page_sight.proofs.Stripes.{binds_here, bound_before, bound_no_more, bound_still, kept_row, nothing_goes}
+use Rattle.page_sight.proofs.Stripes.{binds_here, bound_before, bound_no_more, bound_still, kept_row, nothing_goes, bound_nowhere}
 
 -- stripes with the same rows serve alike
 pub sees_alike : (e : ℕ) (pages : ℕ → PageRow) (f g : ℕ → Option Binding) (bytes : ℕ → List ℕ) (s : Solo) → ((row : ℕ) → f row ≡ g row) → Sees e pages f bytes s → Sees e pages g bytes s
@@ -29,6 +29,18 @@ sees_alike e pages f g bytes s same = subst (λ (stripe : ℕ → Option Binding
 -- a page that is neither owned nor bound isn't seen
 pub nothing_of : (owned bound : Bool) (bytes : List ℕ) → owned ≡ false → bound ≡ false → seen_if owned bound bytes ≡ None
 nothing_of owned bound bytes not_owned not_bound = λ k. seen_if (not_owned k) (not_bound k) bytes
+
+-- an environment with no bindings that owns no page
+pub record HasNone (i : ℕ) (pages : ℕ → PageRow) (stripe : ℕ → Option Binding) : Type 0 where
+  pub binds : (row : ℕ) → stripe row ≡ None
+  pub owns : (page : ℕ) → is_owned_by i (pages page) ≡ false
+
+-- where nothing is bound, a page isn't
+pub unbound_page : (stripe : ℕ → Option Binding) → ((row : ℕ) → stripe row ≡ None) → (page : ℕ) → is_bound page stripe ≡ false
+unbound_page stripe none page = bound_nowhere page stripe (λ row. ap (is_of_page page) (none row))
+
+pub nothing_seen : (i : ℕ) (pages : ℕ → PageRow) (stripe : ℕ → Option Binding) (bytes : ℕ → List ℕ) → HasNone i pages stripe → (page : ℕ) → seen_in i pages stripe bytes page ≡ None
+nothing_seen i pages stripe bytes none page = nothing_of (is_owned_by i (pages page)) (is_bound page stripe) (bytes page) (none.owns page) (unbound_page stripe none.binds page)
 
 -- what is given to a live environment
 pub absorbs_lost : (s : Solo) (page : ℕ) → s.life ≡ Live → absorb_all s (Lost page ∷ []) ≡ lost page s

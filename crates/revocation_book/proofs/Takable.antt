@@ -2,10 +2,9 @@
 use Rattle.std.proofs.Common.{◌≡◌, ◌≢◌, ℕ, zero, suc, ◌<◌, ◌≤◌, Bool, true, false, cond, List, [], ◌∷◌, ◌++◌, take, drop, None, Some, refl, sym, ap, ◌∙◌, arith}
 use Rattle.std.specs.Prelude.{◌==◌, not}
 use Rattle.std.proofs.lemmas.List.{append-nil}
-use Rattle.std.proofs.lemmas.Bool.{and_from, and_parts, eq-eqb, eqb-true, ne_eqb, not-true, not_from_false, or_parts}
-use Rattle.page_book.specs.declared.row.PageRow.{PageRow}
-use Rattle.page_book.specs.declared.row.PageRow.TheVariants.{Free, Guaranteed, Owned}
+use Rattle.std.proofs.lemmas.Bool.{and_from, and_parts, eq-eqb, eqb-true, ne_eqb, not-true, not_from_false, or_parts, or_right}
 use Rattle.page_book.specs.Row.{is_owned_by}
+use Rattle.page_book.proofs.Owners.{same_owner}
 use Rattle.revocation_book.specs.declared.revocation.Taking.{Taking}
 use Rattle.revocation_book.specs.Pending.{is_due, outstanding_in}
 use Rattle.revocation_book.specs.Backups.{is_loaded}
@@ -78,19 +77,18 @@ stay_above b x e low high [] below are = tt
 stay_above b x e low high (p ∷ ps) below are =
     (are.0, are.1, stays b x e p (omega (arith, are.0, below)) are.2, stay_above b x e (suc p) high ps (omega (arith, are.0, below)) are.3)
 
--- a page has one owner
-one_owner : (row : PageRow) (d e : ℕ) → is_owned_by d row ≡ true → is_owned_by e row ≡ true → d ≡ e
-one_owner Free d e one other = absurd (cc one)
-one_owner (Guaranteed owner) d e one other = absurd (cc one)
-one_owner (Owned owner words) d e one other = sym (eqb-true owner d one) ∙ eqb-true owner e other
-
 -- and those of another environment
 stay_others : (b : Books) (x : Taking) (e low high : ℕ) (pages : List ℕ) → x.env ≢ e → is_owned_by x.env (b.pages x.page) ≡ true → AreVictims b e low high pages → AreVictims (taken x b) e low high pages
 stay_others b x e low high [] other owned are = tt
 stay_others b x e low high (p ∷ ps) other owned are =
     let parts = and_parts (is_owned_by e (b.pages p)) (not (is_loaded (b.backups e) p)) are.2 in
-    let apart : p ≢ x.page = λ same. other (one_owner (b.pages x.page) x.env e owned (rw same at parts.0)) in
+    let apart : p ≢ x.page = λ same. other (same_owner x.env e (b.pages x.page) owned (rw same at parts.0)) in
     (are.0, are.1, stays b x e p apart are.2, stay_others b x e (suc p) high ps other owned are.3)
+
+-- a backup that is left was one before
+pub rest_loaded : (pages : List ℕ) (page : ℕ) → is_loaded (drop 1 pages) page ≡ true → is_loaded pages page ≡ true
+rest_loaded [] page is = is
+rest_loaded (p ∷ pages) page is = or_right (p == page) (is_loaded pages page) is
 
 -- the victims of one environment may be taken, by rising number, with its backups in their order
 paired_takable : (b : Books) (time e low high : ℕ) (pages backups : List ℕ) → is_due time (b.pending e) ≡ true → b.backups e ≡ backups → AreVictims b e low high pages → AreTakable b time (paired e pages backups)

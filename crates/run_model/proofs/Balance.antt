@@ -34,8 +34,9 @@ use Rattle.world_model.specs.Tick.{act_now, clock, count_when, goes_on, grace_of
 use Rattle.world_model.specs.SlotCalls.{stop_row}
 use Rattle.call_verdicts.specs.Granted.{GrantedMay}
 use Rattle.world_model.specs.World.{World, Reply, after, is_living, no_change, no_items, only, run_phases, tells}
+use Rattle.world_model.proofs.Slots.{holder_in}
 use Rattle.run_model.proofs.Lives.{breaks_keep, copy_left_keeps, keep_asked, keep_both, keep_end, keep_line, keep_none, keep_only, keep_packet, keep_set, keep_start, keep_taken, ring_left_keeps}
-use Rattle.run_model.proofs.NextTurn.{Found, holder_in, search_finds}
+use Rattle.run_model.proofs.NextTurn.{Found, search_finds}
 use Rattle.run_model.proofs.Replies.{accounts, act_accounts, death_accounts, dies, in_turn_accounts, mild_accounts, no_change_is_mild}
 use Rattle.run_model.proofs.Rows.{Adds, AreQuiet, Balances, adds_over, adds_pay, adds_quiet, adds_run, quiet_asked, quiet_both, quiet_end, quiet_slot, quiet_stop, quiet_take, quiet_unclaimed}
 

@@ -3,7 +3,7 @@ pub mod Telling
 mod Fold
 mod NextTurn
 mod Turns
-mod Lives
+pub mod Lives
 mod Rows
 mod Replies
 pub mod Balance

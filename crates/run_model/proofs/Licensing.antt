@@ -44,12 +44,13 @@ use Rattle.world_model.specs.Step.{Act, Nothing, Stores, Calls, Raises, Dies}
 use Rattle.world_model.specs.Tick.{act_now, brings, count_when, goes_on, grace_of, judged, kill, owes_more, phases_after, run_out, step, step_when, take_turn, tick_phases, timer, turn, turn_when}
 use Rattle.world_model.specs.Verdict.{done, reply_of, reply_to, verdict}
 use Rattle.world_model.specs.World.{World, Reply, after, in_turn, is_living, no_change, no_items, only, run_phases, tells}
+use Rattle.world_model.proofs.Slots.{holder_in}
 use Rattle.call_verdicts.specs.Granted.{GrantedMay}
 use Rattle.run_model.specs.Acting.{Acts, Does}
 use Rattle.run_model.specs.Boot.{boot_items, record_items}
 use Rattle.run_model.specs.Licensed.{AtArrival, AtBoot, AtEvent, AtRevocation, AtSignal, AtStep, AtTaking, AtTimer, AtTurn, Breaks, ByDeath, ByFree, ByRecap, FeedIsLicensed, GivenIsLicensed, IsOut, IsOverdue, Licensed, LicensedAt, LicensedBehind, LicensedIn, MayTaking}
 use Rattle.run_model.specs.Run.{System, feed, given_at, given_by, happens_in, items_in, next_phases, once_happened, takings_in, world_after}
-use Rattle.run_model.proofs.NextTurn.{Found, holder_in, search_finds}
+use Rattle.run_model.proofs.NextTurn.{Found, search_finds}
 use Rattle.run_model.proofs.Telling.{call_does, call_named, call_stands, deed_may}
 
 -- each of these items is so

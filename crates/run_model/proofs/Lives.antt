@@ -101,15 +101,15 @@ keep_line line = keep_one (Line line) (λ s. refl)
 pub keep_asked : (outstanding deadline : ℕ) → Keeps (Asked outstanding deadline ∷ [])
 keep_asked outstanding deadline = keep_one (Asked outstanding deadline) (λ s. refl)
 
-copied_same : (page : ℕ) (backup : Option ℕ) (s : Solo) → (copied page backup s).life ≡ s.life
-copied_same page None s = refl
-copied_same page (Some backup) s = refl
+pub copied_life : (page : ℕ) (backup : Option ℕ) (s : Solo) → (copied page backup s).life ≡ s.life
+copied_life page None s = refl
+copied_life page (Some backup) s = refl
 
 recorded_same : (n page : ℕ) (backup : Option ℕ) (s : Solo) → (recorded n page backup s).life ≡ s.life
 recorded_same n page backup s = if_bound (nat_lt n most_records) s (with_context (record_offset n) (record_bytes page backup) s) refl
 
 pub keep_taken : (page : ℕ) (backup : Option ℕ) → Keeps (Taken page backup ∷ [])
-keep_taken page backup = keep_one (Taken page backup) (λ s. let t = copied page backup s in recorded_same (post_word post.Takings t) page backup t ∙ copied_same page backup s)
+keep_taken page backup = keep_one (Taken page backup) (λ s. let t = copied page backup s in recorded_same (post_word post.Takings t) page backup t ∙ copied_life page backup s)
 
 received_as_same : (r : Ring) (becomes : Reception) (s : Solo) → (received_as r becomes s).life ≡ s.life
 received_as_same r Loses s = refl

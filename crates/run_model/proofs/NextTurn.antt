@@ -1,15 +1,12 @@
 -- What the search for the next held slot finds.
 use Rattle.std.proofs.Common.{arith, refl, ap, sym, ◌∙◌, inl, inr, ◌≡◌, ◌≤◌, ◌<◌, ◌+◌, ◌-◌, ◌%◌, ℕ, zero, suc, Option, None, Some}
-use Rattle.std.specs.Option.{option_map}
 use Rattle.std.proofs.lemmas.Bool.{cases_eq, cases_lt}
-use Rattle.std.proofs.Math.Nat.{mod-add-mod, add-mod_right, mod-eq_of_lt}
+use Rattle.std.proofs.Math.Nat.{add-mod_right, mod-eq_of_lt}
 use Rattle.world_model.specs.declared.slot.Hold.{Hold}
 use Rattle.world_model.specs.declared.slot.Turn.{Turn}
 use Rattle.world_model.specs.Book.{Book, turn_or, first_turn, next_turn}
+use Rattle.world_model.proofs.Slots.{holder_in, step_on}
 use Rattle.run_model.specs.NextTurn.{IsNextTurn}
-
-abbrev pub holder_in : Option Hold → Option ℕ
-holder_in hold = option_map (λ (h : Hold). h.holder) hold
 
 -- of so many slots after a place the first held one
 pub record FoundAt (slots : ℕ → Option Hold) (count place tries slot e : ℕ) : Type 0 where
@@ -23,12 +20,6 @@ pub record FoundAt (slots : ℕ → Option Hold) (count place tries slot e : ℕ
 abbrev pub Found : (ℕ → Option Hold) → ℕ → ℕ → ℕ → Option Turn → Type 0
 Found slots count place tries None = (j : ℕ) → 1 ≤ j → j ≤ tries → slots ((place + j) % count) ≡ None
 Found slots count place tries (Some t) = FoundAt slots count place tries t.slot t.env
-
--- a slot from the next one on, counted from this one
-step_on : (place j count : ℕ) → 1 ≤ j → ((place + 1) % count + (j - 1)) % count ≡ (place + j) % count
-step_on place j count least =
-    let sum : place + 1 + (j - 1) ≡ place + j = omega arith in
-    mod-add-mod (place + 1) count (j - 1) ∙ ap (λ (n : ℕ). n % count) sum
 
 -- the next slot is empty, and so are those that are empty from it on
 empty_on : (slots : ℕ → Option Hold) (count place bound : ℕ) → slots ((place + 1) % count) ≡ None

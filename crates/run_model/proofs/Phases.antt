@@ -11,8 +11,8 @@ use Rattle.world_model.specs.World.{World, Reply, after, followed, in_turn, no_c
 use Rattle.external_event.specs.declared.event.Occurrence.{Occurrence}
 use Rattle.world_model.specs.Event.{happen}
 use Rattle.revocation_book.specs.declared.revocation.Taking.{Taking}
-use Rattle.world_model.specs.Deadlines.{settles, takes}
-use Rattle.world_model.specs.Tick.{phases_after, serve_phases, served, step, tick_phases, timer, turn}
+use Rattle.world_model.specs.Deadlines.{settles, takes, takings}
+use Rattle.world_model.specs.Tick.{phases_after, serve_phases, served, step, tick_phases, timer, turn, tick_step}
 use Rattle.run_model.specs.Run.{InTurnIsEach, MomentsAreInOrder, System, at_deadlines, at_step, at_timer, at_turn, happens_in, items_in, items_of_events, items_of_phases, items_of_takings, moment, next_phases, once_happened, phases_in, takings_in, world_after}
 
 -- what is absorbed in two parts is absorbed in one
@@ -50,8 +50,12 @@ items_append w (x ∷ xs) ys e =
 abbrev behind : List (World → Reply)
 behind = turn ∷ step ∷ timer ∷ []
 
-pub tick_in_two : (xs : List Taking) → tick_phases xs ≡ serve_phases xs ++ behind
+tick_in_two : (xs : List Taking) → tick_phases xs ≡ serve_phases xs ++ behind
 tick_in_two xs = sym (append_assoc (map takes xs) (settles ∷ []) behind)
+
+-- a tick by its parts: what is served, and then turn, step and timer
+pub tick_in_parts : (w : World) → tick_step w ≡ (let v = served w in let u = after v (turn v) in let t = after u (step u) in after t (timer t))
+tick_in_parts w = ap (run_phases w) (tick_in_two (takings w)) ∙ run_append w (serve_phases (takings w)) behind
 
 serve_length : (xs : List Taking) → length (serve_phases xs) ≡ length xs + 1
 serve_length xs = length-append (map takes xs) (settles ∷ []) ∙ ap (λ n. n + 1) (length-map xs takes)

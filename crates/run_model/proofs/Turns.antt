@@ -1,49 +1,14 @@
 -- A turn goes by the rule of excess.
-use Rattle.std.proofs.Common.{arith, refl, ap, subst, [], ◌≡◌, ◌≤◌, ◌<◌, ◌+◌, ◌-◌, ◌%◌, ℕ, zero, suc, Bool, true, false, inl, inr, Option, None, Some}
+use Rattle.std.proofs.Common.{arith, refl, [], ◌≡◌, ◌<◌, ◌+◌, ◌-◌, ◌%◌, ℕ, zero, suc, Bool, true, false, Option, None, Some}
 use Rattle.std.specs.Prelude.{◌==◌, if◌then◌else◌}
-use Rattle.std.proofs.lemmas.Bool.{cases_eq, eqb-true, eqb-false, eq-eqb}
+use Rattle.std.proofs.lemmas.Bool.{eqb-true, eqb-false}
 use Rattle.std.proofs.Math.Nat.{mod-lt}
-use Rattle.world_model.specs.declared.slot.Hold.{Hold}
 use Rattle.world_model.specs.declared.slot.Turn.{Turn}
-use Rattle.world_model.specs.Book.{Book, first_turn, lowered, owed, owed_in, pays_first, told_at, told_turn}
+use Rattle.world_model.specs.Book.{Book, first_turn, lowered, owed, pays_first, told_at, told_turn}
+use Rattle.world_model.proofs.Slots.{owed_less}
 use Rattle.run_model.specs.NextTurn.{IsNextTurn}
 use Rattle.run_model.specs.Excess.{GoesByRule, TurnsGoByRule}
-use Rattle.run_model.proofs.NextTurn.{holder_in, next_is_found}
-
--- where one's excess is lowered nobody owes more, and the holder of a slot owes less
-lowered_most : (e : ℕ) (excess : ℕ → ℕ) (i : ℕ) → lowered e excess i ≤ excess i
-lowered_most e excess i = by_test (i == e) refl
-  where
-    by_test : (t : Bool) → (i == e) ≡ t → (if t then excess e - 1 else excess i) ≤ excess i
-    by_test true is = let same : excess i ≡ excess e = ap excess (eqb-true i e is) in omega arith
-    by_test false is = omega arith
-
-owed_in_most : (e : ℕ) (excess : ℕ → ℕ) (hold : Option Hold) → owed_in (lowered e excess) hold ≤ owed_in excess hold
-owed_in_most e excess None = omega arith
-owed_in_most e excess (Some hold) = lowered_most e excess hold.holder
-
-owed_most : (e : ℕ) (excess : ℕ → ℕ) (slots : ℕ → Option Hold) (count : ℕ) → owed (lowered e excess) slots count ≤ owed excess slots count
-owed_most e excess slots zero = omega arith
-owed_most e excess slots (suc k) = omega (arith, owed_most e excess slots k, owed_in_most e excess (slots k))
-
-holder_owes_less : (e : ℕ) (excess : ℕ → ℕ) (hold : Option Hold) → holder_in hold ≡ Some e → 0 < excess e → owed_in (lowered e excess) hold < owed_in excess hold
-holder_owes_less e excess None is owes = cc
-holder_owes_less e excess (Some hold) is owes =
-    let same : hold.holder ≡ e = cc in
-    let as_much : excess hold.holder ≡ excess e = ap excess same in
-    rw (eq-eqb hold.holder e same) (omega arith)
-
-owed_less : (e : ℕ) (excess : ℕ → ℕ) (slots : ℕ → Option Hold) (count k : ℕ) → k < count → holder_in (slots k) ≡ Some e → 0 < excess e → owed (lowered e excess) slots count < owed excess slots count
-owed_less e excess slots zero k below is owes = absurd (omega arith)
-owed_less e excess slots (suc n) k below is owes =
-    elim (cases_eq k n) [
-      | inl same ↦
-          let less = holder_owes_less e excess (slots n) (subst (λ (j : ℕ). holder_in (slots j) ≡ Some e) same is) owes in
-          omega (arith, owed_most e excess slots n)
-      | inr other ↦
-          let less = owed_less e excess slots n k (omega (arith, other)) is owes in
-          omega (arith, owed_in_most e excess (slots n))
-    ]
+use Rattle.run_model.proofs.NextTurn.{next_is_found}
 
 -- the book with another cursor and other excess
 abbrev turned : Book → ℕ → (ℕ → ℕ) → Book

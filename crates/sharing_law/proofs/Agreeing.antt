@@ -38,8 +38,9 @@ use Rattle.run_model.specs.Licensed.{MayTaking}
 use Rattle.run_model.proofs.Balance.{KeepsAccounts, boots_accounted, happen_accounts, settling_accounts, step_keeps, taking_accounts, timer_accounts, turn_keeps}
 use Rattle.run_model.proofs.Phases.{tick_moment}
 use Rattle.page_sight.proofs.Tables.{set_else}
+use Rattle.page_sight.proofs.Sights.{HasNone}
 use Rattle.sharing_law.specs.Agreement.{AreBoundAllocated, BooksAgree, BackupsAreOwned, BoundIsAllocated, ClaimsAgree, ClaimsAreApart, ClaimsAreSound, claim_page, ring_page}
-use Rattle.sharing_law.proofs.Sound.{HasNone, Sound, sees_nothing}
+use Rattle.sharing_law.proofs.Sound.{Sound, sees_nothing}
 use Rattle.sharing_law.proofs.Backups.{AreBacked, AreOnce, arrival_backed, backed_owned, backups_owned, step_backed, taking_backed, timer_backed}
 use Rattle.sharing_law.proofs.Books.{step_allocated}
 use Rattle.sharing_law.proofs.Claimed.{Claimed, claimed_alike}

@@ -7,6 +7,7 @@ use Rattle.revocation_book.specs.declared.revocation.LoadNo.TheVariants as no
 use Rattle.revocation_book.specs.Backups.{is_loaded, load_refusal, loaded, most_backups, unloaded}
 use Rattle.page_book.specs.declared.row.PageRow.TheVariants.{Free, Owned}
 use Rattle.page_book.specs.Row.{is_owned_by}
+use Rattle.page_book.proofs.Owners.{same_owner}
 use Rattle.world_model.specs.declared.call.Call.{Call}
 use Rattle.world_model.specs.declared.call.Deed.{Deed}
 use Rattle.world_model.specs.declared.call.Deed.TheVariants.{Answers, Own, Stops, Gives, Allocates, Frees, Recaps, Binds, Unbinds, Transfers, TakesSlot, DropsSlot, TakesLine, DropsLine, Claims, Unclaims, Downloads, Loads}
@@ -15,6 +16,7 @@ use Rattle.world_model.specs.declared.verdict.Verdict.{Verdict}
 use Rattle.world_model.specs.declared.verdict.Verdict.TheVariants.{Refuse, Grant}
 use Rattle.filter_tree.specs.ClaimBook.{ClaimValue}
 use Rattle.revocation_book.specs.declared.revocation.Taking.{Taking}
+use Rattle.revocation_book.proofs.Takable.{rest_loaded}
 use Rattle.world_model.specs.Table.{set_at}
 use Rattle.world_model.specs.Book.{Book}
 use Rattle.world_model.specs.Call.{called}
@@ -33,7 +35,7 @@ use Rattle.run_model.proofs.Telling.{call_stands, deed_may, call_named}
 use Rattle.page_sight.proofs.Mourning.{owned_still}
 use Rattle.page_sight.proofs.Tables.{set_here, set_else}
 use Rattle.sharing_law.specs.Agreement.{AreBackupsOwned}
-use Rattle.sharing_law.proofs.Owning.{free_else, own_else, owned_by}
+use Rattle.sharing_law.proofs.Owning.{free_else, own_else}
 use Rattle.sharing_law.proofs.Timing.{Comes, Died, Passed, timer_comes}
 
 -- no page is there twice
@@ -110,11 +112,6 @@ few_less gone (p ∷ pages) = by_test (p == gone) (few_less gone pages)
     by_test true rest = omega arith
     by_test false rest = omega arith
 
--- The first is gone.
-rest_was : (pages : List ℕ) (page : ℕ) → is_loaded (drop 1 pages) page ≡ true → is_loaded pages page ≡ true
-rest_was [] page is = is
-rest_was (p ∷ pages) page is = or_right (p == page) (is_loaded pages page) is
-
 once_rest : (pages : List ℕ) → AreOnce pages → AreOnce (drop 1 pages)
 once_rest [] once = once
 once_rest (p ∷ pages) (alone, once) = once
@@ -165,7 +162,7 @@ others_still : (b : Book) (e page : ℕ) → is_owned_by e (b.pages page) ≡ tr
 others_still b e page its i p other owned = by_test (p == page) refl
   where
     by_test : (t : Bool) → (p == page) ≡ t → is_owned_by i (if t then Free else b.pages p) ≡ true
-    by_test true same = absurd (other (sym (owned_by e i (b.pages page) its (ap (λ (n : ℕ). is_owned_by i (b.pages n)) (sym (eqb-true p page same)) ∙ owned))))
+    by_test true same = absurd (other (sym (same_owner e i (b.pages page) its (ap (λ (n : ℕ). is_owned_by i (b.pages n)) (sym (eqb-true p page same)) ∙ owned))))
     by_test false elsewhere = owned
 
 own_still : (b : Book) (e page p : ℕ) → p ≢ page → is_owned_by e (b.pages p) ≡ true → is_owned_by e (set_at page Free b.pages p) ≡ true
@@ -178,7 +175,7 @@ taking_backed x w may backed =
     let its = w.book.backups e in
     backed_but w.book (takes x w).book e (drop 1 its) refl
     (record {
-      owned = λ page is. let was = rest_was its page is in own_still w.book e x.page page (λ same. spared (ap (is_loaded its) (sym same) ∙ was)) (backed.owned e page was);
+      owned = λ page is. let was = rest_loaded its page is in own_still w.book e x.page page (λ same. spared (ap (is_loaded its) (sym same) ∙ was)) (backed.owned e page was);
       once = once_rest its (backed.once e);
       few = omega (arith, few_rest its, backed.few e);
     })

@@ -1,16 +1,18 @@
 -- What comes of the runner's act: what each environment sees after it.
-use Rattle.std.proofs.Common.{◌≡◌, ◌≢◌, ◌≤◌, ℕ, List, [], Bool, true, false, Option, Some, None, refl, sym, ◌∙◌, ap, subst}
-use Rattle.std.specs.Prelude.{◌==◌, ◌||◌, if◌then◌else◌}
+use Rattle.std.proofs.Common.{◌≡◌, ◌≢◌, ◌≤◌, ℕ, List, [], Bool, true, false, Option, refl, sym, ◌∙◌, ap, subst}
+use Rattle.std.specs.Prelude.{◌==◌, if◌then◌else◌}
 use Rattle.std.specs.Option.{option_map}
 use Rattle.std.proofs.lemmas.Bool.{eq-eqb, eqb-true, ne_eqb}
 use Rattle.frame_store.specs.Pages.{with_bytes, zero_page}
 use Rattle.mips_exec.specs.declared.registers.Cpu.{Cpu}
 use Rattle.page_book.specs.declared.row.Capabilities.{Capabilities}
 use Rattle.page_book.specs.declared.row.PageRow.{PageRow}
-use Rattle.page_book.specs.declared.row.PageRow.TheVariants.{Free, Guaranteed, Owned}
-use Rattle.page_book.specs.Row.{belongs_to, is_owned_by, released as released_row}
+use Rattle.page_book.specs.declared.row.PageRow.TheVariants.{Free}
+use Rattle.page_book.specs.Row.{is_owned_by, released as released_row}
+use Rattle.page_book.proofs.Owners.{released_none, released_own, released_owned}
 use Rattle.bind_book.specs.declared.binding.Binding.{Binding}
 use Rattle.bind_book.specs.Stripe.{goes_with, without}
+use Rattle.bind_book.proofs.Swept.{own_goes}
 use Rattle.world_model.specs.declared.call.Deed.TheVariants.{Allocates}
 use Rattle.world_model.specs.declared.life.Life.TheVariants.{Live}
 use Rattle.world_model.specs.declared.life.Cause.{Cause}
@@ -25,10 +27,10 @@ use Rattle.world_model.specs.World.{World, no_items}
 use Rattle.run_model.specs.Acting.{Acts, Does}
 use Rattle.page_sight.specs.Sight.{IsStripe, Sees}
 use Rattle.page_sight.proofs.Mourning.{mourners_lose}
-use Rattle.page_sight.proofs.Sights.{readers_see, writer_sees}
+use Rattle.page_sight.proofs.Sights.{readers_see, writer_sees, HasNone}
 use Rattle.page_sight.proofs.Stripes.{without_ends}
 use Rattle.sharing_law.proofs.Given.{dead_absorbs}
-use Rattle.sharing_law.proofs.Sound.{HasNone, Sound, sees_nothing}
+use Rattle.sharing_law.proofs.Sound.{Sound, sees_nothing}
 
 -- What becomes of an allocated page and of its bytes: it was its owner's and has them still; a runner stored to it; or it was free, and its owner called for it, and it has zeros.
 pub data Fate (w : World) (o page : ℕ) (bytes : List ℕ) : Type 0 where
@@ -58,38 +60,6 @@ as_before e pages stripe bytes s t binds sights seen = record {
   binds = λ row. ap (λ (f : ℕ → Option Binding). f row) binds ∙ seen.binds row;
   seen = λ page. (λ k. sights k page) ∙ seen.seen page;
 }
-
--- what is owned once an environment's pages are released was owned before, and not by it
-pub released_owned : (gone o : ℕ) (row : PageRow) → is_owned_by o (released_row gone row) ≡ true → is_owned_by o row ≡ true
-released_owned gone o row owns = by_test (belongs_to gone row) owns
-  where
-    by_test : (t : Bool) → is_owned_by o (if t then Free else row) ≡ true → is_owned_by o row ≡ true
-    by_test true owns = cc
-    by_test false owns = owns
-
-released_none : (gone o : ℕ) (row : PageRow) → is_owned_by o row ≡ false → is_owned_by o (released_row gone row) ≡ false
-released_none gone o row owns = by_test (belongs_to gone row)
-  where
-    by_test : (t : Bool) → is_owned_by o (if t then Free else row) ≡ false
-    by_test true = refl
-    by_test false = owns
-
-released_own : (gone : ℕ) (row : PageRow) → is_owned_by gone (released_row gone row) ≡ false
-released_own gone Free = refl
-released_own gone (Guaranteed owner) = by_test (owner == gone)
-  where
-    by_test : (t : Bool) → is_owned_by gone (if t then Free else Guaranteed owner) ≡ false
-    by_test true = refl
-    by_test false = refl
-released_own gone (Owned owner words) = by_test (owner == gone) refl
-  where
-    by_test : (t : Bool) → (owner == gone) ≡ t → is_owned_by gone (if t then Free else Owned owner words) ≡ false
-    by_test true is = refl
-    by_test false is = is
-
-gone_row : (pages : ℕ → PageRow) (e : ℕ) (b : Option Binding) → without (goes_with pages e e) b ≡ None
-gone_row pages e None = refl
-gone_row pages e (Some b) = ap (λ own. if own || belongs_to e (pages b.page) then None else Some b) (eq-eqb e e refl)
 
 module _ (w : World) (e : ℕ) (sound : Sound w) (lives : (w.solos e).life ≡ Live) where
   -- An act that changes nothing that is seen: the book may be another one with the same pages and bindings.
@@ -153,7 +123,7 @@ module _ (w : World) (e : ℕ) (sound : Sound w) (lives : (w.solos e).life ≡ L
     corpse = dead cause (record (w.solos e) { cpu = cpu })
 
     nothing_left : HasNone e (death w e).book.pages ((death w e).book.binds e)
-    nothing_left = record { binds = λ row. gone_row w.book.pages e (w.book.binds e row); owns = λ page. released_own e (w.book.pages page) }
+    nothing_left = record { binds = λ row. own_goes w.book.pages e (w.book.binds e row); owns = λ page. released_own e (w.book.pages page) }
 
     -- the pages of the others keep their bytes
     pub death_keeps : (brings : Brings w e corpse (death w e).book (death_items w.book e)) × (brings.bytes ≡ page_bytes w)

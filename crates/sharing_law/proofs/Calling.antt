@@ -9,6 +9,7 @@ use Rattle.page_book.specs.declared.row.Capabilities.{Capabilities}
 use Rattle.page_book.specs.declared.row.PageRow.{PageRow}
 use Rattle.page_book.specs.declared.row.PageRow.TheVariants.{Free, Owned}
 use Rattle.page_book.specs.Row.{is_owned_by}
+use Rattle.page_book.proofs.Owners.{anothers}
 use Rattle.bind_book.specs.declared.binding.Binding.{Binding}
 use Rattle.bind_book.specs.Stripe.{binding_at, breaks_page, is_bound, is_of_page, row_of, without}
 use Rattle.world_model.specs.declared.call.Deed.{Deed}
@@ -33,14 +34,14 @@ use Rattle.world_model.specs.Verdict.{done}
 use Rattle.world_model.specs.World.{World, no_items, only}
 use Rattle.run_model.specs.Acting.{Does}
 use Rattle.page_sight.specs.Sight.{IsStripe, Sees}
-use Rattle.page_sight.proofs.Sights.{allocator_sees, binder_sees, freer_loses, others_dont, others_lose, recapper_keeps, unbinder_loses}
+use Rattle.page_sight.proofs.Sights.{allocator_sees, binder_sees, freer_loses, others_dont, others_lose, recapper_keeps, unbinder_loses, HasNone}
 use Rattle.page_sight.proofs.Stripes.{bound_nowhere, without_ends}
-use Rattle.page_sight.proofs.Tables.{set_here, set_else}
+use Rattle.page_sight.proofs.Tables.{set_here, set_else, set_owns}
 use Rattle.sharing_law.specs.Agreement.{AreBoundAllocated, IsAllocated}
 use Rattle.sharing_law.proofs.Given.{IsHanded, absorbs, handed_rests, own_leaves}
 use Rattle.sharing_law.proofs.Giving.{other_than}
-use Rattle.sharing_law.proofs.Owning.{anothers, one_owner, set_owns}
-use Rattle.sharing_law.proofs.Sound.{HasNone, Sound}
+use Rattle.sharing_law.proofs.Owning.{one_owner}
+use Rattle.sharing_law.proofs.Sound.{Sound}
 use Rattle.sharing_law.proofs.Brings.{Brings, Fate, Stays, Taken, GoesOn, as_before, silent, silent_but}
 
 -- a row of a stripe is none behind its last one
@@ -161,10 +162,7 @@ module _ (w : World) (e : ℕ) (sound : Sound w) (lives : (w.solos e).life ≡ L
       let t = caller (Recaps page words) in
       change_brings page (Owned e words) (Some e) w.book.claims w.book.pending w.book.backups may (Recaps page words) [] t refl
       (recapper_keeps e page words w.book.pages (w.book.binds e) (page_bytes w) t (as_before e w.book.pages (w.book.binds e) (page_bytes w) (w.solos e) t refl refl (sound.agreed e)) may.owned)
-      (λ i ne. ne_eqb e i (λ same. ne (sym same))) (λ i ne same. ne (some_same i same)) (λ o owns. one_owner e o (w.book.pages page) may.owned (eqb-true e o owns))
-    where
-      some_same : (i : ℕ) → Some e ≡ Some i → i ≡ e
-      some_same i same = cc
+      (λ i ne. ne_eqb e i (λ same. ne (sym same))) (λ i ne same. let its : i ≡ e = cc in ne its) (λ o owns. one_owner e o (w.book.pages page) may.owned (eqb-true e o owns))
 
   -- A call that gives its caller another stripe.
   module _ (stripe : ℕ → Option Binding) (ends : IsStripe stripe) (d : Deed) (items : ℕ → List Item) (none : (i : ℕ) → i ≢ e → items i ≡ []) where

@@ -15,6 +15,7 @@ use Rattle.mips_exec.specs.declared.registers.Cpu.{Cpu}
 use Rattle.page_book.specs.declared.row.Capabilities.{Capabilities}
 use Rattle.page_book.specs.declared.row.PageRow.TheVariants.{Free, Owned}
 use Rattle.page_book.specs.Row.{belongs_to, is_owned_by}
+use Rattle.page_book.proofs.Owners.{anothers}
 use Rattle.bind_book.specs.Stripe.{binding_at, is_bound, row_of}
 use Rattle.world_model.specs.declared.call.Deed.{Deed}
 use Rattle.world_model.specs.declared.call.Deed.TheVariants.{Answers, Stops, Gives as Donates, Allocates, Frees, Recaps, Binds, Unbinds, Own, Transfers, TakesSlot, DropsSlot, TakesLine, DropsLine, Claims, Unclaims, Downloads, Loads}
@@ -48,7 +49,7 @@ use Rattle.sharing_law.specs.Agreement.{ClaimPage, claim_page}
 use Rattle.sharing_law.proofs.Lists.{Has, filter_none, not_there}
 use Rattle.sharing_law.proofs.Claimed.{AreGood, AreRings, Claimed, good_less, good_more, good_same, rings_beside, rings_handled, rings_less, rings_more, rings_other, rings_spared}
 use Rattle.sharing_law.proofs.Given.{IsHanded, absorbs, dead_absorbs, handed_rests}
-use Rattle.sharing_law.proofs.Owning.{anothers, free_else, own_else}
+use Rattle.sharing_law.proofs.Owning.{free_else, own_else}
 
 -- What comes of a runner, which is s after its act and its answer: each environment has the claims that the book lists for it then.
 pub record Claiming (w : World) (e : ℕ) (s : Solo) (b : Book) (items : ℕ → List Item) : Type 0 where

@@ -14,8 +14,9 @@ use Rattle.world_model.specs.Post.{asked_for, counted, post_word, with_post}
 use Rattle.world_model.specs.Repossession.{copied, recorded, taken}
 use Rattle.world_model.specs.Solo.{Solo, Store, Kept, Physical, bytes_in, bytes_of, kept_at, stored_page}
 use Rattle.world_model.specs.Upcalls.{with_context}
+use Rattle.world_model.proofs.Stores.{kept_as_was}
 use Rattle.sharing_law.specs.Change.{HasAsked, HasRecord, asked_page, bytes_at, counted_page, recorded_page}
-use Rattle.sharing_law.proofs.Given.{kept_as_was, kept_else, kept_here}
+use Rattle.sharing_law.proofs.Given.{kept_else, kept_here}
 
 -- The context page, if it is there, is rewritten so, and all other guaranteed pages are as they were.
 pub record Rewrites (s t : Solo) (rewritten : List ℕ → List ℕ) : Type 0 where

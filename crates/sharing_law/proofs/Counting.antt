@@ -7,9 +7,9 @@ use Rattle.env_frames.specs.declared.post.PostWord.TheVariants as post
 use Rattle.world_model.specs.Post.{counted}
 use Rattle.world_model.specs.Rings.{Loses, Queues, received, received_as, received_by, received_in, ring_of}
 use Rattle.world_model.specs.Solo.{Solo, Ring, Physical, bytes_of}
+use Rattle.world_model.proofs.Stores.{kept_as_was}
 use Rattle.sharing_law.specs.Change.{HasCounts, bytes_at, counted_page, is_lost_in, packet_counted}
 use Rattle.sharing_law.proofs.Contexts.{Rewrites, count_rewrites, rewrites_none, rewrites_or, rewrites_then}
-use Rattle.sharing_law.proofs.Given.{kept_as_was}
 
 -- A packet is counted once, and once more if it is lost.
 module _ (s : Solo) where

@@ -10,6 +10,7 @@ use Rattle.handler_code.specs.Running.{handler_run}
 use Rattle.page_book.specs.declared.row.PageRow.{PageRow}
 use Rattle.page_book.specs.declared.row.PageRow.TheVariants.{Free, Guaranteed, Owned}
 use Rattle.page_book.specs.Row.{is_owned_by}
+use Rattle.page_book.proofs.Owners.{same_owner}
 use Rattle.filter_tree.specs.ClaimBook.{ClaimValue, is_of_env}
 use Rattle.filter_tree.specs.Claims.{is_for, is_numbered}
 use Rattle.world_model.specs.declared.life.Life.{Life}
@@ -39,7 +40,6 @@ use Rattle.sharing_law.proofs.Giving.{ring_told}
 use Rattle.sharing_law.proofs.Handling.{filled_size, filled_whole, handled_holds}
 use Rattle.sharing_law.proofs.Happening.{dropped_alike}
 use Rattle.sharing_law.proofs.Lists.{find_map, found_there, still_found}
-use Rattle.sharing_law.proofs.Owning.{owned_by}
 use Rattle.sharing_law.proofs.Sound.{Sound, agreed, owner_bytes, still_nothing}
 use Rattle.sharing_law.proofs.Turning.{IsAlike, bytes_alike, sound_alike}
 
@@ -257,7 +257,7 @@ module _ (w : World) (c : ClaimValue) (packet : List ℕ) (sound : Sound w) (cla
     becomes : (o page : ℕ) → is_owned_by o (w.book.pages page) ≡ true → (page_bytes now page ≡ page_bytes w page) ⊎ IsInRing w (delivers c packet w).items o page (page_bytes now page)
     becomes o page owns = elim (cases_eq page c.page) [
       | inl same ↦
-          let its_owner : c.env ≡ o = owned_by c.env o (w.book.pages c.page) good.owned (ap (λ (p : ℕ). is_owned_by o (w.book.pages p)) (sym same) ∙ owns) in
+          let its_owner : c.env ≡ o = same_owner c.env o (w.book.pages c.page) good.owned (ap (λ (p : ℕ). is_owned_by o (w.book.pages p)) (sym same) ∙ owns) in
           inr (subst (λ (p : ℕ). IsInRing w (delivers c packet w).items o p (page_bytes now p)) (sym same) (subst (λ (n : ℕ). IsInRing w (delivers c packet w).items n c.page (page_bytes now c.page)) its_owner in_ring))
       | inr ne ↦ inl (owner_bytes now bytes_now all_see o page owns ∙ set_else c.page page (with_bytes (page_bytes w c.page) 0 bytes) (page_bytes w) ne)
     ]

@@ -19,18 +19,14 @@ use Rattle.world_model.specs.declared.verdict.Verdict.TheVariants.{Refuse, Grant
 use Rattle.world_model.specs.Page.{KeptPage}
 use Rattle.world_model.specs.Table.{set_at}
 use Rattle.world_model.specs.Book.{Book}
-use Rattle.world_model.specs.Solo.{Solo, Store, Key, Kept, Physical, is_dead, is_key_of, kept_after, kept_at, stored_page}
+use Rattle.world_model.specs.Solo.{Solo, Store, Key, Kept, is_dead, is_key_of, kept_after, kept_at, stored_page}
 use Rattle.world_model.specs.Holding.{with_binds}
 use Rattle.world_model.specs.Upcalls.{enter, start_by, with_context}
 use Rattle.world_model.specs.Item.{Item, Boot, Step, Start, End, Transfer, Killed, Answer, Gained, Lost, Left, Packet, Line, Asked, Taken, absorb, absorb_all, absorbed, answered, deed_at, own_part}
 use Rattle.world_model.specs.Death.{death_items, lost_with}
 use Rattle.world_model.specs.PageCalls.{left_if, lost_if}
 use Rattle.world_model.specs.World.{only}
-
--- a store into a page that isn't guaranteed leaves those that are
-pub kept_as_was : (kept : List KeptPage) (page offset : ℕ) (bytes : List ℕ) → kept_after kept (record { key = Physical page; offset = offset; bytes = bytes }) ≡ kept
-kept_as_was [] page offset bytes = refl
-kept_as_was (p ∷ kept) page offset bytes = ap (λ ps. p ∷ ps) (kept_as_was kept page offset bytes)
+use Rattle.world_model.proofs.Stores.{kept_as_was}
 
 -- a store to a guaranteed page leaves those at other VPNs
 pub kept_else : (kept : List KeptPage) (x : Store) (v vpn : ℕ) → x.key ≡ Kept v → vpn ≢ v → kept_at (kept_after kept x) vpn ≡ kept_at kept vpn

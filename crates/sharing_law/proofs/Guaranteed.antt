@@ -24,13 +24,14 @@ use Rattle.world_model.specs.Step.{Act, Nothing, Stores, Calls, Raises, Dies, ac
 use Rattle.world_model.specs.Tick.{phases_after}
 use Rattle.world_model.specs.Upcalls.{enter, end_slice, raise, with_context}
 use Rattle.world_model.specs.World.{World, Reply, after}
+use Rattle.world_model.proofs.Stores.{kept_as_was}
 use Rattle.call_verdicts.specs.Granted.{GrantedMay}
 use Rattle.run_model.specs.Run.{System, given_by, happens_in, moment, phases_in, takings_in, world_after}
 use Rattle.run_model.proofs.Phases.{next_moment, of_each, once_more, tick_moment}
 use Rattle.sharing_law.specs.Change.{Changes, GuaranteedChange, GuaranteedInTick, HasStore, HasWords, IsChanged, ItemChange, StepChanges, bytes_at}
 use Rattle.sharing_law.proofs.Contexts.{Rewrites, ask_changes, context_rewrites, rewrites_none, rewrites_or, rewrites_then, take_changes}
 use Rattle.sharing_law.proofs.Counting.{packet_counts}
-use Rattle.sharing_law.proofs.Given.{IsTold, Led, Leads, Rests, absorbed_leaves, kept_as_was, kept_else, kept_here, told_leaves}
+use Rattle.sharing_law.proofs.Given.{IsTold, Led, Leads, Rests, absorbed_leaves, kept_else, kept_here, told_leaves}
 use Rattle.sharing_law.proofs.Giving.{happen_led, settling_led, step_led, taking_led, timer_led, turn_led}
 use Rattle.sharing_law.proofs.Moments.{stays_idle}
 use Rattle.sharing_law.proofs.Writing.{stored_writable}

@@ -5,6 +5,7 @@ use Rattle.std.proofs.lemmas.Bool.{cases_eq, eq-eqb}
 use Rattle.page_book.specs.declared.row.PageRow.{PageRow}
 use Rattle.page_book.specs.declared.row.PageRow.TheVariants.{Owned}
 use Rattle.page_book.specs.Row.{gives_right, is_owned_by}
+use Rattle.page_book.proofs.Owners.{same_owner}
 use Rattle.bind_book.specs.declared.binding.Binding.{Binding}
 use Rattle.bind_book.specs.Stripe.{row_of}
 use Rattle.run_model.specs.Run.{System, at_step, world_after}
@@ -13,7 +14,6 @@ use Rattle.call_verdicts.specs.Granted.{GrantedMay}
 use Rattle.sharing_law.specs.Right.{row_after, Since, HasWord, IsLive, EachIsLive}
 use Rattle.sharing_law.proofs.Replies.{IsCarried, IsPut, WasListed}
 use Rattle.sharing_law.proofs.Agreeing.{all_fine, none_bound}
-use Rattle.sharing_law.proofs.Owning.{owned_by}
 use Rattle.sharing_law.proofs.Books.{next_carries}
 
 -- what holds since then holds after one tick more, if it holds there
@@ -26,7 +26,7 @@ since_first first P now s above below = let same : suc first ≡ s = omega arith
 
 still_owned : (owner e : ℕ) (old new : PageRow) → IsCarried e old new → is_owned_by owner old ≡ true → is_owned_by owner new ≡ true
 still_owned owner e old new (inl same) is = ap (is_owned_by owner) same ∙ is
-still_owned owner e old new (inr (before, now)) is = ap (λ (n : ℕ). is_owned_by n new) (owned_by owner e old is before) ∙ now
+still_owned owner e old new (inr (before, now)) is = ap (λ (n : ℕ). is_owned_by n new) (same_owner owner e old is before) ∙ now
 
 -- the right that an environment had it has after one tick more
 right_more : (system : System) (since t e owner : ℕ) (b : Binding) (word : ℕ) → since < t → is_owned_by owner (row_after system t b.page) ≡ true → IsCarried e (row_after system t b.page) (row_after system (suc t) b.page)
@@ -37,7 +37,7 @@ right_more system since t e owner b word earlier owned (inl same) (inr has) = in
   gives = has.gives;
   kept = since_more since t (λ s. row_after system s b.page ≡ Owned owner has.words) has.kept (same ∙ has.kept t earlier (omega arith));
 })
-right_more system since t e owner b word earlier owned (inr (before, now)) (inr has) = inl (owned_by owner e (row_after system t b.page) owned before)
+right_more system since t e owner b word earlier owned (inr (before, now)) (inr has) = inl (same_owner owner e (row_after system t b.page) owned before)
 
 -- a live binding that is still listed is live
 still_live : (system : System) (t e : ℕ) (b : Binding) → IsLive system t e b → (world_after system (suc t)).book.binds e (row_of b.vpn) ≡ Some b

@@ -8,6 +8,7 @@ use Rattle.page_book.specs.declared.row.PageRow.TheVariants.{Free, Guaranteed, O
 use Rattle.page_book.specs.Row.{belongs_to, is_owned_by}
 use Rattle.bind_book.specs.declared.binding.Binding.{Binding}
 use Rattle.bind_book.specs.Stripe.{binding_at, breaks_page, goes_with, row_of, without}
+use Rattle.bind_book.proofs.Swept.{left_in_row}
 use Rattle.world_model.specs.declared.call.Call.{Call}
 use Rattle.world_model.specs.declared.call.Deed.{Deed}
 use Rattle.world_model.specs.declared.call.Deed.TheVariants.{Answers, Own, Stops, Gives, Allocates, Frees, Recaps, Binds, Unbinds, Transfers, TakesSlot, DropsSlot, TakesLine, DropsLine, Claims, Unclaims, Downloads, Loads}
@@ -73,15 +74,6 @@ stays w = record { each = λ i row b is. inr (record { listed = is; carried = in
 -- another number of a table keeps what it has
 set_other : {A : Type 0} (n : ℕ) (x : A) (f : ℕ → A) (i : ℕ) → (i == n) ≡ false → set_at n x f i ≡ f i
 set_other n x f i other = rw other
-
--- what is left in a row was there, and isn't broken
-left_in_row : (broken : Binding → Bool) (row : Option Binding) (b : Binding) → without broken row ≡ Some b → (row ≡ Some b) × (broken b ≡ false)
-left_in_row broken None b is = cc
-left_in_row broken (Some x) b is = by_test (broken x) refl is
-  where
-    by_test : (t : Bool) → broken x ≡ t → (if t then None else Some x) ≡ Some b → (Some x ≡ Some b) × (broken b ≡ false)
-    by_test true broken_is is = cc
-    by_test false broken_is is = let same : x ≡ b = cc in (is, subst (λ (y : Binding). broken y ≡ false) same broken_is)
 
 -- a page is freed: its bindings are gone, and all others remain
 pub freed_remains : (b : Book) (page i row : ℕ) (x : Binding) → (freed page b).binds i row ≡ Some x → Remains b (freed page b) i row x

@@ -8,6 +8,7 @@ use Rattle.env_frames.specs.Post.{most_records, record_bytes, record_offset}
 use Rattle.env_frames.specs.declared.post.PostWord.TheVariants as post
 use Rattle.page_book.specs.declared.row.PageRow.TheVariants.{Free}
 use Rattle.page_book.specs.Row.{is_owned_by}
+use Rattle.page_book.proofs.Owners.{anothers, same_owner}
 use Rattle.bind_book.specs.Stripe.{breaks_page, is_bound, without}
 use Rattle.filter_tree.specs.ClaimBook.{ClaimValue}
 use Rattle.filter_tree.specs.Claims.{is_into}
@@ -28,10 +29,11 @@ use Rattle.world_model.specs.Upcalls.{with_context}
 use Rattle.world_model.specs.World.{World, Reply, after}
 use Rattle.run_model.specs.Licensed.{MayTaking}
 use Rattle.run_model.specs.Run.{System, given_at, moment}
+use Rattle.run_model.proofs.Lives.{copied_life}
 use Rattle.page_sight.specs.Sight.{Sees}
-use Rattle.page_sight.proofs.Sights.{freer_loses, others_lose, readers_see, writer_sees}
+use Rattle.page_sight.proofs.Sights.{freer_loses, others_lose, readers_see, writer_sees, HasNone}
 use Rattle.page_sight.proofs.Stripes.{without_ends}
-use Rattle.page_sight.proofs.Tables.{set_here, set_else}
+use Rattle.page_sight.proofs.Tables.{set_here, set_else, set_owns}
 use Rattle.sharing_law.specs.Agreement.{AreBoundAllocated, ClaimPage, ring_page}
 use Rattle.sharing_law.specs.Delivery.{IsCopied}
 use Rattle.sharing_law.proofs.Backups.{AreBacked, loaded_at}
@@ -41,8 +43,7 @@ use Rattle.sharing_law.proofs.Claiming.{beside, copy_spares, loses_beside}
 use Rattle.sharing_law.proofs.Delivering.{owner_sees}
 use Rattle.sharing_law.proofs.Given.{IsRested, absorbs, dead_absorbs, rests_same, told_leaves}
 use Rattle.sharing_law.proofs.Giving.{copy_told, taking_told}
-use Rattle.sharing_law.proofs.Owning.{anothers, owned_by, set_owns}
-use Rattle.sharing_law.proofs.Sound.{HasNone, Sound, agreed, owner_bytes, still_nothing}
+use Rattle.sharing_law.proofs.Sound.{Sound, agreed, owner_bytes, still_nothing}
 
 -- A page is taken from an environment, and these are the bytes of another page of its own then: a copy stands in it.
 pub record IsCopyIn (w : World) (items : ℕ → List Item) (o page : ℕ) (bytes : List ℕ) : Type 0 where
@@ -73,10 +74,6 @@ recorded_rests n page backup s = by_test (nat_lt n most_records)
 
 counted_rests : (page : ℕ) (backup : Option ℕ) (s : Solo) → IsRested s (counted_taking page backup s)
 counted_rests page backup s = let rests = recorded_rests (post_word post.Takings s) page backup s in record { binds = rests.binds; seen = rests.seen; rings = rests.rings; life = rests.life }
-
-copied_life : (page : ℕ) (backup : Option ℕ) (s : Solo) → (copied page backup s).life ≡ s.life
-copied_life page None s = refl
-copied_life page (Some backup) s = refl
 
 copied_rings : (page : ℕ) (backup : Option ℕ) (s : Solo) → (copied page backup s).rings ≡ s.rings
 copied_rings page None s = refl
@@ -260,7 +257,7 @@ module _ (w : World) (x : Taking) (sound : Sound w) (claimed : Claimed w) (backe
   becomes None is o page owns = inl (owner_bytes now bytes_now all_see o page owns ∙ ap (λ (b : Option ℕ). bytes_with b page) is)
   becomes (Some backup) is o page owns = elim (cases_eq page backup) [
     | inl same ↦
-        let own : e ≡ o = owned_by e o (w.book.pages backup) (backup_owned backup is) (ap (λ (p : ℕ). is_owned_by o (w.book.pages p)) (sym same) ∙ had_owned o page owns) in
+        let own : e ≡ o = same_owner e o (w.book.pages backup) (backup_owned backup is) (ap (λ (p : ℕ). is_owned_by o (w.book.pages p)) (sym same) ∙ had_owned o page owns) in
         inr (subst (λ (p : ℕ). IsCopyIn w (takes x w).items o p (page_bytes now p)) (sym same) (subst (λ (n : ℕ). IsCopyIn w (takes x w).items n backup (page_bytes now backup)) own (copy_in backup is)))
     | inr ne ↦ inl (owner_bytes now bytes_now all_see o page owns ∙ ap (λ (b : Option ℕ). bytes_with b page) is ∙ set_else backup page (with_bytes (page_bytes w backup) 0 (page_bytes w x.page)) (page_bytes w) ne)
   ]

@@ -12,24 +12,16 @@ use Rattle.world_model.specs.Solo.{Solo, bytes_seen}
 use Rattle.world_model.specs.PageCalls.{bytes_owned, page_bytes}
 use Rattle.world_model.specs.World.{World}
 use Rattle.page_sight.specs.Sight.{IsStripe, Sees, seen_if}
-use Rattle.page_sight.proofs.Sights.{nothing_of}
-use Rattle.page_sight.proofs.Stripes.{bound_nowhere, bound_row}
+use Rattle.page_sight.proofs.Sights.{HasNone, nothing_seen}
+use Rattle.page_sight.proofs.Stripes.{bound_row}
 use Rattle.sharing_law.specs.Agreement.{AreAgreed, AreBoundAllocated, IsAllocated}
 
--- an environment with no bindings that owns no page
-pub record HasNone (i : ℕ) (pages : ℕ → PageRow) (stripe : ℕ → Option Binding) : Type 0 where
-  pub binds : (row : ℕ) → stripe row ≡ None
-  pub owns : (page : ℕ) → is_owned_by i (pages page) ≡ false
-
--- it sees nothing
+-- who has no bindings and owns no page sees nothing
 pub sees_nothing : (i : ℕ) (pages : ℕ → PageRow) (stripe : ℕ → Option Binding) (bytes : ℕ → List ℕ) (s : Solo) → HasNone i pages stripe → ((row : ℕ) → s.binds row ≡ None) → ((page : ℕ) → s.seen page ≡ None) → Sees i pages stripe bytes s
 sees_nothing i pages stripe bytes s none binds seen = record {
   binds = λ row. binds row ∙ sym (none.binds row);
-  seen = λ page. seen page ∙ sym (nothing_of (is_owned_by i (pages page)) (is_bound page stripe) (bytes page) (none.owns page) (unbound page));
+  seen = λ page. seen page ∙ sym (nothing_seen i pages stripe bytes none page);
 }
-  where
-    unbound : (page : ℕ) → is_bound page stripe ≡ false
-    unbound page = bound_nowhere page stripe (λ row. ap (is_of_page page) (none.binds row))
 
 -- and had nothing to see before
 pub still_nothing : (i : ℕ) (pages rows : ℕ → PageRow) (stripe binds : ℕ → Option Binding) (bytes now : ℕ → List ℕ) (s : Solo) → HasNone i pages stripe → HasNone i rows binds → Sees i pages stripe bytes s → Sees i rows binds now s

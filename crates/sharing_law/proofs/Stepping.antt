@@ -23,10 +23,11 @@ use Rattle.run_model.proofs.Phases.{in_turn_is_each}
 use Rattle.run_model.proofs.Telling.{call_does, call_named, call_stands, deed_may, told_other, told_own}
 use Rattle.page_sight.specs.Sight.{Sees}
 use Rattle.page_sight.proofs.Tables.{set_here, set_else}
+use Rattle.page_sight.proofs.Sights.{HasNone}
 use Rattle.sharing_law.specs.Agreement.{AreBoundAllocated}
 use Rattle.sharing_law.proofs.Given.{Gives, Tells, absorbs, dead_absorbs, gives_life, told_death}
 use Rattle.sharing_law.proofs.Giving.{deed_gives, store_gives}
-use Rattle.sharing_law.proofs.Sound.{HasNone, Sound, agreed, still_nothing}
+use Rattle.sharing_law.proofs.Sound.{Sound, agreed, still_nothing}
 use Rattle.sharing_law.proofs.Brings.{Brings, Fortune, GoesOn, Ends, death_brings, silent, store_brings}
 use Rattle.sharing_law.proofs.Calling.{caller, deed_brings}
 use Rattle.sharing_law.proofs.Claimed.{AreRings, Claimed}

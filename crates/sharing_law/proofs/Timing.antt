@@ -6,6 +6,7 @@ use Rattle.std.specs.Prelude.{◌==◌, ◌-◌, nat_lt, if◌then◌else◌}
 use Rattle.kernel_journal.specs.declared.row.Row.{Row}
 use Rattle.kernel_journal.specs.declared.row.Row.TheVariants as row
 use Rattle.page_book.specs.Row.{belongs_to, is_owned_by}
+use Rattle.page_book.proofs.Owners.{released_owned}
 use Rattle.bind_book.specs.declared.binding.Binding.{Binding}
 use Rattle.world_model.specs.declared.life.Life.TheVariants.{Live}
 use Rattle.world_model.specs.declared.life.Cause.TheVariants as cause
@@ -28,7 +29,7 @@ use Rattle.run_model.proofs.Telling.{told_other, told_own}
 use Rattle.sharing_law.specs.Agreement.{AreBoundAllocated, IsAllocated}
 use Rattle.sharing_law.proofs.Given.{IsRested, Tells, absorbs, dead_absorbs, end_rests, rests_same, told_death}
 use Rattle.sharing_law.proofs.Sound.{Sound, owner_bytes}
-use Rattle.sharing_law.proofs.Brings.{Brings, death_keeps, owing_keeps, released_owned}
+use Rattle.sharing_law.proofs.Brings.{Brings, death_keeps, owing_keeps}
 use Rattle.sharing_law.proofs.Replies.{Remains, mourned}
 use Rattle.sharing_law.proofs.Claimed.{Claimed, claimed_alike, good_same}
 use Rattle.sharing_law.proofs.Claiming.{Claiming, death_claims}

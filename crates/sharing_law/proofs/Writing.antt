@@ -23,7 +23,8 @@ use Rattle.mips_exec.specs.declared.change.Change.{Change}
 use Rattle.mips_exec.specs.declared.change.Change.TheVariants as change
 use Rattle.mips_exec.specs.Step.{Answers, Step, Retired, Called, Trapped, accessed, answered, answered_if, ended, executed, access_after, decoded, fetched, step_of, view_of, without_value}
 use Rattle.bind_book.specs.declared.binding.Binding.{Binding}
-use Rattle.bind_book.specs.Stripe.{binding_at, of_number, row_of}
+use Rattle.bind_book.specs.Stripe.{binding_at, row_of}
+use Rattle.bind_book.proofs.Rows.{found_in_row}
 use Rattle.world_model.specs.declared.life.Cause.TheVariants as cause
 use Rattle.world_model.specs.declared.page.Purpose.TheVariants as purpose
 use Rattle.world_model.specs.Call.{exit_number}
@@ -125,15 +126,6 @@ pub record IsThrough (s : Solo) (page : ℕ) : Type 0 where
   pub found : s.binds row ≡ Some binding
   pub its : binding.page ≡ page
   pub writable : binding.writable ≡ true
-
--- what is found by a VPN stands in its row
-found_in_row : (vpn : ℕ) (o : Option Binding) (b : Binding) → of_number vpn o ≡ Some b → o ≡ Some b
-found_in_row vpn None b is = cc
-found_in_row vpn (Some x) b is = by_test (x.vpn == vpn) is
-  where
-    by_test : (t : Bool) → (if t then Some x else None) ≡ Some b → Some x ≡ Some b
-    by_test true is = is
-    by_test false is = cc
 
 -- a store goes to where a VPN leads, which may be stored to, and into one page
 record IsLed (s : Solo) (x : Store) : Type 0 where

@@ -2,10 +2,11 @@
 use Rattle.std.proofs.Common.{arith, refl, ap, sym, ◌∙◌, inl, inr, ◌≡◌, ◌+◌, ◌-◌, ◌<◌, ◌≤◌, ◌%◌, ℕ, zero, suc, Option, None, Some, IsSome}
 use Rattle.std.proofs.lemmas.Bool.{cases_eq}
 use Rattle.std.proofs.lemmas.Nat.{mod_below}
-use Rattle.std.proofs.Math.Nat.{mod-add-mod, add-mod_right, mod-eq_of_lt}
+use Rattle.std.proofs.Math.Nat.{add-mod_right, mod-eq_of_lt}
 use Rattle.world_model.specs.declared.slot.Hold.{Hold}
 use Rattle.world_model.specs.declared.slot.Turn.{Turn}
 use Rattle.world_model.specs.Book.{first_turn, turn_or}
+use Rattle.world_model.proofs.Slots.{step_on}
 
 -- where the next slot is empty, the search goes on from it
 pub skipped_slot : (slots : ℕ → Option Hold) (count place tries : ℕ) → 0 < tries → slots ((place + 1) % count) ≡ None → first_turn slots count ((place + 1) % count) (tries - 1) ≡ first_turn slots count place tries
@@ -39,12 +40,6 @@ turn_held slots count place zero t most found = absurd (cc)
 turn_held slots count place (suc tries) t most found =
     let next = (place + 1) % count in
     held_next slots count next (first_turn slots count next tries) t (slots next) (mod_below (place + 1) count (omega arith)) refl (turn_held slots count next tries t (omega arith)) found
-
--- a slot from the next one on, counted from this one
-step_on : (place j count : ℕ) → 1 ≤ j → ((place + 1) % count + (j - 1)) % count ≡ (place + j) % count
-step_on place j count least =
-    let sum : place + 1 + (j - 1) ≡ place + j = omega arith in
-    mod-add-mod (place + 1) count (j - 1) ∙ ap (λ (n : ℕ). n % count) sum
 
 or_later : (next : ℕ) (hold : Option Hold) (later : Option Turn) → IsSome later → IsSome (turn_or next hold later)
 or_later next None later some = some
