@@ -4,7 +4,7 @@ ghost use Rattle.mips_exec.specs.Step.{outcome_of};
 ghost use Rattle.world_model.specs.Book.{running};
 
 use crate::board::Board;
-use guest_memory::Space;
+use board_parts::space_in;
 use guest_step::step_guest;
 use mips_exec::Outcome;
 
@@ -17,11 +17,7 @@ impl Board {
         ensures shown { self.new ≡ after_machine_step self.old env (step_seen self.old env) }
         ensures outcome { result ≡ outcome_of (step_seen self.old env) }
     {
-        let space = Space {
-            env: self.roster.frame(env),
-            bindings: &self.bindings,
-            number: env,
-        };
+        let space = space_in(&self.roster, &self.bindings, env);
         step_guest(&mut self.cpu, &mut self.frames, &space)
     }
 

@@ -6,9 +6,8 @@ ghost use Rattle.board_world.specs.Stretch.{ArePlain, stretched};
 ghost use Rattle.aegis_calls.specs.QuietTicks.{AreQuietTicks};
 
 use crate::board::Board;
-use board_parts::plain_most;
+use board_parts::{plain_most, space_in};
 use board_world::law_stretch;
-use guest_memory::Space;
 use guest_step::run_guest;
 use world_model::WorldView;
 
@@ -24,11 +23,7 @@ impl Board {
         ensures most { result ≤ most }
     {
         let most = plain_most(&self.slots, &self.revocations, self.time, most);
-        let space = Space {
-            env: self.roster.frame(env),
-            bindings: &self.bindings,
-            number: env,
-        };
+        let space = space_in(&self.roster, &self.bindings, env);
         let ticks = run_guest(&mut self.cpu, &mut self.frames, &space, most);
         self.slots.pass(ticks);
         self.time += ticks;

@@ -2,11 +2,12 @@
 ghost use Rattle.std.specs.Prelude.{◌≡◌, Some};
 
 use crate::board::Board;
+use board_parts::space_in;
 use call_verdicts::CallView;
 use env_frames::Context;
 use filter_core::Filter;
 use filter_tree::ClaimNo;
-use guest_memory::{Space, guest_range};
+use guest_memory::guest_range;
 use mips_exec::Cpu;
 use page_book::PageRow;
 use revocation_book::LoadNo;
@@ -46,11 +47,7 @@ impl CallView for Board {
     }
 
     fn range(&self, env: u8, address: u32, size: u32) -> Option<&[u8]> {
-        let space = Space {
-            env: self.roster.frame(env),
-            bindings: &self.bindings,
-            number: env,
-        };
+        let space = space_in(&self.roster, &self.bindings, env);
         guest_range(&self.frames, &space, address, size)
     }
 

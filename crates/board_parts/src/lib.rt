@@ -19,6 +19,6 @@ pub use backup::copy_to_backup;
 pub use boot::{bare_memory, boot_journal};
 pub use delivery::deliver;
 pub use output::{put, send};
-pub use reading::{is_owned, page_behind, plain_most, unless_empty};
+pub use reading::{is_owned, page_behind, plain_most, space_in, unless_empty};
 pub use slot_rows::{push_slot, release_slots, settle};
 pub use transfer::{enter, hand_on};

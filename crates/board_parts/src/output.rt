@@ -8,25 +8,13 @@ ghost use Rattle.guest_memory.specs.Space.{lookup};
 ghost use Rattle.world_model.specs.Call.{good_range};
 ghost use Rattle.world_model.specs.OwnCalls.{put_bytes as bytes_to_put};
 ghost use Rattle.board_world.specs.Shown.{console_of, sent_of};
-ghost use Rattle.board_parts.specs.Parts.{look_in, roster_after_put, roster_after_send, space_in};
+ghost use Rattle.board_parts.specs.Parts.{look_in, roster_after_put, roster_after_send};
 
+use crate::reading::space_in;
 use bind_book::Bindings;
 use board_world::Roster;
 use frame_store::Frames;
 use guest_memory::{Space, guest_range};
-
-/// What an environment sees: its guaranteed mappings, and its bindings.
-#[inline(always)]
-fn space_in<'a>(roster: &'a Roster, bindings: &'a Bindings, env: u8) -> Space<'a>
-    requires { env < length roster.now.list }
-    ensures { result ≡ space_in bindings.now roster.now.list env }
-{
-    Space {
-        env: roster.frame(env),
-        bindings,
-        number: env,
-    }
-}
 
 /// The bytes of a put, so many from an address on, if their range is good; none need no range.
 fn put_bytes<'a>(frames: &'a Frames, space: &Space<'_>, address: u32, size: u32) -> Option<&'a [u8]>

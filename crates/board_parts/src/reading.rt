@@ -7,14 +7,31 @@ ghost use Rattle.slot_vector.specs.Slices.{left_of};
 ghost use Rattle.world_model.specs.Downloads.{handler_of};
 ghost use Rattle.world_model.specs.View.{view_seen};
 ghost use Rattle.board_world.specs.Showing.{page_seen};
+ghost use Rattle.board_parts.specs.Parts.{space_in};
 
+use bind_book::Bindings;
+use board_world::Roster;
 use env_frames::Mapping;
 use frame_store::Frames;
+use guest_memory::Space;
 use handler_code::Handler;
 use page_book::PageRow;
 use revocation_book::Revocations;
 use slot_vector::Slots;
 use world_model::PageView;
+
+/// What an environment sees: its guaranteed mappings, and its bindings.
+#[inline(always)]
+pub fn space_in<'a>(roster: &'a Roster, bindings: &'a Bindings, env: u8) -> Space<'a>
+    requires { env < length roster.now.list }
+    ensures { result ≡ space_in bindings.now roster.now.list env }
+{
+    Space {
+        env: roster.frame(env),
+        bindings,
+        number: env,
+    }
+}
 
 /// Whether the page with this row is one that the environment allocated.
 pub fn is_owned(row: PageRow, env: u8) -> bool

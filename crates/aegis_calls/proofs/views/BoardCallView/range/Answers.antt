@@ -1,8 +1,7 @@
 -- The bytes of a range are those that the runner sees.
-use Rattle.std.proofs.Common.{List, ℕ, Option, ap, ◌∙◌, subst}
-use Rattle.env_frames.specs.declared.mapping.Mapping.{Mapping}
+use Rattle.std.proofs.Common.{ℕ, Option, ap, ◌∙◌, subst}
 use Rattle.guest_memory.specs.Look.{look}
-use Rattle.guest_memory.specs.Space.{lookup}
+use Rattle.guest_memory.specs.Space.{SpaceValue, lookup}
 use Rattle.world_model.specs.Call.{good_range}
 use Rattle.world_model.specs.Page.{Mapped}
 use Rattle.board_world.specs.Shown.{Shown}
@@ -16,6 +15,6 @@ returns c =
     let b = c.self.inside in
     let e = c.args.env in
     let now = c.args.self.now in
-    let sees = ap (λ (mappings : List Mapping). look b.frames (lookup (record { mappings = mappings; binds = b.bindings; number = e }))) c.frame.ensures.mappings in
+    let sees = ap (λ (space : SpaceValue). look b.frames (lookup space)) c.space_in-space.ensures in
     c.guest_range.ensures
     ∙ ap (λ (l : ℕ → Option Mapped). good_range l c.args.address c.args.size) (sees ∙ ap (λ (s : Shown). look_of s e) c.self.view_is ∙ runner_look now e (subst IsSound c.self.view_is c.self.invariant) c.requires)
