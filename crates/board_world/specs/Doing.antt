@@ -309,14 +309,10 @@ after_gift b e target = record b {
   ledger = with_row b.ledger (row.Give b.time b.slots.cursor e target);
 }
 
--- physical memory once a transfer enters an environment of a list
-abbrev pub frames_once_entered : List Environment → ℕ → ℕ → TransferKind → List (List ℕ) → List (List ℕ)
-frames_once_entered list from target kind frames =
+-- physical memory after a transfer has entered an environment: the entry area of its context page is written
+abbrev pub frames_after_entry : List Environment → ℕ → ℕ → TransferKind → List (List ℕ) → List (List ℕ)
+frames_after_entry list from target kind frames =
     left_in entry_area (entry_bytes from kind (registers_of list target)) (page_of (mappings_of list target) context_number) frames
-
--- Transfer: the runner's registers are kept behind its call, which is answered; another environment goes on at its entry with those that the runner had at the call, for the rest of the slice, and holds the slot or not.
-abbrev pub entry_frames : Shown → ℕ → ℕ → TransferKind → List (List ℕ)
-entry_frames b e target kind = frames_once_entered b.roster.list e target kind b.frames
 
 abbrev pub entry_registers : Shown → ℕ → TransferKind → Cpu
 entry_registers b target kind = entered_cpu (handler_of (handlers_of b.roster.list target) (entry_context kind)) (carried b.cpu)
@@ -336,12 +332,12 @@ after_hand_on b e target kind = record b { slots = given_to target (hands_slot k
 -- The runner's registers are kept behind its call, which is granted with a value, and the target goes on at its entry.
 abbrev pub after_entry : Shown → ℕ → ℕ → ℕ → TransferKind → Shown
 after_entry b e value target kind = record b {
-  frames = entry_frames b e target kind;
+  frames = frames_after_entry b.roster.list e target kind b.frames;
   cpu = entry_registers b target kind;
   roster = with_list b.roster (entry_roster b e value target);
 }
 
--- both
+-- Transfer: the runner's registers are kept behind its call, which is answered; another environment goes on at its entry with those that the runner had at the call, for the rest of the slice, and holds the slot or not.
 abbrev pub after_transfer : Shown → ℕ → ℕ → ℕ → TransferKind → Shown
 after_transfer b e value target kind = after_entry (after_hand_on b e target kind) e value target kind
 

@@ -7,7 +7,7 @@ ghost use Rattle.env_frames.specs.Frame.{page_of};
 ghost use Rattle.env_frames.specs.Transfer.{carried, entered_cpu, entry_context};
 ghost use Rattle.std.specs.Option.{option_map};
 ghost use Rattle.board_world.specs.Shown.{changed, console_of, handlers_of, mappings_of, accept_mask_of, no_output, registers_of, sent_of, with_list, with_newcomer};
-ghost use Rattle.board_world.specs.Doing.{frames_once_entered, with_registers, with_mask, with_handler_at, dead_frame, with_bytes_put, with_replies_sent, with_packet_sent};
+ghost use Rattle.board_world.specs.Doing.{frames_after_entry, with_registers, with_mask, with_handler_at, dead_frame, with_bytes_put, with_replies_sent, with_packet_sent};
 
 use crate::console::Console;
 use crate::output::Output;
@@ -203,7 +203,7 @@ impl Roster {
         requires open { handler_of (handlers_of self.old.list env) (entry_context kind) ≢ 0 }
         requires page { IfSome (page_of (mappings_of self.old.list env) context_number) (λ page. page < length frames.old) }
         ensures cpu { result ≡ entered_cpu (handler_of (handlers_of self.old.list env) (entry_context kind)) (carried caller.now) }
-        ensures frames { frames.new ≡ frames_once_entered self.old.list from env kind frames.old }
+        ensures frames { frames.new ≡ frames_after_entry self.old.list from env kind frames.old }
         ensures roster { self.new ≡ with_list self.old (changed (with_mask 0) self.old.list env) }
         ensures size { length frames.new ≡ length frames.old }
     {
@@ -301,7 +301,7 @@ fn enter_in(
     requires open { handler_of (handlers_of list.old place) (entry_context kind) ≢ 0 }
     requires page { IfSome (page_of (mappings_of list.old place) context_number) (λ page. page < length frames.old) }
     ensures cpu { result ≡ entered_cpu (handler_of (handlers_of list.old place) (entry_context kind)) (carried caller.now) }
-    ensures frames { frames.new ≡ frames_once_entered list.old from place kind frames.old }
+    ensures frames { frames.new ≡ frames_after_entry list.old from place kind frames.old }
     ensures list { list.new ≡ changed (with_mask 0) list.old place }
     ensures size { length frames.new ≡ length frames.old }
 {
