@@ -26,7 +26,7 @@ use Rattle.board_world.proofs.Lists.{last_get, other_get}
 use Rattle.board_world.proofs.Masks.{both_rows}
 
 -- other pages stay
-other_pages : (frames : List (List ℕ)) (n : ℕ) (bytes : List ℕ) (ms : List Mapping) → ((a : ℕ) (m : Mapping) → slice_get ms a ≡ Some m → m.page ≢ n) → pages_seen (with_page frames n bytes) ms ≡ pages_seen frames ms
+pub other_pages : (frames : List (List ℕ)) (n : ℕ) (bytes : List ℕ) (ms : List Mapping) → ((a : ℕ) (m : Mapping) → slice_get ms a ≡ Some m → m.page ≢ n) → pages_seen (with_page frames n bytes) ms ≡ pages_seen frames ms
 other_pages frames n bytes [] other = refl
 other_pages frames n bytes (m ∷ ms) other =
     let head : page_seen (with_page frames n bytes) m ≡ page_seen frames m =

@@ -1,11 +1,10 @@
 -- What the runner does to pages, on the world that is shown.
-use Rattle.std.proofs.Common.{◌≡◌, ◌≢◌, ◌<◌, ℕ, suc, List, [], ◌∷◌, length, true, false, Option, Some, None, refl, sym, ◌∙◌, ap, arith, subst, get_or-set_other}
-use Rattle.std.specs.Prelude.{slice_get, slice_set}
+use Rattle.std.proofs.Common.{◌≡◌, ◌≢◌, ◌<◌, ℕ, List, [], ◌∷◌, length, true, false, Option, Some, None, refl, sym, ◌∙◌, ap, arith, subst}
+use Rattle.std.specs.Prelude.{slice_set}
 use Rattle.std.proofs.lemmas.Bool.{ne_eqb}
 use Rattle.std.proofs.lemmas.List.{append-nil, length-set}
 use Rattle.std.proofs.lemmas.Option.{slice_get_within}
 use Rattle.frame_store.specs.Pages.{page_at, with_page, zero_page}
-use Rattle.env_frames.specs.declared.mapping.Mapping.{Mapping}
 use Rattle.page_book.specs.declared.row.Capabilities.{Capabilities}
 use Rattle.page_book.specs.declared.row.PageRow.{PageRow}
 use Rattle.page_book.specs.declared.row.PageRow.TheVariants.{Free, Guaranteed, Owned}
@@ -30,7 +29,7 @@ use Rattle.world_model.specs.Verdict.{done}
 use Rattle.world_model.specs.World.{Reply, only}
 use Rattle.board_world.specs.declared.roster.Environment.{Environment}
 use Rattle.board_world.specs.Shown.{Shown, mappings_of}
-use Rattle.board_world.specs.Showing.{world_of, book_of, solo_of, page_seen, pages_seen}
+use Rattle.board_world.specs.Showing.{world_of, book_of, solo_of, pages_seen}
 use Rattle.board_world.specs.Sound.{IsSound, IsOwned}
 use Rattle.board_world.specs.Doing as doing
 use Rattle.revocation_book.specs.Backups.{unloaded}
@@ -45,16 +44,7 @@ use Rattle.board_world.proofs.Parts.{one_given}
 use Rattle.board_world.proofs.Replying.{Serves, all_given, deeded, deeded_seen}
 use Rattle.board_world.proofs.Seen.{Runs, like_solo, runner_solo, runner_seen, its_mappings, stripe_of}
 use Rattle.board_world.proofs.Tables.{table_set}
-
--- pages that other pages' bytes leave as they are
-kept_else : (frames : List (List ℕ)) (page : ℕ) (bytes : List ℕ) (ms : List Mapping) → ((a : ℕ) (m : Mapping) → slice_get ms a ≡ Some m → m.page ≢ page) → pages_seen (with_page frames page bytes) ms ≡ pages_seen frames ms
-kept_else frames page bytes [] other = refl
-kept_else frames page bytes (m ∷ ms) other =
-    let head : page_seen (with_page frames page bytes) m ≡ page_seen frames m =
-    ap (λ (now : List ℕ). record { vpn = m.vpn; writable = m.writable; bytes = now })
-    (get_or-set_other frames page m.page bytes [] (other 0 m refl)) in
-    let tail = kept_else frames page bytes ms (λ a k. other (suc a) k) in
-    cc
+use Rattle.board_world.proofs.Giving.{other_pages}
 
 -- the runner sees what it sees
 pub own_sees : (b : Shown) (e : ℕ) (x : Environment) → Sees e (row_in b.pages) (stripe_of b e) (page_at b.frames) (runner_solo b e x)
@@ -64,7 +54,7 @@ module _ (b : Shown) (e : ℕ) (x : Environment) (r : Runs b e x) (sound : IsSou
   -- a page that isn't guaranteed is mapped by nobody
   mapped_else : (page : ℕ) (bytes : List ℕ) → row_in b.pages page ≡ Free → (i : ℕ) → pages_seen (with_page b.frames page bytes) (mappings_of b.roster.list i) ≡ pages_seen b.frames (mappings_of b.roster.list i)
   mapped_else page bytes free i =
-      kept_else b.frames page bytes (mappings_of b.roster.list i)
+      other_pages b.frames page bytes (mappings_of b.roster.list i)
       (λ a m at same. let both : Guaranteed i ≡ Free = sym ((sound.memory.mapped i).its a m at) ∙ ap (row_in b.pages) same ∙ free in cc)
 
   -- a free page is bound by nobody

@@ -38,6 +38,7 @@ use Rattle.board_world.proofs.Phases.{quiet_world}
 use Rattle.board_world.proofs.Repossessing.{nothing_due}
 use Rattle.board_world.proofs.Seen.{runner_runs}
 use Rattle.board_world.proofs.Stepping.{retired_step}
+use Rattle.board_world.proofs.Staying.{sound_frames, sound_machine, sound_slots}
 
 -- Physical memory keeps its size.
 write_size : (frames : List (List ℕ)) (w : Write) (m : Option Mapping) → length (written_through frames w m) ≡ length frames
@@ -93,16 +94,7 @@ passed_manned v r k manned some = record {
 
 pub stretch_sound : (b : Shown) (e k : ℕ) → IsSound b → k < left_of b.slots.runner → IsSound (stretched b e k)
 stretch_sound b e k sound some =
-    let size = steps_size (lookup_of b e) (machine_of b) k in
-    record {
-      few = sound.few;
-      book = passed_manned b.slots b.roster k sound.book some;
-      memory = record { same = size ∙ sound.memory.same; most = omega (arith, size, sound.memory.most); mapped = sound.memory.mapped };
-      books = sound.books;
-      lines = sound.lines;
-      claims = sound.claims;
-      revocations = sound.revocations;
-    }
+    sound_machine (sound_slots _ (passed_manned b.slots b.roster k sound.book some) (sound_frames _ (steps_size (lookup_of b e) (machine_of b) k) sound))
 
 -- before the next deadline none has come
 not_come : (t : ℕ) (deadline : Option ℕ) → t < unwrap_or deadline 4294967295 → has_come t deadline ≡ false
@@ -150,15 +142,7 @@ module _ (serves : ServingIsServing) (times : TimerIsTimer) where
       let none_served : w ≡ served w = ap world_of (nothing_due b none) ∙ serves b sound in
       let none_turned : w ≡ after w (turn w) = sym (still w b.slots.runner e runs) in
       let size : length now.frames ≡ length b.frames = step_size b.frames (lookup_of b e) (write_after st) in
-      let after_sound : IsSound now = record {
-        few = sound.few;
-        book = sound.book;
-        memory = record { same = size ∙ sound.memory.same; most = omega (arith, size, sound.memory.most); mapped = sound.memory.mapped };
-        books = sound.books;
-        lines = sound.lines;
-        claims = sound.claims;
-        revocations = sound.revocations;
-      } in
+      let after_sound : IsSound now = sound_machine (sound_frames now.frames size sound) in
       ap world_of (sym (counts_on b now b.slots.runner refl more))
       ∙ times now after_sound
       ∙ ap (λ u. after u (timer u)) (stepped b e sound runs retired)
