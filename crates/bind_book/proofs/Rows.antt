@@ -1,9 +1,8 @@
 -- The rows of a stripe: at the start, after a write, and where a binding is found.
-use Rattle.std.proofs.Common.{arith, refl, inl, inr, ◌≡◌, ◌≢◌, ◌<◌, ℕ, false, cond, eqb, ◌&&◌, List, Option, None, get_or, replicate, slice_set, get_or-set_same, get_or-set_other, Some, Bool, true}
+use Rattle.std.proofs.Common.{arith, refl, inl, inr, ◌≡◌, ◌≢◌, ◌<◌, ℕ, false, cond, eqb, ◌&&◌, List, Option, None, get_or, replicate, slice_set, get_or-set_same, get_or-set_other, Some}
 use Rattle.std.proofs.lemmas.Bool.{cases_eq, cases_lt, and_right, eq-eqb, ne_eqb, lt-ltb, le-ltb}
 use Rattle.std.proofs.lemmas.List.{length-replicate, get_or-replicate, get_or_past}
 use Rattle.std.proofs.lemmas.Nat.{same_from_place}
-use Rattle.std.specs.Prelude.{◌==◌, if◌then◌else◌}
 use Rattle.bind_book.specs.declared.binding.Binding.{Binding}
 use Rattle.bind_book.specs.Laws.{SetInOneRow}
 use Rattle.bind_book.specs.Stripe.{stripe_rows, stripe_place, HasStripe, stripes, of_number, row_of}
@@ -54,8 +53,4 @@ row_within vpn = omega arith
 -- a binding that is found by its VPN in a row stands there
 pub found_in_row : (vpn : ℕ) (row : Option Binding) (b : Binding) → of_number vpn row ≡ Some b → row ≡ Some b
 found_in_row vpn None b is = cc
-found_in_row vpn (Some x) b is = by_test (x.vpn == vpn) is
-  where
-    by_test : (t : Bool) → (if t then Some x else None) ≡ Some b → Some x ≡ Some b
-    by_test true is = is
-    by_test false is = cc
+found_in_row vpn (Some x) b is = grind arith

@@ -1,10 +1,9 @@
 -- Whose a page is, and whose it is once an environment's pages are released.
-use Rattle.std.proofs.Common.{◌≡◌, ◌≢◌, ℕ, Bool, true, false, Some, refl, sym, ◌∙◌, ap}
-use Rattle.std.specs.Prelude.{if◌then◌else◌}
+use Rattle.std.proofs.Common.{arith, ◌≡◌, ◌≢◌, ℕ, true, false, Some, refl, sym, ◌∙◌, ap}
 use Rattle.std.proofs.lemmas.Bool.{eqb-true, ne_eqb}
 use Rattle.page_book.specs.declared.row.PageRow.{PageRow}
 use Rattle.page_book.specs.declared.row.PageRow.TheVariants.{Free, Guaranteed, Owned}
-use Rattle.page_book.specs.Row.{belongs_to, is_owned_by, owner_of, released}
+use Rattle.page_book.specs.Row.{is_owned_by, owner_of, released}
 
 -- who owns a page is its row's owner
 pub owner_is : (e : ℕ) (row : PageRow) → is_owned_by e row ≡ true → owner_of row ≡ Some e
@@ -26,26 +25,14 @@ anothers e i (Owned owner words) ne owned = ne_eqb owner i (λ same. ne (sym sam
 
 -- what is owned once an environment's pages are released was owned before
 pub released_owned : (gone e : ℕ) (row : PageRow) → is_owned_by e (released gone row) ≡ true → is_owned_by e row ≡ true
-released_owned gone e row owns = by_test (belongs_to gone row) owns
-  where
-    by_test : (t : Bool) → is_owned_by e (if t then Free else row) ≡ true → is_owned_by e row ≡ true
-    by_test true owns = cc
-    by_test false owns = owns
+released_owned gone e row owns = grind arith
 
 -- who didn't own it doesn't then
 pub released_none : (gone e : ℕ) (row : PageRow) → is_owned_by e row ≡ false → is_owned_by e (released gone row) ≡ false
-released_none gone e row none = by_test (belongs_to gone row)
-  where
-    by_test : (t : Bool) → is_owned_by e (if t then Free else row) ≡ false
-    by_test true = refl
-    by_test false = none
+released_none gone e row none = grind arith
 
 -- and nor does the environment itself
 pub released_own : (gone : ℕ) (row : PageRow) → is_owned_by gone (released gone row) ≡ false
-released_own gone row = by_test (belongs_to gone row) row refl
-  where
-    by_test : (t : Bool) (row : PageRow) → belongs_to gone row ≡ t → is_owned_by gone (if t then Free else row) ≡ false
-    by_test true row is = refl
-    by_test false Free is = refl
-    by_test false (Guaranteed owner) is = refl
-    by_test false (Owned owner words) is = is
+released_own gone Free = refl
+released_own gone (Guaranteed owner) = grind arith
+released_own gone (Owned owner words) = grind arith

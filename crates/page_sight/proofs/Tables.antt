@@ -1,6 +1,6 @@
 -- Tables with another value at one number.
-use Rattle.std.proofs.Common.{◌≡◌, ◌≢◌, ℕ, Bool, true, false, refl, sym, ◌∙◌, ap}
-use Rattle.std.specs.Prelude.{◌==◌, if◌then◌else◌}
+use Rattle.std.proofs.Common.{arith, ◌≡◌, ◌≢◌, ℕ, Bool, true, false, refl, sym, ◌∙◌, ap}
+use Rattle.std.specs.Prelude.{◌==◌}
 use Rattle.std.proofs.lemmas.Bool.{ne_eqb, eq-eqb, eqb-true, eqb-false}
 use Rattle.world_model.specs.Table.{set_at}
 use Rattle.page_book.specs.declared.row.PageRow.{PageRow}
@@ -26,8 +26,4 @@ set_same n f i = by_number (set_at n (f n) f) f n (set_here n (f n) f) (λ j ne.
 
 -- who owns no page owns none with another's row for one of them
 pub set_owns : (i page : ℕ) (row : PageRow) (pages : ℕ → PageRow) → is_owned_by i row ≡ false → ((p : ℕ) → is_owned_by i (pages p) ≡ false) → (p : ℕ) → is_owned_by i (set_at page row pages p) ≡ false
-set_owns i page row pages after before p = by_test (p == page)
-  where
-    by_test : (t : Bool) → is_owned_by i (if t then row else pages p) ≡ false
-    by_test true = after
-    by_test false = before p
+set_owns i page row pages after before p = grind (arith, before p)

@@ -12,8 +12,6 @@ use Rattle.world_model.specs.declared.call.Call.{Call}
 use Rattle.world_model.specs.declared.call.Deed.{Deed}
 use Rattle.world_model.specs.declared.call.Deed.TheVariants.{Answers, Own, Stops, Gives, Allocates, Frees, Recaps, Binds, Unbinds, Transfers, TakesSlot, DropsSlot, TakesLine, DropsLine, Claims, Unclaims, Downloads, Loads}
 use Rattle.world_model.specs.declared.slot.Runner.{Runner}
-use Rattle.world_model.specs.declared.verdict.Verdict.{Verdict}
-use Rattle.world_model.specs.declared.verdict.Verdict.TheVariants.{Refuse, Grant}
 use Rattle.filter_tree.specs.ClaimBook.{ClaimValue}
 use Rattle.revocation_book.specs.declared.revocation.Taking.{Taking}
 use Rattle.revocation_book.proofs.Takable.{rest_loaded}
@@ -23,11 +21,11 @@ use Rattle.world_model.specs.Call.{called}
 use Rattle.world_model.specs.Deadlines.{takes}
 use Rattle.world_model.specs.Death.{death}
 use Rattle.world_model.specs.Event.{arrives}
-use Rattle.world_model.specs.Item.{Step, deed_at}
+use Rattle.world_model.specs.Item.{Step}
 use Rattle.world_model.specs.May.{May}
 use Rattle.world_model.specs.Step.{Act, Nothing, Stores, Calls, Raises, Dies}
 use Rattle.world_model.specs.Tick.{act_now, brings, step, step_when, timer}
-use Rattle.world_model.specs.Verdict.{done, reply_of, reply_to, verdict}
+use Rattle.world_model.specs.Verdict.{done, reply_to}
 use Rattle.world_model.specs.World.{World, Reply, after, tells}
 use Rattle.call_verdicts.specs.Granted.{GrantedMay}
 use Rattle.run_model.specs.Licensed.{MayTaking}
@@ -106,11 +104,7 @@ once_less gone (p ∷ pages) (alone, once) = by_test (p == gone) (once_less gone
 
 few_less : (gone : ℕ) (pages : List ℕ) → length (unloaded gone pages) ≤ length pages
 few_less gone [] = omega arith
-few_less gone (p ∷ pages) = by_test (p == gone) (few_less gone pages)
-  where
-    by_test : (t : Bool) → length (unloaded gone pages) ≤ length pages → length (cond (not t) (p ∷ unloaded gone pages) (unloaded gone pages)) ≤ length (p ∷ pages)
-    by_test true rest = omega arith
-    by_test false rest = omega arith
+few_less gone (p ∷ pages) = grind (arith, few_less gone pages)
 
 once_rest : (pages : List ℕ) → AreOnce pages → AreOnce (drop 1 pages)
 once_rest [] once = once
@@ -159,11 +153,7 @@ backed_but old new e its same backs still backed = record {
 
 -- others' pages stay where an environment's page is free
 others_still : (b : Book) (e page : ℕ) → is_owned_by e (b.pages page) ≡ true → (i p : ℕ) → i ≢ e → is_owned_by i (b.pages p) ≡ true → is_owned_by i (set_at page Free b.pages p) ≡ true
-others_still b e page its i p other owned = by_test (p == page) refl
-  where
-    by_test : (t : Bool) → (p == page) ≡ t → is_owned_by i (if t then Free else b.pages p) ≡ true
-    by_test true same = absurd (other (sym (same_owner e i (b.pages page) its (ap (λ (n : ℕ). is_owned_by i (b.pages n)) (sym (eqb-true p page same)) ∙ owned))))
-    by_test false elsewhere = owned
+others_still b e page its i p other owned = grind (arith, same_owner e i (b.pages page))
 
 own_still : (b : Book) (e page p : ℕ) → p ≢ page → is_owned_by e (b.pages p) ≡ true → is_owned_by e (set_at page Free b.pages p) ≡ true
 own_still b e page p other owned = ap (is_owned_by e) (set_else page p Free b.pages other) ∙ owned
@@ -244,11 +234,7 @@ module _ (w : World) (e : ℕ) (backed : AreBacked w.book) where
 
   module _ (granted : GrantedMay) where
     call_backed : (c : Option Call) → called (w.solos e).cpu ≡ c → AreBacked (reply_to w e c).book
-    call_backed c named = by_verdict (verdict w e c) refl
-      where
-        by_verdict : (v : Verdict) → verdict w e c ≡ v → AreBacked (reply_of w e v).book
-        by_verdict (Refuse code value) is = backed
-        by_verdict (Grant value) is = deed_backed (deed_at (w.solos e) value) (deed_may granted w e c named value is)
+    call_backed c named = grind (arith, deed_backed, deed_may)
 
     -- what an act brings once the step is made
     act_backed : (act : Act) → act_now w e ≡ act → AreBacked (brings e act (after w (tells e Step w))).book

@@ -11,7 +11,7 @@ use Rattle.page_book.specs.declared.row.PageRow.TheVariants.{Free, Owned}
 use Rattle.page_book.specs.Row.{is_owned_by}
 use Rattle.page_book.proofs.Owners.{anothers}
 use Rattle.bind_book.specs.declared.binding.Binding.{Binding}
-use Rattle.bind_book.specs.Stripe.{binding_at, breaks_page, is_bound, is_of_page, row_of, without}
+use Rattle.bind_book.specs.Stripe.{binding_at, breaks_page, is_bound, row_of, without}
 use Rattle.world_model.specs.declared.call.Deed.{Deed}
 use Rattle.world_model.specs.declared.call.Deed.TheVariants.{Answers, Stops, Gives as Donates, Allocates, Frees, Recaps, Binds, Unbinds, Own, Transfers, TakesSlot, DropsSlot, TakesLine, DropsLine, Claims, Unclaims, Downloads, Loads}
 use Rattle.world_model.specs.declared.life.Life.TheVariants.{Live}
@@ -37,7 +37,7 @@ use Rattle.page_sight.specs.Sight.{IsStripe, Sees}
 use Rattle.page_sight.proofs.Sights.{allocator_sees, binder_sees, freer_loses, others_dont, others_lose, recapper_keeps, unbinder_loses, HasNone}
 use Rattle.page_sight.proofs.Stripes.{bound_nowhere, without_ends}
 use Rattle.page_sight.proofs.Tables.{set_here, set_else, set_owns}
-use Rattle.sharing_law.specs.Agreement.{AreBoundAllocated, IsAllocated}
+use Rattle.sharing_law.specs.Agreement.{AreBoundAllocated}
 use Rattle.sharing_law.proofs.Given.{IsHanded, absorbs, handed_rests, own_leaves}
 use Rattle.sharing_law.proofs.Giving.{other_than}
 use Rattle.sharing_law.proofs.Owning.{one_owner}
@@ -73,11 +73,7 @@ module _ (w : World) (e : ℕ) (sound : Sound w) (lives : (w.solos e).life ≡ L
 
   -- a free page is bound by nobody
   unbound_free : (page : ℕ) → w.book.pages page ≡ Free → (i : ℕ) → is_bound page (w.book.binds i) ≡ false
-  unbound_free page free i = bound_nowhere page (w.book.binds i) (λ row. by_binding row (w.book.binds i row) refl)
-    where
-      by_binding : (row : ℕ) (b : Option Binding) → w.book.binds i row ≡ b → is_of_page page b ≡ false
-      by_binding row None is = refl
-      by_binding row (Some b) is = ne_eqb b.page page (λ same. subst IsAllocated (ap w.book.pages same ∙ free) (allocated i row b is))
+  unbound_free page free i = grind (arith, bound_nowhere, ne_eqb)
 
   -- Allocation.
   module _ (page : ℕ) (words : Capabilities) (zeros : List ℕ) (are : zeros ≡ zero_page) (may : MayAllocate w.book page) (does : Does w e (Allocates page words)) where

@@ -1,6 +1,6 @@
 -- Claims: each environment has those that the book lists for it, and each goes into a page of its environment's.
 use Rattle.std.proofs.Common.{◌≡◌, ◌≢◌, ◌<◌, ℕ, List, [], ◌∷◌, ◌++◌, map, Bool, true, false, not, cond, Some, ◌⊎◌, inl, inr, Option, refl, sym, ◌∙◌, ap, subst, arith}
-use Rattle.std.specs.Prelude.{◌==◌, filter, find, if◌then◌else◌}
+use Rattle.std.specs.Prelude.{◌==◌, filter, find}
 use Rattle.std.proofs.lemmas.Bool.{eq-eqb, ne_eqb}
 use Rattle.std.proofs.lemmas.List.{append-nil, map-append}
 use Rattle.std.proofs.lemmas.List.Elements.{filter-append}
@@ -11,7 +11,7 @@ use Rattle.filter_tree.specs.Claims.{is_numbered}
 use Rattle.page_book.specs.Row.{is_owned_by}
 use Rattle.world_model.specs.Book.{Book}
 use Rattle.world_model.specs.ClaimCalls.{with_claim}
-use Rattle.world_model.specs.Rings.{ring_with_handler, ring_with_handler_if, ring_after_packet, ring_after_packet_if, is_ring}
+use Rattle.world_model.specs.Rings.{ring_with_handler_if, ring_after_packet_if}
 use Rattle.world_model.specs.Solo.{Ring}
 use Rattle.world_model.specs.World.{World}
 use Rattle.sharing_law.specs.Agreement.{ClaimPage, claim_page, ring_page}
@@ -150,18 +150,10 @@ rings_same change same [] = refl
 rings_same change same (r ∷ rings) = λ k. same r k ∷ rings_same change same rings k
 
 pub rings_turned : (claim : ℕ) (rings : List Ring) → map ring_page (map (ring_after_packet_if claim) rings) ≡ map ring_page rings
-rings_turned claim = rings_same (ring_after_packet_if claim) (λ r. by_test r (is_ring claim r))
-  where
-    by_test : (r : Ring) (t : Bool) → ring_page (if t then ring_after_packet r else r) ≡ ring_page r
-    by_test r true = refl
-    by_test r false = refl
+rings_turned claim = grind (arith, rings_same)
 
 pub rings_handled : (claim : ℕ) (handler : Option (List ℕ)) (rings : List Ring) → map ring_page (map (ring_with_handler_if claim handler) rings) ≡ map ring_page rings
-rings_handled claim handler = rings_same (ring_with_handler_if claim handler) (λ r. by_test r (is_ring claim r))
-  where
-    by_test : (r : Ring) (t : Bool) → ring_page (if t then ring_with_handler handler r else r) ≡ ring_page r
-    by_test r true = refl
-    by_test r false = refl
+rings_handled claim handler = grind (arith, rings_same)
 
 -- Worlds that are alike are claimed alike.
 pub claimed_alike : (w v : World) → IsAlike w v → Claimed w → Claimed v

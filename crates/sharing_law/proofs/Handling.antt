@@ -1,14 +1,13 @@
 -- What a run of a handler leaves: no less of a page than there was, and replies that are short.
-use Rattle.std.proofs.Common.{◌≡◌, ◌≤◌, ◌+◌, ◌-◌, ℕ, zero, suc, List, [], ◌∷◌, ◌++◌, length, take, drop, Bool, true, false, Option, Some, None, refl, ◌∙◌, ap, sym, arith, length-append}
-use Rattle.std.specs.Prelude.{◌&&◌, nat_le, nat_lt, if◌then◌else◌}
+use Rattle.std.proofs.Common.{◌≡◌, ◌≤◌, ◌+◌, ◌-◌, ℕ, zero, suc, List, [], ◌∷◌, ◌++◌, length, take, drop, Bool, true, false, Option, Some, None, refl, ◌∙◌, ap, arith, length-append}
+use Rattle.std.specs.Prelude.{◌&&◌, nat_lt, if◌then◌else◌}
 use Rattle.std.specs.List.{list_all}
 use Rattle.std.proofs.lemmas.Bool.{and_parts, le-leb, leb-true}
 use Rattle.std.proofs.lemmas.List.{append-nil, drop_all, length-drop, length-take}
 use Rattle.std.proofs.lemmas.List.Folds.{list_all-append}
-use Rattle.external_event.specs.Limits.{least_frame_size, most_packet_size}
+use Rattle.external_event.specs.Limits.{most_packet_size}
 use Rattle.frame_store.specs.Pages.{with_bytes}
 use Rattle.mips_exec.specs.declared.registers.Cpu.{Cpu}
-use Rattle.mips_exec.specs.Cpu.{reg}
 use Rattle.mips_exec.specs.Step.{Step, Retired, Called, Trapped, step_of, view_of}
 use Rattle.handler_code.specs.declared.outcome.HandlerEnd.{HandlerEnd}
 use Rattle.handler_code.specs.declared.outcome.HandlerEnd.TheVariants.{Fault}
@@ -37,21 +36,7 @@ pub taken_short : (size : ℕ) (bytes : List ℕ) → size ≤ most_packet_size 
 taken_short size bytes most = le-leb (length (take size bytes)) most_packet_size (omega (arith, length-take size bytes, most))
 
 reply_short : (cpu : Cpu) (page reply : List ℕ) → reply_of cpu page ≡ Some reply → is_short reply ≡ true
-reply_short cpu page reply is = by_size (nat_le least_frame_size (reg cpu 5) && nat_le (reg cpu 5) most_packet_size) refl is
-  where
-    found : List ℕ
-    found = take (reg cpu 5) (drop (reg cpu 4 - page_start) page)
-
-    by_range : reg cpu 5 ≤ most_packet_size → (t : Bool) → (if t then Some found else None) ≡ Some reply → is_short reply ≡ true
-    by_range most false is = cc
-    by_range most true is = let same : found ≡ reply = cc in ap is_short (sym same) ∙ taken_short (reg cpu 5) (drop (reg cpu 4 - page_start) page) most
-
-    by_size : (t : Bool) → (nat_le least_frame_size (reg cpu 5) && nat_le (reg cpu 5) most_packet_size) ≡ t
-        → (if t then (if nat_le page_start (reg cpu 4) && nat_le (reg cpu 4 + reg cpu 5) (page_start + length page) then Some found else None) else None) ≡ Some reply → is_short reply ≡ true
-    by_size false test is = cc
-    by_size true test is =
-        by_range (leb-true (reg cpu 5) most_packet_size (and_parts (nat_le least_frame_size (reg cpu 5)) (nat_le (reg cpu 5) most_packet_size) test).1)
-        (nat_le page_start (reg cpu 4) && nat_le (reg cpu 4 + reg cpu 5) (page_start + length page)) is
+reply_short cpu page reply is = grind (arith, taken_short, leb-true, and_parts)
 
 -- A handler at work on a page of so many bytes at least.
 pub record Holds (size : ℕ) (page : List ℕ) (replies : List (List ℕ)) : Type 0 where

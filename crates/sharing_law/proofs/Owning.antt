@@ -1,7 +1,6 @@
 -- Whose a page is.
-use Rattle.std.proofs.Common.{◌≡◌, ℕ, Bool, true, false, refl, sym, ◌∙◌, ap}
-use Rattle.std.specs.Prelude.{◌==◌, if◌then◌else◌}
-use Rattle.std.proofs.lemmas.Bool.{eq-eqb, eqb-true}
+use Rattle.std.proofs.Common.{arith, ◌≡◌, ℕ, true, sym, ◌∙◌, ap}
+use Rattle.std.proofs.lemmas.Bool.{eq-eqb}
 use Rattle.page_book.specs.declared.row.Capabilities.{Capabilities}
 use Rattle.page_book.specs.declared.row.PageRow.{PageRow}
 use Rattle.page_book.specs.declared.row.PageRow.TheVariants.{Free, Owned}
@@ -15,16 +14,8 @@ one_owner e o row owned same = ap (λ n. is_owned_by n row) (sym same) ∙ owned
 
 -- a page that is owned stays its owner's where a free one has another row
 pub free_else : (page : ℕ) (row : PageRow) (pages : ℕ → PageRow) → pages page ≡ Free → (i p : ℕ) → is_owned_by i (pages p) ≡ true → is_owned_by i (set_at page row pages p) ≡ true
-free_else page row pages free i p owned = by_test (p == page) refl
-  where
-    by_test : (t : Bool) → (p == page) ≡ t → is_owned_by i (if t then row else pages p) ≡ true
-    by_test true same = let clash : false ≡ true = ap (is_owned_by i) (sym free ∙ ap pages (sym (eqb-true p page same))) ∙ owned in cc
-    by_test false other = owned
+free_else page row pages free i p owned = grind arith
 
 -- or where its owner gives it other words
 pub own_else : (e page : ℕ) (words : Capabilities) (pages : ℕ → PageRow) → is_owned_by e (pages page) ≡ true → (i p : ℕ) → is_owned_by i (pages p) ≡ true → is_owned_by i (set_at page (Owned e words) pages p) ≡ true
-own_else e page words pages own i p owned = by_test (p == page) refl
-  where
-    by_test : (t : Bool) → (p == page) ≡ t → is_owned_by i (if t then Owned e words else pages p) ≡ true
-    by_test true same = eq-eqb e i (same_owner e i (pages page) own (ap (λ (n : ℕ). is_owned_by i (pages n)) (sym (eqb-true p page same)) ∙ owned))
-    by_test false other = owned
+own_else e page words pages own i p owned = grind (arith, same_owner e i (pages page), eq-eqb e i)

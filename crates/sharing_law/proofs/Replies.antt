@@ -1,5 +1,5 @@
 -- What the runner's step does to a binding that is listed, and to its page.
-use Rattle.std.proofs.Common.{◌≡◌, ℕ, Bool, true, false, ◌&&◌, Option, Some, None, is_some, refl, sym, ◌∙◌, ap, subst, inl, inr}
+use Rattle.std.proofs.Common.{arith, ◌≡◌, ℕ, Bool, true, false, ◌&&◌, Option, Some, None, is_some, refl, sym, ◌∙◌, ap, subst, inl, inr}
 use Rattle.std.specs.Prelude.{◌==◌, ◌⊎◌, not, if◌then◌else◌}
 use Rattle.std.proofs.lemmas.Bool.{and_cases, eq-eqb, eqb-true, not-false, or_parts}
 use Rattle.page_book.specs.declared.row.Capabilities.{Capabilities}
@@ -146,11 +146,7 @@ binds_over w e b word does right = record { each = λ i row x is. by_env i row x
 
 -- what stands in a row once the binding of a VPN is gone stood there before
 left_of_number : (vpn : ℕ) (stripe : ℕ → Option Binding) (row : ℕ) (b : Binding) (there : Bool) → (if there then set_at (row_of vpn) None stripe else stripe) row ≡ Some b → stripe row ≡ Some b
-left_of_number vpn stripe row b true is = by_test (row == row_of vpn) is
-  where
-    by_test : (t : Bool) → (if t then None else stripe row) ≡ Some b → stripe row ≡ Some b
-    by_test true is = cc
-    by_test false is = is
+left_of_number vpn stripe row b true is = grind arith
 left_of_number vpn stripe row b false is = is
 
 -- a VPN is unbound

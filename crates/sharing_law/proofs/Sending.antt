@@ -1,11 +1,9 @@
 -- What environments send keeps within limits: an answer sends by its own rule, and a packet by what its handler replies.
-use Rattle.std.proofs.Common.{◌≡◌, ◌≤◌, ◌<◌, ◌+◌, ℕ, zero, suc, List, [], ◌∷◌, ◌++◌, length, take, drop, Bool, true, false, Option, Some, None, refl, sym, ◌∙◌, ap, subst, arith, length-append}
-use Rattle.std.specs.Prelude.{◌==◌, ◌&&◌, ◌%◌, ◌/◌, nat_le, nat_lt, if◌then◌else◌, is_some, slice_get, unwrap_or}
+use Rattle.std.proofs.Common.{◌≡◌, ◌≤◌, ◌<◌, ◌+◌, ℕ, zero, suc, List, [], ◌∷◌, ◌++◌, length, take, Bool, true, false, Option, Some, None, refl, sym, ◌∙◌, ap, subst, arith, length-append}
+use Rattle.std.specs.Prelude.{◌==◌, nat_lt, if◌then◌else◌, is_some, slice_get, unwrap_or}
 use Rattle.std.specs.List.{All, list_all}
-use Rattle.std.specs.Option.{option_map}
 use Rattle.std.proofs.lemmas.Bool.{and_parts, eqb-true, eqb-false}
 use Rattle.std.proofs.lemmas.List.{length-take}
-use Rattle.aegis_limits.specs.Limits.{page_size}
 use Rattle.boot_image.specs.ImageValue.{ImageValue, ProgramValue}
 use Rattle.external_event.specs.declared.event.Occurrence.{Occurrence}
 use Rattle.external_event.specs.declared.event.Occurrence.TheVariants as outside
@@ -33,7 +31,7 @@ use Rattle.world_model.specs.Call.{good_range}
 use Rattle.world_model.specs.Holding.{with_binds}
 use Rattle.world_model.specs.Item.{Item, Boot, Step, Start, End, Transfer, Killed, Answer, Gained, Lost, Left, Packet, Line, Asked, Taken, absorb, absorb_all, absorbed, deed_at, own_part}
 use Rattle.world_model.specs.May.{May}
-use Rattle.world_model.specs.Page.{Mapped, user_end}
+use Rattle.world_model.specs.Page.{Mapped}
 use Rattle.world_model.specs.PageCalls.{breaks, lost_if, page_bytes}
 use Rattle.world_model.specs.Post.{counted, post_word}
 use Rattle.world_model.specs.Repossession.{copied}
@@ -90,13 +88,7 @@ sent_within sent packet within room short = record {
 
 -- the bytes of a range are no more than were named
 range_short : (look : ℕ → Option Mapped) (address size : ℕ) → size ≤ most_packet_size → is_short (unwrap_or (good_range look address size) []) ≡ true
-range_short look address size most = by_range (nat_lt address user_end && nat_le (address % page_size + size) page_size) (look (address / page_size))
-  where
-    by_range : (t : Bool) (o : Option Mapped)
-        → is_short (unwrap_or (if t then option_map (λ (m : Mapped). take size (drop (address % page_size) m.bytes)) o else None) []) ≡ true
-    by_range false o = refl
-    by_range true None = refl
-    by_range true (Some m) = taken_short size (drop (address % page_size) m.bytes) most
+range_short look address size most = grind (arith, taken_short)
 
 -- ---- items
 

@@ -1,6 +1,6 @@
 -- Allocated pages have all their bytes, where packets are within their limits.
-use Rattle.std.proofs.Common.{◌≡◌, ◌≤◌, ◌+◌, ℕ, zero, suc, List, [], ◌∷◌, ◌++◌, length, take, drop, Bool, true, false, Option, Some, None, inl, inr, refl, sym, ◌∙◌, ap, subst, arith, length-append}
-use Rattle.std.specs.Prelude.{nat_le, if◌then◌else◌, slice_get}
+use Rattle.std.proofs.Common.{◌≡◌, ◌≤◌, ◌+◌, ℕ, zero, suc, List, [], ◌∷◌, ◌++◌, length, take, drop, Bool, true, false, Some, inl, inr, refl, sym, ◌∙◌, ap, subst, arith, length-append}
+use Rattle.std.specs.Prelude.{nat_le, slice_get}
 use Rattle.std.specs.List.{All}
 use Rattle.std.proofs.lemmas.Bool.{and_parts, leb-true}
 use Rattle.std.proofs.lemmas.List.{length-drop, length-replicate, length-take}
@@ -10,18 +10,15 @@ use Rattle.external_event.specs.declared.event.Occurrence.TheVariants as outside
 use Rattle.external_event.specs.Limits.{most_packet_size}
 use Rattle.frame_store.specs.Pages.{with_bytes, word_bytes, zero_page}
 use Rattle.handler_code.specs.Laws.{RunsKeepLimits}
-use Rattle.handler_code.specs.Running.{handler_run}
 use Rattle.packet_ring.specs.declared.buffer.Buffer.{Buffer}
 use Rattle.packet_ring.specs.declared.buffer.Buffer.TheVariants.{First, Second}
-use Rattle.packet_ring.specs.Ring.{buffer_offset, is_full, with_packet}
+use Rattle.packet_ring.specs.Ring.{buffer_offset}
 use Rattle.page_book.specs.Row.{is_owned_by}
 use Rattle.revocation_book.specs.declared.revocation.Taking.{Taking}
 use Rattle.revocation_book.specs.Takings.{TakingsAreTakable}
 use Rattle.world_model.specs.Book.{is_idle_book}
 use Rattle.world_model.specs.Item.{Packet}
 use Rattle.world_model.specs.PageCalls.{page_bytes}
-use Rattle.world_model.specs.Rings.{Loses, Queues, page_left, received_by}
-use Rattle.world_model.specs.Solo.{bytes_seen}
 use Rattle.world_model.specs.World.{World}
 use Rattle.call_verdicts.specs.Granted.{GrantedMay}
 use Rattle.run_model.specs.Licensed.{AtEvent, GivenIsLicensed, LicensedAt, LicensedBehind, LicensedIn}
@@ -102,29 +99,7 @@ module _ (granted : GrantedMay) (takable : TakingsAreTakable) (licensed : GivenI
         ap length stored.has ∙ with_length (page_bytes m page) stored.store.offset stored.store.bytes (omega (arith, was, fits)) ∙ was
 
     delivered_whole : (page owner : ℕ) → is_owned_by owner (m.book.pages page) ≡ true → IsDelivered system t k page owner → HasSize page
-    delivered_whole page owner owns delivered =
-        let was = whole owner page owns in
-        let ring = delivered.ring in
-        let old = bytes_seen ((m.solos owner).seen ring.page) in
-        let same : old ≡ page_bytes m page = ap (λ (p : ℕ). bytes_seen ((m.solos owner).seen p)) delivered.its ∙ sym (owner_sees m owner page owns) in
-        by_handler old (ap length same ∙ was) ring.handler delivered.has
-      where
-        by_full : (old : List ℕ) → length old ≡ page_size → (full : Bool)
-            → page_left (if full then Loses else Queues (with_packet old delivered.ring.next delivered.packet)) ≡ Some (page_bytes next page) → HasSize page
-        by_full old size true is = cc
-        by_full old size false is =
-            let has : with_packet old delivered.ring.next delivered.packet ≡ page_bytes next page = cc in
-            let fits = packet_fits delivered.ring.next delivered.packet (packet_short t k owner delivered.claim delivered.packet delivered.given) in
-            ap length (sym has)
-            ∙ with_length old (buffer_offset delivered.ring.next) (word_bytes (length delivered.packet) ++ delivered.packet) (omega (arith, size, fits))
-            ∙ size
-
-        by_handler : (old : List ℕ) → length old ≡ page_size → (handler : Option (List ℕ))
-            → page_left (received_by handler delivered.ring delivered.packet old) ≡ Some (page_bytes next page) → HasSize page
-        by_handler old size None is = by_full old size (is_full old delivered.ring.next) is
-        by_handler old size (Some words) is =
-            let has : (handler_run words delivered.packet delivered.ring.claim old).page ≡ page_bytes next page = cc in
-            ap length (sym has) ∙ (runs words delivered.packet old delivered.ring.claim size).size ∙ size
+    delivered_whole page owner owns delivered = grind (arith, owner_sees, packet_fits, packet_short, with_length)
 
     copy_is : (page owner : ℕ) (copied : IsCopied system t k page owner) → page_bytes next page ≡ page_bytes m copied.taken
     copy_is page owner copied =
