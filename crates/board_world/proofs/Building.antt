@@ -24,13 +24,11 @@ use Rattle.slot_vector.specs.Slices as vector
 use Rattle.aegis_limits.specs.Limits.{least_quantum, most_slots, most_environments, most_pages}
 use Rattle.boot_image.specs.ImageValue.{ProgramValue, guaranteed_mappings}
 use Rattle.world_model.specs.declared.life.Life.TheVariants.{Live}
-use Rattle.world_model.specs.declared.slot.Runner.{Runner}
 use Rattle.world_model.specs.Book.{is_runner, own_hold}
 use Rattle.run_model.specs.Boot.{boot_slot, bare_world, added, kept_of, mappings_over, own_rows, record_items}
 use Rattle.world_model.specs.Item.{absorb_all, boot_cpu}
 use Rattle.world_model.specs.Solo.{absent}
 use Rattle.world_model.specs.World.{only}
-use Rattle.page_sight.specs.Sight.{seen_if}
 use Rattle.page_sight.proofs.Sights.{nothing_of}
 use Rattle.page_sight.proofs.Stripes.{bound_nowhere}
 use Rattle.board_world.specs.declared.roster.Environment.{Environment}
@@ -287,19 +285,11 @@ module _ (b : Shown) (x : Environment) (frames : List (List ℕ)) (pages : List 
     (name : x.name ≡ p.name) (lives : x.life ≡ Live) (cpu : x.env.cpu ≡ boot_cpu p.body.entry) (handlers : x.env.handlers ≡ no_handlers) (mask : x.env.mask ≡ p.accept) (output : x.output ≡ no_output) (kept : pages_seen frames x.env.mappings ≡ kept_of p)
     (maps : x.env.mappings ≡ mappings_over (length b.roster.list) (length b.pages) (row_in b.pages) (kept_of p)) where
   unrun : is_runner (length b.roster.list) b.slots.runner ≡ false
-  unrun = by_runner b.slots.runner sound.book.runner
-    where
-      by_runner : (o : Option Runner) → IfSome o (λ y. IsLive b.roster.list y.env) → is_runner (length b.roster.list) o ≡ false
-      by_runner None live = refl
-      by_runner (Some y) live = ne_eqb y.env (length b.roster.list) (λ same. omega (arith, same, live.0))
+  unrun = grind (arith, ne_eqb)
 
   -- nobody has bound or owns pages who isn't there
   unbound : (row : ℕ) → stripes b.binds (length b.roster.list) row ≡ None
-  unbound row = by_row (stripes b.binds (length b.roster.list) row) refl
-    where
-      by_row : (o : Option Binding) → stripes b.binds (length b.roster.list) row ≡ o → o ≡ None
-      by_row None is = refl
-      by_row (Some y) is = let live = sound.books.binders (length b.roster.list) row y is in absurd (omega (arith, live.0))
+  unbound row = grind arith
 
   -- nor has it claims
   ringless : rings_of b.claims (length b.roster.list) ≡ []
@@ -322,11 +312,7 @@ module _ (b : Shown) (x : Environment) (frames : List (List ℕ)) (pages : List 
 
   -- nobody comes to own a page by what is given
   owned_alike : (i page : ℕ) → is_owned_by i (row_in pages page) ≡ is_owned_by i (row_in b.pages page)
-  owned_alike i page = by_row (becomes_row page)
-    where
-      by_row : IsGivenRow (length b.roster.list) (row_in b.pages page) (row_in pages page) → is_owned_by i (row_in pages page) ≡ is_owned_by i (row_in b.pages page)
-      by_row (inl stays) = ap (is_owned_by i) stays
-      by_row (inr new) = ap (is_owned_by i) new.1 ∙ sym (ap (is_owned_by i) new.0)
+  owned_alike i page = grind (arith, becomes_row)
 
   unowned : (page : ℕ) → is_owned_by (length b.roster.list) (row_in b.pages page) ≡ false
   unowned page = by_row (row_in b.pages page) refl
@@ -347,25 +333,10 @@ module _ (b : Shown) (x : Environment) (frames : List (List ℕ)) (pages : List 
 
   -- what a page that is free shows to nobody
   nowhere_bound : (i page : ℕ) → row_in b.pages page ≡ Free → is_bound page (stripes b.binds i) ≡ false
-  nowhere_bound i page free = bound_nowhere page (stripes b.binds i) (λ row. by_row row (stripes b.binds i row) refl)
-    where
-      by_row : (row : ℕ) (o : Option Binding) → stripes b.binds i row ≡ o → is_of_page page o ≡ false
-      by_row row None is = refl
-      by_row row (Some y) is = ne_eqb y.page page (λ same. owned_taken (row_in b.pages y.page) (sound.books.bound i row y is) (ap (row_in b.pages) same ∙ free))
+  nowhere_bound i page free = grind (arith, bound_nowhere, ne_eqb, owned_taken)
 
   seen_alike : (i page : ℕ) → sights_of (with_one b x frames pages) i page ≡ sights_of b i page
-  seen_alike i page = by_row (row_in b.pages page) refl
-    where
-      taken_alike : row_in b.pages page ≢ Free → sights_of (with_one b x frames pages) i page ≡ sights_of b i page
-      taken_alike taken = λ k. seen_if (owned_alike i page k) (is_bound page (stripes b.binds i)) (gives.left.left page taken k)
-
-      by_row : (row : PageRow) → row_in b.pages page ≡ row → sights_of (with_one b x frames pages) i page ≡ sights_of b i page
-      by_row Free is =
-          let owned : is_owned_by i (row_in b.pages page) ≡ false = ap (is_owned_by i) is in
-          nothing_of (is_owned_by i (row_in pages page)) (is_bound page (stripes b.binds i)) (page_at frames page) (owned_alike i page ∙ owned) (nowhere_bound i page is)
-          ∙ sym (nothing_of (is_owned_by i (row_in b.pages page)) (is_bound page (stripes b.binds i)) (page_at b.frames page) owned (nowhere_bound i page is))
-      by_row (Guaranteed owner) is = taken_alike (λ free. let both : Guaranteed owner ≡ Free = sym is ∙ free in cc)
-      by_row (Owned owner words) is = taken_alike (λ free. let both : Owned owner words ≡ Free = sym is ∙ free in cc)
+  seen_alike i page = grind (arith, owned_alike, nothing_of, nowhere_bound)
 
   added_here : solo_of (with_one b x frames pages) (length b.roster.list) ≡ absorb_all (solo_of b (length b.roster.list)) (only (length b.roster.list) (record_items (length b.roster.list) (Some p)) (length b.roster.list))
   added_here =

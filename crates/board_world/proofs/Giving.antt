@@ -1,7 +1,7 @@
 -- A page that is given to an environment.
 use Rattle.std.proofs.Common.{◌≡◌, ◌≢◌, ℕ, zero, suc, ◌+◌, ◌-◌, ◌<◌, List, [], ◌∷◌, ◌++◌, length, map, Bool, true, false, Some, ◌⊎◌, inl, inr, refl, sym, append_assoc, add-one, ◌∙◌, ap, arith, get_or-set_same, get_or-set_other}
 use Rattle.std.specs.Prelude.{◌==◌, slice_get, slice_index, slice_index_or, slice_set, Option}
-use Rattle.std.specs.Option.{option_map, option_flatten}
+use Rattle.std.specs.Option.{option_map}
 use Rattle.std.proofs.Math.ListN.{get_or-append}
 use Rattle.std.proofs.Math.Seq.{get_or-append_seam}
 use Rattle.std.proofs.lemmas.Bool.{eqb-true, eqb-false}
@@ -17,7 +17,7 @@ use Rattle.kernel_journal.specs.Ledger.{Ledger}
 use Rattle.world_model.specs.Page.{KeptPage}
 use Rattle.world_model.specs.Book.{own_hold}
 use Rattle.world_model.specs.Table.{listed}
-use Rattle.run_model.specs.Boot.{boot_slot, own_row, own_rows}
+use Rattle.run_model.specs.Boot.{own_row, own_rows}
 use Rattle.board_world.specs.Doing.{with_rows}
 use Rattle.board_world.specs.Loading.{HasPages}
 use Rattle.board_world.specs.Showing.{page_seen, pages_seen}
@@ -136,11 +136,4 @@ one_more old now next f i page longer so_far is =
 
 -- the rows of the owners so far and one more
 pub more_owners : (j : Ledger) (owners : List (Option ℕ)) (k : ℕ) (d : Option ℕ) → k < length owners → with_rows (with_rows j (own_rows owners k)) (own_row k (option_map own_hold (slice_index_or owners k d))) ≡ with_rows j (own_rows owners (k + 1))
-more_owners j owners k d within =
-    let hold : option_map own_hold (slice_index_or owners k d) ≡ boot_slot owners k = ap (λ o. option_map own_hold (option_flatten o)) (sym (slice_get-get_or owners k d within)) in
-    both_rows j (own_rows owners k) (own_row k (option_map own_hold (slice_index_or owners k d)))
-    ∙ ap (λ h. with_rows j (own_rows owners k ++ own_row k h)) hold
-    ∙ ap (with_rows j) (sym (longer owners k))
-  where
-    longer : (owners : List (Option ℕ)) (k : ℕ) → own_rows owners (k + 1) ≡ own_rows owners k ++ own_row k (boot_slot owners k)
-    longer owners k = rw add-one refl
+more_owners j owners k d within = grind (arith, slice_get-get_or, both_rows, add-one)

@@ -1,11 +1,10 @@
 -- The lowest free pages are guaranteed to an environment, one after another.
-use Rattle.std.proofs.Common.{◌≡◌, ◌≢◌, ℕ, zero, suc, ◌+◌, List, [], ◌∷◌, ◌++◌, length, Bool, true, false, Option, Some, None, ◌⊎◌, inl, inr, refl, sym, ◌∙◌, ap, arith, add-zero, add-suc, append_assoc}
-use Rattle.std.specs.Prelude.{◌==◌, if◌then◌else◌}
+use Rattle.std.proofs.Common.{◌≡◌, ◌≢◌, ℕ, zero, suc, ◌+◌, List, [], ◌∷◌, ◌++◌, length, Option, Some, None, ◌⊎◌, inl, inr, refl, sym, ◌∙◌, ap, arith, add-zero, add-suc, append_assoc}
 use Rattle.std.proofs.lemmas.Bool.{eqb-true}
 use Rattle.env_frames.specs.declared.mapping.Mapping.{Mapping}
 use Rattle.page_book.specs.declared.row.PageRow.{PageRow}
 use Rattle.page_book.specs.declared.row.PageRow.TheVariants.{Free, Guaranteed}
-use Rattle.page_book.specs.Rows.{first_free, lowest_free, row_in, IsLowest}
+use Rattle.page_book.specs.Rows.{first_free, lowest_free, row_in}
 use Rattle.page_book.proofs.Free.{is_lowest}
 use Rattle.world_model.specs.Page.{KeptPage}
 use Rattle.run_model.specs.Boot.{keep_lowest, keep_pages, mapped_to, mappings_over}
@@ -23,14 +22,7 @@ both_rows e old mid new (inr given) (inr again) = inr (given.0, again.1)
 
 lowest_given : (e count : ℕ) (o : Option ℕ) (rows : ℕ → PageRow) → lowest_free rows count ≡ o → (p : ℕ) → IsGivenRow e (rows p) (keep_lowest e o rows p)
 lowest_given e count None rows is p = inl refl
-lowest_given e count (Some page) rows is p = by_test (p == page) refl
-  where
-    lowest : IsLowest rows count page
-    lowest = is_lowest rows count page is
-
-    by_test : (t : Bool) → (p == page) ≡ t → IsGivenRow e (rows p) (if t then Guaranteed e else rows p)
-    by_test true same = inr (ap rows (eqb-true p page same) ∙ lowest.free, refl)
-    by_test false other = inl refl
+lowest_given e count (Some page) rows is p = grind (arith, is_lowest, eqb-true)
 
 pub kept_row : (e count n : ℕ) (rows : ℕ → PageRow) (p : ℕ) → IsGivenRow e (rows p) (keep_pages e count n rows p)
 kept_row e count zero rows p = inl refl

@@ -1,5 +1,5 @@
 -- What the runner does to pages, on the world that is shown.
-use Rattle.std.proofs.Common.{◌≡◌, ◌≢◌, ◌<◌, ℕ, List, [], ◌∷◌, length, true, false, Option, Some, None, refl, sym, ◌∙◌, ap, arith, subst}
+use Rattle.std.proofs.Common.{◌≡◌, ◌≢◌, ◌<◌, ℕ, List, [], ◌∷◌, length, true, false, Option, Some, None, refl, sym, ◌∙◌, ap, arith}
 use Rattle.std.specs.Prelude.{slice_set}
 use Rattle.std.proofs.lemmas.Bool.{ne_eqb}
 use Rattle.std.proofs.lemmas.List.{append-nil, length-set}
@@ -10,8 +10,7 @@ use Rattle.page_book.specs.declared.row.PageRow.{PageRow}
 use Rattle.page_book.specs.declared.row.PageRow.TheVariants.{Free, Guaranteed, Owned}
 use Rattle.page_book.specs.Row.{is_owned_by}
 use Rattle.page_book.specs.Rows.{row_in}
-use Rattle.bind_book.specs.declared.binding.Binding.{Binding}
-use Rattle.bind_book.specs.Stripe.{breaks_page, is_bound, is_of_page, without}
+use Rattle.bind_book.specs.Stripe.{breaks_page, is_bound, without}
 use Rattle.page_sight.specs.Sight.{Sees}
 use Rattle.page_sight.proofs.Sights.{allocator_sees, others_dont, freer_loses, recapper_keeps}
 use Rattle.page_sight.proofs.Stripes.{bound_nowhere}
@@ -30,7 +29,7 @@ use Rattle.world_model.specs.World.{Reply, only}
 use Rattle.board_world.specs.declared.roster.Environment.{Environment}
 use Rattle.board_world.specs.Shown.{Shown, mappings_of}
 use Rattle.board_world.specs.Showing.{world_of, book_of, solo_of, pages_seen}
-use Rattle.board_world.specs.Sound.{IsSound, IsOwned}
+use Rattle.board_world.specs.Sound.{IsSound}
 use Rattle.board_world.specs.Doing as doing
 use Rattle.revocation_book.specs.Backups.{unloaded}
 use Rattle.revocation_book.specs.Pending.{lowered}
@@ -59,11 +58,7 @@ module _ (b : Shown) (e : ℕ) (x : Environment) (r : Runs b e x) (sound : IsSou
 
   -- a free page is bound by nobody
   unbound_free : (page : ℕ) → row_in b.pages page ≡ Free → (i : ℕ) → is_bound page (stripe_of b i) ≡ false
-  unbound_free page free i = bound_nowhere page (stripe_of b i) (λ row. by_binding row (stripe_of b i row) refl)
-    where
-      by_binding : (row : ℕ) (y : Option Binding) → stripe_of b i row ≡ y → is_of_page page y ≡ false
-      by_binding row None is = refl
-      by_binding row (Some y) is = ne_eqb y.page page (λ same. subst IsOwned (ap (row_in b.pages) same ∙ free) (sound.books.bound i row y is))
+  unbound_free page free i = grind (arith, bound_nowhere, ne_eqb)
 
   -- Allocation.
   module _ (page : ℕ) (words : Capabilities) (zeros : List ℕ) (may : MayAllocate (book_of b) page) (v : ℕ) where

@@ -1,7 +1,6 @@
 -- Physical memory stays parted: what is mapped is guaranteed.
-use Rattle.std.proofs.Common.{◌≡◌, ◌≢◌, ℕ, ◌<◌, List, length, map, Option, Some, None, IfSome, inl, inr, refl, sym, ◌∙◌, ap, subst, arith, length-set, get_or-set_other}
+use Rattle.std.proofs.Common.{◌≡◌, ◌≢◌, ℕ, ◌<◌, List, length, map, IfSome, inl, inr, refl, sym, ◌∙◌, ap, subst, arith, length-set, get_or-set_other}
 use Rattle.std.specs.Prelude.{slice_set}
-use Rattle.std.specs.Option.{option_map}
 use Rattle.std.proofs.lemmas.Bool.{cases_eq, ne_eqb}
 use Rattle.std.proofs.lemmas.List.{length-map}
 use Rattle.frame_store.specs.Pages.{with_page}
@@ -9,9 +8,8 @@ use Rattle.page_book.specs.declared.row.PageRow.{PageRow}
 use Rattle.page_book.specs.declared.row.PageRow.TheVariants.{Free, Guaranteed}
 use Rattle.page_book.specs.Row.{released}
 use Rattle.page_book.specs.Rows.{row_in}
-use Rattle.env_frames.specs.declared.mapping.Mapping.{Mapping}
 use Rattle.env_frames.specs.Context.{context_number}
-use Rattle.env_frames.specs.Frame.{mapping_at, page_of}
+use Rattle.env_frames.specs.Frame.{page_of}
 use Rattle.world_model.specs.declared.life.Cause.{Cause}
 use Rattle.board_world.specs.declared.roster.Environment.{Environment}
 use Rattle.board_world.specs.Shown.{mappings_in, mappings_of, changed}
@@ -47,11 +45,7 @@ page_parted frames pages list n bytes parted =
 
 -- a context page is a page that is there
 pub context_there : (frames : List (List ℕ)) (pages : List PageRow) (list : List Environment) → IsParted frames pages list → (e : ℕ) → IfSome (page_of (mappings_of list e) context_number) (λ page. page < length frames)
-context_there frames pages list parted e = by_mapping (mapping_at (mappings_of list e) context_number) refl
-  where
-    by_mapping : (y : Option Mapping) → mapping_at (mappings_of list e) context_number ≡ y → IfSome (option_map (λ m. m.page) y) (λ page. page < length frames)
-    by_mapping None is = tt
-    by_mapping (Some m) is = let at = placed (mappings_of list e) context_number m is in guaranteed_there frames pages list parted e at.0 m at.1.place
+context_there frames pages list parted e = grind (arith, placed, guaranteed_there)
 
 -- the rows of pages but one
 pub other_row : (pages : List PageRow) (page p : ℕ) (row : PageRow) → p ≢ page → row_in (slice_set pages page row) p ≡ row_in pages p

@@ -9,10 +9,9 @@ use Rattle.frame_store.specs.Pages.{page_at, word_at}
 use Rattle.env_frames.specs.declared.mapping.Mapping.{Mapping}
 use Rattle.env_frames.specs.declared.post.PostWord.TheVariants as post
 use Rattle.env_frames.specs.Context.{context_number}
-use Rattle.env_frames.specs.Frame.{left_in, mapping_at}
+use Rattle.env_frames.specs.Frame.{left_in}
 use Rattle.env_frames.specs.Post.{counted_in, most_records, post_offset, record_bytes, record_offset, taken_in}
-use Rattle.page_book.specs.declared.row.PageRow.{PageRow}
-use Rattle.page_book.specs.declared.row.PageRow.TheVariants.{Free, Guaranteed, Owned}
+use Rattle.page_book.specs.declared.row.PageRow.TheVariants.{Free}
 use Rattle.page_book.specs.Row.{is_owned_by, owner_of}
 use Rattle.page_book.specs.Rows.{row_in}
 use Rattle.page_book.proofs.Owners.{owner_is}
@@ -32,7 +31,7 @@ use Rattle.world_model.specs.PageCalls.{breaks, page_bytes}
 use Rattle.world_model.specs.Post.{post_word}
 use Rattle.world_model.specs.Repossession.{copied, counted_taking, recorded, taken}
 use Rattle.world_model.specs.Rings.{page_store}
-use Rattle.world_model.specs.Solo.{Physical, bytes_in, bytes_of, bytes_seen, kept_at, with_store}
+use Rattle.world_model.specs.Solo.{Physical, bytes_in, bytes_of, kept_at, with_store}
 use Rattle.world_model.specs.Tick.{served}
 use Rattle.world_model.specs.World.{World, Reply, after, run_phases}
 use Rattle.board_world.specs.declared.roster.Environment.{Environment}
@@ -50,7 +49,7 @@ use Rattle.board_world.proofs.Pages.{seen_kept}
 use Rattle.board_world.proofs.Parted.{row_parted}
 use Rattle.board_world.proofs.Allowed.{owned_by_none}
 use Rattle.board_world.proofs.Parts.{by_env, set_here, set_else, worlds}
-use Rattle.board_world.proofs.Posting.{changed_in, context_bytes, left_else, left_here, left_with, same_size, with_left, with_word, worded, worded_others, worded_seen}
+use Rattle.board_world.proofs.Posting.{context_bytes, left_else, left_here, left_with, same_size, with_left, with_word, worded, worded_others, worded_seen}
 use Rattle.board_world.proofs.Seen.{like_solo, live_record, row_there}
 use Rattle.board_world.proofs.Staying.{sound_frames, sound_machine, sound_memory}
 use Rattle.board_world.proofs.Tables.{table_set}
@@ -76,11 +75,7 @@ abbrev with_record : Shown → ℕ → ℕ → Option ℕ → Shown
 with_record b e page backup = let n = records b e in recorded_if (nat_lt n most_records) b e n page backup
 
 frames_if : (t : Bool) (b : Shown) (e n page : ℕ) (backup : Option ℕ) → length (recorded_if t b e n page backup).frames ≡ length b.frames
-frames_if true b e n page backup = by_page (context_of b e)
-  where
-    by_page : (context : Option ℕ) → length (left_in (record_offset n) (record_bytes page backup) context b.frames) ≡ length b.frames
-    by_page None = refl
-    by_page (Some at) = length-set b.frames at _
+frames_if true b e n page backup = grind (arith, length-set)
 frames_if false b e n page backup = refl
 
 -- the record and the count, as they are written
@@ -133,14 +128,7 @@ module _ (b : Shown) (sound : IsSound b) (e : ℕ) (x : Environment) (at : slice
   now_at false = at
 
   pub written_is : record b { frames = taken_in page backup (context_of b e) b.frames } ≡ with_word now e post.Takings counts
-  written_is =
-      (λ k. record b { frames = recorded_frames page backup b.frames (mapping_at (mappings_of b.roster.list e) context_number) k })
-      ∙ (λ k. record b { frames = counted_changed post.Takings (context_of b e) (if nat_lt n most_records then left_in (record_offset n) (record_bytes page backup) (context_of b e) b.frames else b.frames) k })
-      ∙ by_test (nat_lt n most_records)
-    where
-      by_test : (t : Bool) → record b { frames = changed_in post.Takings counts (context_of b e) (if t then left_in (record_offset n) (record_bytes page backup) (context_of b e) b.frames else b.frames) } ≡ with_word (recorded_if t b e n page backup) e post.Takings counts
-      by_test true = refl
-      by_test false = refl
+  written_is = grind (arith, recorded_frames, counted_changed)
 
   -- for the environment, and for the others
   pub written_here : solo_of (record b { frames = taken_in page backup (context_of b e) b.frames }) e ≡ counted_taking page backup (solo_of b e)
@@ -213,11 +201,7 @@ module _ (b : Shown) (sound : IsSound b) (x : Taking) (may : IsTakable (books_of
   copied_board = record b { frames = frames_after_copy x.page x.backup b.frames }
 
   pub copy_size : length (frames_after_copy x.page x.backup b.frames) ≡ length b.frames
-  copy_size = by_backup x.backup
-    where
-      by_backup : (o : Option ℕ) → length (frames_after_copy x.page o b.frames) ≡ length b.frames
-      by_backup None = refl
-      by_backup (Some backup) = length-set b.frames backup _
+  copy_size = grind (arith, length-set)
 
   copied_sound : IsSound copied_board
   copied_sound = sound_frames (frames_after_copy x.page x.backup b.frames) copy_size sound
@@ -227,12 +211,7 @@ module _ (b : Shown) (sound : IsSound b) (x : Taking) (may : IsTakable (books_of
   page_is = ap (λ o. bytes_of (solo_or_absent b e o) (Physical x.page)) lived.1.0 ∙ (let owned = may.owned in rw owned refl)
 
   page_seen_is : page_bytes (world_of b) x.page ≡ page_at b.frames x.page
-  page_seen_is = by_row (row_in b.pages x.page) may.owned
-    where
-      by_row : (row : PageRow) → is_owned_by e row ≡ true → calls.bytes_owned (world_of b) x.page row ≡ page_at b.frames x.page
-      by_row Free own = cc
-      by_row (Guaranteed owner) own = cc
-      by_row (Owned owner words) own = ap (λ n. bytes_seen ((solo_of b n).seen x.page)) (eqb-true owner e own) ∙ page_is
+  page_seen_is = grind (arith, eqb-true, page_is)
 
   copied_here : (o : Option ℕ) → x.backup ≡ o → solo_of (record b { frames = frames_after_copy x.page o b.frames }) e ≡ copied x.page o (solo_of b e)
   copied_here None is = refl

@@ -160,8 +160,4 @@ module _ (b : Shown) (e : ℕ) (x : Environment) (r : Runs b e x) where
 
 -- the pages that an environment of the board sees
 pub kept_seen : (b : Shown) (e : ℕ) → (solo_of b e).kept ≡ pages_seen b.frames (mappings_of b.roster.list e)
-kept_seen b e = by_record (slice_get b.roster.list e) refl
-  where
-    by_record : (y : Option Environment) → slice_get b.roster.list e ≡ y → (solo_or_absent b e y).kept ≡ pages_seen b.frames (mappings_in y)
-    by_record None is = refl
-    by_record (Some x) is = refl
+kept_seen b e = grind arith

@@ -203,23 +203,11 @@ hold_at-released e (hold ∷ slots) (suc k) = hold_at-released e slots k
 module _ (v : Slices) (r : Environments) (e : ℕ) where
   released_part : (hold : Option Hold) → has_part e (hold_without e hold) ≡ false
   released_part None = refl
-  released_part (Some h) = by_owner (h.owner == e) refl
-    where
-      by_holder : (holds : Bool) → (h.holder == e) ≡ holds → (h.owner == e) ≡ false → has_part e (if holds then Some (own_hold h.owner) else Some h) ≡ false
-      by_holder true is other = rw other refl
-      by_holder false is other = rw other is
-
-      by_owner : (owns : Bool) → (h.owner == e) ≡ owns → has_part e (if owns then None else (if h.holder == e then Some (own_hold h.owner) else Some h)) ≡ false
-      by_owner true is = refl
-      by_owner false is = by_holder (h.holder == e) refl is
+  released_part (Some h) = grind arith
 
   ended : (o : Option Runner) → is_runner e (if is_runner e o then None else o) ≡ false
   ended None = refl
-  ended (Some x) = by_test (x.env == e) refl
-    where
-      by_test : (its : Bool) → (x.env == e) ≡ its → is_runner e (if its then None else Some x) ≡ false
-      by_test true is = refl
-      by_test false is = is
+  ended (Some x) = grind arith
 
   pub none_left : HasNoPart e (without_env e v)
   none_left = record { runs = ended v.runner; parts = λ k. rw (hold_at-released e v.slots k) (released_part (hold_at v.slots k)) }
@@ -284,16 +272,7 @@ use_of e v answer = slots_settled e (after_timer v answer) answer
 
 -- a runner of too much excess is released at once
 killed_is : (v : Slices) (x : Runner) → v.runner ≡ Some x → without_env x.env (after_timer v timer.Kill) ≡ without_env x.env v
-killed_is v x is = λ k. record (without_env x.env v) { runner = ends k; excess = owes k }
-  where
-    here : is_runner x.env (Some x) ≡ true
-    here = eq-eqb x.env x.env refl
-
-    ends : (without_env x.env (after_timer v timer.Kill)).runner ≡ (without_env x.env v).runner
-    ends = rw is (rw here refl)
-
-    owes : (without_env x.env (after_timer v timer.Kill)).excess ≡ (without_env x.env v).excess
-    owes = rw is (set_again v.excess x.env (excess_of v.excess x.env + 1) 0)
+killed_is v x is = grind (arith, eq-eqb, set_again)
 
 killed_manned : (v : Slices) (r : Environments) (x : Runner) → IsManned v r → v.runner ≡ Some x → IsManned (without_env x.env (after_timer v timer.Kill)) r
 killed_manned v r x manned is =

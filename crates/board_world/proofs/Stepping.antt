@@ -36,7 +36,7 @@ use Rattle.filter_tree.specs.ClaimBook.{are_numbered}
 use Rattle.filter_tree.specs.Laws.{FirstIsNumbered}
 use Rattle.world_model.specs.Item.{Item, Step as AStep, absorb, absorb_all}
 use Rattle.world_model.specs.PageCalls.{left_at, left_if}
-use Rattle.world_model.specs.Solo.{Solo, Store, Key, Kept, Physical, bound_place, kept_after, place_at, store_of, store_through, with_store}
+use Rattle.world_model.specs.Solo.{Solo, Store, Physical, bound_place, kept_after, place_at, store_of, store_through, with_store}
 use Rattle.world_model.specs.Step.{Act, act_of, acted, call_act, step_alone, stepped, store_act, trap_act}
 use Rattle.world_model.specs.World.{World, after, in_turn, no_change, only, run_phases, tells}
 use Rattle.world_model.specs.Tick as tick
@@ -84,11 +84,7 @@ came_called b e (Trapped exc) is = cc
 -- nothing is left to the writer
 writer_left : (w : World) (e : ℕ) (x : Option Store) → (tick.brings e (store_act x) w).items e ≡ []
 writer_left w e None = refl
-writer_left w e (Some x) = by_key x.key
-  where
-    by_key : (key : Key) → left_at w.book e x key e ≡ []
-    by_key (Kept vpn) = refl
-    by_key (Physical page) = rw (eq-eqb e e refl) refl
+writer_left w e (Some x) = grind (arith, eq-eqb)
 
 -- The runner's store: physical memory after it, and the store that the model knows.
 abbrev pub struck : Shown → Cpu → List (List ℕ) → Shown

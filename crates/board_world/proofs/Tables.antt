@@ -1,5 +1,5 @@
 -- The books as lists and as tables.
-use Rattle.std.proofs.Common.{◌≡◌, ◌≤◌, ◌<◌, ℕ, zero, suc, List, [], ◌∷◌, length, map, Bool, true, false, Option, Some, None, is_some, inl, inr, refl, sym, ◌∙◌, ap, arith, get_or-set_same, get_or-set_other}
+use Rattle.std.proofs.Common.{◌≡◌, ◌≤◌, ◌<◌, ℕ, zero, suc, List, [], ◌∷◌, length, map, Option, Some, None, is_some, inl, inr, refl, sym, ◌∙◌, ap, arith, get_or-set_same, get_or-set_other}
 use Rattle.std.specs.Prelude.{◌==◌, ◌&&◌, nat_lt, if◌then◌else◌, slice_get, slice_set, slice_index_or}
 use Rattle.std.proofs.lemmas.Bool.{ne_eqb, eq-eqb, lt-ltb, le-ltb, cases_lt}
 use Rattle.std.proofs.lemmas.Option.{slice_get-get_or, slice_get_past}
@@ -53,8 +53,4 @@ stripe_set binds e row x has below i r =
 -- the stripes once a binding of one of them went, if there was one
 pub stripe_without : (binds : List (Option Binding)) (e vpn : ℕ) → HasStripe binds e → row_of vpn < stripe_rows → (i r : ℕ) →
     stripes (if is_some (binding_at (stripes binds e) vpn) then slice_set binds (stripe_place e (row_of vpn)) None else binds) i r ≡ set_at e (without_number vpn (stripes binds e)) (stripes binds) i r
-stripe_without binds e vpn has below i r = by_test (is_some (binding_at (stripes binds e) vpn))
-  where
-    by_test : (t : Bool) → stripes (if t then slice_set binds (stripe_place e (row_of vpn)) None else binds) i r ≡ set_at e (if t then set_at (row_of vpn) None (stripes binds e) else stripes binds e) (stripes binds) i r
-    by_test true = stripe_set binds e (row_of vpn) None has below i r
-    by_test false = λ k. sym (set_same e (stripes binds) i) k r
+stripe_without binds e vpn has below i r = grind (arith, stripe_set, set_same)

@@ -33,7 +33,7 @@ use Rattle.board_world.specs.declared.roster.Environment.{Environment}
 use Rattle.board_world.specs.Shown.{Shown, handlers_in, handlers_of, mappings_of}
 use Rattle.board_world.specs.Showing.{world_of, book_of, solo_of, solo_or_absent, solo_seen, cpu_seen, pages_seen}
 use Rattle.board_world.specs.Sound.{IsSound}
-use Rattle.board_world.specs.Doing.{after_timer_by, after_timer_phase, after_count_down, after_death, after_end, has_end, ledger_after_release, over_row, with_overrun, after_forfeit, start_registers, after_start, after_stop, with_next_time, after_turn_phase, after_told, after_start_if, after_turn_when, with_registers}
+use Rattle.board_world.specs.Doing.{after_timer_by, after_timer_phase, after_count_down, after_death, after_end, has_end, ledger_after_release, over_row, with_overrun, after_forfeit, start_registers, after_start, after_stop, with_next_time, after_turn_phase, after_told, after_turn_when, with_registers}
 use Rattle.board_world.proofs.Contexts.{left_by, left_others, left_own, left_sights, left_store, start_others, start_seen, start_sights, waiting}
 use Rattle.board_world.proofs.Dying.{MayDie, dies as dying, may_die, numbered_within}
 use Rattle.board_world.proofs.Lists.{changed_here, changed_else, length-changed}
@@ -144,18 +144,7 @@ turned_world b sound whole = by_runner b.slots.runner refl
 
 -- after the turn of a board that isn't idle somebody runs
 pub turned_runs : (b : Shown) → is_idle_book (book_of b) ≡ false → IsSome (after_turn_phase b).slots.runner
-turned_runs b busy = by_runner b.slots.runner refl
-  where
-    by_told : (start : Shown) (runs : Option Turn) → (told_of b.slots).runs ≡ runs → b.slots.runner ≡ None → IsSome (after_start_if start runs).slots.runner
-    by_told start None is none =
-        let held : next_held b.slots ≡ None = (is_idle b.slots).0 is in
-        let idle : is_idle_book (book_of b) ≡ true = rw (none, held) refl in
-        let both : true ≡ false = sym idle ∙ busy in cc
-    by_told start (Some t) is none = refl
-
-    by_runner : (o : Option Runner) → b.slots.runner ≡ o → IsSome (after_turn_when b o).slots.runner
-    by_runner None is = by_told _ (told_of b.slots).runs refl is
-    by_runner (Some r) is = rw is refl
+turned_runs b busy = grind (arith, is_idle)
 
 -- the runner is stopped
 module _ (b : Shown) (e : ℕ) (x : Environment) (r : Runs b e x) where
