@@ -1,7 +1,7 @@
 -- A half of an expression is an expression.
-use Rattle.std.proofs.Common.{◌≡◌, ℕ, suc, ◌+◌, ◌-◌, ◌*◌, ◌<◌, ◌≤◌, List, [], ◌∷◌, ◌++◌, Bool, true, false, Option, Some, None, length, drop, refl, ap, arith, length-append, inl, inr}
+use Rattle.std.proofs.Common.{◌≡◌, ℕ, suc, ◌+◌, ◌-◌, ◌*◌, ◌≤◌, List, [], ◌∷◌, ◌++◌, Bool, Option, Some, None, length, drop, refl, ap, arith, length-append}
 use Rattle.std.proofs.Math.Bool.{and-false}
-use Rattle.std.proofs.lemmas.Bool.{cases_lt, le-leb, lt-leb}
+use Rattle.std.proofs.Math.Dec.{leb-suc-suc}
 use Rattle.std.proofs.lemmas.List.{drop-append-le, take-append-le}
 use Rattle.std.specs.Prelude.{◌==◌, ◌&&◌, codes}
 use Rattle.std.specs.List.{list_all}
@@ -37,30 +37,20 @@ all_and_one : (bs : List ℕ) → list_all is_closing (bs ++ 41 ∷ []) ≡ list
 all_and_one [] = refl
 all_and_one (b ∷ bs) = ap (λ v. is_closing b && v) (all_and_one bs)
 
-too_few : (depth : ℕ) (bs : List ℕ) → length bs < depth → without_closings (depth + 1) (bs ++ 41 ∷ []) ≡ without_closings depth bs
-too_few depth bs few =
-    let long : length (bs ++ 41 ∷ []) < depth + 1 = omega (arith, length-append bs (41 ∷ [])) in
-    rw (lt-leb (depth + 1) (length (bs ++ 41 ∷ [])) long, lt-leb depth (length bs) few) refl
-
-enough : (depth : ℕ) (bs : List ℕ) → depth ≤ length bs → without_closings (depth + 1) (bs ++ 41 ∷ []) ≡ without_closings depth bs
-enough depth bs some =
-    let long : length (bs ++ 41 ∷ []) ≡ length bs + 1 = length-append bs (41 ∷ []) in
-    let more : depth + 1 ≤ length bs + 1 = omega arith in
-    let same : length bs + 1 - (depth + 1) ≡ length bs - depth = omega arith in
+-- one more closing bracket
+closings_more : (depth : ℕ) (bs : List ℕ) → without_closings (suc depth) (bs ++ 41 ∷ []) ≡ without_closings depth bs
+closings_more depth bs =
+    let long : length (bs ++ 41 ∷ []) ≡ suc (length bs) = omega (arith, length-append bs (41 ∷ [])) in
+    let same : suc (length bs) - suc depth ≡ length bs - depth = omega arith in
     let short : length bs - depth ≤ length bs = omega arith in
     rw (
       long,
       same,
-      le-leb (depth + 1) (length bs + 1) more,
-      le-leb depth (length bs) some,
+      leb-suc-suc depth (length bs),
       drop-append-le (length bs - depth) bs (41 ∷ []) short,
       all_and_one (drop (length bs - depth) bs),
       take-append-le (length bs - depth) bs (41 ∷ []) short,
     ) refl
-
--- one more closing bracket
-closings_more : (depth : ℕ) (bs : List ℕ) → without_closings (depth + 1) (bs ++ 41 ∷ []) ≡ without_closings depth bs
-closings_more depth bs = elim (cases_lt (length bs) depth) [ inl few ↦ too_few depth bs few | inr some ↦ enough depth bs some ]
 
 abbrev expression_at : List Half → InnerValue → ExpressionValue
 expression_at halves inner = record { halves = halves; inner = inner }
@@ -82,9 +72,8 @@ around : (a b c : ℕ) (half : Half) (bs : List ℕ) → half_opened (a ∷ b �
 unfolding expression_of
 around a b c half bs is =
     let depth = length (halves_opened bs) in
-    let one_more : suc depth ≡ depth + 1 = omega arith in
-    let three : 3 * (depth + 1) ≡ suc (suc (suc (3 * depth))) = omega arith in
-    rw (is, opened_closed bs, one_more, three, drop-append-le (3 * depth) bs (41 ∷ []) (opened_short bs), closings_more depth (drop (3 * depth) bs))
+    let three : 3 * suc depth ≡ suc (suc (suc (3 * depth))) = omega arith in
+    rw (is, opened_closed bs, three, drop-append-le (3 * depth) bs (41 ∷ []) (opened_short bs), closings_more depth (drop (3 * depth) bs))
     (inside_taken half (halves_opened bs) (without_closings depth (drop (3 * depth) bs)))
 
 pub high_enclosed : (bs : List ℕ) → expression_of (codes "hi(" ++ bs ++ codes ")") ≡ option_map (taken High) (expression_of bs)

@@ -1,7 +1,6 @@
 pub mod ArgLemmas
 pub mod BareLemmas
 pub mod EncloseLemmas
-pub mod FrontLemmas
 pub mod MarkLemmas
 pub mod OpeningLemmas
 pub mod PartLemmas

@@ -1,6 +1,7 @@
 -- The statements of a source, one line after another.
-use Rattle.std.proofs.Common.{◌≡◌, ℕ, zero, suc, ◌+◌, ◌-◌, ◌<◌, ◌≤◌, List, [], ◌∷◌, ◌++◌, Bool, true, false, cond, Option, Some, None, Result, Ok, Err, length, drop, refl, ap, sym, ◌∙◌, subst, arith, length-take, length-drop}
+use Rattle.std.proofs.Common.{◌≡◌, ℕ, ◌+◌, ◌-◌, ◌<◌, ◌≤◌, List, [], ◌∷◌, ◌++◌, Bool, true, false, cond, Option, Some, None, Result, Ok, Err, length, drop, refl, ap, sym, ◌∙◌, subst, arith, length-take, length-drop, inl, inr}
 use Rattle.std.proofs.lemmas.Option.{none-some, same_Some, cond_some}
+use Rattle.std.proofs.lemmas.Bool.{cases_Bool, eqb-false}
 use Rattle.std.proofs.Math.Bool.{and-false}
 use Rattle.std.specs.Prelude.{not, ◌==◌, ◌&&◌, nat_eq, codes, IfOk, IfSome}
 use Rattle.std.specs.List.{AllByRecursion, list_all, prefix_len, starts_with, suffix_len, take_while}
@@ -8,15 +9,15 @@ use Rattle.std.specs.Option.{option_map, ok_or}
 use Rattle.line_text.specs.Lines.{LineValue, IsPlaced, lines_of}
 use Rattle.asm_parse.specs.Arg.{ArgValue}
 use Rattle.asm_parse.specs.declared.syntax.AsmBody.{AsmBody}
-use Rattle.asm_parse.specs.declared.syntax.AsmBody.TheVariants.{Nothing, Op, Directive}
+use Rattle.asm_parse.specs.declared.syntax.AsmBody.TheVariants.{Nothing}
 use Rattle.asm_parse.specs.declared.syntax.AsmLine.{AsmLine}
 use Rattle.line_text.specs.Characters.{is_blank, is_text_byte}
 use Rattle.asm_parse.specs.Bytes.{is_name_byte}
 use Rattle.asm_parse.specs.Words.{begins_name}
 use Rattle.asm_parse.specs.Form.{Piece, skip, before_mark, joined, said, after_label, label_of, body_named, body_of, operands_of, statement_of, line_of, due_of, statements_of, parsed}
 use Rattle.asm_parse.specs.Span.{IsBare, IsCut, IsCutArg, args_in}
-use Rattle.asm_parse.proofs.PartLemmas.{IsPart, part_span, part_within, part_front, part_skip, part_after_blanks, part_trimmed, part_itself, part_line}
-use Rattle.asm_parse.proofs.SpanLemmas.{operands_cut}
+use Rattle.asm_parse.proofs.PartLemmas.{IsPart, part_span, part_front, part_skip, part_after_blanks, part_trimmed, part_itself, part_line}
+use Rattle.asm_parse.proofs.SpanLemmas.{made_of, operands_cut}
 use Rattle.line_text.specs.declared.failure.LineFault.{LineFault}
 use Rattle.line_text.specs.declared.failure.Failure.{Failure}
 use Rattle.line_text.specs.Failing.{Gives, fault_at}
@@ -33,10 +34,6 @@ ok_some : (o : Option (Option AsmLine)) (fault : LineFault AsmWhy) (x : Option A
 ok_some None fault x is = absurd cc
 ok_some (Some y) fault x is = ap Some cc
 
-not_zero : (n : ℕ) → (n == 0) ≡ false → 0 < n
-not_zero zero is = absurd cc
-not_zero (suc n) is = omega arith
-
 -- statements before those of the lines to come
 abbrev pub before_rest : List AsmLine → Result (List AsmLine) (LineFault AsmWhy) → Result (List AsmLine) (LineFault AsmWhy)
 before_rest statements (Ok more) = Ok (statements ++ more)
@@ -51,11 +48,7 @@ name_short bs = omega (arith, length-take (prefix_len is_name_byte bs) bs)
 
 -- the operands that a body has lie in its part
 args_named : (name : List ℕ) (args : List ArgValue) → args_in (body_named name args) ≡ args
-args_named name args = by_point (starts_with nat_eq name (codes "."))
-  where
-    by_point : (v : Bool) → args_in (cond v (Directive name args) (Op name args)) ≡ args
-    by_point true = refl
-    by_point false = refl
+args_named name args = elim (cases_Bool (starts_with nat_eq name (codes "."))) [ inl is ↦ rw is refl | inr is ↦ rw is refl ]
 
 body_cut : (source : List ℕ) (low high : ℕ) (p : Piece) (body : AsmBody) → IsPart source low high p → body_of p ≡ Some body →
     AllByRecursion (IsCutArg source low high) (args_in body)
@@ -102,23 +95,17 @@ label_part source low high p (Some name) at part =
 statement_cut : (source : List ℕ) (low high number : ℕ) (p : Piece) (statement : AsmLine) → IsPart source low high p → 0 < length p.bytes → IsBare p.bytes →
     statement_of number p ≡ Some statement → IsCut source statement
 unfolding statement_of
-statement_cut source low high number p statement part some bare is = by_body (body_of (after_label (label_of p.bytes) p)) refl is
-  where
-    by_body : (o : Option AsmBody) → body_of (after_label (label_of p.bytes) p) ≡ o →
-        option_map (λ body. record { line = number; start = p.start; end = p.start + length p.bytes; label = label_of p.bytes; body = body }) o ≡ Some statement →
-        IsCut source statement
-    by_body None at is = absurd (none-some statement is)
-    by_body (Some body) at is =
-        let here = part_itself source low high p part in
-        subst (IsCut source) (same_Some _ _ is) (record {
-          some = omega arith;
-          to = part_within source low high p part;
-          bare = subst IsBare (sym (part_span source low high p part)) bare;
-          form = ap (λ (bs : List ℕ). statement_of number (record { start = p.start; bytes = bs })) (part_span source low high p part)
-              ∙ ap (option_map (λ (b : AsmBody). record { line = number; start = p.start; end = p.start + length p.bytes; label = label_of p.bytes; body = b })) at;
-          args = body_cut source p.start (p.start + length p.bytes) (after_label (label_of p.bytes) p) body
-              (label_part source p.start (p.start + length p.bytes) p (label_of p.bytes) refl here) at;
-        })
+statement_cut source low high number p statement part some bare is =
+    let found = made_of _ (body_of (after_label (label_of p.bytes) p)) statement is in
+    let here = part_itself source low high p part in
+    subst (IsCut source) found.2 (record {
+      some = omega arith;
+      to = part.within;
+      bare = subst IsBare (sym (part_span source low high p part)) bare;
+      form = ap (λ (bs : List ℕ). statement_of number (record { start = p.start; bytes = bs })) (part_span source low high p part) ∙ is ∙ ap Some (sym found.2);
+      args = body_cut source p.start (p.start + length p.bytes) (after_label (label_of p.bytes) p) found.0
+          (label_part source p.start (p.start + length p.bytes) p (label_of p.bytes) refl here) found.1;
+    })
 
 -- what a line says stands in the source
 said_part : (source : List ℕ) (line : LineValue) → IsPlaced source line → IsPart source 0 (length source) (said line)
@@ -150,7 +137,7 @@ line_cut source line statement placed is =
     by_tests false false some None at is = absurd (none-some (Some statement) is)
     by_tests false false some (Some found) at is =
         subst (IsCut source) (same_Some _ _ (same_Some _ _ is))
-        (statement_cut source 0 (length source) line.number (said line) found (said_part source line placed) (not_zero (length (said line).bytes) some) (said_bare line) at)
+        (statement_cut source 0 (length source) line.number (said line) found (said_part source line placed) (omega (arith, eqb-false (length (said line).bytes) 0 some)) (said_bare line) at)
 
 statements_cut : (source : List ℕ) (lines : List LineValue) (statements : List AsmLine) → AllByRecursion (IsPlaced source) lines →
     statements_of lines ≡ Ok statements → AllByRecursion (IsCut source) statements

@@ -1,5 +1,5 @@
 -- Expressions: numbers, names, a name and a number, and the halves of these.
-use Rattle.std.specs.Prelude.{ℕ, ◌-◌, ◌*◌, ◌/◌, ◌%◌, ◌^◌, Bool, List, [], ◌∷◌, Option, Some, None, nat_le, nat_eq, ◌==◌, ◌&&◌, if◌then◌else◌, length, take, drop, codes}
+use Rattle.std.specs.Prelude.{ℕ, ◌-◌, ◌*◌, ◌/◌, ◌%◌, ◌^◌, List, [], ◌∷◌, Option, Some, None, nat_le, nat_eq, ◌==◌, ◌&&◌, if◌then◌else◌, length, take, drop, codes}
 use Rattle.std.specs.List.{list_all, starts_with, take_while}
 use Rattle.std.specs.Option.{option_map, option_and_then}
 use Rattle.std.specs.Str.{byte}

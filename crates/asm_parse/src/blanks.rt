@@ -1,17 +1,9 @@
-//! Blanks at the ends of bytes.
+//! Blanks at the end of bytes.
 ghost use Rattle.std.specs.Prelude.{◌≡◌, ◌≤◌, length};
-ghost use Rattle.std.specs.List.{prefix_len, suffix_len};
+ghost use Rattle.std.specs.List.{suffix_len};
 ghost use Rattle.line_text.specs.Characters.{is_blank};
 
-use line_text::{first_solid, is_blank};
-
-/// How many blanks stand at the front.
-pub(crate) fn blanks_before(bytes: &[u8]) -> usize
-    ensures count { result ≡ prefix_len is_blank bytes.now }
-    ensures within { result ≤ length bytes.now }
-{
-    first_solid(bytes).unwrap_or(bytes.len())
-}
+use line_text::is_blank;
 
 /// How many blanks stand at the end.
 #[tactic(auto, using(std::proofs::lemmas::List::Sums::suffix_len_is))]

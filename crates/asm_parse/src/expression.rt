@@ -71,11 +71,7 @@ fn without_closings(bytes: &[u8], depth: usize) -> Option<&[u8]>
         return None;
     }
     let (inside, closings) = bytes.split_at(bytes.len() - depth);
-    if are_closings(closings) {
-        Some(inside)
-    } else {
-        None
-    }
+    are_closings(closings).then_some(inside)
 }
 
 /// Whether each byte is a closing bracket.

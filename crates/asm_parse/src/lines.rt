@@ -23,6 +23,7 @@ use std::alloc::{AllocError, Global};
 /// The statements of a source in the order of its lines, one for each line that has a statement. A fault
 /// is `Syntax` at the first line of another form, or that memory ran out. The form is described in
 /// `docs/ASSEMBLER.md`.
+#[tactic(auto, using(crate::proofs::StatementLemmas::parsed_cut))]
 pub fn parse(alloc: Global, source: &[u8]) -> Result<Vec<AsmLine<'_>>, TextFailure<AsmWhy>>
     requires { length source.now < 2 ^ 27 }
     // The statements, or the first line of another form.
@@ -34,7 +35,7 @@ pub fn parse(alloc: Global, source: &[u8]) -> Result<Vec<AsmLine<'_>>, TextFailu
 }
 
 /// The statements of a source.
-#[tactic(auto, unfolding(crate::specs::Form::parsed))]
+#[tactic(auto, using(crate::proofs::StatementLemmas::before_rest_none), unfolding(crate::specs::Form::parsed))]
 fn statements(alloc: Global, source: &[u8]) -> Result<Vec<AsmLine<'_>>, TextFailure<AsmWhy>>
     requires { length source.now < 2 ^ 27 }
     ensures said { Gives (λ lines. lines.items) result (parsed source.now) }
@@ -100,6 +101,7 @@ fn said<'a>(line: &Line<'a>) -> Piece<'a>
 }
 
 /// What stands before the first `#` outside quoted texts.
+#[tactic(auto, using(crate::proofs::MarkLemmas::before_mark_front))]
 fn before_comment(bytes: &[u8]) -> &[u8]
     ensures value { result.now ≡ before_mark (byte "#") Outside bytes.now }
     ensures within { length result.now ≤ length bytes.now }
@@ -142,11 +144,7 @@ fn label(bytes: &[u8]) -> Option<&[u8]>
     ensures within { IfSome result (λ name. length name.now < length bytes.now) }
 {
     let (name, rest) = bytes.split_at(name_length(bytes));
-    if begins_name(name) && rest.starts_with(b":") {
-        Some(name)
-    } else {
-        None
-    }
+    (begins_name(name) && rest.starts_with(b":")).then_some(name)
 }
 
 /// What follows a label: nothing, or a name and operands.

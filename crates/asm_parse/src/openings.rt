@@ -1,6 +1,6 @@
 //! The openings `hi(` and `lo(` that stand before an expression.
-ghost use Rattle.std.specs.Prelude.{◌≡◌, ◌≤◌, ◌*◌, length, IfSome};
-ghost use Rattle.asm_parse.specs.Expression.{half_of, half_opened, halves_opened};
+ghost use Rattle.std.specs.Prelude.{◌≡◌, ◌+◌, ◌≤◌, ◌*◌, [], ◌∷◌, length, IfSome, IfNone};
+ghost use Rattle.asm_parse.specs.Expression.{half_of, halves_opened};
 
 /// A half of a value.
 #[derive(Clone, Copy)]
@@ -54,15 +54,16 @@ impl Openings<'_> {
     pub fn of(self, value: u32) -> u32
         ensures { result ≡ halves_of (openings_seen self.entry) value }
     {
-        let mut rest = value;
+        let mut taken = value;
         let mut left = self.depth;
         while left > 0 {
             left -= 1;
-            if let Some(half) = half_opened(&self.bytes[OPENING_LENGTH * left..]) {
-                rest = half.of(rest);
+            let (_, rest) = self.bytes.split_at(OPENING_LENGTH * left);
+            if let Some((half, _)) = first_opening(rest) {
+                taken = half.of(taken);
             }
         }
-        rest
+        taken
     }
 }
 
@@ -72,22 +73,23 @@ pub(crate) fn opening_count(bytes: &[u8]) -> usize
     ensures within { 3 * result ≤ length bytes.now }
 {
     let mut count = 0;
-    while half_opened(&bytes[OPENING_LENGTH * count..]).is_some() {
+    let mut rest = bytes;
+    while let Some((_, behind)) = first_opening(rest) {
         count += 1;
+        rest = behind;
     }
     count
 }
 
-/// The half that bytes open at their front.
-fn half_opened(bytes: &[u8]) -> Option<Half>
-    ensures value { result ≡ half_opened bytes.now }
-    ensures long { IfSome result (λ _. 3 ≤ length bytes.now) }
+/// The half that bytes open at their front, and what stands behind its opening.
+fn first_opening(bytes: &[u8]) -> Option<(Half, &[u8])>
+    ensures some { IfSome result (λ first. halves_opened bytes.now ≡ first.0 ∷ halves_opened first.1.now) }
+    ensures behind { IfSome result (λ first. 3 + length first.1.now ≡ length bytes.now) }
+    ensures none { IfNone result (halves_opened bytes.now ≡ []) }
 {
-    if bytes.starts_with(b"hi(") {
-        Some(Half::High)
-    } else if bytes.starts_with(b"lo(") {
-        Some(Half::Low)
-    } else {
-        None
+    match bytes {
+        [b'h', b'i', b'(', behind @ ..] => Some((Half::High, behind)),
+        [b'l', b'o', b'(', behind @ ..] => Some((Half::Low, behind)),
+        _ => None,
     }
 }

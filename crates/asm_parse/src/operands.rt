@@ -8,7 +8,6 @@ ghost use Rattle.asm_parse.specs.Operand.{based_of, offset_of, operand_of};
 ghost use Rattle.asm_parse.specs.PieceSeen.{piece_seen};
 ghost use Rattle.asm_parse.specs.Seen.{arg_seen, expression_seen, operand_seen};
 
-use crate::blanks::blanks_before;
 use crate::expression::{Expression, read_expression, zero};
 use crate::marks::mark_place;
 use crate::piece::Piece;
@@ -16,6 +15,7 @@ use crate::quoted::unquoted;
 use crate::register::Register;
 use crate::syntax::{Arg, Args, Operand};
 use crate::words::is_register;
+use line_text::blanks_before;
 use std::alloc::{AllocError, Global};
 
 /// The operand that bytes are, if they are one.
@@ -67,6 +67,7 @@ fn read_offset(bytes: &[u8]) -> Option<Expression<'_>>
 }
 
 /// The place of the first `$`, or the length where there is none.
+#[tactic(auto, using(line_text::proofs::FrontLemmas::first_place))]
 fn dollar_place(bytes: &[u8]) -> usize
     ensures place { result ≡ position_or_len (λ b. b == byte "$") bytes.now }
     ensures within { result ≤ length bytes.now }

@@ -1,7 +1,8 @@
 //! Pieces of the source.
 ghost use Rattle.std.specs.Prelude.{◌≡◌, ◌+◌, ◌^◌, ◌<◌, ◌≤◌, length};
 
-use crate::blanks::{blanks_before, blanks_behind};
+use crate::blanks::blanks_behind;
+use line_text::blanks_before;
 
 /// Bytes of the source, and the place where they stand.
 #[derive(Clone, Copy)]

@@ -29,11 +29,7 @@ fn meant(alloc: Global, quoted: &[u8]) -> Result<Option<Vec<u8>>, AllocError>
         text.push(byte)?;
         rest = behind;
     }
-    if rest == CLOSING {
-        Ok(Some(text))
-    } else {
-        Ok(None)
-    }
+    Ok((rest == CLOSING).then_some(text))
 }
 
 /// The first byte that is meant, where one is, and what stands behind it.

@@ -8,6 +8,7 @@ ghost use Rattle.asm_parse.specs.Words.{begins_name, is_register};
 use crate::bytes::{is_name_byte, is_name_start};
 
 /// How many bytes of a name stand at the front.
+#[tactic(auto, using(line_text::proofs::FrontLemmas::front_place))]
 pub(crate) fn name_length(bytes: &[u8]) -> usize
     ensures count { result ≡ prefix_len is_name_byte bytes.now }
     ensures within { result ≤ length bytes.now }

@@ -17,8 +17,3 @@ hex_step digits done place rest text left most placed whole =
     let back : place - 1 + 1 ≡ place = omega arith in
     let one : digits - done ≡ suc (digits - (done + 1)) = omega arith in
     rw (one, hex_more (digits - (done + 1)) rest, drop-set text (place - 1) (digit_char (rest % 16)) here, back, append_assoc) refl
-
--- no digits, before all that stand
-pub hex_none : (digits done n : ℕ) (text : List ℕ) → digits ≤ done → hex_text (digits - done) n ++ text ≡ text
-unfolding hex_text
-hex_none digits done n text all = let none : digits - done ≡ 0 = omega arith in rw none refl

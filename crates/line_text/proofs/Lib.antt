@@ -1,5 +1,6 @@
 pub mod FailingLemmas
 pub mod FewLemmas
+pub mod FrontLemmas
 pub mod HexLemmas
 pub mod LineLemmas
 pub mod NumeralLemmas

@@ -1,5 +1,6 @@
 -- A text has no more lines than bytes.
-use Rattle.std.proofs.Common.{◌≡◌, ℕ, ◌+◌, ◌<◌, ◌≤◌, ◌^◌, List, [], ◌∷◌, Bool, true, false, length, refl, arith}
+use Rattle.std.proofs.Common.{◌≡◌, ℕ, ◌+◌, ◌<◌, ◌≤◌, ◌^◌, List, [], ◌∷◌, length, refl, arith, inl, inr}
+use Rattle.std.proofs.lemmas.Bool.{cases_Bool}
 use Rattle.std.specs.Prelude.{◌==◌}
 use Rattle.std.specs.List.{onto_first}
 use Rattle.line_text.specs.Lines.{lines_from, pieces_of}
@@ -11,11 +12,9 @@ onto_length b (piece ∷ pieces) = omega arith
 
 pieces_short : (bs : List ℕ) → length (pieces_of bs) ≤ length bs
 pieces_short [] = omega arith
-pieces_short (b ∷ bs) = by_byte (pieces_short bs) (b == 10) refl
-  where
-    by_byte : length (pieces_of bs) ≤ length bs → (v : Bool) → (b == 10) ≡ v → length (pieces_of (b ∷ bs)) ≤ length (b ∷ bs)
-    by_byte after true is = rw is (omega arith)
-    by_byte after false is = rw is (omega (arith, onto_length b (pieces_of bs)))
+pieces_short (b ∷ bs) =
+    let rest = pieces_short bs in
+    elim (cases_Bool (b == 10)) [ inl is ↦ rw is (omega (arith, rest)) | inr is ↦ rw is (omega (arith, rest, onto_length b (pieces_of bs))) ]
 
 lines_length : (number start : ℕ) (pieces : List (List ℕ)) → length (lines_from number start pieces) ≡ length pieces
 lines_length number start [] = refl

@@ -1,7 +1,8 @@
 -- Each line lies in the text where its place says.
-use Rattle.std.proofs.Common.{◌≡◌, ℕ, zero, suc, ◌+◌, ◌-◌, ◌≤◌, List, [], ◌∷◌, ◌++◌, Bool, true, false, cond, length, take, refl, ap, sym, ◌∙◌, arith, append_assoc, length-append, length-take}
+use Rattle.std.proofs.Common.{◌≡◌, ℕ, ◌+◌, ◌-◌, ◌≤◌, List, [], ◌∷◌, ◌++◌, Bool, true, false, cond, length, take, refl, sym, ◌∙◌, arith, inl, inr, append_assoc, length-append, length-take}
 use Rattle.std.proofs.Math.Seq.{take-length, drop-append_seam}
-use Rattle.std.proofs.lemmas.List.{take-append-le}
+use Rattle.std.proofs.lemmas.Bool.{cases_Bool}
+use Rattle.std.proofs.lemmas.List.{take-append-le, take_min}
 use Rattle.std.specs.List.{AllByRecursion, concat, onto_first}
 use Rattle.line_text.specs.Lines.{IsPlaced, pieces_of, lines_from, without_end, lines_of}
 use Rattle.line_text.proofs.PieceLemmas.{is_feed}
@@ -12,9 +13,7 @@ record IsFrontOf (xs ys : List ℕ) : Type 0 where
   short : length ys ≤ length xs
 
 take_again : (k : ℕ) (xs : List ℕ) → take (length (take k xs)) xs ≡ take k xs
-take_again zero xs = refl
-take_again (suc k) [] = refl
-take_again (suc k) (x ∷ xs) = ap (λ more. x ∷ more) (take_again k xs)
+take_again k xs = rw (length-take k xs) (take_min k xs)
 
 front_take : (k : ℕ) (xs : List ℕ) → IsFrontOf xs (take k xs)
 front_take k xs = record { bytes = take_again k xs; short = omega (arith, length-take k xs) }
@@ -24,7 +23,7 @@ front_whole xs = record { bytes = take-length xs; short = omega arith }
 
 front_chosen : (v : Bool) (xs a b : List ℕ) → IsFrontOf xs a → IsFrontOf xs b → IsFrontOf xs (cond v a b)
 front_chosen true xs a b front other = front
-front_chosen false xs a b other front = front
+front_chosen false xs a b front other = other
 
 -- a piece without its end is its front
 without_end_front : (piece : List ℕ) → IsFrontOf piece (without_end piece)
@@ -39,11 +38,11 @@ concat_first b (piece ∷ pieces) = refl
 -- the pieces are the whole text
 whole_text : (bs : List ℕ) → concat (pieces_of bs) ≡ bs
 whole_text [] = refl
-whole_text (b ∷ bs) = by_byte (whole_text bs) (is_feed b) refl
-  where
-    by_byte : concat (pieces_of bs) ≡ bs → (v : Bool) → is_feed b ≡ v → concat (pieces_of (b ∷ bs)) ≡ b ∷ bs
-    by_byte after true is = rw (is, after) refl
-    by_byte after false is = rw (is, concat_first b (pieces_of bs), after) refl
+whole_text (b ∷ bs) =
+    elim (cases_Bool (is_feed b)) [
+      | inl is ↦ rw (is, whole_text bs) refl
+      | inr is ↦ rw (is, concat_first b (pieces_of bs), whole_text bs) refl
+    ]
 
 placed_first : (front piece rest : List ℕ) (number : ℕ) → IsPlaced (front ++ (piece ++ rest)) (record { number = number; start = length front; text = without_end piece })
 placed_first front piece rest number = record {

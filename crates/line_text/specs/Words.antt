@@ -1,5 +1,5 @@
 -- The words of a line.
-use Rattle.std.specs.Prelude.{ℕ, Bool, List, Option, Some, None, length, nat_lt, nat_le, ◌==◌, if◌then◌else◌}
+use Rattle.std.specs.Prelude.{ℕ, Bool, true, false, List, [], ◌∷◌, Option, Some, None, length, nat_le, ◌==◌, if◌then◌else◌}
 use Rattle.std.specs.List.{before_first, filter, list_all, slice_split}
 use Rattle.std.specs.Str.{byte}
 use Rattle.line_text.specs.Characters.{is_blank, is_text_byte}
@@ -10,7 +10,8 @@ before_comment line = before_first (λ b. b == byte "#") line
 
 -- whether a part of a line is a word: it isn't empty
 abbrev pub is_word : List ℕ → Bool
-is_word part = nat_lt 0 (length part)
+is_word [] = false
+is_word (b ∷ bs) = true
 
 -- the words of bytes, which blanks part
 abbrev pub words_in : List ℕ → List (List ℕ)

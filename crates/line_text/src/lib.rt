@@ -17,7 +17,7 @@ mod word_lists;
 
 pub use characters::{is_blank, is_text};
 pub use failure::{Failure, LineFault, TextFailure, at_line};
-pub use line_words::{Words, first_solid, words_of};
+pub use line_words::{Words, blanks_before, words_of};
 pub use line_writing::{Word, end_line, push_line, push_spaced, push_word};
 pub use lines::{Line, Lines, cut};
 pub use numbers::{decimal, number, number_within, numeral};

@@ -1,6 +1,6 @@
 //! The words of a line, which blanks part, and which a comment ends.
-ghost use Rattle.std.specs.Prelude.{◌≡◌, ℕ, ◌<◌, ◌∷◌, ◌==◌, Bool, true, false, not, length, slice_index};
-ghost use Rattle.std.specs.List.{list_all, position};
+ghost use Rattle.std.specs.Prelude.{◌≡◌, ℕ, ◌<◌, ◌≤◌, ◌∷◌, ◌==◌, Bool, true, not, length};
+ghost use Rattle.std.specs.List.{list_all, position, position_or_len, prefix_len};
 ghost use Rattle.line_text.specs.Characters.{is_blank};
 ghost use Rattle.line_text.specs.Words.{before_comment, words_in, words_of};
 
@@ -26,6 +26,7 @@ impl<'a> Model for Words<'a> {
 }
 
 /// The words of a line in order: what spaces and tabs part, before the first `#`.
+#[tactic(auto, using(crate::proofs::WordLemmas::all_words))]
 pub fn words_of(line: &[u8]) -> Words<'_>
     ensures words { result ≡ words_of line.now }
     // What holds of each byte of the line holds of each byte of its words.
@@ -59,13 +60,11 @@ impl<'a> Iterator for Words<'a> {
 }
 
 /// What stands before the comment.
+#[tactic(auto, using(crate::proofs::FrontLemmas::first_place))]
 fn before_comment(line: &[u8]) -> &[u8]
     ensures { result.now ≡ before_comment line.now }
 {
-    match comment(line) {
-        Some(place) => &line[..place],
-        None => line,
-    }
+    &line[..comment(line).unwrap_or(line.len())]
 }
 
 /// The place where the comment begins.
@@ -76,33 +75,48 @@ fn comment(line: &[u8]) -> Option<usize>
 }
 
 /// What follows the blanks at the front: nothing, or a word and what follows it.
+#[tactic(auto, using(crate::proofs::WordLemmas::blanks_gone, crate::proofs::WordLemmas::words_left))]
 fn without_blanks(bytes: &[u8]) -> &[u8]
     ensures words { words_in result.now ≡ words_in bytes.now }
-    ensures solid { 0 < length result.now → is_blank (slice_index result.now 0) ≡ false }
+    ensures solid { prefix_len is_blank result.now ≡ 0 }
 {
-    match first_solid(bytes) {
-        Some(place) => &bytes[place..],
-        None => &[],
-    }
+    let (_, rest) = bytes.split_at(blanks_before(bytes));
+    rest
 }
 
 /// The word that stands at the front, and what follows it.
+#[tactic(auto, using(crate::proofs::WordLemmas::first_word))]
 fn split_word(bytes: &[u8]) -> (&[u8], &[u8])
     requires some { 0 < length bytes.now }
-    requires solid { is_blank (slice_index bytes.now 0) ≡ false }
+    requires solid { prefix_len is_blank bytes.now ≡ 0 }
     ensures { words_in bytes.now ≡ result.0.now ∷ words_in result.1.now }
 {
-    match first_blank(bytes) {
-        Some(place) => bytes.split_at(place),
-        None => (bytes, &[]),
-    }
+    bytes.split_at(word_length(bytes))
+}
+
+/// How many blanks stand at the front.
+#[tactic(auto, using(crate::proofs::FrontLemmas::front_place))]
+pub fn blanks_before(bytes: &[u8]) -> usize
+    ensures count { result ≡ prefix_len is_blank bytes.now }
+    ensures within { result ≤ length bytes.now }
+{
+    first_solid(bytes).unwrap_or(bytes.len())
 }
 
 /// The place of the first byte that is no blank.
-pub fn first_solid(bytes: &[u8]) -> Option<usize>
+fn first_solid(bytes: &[u8]) -> Option<usize>
     ensures { result ≡ position (λ b. not (is_blank b)) bytes.now }
 {
     bytes.iter().position(|byte| !is_blank(*byte))
+}
+
+/// How many bytes stand before the first blank, or in all.
+#[tactic(auto, using(crate::proofs::FrontLemmas::first_place))]
+fn word_length(bytes: &[u8]) -> usize
+    ensures count { result ≡ position_or_len is_blank bytes.now }
+    ensures within { result ≤ length bytes.now }
+{
+    first_blank(bytes).unwrap_or(bytes.len())
 }
 
 /// The place of the first blank.

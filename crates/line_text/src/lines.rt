@@ -1,6 +1,6 @@
 //! The lines of a text, each with its number and its place.
 ghost use Rattle.std.specs.Prelude.{◌≡◌, ◌+◌, ◌^◌, ◌<◌, ◌≤◌, ◌∷◌, ◌==◌, length, take, drop};
-ghost use Rattle.std.specs.List.{AllByRecursion, position};
+ghost use Rattle.std.specs.List.{AllByRecursion, position, position_or_len};
 ghost use Rattle.line_text.specs.Lines.{IsPlaced, lines_of, pieces_of, without_end};
 
 use std::marker::Model;
@@ -39,6 +39,7 @@ impl<'a> Model for Lines<'a> {
 
 /// The lines of a text in order, numbered from 1. A line feed ends a line; what follows the last one is
 /// a line where it isn't empty.
+#[tactic(auto, using(crate::proofs::PlaceLemmas::lines_placed))]
 pub fn cut(text: &[u8]) -> Lines<'_>
     requires { length text.now < 2 ^ 27 }
     ensures lines { result ≡ lines_of text.now }
@@ -80,16 +81,23 @@ impl<'a> Iterator for Lines<'a> {
 }
 
 /// The length of a text's first line with its line feed, where it has one.
+#[tactic(auto, using(crate::proofs::PieceLemmas::pieces_cut))]
 fn piece_length(text: &[u8]) -> usize
     requires { 0 < length text.now }
     ensures some { 0 < result }
     ensures within { result ≤ length text.now }
     ensures cut { pieces_of text.now ≡ take result text.now ∷ pieces_of (drop result text.now) }
 {
-    match line_feed(text) {
-        Some(place) => place + 1,
-        None => text.len(),
-    }
+    (before_line_feed(text) + 1).min(text.len())
+}
+
+/// How many bytes stand before the first line feed, or in all.
+#[tactic(auto, using(crate::proofs::FrontLemmas::first_place))]
+fn before_line_feed(text: &[u8]) -> usize
+    ensures count { result ≡ position_or_len (λ b. b == LINE_FEED) text.now }
+    ensures within { result ≤ length text.now }
+{
+    line_feed(text).unwrap_or(text.len())
 }
 
 /// The place of the first line feed.

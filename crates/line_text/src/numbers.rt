@@ -25,11 +25,7 @@ pub fn number_within(word: &[u8], least: u32, most: u32) -> Option<u32>
     ensures within { IfSome result (λ n. (least ≤ n) × (n ≤ most)) }
 {
     let number = number(word)?;
-    if least <= number && number <= most {
-        Some(number)
-    } else {
-        None
-    }
+    (least <= number && number <= most).then_some(number)
 }
 
 /// The number, below 2^32, that one to ten decimal digits spell. None for every other word.

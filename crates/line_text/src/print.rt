@@ -26,6 +26,7 @@ pub fn push_dec(out: &mut Vec<u8>, n: u64) -> Result<(), OutOfMemory>
 
 /// Appends this many low hexadecimal digits of a number, in lower case and with leading zeros. The crate `hex`
 /// writes whole bytes, and a virtual page number has five digits.
+#[tactic(auto, using(crate::proofs::HexLemmas::hex_step))]
 pub fn push_hex(out: &mut Vec<u8>, n: u32, digits: u8) -> Result<(), OutOfMemory>
     requires { (1 ≤ digits) × (digits ≤ 8) }
     ensures ok { OnOk result (out.new.items ≡ out.old.items ++ hex_text digits n) }
@@ -70,7 +71,7 @@ fn hex_glyph(digit: u32) -> u8
 }
 
 /// Appends bytes as they stand between quotation marks, as far as memory reaches.
-#[tactic(auto, unfolding(crate::specs::Text::quoted_text))]
+#[tactic(auto, using(std::proofs::lemmas::List::flat_map_more), unfolding(crate::specs::Text::quoted_text))]
 fn push_each_quoted(out: &mut Vec<u8>, bytes: &[u8]) -> Result<(), OutOfMemory>
     ensures ok { OnOk result (out.new.items ≡ out.old.items ++ quoted_text bytes.now) }
     ensures err { OnErr result (take (length out.old.items) out.new.items ≡ out.old.items) }

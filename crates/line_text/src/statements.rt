@@ -53,6 +53,7 @@ impl<'a> Iterator for Statements<'a> {
 }
 
 /// The number of the line behind the last of a text.
+#[tactic(auto, using(crate::proofs::LineLemmas::end_small))]
 pub fn end_of(text: &[u8]) -> u32
     requires { length text.now < 2 ^ 27 }
     ensures { result ≡ end_of text.now }
@@ -68,5 +69,5 @@ pub fn end_of(text: &[u8]) -> u32
 fn is_empty_line(text: &[u8]) -> bool
     ensures { result ≡ is_empty_line text.now }
 {
-    is_text(text) && words_of(text).next().is_none()
+    words_of(text).next().is_none() && is_text(text)
 }

@@ -9,6 +9,7 @@ ghost use Rattle.line_text.specs.Table.{rows_seen};
 pub struct TableRow<T: Copy>(pub &'static [u8], pub T);
 
 /// What a name means, by the first row that has it.
+#[tactic(auto, using(crate::proofs::TableLemmas::said_at))]
 pub fn find<T: Copy>(rows: &[TableRow<T>], name: &[u8]) -> Option<T>
     ensures { result ≡ lookup (bytes_eq name.now) (rows_seen rows.now) }
 {

@@ -1,4 +1,3 @@
-use Rattle.std.proofs.lemmas.Grind.{common_steps}
 use Rattle.std.proofs.Common.{arith, lt-ltb, sym, ◌≡◌, ◌+◌, ◌*◌, take}
 use Rattle.std.proofs.lemmas.Int.Digits.{digits_value_more}
 use Rattle.std.specs.Str.Parse.{digits_value}
@@ -21,9 +20,3 @@ loop-byte-preserved c =
       digits = all_digits_more c.args.base c.args.digits.now c.loop-byte.byte-index c.loop-byte-test.true c.loop-byte.invariant.digits (rw (← c.from.ensures) (lt-ltb _ _ digit.0));
       small = omega arith;
     }
-
-pub returns-in_err-digit-clause-value : goal.returns-in_err-digit-clause-value
-returns-in_err-digit-clause-value c = grind (arith, common_steps)
-
-pub returns-clause-value : goal.returns-clause-value
-returns-clause-value c = grind (arith, common_steps)

@@ -7,7 +7,7 @@ use Rattle.asm_parse.proofs.openings.Openings.of.Given as goal
 abbrev pub invariant-loop-left : goal.invariant-loop-left
 invariant-loop-left l = record {
   within : l.left ≤ l.self.depth;
-  rest : l.rest ≡ halves_of (drop l.left (openings_seen l.self)) l.value;
+  taken : l.taken ≡ halves_of (drop l.left (openings_seen l.self)) l.value;
 }
 
 abbrev pub decreases-loop-left : goal.decreases-loop-left
