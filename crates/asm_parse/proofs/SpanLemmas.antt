@@ -6,13 +6,12 @@ use Rattle.line_text.specs.Characters.{is_blank}
 use Rattle.std.proofs.lemmas.Option.{none-some, same_Some}
 use Rattle.std.specs.List.{AllByRecursion, prefix_len}
 use Rattle.std.specs.Option.{option_map, option_and_then}
-use Rattle.asm_parse.specs.declared.quoting.Quoting.TheVariants.{Outside}
 use Rattle.asm_parse.specs.Arg.{ArgValue}
 use Rattle.asm_parse.specs.Operand.{OperandValue, operand_of, based_of}
 use Rattle.asm_parse.specs.Expression.{expression_of, inner_of, number_of}
-use Rattle.asm_parse.specs.Form.{Piece, front, skip, trimmed, before_mark, args_at, arg_of, operands_of}
+use Rattle.asm_parse.specs.Form.{Piece, front, skip, trimmed, args_at, arg_of, operands_of}
 use Rattle.asm_parse.specs.Span.{IsCutArg}
-use Rattle.asm_parse.proofs.ArgLemmas.{args_here, args_on}
+use Rattle.asm_parse.proofs.ArgLemmas.{comma, args_here, args_on}
 use Rattle.asm_parse.proofs.PartLemmas.{IsPart, part_span, part_front, part_skip, part_trimmed}
 
 -- nothing is no operand
@@ -52,12 +51,11 @@ args_step P (Some arg) (Some rest) args is one more = subst (AllByRecursion P) (
 
 module _ (source : List ℕ) (low high : ℕ) where
   -- the operands of a part that has no comma
-  arg_alone : (p : Piece) (args : List ArgValue) → length p.bytes ≤ length (before_mark 44 Outside p.bytes) → IsPart source low high p → args_at p ≡ Some args →
+  arg_alone : (p : Piece) (args : List ArgValue) → length p.bytes ≤ comma p → IsPart source low high p → args_at p ≡ Some args →
       AllByRecursion (IsCutArg source low high) args
   arg_alone p args end part is =
-      let place = length (before_mark 44 Outside p.bytes) in
-      args_step (IsCutArg source low high) _ _ args (rw (args_here p place refl end) at is)
-      (λ arg said. arg_cut source low high (front place p) arg (part_front source low high place p part) said)
+      args_step (IsCutArg source low high) _ _ args (rw (args_here p end) at is)
+      (λ arg said. arg_cut source low high (front (comma p) p) arg (part_front source low high (comma p) p part) said)
       (λ more said. subst (AllByRecursion (IsCutArg source low high)) (same_Some _ _ said) tt)
 
   -- the operands of a part of at most so many bytes
@@ -65,12 +63,11 @@ module _ (source : List ℕ) (low high : ℕ) where
       AllByRecursion (IsCutArg source low high) args
   args_cut zero p args short part is = arg_alone p args (omega arith) part is
   args_cut (suc most) p args short part is =
-      let place = length (before_mark 44 Outside p.bytes) in
-      elim (cases_lt place (length p.bytes)) [
+      elim (cases_lt (comma p) (length p.bytes)) [
         | inl within ↦
-            args_step (IsCutArg source low high) _ _ args (rw (args_on p place refl within) at is)
-            (λ arg said. arg_cut source low high (front place p) arg (part_front source low high place p part) said)
-            (λ more said. args_cut most (skip (place + 1) p) more (omega (arith, length-drop (place + 1) p.bytes)) (part_skip source low high (place + 1) p (omega arith) part) said)
+            args_step (IsCutArg source low high) _ _ args (rw (args_on p within) at is)
+            (λ arg said. arg_cut source low high (front (comma p) p) arg (part_front source low high (comma p) p part) said)
+            (λ more said. args_cut most (skip (comma p + 1) p) more (omega (arith, length-drop (comma p + 1) p.bytes)) (part_skip source low high (comma p + 1) p (omega arith) part) said)
         | inr end ↦ arg_alone p args end part is
       ]
 

@@ -43,9 +43,6 @@ pub before_rest_none : (rest : Result (List AsmLine) (LineFault AsmWhy)) → bef
 before_rest_none (Ok more) = refl
 before_rest_none (Err fault) = refl
 
-name_short : (bs : List ℕ) → length (take_while is_name_byte bs) ≤ length bs
-name_short bs = omega (arith, length-take (prefix_len is_name_byte bs) bs)
-
 -- the operands that a body has lie in its part
 args_named : (name : List ℕ) (args : List ArgValue) → args_in (body_named name args) ≡ args
 args_named name args = elim (cases_Bool (starts_with nat_eq name (codes "."))) [ inl is ↦ rw is refl | inr is ↦ rw is refl ]
@@ -67,7 +64,7 @@ body_cut source low high p body part is =
     by_tests false true (Some args) at is =
         subst (λ (b : AsmBody). AllByRecursion (IsCutArg source low high) (args_in b)) (same_Some _ _ is)
         (subst (AllByRecursion (IsCutArg source low high)) (sym (args_named name args))
-        (operands_cut source low high (skip (length name) p) args (part_skip source low high (length name) p (name_short p.bytes) part) at))
+        (operands_cut source low high (skip (length name) p) args (part_skip source low high (length name) p (omega (arith, length-take (prefix_len is_name_byte p.bytes) p.bytes)) part) at))
 
 -- a label and its colon stand in the bytes
 label_short : (bs name : List ℕ) → label_of bs ≡ Some name → length name + 1 ≤ length bs

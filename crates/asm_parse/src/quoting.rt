@@ -33,9 +33,6 @@ impl Quoting {
     pub(crate) fn is_outside(self) -> bool
         ensures { result ≡ is_outside self }
     {
-        match self {
-            Quoting::Outside => true,
-            Quoting::Inside | Quoting::Escape => false,
-        }
+        matches!(self, Quoting::Outside)
     }
 }

@@ -1,5 +1,5 @@
 //! Registers.
-ghost use Rattle.std.specs.Prelude.{◌≡◌, ◌<◌, IfSome, drop};
+ghost use Rattle.std.specs.Prelude.{◌≡◌, ◌<◌, IfSome};
 ghost use Rattle.asm_parse.specs.Register.{number_of_register};
 
 use line_text::{TableRow, find, numeral};
@@ -58,21 +58,15 @@ impl Register {
     ghost use Rattle.asm_parse.specs.Seen.{number_seen};
 
     /// The register of a `$` and a number or a name, if there is one.
+    #[tactic(auto, unfolding(crate::specs::Register::number_of_register))]
     pub(crate) fn read(bytes: &[u8]) -> Option<Register>
         ensures { option_map number_seen result ≡ register_of bytes.now }
     {
-        let number = register_number(without_first(bytes))?;
+        let [_, name @ ..] = bytes else {
+            return None;
+        };
+        let number = register_number(name)?;
         Some(Register { number })
-    }
-}
-
-/// Bytes without the first of them.
-fn without_first(bytes: &[u8]) -> &[u8]
-    ensures { result.now ≡ drop 1 bytes.now }
-{
-    match bytes {
-        [_, rest @ ..] => rest,
-        [] => bytes,
     }
 }
 
