@@ -136,7 +136,7 @@ line_cut source line statement placed is =
         subst (IsCut source) (same_Some _ _ (same_Some _ _ is))
         (statement_cut source 0 (length source) line.number (said line) found (said_part source line placed) (omega (arith, eqb-false (length (said line).bytes) 0 some)) (said_bare line) at)
 
-statements_cut : (source : List ℕ) (lines : List LineValue) (statements : List AsmLine) → AllByRecursion (IsPlaced source) lines →
+pub statements_cut : (source : List ℕ) (lines : List LineValue) (statements : List AsmLine) → AllByRecursion (IsPlaced source) lines →
     statements_of lines ≡ Ok statements → AllByRecursion (IsCut source) statements
 statements_cut source [] statements placed is = subst (AllByRecursion (IsCut source)) (same_Ok _ _ is) tt
 statements_cut source (line ∷ lines) statements placed is =
@@ -151,13 +151,7 @@ statements_cut source (line ∷ lines) statements placed is =
     by_line (Some (Some one)) at (Ok more) later is =
         subst (AllByRecursion (IsCut source)) (same_Ok _ _ is) (line_cut source line one placed.0 at, later more refl)
 
--- the spans of what is answered
-pub parsed_cut : {X : Type 0} (view : X → List AsmLine) (source : List ℕ) (r : Result X (Failure (LineFault AsmWhy))) → AllByRecursion (IsPlaced source) (lines_of source) →
-    Gives view r (parsed source) → IfOk r (λ x. AllByRecursion (IsCut source) (view x))
-unfolding parsed
-parsed_cut view source (Ok x) placed is = statements_cut source (lines_of source) (view x) placed is
-parsed_cut view source (Err fault) placed is = tt
-
+-- the spans of what is answered of a line
 pub line_said_cut : (source : List ℕ) (line : LineValue) (r : Result (Option AsmLine) (Failure (LineFault AsmWhy))) → Gives (λ said. said) r (due_of line) → IsPlaced source line →
     IfOk r (λ said. IfSome said (IsCut source))
 line_said_cut source line (Err fault) is placed = tt

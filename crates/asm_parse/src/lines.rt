@@ -23,23 +23,13 @@ use std::alloc::{AllocError, Global};
 /// The statements of a source in the order of its lines, one for each line that has a statement. A fault
 /// is `Syntax` at the first line of another form, or that memory ran out. The form is described in
 /// `docs/ASSEMBLER.md`.
-#[tactic(auto, using(crate::proofs::StatementLemmas::parsed_cut))]
+#[tactic(auto, using(crate::proofs::StatementLemmas::before_rest_none), unfolding(crate::specs::Form::parsed))]
 pub fn parse(alloc: Global, source: &[u8]) -> Result<Vec<AsmLine<'_>>, TextFailure<AsmWhy>>
     requires { length source.now < 2 ^ 27 }
     // The statements, or the first line of another form.
     ensures said { Gives (λ lines. lines.items) result (parsed source.now) }
     // Each span cuts its statement or its operand out of the source.
     ensures spans { IfOk result (λ lines. AllByRecursion (IsCut source.now) lines.items) }
-{
-    statements(alloc, source)
-}
-
-/// The statements of a source.
-#[tactic(auto, using(crate::proofs::StatementLemmas::before_rest_none), unfolding(crate::specs::Form::parsed))]
-fn statements(alloc: Global, source: &[u8]) -> Result<Vec<AsmLine<'_>>, TextFailure<AsmWhy>>
-    requires { length source.now < 2 ^ 27 }
-    ensures said { Gives (λ lines. lines.items) result (parsed source.now) }
-    ensures placed { AllByRecursion (IsPlaced source.now) (lines_of source.now) }
 {
     let mut statements = Vec::new(alloc);
     for line in cut(source) {

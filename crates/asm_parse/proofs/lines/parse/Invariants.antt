@@ -3,7 +3,7 @@ use Rattle.std.specs.List.{AllByRecursion}
 use Rattle.line_text.specs.Lines.{IsPlaced}
 use Rattle.asm_parse.specs.Form.{statements_of, parsed}
 use Rattle.asm_parse.proofs.StatementLemmas.{before_rest}
-use Rattle.asm_parse.proofs.lines.statements.Given as goal
+use Rattle.asm_parse.proofs.lines.parse.Given as goal
 
 -- the statements so far and those to come are all of them
 abbrev pub invariant-loop-line : goal.invariant-loop-line
