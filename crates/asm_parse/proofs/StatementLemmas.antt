@@ -1,38 +1,28 @@
 -- The statements of a source, one line after another.
 use Rattle.std.proofs.Common.{◌≡◌, ℕ, ◌+◌, ◌-◌, ◌<◌, ◌≤◌, List, [], ◌∷◌, ◌++◌, Bool, true, false, cond, Option, Some, None, Result, Ok, Err, length, drop, refl, ap, sym, ◌∙◌, subst, arith, length-take, length-drop, inl, inr}
 use Rattle.std.proofs.lemmas.Option.{none-some, same_Some, cond_some}
-use Rattle.std.proofs.lemmas.Bool.{cases_Bool, eqb-false}
+use Rattle.std.proofs.lemmas.Bool.{cases_Bool}
 use Rattle.std.proofs.Math.Bool.{and-false}
-use Rattle.std.specs.Prelude.{not, ◌==◌, ◌&&◌, nat_eq, codes, IfOk, IfSome}
-use Rattle.std.specs.List.{AllByRecursion, list_all, prefix_len, starts_with, suffix_len, take_while}
-use Rattle.std.specs.Option.{option_map, ok_or}
-use Rattle.line_text.specs.Lines.{LineValue, IsPlaced, lines_of}
+use Rattle.std.specs.Prelude.{◌==◌, ◌&&◌, nat_eq, codes}
+use Rattle.std.specs.List.{AllByRecursion, prefix_len, starts_with, suffix_len, take_while}
+use Rattle.std.specs.Option.{option_map}
+use Rattle.line_text.specs.Lines.{LineValue, IsPlaced}
 use Rattle.asm_parse.specs.Arg.{ArgValue}
 use Rattle.asm_parse.specs.declared.syntax.AsmBody.{AsmBody}
 use Rattle.asm_parse.specs.declared.syntax.AsmBody.TheVariants.{Nothing}
 use Rattle.asm_parse.specs.declared.syntax.AsmLine.{AsmLine}
-use Rattle.line_text.specs.Characters.{is_blank, is_text_byte}
+use Rattle.line_text.specs.Characters.{is_blank}
 use Rattle.asm_parse.specs.Bytes.{is_name_byte}
 use Rattle.asm_parse.specs.Words.{begins_name}
-use Rattle.asm_parse.specs.Form.{Piece, skip, before_mark, joined, said, after_label, label_of, body_named, body_of, operands_of, statement_of, line_of, due_of, statements_of, parsed}
+use Rattle.asm_parse.specs.Form.{Piece, skip, before_mark, said, after_label, label_of, body_named, body_of, operands_of, statement_of}
 use Rattle.asm_parse.specs.Span.{IsBare, IsCut, IsCutArg, args_in}
 use Rattle.asm_parse.proofs.PartLemmas.{IsPart, part_span, part_front, part_skip, part_after_blanks, part_trimmed, part_itself, part_line}
 use Rattle.asm_parse.proofs.SpanLemmas.{made_of, operands_cut}
 use Rattle.line_text.specs.declared.failure.LineFault.{LineFault}
-use Rattle.line_text.specs.declared.failure.Failure.{Failure}
-use Rattle.line_text.specs.Failing.{Gives, fault_at}
 use Rattle.asm_parse.specs.declared.fault.AsmWhy.{AsmWhy}
-use Rattle.asm_parse.specs.declared.fault.AsmWhy.TheVariants.{Syntax}
 use Rattle.asm_parse.specs.declared.quoting.Quoting.TheVariants.{Outside}
 use Rattle.asm_parse.proofs.BareLemmas.{blanks_back, front_bare, comment_gone}
 use Rattle.asm_parse.proofs.MarkLemmas.{before_mark_front}
-
-same_Ok : (xs ys : List AsmLine) → ◌≡◌ {A = Result (List AsmLine) (LineFault AsmWhy)} (Ok xs) (Ok ys) → xs ≡ ys
-same_Ok xs ys is = cc
-
-ok_some : (o : Option (Option AsmLine)) (fault : LineFault AsmWhy) (x : Option AsmLine) → ok_or o fault ≡ Ok x → o ≡ Some x
-ok_some None fault x is = absurd cc
-ok_some (Some y) fault x is = ap Some cc
 
 -- statements before those of the lines to come
 abbrev pub before_rest : List AsmLine → Result (List AsmLine) (LineFault AsmWhy) → Result (List AsmLine) (LineFault AsmWhy)
@@ -121,39 +111,13 @@ said_bare line =
       no_comment = comment_gone (length rest - suffix_len is_blank rest) line.text;
     }
 
--- the spans of a line's statement
-line_cut : (source : List ℕ) (line : LineValue) (statement : AsmLine) → IsPlaced source line → line_of line ≡ Some (Some statement) → IsCut source statement
-unfolding line_of
-line_cut source line statement placed is =
-    by_tests (not (list_all is_text_byte line.text)) (length (said line).bytes == 0) refl (statement_of line.number (said line)) refl is
-  where
-    by_tests : (v w : Bool) → (length (said line).bytes == 0) ≡ w → (o : Option AsmLine) → statement_of line.number (said line) ≡ o →
-        cond v None (cond w (Some None) (option_map (λ statement. Some statement) o)) ≡ Some (Some statement) → IsCut source statement
-    by_tests true w some o at is = absurd (none-some (Some statement) is)
-    by_tests false true some o at is = absurd (none-some statement (same_Some _ _ is))
-    by_tests false false some None at is = absurd (none-some (Some statement) is)
-    by_tests false false some (Some found) at is =
-        subst (IsCut source) (same_Some _ _ (same_Some _ _ is))
-        (statement_cut source 0 (length source) line.number (said line) found (said_part source line placed) (omega (arith, eqb-false (length (said line).bytes) 0 some)) (said_bare line) at)
+-- the spans of what a line says
+pub said_cut : (source : List ℕ) (line : LineValue) (statement : AsmLine) → IsPlaced source line → 0 < length (said line).bytes →
+    statement_of line.number (said line) ≡ Some statement → IsCut source statement
+said_cut source line statement placed some is = statement_cut source 0 (length source) line.number (said line) statement (said_part source line placed) some (said_bare line) is
 
-pub statements_cut : (source : List ℕ) (lines : List LineValue) (statements : List AsmLine) → AllByRecursion (IsPlaced source) lines →
-    statements_of lines ≡ Ok statements → AllByRecursion (IsCut source) statements
-statements_cut source [] statements placed is = subst (AllByRecursion (IsCut source)) (same_Ok _ _ is) tt
-statements_cut source (line ∷ lines) statements placed is =
-    by_line (line_of line) refl (statements_of lines) (λ more at. statements_cut source lines more placed.1 at) is
-  where
-    by_line : (o : Option (Option AsmLine)) → line_of line ≡ o → (rest : Result (List AsmLine) (LineFault AsmWhy)) →
-        ((more : List AsmLine) → rest ≡ Ok more → AllByRecursion (IsCut source) more) →
-        joined (ok_or o (fault_at line.number Syntax)) rest ≡ Ok statements → AllByRecursion (IsCut source) statements
-    by_line None at rest later is = absurd cc
-    by_line (Some one) at (Err fault) later is = absurd cc
-    by_line (Some None) at (Ok more) later is = subst (AllByRecursion (IsCut source)) (same_Ok _ _ is) (later more refl)
-    by_line (Some (Some one)) at (Ok more) later is =
-        subst (AllByRecursion (IsCut source)) (same_Ok _ _ is) (line_cut source line one placed.0 at, later more refl)
-
--- the spans of what is answered of a line
-pub line_said_cut : (source : List ℕ) (line : LineValue) (r : Result (Option AsmLine) (Failure (LineFault AsmWhy))) → Gives (λ said. said) r (due_of line) → IsPlaced source line →
-    IfOk r (λ said. IfSome said (IsCut source))
-line_said_cut source line (Err fault) is placed = tt
-line_said_cut source line (Ok None) is placed = tt
-line_said_cut source line (Ok (Some statement)) is placed = line_cut source line statement placed (ok_some (line_of line) (fault_at line.number Syntax) (Some statement) is)
+-- one more statement behind others
+pub cut_more : (source : List ℕ) (statements : List AsmLine) (statement : AsmLine) → AllByRecursion (IsCut source) statements → IsCut source statement →
+    AllByRecursion (IsCut source) (statements ++ statement ∷ [])
+cut_more source [] statement cut here = (here, tt)
+cut_more source (first ∷ statements) statement cut here = (cut.0, cut_more source statements statement cut.1 here)

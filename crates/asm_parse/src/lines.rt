@@ -23,7 +23,7 @@ use std::alloc::{AllocError, Global};
 /// The statements of a source in the order of its lines, one for each line that has a statement. A fault
 /// is `Syntax` at the first line of another form, or that memory ran out. The form is described in
 /// `docs/ASSEMBLER.md`.
-#[tactic(auto, using(crate::proofs::StatementLemmas::before_rest_none), unfolding(crate::specs::Form::parsed))]
+#[tactic(auto, using(crate::proofs::StatementLemmas::before_rest_none, crate::proofs::StatementLemmas::cut_more), unfolding(crate::specs::Form::parsed))]
 pub fn parse(alloc: Global, source: &[u8]) -> Result<Vec<AsmLine<'_>>, TextFailure<AsmWhy>>
     requires { length source.now < 2 ^ 27 }
     // The statements, or the first line of another form.
@@ -33,7 +33,7 @@ pub fn parse(alloc: Global, source: &[u8]) -> Result<Vec<AsmLine<'_>>, TextFailu
 {
     let mut statements = Vec::new(alloc);
     for line in cut(source) {
-        if let Some(statement) = statement_in(alloc, &line)? {
+        if let Some(statement) = parse_line(alloc, &line)? {
             statements.push(statement)?;
         }
     }
@@ -42,6 +42,7 @@ pub fn parse(alloc: Global, source: &[u8]) -> Result<Vec<AsmLine<'_>>, TextFailu
 
 /// The statement of a line, where it has one. A fault is `Syntax` where the line has another form, or
 /// that memory ran out.
+#[tactic(auto, unfolding(crate::specs::Form::line_of))]
 pub fn parse_line<'a>(
     alloc: Global,
     line: &Line<'a>,
@@ -51,18 +52,6 @@ pub fn parse_line<'a>(
     ensures said { Gives (λ said. said) result (due_of (line_value line.now)) }
     // In a source that has this line, each span cuts its statement or its operand out of it.
     ensures spans { (source : List ℕ) → IsPlaced source (line_value line.now) → IfOk result (λ said. IfSome said (IsCut source)) }
-{
-    statement_in(alloc, line)
-}
-
-/// The statement of a line.
-#[tactic(auto, unfolding(crate::specs::Form::line_of))]
-fn statement_in<'a>(
-    alloc: Global,
-    line: &Line<'a>,
-) -> Result<Option<AsmLine<'a>>, TextFailure<AsmWhy>>
-    requires { line.now.start + length line.now.text.now < 2 ^ 32 }
-    ensures { Gives (λ said. said) result (due_of (line_value line.now)) }
 {
     let syntax = line.breaks(AsmWhy::Syntax);
     if !is_text(line.text) {
