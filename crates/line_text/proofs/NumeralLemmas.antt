@@ -12,10 +12,6 @@ use Rattle.std.specs.List.{list_all}
 use Rattle.std.specs.Str.Parse.{digits_value}
 use Rattle.line_text.specs.Number.{numeral_of}
 
-pub all_digits_more : (base : ℕ) (ds : List ℕ) (i : ℕ) → i < length ds → list_all (λ c. is_digit c base) (take i ds) ≡ true →
-    is_digit (get_or ds i 0) base ≡ true → list_all (λ c. is_digit c base) (take (i + 1) ds) ≡ true
-all_digits_more base ds i within before here = rw (list_all_more (λ c. is_digit c base) ds i 0 within, before, here) refl
-
 -- a number below 2 ^ 32, times a base
 pub product_fits : (value base : ℕ) → value < 2 ^ 32 → base ≤ 16 → value * base ≤ 2 ^ 36
 product_fits value base small most = let wide = mul-le-mul_left value most in omega (arith, wide)
@@ -28,13 +24,10 @@ front_le base i ds some =
     let whole : digits_value base ds ≡ number_from_digits_after base (number_from_digits base first) last =
     ap (digits_value base) (sym (take-append-drop i ds)) ∙ digits_value_is base (take i ds ++ drop i ds)
     ∙ ap (number_from_digits base) (map-append digit_value (take i ds) (drop i ds)) ∙ number_after_append base 0 first last in
-    let front : digits_value base (take i ds) ≡ number_from_digits base first = digits_value_is base (take i ds) in
-    let rises : number_from_digits base first ≤ number_from_digits_after base (number_from_digits base first) last = number_after_ge base (number_from_digits base first) last some in
-    rw (whole, front) rises
+    rw (whole, digits_value_is base (take i ds)) (number_after_ge base (number_from_digits base first) last some)
 
 -- digits that spell too much at their front spell too much
 pub too_large : (base most i : ℕ) (ds : List ℕ) → 0 < base → most < digits_value base (take i ds) → numeral_of base most ds ≡ None
 too_large base most i ds some above =
-    let less : digits_value base (take i ds) ≤ digits_value base ds = front_le base i ds some in
-    let over : most < digits_value base ds = omega (arith, less) in
-    rw (lt-leb (digits_value base ds) most over, and-false) refl
+    let less = front_le base i ds some in
+    rw (lt-leb (digits_value base ds) most (omega arith), and-false) refl
