@@ -8,7 +8,7 @@ ghost use Rattle.asm_parse.specs.declared.quoting.Quoting.TheVariants.{Outside};
 ghost use Rattle.asm_parse.specs.PieceSeen.{piece_seen};
 ghost use Rattle.std.specs.List.{AllByRecursion};
 ghost use Rattle.std.specs.Str.{byte};
-ghost use Rattle.line_text.specs.Lines.{IsPlaced, lines_of};
+ghost use Rattle.line_text.specs.Lines.{IsPlaced};
 ghost use Rattle.asm_parse.specs.Span.{IsCut};
 
 use crate::fault::AsmWhy;
