@@ -1,16 +1,17 @@
 -- A program header that was written is read as its part.
-use Rattle.std.proofs.Common.{◌≡◌, ◌≤◌, ◌<◌, ◌^◌, ◌/◌, ◌%◌, ℕ, ◌+◌, ◌-◌, Bool, true, false, List, [], ◌∷◌, ◌++◌, None, map, length, take, drop, inl, inr, refl, ap, sym, ◌∙◌, arith}
+use Rattle.std.proofs.Common.{◌≡◌, ◌≤◌, ◌<◌, ◌^◌, ◌/◌, ◌%◌, ℕ, ◌+◌, ◌-◌, Bool, true, false, List, [], ◌∷◌, ◌++◌, Option, None, Some, length, take, drop, inl, inr, refl, ap, sym, ◌∙◌, arith}
 use Rattle.std.specs.Prelude.{◌==◌, if◌then◌else◌}
-use Rattle.std.specs.List.{list_any, filter}
+use Rattle.std.specs.List.{list_any}
 use Rattle.std.proofs.lemmas.Bool.{cases_eq}
 use Rattle.std.proofs.lemmas.List.{take_at, drop_at, drop-drop}
+use Rattle.std.proofs.lemmas.List.Folds.{list_any_none}
 use Rattle.byteorder.specs.Endian.{little_number}
 use Rattle.byteorder.specs.Numbers.{little_number-reads_back}
 use Rattle.byte_numbers.specs.Numbers.{word_at}
 use Rattle.elf_static.specs.ObjectValue.{PartValue}
 use Rattle.elf_static.specs.Layout.{words, flags, program_header}
 use Rattle.elf_static.specs.Writable.{IsInRange}
-use Rattle.elf_static.specs.ElfValue.{SegmentValue, type_in, offset_in, vaddr_in, filesz_in, memsz_in, is_writable_in, is_kept, segment_at, segments_of}
+use Rattle.elf_static.specs.ElfValue.{SegmentValue, type_in, offset_in, vaddr_in, filesz_in, memsz_in, is_writable_in, kept_at, segment_at}
 use Rattle.elf_static.specs.ElfFaults.{is_in_range, meets, header_fault}
 use Rattle.elf_static.specs.Loaded.{has_bytes, segment_of}
 
@@ -24,12 +25,8 @@ word_of : (file : List ℕ) (i k : ℕ) (text : List ℕ) → drop i file ≡ te
 unfolding word_at
 word_of file i k text stands = ap (little_number 4) (sym (drop-drop k i file) ∙ ap (drop k) stands)
 
-kind_read : (file : List ℕ) (i : ℕ) (text : List ℕ) → drop i file ≡ text → word_at file i ≡ little_number 4 text
-unfolding word_at
-kind_read file i text stands = ap (little_number 4) stands
-
 -- the fields of a written header
-pub record Fields (file : List ℕ) (header offset : ℕ) (part : PartValue) : Type 0 where
+record Fields (file : List ℕ) (header offset : ℕ) (part : PartValue) : Type 0 where
   pub kind : type_in file header ≡ 1
   pub place : offset_in file header ≡ offset
   pub filesz : filesz_in file header ≡ length part.bytes
@@ -42,13 +39,13 @@ unfolding words
 flags_read true rest = refl
 flags_read false rest = refl
 
-pub fields_read : (file : List ℕ) (header offset : ℕ) (part : PartValue) (rest : List ℕ) → drop header file ≡ program_header offset part ++ rest
+fields_read : (file : List ℕ) (header offset : ℕ) (part : PartValue) (rest : List ℕ) → drop header file ≡ program_header offset part ++ rest
     → offset < 2 ^ 32 → length part.bytes < 2 ^ 32 → Fields file header offset part
-unfolding program_header words
+unfolding program_header words word_at
 fields_read file header offset part rest stands small few =
     let text = program_header offset part ++ rest in
     record {
-      kind = kind_read file header text stands;
+      kind = ap (little_number 4) stands;
       place = word_of file header 4 text stands ∙ little_number-reads_back 4 offset (drop 8 text) small;
       filesz = word_of file header 16 text stands ∙ little_number-reads_back 4 (length part.bytes) (drop 20 text) few;
       memsz = word_of file header 20 text stands ∙ little_number-reads_back 4 (length part.bytes) (drop 24 text) few;
@@ -56,33 +53,22 @@ fields_read file header offset part rest stands small few =
       writable = ap (λ (word : ℕ). word / 2 % 2 == 1) (word_of file header 24 text stands) ∙ flags_read part.writable (drop 28 text);
     }
 
--- a part with bytes lies in the range of programs
-pub record InRange (part : PartValue) : Type 0 where
-  pub above : 0x2000 ≤ part.vaddr
-  pub below : part.vaddr + length part.bytes ≤ 0x7FF00000
-
-in_range : (part : PartValue) → IsInRange part → 0 < length part.bytes → InRange part
-in_range part within filled =
-    let first = within part.vaddr (omega arith, omega (arith, filled)) in
-    let last = within (part.vaddr + (length part.bytes - 1)) (omega arith, omega (arith, filled)) in
-    record { above = first.0; below = omega (arith, last.1, filled) }
-
--- a segment without bytes meets none
-empty_meets_none : (segment : SegmentValue) (others : List SegmentValue) → segment.memsz ≡ 0 → list_any (meets segment) others ≡ false
-empty_meets_none segment [] empty = refl
-empty_meets_none segment (other ∷ others) empty =
-    let one : meets segment other ≡ false = grind (arith, empty) in
-    let rest = empty_meets_none segment others empty in
-    rw (one, rest) refl
-
-memsz_of : (file : List ℕ) (header : ℕ) → (segment_at file header).memsz ≡ memsz_in file header
-unfolding segment_at
-memsz_of file header = refl
+-- the segment of a part, where it has bytes
+abbrev pub segment_in : PartValue → Option SegmentValue
+segment_in part = if has_bytes part then Some (segment_of part) else None
 
 -- a written header has no fault, and its segment is that of the part, if that has bytes
 pub record Reads (file : List ℕ) (earlier : List SegmentValue) (header : ℕ) (part : PartValue) : Type 0 where
   pub none : header_fault file earlier header ≡ None
-  pub one : segments_of file (header ∷ []) ≡ map segment_of (filter has_bytes (part ∷ []))
+  pub one : kept_at file header ≡ segment_in part
+
+empty_reads : (file : List ℕ) (earlier : List SegmentValue) (header offset : ℕ) (part : PartValue) → Fields file header offset part → offset ≤ length file → length part.bytes ≡ 0
+    → Reads file earlier header part
+unfolding header_fault segment_at
+empty_reads file earlier header offset part fields within empty =
+    let range : is_in_range file header ≡ true = grind (arith, fields.filesz, fields.place, fields.memsz, empty, within) in
+    let apart : list_any (meets (segment_at file header)) earlier ≡ false = list_any_none (meets (segment_at file header)) earlier (λ k d in_list. grind (arith, fields.memsz, empty)) in
+    record { none = grind (arith, fields.kind, range, apart); one = grind (arith, fields.kind, fields.memsz, empty) }
 
 segment_again : (file : List ℕ) (header offset : ℕ) (part : PartValue) (rest : List ℕ) → Fields file header offset part → part.vaddr < 2 ^ 32 → drop offset file ≡ part.bytes ++ rest
     → segment_at file header ≡ segment_of part
@@ -93,36 +79,18 @@ segment_again file header offset part rest fields small bytes =
     let vaddr = fields.vaddr small in
     λ i. record { vaddr = vaddr i; bytes = body i; memsz = fields.memsz i; writable = fields.writable i }
 
-empty_reads : (file : List ℕ) (earlier : List SegmentValue) (header offset : ℕ) (part : PartValue) → Fields file header offset part → offset ≤ length file → length part.bytes ≡ 0
-    → Reads file earlier header part
-unfolding header_fault
-empty_reads file earlier header offset part fields within empty =
-    let memsz : memsz_in file header ≡ 0 = fields.memsz ∙ empty in
-    let range : is_in_range file header ≡ true = grind (arith, fields.filesz, fields.place, memsz, empty, within) in
-    let apart : list_any (meets (segment_at file header)) earlier ≡ false = empty_meets_none (segment_at file header) earlier (memsz_of file header ∙ memsz) in
-    let kept : is_kept file header ≡ false = grind (arith, fields.kind, memsz) in
-    let has : has_bytes part ≡ false = grind (arith, empty) in
-    record {
-      none = grind (arith, fields.kind, range, apart);
-      one = ap (λ (b : Bool). map (segment_at file) (if b then header ∷ [] else [])) kept ∙ sym (ap (λ (b : Bool). map segment_of (if b then part ∷ [] else [])) has);
-    }
-
 full_reads : (file : List ℕ) (earlier : List SegmentValue) (header offset : ℕ) (part : PartValue) (rest : List ℕ) → Fields file header offset part
-    → drop offset file ≡ part.bytes ++ rest → offset + length part.bytes ≤ length file → InRange part → 0 < length part.bytes → list_any (meets (segment_of part)) earlier ≡ false
+    → drop offset file ≡ part.bytes ++ rest → offset + length part.bytes ≤ length file → IsInRange part → 0 < length part.bytes → list_any (meets (segment_of part)) earlier ≡ false
     → Reads file earlier header part
 unfolding header_fault
 full_reads file earlier header offset part rest fields bytes within ranged filled apart =
-    let segment = segment_again file header offset part rest fields (omega (arith, ranged.below)) bytes in
-    let vaddr : vaddr_in file header ≡ part.vaddr = fields.vaddr (omega (arith, ranged.below)) in
-    let range : is_in_range file header ≡ true = grind (arith, fields.filesz, fields.place, fields.memsz, vaddr, ranged.above, ranged.below, within) in
+    let first = ranged part.vaddr (omega arith, omega (arith, filled)) in
+    let last = ranged (part.vaddr + (length part.bytes - 1)) (omega arith, omega (arith, filled)) in
+    let segment = segment_again file header offset part rest fields (omega (arith, last.1)) bytes in
+    let vaddr : vaddr_in file header ≡ part.vaddr = fields.vaddr (omega (arith, last.1)) in
+    let range : is_in_range file header ≡ true = grind (arith, fields.filesz, fields.place, fields.memsz, vaddr, first.0, last.1, filled, within) in
     let meeting : list_any (meets (segment_at file header)) earlier ≡ false = ap (λ (s : SegmentValue). list_any (meets s) earlier) segment ∙ apart in
-    let kept : is_kept file header ≡ true = grind (arith, fields.kind, fields.memsz, filled) in
-    let has : has_bytes part ≡ true = grind (arith, filled) in
-    record {
-      none = grind (arith, fields.kind, range, meeting);
-      one = ap (λ (b : Bool). map (segment_at file) (if b then header ∷ [] else [])) kept ∙ ap (λ (s : SegmentValue). s ∷ []) segment
-          ∙ sym (ap (λ (b : Bool). map segment_of (if b then part ∷ [] else [])) has);
-    }
+    record { none = grind (arith, fields.kind, range, meeting); one = grind (arith, fields.kind, fields.memsz, filled, segment) }
 
 pub header_reads : (file : List ℕ) (earlier : List SegmentValue) (header offset : ℕ) (part : PartValue) (others rest : List ℕ)
     → drop header file ≡ program_header offset part ++ others → drop offset file ≡ part.bytes ++ rest → offset + length part.bytes ≤ length file → length file < 2 ^ 32
@@ -131,5 +99,5 @@ header_reads file earlier header offset part others rest stands bytes within sma
     let fields = fields_read file header offset part others stands (omega (arith, within, small)) (omega (arith, within, small)) in
     elim (cases_eq (length part.bytes) 0) [
       | inl empty ↦ empty_reads file earlier header offset part fields (omega (arith, within)) empty
-      | inr full ↦ full_reads file earlier header offset part rest fields bytes within (in_range part ranged (omega (arith, full))) (omega (arith, full)) apart
+      | inr full ↦ full_reads file earlier header offset part rest fields bytes within ranged (omega (arith, full)) apart
     ]

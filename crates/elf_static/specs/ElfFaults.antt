@@ -1,11 +1,11 @@
 -- The faults of an ELF file: the first sentence that holds, in this order, with its place.
-use Rattle.std.specs.Prelude.{ℕ, ◌+◌, ◌*◌, ◌%◌, ◌==◌, nat_eq, nat_lt, nat_le, min, max, Bool, not, ◌&&◌, ◌||◌, List, [], ◌∷◌, ◌++◌, length, Option, None, Some, if◌then◌else◌}
+use Rattle.std.specs.Prelude.{ℕ, ◌+◌, ◌*◌, ◌%◌, ◌==◌, nat_eq, nat_lt, nat_le, min, max, Bool, not, ◌&&◌, ◌||◌, List, [], ◌∷◌, ◌++◌, length, Option, None, Some, option_to_list, if◌then◌else◌}
 use Rattle.std.specs.List.{list_any, starts_with}
 use Rattle.elf_static.specs.declared.fault.ElfFault.{ElfFault}
 use Rattle.elf_static.specs.declared.fault.ElfWhy.{ElfWhy}
 use Rattle.elf_static.specs.declared.fault.ElfWhy.TheVariants.{Short, NotElf, WrongClass, WrongOrder, WrongKind, WrongMachine, WrongArch, BadHeaders, Dynamic, BadRange, Overlap, BadEntry}
 use Rattle.elf_static.specs.Faulting.{◌or_else◌}
-use Rattle.elf_static.specs.ElfValue.{SegmentValue, ElfValue, class_in, order_in, kind_in, machine_in, arch_in, header_size_in, header_count_in, first_header, headers, type_in, offset_in, vaddr_in, filesz_in, memsz_in, is_loaded, segment_at, segments_of, elf_of}
+use Rattle.elf_static.specs.ElfValue.{SegmentValue, ElfValue, class_in, order_in, kind_in, machine_in, arch_in, header_size_in, header_count_in, first_header, headers, type_in, offset_in, vaddr_in, filesz_in, memsz_in, is_loaded, segment_at, kept_at, elf_of}
 
 abbrev pub fault : ElfWhy → ℕ → Option ElfFault
 fault why place = Some (record { place = place; why = why })
@@ -63,7 +63,7 @@ header_fault file earlier header =
 abbrev pub headers_fault : List ℕ → List SegmentValue → List ℕ → Option ElfFault
 headers_fault file earlier [] = None
 headers_fault file earlier (header ∷ headers) =
-    header_fault file earlier header or_else headers_fault file (earlier ++ segments_of file (header ∷ [])) headers
+    header_fault file earlier header or_else headers_fault file (earlier ++ option_to_list (kept_at file header)) headers
 
 -- whether the address is that of a byte of the segment
 abbrev pub is_covered : ℕ → SegmentValue → Bool

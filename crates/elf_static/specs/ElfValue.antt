@@ -1,6 +1,6 @@
 -- What an ELF file's bytes mean.
-use Rattle.std.specs.Prelude.{ℕ, zero, suc, ◌+◌, ◌/◌, ◌%◌, ◌^◌, ◌==◌, not, Bool, ◌&&◌, List, [], ◌∷◌, take, drop, map, slice_index}
-use Rattle.std.specs.List.{filter}
+use Rattle.std.specs.Prelude.{ℕ, zero, suc, ◌+◌, ◌/◌, ◌%◌, ◌^◌, ◌==◌, not, Bool, ◌&&◌, List, [], ◌∷◌, Option, None, Some, take, drop, slice_index, if◌then◌else◌}
+use Rattle.std.specs.List.{filter_map}
 use Rattle.byte_numbers.specs.Numbers.{half_at, word_at}
 
 -- a segment: the address of its first byte, what the file gives of its bytes, of which the others are
@@ -89,9 +89,13 @@ segment_at file header = record {
   writable = is_writable_in file header;
 }
 
+-- the segment with this header, where one is kept
+abbrev pub kept_at : List ℕ → ℕ → Option SegmentValue
+kept_at file header = if is_kept file header then Some (segment_at file header) else None
+
 -- the segments of these headers
 abbrev pub segments_of : List ℕ → List ℕ → List SegmentValue
-segments_of file headers = map (segment_at file) (filter (is_kept file) headers)
+segments_of file headers = filter_map (kept_at file) headers
 
 -- The program of the file's bytes. It is meant where elf_fault finds nothing.
 unfoldable pub elf_of : List ℕ → ElfValue

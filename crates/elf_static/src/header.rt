@@ -2,7 +2,7 @@
 ghost use Rattle.std.specs.Prelude.{◌+◌, ◌*◌, ◌<◌, ◌≤◌, ◌^◌, IfOk, IfErr, OnOk, length};
 ghost use Rattle.elf_static.specs.ElfFaults.{kind_fault, place_fault};
 ghost use Rattle.elf_static.specs.Faulting.{Answers};
-ghost use Rattle.elf_static.specs.ElfParts.{table_of, table_seen};
+ghost use Rattle.elf_static.specs.ElfParts.{table_of};
 
 use crate::fault::{ElfFault, ElfWhy};
 use crate::layout::{
@@ -81,7 +81,7 @@ pub(crate) fn check_kind(file: &[u8]) -> Result<(), ElfFault>
 pub(crate) fn read_table(file: &[u8]) -> Result<Table, ElfFault>
     requires small { length file.now < 2 ^ 27 }
     requires whole { 52 ≤ length file.now }
-    ensures answer { Answers table_seen result (place_fault file.now) (table_of file.now) }
+    ensures answer { Answers (λ table. table) result (place_fault file.now) (table_of file.now) }
     ensures most { IfOk result (λ table. table.count ≤ 64) }
     ensures within { IfOk result (λ table. table.first + 32 * table.count ≤ length file.now) }
     ensures place { IfErr result (λ fault. fault.place ≤ length file.now) }

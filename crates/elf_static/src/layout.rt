@@ -7,24 +7,7 @@ pub(crate) const FILE_HEADER_SIZE: usize = 52;
 pub(crate) const PROGRAM_HEADER_SIZE: usize = 32;
 
 /// `0x7F` and `ELF`; the class, the order of the bytes of a number, the version; and nine zeros.
-pub(crate) const IDENTIFICATION: [u8; 16] = [
-    0x7F,
-    b'E',
-    b'L',
-    b'F',
-    BITS_32,
-    LOWEST_FIRST,
-    1,
-    0,
-    0,
-    0,
-    0,
-    0,
-    0,
-    0,
-    0,
-    0,
-];
+pub(crate) const IDENTIFICATION: [u8; 16] = *b"\x7FELF\x01\x01\x01\0\0\0\0\0\0\0\0\0";
 /// How many bytes of the identification every ELF file begins with.
 pub(crate) const MAGIC_SIZE: usize = 4;
 /// The class of 32 bits.

@@ -2,7 +2,6 @@
 ghost use Rattle.std.specs.Prelude.{◌≡◌, ◌≤◌, ◌<◌, ◌^◌, Some, None, IfOk, IfErr, length};
 ghost use Rattle.elf_static.specs.ElfValue.{elf_of};
 ghost use Rattle.elf_static.specs.ElfFaults.{elf_fault};
-ghost use Rattle.elf_static.specs.Faulting.{Answers};
 ghost use Rattle.elf_static.specs.AcceptedElf.{IsAcceptedElf};
 
 use crate::elf::Elf;
@@ -13,6 +12,7 @@ use byte_numbers::word_at;
 
 /// Reads an ELF file, or answers its first fault. `docs/FORMATS.md`, "ELF files that Aegis reads", has
 /// what is read and the faults in their order. The segments' bytes are lent from the file.
+#[tactic(auto, unfolding(crate::specs::ElfFaults::elf_fault, crate::specs::ElfFaults::entry_fault, crate::specs::ElfValue::elf_of))]
 pub fn read(file: &[u8]) -> Result<Elf<'_>, ElfFault>
     requires { length file.now < 2 ^ 27 }
     ensures ok { IfOk result (λ elf. (elf_fault file.now ≡ None) × (elf ≡ elf_of file.now)) }
@@ -20,16 +20,6 @@ pub fn read(file: &[u8]) -> Result<Elf<'_>, ElfFault>
     // A fault stands within the file, or at its end.
     ensures place { IfErr result (λ fault. fault.place ≤ length file.now) }
     ensures accepted { IfOk result (λ elf. IsAcceptedElf elf) }
-{
-    read_elf(file)
-}
-
-/// The program of the file, or the first fault.
-#[tactic(auto, unfolding(crate::specs::ElfFaults::elf_fault, crate::specs::ElfFaults::entry_fault, crate::specs::ElfValue::elf_of))]
-fn read_elf(file: &[u8]) -> Result<Elf<'_>, ElfFault>
-    requires { length file.now < 2 ^ 27 }
-    ensures answer { Answers (λ elf. elf) result (elf_fault file.now) (elf_of file.now) }
-    ensures place { IfErr result (λ fault. fault.place ≤ length file.now) }
 {
     check_kind(file)?;
     let table = read_table(file)?;

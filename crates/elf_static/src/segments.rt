@@ -1,11 +1,11 @@
 //! The program headers, and the segments that they describe.
 ghost use Rattle.std.specs.Prelude.{◌≡◌, ◌+◌, ◌*◌, ◌<◌, ◌≤◌, ◌^◌, ◌%◌, ◌==◌, ◌&&◌, [], true, length, IfErr};
 ghost use Rattle.std.specs.List.{list_any};
-ghost use Rattle.elf_static.specs.ElfValue.{headers_from, segments_of, segment_at};
+ghost use Rattle.elf_static.specs.ElfValue.{headers_from, kept_at, segments_of, segment_at};
 ghost use Rattle.elf_static.specs.ElfFaults.{header_fault, headers_fault, is_in_range, is_covered, meets};
 ghost use Rattle.elf_static.specs.Faulting.{Answers};
 ghost use Rattle.elf_static.specs.SegmentSeen.{segment_seen, segments_seen};
-ghost use Rattle.elf_static.specs.ElfParts.{kept_at, kept_seen};
+ghost use Rattle.elf_static.specs.ElfParts.{kept_seen};
 
 use crate::fault::{ElfFault, ElfWhy};
 use crate::header::Table;
