@@ -1,18 +1,17 @@
 -- An image without a fault is within its limits.
 use Rattle.std.proofs.Common.{◌≡◌, ◌≤◌, ◌<◌, ℕ, zero, suc, ◌+◌, ◌%◌, true, List, [], ◌∷◌, Option, None, Some, map, length, inl, inr, refl, ap, sym, ◌∙◌, arith, subst}
-use Rattle.std.specs.Prelude.{sum_by, if◌then◌else◌, ◌==◌, false, Bool}
+use Rattle.std.specs.Prelude.{sum_by, ◌==◌}
 use Rattle.std.specs.List.{AllByRecursion}
-use Rattle.aegis_limits.specs.Limits.{most_mappings, most_stack_pages}
-use Rattle.boot_image.specs.Bytes.{IsBytes}
+use Rattle.aegis_limits.specs.Limits.{most_stack_pages}
 use Rattle.boot_image.proofs.Bytes.{word_small}
 use Rattle.elf_static.specs.declared.fault.ElfFault.{ElfFault}
 use Rattle.elf_static.specs.ElfFaults.{elf_fault}
 use Rattle.elf_static.specs.AcceptedElf.{IsAcceptedElf}
 use Rattle.elf_static.specs.ElfValue.{elf_of}
-use Rattle.elf_static.proofs.Acceptance.{accepted as elf_accepted, neither}
-use Rattle.std.proofs.lemmas.Bool.{cases_eq, eqb-true}
+use Rattle.elf_static.proofs.Acceptance.{accepted as elf_accepted}
+use Rattle.std.proofs.lemmas.Bool.{cases_eq, cond_both, eqb-true}
 use Rattle.std.proofs.lemmas.List.{length-take, length-drop, length-map}
-use Rattle.boot_image.specs.ImageValue.{ImageValue, pages_in, quantum_in, environments_in, slots_in, slot_bytes, owner_of, first_header, name_in, base_in, stack_in, kind_in, length_in, bytes_in, body_end, body_of, flat_body, headers_from, headers, program_at, image_of, guaranteed_mappings}
+use Rattle.boot_image.specs.ImageValue.{IsBytes, ImageValue, pages_in, quantum_in, environments_in, slots_in, slot_bytes, owner_of, first_header, name_in, base_in, stack_in, kind_in, length_in, bytes_in, body_end, body_of, flat_body, headers_from, headers, program_at, image_of, guaranteed_mappings}
 use Rattle.boot_image.specs.ImageFaults.{is_name, is_base, is_flat_base, header_fault, slot_fault, owners_fault, slots_fault, program_header_fault, body_fault, elf_fault_at, program_fault, first_fault, mappings_fault, pages_fault, image_fault}
 use Rattle.boot_image.specs.Accepted.{IsFitting, IsOwnerBelow, IsAccepted}
 use Rattle.boot_image.proofs.Programs.{length-headers_from}
@@ -51,22 +50,16 @@ owner_below environments place byte none =
 owners_below : (environments place : ℕ) (bytes : List ℕ) → owners_fault environments place bytes ≡ None → AllByRecursion (IsOwnerBelow environments) (map owner_of bytes)
 owners_below environments place [] none = tt
 owners_below environments place (byte ∷ bytes) none =
-    let parts = neither (slot_fault environments place byte) (owners_fault environments (place + 1) bytes) none in
-    (owner_below environments place byte parts.0, owners_below environments (place + 1) bytes parts.1)
+    (owner_below environments place byte (grind (arith, none)), owners_below environments (place + 1) bytes (grind (arith, none)))
 
-record Slots (file : List ℕ) : Type 0 where
-  pub whole : 16 + slots_in file ≤ length file
-  pub owners : owners_fault (environments_in file) 16 (slot_bytes file) ≡ None
-
-slots_pass : (file : List ℕ) → slots_fault file ≡ None → Slots file
+slots_pass : (file : List ℕ) → slots_fault file ≡ None → (16 + slots_in file ≤ length file) × (owners_fault (environments_in file) 16 (slot_bytes file) ≡ None)
 unfolding slots_fault
-slots_pass file none = record { whole = grind arith; owners = grind arith }
+slots_pass file none = (grind arith, grind arith)
 
 -- the slots are as many as the header says
 pub count_of_slots : (file : List ℕ) → slots_fault file ≡ None → length (map owner_of (slot_bytes file)) ≡ slots_in file
 count_of_slots file none =
-    let slots = slots_pass file none in
-    length-map (slot_bytes file) owner_of ∙ simp (length-take, length-drop) (omega (arith, slots.whole))
+    length-map (slot_bytes file) owner_of ∙ simp (length-take, length-drop) (omega (arith, (slots_pass file none).0))
 
 -- so are the programs
 pub count_of_programs : (file : List ℕ) → length (map (program_at file) (headers file)) ≡ environments_in file
@@ -115,40 +108,34 @@ no_elf_fault start None none = refl
 no_elf_fault start (Some found) none = absurd cc
 
 body_fits : (file : List ℕ) (header : ℕ) → Program file header → body_fault file header ≡ None → IsAcceptedElf (body_of (kind_in file header) (base_in file header) (bytes_in file header))
-body_fits file header program none = by_kind (kind_in file header == 0) refl program.base none
-  where
-    by_kind : (flat : Bool) → (kind_in file header == 0) ≡ flat → (if flat then is_flat_base (base_in file header) (length_in file header) else base_in file header == 0) ≡ true
-        → (if flat then None else elf_fault_at (header + 28) (elf_fault (bytes_in file header))) ≡ None
-        → IsAcceptedElf (if flat then flat_body (base_in file header) (bytes_in file header) else elf_of (bytes_in file header))
-    by_kind true is base none =
-        let size = body_size file header program.whole in
-        let fits : is_flat_base (base_in file header) (length (bytes_in file header)) ≡ true = ap (is_flat_base (base_in file header)) size ∙ base in
-        flat_accepted (base_in file header) (bytes_in file header) fits (omega (arith, size, program.filled (eqb-true (kind_in file header) 0 is)))
-    by_kind false is base none = elf_accepted (bytes_in file header) (no_elf_fault (header + 28) (elf_fault (bytes_in file header)) none)
+body_fits file header program none =
+    cond_both (kind_in file header == 0) (flat_body (base_in file header) (bytes_in file header)) (elf_of (bytes_in file header)) IsAcceptedElf
+    (λ is.
+    let size = body_size file header program.whole in
+    let fits : is_flat_base (base_in file header) (length (bytes_in file header)) ≡ true = ap (is_flat_base (base_in file header)) size ∙ (rw is at program.base) in
+    flat_accepted (base_in file header) (bytes_in file header) fits (omega (arith, size, program.filled (eqb-true (kind_in file header) 0 is))))
+    (λ is. elf_accepted (bytes_in file header) (no_elf_fault (header + 28) (elf_fault (bytes_in file header)) (rw is at none)))
 
-program_fits : (file : List ℕ) (header : ℕ) → IsBytes file → Program file header → body_fault file header ≡ None → guaranteed_mappings (program_at file header) ≤ most_mappings → IsFitting (program_at file header)
+program_fits : (file : List ℕ) (header : ℕ) → IsBytes file → Program file header → body_fault file header ≡ None → mappings_fault file header ≡ None → IsFitting (program_at file header)
 unfolding program_at
 program_fits file header bytes program none few = record {
   name = program.name;
   name_length = simp (length-take, length-drop) (omega (arith, program.whole));
   stack = program.stack;
-  accept = word_small file (header + 16) bytes (omega (arith, program.whole));
+  accept = word_small file (header + 16) bytes;
   body = body_fits file header program none;
-  mappings = few;
+  mappings = grind (arith, few);
 }
-
-few_mappings : (file : List ℕ) (header : ℕ) → mappings_fault file header ≡ None → guaranteed_mappings (program_at file header) ≤ most_mappings
-few_mappings file header none = grind arith
 
 programs_fit : (count : ℕ) (file : List ℕ) (header : ℕ) → IsBytes file → first_fault (program_fault file) (headers_from count file header) ≡ None
     → first_fault (mappings_fault file) (headers_from count file header) ≡ None → AllByRecursion IsFitting (map (program_at file) (headers_from count file header))
 programs_fit zero file header bytes none mappings = tt
 programs_fit (suc count) file header bytes none mappings =
     let next = body_end file header in
-    let faults = neither (program_fault file header) (first_fault (program_fault file) (headers_from count file next)) none in
-    let parts = neither (program_header_fault file header) (body_fault file header) faults.0 in
-    let room = neither (mappings_fault file header) (first_fault (mappings_fault file) (headers_from count file next)) mappings in
-    (program_fits file header bytes (program_passes file header parts.0) parts.1 (few_mappings file header room.0), programs_fit count file next bytes faults.1 room.1)
+    let header_none : program_header_fault file header ≡ None = grind (arith, none) in
+    let body_none : body_fault file header ≡ None = grind (arith, none) in
+    let few : mappings_fault file header ≡ None = grind (arith, mappings) in
+    (program_fits file header bytes (program_passes file header header_none) body_none few, programs_fit count file next bytes (grind (arith, none)) (grind (arith, mappings)))
 
 fitting_pages : (image : ImageValue) → pages_fault image ≡ None → sum_by guaranteed_mappings image.programs ≤ image.pages
 fitting_pages image none = grind arith
@@ -159,7 +146,6 @@ pub parts_accepted : (file : List ℕ) → IsBytes file → header_fault file �
 unfolding image_of
 parts_accepted file bytes header_none slots_none programs_none mappings_none room =
     let header = header_passes file header_none in
-    let slots = slots_pass file slots_none in
     let programs_count = count_of_programs file in
     let slots_count = count_of_slots file slots_none in
     record {
@@ -170,7 +156,7 @@ parts_accepted file bytes header_none slots_none programs_none mappings_none roo
       slots_least = omega (arith, header.slots_least);
       slots_most = omega (arith, header.slots_most);
       owners = subst (λ (count : ℕ). AllByRecursion (IsOwnerBelow count) (map owner_of (slot_bytes file))) (sym programs_count)
-          (owners_below (environments_in file) 16 (slot_bytes file) slots.owners);
+          (owners_below (environments_in file) 16 (slot_bytes file) (slots_pass file slots_none).1);
       programs_least = omega (arith, header.environments_least);
       programs_most = omega (arith, header.environments_most);
       programs = programs_fit (environments_in file) file (first_header file) bytes programs_none mappings_none;

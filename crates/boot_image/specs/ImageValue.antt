@@ -1,9 +1,14 @@
 -- What an image's bytes mean.
-use Rattle.std.specs.Prelude.{ℕ, zero, suc, ◌+◌, ◌==◌, true, List, [], ◌∷◌, length, take, drop, map, Option, None, Some, if◌then◌else◌}
+use Rattle.std.specs.Prelude.{ℕ, zero, suc, ◌+◌, ◌<◌, ◌==◌, true, List, [], ◌∷◌, length, take, drop, map, Option, None, Some, slice_index, if◌then◌else◌}
 use Rattle.std.specs.List.{before_first}
 use Rattle.byte_numbers.specs.Numbers.{half_at, word_at}
 use Rattle.elf_static.specs.ElfValue.{ElfValue, elf_of}
 use Rattle.segment_pages.specs.Pages.{vpns}
+use Rattle.boot_image.specs.declared.header.Header.{Header}
+
+-- each number of a file is a byte's
+abbrev pub IsBytes : List ℕ → Type 0
+IsBytes file = (i : ℕ) → slice_index file i < 256
 
 -- a program: its name of eight bytes, pages of stack, a bit for each environment from which it accepts
 -- transfers, and its body, which is an entry and segments
@@ -49,11 +54,9 @@ environments_in file = half_at file 12
 abbrev pub slots_in : List ℕ → ℕ
 slots_in file = half_at file 14
 
-pub record HeaderValue : Type 0 where
-  pub pages : ℕ
-  pub quantum : ℕ
-  pub environments : ℕ
-  pub slots : ℕ
+-- the numbers of the header
+abbrev pub header_of : List ℕ → Header
+header_of file = record { pages = pages_in file; quantum = quantum_in file; environments = environments_in file; slots = slots_in file }
 
 -- After it a byte for each slot: its owner, or 255 where the slot is empty.
 abbrev pub slot_bytes : List ℕ → List ℕ

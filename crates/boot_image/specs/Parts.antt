@@ -1,18 +1,10 @@
 -- The parts of a file, as the reader takes them one after another.
 use Rattle.std.specs.Prelude.{ℕ, ◌≡◌, ◌<◌, ◌≤◌, true, IsTrue, List, map, Option, None, Some, nat_lt, if◌then◌else◌}
-use Rattle.boot_image.specs.declared.header.Header.{Header}
 use Rattle.boot_image.specs.declared.program.Placed.{Placed}
 use Rattle.boot_image.specs.declared.program.Programs.{Programs}
 use Rattle.aegis_limits.specs.Limits.{most_mappings, most_stack_pages}
-use Rattle.boot_image.specs.ImageValue.{HeaderValue, ProgramValue, pages_in, quantum_in, environments_in, slots_in, headers_from, bodies_end, body_end, name_in, base_in, stack_in, kind_in, length_in, program_at, guaranteed_mappings}
+use Rattle.boot_image.specs.ImageValue.{ProgramValue, headers_from, bodies_end, body_end, name_in, base_in, stack_in, kind_in, length_in, program_at, guaranteed_mappings}
 use Rattle.boot_image.specs.ImageFaults.{first_fault, is_base, is_name, mappings_fault}
-
--- the numbers of the header
-abbrev pub header_of : List ℕ → HeaderValue
-header_of file = record { pages = pages_in file; quantum = quantum_in file; environments = environments_in file; slots = slots_in file }
-
-abbrev pub header_seen : Header → HeaderValue
-header_seen header = record { pages = header.pages; quantum = header.quantum; environments = header.environments; slots = header.slots }
 
 -- the name and the numbers of a program's header keep the rules
 pub record IsSoundHeader (file : List ℕ) (header : ℕ) : Type 0 where
@@ -26,15 +18,8 @@ abbrev pub if_fitting : ProgramValue → Option ProgramValue
 if_fitting program = if nat_lt most_mappings (guaranteed_mappings program) then None else Some program
 
 -- the program with a header, and where its body ends
-pub record PlacedValue : Type 0 where
-  pub program : Option ProgramValue
-  pub end : ℕ
-
-abbrev pub placed_at : List ℕ → ℕ → PlacedValue
+abbrev pub placed_at : List ℕ → ℕ → Placed
 placed_at file header = record { program = if_fitting (program_at file header); end = body_end file header }
-
-abbrev pub placed_seen : Placed → PlacedValue
-placed_seen placed = record { program = placed.program; end = placed.end }
 
 -- the programs of so many headers, the first of which stands at this place: where the last body ends, which
 -- needs too many mappings first, and if none does, all of them

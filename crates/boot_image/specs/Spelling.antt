@@ -1,14 +1,13 @@
 -- How an image is spelled: what stands in its file, and what that means.
-use Rattle.std.specs.Prelude.{ℕ, ◌≡◌, ◌<◌, ◌%◌, ◌^◌, ◌==◌, List, [], ◌∷◌, ◌++◌, length, map, Option, None, Some, codes, if◌then◌else◌}
+use Rattle.std.specs.Prelude.{ℕ, ◌≡◌, ◌<◌, ◌%◌, ◌^◌, ◌==◌, List, [], ◌∷◌, ◌++◌, length, map, Option, None, unwrap_or, codes, if◌then◌else◌}
 use Rattle.std.specs.Int.{w16, w32, to_le_bytes}
 use Rattle.aegis_limits.specs.Limits.{page_size}
 use Rattle.elf_static.specs.ElfFaults.{elf_fault}
-use Rattle.boot_image.specs.ImageValue.{HeaderValue, ProgramValue, ImageValue, body_of, pages_in, quantum_in, slot_bytes, owner_of, headers, name_in, base_in, stack_in, accept_in, kind_in, bytes_in}
-
--- how a body is spelled: as what it has in memory from a base on, or as an ELF file
-pub data Kind : Type 0 where
-  Flat : (base : ℕ) → Kind
-  Elf : Kind
+use Rattle.boot_image.specs.declared.entry.Entry.{Entry}
+use Rattle.boot_image.specs.declared.entry.Kind.{Kind}
+use Rattle.boot_image.specs.declared.entry.Kind.TheVariants.{Flat, Elf}
+use Rattle.boot_image.specs.declared.header.Header.{Header}
+use Rattle.boot_image.specs.ImageValue.{ProgramValue, ImageValue, body_of, pages_in, quantum_in, slot_bytes, owner_of, headers, name_in, base_in, stack_in, accept_in, kind_in, bytes_in}
 
 abbrev pub kind_number : Kind → ℕ
 kind_number (Flat base) = 0
@@ -18,43 +17,35 @@ abbrev pub base_number : Kind → ℕ
 base_number (Flat base) = base
 base_number Elf = 0
 
--- a program without the bytes of its body
-pub record EntryValue : Type 0 where
-  pub name : List ℕ
-  pub kind : Kind
-  pub stack : ℕ
-  pub accept : ℕ
-
 -- an image without the bytes of the bodies: an entry for each
 pub record PlanValue : Type 0 where
   pub pages : ℕ
   pub quantum : ℕ
   pub slots : List (Option ℕ)
-  pub entries : List EntryValue
+  pub entries : List Entry
 
 -- the byte of a slot: its owner, or 255
 abbrev pub slot_byte : Option ℕ → ℕ
-slot_byte None = 255
-slot_byte (Some owner) = owner
+slot_byte owner = unwrap_or owner 255
 
 -- a program: name, base, stack, accept, kind, length, body
-abbrev pub program_text : EntryValue → List ℕ → List ℕ
+abbrev pub program_text : Entry → List ℕ → List ℕ
 program_text entry bytes =
     entry.name ++ to_le_bytes w32 (base_number entry.kind) ++ to_le_bytes w32 entry.stack ++ to_le_bytes w32 entry.accept
     ++ to_le_bytes w32 (kind_number entry.kind) ++ to_le_bytes w32 (length bytes) ++ bytes
 
 -- each entry with the body of its number
-abbrev pub programs_text : List EntryValue → List (List ℕ) → List ℕ
+abbrev pub programs_text : List Entry → List (List ℕ) → List ℕ
 programs_text [] bodies = []
 programs_text (entry ∷ entries) [] = []
 programs_text (entry ∷ entries) (bytes ∷ bodies) = program_text entry bytes ++ programs_text entries bodies
 
 -- the numbers of the header
-abbrev pub header_in : PlanValue → HeaderValue
+abbrev pub header_in : PlanValue → Header
 header_in plan = record { pages = plan.pages; quantum = plan.quantum; environments = length plan.entries; slots = length plan.slots }
 
 -- a header: magic, pages, quantum, environments, slots
-abbrev pub header_text : HeaderValue → List ℕ
+abbrev pub header_text : Header → List ℕ
 header_text header =
     codes "AEG1" ++ to_le_bytes w32 header.pages ++ to_le_bytes w32 header.quantum
     ++ to_le_bytes w16 header.environments ++ to_le_bytes w16 header.slots
@@ -64,7 +55,7 @@ abbrev pub image_text : PlanValue → List (List ℕ) → List ℕ
 image_text plan bodies = header_text (header_in plan) ++ map slot_byte plan.slots ++ programs_text plan.entries bodies
 
 -- the program that an entry and a body's bytes spell
-abbrev pub program_with : EntryValue → List ℕ → ProgramValue
+abbrev pub program_with : Entry → List ℕ → ProgramValue
 program_with entry bytes = record {
   name = entry.name;
   stack = entry.stack;
@@ -72,7 +63,7 @@ program_with entry bytes = record {
   body = body_of (kind_number entry.kind) (base_number entry.kind) bytes;
 }
 
-abbrev pub programs_with : List EntryValue → List (List ℕ) → List ProgramValue
+abbrev pub programs_with : List Entry → List (List ℕ) → List ProgramValue
 programs_with [] bodies = []
 programs_with (entry ∷ entries) [] = []
 programs_with (entry ∷ entries) (bytes ∷ bodies) = program_with entry bytes ∷ programs_with entries bodies
@@ -92,7 +83,7 @@ IsBody (Flat base) bytes = base % page_size ≡ 0
 IsBody Elf bytes = elf_fault bytes ≡ None
 
 -- there is a body for each entry, which may stand there, and its length is a word
-abbrev pub AreBodies : List EntryValue → List (List ℕ) → Type 0
+abbrev pub AreBodies : List Entry → List (List ℕ) → Type 0
 AreBodies [] [] = Unit {0}
 AreBodies [] (bytes ∷ bodies) = ⊥
 AreBodies (entry ∷ entries) [] = ⊥
@@ -102,7 +93,7 @@ AreBodies (entry ∷ entries) (bytes ∷ bodies) = IsBody entry.kind bytes × (l
 abbrev pub kind_at : List ℕ → ℕ → Kind
 kind_at file header = if kind_in file header == 0 then Flat (base_in file header) else Elf
 
-abbrev pub entry_at : List ℕ → ℕ → EntryValue
+abbrev pub entry_at : List ℕ → ℕ → Entry
 entry_at file header = record {
   name = name_in file header;
   kind = kind_at file header;

@@ -1,7 +1,6 @@
 //! A program of an image without the bytes of its body.
 ghost use Rattle.std.specs.Prelude.{◌≡◌};
 ghost use Rattle.boot_image.specs.Spelling.{base_number, kind_number};
-ghost use Rattle.boot_image.specs.Seen.{kind_seen};
 
 use crate::layout::{ELF, FLAT, NAME_SIZE, NO_BASE};
 
@@ -20,7 +19,7 @@ pub enum Kind {
 impl Kind {
     /// The number by which an image names it.
     pub(crate) fn number(self) -> u32
-        ensures { result ≡ kind_number (kind_seen self) }
+        ensures { result ≡ kind_number self }
     {
         match self {
             Kind::Flat { .. } => FLAT,
@@ -30,7 +29,7 @@ impl Kind {
 
     /// The base that an image has for it.
     pub(crate) fn base(self) -> u32
-        ensures { result ≡ base_number (kind_seen self) }
+        ensures { result ≡ base_number self }
     {
         match self {
             Kind::Flat { base } => base,

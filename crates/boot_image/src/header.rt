@@ -1,10 +1,9 @@
 //! The header of an image and its slot bytes.
 ghost use Rattle.std.specs.Prelude.{◌≡◌, ◌+◌, ◌<◌, ◌≤◌, ◌^◌, IfOk, OnOk, length, map};
 ghost use Rattle.aegis_limits.specs.Limits.{most_environments, most_slots};
-ghost use Rattle.boot_image.specs.ImageValue.{environments_in, slots_in, owner_of, slot_bytes};
+ghost use Rattle.boot_image.specs.ImageValue.{environments_in, header_of, slots_in, owner_of, slot_bytes};
 ghost use Rattle.boot_image.specs.ImageFaults.{is_within, header_fault, slots_fault, slot_fault, owners_fault};
 ghost use Rattle.elf_static.specs.Faulting.{Answers};
-ghost use Rattle.boot_image.specs.Parts.{header_of, header_seen};
 
 use crate::fault::{ImageFault, ImageWhy};
 use crate::image::Owners;
@@ -38,7 +37,7 @@ fn is_within(least: u32, most: u32, number: u32) -> bool
 #[tactic(auto, unfolding(crate::specs::ImageFaults::header_fault))]
 pub(crate) fn read_header(file: &[u8]) -> Result<Header, ImageFault>
     requires { length file.now < 2 ^ 27 }
-    ensures answer { Answers header_seen result (header_fault file.now) (header_of file.now) }
+    ensures answer { Answers (λ header. header) result (header_fault file.now) (header_of file.now) }
     ensures whole { OnOk result (16 ≤ length file.now) }
     ensures limits { IfOk result (λ header. (header.environments ≤ most_environments) × (header.slots ≤ most_slots)) }
 {

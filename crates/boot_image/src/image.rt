@@ -10,7 +10,7 @@ use crate::limits::MOST_MAPPINGS;
 use aegis_limits::{MOST_ENVIRONMENTS, MOST_SLOTS};
 use arrayvec::ArrayVec;
 use elf_static::Elf;
-use segment_pages::count_pages;
+use segment_pages::{count_pages, law_smallest};
 use std::marker::Model;
 
 /// The owner of each slot, where one has an owner.
@@ -109,6 +109,7 @@ impl Default for Program<'_> {
     ghost is_default = { λ program. program ≡ record { name = 97 ∷ replicate 7 0; stack = 0; accept = 0; body = smallest } };
 
     fn default() -> Self {
+        law_smallest();
         let body = Elf::default();
         let _ = &body.entry;
         Program {

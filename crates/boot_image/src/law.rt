@@ -1,8 +1,7 @@
 //! The laws of the definitions: that an image without a fault is within the limits, and how what a file
 //! means is tied to how it is spelled.
 ghost use Rattle.std.specs.Prelude.{◌≡◌, ℕ, List, None};
-ghost use Rattle.boot_image.specs.Bytes.{IsBytes};
-ghost use Rattle.boot_image.specs.ImageValue.{image_of};
+ghost use Rattle.boot_image.specs.ImageValue.{IsBytes, image_of};
 ghost use Rattle.boot_image.specs.ImageFaults.{image_fault};
 ghost use Rattle.boot_image.specs.Accepted.{IsAccepted};
 ghost use Rattle.boot_image.specs.Spelling.{AreBodies, PlanValue, bodies_of, image_text, image_with, plan_of};

@@ -5,7 +5,7 @@ ghost use Rattle.std.specs.List.{list_all};
 ghost use Rattle.aegis_limits.specs.Limits.{most_environments};
 ghost use Rattle.boot_image.specs.ImageValue.{body_end, body_of, bytes_in, flat_body, base_in, kind_in, headers_from, name_text, guaranteed_mappings};
 ghost use Rattle.boot_image.specs.ImageFaults.{is_name, is_name_byte, is_base, is_flat_base, program_fault, program_header_fault, body_fault, first_fault};
-ghost use Rattle.boot_image.specs.Parts.{ArePrograms, IsSoundHeader, placed_at, placed_seen};
+ghost use Rattle.boot_image.specs.Parts.{ArePrograms, IsSoundHeader, placed_at};
 ghost use Rattle.elf_static.specs.Faulting.{Answers};
 
 use crate::fault::{ImageFault, ImageWhy};
@@ -33,7 +33,7 @@ struct Placed<'a> {
 fn read_program(file: &[u8], header: usize) -> Result<Placed<'_>, ImageFault>
     requires small { length file.now < 2 ^ 27 }
     requires start { header ≤ length file.now }
-    ensures answer { Answers placed_seen result (program_fault file.now header) (placed_at file.now header) }
+    ensures answer { Answers (λ placed. placed) result (program_fault file.now header) (placed_at file.now header) }
     ensures whole { IfOk result (λ placed. placed.end ≤ length file.now) }
 {
     let end = check_program(file, header)?;
@@ -164,11 +164,7 @@ fn parted(name: &[u8]) -> (&[u8], &[u8])
     ensures text { result.0.now ≡ name_text name.now }
     ensures rest { result.1.now ≡ drop (length (name_text name.now)) name.now }
 {
-    let length = match first_zero(name) {
-        Some(place) => place,
-        None => name.len(),
-    };
-    name.split_at(length)
+    name.split_at(first_zero(name).unwrap_or(name.len()))
 }
 
 fn first_zero(name: &[u8]) -> Option<usize>

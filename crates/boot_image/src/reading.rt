@@ -2,7 +2,6 @@
 ghost use Rattle.std.specs.Prelude.{◌≡◌, ◌<◌, ◌^◌, Some, None, IfOk, IfErr, length};
 ghost use Rattle.boot_image.specs.ImageValue.{image_of};
 ghost use Rattle.boot_image.specs.ImageFaults.{image_fault};
-ghost use Rattle.elf_static.specs.Faulting.{Answers};
 
 use crate::fault::{ImageFault, ImageWhy};
 use crate::header::{read_header, read_slots};
@@ -12,19 +11,11 @@ use crate::program::{needed_pages, read_programs};
 
 /// Reads an image, or answers its first fault. `docs/FORMATS.md`, "Image", has the format and the
 /// faults in their order. The programs' segments are lent from the file.
+#[tactic(auto, unfolding(crate::specs::ImageFaults::image_fault, crate::specs::ImageFaults::trailing_fault, crate::specs::ImageValue::image_of))]
 pub fn read_image(file: &[u8]) -> Result<Image<'_>, ImageFault>
     requires { length file.now < 2 ^ 27 }
     ensures ok { IfOk result (λ image. (image_fault file.now ≡ None) × (image ≡ image_of file.now)) }
     ensures err { IfErr result (λ fault. image_fault file.now ≡ Some fault) }
-{
-    read(file)
-}
-
-/// The image of the file, or the first fault.
-#[tactic(auto, unfolding(crate::specs::ImageFaults::image_fault, crate::specs::ImageFaults::trailing_fault, crate::specs::ImageValue::image_of))]
-fn read(file: &[u8]) -> Result<Image<'_>, ImageFault>
-    requires { length file.now < 2 ^ 27 }
-    ensures { Answers (λ image. image) result (image_fault file.now) (image_of file.now) }
 {
     let header = read_header(file)?;
     let slots = read_slots(file, &header)?;

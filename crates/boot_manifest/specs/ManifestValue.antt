@@ -1,10 +1,11 @@
 -- What a manifest says: an image without the bytes of its bodies, and the names of the files that have them.
 use Rattle.std.specs.Prelude.{ℕ, List, map, Option}
-use Rattle.boot_image.specs.Spelling.{EntryValue, PlanValue}
+use Rattle.boot_image.specs.declared.entry.Entry.{Entry}
+use Rattle.boot_image.specs.Spelling.{PlanValue}
 
 -- an entry: a program without its body, and the name of the file that has the body
 pub record ManifestEntryValue : Type 0 where
-  pub entry : EntryValue
+  pub entry : Entry
   pub file : List ℕ
 
 -- a manifest: counts of pages and of a slice's ticks, the owner of each slot, and an entry for each environment
@@ -15,7 +16,7 @@ pub record ManifestValue : Type 0 where
   pub entries : List ManifestEntryValue
 
 -- the programs of entries, without their bodies
-abbrev pub entries_in : List ManifestEntryValue → List EntryValue
+abbrev pub entries_in : List ManifestEntryValue → List Entry
 entries_in entries = map (λ (e : ManifestEntryValue). e.entry) entries
 
 -- what it says of the image

@@ -5,7 +5,9 @@ use Rattle.std.specs.Str.{bytes_eq}
 use Rattle.aegis_limits.specs.Limits.{most_environments, most_stack_pages}
 use Rattle.line_text.specs.Number.{number_of, number_within}
 use Rattle.boot_image.specs.ImageFaults.{is_name}
-use Rattle.boot_image.specs.Spelling.{EntryValue, Kind, Flat, Elf}
+use Rattle.boot_image.specs.declared.entry.Entry.{Entry}
+use Rattle.boot_image.specs.declared.entry.Kind.{Kind}
+use Rattle.boot_image.specs.declared.entry.Kind.TheVariants.{Flat, Elf}
 use Rattle.boot_manifest.specs.Forms.{EnvWords}
 use Rattle.boot_manifest.specs.ManifestValue.{ManifestEntryValue}
 
@@ -33,7 +35,7 @@ kind_in None = Some Elf
 kind_in (Some base) = option_map (λ n. Flat n) (number_of base)
 
 -- a program without its body
-abbrev pub program_in : EnvWords → Option EntryValue
+abbrev pub program_in : EnvWords → Option Entry
 program_in words =
     option_and_then
     (λ name. option_and_then

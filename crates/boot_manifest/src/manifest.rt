@@ -14,15 +14,14 @@ pub struct ManifestEntry {
 
 impl Model for ManifestEntry {
     ghost use Rattle.std.specs.Prelude.{string_bytes};
-    ghost use Rattle.boot_image.specs.Seen.{entry_seen};
     ghost use Rattle.boot_manifest.specs.ManifestValue.{ManifestEntryValue};
     ghost use Rattle.boot_manifest.specs.Limited.{IsEntry};
 
     ghost Value = { ManifestEntryValue };
 
-    ghost view = { λ e. record { entry = entry_seen e.entry; file = string_bytes e.file } };
+    ghost view = { λ e. record { entry = e.entry; file = string_bytes e.file } };
 
-    ghost invariant = { λ e. IsEntry (record { entry = entry_seen e.entry; file = string_bytes e.file }) };
+    ghost invariant = { λ e. IsEntry (record { entry = e.entry; file = string_bytes e.file }) };
 }
 
 /// A manifest: an image without the bodies of its programs. `docs/FORMATS.md`, "Manifest", has its limits, which

@@ -5,7 +5,6 @@ ghost use Rattle.std.specs.Option.{option_copied, option_map};
 ghost use Rattle.aegis_limits.specs.Limits.{most_environments, most_stack_pages};
 ghost use Rattle.boot_image.specs.Accepted.{IsOwnerBelow};
 ghost use Rattle.boot_image.specs.ImageFaults.{is_name};
-ghost use Rattle.boot_image.specs.Seen.{entry_seen, kind_seen};
 ghost use Rattle.line_text.specs.Characters.{is_text_byte};
 ghost use Rattle.line_text.specs.WordView.{words_seen};
 ghost use Rattle.boot_manifest.specs.Ranges.{entry_in, kind_in, name_in, owner_in, owners_in, program_in};
@@ -69,7 +68,7 @@ fn name_of(word: &[u8]) -> Option<[u8; NAME_SIZE]>
 
 /// How a body is spelled: at its base, if it has one.
 fn kind_of(base: Option<&[u8]>) -> Option<Kind>
-    ensures { option_map kind_seen result ≡ kind_in (option_copied base.entry) }
+    ensures { result ≡ kind_in (option_copied base.entry) }
 {
     match base {
         Some(word) => {
@@ -82,7 +81,7 @@ fn kind_of(base: Option<&[u8]>) -> Option<Kind>
 
 /// The program of an environment's line.
 fn program_of(parts: &EnvParts<'_>) -> Option<Entry>
-    ensures value { option_map entry_seen result ≡ program_in (parts_seen parts.now) }
+    ensures value { result ≡ program_in (parts_seen parts.now) }
     ensures name { IfSome result (λ entry. IsTrue (is_name entry.name)) }
     ensures stack { IfSome result (λ entry. entry.stack ≤ most_stack_pages) }
 {

@@ -3,7 +3,6 @@ ghost use Rattle.std.specs.Prelude.{◌≡◌, ◌<◌, ◌≤◌, ◌^◌, ◌+
 ghost use Rattle.std.specs.List.{AllByRecursion};
 ghost use Rattle.aegis_limits.specs.Limits.{most_environments};
 ghost use Rattle.boot_image.specs.Spelling.{header_in, image_text, programs_text, slot_byte};
-ghost use Rattle.boot_image.specs.Parts.{header_seen};
 ghost use Rattle.boot_manifest.specs.ManifestValue.{plan_in, entries_in};
 ghost use Rattle.boot_manifest.specs.Layout.{bodies_seen, HasWordLength};
 
@@ -57,7 +56,7 @@ fn programs_length(bodies: &[Vec<u8>]) -> u64
 
 /// The header of a manifest's image.
 fn header(manifest: &Manifest) -> Header
-    ensures { header_seen result ≡ header_in (plan_in manifest.now) }
+    ensures { result ≡ header_in (plan_in manifest.now) }
 {
     Header {
         pages: manifest.pages,

@@ -8,10 +8,11 @@ use Rattle.std.proofs.lemmas.List.Sums.{sum_by-cons}
 use Rattle.line_text.specs.Text.{dec_text}
 use Rattle.elf_static.specs.ElfValue.{elf_of}
 use Rattle.elf_static.proofs.Acceptance.{accepted}
+use Rattle.boot_image.specs.declared.entry.Entry.{Entry}
 use Rattle.boot_image.specs.ImageValue.{ProgramValue, guaranteed_mappings, image_of}
 use Rattle.boot_image.specs.ImageFaults.{image_fault, is_name}
 use Rattle.boot_image.specs.Accepted.{IsAccepted, IsFitting, IsOwnerBelow}
-use Rattle.boot_image.specs.Spelling.{AreBodies, EntryValue, image_with, programs_with}
+use Rattle.boot_image.specs.Spelling.{AreBodies, image_with, programs_with}
 use Rattle.boot_image.proofs.Read.{read_again}
 use Rattle.exos_text.specs.LoadElf.{load_elf}
 use Rattle.exos_text.specs.LoadImage.{load_bodies, load_entries, load_entry, load_image_text, load_image_value, load_plan, load_slots}
@@ -79,7 +80,7 @@ unfolding load_elf
 elf_size = refl
 
 programs_are : programs_with load_entries load_bodies ≡ map named names
-programs_are = ap (λ (entries : List EntryValue). programs_with entries load_bodies) entries_are ∙ programs_named names 16 refl
+programs_are = ap (λ (entries : List Entry). programs_with entries load_bodies) entries_are ∙ programs_named names 16 refl
 
 within_limits : (seed : ℕ) → IsAccepted (image_with (load_plan seed) load_bodies)
 within_limits seed =
@@ -104,7 +105,7 @@ pub sound : (seed : ℕ) → (image_fault (load_image_text seed) ≡ None) × (i
 unfolding load_image_text load_image_value
 sound seed =
     read_again (load_plan seed) load_bodies
-    (subst (λ (entries : List EntryValue). AreBodies entries load_bodies) (sym entries_are) (bodies_are names 16 refl (omega (arith, elf_size))))
+    (subst (λ (entries : List Entry). AreBodies entries load_bodies) (sym entries_are) (bodies_are names 16 refl (omega (arith, elf_size))))
     (within_limits seed)
 
 -- sixteen times 28 bytes and 216 behind 80

@@ -3,8 +3,9 @@ use Rattle.std.proofs.Common.{◌≡◌, ◌∙◌, ℕ, List, [], ◌++◌, len
 use Rattle.std.specs.List.{flat_map}
 use Rattle.std.specs.Fmt.{digits}
 use Rattle.line_text.specs.Text.{dec_text}
-use Rattle.boot_image.specs.ImageValue.{HeaderValue}
-use Rattle.boot_image.specs.Spelling.{EntryValue, header_text, programs_text, slot_byte}
+use Rattle.boot_image.specs.declared.entry.Entry.{Entry}
+use Rattle.boot_image.specs.declared.header.Header.{Header}
+use Rattle.boot_image.specs.Spelling.{header_text, programs_text, slot_byte}
 use Rattle.exos_text.specs.declared.image.TheConstants.{NAMES}
 use Rattle.exos_text.specs.LoadImage.{load_bodies, load_entries, load_entry, load_image_text, load_quantum, load_slots, named_text}
 use Rattle.exos_text.proofs.Programs.{entries_are, names, with_one_body}
@@ -26,10 +27,10 @@ entries_count = refl
 programs_are : (written : List (List ℕ)) → written ≡ names → flat_map named_text written ≡ programs_text load_entries load_bodies
 programs_are written are =
     sym (with_one_body written 16 (ap length are))
-    ∙ ap (λ (entries : List EntryValue). programs_text entries load_bodies) (ap (map load_entry) are ∙ sym entries_are)
+    ∙ ap (λ (entries : List Entry). programs_text entries load_bodies) (ap (map load_entry) are ∙ sym entries_are)
 
 -- the header, with a quantum
-abbrev header : ℕ → ℕ → HeaderValue
+abbrev header : ℕ → ℕ → Header
 header quantum environments = record { pages = 256; quantum = quantum; environments = environments; slots = 64 }
 
 text_is : (seed : ℕ) (programs : List ℕ) → programs ≡ programs_text load_entries load_bodies

@@ -3,7 +3,9 @@ use Rattle.std.specs.Prelude.{ℕ, ◌+◌, ◌/◌, ◌%◌, ◌^◌, List, ◌
 use Rattle.std.specs.List.{range_with_len}
 use Rattle.line_text.specs.Text.{dec_text}
 use Rattle.boot_image.specs.ImageValue.{ImageValue}
-use Rattle.boot_image.specs.Spelling.{Elf, EntryValue, PlanValue, image_text, image_with, program_text}
+use Rattle.boot_image.specs.declared.entry.Entry.{Entry}
+use Rattle.boot_image.specs.declared.entry.Kind.TheVariants.{Elf}
+use Rattle.boot_image.specs.Spelling.{PlanValue, image_text, image_with, program_text}
 use Rattle.exos_text.specs.Draws.{drawn}
 use Rattle.exos_text.specs.LoadElf.{load_elf}
 
@@ -20,10 +22,10 @@ abbrev pub load_name : ℕ → List ℕ
 load_name env = take 8 (codes "l" ++ dec_text env ++ replicate 8 0)
 
 -- Each program is an ELF file, without a stack, and accepts transfers from nobody.
-abbrev pub load_entry : List ℕ → EntryValue
+abbrev pub load_entry : List ℕ → Entry
 load_entry name = record { name = name; kind = Elf; stack = 0; accept = 0 }
 
-unfoldable pub load_entries : List EntryValue
+unfoldable pub load_entries : List Entry
 load_entries = map load_entry (map load_name (range_with_len 0 16))
 
 abbrev pub load_plan : ℕ → PlanValue

@@ -1,48 +1,41 @@
 -- One program more, which fits or is one too crowded.
-use Rattle.std.proofs.Common.{◌≡◌, ◌+◌, ◌-◌, List, [], ◌∷◌, ◌++◌, Option, Some, map, ap, sym, ◌∙◌, arith}
-use Rattle.boot_image.specs.declared.fault.ImageFault.{ImageFault}
-use Rattle.boot_image.specs.ImageValue.{ProgramValue, body_end, program_at, headers_from}
-use Rattle.elf_static.specs.Faulting.{◌or_else◌}
-use Rattle.boot_image.specs.ImageFaults.{first_fault, mappings_fault, program_fault}
-use Rattle.boot_image.specs.Parts.{PlacedValue, if_fitting}
-use Rattle.boot_image.proofs.Programs.{bodies_end-step, fault-step, later-step, list-step, fitting_some, fitting_none, or_is, none_or_some}
+use Rattle.std.proofs.Common.{◌≡◌, suc, ◌+◌, ◌-◌, None, ap, append_assoc, sym, ◌∙◌, arith}
+use Rattle.boot_image.specs.declared.program.Placed.{Placed}
+use Rattle.boot_image.specs.ImageValue.{body_end, program_at}
+use Rattle.boot_image.specs.ImageFaults.{fault, mappings_fault}
+use Rattle.boot_image.specs.declared.fault.ImageWhy.TheVariants.{TooMany}
+use Rattle.boot_image.specs.Parts.{if_fitting}
+use Rattle.boot_image.proofs.Programs.{few, is_read, many, none_or_some, or_some}
 use Rattle.boot_image.proofs.program.read_programs.Goals as goal
 use Rattle.boot_image.proofs.program.read_programs.Goals.{in-Some, in-None}
 
 pub loop-preserved : goal.loop-preserved
 loop-preserved c =
     let file = c.args.file.now in
-    let count = c.args.count in
-    let i = c.loop.counter in
     let header = c.loop.end in
-    let next = c.in_ok-placed.placed.end in
+    let program = program_at file header in
     let answer = c.in_ok-placed.ensures.answer in
-    let ends : next ≡ body_end file header = ap (λ (p : PlacedValue). p.end) answer.1 in
-    let is : c.in_ok-placed.placed.program ≡ if_fitting (program_at file header) = ap (λ (p : PlacedValue). p.program) answer.1 in
-    let left = headers_from (count - (i + 1)) file next in
+    let ends : c.in_ok-placed.placed.end ≡ body_end file header = ap (λ (p : Placed). p.end) answer.1 in
+    let is : c.in_ok-placed.placed.program ≡ if_fitting program = ap (λ (p : Placed). p.program) answer.1 in
+    let step : c.args.count - c.loop.counter ≡ suc (c.args.count - (c.loop.counter + 1)) = omega (arith, c.loop-test.true) in
     record {
-      fault = sym (fault-step (program_fault file) count i file header next c.loop-test.true ends answer.0) ∙ c.loop.invariant.fault;
+      fault = rw ends (rw (step, answer.0) at c.loop.invariant.fault);
       crowded = elim c.match-placed.branch [
         | in-Some w ↦
-            ap (λ (found : Option ImageFault). found or_else first_fault (mappings_fault file) left) w.crowded-is
-            ∙ ap (λ (later : Option ImageFault). c.loop.crowded or_else later)
-            (sym (fault-step (mappings_fault file) count i file header next c.loop-test.true ends (fitting_some (program_at file header) w.in-Some.program header (sym is ∙ w.in-Some.is)).1))
-            ∙ c.loop.invariant.crowded
+            let none : mappings_fault file header ≡ None = few program w.in-Some.program header (sym is ∙ w.in-Some.is) in
+            rw (w.crowded-is, ends) (rw (step, none) at c.loop.invariant.crowded)
         | in-None w ↦
-            ap (λ (found : Option ImageFault). found or_else first_fault (mappings_fault file) left)
-            (w.crowded-is ∙ w.or-crowded.ensures ∙ or_is c.loop.crowded (Some w.at-fault.result)
-            ∙ ap (λ (f : Option ImageFault). c.loop.crowded or_else f) (ap Some w.at-fault.ensures ∙ sym (fitting_none (program_at file header) header (sym is ∙ w.in-None.is))))
-            ∙ later-step (mappings_fault file) c.loop.crowded count i file header next c.loop-test.true ends
-            ∙ c.loop.invariant.crowded
+            let more : mappings_fault file header ≡ fault TooMany header = many program header (sym is ∙ w.in-None.is) in
+            rw (w.crowded-is, w.or-crowded.ensures, w.at-fault.ensures) (or_some c.loop.crowded _ _ ∙ (rw (step, more) at c.loop.invariant.crowded))
       ];
       list = elim c.match-placed.branch [
         | in-Some w ↦ λ none.
-            ap (λ (xs : List ProgramValue). xs ++ map (program_at file) left) (ap (λ v. v.items) w.list-is ∙ w.push.ensures.items ∙ ap (λ (p : ProgramValue). c.loop.list.items ++ p ∷ []) w.in-Some.program-is)
-            ∙ list-step c.loop.list.items w.in-Some.program count i file header next c.loop-test.true ends (fitting_some (program_at file header) w.in-Some.program header (sym is ∙ w.in-Some.is)).0
-            ∙ c.loop.invariant.list (sym w.crowded-is ∙ none)
+            let same = is_read program w.in-Some.program (sym is ∙ w.in-Some.is) in
+            rw (w.list-is, w.push.ensures.items, w.in-Some.program-is, same, ends)
+            (append_assoc c.loop.list.items _ _ ∙ (rw step at c.loop.invariant.list (sym w.crowded-is ∙ none)))
         | in-None w ↦ λ none. absurd (none_or_some c.loop.crowded w.at-fault.result (sym (w.crowded-is ∙ w.or-crowded.ensures) ∙ none))
       ];
-      last = sym (bodies_end-step count i file header next c.loop-test.true ends) ∙ c.loop.invariant.last;
+      last = rw ends (rw step at c.loop.invariant.last);
       within = c.in_ok-placed.ensures.whole;
       count = elim c.match-placed.branch [
         | in-Some w ↦ rw w.list-is (omega (arith, w.push.ensures.len, c.loop.invariant.count))
