@@ -5,8 +5,7 @@ use Rattle.std.specs.List.{list_any, cons_option}
 use Rattle.std.proofs.lemmas.List.{map_push, append-nil}
 use Rattle.elf_static.specs.declared.segment.Segment.{Segment}
 use Rattle.elf_static.specs.ElfValue.{SegmentValue, headers_from}
-use Rattle.elf_static.specs.ElfParts.{kept_seen}
-use Rattle.elf_static.specs.SegmentSeen.{segment_seen, segments_seen}
+use Rattle.elf_static.specs.SegmentSeen.{kept_seen, segment_seen, segments_seen}
 
 -- a test of what is seen of some segment
 pub list_any_seen : (test : SegmentValue → Bool) (segments : List Segment)

@@ -2,6 +2,7 @@
 use Rattle.std.specs.Prelude.{ℕ, zero, suc, ◌+◌, ◌/◌, ◌%◌, ◌^◌, ◌==◌, not, Bool, ◌&&◌, List, [], ◌∷◌, Option, None, Some, take, drop, slice_index, if◌then◌else◌}
 use Rattle.std.specs.List.{filter_map}
 use Rattle.byte_numbers.specs.Numbers.{half_at, word_at}
+use Rattle.elf_static.specs.declared.header.Table.{Table}
 
 -- a segment: the address of its first byte, what the file gives of its bytes, of which the others are
 -- zeros, how many there are in memory, and whether stores into it are allowed
@@ -44,6 +45,10 @@ header_size_in file = half_at file 42
 
 abbrev pub header_count_in : List ℕ → ℕ
 header_count_in file = half_at file 44
+
+-- where the program headers stand, and how many there are
+abbrev pub table_of : List ℕ → Table
+table_of file = record { first = first_header file; count = header_count_in file }
 
 -- The program headers, one behind the other, each of 32 bytes.
 abbrev pub headers_from : ℕ → ℕ → List ℕ

@@ -9,6 +9,5 @@ pub mod SegmentSeen
 pub mod Faulting
 pub mod Apart
 pub mod AcceptedElf
-pub mod ElfParts
 pub mod Loaded
 pub mod Smallest

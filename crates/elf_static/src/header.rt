@@ -2,7 +2,7 @@
 ghost use Rattle.std.specs.Prelude.{◌+◌, ◌*◌, ◌<◌, ◌≤◌, ◌^◌, IfOk, IfErr, OnOk, length};
 ghost use Rattle.elf_static.specs.ElfFaults.{kind_fault, place_fault};
 ghost use Rattle.elf_static.specs.Faulting.{Answers};
-ghost use Rattle.elf_static.specs.ElfParts.{table_of};
+ghost use Rattle.elf_static.specs.ElfValue.{table_of};
 
 use crate::fault::{ElfFault, ElfWhy};
 use crate::layout::{

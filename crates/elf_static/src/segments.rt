@@ -4,8 +4,7 @@ ghost use Rattle.std.specs.List.{list_any};
 ghost use Rattle.elf_static.specs.ElfValue.{headers_from, kept_at, segments_of, segment_at};
 ghost use Rattle.elf_static.specs.ElfFaults.{header_fault, headers_fault, is_in_range, is_covered, meets};
 ghost use Rattle.elf_static.specs.Faulting.{Answers};
-ghost use Rattle.elf_static.specs.SegmentSeen.{segment_seen, segments_seen};
-ghost use Rattle.elf_static.specs.ElfParts.{kept_seen};
+ghost use Rattle.elf_static.specs.SegmentSeen.{kept_seen, segment_seen, segments_seen};
 
 use crate::fault::{ElfFault, ElfWhy};
 use crate::header::Table;
