@@ -13,7 +13,6 @@ mod image;
 mod law;
 mod layout;
 mod limits;
-mod name;
 mod program;
 mod reading;
 mod writing;

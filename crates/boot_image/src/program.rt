@@ -1,6 +1,6 @@
 //! The programs of an image.
 ghost use Rattle.std.specs.Prelude.{◌≡◌, ◌+◌, ◌<◌, ◌≤◌, ◌^◌, IfOk, IfErr, OnOk, length, sum_by, true};
-ghost use Rattle.std.specs.Prelude.{drop, ◌==◌, position};
+ghost use Rattle.std.specs.Prelude.{drop, take, ◌==◌, position};
 ghost use Rattle.std.specs.List.{list_all};
 ghost use Rattle.aegis_limits.specs.Limits.{most_environments};
 ghost use Rattle.boot_image.specs.ImageValue.{body_end, body_of, bytes_in, flat_body, base_in, kind_in, headers_from, name_text, guaranteed_mappings};
@@ -15,7 +15,6 @@ use crate::layout::{
     STACK_AT,
 };
 use crate::limits::{BODY_LIMIT, LEAST_BASE, MOST_STACK_PAGES, PAGE_SIZE};
-use crate::name::name_at;
 use aegis_limits::MOST_ENVIRONMENTS;
 use arrayvec::ArrayVec;
 use byte_numbers::word_at;
@@ -140,6 +139,16 @@ fn flat_body(base: u32, bytes: &[u8]) -> Elf<'_>
         entry: base,
         segments,
     }
+}
+
+/// The eight bytes from `place` on, where a program's name stands.
+fn name_at(file: &[u8], place: usize) -> [u8; NAME_SIZE]
+    requires { place + 8 ≤ length file.now }
+    ensures { result ≡ take 8 (drop place file.now) }
+{
+    let mut name = [0; NAME_SIZE];
+    name.copy_from_slice(&file[place..place + NAME_SIZE]);
+    name
 }
 
 /// Whether these bytes are the name of a program: one to eight of `a` to `z`, `0` to `9` and `_`, and then zeros.
