@@ -1,4 +1,3 @@
 pub mod Registers
-pub mod Places
 pub mod Rising
 pub mod Lines

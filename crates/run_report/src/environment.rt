@@ -57,25 +57,16 @@ fn push_env_line<V: WorldView>(out: &mut Vec<u8>, view: &V, env: u8) -> Result<(
 fn push_life_line(out: &mut Vec<u8>, who: u8, name: &[u8], life: Life) -> Result<(), OutOfMemory>
     ensures { OnOk result (out.new.items ≡ out.old.items ++ line (codes "env" ∷ dec_text who ∷ name.now ∷ life_words life)) }
 {
-    let (who, name, dead) = (env(who), Word::Text(name), Word::Text(b"dead"));
-    match life {
-        Life::Live => push_line(out, b"env", &[who, name, Word::Text(b"live")]),
-        Life::Dead(Cause::Exit(code)) => push_line(
-            out,
-            b"env",
-            &[who, name, Word::Text(b"exit"), number(code)],
-        ),
-        Life::Dead(Cause::Trapped(code)) => push_line(
-            out,
-            b"env",
-            &[who, name, dead, Word::Text(exception_text(code))],
-        ),
-        Life::Dead(Cause::Excess) => push_line(
-            out,
-            b"env",
-            &[who, name, dead, Word::Text(b"excess")],
-        ),
-    }
+    let (who, name) = (env(who), Word::Text(name));
+    let Life::Dead(cause) = life else {
+        return push_line(out, b"env", &[who, name, Word::Text(b"live")]);
+    };
+    let (how, why) = match cause {
+        Cause::Exit(code) => (Word::Text(b"exit"), number(code)),
+        Cause::Trapped(code) => (Word::Text(b"dead"), Word::Text(exception_text(code))),
+        Cause::Excess => (Word::Text(b"dead"), Word::Text(b"excess")),
+    };
+    push_line(out, b"env", &[who, name, how, why])
 }
 
 /// The name of an exception.
@@ -106,12 +97,8 @@ fn push_out_line<V: WorldView>(out: &mut Vec<u8>, view: &V, who: u8) -> Result<(
     ensures { OnOk result (out.new.items ≡ out.old.items ++ out_line who ((V.world view.now).solos who)) }
 {
     let console = view.console(who);
-    let words = [
-        env(who),
-        Word::Number(console.len() as u64),
-        Word::Quotation(console),
-    ];
-    push_line(out, b"out", &words)
+    let length = Word::Number(console.len() as u64);
+    push_line(out, b"out", &[env(who), length, Word::Quotation(console)])
 }
 
 /// Appends the line of an environment's excess.
@@ -122,12 +109,15 @@ fn push_excess_line(out: &mut Vec<u8>, who: u8, excess: u32) -> Result<(), OutOf
     push_line(out, b"excess", &[env(who), number(excess)])
 }
 
-/// Appends what is shown of an environment while it lives.
+/// Appends what is shown of an environment only while it lives.
 #[tactic(auto, unfolding(crate::specs::Report::living_lines))]
-fn push_living_lines<V: WorldView>(out: &mut Vec<u8>, view: &V, env: u8) -> Result<(), OutOfMemory>
+fn push_if_live<V: WorldView>(out: &mut Vec<u8>, view: &V, env: u8) -> Result<(), OutOfMemory>
     requires { env < (V.world view.now).count }
-    ensures { OnOk result (out.new.items ≡ out.old.items ++ living_lines (V.world view.now) env) }
+    ensures { OnOk result (out.new.items ≡ out.old.items ++ if_live ((V.world view.now).solos env).life (living_lines (V.world view.now) env)) }
 {
+    if let Life::Dead(_) = view.life(env) {
+        return Ok(());
+    }
     let cpu = shown_cpu(view, env);
     push_cpu_line(out, env, &cpu)?;
     push_regs_line(out, env, &cpu)?;
@@ -135,15 +125,4 @@ fn push_living_lines<V: WorldView>(out: &mut Vec<u8>, view: &V, env: u8) -> Resu
     push_keep_lines(out, view, env)?;
     push_page_lines(out, view, env)?;
     push_bind_lines(out, view, env)
-}
-
-/// Appends what is shown of an environment only while it lives.
-fn push_if_live<V: WorldView>(out: &mut Vec<u8>, view: &V, env: u8) -> Result<(), OutOfMemory>
-    requires { env < (V.world view.now).count }
-    ensures { OnOk result (out.new.items ≡ out.old.items ++ if_live ((V.world view.now).solos env).life (living_lines (V.world view.now) env)) }
-{
-    match view.life(env) {
-        Life::Live => push_living_lines(out, view, env),
-        Life::Dead(_) => Ok(()),
-    }
 }

@@ -3,10 +3,10 @@ ghost use Rattle.std.specs.Prelude.{◌≡◌, ◌++◌, [], ◌∷◌, Some, On
 ghost use Rattle.std.specs.List.{flat_map};
 ghost use Rattle.run_report.specs.Report.{numbers_line, row_line};
 
-use crate::words::{env, env_or_dash, number, number_or_dash};
+use crate::words::{env, number};
 use aegis_limits::OutOfMemory;
 use kernel_journal::Row;
-use line_text::push_line;
+use line_text::{Word, push_line};
 
 /// Appends the rows.
 pub(crate) fn push_rows(out: &mut Vec<u8>, rows: &[Row]) -> Result<(), OutOfMemory>
@@ -59,13 +59,9 @@ fn push_row(out: &mut Vec<u8>, row: Row) -> Result<(), OutOfMemory>
             owner,
             holder,
         } => {
-            let numbers = [
-                number(time),
-                number(slot),
-                env_or_dash(owner),
-                env_or_dash(holder),
-            ];
-            push_line(out, b"own", &numbers)
+            let owner = owner.map_or(Word::Dash, env);
+            let holder = holder.map_or(Word::Dash, env);
+            push_line(out, b"own", &[number(time), number(slot), owner, holder])
         }
         Row::Run { time, slot, env } => push_turn(out, b"run", time, slot, env),
         Row::Pay { time, slot, env } => push_turn(out, b"pay", time, slot, env),
@@ -94,11 +90,8 @@ fn push_row(out: &mut Vec<u8>, row: Row) -> Result<(), OutOfMemory>
             env: who,
             excess,
         } => {
-            push_line(
-                out,
-                b"over",
-                &[number(time), number(slot), env(who), number(excess)],
-            )
+            let numbers = [number(time), number(slot), env(who), number(excess)];
+            push_line(out, b"over", &numbers)
         }
         Row::Stop { time, slot, env } => push_turn(out, b"stop", time, slot, env),
         Row::Dead { time, slot, env } => push_turn(out, b"dead", time, slot, env),
@@ -108,12 +101,8 @@ fn push_row(out: &mut Vec<u8>, row: Row) -> Result<(), OutOfMemory>
             outstanding,
             deadline,
         } => {
-            let numbers = [
-                number(time),
-                env(who),
-                number(outstanding),
-                number(deadline),
-            ];
+            let deadline = number(deadline);
+            let numbers = [number(time), env(who), number(outstanding), deadline];
             push_line(out, b"asked", &numbers)
         }
         Row::Take {
@@ -122,8 +111,12 @@ fn push_row(out: &mut Vec<u8>, row: Row) -> Result<(), OutOfMemory>
             page,
             backup,
         } => {
-            let numbers = [number(time), env(who), number(page), number_or_dash(backup)];
-            push_line(out, b"take", &numbers)
+            let backup = backup.map_or(Word::Dash, number);
+            push_line(
+                out,
+                b"take",
+                &[number(time), env(who), number(page), backup],
+            )
         }
         Row::Unclaimed { time, length } => {
             push_line(out, b"drop", &[number(time), number(length)])

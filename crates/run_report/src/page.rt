@@ -28,15 +28,12 @@ fn push_keep_line(out: &mut Vec<u8>, who: u8, page: PageView<'_>) -> Result<(), 
     ensures { OnOk result (out.new.items ≡ out.old.items ++ keep_line who (view_seen page.entry)) }
 {
     let fingerprint = fingerprint(page.bytes);
-    let words = [
-        env(who),
-        Word::PageNumber(page.vpn),
-        Word::Text(&fingerprint),
-    ];
-    push_line(out, b"keep", &words)
+    let vpn = Word::PageNumber(page.vpn);
+    push_line(out, b"keep", &[env(who), vpn, Word::Text(&fingerprint)])
 }
 
 /// Appends the lines of an environment's pages.
+#[tactic(auto, using(std::proofs::lemmas::Grind::common_steps, std::proofs::lemmas::Option::gets))]
 pub(crate) fn push_keep_lines<V: WorldView>(
     out: &mut Vec<u8>,
     view: &V,
@@ -59,11 +56,8 @@ fn push_page_line(out: &mut Vec<u8>, who: u8, page: u32, bytes: &[u8]) -> Result
     ensures { OnOk result (out.new.items ≡ out.old.items ++ page_line who page bytes.now) }
 {
     let fingerprint = fingerprint(bytes);
-    push_line(
-        out,
-        b"page",
-        &[env(who), number(page), Word::Text(&fingerprint)],
-    )
+    let page = number(page);
+    push_line(out, b"page", &[env(who), page, Word::Text(&fingerprint)])
 }
 
 /// Appends the line of a page, where the environment owns it.
@@ -84,6 +78,7 @@ fn push_if_owned<V: WorldView>(
 }
 
 /// Appends the lines of the pages that an environment owns, by rising number.
+#[tactic(auto, using(std::proofs::lemmas::Grind::common_steps, crate::proofs::Lines::for_each_more))]
 pub(crate) fn push_page_lines<V: WorldView>(
     out: &mut Vec<u8>,
     view: &V,

@@ -1,9 +1,6 @@
 //! The registers that a report shows of a living environment.
 ghost use Rattle.std.specs.Prelude.{◌≡◌, ◌++◌, ◌<◌, OnOk};
-ghost use Rattle.std.specs.List.{flat_map};
-ghost use Rattle.world_model.specs.Table.{listed};
-ghost use Rattle.line_text.specs.WrittenLine.{spaced};
-ghost use Rattle.run_report.specs.Report.{shown_cpu, cpu_line, register_text, regs_line};
+ghost use Rattle.run_report.specs.Report.{shown_cpu, cpu_line, regs_line};
 
 use crate::words::env;
 use aegis_limits::OutOfMemory;
@@ -22,10 +19,8 @@ pub(crate) fn shown_cpu<V: WorldView>(view: &V, env: u8) -> Cpu
     ensures { result ≡ shown_cpu (V.world view.now) env }
 {
     let cpu = view.cpu(env);
-    match view.runner() {
-        Some(runner) if runner == env => cpu,
-        _ => cpu.rested(),
-    }
+    let runs = view.runner() == Some(env);
+    if runs { cpu } else { cpu.rested() }
 }
 
 /// Appends the line of the program counters, the slot flag, HI and LO.
@@ -45,23 +40,14 @@ pub(crate) fn push_cpu_line(out: &mut Vec<u8>, who: u8, cpu: &Cpu) -> Result<(),
 }
 
 /// Appends the line of registers 1 to 31.
-#[tactic(auto, unfolding(crate::specs::Report::regs_line))]
+#[tactic(auto, using(std::proofs::lemmas::Grind::common_steps, crate::proofs::Registers::words_more), unfolding(crate::specs::Report::regs_line))]
 pub(crate) fn push_regs_line(out: &mut Vec<u8>, who: u8, cpu: &Cpu) -> Result<(), OutOfMemory>
     ensures { OnOk result (out.new.items ≡ out.old.items ++ regs_line who cpu.now) }
 {
     push_word(out, Word::Text(b"regs"))?;
     push_spaced(out, env(who))?;
-    push_registers(out, cpu)?;
-    end_line(out)
-}
-
-/// Appends registers 1 to 31, a word each.
-#[tactic(auto, using(std::proofs::lemmas::Grind::common_steps, crate::proofs::Registers::words_more))]
-fn push_registers(out: &mut Vec<u8>, cpu: &Cpu) -> Result<(), OutOfMemory>
-    ensures { OnOk result (out.new.items ≡ out.old.items ++ flat_map spaced (listed (register_text cpu.now) 31)) }
-{
     for behind in 0..SHOWN_REGISTERS {
         push_spaced(out, Word::Hexadecimal(cpu.reg(behind + 1)))?;
     }
-    Ok(())
+    end_line(out)
 }

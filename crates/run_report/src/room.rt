@@ -13,8 +13,8 @@ const ENVIRONMENT: usize = 640;
 /// The most bytes of a page's line, with its fingerprint.
 const PAGE: usize = 96;
 
-/// The most bytes of a binding's line.
-const BINDING: usize = 32;
+/// The most bytes of the lines of an environment's bindings: those of 256 rows.
+const BINDINGS: usize = 256 * 32;
 
 /// The most bytes of a byte of a console, as it is quoted.
 const QUOTED: usize = 4;
@@ -24,38 +24,8 @@ const SENT: usize = 24;
 
 const DIGITS: usize = 2;
 
-/// The rows of bindings of an environment.
-const BINDING_ROWS: u32 = 256;
-
 /// The first line, how the run ended, and the last line.
 const FRAME: usize = 64;
-
-/// The room for the lines of the packets that an environment sent.
-fn sent_room<V: WorldView>(view: &V, env: u8) -> usize
-    requires { env < (V.world view.now).count }
-{
-    let mut room: usize = 0;
-    for place in 0..view.sent_count(env) {
-        let size = view.sent_packet(env, place).map_or(0, <[u8]>::len);
-        room = room
-            .saturating_add(SENT)
-            .saturating_add(size.saturating_mul(DIGITS));
-    }
-    room
-}
-
-/// The room for the lines of an environment's bindings.
-fn binding_room<V: WorldView>(view: &V, env: u8) -> usize
-    requires { env < (V.world view.now).count }
-{
-    let mut room: usize = 0;
-    for row in 0..BINDING_ROWS {
-        if view.binding(env, row).is_some() {
-            room = room.saturating_add(BINDING);
-        }
-    }
-    room
-}
 
 /// The room for the lines of an environment, but for those of pages that it allocated.
 fn environment_room<V: WorldView>(view: &V, env: u8) -> usize
@@ -63,11 +33,15 @@ fn environment_room<V: WorldView>(view: &V, env: u8) -> usize
 {
     let console = view.console(env).len().saturating_mul(QUOTED);
     let pages = view.kept_count(env).saturating_mul(PAGE);
-    ENVIRONMENT
+    let mut room = (ENVIRONMENT + BINDINGS)
         .saturating_add(console)
-        .saturating_add(pages)
-        .saturating_add(binding_room(view, env))
-        .saturating_add(sent_room(view, env))
+        .saturating_add(pages);
+    for place in 0..view.sent_count(env) {
+        let bytes = view.sent_packet(env, place).map_or(0, <[u8]>::len);
+        let sent = bytes.saturating_mul(DIGITS).saturating_add(SENT);
+        room = room.saturating_add(sent);
+    }
+    room
 }
 
 /// At least as many bytes as the report has.

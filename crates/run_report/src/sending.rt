@@ -12,15 +12,12 @@ use world_model::WorldView;
 fn push_sent_line(out: &mut Vec<u8>, who: u8, packet: &[u8]) -> Result<(), OutOfMemory>
     ensures { OnOk result (out.new.items ≡ out.old.items ++ sent_line who packet.now) }
 {
-    let words = [
-        env(who),
-        Word::Number(packet.len() as u64),
-        Word::Bytes(packet),
-    ];
-    push_line(out, b"sent", &words)
+    let length = Word::Number(packet.len() as u64);
+    push_line(out, b"sent", &[env(who), length, Word::Bytes(packet)])
 }
 
 /// Appends the lines of the packets that an environment sent, in their order.
+#[tactic(auto, using(std::proofs::lemmas::Grind::common_steps, std::proofs::lemmas::Option::gets))]
 pub(crate) fn push_sent_lines<V: WorldView>(
     out: &mut Vec<u8>,
     view: &V,

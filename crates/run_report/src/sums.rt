@@ -9,55 +9,31 @@ use aegis_limits::OutOfMemory;
 use kernel_journal::Row;
 use line_text::{Word, push_line};
 
-/// Whether a row is a turn of the environment.
-fn is_run_of(row: &Row, env: u8) -> bool
-    ensures { result ≡ is_run_of env row.now }
-{
-    match row {
-        Row::Run { env: who, .. } => *who == env,
-        _ => false,
-    }
-}
-
-/// Whether a row is a turn that the environment forfeited.
-fn is_pay_of(row: &Row, env: u8) -> bool
-    ensures { result ≡ is_pay_of env row.now }
-{
-    match row {
-        Row::Pay { env: who, .. } => *who == env,
-        _ => false,
-    }
-}
-
-/// Whether a row is a quantum of the environment's excess.
-fn is_over_of(row: &Row, env: u8) -> bool
-    ensures { result ≡ is_over_of env row.now }
-{
-    match row {
-        Row::Over { env: who, .. } => *who == env,
-        _ => false,
-    }
-}
-
 /// How many turns the environment had.
-fn runs_of(rows: &[Row], env: u8) -> usize
-    ensures { result ≡ count_by (is_run_of env) rows.now }
+fn runs_of(rows: &[Row], who: u8) -> usize
+    ensures { result ≡ count_by (is_run_of who) rows.now }
 {
-    rows.iter().filter(|row| is_run_of(row, env)).count()
+    rows.iter()
+        .filter(|row| matches!(row, Row::Run { env, .. } if *env == who))
+        .count()
 }
 
 /// How many turns the environment forfeited.
-fn pays_of(rows: &[Row], env: u8) -> usize
-    ensures { result ≡ count_by (is_pay_of env) rows.now }
+fn pays_of(rows: &[Row], who: u8) -> usize
+    ensures { result ≡ count_by (is_pay_of who) rows.now }
 {
-    rows.iter().filter(|row| is_pay_of(row, env)).count()
+    rows.iter()
+        .filter(|row| matches!(row, Row::Pay { env, .. } if *env == who))
+        .count()
 }
 
 /// How many quanta of excess the environment ran.
-fn overs_of(rows: &[Row], env: u8) -> usize
-    ensures { result ≡ count_by (is_over_of env) rows.now }
+fn overs_of(rows: &[Row], who: u8) -> usize
+    ensures { result ≡ count_by (is_over_of who) rows.now }
 {
-    rows.iter().filter(|row| is_over_of(row, env)).count()
+    rows.iter()
+        .filter(|row| matches!(row, Row::Over { env, .. } if *env == who))
+        .count()
 }
 
 /// Appends the line of an environment's sums.
@@ -65,14 +41,8 @@ fn overs_of(rows: &[Row], env: u8) -> usize
 pub(crate) fn push_sum_line(out: &mut Vec<u8>, rows: &[Row], who: u8) -> Result<(), OutOfMemory>
     ensures { OnOk result (out.new.items ≡ out.old.items ++ sum_line rows.now who) }
 {
-    let runs = runs_of(rows, who) as u64;
-    let pays = pays_of(rows, who) as u64;
-    let overs = overs_of(rows, who) as u64;
-    let counts = [
-        env(who),
-        Word::Number(runs),
-        Word::Number(pays),
-        Word::Number(overs),
-    ];
-    push_line(out, b"sum", &counts)
+    let runs = Word::Number(runs_of(rows, who) as u64);
+    let pays = Word::Number(pays_of(rows, who) as u64);
+    let overs = Word::Number(overs_of(rows, who) as u64);
+    push_line(out, b"sum", &[env(who), runs, pays, overs])
 }

@@ -67,11 +67,8 @@ fn push_report_line<V: WorldView>(
 fn push_end_line<V: WorldView>(out: &mut Vec<u8>, view: &V, end: RunEnd) -> Result<(), OutOfMemory>
     ensures { OnOk result (out.new.items ≡ out.old.items ++ end_line (V.world view.now) end) }
 {
-    push_line(
-        out,
-        b"end",
-        &[Word::Text(end_text(end)), number(view.time())],
-    )
+    let how = Word::Text(end_text(end));
+    push_line(out, b"end", &[how, number(view.time())])
 }
 
 /// The name of how a run ended.
@@ -85,6 +82,7 @@ fn end_text(end: RunEnd) -> &'static [u8]
 }
 
 /// Appends the lines of each environment.
+#[tactic(auto, using(std::proofs::lemmas::Grind::common_steps, crate::proofs::Lines::for_each_more))]
 fn push_envs<V: WorldView>(out: &mut Vec<u8>, view: &V) -> Result<(), OutOfMemory>
     ensures { OnOk result (out.new.items ≡ out.old.items ++ for_each (env_text (V.world view.now)) (V.world view.now).count) }
 {
@@ -95,6 +93,7 @@ fn push_envs<V: WorldView>(out: &mut Vec<u8>, view: &V) -> Result<(), OutOfMemor
 }
 
 /// Appends the sums of each environment.
+#[tactic(auto, using(std::proofs::lemmas::Grind::common_steps, crate::proofs::Lines::for_each_more))]
 fn push_sums<V: WorldView>(out: &mut Vec<u8>, view: &V) -> Result<(), OutOfMemory>
     ensures { OnOk result (out.new.items ≡ out.old.items ++ for_each (sum_line (V.world view.now).rows) (V.world view.now).count) }
 {
