@@ -1,5 +1,4 @@
 pub mod Bodies
-pub mod FormLemmas
 pub mod OwnerLemmas
 pub mod ReadingLemmas
 pub mod Sizes

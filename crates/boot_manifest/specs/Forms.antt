@@ -22,12 +22,15 @@ pub record EnvWords : Type 0 where
   pub accept : List ℕ
   pub file : List ℕ
 
--- `env NAME flat BASE STACK ACCEPT FILE` or `env NAME elf STACK ACCEPT FILE`
+-- `NAME flat BASE STACK ACCEPT FILE` or `NAME elf STACK ACCEPT FILE`
+abbrev pub program_form : List (List ℕ) → Option EnvWords
+program_form (name ∷ kind ∷ base ∷ stack ∷ accept ∷ file ∷ []) =
+    if bytes_eq kind (codes "flat") then Some (record { name = name; base = Some base; stack = stack; accept = accept; file = file }) else None
+program_form (name ∷ kind ∷ stack ∷ accept ∷ file ∷ []) =
+    if bytes_eq kind (codes "elf") then Some (record { name = name; base = None; stack = stack; accept = accept; file = file }) else None
+program_form words = None
+
+-- `env ..`, with these behind it
 abbrev pub env_form : List (List ℕ) → Option EnvWords
-env_form (first ∷ name ∷ kind ∷ base ∷ stack ∷ accept ∷ file ∷ []) =
-    if bytes_eq first (codes "env") && bytes_eq kind (codes "flat")
-    then Some (record { name = name; base = Some base; stack = stack; accept = accept; file = file }) else None
-env_form (first ∷ name ∷ kind ∷ stack ∷ accept ∷ file ∷ []) =
-    if bytes_eq first (codes "env") && bytes_eq kind (codes "elf")
-    then Some (record { name = name; base = None; stack = stack; accept = accept; file = file }) else None
-env_form words = None
+env_form [] = None
+env_form (first ∷ words) = if bytes_eq first (codes "env") then program_form words else None

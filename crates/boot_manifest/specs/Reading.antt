@@ -1,5 +1,5 @@
 -- The first fault of a manifest, and what it says if it has none.
-use Rattle.std.specs.Prelude.{ℕ, zero, suc, List, [], ◌∷◌, Option, Some, None, Result, Err, nat_lt, nat_le, if◌then◌else◌, codes}
+use Rattle.std.specs.Prelude.{ℕ, zero, suc, List, [], ◌∷◌, Option, Some, None, Result, nat_lt, nat_le, if◌then◌else◌, codes}
 use Rattle.std.specs.List.{filter_map}
 use Rattle.std.specs.Option.{ok_or, option_and_then, option_map, option_or}
 use Rattle.std.specs.Result.{result_err, result_ok, result_unwrap_or}
@@ -8,6 +8,7 @@ use Rattle.line_text.specs.declared.failure.LineFault.{LineFault}
 use Rattle.line_text.specs.Failing.{fault_at}
 use Rattle.line_text.specs.Lines.{LineValue, lines_of}
 use Rattle.line_text.specs.Number.{number_within}
+use Rattle.line_text.specs.Outcome.{◌>>=◌}
 use Rattle.line_text.specs.Statements.{end_of, statements_of}
 use Rattle.line_text.specs.Words.{line_words}
 use Rattle.boot_manifest.specs.declared.fault.ManifestWhy.{ManifestWhy}
@@ -16,14 +17,11 @@ use Rattle.boot_manifest.specs.Forms.{count_form, env_form, slots_form}
 use Rattle.boot_manifest.specs.Ranges.{entry_in, owners_in}
 use Rattle.boot_manifest.specs.ManifestValue.{ManifestEntryValue, ManifestValue}
 
--- what the words of a form mean, unless the line has another form
-abbrev pub in_range : {W X : Type 0} → (W → Option X) → Option W → Result X ManifestWhy
-in_range range None = Err Syntax
-in_range range (Some words) = ok_or (range words) Range
-
 -- what a line says by its form and its ranges
 abbrev pub said : {W X : Type 0} → (List (List ℕ) → Option W) → (W → Option X) → List ℕ → Result X ManifestWhy
-said form range text = in_range range (option_and_then form (line_words text))
+said form range text = do
+  words ← ok_or (option_and_then form (line_words text)) Syntax
+  ok_or (range words) Range
 
 -- `pages N` and `quantum N`
 abbrev pub count_said : List ℕ → ℕ → ℕ → List ℕ → Result ℕ ManifestWhy

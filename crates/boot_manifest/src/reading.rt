@@ -22,11 +22,6 @@ use line_text::{
 };
 use std::alloc::Global;
 
-/// The first word of the pages' line.
-const PAGES: &[u8] = b"pages";
-/// The first word of the quantum's line.
-const QUANTUM: &[u8] = b"quantum";
-
 /// Reads a manifest, or answers its first fault, unless memory runs out. `docs/FORMATS.md`, "Manifest", has the
 /// format and the faults in their order.
 #[tactic(auto, unfolding(crate::specs::Reading::manifest_fault, crate::specs::Reading::manifest_of))]
@@ -37,9 +32,9 @@ pub fn read_manifest(alloc: Global, text: &[u8]) -> Result<Manifest, TextFailure
 {
     let mut lines = statements_of(text);
     let line = next_line(&mut lines, text)?;
-    let pages = read_count(&line, PAGES, LEAST_PAGES, MOST_PAGES)?;
+    let pages = read_count(&line, b"pages", LEAST_PAGES, MOST_PAGES)?;
     let line = next_line(&mut lines, text)?;
-    let quantum = read_count(&line, QUANTUM, LEAST_QUANTUM, MOST_QUANTUM)?;
+    let quantum = read_count(&line, b"quantum", LEAST_QUANTUM, MOST_QUANTUM)?;
     let line = next_line(&mut lines, text)?;
     let slots = read_slots(alloc, &line)?;
     let entries = read_entries(alloc, lines, text)?;
@@ -60,10 +55,7 @@ fn next_line<'a>(
     ensures some { IfOk result (λ line. lines.old ≡ line_value line ∷ lines.new) }
     ensures none { IfErr result (λ fault. (lines.old ≡ []) × (fault ≡ Fault (fault_at (end_of text.now) Syntax))) }
 {
-    match lines.next() {
-        Some(line) => Ok(line),
-        None => Err(ends_early(text)),
-    }
+    lines.next().ok_or_else(|| ends_early(text))
 }
 
 /// The number of a line `KEY N`, from the least to the most.
@@ -76,13 +68,8 @@ fn read_count(
     ensures said { Gives (λ n. n) result (in_line line.now.number (count_said key.now least most line.now.text.now)) }
     ensures within { IfOk result (λ n. (least ≤ n) × (n ≤ most)) }
 {
-    let Some(word) = count_word(key, line.text) else {
-        return Err(line.breaks(ManifestWhy::Syntax));
-    };
-    match number_within(word, least, most) {
-        Some(count) => Ok(count),
-        None => Err(line.breaks(ManifestWhy::Range)),
-    }
+    let word = count_word(key, line.text).ok_or(line.breaks(ManifestWhy::Syntax))?;
+    number_within(word, least, most).ok_or(line.breaks(ManifestWhy::Range))
 }
 
 /// The owners of the slots' line.
@@ -92,16 +79,9 @@ fn read_slots(alloc: Global, line: &Line<'_>) -> Result<Vec<Option<u8>>, TextFai
     ensures most { IfOk result (λ owners. length owners.items ≤ most_slots) }
     ensures below { IfOk result (λ owners. AllByRecursion (IsOwnerBelow most_environments) owners.items) }
 {
-    let Some(words) = few_words::<MOST_WORDS>(line.text) else {
-        return Err(line.breaks(ManifestWhy::Syntax));
-    };
-    let Some(slots) = slots_form(&words) else {
-        return Err(line.breaks(ManifestWhy::Syntax));
-    };
-    match owners_of(alloc, slots)? {
-        Some(owners) => Ok(owners),
-        None => Err(line.breaks(ManifestWhy::Range)),
-    }
+    let words = few_words::<MOST_WORDS>(line.text).ok_or(line.breaks(ManifestWhy::Syntax))?;
+    let slots = slots_form(&words).ok_or(line.breaks(ManifestWhy::Syntax))?;
+    owners_of(alloc, slots)?.ok_or(line.breaks(ManifestWhy::Range))
 }
 
 /// The entries of the environments' lines, of which there is one at least.
@@ -137,16 +117,8 @@ fn read_entry(alloc: Global, line: &Line<'_>) -> Result<ManifestEntry, TextFailu
     ensures said { Gives (λ entry. entry) result (in_line line.now.number (entry_said line.now.text.now)) }
     ensures limits { IfOk result IsEntry }
 {
-    let Some(parts) = env_parts(line.text) else {
-        return Err(line.breaks(ManifestWhy::Syntax));
-    };
-    match entry_of(alloc, &parts)? {
-        Some(entry) => {
-            let _ = &entry.entry;
-            Ok(entry)
-        }
-        None => Err(line.breaks(ManifestWhy::Range)),
-    }
+    let parts = env_parts(line.text).ok_or(line.breaks(ManifestWhy::Syntax))?;
+    entry_of(alloc, &parts)?.ok_or(line.breaks(ManifestWhy::Range))
 }
 
 /// That the text ends too early.

@@ -6,7 +6,7 @@ ghost use Rattle.aegis_limits.specs.Limits.{most_slots};
 ghost use Rattle.line_text.specs.Characters.{is_text_byte};
 ghost use Rattle.line_text.specs.Words.{line_words};
 ghost use Rattle.line_text.specs.WordView.{words_seen};
-ghost use Rattle.boot_manifest.specs.Forms.{count_form, env_form, slots_form};
+ghost use Rattle.boot_manifest.specs.Forms.{count_form, env_form, program_form, slots_form};
 ghost use Rattle.boot_manifest.specs.Answers.{parts_seen};
 
 use aegis_limits::MOST_SLOTS;
@@ -38,28 +38,22 @@ pub(crate) struct EnvParts<'a> {
 pub(crate) fn count_word<'a>(key: &[u8], text: &'a [u8]) -> Option<&'a [u8]>
     ensures { option_copied result ≡ option_and_then (count_form key.now) (line_words text.now) }
 {
-    let words = few_words::<MOST_WORDS>(text)?;
-    count_form(key, &words)
+    match few_words::<MOST_WORDS>(text)?.as_slice() {
+        [first, word] if *first == key => Some(word),
+        _ => None,
+    }
 }
 
-/// The words of an environment's line.
+/// The words of `env NAME flat BASE STACK ACCEPT FILE` or `env NAME elf STACK ACCEPT FILE`.
 #[tactic(auto, using(crate::proofs::ReadingLemmas::few_env))]
 pub(crate) fn env_parts(text: &[u8]) -> Option<EnvParts<'_>>
     ensures parts { option_map parts_seen result ≡ option_and_then env_form (line_words text.now) }
     ensures bytes { IfSome result (λ parts. list_all is_text_byte parts.file.now ≡ true) }
 {
-    let words = few_words::<MOST_WORDS>(text)?;
-    env_form(&words)
-}
-
-/// The N of `KEY N`.
-fn count_form<'a>(key: &[u8], words: &[&'a [u8]]) -> Option<&'a [u8]>
-    ensures { option_copied result ≡ count_form key.now (words_seen words.now) }
-{
-    let [first, word] = words else {
-        return None;
-    };
-    if *first == key { Some(word) } else { None }
+    match few_words::<MOST_WORDS>(text)?.as_slice() {
+        [first, words @ ..] if *first == ENV => program_form(words),
+        _ => None,
+    }
 }
 
 /// Each X of `slots X ..`, if they are one to sixty-four.
@@ -68,36 +62,28 @@ pub(crate) fn slots_form<'w, 'a>(words: &'w [&'a [u8]]) -> Option<&'w [&'a [u8]]
     ensures some { IfSome result (λ words. 1 ≤ length words.now) }
     ensures most { IfSome result (λ words. length words.now ≤ most_slots) }
 {
-    let [first, slots @ ..] = words else {
-        return None;
-    };
-    if *first == SLOTS && (1..=MOST_SLOTS).contains(&slots.len()) {
-        Some(slots)
-    } else {
-        None
+    match words {
+        [first, slots @ ..] if *first == SLOTS && (1..=MOST_SLOTS).contains(&slots.len()) => {
+            Some(slots)
+        }
+        _ => None,
     }
 }
 
-/// The words of `env NAME flat BASE STACK ACCEPT FILE` or `env NAME elf STACK ACCEPT FILE`.
-fn env_form<'a>(words: &[&'a [u8]]) -> Option<EnvParts<'a>>
-    ensures parts { option_map parts_seen result ≡ env_form (words_seen words.now) }
+/// The words of `NAME flat BASE STACK ACCEPT FILE` or `NAME elf STACK ACCEPT FILE`.
+fn program_form<'a>(words: &[&'a [u8]]) -> Option<EnvParts<'a>>
+    ensures parts { option_map parts_seen result ≡ program_form (words_seen words.now) }
     ensures bytes { list_all (list_all is_text_byte) (words_seen words.now) ≡ true → IfSome result (λ parts. list_all is_text_byte parts.file.now ≡ true) }
 {
-    let [first, name, kind, rest @ ..] = words else {
-        return None;
-    };
-    if *first != ENV {
-        return None;
-    }
-    match rest {
-        [base, stack, accept, file] if *kind == FLAT => Some(EnvParts {
+    match words {
+        [name, kind, base, stack, accept, file] if *kind == FLAT => Some(EnvParts {
             name,
             base: Some(base),
             stack,
             accept,
             file,
         }),
-        [stack, accept, file] if *kind == ELF => Some(EnvParts {
+        [name, kind, stack, accept, file] if *kind == ELF => Some(EnvParts {
             name,
             base: None,
             stack,

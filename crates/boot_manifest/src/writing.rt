@@ -67,6 +67,7 @@ fn header(manifest: &Manifest) -> Header
 }
 
 /// A byte for each slot.
+#[tactic(auto, using(std::proofs::lemmas::Grind::common_steps, std::proofs::lemmas::List::map_more))]
 fn push_slots(file: &mut Vec<u8>, slots: &[Option<u8>]) -> Result<(), OutOfMemory>
     ensures { OnOk result (file.new.items ≡ file.old.items ++ map slot_byte slots.now) }
 {
