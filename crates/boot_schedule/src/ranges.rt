@@ -59,10 +59,7 @@ fn in_range(line: &Line<'_>, word: &[u8], most: u32) -> Result<u32, TextFailure<
     ensures said { Gives (λ n. n) result (in_line line.now.number (in_range most word.now)) }
     ensures within { IfOk result (λ n. n ≤ most) }
 {
-    match number_within(word, 0, most) {
-        Some(number) => Ok(number),
-        None => Err(line.breaks(ScheduleWhy::Range)),
-    }
+    number_within(word, 0, most).ok_or(line.breaks(ScheduleWhy::Range))
 }
 
 /// The packet of a line's word.
@@ -78,8 +75,5 @@ fn bytes_said(
         Err(FromHexError::OutOfMemory) => return Err(Failure::OutOfMemory),
         Err(_) => return Err(line.breaks(ScheduleWhy::Hex)),
     };
-    match PacketBytes::from_bytes(bytes) {
-        Some(packet) => Ok(packet),
-        None => Err(line.breaks(ScheduleWhy::Range)),
-    }
+    PacketBytes::from_bytes(bytes).ok_or(line.breaks(ScheduleWhy::Range))
 }

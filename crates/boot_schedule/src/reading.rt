@@ -1,8 +1,7 @@
 //! The reader of schedules, line by line.
 ghost use Rattle.std.specs.Prelude.{◌≡◌, ◌<◌, ◌≤◌, ◌^◌, None, Some, length, IfErr, IfOk};
 ghost use Rattle.std.specs.Option.{option_map};
-ghost use Rattle.line_text.specs.Failing.{Gives, IsFound, fault_at, in_line};
-ghost use Rattle.boot_schedule.specs.Saying.{said};
+ghost use Rattle.line_text.specs.Failing.{IsFound, fault_at};
 ghost use Rattle.boot_schedule.specs.Schedule.{event_said, line_fault, schedule_fault, events_of};
 
 use crate::fault::ScheduleWhy;
@@ -43,7 +42,8 @@ fn read_event(
     ensures ok { IfOk result (λ event. (line_fault before others line.now.text.now ≡ None) × (event_said line.now.text.now ≡ Some event)) }
     ensures err { IfErr result (IsFound (option_map (fault_at line.now.number) (line_fault before others line.now.text.now))) }
 {
-    let event = said(alloc, line)?;
+    let parts = parts_of(line.text).ok_or(line.breaks(ScheduleWhy::Syntax))?;
+    let event = words_said(alloc, line, parts)?;
     if event.time < before {
         return Err(line.breaks(ScheduleWhy::Order));
     }
@@ -51,14 +51,4 @@ fn read_event(
         return Err(line.breaks(ScheduleWhy::Many));
     }
     Ok(event)
-}
-
-/// The event that a line says by itself.
-fn said(alloc: Global, line: &Line<'_>) -> Result<Event, TextFailure<ScheduleWhy>>
-    ensures { Gives (λ event. event) result (in_line line.now.number (said line.now.text.now)) }
-{
-    match parts_of(line.text) {
-        Some(parts) => words_said(alloc, line, parts),
-        None => Err(line.breaks(ScheduleWhy::Syntax)),
-    }
 }

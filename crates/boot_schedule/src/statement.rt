@@ -2,7 +2,6 @@
 ghost use Rattle.std.specs.Prelude.{◌≡◌};
 ghost use Rattle.std.specs.Option.{option_and_then, option_map};
 ghost use Rattle.line_text.specs.Words.{line_words};
-ghost use Rattle.line_text.specs.WordView.{words_seen};
 ghost use Rattle.boot_schedule.specs.Forms.{event_form, short_form};
 ghost use Rattle.boot_schedule.specs.Answers.{parts_seen};
 
@@ -39,20 +38,12 @@ pub(crate) enum Parts<'a> {
     },
 }
 
-/// The words of a line, by its form.
+/// The words of `TIME packet BYTES`, `TIME line NUMBER` or `TIME revoke ENV COUNT GRACE`.
 #[tactic(auto, using(crate::proofs::FormLemmas::few_event))]
 pub(crate) fn parts_of(text: &[u8]) -> Option<Parts<'_>>
     ensures { option_map parts_seen result ≡ option_and_then event_form (line_words text.now) }
 {
-    let words = few_words::<MOST_WORDS>(text)?;
-    event_form(&words)
-}
-
-/// The words of `TIME packet BYTES`, `TIME line NUMBER` or `TIME revoke ENV COUNT GRACE`.
-fn event_form<'a>(words: &[&'a [u8]]) -> Option<Parts<'a>>
-    ensures { option_map parts_seen result ≡ event_form (words_seen words.now) }
-{
-    match words {
+    match few_words::<MOST_WORDS>(text)?.as_slice() {
         [time, kind, word] => short_form(time, kind, word),
         [time, kind, env, count, grace] if *kind == REVOKE => Some(Parts::Revoke {
             time,
