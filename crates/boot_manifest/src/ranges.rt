@@ -35,6 +35,7 @@ fn owner_of(word: &[u8]) -> Option<Option<u8>>
 }
 
 /// The owners of slots, if each of these words names one.
+#[tactic(auto, using(std::proofs::lemmas::Grind::common_steps, crate::proofs::OwnerLemmas::owner_more, crate::proofs::OwnerLemmas::owner_none, crate::proofs::OwnerLemmas::owners_end))]
 pub(crate) fn owners_of(
     alloc: Global,
     words: &[&[u8]],
@@ -98,6 +99,7 @@ fn program_of(parts: &EnvParts<'_>) -> Option<Entry>
 }
 
 /// The entry of an environment's line.
+#[tactic(auto, using(std::proofs::lemmas::Grind::common_steps, crate::proofs::TextLemmas::text_utf8))]
 pub(crate) fn entry_of(
     alloc: Global,
     parts: &EnvParts<'_>,

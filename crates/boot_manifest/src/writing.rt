@@ -31,6 +31,7 @@ pub fn write_image(
 }
 
 /// How many bytes the image of a manifest and of a body for each of its entries has.
+#[tactic(auto, using(std::proofs::lemmas::Grind::common_steps, crate::proofs::Sizes::image_is))]
 pub fn image_length(manifest: &Manifest, bodies: &[Vec<u8>]) -> u64
     requires count { length bodies.now ≡ length manifest.now.entries }
     requires short { AllByRecursion HasWordLength (bodies_seen bodies.now) }
@@ -40,7 +41,7 @@ pub fn image_length(manifest: &Manifest, bodies: &[Vec<u8>]) -> u64
 }
 
 /// How many bytes the programs with these bodies have.
-#[tactic(auto, using(crate::proofs::Bodies::sizes_left, crate::proofs::Bodies::short_left))]
+#[tactic(auto, using(std::proofs::lemmas::Grind::common_steps, std::proofs::lemmas::List::map_more, crate::proofs::Bodies::short_at))]
 fn programs_length(bodies: &[Vec<u8>]) -> u64
     requires count { length bodies.now ≤ most_environments }
     requires short { AllByRecursion HasWordLength (bodies_seen bodies.now) }
@@ -78,7 +79,7 @@ fn push_slots(file: &mut Vec<u8>, slots: &[Option<u8>]) -> Result<(), OutOfMemor
 }
 
 /// Each entry with the body of its number.
-#[tactic(auto, using(crate::proofs::Bodies::programs_left, crate::proofs::Bodies::short_left))]
+#[tactic(auto, using(crate::proofs::Bodies::programs_left, crate::proofs::Bodies::short_at))]
 fn push_programs(
     file: &mut Vec<u8>,
     entries: &[ManifestEntry],

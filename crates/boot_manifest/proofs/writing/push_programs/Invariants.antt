@@ -1,15 +1,11 @@
 use Rattle.std.proofs.Common.{◌≡◌, ◌++◌, drop}
-use Rattle.std.specs.List.{AllByRecursion}
 use Rattle.boot_image.specs.Spelling.{programs_text}
 use Rattle.boot_manifest.specs.ManifestValue.{entries_in}
-use Rattle.boot_manifest.specs.Layout.{bodies_seen, HasWordLength}
+use Rattle.boot_manifest.specs.Layout.{bodies_seen}
 use Rattle.boot_manifest.proofs.writing.push_programs.Given as goal
 
 -- the programs that stand, and those that are left, are all of them
 abbrev pub invariant-loop-i : goal.invariant-loop-i
-invariant-loop-i l = record {
-  text :
-      l.file.items ++ programs_text (entries_in (drop l.i l.entries)) (bodies_seen (drop l.i l.bodies))
-      ≡ l.fn.file.items ++ programs_text (entries_in l.entries) (bodies_seen l.bodies);
-  short : AllByRecursion HasWordLength (bodies_seen (drop l.i l.bodies));
-}
+invariant-loop-i l =
+    l.file.items ++ programs_text (entries_in (drop l.i l.entries)) (bodies_seen (drop l.i l.bodies))
+    ≡ l.fn.file.items ++ programs_text (entries_in l.entries) (bodies_seen l.bodies)
