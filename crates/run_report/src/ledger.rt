@@ -112,11 +112,8 @@ fn push_row(out: &mut Vec<u8>, row: Row) -> Result<(), OutOfMemory>
             backup,
         } => {
             let backup = backup.map_or(Word::Dash, number);
-            push_line(
-                out,
-                b"take",
-                &[number(time), env(who), number(page), backup],
-            )
+            let numbers = [number(time), env(who), number(page), backup];
+            push_line(out, b"take", &numbers)
         }
         Row::Unclaimed { time, length } => {
             push_line(out, b"drop", &[number(time), number(length)])

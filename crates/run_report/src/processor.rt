@@ -40,7 +40,7 @@ pub(crate) fn push_cpu_line(out: &mut Vec<u8>, who: u8, cpu: &Cpu) -> Result<(),
 }
 
 /// Appends the line of registers 1 to 31.
-#[tactic(auto, using(std::proofs::lemmas::Grind::common_steps, crate::proofs::Registers::words_more), unfolding(crate::specs::Report::regs_line))]
+#[tactic(auto, using(std::proofs::lemmas::Grind::common_steps, crate::proofs::Lines::words_more), unfolding(crate::specs::Report::regs_line))]
 pub(crate) fn push_regs_line(out: &mut Vec<u8>, who: u8, cpu: &Cpu) -> Result<(), OutOfMemory>
     ensures { OnOk result (out.new.items ≡ out.old.items ++ regs_line who cpu.now) }
 {
