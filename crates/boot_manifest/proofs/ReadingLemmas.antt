@@ -7,10 +7,8 @@ use Rattle.line_text.proofs.FewLemmas.{few_form}
 use Rattle.boot_manifest.specs.Forms.{count_form, env_form, program_form}
 
 long_count : (key : List ℕ) (words : List (List ℕ)) → 65 < length words → count_form key words ≡ None
-long_count key [] long = refl
-long_count key (a ∷ []) long = refl
-long_count key (a ∷ b ∷ []) long = absurd (omega arith)
 long_count key (a ∷ b ∷ c ∷ words) long = refl
+long_count key words long = absurd (omega arith)
 
 long_program : (words : List (List ℕ)) → 64 < length words → program_form words ≡ None
 long_program (a ∷ b ∷ c ∷ d ∷ e ∷ f ∷ g ∷ words) long = refl

@@ -1,16 +1,13 @@
 -- The length of an image.
-use Rattle.std.proofs.Common.{◌≡◌, ℕ, ◌+◌, List, [], ◌∷◌, ◌++◌, length, map, refl, arith, length-append}
+use Rattle.std.proofs.Common.{◌≡◌, ℕ, ◌+◌, List, [], ◌∷◌, length, refl, arith, length-append}
 use Rattle.std.proofs.lemmas.List.{length-map}
 use Rattle.std.proofs.lemmas.List.Sums.{sum_by-cons}
 use Rattle.std.specs.Prelude.{sum_by}
 use Rattle.std.specs.List.{AllByRecursion}
-use Rattle.boot_image.specs.Spelling.{header_in, header_text, program_text, programs_text, image_text, slot_byte}
+use Rattle.boot_image.specs.Spelling.{programs_text, image_text}
 use Rattle.boot_manifest.specs.ManifestValue.{ManifestEntryValue, ManifestValue, entries_in, plan_in}
 use Rattle.boot_manifest.specs.Limited.{IsEntry}
 use Rattle.boot_manifest.proofs.Bodies.{program_size}
-
-program_is : (e : ManifestEntryValue) (bytes : List ℕ) → IsEntry e → length (program_text e.entry bytes) ≡ 28 + length bytes
-program_is e bytes is = simp length-append (omega (arith, is.name_length))
 
 programs_are : (entries : List ManifestEntryValue) (bodies : List (List ℕ)) → AllByRecursion IsEntry entries → length bodies ≡ length entries
     → length (programs_text (entries_in entries) bodies) ≡ sum_by program_size bodies
@@ -18,22 +15,8 @@ programs_are [] [] are same = refl
 programs_are [] (bytes ∷ bodies) are same = absurd (omega arith)
 programs_are (e ∷ entries) [] are same = absurd (omega arith)
 programs_are (e ∷ entries) (bytes ∷ bodies) are same =
-    omega (
-      arith,
-      length-append (program_text e.entry bytes) (programs_text (entries_in entries) bodies),
-      program_is e bytes are.0,
-      programs_are entries bodies are.1 (omega arith),
-      sum_by-cons program_size bytes bodies,
-    )
+    simp length-append (omega (arith, are.0.name_length, programs_are entries bodies are.1 (omega arith), sum_by-cons program_size bytes bodies))
 
 pub image_is : (manifest : ManifestValue) (bodies : List (List ℕ)) → AllByRecursion IsEntry manifest.entries → length bodies ≡ length manifest.entries
     → length (image_text (plan_in manifest) bodies) ≡ 16 + length manifest.slots + sum_by program_size bodies
-image_is manifest bodies are same =
-    let header = header_text (header_in (plan_in manifest)) in
-    omega (
-      arith,
-      length-append (header ++ map slot_byte manifest.slots) (programs_text (entries_in manifest.entries) bodies),
-      length-append header (map slot_byte manifest.slots),
-      length-map manifest.slots slot_byte,
-      programs_are manifest.entries bodies are same,
-    )
+image_is manifest bodies are same = simp (length-append, length-map) (omega (arith, programs_are manifest.entries bodies are same))

@@ -72,10 +72,7 @@ fn kind_of(base: Option<&[u8]>) -> Option<Kind>
     ensures { result ≡ kind_in (option_copied base.entry) }
 {
     match base {
-        Some(word) => {
-            let base = number(word)?;
-            Some(Kind::Flat { base })
-        }
+        Some(word) => number(word).map(|base| Kind::Flat { base }),
         None => Some(Kind::Elf),
     }
 }

@@ -2,7 +2,7 @@
 ghost use Rattle.std.specs.Prelude.{◌≡◌, ◌<◌, ◌≤◌, ◌^◌, ◌++◌, ◌+◌, ◌*◌, length, map, sum_by, IfOk, OnOk};
 ghost use Rattle.std.specs.List.{AllByRecursion};
 ghost use Rattle.aegis_limits.specs.Limits.{most_environments};
-ghost use Rattle.boot_image.specs.Spelling.{header_in, image_text, programs_text, slot_byte};
+ghost use Rattle.boot_image.specs.Spelling.{image_text, programs_text, slot_byte};
 ghost use Rattle.boot_manifest.specs.ManifestValue.{plan_in, entries_in};
 ghost use Rattle.boot_manifest.specs.Layout.{bodies_seen, HasWordLength};
 
@@ -24,7 +24,13 @@ pub fn write_image(
 {
     let length = image_length(manifest, bodies) as usize;
     let mut file = Vec::with_capacity(alloc, length)?;
-    push_header(&mut file, &header(manifest))?;
+    let header = Header {
+        pages: manifest.pages,
+        quantum: manifest.quantum,
+        environments: manifest.entries.len() as u16,
+        slots: manifest.slots.len() as u16,
+    };
+    push_header(&mut file, &header)?;
     push_slots(&mut file, &manifest.slots)?;
     push_programs(&mut file, &manifest.entries, bodies)?;
     Ok(file)
@@ -53,18 +59,6 @@ fn programs_length(bodies: &[Vec<u8>]) -> u64
         length += PROGRAM_HEADER_SIZE as u64 + body.len() as u64;
     }
     length
-}
-
-/// The header of a manifest's image.
-fn header(manifest: &Manifest) -> Header
-    ensures { result ≡ header_in (plan_in manifest.now) }
-{
-    Header {
-        pages: manifest.pages,
-        quantum: manifest.quantum,
-        environments: manifest.entries.len() as u16,
-        slots: manifest.slots.len() as u16,
-    }
 }
 
 /// A byte for each slot.
