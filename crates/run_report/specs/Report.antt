@@ -1,7 +1,7 @@
 -- The text of a report.
-use Rattle.std.specs.Prelude.{ℕ, zero, suc, ◌+◌, ◌^◌, List, [], ◌∷◌, ◌++◌, length, count_by, codes, Bool, true, false, ◌==◌, if◌then◌else◌, Option, Some, None}
+use Rattle.std.specs.Prelude.{ℕ, zero, suc, ◌+◌, ◌^◌, List, [], ◌∷◌, ◌++◌, length, count_by, codes, Bool, true, false, ◌==◌, if◌then◌else◌, Option, Some}
 use Rattle.std.specs.List.{filter, flat_map}
-use Rattle.std.specs.Option.{option_to_list}
+use Rattle.std.specs.Option.{option_map_or, option_to_list}
 use Rattle.sha2.specs.Sha256.{sha256}
 use Rattle.hex.specs.Hex.{encode_lower}
 use Rattle.line_text.specs.Text.{dec_text, hex_text}
@@ -22,6 +22,7 @@ use Rattle.world_model.specs.declared.life.Life.TheVariants.{Live, Dead}
 use Rattle.world_model.specs.declared.life.Cause.TheVariants as cause
 use Rattle.world_model.specs.Page.{KeptPage}
 use Rattle.world_model.specs.Solo.{Solo, Seen}
+use Rattle.world_model.specs.View.{owned_bytes}
 use Rattle.world_model.specs.Book.{is_runner}
 use Rattle.world_model.specs.World.{World}
 use Rattle.world_model.specs.Table.{listed}
@@ -90,17 +91,13 @@ keep_line e p = line (codes "keep" ∷ dec_text e ∷ hex_text 5 p.vpn ∷ finge
 abbrev pub keep_lines : ℕ → List KeptPage → List ℕ
 keep_lines e kept = flat_map (keep_line e) kept
 
--- a page that an environment owns
+-- a page of these bytes that an environment owns
 unfoldable pub page_line : ℕ → ℕ → List ℕ → List ℕ
 page_line e page bytes = line (codes "page" ∷ dec_text e ∷ dec_text page ∷ fingerprint bytes ∷ [])
 
-abbrev pub owned_line : ℕ → ℕ → Option Seen → List ℕ
-owned_line e page None = []
-owned_line e page (Some x) = if x.owned then page_line e page x.bytes else []
-
 -- the pages below count that an environment owns, by rising number
 abbrev pub page_lines : ℕ → (ℕ → Option Seen) → ℕ → List ℕ
-page_lines e seen count = for_each (λ page. owned_line e page (seen page)) count
+page_lines e seen count = for_each (λ page. option_map_or (page_line e page) (owned_bytes (seen page)) []) count
 
 abbrev pub mode_text : Bool → List ℕ
 mode_text true = codes "w"

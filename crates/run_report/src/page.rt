@@ -1,7 +1,7 @@
 //! The pages that a report shows, each by the fingerprint of its bytes.
 ghost use Rattle.std.specs.Prelude.{◌≡◌, ◌++◌, ◌<◌, OnOk};
 ghost use Rattle.world_model.specs.View.{view_seen};
-ghost use Rattle.run_report.specs.Report.{fingerprint, keep_line, keep_lines, page_line, owned_line, page_lines};
+ghost use Rattle.run_report.specs.Report.{fingerprint, keep_line, keep_lines, page_line, page_lines};
 
 use crate::words::{env, number};
 use aegis_limits::OutOfMemory;
@@ -60,23 +60,6 @@ fn push_page_line(out: &mut Vec<u8>, who: u8, page: u32, bytes: &[u8]) -> Result
     push_line(out, b"page", &[env(who), page, Word::Text(&fingerprint)])
 }
 
-/// Appends the line of a page, where the environment owns it.
-fn push_if_owned<V: WorldView>(
-    out: &mut Vec<u8>,
-    view: &V,
-    env: u8,
-    page: u32,
-) -> Result<(), OutOfMemory>
-    requires there { env < (V.world view.now).count }
-    requires page { page < (V.world view.now).book.page_count }
-    ensures { OnOk result (out.new.items ≡ out.old.items ++ owned_line env page (((V.world view.now).solos env).seen page)) }
-{
-    match view.owned_page(env, page) {
-        Some(bytes) => push_page_line(out, env, page, bytes),
-        None => Ok(()),
-    }
-}
-
 /// Appends the lines of the pages that an environment owns, by rising number.
 #[tactic(auto, using(std::proofs::lemmas::Grind::common_steps, crate::proofs::Lines::for_each_more))]
 pub(crate) fn push_page_lines<V: WorldView>(
@@ -88,7 +71,9 @@ pub(crate) fn push_page_lines<V: WorldView>(
     ensures { OnOk result (out.new.items ≡ out.old.items ++ page_lines env ((V.world view.now).solos env).seen (V.world view.now).book.page_count) }
 {
     for page in 0..view.page_count() {
-        push_if_owned(out, view, env, page)?;
+        if let Some(bytes) = view.owned_page(env, page) {
+            push_page_line(out, env, page, bytes)?;
+        }
     }
     Ok(())
 }
