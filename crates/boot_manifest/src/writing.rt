@@ -6,13 +6,14 @@ ghost use Rattle.boot_image.specs.Spelling.{image_text, programs_text, slot_byte
 ghost use Rattle.boot_manifest.specs.ManifestValue.{plan_in, entries_in};
 ghost use Rattle.boot_manifest.specs.Layout.{bodies_seen, HasWordLength};
 
-use crate::manifest::{Manifest, ManifestEntry};
+use crate::manifest::Manifest;
 use aegis_limits::OutOfMemory;
 use boot_image::{HEADER_SIZE, Header, PROGRAM_HEADER_SIZE, push_header, push_program, push_slot};
 use std::alloc::Global;
 
 /// The image of a manifest and of a body for each of its entries, as `docs/FORMATS.md`, "Image", lays it out. The
 /// error is that memory ran out.
+#[tactic(auto, using(std::proofs::lemmas::Grind::common_steps, std::proofs::lemmas::List::map_more, crate::proofs::Bodies::programs_left, crate::proofs::Bodies::short_at))]
 pub fn write_image(
     alloc: Global,
     manifest: &Manifest,
@@ -31,8 +32,12 @@ pub fn write_image(
         slots: manifest.slots.len() as u16,
     };
     push_header(&mut file, &header)?;
-    push_slots(&mut file, &manifest.slots)?;
-    push_programs(&mut file, &manifest.entries, bodies)?;
+    for slot in &manifest.slots {
+        push_slot(&mut file, *slot)?;
+    }
+    for (i, entry) in manifest.entries.iter().enumerate() {
+        push_program(&mut file, &entry.entry, &bodies[i])?;
+    }
     Ok(file)
 }
 
@@ -59,32 +64,4 @@ fn programs_length(bodies: &[Vec<u8>]) -> u64
         length += PROGRAM_HEADER_SIZE as u64 + body.len() as u64;
     }
     length
-}
-
-/// A byte for each slot.
-#[tactic(auto, using(std::proofs::lemmas::Grind::common_steps, std::proofs::lemmas::List::map_more))]
-fn push_slots(file: &mut Vec<u8>, slots: &[Option<u8>]) -> Result<(), OutOfMemory>
-    ensures { OnOk result (file.new.items ≡ file.old.items ++ map slot_byte slots.now) }
-{
-    for slot in slots {
-        push_slot(file, *slot)?;
-    }
-    Ok(())
-}
-
-/// Each entry with the body of its number.
-#[tactic(auto, using(crate::proofs::Bodies::programs_left, crate::proofs::Bodies::short_at))]
-fn push_programs(
-    file: &mut Vec<u8>,
-    entries: &[ManifestEntry],
-    bodies: &[Vec<u8>],
-) -> Result<(), OutOfMemory>
-    requires count { length bodies.now ≡ length entries.now }
-    requires short { AllByRecursion HasWordLength (bodies_seen bodies.now) }
-    ensures { OnOk result (file.new.items ≡ file.old.items ++ programs_text (entries_in entries.now) (bodies_seen bodies.now)) }
-{
-    for (i, entry) in entries.iter().enumerate() {
-        push_program(file, &entry.entry, &bodies[i])?;
-    }
-    Ok(())
 }
