@@ -1,7 +1,6 @@
 -- The owners of slots, one after another.
-use Rattle.std.proofs.Common.{◌≡◌, ℕ, ◌+◌, ◌<◌, ◌≤◌, List, [], ◌∷◌, ◌++◌, Option, Some, None, length, get_or, drop, refl, ap, sym, ◌∙◌, append_assoc, add-one}
+use Rattle.std.proofs.Common.{◌≡◌, ℕ, ◌+◌, ◌<◌, List, [], ◌∷◌, ◌++◌, Option, Some, None, length, get_or, drop, refl, ap, ◌∙◌, append_assoc, add-one}
 use Rattle.std.proofs.Math.Seq.{drop-cons}
-use Rattle.std.proofs.lemmas.List.{append-nil, drop_all}
 use Rattle.std.specs.Borrow.{Bor}
 use Rattle.std.specs.Option.{option_map}
 use Rattle.line_text.specs.WordView.{words_seen}
@@ -27,8 +26,3 @@ owner_more d words i owners owner all within is so_far =
 pub owner_none : (d : Bor (List ℕ)) (words : List (Bor (List ℕ))) (i : ℕ) (owners : List (Option ℕ)) (all : Option (List (Option ℕ)))
     → i < length words → None ≡ owner_in (get_or words i d).now → before_owners owners (owners_in (words_seen (drop i words))) ≡ all → None ≡ all
 owner_none d words i owners all within is so_far = rw (drop-cons words i d within, ← is) at so_far
-
--- where no word is left
-pub owners_end : (words : List (Bor (List ℕ))) (i : ℕ) (owners : List (Option ℕ)) (all : Option (List (Option ℕ)))
-    → length words ≤ i → before_owners owners (owners_in (words_seen (drop i words))) ≡ all → Some owners ≡ all
-owners_end words i owners all none so_far = ap Some (sym (append-nil owners)) ∙ (rw (drop_all i words none) at so_far)

@@ -35,7 +35,7 @@ fn owner_of(word: &[u8]) -> Option<Option<u8>>
 }
 
 /// The owners of slots, if each of these words names one.
-#[tactic(auto, using(std::proofs::lemmas::Grind::common_steps, crate::proofs::OwnerLemmas::owner_more, crate::proofs::OwnerLemmas::owner_none, crate::proofs::OwnerLemmas::owners_end))]
+#[tactic(auto, using(std::proofs::lemmas::Grind::common_steps, crate::proofs::OwnerLemmas::owner_more, crate::proofs::OwnerLemmas::owner_none))]
 pub(crate) fn owners_of(
     alloc: Global,
     words: &[&[u8]],

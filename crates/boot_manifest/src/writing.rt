@@ -1,9 +1,8 @@
 //! The image of a manifest and its bodies, written in one pass into a list of its length.
-ghost use Rattle.std.specs.Prelude.{◌≡◌, ◌<◌, ◌≤◌, ◌^◌, ◌++◌, ◌+◌, ◌*◌, length, map, sum_by, IfOk, OnOk};
+ghost use Rattle.std.specs.Prelude.{◌≡◌, length, IfOk};
 ghost use Rattle.std.specs.List.{AllByRecursion};
-ghost use Rattle.aegis_limits.specs.Limits.{most_environments};
-ghost use Rattle.boot_image.specs.Spelling.{image_text, programs_text, slot_byte};
-ghost use Rattle.boot_manifest.specs.ManifestValue.{plan_in, entries_in};
+ghost use Rattle.boot_image.specs.Spelling.{image_text};
+ghost use Rattle.boot_manifest.specs.ManifestValue.{plan_in};
 ghost use Rattle.boot_manifest.specs.Layout.{bodies_seen, HasWordLength};
 
 use crate::manifest::Manifest;
@@ -42,24 +41,13 @@ pub fn write_image(
 }
 
 /// How many bytes the image of a manifest and of a body for each of its entries has.
-#[tactic(auto, using(std::proofs::lemmas::Grind::common_steps, crate::proofs::Sizes::image_is))]
+#[tactic(auto, using(std::proofs::lemmas::Grind::common_steps, std::proofs::lemmas::List::map_more, crate::proofs::Bodies::short_at, crate::proofs::Sizes::image_is))]
 pub fn image_length(manifest: &Manifest, bodies: &[Vec<u8>]) -> u64
     requires count { length bodies.now ≡ length manifest.now.entries }
     requires short { AllByRecursion HasWordLength (bodies_seen bodies.now) }
     ensures { result ≡ length (image_text (plan_in manifest.now) (bodies_seen bodies.now)) }
 {
-    HEADER_SIZE as u64 + manifest.slots.len() as u64 + programs_length(bodies)
-}
-
-/// How many bytes the programs with these bodies have.
-#[tactic(auto, using(std::proofs::lemmas::Grind::common_steps, std::proofs::lemmas::List::map_more, crate::proofs::Bodies::short_at))]
-fn programs_length(bodies: &[Vec<u8>]) -> u64
-    requires count { length bodies.now ≤ most_environments }
-    requires short { AllByRecursion HasWordLength (bodies_seen bodies.now) }
-    ensures length { result ≡ sum_by (λ bytes. 28 + length bytes) (bodies_seen bodies.now) }
-    ensures most { result ≤ 2 ^ 37 }
-{
-    let mut length = 0;
+    let mut length = HEADER_SIZE as u64 + manifest.slots.len() as u64;
     for body in bodies {
         length += PROGRAM_HEADER_SIZE as u64 + body.len() as u64;
     }
