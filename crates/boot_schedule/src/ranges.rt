@@ -1,7 +1,5 @@
 //! What the words of a schedule's lines mean, if they are in their ranges.
-ghost use Rattle.std.specs.Prelude.{◌≡◌, ◌≤◌, ◌-◌, IfOk};
-ghost use Rattle.aegis_limits.specs.Limits.{most_ticks};
-ghost use Rattle.external_event.specs.Limits.{last_environment, lines, most_asked};
+ghost use Rattle.std.specs.Prelude.{◌≤◌, IfOk};
 ghost use Rattle.line_text.specs.Failing.{Gives, in_line};
 ghost use Rattle.boot_schedule.specs.Answers.{parts_seen};
 ghost use Rattle.boot_schedule.specs.Saying.{bytes_said, in_range, words_said};

@@ -1,5 +1,5 @@
 //! The reader of schedules, line by line.
-ghost use Rattle.std.specs.Prelude.{◌≡◌, ◌<◌, ◌≤◌, ◌^◌, None, Some, length, IfErr, IfOk};
+ghost use Rattle.std.specs.Prelude.{◌≡◌, ◌<◌, ◌^◌, None, Some, length, IfErr, IfOk};
 ghost use Rattle.std.specs.Option.{option_map};
 ghost use Rattle.line_text.specs.Failing.{IsFound, fault_at};
 ghost use Rattle.boot_schedule.specs.Schedule.{event_said, line_fault, schedule_fault, events_of};
