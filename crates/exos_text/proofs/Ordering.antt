@@ -1,9 +1,7 @@
 -- The events of the load, one after another, and their order.
-use Rattle.std.proofs.Common.{◌≡◌, ◌∙◌, ℕ, zero, suc, ◌+◌, ◌*◌, ◌≤◌, Bool, true, List, [], ◌∷◌, ◌++◌, map, ap, arith, refl, sym}
+use Rattle.std.proofs.Common.{◌≡◌, ◌∙◌, ℕ, zero, suc, ◌+◌, ◌*◌, ◌≤◌, Bool, true, map, ap, arith, refl}
 use Rattle.std.specs.Prelude.{nat_le, ◌&&◌}
 use Rattle.std.specs.List.{range_with_len}
-use Rattle.std.proofs.lemmas.List.FromFn.{map-range_with_len_more}
-use Rattle.external_event.specs.EventValue.{EventValue}
 use Rattle.external_event.specs.Order.{are_in_order}
 use Rattle.exos_text.specs.LoadSchedule.{load_event, load_events}
 
@@ -15,14 +13,6 @@ in_order_from seed before first (suc count) early =
     let is : nat_le before (1000 * first) ≡ true = grind (arith, early) in
     let others = in_order_from seed (1000 * first) (first + 1) count (omega arith) in
     ap (λ (b : Bool). b && are_in_order (1000 * first) (map (load_event seed) (range_with_len (first + 1) count))) is ∙ others
-
--- one event more
-pub events_more : (seed n : ℕ) (event : EventValue) (before after : List EventValue) → before ≡ map (load_event seed) (range_with_len 0 n)
-    → after ≡ before ++ event ∷ [] → event ≡ load_event seed n → after ≡ map (load_event seed) (range_with_len 0 (n + 1))
-events_more seed n event before after was is more =
-    is ∙ ap (λ (events : List EventValue). events ++ event ∷ []) was
-    ∙ ap (λ (one : EventValue). map (load_event seed) (range_with_len 0 n) ++ one ∷ []) more
-    ∙ sym (map-range_with_len_more (load_event seed) 0 n n (omega arith))
 
 -- so many events are all
 pub events_are : (seed count : ℕ) → count ≡ 1000 → map (load_event seed) (range_with_len 0 count) ≡ load_events seed

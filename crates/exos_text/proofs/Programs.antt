@@ -1,5 +1,5 @@
 -- Programs that are equal but for their names.
-use Rattle.std.proofs.Common.{◌≡◌, ◌∙◌, ℕ, zero, suc, ◌+◌, ◌%◌, List, [], ◌∷◌, ◌++◌, length, map, replicate, ap, arith, refl, sym, append_assoc}
+use Rattle.std.proofs.Common.{◌≡◌, ℕ, zero, suc, ◌+◌, List, [], ◌∷◌, ◌++◌, length, map, replicate, ap, arith, refl}
 use Rattle.std.specs.List.{flat_map, range_with_len}
 use Rattle.std.proofs.lemmas.List.FromFn.{map-range_with_len_more}
 use Rattle.boot_image.specs.Spelling.{programs_text}
@@ -20,10 +20,6 @@ with_one_body [] count is = refl
 with_one_body (name ∷ names) zero is = absurd (omega arith)
 with_one_body (name ∷ names) (suc count) is = ap (λ (others : List ℕ). named_text name ++ others) (with_one_body names count (omega (arith, is)))
 
--- the owner of one slot more
-pub owners_more : (start before after : List ℕ) (slot : ℕ) → before ≡ start ++ map (λ s. s % 16) (range_with_len 0 slot) → after ≡ before ++ slot % 16 ∷ []
-    → after ≡ start ++ map (λ s. s % 16) (range_with_len 0 (slot + 1))
-owners_more start before after slot was is =
-    is ∙ ap (λ (bytes : List ℕ). bytes ++ slot % 16 ∷ []) was
-    ∙ append_assoc start (map (λ (s : ℕ). s % 16) (range_with_len 0 slot)) (slot % 16 ∷ [])
-    ∙ ap (λ (bytes : List ℕ). start ++ bytes) (sym (map-range_with_len_more (λ (s : ℕ). s % 16) 0 slot slot (omega arith)))
+-- what is made of one number more
+pub made_more : {X : Type 0} (f : ℕ → X) (n : ℕ) → map f (range_with_len 0 (n + 1)) ≡ map f (range_with_len 0 n) ++ f n ∷ []
+made_more f n = map-range_with_len_more f 0 n n (omega arith)

@@ -1,5 +1,5 @@
 -- The image of the load is within the limits, and so it is read without a fault.
-use Rattle.std.proofs.Common.{◌≡◌, ◌≤◌, ◌<◌, ◌∙◌, ℕ, zero, suc, ◌+◌, ◌*◌, ◌%◌, ◌^◌, Bool, true, List, [], ◌∷◌, Some, None, length, map, replicate, Result, Ok, Err, IfOk, ap, arith, refl, subst, sym}
+use Rattle.std.proofs.Common.{◌≡◌, ◌≤◌, ◌<◌, ◌∙◌, ℕ, zero, suc, ◌+◌, ◌*◌, ◌%◌, ◌^◌, Bool, true, List, [], ◌∷◌, Some, None, length, map, replicate, ap, arith, refl, subst, sym}
 use Rattle.std.specs.Prelude.{sum_by, ◌&&◌, ◌==◌}
 use Rattle.std.specs.List.{AllByRecursion, list_all, range_with_len}
 use Rattle.std.specs.Fmt.{digits}
@@ -101,19 +101,20 @@ within_limits seed =
       room = omega (arith, needed);
     }
 
-pub sound : (seed : ℕ) → (image_fault (load_image_text seed) ≡ None) × (image_of (load_image_text seed) ≡ load_image_value seed)
+read : (seed : ℕ) → (image_fault (load_image_text seed) ≡ None) × (image_of (load_image_text seed) ≡ load_image_value seed)
 unfolding load_image_text load_image_value
-sound seed =
+read seed =
     read_again (load_plan seed) load_bodies
     (subst (λ (entries : List Entry). AreBodies entries load_bodies) (sym entries_are) (bodies_are names 16 refl (omega (arith, elf_size))))
     (within_limits seed)
+
+pub sound : (seed : ℕ) → image_fault (load_image_text seed) ≡ None
+sound seed = (read seed).0
+
+pub meant : (seed : ℕ) → image_of (load_image_text seed) ≡ load_image_value seed
+meant seed = (read seed).1
 
 -- sixteen times 28 bytes and 216 behind 80
 pub text_size : (seed : ℕ) → length (load_image_text seed) ≡ 3984
 unfolding load_image_text load_entries load_elf dec_text digits
 text_size seed = refl
-
--- what holds of a text holds of what is read of it
-pub of_text : {A E : Type 0} (P : List ℕ → Type 0) (items : A → List ℕ) (result : Result A E) (text : List ℕ) → P text → IfOk result (λ v. items v ≡ text) → IfOk result (λ v. P (items v))
-of_text P items (Ok v) text holds is = subst P (sym is) holds
-of_text P items (Err e) text holds is = tt

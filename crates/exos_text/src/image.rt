@@ -62,6 +62,7 @@ fn quantum(seed: u32) -> u32
 }
 
 /// The owner of each slot.
+#[tactic(auto, using(std::proofs::lemmas::Grind::common_steps, crate::proofs::Programs::made_more))]
 fn push_slots(file: &mut Vec<u8>) -> Result<(), OutOfMemory>
     ensures { OnOk result (file.new.items ≡ file.old.items ++ map slot_byte load_slots) }
 {
@@ -113,11 +114,13 @@ fn write_image(alloc: Global, seed: u32) -> Result<Vec<u8>, OutOfMemory>
 
 /// The image of the load that a seed gives: sixteen environments with the program of `LOAD`, which own 64 slots in turn.
 /// The image has no fault. The error is that memory ran out.
+#[tactic(auto, using(std::proofs::lemmas::Grind::common_steps, crate::proofs::Sound::sound, crate::proofs::Sound::meant, crate::proofs::Sound::text_size))]
 pub fn load_image(alloc: Global, seed: u32) -> Result<Vec<u8>, OutOfMemory>
     ensures text { IfOk result (λ file. file.items ≡ load_image_text seed) }
     ensures sound { IfOk result (λ file. image_fault file.items ≡ None) }
     ensures image { IfOk result (λ file. image_of file.items ≡ load_image_value seed) }
     ensures short { IfOk result (λ file. length file.items < 2 ^ 27) }
 {
-    write_image(alloc, seed)
+    let file = write_image(alloc, seed)?;
+    Ok(file)
 }

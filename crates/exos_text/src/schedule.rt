@@ -23,6 +23,7 @@ const PACKET_SIZE: usize = 64;
 const FIRST_BYTES: u32 = 32;
 
 /// The bytes of the next packet.
+#[tactic(auto, using(std::proofs::lemmas::Grind::common_steps, crate::proofs::Drawing::drawn_one, crate::proofs::Drawing::drawn_next, crate::proofs::Drawing::bytes_more, crate::proofs::Drawing::packet_is))]
 fn packet(draws: &mut Draws) -> ArrayVec<u8, PACKET_SIZE>
     ensures bytes { result.items ≡ load_packet draws.old.number }
     ensures size { length result.items ≡ 64 }
@@ -37,7 +38,7 @@ fn packet(draws: &mut Draws) -> ArrayVec<u8, PACKET_SIZE>
 }
 
 /// The next packet, as the event of this number.
-#[tactic(auto, unfolding(crate::specs::LoadSchedule::load_event))]
+#[tactic(auto, using(crate::proofs::Drawing::drawn_packets), unfolding(crate::specs::LoadSchedule::load_event))]
 fn event(alloc: Global, draws: &mut Draws, seed: u32, number: u32) -> Result<Event, OutOfMemory>
     requires number { number < PACKETS }
     requires draws { draws.old.number ≡ drawn (1 + 64 * number) seed }
@@ -53,6 +54,7 @@ fn event(alloc: Global, draws: &mut Draws, seed: u32, number: u32) -> Result<Eve
 }
 
 /// The schedule of the load that a seed gives: a packet in every thousandth tick. The error is that memory ran out.
+#[tactic(auto, using(std::proofs::lemmas::Grind::common_steps, crate::proofs::Drawing::drawn_one, crate::proofs::Programs::made_more, crate::proofs::Ordering::events_are, crate::proofs::Ordering::in_order))]
 pub fn load_schedule(alloc: Global, seed: u32) -> Result<Vec<Event>, OutOfMemory>
     ensures events { IfOk result (λ events. events.items ≡ load_events seed) }
     ensures order { IfOk result (λ events. are_in_order 0 events.items ≡ true) }
