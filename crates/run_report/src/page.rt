@@ -33,7 +33,6 @@ fn push_keep_line(out: &mut Vec<u8>, who: u8, page: PageView<'_>) -> Result<(), 
 }
 
 /// Appends the lines of an environment's pages.
-#[tactic(auto, using(std::proofs::lemmas::Grind::common_steps, std::proofs::lemmas::Option::gets))]
 pub(crate) fn push_keep_lines<V: WorldView>(
     out: &mut Vec<u8>,
     view: &V,

@@ -17,7 +17,6 @@ fn push_sent_line(out: &mut Vec<u8>, who: u8, packet: &[u8]) -> Result<(), OutOf
 }
 
 /// Appends the lines of the packets that an environment sent, in their order.
-#[tactic(auto, using(std::proofs::lemmas::Grind::common_steps, std::proofs::lemmas::Option::gets))]
 pub(crate) fn push_sent_lines<V: WorldView>(
     out: &mut Vec<u8>,
     view: &V,
