@@ -54,7 +54,7 @@ fn event(alloc: Global, draws: &mut Draws, seed: u32, number: u32) -> Result<Eve
 }
 
 /// The schedule of the load that a seed gives: a packet in every thousandth tick. The error is that memory ran out.
-#[tactic(auto, using(std::proofs::lemmas::Grind::common_steps, crate::proofs::Drawing::drawn_one, crate::proofs::Programs::made_more, crate::proofs::Ordering::events_are, crate::proofs::Ordering::in_order))]
+#[tactic(auto, using(std::proofs::lemmas::Grind::common_steps, crate::proofs::Drawing::drawn_one, crate::proofs::Programs::made_more, crate::proofs::Ordering::events_are))]
 pub fn load_schedule(alloc: Global, seed: u32) -> Result<Vec<Event>, OutOfMemory>
     ensures events { IfOk result (λ events. events.items ≡ load_events seed) }
     ensures order { IfOk result (λ events. are_in_order 0 events.items ≡ true) }
