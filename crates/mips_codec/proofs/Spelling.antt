@@ -42,6 +42,3 @@ insn_of-spelled w insn spells =
         | inr read ↦ is ∙ sym read
       ]
     ]
-
-pub one_word : (v w : ℕ) (insn : Insn) → Spells v insn → Spells w insn → v ≡ w
-one_word v w insn left right = left.1 ∙ sym right.1

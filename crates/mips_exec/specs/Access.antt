@@ -1,5 +1,5 @@
 -- The one load or store of an instruction.
-use Rattle.std.specs.Prelude.{◌≡◌, ◌≢◌, ℕ, ◌+◌, ◌-◌, ◌*◌, ◌/◌, ◌%◌, ◌^◌, ◌<◌, ◌≤◌, Bool, true, false, ◌==◌, if◌then◌else◌, Option, Some, None, List, take}
+use Rattle.std.specs.Prelude.{◌≡◌, ℕ, ◌+◌, ◌-◌, ◌*◌, ◌/◌, ◌%◌, ◌^◌, ◌<◌, ◌≤◌, Bool, true, false, ◌==◌, if◌then◌else◌, Option, Some, None, List, take}
 use Rattle.std.specs.Int.{w32, to_le_bytes}
 use Rattle.mips_isa.specs.declared.insn.Insn.{Insn}
 use Rattle.mips_isa.specs.declared.insn.Insn.TheVariants.{Lb, Lh, Lwl, Lw, Lbu, Lhu, Lwr, Sb, Sh, Swl, Sw, Swr}
@@ -69,8 +69,3 @@ access _ c = None
 pub record IsSpot (spot : Spot) : Type 0 where
   pub some : 0 < spot.width
   pub within : is_aligned spot ≡ true → place_of spot % 4 + spot.width ≤ 4
-
--- a load is of 1, 2 or 4 bytes, and a store of 1 to 4
-abbrev pub IsSized : Access → Type 0
-IsSized (Load spot) = IsSpot spot × (spot.width ≢ 3)
-IsSized (Store spot value) = IsSpot spot

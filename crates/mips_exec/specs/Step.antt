@@ -116,11 +116,6 @@ report_of Calls = outcomes.Call
 report_of (Raises exc) = outcomes.Trap exc
 report_of change = outcomes.Retired
 
--- what an access wrote that was answered so
-abbrev pub write_if : Access → Result ℕ Exc → Option Write
-write_if a (Ok x) = write_of a
-write_if a (Err exc) = None
-
 -- what the step writes
 abbrev pub write_after : Step → Option Write
 write_after (Retired new write) = write
