@@ -1,2 +1,1 @@
 pub mod ReadingOn
-pub mod Places
