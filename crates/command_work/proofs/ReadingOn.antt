@@ -17,8 +17,7 @@ use Rattle.command_work.specs.Command.{CommandValue, IsShort, names_of}
 use Rattle.command_work.specs.Due.{Due}
 use Rattle.command_work.specs.Edges.{ShelfEdge, shelf_edge}
 use Rattle.command_work.specs.Files.{Names, AreRead, CameTo, Got, IsServed, WereRead, got_contents, just, names_so_far, next_name, reads_of}
-use Rattle.command_work.specs.Stopping.{stop_of}
-use Rattle.command_work.specs.Work.{IsSettled, Performed, Stopped, StopsByWantAlone}
+use Rattle.command_work.specs.Work.{IsSettled, Performed, Stopped, StopsByWantAlone, stop_of}
 
 -- one name more of a list
 pub take_next : (names : List (List ℕ)) (i : ℕ) (name : List ℕ) → slice_get names i ≡ Some name → take (i + 1) names ≡ take i names ++ name ∷ []

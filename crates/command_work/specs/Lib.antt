@@ -4,7 +4,6 @@ pub mod Due
 pub mod Command
 pub mod Files
 pub mod Outcome
-pub mod Stopping
 pub mod Work
 pub mod Asm
 pub mod ListElf

@@ -1,5 +1,7 @@
 -- What the work of a command gives, before anything is written.
 use Rattle.std.specs.Prelude.{◌≡◌, Option, IsSomeAnd, Result, IfErr}
+use Rattle.edge_io.specs.declared.shelf.ReadFail.{ReadFail}
+use Rattle.edge_io.specs.declared.shelf.ReadFail.TheVariants as read
 use Rattle.command_work.specs.declared.work.Answer.{Answer}
 use Rattle.command_work.specs.declared.work.Stop.{Stop}
 use Rattle.command_work.specs.declared.work.Stop.TheVariants as stop
@@ -21,6 +23,11 @@ IsSettled due answer = IsSomeAnd due (λ one. Settles one answer)
 -- All files were read, and the answer is what is due.
 abbrev pub Performed : CommandValue → ShelfEdge → Answer → Type 0
 Performed command s answer = (decided : Decided command s) × Settles decided.due answer
+
+-- why a read that gave nothing stops the work
+abbrev pub stop_of : ReadFail → Stop
+stop_of read.Failed = stop.ReadFault
+stop_of read.OutOfMemory = stop.OutOfMemory
 
 -- There is no answer: a read of a due file failed, or no memory was found.
 abbrev pub Stopped : Names → ShelfEdge → Stop → Type 0

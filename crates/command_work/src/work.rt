@@ -1,13 +1,14 @@
 //! What the work of a command gives: an answer to be written, or why there is none.
 ghost use Rattle.std.specs.Prelude.{◌≡◌, IfOk};
 ghost use Rattle.command_work.specs.Due.{Refusal, refusal_text};
-ghost use Rattle.command_work.specs.Work.{Settles};
+ghost use Rattle.command_work.specs.Work.{Settles, stop_of};
+ghost use Rattle.command_work.specs.declared.work.Stop.TheVariants as stop;
 
 use crate::status::Status;
 use aegis_limits::OutOfMemory;
 use edge_io::ReadFail;
 use line_text::{Word, push_line};
-use std::alloc::{AllocError, AllocFailed, Global};
+use std::alloc::Global;
 
 /// What is to be written, and the status once it is.
 #[derive(Drop)]
@@ -38,9 +39,6 @@ pub enum Stop {
 }
 
 impl From<ReadFail> for Stop {
-    ghost use Rattle.std.specs.Prelude.{◌≡◌};
-    ghost use Rattle.command_work.specs.Stopping.{stop_of};
-
     ghost from_gives = { λ e s. s ≡ stop_of e };
 
     fn from(e: ReadFail) -> Stop {
@@ -51,33 +49,8 @@ impl From<ReadFail> for Stop {
     }
 }
 
-impl From<AllocError> for Stop {
-    ghost use Rattle.std.specs.Prelude.{◌≡◌};
-    ghost use Rattle.command_work.specs.declared.work.Stop.TheVariants as stop;
-
-    ghost from_gives = { λ e s. s ≡ stop.OutOfMemory };
-
-    fn from(_e: AllocError) -> Stop {
-        Stop::OutOfMemory
-    }
-}
-
-impl<T: Drop> From<AllocFailed<T>> for Stop {
-    ghost use Rattle.std.specs.Prelude.{◌≡◌};
-    ghost use Rattle.command_work.specs.declared.work.Stop.TheVariants as stop;
-
-    ghost from_gives = { λ e s. s ≡ stop.OutOfMemory };
-
-    fn from(_e: AllocFailed<T>) -> Stop {
-        Stop::OutOfMemory
-    }
-}
-
 impl From<OutOfMemory> for Stop {
-    ghost use Rattle.std.specs.Prelude.{◌≡◌};
-    ghost use Rattle.command_work.specs.declared.work.Stop.TheVariants as stop;
-
-    ghost from_gives = { λ e s. s ≡ stop.OutOfMemory };
+    ghost from_gives = { λ _ s. s ≡ stop.OutOfMemory };
 
     fn from(_e: OutOfMemory) -> Stop {
         Stop::OutOfMemory
