@@ -1,27 +1,23 @@
 -- From what holds by the status to what is written where no fault is met.
-use Rattle.std.proofs.Common.{◌≡◌, ◌≢◌, ◌≤◌, length, ℕ, List, [], ◌∷◌, ◌++◌, Option, Some, None, ◌⊎◌, inl, inr, sym, ◌∙◌, ap, refl, subst, take, IfSome, rules}
-use Rattle.boot_image.specs.declared.fault.ImageFault.{ImageFault}
+use Rattle.std.proofs.Common.{◌≡◌, ◌≢◌, length, ℕ, List, [], ◌∷◌, ◌++◌, Option, Some, None, ◌⊎◌, inl, inr, sym, ◌∙◌, ap, refl, subst, take, IfSome, arith}
 use Rattle.boot_image.specs.ImageFaults.{image_fault}
 use Rattle.boot_image.specs.ImageValue.{image_of}
-use Rattle.line_text.specs.declared.failure.LineFault.{LineFault}
-use Rattle.boot_schedule.specs.declared.fault.ScheduleWhy.{ScheduleWhy}
 use Rattle.boot_schedule.specs.Schedule.{events_of, schedule_fault}
-use Rattle.edge_io.specs.Faults.{Rose, one_more}
 use Rattle.command_work.specs.declared.status.Status.{Status}
 use Rattle.command_work.specs.declared.status.Status.TheVariants as status
 use Rattle.command_work.specs.declared.work.Answer.{Answer}
 use Rattle.command_work.specs.Edges.{ShelfEdge, SinkEdge}
 use Rattle.command_work.specs.Command.{CommandValue, names_of}
 use Rattle.command_work.specs.Files.{AreRead, AreTold}
-use Rattle.command_work.specs.Due.{Due, Refusal, Whole, Found, text_of, status_of, unless_refused}
-use Rattle.command_work.specs.Outcome.{Decided, IsWhole, IsPart, Outcome, Finished}
+use Rattle.command_work.specs.Due.{Due, Refusal, Whole, Found, text_of, status_of}
+use Rattle.command_work.specs.Outcome.{Decided, IsWhole, IsPart, Outcome, Finished, Wrote}
 use Rattle.command_work.specs.Work.{Performed}
 use Rattle.aegis_command.specs.Headline.{NoFault, Ends, IsComplete, IsHeadline, IsLoad, IsReadHeadline, IsTaken, IsWanting, WroteReport}
 use Rattle.std.specs.Io.KnownBytes.{Appends}
 use Rattle.std.specs.Option.{option_map}
 use Rattle.aegis_command.specs.Words.{command_of}
 use Rattle.aegis_command.specs.LoadSeed.{load_seed}
-use Rattle.aegis_command.specs.RunImage.{image_refused, report_after, run_due, run_image, schedule_refused}
+use Rattle.aegis_command.specs.RunImage.{report_after, run_due, run_image}
 
 -- what is read of told files is what is told
 same_contents : (files : List ℕ → Option (List ℕ)) (names xs ys : List (List ℕ)) → AreRead (Some files) names xs → AreRead (Some files) names ys → xs ≡ ys
@@ -73,38 +69,32 @@ told_contents c (Some files) xs ys a b =
 pub told_due : (c : CommandValue) (s : ShelfEdge) (decided : Decided c s) (contents : List (List ℕ)) → AreTold s.told (names_of c contents) contents → c.due contents ≡ Some decided.due
 told_due c s decided contents told = ap c.due (told_contents c s.told contents decided.contents told decided.read.read) ∙ decided.is_due
 
--- one more is a rise
-rose : (before after : ℕ) → after ≡ one_more before → Rose before after
-rose before after more = let P : ℕ → Type 0 = λ n. one_more before ≤ n in subst P (sym more) (search rules)
-
--- what was written whole is what was due
-ends_written : (k : SinkEdge) (due : Option Due) (one : Due) (result : Status) → due ≡ Some one → status_of one ≡ result → IsWhole k (text_of one) → Ends due k result
-ends_written k due one result is settled whole = subst (λ (d : Option Due). Ends d k result) (sym is) (inl (sym settled, whole.appended))
-
-ends_wanting : (k : SinkEdge) (due : Option Due) → k.written_after ≡ k.written_before → Ends due k status.OutOfMemory
-ends_wanting k None nothing = (refl, nothing)
-ends_wanting k (Some due) nothing = inr (refl, nothing)
+-- where no fault is met, what is due was written, or memory was wanting
+wrote : (c : CommandValue) (s : ShelfEdge) (k : SinkEdge) (result : Status) → Outcome c s k result → NoFault s k → Wrote c s k result ⊎ IsWanting k result
+wrote c s k status.Done w calm = inl w
+wrote c s k status.Found w calm = inl w
+wrote c s k status.Usage w calm = absurd w
+wrote c s k status.Refused w calm = inl w
+wrote c s k status.ReadFault w calm = absurd (calm.read (omega (arith, w.0.fault)))
+wrote c s k status.WriteFault w calm = absurd (calm.write (omega (arith, w.1.fault)))
+wrote c s k status.OutOfMemory w calm = inr (refl, w.1.nothing)
 
 ends : (c : CommandValue) (contents : List (List ℕ)) (s : ShelfEdge) (k : SinkEdge) (result : Status) → Outcome c s k result → AreTold s.told (names_of c contents) contents → NoFault s k → Ends (c.due contents) k result
-ends c contents s k status.Done w told calm = ends_written k (c.due contents) w.0.due status.Done (told_due c s w.0 contents told) w.1 w.2
-ends c contents s k status.Found w told calm = ends_written k (c.due contents) w.0.due status.Found (told_due c s w.0 contents told) w.1 w.2
-ends c contents s k status.Usage w told calm = absurd w
-ends c contents s k status.Refused w told calm = ends_written k (c.due contents) w.0.due status.Refused (told_due c s w.0 contents told) w.1 w.2
-ends c contents s k status.ReadFault w told calm = absurd (calm.read (rose s.faults_before s.faults_after w.0.fault))
-ends c contents s k status.WriteFault w told calm = absurd (calm.write (rose k.faults_before k.faults_after w.1.fault))
-ends c contents s k status.OutOfMemory w told calm = ends_wanting k (c.due contents) w.1.nothing
+ends c contents s k result outcome told calm = by_due (c.due contents) refl (wrote c s k result outcome calm)
+  where
+    by_due : (due : Option Due) → c.due contents ≡ due → Wrote c s k result ⊎ IsWanting k result → Ends due k result
+    by_due due is (inl w) =
+        subst (λ (d : Option Due). Ends d k result) (sym (told_due c s w.0 contents told) ∙ is) (inl (sym w.1, w.2.appended))
+    by_due None is (inr w) = w
+    by_due (Some due) is (inr w) = inr w
 
 pub is_complete : (words : Option CommandValue) (s : ShelfEdge) (k : SinkEdge) (result : Status) → IfSome words (λ c. Outcome c s k result) → IsComplete words s k result
-is_complete None s k result outcome c contents is told calm = cc
-is_complete (Some found) s k result outcome c contents is told calm =
-    let same : found ≡ c = cc in
-    ends c contents s k result (subst (λ (f : CommandValue). Outcome f s k result) same outcome) told calm
+is_complete words s k result outcome c contents is told calm =
+    ends c contents s k result (subst (λ (o : Option CommandValue). IfSome o (λ d. Outcome d s k result)) is outcome) told calm
 
 -- what is due for an image and a schedule without fault
 due_whole : (image_name schedule_name : List ℕ) (ticks : ℕ) (image schedule : List ℕ) → image_fault image ≡ None → schedule_fault schedule ≡ None → Some (run_due image_name schedule_name ticks image schedule) ≡ Some (Whole (report_after (image_of image) (events_of schedule) ticks))
-due_whole image_name schedule_name ticks image schedule image_ok schedule_ok =
-    let due = λ (f : Option ImageFault) (g : Option (LineFault ScheduleWhy)). unless_refused (image_refused image_name f ∷ schedule_refused schedule_name g ∷ []) (Whole (report_after (image_of image) (events_of schedule) ticks)) in
-    ap (λ (f : Option ImageFault). Some (due f (schedule_fault schedule))) image_ok ∙ ap (λ (g : Option (LineFault ScheduleWhy)). Some (due None g)) schedule_ok
+due_whole image_name schedule_name ticks image schedule image_ok schedule_ok = rw (image_ok, schedule_ok) refl
 
 -- the headline is completeness for an image and a schedule without fault
 pub is_headline : (words : List (List ℕ)) (s : ShelfEdge) (k : SinkEdge) (result : Status) → IfSome (command_of words) (λ c. Outcome c s k result) → IsHeadline words s k result
@@ -131,7 +121,7 @@ wrote_report image_name schedule_name ticks s k result decided settled whole =
       image = two.0;
       schedule = two.1;
       names_read = decided.read.got.names_read;
-      contents_read = decided.read.got.contents_read ∙ ap (λ (contents : List (List ℕ)). s.contents_before ++ contents) two.2;
+      contents_read = decided.read.got.contents_read ∙ ap (λ (contents : List (List ℕ)). s.before.contents ++ contents) two.2;
       report = λ image_ok schedule_ok.
           let text = report_after (image_of two.0) (events_of two.1) ticks in
           let is : Some decided.due ≡ Some (Whole text) = sym decided.is_due ∙ ap (run_image image_name schedule_name ticks).due two.2 ∙ due_whole image_name schedule_name ticks two.0 two.1 image_ok schedule_ok in
@@ -139,21 +129,15 @@ wrote_report image_name schedule_name ticks s k result decided settled whole =
           (sym settled ∙ ap status_of one, subst (λ (d : Due). Appends k.written_before k.written_after (text_of d)) one whole.appended);
     }
 
-run_ends : (image_name schedule_name : List ℕ) (ticks : ℕ) (s : ShelfEdge) (k : SinkEdge) (result : Status) → Outcome (run_image image_name schedule_name ticks) s k result → NoFault s k
-    → WroteReport image_name schedule_name ticks s k result ⊎ IsWanting k result
-run_ends image_name schedule_name ticks s k status.Done w calm = inl (wrote_report image_name schedule_name ticks s k status.Done w.0 w.1 w.2)
-run_ends image_name schedule_name ticks s k status.Found w calm = inl (wrote_report image_name schedule_name ticks s k status.Found w.0 w.1 w.2)
-run_ends image_name schedule_name ticks s k status.Usage w calm = absurd w
-run_ends image_name schedule_name ticks s k status.Refused w calm = inl (wrote_report image_name schedule_name ticks s k status.Refused w.0 w.1 w.2)
-run_ends image_name schedule_name ticks s k status.ReadFault w calm = absurd (calm.read (rose s.faults_before s.faults_after w.0.fault))
-run_ends image_name schedule_name ticks s k status.WriteFault w calm = absurd (calm.write (rose k.faults_before k.faults_after w.1.fault))
-run_ends image_name schedule_name ticks s k status.OutOfMemory w calm = inr (refl, w.1.nothing)
-
 -- the headline by what was read
 pub is_read_headline : (words : List (List ℕ)) (s : ShelfEdge) (k : SinkEdge) (result : Status) → IfSome (command_of words) (λ c. Outcome c s k result) → IsReadHeadline words s k result
 is_read_headline words s k result outcome image_name schedule_name number ticks are ticks_are calm =
     let is : command_of words ≡ Some (run_image image_name schedule_name ticks) = ap command_of are ∙ ap (option_map (run_image image_name schedule_name)) ticks_are in
-    run_ends image_name schedule_name ticks s k result (subst (λ (o : Option CommandValue). IfSome o (λ c. Outcome c s k result)) is outcome) calm
+    let run = run_image image_name schedule_name ticks in
+    elim (wrote run s k result (subst (λ (o : Option CommandValue). IfSome o (λ c. Outcome c s k result)) is outcome) calm) as (λ w. WroteReport image_name schedule_name ticks s k result ⊎ IsWanting k result) [
+      | inl w ↦ inl (wrote_report image_name schedule_name ticks s k result w.0 w.1 w.2)
+      | inr w ↦ inr w
+    ]
 
 -- no due status is that of a fault of writing
 due_status : (due : Due) → status_of due ≢ status.WriteFault

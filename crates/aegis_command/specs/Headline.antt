@@ -16,7 +16,7 @@ use Rattle.aegis_command.specs.RunImage.{report_after, ticks_of}
 
 -- neither count of faults rose in the call
 pub record NoFault (s : ShelfEdge) (k : SinkEdge) : Type 0 where
-  pub read : ¬ Rose s.faults_before s.faults_after
+  pub read : ¬ Rose s.before.faults s.after.faults
   pub write : ¬ Rose k.faults_before k.faults_after
 
 -- the text was written whole, as far as the sink tells what was written, with this status
@@ -72,8 +72,8 @@ IsHeadline words s k result =
 pub record WroteReport (image_name schedule_name : List ℕ) (ticks : ℕ) (s : ShelfEdge) (k : SinkEdge) (result : Status) : Type 0 where
   pub image : List ℕ
   pub schedule : List ℕ
-  pub names_read : s.names_after ≡ s.names_before ++ image_name ∷ schedule_name ∷ []
-  pub contents_read : s.contents_after ≡ s.contents_before ++ image ∷ schedule ∷ []
+  pub names_read : s.after.names ≡ s.before.names ++ image_name ∷ schedule_name ∷ []
+  pub contents_read : s.after.contents ≡ s.before.contents ++ image ∷ schedule ∷ []
   pub report : image_fault image ≡ None → schedule_fault schedule ≡ None → IsWritten status.Done (report_after (image_of image) (events_of schedule) ticks) k result
 
 -- The headline by what was read, also of a shelf that tells nothing of its files, as the host's: for the words

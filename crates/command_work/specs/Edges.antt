@@ -1,25 +1,17 @@
 -- What a call meets at its two edges, by what its shelf and its sink say of their states before and after.
 use Rattle.std.specs.Prelude.{ℕ, List, Option}
+use Rattle.edge_io.specs.Reads.{ReadingsValue}
 use Rattle.edge_io.specs.declared.shelf.Shelf.{Ghosts as OfShelf}
 use Rattle.edge_io.specs.declared.sink.Sink.{Ghosts as OfSink}
 
 -- Of the shelf: what it tells of its files, which names it is sure to serve, and whether it is sure that its next read
--- gives no bytes; the names and the contents of all files that it had read before, and those that it has after; how many
--- reads there were, how many of them had failed, and of the last that failed its name and how many reads there were then.
+-- gives no bytes; what it had read before, and what it has read after.
 pub record ShelfEdge : Type 1 where
   pub told : Option (List ℕ → Option (List ℕ))
   pub Serves : List ℕ → Type 0
   pub Refuses : Type 0
-  pub names_before : List (List ℕ)
-  pub names_after : List (List ℕ)
-  pub contents_before : List (List ℕ)
-  pub contents_after : List (List ℕ)
-  pub calls_before : ℕ
-  pub calls_after : ℕ
-  pub faults_before : ℕ
-  pub faults_after : ℕ
-  pub failed : Option (List ℕ)
-  pub failed_call : ℕ
+  pub before : ReadingsValue
+  pub after : ReadingsValue
 
 -- Of the sink: what it tells was written before and after, how many writes had failed, and how many more
 -- bytes it was sure to take.
@@ -36,16 +28,8 @@ shelf_edge of before after = record {
   told = of.told before;
   Serves = of.Serves before;
   Refuses = of.Refuses before;
-  names_before = of.names_read before;
-  names_after = of.names_read after;
-  contents_before = of.contents_read before;
-  contents_after = of.contents_read after;
-  calls_before = of.calls before;
-  calls_after = of.calls after;
-  faults_before = of.faults before;
-  faults_after = of.faults after;
-  failed = of.failed after;
-  failed_call = of.failed_call after;
+  before = of.readings before;
+  after = of.readings after;
 }
 
 -- a sink, in a call that took it from one state to another

@@ -8,10 +8,6 @@ use Rattle.command_work.specs.Edges.{ShelfEdge}
 abbrev pub Names : Type 0
 Names = List (List ℕ) → List (List ℕ)
 
--- the same names, whatever was read
-abbrev pub just : List (List ℕ) → Names
-just names contents = names
-
 -- the name that is read after these contents, if one is
 abbrev pub next_name : Names → List (List ℕ) → Option (List ℕ)
 next_name names contents = slice_get (names contents) (length contents)
@@ -42,20 +38,20 @@ IsServed names s = (contents : List (List ℕ)) → AreFirst names s.told conten
 
 -- the contents that the shelf got in the call
 abbrev pub got_contents : ShelfEdge → List (List ℕ)
-got_contents s = drop (length s.contents_before) s.contents_after
+got_contents s = drop (length s.before.contents) s.after.contents
 
 -- In the call the shelf read the files of these names, each once and in order, and got these contents. So many reads
 -- more gave nothing.
 pub record Got (s : ShelfEdge) (names contents : List (List ℕ)) (more : ℕ) : Type 0 where
-  pub names_read : s.names_after ≡ s.names_before ++ names
-  pub contents_read : s.contents_after ≡ s.contents_before ++ contents
-  pub calls : s.calls_after ≡ raised s.calls_before (length contents + more)
+  pub names_read : s.after.names ≡ s.before.names ++ names
+  pub contents_read : s.after.contents ≡ s.before.contents ++ contents
+  pub calls : s.after.calls ≡ raised s.before.calls (length contents + more)
 
 -- All files were read, each once and in order, and the shelf got these contents. No read failed.
 pub record WereRead (names : Names) (s : ShelfEdge) (contents : List (List ℕ)) : Type 0 where
   pub read : AreRead s.told (names contents) contents
   pub got : Got s (names contents) contents 0
-  pub no_fault : s.faults_after ≡ s.faults_before
+  pub no_fault : s.after.faults ≡ s.before.faults
 
 -- how many reads this is: one, or none
 abbrev pub reads_of : Option (List ℕ) → ℕ
@@ -74,12 +70,12 @@ pub record CameTo (names : Names) (s : ShelfEdge) (last : Option (List ℕ)) : T
 pub record FailedAt (names : Names) (s : ShelfEdge) : Type 0 where
   pub name : List ℕ
   pub came : CameTo names s (Some name)
-  pub failed : s.failed ≡ Some name
-  pub last : s.failed_call ≡ s.calls_after
-  pub fault : s.faults_after ≡ one_more s.faults_before
+  pub failed : s.after.failed ≡ Some name
+  pub last : s.after.failed_call ≡ s.after.calls
+  pub fault : s.after.faults ≡ one_more s.before.faults
 
 -- No read failed. Memory was wanting for a file, between two reads, or once all files were read.
 pub record CameFar (names : Names) (s : ShelfEdge) : Type 0 where
   pub last : Option (List ℕ)
   pub came : CameTo names s last
-  pub no_fault : s.faults_after ≡ s.faults_before
+  pub no_fault : s.after.faults ≡ s.before.faults

@@ -7,7 +7,7 @@ ghost use Rattle.command_work.specs.Edges.{shelf_edge};
 ghost use Rattle.command_work.specs.Files.{IsServed, WereRead, got_contents};
 ghost use Rattle.command_work.specs.Work.{IsSettled, Performed, Stopped, StopsByWantAlone};
 
-use crate::reading::{count_read, read_behind, read_files};
+use crate::reading::{count_read, read_behind};
 use crate::work::{Answer, Stop};
 use aegis_limits::OutOfMemory;
 use edge_io::Shelf;
@@ -45,9 +45,13 @@ fn read_all<C: Command, S: Shelf>(alloc: Global, command: &C, shelf: &mut S) -> 
 {
     let start = count_read(shelf);
     let names = command.names(alloc)?;
-    read_files(alloc, &names, shelf)?;
+    for name in &names {
+        shelf.read(alloc, name.as_str())?;
+    }
     let further = command.further(alloc, read_behind(shelf, start))?;
-    read_files(alloc, &further, shelf)?;
+    for name in &further {
+        shelf.read(alloc, name.as_str())?;
+    }
     Ok(())
 }
 

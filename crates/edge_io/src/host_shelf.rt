@@ -1,7 +1,7 @@
 //! Files in a folder, as the host's.
-ghost use Rattle.std.specs.Prelude.{◌≡◌, ◌<◌, ◌≤◌, [], None, IfOk, IfSome, IsErr, length, map, string_bytes};
+ghost use Rattle.std.specs.Prelude.{◌≡◌, ◌<◌, ◌≤◌, IfOk, IfSome, IsErr, length};
 ghost use Rattle.edge_io.specs.Limits.{file_limit};
-ghost use Rattle.edge_io.specs.Reads.{Tells, held, name_bytes};
+ghost use Rattle.edge_io.specs.Reads.{Tells, no_readings, readings_seen};
 
 use crate::folder::{Folder, Opened};
 use crate::readings::Readings;
@@ -14,33 +14,17 @@ use std::io::Read;
 #[derive(Drop)]
 pub struct HostShelf<D: Folder> {
     folder: D,
-    /// How many reads there were, whatever they answered. It stays at `u64::MAX`.
-    pub calls: u64,
-    /// How many reads failed. It stays at `u64::MAX`.
-    pub faults: u64,
-    /// The name of the read that failed last.
-    pub failed: Option<String>,
-    /// How many reads there were once it had failed, or 0.
-    pub failed_call: u64,
-    /// The files that were read.
+    /// Its reads.
     pub kept: Readings,
 }
 
 impl<D: Folder> HostShelf<D> {
-    /// A shelf over this folder, with no call, no fault and no file so far.
+    /// A shelf over this folder, with no read so far.
     pub fn new(alloc: Global, folder: D) -> HostShelf<D>
-        ensures no_calls { result.calls ≡ 0 }
-        ensures no_faults { result.faults ≡ 0 }
-        ensures none_failed { result.failed ≡ None }
-        ensures none_named { map string_bytes result.kept.names.items ≡ [] }
-        ensures none_read { held result.kept.contents.items ≡ [] }
+        ensures { readings_seen result.kept ≡ no_readings }
     {
         HostShelf {
             folder,
-            calls: 0,
-            faults: 0,
-            failed: None,
-            failed_call: 0,
             kept: Readings::new(alloc),
         }
     }
@@ -80,17 +64,7 @@ fn read_file<D: Folder>(folder: &D, alloc: Global, name: &str) -> Result<Vec<u8>
 impl<D: Folder> Shelf for HostShelf<D> {
     ghost told = { λ s. D.told s.folder };
 
-    ghost names_read = { λ s. map string_bytes s.kept.names.items };
-
-    ghost contents_read = { λ s. held s.kept.contents.items };
-
-    ghost calls = { λ s. s.calls };
-
-    ghost faults = { λ s. s.faults };
-
-    ghost failed = { λ s. name_bytes s.failed };
-
-    ghost failed_call = { λ s. s.failed_call };
+    ghost readings = { λ s. readings_seen s.kept };
 
     // Nothing is sure of the host.
     ghost Serves = { λ _ _. ⊥ };
@@ -98,14 +72,14 @@ impl<D: Folder> Shelf for HostShelf<D> {
     ghost Refuses = { λ _. ⊥ };
 
     fn read(&mut self, alloc: Global, name: &str) -> Result<(), ReadFail> {
-        self.calls = self.calls.saturating_add(1);
+        self.kept.calls = self.kept.calls.saturating_add(1);
         let title = String::from_str(alloc, name)?;
         match read_file(&self.folder, alloc, name) {
             Ok(bytes) => Ok(self.kept.keep(title, bytes)?),
             Err(ReadFail::Failed) => {
-                self.faults = self.faults.saturating_add(1);
-                self.failed = Some(title);
-                self.failed_call = self.calls;
+                self.kept.faults = self.kept.faults.saturating_add(1);
+                self.kept.failed = Some(title);
+                self.kept.failed_call = self.kept.calls;
                 Err(ReadFail::Failed)
             }
             Err(ReadFail::OutOfMemory) => Err(ReadFail::OutOfMemory),

@@ -1,36 +1,48 @@
 //! What a shelf keeps of its reads.
-ghost use Rattle.std.specs.Prelude.{◌≡◌, [], ◌∷◌, ◌++◌, OnOk, OnErr, map, string_bytes};
-ghost use Rattle.edge_io.specs.Reads.{held};
+ghost use Rattle.std.specs.Prelude.{◌≡◌, [], ◌∷◌, ◌++◌, OnOk, OnErr, string_bytes};
+ghost use Rattle.edge_io.specs.Reads.{no_readings, readings_seen};
 
 use std::alloc::{AllocError, Global};
 
-/// The files that were read, in the order of the reads.
+/// The reads of a shelf, and the files that were read, in the order of the reads.
 #[derive(Drop)]
 pub struct Readings {
-    /// The name of each.
+    /// The name of each file.
     pub names: Vec<String>,
     /// What each holds.
     pub contents: Vec<Vec<u8>>,
+    /// How many reads there were, whatever they answered. It stays at `u64::MAX`.
+    pub calls: u64,
+    /// How many reads failed. It stays at `u64::MAX`.
+    pub faults: u64,
+    /// The name of the read that failed last.
+    pub failed: Option<String>,
+    /// How many reads there were once it had failed, or 0.
+    pub failed_call: u64,
 }
 
 impl Readings {
-    /// No file so far.
+    /// No read so far.
     pub fn new(alloc: Global) -> Readings
-        ensures no_names { map string_bytes result.names.items ≡ [] }
-        ensures no_contents { held result.contents.items ≡ [] }
+        ensures { readings_seen result ≡ no_readings }
     {
         Readings {
             names: Vec::new(alloc),
             contents: Vec::new(alloc),
+            calls: 0,
+            faults: 0,
+            failed: None,
+            failed_call: 0,
         }
     }
 
-    /// Keeps a file behind the others. Where memory is wanting, they stay as they were.
+    /// Keeps a file behind the others. Where memory is wanting, all stays as it was.
     pub fn keep(&mut self, name: String, bytes: Vec<u8>) -> Result<(), AllocError>
-        ensures name { OnOk result (map string_bytes self.new.names.items ≡ map string_bytes self.old.names.items ++ string_bytes name ∷ []) }
-        ensures bytes { OnOk result (held self.new.contents.items ≡ held self.old.contents.items ++ bytes.items ∷ []) }
-        ensures else_names { OnErr result (self.new.names.items ≡ self.old.names.items) }
-        ensures else_contents { OnErr result (self.new.contents.items ≡ self.old.contents.items) }
+        ensures ok { OnOk result (readings_seen self.new ≡ record (readings_seen self.old) {
+          names = (readings_seen self.old).names ++ string_bytes name ∷ [];
+          contents = (readings_seen self.old).contents ++ bytes.items ∷ [];
+        }) }
+        ensures err { OnErr result (readings_seen self.new ≡ readings_seen self.old) }
     {
         self.names.push(name)?;
         if self.contents.push(bytes).is_err() {

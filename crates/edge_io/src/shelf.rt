@@ -1,7 +1,6 @@
 //! What files are read from.
-ghost use Rattle.std.specs.Prelude.{◌≡◌, ◌↔◌, ℕ, ◌≤◌, List, [], ◌∷◌, ◌++◌, Option, Some, OnOk, OnErr};
-ghost use Rattle.edge_io.specs.Faults.{one_more};
-ghost use Rattle.edge_io.specs.Reads.{Gains, OnFailed, UnlessFailed, held};
+ghost use Rattle.std.specs.Prelude.{◌≡◌, ◌↔◌, ℕ, ◌≤◌, List, Option, OnOk};
+ghost use Rattle.edge_io.specs.Reads.{AddsRead, OnFailed, ReadingsValue, held};
 ghost use Rattle.std.specs.IoError.{error_kind};
 ghost use Rattle.std.specs.declared.io.ErrorKind.TheVariants as kind;
 ghost use Rattle.edge_io.specs.declared.shelf.ReadFail.TheVariants.{OutOfMemory};
@@ -56,23 +55,8 @@ pub trait Shelf {
     // The bytes of each name, where the shelf says what it holds. No call changes it.
     ghost told: { Self → Option (List ℕ → Option (List ℕ)) };
 
-    // The names of the files that were read, in the order of the reads.
-    ghost names_read: { Self → List (List ℕ) };
-
-    // Their contents, in the same order.
-    ghost contents_read: { Self → List (List ℕ) };
-
-    // How many reads there were, whatever they answered. It stays at the counter's last value.
-    ghost calls: { Self → ℕ };
-
-    // How many reads failed. It stays at the counter's last value.
-    ghost faults: { Self → ℕ };
-
-    // The name of the read that failed last.
-    ghost failed: { Self → Option (List ℕ) };
-
-    // How many reads there were once it had failed.
-    ghost failed_call: { Self → ℕ };
+    // What it has read.
+    ghost readings: { Self → ReadingsValue };
 
     // A read of this name is sure not to fail but for want of memory.
     ghost Serves: { Self → List ℕ → Type 0 };
@@ -85,22 +69,8 @@ pub trait Shelf {
     /// keep the name of a read that fails.
     fn read(&mut self, alloc: Global, name: &str) -> Result<(), ReadFail>
         ensures same_files { told self.new ≡ told self.old }
-        ensures call_counted { calls self.new ≡ one_more (calls self.old) }
-
-        // The name and the bytes of a file that was read are kept; any other answer leaves both lists.
-        ensures name_kept { OnOk result (names_read self.new ≡ names_read self.old ++ name.now ∷ []) }
-        ensures bytes_kept { OnOk result (Gains (told self.old) name.now (contents_read self.old) (contents_read self.new)) }
-        ensures else_names { OnErr result (names_read self.new ≡ names_read self.old) }
-        ensures else_contents { OnErr result (contents_read self.new ≡ contents_read self.old) }
-
-        // A failure is counted, named and numbered; any other answer leaves count, name and number.
-        ensures failed_counted { OnFailed result (faults self.new ≡ one_more (faults self.old)) }
-        ensures failed_named { OnFailed result (failed self.new ≡ Some name.now) }
-        ensures failed_numbered { OnFailed result (failed_call self.new ≡ calls self.new) }
-        ensures else_count { UnlessFailed result (faults self.new ≡ faults self.old) }
-        ensures else_name { UnlessFailed result (failed self.new ≡ failed self.old) }
-        ensures else_number { UnlessFailed result (failed_call self.new ≡ failed_call self.old) }
-        ensures never_falls { faults self.old ≤ faults self.new }
+        ensures added { AddsRead (told self.old) name.now (readings self.old) (readings self.new) result }
+        ensures never_falls { (readings self.old).faults ≤ (readings self.new).faults }
 
         ensures served { OnFailed result (¬ Serves self.old name.now) }
         ensures serves_on { (n : List ℕ) → Serves self.old n → Serves self.new n }
@@ -108,5 +78,5 @@ pub trait Shelf {
 
     /// The contents of all files that were read, in the order of the reads.
     fn contents(&self) -> &[Vec<u8>]
-        ensures { held result.now ≡ contents_read self.now };
+        ensures { held result.now ≡ (readings self.now).contents };
 }

@@ -64,7 +64,8 @@ fn a_file_is_read_whole_or_not_at_all(rt: HostRuntime) -> Result<(), Fail> {
             (Err(ReadFail::Failed), []) => assert!(rt; fails_at < 6),
             _ => return Err(Fail::new("a read that neither kept its file nor failed")),
         }
-        assert_eq!(rt; (shelf.calls, shelf.faults == 1), (1, fails_at < 6));
+        assert_eq!(rt; shelf.kept.calls, 1);
+        assert_eq!(rt; shelf.kept.faults == 1, fails_at < 6);
     }
     Ok(())
 }

@@ -29,11 +29,11 @@ found_at files fails call name =
 
 -- the number of the shelf's next read is one of those that fail
 abbrev pub is_set_to_fail : MemoryShelf → Bool
-is_set_to_fail shelf = list_any (λ n. n == shelf.calls) shelf.fails.items
+is_set_to_fail shelf = list_any (λ n. n == shelf.kept.calls) shelf.fails.items
 
 -- the bytes that the shelf's next read finds at the name
 abbrev pub found : MemoryShelf → List ℕ → Option (List ℕ)
-found shelf name = found_at shelf.files.items shelf.fails.items shelf.calls name
+found shelf name = found_at shelf.files.items shelf.fails.items shelf.kept.calls name
 
 -- no read has to fail, and the file is there and no longer than a file may be
 abbrev pub IsSureOf : MemoryShelf → List ℕ → Type 0

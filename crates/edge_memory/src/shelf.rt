@@ -1,8 +1,7 @@
 //! A shelf of files in memory.
-ghost use Rattle.std.specs.Prelude.{◌≡◌, ◌≤◌, [], ◌∷◌, ◌++◌, Some, None, IsSomeAnd, IsErr, OnOk, OnErr, map, string_bytes, true};
+ghost use Rattle.std.specs.Prelude.{◌≡◌, ◌≤◌, [], ◌∷◌, ◌++◌, Some, None, IsSomeAnd, IsErr, OnOk, true};
 ghost use Rattle.std.specs.Option.{option_copied};
-ghost use Rattle.edge_io.specs.Faults.{one_more};
-ghost use Rattle.edge_io.specs.Reads.{OnFailed, UnlessFailed, held, name_bytes};
+ghost use Rattle.edge_io.specs.Reads.{AddsRead, OnFailed, held, no_readings, readings_seen};
 ghost use Rattle.edge_memory.specs.Files.{IsSureOf, file_named, found, found_at, is_set_to_fail};
 
 use edge_io::{FILE_LIMIT, ReadFail, Readings, Shelf};
@@ -17,15 +16,7 @@ pub struct MemoryShelf {
     pub files: Vec<(String, Vec<u8>)>,
     /// The numbers of the reads that fail.
     pub fails: Vec<u64>,
-    /// How many reads there were, whatever they answered. It stays at `u64::MAX`.
-    pub calls: u64,
-    /// How many reads failed. It stays at `u64::MAX`.
-    pub faults: u64,
-    /// The name of the read that failed last.
-    pub failed: Option<String>,
-    /// How many reads there were once it had failed, or 0.
-    pub failed_call: u64,
-    /// The files that were read.
+    /// Its reads.
     pub kept: Readings,
 }
 
@@ -44,19 +35,11 @@ impl MemoryShelf {
     pub fn new(alloc: Global, files: Vec<(String, Vec<u8>)>, fails: Vec<u64>) -> MemoryShelf
         ensures files { result.files ≡ files }
         ensures fails { result.fails ≡ fails }
-        ensures no_calls { result.calls ≡ 0 }
-        ensures no_faults { result.faults ≡ 0 }
-        ensures none_failed { result.failed ≡ None }
-        ensures none_named { map string_bytes result.kept.names.items ≡ [] }
-        ensures none_read { held result.kept.contents.items ≡ [] }
+        ensures nothing_read { readings_seen result.kept ≡ no_readings }
     {
         MemoryShelf {
             files,
             fails,
-            calls: 0,
-            faults: 0,
-            failed: None,
-            failed_call: 0,
             kept: Readings::new(alloc),
         }
     }
@@ -80,17 +63,7 @@ impl MemoryShelf {
 impl Shelf for MemoryShelf {
     ghost told = { λ s. Some (file_named s.files.items) };
 
-    ghost names_read = { λ s. map string_bytes s.kept.names.items };
-
-    ghost contents_read = { λ s. held s.kept.contents.items };
-
-    ghost calls = { λ s. s.calls };
-
-    ghost faults = { λ s. s.faults };
-
-    ghost failed = { λ s. name_bytes s.failed };
-
-    ghost failed_call = { λ s. s.failed_call };
+    ghost readings = { λ s. readings_seen s.kept };
 
     ghost Serves = { IsSureOf };
 
@@ -103,25 +76,15 @@ impl Shelf for MemoryShelf {
         ensures fails { OnFailed result (found self.old name.now ≡ None) }
         ensures set_to_fail { is_set_to_fail self.old ≡ true → IsErr result }
 
-        ensures call_counted { self.new.calls ≡ one_more self.old.calls }
-        ensures failed_counted { OnFailed result (self.new.faults ≡ one_more self.old.faults) }
-        ensures failed_named { OnFailed result (name_bytes self.new.failed ≡ Some name.now) }
-        ensures failed_numbered { OnFailed result (self.new.failed_call ≡ self.new.calls) }
-        ensures else_count { UnlessFailed result (self.new.faults ≡ self.old.faults) }
-        ensures else_name { UnlessFailed result (self.new.failed ≡ self.old.failed) }
-        ensures else_number { UnlessFailed result (self.new.failed_call ≡ self.old.failed_call) }
-
         ensures same_files { self.new.files ≡ self.old.files }
         ensures same_fails { self.new.fails ≡ self.old.fails }
 
         // What every shelf ensures, as far as the clauses above don't say it.
-        ensures name_kept { OnOk result (map string_bytes self.new.kept.names.items ≡ map string_bytes self.old.kept.names.items ++ name.now ∷ []) }
-        ensures else_names { OnErr result (self.new.kept.names.items ≡ self.old.kept.names.items) }
-        ensures else_contents { OnErr result (self.new.kept.contents.items ≡ self.old.kept.contents.items) }
-        ensures never_falls { self.old.faults ≤ self.new.faults }
+        ensures added { AddsRead (Some (file_named self.old.files.items)) name.now (readings_seen self.old.kept) (readings_seen self.new.kept) result }
+        ensures never_falls { self.old.kept.faults ≤ self.new.kept.faults }
     {
-        let call = self.calls;
-        self.calls = call.saturating_add(1);
+        let call = self.kept.calls;
+        self.kept.calls = call.saturating_add(1);
         let title = String::from_str(alloc, name)?;
         match self.found(call, name) {
             Some(bytes) => {
@@ -129,9 +92,9 @@ impl Shelf for MemoryShelf {
                 Ok(self.kept.keep(title, bytes)?)
             }
             None => {
-                self.faults = self.faults.saturating_add(1);
-                self.failed = Some(title);
-                self.failed_call = self.calls;
+                self.kept.faults = self.kept.faults.saturating_add(1);
+                self.kept.failed = Some(title);
+                self.kept.failed_call = self.kept.calls;
                 Err(ReadFail::Failed)
             }
         }

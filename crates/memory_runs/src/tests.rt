@@ -150,11 +150,12 @@ fn ended(alloc: Global, call: &Call<'_>, named: &[(&str, &[u8])]) -> Result<End,
         .ok()
         .ok_or("a sink wants memory")?;
     let status = run_in_memory(alloc, &words, &mut shelf, &mut out);
+    let readings = shelf.kept;
     Ok(End {
         status,
         written: out.bytes,
-        reads: shelf.calls,
-        failed: shelf.failed.unwrap_or(String::new(alloc)),
+        reads: readings.calls,
+        failed: readings.failed.unwrap_or(String::new(alloc)),
     })
 }
 
@@ -166,10 +167,16 @@ fn ample_memory_is_enough(rt: HostRuntime) -> Result<(), Fail> {
     assert_eq!(rt; listing.as_slice(), LISTING);
     let report = done(alloc, RUN.words, &[("two.img", &image), ("none.sch", b"")])?;
     assert_eq!(rt; report.as_slice(), REPORT);
+    Ok(())
+}
 
+#[test]
+fn ample_memory_is_enough_for_calls_of_no_command(rt: HostRuntime) -> Result<(), Fail> {
+    let alloc = rt.alloc();
     let statements = parse(alloc, SOURCE).ok().ok_or("parse wants memory")?;
     assert_eq!(rt; statements.len(), 3);
 
+    let (_, image) = program_and_image(alloc)?;
     assert!(rt; image.len() < ROOM);
     let image = read_image(&image).ok().ok_or("the image has a fault")?;
     let board = boot(alloc, &image).ok().ok_or("boot wants memory")?;
@@ -182,7 +189,7 @@ fn ample_memory_is_enough(rt: HostRuntime) -> Result<(), Fail> {
 }
 
 #[test]
-fn a_refused_read_or_write_ends_the_call(rt: HostRuntime) -> Result<(), Fail> {
+fn a_refused_read_ends_the_call(rt: HostRuntime) -> Result<(), Fail> {
     let alloc = rt.alloc();
     let (program, image) = program_and_image(alloc)?;
     let named: [(&str, &[u8]); 4] = [
@@ -205,6 +212,14 @@ fn a_refused_read_or_write_ends_the_call(rt: HostRuntime) -> Result<(), Fail> {
         assert_eq!(rt; (end.written.len(), end.reads), (0, read.saturating_add(1)));
         assert_eq!(rt; end.failed.as_str(), name);
     }
+    Ok(())
+}
+
+#[test]
+fn a_refused_write_ends_the_call(rt: HostRuntime) -> Result<(), Fail> {
+    let alloc = rt.alloc();
+    let (_, image) = program_and_image(alloc)?;
+    let named: [(&str, &[u8]); 2] = [("two.img", &image), ("none.sch", b"")];
     // Each write of three bytes, refused in turn, and at last none.
     for write in 0..=WRITES {
         let slow = Call {

@@ -1,109 +1,105 @@
 -- The first names were read, and then those that follow from them.
-use Rattle.std.proofs.Common.{◌≡◌, ◌++◌, ◌∙◌, ℕ, List, None, ap, drop, length, map, subst, sym}
+use Rattle.std.proofs.Common.{◌≡◌, ◌≤◌, ◌++◌, ◌∷◌, [], ◌∙◌, ℕ, List, ap, append_assoc, arith, drop, length, map, rules, subst, sym, take}
 use Rattle.std.specs.Prelude.{string_bytes}
-use Rattle.std.proofs.lemmas.List.{length-map}
+use Rattle.std.proofs.lemmas.List.{append-nil, length-append, length-map, take_all}
 use Rattle.edge_io.specs.Reads.{held}
-use Rattle.command_work.specs.declared.work.Stop.TheVariants as stop
 use Rattle.command_work.specs.Command.{names_of}
-use Rattle.command_work.specs.Edges.{ShelfEdge, shelf_edge}
-use Rattle.command_work.specs.Files.{IsServed, WereRead, got_contents, just}
-use Rattle.command_work.specs.Work.{Stopped}
-use Rattle.command_work.proofs.ReadingOn.{both_read, came_all, first_served, first_stopped, got_is, read_length, second_served, second_stopped, stops, wants_alike}
+use Rattle.command_work.specs.Edges.{shelf_edge}
+use Rattle.command_work.proofs.ReadingOn.{Reached, first_ahead, further_ahead, name_at, names_stay, reached_got, reached_next, read_length, read_stops, read_wants, stopped_by_want}
 use Rattle.command_work.proofs.performing.read_all.Goals as goal
 
-pub returns-in_err-read_files-clause-err : goal.returns-in_err-read_files-clause-err
-returns-in_err-read_files-clause-err g c =
+pub returns-in_err-read : goal.returns-in_err-read
+returns-in_err-read g c =
     let v = g.C.Command.value c.args.command.now in
-    let s : ShelfEdge = shelf_edge g.S.Shelf c.args.shelf.now c.read_files.new.shelf in
-    let why = c.in_err-read_files.field-0.0 in
-    let names : map string_bytes c.deref.result.now ≡ v.names = ap (map string_bytes) c.deref.ensures.value ∙ c.in_ok-names.ensures in
-    stops (names_of v) s why c.from_residual-in_err-read_files.result
-    (first_stopped v s why (subst (λ (ns : List (List ℕ)). Stopped (just ns) s why) names c.in_err-read_files.ensures.err))
-    c.from_residual-in_err-read_files.ensures.1
+    let name = c.as_str.result.now in
+    let so_far = c.loop-name.invariant in
+    let next = name_at c.deref-name-items.result.now c.loop-name.name-index c.name-item.result name c.name-item.is c.as_str.ensures.value c.loop-name-test.true in
+    let ahead = first_ahead v so_far.0 _ _ c.loop-name.name-index name (ap (map string_bytes) c.deref-name-items.ensures.value ∙ c.in_ok-names.ensures) next in
+    record {
+      ok = search rules;
+      short = search rules;
+      err = read_stops g.S.Shelf c.args.shelf.now c.loop-name.shelf c.read.new.self _ so_far.0 so_far.1 name v _ ahead c.in_err-read.field-0.0 c.from_residual-in_err-read.result c.in_err-read.ensures.added c.from_residual-in_err-read.ensures.1;
+      sure = read_wants g.S.Shelf c.args.shelf.now c.loop-name.shelf c.read.new.self _ so_far.0 so_far.1 name v _ ahead c.in_err-read.field-0.0 c.from_residual-in_err-read.result c.in_err-read.ensures.served c.from_residual-in_err-read.ensures.1;
+      refused = search rules;
+    }
 
-pub returns-in_err-read_files-clause-sure : goal.returns-in_err-read_files-clause-sure
-returns-in_err-read_files-clause-sure g c =
-    let v = g.C.Command.value c.args.command.now in
-    let s : ShelfEdge = shelf_edge g.S.Shelf c.args.shelf.now c.read_files.new.shelf in
-    let names : map string_bytes c.deref.result.now ≡ v.names = ap (map string_bytes) c.deref.ensures.value ∙ c.in_ok-names.ensures in
-    λ served.
-    wants_alike c.in_err-read_files.field-0.0 c.from_residual-in_err-read_files.result
-    (c.in_err-read_files.ensures.sure (subst (λ (ns : List (List ℕ)). IsServed (just ns) s) (sym names) (first_served v s served)))
-    c.from_residual-in_err-read_files.ensures.1
+pub loop-name-preserved : goal.loop-name-preserved
+loop-name-preserved g c =
+    let e = c.in_ok-read.ensures in
+    let name = c.as_str.result.now in
+    let so_far = c.loop-name.invariant in
+    let next = name_at c.deref-name-items.result.now c.loop-name.name-index c.name-item.result name c.name-item.is c.as_str.ensures.value c.loop-name-test.true in
+    let contents = so_far.0 ++ e.added.bytes ∷ [] in (
+      contents,
+      subst (λ (ns : List (List ℕ)). Reached g.S.Shelf c.args.shelf.now c.read.new.self ns contents) (sym next)
+          (reached_next g.S.Shelf c.args.shelf.now c.loop-name.shelf c.read.new.self _ so_far.0 so_far.1 name e.added e.same_files e.serves_on e.refused),
+    )
 
 pub further-requires-clause-count : goal.further-requires-clause-count
 further-requires-clause-count g c =
-    let s : ShelfEdge = shelf_edge g.S.Shelf c.args.shelf.now c.read_files.new.shelf in
     let files = c.read_behind.result.now in
-    let lent : held files ≡ got_contents s = c.read_behind.ensures ∙ ap (λ (n : ℕ). drop n s.contents_after) c.count_read-start.ensures in
-    let names : map string_bytes c.deref.result.now ≡ (g.C.Command.value c.args.command.now).names = ap (map string_bytes) c.deref.ensures.value ∙ c.in_ok-names.ensures in
-    let read = read_length (g.S.Shelf.told c.args.shelf.now) (map string_bytes c.deref.result.now) (got_contents s) c.in_ok-read_files.ensures.ok.read in
-    sym (length-map files _) ∙ ap length lent ∙ read ∙ ap length names
+    let so_far = c.loop-name.invariant in
+    let lent : held files ≡ so_far.0 = c.read_behind.ensures ∙ ap (λ (n : ℕ). drop n (g.S.Shelf.readings c.loop-name.shelf).contents) c.count_read-start.ensures ∙ reached_got g.S.Shelf c.args.shelf.now c.loop-name.shelf _ so_far.0 so_far.1 in
+    let all = take_all c.loop-name.name-index (map string_bytes c.deref-name-items.result.now) (omega (arith, length-map c.deref-name-items.result.now string_bytes)) in
+    sym (length-map files _) ∙ ap length lent ∙ read_length _ _ so_far.0 so_far.1.read ∙ ap length all ∙ ap (λ ns. length (map string_bytes ns)) c.deref-name-items.ensures.value ∙ ap length c.in_ok-names.ensures
 
 pub returns-in_err-further-clause-err : goal.returns-in_err-further-clause-err
 returns-in_err-further-clause-err g c =
     let v = g.C.Command.value c.args.command.now in
-    let s : ShelfEdge = shelf_edge g.S.Shelf c.args.shelf.now c.read_files.new.shelf in
-    let xs = got_contents s in
-    let names : map string_bytes c.deref.result.now ≡ v.names = ap (map string_bytes) c.deref.ensures.value ∙ c.in_ok-names.ensures in
-    let first : WereRead (just v.names) s xs = subst (λ (ns : List (List ℕ)). WereRead (just ns) s xs) names c.in_ok-read_files.ensures.ok in
-    stops (names_of v) s stop.OutOfMemory c.from_residual-in_err-further.result
-    (first_stopped v s stop.OutOfMemory (record { last = None; came = came_all (just v.names) s xs first; no_fault = first.no_fault }))
-    c.from_residual-in_err-further.ensures.1
+    let so_far = c.loop-name.invariant in
+    let all = take_all c.loop-name.name-index (map string_bytes c.deref-name-items.result.now) (omega (arith, length-map c.deref-name-items.result.now string_bytes)) in
+    let names = all ∙ ap (map string_bytes) c.deref-name-items.ensures.value ∙ c.in_ok-names.ensures in
+    let more = v.further (take (length v.names) so_far.0) in
+    stopped_by_want (names_of v) (shelf_edge g.S.Shelf c.args.shelf.now c.loop-name.shelf) _ more so_far.0 c.from_residual-in_err-further.result
+    (ap (λ (ns : List (List ℕ)). ns ++ more) (sym names)) so_far.1.read so_far.1.got so_far.1.faults c.from_residual-in_err-further.ensures.1
 
-pub returns-in_err-read_files-2-clause-err : goal.returns-in_err-read_files-2-clause-err
-returns-in_err-read_files-2-clause-err g c =
+pub loop-name-2-init : goal.loop-name-2-init
+loop-name-2-init g c =
     let v = g.C.Command.value c.args.command.now in
-    let before = c.args.shelf.now in
-    let between = c.read_files.new.shelf in
-    let after = c.read_files-2.new.shelf in
-    let s : ShelfEdge = shelf_edge g.S.Shelf before between in
-    let xs = got_contents s in
-    let more = map string_bytes c.deref-2.result.now in
-    let lent : held c.read_behind.result.now ≡ xs = c.read_behind.ensures ∙ ap (λ (n : ℕ). drop n s.contents_after) c.count_read-start.ensures in
-    let names : map string_bytes c.deref.result.now ≡ v.names = ap (map string_bytes) c.deref.ensures.value ∙ c.in_ok-names.ensures in
-    let first : WereRead (just v.names) s xs = subst (λ (ns : List (List ℕ)). WereRead (just ns) s xs) names c.in_ok-read_files.ensures.ok in
-    let count : length xs ≡ length v.names = read_length (g.S.Shelf.told before) v.names xs first.read in
-    let follows : more ≡ v.further xs = ap (map string_bytes) c.deref-2.ensures.value ∙ c.in_ok-further.ensures ∙ ap v.further lent in
-    let why = c.in_err-read_files-2.field-0.0 in
-    stops (names_of v) (shelf_edge g.S.Shelf before after) why c.from_residual-in_err-read_files-2.result
-    (second_stopped v xs more count follows g.S.Shelf before between after first c.in_ok-read_files.ensures.same_files why c.in_err-read_files-2.ensures.err)
-    c.from_residual-in_err-read_files-2.ensures.1
+    let so_far = c.loop-name.invariant in
+    let all = take_all c.loop-name.name-index (map string_bytes c.deref-name-items.result.now) (omega (arith, length-map c.deref-name-items.result.now string_bytes)) in
+    let names = all ∙ ap (map string_bytes) c.deref-name-items.ensures.value ∙ c.in_ok-names.ensures in
+    let lent : held c.read_behind.result.now ≡ so_far.0 = c.read_behind.ensures ∙ ap (λ (n : ℕ). drop n (g.S.Shelf.readings c.loop-name.shelf).contents) c.count_read-start.ensures ∙ reached_got g.S.Shelf c.args.shelf.now c.loop-name.shelf _ so_far.0 so_far.1 in
+    let first = take_all (length v.names) so_far.0 (omega (arith, read_length _ _ so_far.0 so_far.1.read, ap length names)) in
+    let further : map string_bytes c.deref-name-items-2.result.now ≡ v.further (take (length v.names) so_far.0)
+    = ap (map string_bytes) c.deref-name-items-2.ensures.value ∙ c.in_ok-further.ensures ∙ ap v.further (lent ∙ sym first) in (
+      so_far.0,
+      subst (λ (ns : List (List ℕ)). Reached g.S.Shelf c.args.shelf.now c.loop-name.shelf ns so_far.0) (names ∙ sym (append-nil v.names)) so_far.1,
+      ap (λ (ns : List (List ℕ)). v.names ++ ns) (sym further),
+    )
 
-pub returns-in_err-read_files-2-clause-sure : goal.returns-in_err-read_files-2-clause-sure
-returns-in_err-read_files-2-clause-sure g c =
+pub returns-in_err-read-2 : goal.returns-in_err-read-2
+returns-in_err-read-2 g c =
     let v = g.C.Command.value c.args.command.now in
-    let before = c.args.shelf.now in
-    let between = c.read_files.new.shelf in
-    let after = c.read_files-2.new.shelf in
-    let s : ShelfEdge = shelf_edge g.S.Shelf before between in
-    let xs = got_contents s in
-    let more = map string_bytes c.deref-2.result.now in
-    let lent : held c.read_behind.result.now ≡ xs = c.read_behind.ensures ∙ ap (λ (n : ℕ). drop n s.contents_after) c.count_read-start.ensures in
-    let names : map string_bytes c.deref.result.now ≡ v.names = ap (map string_bytes) c.deref.ensures.value ∙ c.in_ok-names.ensures in
-    let first : WereRead (just v.names) s xs = subst (λ (ns : List (List ℕ)). WereRead (just ns) s xs) names c.in_ok-read_files.ensures.ok in
-    let count : length xs ≡ length v.names = read_length (g.S.Shelf.told before) v.names xs first.read in
-    let follows : more ≡ v.further xs = ap (map string_bytes) c.deref-2.ensures.value ∙ c.in_ok-further.ensures ∙ ap v.further lent in
-    λ served.
-    wants_alike c.in_err-read_files-2.field-0.0 c.from_residual-in_err-read_files-2.result
-    (c.in_err-read_files-2.ensures.sure (second_served v xs more count follows g.S.Shelf before between after first c.in_ok-read_files.ensures.same_files c.in_ok-read_files.ensures.serves_on served))
-    c.from_residual-in_err-read_files-2.ensures.1
+    let name = c.as_str-in-loop-name-2.result.now in
+    let so_far = c.loop-name-2.invariant in
+    let next = name_at c.deref-name-items-2.result.now c.loop-name-2.name-index c.name-item-in-loop-name-2.result name c.name-item-in-loop-name-2.is c.as_str-in-loop-name-2.ensures.value c.loop-name-2-test.true in
+    let ahead = so_far.2 ∙ further_ahead v.names _ _ c.loop-name-2.name-index name next in
+    record {
+      ok = search rules;
+      short = search rules;
+      err = read_stops g.S.Shelf c.args.shelf.now c.loop-name-2.shelf c.read-in-loop-name-2.new.self _ so_far.0 so_far.1 name v _ ahead c.in_err-read-2.field-0.0 c.from_residual-in_err-read-2.result c.in_err-read-2.ensures.added c.from_residual-in_err-read-2.ensures.1;
+      sure = read_wants g.S.Shelf c.args.shelf.now c.loop-name-2.shelf c.read-in-loop-name-2.new.self _ so_far.0 so_far.1 name v _ ahead c.in_err-read-2.field-0.0 c.from_residual-in_err-read-2.result c.in_err-read-2.ensures.served c.from_residual-in_err-read-2.ensures.1;
+      refused = search rules;
+    }
 
-pub returns-clause-ok : goal.returns-clause-ok
-returns-clause-ok g c =
+pub loop-name-2-preserved : goal.loop-name-2-preserved
+loop-name-2-preserved g c =
     let v = g.C.Command.value c.args.command.now in
-    let before = c.args.shelf.now in
-    let between = c.read_files.new.shelf in
-    let after = c.read_files-2.new.shelf in
-    let s : ShelfEdge = shelf_edge g.S.Shelf before between in
-    let all : ShelfEdge = shelf_edge g.S.Shelf before after in
-    let xs = got_contents s in
-    let ys = got_contents (shelf_edge g.S.Shelf between after) in
-    let more = map string_bytes c.deref-2.result.now in
-    let lent : held c.read_behind.result.now ≡ xs = c.read_behind.ensures ∙ ap (λ (n : ℕ). drop n s.contents_after) c.count_read-start.ensures in
-    let names : map string_bytes c.deref.result.now ≡ v.names = ap (map string_bytes) c.deref.ensures.value ∙ c.in_ok-names.ensures in
-    let first : WereRead (just v.names) s xs = subst (λ (ns : List (List ℕ)). WereRead (just ns) s xs) names c.in_ok-read_files.ensures.ok in
-    let count : length xs ≡ length v.names = read_length (g.S.Shelf.told before) v.names xs first.read in
-    let follows : more ≡ v.further xs = ap (map string_bytes) c.deref-2.ensures.value ∙ c.in_ok-further.ensures ∙ ap v.further lent in
-    let both : WereRead (names_of v) all (xs ++ ys) = both_read v xs more count follows g.S.Shelf before between after first c.in_ok-read_files.ensures.same_files ys c.in_ok-read_files-2.ensures.ok in
-    subst (WereRead (names_of v) all) (sym (got_is all (names_of v (xs ++ ys)) (xs ++ ys) 0 both.got)) both
+    let e = c.in_ok-read-2.ensures in
+    let name = c.as_str-in-loop-name-2.result.now in
+    let so_far = c.loop-name-2.invariant in
+    let next = name_at c.deref-name-items-2.result.now c.loop-name-2.name-index c.name-item-in-loop-name-2.result name c.name-item-in-loop-name-2.is c.as_str-in-loop-name-2.ensures.value c.loop-name-2-test.true in
+    let contents = so_far.0 ++ e.added.bytes ∷ [] in
+    let enough : length v.names ≤ length so_far.0 = omega (arith, read_length _ _ so_far.0 so_far.1.read, length-append {A = List ℕ}) in (
+      contents,
+      subst (λ (ns : List (List ℕ)). Reached g.S.Shelf c.args.shelf.now c.read-in-loop-name-2.new.self ns contents) (append_assoc v.names _ (name ∷ []) ∙ ap (λ (ns : List (List ℕ)). v.names ++ ns) (sym next))
+          (reached_next g.S.Shelf c.args.shelf.now c.loop-name-2.shelf c.read-in-loop-name-2.new.self _ so_far.0 so_far.1 name e.added e.same_files e.serves_on e.refused),
+      names_stay v so_far.0 (e.added.bytes ∷ []) enough ∙ so_far.2,
+    )
+
+pub returns-clause-refused : goal.returns-clause-refused
+returns-clause-refused g c = λ refuses some.
+    let so_far = c.loop-name-2.invariant in
+    let none = ap length (so_far.1.refused refuses).0 in
+    absurd (omega (arith, read_length _ _ so_far.0 so_far.1.read, length-append {A = List ℕ}))
