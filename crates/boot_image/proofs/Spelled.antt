@@ -1,6 +1,6 @@
 -- A file without a fault is spelled from its plan and its bodies.
 use Rattle.std.proofs.Common.{◌≡◌, ◌≤◌, ℕ, zero, suc, ◌+◌, List, [], ◌∷◌, ◌++◌, None, map, length, take, drop, true, refl, ap, sym, ◌∙◌, append_assoc, arith}
-use Rattle.std.specs.Prelude.{codes, if◌then◌else◌}
+use Rattle.std.specs.Prelude.{codes}
 use Rattle.std.specs.Int.{w16, w32, to_le_bytes}
 use Rattle.std.proofs.lemmas.List.{length-drop, length-map, take-append-drop, drop-drop, append-nil, nil_from_length}
 use lib.Pointwise.{bytes_decides}

@@ -1,17 +1,17 @@
 -- The segments of a written program are its parts that have bytes, and the others say nothing.
-use Rattle.std.proofs.Common.{◌≡◌, ◌≤◌, ◌<◌, ℕ, ◌+◌, ◌*◌, Bool, true, false, List, [], ◌∷◌, length, map, refl, sym, ◌∙◌, ap, arith}
-use Rattle.std.specs.Prelude.{◌==◌, ◌&&◌, ◌||◌, not, nat_lt, nat_le, min, max, fold, if◌then◌else◌, slice_index, ◌-◌, Ok}
+use Rattle.std.proofs.Common.{◌≡◌, ◌≤◌, ℕ, ◌+◌, ◌*◌, Bool, true, false, List, [], ◌∷◌, length, map, refl, sym, ◌∙◌, ap, arith}
+use Rattle.std.specs.Prelude.{◌==◌, ◌&&◌, ◌||◌, not, nat_lt, nat_le, min, max, fold, if◌then◌else◌, ◌-◌, Ok}
 use Rattle.std.specs.List.{filter, list_any}
 use Rattle.std.proofs.lemmas.Bool.{and_left, eqb-true}
 use Rattle.elf_static.specs.ObjectValue.{ObjectValue, PartValue}
 use Rattle.elf_static.specs.Layout.{elf_text}
-use Rattle.elf_static.specs.ElfValue.{ElfValue, SegmentValue, elf_of}
+use Rattle.elf_static.specs.ElfValue.{SegmentValue, elf_of}
 use Rattle.elf_static.specs.Loaded.{has_bytes, segment_of, loaded}
 use Rattle.elf_static.proofs.PartsReread.{reread}
 use Rattle.mips_asm.specs.Assembled.{assembled}
 use Rattle.mips_asm.proofs.WritableLemmas.{assembled_writable}
-use Rattle.segment_pages.specs.Pages.{numbers_from, touches, has_page, is_writable, byte_over, byte_at, bytes_from, page_bytes}
-use Rattle.booting_law.specs.Memory.{is_in, has_memory, is_open, part_over, memory_at, memory_from, memory_page}
+use Rattle.segment_pages.specs.Pages.{numbers_from, touches, has_page, is_writable, byte_over, bytes_from, page_bytes}
+use Rattle.booting_law.specs.Memory.{has_memory, is_open, part_over, memory_from, memory_page}
 
 -- what is read of the file of an assembled program
 pub reread_is : (source : List ℕ) (object : ObjectValue) → assembled source ≡ Ok object → elf_of (elf_text object) ≡ loaded object

@@ -3,7 +3,7 @@ use Rattle.std.proofs.Common.{◌≡◌, ℕ, zero, suc, ◌+◌, ◌≤◌, Lis
 use Rattle.std.specs.Prelude.{◌<◌, String, slice_get, slice_index_or, string_bytes}
 use Rattle.std.specs.Global.{Global}
 use Rattle.std.specs.List.{AllByRecursion}
-use Rattle.std.proofs.lemmas.List.{append-nil, length-append, take-append-drop, take-append-le}
+use Rattle.std.proofs.lemmas.List.{length-append, take-append-drop, take-append-le}
 use Rattle.std.proofs.Math.Seq.{drop-append_seam, take-append_seam}
 use Rattle.edge_io.specs.Faults.{one_more, raised}
 use Rattle.edge_io.specs.Reads.{AddsRead, Gains, OnFailed, Tells}
@@ -108,17 +108,6 @@ pub record Reached {S : Type 0} (of : OfShelf S) (before now : S) (names content
   pub refused : of.Refuses before → (contents ≡ []) × (now ≡ before)
 
 module _ {S : Type 0} (of : OfShelf S) (before : S) where
-  pub reached_none : Reached of before before [] []
-  reached_none = record {
-    read = tt;
-    got = record { names_read = sym (append-nil _); contents_read = sym (append-nil _); calls = refl };
-    short = tt;
-    told = refl;
-    faults = refl;
-    serves = λ n served. served;
-    refused = λ refuses. (refl, refl);
-  }
-
   module _ (between after : S) (names contents : List (List ℕ)) (r : Reached of before between names contents) (name : List ℕ) where
     -- and then one more
     pub reached_next : (gained : Gains (of.told between) name (of.readings between) (of.readings after)) → of.told after ≡ of.told between → ((n : List ℕ) → of.Serves between n → of.Serves after n) → ¬ of.Refuses between

@@ -18,7 +18,7 @@ use Rattle.command_work.specs.Files.{AreRead, AreTold, IsServed, names_so_far, n
 use Rattle.command_work.specs.Outcome.{IsOutcome, Outcome, Wrote}
 use Rattle.aegis_command.specs.Headline.{IsDenied, IsGiven, IsTaken, IsWanting, IsWritten}
 use Rattle.aegis_command.proofs.Completeness.{told_due}
-use Rattle.memory_runs.specs.InMemory.{HasAnswer, IsRefused, IsSure, IsWithinLimit, IsWanting as IsWantingInMemory, IsWritten as IsWrittenInMemory}
+use Rattle.memory_runs.specs.InMemory.{IsRefused, IsSure, IsWithinLimit, IsWanting as IsWantingInMemory, IsWritten as IsWrittenInMemory}
 
 -- A shelf that has a command's files is sure to serve them.
 
@@ -122,15 +122,3 @@ refused words s k shelf before after result refuses was is outcome denied = λ c
     let ended = of_words (λ d. s.Refuses → 1 ≤ length d.names → (result ≡ status.ReadFault) ⊎ (result ≡ status.OutOfMemory)) words c named denied (refuses set) some in
     let nothing = unwritten c s k result (of_words (λ d. Outcome d s k result) words c named outcome) ended in
     (ended, (let same : Some after.bytes.items ≡ Some before.bytes.items = sym is ∙ nothing ∙ was in cc))
-
--- With an empty sink on which nothing is set to fail, what was written is the answer.
-pub answered : (words : Option CommandValue) (shelf : MemoryShelf) (before after : MemorySink) (result : Status) (room : ℕ) → shelf.fails.items ≡ [] → before.bytes.items ≡ [] → before.fails.items ≡ [] → before.room ≡ room
-    → IsSure words shelf before after result → HasAnswer words shelf.files.items room (record { status = result; bytes = after.bytes })
-answered words shelf before after result room calm empty sink_calm is_room sure_of_it = λ command contents due named told short is fits.
-    let left : length before.bytes.items + length (text_of due) ≤ before.room = omega (arith, ap length empty, fits, is_room) in
-    seen due (sure_of_it command contents due named calm (record { told = told; short = short }) is (sink_calm, left))
-  where
-    seen : (due : Due) → IsWrittenInMemory (status_of due) (text_of due) before after result ⊎ IsWantingInMemory before after result
-        → ((result ≡ status_of due) × (after.bytes.items ≡ text_of due)) ⊎ ((result ≡ status.OutOfMemory) × (after.bytes.items ≡ []))
-    seen due (inl w) = inl (w.0, w.1 ∙ ap (λ (bytes : List ℕ). bytes ++ text_of due) empty)
-    seen due (inr w) = inr (w.0, w.1 ∙ empty)
