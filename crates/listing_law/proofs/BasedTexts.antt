@@ -8,25 +8,22 @@ use Rattle.asm_parse.specs.Expression.{number_of}
 use Rattle.asm_parse.specs.Operand.{Based, operand_of}
 use Rattle.mips_list.specs.WordText.{signed_text}
 use Rattle.listing_law.proofs.OperandTexts.{begins_number, number_value, expression_none, register_none, based_number, decimal_bytes}
-use Rattle.listing_law.proofs.NumberTexts.{IsNumber, IsOperand, is_plain, decimal_then, negative_then, no_dollars, plain_alphanumeric, signed_text_read, signed_value}
+use Rattle.listing_law.proofs.NumberTexts.{IsNumber, IsOperand, by_sign, is_plain, decimal_then, negative_then, no_dollars, plain_alphanumeric, signed_text_read, signed_value}
 
 -- a number, and a register in brackets
 abbrev bracketed : List ℕ → ℕ → List ℕ
 bracketed bs r = (bs ++ 40 ∷ []) ++ 36 ∷ (dec_text r ++ 41 ∷ [])
 
 signed_then : (half r : ℕ) → half < 2 ^ 16 → number_of (bracketed (signed_text half) r) ≡ None
-signed_then half r small = rw append_assoc (by_sign (nat_lt half (2 ^ 15)))
-  where
-    by_sign : (v : Bool) → number_of ((if v then dec_text half else codes "-" ++ dec_text (2 ^ 16 - half)) ++ ((40 ∷ []) ++ 36 ∷ (dec_text r ++ 41 ∷ []))) ≡ None
-    by_sign true = decimal_then half (36 ∷ (dec_text r ++ 41 ∷ [])) (omega arith)
-    by_sign false = negative_then (2 ^ 16 - half) (36 ∷ (dec_text r ++ 41 ∷ []))
+signed_then half r small =
+    let behind = 36 ∷ (dec_text r ++ 41 ∷ []) in
+    rw append_assoc (by_sign (λ bs n. number_of (bs ++ 40 ∷ behind) ≡ None) half (decimal_then half behind (omega arith)) (negative_then (2 ^ 16 - half) behind))
 
 signed_dollars : (half : ℕ) → half < 2 ^ 16 → list_all (λ b. not (b == 36)) (signed_text half ++ 40 ∷ []) ≡ true
-signed_dollars half small = by_sign (nat_lt half (2 ^ 15))
-  where
-    by_sign : (v : Bool) → list_all (λ b. not (b == 36)) ((if v then dec_text half else codes "-" ++ dec_text (2 ^ 16 - half)) ++ 40 ∷ []) ≡ true
-    by_sign true = no_dollars (dec_text half) (decimal_bytes half (omega arith))
-    by_sign false = no_dollars (dec_text (2 ^ 16 - half)) (decimal_bytes (2 ^ 16 - half) (omega arith))
+signed_dollars half small =
+    by_sign (λ bs n. list_all (λ b. not (b == 36)) (bs ++ 40 ∷ []) ≡ true) half
+    (no_dollars (dec_text half) (decimal_bytes half (omega arith)))
+    (no_dollars (dec_text (2 ^ 16 - half)) (decimal_bytes (2 ^ 16 - half) (omega arith)))
 
 plain_bracketed : (bs : List ℕ) (r : ℕ) → list_all is_plain bs ≡ true → r < 32 → list_all is_plain (bracketed bs r) ≡ true
 plain_bracketed bs r plain small =
@@ -34,22 +31,16 @@ plain_bracketed bs r plain small =
     rw (list_all-append is_plain (bs ++ 40 ∷ []) (36 ∷ (dec_text r ++ 41 ∷ [])), list_all-append is_plain bs (40 ∷ []), plain, list_all-append is_plain (dec_text r) (41 ∷ []), digits) refl
 
 -- a number that begins with none of the other forms, and a register in brackets behind it
-based_operand : (c : ℕ) (cs : List ℕ) (n r : ℕ) (number : IsNumber (c ∷ cs) n) → begins_number c ≡ true → list_all (λ b. not (b == 36)) ((c ∷ cs) ++ 40 ∷ []) ≡ true
-    → number_of (bracketed (c ∷ cs) r) ≡ None → r < 32 → operand_of (bracketed (c ∷ cs) r) ≡ Some (Based (number_value n) (Some r))
-unfolding operand_of
-based_operand c cs n r number begins dollars none small =
-    rw (
-      register_none c ((cs ++ 40 ∷ []) ++ 36 ∷ (dec_text r ++ 41 ∷ [])) begins,
-      expression_none c ((cs ++ 40 ∷ []) ++ 36 ∷ (dec_text r ++ 41 ∷ [])) begins none,
-      based_number c cs n r begins dollars number.reads small,
-    ) refl
-
--- what stands before the bracket is not empty, whatever it is
-with_first : (bs : List ℕ) (n r : ℕ) (number : IsNumber bs n) → list_all (λ b. not (b == 36)) (bs ++ 40 ∷ []) ≡ true
+based_operand : (bs : List ℕ) (n r : ℕ) → IsNumber bs n → list_all (λ b. not (b == 36)) (bs ++ 40 ∷ []) ≡ true
     → number_of (bracketed bs r) ≡ None → r < 32 → operand_of (bracketed bs r) ≡ Some (Based (number_value n) (Some r))
-with_first [] n r number dollars none small = cc (number.cut)
-with_first (c ∷ cs) n r number dollars none small =
-    based_operand c cs n r number (subst (λ (x : ℕ). begins_number x ≡ true) (sym (ap (λ xs. get_or xs 0 0) number.cut)) number.begins) dollars none small
+unfolding operand_of
+based_operand [] n r number dollars none small = absurd cc
+based_operand (c ∷ cs) n r number dollars none small =
+    rw (
+      register_none c ((cs ++ 40 ∷ []) ++ 36 ∷ (dec_text r ++ 41 ∷ [])) number.begins,
+      expression_none c ((cs ++ 40 ∷ []) ++ 36 ∷ (dec_text r ++ 41 ∷ [])) number.begins none,
+      based_number c cs n r number.begins dollars number.reads small,
+    ) refl
 
 pub based_text_read : (half r : ℕ) → half < 2 ^ 16 → r < 32 → IsOperand (bracketed (signed_text half) r) (Based (number_value (signed_value half)) (Some r))
 based_text_read half r small register =
@@ -57,5 +48,5 @@ based_text_read half r small register =
     record {
       plain = plain_bracketed (signed_text half) r number.plain register;
       some = rw length-append (omega (arith, length-append (signed_text half) (40 ∷ [])));
-      is = with_first (signed_text half) (signed_value half) r number (signed_dollars half small) (signed_then half r small) register;
+      is = based_operand (signed_text half) (signed_value half) r number (signed_dollars half small) (signed_then half r small) register;
     }

@@ -1,5 +1,4 @@
 pub mod ArgTexts
-pub mod Assembling
 pub mod BasedTexts
 pub mod FieldTexts
 pub mod LineTexts

@@ -18,10 +18,10 @@ use Rattle.asm_parse.specs.Operand.{OperandValue}
 use Rattle.asm_parse.specs.Words.{begins_name}
 use Rattle.asm_parse.specs.Form.{Piece, args_at, before_mark, behind, is_outside, body_named, body_of, label_of, line_of, operands_of, said, statement_of, trimmed}
 use Rattle.asm_parse.specs.declared.syntax.AsmLine.{AsmLine}
-use Rattle.mips_list.specs.WordText.{after_name}
-use Rattle.listing_law.proofs.Numbers.{list_all_weaker}
+use Rattle.mips_list.specs.WordText.{after_name, marked}
+use Rattle.listing_law.proofs.Numbers.{differs, differs_turned, list_all_weaker}
 use Rattle.listing_law.proofs.NumberTexts.{IsOperand, is_plain}
-use Rattle.listing_law.proofs.ArgTexts.{AreOperands, AreRead, EndsPlain, args_spaced, before_none, ends_behind, joined, plain_ends}
+use Rattle.listing_law.proofs.ArgTexts.{AreOperands, AreRead, EndsPlain, args_spaced, before_none, ends_behind, plain_ends}
 
 -- a byte of a line without quoted texts and comments
 abbrev pub is_said : ℕ → Bool
@@ -36,46 +36,28 @@ said_text b is = grind (arith, nat_tests)
 name_plain : (b : ℕ) → is_name_byte b ≡ true → is_plain b ≡ true
 name_plain b is = grind (arith, nat_tests)
 
-said_no_comment : (b : ℕ) → is_said b ≡ true → (b == 35) ≡ false
-said_no_comment b is = grind (arith, nat_tests)
-
-said_no_quote : (b : ℕ) → is_said b ≡ true → (b == 34) ≡ false
-said_no_quote b is = grind (arith, nat_tests)
-
-pub said_no_feed : (b : ℕ) → is_said b ≡ true → (b == 10) ≡ false
-said_no_feed b is = grind (arith, nat_tests)
-
-said_no_feed_turned : (b : ℕ) → is_said b ≡ true → (10 == b) ≡ false
-said_no_feed_turned b is = grind (arith, nat_tests)
-
-said_no_return_turned : (b : ℕ) → is_said b ≡ true → (13 == b) ≡ false
-said_no_return_turned b is = grind (arith, nat_tests)
-
 -- A text of one line.
 
 one_piece : (bs : List ℕ) → list_all is_said bs ≡ true → 0 < length bs → pieces_of bs ≡ bs ∷ []
 one_piece [] all some = absurd (omega arith)
-one_piece (b ∷ []) all some = rw (said_no_feed b (and_parts (is_said b) true all).0) refl
+one_piece (b ∷ []) all some = rw (differs is_said b 10 (and_parts (is_said b) true all).0 refl) refl
 one_piece (b ∷ c ∷ bs) all some =
     let parts = and_parts (is_said b) (list_all is_said (c ∷ bs)) all in
     let more : pieces_of (c ∷ bs) ≡ (c ∷ bs) ∷ [] = one_piece (c ∷ bs) parts.1 (omega arith) in
-    rw (said_no_feed b parts.0) (ap (onto_first b) more)
+    rw (differs is_said b 10 parts.0 refl) (ap (onto_first b) more)
 
-all_behind : (n : ℕ) (bs : List ℕ) → list_all is_said bs ≡ true → list_all is_said (drop n bs) ≡ true
+pub all_behind : (n : ℕ) (bs : List ℕ) → list_all is_said bs ≡ true → list_all is_said (drop n bs) ≡ true
 all_behind zero bs all = all
 all_behind (suc n) [] all = refl
 all_behind (suc n) (b ∷ bs) all = all_behind n bs (and_parts (is_said b) (list_all is_said bs) all).1
 
-no_feed : (bs : List ℕ) → list_all is_said bs ≡ true → pointwise nat_eq (codes "\n") bs ≡ false
-no_feed [] all = refl
-no_feed (b ∷ bs) all = rw (said_no_feed_turned b (and_parts (is_said b) (list_all is_said bs) all).0) refl
-
-no_return : (bs : List ℕ) → list_all is_said bs ≡ true → pointwise nat_eq (codes "\r\n") bs ≡ false
-no_return [] all = refl
-no_return (b ∷ bs) all = rw (said_no_return_turned b (and_parts (is_said b) (list_all is_said bs) all).0) refl
+-- what begins with a byte that is not said does not stand at the front of what is
+no_front : (c : ℕ) (cs bs : List ℕ) → is_said c ≡ false → list_all is_said bs ≡ true → pointwise nat_eq (c ∷ cs) bs ≡ false
+no_front c cs [] other all = refl
+no_front c cs (b ∷ bs) other all = rw (differs_turned is_said b c (and_parts (is_said b) (list_all is_said bs) all).0 other) refl
 
 no_end : (bs : List ℕ) → list_all is_said bs ≡ true → without_end bs ≡ bs
-no_end bs all = rw (no_return (drop (length bs - 2) bs) (all_behind (length bs - 2) bs all), no_feed (drop (length bs - 1) bs) (all_behind (length bs - 1) bs all)) refl
+no_end bs all = rw (no_front 13 (10 ∷ []) (drop (length bs - 2) bs) refl (all_behind (length bs - 2) bs all), no_front 10 [] (drop (length bs - 1) bs) refl (all_behind (length bs - 1) bs all)) refl
 
 -- a text without a line feed is one line
 pub one_line : (bs : List ℕ) → list_all is_said bs ≡ true → 0 < length bs → lines_of bs ≡ (record { number = 1; start = 0; text = bs }) ∷ []
@@ -87,7 +69,7 @@ no_comment : (q : _) (bs : List ℕ) → ((b : ℕ) → is_said b ≡ true → b
 no_comment q [] stays all = refl
 no_comment q (b ∷ bs) stays all =
     let parts = and_parts (is_said b) (list_all is_said bs) all in
-    rw (said_no_comment b parts.0, and-false (is_outside q), stays b parts.0, no_comment q bs stays parts.1) refl
+    rw (differs is_said b 35 parts.0 refl, and-false (is_outside q), stays b parts.0, no_comment q bs stays parts.1) refl
 
 -- the name of an operation
 abbrev pub is_name : List ℕ → Bool
@@ -118,10 +100,6 @@ unfolding label_of
 no_label name rest all follows =
     rw (named_before name rest all follows, drop_at name rest (length name) refl, no_colon rest follows, and-false (begins_name name)) refl
 
-behind_blank : (p : Piece) → (length p.bytes == 0) ≡ false → (prefix_len is_blank p.bytes == 0) ≡ false → operands_of p ≡ args_at p
-unfolding operands_of
-behind_blank p some blank = rw (some, blank) refl
-
 -- the operands behind a name
 pub operands_read : (start : ℕ) (ts : List (List ℕ)) (os : List OperandValue) → AreOperands ts os → AreRead (operands_of (record { start = start; bytes = after_name ts })) os
 unfolding operands_of
@@ -129,10 +107,8 @@ operands_read start [] [] are = record { found = []; is = refl; operands = refl 
 operands_read start [] (o ∷ os) are = absurd are
 operands_read start (t ∷ ts) [] are = absurd are
 operands_read start (t ∷ ts) (o ∷ os) are =
-    let p : Piece = record { start = start; bytes = after_name (t ∷ ts) } in
-    subst (λ (args : Option (List ArgValue)). AreRead args (o ∷ os))
-    (sym (behind_blank p (eqb-suc-zero (length (joined (t ∷ ts)))) (one_more_not_zero (prefix_len is_blank (joined (t ∷ ts))))))
-    (args_spaced p t ts o os refl are.0 are.1)
+    let behind = t ++ marked 44 ts in
+    rw (eqb-suc-zero (length behind), one_more_not_zero (prefix_len is_blank behind)) (args_spaced start t ts o os are)
   where
     one_more_not_zero : (n : ℕ) → (1 + n == 0) ≡ false
     one_more_not_zero n = grind (arith, nat_tests)
@@ -168,17 +144,17 @@ name_bytes name all = list_all_weaker is_name_byte is_plain name_plain name all
 plain_bytes : (bs : List ℕ) → list_all is_plain bs ≡ true → list_all is_said bs ≡ true
 plain_bytes bs all = list_all_weaker is_plain is_said plain_said bs all
 
-joined_bytes : (t : List ℕ) (ts : List (List ℕ)) (o : OperandValue) (os : List OperandValue) → IsOperand t o → AreOperands ts os → list_all is_said (joined (t ∷ ts)) ≡ true
-joined_bytes t [] o os here rest = rw (append-nil t) (plain_bytes t here.plain)
-joined_bytes t (u ∷ us) o [] here rest = absurd rest
-joined_bytes t (u ∷ us) o (p ∷ ps) here rest =
-    rw (list_all-append is_said t (44 ∷ joined (u ∷ us)), plain_bytes t here.plain, joined_bytes u us p ps rest.0 rest.1) refl
+marked_bytes : (mark : ℕ) (ts : List (List ℕ)) (os : List OperandValue) → is_said mark ≡ true → AreOperands ts os → list_all is_said (marked mark ts) ≡ true
+marked_bytes mark [] os said are = refl
+marked_bytes mark (t ∷ ts) [] said are = absurd are
+marked_bytes mark (t ∷ ts) (o ∷ os) said are =
+    rw (said, list_all-append is_said t (marked 44 ts), plain_bytes t are.0.plain, marked_bytes 44 ts os refl are.1) refl
 
-joined_ends : (t : List ℕ) (ts : List (List ℕ)) (o : OperandValue) (os : List OperandValue) → IsOperand t o → AreOperands ts os → EndsPlain (joined (t ∷ ts))
-joined_ends t [] o os here rest = rw (append-nil t) (plain_ends t here.plain here.some)
-joined_ends t (u ∷ us) o [] here rest = absurd rest
-joined_ends t (u ∷ us) o (p ∷ ps) here rest =
-    ends_behind t (44 ∷ joined (u ∷ us)) (ends_behind (44 ∷ []) (joined (u ∷ us)) (joined_ends u us p ps rest.0 rest.1))
+marked_ends : (front : List ℕ) (mark : ℕ) (ts : List (List ℕ)) (os : List OperandValue) → EndsPlain front → AreOperands ts os → EndsPlain (front ++ marked mark ts)
+marked_ends front mark [] os ends are = rw (append-nil front) ends
+marked_ends front mark (t ∷ ts) [] ends are = absurd are
+marked_ends front mark (t ∷ ts) (o ∷ os) ends are =
+    ends_behind front (mark ∷ t ++ marked 44 ts) (ends_behind (mark ∷ []) (t ++ marked 44 ts) (marked_ends t 44 ts os (plain_ends t are.0.plain are.0.some) are.1))
 
 -- bytes of a line, whose last is no blank
 pub record IsLine (bs : List ℕ) : Type 0 where
@@ -186,21 +162,17 @@ pub record IsLine (bs : List ℕ) : Type 0 where
   pub ends : EndsPlain bs
 
 pub text_is_line : (name : List ℕ) (ts : List (List ℕ)) (os : List OperandValue) → is_name name ≡ true → AreOperands ts os → IsLine (name ++ after_name ts)
-text_is_line name [] [] is are =
+text_is_line name ts os is are =
     let parts = and_parts (begins_name name) (list_all is_name_byte name) is in
-    subst IsLine (sym (append-nil name)) (record { bytes = plain_bytes name (name_bytes name parts.1); ends = plain_ends name (name_bytes name parts.1) (positive name parts.0) })
+    let plain = name_bytes name parts.1 in
+    record {
+      bytes = rw (list_all-append is_said name (after_name ts), plain_bytes name plain, marked_bytes 32 ts os refl are) refl;
+      ends = marked_ends name 32 ts os (plain_ends name plain (positive name parts.0)) are;
+    }
   where
     positive : (name : List ℕ) → begins_name name ≡ true → 0 < length name
     positive [] begins = cc
     positive (c ∷ cs) begins = omega arith
-text_is_line name [] (o ∷ os) is are = absurd are
-text_is_line name (t ∷ ts) [] is are = absurd are
-text_is_line name (t ∷ ts) (o ∷ os) is are =
-    let parts = and_parts (begins_name name) (list_all is_name_byte name) is in
-    record {
-      bytes = rw (list_all-append is_said name (32 ∷ joined (t ∷ ts)), plain_bytes name (name_bytes name parts.1), joined_bytes t ts o os are.0 are.1) refl;
-      ends = ends_behind name (32 ∷ joined (t ∷ ts)) (ends_behind (32 ∷ []) (joined (t ∷ ts)) (joined_ends t ts o os are.0 are.1));
-    }
 
 no_blanks_named : (name rest : List ℕ) → is_name name ≡ true → prefix_len is_blank (name ++ rest) ≡ 0
 no_blanks_named [] rest is = cc
@@ -210,7 +182,7 @@ no_blanks_named (c ∷ cs) rest is = rw (no_blank c (and_parts (is_name_start c)
     no_blank b is = grind (arith, nat_tests)
 
 said_line : (line : LineValue) → list_all is_said line.text ≡ true → said line ≡ trimmed (record { start = line.start; bytes = line.text })
-said_line line all = ap (λ bs. trimmed (record { start = line.start; bytes = bs })) (no_comment _ line.text (λ b is. rw (said_no_quote b is) refl) all)
+said_line line all = ap (λ bs. trimmed (record { start = line.start; bytes = bs })) (no_comment _ line.text (λ b is. rw (differs is_said b 34 is refl) refl) all)
 
 said_whole : (number start : ℕ) (name : List ℕ) (ts : List (List ℕ)) → is_name name ≡ true → IsLine (name ++ after_name ts)
     → said (record { number = number; start = start; text = name ++ after_name ts }) ≡ record { start = start + 0; bytes = name ++ after_name ts }

@@ -1,10 +1,11 @@
 -- A source of the texts of words, assembled.
-use Rattle.std.proofs.Common.{◌≡◌, ℕ, ◌+◌, ◌-◌, ◌*◌, ◌%◌, ◌^◌, ◌<◌, ◌≤◌, ◌∙◌, true, false, List, [], ◌∷◌, ◌++◌, None, Some, Result, Ok, length, drop, refl, ap, arith, append_assoc, append-nil, length-append, le-leb, eq-eqb}
-use Rattle.std.specs.Prelude.{◌==◌}
+use Rattle.std.proofs.Common.{◌≡◌, ℕ, ◌+◌, ◌-◌, ◌*◌, ◌%◌, ◌^◌, ◌<◌, ◌≤◌, ◌∙◌, true, false, List, [], ◌∷◌, ◌++◌, None, Some, Result, Ok, length, drop, refl, ap, arith, append_assoc, append-nil, length-append, le-leb, eq-eqb, lit<}
+use Rattle.std.specs.Prelude.{◌==◌, nat_eq, codes}
+use lib.Pointwise.{pointwise}
 use Rattle.std.proofs.lemmas.Bool.{and_parts}
 use Rattle.std.proofs.lemmas.Bool.Decides.{nat_tests}
 use Rattle.std.specs.List.{AllByRecursion, flat_map, list_all, onto_first}
-use Rattle.std.proofs.lemmas.List.{take_at, drop_at}
+use Rattle.std.proofs.lemmas.List.{take_at, drop_at, drop-append-le}
 use Rattle.std.specs.Int.{w32, to_le_bytes}
 use Rattle.line_text.specs.Lines.{LineValue, lines_from, pieces_of, without_end}
 use Rattle.asm_parse.specs.Form.{due_of}
@@ -15,14 +16,13 @@ use Rattle.mips_asm.specs.Assembled.{assembled}
 use Rattle.mips_asm.specs.Emission.{bytes_of}
 use Rattle.asm_layout.specs.Content.{Content}
 use Rattle.asm_layout.specs.Layout.{Layout, Placed, acted, laid, laid_from, nothing_placed, stated}
-use Rattle.mips_asm.specs.Second.{emitted, filled, filled_from}
+use Rattle.mips_asm.specs.Second.{Sections, emitted, filled, filled_from}
+use Rattle.listing_law.specs.OneWord.{one_word}
 use Rattle.listing_law.specs.Statement.{Puts}
 use Rattle.listing_law.specs.Texts.{program_of_words, texts_from}
-use Rattle.listing_law.proofs.ArgTexts.{EndsPlain}
-use Rattle.listing_law.proofs.Assembling.{text_alone}
-use Rattle.listing_law.proofs.NumberTexts.{is_plain}
-use Rattle.listing_law.proofs.LineTexts.{IsLine, is_said, said_no_feed}
-use Rattle.listing_law.proofs.Statements.{text_is_line_of, word_statement}
+use Rattle.listing_law.proofs.Numbers.{differs, differs_turned}
+use Rattle.listing_law.proofs.LineTexts.{IsLine, all_behind, is_said}
+use Rattle.listing_law.proofs.Statements.{text_is_line_of, text_is_one_line, word_statement}
 
 -- Lines.
 
@@ -31,39 +31,38 @@ first_piece : (bs rest : List ℕ) → list_all is_said bs ≡ true → pieces_o
 first_piece [] rest all = refl
 first_piece (b ∷ bs) rest all =
     let parts = and_parts (is_said b) (list_all is_said bs) all in
-    rw (said_no_feed b parts.0) (ap (onto_first b) (first_piece bs rest parts.1))
+    rw (differs is_said b 10 parts.0 refl) (ap (onto_first b) (first_piece bs rest parts.1))
 
-no_return : (b : ℕ) → is_plain b ≡ true → (13 == b) ≡ false
-no_return b is = grind (arith, nat_tests)
-
-end_at : (front : List ℕ) (last : ℕ) → is_plain last ≡ true → without_end ((front ++ last ∷ []) ++ 10 ∷ []) ≡ front ++ last ∷ []
-end_at front last plain =
-    let whole : (front ++ last ∷ []) ++ 10 ∷ [] ≡ front ++ last ∷ 10 ∷ [] = append_assoc front (last ∷ []) (10 ∷ []) in
-    let long : length ((front ++ last ∷ []) ++ 10 ∷ []) ≡ length front + 2 = ap length whole ∙ length-append front (last ∷ 10 ∷ []) in
-    let two : length ((front ++ last ∷ []) ++ 10 ∷ []) - 2 ≡ length front = omega (arith, long) in
-    let one : length ((front ++ last ∷ []) ++ 10 ∷ []) - 1 ≡ length (front ++ last ∷ []) = omega (arith, length-append (front ++ last ∷ []) (10 ∷ [])) in
-    let last_two : drop (length front) ((front ++ last ∷ []) ++ 10 ∷ []) ≡ last ∷ 10 ∷ [] = ap (drop (length front)) whole ∙ drop_at front (last ∷ 10 ∷ []) (length front) refl in
-    rw (
-      two,
-      last_two,
-      no_return last plain,
-      one,
-      drop_at (front ++ last ∷ []) (10 ∷ []) (length (front ++ last ∷ [])) refl,
-      take_at (front ++ last ∷ []) (10 ∷ []) (length (front ++ last ∷ [])) refl,
-    ) refl
+no_return : (bs : List ℕ) → list_all is_said bs ≡ true → pointwise nat_eq (codes "\r\n") (bs ++ 10 ∷ []) ≡ false
+no_return [] all = refl
+no_return (b ∷ bs) all = rw (differs_turned is_said b 13 (and_parts (is_said b) (list_all is_said bs) all).0 refl) refl
 
 -- the end of a line goes away
-line_end : (bs : List ℕ) → EndsPlain bs → without_end (bs ++ 10 ∷ []) ≡ bs
-line_end bs ends = rw (ends.cut) (end_at ends.front ends.last ends.plain)
+line_end : (bs : List ℕ) → list_all is_said bs ≡ true → without_end (bs ++ 10 ∷ []) ≡ bs
+line_end bs all =
+    let two : length (bs ++ 10 ∷ []) - 2 ≡ length bs - 1 = omega (arith, length-append bs (10 ∷ [])) in
+    let one : length (bs ++ 10 ∷ []) - 1 ≡ length bs = omega (arith, length-append bs (10 ∷ [])) in
+    rw (
+      two,
+      drop-append-le (length bs - 1) bs (10 ∷ []) (omega arith),
+      no_return (drop (length bs - 1) bs) (all_behind (length bs - 1) bs all),
+      one,
+      drop_at bs (10 ∷ []) (length bs) refl,
+      take_at bs (10 ∷ []) (length bs) refl,
+    ) refl
 
 -- the first line of a text
 first_line : (number start : ℕ) (bs rest : List ℕ) → IsLine bs
     → lines_from number start (pieces_of (bs ++ 10 ∷ rest)) ≡ (record { number = number; start = start; text = bs }) ∷ lines_from (number + 1) (start + length (bs ++ 10 ∷ [])) (pieces_of rest)
 first_line number start bs rest line =
     ap (lines_from number start) (first_piece bs rest line.bytes)
-    ∙ ap (λ text. (record { number = number; start = start; text = text }) ∷ lines_from (number + 1) (start + length (bs ++ 10 ∷ [])) (pieces_of rest)) (line_end bs line.ends)
+    ∙ ap (λ text. (record { number = number; start = start; text = text }) ∷ lines_from (number + 1) (start + length (bs ++ 10 ∷ [])) (pieces_of rest)) (line_end bs line.bytes)
 
 -- Passes.
+
+-- the bytes of a text without data
+abbrev text_alone : List ℕ → Sections
+text_alone bytes = record { text = bytes; data_bytes = [] }
 
 -- a text of so many bytes
 abbrev text_layout : ℕ → List Placed → Layout
@@ -139,6 +138,17 @@ laid_words (word ∷ words) number start n placed small aligned room =
 assembled_laid : (source : List ℕ) (words : List ℕ) → LaidOn 0 words [] (laid source) → (0 + 4 * length words == 0) ≡ false → assembled source ≡ Ok (program_of_words words)
 unfolding assembled filled
 assembled_laid source words on some = rw (on.is, some, on.fills (0 + 4 * length words) []) refl
+
+-- the text of a word assembles to the program of the word
+pub word_assembled : (word : ℕ) → word < 2 ^ 32 → assembled (word_text word 0x00400000) ≡ Ok (one_word word)
+unfolding laid
+word_assembled word small =
+    let text = word_text word 0x00400000 in
+    let line : LineValue = record { number = 1; start = 0; text = text } in
+    let puts = word_statement 1 0 word 0x00400000 small refl (lit< tt) in
+    let none = laid_words [] 2 0 4 (placed_at 0 puts.statement.line puts.content ∷ []) tt refl (omega arith) in
+    let first = ap (laid_from nothing_placed) (text_is_one_line word 0x00400000 small) ∙ laid_first 0 [] line [] (to_le_bytes w32 word) puts refl (omega arith) in
+    assembled_laid text (word ∷ []) (laid_step 0 word [] [] line puts _ _ first none) refl
 
 -- the texts of words assemble to the program of the words
 pub words_assembled : (words : List ℕ) → AllByRecursion (λ word. word < 2 ^ 32) words → 0 < length words → 4 * length words ≤ 1048576

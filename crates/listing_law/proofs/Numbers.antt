@@ -1,7 +1,7 @@
 -- Printed numbers, read again.
-use Rattle.std.proofs.Common.{◌≡◌, ℕ, zero, suc, ◌-◌, ◌/◌, ◌%◌, ◌^◌, ◌<◌, ◌≤◌, Bool, true, false, List, [], ◌∷◌, ◌++◌, Some, length, refl, sym, arith, lt-ltb, le-leb, ltb-true}
+use Rattle.std.proofs.Common.{◌≡◌, ℕ, zero, suc, ◌-◌, ◌/◌, ◌%◌, ◌^◌, ◌<◌, ◌≤◌, Bool, true, false, List, [], ◌∷◌, ◌++◌, Some, length, get_or, refl, sym, ◌∙◌, arith, append-nil, lt-ltb, le-leb, ltb-true}
 use Rattle.std.specs.Prelude.{◌==◌, nat_eq, codes}
-use Rattle.std.proofs.lemmas.Bool.{and_parts}
+use Rattle.std.proofs.lemmas.Bool.{and_parts, ne_eqb}
 use Rattle.std.proofs.lemmas.Bool.Decides.{nat_tests}
 use Rattle.std.proofs.Math.Bool.{and-false}
 use Rattle.std.specs.List.{list_all, starts_with}
@@ -18,6 +18,13 @@ use Rattle.line_text.specs.Number.{numeral_of}
 use Rattle.line_text.specs.Text.{dec_text, hex_text}
 use Rattle.line_text.proofs.HexLemmas.{hex_more}
 use Rattle.asm_parse.specs.Expression.{negated, number_of}
+
+-- a byte that passes a test is none that fails it
+pub differs : (test : ℕ → Bool) (b c : ℕ) → test b ≡ true → test c ≡ false → (b == c) ≡ false
+differs test b c passes fails = ne_eqb b c (λ same. cc)
+
+pub differs_turned : (test : ℕ → Bool) (b c : ℕ) → test b ≡ true → test c ≡ false → (c == b) ≡ false
+differs_turned test b c passes fails = ne_eqb c b (λ same. cc)
 
 -- what holds of each byte of which another thing holds
 pub list_all_weaker : (p q : ℕ → Bool) → ((b : ℕ) → p b ≡ true → q b ≡ true) → (xs : List ℕ) → list_all p xs ≡ true → list_all q xs ≡ true
@@ -103,38 +110,32 @@ numeral_half n small = let writes : Writes 4 n = omega arith in numeral_hex 3 n 
 
 -- Numbers of the assembler.
 
--- the second of decimal digits is no `x`
-pub second_not_x : (c d : ℕ) (ds : List ℕ) → list_all is_decimal (c ∷ d ∷ ds) ≡ true → (120 == d) ≡ false
-second_not_x c d ds all =
-    let others = and_parts (is_decimal c) (list_all is_decimal (d ∷ ds)) all in
-    digit_not_x d (and_parts (is_decimal d) (list_all is_decimal ds) others.1).0
-  where
-    digit_not_x : (d : ℕ) → is_decimal d ≡ true → (120 == d) ≡ false
-    digit_not_x d is = let r = digit_range d is in grind (arith, nat_tests)
+-- decimal digits have no `x` behind their first byte, if what follows them does not begin with one
+not_hexadecimal : (ds rest : List ℕ) → list_all is_decimal ds ≡ true → 0 < length ds → (120 == get_or rest 0 0) ≡ false → starts_with nat_eq (ds ++ rest) (codes "0x") ≡ false
+not_hexadecimal [] rest all some other = absurd (omega arith)
+not_hexadecimal (c ∷ []) [] all some other = and-false (48 == c)
+not_hexadecimal (c ∷ []) (d ∷ rest) all some other = rw (other, and-false (48 == c)) refl
+not_hexadecimal (c ∷ d ∷ ds) rest all some other =
+    let behind = and_parts (is_decimal c) (list_all is_decimal (d ∷ ds)) all in
+    rw (differs_turned is_decimal d 120 (and_parts (is_decimal d) (list_all is_decimal ds) behind.1).0 refl, and-false (48 == c)) refl
 
--- the first is no sign
-pub first_not_sign : (c : ℕ) (cs : List ℕ) → list_all is_decimal (c ∷ cs) ≡ true → (45 == c) ≡ false
-first_not_sign c cs all = digit_not_sign c (and_parts (is_decimal c) (list_all is_decimal cs) all).0
-  where
-    digit_not_sign : (d : ℕ) → is_decimal d ≡ true → (45 == d) ≡ false
-    digit_not_sign d is = let r = digit_range d is in grind (arith, nat_tests)
+-- nor do they begin with a sign
+not_signed : (ds rest : List ℕ) → list_all is_decimal ds ≡ true → 0 < length ds → starts_with nat_eq (ds ++ rest) (codes "-") ≡ false
+not_signed [] rest all some = absurd (omega arith)
+not_signed (c ∷ cs) rest all some = rw (differs_turned is_decimal c 45 (and_parts (is_decimal c) (list_all is_decimal cs) all).0 refl) refl
 
--- decimal digits begin with neither `0x` nor a sign
-not_hexadecimal : (ds : List ℕ) → list_all is_decimal ds ≡ true → starts_with nat_eq ds (codes "0x") ≡ false
-not_hexadecimal [] all = refl
-not_hexadecimal (c ∷ []) all = and-false (48 == c)
-not_hexadecimal (c ∷ d ∷ ds) all = let x = second_not_x c d ds all in rw (x, and-false) refl
-
-not_signed : (ds : List ℕ) → list_all is_decimal ds ≡ true → starts_with nat_eq ds (codes "-") ≡ false
-not_signed [] all = refl
-not_signed (c ∷ cs) all = let x = first_not_sign c cs all in rw x refl
+-- so they are read as a decimal numeral
+pub number_digits : (n : ℕ) (rest : List ℕ) → n < 2 ^ 64 → (120 == get_or rest 0 0) ≡ false → number_of (dec_text n ++ rest) ≡ numeral_of 10 (2 ^ 32 - 1) (dec_text n ++ rest)
+unfolding number_of
+number_digits n rest small other =
+    let digits = decimal_digits n small in
+    let some = decimal_some n small in
+    rw (not_hexadecimal (dec_text n) rest digits some other, not_signed (dec_text n) rest digits some) refl
 
 pub number_decimal : (n : ℕ) → n < 2 ^ 32 → number_of (dec_text n) ≡ Some n
-unfolding number_of
 number_decimal n small =
     let wide : n < 2 ^ 64 = omega arith in
-    let within : n ≤ 2 ^ 32 - 1 = omega arith in
-    rw (not_hexadecimal (dec_text n) (decimal_digits n wide), not_signed (dec_text n) (decimal_digits n wide)) (numeral_decimal (2 ^ 32 - 1) n wide within)
+    (rw append-nil at (number_digits n [] wide refl)) ∙ numeral_decimal (2 ^ 32 - 1) n wide (omega arith)
 
 pub number_negative : (n : ℕ) → n ≤ 2 ^ 31 → number_of (45 ∷ dec_text n) ≡ Some (negated n)
 unfolding number_of

@@ -15,7 +15,7 @@ use Rattle.asm_parse.specs.Expression.{ExpressionValue, Number, expression_of, h
 use Rattle.asm_parse.specs.Operand.{OperandValue, Register, Value, Based, based_of, operand_of, offset_of}
 use Rattle.asm_parse.specs.Register.{number_of_register, register_of}
 use Rattle.asm_parse.specs.Words.{is_register}
-use Rattle.listing_law.proofs.Numbers.{list_all_weaker, is_decimal, digit_range, decimal_digits, decimal_some, numeral_decimal}
+use Rattle.listing_law.proofs.Numbers.{differs, differs_turned, list_all_weaker, is_decimal, digit_range, decimal_digits, decimal_some, numeral_decimal}
 
 -- a number, of which no half is taken
 abbrev pub number_value : ℕ → ExpressionValue
@@ -27,26 +27,17 @@ begins_number c = (c == 45) || (nat_le 48 c && nat_le c 57)
 
 -- Bytes.
 
-no_dollar : (c : ℕ) → begins_number c ≡ true → (c == 36) ≡ false
-no_dollar c is = grind (arith, nat_tests)
-
 no_name : (c : ℕ) → begins_number c ≡ true → is_name_start c ≡ false
 no_name c is = grind (arith, nat_tests)
-
-no_high : (c : ℕ) → begins_number c ≡ true → (104 == c) ≡ false
-no_high c is = grind (arith, nat_tests)
-
-no_low : (c : ℕ) → begins_number c ≡ true → (108 == c) ≡ false
-no_low c is = grind (arith, nat_tests)
 
 -- Expressions.
 
 opened_none : (c : ℕ) (cs : List ℕ) → begins_number c ≡ true → halves_opened (c ∷ cs) ≡ []
 opened_none c [] is = refl
 opened_none c (a ∷ []) is = refl
-opened_none c (a ∷ b ∷ cs) is = rw (no_high c is, no_low c is) refl
+opened_none c (a ∷ b ∷ cs) is = rw (differs_turned begins_number c 104 is refl, differs_turned begins_number c 108 is refl) refl
 
-sub_zero : (n : ℕ) → n - 0 ≡ n
+pub sub_zero : (n : ℕ) → n - 0 ≡ n
 sub_zero n = omega arith
 
 closings_none : (bs : List ℕ) → without_closings 0 bs ≡ Some bs
@@ -67,7 +58,7 @@ unfolding expression_of
 expression_none c cs is none = rw (opened_none c cs is, closings_none (c ∷ cs), inner_number c cs is, none) refl
 
 pub register_none : (c : ℕ) (cs : List ℕ) → begins_number c ≡ true → is_register (c ∷ cs) ≡ false
-register_none c cs is = rw (no_dollar c is) refl
+register_none c cs is = rw (differs begins_number c 36 is refl) refl
 
 -- a number is an operand
 pub operand_number : (c : ℕ) (cs : List ℕ) (n : ℕ) → begins_number c ≡ true → number_of (c ∷ cs) ≡ Some n → operand_of (c ∷ cs) ≡ Some (Value (number_value n))

@@ -39,8 +39,7 @@ operand_values forms word address = map (λ form. operand_value form word addres
 
 slot_small : (slot : Slot) (word : ℕ) → slot_of slot word < 32
 slot_small Rs word = omega arith
-slot_small Rt word = omega arith
-slot_small Rd word = omega arith
+slot_small _ word = omega arith
 
 field_read : (field : Field) (word address : ℕ) → IsOperand (field_text field word address) (field_operand field word address)
 field_read field word address = number_operand _ _ (field_text_read field word address)
@@ -96,11 +95,8 @@ filled reading field w word address aligned below is same = record {
 
 field_zero : (field : Field) (n : ℕ) → n ≡ 0 → field_word field n ≡ 0
 field_zero Amount n is = omega (arith, is)
-field_zero Signed n is = is
-field_zero Unsigned n is = is
 field_zero Code n is = omega (arith, is)
-field_zero Branch n is = is
-field_zero Jump n is = is
+field_zero _ n is = is
 
 -- operands of the main rows: an expression stands last, and it makes no second word
 abbrev pub is_one_word : List OperandForm → Bool
@@ -117,17 +113,14 @@ reads : (forms : List OperandForm) (w word address : ℕ) → is_one_word forms 
 reads [] w word address one is aligned below = whole _ w word address refl (omega (arith, is))
 reads (operands.Register slot ∷ forms) w word address one is aligned below = reads forms (w + slot_bits slot word) word address one (omega (arith, is)) aligned below
 reads (operands.Value field ∷ []) w word address one is aligned below = filled _ field w word address aligned below refl (omega (arith, is))
-reads (operands.Value field ∷ next ∷ forms) w word address one is aligned below = cc
 reads (operands.Optional field ∷ []) w word address one is aligned below = by_number (field_of field word == 0) refl
   where
     by_number : (v : Bool) → (field_of field word == 0) ≡ v →
         Reads (read_operands (operands.Optional field ∷ []) (map (λ form. operand_value form word address) (cond (not v) (operands.Optional field ∷ []) [])) (record { word = Some w; filling = Whole })) word address
     by_number true none = let zero = field_zero field (field_of field word) (eqb-true (field_of field word) 0 none) in whole _ w word address refl (omega (arith, is, zero))
     by_number false some = filled _ field w word address aligned below refl (omega (arith, is))
-reads (operands.Optional field ∷ next ∷ forms) w word address one is aligned below = cc
 reads (operands.Based ∷ []) w word address one is aligned below = filled _ Signed (w + slot_bits Rs word) word address aligned below refl (omega (arith, is))
-reads (operands.Based ∷ next ∷ forms) w word address one is aligned below = cc
-reads (operands.Halves ∷ forms) w word address one is aligned below = cc
+reads _ w word address one is aligned below = cc
 
 -- what is printed of a word makes the word
 pub makes_word : (text : TextValue) (word address : ℕ) → is_one_word text.operands ≡ true → word ≡ text.word + operand_bits text.operands word → address % 4 ≡ 0 → address + 4 < 2 ^ 32
