@@ -1,8 +1,8 @@
 -- What a word is read as is a row of the table that the word has, or the reserved word itself. The proof
 -- is by forms and keys: an instruction whose form and key stand here needs no line of its own.
-use Rattle.std.proofs.Common.{◌≡◌, ℕ, ◌<◌, ◌%◌, ◌^◌, ◌⊎◌, Bool, true, false, List, [], ◌∷◌, map, drop, inl, inr, refl, ap, arith, eqb-true, sym, subst}
+use Rattle.std.proofs.Common.{◌≡◌, ℕ, ◌<◌, ◌%◌, ◌^◌, ◌⊎◌, Bool, true, false, List, [], ◌∷◌, map, inl, ap, eqb-true, sym, subst, rules}
 use Rattle.std.proofs.lemmas.Bool.Decides.{eqb_tells}
-use Rattle.std.specs.Prelude.{IsTrue, ◌==◌, ◌&&◌, if◌then◌else◌}
+use Rattle.std.specs.Prelude.{IsTrue, ◌==◌, if◌then◌else◌}
 use Rattle.mips_isa.specs.declared.insn.Insn.{Insn}
 use Rattle.mips_isa.specs.declared.insn.Insn.TheVariants.{Cop, Reserved}
 use Rattle.mips_isa.specs.Fields.{opcode_of, rs_of, rt_of, rd_of, sh_of, function_of, code_of, imm_of, target_of}
@@ -25,12 +25,7 @@ Holds w (Coprocessor op rest) = IsTrue (is_coprocessor op) × (opcode_of w ≡ o
 Holds w (Whole value) = ⊥
 
 has_form : (w : ℕ) (form : Form) → Holds w form → FormFits form × (w ≡ form_word form)
-has_form w (Register op rs rt rd sh function) h = omega arith
-has_form w (Coded code function) h = omega arith
-has_form w (Immediate op rs rt imm) h = omega arith
-has_form w (Jump op target) h = omega arith
-has_form w (Coprocessor op rest) h = (record { is_opcode = h.0; rest_fits = omega arith }, omega arith)
-has_form w (Whole value) h = absurd h
+has_form w form h = search rules
 
 -- Keys.
 
@@ -86,20 +81,10 @@ is_listed (Cop op rest) = false
 is_listed (Reserved value) = false
 is_listed _ = true
 
-and_left : (a b : Bool) → IsTrue (a && b) → IsTrue a
-and_left true b is = refl
-and_left false b is = cc
-
-and_right : (a b : Bool) → IsTrue (a && b) → IsTrue b
-and_right true b is = is
-and_right false b is = cc
-
 -- a word with an instruction's key, whose unused fields are 0, has the row
 pub has_row : (w : ℕ) (insn : Insn) → is_listed insn ≡ true → HasKey w (key_of (form_of insn)) → IsTrue (row_for w insn).is_clear → IsRow w (row_for w insn).insn
 unfolding form_of
-has_row w (Cop op rest) listed key clear = cc
-has_row w (Reserved value) listed key clear = cc
-has_row w insn listed key clear = has_form w (form_of (row_for w insn).insn) (search (eqb-true, and_left, and_right, arith))
+has_row w insn listed key clear = search (rules, has_form, eqb-true)
 
 -- Tables.
 
@@ -108,23 +93,9 @@ abbrev AllRows : (Insn → Type 0) → ℕ → List EncodingRow → Type 0
 AllRows P key [] = Unit {0}
 AllRows P key (r ∷ rows) = (key ≡ r.key → IsTrue r.is_clear → P r.insn) × AllRows P key rows
 
-by_clear : (P : Insn → Type 0) (b : Bool) (hit other : Insn) → (IsTrue b → P hit) → P other → P (if b then hit else other)
-by_clear P true hit other on_hit on_other = on_hit refl
-by_clear P false hit other on_hit on_other = on_other
-
-by_key : (P : Insn → Type 0) (key k : ℕ) (hit rest : Insn) → (key ≡ k → P hit) → P rest → P (if key == k then hit else rest)
-by_key P key k hit rest on_hit on_rest =
-    elim (eqb_tells key k) [
-      | inl (test, is) ↦ rw test (on_hit is)
-      | inr (test, is) ↦ rw test on_rest
-    ]
-
 find_row-All : (P : Insn → Type 0) (key : ℕ) (rows : List EncodingRow) (other : Insn) → AllRows P key rows → P other → P (find_row key rows other)
 find_row-All P key [] other all on_other = on_other
-find_row-All P key (r ∷ rows) other all on_other =
-    by_key P key r.key _ _
-    (λ is. by_clear P r.is_clear r.insn other (all.0 is) on_other)
-    (find_row-All P key rows other all.1 on_other)
+find_row-All P key (r ∷ rows) other all on_other = search (rules, eqb_tells, (find_row-All P key rows other all.1 on_other))
 
 -- of a row, the row and the key that its instruction has, and whether that is one of a row
 record Seen : Type 0 where
@@ -154,52 +125,24 @@ rows_found w k key has (r ∷ rows) is =
 
 special_of-found : (w : ℕ) → opcode_of w ≡ 0 → IsFound w (special_of w)
 unfolding special_of form_of
-special_of-found w op_is =
-    find_row-All (IsFound w) (function_of w) (special_rows w) (Reserved w)
-    (rows_found w (function_of w) Special (λ n is. (op_is, is)) (special_rows w) refl)
-    (inr refl)
+special_of-found w op_is = search (rules, find_row-All, rows_found)
 
 regimm_of-found : (w : ℕ) → opcode_of w ≡ 1 → IsFound w (regimm_of w)
 unfolding regimm_of form_of
-regimm_of-found w op_is =
-    find_row-All (IsFound w) (rt_of w) (regimm_rows w) (Reserved w)
-    (rows_found w (rt_of w) Regimm (λ n is. (op_is, is)) (regimm_rows w) refl)
-    (inr refl)
+regimm_of-found w op_is = search (rules, find_row-All, rows_found)
 
 system_operation_of-found : (w : ℕ) → opcode_of w ≡ 16 → rs_of w ≡ 16 → IsFound w (system_operation_of w)
 unfolding system_operation_of form_of
-system_operation_of-found w op_is rs_is =
-    find_row-All (IsFound w) (w % 2 ^ 21) system_operation_rows (Reserved w)
-    (rows_found w (w % 2 ^ 21) Operation (λ n is. (op_is, rs_is, is)) system_operation_rows refl)
-    (inr refl)
+system_operation_of-found w op_is rs_is = search (rules, find_row-All, rows_found)
 
 system_of-found : (w : ℕ) → opcode_of w ≡ 16 → IsFound w (system_of w)
 unfolding system_of form_of
-system_of-found w op_is =
-    find_row-All (IsFound w) (rs_of w) (system_rows w) (Reserved w) (
-      λ is clear. system_operation_of-found w op_is is,
-      rows_found w (rs_of w) System (λ n is. (op_is, is)) (drop 1 (system_rows w)) refl,
-    )
-    (inr refl)
+system_of-found w op_is = search (rules, find_row-All, system_operation_of-found, rows_found)
 
 coprocessor_of-found : (w : ℕ) → IsFound w (coprocessor_of w)
 unfolding form_of
-coprocessor_of-found w =
-    by_clear (IsFound w) (is_coprocessor (opcode_of w)) (Cop (opcode_of w) (target_of w)) (Reserved w)
-    (λ is. inl (has_form w (Coprocessor (opcode_of w) (target_of w)) (is, refl, refl)))
-    (inr refl)
+coprocessor_of-found w = search (rules, has_form)
 
 pub insn_of-found : (w : ℕ) → IsFound w (insn_of w)
 unfolding insn_of form_of
-insn_of-found w =
-    find_row-All (IsFound w) (opcode_of w) (opcode_rows w) (coprocessor_of w) (
-      λ is clear. special_of-found w is,
-      (
-        λ is clear. regimm_of-found w is,
-        (
-          λ is clear. system_of-found w is,
-          rows_found w (opcode_of w) Opcode (λ n is. is) (drop 3 (opcode_rows w)) refl,
-        ),
-      ),
-    )
-    (coprocessor_of-found w)
+insn_of-found w = search (rules, find_row-All, special_of-found, regimm_of-found, system_of-found, rows_found, coprocessor_of-found)

@@ -1,6 +1,6 @@
 -- A word that has a row of the table is read as that row's instruction. The proof is by forms: an
 -- instruction of a form that stands here needs no line of its own.
-use Rattle.std.proofs.Common.{◌≡◌, ℕ, ◌+◌, ◌*◌, ◌%◌, ◌^◌, ◌≤◌, ◌⊎◌, ◌∙◌, inl, inr, ap, arith}
+use Rattle.std.proofs.Common.{◌≡◌, ℕ, ◌+◌, ◌*◌, ◌%◌, ◌^◌, ◌≤◌, ◌⊎◌, ◌∙◌, ap, arith, rules}
 use Rattle.std.proofs.lemmas.Bool.Decides.{nat_tests}
 use Rattle.std.specs.Prelude.{IsTrue}
 use Rattle.mips_isa.specs.declared.insn.Insn.{Insn}
@@ -74,56 +74,37 @@ operation_in form = operation_of (form_word form)
 
 module _ (w : ℕ) where
   opcode_read : (form : Form) → FormFits form → w ≡ form_word form → opcode_of w ≡ opcode_in form
-  opcode_read (Register op rs rt rd sh function) fits is = omega arith
-  opcode_read (Coded code function) fits is = omega arith
-  opcode_read (Immediate op rs rt imm) fits is = omega arith
-  opcode_read (Jump op target) fits is = omega arith
-  opcode_read (Coprocessor op rest) fits is = omega arith
-  opcode_read form fits is = ap opcode_of is
+  opcode_read form fits is = search rules
 
   rs_read : (form : Form) → FormFits form → w ≡ form_word form → rs_of w ≡ rs_in form
-  rs_read (Register op rs rt rd sh function) fits is = omega arith
-  rs_read (Immediate op rs rt imm) fits is = omega arith
-  rs_read form fits is = ap rs_of is
+  rs_read form fits is = search rules
 
   rt_read : (form : Form) → FormFits form → w ≡ form_word form → rt_of w ≡ rt_in form
-  rt_read (Register op rs rt rd sh function) fits is = omega arith
-  rt_read (Immediate op rs rt imm) fits is = omega arith
-  rt_read form fits is = ap rt_of is
+  rt_read form fits is = search rules
 
   rd_read : (form : Form) → FormFits form → w ≡ form_word form → rd_of w ≡ rd_in form
-  rd_read (Register op rs rt rd sh function) fits is = omega arith
-  rd_read form fits is = ap rd_of is
+  rd_read form fits is = search rules
 
   sh_read : (form : Form) → FormFits form → w ≡ form_word form → sh_of w ≡ sh_in form
-  sh_read (Register op rs rt rd sh function) fits is = omega arith
-  sh_read form fits is = ap sh_of is
+  sh_read form fits is = search rules
 
   function_read : (form : Form) → FormFits form → w ≡ form_word form → function_of w ≡ function_in form
-  function_read (Register op rs rt rd sh function) fits is = omega arith
-  function_read (Coded code function) fits is = omega arith
-  function_read form fits is = ap function_of is
+  function_read form fits is = search rules
 
   code_read : (form : Form) → FormFits form → w ≡ form_word form → code_of w ≡ code_in form
-  code_read (Coded code function) fits is = omega arith
-  code_read form fits is = ap code_of is
+  code_read form fits is = search rules
 
   imm_read : (form : Form) → FormFits form → w ≡ form_word form → imm_of w ≡ imm_in form
-  imm_read (Immediate op rs rt imm) fits is = omega arith
-  imm_read form fits is = ap imm_of is
+  imm_read form fits is = search rules
 
   target_read : (form : Form) → FormFits form → w ≡ form_word form → target_of w ≡ target_in form
-  target_read (Jump op target) fits is = omega arith
-  target_read (Coprocessor op rest) fits is = omega arith
-  target_read form fits is = ap target_of is
+  target_read form fits is = search rules
 
   move_read : (form : Form) → FormFits form → w ≡ form_word form → move_of w ≡ move_in form
-  move_read (Register op rs rt rd sh function) fits is = omega arith
-  move_read form fits is = ap move_of is
+  move_read form fits is = search rules
 
   operation_read : (form : Form) → FormFits form → w ≡ form_word form → operation_of w ≡ operation_in form
-  operation_read (Register op rs rt rd sh function) fits is = omega arith
-  operation_read form fits is = ap operation_of is
+  operation_read form fits is = search rules
 
 -- the row by which a word of an opcode is read
 insn_of-opcode : (w op : ℕ) → opcode_of w ≡ op → insn_of w ≡ find_row op (opcode_rows w) (coprocessor_of w)
@@ -139,24 +120,7 @@ one_of_three op low above below = grind arith
 
 insn_of-coprocessor : (w op : ℕ) → IsTrue (is_coprocessor op) → opcode_of w ≡ op → insn_of w ≡ Cop op (target_of w)
 unfolding insn_of
-insn_of-coprocessor w op is at =
-    elim (coprocessor_range op is) [
-      | inl (above, below) ↦ elim (one_of_three op 17 above below) [
-        | inl e ↦ rw (at, e)
-        | inr (inl e) ↦ rw (at, e)
-        | inr (inr e) ↦ rw (at, e)
-      ]
-      | inr (inl (above, below)) ↦ elim (one_of_three op 49 above below) [
-        | inl e ↦ rw (at, e)
-        | inr (inl e) ↦ rw (at, e)
-        | inr (inr e) ↦ rw (at, e)
-      ]
-      | inr (inr (above, below)) ↦ elim (one_of_three op 57 above below) [
-        | inl e ↦ rw (at, e)
-        | inr (inl e) ↦ rw (at, e)
-        | inr (inr e) ↦ rw (at, e)
-      ]
-    ]
+insn_of-coprocessor w op is at = search (rules, coprocessor_range, one_of_three)
 
 pub insn_of-row : (w : ℕ) (insn : Insn) → IsRow w insn → insn_of w ≡ insn
 unfolding insn_of special_of regimm_of system_of system_operation_of form_of

@@ -1,5 +1,5 @@
 -- Each word spells what it is read as and nothing else, and no two words spell one instruction.
-use Rattle.std.proofs.Common.{◌≡◌, ℕ, ◌⊎◌, inl, inr, refl, sym, ◌∙◌, ap, subst}
+use Rattle.std.proofs.Common.{◌≡◌, ℕ, ◌⊎◌, inl, inr, refl, sym, ◌∙◌, subst, rules}
 use Rattle.mips_isa.specs.declared.insn.Insn.{Insn}
 use Rattle.mips_isa.specs.declared.insn.Insn.TheVariants.{Reserved}
 use Rattle.mips_isa.specs.Encoding.{form_of, IsRow, Spells, insn_of}
@@ -13,8 +13,7 @@ no_row w is insn has = let itself : IsRow w (Reserved w) = subst (IsRow w) (sym 
 
 spells_row : (w : ℕ) (insn : Insn) → IsRow w insn → Spells w insn
 unfolding form_of
-spells_row w (Reserved value) has = absurd has.0
-spells_row w _ has = has
+spells_row w insn has = search rules
 
 spells_found : (w : ℕ) → IsFound w (insn_of w) → Spells w (insn_of w)
 unfolding form_of
@@ -29,9 +28,7 @@ spells_insn_of w = spells_found w (insn_of-found w)
 -- what a word spells is a row that it has, or itself
 row_spelled : (w : ℕ) (insn : Insn) → Spells w insn → IsRow w insn ⊎ ((insn ≡ Reserved w) × ((other : Insn) → ¬ IsRow w other))
 unfolding form_of
-row_spelled w (Reserved value) spells =
-    inr (ap Reserved (sym spells.1), subst (λ v. (other : Insn) → ¬ IsRow v other) (sym spells.1) spells.0)
-row_spelled w _ spells = inl spells
+row_spelled w insn spells = search rules
 
 pub insn_of-spelled : (w : ℕ) (insn : Insn) → Spells w insn → insn ≡ insn_of w
 insn_of-spelled w insn spells =

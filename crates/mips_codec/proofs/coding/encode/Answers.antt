@@ -1,4 +1,4 @@
-use Rattle.std.proofs.Common.{◌≡◌, ℕ, Option, Some, None, sym, ◌∙◌, ap, subst}
+use Rattle.std.proofs.Common.{◌≡◌, ℕ, Option, Some, None, sym, rules}
 use Rattle.std.specs.Prelude.{IfSome, IfNone}
 use Rattle.std.specs.Option.{SomeIff}
 use Rattle.mips_isa.specs.declared.insn.Insn.{Insn}
@@ -8,12 +8,10 @@ use Rattle.mips_codec.proofs.coding.encode.Goals as goal
 
 module _ (insn : Insn) where
   spells : (found : Option ℕ) → SomeIff found (IsEncodable insn) (word_of insn) → IfSome found (λ w. Spells w insn)
-  spells (Some w) value = value
-  spells None value = tt
+  spells found value = search rules
 
   unspelled : (found : Option ℕ) → SomeIff found (IsEncodable insn) (word_of insn) → IfNone found ((w : ℕ) → ¬ Spells w insn)
-  unspelled (Some w) value = tt
-  unspelled None value = λ w spelled. value spelled.0
+  unspelled found value = search rules
 
   reads_back : (found : Option ℕ) → SomeIff found (IsEncodable insn) (word_of insn) → IfSome found (λ w. insn_of w ≡ insn)
   reads_back (Some w) value = sym (insn_of-spelled w insn value)
@@ -21,8 +19,7 @@ module _ (insn : Insn) where
 
   -- the word that an instruction is read from is the word found
   inverse : (found : Option ℕ) → SomeIff found (IsEncodable insn) (word_of insn) → (w : ℕ) → Spells w insn → found ≡ Some w
-  inverse (Some v) value w spelled = ap Some (value.1 ∙ sym spelled.1)
-  inverse None value w spelled = absurd (value spelled.0)
+  inverse found value w spelled = search rules
 
 pub returns-clause-spells : goal.returns-clause-spells
 returns-clause-spells c = spells _ _ c.word.ensures
@@ -34,7 +31,4 @@ pub returns-clause-reads_back : goal.returns-clause-reads_back
 returns-clause-reads_back c = reads_back _ _ c.word.ensures
 
 pub returns-clause-inverse : goal.returns-clause-inverse
-returns-clause-inverse c =
-    λ w is.
-    inverse c.args.insn.now c.word.result c.word.ensures w
-    (subst (Spells w) (sym is) (spells_insn_of w))
+returns-clause-inverse c = search (rules, spells_insn_of)
