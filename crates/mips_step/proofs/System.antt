@@ -1,10 +1,9 @@
 -- A word of coprocessor 0 neither loads nor stores, and raises that the coprocessor may not be used.
-use Rattle.std.proofs.Common.{◌≡◌, ℕ, Bool, true, false, List, [], ◌∷◌, None, refl, arith}
-use Rattle.std.specs.Prelude.{◌%◌, ◌^◌, ◌==◌, if◌then◌else◌}
+use Rattle.std.proofs.Common.{◌≡◌, ℕ, List, [], ◌∷◌, None, refl, arith, rules}
 use Rattle.mips_isa.specs.declared.insn.Insn.{Insn}
 use Rattle.mips_isa.specs.declared.insn.Insn.TheVariants.{Reserved}
 use Rattle.mips_isa.specs.Fields.{opcode_of, rs_of}
-use Rattle.mips_isa.specs.Encoding.{EncodingRow, find_row, system_of, system_operation_of, system_operation_rows, system_rows}
+use Rattle.mips_isa.specs.Encoding.{EncodingRow, find_row, system_of, system_operation_of, system_rows}
 use Rattle.mips_exec.specs.declared.registers.Cpu.{Cpu}
 use Rattle.mips_exec.specs.declared.change.Change.TheVariants.{Raises}
 use Rattle.mips_exec.specs.Access.{access}
@@ -16,16 +15,9 @@ abbrev Each : (Insn → Type 0) → List EncodingRow → Type 0
 Each P [] = Unit {0}
 Each P (r ∷ rows) = P r.insn × Each P rows
 
-either : (P : Insn → Type 0) (test : Bool) (a b : Insn) → P a → P b → P (if test then a else b)
-either P true a b p q = p
-either P false a b p q = q
-
 found : (P : Insn → Type 0) (key : ℕ) (rows : List EncodingRow) (other : Insn) → Each P rows → P other → P (find_row key rows other)
 found P key [] other each p = p
-found P key (r ∷ rows) other each p =
-    either P (key == r.key) (if r.is_clear then r.insn else other) (find_row key rows other)
-    (either P r.is_clear r.insn other each.0 p)
-    (found P key rows other each.1 p)
+found P key (r ∷ rows) other each p = search (rules, (found P key rows other each.1 p))
 
 -- it neither loads nor stores, and raises this
 record IsSystem (c : Cpu) (insn : Insn) : Type 0 where
@@ -38,10 +30,7 @@ reserved w c h = record { value = grind arith; plain = refl }
 
 operation : (w : ℕ) (c : Cpu) → opcode_of w ≡ 16 → IsSystem c (system_operation_of w)
 unfolding system_operation_of effect access
-operation w c h =
-    found (IsSystem c) (w % 2 ^ 21) system_operation_rows (Reserved w)
-    (record { value = refl; plain = refl }, (record { value = refl; plain = refl }, (record { value = refl; plain = refl }, (record { value = refl; plain = refl }, (record { value = refl; plain = refl }, tt)))))
-    (reserved w c h)
+operation w c h = search (rules, found, reserved)
 
 system : (w : ℕ) (c : Cpu) → opcode_of w ≡ 16 → IsSystem c (system_of w)
 unfolding system_of effect access
