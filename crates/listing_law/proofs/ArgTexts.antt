@@ -1,6 +1,5 @@
 -- Operands with commas between them, read again.
-use Rattle.std.proofs.Common.{◌≡◌, ℕ, ◌+◌, ◌-◌, ◌<◌, ◌∙◌, true, false, List, [], ◌∷◌, ◌++◌, Option, Some, length, map, refl, sym, ap, subst, arith, append_assoc, append-nil}
-use Rattle.std.specs.Prelude.{◌==◌}
+use Rattle.std.proofs.Common.{◌≡◌, ℕ, ◌+◌, ◌<◌, ◌∙◌, true, false, List, [], ◌∷◌, ◌++◌, Option, Some, length, map, refl, sym, ap, subst, arith, append_assoc, rules}
 use Rattle.std.proofs.lemmas.Bool.{and_parts}
 use Rattle.std.proofs.lemmas.Bool.Decides.{nat_tests}
 use Rattle.std.proofs.Math.Bool.{and-false}
@@ -10,7 +9,7 @@ use Rattle.std.proofs.lemmas.List.{reverse-append}
 use Rattle.asm_parse.specs.Arg.{ArgValue}
 use Rattle.line_text.specs.Characters.{is_blank}
 use Rattle.asm_parse.specs.Operand.{OperandValue}
-use Rattle.asm_parse.specs.Form.{Piece, arg_of, args_at, args_of, before_blanks, behind, is_outside, parts_at}
+use Rattle.asm_parse.specs.Form.{arg_of, args_at, args_of, before_blanks, behind, is_outside, parts_at}
 use Rattle.mips_list.specs.WordText.{after_name, marked}
 use Rattle.listing_law.proofs.Numbers.{differs}
 use Rattle.listing_law.proofs.OperandTexts.{sub_zero}
@@ -42,8 +41,7 @@ parts_marked : (q : _) (ts : List (List ℕ)) (os : List OperandValue) → ((b :
     → ((rest : List ℕ) → parts_at 44 q (44 ∷ rest) ≡ [] ∷ parts_at 44 q rest) → AreOperands ts os → parts_at 44 q (marked 44 ts) ≡ [] ∷ ts
 parts_marked q [] os stays marks are = refl
 parts_marked q (t ∷ ts) [] stays marks are = absurd are
-parts_marked q (t ∷ ts) (o ∷ os) stays marks are =
-    marks (t ++ marked 44 ts) ∙ ap (λ parts. [] ∷ parts) (parts_behind q t (marked 44 ts) ts stays are.0.plain (parts_marked q ts os stays marks are.1))
+parts_marked q (t ∷ ts) (o ∷ os) stays marks are = search (rules, parts_behind, (parts_marked q ts os stays marks are.1))
 
 -- Blanks.
 
@@ -76,13 +74,11 @@ before_none start bs ends = rw (no_blanks_behind bs ends, sub_zero (length bs), 
 
 arg_plain : (start : ℕ) (bs : List ℕ) (o : OperandValue) → IsOperand bs o → arg_of (record { start = start; bytes = bs }) ≡ Some (record { operand = o; start = start + 0; end = start + 0 + length bs })
 unfolding arg_of
-arg_plain start bs o is =
-    rw (no_blanks_before bs is.plain is.some, no_blanks_behind bs (plain_ends bs is.plain is.some), sub_zero (length bs), take-length bs, is.is) refl
+arg_plain start bs o is = search (rules, no_blanks_before, no_blanks_behind, plain_ends, sub_zero, take-length)
 
 arg_spaced : (start : ℕ) (bs : List ℕ) (o : OperandValue) → IsOperand bs o → arg_of (record { start = start; bytes = 32 ∷ bs }) ≡ Some (record { operand = o; start = start + 1; end = start + 1 + length bs })
 unfolding arg_of
-arg_spaced start bs o is =
-    rw (no_blanks_before bs is.plain is.some, no_blanks_behind bs (plain_ends bs is.plain is.some), sub_zero (length bs), take-length bs, is.is) refl
+arg_spaced start bs o is = search (rules, no_blanks_before, no_blanks_behind, plain_ends, sub_zero, take-length)
 
 -- operands that are read from parts
 pub record AreRead (args : Option (List ArgValue)) (os : List OperandValue) : Type 0 where
@@ -92,11 +88,7 @@ pub record AreRead (args : Option (List ArgValue)) (os : List OperandValue) : Ty
 
 args_then : (start : ℕ) (part : List ℕ) (parts : List (List ℕ)) (arg : ArgValue) (o : OperandValue) (os : List OperandValue) → arg_of (record { start = start; bytes = part }) ≡ Some arg → arg.operand ≡ o
     → AreRead (args_of (start + (length part + 1)) parts) os → AreRead (args_of start (part ∷ parts)) (o ∷ os)
-args_then start part parts arg o os here same rest = record {
-  found = arg ∷ rest.found;
-  is = rw (here, rest.is) refl;
-  operands = cc (rest.operands);
-}
+args_then start part parts arg o os here same rest = search rules
 
 args_plain : (start : ℕ) (ts : List (List ℕ)) (os : List OperandValue) → AreOperands ts os → AreRead (args_of start ts) os
 args_plain start [] [] are = record { found = []; is = refl; operands = refl }

@@ -1,13 +1,13 @@
 -- A half and a register in brackets, read again.
-use Rattle.std.proofs.Common.{◌≡◌, ℕ, ◌-◌, ◌^◌, ◌<◌, Bool, true, false, List, [], ◌∷◌, ◌++◌, Some, None, get_or, refl, sym, ap, subst, arith, append_assoc, length-append}
-use Rattle.std.specs.Prelude.{◌==◌, not, nat_lt, codes, if◌then◌else◌}
+use Rattle.std.proofs.Common.{◌≡◌, ℕ, ◌^◌, ◌<◌, true, List, [], ◌∷◌, ◌++◌, Some, None, arith, append_assoc, length-append, rules}
+use Rattle.std.specs.Prelude.{◌==◌, not}
 use Rattle.std.specs.List.{list_all}
 use Rattle.std.proofs.lemmas.List.Folds.{list_all-append}
 use Rattle.line_text.specs.Text.{dec_text}
 use Rattle.asm_parse.specs.Expression.{number_of}
 use Rattle.asm_parse.specs.Operand.{Based, operand_of}
 use Rattle.mips_list.specs.WordText.{signed_text}
-use Rattle.listing_law.proofs.OperandTexts.{begins_number, number_value, expression_none, register_none, based_number, decimal_bytes}
+use Rattle.listing_law.proofs.OperandTexts.{number_value, expression_none, register_none, based_number, decimal_bytes}
 use Rattle.listing_law.proofs.NumberTexts.{IsNumber, IsOperand, by_sign, is_plain, decimal_then, negative_then, no_dollars, plain_alphanumeric, signed_text_read, signed_value}
 
 -- a number, and a register in brackets
@@ -15,32 +15,20 @@ abbrev bracketed : List ℕ → ℕ → List ℕ
 bracketed bs r = (bs ++ 40 ∷ []) ++ 36 ∷ (dec_text r ++ 41 ∷ [])
 
 signed_then : (half r : ℕ) → half < 2 ^ 16 → number_of (bracketed (signed_text half) r) ≡ None
-signed_then half r small =
-    let behind = 36 ∷ (dec_text r ++ 41 ∷ []) in
-    rw append_assoc (by_sign (λ bs n. number_of (bs ++ 40 ∷ behind) ≡ None) half (decimal_then half behind (omega arith)) (negative_then (2 ^ 16 - half) behind))
+signed_then half r small = search (rules, append_assoc, by_sign, decimal_then, negative_then)
 
 signed_dollars : (half : ℕ) → half < 2 ^ 16 → list_all (λ b. not (b == 36)) (signed_text half ++ 40 ∷ []) ≡ true
-signed_dollars half small =
-    by_sign (λ bs n. list_all (λ b. not (b == 36)) (bs ++ 40 ∷ []) ≡ true) half
-    (no_dollars (dec_text half) (decimal_bytes half (omega arith)))
-    (no_dollars (dec_text (2 ^ 16 - half)) (decimal_bytes (2 ^ 16 - half) (omega arith)))
+signed_dollars half small = search (rules, by_sign, no_dollars, decimal_bytes)
 
 plain_bracketed : (bs : List ℕ) (r : ℕ) → list_all is_plain bs ≡ true → r < 32 → list_all is_plain (bracketed bs r) ≡ true
-plain_bracketed bs r plain small =
-    let digits : list_all is_plain (dec_text r) ≡ true = plain_alphanumeric (dec_text r) (decimal_bytes r (omega arith)) in
-    rw (list_all-append is_plain (bs ++ 40 ∷ []) (36 ∷ (dec_text r ++ 41 ∷ [])), list_all-append is_plain bs (40 ∷ []), plain, list_all-append is_plain (dec_text r) (41 ∷ []), digits) refl
+plain_bracketed bs r plain small = search (rules, plain_alphanumeric, decimal_bytes, list_all-append)
 
 -- a number that begins with none of the other forms, and a register in brackets behind it
 based_operand : (bs : List ℕ) (n r : ℕ) → IsNumber bs n → list_all (λ b. not (b == 36)) (bs ++ 40 ∷ []) ≡ true
     → number_of (bracketed bs r) ≡ None → r < 32 → operand_of (bracketed bs r) ≡ Some (Based (number_value n) (Some r))
 unfolding operand_of
 based_operand [] n r number dollars none small = absurd cc
-based_operand (c ∷ cs) n r number dollars none small =
-    rw (
-      register_none c ((cs ++ 40 ∷ []) ++ 36 ∷ (dec_text r ++ 41 ∷ [])) number.begins,
-      expression_none c ((cs ++ 40 ∷ []) ++ 36 ∷ (dec_text r ++ 41 ∷ [])) number.begins none,
-      based_number c cs n r number.begins dollars number.reads small,
-    ) refl
+based_operand (c ∷ cs) n r number dollars none small = search (rules, register_none, expression_none, based_number)
 
 pub based_text_read : (half r : ℕ) → half < 2 ^ 16 → r < 32 → IsOperand (bracketed (signed_text half) r) (Based (number_value (signed_value half)) (Some r))
 based_text_read half r small register =

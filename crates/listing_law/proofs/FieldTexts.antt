@@ -1,8 +1,7 @@
 -- Printed fields, as the assembler takes them.
-use Rattle.std.proofs.Common.{◌≡◌, ℕ, ◌+◌, ◌-◌, ◌*◌, ◌/◌, ◌%◌, ◌^◌, ◌<◌, ◌≤◌, ◌∙◌, Bool, true, false, Result, Ok, refl, arith, ltb-true, ltb-false, le-leb, eq-eqb}
-use Rattle.std.specs.Prelude.{◌==◌, nat_lt, nat_le, if◌then◌else◌}
+use Rattle.std.proofs.Common.{◌≡◌, ℕ, ◌+◌, ◌-◌, ◌/◌, ◌%◌, ◌^◌, ◌<◌, ◌≤◌, Bool, true, Result, Ok, refl, arith, ltb-true, ltb-false, le-leb, eq-eqb, rules}
+use Rattle.std.specs.Prelude.{◌==◌, nat_le}
 use Rattle.std.proofs.lemmas.Bool.{or_right}
-use Rattle.asm_parse.specs.Expression.{negated}
 use Rattle.asm_parse.specs.declared.fault.AsmWhy.{AsmWhy}
 use Rattle.mips_text.specs.WordRows.{field_of}
 use Rattle.mips_text.specs.declared.shape.Field.{Field}
@@ -42,48 +41,18 @@ aligned_ok : (v : ℕ) (field : Result ℕ AsmWhy) → v % 4 ≡ 0 → aligned_t
 aligned_ok v field is = rw (eq-eqb (v % 4) 0 is) refl
 
 signed_back : (half : ℕ) → half < 2 ^ 16 → ranged (lies 32768 32767 (signed_value half)) (signed_value half % 2 ^ 16) ≡ Ok half
-signed_back half small = by_sign (nat_lt half (2 ^ 15)) refl
-  where
-    by_sign : (v : Bool) → nat_lt half (2 ^ 15) ≡ v →
-        let value = if v then half else negated (2 ^ 16 - half) in ranged (lies 32768 32767 value) (value % 2 ^ 16) ≡ Ok half
-    by_sign true is = let below : half < 2 ^ 15 = ltb-true half (2 ^ 15) is in ranged_ok _ _ half (within_high 32768 32767 half (omega arith)) (omega arith)
-    by_sign false is = let above : 2 ^ 15 ≤ half = ltb-false half (2 ^ 15) is in ranged_ok _ _ half (within_low 32768 32767 (negated (2 ^ 16 - half)) (omega arith)) (omega arith)
+signed_back half small = search (rules, ltb-true, ranged_ok, within_high, ltb-false, within_low)
 
 branch_back : (half address : ℕ) → half < 2 ^ 16 → address % 4 ≡ 0 → address + 4 < 2 ^ 32 →
     let v = branch_target address half in
     aligned_target v (ranged (lies (2 ^ 17) (2 ^ 17 - 4) (distance address v)) (distance address v / 4 % 2 ^ 16)) ≡ Ok half
-branch_back half address small aligned below = by_sign (nat_lt half (2 ^ 15)) refl
-  where
-    by_sign : (s : Bool) → nat_lt half (2 ^ 15) ≡ s →
-        let v = (address + 4 + 4 * (if s then half else half + (2 ^ 32 - 2 ^ 16))) % 2 ^ 32 in
-        aligned_target v (ranged (lies (2 ^ 17) (2 ^ 17 - 4) (distance address v)) (distance address v / 4 % 2 ^ 16)) ≡ Ok half
-    by_sign true is =
-        let low : half < 2 ^ 15 = ltb-true half (2 ^ 15) is in
-        let v = (address + 4 + 4 * half) % 2 ^ 32 in
-        let far : distance address v ≡ 4 * half = omega arith in
-        aligned_ok v _ (omega arith)
-        ∙ ranged_ok _ _ half (within_high (2 ^ 17) (2 ^ 17 - 4) (distance address v) (omega arith)) (omega arith)
-    by_sign false is =
-        let high : 2 ^ 15 ≤ half = ltb-false half (2 ^ 15) is in
-        let v = (address + 4 + 4 * (half + (2 ^ 32 - 2 ^ 16))) % 2 ^ 32 in
-        let far : distance address v ≡ 4 * half + (2 ^ 32 - 2 ^ 18) = omega arith in
-        aligned_ok v _ (omega arith)
-        ∙ ranged_ok _ _ half (within_low (2 ^ 17) (2 ^ 17 - 4) (distance address v) (omega arith)) (omega arith)
+branch_back half address small aligned below = search (rules, ltb-true, aligned_ok, ranged_ok, within_high, ltb-false, within_low)
 
 jump_back : (target address : ℕ) → target < 2 ^ 26 → address + 4 < 2 ^ 32 →
     let v = jump_target address target in
     aligned_target v (ranged (v / 2 ^ 28 == (address + 4) / 2 ^ 28) (v % 2 ^ 28 / 4)) ≡ Ok target
-jump_back target address small below =
-    let v = jump_target address target in
-    let region : v / 2 ^ 28 ≡ (address + 4) / 2 ^ 28 = omega arith in
-    aligned_ok v _ (omega arith)
-    ∙ ranged_ok _ _ target (eq-eqb _ _ region) (omega arith)
+jump_back target address small below = search (rules, aligned_ok, ranged_ok, eq-eqb)
 
 -- the assembler gets the field back
 pub field_back : (field : Field) (word address : ℕ) → address % 4 ≡ 0 → address + 4 < 2 ^ 32 → fields.field_of field address (field_value field word address) ≡ Ok (field_of field word)
-field_back Amount word address aligned below = ranged_ok _ _ _ (within_high 0 31 (field_of Amount word) (omega arith)) refl
-field_back Signed word address aligned below = signed_back (field_of Signed word) (omega arith)
-field_back Unsigned word address aligned below = ranged_ok _ _ _ (within_high 0 65535 (field_of Unsigned word) (omega arith)) refl
-field_back Code word address aligned below = ranged_ok _ _ _ (within_high 0 (2 ^ 20 - 1) (field_of Code word) (omega arith)) refl
-field_back Branch word address aligned below = branch_back (field_of Branch word) address (omega arith) aligned below
-field_back Jump word address aligned below = jump_back (field_of Jump word) address (omega arith) below
+field_back field word address aligned below = search (rules, ranged_ok, within_high, signed_back, branch_back, jump_back)

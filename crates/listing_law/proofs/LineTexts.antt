@@ -1,26 +1,24 @@
 -- A line that is an operation and its operands, read again.
-use Rattle.std.proofs.Common.{◌≡◌, ℕ, zero, suc, ◌+◌, ◌-◌, ◌<◌, ◌∙◌, Bool, true, false, List, [], ◌∷◌, ◌++◌, Option, Some, None, length, drop, refl, sym, ap, subst, arith}
-use Rattle.std.specs.Prelude.{◌==◌, ◌&&◌, not, nat_le, nat_eq, codes, if◌then◌else◌}
+use Rattle.std.proofs.Common.{◌≡◌, ℕ, zero, suc, ◌+◌, ◌-◌, ◌<◌, ◌∙◌, Bool, true, false, List, [], ◌∷◌, ◌++◌, Some, None, length, drop, refl, ap, arith, rules}
+use Rattle.std.specs.Prelude.{◌==◌, ◌&&◌, not, nat_le, nat_eq, codes}
 use Rattle.std.proofs.lemmas.Bool.{and_parts}
 use Rattle.std.proofs.lemmas.Bool.Decides.{nat_tests}
 use Rattle.std.proofs.Math.Bool.{and-false}
 use Rattle.std.specs.List.{list_all, starts_with, prefix_len, onto_first, take_while}
-use Rattle.std.specs.Option.{option_map}
-use lib.Dec.{eqb-suc-zero}
 use lib.Pointwise.{pointwise}
 use Rattle.std.proofs.lemmas.List.{append-nil, take_at, drop_at}
 use Rattle.std.proofs.lemmas.List.Folds.{list_all-append}
 use Rattle.line_text.specs.Lines.{LineValue, lines_of, lines_from, pieces_of, without_end}
 use Rattle.asm_parse.specs.Arg.{ArgValue}
 use Rattle.line_text.specs.Characters.{is_blank, is_text_byte}
-use Rattle.asm_parse.specs.Bytes.{is_name_byte, is_name_start}
+use Rattle.asm_parse.specs.Bytes.{is_name_byte}
 use Rattle.asm_parse.specs.Operand.{OperandValue}
 use Rattle.asm_parse.specs.Words.{begins_name}
-use Rattle.asm_parse.specs.Form.{Piece, args_at, before_mark, behind, is_outside, body_named, body_of, label_of, line_of, operands_of, said, statement_of, trimmed}
+use Rattle.asm_parse.specs.Form.{Piece, before_mark, behind, is_outside, body_named, body_of, label_of, line_of, operands_of, said, statement_of, trimmed}
 use Rattle.asm_parse.specs.declared.syntax.AsmLine.{AsmLine}
 use Rattle.mips_list.specs.WordText.{after_name, marked}
 use Rattle.listing_law.proofs.Numbers.{differs, differs_turned, list_all_weaker}
-use Rattle.listing_law.proofs.NumberTexts.{IsOperand, is_plain}
+use Rattle.listing_law.proofs.NumberTexts.{is_plain}
 use Rattle.listing_law.proofs.ArgTexts.{AreOperands, AreRead, EndsPlain, args_spaced, before_none, ends_behind, plain_ends}
 
 -- a byte of a line without quoted texts and comments
@@ -53,8 +51,7 @@ all_behind (suc n) (b ∷ bs) all = all_behind n bs (and_parts (is_said b) (list
 
 -- what begins with a byte that is not said does not stand at the front of what is
 no_front : (c : ℕ) (cs bs : List ℕ) → is_said c ≡ false → list_all is_said bs ≡ true → pointwise nat_eq (c ∷ cs) bs ≡ false
-no_front c cs [] other all = refl
-no_front c cs (b ∷ bs) other all = rw (differs_turned is_said b c (and_parts (is_said b) (list_all is_said bs) all).0 other) refl
+no_front c cs bs other all = search (rules, differs_turned, and_parts)
 
 no_end : (bs : List ℕ) → list_all is_said bs ≡ true → without_end bs ≡ bs
 no_end bs all = rw (no_front 13 (10 ∷ []) (drop (length bs - 2) bs) refl (all_behind (length bs - 2) bs all), no_front 10 [] (drop (length bs - 1) bs) refl (all_behind (length bs - 1) bs all)) refl
@@ -92,13 +89,11 @@ named_before : (name rest : List ℕ) → list_all is_name_byte name ≡ true �
 named_before name rest all follows = rw (name_length name rest all follows) (take_at name rest (length name) refl)
 
 no_colon : (rest : List ℕ) → Follows rest → starts_with nat_eq rest (codes ":") ≡ false
-no_colon [] follows = refl
-no_colon (b ∷ rest) follows = rw follows refl
+no_colon rest follows = search rules
 
 no_label : (name rest : List ℕ) → list_all is_name_byte name ≡ true → Follows rest → label_of (name ++ rest) ≡ None
 unfolding label_of
-no_label name rest all follows =
-    rw (named_before name rest all follows, drop_at name rest (length name) refl, no_colon rest follows, and-false (begins_name name)) refl
+no_label name rest all follows = search (rules, named_before, drop_at, no_colon, and-false)
 
 -- the operands behind a name
 pub operands_read : (start : ℕ) (ts : List (List ℕ)) (os : List OperandValue) → AreOperands ts os → AreRead (operands_of (record { start = start; bytes = after_name ts })) os
@@ -106,35 +101,25 @@ unfolding operands_of
 operands_read start [] [] are = record { found = []; is = refl; operands = refl }
 operands_read start [] (o ∷ os) are = absurd are
 operands_read start (t ∷ ts) [] are = absurd are
-operands_read start (t ∷ ts) (o ∷ os) are =
-    let behind = t ++ marked 44 ts in
-    rw (eqb-suc-zero (length behind), one_more_not_zero (prefix_len is_blank behind)) (args_spaced start t ts o os are)
-  where
-    one_more_not_zero : (n : ℕ) → (1 + n == 0) ≡ false
-    one_more_not_zero n = grind (arith, nat_tests)
+operands_read start (t ∷ ts) (o ∷ os) are = search (rules, args_spaced, nat_tests)
 
 follows_name : (ts : List (List ℕ)) → Follows (after_name ts)
 follows_name [] = tt
 follows_name (t ∷ ts) = refl
 
 some_length : (name rest : List ℕ) → begins_name name ≡ true → (length (name ++ rest) == 0) ≡ false
-some_length [] rest begins = cc
-some_length (c ∷ cs) rest begins = eqb-suc-zero (length (cs ++ rest))
+some_length name rest begins = search rules
 
 body_read : (start : ℕ) (name : List ℕ) (ts : List (List ℕ)) (args : List ArgValue) → is_name name ≡ true → operands_of (record { start = start + length name; bytes = after_name ts }) ≡ Some args
     → body_of (record { start = start; bytes = name ++ after_name ts }) ≡ Some (body_named name args)
 unfolding body_of
-body_read start name ts args is reads =
-    let parts = and_parts (begins_name name) (list_all is_name_byte name) is in
-    rw (named_before name (after_name ts) parts.1 (follows_name ts), some_length name (after_name ts) parts.0, parts.0, drop_at name (after_name ts) (length name) refl, reads) refl
+body_read start name ts args is reads = search (rules, and_parts, named_before, follows_name, some_length, drop_at)
 
 statement_read : (number start : ℕ) (name : List ℕ) (ts : List (List ℕ)) (args : List ArgValue) → is_name name ≡ true → operands_of (record { start = start + length name; bytes = after_name ts }) ≡ Some args
     → statement_of number (record { start = start; bytes = name ++ after_name ts })
     ≡ Some (record { line = number; start = start; end = start + length (name ++ after_name ts); label = None; body = body_named name args })
 unfolding statement_of
-statement_read number start name ts args is reads =
-    let parts = and_parts (begins_name name) (list_all is_name_byte name) is in
-    rw (no_label name (after_name ts) parts.1 (follows_name ts), body_read start name ts args is reads) refl
+statement_read number start name ts args is reads = search (rules, and_parts, no_label, follows_name, body_read)
 
 -- All bytes of a line.
 
@@ -162,33 +147,17 @@ pub record IsLine (bs : List ℕ) : Type 0 where
   pub ends : EndsPlain bs
 
 pub text_is_line : (name : List ℕ) (ts : List (List ℕ)) (os : List OperandValue) → is_name name ≡ true → AreOperands ts os → IsLine (name ++ after_name ts)
-text_is_line name ts os is are =
-    let parts = and_parts (begins_name name) (list_all is_name_byte name) is in
-    let plain = name_bytes name parts.1 in
-    record {
-      bytes = rw (list_all-append is_said name (after_name ts), plain_bytes name plain, marked_bytes 32 ts os refl are) refl;
-      ends = marked_ends name 32 ts os (plain_ends name plain (positive name parts.0)) are;
-    }
-  where
-    positive : (name : List ℕ) → begins_name name ≡ true → 0 < length name
-    positive [] begins = cc
-    positive (c ∷ cs) begins = omega arith
+text_is_line name ts os is are = search (rules, and_parts, name_bytes, list_all-append, plain_bytes, marked_bytes, marked_ends, plain_ends)
 
 no_blanks_named : (name rest : List ℕ) → is_name name ≡ true → prefix_len is_blank (name ++ rest) ≡ 0
-no_blanks_named [] rest is = cc
-no_blanks_named (c ∷ cs) rest is = rw (no_blank c (and_parts (is_name_start c) (list_all is_name_byte (c ∷ cs)) is).0) refl
-  where
-    no_blank : (b : ℕ) → is_name_start b ≡ true → is_blank b ≡ false
-    no_blank b is = grind (arith, nat_tests)
+no_blanks_named name rest is = search (rules, and_parts, nat_tests)
 
 said_line : (line : LineValue) → list_all is_said line.text ≡ true → said line ≡ trimmed (record { start = line.start; bytes = line.text })
 said_line line all = ap (λ bs. trimmed (record { start = line.start; bytes = bs })) (no_comment _ line.text (λ b is. rw (differs is_said b 34 is refl) refl) all)
 
 said_whole : (number start : ℕ) (name : List ℕ) (ts : List (List ℕ)) → is_name name ≡ true → IsLine (name ++ after_name ts)
     → said (record { number = number; start = start; text = name ++ after_name ts }) ≡ record { start = start + 0; bytes = name ++ after_name ts }
-said_whole number start name ts is line =
-    said_line (record { number = number; start = start; text = name ++ after_name ts }) line.bytes
-    ∙ rw (no_blanks_named name (after_name ts) is) (before_none (start + 0) (name ++ after_name ts) line.ends)
+said_whole number start name ts is line = search (rules, said_line, no_blanks_named, before_none)
 
 add_zero : (n : ℕ) → n + 0 ≡ n
 add_zero n = omega arith
@@ -196,10 +165,7 @@ add_zero n = omega arith
 line_from : (line : LineValue) (p : Piece) (statement : AsmLine) → list_all is_text_byte line.text ≡ true → said line ≡ p → (length p.bytes == 0) ≡ false
     → statement_of line.number p ≡ Some statement → line_of line ≡ Some (Some statement)
 unfolding line_of
-line_from line p statement text is some reads =
-    let by : Piece → Option (Option AsmLine) = λ q. if length q.bytes == 0 then Some None else option_map (λ statement. Some statement) (statement_of line.number q) in
-    let found : by p ≡ Some (Some statement) = rw (some, reads) refl in
-    rw text (ap by is ∙ found)
+line_from line p statement text is some reads = search rules
 
 -- a line that is an operation and its operands
 pub line_read : (number start : ℕ) (name : List ℕ) (ts : List (List ℕ)) (args : List ArgValue) → is_name name ≡ true → IsLine (name ++ after_name ts)

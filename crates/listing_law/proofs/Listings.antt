@@ -1,5 +1,5 @@
 -- A source of the texts of words, assembled.
-use Rattle.std.proofs.Common.{◌≡◌, ℕ, ◌+◌, ◌-◌, ◌*◌, ◌%◌, ◌^◌, ◌<◌, ◌≤◌, ◌∙◌, true, false, List, [], ◌∷◌, ◌++◌, None, Some, Result, Ok, length, drop, refl, ap, arith, append_assoc, append-nil, length-append, le-leb, eq-eqb, lit<}
+use Rattle.std.proofs.Common.{◌≡◌, ℕ, ◌+◌, ◌*◌, ◌%◌, ◌^◌, ◌<◌, ◌≤◌, ◌∙◌, true, false, List, [], ◌∷◌, ◌++◌, None, Some, Result, Ok, length, refl, ap, arith, append_assoc, append-nil, length-append, le-leb, eq-eqb, lit<, rules}
 use Rattle.std.specs.Prelude.{◌==◌, nat_eq, codes}
 use lib.Pointwise.{pointwise}
 use Rattle.std.proofs.lemmas.Bool.{and_parts}
@@ -39,24 +39,12 @@ no_return (b ∷ bs) all = rw (differs_turned is_said b 13 (and_parts (is_said b
 
 -- the end of a line goes away
 line_end : (bs : List ℕ) → list_all is_said bs ≡ true → without_end (bs ++ 10 ∷ []) ≡ bs
-line_end bs all =
-    let two : length (bs ++ 10 ∷ []) - 2 ≡ length bs - 1 = omega (arith, length-append bs (10 ∷ [])) in
-    let one : length (bs ++ 10 ∷ []) - 1 ≡ length bs = omega (arith, length-append bs (10 ∷ [])) in
-    rw (
-      two,
-      drop-append-le (length bs - 1) bs (10 ∷ []) (omega arith),
-      no_return (drop (length bs - 1) bs) (all_behind (length bs - 1) bs all),
-      one,
-      drop_at bs (10 ∷ []) (length bs) refl,
-      take_at bs (10 ∷ []) (length bs) refl,
-    ) refl
+line_end bs all = search (rules, length-append, drop-append-le, no_return, all_behind, drop_at, take_at)
 
 -- the first line of a text
 first_line : (number start : ℕ) (bs rest : List ℕ) → IsLine bs
     → lines_from number start (pieces_of (bs ++ 10 ∷ rest)) ≡ (record { number = number; start = start; text = bs }) ∷ lines_from (number + 1) (start + length (bs ++ 10 ∷ [])) (pieces_of rest)
-first_line number start bs rest line =
-    ap (lines_from number start) (first_piece bs rest line.bytes)
-    ∙ ap (λ text. (record { number = number; start = start; text = text }) ∷ lines_from (number + 1) (start + length (bs ++ 10 ∷ [])) (pieces_of rest)) (line_end bs line.bytes)
+first_line number start bs rest line = search (rules, first_piece, line_end)
 
 -- Passes.
 
@@ -75,10 +63,7 @@ placed_at n line content = record { line = line; section = nothing_placed.sectio
 stated_at : (n : ℕ) (placed : List Placed) (line : LineValue) (bytes : List ℕ) (puts : Puts line (0x00400000 + n) bytes) → n % 4 ≡ 0 → n + 4 ≤ 1048576
     → stated puts.statement (text_layout n placed) ≡ Ok (text_layout (n + 4) (placed ++ placed_at n puts.statement.line puts.content ∷ []))
 unfolding stated acted
-stated_at n placed line bytes puts aligned room =
-    let at : (0x00400000 + n) % 4 ≡ 0 = omega arith in
-    let left : 4 ≤ 1048576 - n = omega arith in
-    rw (puts.asks, puts.unlabelled, puts.aligned, puts.size, eq-eqb ((0x00400000 + n) % 4) 0 at, le-leb 4 (1048576 - n) left) refl
+stated_at n placed line bytes puts aligned room = search (rules, eq-eqb, le-leb)
 
 due_is : (line : LineValue) (address : ℕ) (bytes : List ℕ) (puts : Puts line address bytes) → due_of line ≡ Ok (Some puts.statement)
 due_is line address bytes puts = rw (puts.is) refl
@@ -116,11 +101,7 @@ laid_step n word words placed line puts all rest first behind =
 
 laid_words : (words : List ℕ) (number start n : ℕ) (placed : List Placed) → AllByRecursion (λ word. word < 2 ^ 32) words → n % 4 ≡ 0 → n + 4 * length words ≤ 1048576
     → LaidOn n words placed (laid_from (text_layout n placed) (lines_from number start (pieces_of (texts_from (0x00400000 + n) words))))
-laid_words [] number start n placed small aligned room = record {
-  more = [];
-  is = let none : n + 4 * 0 ≡ n = omega arith in rw (none, append-nil placed) refl;
-  fills = λ size front. rw (append-nil front) refl;
-}
+laid_words [] number start n placed small aligned room = search (rules, append-nil)
 laid_words (word ∷ words) number start n placed small aligned room =
     let text = word_text word (0x00400000 + n) in
     let line : LineValue = record { number = number; start = start; text = text } in
@@ -154,8 +135,4 @@ word_assembled word small =
 pub words_assembled : (words : List ℕ) → AllByRecursion (λ word. word < 2 ^ 32) words → 0 < length words → 4 * length words ≤ 1048576
     → assembled (texts_from 0x00400000 words) ≡ Ok (program_of_words words)
 unfolding laid
-words_assembled words small some room =
-    assembled_laid (texts_from 0x00400000 words) words (laid_words words 1 0 0 [] small refl (omega arith)) (not_zero (0 + 4 * length words) (omega arith))
-  where
-    not_zero : (n : ℕ) → 0 < n → (n == 0) ≡ false
-    not_zero n is = grind (arith, nat_tests)
+words_assembled words small some room = search (rules, assembled_laid, laid_words, nat_tests)

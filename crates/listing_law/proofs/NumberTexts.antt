@@ -1,10 +1,10 @@
 -- Printed numbers as operands.
-use Rattle.std.proofs.Common.{◌≡◌, ℕ, ◌-◌, ◌^◌, ◌<◌, ◌≤◌, Bool, true, false, List, [], ◌∷◌, ◌++◌, Some, None, length, get_or, refl, ◌∙◌, sym, subst, arith}
-use Rattle.std.specs.Prelude.{◌==◌, ◌&&◌, not, nat_lt, nat_le, nat_eq, codes, if◌then◌else◌}
+use Rattle.std.proofs.Common.{◌≡◌, ℕ, ◌-◌, ◌^◌, ◌<◌, ◌≤◌, Bool, true, List, [], ◌∷◌, ◌++◌, Some, None, length, get_or, refl, ◌∙◌, arith, rules}
+use Rattle.std.specs.Prelude.{◌==◌, ◌&&◌, not, nat_lt, nat_le, codes, if◌then◌else◌}
 use Rattle.std.proofs.lemmas.Bool.{and_parts}
 use Rattle.std.proofs.lemmas.Bool.Decides.{nat_tests}
 use Rattle.std.proofs.Math.Bool.{and-false}
-use Rattle.std.specs.List.{list_all, starts_with}
+use Rattle.std.specs.List.{list_all}
 use Rattle.std.specs.Char.{is_ascii_alphanumeric}
 use Rattle.std.proofs.lemmas.List.Folds.{list_all-append}
 use Rattle.line_text.specs.Number.{numeral_of}
@@ -45,13 +45,7 @@ digits_begin [] all some = absurd (omega arith)
 digits_begin (c ∷ cs) all some = digit_begins c (and_parts (is_decimal c) (list_all is_decimal cs) all).0
 
 pub decimal_text : (n : ℕ) → n < 2 ^ 32 → IsNumber (dec_text n) n
-decimal_text n small =
-    let wide : n < 2 ^ 64 = omega arith in
-    record {
-      begins = digits_begin (dec_text n) (decimal_digits n wide) (decimal_some n wide);
-      plain = plain_alphanumeric (dec_text n) (decimal_bytes n wide);
-      reads = number_decimal n small;
-    }
+decimal_text n small = search (rules, digits_begin, decimal_digits, decimal_some, plain_alphanumeric, decimal_bytes, number_decimal)
 
 pub negative_text : (n : ℕ) → n ≤ 2 ^ 31 → IsNumber (codes "-" ++ dec_text n) (negated n)
 negative_text n within = record { begins = refl; plain = plain_alphanumeric (dec_text n) (decimal_bytes n (omega arith)); reads = number_negative n within }
@@ -71,11 +65,7 @@ signed_value half = if nat_lt half (2 ^ 15) then half else negated (2 ^ 16 - hal
 
 -- what holds of a half's text and value with either sign holds of them
 pub by_sign : (P : List ℕ → ℕ → Type 0) (half : ℕ) → P (dec_text half) half → P (codes "-" ++ dec_text (2 ^ 16 - half)) (negated (2 ^ 16 - half)) → P (signed_text half) (signed_value half)
-by_sign P half plus minus =
-    elim (nat_lt half (2 ^ 15)) as (λ (v : Bool). P (if v then dec_text half else codes "-" ++ dec_text (2 ^ 16 - half)) (if v then half else negated (2 ^ 16 - half))) [
-      | true ↦ plus
-      | false ↦ minus
-    ]
+by_sign P half plus minus = search rules
 
 pub signed_text_read : (half : ℕ) → half < 2 ^ 16 → IsNumber (signed_text half) (signed_value half)
 signed_text_read half small = by_sign IsNumber half (decimal_text half (omega arith)) (negative_text (2 ^ 16 - half) (omega arith))

@@ -1,5 +1,5 @@
 -- Printed numbers, read again.
-use Rattle.std.proofs.Common.{◌≡◌, ℕ, zero, suc, ◌-◌, ◌/◌, ◌%◌, ◌^◌, ◌<◌, ◌≤◌, Bool, true, false, List, [], ◌∷◌, ◌++◌, Some, length, get_or, refl, sym, ◌∙◌, arith, append-nil, lt-ltb, le-leb, ltb-true}
+use Rattle.std.proofs.Common.{◌≡◌, ℕ, zero, suc, ◌-◌, ◌/◌, ◌%◌, ◌^◌, ◌<◌, ◌≤◌, Bool, true, false, List, [], ◌∷◌, ◌++◌, Some, length, get_or, refl, sym, ◌∙◌, arith, append-nil, lt-ltb, le-leb, ltb-true, rules}
 use Rattle.std.specs.Prelude.{◌==◌, nat_eq, codes}
 use Rattle.std.proofs.lemmas.Bool.{and_parts, ne_eqb}
 use Rattle.std.proofs.lemmas.Bool.Decides.{nat_tests}
@@ -58,8 +58,7 @@ unfolding dec_text
 decimal_value n small = (decimal_is_IsNumeral n small).1
 
 pub numeral_decimal : (most n : ℕ) → n < 2 ^ 64 → n ≤ most → numeral_of 10 most (dec_text n) ≡ Some n
-numeral_decimal most n small within =
-    rw (lt-ltb 0 (length (dec_text n)) (decimal_some n small), decimal_digits n small, decimal_value n small, le-leb n most within) refl
+numeral_decimal most n small within = search (rules, lt-ltb, decimal_some, decimal_digits, decimal_value, le-leb)
 
 -- Hexadecimal digits.
 
@@ -115,9 +114,7 @@ not_hexadecimal : (ds rest : List ℕ) → list_all is_decimal ds ≡ true → 0
 not_hexadecimal [] rest all some other = absurd (omega arith)
 not_hexadecimal (c ∷ []) [] all some other = and-false (48 == c)
 not_hexadecimal (c ∷ []) (d ∷ rest) all some other = rw (other, and-false (48 == c)) refl
-not_hexadecimal (c ∷ d ∷ ds) rest all some other =
-    let behind = and_parts (is_decimal c) (list_all is_decimal (d ∷ ds)) all in
-    rw (differs_turned is_decimal d 120 (and_parts (is_decimal d) (list_all is_decimal ds) behind.1).0 refl, and-false (48 == c)) refl
+not_hexadecimal (c ∷ d ∷ ds) rest all some other = search (rules, and_parts, differs_turned, and-false)
 
 -- nor do they begin with a sign
 not_signed : (ds rest : List ℕ) → list_all is_decimal ds ≡ true → 0 < length ds → starts_with nat_eq (ds ++ rest) (codes "-") ≡ false
@@ -127,10 +124,7 @@ not_signed (c ∷ cs) rest all some = rw (differs_turned is_decimal c 45 (and_pa
 -- so they are read as a decimal numeral
 pub number_digits : (n : ℕ) (rest : List ℕ) → n < 2 ^ 64 → (120 == get_or rest 0 0) ≡ false → number_of (dec_text n ++ rest) ≡ numeral_of 10 (2 ^ 32 - 1) (dec_text n ++ rest)
 unfolding number_of
-number_digits n rest small other =
-    let digits = decimal_digits n small in
-    let some = decimal_some n small in
-    rw (not_hexadecimal (dec_text n) rest digits some other, not_signed (dec_text n) rest digits some) refl
+number_digits n rest small other = search (rules, decimal_digits, decimal_some, not_hexadecimal, not_signed)
 
 pub number_decimal : (n : ℕ) → n < 2 ^ 32 → number_of (dec_text n) ≡ Some n
 number_decimal n small =

@@ -1,5 +1,5 @@
 -- Printed operands, read again.
-use Rattle.std.proofs.Common.{◌≡◌, ℕ, suc, ◌+◌, ◌-◌, ◌^◌, ◌<◌, ◌≤◌, ◌∙◌, Bool, true, false, List, [], ◌∷◌, ◌++◌, Option, Some, None, length, take, drop, refl, ap, arith, lt-ltb, le-leb}
+use Rattle.std.proofs.Common.{◌≡◌, ℕ, suc, ◌+◌, ◌-◌, ◌^◌, ◌<◌, ◌∙◌, Bool, true, false, List, [], ◌∷◌, ◌++◌, Option, Some, None, length, take, drop, refl, arith, lt-ltb, le-leb, rules}
 use Rattle.std.specs.Prelude.{◌==◌, ◌&&◌, ◌||◌, not, nat_le, nat_eq, codes, if◌then◌else◌}
 use Rattle.std.proofs.lemmas.Bool.{and_parts}
 use Rattle.std.proofs.lemmas.Bool.Decides.{nat_tests}
@@ -33,17 +33,13 @@ no_name c is = grind (arith, nat_tests)
 -- Expressions.
 
 opened_none : (c : ℕ) (cs : List ℕ) → begins_number c ≡ true → halves_opened (c ∷ cs) ≡ []
-opened_none c [] is = refl
-opened_none c (a ∷ []) is = refl
-opened_none c (a ∷ b ∷ cs) is = rw (differs_turned begins_number c 104 is refl, differs_turned begins_number c 108 is refl) refl
+opened_none c cs is = search (rules, differs_turned)
 
 pub sub_zero : (n : ℕ) → n - 0 ≡ n
 sub_zero n = omega arith
 
 closings_none : (bs : List ℕ) → without_closings 0 bs ≡ Some bs
-closings_none bs =
-    let within : 0 ≤ length bs = omega arith in
-    rw (sub_zero (length bs), le-leb 0 (length bs) within, drop-length bs, take-length bs) refl
+closings_none bs = search (rules, sub_zero, le-leb, drop-length, take-length)
 
 inner_number : (c : ℕ) (cs : List ℕ) → begins_number c ≡ true → inner_of (c ∷ cs) ≡ option_map (λ n. Number n) (number_of (c ∷ cs))
 unfolding inner_of
@@ -78,10 +74,7 @@ register_form n small = let wide : n < 2 ^ 64 = omega arith in rw (lt-ltb 0 (len
 
 register_number : (n : ℕ) → n < 32 → register_of (36 ∷ dec_text n) ≡ Some n
 unfolding number_of_register
-register_number n small =
-    let wide : n < 2 ^ 64 = omega arith in
-    let within : n ≤ 31 = omega arith in
-    rw (numeral_decimal 31 n wide within) refl
+register_number n small = search (rules, numeral_decimal)
 
 pub operand_register : (n : ℕ) → n < 32 → operand_of (36 ∷ dec_text n) ≡ Some (Register (Some n))
 unfolding operand_of
@@ -98,14 +91,10 @@ dollar_at (x ∷ xs) ys none =
     rw (parts.0, dollar_at xs ys parts.1, next) refl
 
 ends_at : (xs : List ℕ) (b : ℕ) → (b == b) ≡ true → ends_with nat_eq (xs ++ b ∷ []) (b ∷ []) ≡ true
-ends_at xs b same =
-    let last : length (xs ++ b ∷ []) - 1 ≡ length xs = omega (arith, length-append xs (b ∷ [])) in
-    rw (last, drop_at xs (b ∷ []) (length xs) refl, same) refl
+ends_at xs b same = search (rules, length-append, drop_at)
 
 without_last : (xs : List ℕ) (b : ℕ) → take (length (xs ++ b ∷ []) - 1) (xs ++ b ∷ []) ≡ xs
-without_last xs b =
-    let last : length (xs ++ b ∷ []) - 1 ≡ length xs = omega (arith, length-append xs (b ∷ [])) in
-    rw (last, take_at xs (b ∷ []) (length xs) refl) refl
+without_last xs b = search (rules, length-append, take_at)
 
 some_offset : (c : ℕ) (cs : List ℕ) → offset_of (c ∷ cs) ≡ expression_of (c ∷ cs)
 some_offset c cs = rw (eqb-suc-zero (length cs)) refl
@@ -121,11 +110,7 @@ unfolding based_of based_read
 based_parts front back bs first second = rw (first, second) refl
 
 based_cut : (front rest : List ℕ) → list_all (λ b. not (b == 36)) front ≡ true → based_of (front ++ 36 ∷ rest) ≡ based_read front (36 ∷ rest)
-based_cut front rest none =
-    let at = dollar_at front rest none in
-    based_parts front (36 ∷ rest) (front ++ 36 ∷ rest)
-    (ap (λ n. take n (front ++ 36 ∷ rest)) at ∙ take_at front (36 ∷ rest) (length front) refl)
-    (ap (λ n. drop n (front ++ 36 ∷ rest)) at ∙ drop_at front (36 ∷ rest) (length front) refl)
+based_cut front rest none = search (rules, dollar_at, based_parts, take_at, drop_at)
 
 based_ends : (offset register : List ℕ) → is_register register ≡ true → based_read (offset ++ 40 ∷ []) (register ++ 41 ∷ []) ≡ option_map (λ e. Based e (register_of register)) (offset_of offset)
 unfolding based_read

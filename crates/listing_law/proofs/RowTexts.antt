@@ -1,5 +1,5 @@
 -- The rows of words, and what is read by them.
-use Rattle.std.proofs.Common.{◌≡◌, ℕ, ◌+◌, inl, inr, Bool, true, false, List, [], ◌∷◌, ◌++◌, Some, refl, subst, eqb-true, eq-eqb}
+use Rattle.std.proofs.Common.{◌≡◌, ℕ, ◌+◌, inl, inr, Bool, true, false, List, [], ◌∷◌, ◌++◌, Some, refl, subst, eqb-true}
 use Rattle.std.specs.Prelude.{◌&&◌, not, nat_eq, codes}
 use Rattle.std.proofs.lemmas.Bool.{and_parts, cases_Bool, not-true}
 use Rattle.std.specs.List.{find, list_all, starts_with}

@@ -1,5 +1,5 @@
 -- The text of a word is a statement that puts the word.
-use Rattle.std.proofs.Common.{◌≡◌, ℕ, ◌+◌, ◌%◌, ◌^◌, ◌<◌, ◌∙◌, Bool, true, false, List, [], ◌∷◌, ◌++◌, Option, Some, None, Result, Ok, length, refl, sym, ap, subst, arith, append-nil, length-append}
+use Rattle.std.proofs.Common.{◌≡◌, ℕ, ◌+◌, ◌%◌, ◌^◌, ◌<◌, ◌∙◌, Bool, true, false, List, [], ◌∷◌, ◌++◌, Option, Some, None, Result, Ok, length, refl, sym, ap, subst, append-nil, length-append, rules}
 use Rattle.std.specs.Prelude.{nat_eq, codes, if◌then◌else◌}
 use Rattle.std.specs.List.{starts_with}
 use Rattle.std.specs.Option.{is_none, ok_or}
@@ -26,7 +26,7 @@ use Rattle.mips_asm.specs.Emission.{bytes_of}
 use Rattle.listing_law.specs.Statement.{Puts}
 use Rattle.listing_law.proofs.OperandTexts.{number_value}
 use Rattle.listing_law.proofs.NumberTexts.{number_operand, word_text_read}
-use Rattle.listing_law.proofs.ArgTexts.{AreOperands, EndsPlain}
+use Rattle.listing_law.proofs.ArgTexts.{AreOperands}
 use Rattle.listing_law.proofs.LineTexts.{IsLine, line_read, one_line, operands_read, text_is_line}
 use Rattle.listing_law.proofs.RowTexts.{IsRowOf, row_found}
 use Rattle.listing_law.proofs.WordTexts.{Makes, makes_word, operand_values, texts_read}
@@ -124,8 +124,7 @@ data_puts number start word address small =
 
 text_puts : (number start word address : ℕ) (row : Option (List ℕ × TextValue)) → row_of word ≡ row → word < 2 ^ 32 → address % 4 ≡ 0 → address + 4 < 2 ^ 32
     → Puts (record { number = number; start = start; text = text_by row word address }) address (to_le_bytes w32 word)
-text_puts number start word address None is small aligned below = data_puts number start word address small
-text_puts number start word address (Some row) is small aligned below = row_puts number start word address row (row_found word row is) aligned below
+text_puts number start word address row is small aligned below = search (rules, data_puts, row_puts, row_found)
 
 -- a word without a name has no row, so that its text is always the one by its row
 text_by_row : (word address : ℕ) → word_text word address ≡ text_by (row_of word) word address
@@ -140,9 +139,7 @@ text_by_row word address = by_name (is_nameless (insn_of word)) (row_of word) (n
 -- the text of a word is a statement that puts the word
 pub word_statement : (number start word address : ℕ) → word < 2 ^ 32 → address % 4 ≡ 0 → address + 4 < 2 ^ 32
     → Puts (record { number = number; start = start; text = word_text word address }) address (to_le_bytes w32 word)
-word_statement number start word address small aligned below =
-    subst (λ (text : List ℕ). Puts (record { number = number; start = start; text = text }) address (to_le_bytes w32 word))
-    (sym (text_by_row word address)) (text_puts number start word address (row_of word) refl small aligned below)
+word_statement number start word address small aligned below = search (rules, text_by_row, text_puts)
 
 -- the text of a word is one line
 by_is_line : (word address : ℕ) (row : Option (List ℕ × TextValue)) → row_of word ≡ row → word < 2 ^ 32 → IsLine (text_by row word address)
@@ -156,9 +153,4 @@ pub text_is_line_of : (word address : ℕ) → word < 2 ^ 32 → IsLine (word_te
 text_is_line_of word address small = subst IsLine (sym (text_by_row word address)) (by_is_line word address (row_of word) refl small)
 
 pub text_is_one_line : (word address : ℕ) → word < 2 ^ 32 → lines_of (word_text word address) ≡ (record { number = 1; start = 0; text = word_text word address }) ∷ []
-text_is_one_line word address small =
-    let line = text_is_line_of word address small in
-    one_line (word_text word address) line.bytes (some line.ends)
-  where
-    some : {bs : List ℕ} → EndsPlain bs → 0 < length bs
-    some ends = rw (ends.cut) (omega (arith, length-append ends.front (ends.last ∷ [])))
+text_is_one_line word address small = search (rules, text_is_line_of, one_line, length-append)

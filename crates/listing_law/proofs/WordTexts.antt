@@ -1,5 +1,5 @@
 -- A printed instruction, as the assembler takes it.
-use Rattle.std.proofs.Common.{◌≡◌, ℕ, ◌+◌, ◌%◌, ◌^◌, ◌<◌, Bool, true, false, List, [], ◌∷◌, ◌++◌, Some, Result, Ok, map, refl, sym, ap, subst, arith, eqb-true, append_assoc}
+use Rattle.std.proofs.Common.{◌≡◌, ℕ, ◌+◌, ◌%◌, ◌^◌, ◌<◌, Bool, true, false, List, [], ◌∷◌, ◌++◌, Some, Result, Ok, map, refl, sym, ap, subst, arith, eqb-true, append_assoc, rules}
 use Rattle.std.specs.Prelude.{◌==◌, not, cond, filter}
 use Rattle.line_text.specs.Text.{dec_text}
 use Rattle.asm_parse.specs.declared.fault.AsmWhy.{AsmWhy}
@@ -7,11 +7,11 @@ use Rattle.asm_parse.specs.Operand.{OperandValue, Register, Value, Based}
 use Rattle.mips_text.specs.Texts.{TextValue, field_word}
 use Rattle.mips_text.specs.WordRows.{field_bits, field_of, operand_bits, slot_bits, slot_of}
 use Rattle.mips_text.specs.declared.shape.Field.{Field}
-use Rattle.mips_text.specs.declared.shape.Field.TheVariants.{Amount, Signed, Unsigned, Code, Branch, Jump}
+use Rattle.mips_text.specs.declared.shape.Field.TheVariants.{Signed, Unsigned}
 use Rattle.mips_text.specs.declared.shape.OperandForm.{OperandForm}
 use Rattle.mips_text.specs.declared.shape.OperandForm.TheVariants as operands
 use Rattle.mips_text.specs.declared.shape.Slot.{Slot}
-use Rattle.mips_text.specs.declared.shape.Slot.TheVariants.{Rs, Rt, Rd}
+use Rattle.mips_text.specs.declared.shape.Slot.TheVariants.{Rs}
 use Rattle.mips_list.specs.WordText.{based_text, field_text, is_written, operand_text, operand_texts}
 use Rattle.mips_asm.specs.Words.{filled_words, words_of}
 use Rattle.asm_layout.specs.Content.{draft_length}
@@ -38,8 +38,7 @@ abbrev pub operand_values : List OperandForm → ℕ → ℕ → List OperandVal
 operand_values forms word address = map (λ form. operand_value form word address) (filter (λ form. is_written form word) forms)
 
 slot_small : (slot : Slot) (word : ℕ) → slot_of slot word < 32
-slot_small Rs word = omega arith
-slot_small _ word = omega arith
+slot_small slot word = search rules
 
 field_read : (field : Field) (word address : ℕ) → IsOperand (field_text field word address) (field_operand field word address)
 field_read field word address = number_operand _ _ (field_text_read field word address)
@@ -94,9 +93,7 @@ filled reading field w word address aligned below is same = record {
 }
 
 field_zero : (field : Field) (n : ℕ) → n ≡ 0 → field_word field n ≡ 0
-field_zero Amount n is = omega (arith, is)
-field_zero Code n is = omega (arith, is)
-field_zero _ n is = is
+field_zero field n is = search rules
 
 -- operands of the main rows: an expression stands last, and it makes no second word
 abbrev pub is_one_word : List OperandForm → Bool
