@@ -1,10 +1,10 @@
 -- A line that is an operation and its operands, read again.
 use Rattle.std.proofs.Common.{◌≡◌, ℕ, zero, suc, ◌+◌, ◌-◌, ◌<◌, ◌∙◌, Bool, true, false, List, [], ◌∷◌, ◌++◌, Some, None, length, drop, refl, ap, arith, rules}
-use Rattle.std.specs.Prelude.{◌==◌, ◌&&◌, not, nat_le, nat_eq, codes}
+use Rattle.std.specs.Prelude.{◌==◌, ◌&&◌, not, nat_le, nat_eq}
 use Rattle.std.proofs.lemmas.Bool.{and_parts}
 use Rattle.std.proofs.lemmas.Bool.Decides.{nat_tests}
 use Rattle.std.proofs.Math.Bool.{and-false}
-use Rattle.std.specs.List.{list_all, starts_with, prefix_len, onto_first, take_while}
+use Rattle.std.specs.List.{list_all, prefix_len, onto_first}
 use lib.Pointwise.{pointwise}
 use Rattle.std.proofs.lemmas.List.{append-nil, take_at, drop_at}
 use Rattle.std.proofs.lemmas.List.Folds.{list_all-append}
@@ -85,15 +85,9 @@ name_length (c ∷ name) rest all follows =
     let next : 1 + length name ≡ suc (length name) = omega arith in
     rw (parts.0, name_length name rest parts.1 follows, next) refl
 
-named_before : (name rest : List ℕ) → list_all is_name_byte name ≡ true → Follows rest → take_while is_name_byte (name ++ rest) ≡ name
-named_before name rest all follows = rw (name_length name rest all follows) (take_at name rest (length name) refl)
-
-no_colon : (rest : List ℕ) → Follows rest → starts_with nat_eq rest (codes ":") ≡ false
-no_colon rest follows = search rules
-
 no_label : (name rest : List ℕ) → list_all is_name_byte name ≡ true → Follows rest → label_of (name ++ rest) ≡ None
 unfolding label_of
-no_label name rest all follows = search (rules, named_before, drop_at, no_colon, and-false)
+no_label name rest all follows = search (rules, name_length, take_at, drop_at, and-false)
 
 -- the operands behind a name
 pub operands_read : (start : ℕ) (ts : List (List ℕ)) (os : List OperandValue) → AreOperands ts os → AreRead (operands_of (record { start = start; bytes = after_name ts })) os
@@ -113,7 +107,7 @@ some_length name rest begins = search rules
 body_read : (start : ℕ) (name : List ℕ) (ts : List (List ℕ)) (args : List ArgValue) → is_name name ≡ true → operands_of (record { start = start + length name; bytes = after_name ts }) ≡ Some args
     → body_of (record { start = start; bytes = name ++ after_name ts }) ≡ Some (body_named name args)
 unfolding body_of
-body_read start name ts args is reads = search (rules, and_parts, named_before, follows_name, some_length, drop_at)
+body_read start name ts args is reads = search (rules, and_parts, name_length, take_at, follows_name, some_length, drop_at)
 
 statement_read : (number start : ℕ) (name : List ℕ) (ts : List (List ℕ)) (args : List ArgValue) → is_name name ≡ true → operands_of (record { start = start + length name; bytes = after_name ts }) ≡ Some args
     → statement_of number (record { start = start; bytes = name ++ after_name ts })
