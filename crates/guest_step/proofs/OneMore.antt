@@ -1,7 +1,7 @@
 -- One more step retires.
-use Rattle.std.proofs.Common.{◌≡◌, ◌⊎◌, ℕ, ◌+◌, ◌<◌, true, inl, inr, refl, ap, sym, subst, ◌∙◌, arith, add-one, List, length, Option}
+use Rattle.std.proofs.Common.{◌≡◌, ◌⊎◌, ℕ, ◌+◌, ◌<◌, true, ap, sym, ◌∙◌, arith, add-one, List, length, Option, rules}
 use Rattle.mips_exec.specs.declared.exception.Outcome.TheVariants as outcome
-use Rattle.mips_exec.specs.Step.{Step, Retired, Called, Trapped, outcome_of}
+use Rattle.mips_exec.specs.Step.{Step, outcome_of}
 use Rattle.env_frames.specs.declared.mapping.Mapping.{Mapping}
 use Rattle.guest_memory.specs.Steps.{AllRetire, Machine, after_steps, next_step, stepped_by}
 use Rattle.mips_step.specs.WordStep.{has_retired}
@@ -9,9 +9,7 @@ use Rattle.guest_step.specs.declared.run.CodePage.{CodePage}
 use Rattle.guest_step.specs.Code.{IsCode}
 
 outcome_retired : (step : Step) → has_retired step ≡ true → outcome_of step ≡ outcome.Retired
-outcome_retired (Retired cpu write) h = refl
-outcome_retired Called h = cc
-outcome_retired (Trapped exc) h = cc
+outcome_retired step h = search rules
 
 below_or_last : (j k : ℕ) → j < k + 1 → (j < k) ⊎ (j ≡ k)
 below_or_last j k h = grind arith
@@ -23,11 +21,7 @@ after_one_more lookup m n k at = ap (λ (n : Machine). stepped_by lookup n (next
 
 retires_at : (lookup : ℕ → Option Mapping) (m n : Machine) (j k : ℕ) → n ≡ after_steps lookup m k → has_retired (next_step lookup n) ≡ true
     → AllRetire lookup m k → (j < k) ⊎ (j ≡ k) → outcome_of (next_step lookup (after_steps lookup m j)) ≡ outcome.Retired
-retires_at lookup m n j k at retired all (inl below) = all.each j below
-retires_at lookup m n j k at retired all (inr last) =
-    ap (λ (i : ℕ). outcome_of (next_step lookup (after_steps lookup m i))) last
-    ∙ ap (λ (n : Machine). outcome_of (next_step lookup n)) (sym at)
-    ∙ outcome_retired (next_step lookup n) retired
+retires_at lookup m n j k at retired all place = search (rules, outcome_retired)
 
 pub all_and_one_more : (lookup : ℕ → Option Mapping) (m n : Machine) (k : ℕ) → n ≡ after_steps lookup m k → has_retired (next_step lookup n) ≡ true
     → AllRetire lookup m k → AllRetire lookup m (k + 1)
@@ -36,11 +30,4 @@ all_and_one_more lookup m n k at retired all = record { each = λ j h. retires_a
 -- a page that is fetched from still is, in as many pages of memory
 pub still_code : (frames new : List (List ℕ)) (lookup : ℕ → Option Mapping) (code : CodePage) → length new ≡ length frames
     → IsCode frames lookup code → IsCode new lookup code
-still_code frames new lookup code size h = record {
-  mapping = h.mapping;
-  leads = h.leads;
-  page = h.page;
-  there = subst (λ (count : ℕ). code.page < count) (sym size) h.there;
-  below = h.below;
-  first = h.first;
-}
+still_code frames new lookup code size h = search rules

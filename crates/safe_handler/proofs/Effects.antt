@@ -1,10 +1,8 @@
 -- How the instructions of a handler move on.
 use Rattle.std.specs.Prelude.{if◌then◌else◌}
-use Rattle.std.specs.Option.{is_some}
-use Rattle.std.proofs.Common.{◌≡◌, ℕ, Bool, true, false, Option, Some, None, refl}
-use mathlib.Core.Path.{ap}
+use Rattle.std.proofs.Common.{◌≡◌, ℕ, Bool, true, false, Option, Some, None, rules}
 use Rattle.mips_isa.specs.declared.insn.Insn.{Insn}
-use Rattle.mips_isa.specs.declared.insn.Insn.TheVariants.{Syscall, Break, Beq, Bne, Blez, Bgtz, Bltz, Bgez}
+use Rattle.mips_isa.specs.declared.insn.Insn.TheVariants.{Beq, Bne, Blez, Bgtz, Bltz, Bgez}
 use Rattle.mips_exec.specs.declared.registers.Cpu.{Cpu}
 use Rattle.mips_exec.specs.declared.change.Change.{Change}
 use Rattle.mips_exec.specs.declared.change.Change.TheVariants.{Jumps, JumpsAndLinks, Calls, Raises}
@@ -22,14 +20,12 @@ is_straight _ = true
 
 -- a SYSCALL doesn't jump, in a delay slot or not
 call_is_straight : (slot : Bool) → is_straight (if slot then Raises (plain Sys) else Calls) ≡ true
-call_is_straight true = refl
-call_is_straight false = refl
+call_is_straight slot = search rules
 
 -- an allowed instruction that is no branch doesn't jump
 pub goes_straight : (insn : Insn) (cpu : Cpu) (x : ℕ) → is_allowed insn ≡ true → branch_offset insn ≡ None → is_straight (effect insn cpu x) ≡ true
 unfolding is_allowed branch_offset effect
-goes_straight (Syscall code) cpu x allowed none = call_is_straight cpu.slot
-goes_straight _ cpu x allowed none = cc
+goes_straight insn cpu x allowed none = search (rules, call_is_straight)
 
 -- a change that is a branch's with this offset, taken or not
 pub record Branches (change : Change) (cpu : Cpu) (imm : ℕ) : Type 0 where
@@ -38,9 +34,7 @@ pub record Branches (change : Change) (cpu : Cpu) (imm : ℕ) : Type 0 where
 
 -- a jump to a branch's target is one
 to_target : (cpu : Cpu) (taken : Bool) (offset imm : ℕ) → ◌≡◌ {A = Option ℕ} (Some offset) (Some imm) → Branches (Jumps (branch_target cpu taken offset)) cpu imm
-to_target cpu taken offset imm is =
-    let same : offset ≡ imm = cc in
-    record { taken = taken; jumps = rw same refl }
+to_target cpu taken offset imm is = search rules
 
 -- so is what each branch does
 pub branches : (insn : Insn) (cpu : Cpu) (x imm : ℕ) → branch_offset insn ≡ Some imm → Branches (effect insn cpu x) cpu imm
@@ -56,6 +50,4 @@ branches _ cpu x imm is = absurd cc
 -- a branch may not stand behind a branch
 pub branch_is_barred : (insn : Insn) (imm : ℕ) → branch_offset insn ≡ Some imm → is_barred_from_slots insn ≡ true
 unfolding branch_offset is_barred_from_slots
-branch_is_barred (Syscall code) imm is = absurd cc
-branch_is_barred (Break code) imm is = absurd cc
-branch_is_barred _ imm is = ap is_some is
+branch_is_barred insn imm is = search rules

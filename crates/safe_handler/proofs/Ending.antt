@@ -1,7 +1,7 @@
 -- A verified handler ends in as many instructions as it has words.
-use Rattle.std.proofs.Common.{arith, ◌≡◌, ◌<◌, ◌≤◌, ◌+◌, ◌*◌, ◌/◌, ◌%◌, ◌⊎◌, inl, inr, ℕ, zero, suc, Bool, true, false, List, length, Option, Some, None, Result, Ok, Err, refl, get_or}
+use Rattle.std.proofs.Common.{arith, ◌≡◌, ◌<◌, ◌≤◌, ◌+◌, ◌*◌, ◌⊎◌, inl, inr, ℕ, zero, suc, Bool, true, false, List, length, Option, Some, None, Result, refl, get_or, rules}
 use mathlib.Core.Path.{ap}
-use Rattle.std.specs.Prelude.{◌&&◌, ◌==◌, slice_get, slice_index, slice_set, nat_lt, if◌then◌else◌}
+use Rattle.std.specs.Prelude.{◌&&◌, slice_get, slice_index, nat_lt, if◌then◌else◌}
 use Rattle.std.specs.Option.{is_some}
 use Rattle.std.proofs.lemmas.Option.{slice_get-get_or, slice_get_cases, slice_get_past}
 use Rattle.mips_isa.specs.declared.insn.Insn.{Insn}
@@ -11,10 +11,9 @@ use Rattle.mips_exec.specs.declared.exception.Exc.{Exc}
 use Rattle.mips_exec.specs.declared.exception.ExcCode.TheVariants.{Ibe}
 use Rattle.mips_exec.specs.declared.change.Change.{Change}
 use Rattle.mips_exec.specs.declared.change.Change.TheVariants.{Puts, PutsHiLo, Passes, Jumps, JumpsAndLinks, Calls, Raises}
-use Rattle.mips_exec.specs.Access.{Write, access, write_of}
+use Rattle.mips_exec.specs.Access.{Write, access}
 use Rattle.mips_exec.specs.Cpu.{with_hi_lo, with_reg}
 use Rattle.mips_exec.specs.Effect.{effect}
-use Rattle.mips_exec.specs.Word.{low_word}
 use Rattle.mips_exec.specs.Step.{ended, executed, fetched}
 use Rattle.handler_code.specs.declared.outcome.HandlerEnd.{HandlerEnd}
 use Rattle.handler_code.specs.declared.outcome.HandlerEnd.TheVariants.{Done, Fault}
@@ -37,11 +36,7 @@ GoesOn words i progress = Goes words i progress.state.cpu progress.end
 
 -- a register that is written leaves the place
 at_with_reg : (words : List ℕ) (cpu : Cpu) (n value i j : ℕ) → IsAt words cpu i j → IsAt words (with_reg cpu n value) i j
-at_with_reg words cpu n value i j is = by_test (n == 0)
-  where
-    by_test : (t : Bool) → IsAt words (if t then cpu else record cpu { regs = slice_set cpu.regs n (low_word value) }) i j
-    by_test true = is
-    by_test false = record { pc = is.pc; next = is.next; forward = is.forward; order = is.order }
+at_with_reg words cpu n value i j is = search rules
 
 -- a call goes on to the next word, or is a fault
 call_goes : (words : List ℕ) (state : HandlerState) (i j : ℕ) → IsVerified words → IsAt words state.cpu i j → i < length words → GoesOn words i (after_call state)
@@ -67,11 +62,7 @@ straight_goes words state i j (Raises exc) write verified is inside straight = t
 -- a branch stands behind no branch, so the word behind it is next
 branch_is_next : (words : List ℕ) (cpu : Cpu) (i j imm : ℕ) → IsAt words cpu i j → (is_barred_from_slots (insn_at words i) && follows_branch words i) ≡ false
     → branch_offset (insn_at words i) ≡ Some imm → j ≡ i + 1
-branch_is_next words cpu i j imm is good branch = by_order is.order
-  where
-    by_order : (j ≡ i + 1) ⊎ ((follows_branch words i ≡ true) × (j ≤ length words)) → j ≡ i + 1
-    by_order (inl straight) = straight
-    by_order (inr slot) = let barred = branch_is_barred (insn_at words i) imm branch in let follows = slot.0 in absurd (cc (rw (barred, follows) at good))
+branch_is_next words cpu i j imm is good branch = search (rules, branch_is_barred)
 
 -- what a good word does goes on behind it
 effect_goes : (words : List ℕ) (state : HandlerState) (i j x : ℕ) (write : Option Write) → IsVerified words → IsAt words state.cpu i j → i < length words
@@ -94,23 +85,15 @@ effect_goes words state i j x write verified is inside = by_kind (branch_offset 
 executed_goes : (words : List ℕ) (state : HandlerState) (i : ℕ) (insn : Insn) (a : Option Access) (answer : Result ℕ Exc)
     → ((x : ℕ) (write : Option Write) → GoesOn words i (after_step state (ended state.cpu (effect insn state.cpu x) write)))
     → GoesOn words i (after_step state (executed insn state.cpu a answer))
-executed_goes words state i insn None answer goes = goes 0 None
-executed_goes words state i insn (Some a) (Ok x) goes = goes x (write_of a)
-executed_goes words state i insn (Some a) (Err exc) goes = tt
+executed_goes words state i insn a answer goes = search rules
 
 -- word i is fetched
 fetched_at : (words packet page : List ℕ) (pc i : ℕ) → pc ≡ 4 * i → fetched (answers_of words packet page) pc ≡ answer_or Ibe (λ (word : ℕ). word) (slice_get words i)
-fetched_at words packet page pc i is =
-    let aligned : pc % 4 ≡ 0 = omega (arith, is) in
-    let place : pc / 4 ≡ i = omega (arith, is) in
-    rw (aligned, place) refl
+fetched_at words packet page pc i is = search rules
 
 -- behind the last word the handler ends
 past_end : (words packet : List ℕ) (state : HandlerState) (i j : ℕ) → IsAt words state.cpu i j → length words ≤ i → handler_step words packet state ≡ ends Done state
-past_end words packet state i j is past =
-    let fetch = fetched_at words packet state.page state.cpu.pc i is.pc in
-    let none = slice_get_past words i past in
-    rw (fetch, none) refl
+past_end words packet state i j is past = search (rules, fetched_at, slice_get_past)
 
 -- one instruction of a verified handler goes on behind it, or ends
 step_goes : (words packet : List ℕ) (state : HandlerState) (i j : ℕ) → IsVerified words → IsAt words state.cpu i j → GoesOn words i (handler_step words packet state)
@@ -132,8 +115,7 @@ from_same n more words packet i state (Some end) goes same = refl
 
 -- where the handler ends as done, so does a run of any number of instructions
 run_at_end : (n : ℕ) (words packet : List ℕ) (state : HandlerState) → handler_step words packet state ≡ ends Done state → run_on n words packet state ≡ run_of state Done
-run_at_end zero words packet state ended = refl
-run_at_end (suc n) words packet state ended = rw ended refl
+run_at_end n words packet state ended = search rules
 
 -- with as many instructions as there are words left, more make no difference
 pub runs_same : (n more : ℕ) (words packet : List ℕ) (state : HandlerState) (i j : ℕ) → IsVerified words → IsAt words state.cpu i j → length words ≤ i + n

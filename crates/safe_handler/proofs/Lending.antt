@@ -1,5 +1,5 @@
 -- What a step leaves of the ring page that is lent to it.
-use Rattle.std.proofs.Common.{◌≡◌, sym, Option, Some, None}
+use Rattle.std.proofs.Common.{◌≡◌, Option, rules}
 use Rattle.mips_exec.specs.Access.{Write}
 use Rattle.mips_exec.specs.Step.{Wrote}
 use Rattle.safe_handler.specs.declared.lent.HandlerBus.{HandlerBus}
@@ -8,10 +8,8 @@ use Rattle.handler_code.specs.Memory.{page_after}
 
 -- it is the same page that was lent
 pub wrote_lent : (old new : HandlerBus) (w : Option Write) → Wrote IsKept IsStored old w new → old.page.ghost_name ≡ new.page.ghost_name
-wrote_lent old new None kept = sym kept.lent
-wrote_lent old new (Some w) stored = sym stored.lent
+wrote_lent old new w kept = search rules
 
 -- with what was written
 pub wrote_page : (old new : HandlerBus) (w : Option Write) → Wrote IsKept IsStored old w new → new.page.now ≡ page_after old.page.now w
-wrote_page old new None kept = kept.page
-wrote_page old new (Some w) stored = stored.page
+wrote_page old new w kept = search rules

@@ -1,24 +1,18 @@
 -- A run keeps the size of the ring page, and its replies are few and frames.
-use Rattle.std.proofs.Common.{arith, ◌≡◌, ◌<◌, ◌≤◌, ◌+◌, ◌-◌, ℕ, zero, suc, Bool, true, false, List, [], ◌∷◌, ◌++◌, length, take, drop, Option, Some, None, Ok, refl, sym, ◌∙◌, length-append, length-drop}
-use mathlib.Core.Path.{ap}
-use Rattle.std.specs.Prelude.{◌&&◌, nat_le, nat_lt, if◌then◌else◌}
+use Rattle.std.proofs.Common.{arith, ◌≡◌, ◌<◌, ◌≤◌, ◌+◌, ◌-◌, ℕ, zero, suc, true, List, [], ◌∷◌, ◌++◌, length, take, drop, Option, Some, None, Ok, sym, ◌∙◌, length-append, length-drop, rules}
 use Rattle.std.specs.List.{list_all}
 use Rattle.std.proofs.lemmas.Bool.{and_parts, leb-true, ltb-true}
 use Rattle.std.proofs.lemmas.List.{length-take-le}
 use Rattle.std.proofs.lemmas.List.Folds.{list_all-append}
-use Rattle.aegis_limits.specs.Limits.{page_size}
-use Rattle.external_event.specs.Limits.{least_frame_size, most_packet_size}
 use Rattle.mips_exec.specs.declared.registers.Cpu.{Cpu}
 use Rattle.mips_exec.specs.declared.exception.ExcCode.TheVariants.{Dbe}
 use Rattle.mips_exec.specs.Access.{Write}
-use Rattle.mips_exec.specs.Cpu.{reg}
 use Rattle.mips_exec.specs.Kept.{IsWrite, StepsAreSound}
 use Rattle.mips_exec.specs.Step.{Step, Retired, Called, Trapped, step_of, view_of, write_after}
 use Rattle.handler_code.specs.declared.outcome.HandlerEnd.{HandlerEnd}
-use Rattle.handler_code.specs.declared.outcome.HandlerEnd.TheVariants.{Fault}
 use Rattle.handler_code.specs.Laws.{IsWithinLimits, RunsKeepLimits, is_frame}
 use Rattle.handler_code.specs.Memory.{answer_or, answers_of, bytes_at, page_start, stored}
-use Rattle.handler_code.specs.Running.{HandlerRun, HandlerState, after_call, after_step, ends, entry_state, handler_run, most_replies, handler_step, ended_or, replied, reply_of, run_on}
+use Rattle.handler_code.specs.Running.{HandlerRun, HandlerState, after_call, after_step, handler_run, most_replies, handler_step, ended_or, reply_of, run_on}
 
 -- the ring page has its size, and the replies are few and frames
 record Keeps (size : ℕ) (state : HandlerState) : Type 0 where
@@ -36,53 +30,21 @@ record Lies (page : List ℕ) (address size : ℕ) : Type 0 where
 -- bytes that are found in the page lie in it
 lies_in : (page : List ℕ) (address size : ℕ) (bytes : List ℕ) → bytes_at page_start page address size ≡ Some bytes
     → Lies page address size × (take size (drop (address - page_start) page) ≡ bytes)
-lies_in page address size bytes is = by_test (nat_le page_start address && nat_le (address + size) (page_start + length page)) refl is
-  where
-    by_test : (t : Bool) → (nat_le page_start address && nat_le (address + size) (page_start + length page)) ≡ t
-        → (if t then Some (take size (drop (address - page_start) page)) else None) ≡ Some bytes
-        → Lies page address size × (take size (drop (address - page_start) page) ≡ bytes)
-    by_test false test is = absurd cc
-    by_test true test is =
-        let parts = and_parts _ _ test in
-        (record { low = leb-true _ _ parts.0; high = leb-true _ _ parts.1 }, cc)
+lies_in page address size bytes is = search (rules, and_parts, leb-true)
 
 -- a store that is taken is of bytes that the page has
 store_lies : (page : List ℕ) (address size : ℕ) → answer_or {A = List ℕ} {B = Unit {0}} Dbe (λ bytes. tt) (bytes_at page_start page address size) ≡ Ok tt → Lies page address size
-store_lies page address size taken = by_bytes (bytes_at page_start page address size) refl taken
-  where
-    by_bytes : (o : Option (List ℕ)) → bytes_at page_start page address size ≡ o → answer_or {A = List ℕ} {B = Unit {0}} Dbe (λ bytes. tt) o ≡ Ok tt → Lies page address size
-    by_bytes None is taken = absurd cc
-    by_bytes (Some bytes) is taken = (lies_in page address size bytes is).0
+store_lies page address size taken = search (rules, lies_in)
 
 -- a store of bytes that the page has keeps its size
 length_stored : (page bytes : List ℕ) (address : ℕ) → Lies page address (length bytes) → length (stored page address bytes) ≡ length page
-length_stored page bytes address lies =
-    let o = address - page_start in
-    let low = lies.low in
-    let high = lies.high in
-    let within : o + length bytes ≤ length page = omega (arith, low, high) in
-    let head = length-append (take o page) bytes in
-    let all = length-append (take o page ++ bytes) (drop (o + length bytes) page) in
-    omega (arith, head, all, within, length-take-le o page (omega (arith, within)), length-drop (o + length bytes) page)
+length_stored page bytes address lies = search (rules, length-append, length-take-le, length-drop)
 
 -- ---- replies
 
 -- the bytes of a reply are a frame
 reply_is_frame : (cpu : Cpu) (page reply : List ℕ) → reply_of cpu page ≡ Some reply → is_frame reply ≡ true
-reply_is_frame cpu page reply is = by_test (nat_le least_frame_size (reg cpu 5) && nat_le (reg cpu 5) most_packet_size) refl is
-  where
-    by_test : (t : Bool) → (nat_le least_frame_size (reg cpu 5) && nat_le (reg cpu 5) most_packet_size) ≡ t
-        → (if t then bytes_at page_start page (reg cpu 4) (reg cpu 5) else None) ≡ Some reply → is_frame reply ≡ true
-    by_test false test is = absurd cc
-    by_test true test is =
-        let lies = lies_in page (reg cpu 4) (reg cpu 5) reply is in
-        let low = lies.0.low in
-        let high = lies.0.high in
-        let o = reg cpu 4 - page_start in
-        let rest = length-drop o page in
-        let size = length-take-le (reg cpu 5) (drop o page) (omega (arith, rest, low, high)) in
-        let length_is : length reply ≡ reg cpu 5 = ap length (sym lies.1) ∙ size in
-        rw length_is test
+reply_is_frame cpu page reply is = search (rules, lies_in, length-drop, length-take-le)
 
 -- a reply more, where there is room, is within the limit
 length_more : (replies : List (List ℕ)) (reply : List ℕ) → length replies < most_replies → length (replies ++ reply ∷ []) ≤ most_replies
@@ -90,24 +52,11 @@ length_more replies reply room = let all = length-append replies (reply ∷ []) 
 
 -- and all are frames, if it is one
 frames_more : (replies : List (List ℕ)) (reply : List ℕ) → list_all is_frame replies ≡ true → is_frame reply ≡ true → list_all is_frame (replies ++ reply ∷ []) ≡ true
-frames_more replies reply all frame = list_all-append is_frame replies (reply ∷ []) ∙ both all frame
-  where
-    both : {a b : Bool} → a ≡ true → b ≡ true → (a && (b && true)) ≡ true
-    both a b = rw (a, b) refl
+frames_more replies reply all frame = search (rules, list_all-append)
 
 -- a SYSCALL keeps the limits
 call_keeps : (size : ℕ) (state : HandlerState) → Keeps size state → Keeps size (after_call state).state
-call_keeps size state keeps = by_room (nat_lt (length state.replies) most_replies) refl (reply_of state.cpu state.page) refl
-  where
-    by_room : (t : Bool) → nat_lt (length state.replies) most_replies ≡ t → (reply : Option (List ℕ)) → reply_of state.cpu state.page ≡ reply
-        → Keeps size (if t then replied state reply else ends Fault state).state
-    by_room false room reply is = keeps
-    by_room true room None is = keeps
-    by_room true room (Some reply) is = record {
-      page = keeps.page;
-      count = length_more state.replies reply (ltb-true _ _ room);
-      frames = frames_more state.replies reply keeps.frames (reply_is_frame state.cpu state.page reply is);
-    }
+call_keeps size state keeps = search (rules, length_more, ltb-true, frames_more, reply_is_frame)
 
 -- ---- runs
 
@@ -115,11 +64,7 @@ call_keeps size state keeps = by_room (nat_lt (length state.replies) most_replie
 step_keeps : (size : ℕ) (words packet : List ℕ) (state : HandlerState) (step : Step) → Keeps size state
     → ((write : Write) → write_after step ≡ Some write → IsWrite (answers_of words packet state.page) write) → Keeps size (after_step state step).state
 step_keeps size words packet state (Retired cpu None) keeps writes = record { page = keeps.page; count = keeps.count; frames = keeps.frames }
-step_keeps size words packet state (Retired cpu (Some write)) keeps writes = record {
-  page = length_stored state.page write.bytes write.address (store_lies state.page write.address (length write.bytes) (writes write refl).taken) ∙ keeps.page;
-  count = keeps.count;
-  frames = keeps.frames;
-}
+step_keeps size words packet state (Retired cpu (Some write)) keeps writes = search (rules, length_stored, store_lies)
 step_keeps size words packet state Called keeps writes = call_keeps size state keeps
 step_keeps size words packet state (Trapped exc) keeps writes = keeps
 
@@ -139,5 +84,4 @@ run_keeps size (suc n) words packet state sound keeps page same =
 -- and so the run of a handler
 pub runs_keep_limits : StepsAreSound → RunsKeepLimits
 unfolding handler_run
-runs_keep_limits sound words packet page id whole =
-    run_keeps page_size (length words) words packet (entry_state packet id page) sound (record { page = whole; count = omega arith; frames = refl }) page whole
+runs_keep_limits sound words packet page id whole = search (rules, run_keeps)

@@ -1,10 +1,9 @@
-use Rattle.std.proofs.Common.{◌∙◌, sym}
+use Rattle.std.proofs.Common.{◌∙◌, sym, rules}
 use Rattle.safe_handler.proofs.Steps.{call_progress, trap_progress}
 use Rattle.safe_handler.proofs.step.step_handler.Goals as goal
 
 pub returns-in-Call : goal.returns-in-Call
-returns-in-Call c =
-    call_progress _ c.step_machine.new.cpu _ c.step_machine.new.page _ _ _ (sym c.step_machine.ensures.outcome ∙ c.in-Call.is) c.step_machine.ensures.cpu c.step_machine.ensures.page c.take_call.ensures
+returns-in-Call c = search (rules, call_progress)
 
 pub returns-in-Trap : goal.returns-in-Trap
 returns-in-Trap c =
