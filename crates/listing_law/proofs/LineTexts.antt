@@ -17,7 +17,7 @@ use Rattle.asm_parse.specs.Words.{begins_name}
 use Rattle.asm_parse.specs.Form.{Piece, before_mark, behind, is_outside, body_named, body_of, label_of, line_of, operands_of, said, statement_of, trimmed}
 use Rattle.asm_parse.specs.declared.syntax.AsmLine.{AsmLine}
 use Rattle.mips_list.specs.WordText.{after_name, marked}
-use Rattle.listing_law.proofs.Numbers.{differs, differs_turned, list_all_weaker}
+use Rattle.listing_law.proofs.Numbers.{differs, list_all_weaker}
 use Rattle.listing_law.proofs.NumberTexts.{is_plain}
 use Rattle.listing_law.proofs.ArgTexts.{AreOperands, AreRead, EndsPlain, args_spaced, before_none, ends_behind, plain_ends}
 
@@ -51,7 +51,7 @@ all_behind (suc n) (b ∷ bs) all = all_behind n bs (and_parts (is_said b) (list
 
 -- what begins with a byte that is not said does not stand at the front of what is
 no_front : (c : ℕ) (cs bs : List ℕ) → is_said c ≡ false → list_all is_said bs ≡ true → pointwise nat_eq (c ∷ cs) bs ≡ false
-no_front c cs bs other all = search (rules, differs_turned, and_parts)
+no_front c cs bs other all = search rules
 
 no_end : (bs : List ℕ) → list_all is_said bs ≡ true → without_end bs ≡ bs
 no_end bs all = rw (no_front 13 (10 ∷ []) (drop (length bs - 2) bs) refl (all_behind (length bs - 2) bs all), no_front 10 [] (drop (length bs - 1) bs) refl (all_behind (length bs - 1) bs all)) refl
@@ -144,7 +144,7 @@ pub text_is_line : (name : List ℕ) (ts : List (List ℕ)) (os : List OperandVa
 text_is_line name ts os is are = search (rules, and_parts, name_bytes, list_all-append, plain_bytes, marked_bytes, marked_ends, plain_ends)
 
 no_blanks_named : (name rest : List ℕ) → is_name name ≡ true → prefix_len is_blank (name ++ rest) ≡ 0
-no_blanks_named name rest is = search (rules, and_parts, nat_tests)
+no_blanks_named name rest is = search rules
 
 said_line : (line : LineValue) → list_all is_said line.text ≡ true → said line ≡ trimmed (record { start = line.start; bytes = line.text })
 said_line line all = ap (λ bs. trimmed (record { start = line.start; bytes = bs })) (no_comment _ line.text (λ b is. rw (differs is_said b 34 is refl) refl) all)

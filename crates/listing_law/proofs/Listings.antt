@@ -1,5 +1,5 @@
 -- A source of the texts of words, assembled.
-use Rattle.std.proofs.Common.{◌≡◌, ℕ, ◌+◌, ◌*◌, ◌%◌, ◌^◌, ◌<◌, ◌≤◌, ◌∙◌, true, false, List, [], ◌∷◌, ◌++◌, None, Some, Result, Ok, length, refl, ap, arith, append_assoc, append-nil, length-append, le-leb, eq-eqb, lit<, rules}
+use Rattle.std.proofs.Common.{◌≡◌, ℕ, ◌+◌, ◌*◌, ◌%◌, ◌^◌, ◌<◌, ◌≤◌, ◌∙◌, true, false, List, [], ◌∷◌, ◌++◌, None, Some, Result, Ok, length, refl, ap, arith, append_assoc, length-append, lit<, rules}
 use Rattle.std.specs.Prelude.{◌==◌, nat_eq, codes}
 use lib.Pointwise.{pointwise}
 use Rattle.std.proofs.lemmas.Bool.{and_parts}
@@ -63,7 +63,7 @@ placed_at n line content = record { line = line; section = nothing_placed.sectio
 stated_at : (n : ℕ) (placed : List Placed) (line : LineValue) (bytes : List ℕ) (puts : Puts line (0x00400000 + n) bytes) → n % 4 ≡ 0 → n + 4 ≤ 1048576
     → stated puts.statement (text_layout n placed) ≡ Ok (text_layout (n + 4) (placed ++ placed_at n puts.statement.line puts.content ∷ []))
 unfolding stated acted
-stated_at n placed line bytes puts aligned room = search (rules, eq-eqb, le-leb)
+stated_at n placed line bytes puts aligned room = search rules
 
 due_is : (line : LineValue) (address : ℕ) (bytes : List ℕ) (puts : Puts line address bytes) → due_of line ≡ Ok (Some puts.statement)
 due_is line address bytes puts = rw (puts.is) refl
@@ -101,7 +101,7 @@ laid_step n word words placed line puts all rest first behind =
 
 laid_words : (words : List ℕ) (number start n : ℕ) (placed : List Placed) → AllByRecursion (λ word. word < 2 ^ 32) words → n % 4 ≡ 0 → n + 4 * length words ≤ 1048576
     → LaidOn n words placed (laid_from (text_layout n placed) (lines_from number start (pieces_of (texts_from (0x00400000 + n) words))))
-laid_words [] number start n placed small aligned room = search (rules, append-nil)
+laid_words [] number start n placed small aligned room = search rules
 laid_words (word ∷ words) number start n placed small aligned room =
     let text = word_text word (0x00400000 + n) in
     let line : LineValue = record { number = number; start = start; text = text } in

@@ -114,7 +114,7 @@ not_hexadecimal : (ds rest : List ℕ) → list_all is_decimal ds ≡ true → 0
 not_hexadecimal [] rest all some other = absurd (omega arith)
 not_hexadecimal (c ∷ []) [] all some other = and-false (48 == c)
 not_hexadecimal (c ∷ []) (d ∷ rest) all some other = rw (other, and-false (48 == c)) refl
-not_hexadecimal (c ∷ d ∷ ds) rest all some other = search (rules, and_parts, differs_turned, and-false)
+not_hexadecimal (c ∷ d ∷ ds) rest all some other = search rules
 
 -- nor do they begin with a sign
 not_signed : (ds rest : List ℕ) → list_all is_decimal ds ≡ true → 0 < length ds → starts_with nat_eq (ds ++ rest) (codes "-") ≡ false

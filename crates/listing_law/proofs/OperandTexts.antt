@@ -15,7 +15,7 @@ use Rattle.asm_parse.specs.Expression.{ExpressionValue, Number, expression_of, h
 use Rattle.asm_parse.specs.Operand.{OperandValue, Register, Value, Based, based_of, operand_of, offset_of}
 use Rattle.asm_parse.specs.Register.{number_of_register, register_of}
 use Rattle.asm_parse.specs.Words.{is_register}
-use Rattle.listing_law.proofs.Numbers.{differs, differs_turned, list_all_weaker, is_decimal, digit_range, decimal_digits, decimal_some, numeral_decimal}
+use Rattle.listing_law.proofs.Numbers.{differs, list_all_weaker, is_decimal, digit_range, decimal_digits, decimal_some, numeral_decimal}
 
 -- a number, of which no half is taken
 abbrev pub number_value : ℕ → ExpressionValue
@@ -33,7 +33,7 @@ no_name c is = grind (arith, nat_tests)
 -- Expressions.
 
 opened_none : (c : ℕ) (cs : List ℕ) → begins_number c ≡ true → halves_opened (c ∷ cs) ≡ []
-opened_none c cs is = search (rules, differs_turned)
+opened_none c cs is = search rules
 
 pub sub_zero : (n : ℕ) → n - 0 ≡ n
 sub_zero n = omega arith
