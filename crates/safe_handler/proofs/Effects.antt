@@ -1,15 +1,12 @@
 -- How the instructions of a handler move on.
-use Rattle.std.specs.Prelude.{if◌then◌else◌}
 use Rattle.std.proofs.Common.{◌≡◌, ℕ, Bool, true, false, Option, Some, None, rules}
 use Rattle.mips_isa.specs.declared.insn.Insn.{Insn}
 use Rattle.mips_isa.specs.declared.insn.Insn.TheVariants.{Beq, Bne, Blez, Bgtz, Bltz, Bgez}
 use Rattle.mips_exec.specs.declared.registers.Cpu.{Cpu}
 use Rattle.mips_exec.specs.declared.change.Change.{Change}
-use Rattle.mips_exec.specs.declared.change.Change.TheVariants.{Jumps, JumpsAndLinks, Calls, Raises}
-use Rattle.mips_exec.specs.declared.exception.ExcCode.TheVariants.{Sys}
+use Rattle.mips_exec.specs.declared.change.Change.TheVariants.{Jumps, JumpsAndLinks}
 use Rattle.mips_exec.specs.Cpu.{branch_target}
 use Rattle.mips_exec.specs.Effect.{effect}
-use Rattle.mips_exec.specs.Exception.{plain}
 use Rattle.handler_code.specs.Instructions.{branch_offset, is_allowed, is_barred_from_slots}
 
 -- it doesn't jump
@@ -18,14 +15,10 @@ is_straight (Jumps target) = false
 is_straight (JumpsAndLinks n target) = false
 is_straight _ = true
 
--- a SYSCALL doesn't jump, in a delay slot or not
-call_is_straight : (slot : Bool) → is_straight (if slot then Raises (plain Sys) else Calls) ≡ true
-call_is_straight slot = search rules
-
 -- an allowed instruction that is no branch doesn't jump
 pub goes_straight : (insn : Insn) (cpu : Cpu) (x : ℕ) → is_allowed insn ≡ true → branch_offset insn ≡ None → is_straight (effect insn cpu x) ≡ true
 unfolding is_allowed branch_offset effect
-goes_straight insn cpu x allowed none = search (rules, call_is_straight)
+goes_straight insn cpu x allowed none = search rules
 
 -- a change that is a branch's with this offset, taken or not
 pub record Branches (change : Change) (cpu : Cpu) (imm : ℕ) : Type 0 where

@@ -1,18 +1,16 @@
 -- A run keeps the size of the ring page, and its replies are few and frames.
-use Rattle.std.proofs.Common.{arith, ◌≡◌, ◌<◌, ◌≤◌, ◌+◌, ◌-◌, ℕ, zero, suc, true, List, [], ◌∷◌, ◌++◌, length, take, drop, Option, Some, None, Ok, sym, ◌∙◌, length-append, length-drop, rules}
+use Rattle.std.proofs.Common.{arith, ◌≡◌, ◌<◌, ◌≤◌, ℕ, zero, suc, true, List, [], ◌∷◌, ◌++◌, length, Option, Some, None, sym, ◌∙◌, length-append, length-drop, rules}
 use Rattle.std.specs.List.{list_all}
 use Rattle.std.proofs.lemmas.Bool.{and_parts, leb-true, ltb-true}
 use Rattle.std.proofs.lemmas.List.{length-take-le}
 use Rattle.std.proofs.lemmas.List.Folds.{list_all-append}
-use Rattle.mips_exec.specs.declared.registers.Cpu.{Cpu}
-use Rattle.mips_exec.specs.declared.exception.ExcCode.TheVariants.{Dbe}
 use Rattle.mips_exec.specs.Access.{Write}
 use Rattle.mips_exec.specs.Kept.{IsWrite, StepsAreSound}
 use Rattle.mips_exec.specs.Step.{Step, Retired, Called, Trapped, step_of, view_of, write_after}
 use Rattle.handler_code.specs.declared.outcome.HandlerEnd.{HandlerEnd}
 use Rattle.handler_code.specs.Laws.{IsWithinLimits, RunsKeepLimits, is_frame}
-use Rattle.handler_code.specs.Memory.{answer_or, answers_of, bytes_at, page_start, stored}
-use Rattle.handler_code.specs.Running.{HandlerRun, HandlerState, after_call, after_step, handler_run, most_replies, handler_step, ended_or, reply_of, run_on}
+use Rattle.handler_code.specs.Memory.{answers_of}
+use Rattle.handler_code.specs.Running.{HandlerRun, HandlerState, after_call, after_step, handler_run, most_replies, handler_step, ended_or, run_on}
 
 -- the ring page has its size, and the replies are few and frames
 record Keeps (size : ℕ) (state : HandlerState) : Type 0 where
@@ -20,43 +18,15 @@ record Keeps (size : ℕ) (state : HandlerState) : Type 0 where
   count : length state.replies ≤ most_replies
   frames : list_all is_frame state.replies ≡ true
 
--- ---- stores
-
--- bytes that a page has
-record Lies (page : List ℕ) (address size : ℕ) : Type 0 where
-  low : page_start ≤ address
-  high : address + size ≤ page_start + length page
-
--- bytes that are found in the page lie in it
-lies_in : (page : List ℕ) (address size : ℕ) (bytes : List ℕ) → bytes_at page_start page address size ≡ Some bytes
-    → Lies page address size × (take size (drop (address - page_start) page) ≡ bytes)
-lies_in page address size bytes is = search (rules, and_parts, leb-true)
-
--- a store that is taken is of bytes that the page has
-store_lies : (page : List ℕ) (address size : ℕ) → answer_or {A = List ℕ} {B = Unit {0}} Dbe (λ bytes. tt) (bytes_at page_start page address size) ≡ Ok tt → Lies page address size
-store_lies page address size taken = search (rules, lies_in)
-
--- a store of bytes that the page has keeps its size
-length_stored : (page bytes : List ℕ) (address : ℕ) → Lies page address (length bytes) → length (stored page address bytes) ≡ length page
-length_stored page bytes address lies = search (rules, length-append, length-take-le, length-drop)
-
 -- ---- replies
-
--- the bytes of a reply are a frame
-reply_is_frame : (cpu : Cpu) (page reply : List ℕ) → reply_of cpu page ≡ Some reply → is_frame reply ≡ true
-reply_is_frame cpu page reply is = search (rules, lies_in, length-drop, length-take-le)
 
 -- a reply more, where there is room, is within the limit
 length_more : (replies : List (List ℕ)) (reply : List ℕ) → length replies < most_replies → length (replies ++ reply ∷ []) ≤ most_replies
 length_more replies reply room = let all = length-append replies (reply ∷ []) in omega (arith, all, room)
 
--- and all are frames, if it is one
-frames_more : (replies : List (List ℕ)) (reply : List ℕ) → list_all is_frame replies ≡ true → is_frame reply ≡ true → list_all is_frame (replies ++ reply ∷ []) ≡ true
-frames_more replies reply all frame = search (rules, list_all-append)
-
 -- a SYSCALL keeps the limits
 call_keeps : (size : ℕ) (state : HandlerState) → Keeps size state → Keeps size (after_call state).state
-call_keeps size state keeps = search (rules, length_more, ltb-true, frames_more, reply_is_frame)
+call_keeps size state keeps = search (rules, length_more, ltb-true, list_all-append, and_parts, leb-true, length-drop, length-take-le)
 
 -- ---- runs
 
@@ -64,7 +34,7 @@ call_keeps size state keeps = search (rules, length_more, ltb-true, frames_more,
 step_keeps : (size : ℕ) (words packet : List ℕ) (state : HandlerState) (step : Step) → Keeps size state
     → ((write : Write) → write_after step ≡ Some write → IsWrite (answers_of words packet state.page) write) → Keeps size (after_step state step).state
 step_keeps size words packet state (Retired cpu None) keeps writes = record { page = keeps.page; count = keeps.count; frames = keeps.frames }
-step_keeps size words packet state (Retired cpu (Some write)) keeps writes = search (rules, length_stored, store_lies)
+step_keeps size words packet state (Retired cpu (Some write)) keeps writes = search (rules, length-append, length-take-le, length-drop, and_parts, leb-true)
 step_keeps size words packet state Called keeps writes = call_keeps size state keeps
 step_keeps size words packet state (Trapped exc) keeps writes = keeps
 

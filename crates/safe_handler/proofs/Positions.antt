@@ -1,6 +1,6 @@
 -- Where a verified handler stands: at a word, with a later word next.
 use Rattle.std.proofs.Common.{arith, ◌≡◌, ◌<◌, ◌≤◌, ◌+◌, ◌*◌, ◌^◌, ◌⊎◌, inl, inr, ℕ, suc, Bool, true, false, List, length, Some, None, refl, ltb-false, rules}
-use Rattle.std.specs.Prelude.{not, ◌||◌, ◌&&◌}
+use Rattle.std.specs.Prelude.{◌&&◌}
 use Rattle.std.proofs.lemmas.Bool.{eqb-false, lt-ltb, ltb-true, or_parts}
 use Rattle.mips_isa.specs.Word.{sign16_of}
 use Rattle.mips_exec.specs.declared.registers.Cpu.{Cpu}
@@ -42,10 +42,6 @@ advances words cpu i j verified is inside = search (rules, within)
 
 -- ---- good words
 
--- none of the three tests of a word holds
-good_parts : (allowed barred follows bad : Bool) → (not allowed || (barred && follows) || bad) ≡ false → (allowed ≡ true) × ((barred && follows) ≡ false) × (bad ≡ false)
-good_parts allowed barred follows bad good = search (rules, or_parts)
-
 -- a word that isn't bad is allowed, may stand where it does, and isn't bad as a branch
 pub record IsGood (words : List ℕ) (i : ℕ) : Type 0 where
   pub allowed : is_allowed (insn_at words i) ≡ true
@@ -55,7 +51,7 @@ pub record IsGood (words : List ℕ) (i : ℕ) : Type 0 where
 -- so is each word that isn't bad
 pub good_word : (words : List ℕ) (i : ℕ) → is_bad_word words i ≡ false → IsGood words i
 unfolding is_bad_word
-good_word words i good = search (rules, good_parts)
+good_word words i good = search (rules, or_parts)
 
 -- a branch that isn't bad has a word behind it, and its target is behind that, and not above the number of words
 pub record IsForward (words : List ℕ) (i imm : ℕ) : Type 0 where
