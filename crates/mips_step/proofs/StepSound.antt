@@ -1,5 +1,5 @@
 -- Words stay words, and what a step writes is a write.
-use Rattle.std.proofs.Common.{◌≡◌, ℕ, Option, Some, None, Bool, true, [], ◌∷◌, Ok, Err, Result, ◌%◌, ◌<◌, ◌≤◌, ◌*◌, ◌/◌, ◌^◌, arith, length, if◌then◌else◌, rules}
+use Rattle.std.proofs.Common.{◌≡◌, ℕ, Option, Some, None, Bool, [], ◌∷◌, Ok, Err, Result, ◌%◌, ◌<◌, ◌≤◌, ◌/◌, ◌^◌, arith, if◌then◌else◌, rules}
 use Rattle.std.specs.Prelude.{IfSome, get_or}
 use Rattle.std.specs.List.{All}
 use Rattle.std.specs.Int.{w32, to_le_bytes}
@@ -14,12 +14,10 @@ use Rattle.mips_exec.specs.declared.reach.Spot.{Spot}
 use Rattle.mips_exec.specs.declared.reach.Access.{Access}
 use Rattle.mips_exec.specs.declared.reach.Access.TheVariants.{Load, Store}
 use Rattle.mips_exec.specs.Access.{access, Write, IsSpot, is_aligned, place_of, low_bytes}
-use Rattle.mips_exec.specs.Cpu.{with_reg, advanced, jumped, with_hi_lo}
 use Rattle.mips_exec.specs.declared.exception.ExcCode.TheVariants.{Ades}
 use Rattle.mips_exec.specs.Exception.{plain}
 use Rattle.mips_exec.specs.Word.{low_word}
 use Rattle.mips_exec.specs.declared.change.Change.{Change}
-use Rattle.mips_exec.specs.Effect.{changed}
 use Rattle.mips_exec.specs.Step.{Answers, answered_if, access_after, without_value, ended, executed, decoded, write_after, cpu_after}
 use Rattle.mips_exec.specs.Kept.{HasWords, IsWrite, StepsAreSound}
 
@@ -28,29 +26,8 @@ use Rattle.mips_exec.specs.Kept.{HasWords, IsWrite, StepsAreSound}
 word : (n : ℕ) → low_word n < 2 ^ 32
 word n = omega arith
 
-words-advanced : (c : Cpu) → HasWords c → HasWords (advanced c)
-words-advanced c h = record { count = h.count; regs = h.regs; hi = h.hi; lo = h.lo; pc = h.next; next = omega arith }
-
-words-jumped : (c : Cpu) (t : ℕ) → HasWords c → HasWords (jumped c t)
-words-jumped c t h = record { count = h.count; regs = h.regs; hi = h.hi; lo = h.lo; pc = h.next; next = omega arith }
-
-words-with_hi_lo : (c : Cpu) (a b : ℕ) → HasWords c → HasWords (with_hi_lo c a b)
-words-with_hi_lo c a b h = record { count = h.count; regs = h.regs; hi = omega arith; lo = omega arith; pc = h.pc; next = h.next }
-
-words-with_reg : (c : Cpu) (n v : ℕ) → HasWords c → HasWords (with_reg c n v)
-words-with_reg c n v h = search (rules, length-set, word)
-
-words-changed : (c : Cpu) (e : Change) → HasWords c → HasWords (changed c e)
-words-changed c e h = search (rules, words-advanced, words-with_reg, words-with_hi_lo, words-jumped)
-
-words-ended : (c : Cpu) (e : Change) (w : Option Write) → HasWords c → HasWords (cpu_after c (ended c e w))
-words-ended c e w h = search (rules, words-changed)
-
-words-executed : (i : Insn) (c : Cpu) (o : Option Access) (r : Result ℕ Exc) → HasWords c → HasWords (cpu_after c (executed i c o r))
-words-executed i c o r h = search (rules, words-ended)
-
 words-decoded : (c : Cpu) (f r : Result ℕ Exc) → HasWords c → HasWords (cpu_after c (decoded c f r))
-words-decoded c f r h = search (rules, words-executed)
+words-decoded c f r h = search (rules, length-set, word)
 
 -- ---- writes
 
@@ -69,9 +46,6 @@ unfolding access
 StoreFits-access (Reserved w) c = tt
 StoreFits-access _ c = search arith
 
-length-low_bytes : (n v : ℕ) → n ≤ 4 → length (low_bytes n v) ≡ n
-length-low_bytes n v h = length-take-le n (to_le_bytes w32 v) h
-
 -- four bytes, each below 256
 four_bytes : (a b c d k e : ℕ) → a < 2 ^ 8 → b < 2 ^ 8 → c < 2 ^ 8 → d < 2 ^ 8 → k < 4 → get_or (a ∷ b ∷ c ∷ d ∷ []) k e < 2 ^ 8
 four_bytes a b c d k e ha hb hc hd h = search rules
@@ -83,22 +57,10 @@ All-low_bytes n v = All-take (λ b. b < 2 ^ 8) n (to_le_bytes w32 v) (λ k e h. 
 nothing : (c : Cpu) (e : Change) (w : Write) → write_after (ended c e None) ≡ Some w → ⊥
 nothing c e w h = search rules
 
--- what it writes is what was given
-given : (c : Cpu) (e : Change) (v w : Write) → write_after (ended c e (Some v)) ≡ Some w → v ≡ w
-given c e v w h = search rules
-
-place_in_range : (down : Bool) (address : ℕ) → address < 2 ^ 32 → (if down then address / 4 * 4 else address) < 2 ^ 32
-place_in_range down address h = search rules
-
--- an answered store of an aligned spot
-taken : (answers : Answers) (spot : Spot) (v : ℕ) → IsStore spot → is_aligned spot ≡ true → answers.store (place_of spot) spot.width ≡ Ok tt
-    → IsWrite answers (record { address = place_of spot; bytes = low_bytes spot.width v })
-taken answers spot v h aligned ok = search (rules, length-low_bytes, place_in_range)
-
 writes-store : (answers : Answers) (i : Insn) (c : Cpu) (spot : Spot) (v : ℕ) (w : Write) → IsStore spot
     → (b : Bool) → is_aligned spot ≡ b → (r : Result (Unit {0}) Exc) → answers.store (place_of spot) spot.width ≡ r
     → write_after (executed i c (Some (Store spot v)) (if b then without_value r else Err (plain Ades))) ≡ Some w → IsWrite answers w
-writes-store answers i c spot v w h b aligned r ok e = search (rules, given, taken)
+writes-store answers i c spot v w h b aligned r ok e = search (rules, length-take-le)
 
 writes-load : (i : Insn) (c : Cpu) (spot : Spot) (w : Write) (r : Result ℕ Exc)
     → write_after (executed i c (Some (Load spot)) r) ≡ Some w → ⊥
