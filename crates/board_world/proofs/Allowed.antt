@@ -1,16 +1,13 @@
 -- What is known of a page that may be allocated or changed, and of a slot that may be dropped.
-use Rattle.std.proofs.Common.{◌≡◌, ◌≢◌, ◌<◌, ℕ, List, length, Bool, true, false, Some, None, sym, ◌∙◌, ap}
+use Rattle.std.proofs.Common.{◌≡◌, ◌≢◌, ◌<◌, ℕ, List, length, Bool, true, false, Some, None, sym, ◌∙◌, ap, rules}
 use Rattle.std.specs.Prelude.{if◌then◌else◌, slice_get}
 use Rattle.std.proofs.lemmas.Bool.{eq-eqb, lt-ltb}
 use Rattle.page_book.specs.declared.row.PageRow.{PageRow}
-use Rattle.page_book.specs.declared.row.PageRow.TheVariants.{Free, Guaranteed, Owned}
-use Rattle.page_book.specs.declared.refusal.PageNo.TheVariants as no
+use Rattle.page_book.specs.declared.row.PageRow.TheVariants.{Free, Guaranteed}
 use Rattle.page_book.specs.Row.{alloc_refusal, change_refusal, is_owned_by}
 use Rattle.page_book.specs.Rows.{row_in}
 use Rattle.slot_vector.specs.Slices.{Slices, hold_at, refusal_of_drop}
-use Rattle.world_model.specs.declared.code.Code.TheVariants as code
 use Rattle.world_model.specs.declared.slot.Hold.{Hold}
-use Rattle.world_model.specs.SlotCalls.{drop_refusal}
 use Rattle.board_world.proofs.Slots.{slot_got}
 use Rattle.board_world.proofs.Tables.{row_got}
 
@@ -31,15 +28,8 @@ allocable pages page there free = ap alloc_refusal (row_of_there pages page ther
 
 -- a page that one owns may be changed by it
 pub changeable : (e : ℕ) (pages : List PageRow) (page : ℕ) → page < length pages → is_owned_by e (row_in pages page) ≡ true → change_refusal e (slice_get pages page) ≡ None
-changeable e pages page there owned = ap (change_refusal e) (row_of_there pages page there) ∙ by_row (row_in pages page) owned
-  where
-    by_row : (row : PageRow) → is_owned_by e row ≡ true → change_refusal e (Some row) ≡ None
-    by_row Free owned = cc
-    by_row (Guaranteed owner) owned = cc
-    by_row (Owned owner words) owned = ap (λ (t : Bool). if t then None else Some no.NotOwner) owned
+changeable e pages page there owned = search (rules, row_of_there)
 
 -- a slot that one holds may be dropped by it
 pub droppable : (v : Slices) (e k : ℕ) (hold : Hold) → k < length v.slots → hold_at v.slots k ≡ Some hold → hold.holder ≡ e → refusal_of_drop e v k ≡ None
-droppable v e k hold there stands holder =
-    ap (drop_refusal e) (slot_got v.slots k ∙ ap (λ (t : Bool). if t then Some (hold_at v.slots k) else None) (lt-ltb k (length v.slots) there) ∙ ap Some stands)
-    ∙ ap (λ (t : Bool). if t then None else Some code.NotHolder) (eq-eqb hold.holder e holder)
+droppable v e k hold there stands holder = search (rules, slot_got, lt-ltb, eq-eqb)

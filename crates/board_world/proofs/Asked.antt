@@ -1,8 +1,9 @@
 -- The book of revocations stays sound: each backup is a page of its environment's own.
-use Rattle.std.proofs.Common.{◌≡◌, ◌≢◌, ◌<◌, ◌+◌, ◌-◌, min, arith, ℕ, zero, suc, List, [], ◌∷◌, length, map, drop, Bool, true, false, Option, None, Some, IfSome, refl, sym, ◌∙◌, ap, subst, inl, inr, length-set}
-use Rattle.std.specs.Prelude.{◌==◌, ◌||◌, not, if◌then◌else◌, slice_set, slice_index_or}
+use Rattle.std.proofs.Common.{◌≡◌, ◌≢◌, ◌<◌, arith, ℕ, List, [], ◌∷◌, length, map, drop, Bool, true, false, Option, None, Some, IfSome, refl, sym, ◌∙◌, ap, subst, length-set, rules}
+use Rattle.std.specs.Prelude.{◌==◌, ◌||◌, not, if◌then◌else◌, slice_set}
 use Rattle.std.proofs.lemmas.Bool.{cases_eq, eq-eqb, eqb-false, eqb-true, ne_eqb, or_right}
 use Rattle.std.proofs.lemmas.List.{length-map}
+use Rattle.std.proofs.lemmas.Grind.{common_steps}
 use Rattle.page_book.specs.declared.row.Capabilities.{Capabilities}
 use Rattle.page_book.specs.declared.row.PageRow.{PageRow}
 use Rattle.page_book.specs.declared.row.PageRow.TheVariants.{Free, Owned}
@@ -11,7 +12,7 @@ use Rattle.page_book.specs.Rows.{row_in}
 use Rattle.page_book.proofs.Owners.{same_owner}
 use Rattle.revocation_book.specs.declared.revocation.Pending.{Pending}
 use Rattle.revocation_book.specs.Backups.{is_loaded, loaded, unloaded}
-use Rattle.revocation_book.specs.Pending.{asked, is_due, lowered, most_outstanding, pending_of, unless_due}
+use Rattle.revocation_book.specs.Pending.{asked, lowered, pending_of, unless_due}
 use Rattle.revocation_book.specs.RevocationBook.{RevocationBook, backups_at, most_numbers, once_freed, once_gone, once_served, pending_at, with_backups, with_pending}
 use Rattle.revocation_book.proofs.Takable.{rest_loaded}
 use Rattle.world_model.specs.Table.{set_at}
@@ -30,12 +31,7 @@ pub pending_set : (book : RevocationBook) (e : ℕ) (pending : Option Pending) �
 pending_set book e pending within = table_set book.pending e pending None within
 
 pub pending_served : (book : RevocationBook) (time i : ℕ) → pending_at (once_served book time) i ≡ unless_due time (pending_at book i)
-pending_served book time i = by_list book.pending i
-  where
-    by_list : (list : List (Option Pending)) (i : ℕ) → slice_index_or (map (unless_due time) list) i None ≡ unless_due time (slice_index_or list i None)
-    by_list [] i = refl
-    by_list (x ∷ list) zero = refl
-    by_list (x ∷ list) (suc i) = by_list list i
+pending_served book time i = grind (arith, common_steps)
 
 -- other pages of which the backups are owned
 pub repaged : (book : RevocationBook) (pages given : List PageRow) → ((e page : ℕ) → is_loaded (backups_at book e) page ≡ true → is_owned_by e (row_in pages page) ≡ true → is_owned_by e (row_in given page) ≡ true) → AreAsked book pages → AreAsked book given
@@ -46,54 +42,30 @@ abbrev IsPositive : Option Pending → Type 0
 IsPositive pending = IfSome pending (λ p. 0 < p.outstanding)
 
 pub pending_asked : (book : RevocationBook) (pages : List PageRow) (e : ℕ) (pending : Option Pending) → IsPositive pending → AreAsked book pages → AreAsked (with_pending book e pending) pages
-pending_asked book pages e pending positive are = record {
-  pending = length-set book.pending e pending ∙ are.pending;
-  backups = are.backups;
-  some = λ i. set_all IsPositive book.pending e i pending None positive (are.some i);
-  owned = are.owned;
-}
+pending_asked book pages e pending positive are = grind (arith, common_steps, length-set, set_all)
 
 -- where something is pending, pages are outstanding
 pub positive_of : (outstanding deadline : ℕ) → IsPositive (pending_of outstanding deadline)
-positive_of n deadline = by_test (n == 0) refl
-  where
-    by_test : (t : Bool) → (n == 0) ≡ t → IsPositive (if t then None else Some (record { outstanding = n; deadline = deadline }))
-    by_test true is = tt
-    by_test false is = let some = eqb-false n 0 is in omega (arith, some)
+positive_of n deadline = search (rules, eqb-false)
 
 positive_lowered : (pending : Option Pending) → IsPositive (lowered pending)
-positive_lowered None = tt
-positive_lowered (Some p) = positive_of (p.outstanding - 1) p.deadline
+positive_lowered pending = search (rules, positive_of)
 
 positive_unless : (time : ℕ) (pending : Option Pending) → IsPositive pending → IsPositive (unless_due time pending)
-positive_unless time pending positive = by_test (is_due time pending)
-  where
-    by_test : (t : Bool) → IsPositive (if t then None else pending)
-    by_test true = tt
-    by_test false = positive
+positive_unless time pending positive = search rules
 
 -- what is asked is pending, unless nothing is outstanding, and then nothing was pending
 abbrev unless_none : Bool → ℕ → ℕ → Option Pending
 unless_none t n deadline = if t then None else Some (record { outstanding = n; deadline = deadline })
 
 some_of : (n deadline : ℕ) (t : Bool) → (n == 0) ≡ t → 0 < n → unless_none t n deadline ≡ None → ⊥
-some_of n deadline true zeroed some is = absurd (omega (arith, some, eqb-true n 0 zeroed))
-some_of n deadline false other some is = clash (record { outstanding = n; deadline = deadline }) is
-  where
-    clash : (p : Pending) → Some p ≡ None → ⊥
-    clash p is = cc
+some_of n deadline t zeroed some is = search (rules, eqb-true)
 
 pub nothing_pending : (count deadline : ℕ) (pending : Option Pending) → IsPositive pending → asked count deadline pending ≡ None → pending ≡ None
-nothing_pending count deadline None positive is = refl
-nothing_pending count deadline (Some p) positive is = let n = min most_outstanding (p.outstanding + count) in absurd (some_of n deadline (n == 0) refl (omega (arith, positive)) is)
+nothing_pending count deadline pending positive is = search (rules, some_of)
 
 pub served_asked : (book : RevocationBook) (pages : List PageRow) (time : ℕ) → AreAsked book pages → AreAsked (once_served book time) pages
-served_asked book pages time are = record {
-  pending = length-map book.pending (unless_due time) ∙ are.pending;
-  backups = are.backups;
-  some = λ i. subst IsPositive (sym (pending_served book time i)) (positive_unless time (pending_at book i) (are.some i));
-  owned = are.owned;
-}
+served_asked book pages time are = search (rules, length-map, pending_served, positive_unless)
 
 -- an environment has other backups, which it owns
 module _ (book : RevocationBook) (pages given : List PageRow) (e : ℕ) (backups : List ℕ) (within : e < most_numbers) (are : AreAsked book pages) where
@@ -102,35 +74,17 @@ module _ (book : RevocationBook) (pages given : List PageRow) (e : ℕ) (backups
 
   pub rebacked : ((page : ℕ) → is_loaded backups page ≡ true → is_owned_by e (row_in given page) ≡ true)
       → ((i page : ℕ) → i ≢ e → is_loaded (backups_at book i) page ≡ true → is_owned_by i (row_in given page) ≡ true) → AreAsked (with_backups book e backups) given
-  rebacked its others = record {
-    pending = are.pending;
-    backups = length-set book.backups e backups ∙ are.backups;
-    some = are.some;
-    owned = λ i page loaded. by_number i page (subst (λ xs. is_loaded xs page ≡ true) (backups_set book e backups there i) loaded);
-  }
-    where
-      by_number : (i page : ℕ) → is_loaded (set_at e backups (backups_at book) i) page ≡ true → is_owned_by i (row_in given page) ≡ true
-      by_number i page loaded = elim (cases_eq i e) [
-        | inl same ↦ subst (λ n. is_owned_by n (row_in given page) ≡ true) (sym same) (its page (subst (λ xs. is_loaded xs page ≡ true) (ap (set_at e backups (backups_at book)) same ∙ set_here e backups (backups_at book)) loaded))
-        | inr other ↦ others i page other (subst (λ xs. is_loaded xs page ≡ true) (set_else e i backups (backups_at book) other) loaded)
-      ]
+  rebacked its others = search (rules, length-set, backups_set, cases_eq, set_here, set_else, there)
 
 -- whether a page is loaded among others
 loaded_next : (t : Bool) (rest more : Bool) → (t || rest) ≡ true → (rest ≡ true → more ≡ true) → (t || more) ≡ true
-loaded_next true rest more is next = refl
-loaded_next false rest more is next = next is
+loaded_next t rest more is next = search rules
 
 loaded_last : (backups : List ℕ) (page p : ℕ) → is_loaded (loaded page backups) p ≡ true → p ≢ page → is_loaded backups p ≡ true
-loaded_last [] page p is other = let none : (page == p) ≡ false = ne_eqb page p (λ same. other (sym same)) in let never : false ≡ true = ap (λ t. t || false) (sym none) ∙ is in cc
-loaded_last (b ∷ backups) page p is other = loaded_next (b == p) (is_loaded (loaded page backups) p) (is_loaded backups p) is (λ rest. loaded_last backups page p rest other)
+loaded_last backups page p is other = grind (arith, common_steps, ne_eqb, loaded_next)
 
 left_one : (b page p : ℕ) (rest more : Bool) → (t : Bool) → (b == page) ≡ t → (if not t then b == p || rest else rest) ≡ true → (rest ≡ true → (more ≡ true) × (p ≢ page)) → ((b == p || more) ≡ true) × (p ≢ page)
-left_one b page p rest more true same is next = let its = next is in (or_right (b == p) more its.0, its.1)
-left_one b page p rest more false other is next = by_test (b == p) refl is
-  where
-    by_test : (t : Bool) → (b == p) ≡ t → (t || rest) ≡ true → ((t || more) ≡ true) × (p ≢ page)
-    by_test true same is = (refl, λ its. eqb-false b page other (eqb-true b p same ∙ its))
-    by_test false apart is = next is
+left_one b page p rest more t same is next = search (rules, or_right, eqb-false, eqb-true)
 
 pub unloaded_still : (backups : List ℕ) (page p : ℕ) → is_loaded (unloaded page backups) p ≡ true → (is_loaded backups p ≡ true) × (p ≢ page)
 unloaded_still [] page p is = cc
@@ -144,13 +98,7 @@ unloaded_still (b ∷ backups) page p is =
 
 -- a page is loaded
 pub loaded_asked : (book : RevocationBook) (pages : List PageRow) (e page : ℕ) → e < most_numbers → is_owned_by e (row_in pages page) ≡ true → AreAsked book pages → AreAsked (with_backups book e (loaded page (backups_at book e))) pages
-loaded_asked book pages e page within own are =
-    rebacked book pages pages e (loaded page (backups_at book e)) within are
-    (λ p is. elim (cases_eq p page) [
-      | inl same ↦ subst (λ n. is_owned_by e (row_in pages n) ≡ true) (sym same) own
-      | inr other ↦ are.owned e p (loaded_last (backups_at book e) page p is other)
-    ])
-    (λ i p other is. are.owned i p is)
+loaded_asked book pages e page within own are = search (rules, cases_eq, loaded_last)
 
 -- a page of an environment's is nobody's, and another's backup it wasn't
 module _ (book : RevocationBook) (pages : List PageRow) (e page : ℕ) (there : page < length pages) (own : is_owned_by e (row_in pages page) ≡ true) (are : AreAsked book pages) where
@@ -164,10 +112,7 @@ module _ (book : RevocationBook) (pages : List PageRow) (e page : ℕ) (there : 
 
 -- by its owner
 pub freed_asked : (book : RevocationBook) (pages : List PageRow) (e page : ℕ) → e < most_numbers → page < length pages → is_owned_by e (row_in pages page) ≡ true → AreAsked book pages → AreAsked (once_freed book e page) (slice_set pages page Free)
-freed_asked book pages e page within there own are =
-    rebacked (with_pending book e _) pages (slice_set pages page Free) e (unloaded page (backups_at book e)) within (pending_asked book pages e _ (positive_lowered (pending_at book e)) are)
-    (λ p is. let still = unloaded_still (backups_at book e) page p is in freed_row book pages e page there own are e p still.1 (are.owned e p still.0))
-    (freed_others book pages e page there own are)
+freed_asked book pages e page within there own are = search (rules, pending_asked, positive_lowered, unloaded_still)
 
 -- by force, where it is no backup
 pub taken_asked : (book : RevocationBook) (pages : List PageRow) (e page : ℕ) → e < most_numbers → page < length pages → is_owned_by e (row_in pages page) ≡ true → is_loaded (backups_at book e) page ≡ false → AreAsked book pages → AreAsked (with_backups book e (drop 1 (backups_at book e))) (slice_set pages page Free)
@@ -180,10 +125,7 @@ taken_asked book pages e page within there own spared are =
 
 -- a page that is free comes to be owned
 pub allocated_asked : (book : RevocationBook) (pages : List PageRow) (page e : ℕ) (words : Capabilities) → page < length pages → row_in pages page ≡ Free → AreAsked book pages → AreAsked book (slice_set pages page (Owned e words))
-allocated_asked book pages page e words within free are = repaged book pages (slice_set pages page (Owned e words)) (λ i p is own.
-    by_page (λ row. is_owned_by i row ≡ true) pages page p (Owned e words) within
-    (λ same. let none : true ≡ false = sym own ∙ ap (λ (n : ℕ). is_owned_by i (row_in pages n)) same ∙ ap (is_owned_by i) free in cc)
-    (λ other. own)) are
+allocated_asked book pages page e words within free are = search (rules, repaged, by_page)
 
 -- a page gets other words
 pub recapped_asked : (book : RevocationBook) (pages : List PageRow) (page e : ℕ) (words : Capabilities) → page < length pages → is_owned_by e (row_in pages page) ≡ true → AreAsked book pages → AreAsked book (slice_set pages page (Owned e words))
@@ -198,7 +140,4 @@ given_asked book pages given stays are = repaged book pages given (λ e p is own
 
 -- an environment dies
 pub death_asked : (book : RevocationBook) (pages : List PageRow) (e : ℕ) → e < most_numbers → AreAsked book pages → AreAsked (once_gone book e) (map (released e) pages)
-death_asked book pages e within are =
-    rebacked (with_pending book e None) pages (map (released e) pages) e [] within (pending_asked book pages e None tt are)
-    (λ p is. cc)
-    (λ i p other is. ap (is_owned_by i) (row_released e pages p) ∙ released_else (row_in pages p) i e other (are.owned i p is))
+death_asked book pages e within are = search (rules, pending_asked, row_released, released_else)

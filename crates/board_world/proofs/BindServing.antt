@@ -1,6 +1,6 @@
 -- What the runner does to its bindings, on the world that is shown.
-use Rattle.std.proofs.Common.{◌≡◌, ◌≢◌, ℕ, List, [], ◌∷◌, Bool, true, false, Option, Some, None, is_some, refl, sym, ◌∙◌, ap, arith, subst}
-use Rattle.std.specs.Prelude.{if◌then◌else◌, slice_set}
+use Rattle.std.proofs.Common.{◌≡◌, ◌≢◌, ℕ, List, [], ◌∷◌, Option, Some, refl, sym, ◌∙◌, ap, arith, subst, rules}
+use Rattle.std.specs.Prelude.{slice_set}
 use Rattle.std.proofs.lemmas.Bool.{eq-eqb}
 use Rattle.std.proofs.lemmas.Option.{slice_get_within}
 use Rattle.std.proofs.lemmas.List.{append-nil}
@@ -10,13 +10,13 @@ use Rattle.page_book.specs.declared.row.PageRow.TheVariants.{Free, Guaranteed, O
 use Rattle.page_book.specs.Row.{is_owned_by, owner_of}
 use Rattle.page_book.specs.Rows.{row_in}
 use Rattle.bind_book.specs.declared.binding.Binding.{Binding}
-use Rattle.bind_book.specs.Stripe.{HasStripe, binding_at, is_bound, stripe_place, row_of, stripes}
+use Rattle.bind_book.specs.Stripe.{HasStripe, is_bound, stripe_place, row_of, stripes}
 use Rattle.bind_book.proofs.Rows.{row_within}
 use Rattle.page_sight.specs.Sight.{Sees, seen_if, seen_in}
 use Rattle.page_sight.proofs.Sights.{binder_sees, unbinder_loses}
 use Rattle.world_model.specs.declared.call.Deed.TheVariants.{Binds, Unbinds}
 use Rattle.world_model.specs.declared.verdict.Verdict.TheVariants.{Grant}
-use Rattle.world_model.specs.Holding.{bound, gained, unbound, with_binds}
+use Rattle.world_model.specs.Holding.{bound, gained, unbound}
 use Rattle.world_model.specs.Item.{Gained, absorb_all, answered_cpu}
 use Rattle.world_model.specs.PageCalls as calls
 use Rattle.world_model.specs.Solo.{Solo, bytes_seen}
@@ -30,18 +30,14 @@ use Rattle.board_world.specs.Sound.{IsSound, IsOwned}
 use Rattle.board_world.specs.Doing as doing
 use Rattle.board_world.proofs.Losing.{resighted}
 use Rattle.board_world.proofs.PageServing.{own_sees}
-use Rattle.board_world.proofs.Parts.{one_changed, one_given, set_here, set_else}
-use Rattle.board_world.proofs.Replying.{Serves, deeded, deeded_seen}
+use Rattle.board_world.proofs.Parts.{one_given, set_here, set_else}
+use Rattle.board_world.proofs.Replying.{Serves, deeded, deeded_seen, changes_one}
 use Rattle.board_world.proofs.Seen.{same_solo, Runs, runner_solo, runner_seen, live_record, stripe_of}
 use Rattle.board_world.proofs.Tables.{stripe_set, stripe_without}
 
 -- who unbinds_number a VPN keeps all but its bindings and what it sees
 unbound_keeps : (vpn : ℕ) (s : Solo) → unbound vpn s ≡ resighted s (unbound vpn s)
-unbound_keeps vpn s = by_test (is_some (binding_at s.binds vpn))
-  where
-    by_test : (t : Bool) → (if t then with_binds (set_at (row_of vpn) None s.binds) s else s) ≡ resighted s (if t then with_binds (set_at (row_of vpn) None s.binds) s else s)
-    by_test true = refl
-    by_test false = refl
+unbound_keeps vpn s = search rules
 
 -- the bytes of a page that is owned are those that its owner sees
 bytes_owned : (b : Shown) (page : ℕ) → IsSound b → IsOwned (row_in b.pages page) → calls.page_bytes (world_of b) page ≡ page_at b.frames page
@@ -126,16 +122,8 @@ module _ (b : Shown) (e : ℕ) (x : Environment) (r : Runs b e x) (sound : IsSou
       let rows = (doing.with_unbound b e vpn).binds in
       let set = stripe_without b.binds e vpn striped (row_within vpn) in
       let sees = unbinder_loses e vpn (row_in b.pages) (stripe_of b e) (page_at b.frames) (runner_solo b e x) (own_sees b e x) in
-      record {
-        book = rebound_book rows mine v set;
-        count = refl;
-        solos = one_changed (solo_of b) (solo_of (doing.after_grant b e v (Unbinds vpn))) e (deeded (Unbinds vpn) v (solo_of b e))
-            (rebound_seen rows mine v set (unbound vpn (runner_solo b e x)) sees
-            ∙ (λ k. record (sym (unbound_keeps vpn (runner_solo b e x)) k) { cpu = answered_cpu (Grant v) b.cpu })
-            ∙ deeded_seen b e x r (Unbinds vpn) v)
-            (rebound_others rows mine v set);
-        rows = sym (append-nil b.ledger.rows);
-        room = omega arith;
-        spare = refl;
-        time = refl;
-      }
+      changes_one refl (rebound_book rows mine v set) refl
+      (rebound_seen rows mine v set (unbound vpn (runner_solo b e x)) sees
+      ∙ (λ k. record (sym (unbound_keeps vpn (runner_solo b e x)) k) { cpu = answered_cpu (Grant v) b.cpu })
+      ∙ deeded_seen b e x r (Unbinds vpn) v)
+      (rebound_others rows mine v set)

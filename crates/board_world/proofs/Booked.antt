@@ -1,10 +1,10 @@
 -- The books stay sound: pages and bindings are those of environments that live, and what is bound is owned.
-use Rattle.std.proofs.Common.{◌≡◌, ◌≢◌, ℕ, ◌+◌, ◌*◌, ◌<◌, List, length, map, Bool, true, false, Option, Some, None, refl, sym, ◌∙◌, ap, subst, inl, inr, get_or-set_same}
-use Rattle.std.specs.Prelude.{◌==◌, if◌then◌else◌, slice_set}
+use Rattle.std.proofs.Common.{◌≡◌, ◌≢◌, ℕ, ◌+◌, ◌*◌, ◌<◌, List, length, map, Bool, true, false, Option, Some, None, refl, sym, ◌∙◌, ap, subst, get_or-set_same, rules}
+use Rattle.std.specs.Prelude.{slice_set}
 use Rattle.std.proofs.lemmas.Bool.{cases_eq, eq-eqb, eqb-false, or_parts}
 use Rattle.page_book.specs.declared.row.Capabilities.{Capabilities}
 use Rattle.page_book.specs.declared.row.PageRow.{PageRow}
-use Rattle.page_book.specs.declared.row.PageRow.TheVariants.{Free, Guaranteed, Owned}
+use Rattle.page_book.specs.declared.row.PageRow.TheVariants.{Free, Owned}
 use Rattle.page_book.specs.Row.{belongs_to, owner_of, released}
 use Rattle.page_book.specs.Rows.{row_in}
 use Rattle.bind_book.specs.declared.binding.Binding.{Binding}
@@ -31,11 +31,7 @@ keep_booked f keeps pages binds r e are = record {
 
 -- what holds of the row that a page got, and of those of the others
 pub by_page : (P : PageRow → Type 0) (pages : List PageRow) (page p : ℕ) (row : PageRow) → page < length pages → (p ≡ page → P row) → (p ≢ page → P (row_in pages p)) → P (row_in (slice_set pages page row) p)
-by_page P pages page p row within here others =
-    elim (cases_eq p page) [
-      | inl same ↦ subst P (sym (ap (row_in (slice_set pages page row)) same ∙ get_or-set_same pages page row Free within)) (here same)
-      | inr other ↦ subst P (sym (other_row pages page p row other)) (others other)
-    ]
+by_page P pages page p row within here others = search (rules, cases_eq, get_or-set_same, other_row)
 
 -- a page becomes an environment's that lives, or stays so with other words
 pub owned_booked : (pages : List PageRow) (binds : List (Option Binding)) (r : Environments) (page e : ℕ) (words : Capabilities) → page < length pages → IsLive r.list e → AreBooked pages binds r → AreBooked (slice_set pages page (Owned e words)) binds r
@@ -51,12 +47,7 @@ left_binding broken binds e row x is = left_in_row (broken e) (stripes binds e r
 
 -- bindings are broken
 pub sweep_booked : (broken : ℕ → Binding → Bool) (pages : List PageRow) (binds : List (Option Binding)) (r : Environments) → AreBooked pages binds r → AreBooked pages (swept broken binds) r
-sweep_booked broken pages binds r are = record {
-  striped = length-swept broken binds ∙ are.striped;
-  owners = are.owners;
-  binders = λ i row x is. are.binders i row x (left_binding broken binds i row x is).0;
-  bound = λ i row x is. are.bound i row x (left_binding broken binds i row x is).0;
-}
+sweep_booked broken pages binds r are = search (rules, length-swept, left_binding)
 
 -- a page is freed, and all bindings of it are broken
 pub free_booked : (pages : List PageRow) (binds : List (Option Binding)) (r : Environments) (page : ℕ) → page < length pages → AreBooked pages binds r → AreBooked (slice_set pages page Free) (swept (breaks_page page None) binds) r
@@ -76,23 +67,11 @@ free_booked pages binds r page within are = record {
 module _ (cause : Cause) (pages : List PageRow) (binds : List (Option Binding)) (r : Environments) (e : ℕ) (are : AreBooked pages binds r) where
   -- what is left has an owner that isn't gone
   owner_left : (row : PageRow) (i : ℕ) → owner_of (released e row) ≡ Some i → (owner_of row ≡ Some i) × (i ≢ e)
-  owner_left row i is = by_test (belongs_to e row) refl is
-    where
-      not_its : (row : PageRow) → belongs_to e row ≡ false → owner_of row ≡ Some i → i ≢ e
-      not_its Free stays owns same = cc
-      not_its (Guaranteed owner) stays owns same = let its : owner ≡ i = cc in eqb-false owner e stays (its ∙ same)
-      not_its (Owned owner words) stays owns same = let its : owner ≡ i = cc in eqb-false owner e stays (its ∙ same)
-
-      by_test : (t : Bool) → belongs_to e row ≡ t → owner_of (if t then Free else row) ≡ Some i → (owner_of row ≡ Some i) × (i ≢ e)
-      by_test true gone owns = cc
-      by_test false stays owns = (owns, not_its row stays owns)
+  owner_left row i is = search (rules, eqb-false)
 
   -- what is still bound was neither the dead one's binding, nor of its page
   still_bound : (i row : ℕ) (x : Binding) → stripes (swept (goes_with (row_in pages) e) binds) i row ≡ Some x → (stripes binds i row ≡ Some x) × ((i ≢ e) × (belongs_to e (row_in pages x.page) ≡ false))
-  still_bound i row x is =
-      let before = left_binding (goes_with (row_in pages) e) binds i row x is in
-      let parts = or_parts (i == e) (belongs_to e (row_in pages x.page)) before.1 in
-      (before.0, (eqb-false i e parts.0, parts.1))
+  still_bound i row x is = search (rules, left_binding, or_parts, eqb-false)
 
   still_owned : (row : PageRow) → belongs_to e row ≡ false → IsOwned row → IsOwned (released e row)
   still_owned row stays owned = rw stays owned

@@ -1,5 +1,5 @@
 -- A page whose bindings are broken, or that is freed, on the world that is shown.
-use Rattle.std.proofs.Common.{◌≡◌, ◌≢◌, ◌<◌, ℕ, length, true, false, Option, Some, None, refl, sym, ◌∙◌, ap}
+use Rattle.std.proofs.Common.{◌≡◌, ◌≢◌, ◌<◌, ℕ, length, true, false, Option, Some, None, refl, sym, ◌∙◌, ap, rules}
 use Rattle.std.specs.Prelude.{slice_get}
 use Rattle.std.proofs.lemmas.List.{length-set}
 use Rattle.frame_store.specs.Pages.{page_at}
@@ -43,11 +43,7 @@ module _ (b : Shown) (page : ℕ) (row : PageRow) (but : Option ℕ) (within : p
   now_stripe i k = swept_row (breaks_page page but) b.binds i k
 
   pub broken_book : book_of now ≡ broken page but (record (book_of b) { pages = set_at page row (row_in b.pages) })
-  broken_book = λ k. record (book_of b) {
-    page_count = length-set b.pages page row k;
-    pages = λ p. now_rows p k;
-    binds = λ i n. now_stripe i n k;
-  }
+  broken_book = search (rules, length-set, now_rows, now_stripe)
 
   -- whoever had bound the page loses it, but for its owner
   pub broken_else : IsSound b → (e : ℕ) → is_owned_by e (row_in b.pages page) ≡ true → (i : ℕ) → i ≢ e → but ≢ Some i → is_owned_by i row ≡ false → solo_of now i ≡ absorb_all (solo_of b i) (calls.breaks (book_of b) page i)

@@ -1,22 +1,23 @@
 -- A board without programs, and one with one more.
-use Rattle.std.proofs.Common.{subst, ◌≡◌, ◌≢◌, ◌≤◌, ◌<◌, ℕ, zero, suc, ◌+◌, ◌-◌, ◌*◌, List, [], ◌∷◌, ◌++◌, length, map, replicate, Bool, true, false, Option, Some, None, IfSome, inl, inr, refl, sym, ◌∙◌, ap, arith}
-use Rattle.std.specs.Prelude.{◌==◌, ◌&&◌, filter, slice_get, All, slice_index_or}
+use Rattle.std.proofs.Common.{subst, ◌≡◌, ◌≢◌, ◌≤◌, ◌<◌, ℕ, zero, suc, ◌+◌, ◌-◌, ◌*◌, List, [], ◌∷◌, ◌++◌, length, map, replicate, Bool, true, false, Option, Some, None, IfSome, inl, inr, refl, sym, ◌∙◌, ap, arith, rules}
+use Rattle.std.specs.Prelude.{◌==◌, ◌&&◌, filter, slice_get, All}
 use Rattle.std.specs.List.{list_all}
 use Rattle.filter_tree.specs.ClaimBook.{RowValue, claim_in, is_of_env}
 use Rattle.std.specs.Option.{option_map}
 use Rattle.std.proofs.lemmas.List.{length-append, length-map, length-replicate}
 use Rattle.std.proofs.lemmas.Bool.{ne_eqb, eqb-true, eqb-false}
+use Rattle.std.proofs.lemmas.Grind.{common_steps}
 use Rattle.external_event.specs.Limits.{lines as most_lines}
 use Rattle.kernel_journal.specs.Ledger.{Ledger}
 use Rattle.mips_exec.specs.declared.registers.Cpu.{Cpu}
-use Rattle.frame_store.specs.Pages.{page_at, zero_page, zeroed}
+use Rattle.frame_store.specs.Pages.{zeroed}
 use Rattle.page_book.specs.declared.row.PageRow.{PageRow}
 use Rattle.page_book.specs.declared.row.PageRow.TheVariants.{Free, Guaranteed, Owned}
 use Rattle.page_book.specs.Row.{is_owned_by, owner_of}
 use Rattle.page_book.specs.Rows.{free_below, free_pages, row_in}
 use Rattle.page_book.proofs.Owners.{owner_is}
 use Rattle.bind_book.specs.declared.binding.Binding.{Binding}
-use Rattle.bind_book.specs.Stripe.{is_bound, is_of_page, stripe_rows, stripes}
+use Rattle.bind_book.specs.Stripe.{is_bound, stripe_rows, stripes}
 use Rattle.bind_book.proofs.Rows.{empty_row}
 use Rattle.env_frames.specs.declared.mapping.Mapping.{Mapping}
 use Rattle.env_frames.specs.Context.{no_handlers}
@@ -27,7 +28,6 @@ use Rattle.world_model.specs.declared.life.Life.TheVariants.{Live}
 use Rattle.world_model.specs.Book.{is_runner, own_hold}
 use Rattle.run_model.specs.Boot.{boot_slot, bare_world, added, kept_of, mappings_over, own_rows, record_items}
 use Rattle.world_model.specs.Item.{absorb_all, boot_cpu}
-use Rattle.world_model.specs.Solo.{absent}
 use Rattle.world_model.specs.World.{only}
 use Rattle.page_sight.proofs.Sights.{nothing_of}
 use Rattle.page_sight.proofs.Stripes.{bound_nowhere}
@@ -35,7 +35,7 @@ use Rattle.board_world.specs.declared.roster.Environment.{Environment}
 use Rattle.board_world.specs.Lines.{free_lines, line_at}
 use Rattle.board_world.specs.Rings.{ring_in, rings_of}
 use Rattle.board_world.specs.Shown.{Shown, Environments, mappings_of, no_output, shown}
-use Rattle.board_world.specs.Showing.{book_of, world_of, solo_of, solo_or_absent, cpu_seen, pages_seen, page_seen}
+use Rattle.board_world.specs.Showing.{book_of, world_of, solo_of, solo_or_absent, pages_seen, page_seen}
 use Rattle.board_world.specs.Sound.{AreBooked, AreGuaranteed, AreWired, IsSound, IsManned, IsParted, IsLive, IsUndead, has_own_page}
 use Rattle.board_world.specs.Loading.{AreGiven, AreLeft}
 use Rattle.revocation_book.specs.declared.revocation.Pending.{Pending}
@@ -50,7 +50,8 @@ use Rattle.board_world.proofs.Mappings.{last_mappings, more_mappings, other_mapp
 use Rattle.board_world.proofs.Parts.{worlds, by_env, only_here, only_else}
 use Rattle.board_world.proofs.Sound.{if_both}
 use Rattle.board_world.proofs.Seen.{like_solo, owned_taken, sights_of}
-use Rattle.board_world.proofs.Wired.{built_wired, line_free}
+use Rattle.board_world.proofs.Wired.{built_wired}
+use Rattle.board_world.proofs.Tables.{all_alike}
 
 -- the slots at boot: each owner is one of those that will be
 own_holds : (envs : ℕ) (owners : List (Option ℕ)) → All (λ owner. IfSome owner (λ e. e < envs)) owners → (k : ℕ) → IfSome (vector.hold_at (map (option_map own_hold) owners) k) (λ h. (h.owner < envs) × (h.holder < envs))
@@ -58,12 +59,6 @@ own_holds envs [] all k = tt
 own_holds envs (None ∷ owners) all zero = tt
 own_holds envs (Some e ∷ owners) all zero = (all 0 None (omega arith), all 0 None (omega arith))
 own_holds envs (o ∷ owners) all (suc k) = own_holds envs owners (λ i d within. all (suc i) d (omega arith)) k
-
--- at boot nobody owes anything
-nothing_owed : (count e : ℕ) → vector.excess_of (replicate count 0) e ≡ 0
-nothing_owed zero e = refl
-nothing_owed (suc count) zero = refl
-nothing_owed (suc count) (suc e) = nothing_owed count e
 
 pub built_manned : (quantum envs : ℕ) (owners : List (Option ℕ)) → least_quantum ≤ quantum → length owners ≤ most_slots → All (λ owner. IfSome owner (λ e. e < envs)) owners → IsManned (vector.first_slices quantum owners) (record { list = []; spare = envs })
 built_manned quantum envs owners long few all = record {
@@ -73,22 +68,11 @@ built_manned quantum envs owners long few all = record {
   holds = λ k. if_both (vector.hold_at (map (option_map own_hold) owners) k) (λ h is both. ((omega (arith, both.0), tt), (omega (arith, both.1), tt))) (own_holds envs owners all k);
   count = omega (arith, length-map owners (option_map own_hold));
   numbered = length-replicate {A = ℕ} vector.most_numbers 0;
-  owes = λ e. omega (arith, nothing_owed vector.most_numbers e);
+  owes = λ e. omega (arith, all_alike {A = ℕ} 0 vector.most_numbers e);
 }
 
 pub built_parted : (pages : ℕ) → pages ≤ most_pages → IsParted (zeroed pages) (replicate pages Free) []
-built_parted pages few =
-    let size : length (zeroed pages) ≡ pages = length-replicate pages zero_page in
-    record {
-      same = size ∙ sym (length-replicate pages Free);
-      most = omega (arith, size);
-      mapped = none_guaranteed (replicate pages Free);
-    }
-
-all_free : (pages page : ℕ) → row_in (replicate pages Free) page ≡ Free
-all_free zero page = refl
-all_free (suc pages) zero = refl
-all_free (suc pages) (suc page) = all_free pages page
+built_parted pages few = search (rules, length-replicate, none_guaranteed)
 
 free_among : (rows : ℕ → PageRow) (count : ℕ) → ((page : ℕ) → rows page ≡ Free) → free_below rows count ≡ count
 free_among rows zero free = refl
@@ -96,15 +80,10 @@ free_among rows (suc count) free = rw (free count, free_among rows count free) r
 
 -- all pages of a board without programs are free
 pub built_free : (pages : ℕ) → free_pages (replicate pages Free) ≡ pages
-built_free pages = free_among (row_in (replicate pages Free)) (length (replicate pages Free)) (all_free pages) ∙ length-replicate pages Free
+built_free pages = free_among (row_in (replicate pages Free)) (length (replicate pages Free)) (all_alike Free pages) ∙ length-replicate pages Free
 
 pub built_booked : (pages envs : ℕ) → AreBooked (replicate pages Free) (replicate (envs * stripe_rows) None) (record { list = []; spare = envs })
-built_booked pages envs = record {
-  striped = let all : envs ≡ 0 + envs = omega arith in length-replicate {A = Option Binding} (envs * stripe_rows) None ∙ ap (λ n. n * stripe_rows) all;
-  owners = λ page e is. let none : None ≡ Some e = ap owner_of (sym (all_free pages page)) ∙ is in cc;
-  binders = λ e row x is. let none : None ≡ Some x = sym (empty_row (envs * stripe_rows) e row) ∙ is in cc;
-  bound = λ e row x is. let none : None ≡ Some x = sym (empty_row (envs * stripe_rows) e row) ∙ is in cc;
-}
+built_booked pages envs = search (rules, length-replicate, all_alike, empty_row)
 
 own_slots : (owners : List (Option ℕ)) (k : ℕ) → vector.hold_at (map (option_map own_hold) owners) k ≡ boot_slot owners k
 own_slots [] k = refl
@@ -116,18 +95,8 @@ own_slots (o ∷ owners) (suc k) = own_slots owners k
 abbrev no_pending : Option Pending
 no_pending = None
 
-nothing_pending : (n e : ℕ) → slice_index_or (replicate n no_pending) e no_pending ≡ no_pending
-nothing_pending zero e = refl
-nothing_pending (suc n) zero = refl
-nothing_pending (suc n) (suc e) = nothing_pending n e
-
 abbrev no_backups : List ℕ
 no_backups = []
-
-nothing_loaded : (n e : ℕ) → slice_index_or (replicate n no_backups) e no_backups ≡ no_backups
-nothing_loaded zero e = refl
-nothing_loaded (suc n) zero = refl
-nothing_loaded (suc n) (suc e) = nothing_loaded n e
 
 -- what a board without programs shows
 pub built_world : (pages envs quantum : ℕ) (owners : List (Option ℕ)) (b : Shown) → b.pages ≡ replicate pages Free → b.binds ≡ replicate (envs * stripe_rows) None → b.lines ≡ free_lines → b.claims.rows ≡ [] → b.claims.next ≡ 0 → b.revocations ≡ nothing_asked → b.slots ≡ vector.first_slices quantum owners → b.roster.list ≡ [] → b.time ≡ 0 → b.ledger.rows ≡ own_rows owners (length owners) → world_of b ≡ bare_world pages quantum owners
@@ -141,16 +110,16 @@ built_world pages envs quantum owners b free unbound untaken unclaimed first una
       quantum = (slots i).quantum;
       cursor = (slots i).cursor;
       runner = (slots i).runner;
-      excess = λ e. (ap (λ v. vector.excess_of v.excess e) slots ∙ nothing_owed vector.most_numbers e) i;
+      excess = λ e. (ap (λ v. vector.excess_of v.excess e) slots ∙ all_alike 0 vector.most_numbers e) i;
       page_count = page_count i;
-      pages = λ page. (ap (λ rows. row_in rows page) free ∙ all_free pages page) i;
+      pages = λ page. (ap (λ rows. row_in rows page) free ∙ all_alike Free pages page) i;
       kept = λ e. ap (λ list. mappings_of list e) none i;
       binds = λ e row. (ap (λ rows. stripes rows e row) unbound ∙ empty_row (envs * stripe_rows) e row) i;
-      lines = λ line. (ap (λ taken. line_at taken line) untaken ∙ line_free most_lines line) i;
+      lines = λ line. (ap (λ taken. line_at taken line) untaken ∙ all_alike None most_lines line) i;
       claims = (ap (map claim_in) unclaimed) i;
       next_claim = first i;
-      pending = λ e. (ap (λ book. pending_at book e) unasked ∙ nothing_pending most_asked e) i;
-      backups = λ e. (ap (λ book. backups_at book e) unasked ∙ nothing_loaded most_asked e) i;
+      pending = λ e. (ap (λ book. pending_at book e) unasked ∙ all_alike no_pending most_asked e) i;
+      backups = λ e. (ap (λ book. backups_at book e) unasked ∙ all_alike no_backups most_asked e) i;
       time = start i;
     })
     (ap length none)
@@ -166,30 +135,13 @@ module _ (r : Environments) (x : Environment) (lives : x.life ≡ Live) (room : 
   still_live i live = (omega (arith, live.0, one_longer), rw (other_get r.list x i (λ same. omega (arith, same, live.0))) live.1)
 
   still_undead : (i : ℕ) → IsUndead r i → IsUndead (record { list = r.list ++ x ∷ []; spare = r.spare - 1 }) i
-  still_undead i undead = (omega (arith, undead.0, one_longer, room), by_last (i == length r.list) refl)
-    where
-      by_last : (last : Bool) → (i == length r.list) ≡ last → IfSome (slice_get (r.list ++ x ∷ []) i) (λ y. y.life ≡ Live)
-      by_last true is =
-          let there : slice_get (r.list ++ x ∷ []) i ≡ Some x = ap (slice_get (r.list ++ x ∷ [])) (eqb-true i (length r.list) is) ∙ last_get r.list x in
-          rw there lives
-      by_last false is = rw (other_get r.list x i (eqb-false i (length r.list) is)) undead.1
+  still_undead i undead = grind (arith, common_steps, eqb-true, last_get, other_get, eqb-false, one_longer)
 
   pub added_manned : (v : vector.Slices) → IsManned v r → IsManned v (record { list = r.list ++ x ∷ []; spare = r.spare - 1 })
-  added_manned v manned = record {
-    quantum = manned.quantum;
-    ticks = manned.ticks;
-    runner = if_both v.runner (λ y is live. still_live y.env live) manned.runner;
-    holds = λ k. if_both (vector.hold_at v.slots k) (λ h is both. (still_undead h.owner both.0, still_undead h.holder both.1)) (manned.holds k);
-    count = manned.count;
-    numbered = manned.numbered;
-    owes = manned.owes;
-  }
+  added_manned v manned = search (rules, if_both, still_live, still_undead)
 
   pub added_wired : (lines : List (Option ℕ)) → AreWired lines r.list → AreWired lines (r.list ++ x ∷ [])
-  added_wired lines wired = record {
-    count = wired.count;
-    owners = λ line. if_both (line_at lines line) (λ owner is live. still_live owner live) (wired.owners line);
-  }
+  added_wired lines wired = search (rules, if_both, still_live)
 
 -- A board without programs is sound.
 pub built_sound : (pages quantum envs : ℕ) (owners : List (Option ℕ)) (cpu : Cpu) (ledger : Ledger) → pages ≤ most_pages → least_quantum ≤ quantum → length owners ≤ most_slots → envs ≤ most_environments
@@ -202,7 +154,7 @@ built_sound pages quantum envs owners cpu ledger few long slots most all = recor
   books = built_booked pages envs;
   lines = built_wired;
   claims = record { owned = refl; count = omega arith };
-  revocations = record { pending = length-replicate most_asked no_pending; backups = length-replicate most_asked no_backups; some = λ e. subst (λ pending. IfSome pending (λ p. 0 < p.outstanding)) (sym (nothing_pending most_asked e)) tt; owned = λ e page loaded. let none : true ≡ false = sym loaded ∙ ap (λ backups. is_loaded backups page) (nothing_loaded most_asked e) in cc };
+  revocations = record { pending = length-replicate most_asked no_pending; backups = length-replicate most_asked no_backups; some = λ e. subst (λ pending. IfSome pending (λ p. 0 < p.outstanding)) (sym (all_alike no_pending most_asked e)) tt; owned = λ e page loaded. let none : true ≡ false = sym loaded ∙ ap (λ backups. is_loaded backups page) (all_alike no_backups most_asked e) in cc };
 }
 
 -- Pages are given to the environment that is added.
@@ -215,13 +167,7 @@ module _ (r : Environments) (x : Environment) (count : ℕ) (pages given : List 
 
   -- what was guaranteed to another stays so
   still_guaranteed : (i : ℕ) (ms : List Mapping) → AreGuaranteed pages i ms → AreGuaranteed given i ms
-  still_guaranteed i ms are = record {
-    its = λ a m at.
-        let its = are.its a m at in
-        taken_row (length r.list) (row_in pages m.page) (row_in given m.page) (becomes m.page) (λ free. let both : Guaranteed i ≡ Free = sym its ∙ free in cc) ∙ its;
-    apart = are.apart;
-    rising = are.rising;
-  }
+  still_guaranteed i ms are = search (rules, taken_row, becomes)
 
   pub added_parted : IsParted frames pages r.list → AreGuaranteed given (length r.list) x.env.mappings → IsParted new given (r.list ++ x ∷ [])
   added_parted parted its = record {
@@ -325,11 +271,7 @@ module _ (b : Shown) (x : Environment) (frames : List (List ℕ)) (pages : List 
           ne_eqb owner (length b.roster.list) (λ same. omega (arith, same, live.0))
 
   unseen : (page : ℕ) → sights_of (with_one b x frames pages) (length b.roster.list) page ≡ None
-  unseen page =
-      nothing_of
-      (is_owned_by (length b.roster.list) (row_in pages page)) (is_bound page (stripes b.binds (length b.roster.list))) (page_at frames page)
-      (owned_alike (length b.roster.list) page ∙ unowned page)
-      (bound_nowhere page (stripes b.binds (length b.roster.list)) (λ row. ap (is_of_page page) (unbound row)))
+  unseen page = search (rules, nothing_of, bound_nowhere, owned_alike, unowned, unbound)
 
   -- what a page that is free shows to nobody
   nowhere_bound : (i page : ℕ) → row_in b.pages page ≡ Free → is_bound page (stripes b.binds i) ≡ false
@@ -339,26 +281,7 @@ module _ (b : Shown) (x : Environment) (frames : List (List ℕ)) (pages : List 
   seen_alike i page = grind (arith, owned_alike, nothing_of, nowhere_bound)
 
   added_here : solo_of (with_one b x frames pages) (length b.roster.list) ≡ absorb_all (solo_of b (length b.roster.list)) (only (length b.roster.list) (record_items (length b.roster.list) (Some p)) (length b.roster.list))
-  added_here =
-      let n = length b.roster.list in
-      let regs : cpu_seen (with_one b x frames pages) n x.env.cpu ≡ boot_cpu p.body.entry = rw unrun cpu in
-      ap (solo_or_absent (with_one b x frames pages) n) (last_get b.roster.list x)
-      ∙ (λ k. record {
-        number = n;
-        name = name k;
-        life = lives k;
-        cpu = regs k;
-        handlers = handlers k;
-        mask = mask k;
-        kept = kept k;
-        binds = λ row. unbound row k;
-        seen = λ page. unseen page k;
-        rings = ringless k;
-        console = (output k).console;
-        sent = (output k).sent;
-      })
-      ∙ ap (absorb_all (absent n)) (sym (only_here n (record_items n (Some p))))
-      ∙ ap (λ s. absorb_all s (only n (record_items n (Some p)) n)) (sym (ap (solo_or_absent b n) (past_get b.roster.list)))
+  added_here = search (rules, last_get, only_here, past_get, unrun, unbound, unseen, ringless)
 
   added_others : (i : ℕ) → i ≢ length b.roster.list → solo_of (with_one b x frames pages) i ≡ absorb_all (solo_of b i) (only (length b.roster.list) (record_items (length b.roster.list) (Some p)) i)
   added_others i ne =

@@ -1,7 +1,6 @@
 -- What the runner does to its claims, on the world that is shown.
-use Rattle.std.proofs.Common.{◌≡◌, ◌≢◌, ℕ, ◌+◌, List, [], ◌∷◌, ◌++◌, true, Option, Some, None, Result, Ok, refl, sym, ◌∙◌, ap, arith}
+use Rattle.std.proofs.Common.{◌≡◌, ◌≢◌, ℕ, ◌+◌, List, [], ◌∷◌, ◌++◌, true, Option, Some, None, Result, Ok, refl, sym, ◌∙◌, ap, rules}
 use Rattle.std.specs.Prelude.{is_some, map}
-use Rattle.std.proofs.lemmas.List.{append-nil}
 use Rattle.filter_core.specs.declared.atom.Atom.{Atom}
 use Rattle.filter_tree.specs.ClaimBook.{ClaimBook, are_numbered, claims_in}
 use Rattle.filter_tree.specs.Claims.{book_unless, claim_refusal, claimed, downloaded, is_claim, with_claim, without}
@@ -28,44 +27,33 @@ use Rattle.board_world.specs.Showing.{world_of, book_of, solo_of}
 use Rattle.board_world.specs.Sound.{IsSound}
 use Rattle.board_world.specs.Doing as doing
 use Rattle.board_world.proofs.Claimed.{claims_downloaded, claims_more, claims_without, rings_claimed, rings_claimed_else, rings_downloaded, rings_downloaded_else, rings_unclaimed, rings_unclaimed_else}
-use Rattle.board_world.proofs.Parts.{one_changed}
 use Rattle.board_world.proofs.Reading.{runner_look}
-use Rattle.board_world.proofs.Replying.{Serves, deeded, deeded_seen}
+use Rattle.board_world.proofs.Replying.{Serves, deeded, deeded_seen, changes_one}
 use Rattle.board_world.proofs.Seen.{Runs, its_look, runner_seen, runner_solo, same_solo}
 
 module _ (b : Shown) (e : ℕ) (x : Environment) (r : Runs b e x) (sound : IsSound b) where
   -- the filter that the runner names, as it is shown
   its_filter : (address atoms : ℕ) → filter_at (doing.look_of b e) address atoms ≡ filter_at (sight (solo_of b e)) address atoms
-  its_filter address atoms =
-      ap (λ (look : ℕ → Option Mapped). filter_at look address atoms) (λ k v. its_look b e x r sound v k)
-      ∙ ap (λ s. filter_at (sight s) address atoms) (sym (runner_seen b e x r))
+  its_filter address atoms = search (rules, its_look, runner_seen)
 
   -- a deed that changes claims alone: the runner has those of the book, as it says, and the others keep theirs
   changes_claims : (d : Deed) (v : ℕ) (claims : ClaimBook) (book : Book) → book_of (record b { claims = claims }) ≡ book → record (runner_solo b e x) { rings = rings_of claims e } ≡ own_part d (runner_solo b e x) → ((i : ℕ) → i ≢ e → rings_of claims i ≡ rings_of b.claims i)
       → Serves b e (deeded d v (solo_of b e)) (record { book = book; items = no_items; rows = [] }) (doing.after_answer (record b { claims = claims }) (Grant v))
   changes_claims d v claims book books own others =
       let now = doing.after_answer (record b { claims = claims }) (Grant v) in
-      record {
-        book = books;
-        count = refl;
-        solos = one_changed (solo_of b) (solo_of now) e (deeded d v (solo_of b e))
-            (runner_seen now e x (record { at = r.at; lives = r.lives; runs = r.runs })
-            ∙ ap (λ (s : Solo). record s { cpu = answered_cpu (Grant v) b.cpu }) own
-            ∙ deeded_seen b e x r d v)
-            (λ i ne. same_solo i now b (record {
-              record_is = refl;
-              rings = others i ne;
-              idles = r.runs.others i ne;
-              idled = r.runs.others i ne;
-              pages = refl;
-              binds = refl;
-              sights = refl;
-            }));
-        rows = sym (append-nil b.ledger.rows);
-        room = omega arith;
-        spare = refl;
-        time = refl;
-      }
+      changes_one refl books refl
+      (runner_seen now e x (record { at = r.at; lives = r.lives; runs = r.runs })
+      ∙ ap (λ (s : Solo). record s { cpu = answered_cpu (Grant v) b.cpu }) own
+      ∙ deeded_seen b e x r d v)
+      (λ i ne. same_solo i now b (record {
+        record_is = refl;
+        rings = others i ne;
+        idles = r.runs.others i ne;
+        idled = r.runs.others i ne;
+        pages = refl;
+        binds = refl;
+        sights = refl;
+      }))
 
   pub claims : (claim address atoms page v : ℕ) → MayClaim (world_of b) e claim address atoms page → Serves b e (deeded (Claims claim address atoms page) v (solo_of b e)) (done (world_of b) e (Claims claim address atoms page)) (doing.after_grant b e v (Claims claim address atoms page))
   claims claim address atoms page v may =

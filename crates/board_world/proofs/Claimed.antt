@@ -1,11 +1,12 @@
 -- The claims that stand, as their environments have them.
-use Rattle.std.proofs.Common.{◌≡◌, ◌≢◌, ℕ, List, [], ◌∷◌, ◌++◌, Bool, true, false, Option, Some, None, refl, sym, ◌∙◌, ap, inl, inr}
+use Rattle.std.proofs.Common.{◌≡◌, ◌≢◌, ℕ, List, [], ◌∷◌, ◌++◌, Bool, true, false, Option, Some, None, refl, sym, ◌∙◌, ap, inl, inr, rules, arith}
 use Rattle.std.specs.Prelude.{◌==◌, ◌&&◌, not, if◌then◌else◌, filter, find, map, is_some}
 use Rattle.std.specs.Option.{option_map}
 use Rattle.std.specs.List.{list_all}
 use Rattle.std.proofs.lemmas.Bool.{and_parts, and_right, cases_Bool, eq-eqb, eqb-true, ne_eqb}
 use Rattle.std.proofs.lemmas.List.{map-append}
 use Rattle.std.proofs.lemmas.List.Elements.{filter-append}
+use Rattle.std.proofs.lemmas.Grind.{common_steps}
 use Rattle.filter_core.specs.declared.atom.Atom.{Atom}
 use Rattle.filter_tree.specs.ClaimBook.{ClaimBook, ClaimValue, RowValue, are_numbered, claim_in, claims_in, is_of_env}
 use Rattle.filter_tree.specs.Claims as book
@@ -34,37 +35,17 @@ its_rings e rows = map ring_in (filter (of e) rows)
 sifted : (e : ℕ) (gone : ClaimValue → Bool) (test : Ring → Bool) → ((r : RowValue) → of e r ≡ true → gone r.claim ≡ test (ring_in r)) → (rows : List RowValue)
     → its_rings e (filter (λ (r : RowValue). not (gone r.claim)) rows) ≡ filter (λ (g : Ring). not (test g)) (its_rings e rows)
 sifted e gone test same [] = refl
-sifted e gone test same (r ∷ rows) = by_tests (of e r) (gone r.claim) refl refl (sifted e gone test same rows)
-  where
-    by_tests : (its goes : Bool) → of e r ≡ its → gone r.claim ≡ goes
-        → its_rings e (filter (λ (r : RowValue). not (gone r.claim)) rows) ≡ filter (λ (g : Ring). not (test g)) (its_rings e rows)
-        → its_rings e (filter (λ (r : RowValue). not (gone r.claim)) (r ∷ rows)) ≡ filter (λ (g : Ring). not (test g)) (its_rings e (r ∷ rows))
-    by_tests true true its goes rest = let tested : test (ring_in r) ≡ true = sym (same r its) ∙ goes in rw (goes, its, tested) rest
-    by_tests true false its goes rest = let tested : test (ring_in r) ≡ false = sym (same r its) ∙ goes in rw (goes, its, tested) (ap (λ gs. ring_in r ∷ gs) rest)
-    by_tests false true its goes rest = rw (goes, its) rest
-    by_tests false false its goes rest = rw (goes, its) rest
+sifted e gone test same (r ∷ rows) = search (rules, (sifted e gone test same rows))
 
 -- where none of its own goes it has what it had
 nothing_sifted : (e : ℕ) (gone : ClaimValue → Bool) → ((r : RowValue) → of e r ≡ true → gone r.claim ≡ false) → (rows : List RowValue) → its_rings e (filter (λ (r : RowValue). not (gone r.claim)) rows) ≡ its_rings e rows
 nothing_sifted e gone stays [] = refl
-nothing_sifted e gone stays (r ∷ rows) = by_tests (of e r) (gone r.claim) refl refl (nothing_sifted e gone stays rows)
-  where
-    by_tests : (its goes : Bool) → of e r ≡ its → gone r.claim ≡ goes
-        → its_rings e (filter (λ (r : RowValue). not (gone r.claim)) rows) ≡ its_rings e rows
-        → its_rings e (filter (λ (r : RowValue). not (gone r.claim)) (r ∷ rows)) ≡ its_rings e (r ∷ rows)
-    by_tests true true its goes rest = let both : true ≡ false = sym goes ∙ stays r its in cc
-    by_tests true false its goes rest = rw (goes, its) (ap (λ gs. ring_in r ∷ gs) rest)
-    by_tests false true its goes rest = rw (goes, its) rest
-    by_tests false false its goes rest = rw (goes, its) rest
+nothing_sifted e gone stays (r ∷ rows) = search (rules, (nothing_sifted e gone stays rows))
 
 -- and where all of them go it has none
 all_sifted : (e : ℕ) (rows : List RowValue) → its_rings e (filter (λ (r : RowValue). not (of e r)) rows) ≡ []
 all_sifted e [] = refl
-all_sifted e (r ∷ rows) =
-    elim (cases_Bool (of e r)) [
-      | inl its ↦ rw its (all_sifted e rows)
-      | inr other ↦ rw other (rw other (all_sifted e rows))
-    ]
+all_sifted e (r ∷ rows) = search (rules, cases_Bool, (all_sifted e rows))
 
 -- a page is no ring any more
 pub rings_dropped : (claims : ClaimBook) (page e : ℕ) → rings_of (without (is_into page) claims) e ≡ rings_but page (rings_of claims e)
@@ -113,19 +94,10 @@ more_rows : (e : ℕ) (rows : List RowValue) (r : RowValue) → its_rings e (row
 more_rows e rows r = ap (map ring_in) (filter-append (of e) rows (r ∷ [])) ∙ map-append ring_in (filter (of e) rows) (filter (of e) (r ∷ []))
 
 pub rings_claimed : (claims : ClaimBook) (e : ℕ) (atoms : List Atom) (page : ℕ) → rings_of (with_claim claims e atoms page) e ≡ rings_of claims e ++ record { claim = claims.next; page = page; next = First; handler = None } ∷ []
-rings_claimed claims e atoms page =
-    more_rows e claims.rows (new_row claims e atoms page)
-    ∙ ap (λ (gs : List Ring). rings_of claims e ++ gs) (let its : (e == e) ≡ true = eq-eqb e e refl in rw its refl)
+rings_claimed claims e atoms page = grind (arith, common_steps, more_rows, eq-eqb)
 
 pub rings_claimed_else : (claims : ClaimBook) (e : ℕ) (atoms : List Atom) (page i : ℕ) → i ≢ e → rings_of (with_claim claims e atoms page) i ≡ rings_of claims i
-rings_claimed_else claims e atoms page i ne =
-    more_rows i claims.rows (new_row claims e atoms page)
-    ∙ ap (λ (gs : List Ring). rings_of claims i ++ gs) (let other : (e == i) ≡ false = ne_eqb e i (λ same. ne (sym same)) in rw other refl)
-    ∙ nothing_more (rings_of claims i)
-  where
-    nothing_more : (gs : List Ring) → gs ++ [] ≡ gs
-    nothing_more [] = refl
-    nothing_more (g ∷ gs) = ap (λ rest. g ∷ rest) (nothing_more gs)
+rings_claimed_else claims e atoms page i ne = grind (arith, common_steps, more_rows, ne_eqb)
 
 -- Where the row of one number gets another buffer or another handler, its claim stays, and so does its ring.
 module _ (id : ℕ) (f : RowValue → RowValue) (g : Ring → Ring) (same : (r : RowValue) → (f r).claim ≡ r.claim) (shows : (r : RowValue) → ring_in (f r) ≡ g (ring_in r)) where
@@ -136,11 +108,7 @@ module _ (id : ℕ) (f : RowValue → RowValue) (g : Ring → Ring) (same : (r :
   its h = if is_ring id h then g h else h
 
   same_claim : (r : RowValue) → (row r).claim ≡ r.claim
-  same_claim r = by_test (is_numbered id r.claim)
-    where
-      by_test : (t : Bool) → (if t then f r else r).claim ≡ r.claim
-      by_test true = same r
-      by_test false = refl
+  same_claim r = search rules
 
   -- which the claims alone don't show
   same_claims : (rows : List RowValue) → map claim_in (map row rows) ≡ map claim_in rows
@@ -148,33 +116,16 @@ module _ (id : ℕ) (f : RowValue → RowValue) (g : Ring → Ring) (same : (r :
   same_claims (r ∷ rows) = λ k. same_claim r k ∷ same_claims rows k
 
   row_ring : (r : RowValue) → ring_in (row r) ≡ its (ring_in r)
-  row_ring r = by_test (is_numbered id r.claim)
-    where
-      by_test : (t : Bool) → ring_in (if t then f r else r) ≡ (if t then g (ring_in r) else ring_in r)
-      by_test true = shows r
-      by_test false = refl
+  row_ring r = search rules
 
   rows_rings : (e : ℕ) (rows : List RowValue) → its_rings e (map row rows) ≡ map its (its_rings e rows)
   rows_rings e [] = refl
-  rows_rings e (r ∷ rows) =
-      let stays : of e (row r) ≡ of e r = ap (is_of_env e) (same_claim r) in
-      elim (cases_Bool (of e r)) [
-        | inl own ↦ let still : of e (row r) ≡ true = stays ∙ own in rw (still, own) ((λ k. row_ring r k ∷ rows_rings e rows k))
-        | inr other ↦ let still : of e (row r) ≡ false = stays ∙ other in rw (still, other) (rows_rings e rows)
-      ]
+  rows_rings e (r ∷ rows) = search (rules, cases_Bool, (rows_rings e rows))
 
   -- who has no claim of this number has what it had
   none_changed : (i : ℕ) (rows : List RowValue) → find (λ (r : RowValue). is_claim i id r.claim) rows ≡ None → map its (its_rings i rows) ≡ its_rings i rows
   none_changed i [] none = refl
-  none_changed i (r ∷ rows) none = by_tests (is_numbered id r.claim) (of i r) refl refl (none_changed i rows)
-    where
-      by_tests : (numbered own : Bool) → is_numbered id r.claim ≡ numbered → of i r ≡ own
-          → (find (λ (r : RowValue). is_claim i id r.claim) rows ≡ None → map its (its_rings i rows) ≡ its_rings i rows)
-          → map its (its_rings i (r ∷ rows)) ≡ its_rings i (r ∷ rows)
-      by_tests true true numbered own rest = let both : Some r ≡ None = rw (numbered, own) at none in cc
-      by_tests true false numbered own rest = rw own (rest (rw (numbered, own) at none))
-      by_tests false true numbered own rest = rw (own, numbered) (ap (λ gs. ring_in r ∷ gs) (rest (rw numbered at none)))
-      by_tests false false numbered own rest = rw own (rest (rw numbered at none))
+  none_changed i (r ∷ rows) none = search (rules, (none_changed i rows))
 
 -- the buffers of a claim take turns
 pub claims_turned : (claims : ClaimBook) (id : ℕ) → claims_in (delivered id claims) ≡ claims_in claims

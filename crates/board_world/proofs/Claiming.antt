@@ -1,6 +1,6 @@
 -- Claims stay those of pages that their environments own.
-use Rattle.std.proofs.Common.{◌≡◌, ◌≢◌, ℕ, ◌+◌, ◌-◌, ◌<◌, List, [], ◌∷◌, ◌++◌, length, map, Bool, true, false, Option, refl, sym, ◌∙◌, ap, subst, inl, inr}
-use Rattle.std.specs.Prelude.{◌==◌, not, if◌then◌else◌, filter, slice_set}
+use Rattle.std.proofs.Common.{◌≡◌, ◌≢◌, ℕ, ◌+◌, ◌-◌, ◌<◌, List, [], ◌∷◌, ◌++◌, length, map, Bool, true, false, Option, refl, sym, ◌∙◌, ap, subst, inl, inr, rules}
+use Rattle.std.specs.Prelude.{◌==◌, not, filter, slice_set}
 use Rattle.std.specs.List.{list_all}
 use Rattle.std.proofs.lemmas.Bool.{and_from, and_parts, cases_Bool, eq-eqb, eqb-false, eqb-true, ne_eqb, not-true}
 use Rattle.filter_tree.specs.ClaimBook.{ClaimBook, ClaimValue, RowValue, is_of_env}
@@ -8,7 +8,7 @@ use Rattle.filter_tree.specs.Claims as book
 use Rattle.filter_tree.specs.Claims.{delivered, downloaded, is_into, is_numbered, without}
 use Rattle.page_book.specs.declared.row.Capabilities.{Capabilities}
 use Rattle.page_book.specs.declared.row.PageRow.{PageRow}
-use Rattle.page_book.specs.declared.row.PageRow.TheVariants.{Free, Guaranteed, Owned}
+use Rattle.page_book.specs.declared.row.PageRow.TheVariants.{Free, Owned}
 use Rattle.page_book.specs.Row.{is_owned_by, released}
 use Rattle.page_book.specs.Rows.{row_in}
 use Rattle.page_book.proofs.Owners.{same_owner}
@@ -92,30 +92,18 @@ pub delivered_claimed : (claims : ClaimBook) (pages : List PageRow) (r : Environ
 delivered_claimed claims pages r id are = record { owned = same_own pages (book.row_after_packet_if id) same claims.rows are.owned; count = are.count }
   where
     same : (x : RowValue) → (book.row_after_packet_if id x).claim ≡ x.claim
-    same x = by_test (is_numbered id x.claim)
-      where
-        by_test : (t : Bool) → (if t then book.row_after_packet x else x).claim ≡ x.claim
-        by_test true = refl
-        by_test false = refl
+    same x = search rules
 
 -- a claim has another handler, or none
 pub downloaded_claimed : (claims : ClaimBook) (pages : List PageRow) (r : Environments) (id : ℕ) (handler : Option (List ℕ)) → AreClaimed claims pages r → AreClaimed (downloaded id handler claims) pages r
 downloaded_claimed claims pages r id handler are = record { owned = same_own pages (book.row_with_handler_if id handler) same claims.rows are.owned; count = are.count }
   where
     same : (x : RowValue) → (book.row_with_handler_if id handler x).claim ≡ x.claim
-    same x = by_test (is_numbered id x.claim)
-      where
-        by_test : (t : Bool) → (if t then book.row_with_handler handler x else x).claim ≡ x.claim
-        by_test true = refl
-        by_test false = refl
+    same x = search rules
 
 -- who owns a page still does once another is gone
 pub released_else : (row : PageRow) (i e : ℕ) → i ≢ e → is_owned_by i row ≡ true → is_owned_by i (released e row) ≡ true
-released_else Free i e ne own = cc
-released_else (Guaranteed owner) i e ne own = cc
-released_else (Owned owner words) i e ne own =
-    let other : (owner == e) ≡ false = ne_eqb owner e (λ same. ne (sym (eqb-true owner i own) ∙ same)) in
-    rw other own
+released_else row i e ne own = search (rules, ne_eqb, eqb-true)
 
 -- an environment dies
 pub death_claimed : (cause : Cause) (claims : ClaimBook) (pages : List PageRow) (r : Environments) (e : ℕ) → AreClaimed claims pages r → AreClaimed (without (is_of_env e) claims) (map (released e) pages) (with_list r (changed (dead_frame cause) r.list e))

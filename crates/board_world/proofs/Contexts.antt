@@ -1,23 +1,22 @@
 -- Bytes that are left in the context page of an environment, and its start.
-use Rattle.std.proofs.Common.{◌≡◌, ◌≢◌, ℕ, ◌+◌, ◌/◌, ◌%◌, List, Bool, true, false, Option, Some, None, refl, sym, ◌∙◌, ap}
+use Rattle.std.proofs.Common.{◌≡◌, ◌≢◌, ℕ, ◌+◌, ◌/◌, ◌%◌, List, Bool, true, false, Option, Some, refl, sym, ◌∙◌, ap, rules}
 use Rattle.std.specs.Prelude.{◌==◌, if◌then◌else◌, slice_get}
 use Rattle.std.specs.Option.{option_map}
 use Rattle.aegis_limits.specs.Limits.{page_size}
 use Rattle.mips_exec.specs.declared.registers.Cpu.{Cpu}
 use Rattle.mips_exec.specs.Access.{Write}
-use Rattle.mips_exec.specs.Cpu.{rested}
 use Rattle.frame_store.specs.Pages.{page_at}
 use Rattle.page_book.specs.Rows.{row_in}
 use Rattle.env_frames.specs.declared.mapping.Mapping.{Mapping}
-use Rattle.env_frames.specs.Context.{context_number, resumed_cpu, start_area, start_bytes, started_cpu}
+use Rattle.env_frames.specs.Context.{context_number, start_area, start_bytes, started_cpu}
 use Rattle.env_frames.specs.Frame.{left_in, mapping_at, page_of}
 use Rattle.guest_memory.specs.Look.{written_through}
 use Rattle.page_sight.specs.Sight.{seen_in}
 use Rattle.world_model.specs.declared.life.Life.TheVariants.{Live}
-use Rattle.world_model.specs.Upcalls.{start, start_by, with_context}
+use Rattle.world_model.specs.Upcalls.{start, start_by}
 use Rattle.world_model.specs.Solo.{Solo, Store, Kept, kept_after}
 use Rattle.board_world.specs.declared.roster.Environment.{Environment}
-use Rattle.board_world.specs.Shown.{Shown, handlers_in, handlers_of, mappings_in, mappings_of, registers_in}
+use Rattle.board_world.specs.Shown.{Shown, handlers_of, mappings_in, mappings_of, registers_in}
 use Rattle.board_world.specs.Showing.{pages_seen, solo_seen}
 use Rattle.board_world.specs.Sound.{IsSound}
 use Rattle.board_world.specs.Doing.{start_frames, start_registers}
@@ -44,8 +43,7 @@ module _ (b : Shown) (sound : IsSound b) (e : ℕ) (w : Write) (number : w.addre
   reached = ap (mapping_at maps) number
 
   written : (m : Option Mapping) → left_in (w.address % page_size) w.bytes (option_map (λ (m : Mapping). m.page) m) b.frames ≡ written_through b.frames w m
-  written None = refl
-  written (Some m) = refl
+  written m = search rules
 
   -- there the bytes stand in the environment's own page
   pub left_own : pages_seen (left_by b e w) maps ≡ kept_after (pages_seen b.frames maps) (left_store w)
@@ -56,14 +54,10 @@ module _ (b : Shown) (sound : IsSound b) (e : ℕ) (w : Write) (number : w.addre
 
   -- and no other page changes
   pub left_others : (i : ℕ) → i ≢ e → pages_seen (left_by b e w) (mappings_of b.roster.list i) ≡ pages_seen b.frames (mappings_of b.roster.list i)
-  left_others i ne =
-      ap (λ frames. pages_seen frames (mappings_of b.roster.list i)) (written page)
-      ∙ other_kept b.frames b.pages b.roster.list sound.memory e w i ne page reached
+  left_others i ne = search (rules, other_kept, written, reached)
 
   pub left_sights : (i p : ℕ) → seen_in i (row_in b.pages) (stripe_of b i) (page_at (left_by b e w)) p ≡ sights_of b i p
-  left_sights i p =
-      ap (λ frames. seen_in i (row_in b.pages) (stripe_of b i) (page_at frames) p) (written page)
-      ∙ guaranteed_sights b.frames b.pages b.binds b.roster sound.memory sound.books e w i page reached p
+  left_sights i p = search (rules, guaranteed_sights, written, reached)
 
 -- An environment that doesn't run, and is started.
 abbrev pub waiting : Shown → ℕ → Environment → Solo
@@ -84,22 +78,11 @@ module _ (b : Shown) (sound : IsSound b) (e : ℕ) (x : Environment) (at : slice
 
   -- by the address of its handler of starts
   by_handler : (h : ℕ) → record (waiting b e x) { cpu = started_cpu h x.env.cpu; kept = pages_seen (if h == 0 then b.frames else left_by b e (start_write x.env.cpu)) x.env.mappings } ≡ start_by h (waiting b e x)
-  by_handler h = by_test (h == 0)
-    where
-      by_test : (none : Bool) →
-          record (waiting b e x) { cpu = if none then rested x.env.cpu else resumed_cpu h x.env.cpu; kept = pages_seen (if none then b.frames else left_by b e (start_write x.env.cpu)) x.env.mappings }
-          ≡ (if none then record (waiting b e x) { cpu = rested x.env.cpu } else record (with_context start_area (start_bytes x.env.cpu) (waiting b e x)) { cpu = resumed_cpu h x.env.cpu })
-      by_test true = refl
-      by_test false = λ k. record (waiting b e x) { cpu = resumed_cpu h x.env.cpu; kept = started_own k }
+  by_handler h = search (rules, started_own)
 
   -- what is shown of it once it is started
   pub start_seen : record (waiting b e x) { cpu = start_registers b.roster.list e; kept = pages_seen (start_frames b e) x.env.mappings } ≡ start (waiting b e x)
-  start_seen =
-      (λ k. record (waiting b e x) {
-        cpu = started_cpu (handlers_in (at k)).start (registers_in (at k));
-        kept = pages_seen (if (handlers_in (at k)).start == 0 then b.frames else left_by b e (start_write (registers_in (at k)))) x.env.mappings;
-      })
-      ∙ by_handler x.env.handlers.start
+  start_seen = search (rules, by_handler)
 
 -- What other environments see doesn't change with the start of one.
 module _ (b : Shown) (sound : IsSound b) (e : ℕ) where

@@ -1,13 +1,12 @@
 -- Bytes that the kernel puts into a page for its owner, as all bytes of it, on the world that is shown.
-use Rattle.std.proofs.Common.{◌+◌, ◌++◌, drop, ◌≡◌, ◌≢◌, ◌<◌, ℕ, List, [], length, Bool, true, false, Some, refl, sym, ◌∙◌, ap, arith, get_or-set_other}
+use Rattle.std.proofs.Common.{◌≡◌, ◌≢◌, ◌<◌, ℕ, List, [], length, Bool, true, false, Some, refl, sym, ◌∙◌, ap, arith, get_or-set_other, rules}
 use Rattle.std.specs.Prelude.{if◌then◌else◌, slice_get}
 use Rattle.std.proofs.lemmas.Bool.{ne_eqb, or_parts}
 use Rattle.std.proofs.lemmas.List.{append-nil}
 use Rattle.std.proofs.Math.Seq.{drop-length}
+use Rattle.std.proofs.lemmas.Grind.{common_steps}
 use Rattle.frame_store.specs.Pages.{after_put, page_at, with_bytes, with_page}
 use Rattle.mips_exec.specs.Access.{Write}
-use Rattle.page_book.specs.declared.row.PageRow.{PageRow}
-use Rattle.page_book.specs.declared.row.PageRow.TheVariants.{Free, Guaranteed, Owned}
 use Rattle.page_book.specs.Row.{is_owned_by}
 use Rattle.page_book.specs.Rows.{row_in}
 use Rattle.bind_book.specs.Stripe.{is_bound}
@@ -44,12 +43,7 @@ module _ (b : Shown) (sound : IsSound b) (e page : ℕ) (own : is_owned_by e (ro
   now = record b { frames = memory }
 
   lent : IsOwned (row_in b.pages page)
-  lent = by_row (row_in b.pages page) own
-    where
-      by_row : (row : PageRow) → is_owned_by e row ≡ true → IsOwned row
-      by_row Free is = cc
-      by_row (Guaranteed owner) is = cc
-      by_row (Owned owner words) is = tt
+  lent = search rules
 
   there : page < length b.frames
   there = omega (arith, sound.memory.same, row_there b.pages page (owned_taken (row_in b.pages page) lent))
@@ -116,10 +110,4 @@ module _ (b : Shown) (sound : IsSound b) (e page : ℕ) (own : is_owned_by e (ro
 
 -- A page that gets all bytes of another
 pub copied_whole : (frames : List (List ℕ)) (page backup : ℕ) → length (page_at frames page) ≡ length (page_at frames backup) → with_page frames backup (page_at frames page) ≡ after_put frames backup 0 (page_at frames page)
-copied_whole frames page backup same = ap (with_page frames backup) (sym (ap (λ rest. page_at frames page ++ rest) (nothing_behind (page_at frames backup) (0 + length (page_at frames page)) (plus_none (length (page_at frames page)) ∙ same)) ∙ append-nil (page_at frames page)))
-  where
-    plus_none : (n : ℕ) → 0 + n ≡ n
-    plus_none n = omega arith
-
-    nothing_behind : (xs : List ℕ) (n : ℕ) → n ≡ length xs → drop n xs ≡ []
-    nothing_behind xs n is = ap (λ m. drop m xs) is ∙ drop-length xs
+copied_whole frames page backup same = grind (arith, common_steps, append-nil, drop-length)

@@ -1,5 +1,5 @@
 -- The runner's death, on the world that is shown.
-use Rattle.std.proofs.Common.{◌≡◌, ◌≢◌, ◌≤◌, ◌<◌, ℕ, [], ◌∷◌, length, suc, zero, true, false, Option, Some, None, refl, sym, ◌∙◌, ap, arith, append_assoc}
+use Rattle.std.proofs.Common.{◌≡◌, ◌≢◌, ◌≤◌, ◌<◌, ℕ, [], ◌∷◌, length, suc, zero, true, false, Option, Some, None, refl, sym, ◌∙◌, ap, arith, append_assoc, rules}
 use Rattle.std.proofs.lemmas.Bool.{ne_eqb, eq-eqb, eqb-true}
 use Rattle.std.proofs.lemmas.List.{length-map, length-append}
 use Rattle.std.specs.Prelude.{if◌then◌else◌, slice_get}
@@ -11,7 +11,6 @@ use Rattle.frame_store.specs.Pages.{page_at}
 use Rattle.aegis_limits.specs.Limits.{most_slots}
 use Rattle.kernel_journal.specs.declared.row.Row.TheVariants as row
 use Rattle.page_book.specs.declared.row.PageRow.{PageRow}
-use Rattle.page_book.specs.declared.row.PageRow.TheVariants.{Free, Guaranteed, Owned}
 use Rattle.page_book.specs.Row.{belongs_to, is_owned_by, released as released_page}
 use Rattle.page_book.specs.Rows.{row_in}
 use Rattle.page_book.proofs.Owners.{released_none, released_own}
@@ -57,9 +56,7 @@ few_rows t e slots (suc k) = let so_far = few_rows t e slots k in let row = one_
 
 -- a page that belongs to one no other owns
 not_its : (i e : ℕ) (row : PageRow) → i ≢ e → belongs_to e row ≡ true → is_owned_by i row ≡ false
-not_its i e Free ne its = refl
-not_its i e (Guaranteed owner) ne its = refl
-not_its i e (Owned owner words) ne its = ne_eqb owner i (λ same. ne (sym same ∙ eqb-true owner e its))
+not_its i e row ne its = search (rules, ne_eqb, eqb-true)
 
 -- What a death reads of a sound board.
 pub record MayDie (b : Shown) (e : ℕ) : Type 0 where
@@ -75,14 +72,7 @@ pub numbered_within : (b : Shown) (e : ℕ) (x : Environment) → slice_get b.ro
 numbered_within b e x at sound = omega (arith, slice_get_within b.roster.list e x at, sound.few, sound.book.numbered)
 
 pub may_die : (b : Shown) (e : ℕ) (x : Environment) → slice_get b.roster.list e ≡ Some x → IsSound b → MayDie b e
-may_die b e x at sound = let within = slice_get_within b.roster.list e x at in record {
-  numbered = numbered_within b e x at sound;
-  count = sound.book.count;
-  books = sound.books;
-  claims = sound.claims.owned;
-  pending = omega (arith, within, sound.few, sound.revocations.pending);
-  backups = omega (arith, within, sound.few, sound.revocations.backups);
-}
+may_die b e x at sound = search (rules, slice_get_within, numbered_within)
 
 module _ (b : Shown) (e : ℕ) (x : Environment) (r : Runs b e x) (may : MayDie b e) (cause : Cause) where
   abbrev after_death : Shown

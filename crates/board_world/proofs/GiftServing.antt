@@ -1,12 +1,11 @@
 -- What the runner does with its slice, on the world that is shown.
-use Rattle.std.proofs.Common.{◌≡◌, ◌≢◌, ℕ, List, [], ◌∷◌, length, true, false, Option, Some, None, is_some, inl, inr, refl, sym, ◌∙◌, ap, arith}
+use Rattle.std.proofs.Common.{◌≡◌, ◌≢◌, ℕ, List, [], ◌∷◌, length, true, false, Option, Some, refl, sym, ◌∙◌, ap, arith, rules}
 use Rattle.std.specs.Prelude.{◌==◌, ◌&&◌, nat_lt, not, slice_get}
 use Rattle.std.specs.Option.{option_map}
-use Rattle.std.proofs.lemmas.Bool.{and_parts, cases_eq, eq-eqb, ne_eqb, not_from_true}
+use Rattle.std.proofs.lemmas.Bool.{and_parts, cases_eq, eq-eqb, ne_eqb, not_from_true, and_from}
 use Rattle.world_model.specs.declared.call.Deed.TheVariants.{Gives, Stops}
 use Rattle.world_model.specs.declared.verdict.Verdict.TheVariants.{Grant}
-use Rattle.world_model.specs.declared.life.Life.{Life}
-use Rattle.world_model.specs.declared.life.Life.TheVariants.{Live, Dead}
+use Rattle.world_model.specs.declared.life.Life.TheVariants.{Live}
 use Rattle.world_model.specs.declared.slot.Runner.{Runner}
 use Rattle.world_model.specs.Book.{is_runner}
 use Rattle.world_model.specs.Item.{Item, Start, absorb_all}
@@ -26,26 +25,18 @@ use Rattle.board_world.proofs.Lists.{changed_here, changed_else, length-changed}
 use Rattle.board_world.proofs.Mappings.{kept_mappings}
 use Rattle.board_world.proofs.Parts.{one_absorbed, one_changed, set_here, set_else}
 use Rattle.board_world.proofs.Replying.{Serves, answered_others, answered_seen, deeded, deeded_seen}
-use Rattle.board_world.proofs.Seen.{same_solo, IsNamed, Runs, runner_seen, runner_solo}
-use Rattle.board_world.proofs.Slots.{is_there}
+use Rattle.board_world.proofs.Seen.{same_solo, IsNamed, Runs, runner_seen, runner_solo, living_record}
 use Rattle.board_world.proofs.Sound.{keeps_registers}
 use Rattle.board_world.proofs.Turning.{stopped_solo, stopped_others, stopped_count, stopped_mappings}
 
 -- who has the slice runs
 pub handed_named : (e t : ℕ) (o : Option Runner) → is_runner e o ≡ true → IsNamed t (handed t o)
-handed_named e t None is = cc
-handed_named e t (Some r) is = record { its = eq-eqb t t refl; others = λ i ne. ne_eqb t i (λ same. ne (sym same)) }
+handed_named e t o is = search (rules, eq-eqb, ne_eqb)
 
 -- where one is another, and another one is given something
 pub other_given : (old new : ℕ → Solo) (e t : ℕ) (first : Solo) (theirs : List Item) → t ≢ e → new e ≡ first → new t ≡ absorb_all (old t) theirs → ((i : ℕ) → i ≢ e → i ≢ t → new i ≡ old i) →
     (i : ℕ) → new i ≡ absorb_all (set_at e first old i) (only t theirs i)
-other_given old new e t first theirs other here there else_same =
-    one_absorbed (set_at e first old) new t theirs
-    (there ∙ ap (λ s. absorb_all s theirs) (sym (set_else e t first old other)))
-    (λ i ne_t. elim (cases_eq i e) [
-      | inl same ↦ ap new same ∙ here ∙ sym (set_here e first old) ∙ ap (set_at e first old) (sym same)
-      | inr ne_e ↦ else_same i ne_e ne_t ∙ sym (set_else e i first old ne_e)
-    ])
+other_given old new e t first theirs other here there else_same = search (rules, one_absorbed, set_else, cases_eq, set_here)
 
 -- an environment of the list that lives
 pub record IsThere (list : List Environment) (t : ℕ) (y : Environment) : Type 0 where
@@ -59,23 +50,11 @@ pub record IsOther (list : List Environment) (e t : ℕ) : Type 0 where
   pub other : t ≢ e
 
 pub other_in : (b : Shown) (e t : ℕ) → is_other (world_of b) e t ≡ true → IsOther b.roster.list e t
-other_in b e t is = by_record (slice_get b.roster.list t) refl (is_there b.roster.list t) is
-  where
-    by_life : (life : Life) → not (is_dead life) ≡ true → life ≡ Live
-    by_life Live lives = refl
-    by_life (Dead cause) lives = cc
-
-    by_record : (o : Option Environment) → slice_get b.roster.list t ≡ o → nat_lt t (length b.roster.list) ≡ is_some (slice_get b.roster.list t)
-        → (nat_lt t (length b.roster.list) && (not (is_dead (solo_of b t).life) && not (t == e))) ≡ true → IsOther b.roster.list e t
-    by_record None at within is =
-        let none : nat_lt t (length b.roster.list) ≡ false = within ∙ ap is_some at in
-        let never : false ≡ true = sym none ∙ (and_parts (nat_lt t (length b.roster.list)) (not (is_dead (solo_of b t).life) && not (t == e)) is).0 in
-        cc
-    by_record (Some y) at within is =
-        let rest = (and_parts (nat_lt t (length b.roster.list)) (not (is_dead (solo_of b t).life) && not (t == e)) is).1 in
-        let parts = and_parts (not (is_dead (solo_of b t).life)) (not (t == e)) rest in
-        let lives : (solo_of b t).life ≡ Live = by_life (solo_of b t).life parts.0 in
-        record { its = y; there = record { at = at; lives = ap (λ o. (solo_or_absent b t o).life) (sym at) ∙ lives }; other = λ same. let no : false ≡ true = sym (not_from_true (t == e) (eq-eqb t e same)) ∙ parts.1 in cc }
+other_in b e t is =
+    let parts = and_parts (nat_lt t (length b.roster.list)) (not (is_dead (solo_of b t).life) && not (t == e)) is in
+    let both = and_parts (not (is_dead (solo_of b t).life)) (not (t == e)) parts.1 in
+    let y = living_record b t (and_from (nat_lt t (length b.roster.list)) (not (is_dead (solo_of b t).life)) parts.0 both.0) in
+    record { its = y.0; there = record { at = y.1.0; lives = y.1.1 }; other = λ same. let no : false ≡ true = sym (not_from_true (t == e) (eq-eqb t e same)) ∙ both.1 in cc }
 
 module _ (b : Shown) (e : ℕ) (x : Environment) (r : Runs b e x) (sound : IsSound b) where
   -- The target is started.

@@ -1,8 +1,7 @@
 -- What happens from outside, on the world that is shown.
-use Rattle.std.proofs.Common.{◌≡◌, ◌≢◌, ◌<◌, ℕ, ◌+◌, ◌^◌, List, [], ◌∷◌, length, Bool, true, false, Option, Some, None, IfSome, refl, sym, ◌∙◌, ap, subst, arith}
-use Rattle.std.specs.Prelude.{bit_or, is_some, nat_lt, not, ◌&&◌, slice_get, if◌then◌else◌}
+use Rattle.std.proofs.Common.{◌≡◌, ◌≢◌, ◌<◌, ℕ, ◌+◌, ◌^◌, List, [], ◌∷◌, length, Bool, true, false, Option, Some, None, IfSome, refl, sym, ◌∙◌, ap, subst, arith, rules}
+use Rattle.std.specs.Prelude.{bit_or, slice_get, if◌then◌else◌}
 use Rattle.std.specs.Option.{option_flatten, option_map}
-use Rattle.std.proofs.lemmas.Bool.{and_parts}
 use Rattle.std.proofs.lemmas.Option.{slice_get_within}
 use Rattle.std.proofs.lemmas.List.{append-nil}
 use Rattle.external_event.specs.declared.event.Occurrence.{Occurrence}
@@ -21,8 +20,7 @@ use Rattle.filter_tree.specs.ClaimBook.{RowValue, are_numbered, claim_in}
 use Rattle.filter_tree.specs.declared.claim.Claim.{Claim}
 use Rattle.filter_tree.specs.Claims.{claim_for, claim_handler, claim_seen, first_row, is_for, is_numbered}
 use Rattle.filter_tree.specs.Laws.{FirstIsNumbered}
-use Rattle.world_model.specs.declared.life.Life.{Life}
-use Rattle.world_model.specs.declared.life.Life.TheVariants.{Live, Dead}
+use Rattle.world_model.specs.declared.life.Life.TheVariants.{Live}
 use Rattle.revocation_book.specs.declared.revocation.Pending.{Pending}
 use Rattle.revocation_book.specs.Pending.{asked}
 use Rattle.revocation_book.specs.RevocationBook.{pending_at}
@@ -30,13 +28,13 @@ use Rattle.world_model.specs.Event.{arrives, asks, delivers, revokes, drops_pack
 use Rattle.world_model.specs.Item.{Asked, Line, Packet, absorb_all}
 use Rattle.world_model.specs.Post.{asked_for, counted as counted_word}
 use Rattle.world_model.specs.Rings.{Handles, Loses, Queues, Reception, page_left, received, received_as, received_by, received_in, reception, ring_of}
-use Rattle.world_model.specs.Solo.{Solo, Physical, bytes_of, is_dead}
+use Rattle.world_model.specs.Solo.{Solo, Physical, bytes_of}
 use Rattle.world_model.specs.World.{after, is_living, no_change, tells}
 use Rattle.board_world.specs.declared.roster.Environment.{Environment}
 use Rattle.board_world.specs.Lines.{line_at}
 use Rattle.board_world.specs.Rings.{ring_in}
 use Rattle.board_world.specs.Shown.{Shown}
-use Rattle.board_world.specs.Showing.{book_of, solo_of, solo_or_absent, solo_seen, world_of}
+use Rattle.board_world.specs.Showing.{book_of, solo_of, solo_or_absent, world_of}
 use Rattle.board_world.specs.Sound.{IsLive, IsSound, has_own_page}
 use Rattle.board_world.specs.Doing.{after_arrival_for, with_asked, after_revocation, context_of, with_count, after_delivery_by, after_queue, after_delivery, after_drop, after_handler, after_event, with_replies_sent, after_signal, after_signal_to}
 use Rattle.board_world.proofs.Asked.{nothing_pending, pending_set}
@@ -49,8 +47,7 @@ use Rattle.board_world.proofs.Phases.{quiet_world}
 use Rattle.page_sight.proofs.Tables.{set_same}
 use Rattle.world_model.specs.Table.{set_at}
 use Rattle.board_world.proofs.Posting.{changed_in, same_size, with_word, worded, worded_others, worded_seen}
-use Rattle.board_world.proofs.Seen.{like_solo, live_record, row_there}
-use Rattle.board_world.proofs.Slots.{is_there}
+use Rattle.board_world.proofs.Seen.{like_solo, live_record, row_there, live_shown, living_record}
 use Rattle.board_world.proofs.Sound.{keeps_replying}
 use Rattle.board_world.proofs.Staying.{sound_frames}
 
@@ -63,8 +60,7 @@ dropped_world b packet = worlds (world_of (after_drop b packet)) (after (world_o
 
 -- a signal on a line of an environment that lives
 signalled_changed : (line : ℕ) (page : Option ℕ) (frames : List (List ℕ)) → signalled_in line page frames ≡ changed_in post.Lines (λ n. bit_or n (2 ^ line)) page frames
-signalled_changed line None frames = refl
-signalled_changed line (Some page) frames = refl
+signalled_changed line page frames = search rules
 
 module _ (b : Shown) (sound : IsSound b) (line e : ℕ) (x : Environment) (at : slice_get b.roster.list e ≡ Some x) (lives : x.life ≡ Live) where
   abbrev signalled_board : Shown
@@ -73,15 +69,12 @@ module _ (b : Shown) (sound : IsSound b) (line e : ℕ) (x : Environment) (at : 
   board_is : signalled_board ≡ with_word b e post.Lines (λ n. bit_or n (2 ^ line))
   board_is = λ k. record b { frames = signalled_changed line (context_of b e) b.frames k }
 
-  live_owner : solo_of b e ≡ record (solo_seen b e x) { life = Live }
-  live_owner = ap (solo_or_absent b e) at ∙ (λ k. record (solo_seen b e x) { life = lives k })
-
   signalled_here : solo_of signalled_board e ≡ absorb_all (solo_of b e) (Line line ∷ [])
   signalled_here =
       ap (λ (y : Shown). solo_of y e) board_is
       ∙ worded_seen b sound e x at lives (λ n. bit_or n (2 ^ line)) post.Lines
-      ∙ ap (worded post.Lines (λ n. bit_or n (2 ^ line))) live_owner
-      ∙ ap (λ (s : Solo). absorb_all s (Line line ∷ [])) (sym live_owner)
+      ∙ ap (worded post.Lines (λ n. bit_or n (2 ^ line))) (live_shown b e x at lives)
+      ∙ ap (λ (s : Solo). absorb_all s (Line line ∷ [])) (sym (live_shown b e x at lives))
 
   owner_world : world_of signalled_board ≡ after (world_of b) (tells e (Line line) (world_of b))
   owner_world =
@@ -102,8 +95,7 @@ abbrev pub counts : ℕ → ℕ
 counts n = low_word (n + 1)
 
 pub counted_changed : (word : PostWord) (page : Option ℕ) (frames : List (List ℕ)) → counted_in word page frames ≡ changed_in word counts page frames
-counted_changed word None frames = refl
-counted_changed word (Some page) frames = refl
+counted_changed word page frames = search rules
 
 module _ (b : Shown) (sound : IsSound b) (e : ℕ) (x : Environment) (at : slice_get b.roster.list e ≡ Some x) (lives : x.life ≡ Live) (word : PostWord) where
   counted_is : with_count b word e ≡ with_word b e word counts
@@ -167,13 +159,10 @@ module _ (law : FirstIsNumbered) (b : Shown) (sound : IsSound b) (numbered : are
   its_ring : ring_of before.rings id ≡ Some (ring_in r)
   its_ring = ap (λ o. ring_of (solo_or_absent b e o).rings id) at ∙ ring_found b.claims r first
 
-  live_before : before ≡ record (solo_seen b e x) { life = Live }
-  live_before = ap (solo_or_absent b e) at ∙ (λ k. record (solo_seen b e x) { life = lives k })
-
   takes : absorb_all before (Packet id packet ∷ []) ≡ received_as (ring_in r) what (counted_word post.Packets before)
   takes =
-      ap (λ (s : Solo). absorb_all s (Packet id packet ∷ [])) live_before
-      ∙ ap (received id packet) (sym live_before)
+      ap (λ (s : Solo). absorb_all s (Packet id packet ∷ [])) (live_shown b e x at lives)
+      ∙ ap (received id packet) (sym (live_shown b e x at lives))
       ∙ ap (λ o. received_in o packet (counted_word post.Packets before)) its_ring
       ∙ ap (λ o. received_as (ring_in r) o (counted_word post.Packets before)) (receives (counted_word post.Packets before) same_page)
 
@@ -246,8 +235,7 @@ arrived_world law b packet sound numbered (Some r) found =
 
 -- A revocation that leaves pages outstanding
 asked_changed : (outstanding deadline : ℕ) (page : Option ℕ) (frames : List (List ℕ)) → asked_in outstanding deadline page frames ≡ changed_in post.Deadline (λ n. deadline) page (changed_in post.Outstanding (λ n. outstanding) page frames)
-asked_changed outstanding deadline None frames = refl
-asked_changed outstanding deadline (Some page) frames = refl
+asked_changed outstanding deadline page frames = search rules
 
 module _ (b : Shown) (sound : IsSound b) (e : ℕ) (x : Environment) (at : slice_get b.roster.list e ≡ Some x) (lives : x.life ≡ Live) (p : Pending) where
   abbrev asked_board : Shown
@@ -264,16 +252,13 @@ module _ (b : Shown) (sound : IsSound b) (e : ℕ) (x : Environment) (at : slice
       like_solo i asked_board (record b { frames = asked_in p.outstanding p.deadline (context_of b e) b.frames }) (record { record_is = refl; rings = refl; cpu = λ kept. refl; pages = refl; binds = refl; sights = refl })
       ∙ ap (λ frames. solo_of (record b { frames = frames }) i) (asked_changed p.outstanding p.deadline (context_of b e) b.frames)
 
-  live_asked : solo_of b e ≡ record (solo_seen b e x) { life = Live }
-  live_asked = ap (solo_or_absent b e) at ∙ (λ k. record (solo_seen b e x) { life = lives k })
-
   asked_here : solo_of asked_board e ≡ absorb_all (solo_of b e) (Asked p.outstanding p.deadline ∷ [])
   asked_here =
       like_told e
       ∙ worded_seen told told_sound e x at lives (λ n. p.deadline) post.Deadline
       ∙ ap (worded post.Deadline (λ n. p.deadline)) (worded_seen b sound e x at lives (λ n. p.outstanding) post.Outstanding)
-      ∙ ap (asked_for p.outstanding p.deadline) live_asked
-      ∙ ap (λ (s : Solo). absorb_all s (Asked p.outstanding p.deadline ∷ [])) (sym live_asked)
+      ∙ ap (asked_for p.outstanding p.deadline) (live_shown b e x at lives)
+      ∙ ap (λ (s : Solo). absorb_all s (Asked p.outstanding p.deadline ∷ [])) (sym (live_shown b e x at lives))
 
   asked_place : e < length b.revocations.pending
   asked_place = omega (arith, slice_get_within b.roster.list e x at, sound.few, sound.revocations.pending)
@@ -288,24 +273,6 @@ module _ (b : Shown) (sound : IsSound b) (e : ℕ) (x : Environment) (at : slice
       ∙ worded_others told told_sound e x at lives (λ n. p.deadline) post.Deadline i ne
       ∙ worded_others b sound e x at lives (λ n. p.outstanding) post.Outstanding i ne))
       refl
-
--- an environment that is there and lives
-pub living_record : (b : Shown) (e : ℕ) → is_living (world_of b) e ≡ true → (x : Environment) × ((slice_get b.roster.list e ≡ Some x) × (x.life ≡ Live))
-living_record b e is = by_record (slice_get b.roster.list e) refl (is_there b.roster.list e) is
-  where
-    by_life : (life : Life) → not (is_dead life) ≡ true → life ≡ Live
-    by_life Live lives = refl
-    by_life (Dead cause) lives = cc
-
-    by_record : (o : Option Environment) → slice_get b.roster.list e ≡ o → nat_lt e (length b.roster.list) ≡ is_some (slice_get b.roster.list e)
-        → (nat_lt e (length b.roster.list) && not (is_dead (solo_of b e).life)) ≡ true → (x : Environment) × ((slice_get b.roster.list e ≡ Some x) × (x.life ≡ Live))
-    by_record None at within is =
-        let none : nat_lt e (length b.roster.list) ≡ false = within ∙ ap is_some at in
-        let never : false ≡ true = sym none ∙ (and_parts (nat_lt e (length b.roster.list)) (not (is_dead (solo_of b e).life)) is).0 in
-        cc
-    by_record (Some y) at within is =
-        let lives : (solo_of b e).life ≡ Live = by_life (solo_of b e).life (and_parts (nat_lt e (length b.roster.list)) (not (is_dead (solo_of b e).life)) is).1 in
-        (y, (at, ap (λ o. (solo_or_absent b e o).life) (sym at) ∙ lives))
 
 revoked_world : (b : Shown) (e count deadline : ℕ) → IsSound b → world_of (after_revocation b e count deadline) ≡ after (world_of b) (revokes e count deadline (world_of b))
 revoked_world b e count deadline sound = by_living (is_living (world_of b) e) refl

@@ -1,5 +1,5 @@
 -- The lowest free pages are guaranteed to an environment, one after another.
-use Rattle.std.proofs.Common.{◌≡◌, ◌≢◌, ℕ, zero, suc, ◌+◌, List, [], ◌∷◌, ◌++◌, length, Option, Some, None, ◌⊎◌, inl, inr, refl, sym, ◌∙◌, ap, arith, add-zero, add-suc, append_assoc}
+use Rattle.std.proofs.Common.{◌≡◌, ◌≢◌, ℕ, zero, suc, ◌+◌, List, [], ◌∷◌, ◌++◌, length, Option, Some, None, ◌⊎◌, inl, refl, sym, ◌∙◌, ap, arith, add-zero, add-suc, append_assoc, rules}
 use Rattle.std.proofs.lemmas.Bool.{eqb-true}
 use Rattle.env_frames.specs.declared.mapping.Mapping.{Mapping}
 use Rattle.page_book.specs.declared.row.PageRow.{PageRow}
@@ -15,10 +15,7 @@ abbrev pub IsGivenRow : ℕ → PageRow → PageRow → Type 0
 IsGivenRow e old new = (new ≡ old) ⊎ ((old ≡ Free) × (new ≡ Guaranteed e))
 
 both_rows : (e : ℕ) (old mid new : PageRow) → IsGivenRow e old mid → IsGivenRow e mid new → IsGivenRow e old new
-both_rows e old mid new (inl stays) (inl still) = inl (still ∙ stays)
-both_rows e old mid new (inl stays) (inr given) = inr (sym stays ∙ given.0, given.1)
-both_rows e old mid new (inr given) (inl stays) = inr (given.0, stays ∙ given.1)
-both_rows e old mid new (inr given) (inr again) = inr (given.0, again.1)
+both_rows e old mid new first second = search rules
 
 lowest_given : (e count : ℕ) (o : Option ℕ) (rows : ℕ → PageRow) → lowest_free rows count ≡ o → (p : ℕ) → IsGivenRow e (rows p) (keep_lowest e o rows p)
 lowest_given e count None rows is p = inl refl
@@ -26,16 +23,12 @@ lowest_given e count (Some page) rows is p = grind (arith, is_lowest, eqb-true)
 
 pub kept_row : (e count n : ℕ) (rows : ℕ → PageRow) (p : ℕ) → IsGivenRow e (rows p) (keep_pages e count n rows p)
 kept_row e count zero rows p = inl refl
-kept_row e count (suc n) rows p =
-    let before = keep_pages e count n rows in
-    both_rows e (rows p) (before p) (keep_pages e count (suc n) rows p) (kept_row e count n rows p) (lowest_given e count (lowest_free before count) before refl p)
+kept_row e count (suc n) rows p = search (rules, both_rows, lowest_given, (kept_row e count n rows p))
 
 -- some pages, and then some more
 kept_both : (e count m n : ℕ) (rows : ℕ → PageRow) → keep_pages e count n (keep_pages e count m rows) ≡ keep_pages e count (m + n) rows
 kept_both e count m zero rows = ap (λ k. keep_pages e count k rows) (sym (add-zero m))
-kept_both e count m (suc n) rows =
-    ap (λ (f : ℕ → PageRow). keep_lowest e (lowest_free f count) f) (kept_both e count m n rows)
-    ∙ ap (λ k. keep_pages e count k rows) (sym (add-suc m n))
+kept_both e count m (suc n) rows = search (rules, add-suc, (kept_both e count m n rows))
 
 -- the mappings of some pages, and then of some more
 mapped_both : (e count : ℕ) (rows : ℕ → PageRow) (xs ys : List KeptPage) → mappings_over e count rows (xs ++ ys) ≡ mappings_over e count rows xs ++ mappings_over e count (keep_pages e count (length xs) rows) ys
@@ -55,34 +48,15 @@ given_row e n old new before after given p = rw (ap (λ (f : ℕ → PageRow). f
 
 -- a page that isn't free stays so, with its row
 pub taken_row : (e : ℕ) (old new : PageRow) → IsGivenRow e old new → old ≢ Free → new ≡ old
-taken_row e old new (inl stays) taken = stays
-taken_row e old new (inr given) taken = absurd (taken given.0)
+taken_row e old new given taken = search rules
 
 -- some pages given, and then some more
 pub given_both : (e m n : ℕ) (old mid new : List PageRow) (before between after : List (List ℕ)) → AreGiven e m old mid before between → AreGiven e n mid new between after → AreGiven e (m + n) old new before after
-given_both e m n old mid new before between after first second = record {
-  rows =
-      second.rows
-      ∙ (λ k. keep_pages e (first.size k) n (first.rows k))
-      ∙ kept_both e (length old) m n (row_in old);
-  size = second.size ∙ first.size;
-  free = omega (arith, first.free, second.free);
-  left = record {
-    size = second.left.size ∙ first.left.size;
-    left = λ p taken.
-        let stays = taken_row e (row_in old p) (row_in mid p) (given_row e m old mid before between first p) taken in
-        second.left.left p (λ free. taken (sym stays ∙ free)) ∙ first.left.left p taken;
-  };
-}
+given_both e m n old mid new before between after first second = search (rules, kept_both, taken_row, given_row)
 
 -- the mappings that an environment has then
 pub mapped_more : (e n : ℕ) (old mid : List PageRow) (before between : List (List ℕ)) (xs ys : List KeptPage) (ms : List Mapping) → AreGiven e n old mid before between → length xs ≡ n → with_mapped e mid ys (with_mapped e old xs ms) ≡ with_mapped e old (xs ++ ys) ms
-mapped_more e n old mid before between xs ys ms given size =
-    let first = mappings_over e (length old) (row_in old) xs in
-    append_assoc ms first (mappings_over e (length mid) (row_in mid) ys)
-    ∙ (λ k. ms ++ (first ++ mappings_over e (given.size k) (given.rows k) ys))
-    ∙ (λ k. ms ++ (first ++ mappings_over e (length old) (keep_pages e (length old) (sym size k) (row_in old)) ys))
-    ∙ ap (λ all. ms ++ all) (sym (mapped_both e (length old) (row_in old) xs ys))
+mapped_more e n old mid before between xs ys ms given size = search (rules, append_assoc, mapped_both)
 
 -- the mapping of one page: it leads to the lowest free one
 pub mapped_one : (e page : ℕ) (pages : List PageRow) (p : KeptPage) (ms : List Mapping) → first_free pages ≡ Some page → ms ++ record { vpn = p.vpn; page = page; writable = p.writable } ∷ [] ≡ with_mapped e pages (p ∷ []) ms

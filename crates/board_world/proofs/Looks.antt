@@ -1,23 +1,21 @@
 -- Where VPNs lead is what an environment sees there.
-use Rattle.std.proofs.Common.{◌≡◌, ℕ, ◌<◌, List, length, Bool, true, false, Option, Some, None, refl, sym, ◌∙◌, ap}
+use Rattle.std.proofs.Common.{◌≡◌, ℕ, ◌<◌, List, length, Bool, true, Option, Some, None, refl, sym, ◌∙◌, ap, rules}
 use Rattle.std.specs.Option.{option_map, option_or}
 use Rattle.frame_store.specs.Pages.{page_at}
 use Rattle.page_book.specs.declared.row.PageRow.{PageRow}
-use Rattle.page_book.specs.Row.{is_owned_by}
 use Rattle.bind_book.specs.declared.binding.Binding.{Binding}
 use Rattle.bind_book.specs.Stripe.{binding_at, is_bound}
 use Rattle.env_frames.specs.declared.mapping.Mapping.{Mapping}
 use Rattle.env_frames.specs.Frame.{mapping_at}
 use Rattle.guest_memory.specs.Look.{bound_mapping, look, look_through, mapping_in}
-use Rattle.world_model.specs.Solo.{Solo, Seen, place_at, bound_place, kept_at, leads, bytes_in, bytes_seen, sight, mapped}
+use Rattle.world_model.specs.Solo.{Solo, place_at, bound_place, kept_at, leads, bytes_in, bytes_seen, sight, mapped}
 use Rattle.page_sight.specs.Sight.{seen_if, seen_in}
 use Rattle.board_world.specs.Showing.{page_seen, pages_seen}
 use Rattle.board_world.proofs.Pages.{AreInside, page_there, seen_kept, placed}
 
 -- what is bound is seen
 seen_bound : (owned bound : Bool) (bytes : List ℕ) → bound ≡ true → bytes_seen (seen_if owned bound bytes) ≡ bytes
-seen_bound true bound bytes is = refl
-seen_bound false bound bytes is = rw is refl
+seen_bound owned bound bytes is = search rules
 
 module _ (frames : List (List ℕ)) (e : ℕ) (pages : ℕ → PageRow) (stripe : ℕ → Option Binding) (ms : List Mapping) (s : Solo)
     (kept : s.kept ≡ pages_seen frames ms) (binds : s.binds ≡ stripe) (seen : s.seen ≡ seen_in e pages stripe (page_at frames)) where
@@ -25,16 +23,11 @@ module _ (frames : List (List ℕ)) (e : ℕ) (pages : ℕ → PageRow) (stripe 
   kept_is v = ap (λ ps. kept_at ps v) kept ∙ seen_kept frames ms v
 
   pub leads_by : (v : ℕ) → leads s v ≡ option_or (option_map (place_at v) (option_map (page_seen frames) (mapping_at ms v))) (option_map bound_place (binding_at stripe v))
-  leads_by v =
-      ap (λ o. option_or (option_map (place_at v) o) (option_map bound_place (binding_at s.binds v))) (kept_is v)
-      ∙ ap (λ bs. option_or (option_map (place_at v) (option_map (page_seen frames) (mapping_at ms v))) (option_map bound_place (binding_at bs v))) binds
+  leads_by v = search (rules, kept_is)
 
   by_binding : (v : ℕ) (y : Option Binding) → ((x : Binding) → y ≡ Some x → (x.page < length frames) × (is_bound x.page stripe ≡ true)) →
       look_through frames (option_map bound_mapping y) ≡ option_map (mapped s) (option_map bound_place y)
-  by_binding v None there = refl
-  by_binding v (Some x) there =
-      ap (option_map (λ bytes. record { writable = x.writable; bytes = bytes })) (page_there frames x.page (there x refl).0)
-      ∙ ap (λ (bs : List ℕ). Some (record { writable = x.writable; bytes = bs })) (sym (ap (λ (f : ℕ → Option Seen). bytes_seen (f x.page)) seen ∙ seen_bound (is_owned_by e (pages x.page)) (is_bound x.page stripe) (page_at frames x.page) (there x refl).1))
+  by_binding v y there = search (rules, page_there, seen_bound)
 
   by_mapping : (v : ℕ) (m : Option Mapping) → mapping_at ms v ≡ m → AreInside frames ms → ((x : Binding) → binding_at stripe v ≡ Some x → (x.page < length frames) × (is_bound x.page stripe ≡ true)) →
       look_through frames (option_or m (option_map bound_mapping (binding_at stripe v))) ≡ option_map (mapped s) (option_or (option_map (place_at v) (option_map (page_seen frames) m)) (option_map bound_place (binding_at stripe v)))

@@ -1,5 +1,5 @@
 -- What environments are given of a change of the books.
-use Rattle.std.proofs.Common.{◌≡◌, ℕ, zero, suc, List, [], ◌++◌, Bool, true, false, Option, Some, None, inl, inr, ◌⊎◌, refl, sym, ◌∙◌, ap, subst}
+use Rattle.std.proofs.Common.{◌≡◌, ℕ, zero, suc, List, [], ◌++◌, Bool, true, false, Option, Some, None, inl, inr, ◌⊎◌, refl, sym, ◌∙◌, ap, subst, rules}
 use Rattle.std.specs.Prelude.{◌==◌, if◌then◌else◌, filter, not, slice_get}
 use Rattle.std.proofs.lemmas.Bool.{eqb-true}
 use Rattle.std.proofs.lemmas.List.Sums.{fold-append}
@@ -11,30 +11,26 @@ use Rattle.page_book.specs.Row.{belongs_to, is_owned_by, owner_of}
 use Rattle.page_book.specs.Rows.{row_in}
 use Rattle.bind_book.specs.declared.binding.Binding.{Binding}
 use Rattle.bind_book.specs.Stripe.{is_bound}
-use Rattle.page_sight.specs.Sight.{Sees, seen_if}
+use Rattle.page_sight.specs.Sight.{Sees}
 use Rattle.page_sight.proofs.Sights.{HasNone, nothing_seen, unbound_page}
 use Rattle.world_model.specs.declared.life.Life.{Life}
 use Rattle.world_model.specs.declared.life.Life.TheVariants.{Live, Dead}
 use Rattle.world_model.specs.Book.{Book}
 use Rattle.world_model.specs.Item.{Item, absorb, absorb_all}
-use Rattle.world_model.specs.Holding.{lost}
 use Rattle.world_model.specs.Death.{lost_with}
 use Rattle.world_model.specs.PageCalls.{lost_if}
-use Rattle.world_model.specs.Solo.{Solo, Ring, is_dead}
+use Rattle.world_model.specs.Solo.{Solo, Ring}
 use Rattle.board_world.specs.declared.roster.Environment.{Environment}
 use Rattle.board_world.specs.Rings.{rings_of}
 use Rattle.board_world.specs.Shown.{Shown, mappings_in, mappings_of}
-use Rattle.board_world.specs.Showing.{solo_of, solo_or_absent, solo_seen, cpu_seen, pages_seen}
+use Rattle.board_world.specs.Showing.{solo_of, solo_seen, cpu_seen, pages_seen}
 use Rattle.board_world.specs.Sound.{AreBooked, IsAlive, IsLive}
-use Rattle.board_world.proofs.Seen.{like_solo, stripe_of}
+use Rattle.board_world.proofs.Seen.{like_solo, stripe_of, live_shown}
 
 -- Books with the same tables serve alike.
 pub sees_by : (e : ℕ) (pages rows : ℕ → PageRow) (stripe binds : ℕ → Option Binding) (bytes frames : ℕ → List ℕ) (s : Solo) →
     ((p : ℕ) → rows p ≡ pages p) → ((r : ℕ) → binds r ≡ stripe r) → ((p : ℕ) → frames p ≡ bytes p) → Sees e pages stripe bytes s → Sees e rows binds frames s
-sees_by e pages rows stripe binds bytes frames s same_rows same_binds same_bytes seen = record {
-  binds = λ r. seen.binds r ∙ sym (same_binds r);
-  seen = λ p. seen.seen p ∙ (λ k. seen_if (is_owned_by e (sym (same_rows p) k)) (is_bound p (λ r. sym (same_binds r) k)) (sym (same_bytes p) k));
-}
+sees_by e pages rows stripe binds bytes frames s same_rows same_binds same_bytes seen = search rules
 
 -- with the bindings of another, and what that one sees
 abbrev pub resighted : Solo → Solo → Solo
@@ -46,12 +42,7 @@ rings_but page rings = filter (λ (r : Ring). not (r.page == page)) rings
 
 -- who loses a page that is no ring of its own keeps all else
 pub lost_keeps : (s : Solo) (t : Bool) (page : ℕ) → rings_but page s.rings ≡ s.rings → absorb_all s (lost_if t page) ≡ resighted s (absorb_all s (lost_if t page))
-lost_keeps s false page other = refl
-lost_keeps s true page other = by_life (is_dead s.life)
-  where
-    by_life : (gone : Bool) → (if gone then s else lost page s) ≡ resighted s (if gone then s else lost page s)
-    by_life true = refl
-    by_life false = λ k. record (lost page s) { rings = other k }
+lost_keeps s t page other = search rules
 
 next_keeps : (s u v : Solo) → u ≡ resighted s u → v ≡ resighted u v → v ≡ resighted s v
 next_keeps s u v first next = next ∙ ap (λ w. resighted w v) first
@@ -132,19 +123,16 @@ module _ (i : ℕ) (old new : Shown) (its : List Item) (drops : Drops i old new 
   abbrev live_solo : Shown → Environment → Solo
   live_solo b x = record (solo_seen b i x) { life = Live }
 
-  live_seen : (b : Shown) (x : Environment) → slice_get b.roster.list i ≡ Some x → x.life ≡ Live → solo_of b i ≡ live_solo b x
-  live_seen b x at lives = ap (solo_or_absent b i) at ∙ (λ k. record (solo_seen b i x) { life = lives k })
-
   live_drops : (x : Environment) → slice_get old.roster.list i ≡ Some x → x.life ≡ Live → solo_of new i ≡ absorb_all (solo_of old i) its
   live_drops x at lives =
       let s = live_solo old x in
       let sees : Sees i (row_in new.pages) (stripe_of new i) (page_at new.frames) (absorb_all s its) = drops.sees s refl (record { binds = λ row. refl; seen = λ page. refl }) in
       let pages : pages_seen new.frames x.env.mappings ≡ pages_seen old.frames x.env.mappings =
       ap (λ y. pages_seen new.frames (mappings_in y)) (sym at) ∙ drops.pages ∙ ap (λ y. pages_seen old.frames (mappings_in y)) at in
-      live_seen new x (drops.record_is ∙ at) lives
+      live_shown new i x (drops.record_is ∙ at) lives
       ∙ (λ k. record s { cpu = drops.cpu x.env.cpu k; kept = pages k; binds = λ row. sym (sees.binds row) k; seen = λ page. sym (sees.seen page) k; rings = drops.rings k })
       ∙ sym (drops.keeps s refl)
-      ∙ ap (λ t. absorb_all t its) (sym (live_seen old x at lives))
+      ∙ ap (λ t. absorb_all t its) (sym (live_shown old i x at lives))
 
   dead_drops : HasNone i (row_in old.pages) (stripe_of old i) → solo_of new i ≡ absorb_all (solo_of old i) its
   dead_drops none =

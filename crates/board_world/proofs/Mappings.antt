@@ -1,5 +1,5 @@
 -- The guaranteed mappings of the environments, once one of them is another, or there is one more.
-use Rattle.std.proofs.Common.{◌≡◌, ◌≢◌, ℕ, zero, suc, List, [], ◌∷◌, ◌++◌, length, refl, sym, ◌∙◌, ap}
+use Rattle.std.proofs.Common.{◌≡◌, ◌≢◌, ℕ, zero, suc, List, [], ◌∷◌, ◌++◌, length, refl, ap, rules}
 use Rattle.env_frames.specs.declared.mapping.Mapping.{Mapping}
 use Rattle.world_model.specs.declared.life.Cause.{Cause}
 use Rattle.world_model.specs.Table.{set_at}
@@ -24,10 +24,7 @@ lost_mappings cause (x ∷ list) (suc e) = lost_mappings cause list e
 
 -- of all, once one is dead
 pub dead_mappings : (cause : Cause) (list : List Environment) (e i : ℕ) → mappings_of (changed (dead_frame cause) list e) i ≡ set_at e [] (mappings_of list) i
-dead_mappings cause list e =
-    by_env (mappings_of (changed (dead_frame cause) list e)) (set_at e [] (mappings_of list)) e
-    (lost_mappings cause list e ∙ sym (set_here e [] (mappings_of list)))
-    (λ i ne. ap mappings_in (changed_else (dead_frame cause) list e i ne) ∙ sym (set_else e i [] (mappings_of list) ne))
+dead_mappings cause list e = search (rules, by_env, lost_mappings, set_here, changed_else, set_else)
 
 -- the mappings of the last, and of the others
 pub last_mappings : (list : List Environment) (x : Environment) → mappings_of (list ++ x ∷ []) (length list) ≡ x.env.mappings
@@ -38,7 +35,4 @@ other_mappings list x i ne = ap mappings_in (other_get list x i ne)
 
 -- of all, once there is one more
 pub more_mappings : (list : List Environment) (x : Environment) (ms : List Mapping) → x.env.mappings ≡ ms → (i : ℕ) → mappings_of (list ++ x ∷ []) i ≡ set_at (length list) ms (mappings_of list) i
-more_mappings list x ms is =
-    by_env (mappings_of (list ++ x ∷ [])) (set_at (length list) ms (mappings_of list)) (length list)
-    (last_mappings list x ∙ is ∙ sym (set_here (length list) ms (mappings_of list)))
-    (λ i ne. other_mappings list x i ne ∙ sym (set_else (length list) i ms (mappings_of list) ne))
+more_mappings list x ms is = search (rules, by_env, last_mappings, set_here, other_mappings, set_else)

@@ -1,8 +1,7 @@
 -- What the runner does to itself alone, on the world that is shown.
-use Rattle.std.proofs.Common.{◌≡◌, ℕ, [], ◌∷◌, ◌++◌, refl, sym, ◌∙◌, ap, arith}
+use Rattle.std.proofs.Common.{◌≡◌, ℕ, [], ◌∷◌, ◌++◌, refl, ◌∙◌, ap, rules}
 use Rattle.std.specs.Prelude.{unwrap_or}
 use Rattle.std.specs.Option.{option_map}
-use Rattle.std.proofs.lemmas.List.{append-nil}
 use Rattle.world_model.specs.declared.call.Deed.TheVariants.{Own}
 use Rattle.world_model.specs.declared.call.OwnDeed.{OwnDeed}
 use Rattle.world_model.specs.declared.call.OwnDeed.TheVariants.{Puts, Sends, Handles, Accepts}
@@ -19,17 +18,13 @@ use Rattle.board_world.specs.Sound.{IsSound}
 use Rattle.board_world.specs.Doing as doing
 use Rattle.board_world.proofs.Lists.{changed_here, changed_else, length-changed}
 use Rattle.board_world.proofs.Mappings.{kept_mappings}
-use Rattle.board_world.proofs.Parts.{one_changed}
-use Rattle.board_world.proofs.Replying.{Serves, deeded, deeded_seen}
+use Rattle.board_world.proofs.Replying.{Serves, deeded, deeded_seen, changes_one}
 use Rattle.board_world.proofs.Seen.{same_solo, Runs, runner_seen, runner_solo, its_look}
 use Rattle.board_world.proofs.Sound.{Keeps, keeps_accepting, keeps_handling, keeps_putting, keeps_sending}
 
 -- its life and its guaranteed mappings stay
 pub keeps_own : (b : Shown) (e : ℕ) (own : OwnDeed) → Keeps (doing.own_record b e own)
-keeps_own b e (Puts address size) = keeps_putting (unwrap_or (put_bytes (doing.look_of b e) address size) [])
-keeps_own b e (Sends address size) = keeps_sending (unwrap_or (good_range (doing.look_of b e) address size) [])
-keeps_own b e (Handles kind address) = keeps_handling kind address
-keeps_own b e (Accepts mask) = keeps_accepting mask
+keeps_own b e own = search (rules, keeps_putting, keeps_sending, keeps_handling, keeps_accepting)
 
 module _ (b : Shown) (e : ℕ) (x : Environment) (r : Runs b e x) (sound : IsSound b) where
   looks : (λ v. doing.look_of b e v) ≡ sight (runner_solo b e x)
@@ -48,22 +43,14 @@ module _ (b : Shown) (e : ℕ) (x : Environment) (r : Runs b e x) (sound : IsSou
       let keeps = keeps_own b e own in
       let now = doing.after_grant b e v (Own own) in
       let still : Runs now e (f x) = record { at = changed_here f b.roster.list e ∙ ap (option_map f) r.at; lives = keeps.life x ∙ r.lives; runs = r.runs } in
-      record {
-        book = λ k. record (book_of now) { kept = λ i. kept_mappings f keeps b.roster.list e i k };
-        count = length-changed f b.roster.list e;
-        solos = one_changed (solo_of b) (solo_of now) e (deeded (Own own) v (solo_of b e))
-            (runner_seen now e (f x) still ∙ shows own v ∙ deeded_seen b e x r (Own own) v)
-            (λ i ne. same_solo i now b (record {
-              record_is = changed_else f b.roster.list e i ne;
-              rings = refl;
-              idles = r.runs.others i ne;
-              idled = r.runs.others i ne;
-              pages = refl;
-              binds = refl;
-              sights = refl;
-            }));
-        rows = sym (append-nil b.ledger.rows);
-        room = omega arith;
-        spare = refl;
-        time = refl;
-      }
+      changes_one refl (λ k. record (book_of now) { kept = λ i. kept_mappings f keeps b.roster.list e i k }) (length-changed f b.roster.list e)
+      (runner_seen now e (f x) still ∙ shows own v ∙ deeded_seen b e x r (Own own) v)
+      (λ i ne. same_solo i now b (record {
+        record_is = changed_else f b.roster.list e i ne;
+        rings = refl;
+        idles = r.runs.others i ne;
+        idled = r.runs.others i ne;
+        pages = refl;
+        binds = refl;
+        sights = refl;
+      }))

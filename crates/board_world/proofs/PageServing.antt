@@ -1,5 +1,5 @@
 -- What the runner does to pages, on the world that is shown.
-use Rattle.std.proofs.Common.{◌≡◌, ◌≢◌, ◌<◌, ℕ, List, [], ◌∷◌, length, true, false, Option, Some, None, refl, sym, ◌∙◌, ap, arith}
+use Rattle.std.proofs.Common.{◌≡◌, ◌≢◌, ◌<◌, ℕ, List, [], ◌∷◌, length, true, false, Option, Some, None, refl, sym, ◌∙◌, ap, arith, rules}
 use Rattle.std.specs.Prelude.{slice_set}
 use Rattle.std.proofs.lemmas.Bool.{ne_eqb}
 use Rattle.std.proofs.lemmas.List.{append-nil, length-set}
@@ -85,9 +85,7 @@ module _ (b : Shown) (e : ℕ) (x : Environment) (r : Runs b e x) (sound : IsSou
     taken_solo = gained page zeros (owning page (runner_solo b e x))
 
     taken_sees : Sees e (row_in taken.pages) (stripe_of b e) (page_at taken.frames) taken_solo
-    taken_sees =
-        sees_by e (set_at page (Owned e words) (row_in b.pages)) (row_in taken.pages) (stripe_of b e) (stripe_of b e) (set_at page zeros (page_at b.frames)) (page_at taken.frames) taken_solo taken_rows (λ row. refl) taken_bytes
-        (allocator_sees e page words zeros (row_in b.pages) (stripe_of b e) (page_at b.frames) (runner_solo b e x) (own_sees b e x) may.free)
+    taken_sees = search (rules, sees_by, allocator_sees, own_sees, taken_rows, taken_bytes)
 
     taken_others : (i : ℕ) → i ≢ e → solo_of taken i ≡ solo_of b i
     taken_others i ne = dropped i b taken [] (record {

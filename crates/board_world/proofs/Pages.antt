@@ -1,5 +1,5 @@
 -- What a store does to the pages that environments see.
-use Rattle.std.proofs.Common.{◌≡◌, ◌≢◌, ℕ, zero, suc, ◌/◌, ◌%◌, ◌<◌, List, [], ◌∷◌, length, Bool, true, false, Some, refl, sym, ◌∙◌, ap, arith, get_or-set_same, get_or-set_other}
+use Rattle.std.proofs.Common.{◌≡◌, ◌≢◌, ℕ, zero, suc, ◌/◌, ◌%◌, ◌<◌, List, [], ◌∷◌, length, Bool, true, false, Some, refl, sym, ◌∙◌, ap, arith, get_or-set_same, get_or-set_other, rules}
 use Rattle.std.specs.Prelude.{◌==◌, if◌then◌else◌, slice_get, slice_index}
 use Rattle.std.specs.Option.{option_map}
 use Rattle.std.proofs.lemmas.Bool.{eqb-true, eqb-false}
@@ -41,16 +41,8 @@ pub record IsStruck (v p : ℕ) (m : Mapping) : Type 0 where
 
 module _ (frames : List (List ℕ)) (w : Write) (p : ℕ) (within : p < length frames) where
   head_by : (m : Mapping) (test : Bool) → (m.vpn == w.address / page_size) ≡ test → IsStruck (w.address / page_size) p m → page_seen (after_put frames p (w.address % page_size) w.bytes) m ≡ (if test then stored_page (its_store w) (page_seen frames m) else page_seen frames m)
-  head_by m true is struck =
-      let to = struck.here (eqb-true m.vpn (w.address / page_size) is) in
-      ap (λ (bytes : List ℕ). record { vpn = m.vpn; writable = m.writable; bytes = bytes })
-      (ap (λ (n : ℕ). page_at (after_put frames p (w.address % page_size) w.bytes) n) to
-      ∙ get_or-set_same frames p (with_bytes (page_at frames p) (w.address % page_size) w.bytes) [] within
-      ∙ ap (λ (n : ℕ). with_bytes (page_at frames n) (w.address % page_size) w.bytes) (sym to))
-  head_by m false is struck =
-      let other = struck.elsewhere (eqb-false m.vpn (w.address / page_size) is) in
-      ap (λ (bytes : List ℕ). record { vpn = m.vpn; writable = m.writable; bytes = bytes })
-      (get_or-set_other frames p m.page (with_bytes (page_at frames p) (w.address % page_size) w.bytes) [] other)
+  head_by m true is struck = search (rules, eqb-true, get_or-set_same)
+  head_by m false is struck = search (rules, eqb-false, get_or-set_other)
 
   pub stored_own : (ms : List Mapping) → ((a : ℕ) (m : Mapping) → slice_get ms a ≡ Some m → IsStruck (w.address / page_size) p m) → pages_seen (after_put frames p (w.address % page_size) w.bytes) ms ≡ kept_after (pages_seen frames ms) (its_store w)
   stored_own [] struck = refl
@@ -89,7 +81,4 @@ number_at (n ∷ ms) (suc a) m is = let there = number_at ms a m is in (omega (a
 
 -- where VPNs rise, a VPN has one place
 pub one_place : (ms : List Mapping) (a b : ℕ) (m n : Mapping) → IsRising (numbers ms) → slice_get ms a ≡ Some m → slice_get ms b ≡ Some n → m.vpn ≡ n.vpn → a ≡ b
-one_place ms a b m n rising at_a at_b same =
-    let there = number_at ms a m at_a in
-    let other = number_at ms b n at_b in
-    grind (arith, rising a b, rising b a, there.0, there.1, other.0, other.1)
+one_place ms a b m n rising at_a at_b same = search (rules, number_at)

@@ -1,5 +1,5 @@
 -- Physical memory stays parted: what is mapped is guaranteed.
-use Rattle.std.proofs.Common.{◌≡◌, ◌≢◌, ℕ, ◌<◌, List, length, map, IfSome, inl, inr, refl, sym, ◌∙◌, ap, subst, arith, length-set, get_or-set_other}
+use Rattle.std.proofs.Common.{◌≡◌, ◌≢◌, ℕ, ◌<◌, List, length, map, IfSome, inl, inr, refl, sym, ◌∙◌, ap, subst, arith, length-set, get_or-set_other, rules}
 use Rattle.std.specs.Prelude.{slice_set}
 use Rattle.std.proofs.lemmas.Bool.{cases_eq, ne_eqb}
 use Rattle.std.proofs.lemmas.List.{length-map}
@@ -35,13 +35,7 @@ keep_parted f keeps frames pages list e parted = alike_parted frames pages list 
 
 -- other bytes in a page
 pub page_parted : (frames : List (List ℕ)) (pages : List PageRow) (list : List Environment) (n : ℕ) (bytes : List ℕ) → IsParted frames pages list → IsParted (with_page frames n bytes) pages list
-page_parted frames pages list n bytes parted =
-    let size = length-set frames n bytes in
-    record {
-      same = size ∙ parted.same;
-      most = omega (arith, size, parted.most);
-      mapped = parted.mapped;
-    }
+page_parted frames pages list n bytes parted = search (rules, length-set)
 
 -- a context page is a page that is there
 pub context_there : (frames : List (List ℕ)) (pages : List PageRow) (list : List Environment) → IsParted frames pages list → (e : ℕ) → IfSome (page_of (mappings_of list e) context_number) (λ page. page < length frames)

@@ -1,5 +1,5 @@
 -- Worlds are equal by their parts, and environments one by one.
-use Rattle.std.proofs.Common.{◌≡◌, ◌≢◌, ℕ, List, [], sym, ◌∙◌, ap}
+use Rattle.std.proofs.Common.{◌≡◌, ◌≢◌, ℕ, List, [], sym, ◌∙◌, rules}
 use Rattle.world_model.specs.Solo.{Solo}
 use Rattle.world_model.specs.Item.{Item, absorb_all}
 use Rattle.world_model.specs.Table.{set_at}
@@ -17,10 +17,7 @@ only_else e i items ne = set_else e i items (λ i. []) ne
 
 -- where something was given to one alone
 pub one_absorbed : (old new : ℕ → Solo) (e : ℕ) (its : List Item) → new e ≡ absorb_all (old e) its → ((i : ℕ) → i ≢ e → new i ≡ old i) → (i : ℕ) → new i ≡ absorb_all (old i) (only e its i)
-one_absorbed old new e its here others =
-    by_env new (λ i. absorb_all (old i) (only e its i)) e
-    (here ∙ ap (absorb_all (old e)) (sym (only_here e its)))
-    (λ i ne. others i ne ∙ ap (absorb_all (old i)) (sym (only_else e i its ne)))
+one_absorbed old new e its here others = search (rules, by_env, only_here, only_else)
 
 -- where one is another, and nobody else
 pub one_changed : (old new : ℕ → Solo) (e : ℕ) (first : Solo) → new e ≡ first → ((i : ℕ) → i ≢ e → new i ≡ old i) → (i : ℕ) → new i ≡ set_at e first old i
@@ -28,7 +25,4 @@ one_changed old new e first here others = by_env new (set_at e first old) e (her
 
 -- where one is another, and is given something itself
 pub one_given : (old new : ℕ → Solo) (e : ℕ) (first : Solo) (its : List Item) → new e ≡ absorb_all first its → ((i : ℕ) → i ≢ e → new i ≡ old i) → (i : ℕ) → new i ≡ absorb_all (set_at e first old i) (only e its i)
-one_given old new e first its here others =
-    one_absorbed (set_at e first old) new e its
-    (here ∙ ap (λ s. absorb_all s its) (sym (set_here e first old)))
-    (λ i ne. others i ne ∙ sym (set_else e i first old ne))
+one_given old new e first its here others = search (rules, one_absorbed, set_here, set_else)

@@ -1,5 +1,5 @@
 -- What the kernel leaves in the context page of an environment from outside: bytes at a place, and a post word that is changed.
-use Rattle.std.proofs.Common.{◌≡◌, ◌≢◌, ℕ, ◌+◌, ◌/◌, ◌%◌, List, length, Option, Some, None, refl, sym, ◌∙◌, ap, length-set}
+use Rattle.std.proofs.Common.{◌≡◌, ◌≢◌, ℕ, ◌+◌, ◌/◌, ◌%◌, List, length, Option, Some, None, refl, sym, ◌∙◌, ap, length-set, rules}
 use Rattle.std.specs.Prelude.{slice_get}
 use Rattle.std.specs.Option.{option_map}
 use Rattle.aegis_limits.specs.Limits.{page_size}
@@ -7,7 +7,6 @@ use Rattle.frame_store.specs.Pages.{word_at, word_bytes}
 use Rattle.mips_exec.specs.Access.{Write}
 use Rattle.env_frames.specs.declared.mapping.Mapping.{Mapping}
 use Rattle.env_frames.specs.declared.post.PostWord.{PostWord}
-use Rattle.env_frames.specs.declared.post.PostWord.TheVariants as post
 use Rattle.env_frames.specs.Context.{context_number}
 use Rattle.env_frames.specs.Frame.{left_in, mapping_at, page_of}
 use Rattle.env_frames.specs.Post.{post_at, post_offset, posted}
@@ -22,7 +21,7 @@ use Rattle.board_world.specs.Sound.{IsSound}
 use Rattle.board_world.specs.Doing.{context_of}
 use Rattle.board_world.proofs.Contexts.{left_by, left_others, left_own, left_sights, left_store}
 use Rattle.board_world.proofs.Pages.{seen_kept}
-use Rattle.board_world.proofs.Seen.{like_solo}
+use Rattle.board_world.proofs.Seen.{like_solo, live_shown}
 
 -- physical memory with a post word of a context page changed
 abbrev pub changed_in : PostWord → (ℕ → ℕ) → Option ℕ → List (List ℕ) → List (List ℕ)
@@ -38,8 +37,7 @@ worded word f s = with_post word (f (post_word word s)) s
 
 -- as many pages are left
 pub same_size : (word : PostWord) (f : ℕ → ℕ) (page : Option ℕ) (frames : List (List ℕ)) → length (changed_in word f page frames) ≡ length frames
-same_size word f None frames = refl
-same_size word f (Some page) frames = length-set frames page _
+same_size word f page frames = search (rules, length-set)
 
 -- the bytes of an environment's context page
 abbrev pub context_bytes : Shown → ℕ → List ℕ
@@ -58,9 +56,6 @@ module _ (b : Shown) (sound : IsSound b) (e : ℕ) (x : Environment) (at : slice
   abbrev owner : Solo
   owner = record (solo_seen b e x) { life = Live }
 
-  owner_seen : solo_of b e ≡ owner
-  owner_seen = ap (solo_or_absent b e) at ∙ (λ k. record (solo_seen b e x) { life = lives k })
-
   its_maps : mappings_of b.roster.list e ≡ x.env.mappings
   its_maps = ap mappings_in at
 
@@ -71,9 +66,7 @@ module _ (b : Shown) (sound : IsSound b) (e : ℕ) (x : Environment) (at : slice
   now = record b { frames = left_by b e write }
 
   page_bytes : context_bytes b e ≡ bytes_in (kept_at (pages_seen b.frames x.env.mappings) context_number)
-  page_bytes =
-      ap bytes_in (sym (seen_kept b.frames (mappings_of b.roster.list e) context_number))
-      ∙ ap (λ ms. bytes_in (kept_at (pages_seen b.frames ms) context_number)) its_maps
+  page_bytes = search (rules, seen_kept, its_maps)
 
   its_pages : pages_seen now.frames x.env.mappings ≡ kept_after (pages_seen b.frames x.env.mappings) (left_store write)
   its_pages =
@@ -91,7 +84,7 @@ module _ (b : Shown) (sound : IsSound b) (e : ℕ) (x : Environment) (at : slice
       ∙ ap (solo_or_absent now e) at
       ∙ (λ k. record (solo_seen b e x) { life = lives k; kept = its_pages k; seen = λ p. left_sights b sound e write number e p k })
       ∙ (λ k. with_context (same_place k) write.bytes owner)
-      ∙ ap (left_with place leave) (sym owner_seen)
+      ∙ ap (left_with place leave) (sym (live_shown b e x at lives))
 
   pub left_else : (i : ℕ) → i ≢ e → solo_of (with_left b e place leave) i ≡ solo_of b i
   left_else i ne =
@@ -107,20 +100,10 @@ module _ (b : Shown) (sound : IsSound b) (e : ℕ) (x : Environment) (at : slice
 
 -- A post word lies within the page.
 post_number : (word : PostWord) → (page_size + post_offset word) / page_size ≡ context_number
-post_number post.Packets = refl
-post_number post.Lost = refl
-post_number post.Lines = refl
-post_number post.Outstanding = refl
-post_number post.Deadline = refl
-post_number post.Takings = refl
+post_number word = search rules
 
 post_place : (word : PostWord) → (page_size + post_offset word) % page_size ≡ post_offset word
-post_place post.Packets = refl
-post_place post.Lost = refl
-post_place post.Lines = refl
-post_place post.Outstanding = refl
-post_place post.Deadline = refl
-post_place post.Takings = refl
+post_place word = search rules
 
 -- how it is changed
 abbrev new_word : PostWord → (ℕ → ℕ) → List ℕ → List ℕ
@@ -128,8 +111,7 @@ new_word word f page = word_bytes (f (word_at page (post_offset word)))
 
 changed_left : (word : PostWord) (f : ℕ → ℕ) (frames : List (List ℕ)) (m : Option Mapping) →
     changed_in word f (option_map (λ (m : Mapping). m.page) m) frames ≡ left_in (post_offset word) (new_word word f (bytes_in (option_map (page_seen frames) m))) (option_map (λ (m : Mapping). m.page) m) frames
-changed_left word f frames None = refl
-changed_left word f frames (Some m) = refl
+changed_left word f frames m = search rules
 
 module _ (b : Shown) (sound : IsSound b) (e : ℕ) (x : Environment) (at : slice_get b.roster.list e ≡ Some x) (lives : x.life ≡ Live) (f : ℕ → ℕ) where
   board_is : (word : PostWord) → with_word b e word f ≡ with_left b e (post_offset word) (new_word word f)

@@ -1,15 +1,15 @@
 -- What is read of a board is what its world has.
-use Rattle.std.proofs.Common.{◌≡◌, ℕ, Option, Some, None, Bool, is_some, refl, sym, ◌∙◌, ap}
+use Rattle.std.proofs.Common.{◌≡◌, ℕ, Option, Some, None, Bool, is_some, refl, sym, ◌∙◌, ap, rules}
 use Rattle.std.specs.Option.{option_map}
 use Rattle.std.specs.Prelude.{if◌then◌else◌, slice_get}
 use Rattle.env_frames.specs.Frame.{mapping_at}
 use Rattle.world_model.specs.Book.{running}
 use Rattle.world_model.specs.PageCalls.{is_guaranteed}
 use Rattle.world_model.specs.Queries.{life_at}
-use Rattle.world_model.specs.Solo.{Solo, kept_at, sight}
+use Rattle.world_model.specs.Solo.{Solo, sight}
 use Rattle.board_world.specs.declared.roster.Environment.{Environment}
-use Rattle.board_world.specs.Shown.{Shown, console_in, console_of, mappings_of, sent_in, sent_of}
-use Rattle.board_world.specs.Showing.{page_seen, solo_of, solo_or_absent, world_of}
+use Rattle.board_world.specs.Shown.{Shown, console_of, mappings_of, sent_of}
+use Rattle.board_world.specs.Showing.{solo_of, solo_or_absent, world_of}
 use Rattle.board_world.specs.Rings.{rings_of}
 use Rattle.board_world.specs.Sound.{IsSound}
 use Rattle.board_world.specs.Doing.{look_of}
@@ -19,39 +19,26 @@ use Rattle.board_world.proofs.Slots.{is_there}
 
 -- where the VPNs of the runner lead
 pub runner_look : (b : Shown) (e : ℕ) → IsSound b → running b.slots.runner ≡ Some e → look_of b e ≡ sight (solo_of b e)
-runner_look b e sound runs =
-    let x = runner_runs b e sound runs in
-    (λ k v. its_look b e x.0 x.1 sound v k) ∙ ap sight (sym (runner_seen b e x.0 x.1))
+runner_look b e sound runs = search (rules, runner_runs, its_look, runner_seen)
 
 -- what an environment wrote
 pub console_same : (b : Shown) (e : ℕ) → console_of b.roster.list e ≡ (solo_of b e).console
-console_same b e = by_record (slice_get b.roster.list e)
-  where
-    by_record : (o : Option Environment) → console_in o ≡ (solo_or_absent b e o).console
-    by_record None = refl
-    by_record (Some x) = refl
+console_same b e = search rules
 
 -- and what it sent
 pub sent_same : (b : Shown) (e : ℕ) → sent_of b.roster.list e ≡ (solo_of b e).sent
-sent_same b e = by_record (slice_get b.roster.list e)
-  where
-    by_record : (o : Option Environment) → sent_in o ≡ (solo_or_absent b e o).sent
-    by_record None = refl
-    by_record (Some x) = refl
+sent_same b e = search rules
 
 -- the runner's registers
 pub runner_registers : (b : Shown) (e : ℕ) → IsSound b → running b.slots.runner ≡ Some e → b.cpu ≡ (solo_of b e).cpu
 runner_registers b e sound runs = let x = runner_runs b e sound runs in ap (λ (s : Solo). s.cpu) (sym (runner_seen b e x.0 x.1))
 
 pub is_some_mapped : {A B : Type 0} (f : A → B) (o : Option A) → is_some o ≡ is_some (option_map f o)
-is_some_mapped f None = refl
-is_some_mapped f (Some x) = refl
+is_some_mapped f o = search rules
 
 -- the guaranteed VPNs of an environment
 pub guaranteed_same : (b : Shown) (e v : ℕ) → is_some (mapping_at (mappings_of b.roster.list e) v) ≡ is_guaranteed (solo_of b e) v
-guaranteed_same b e v =
-    let ms = mappings_of b.roster.list e in
-    is_some_mapped (page_seen b.frames) (mapping_at ms v) ∙ ap is_some (sym (seen_kept b.frames ms v)) ∙ ap (λ ps. is_some (kept_at ps v)) (sym (kept_seen b e))
+guaranteed_same b e v = search (rules, is_some_mapped, seen_kept, kept_seen)
 
 -- the life of an environment
 pub life_same : (b : Shown) (e : ℕ) → option_map (λ (x : Environment). x.life) (slice_get b.roster.list e) ≡ life_at (world_of b) e

@@ -1,5 +1,5 @@
 -- What an act or a call of the runner leaves, where it brings a reply.
-use Rattle.std.proofs.Common.{◌≡◌, ◌≢◌, ◌≤◌, ℕ, ◌+◌, List, [], ◌∷◌, ◌++◌, length, refl, sym, ◌∙◌, ap, arith}
+use Rattle.std.proofs.Common.{◌≡◌, ◌≢◌, ◌≤◌, ℕ, ◌+◌, List, [], ◌∷◌, ◌++◌, length, refl, sym, ◌∙◌, ap, arith, rules}
 use Rattle.std.proofs.lemmas.List.Sums.{fold-append}
 use Rattle.std.proofs.lemmas.List.{append-nil}
 use Rattle.world_model.specs.declared.code.Code.{Code}
@@ -13,7 +13,7 @@ use Rattle.world_model.specs.Step.{Act, acted}
 use Rattle.world_model.specs.Table.{set_at}
 use Rattle.world_model.specs.Tick as tick
 use Rattle.world_model.specs.Verdict.{done, reply_of}
-use Rattle.world_model.specs.World.{Reply, after, in_turn, no_change, only, tells}
+use Rattle.world_model.specs.World.{Reply, after, in_turn, no_change, only, tells, no_items}
 use Rattle.board_world.specs.declared.roster.Environment.{Environment}
 use Rattle.board_world.specs.Shown.{Shown}
 use Rattle.board_world.specs.Showing.{world_of, book_of, solo_of}
@@ -21,6 +21,8 @@ use Rattle.board_world.specs.Doing as doing
 use Rattle.board_world.proofs.Parts.{worlds, by_env, set_here, set_else, one_changed, one_given}
 use Rattle.board_world.proofs.Phases.{acted_brings, acted_world, told_first}
 use Rattle.board_world.proofs.Seen.{same_solo, Runs, runner_solo, runner_seen}
+use Rattle.kernel_journal.specs.Ledger.{Ledger}
+use Rattle.world_model.specs.Book.{Book}
 
 -- One environment has come to be another, each has absorbed then what it is given, and few rows are written.
 pub record Serves (b : Shown) (e : ℕ) (first : Solo) (reply : Reply) (new : Shown) : Type 0 where
@@ -46,10 +48,24 @@ told b e item act new serves acts = alone b e act new serves ∙ sym (told_first
 
 -- where one did something itself, and each is given something
 pub all_given : (old new : ℕ → Solo) (e : ℕ) (first : Solo) (its : List Item) (theirs : ℕ → List Item) → new e ≡ absorb_all first its → ((i : ℕ) → i ≢ e → new i ≡ absorb_all (old i) (theirs i)) → (i : ℕ) → new i ≡ absorb_all (set_at e first old i) (set_at e its theirs i)
-all_given old new e first its theirs here others =
-    by_env new (λ i. absorb_all (set_at e first old i) (set_at e its theirs i)) e
-    (here ∙ (λ k. absorb_all (sym (set_here e first old) k) (sym (set_here e its theirs) k)))
-    (λ i ne. others i ne ∙ (λ k. absorb_all (sym (set_else e i first old ne) k) (sym (set_else e i its theirs ne) k)))
+all_given old new e first its theirs here others = search (rules, by_env, set_here, set_else)
+
+-- what stays where nothing is written: the ledger, how many environments may come yet, and the time
+abbrev unwritten : Shown → Ledger × (ℕ × ℕ)
+unwritten b = (b.ledger, (b.roster.spare, b.time))
+
+-- where nothing is written, and one alone comes to be another
+pub changes_one : {b : Shown} {e : ℕ} {first : Solo} {book : Book} {new : Shown} → unwritten new ≡ unwritten b → book_of new ≡ book → length new.roster.list ≡ length b.roster.list → solo_of new e ≡ first → ((i : ℕ) → i ≢ e → solo_of new i ≡ solo_of b i)
+    → Serves b e first (record { book = book; items = no_items; rows = [] }) new
+changes_one {b} {e} {first} {book} {new} same books count here others = record {
+  book = books;
+  count = count;
+  solos = one_changed (solo_of b) (solo_of new) e first here others;
+  rows = ap (λ u. u.0.rows) same ∙ sym (append-nil b.ledger.rows);
+  room = let spare : new.ledger.spare ≡ b.ledger.spare = ap (λ u. u.0.spare) same in omega (arith, spare);
+  spare = ap (λ u. u.1.0) same;
+  time = ap (λ u. u.1.1) same;
+}
 
 -- an environment whose call is granted with a value, once it has done its own part
 abbrev pub deeded : Deed → ℕ → Solo → Solo
@@ -82,15 +98,7 @@ module _ (b : Shown) (e : ℕ) (x : Environment) (r : Runs b e x) where
 
   -- a call is answered, and that is all
   pub answers : (v : ℕ) → Serves b e (deeded Answers v (solo_of b e)) (no_change (world_of b)) (doing.after_answer b (Grant v))
-  answers v = record {
-    book = refl;
-    count = refl;
-    solos = one_changed (solo_of b) (solo_of (doing.after_answer b (Grant v))) e (deeded Answers v (solo_of b e)) (answered_seen (Grant v) ∙ deeded_seen Answers v) (answered_others (Grant v));
-    rows = sym (append-nil b.ledger.rows);
-    room = omega arith;
-    spare = refl;
-    time = refl;
-  }
+  answers v = changes_one refl refl refl (answered_seen (Grant v) ∙ deeded_seen Answers v) (answered_others (Grant v))
 
   -- a call is granted: what it does comes behind the answer
   pub granted_serves : (v : ℕ) (new : Shown) → Serves b e (deeded (deed_at (solo_of b e) v) v (solo_of b e)) (done (world_of b) e (deed_at (solo_of b e) v)) new → Serves b e (solo_of b e) (reply_of (world_of b) e (Grant v)) new

@@ -1,5 +1,5 @@
 -- What is taken at deadlines, on the world that is shown.
-use Rattle.std.proofs.Common.{◌≡◌, ◌≢◌, ◌<◌, ◌≤◌, ℕ, zero, suc, ◌+◌, ◌/◌, ◌%◌, List, [], ◌∷◌, ◌++◌, length, map, drop, fold, Bool, true, false, Option, Some, None, IfSome, IsSome, refl, sym, ◌∙◌, ap, subst, arith, length-set}
+use Rattle.std.proofs.Common.{◌≡◌, ◌≢◌, ◌<◌, ◌≤◌, ℕ, zero, suc, ◌+◌, ◌/◌, ◌%◌, List, [], ◌∷◌, ◌++◌, length, map, drop, fold, Bool, true, false, Option, Some, None, IfSome, IsSome, refl, sym, ◌∙◌, ap, subst, arith, length-set, rules}
 use Rattle.std.specs.Prelude.{◌||◌, if◌then◌else◌, nat_lt, slice_get, slice_index_or}
 use Rattle.std.specs.Option.{option_map}
 use Rattle.std.proofs.lemmas.Bool.{eq-eqb, eqb-true, ltb-true, or_parts}
@@ -19,10 +19,11 @@ use Rattle.revocation_book.specs.declared.revocation.Pending.{Pending}
 use Rattle.revocation_book.specs.declared.revocation.Taking.{Taking}
 use Rattle.revocation_book.specs.Backups.{is_loaded}
 use Rattle.revocation_book.specs.Pending.{is_due, unless_due}
-use Rattle.revocation_book.specs.RevocationBook.{backups_at, books_of, is_any_due, pending_at}
+use Rattle.revocation_book.specs.RevocationBook.{backups_at, books_of, is_any_due}
 use Rattle.revocation_book.specs.Takings.{AreTakable, Books, IsTakable, TakingsAreFew, TakingsAreTakable, taken as books_taken, paired, takings_below, takings_of, victims}
 use Rattle.std.specs.List.{list_any}
 use Rattle.std.proofs.lemmas.List.{append-nil}
+use Rattle.std.proofs.lemmas.Grind.{common_steps}
 use Rattle.world_model.specs.declared.life.Life.TheVariants.{Live}
 use Rattle.world_model.specs.Deadlines.{copy_left, settles, takes}
 use Rattle.world_model.specs.Item.{Taken, absorb, absorb_all}
@@ -31,12 +32,12 @@ use Rattle.world_model.specs.PageCalls.{breaks, page_bytes}
 use Rattle.world_model.specs.Post.{post_word}
 use Rattle.world_model.specs.Repossession.{copied, counted_taking, recorded, taken}
 use Rattle.world_model.specs.Rings.{page_store}
-use Rattle.world_model.specs.Solo.{Physical, bytes_in, bytes_of, kept_at, with_store}
+use Rattle.world_model.specs.Solo.{Physical, bytes_in, bytes_of, with_store}
 use Rattle.world_model.specs.Tick.{served}
 use Rattle.world_model.specs.World.{World, Reply, after, run_phases}
 use Rattle.board_world.specs.declared.roster.Environment.{Environment}
-use Rattle.board_world.specs.Shown.{Shown, mappings_in, mappings_of}
-use Rattle.board_world.specs.Showing.{book_of, page_seen, pages_seen, solo_of, solo_or_absent, solo_seen, world_of}
+use Rattle.board_world.specs.Shown.{Shown}
+use Rattle.board_world.specs.Showing.{book_of, page_seen, solo_of, solo_or_absent, world_of}
 use Rattle.board_world.specs.Sound.{IsLive, IsSound}
 use Rattle.board_world.specs.Doing.{context_of, frames_after_copy, with_deadlines_over, after_deadlines, after_taking, takings_in, with_freed}
 use Rattle.board_world.proofs.Asked.{backups_set, pending_served, taken_asked}
@@ -50,7 +51,7 @@ use Rattle.board_world.proofs.Parted.{row_parted}
 use Rattle.board_world.proofs.Allowed.{owned_by_none}
 use Rattle.board_world.proofs.Parts.{by_env, set_here, set_else, worlds}
 use Rattle.board_world.proofs.Posting.{context_bytes, left_else, left_here, left_with, same_size, with_left, with_word, worded, worded_others, worded_seen}
-use Rattle.board_world.proofs.Seen.{like_solo, live_record, row_there}
+use Rattle.board_world.proofs.Seen.{like_solo, live_record, row_there, live_shown}
 use Rattle.board_world.proofs.Staying.{sound_frames, sound_machine, sound_memory}
 use Rattle.board_world.proofs.Tables.{table_set}
 use Rattle.world_model.specs.Holding.{lost}
@@ -82,12 +83,7 @@ frames_if false b e n page backup = refl
 recorded_frames : (page : ℕ) (backup : Option ℕ) (frames : List (List ℕ)) (m : Option Mapping) →
     (let n = word_at (bytes_in (option_map (page_seen frames) m)) (post_offset post.Takings) in
     taken_in page backup (option_map (λ (m : Mapping). m.page) m) frames ≡ counted_in post.Takings (option_map (λ (m : Mapping). m.page) m) (if nat_lt n most_records then left_in (record_offset n) (record_bytes page backup) (option_map (λ (m : Mapping). m.page) m) frames else frames))
-recorded_frames page backup frames None = by_test (nat_lt (word_at [] (post_offset post.Takings)) most_records)
-  where
-    by_test : (t : Bool) → frames ≡ (if t then frames else frames)
-    by_test true = refl
-    by_test false = refl
-recorded_frames page backup frames (Some m) = refl
+recorded_frames page backup frames m = search rules
 
 module _ (b : Shown) (sound : IsSound b) (e : ℕ) (x : Environment) (at : slice_get b.roster.list e ≡ Some x) (lives : x.life ≡ Live) (page : ℕ) (backup : Option ℕ) where
   abbrev n : ℕ
@@ -95,10 +91,7 @@ module _ (b : Shown) (sound : IsSound b) (e : ℕ) (x : Environment) (at : slice
 
   -- as many records as the environment sees
   same_records : n ≡ post_word post.Takings (solo_of b e)
-  same_records =
-      ap (λ bytes. word_at (bytes_in bytes) (post_offset post.Takings)) (sym (seen_kept b.frames (mappings_of b.roster.list e) context_number))
-      ∙ ap (λ o. word_at (bytes_in (kept_at (pages_seen b.frames (mappings_in o)) context_number)) (post_offset post.Takings)) at
-      ∙ ap (λ o. word_at (bytes_in (kept_at (solo_or_absent b e o).kept context_number)) (post_offset post.Takings)) (sym at)
+  same_records = search (rules, seen_kept)
 
   recorded_here : (t : Bool) → nat_lt n most_records ≡ t → solo_of (recorded_if t b e n page backup) e ≡ recorded n page backup (solo_of b e)
   recorded_here true room =
@@ -124,8 +117,7 @@ module _ (b : Shown) (sound : IsSound b) (e : ℕ) (x : Environment) (at : slice
       by_test false = sound
 
   now_at : (t : Bool) → slice_get (recorded_if t b e n page backup).roster.list e ≡ Some x
-  now_at true = at
-  now_at false = at
+  now_at t = search rules
 
   pub written_is : record b { frames = taken_in page backup (context_of b e) b.frames } ≡ with_word now e post.Takings counts
   written_is = grind (arith, recorded_frames, counted_changed)
@@ -145,10 +137,7 @@ module _ (b : Shown) (sound : IsSound b) (e : ℕ) (x : Environment) (at : slice
       ∙ recorded_else (nat_lt n most_records) refl i ne
 
   pub written_size : length (taken_in page backup (context_of b e) b.frames) ≡ length b.frames
-  written_size =
-      ap (λ (y : Shown). length y.frames) written_is
-      ∙ same_size post.Takings counts (context_of now e) now.frames
-      ∙ frames_if (nat_lt n most_records) b e n page backup
+  written_size = search (rules, same_size, frames_if, written_is)
 
 -- A page that may be taken is its owner's, who lives, and so is the backup.
 module _ (b : Shown) (sound : IsSound b) (x : Taking) (may : IsTakable (books_of b.pages b.revocations) b.time x) where
@@ -246,16 +235,13 @@ module _ (b : Shown) (sound : IsSound b) (x : Taking) (may : IsTakable (books_of
     sights = refl;
   })
 
-  live_owner : solo_of b e ≡ record (solo_seen b e its) { life = Live }
-  live_owner = ap (solo_or_absent b e) lived.1.0 ∙ (λ k. record (solo_seen b e its) { life = lived.1.1 k })
-
   gone_here : solo_of gone e ≡ absorb_all (solo_of b e) (Taken x.page x.backup ∷ [])
   gone_here =
       gone_like e
       ∙ freed_own recorded_board x.page page_there e its lived.1.0
       ∙ ap (lost x.page) (written_here copied_board copied_sound e its lived.1.0 lived.1.1 x.page x.backup ∙ ap (counted_taking x.page x.backup) (copied_here x.backup refl))
-      ∙ ap (taken x.page x.backup) live_owner
-      ∙ ap (λ s. absorb_all s (Taken x.page x.backup ∷ [])) (sym live_owner)
+      ∙ ap (taken x.page x.backup) (live_shown b e its lived.1.0 lived.1.1)
+      ∙ ap (λ s. absorb_all s (Taken x.page x.backup ∷ [])) (sym (live_shown b e its lived.1.0 lived.1.1))
 
   gone_else : (i : ℕ) → i ≢ e → solo_of gone i ≡ absorb_all (solo_of b i) (copy_left (world_of b) x x.backup i ++ breaks (book_of b) x.page i)
   gone_else i ne =
@@ -285,12 +271,7 @@ module _ (b : Shown) (sound : IsSound b) (x : Taking) (may : IsTakable (books_of
 
 -- What is taken is taken one after another.
 pub taken_books : (b : Shown) (x : Taking) → x.page < length b.pages → x.env < length b.revocations.backups → books_of (after_taking b x).pages (after_taking b x).revocations ≡ books_taken x (books_of b.pages b.revocations)
-taken_books b x there place = λ k. record {
-  pages = λ p. table_set b.pages x.page Free Free there p k;
-  page_count = length-set b.pages x.page Free k;
-  pending = pending_at b.revocations;
-  backups = λ i. backups_set b.revocations x.env (drop 1 (backups_at b.revocations x.env)) place i k;
-}
+taken_books b x there place = search (rules, table_set, length-set, backups_set)
 
 all_taken : (b : Shown) (xs : List Taking) → IsSound b → AreTakable (books_of b.pages b.revocations) b.time xs → (world_of (fold after_taking b xs) ≡ run_phases (world_of b) (map takes xs)) × IsSound (fold after_taking b xs)
 all_taken b [] sound may = (refl, sound)
@@ -322,9 +303,7 @@ served_world law b sound =
 
 -- Where no deadline has come nothing is taken, and none is over.
 not_due : (list : List (Option Pending)) (time e : ℕ) → list_any (is_due time) list ≡ false → is_due time (slice_index_or list e None) ≡ false
-not_due [] time e none = refl
-not_due (pending ∷ list) time zero none = (or_parts (is_due time pending) (list_any (is_due time) list) none).0
-not_due (pending ∷ list) time (suc e) none = not_due list time e (or_parts (is_due time pending) (list_any (is_due time) list) none).1
+not_due list time e none = grind (arith, common_steps, or_parts)
 
 none_taken : (books : Books) (time n : ℕ) → ((e : ℕ) → is_due time (books.pending e) ≡ false) → takings_below books time n ≡ []
 none_taken books time zero none = refl
@@ -339,9 +318,7 @@ none_over (pending ∷ list) time none =
     λ k. ap (λ t. if t then None else pending) both.0 k ∷ none_over list time both.1 k
 
 pub nothing_due : (b : Shown) → is_any_due b.revocations b.time ≡ false → b ≡ after_deadlines b
-nothing_due b none =
-    sym ((λ k. with_deadlines_over (fold after_taking b (none_taken (books_of b.pages b.revocations) b.time (length b.roster.list) (λ e. not_due b.revocations.pending b.time e none) k)))
-    ∙ (λ k. record b { revocations = record b.revocations { pending = none_over b.revocations.pending b.time none k } }))
+nothing_due b none = search (rules, none_taken, not_due, none_over)
 
 -- What is left as it was, and how many rows are written.
 pub record IsServed (b new : Shown) (rows : ℕ) : Type 0 where
@@ -358,15 +335,7 @@ taken_leaves b (x ∷ xs) =
     record { slots = rest.slots; time = rest.time; numbers = rest.numbers; whole = rest.whole; room = omega (arith, rest.room) }
 
 pub served_leaves : TakingsAreFew → (b : Shown) → IsSound b → IsServed b (after_deadlines b) most_pages
-served_leaves few b sound =
-    let left = taken_leaves b (takings_in b) in
-    record {
-      slots = left.slots;
-      time = left.time;
-      numbers = left.numbers;
-      whole = left.whole;
-      room = omega (arith, left.room, few (books_of b.pages b.revocations) b.time (length b.roster.list), sound.memory.same, sound.memory.most);
-    }
+served_leaves few b sound = search (rules, taken_leaves)
 
 -- nothing more is taken than there are rows for
 pub takings_few : TakingsAreFew → (b : Shown) → length (takings_in b) ≤ length b.pages

@@ -1,13 +1,14 @@
 -- What a board shows of its environments.
-use Rattle.std.proofs.Common.{◌≡◌, ◌≢◌, ℕ, zero, suc, ◌<◌, List, [], ◌∷◌, length, true, false, Option, Some, None, IfSome, refl, sym, ◌∙◌, ap, subst, arith}
+use Rattle.std.proofs.Common.{◌≡◌, ◌≢◌, ℕ, ◌<◌, List, length, true, false, Option, Some, None, IfSome, refl, sym, ◌∙◌, ap, arith, rules}
 use Rattle.std.specs.Prelude.{slice_get}
-use Rattle.std.proofs.lemmas.Bool.{ne_eqb, eq-eqb}
+use Rattle.std.proofs.lemmas.Bool.{ne_eqb, eq-eqb, and_parts}
+use Rattle.std.proofs.lemmas.Grind.{common_steps}
 use Rattle.mips_exec.specs.declared.registers.Cpu.{Cpu}
 use Rattle.mips_exec.specs.Step.{step_of, view_of}
 use Rattle.env_frames.specs.declared.mapping.Mapping.{Mapping}
 use Rattle.frame_store.specs.Pages.{page_at}
 use Rattle.page_book.specs.declared.row.PageRow.{PageRow}
-use Rattle.page_book.specs.declared.row.PageRow.TheVariants.{Free, Guaranteed, Owned}
+use Rattle.page_book.specs.declared.row.PageRow.TheVariants.{Free, Guaranteed}
 use Rattle.page_book.specs.Rows.{row_in}
 use Rattle.bind_book.specs.declared.binding.Binding.{Binding}
 use Rattle.bind_book.specs.Stripe.{binding_at, is_bound, is_of_page, row_of, stripes}
@@ -25,10 +26,12 @@ use Rattle.world_model.specs.Step.{step_alone}
 use Rattle.board_world.specs.declared.roster.Environment.{Environment}
 use Rattle.board_world.specs.Rings.{rings_of}
 use Rattle.board_world.specs.Shown.{Shown, mappings_in, mappings_of}
-use Rattle.board_world.specs.Showing.{solo_of, solo_or_absent, solo_seen, cpu_seen, pages_seen}
+use Rattle.board_world.specs.Showing.{solo_of, solo_or_absent, solo_seen, cpu_seen, pages_seen, world_of}
 use Rattle.board_world.specs.Sound.{IsSound, IsParted, IsAlive, IsLive, IsOwned}
 use Rattle.board_world.specs.Doing.{step_seen, look_of}
 use Rattle.board_world.proofs.Looks.{seen_look}
+use Rattle.board_world.proofs.Slots.{is_there}
+use Rattle.world_model.specs.World.{is_living}
 
 -- the bindings of an environment, and what it sees of the pages that it owns or has bound
 abbrev pub stripe_of : Shown → ℕ → ℕ → Option Binding
@@ -75,8 +78,7 @@ pub record IsNamed (e : ℕ) (runner : Option Runner) : Type 0 where
   pub others : (i : ℕ) → i ≢ e → is_runner i runner ≡ false
 
 pub named : (e : ℕ) (runner : Option Runner) → running runner ≡ Some e → IsNamed e runner
-named e None is = cc
-named e (Some r) is = let same : r.env ≡ e = cc in record { its = eq-eqb r.env e same; others = λ i ne. ne_eqb r.env i (λ other. ne (sym other ∙ same)) }
+named e runner is = search (rules, eq-eqb, ne_eqb)
 
 -- the environment that runs, alone
 abbrev pub runner_solo : Shown → ℕ → Environment → Solo
@@ -89,9 +91,7 @@ opened_look b e v = refl
 
 -- a page that isn't free is there
 pub row_there : (pages : List PageRow) (page : ℕ) → row_in pages page ≢ Free → page < length pages
-row_there [] page taken = absurd (taken refl)
-row_there (row ∷ pages) zero taken = omega arith
-row_there (row ∷ pages) (suc page) taken = let there = row_there pages page taken in omega arith
+row_there pages page taken = grind (arith, common_steps)
 
 -- a page that is mapped is there, and guaranteed
 pub guaranteed_there : (frames : List (List ℕ)) (pages : List PageRow) (list : List Environment) → IsParted frames pages list → (e a : ℕ) (m : Mapping) → slice_get (mappings_of list e) a ≡ Some m → m.page < length frames
@@ -101,9 +101,7 @@ guaranteed_there frames pages list parted e a m at =
 
 -- a row with an owner who can let others bind it isn't free
 pub owned_taken : (row : PageRow) → IsOwned row → row ≢ Free
-owned_taken Free owned is = owned
-owned_taken (Guaranteed owner) owned is = owned
-owned_taken (Owned owner words) owned is = cc
+owned_taken row owned is = search rules
 
 -- a page that is bound is there, and is bound
 pub bound_there : (b : Shown) (e v : ℕ) (y : Binding) → IsSound b → binding_at (stripe_of b e) v ≡ Some y → (y.page < length b.frames) × (is_bound y.page (stripe_of b e) ≡ true)
@@ -120,22 +118,22 @@ pub record Runs (b : Shown) (e : ℕ) (x : Environment) : Type 0 where
 
 -- a live environment has a record
 pub live_record : (list : List Environment) (e : ℕ) → IsAlive (slice_get list e) → (x : Environment) × ((slice_get list e ≡ Some x) × (x.life ≡ Live))
-live_record list e alive = by_record (slice_get list e) refl alive
-  where
-    by_record : (y : Option Environment) → slice_get list e ≡ y → IsAlive y → (x : Environment) × ((slice_get list e ≡ Some x) × (x.life ≡ Live))
-    by_record None is alive = absurd alive
-    by_record (Some x) is alive = (x, (is, alive))
+live_record list e alive = search rules
+
+-- an environment that is there and lives
+pub living_record : (b : Shown) (e : ℕ) → is_living (world_of b) e ≡ true → (x : Environment) × ((slice_get b.roster.list e ≡ Some x) × (x.life ≡ Live))
+living_record b e is = search (rules, is_there, and_parts)
+
+-- a live environment as it is shown, whether it runs or not
+pub live_shown : (b : Shown) (e : ℕ) (x : Environment) → slice_get b.roster.list e ≡ Some x → x.life ≡ Live → solo_of b e ≡ record (solo_seen b e x) { life = Live }
+live_shown b e x at lives = ap (solo_or_absent b e) at ∙ (λ k. record (solo_seen b e x) { life = lives k })
 
 -- a runner is an environment that lives
 pub runner_live : (list : List Environment) (e : ℕ) (runner : Option Runner) → IfSome runner (λ r. IsLive list r.env) → running runner ≡ Some e → IsLive list e
-runner_live list e None live is = cc
-runner_live list e (Some r) live is = let same : r.env ≡ e = cc in subst (IsLive list) same live
+runner_live list e runner live is = search rules
 
 pub runner_runs : (b : Shown) (e : ℕ) → IsSound b → running b.slots.runner ≡ Some e → (x : Environment) × Runs b e x
-runner_runs b e sound runs =
-    let live = runner_live b.roster.list e b.slots.runner sound.book.runner runs in
-    let x = live_record b.roster.list e live.1 in
-    (x.0, record { at = x.1.0; lives = x.1.1; runs = named e b.slots.runner runs })
+runner_runs b e sound runs = search (rules, runner_live, live_record, named)
 
 module _ (b : Shown) (e : ℕ) (x : Environment) (r : Runs b e x) where
   pub runner_seen : solo_of b e ≡ runner_solo b e x

@@ -3,6 +3,7 @@ use Rattle.std.proofs.Common.{◌≡◌, ◌<◌, ◌≤◌, ℕ, zero, suc, Lis
 use Rattle.std.specs.Prelude.{take}
 use Rattle.std.proofs.lemmas.List.{append-nil, length-append}
 use Rattle.std.proofs.Math.Seq.{take_all, take-append-le}
+use Rattle.std.proofs.lemmas.Grind.{common_steps}
 use Rattle.external_event.specs.Limits.{most_sent}
 use Rattle.world_model.specs.Rings.{replied}
 use Rattle.board_world.specs.declared.roster.Environment.{Environment}
@@ -11,9 +12,7 @@ use Rattle.board_world.specs.Doing.{with_replies_sent}
 
 -- the first of what begins with the first
 taken_twice : {A : Type 0} (n : ℕ) (xs ys : List A) → take n (take n xs ++ ys) ≡ take n (xs ++ ys)
-taken_twice zero xs ys = refl
-taken_twice (suc n) [] ys = refl
-taken_twice (suc n) (x ∷ xs) ys = ap (λ rest. x ∷ rest) (taken_twice n xs ys)
+taken_twice n xs ys = grind (arith, common_steps)
 
 -- replies one after another are all of them
 replied_twice : (sent some more : List (List ℕ)) → replied (replied sent some) more ≡ replied sent (some ++ more)

@@ -1,5 +1,5 @@
 -- The runner's calls and its death, on the world that is shown.
-use Rattle.std.proofs.Common.{◌≡◌, ◌≤◌, ◌+◌, ℕ, arith, [], ◌∷◌, Bool, true, false, Option, Some, None, refl, sym, ◌∙◌, ap, subst}
+use Rattle.std.proofs.Common.{◌≡◌, ◌≤◌, ◌+◌, ℕ, arith, [], ◌∷◌, Bool, true, false, Option, Some, None, refl, sym, ◌∙◌, ap, subst, rules}
 use Rattle.std.specs.Prelude.{◌==◌, if◌then◌else◌}
 use Rattle.std.proofs.lemmas.List.{append-nil}
 use Rattle.mips_exec.specs.Cpu.{reg}
@@ -132,28 +132,10 @@ pub record Leaves (b new : Shown) : Type 0 where
   pub numbers : new.claims.next ≤ b.claims.next + 1
 
 deed_leaves : (b : Shown) (e v : ℕ) (d : Deed) → Leaves b (doing.after_grant b e v d)
-deed_leaves b e v Answers = record { room = omega arith; spare = refl; time = refl; numbers = omega arith }
-deed_leaves b e v (Own own) = record { room = omega arith; spare = refl; time = refl; numbers = omega arith }
-deed_leaves b e v Stops = record { room = omega arith; spare = refl; time = refl; numbers = omega arith }
-deed_leaves b e v (Gives target) = record { room = omega arith; spare = refl; time = refl; numbers = omega arith }
-deed_leaves b e v (Allocates page words) = record { room = omega arith; spare = refl; time = refl; numbers = omega arith }
-deed_leaves b e v (Frees page) = record { room = omega arith; spare = refl; time = refl; numbers = omega arith }
-deed_leaves b e v (Recaps page words) = record { room = omega arith; spare = refl; time = refl; numbers = omega arith }
-deed_leaves b e v (Binds binding word) = record { room = omega arith; spare = refl; time = refl; numbers = omega arith }
-deed_leaves b e v (Unbinds vpn) = record { room = omega arith; spare = refl; time = refl; numbers = omega arith }
-deed_leaves b e v (Transfers target kind) = record { room = entered_room b e target kind; spare = refl; time = refl; numbers = omega arith }
-deed_leaves b e v (TakesSlot slot) = record { room = omega arith; spare = refl; time = refl; numbers = omega arith }
-deed_leaves b e v (DropsSlot slot) = record { room = omega arith; spare = refl; time = refl; numbers = omega arith }
-deed_leaves b e v (TakesLine line) = record { room = omega arith; spare = refl; time = refl; numbers = omega arith }
-deed_leaves b e v (DropsLine line) = record { room = omega arith; spare = refl; time = refl; numbers = omega arith }
-deed_leaves b e v (Claims claim address atoms page) = record { room = omega arith; spare = refl; time = refl; numbers = omega arith }
-deed_leaves b e v (Unclaims claim) = record { room = omega arith; spare = refl; time = refl; numbers = omega arith }
-deed_leaves b e v (Downloads claim address words) = record { room = omega arith; spare = refl; time = refl; numbers = omega arith }
-deed_leaves b e v (Loads page) = record { room = omega arith; spare = refl; time = refl; numbers = omega arith }
+deed_leaves b e v d = search (rules, entered_room)
 
 verdict_leaves : (b : Shown) (e : ℕ) (c : Option Call) (which : Verdict) → Leaves b (doing.after_verdict b e c which)
-verdict_leaves b e c (Refuse why v) = record { room = omega arith; spare = refl; time = refl; numbers = omega arith }
-verdict_leaves b e c (Grant v) = deed_leaves b e v (deed_of c v b.cpu)
+verdict_leaves b e c which = search (rules, deed_leaves)
 
 pub called_leaves : (b : Shown) (e : ℕ) (exits : Bool) → IsSound b → running b.slots.runner ≡ Some e → Leaves b (doing.after_exit_or_call b e exits)
 called_leaves b e true sound runs = let s = death_serves b e (cause.Exit (reg b.cpu 4)) sound runs in record { room = s.room; spare = s.spare; time = s.time; numbers = omega arith }

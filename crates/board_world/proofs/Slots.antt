@@ -1,5 +1,5 @@
 -- The vector of slots as a list and as a table.
-use Rattle.std.proofs.Common.{◌≡◌, ◌≢◌, ◌<◌, ℕ, zero, suc, List, [], ◌∷◌, length, true, Option, Some, None, is_some, inl, inr, refl, sym, ◌∙◌, ap, arith}
+use Rattle.std.proofs.Common.{◌≡◌, ◌≢◌, ◌<◌, ℕ, zero, suc, List, [], ◌∷◌, length, true, Option, Some, None, is_some, refl, ap, arith, rules}
 use Rattle.std.specs.Option.{option_map}
 use Rattle.std.specs.Prelude.{nat_lt, if◌then◌else◌, slice_get, slice_set}
 use Rattle.std.proofs.lemmas.Bool.{cases_lt, lt-ltb, le-ltb}
@@ -16,10 +16,7 @@ some_within (x ∷ xs) (suc k) within = some_within xs k (omega arith)
 
 -- what is below the length is there
 pub is_there : {A : Type 0} (xs : List A) (k : ℕ) → nat_lt k (length xs) ≡ is_some (slice_get xs k)
-is_there xs k = elim (cases_lt k (length xs)) [
-  | inl within ↦ lt-ltb k (length xs) within ∙ sym (some_within xs k within)
-  | inr past ↦ le-ltb k (length xs) past ∙ sym (ap is_some (slice_get_past xs k past))
-]
+is_there xs k = search (rules, cases_lt, lt-ltb, some_within, le-ltb, slice_get_past)
 
 got_within : (slots : List (Option Hold)) (k : ℕ) → k < length slots → slice_get slots k ≡ Some (hold_at slots k)
 got_within [] k within = absurd (omega arith)
@@ -28,10 +25,7 @@ got_within (slot ∷ slots) (suc k) within = got_within slots k (omega arith)
 
 -- the slot of a number, if there is one
 pub slot_got : (slots : List (Option Hold)) (k : ℕ) → slice_get slots k ≡ (if nat_lt k (length slots) then Some (hold_at slots k) else None)
-slot_got slots k = elim (cases_lt k (length slots)) [
-  | inl within ↦ got_within slots k within ∙ ap (λ t. if t then Some (hold_at slots k) else None) (sym (lt-ltb k (length slots) within))
-  | inr past ↦ slice_get_past slots k past ∙ ap (λ t. if t then Some (hold_at slots k) else None) (sym (le-ltb k (length slots) past))
-]
+slot_got slots k = search (rules, cases_lt, got_within, lt-ltb, slice_get_past, le-ltb)
 
 -- the slot itself, and the others
 pub hold_here : (slots : List (Option Hold)) (k : ℕ) (hold : Option Hold) → k < length slots → hold_at (slice_set slots k hold) k ≡ hold
@@ -48,10 +42,7 @@ hold_else (slot ∷ slots) (suc k) (suc i) hold ne = hold_else slots k i hold (�
 
 -- the slots once one of them has another hold
 pub hold_set : (slots : List (Option Hold)) (k : ℕ) (hold : Option Hold) → k < length slots → (i : ℕ) → hold_at (slice_set slots k hold) i ≡ set_at k hold (hold_at slots) i
-hold_set slots k hold within =
-    by_env (hold_at (slice_set slots k hold)) (set_at k hold (hold_at slots)) k
-    (hold_here slots k hold within ∙ sym (set_here k hold (hold_at slots)))
-    (λ i ne. hold_else slots k i hold ne ∙ sym (set_else k i hold (hold_at slots) ne))
+hold_set slots k hold within = search (rules, by_env, hold_here, set_here, hold_else, set_else)
 
 -- once it is handed on, if there is one
 pub handed_here : (f : Hold → Hold) (slots : List (Option Hold)) (k : ℕ) → hold_at (slice_set slots k (option_map f (hold_at slots k))) k ≡ option_map f (hold_at slots k)
@@ -60,8 +51,4 @@ handed_here f (slot ∷ slots) zero = refl
 handed_here f (slot ∷ slots) (suc k) = handed_here f slots k
 
 pub hold_changed : (f : Hold → Hold) (slots : List (Option Hold)) (k i : ℕ) → hold_at (slice_set slots k (option_map f (hold_at slots k))) i ≡ set_at k (option_map f (hold_at slots k)) (hold_at slots) i
-hold_changed f slots k =
-    let hold = option_map f (hold_at slots k) in
-    by_env (hold_at (slice_set slots k hold)) (set_at k hold (hold_at slots)) k
-    (handed_here f slots k ∙ sym (set_here k hold (hold_at slots)))
-    (λ i ne. hold_else slots k i hold ne ∙ sym (set_else k i hold (hold_at slots) ne))
+hold_changed f slots k = search (rules, by_env, handed_here, set_here, hold_else, set_else)

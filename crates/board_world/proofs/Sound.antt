@@ -1,11 +1,12 @@
 -- The slots of a board go on being sound.
-use Rattle.std.proofs.Common.{◌≡◌, ◌≢◌, ℕ, zero, suc, ◌+◌, ◌-◌, ◌%◌, ◌<◌, ◌≤◌, List, [], ◌∷◌, length, map, Bool, true, false, Option, Some, None, IfSome, refl, sym, ◌∙◌, ap, subst, arith}
+use Rattle.std.proofs.Common.{◌≡◌, ◌≢◌, ℕ, zero, suc, ◌+◌, ◌%◌, ◌<◌, ◌≤◌, List, [], ◌∷◌, length, map, Bool, true, false, Option, Some, None, IfSome, refl, sym, ◌∙◌, ap, subst, arith, rules}
 use Rattle.std.specs.Option.{option_map}
-use Rattle.std.specs.Prelude.{◌==◌, ◌-◌, if◌then◌else◌, nat_lt, All, slice_get, slice_index_or, slice_set}
+use Rattle.std.specs.Prelude.{◌==◌, if◌then◌else◌, nat_lt, All, slice_get, slice_index_or, slice_set}
 use Rattle.std.proofs.Common.{length-set}
 use Rattle.std.proofs.lemmas.Bool.{eq-eqb, eqb-false, ltb-false, or_parts}
 use Rattle.std.proofs.lemmas.List.{length-map}
 use Rattle.std.proofs.lemmas.List.Sums.{sum_by-le}
+use Rattle.std.proofs.lemmas.Grind.{common_steps}
 use Rattle.aegis_limits.specs.Limits.{most_slots}
 use Rattle.mips_exec.specs.declared.registers.Cpu.{Cpu}
 use Rattle.slot_vector.specs.declared.turn.NextTurn.TheVariants as next
@@ -20,7 +21,7 @@ use Rattle.world_model.specs.declared.slot.Runner.{Runner}
 use Rattle.world_model.specs.declared.slot.Turn.{Turn}
 use Rattle.world_model.specs.declared.slot.Phase.{Phase}
 use Rattle.world_model.specs.declared.slot.Phase.TheVariants as phase
-use Rattle.world_model.specs.Book.{excess_limit, first_turn, has_part, is_runner, own_hold, hold_without, running, turn_or}
+use Rattle.world_model.specs.Book.{excess_limit, first_turn, has_part, is_runner, hold_without, running, turn_or}
 use Rattle.world_model.specs.SlotCalls.{dropped, handed, held_by}
 use Rattle.world_model.specs.declared.life.Life.TheVariants.{Live}
 use Rattle.world_model.specs.declared.life.Cause.{Cause}
@@ -43,10 +44,7 @@ undead_live r e whole undead = let within : e < length r.list = omega (arith, un
 -- the holder of a turn is a holder of the slots
 module _ (r : Environments) (slots : ℕ → Option Hold) (count : ℕ) (whole : r.spare ≡ 0) (holds : (k : ℕ) → IfSome (slots k) (λ h. IsUndead r h.owner × IsUndead r h.holder)) (t : Turn) where
   by_hold : (at : ℕ) (hold : Option Hold) (later : Option Turn) → IfSome hold (λ h. IsUndead r h.owner × IsUndead r h.holder) → (later ≡ Some t → IsLive r.list t.env) → turn_or at hold later ≡ Some t → IsLive r.list t.env
-  by_hold at None later held further is = further is
-  by_hold at (Some h) later held further is =
-      let same : h.holder ≡ t.env = cc in
-      subst (IsLive r.list) same (undead_live r h.holder whole held.1)
+  by_hold at hold later held further is = search (rules, undead_live)
 
   first_live : (place tries : ℕ) → first_turn slots count place tries ≡ Some t → IsLive r.list t.env
   first_live place zero is = cc
@@ -63,47 +61,19 @@ turn_live v r t manned whole is = held_live v r t manned whole (ran_is (excess_o
 
 -- the vector once somebody runs
 pub run_manned : (v : Slices) (r : Environments) (t : Turn) → IsManned v r → IsLive r.list t.env → IsManned (after_turn v (next.Run t)) r
-run_manned v r t manned lives = record {
-  quantum = manned.quantum;
-  ticks = omega (arith, manned.quantum);
-  runner = lives;
-  holds = manned.holds;
-  count = manned.count;
-  numbered = manned.numbered;
-  owes = manned.owes;
-}
+run_manned v r t manned lives = search rules
 
 -- what holds of an element that was written, and of the others, holds of all
 pub set_all : {A : Type 0} (P : A → Type 0) (xs : List A) (k i : ℕ) (x d : A) → P x → P (slice_index_or xs i d) → P (slice_index_or (slice_set xs k x) i d)
-set_all P [] k i x d new old = old
-set_all P (y ∷ xs) zero zero x d new old = new
-set_all P (y ∷ xs) zero (suc i) x d new old = old
-set_all P (y ∷ xs) (suc k) zero x d new old = old
-set_all P (y ∷ xs) (suc k) (suc i) x d new old = set_all P xs k i x d new old
+set_all P xs k i x d new old = grind (arith, common_steps)
 
 -- the vector once an excess is another, which is within the limit
 owing_manned : (v : Slices) (r : Environments) (e excess : ℕ) → excess ≤ excess_limit → IsManned v r → IsManned (record v { excess = slice_set v.excess e excess }) r
-owing_manned v r e excess most manned = record {
-  quantum = manned.quantum;
-  ticks = manned.ticks;
-  runner = manned.runner;
-  holds = manned.holds;
-  count = manned.count;
-  numbered = length-set v.excess e excess ∙ manned.numbered;
-  owes = λ i. set_all (λ n. n ≤ excess_limit) v.excess e i excess 0 most (manned.owes i);
-}
+owing_manned v r e excess most manned = grind (arith, common_steps, length-set, set_all)
 
 -- a slot is forfeited
 pub pay_manned : (v : Slices) (r : Environments) (t : Turn) → IsManned v r → IsManned (after_turn v (next.Pay t)) r
-pay_manned v r t manned = owing_manned (record v { cursor = t.slot }) r t.env (excess_of v.excess t.env - 1) (omega (arith, manned.owes t.env)) (record {
-  quantum = manned.quantum;
-  ticks = manned.ticks;
-  runner = manned.runner;
-  holds = manned.holds;
-  count = manned.count;
-  numbered = manned.numbered;
-  owes = manned.owes;
-})
+pay_manned v r t manned = search (rules, owing_manned)
 
 -- what all environments owe together
 each_owes : (excess : List ℕ) → ((e : ℕ) → excess_of excess e ≤ excess_limit) → All (λ n. n ≤ excess_limit) excess
@@ -147,8 +117,7 @@ pub keeps_replying : (replies : List (List ℕ)) → Keeps (with_replies_sent re
 keeps_replying replies = record { life = λ x. refl; mappings = λ x. refl }
 
 pub if_both : {A : Type 0} {P Q : A → Type 0} (x : Option A) → ((a : A) → x ≡ Some a → P a → Q a) → IfSome x P → IfSome x Q
-if_both None f holds = holds
-if_both (Some a) f holds = f a refl holds
+if_both x f holds = search rules
 
 module _ (f : Environment → Environment) (keeps : Keeps f) where
   kept_undying : (list : List Environment) (e i : ℕ) → IfSome (slice_get list i) (λ x. x.life ≡ Live) → IfSome (slice_get (changed f list e) i) (λ x. x.life ≡ Live)
@@ -172,15 +141,7 @@ module _ (f : Environment → Environment) (keeps : Keeps f) where
   kept_live list e i live = (omega (arith, live.0, length-changed f list e), kept_alive list e i live.1)
 
   pub keep_manned : (v : Slices) (r : Environments) (e : ℕ) → IsManned v r → IsManned v (with_list r (changed f r.list e))
-  keep_manned v r e manned = record {
-    quantum = manned.quantum;
-    ticks = manned.ticks;
-    runner = if_both v.runner (λ x is live. kept_live r.list e x.env live) manned.runner;
-    holds = λ k. if_both (hold_at v.slots k) (λ h is undead. (kept_undead r e h.owner undead.0, kept_undead r e h.holder undead.1)) (manned.holds k);
-    count = manned.count;
-    numbered = manned.numbered;
-    owes = manned.owes;
-  }
+  keep_manned v r e manned = search (rules, if_both, kept_live, kept_undead)
 
 -- the turn ends
 pub end_manned : (v : Slices) (r : Environments) → IsManned v r → IsManned (turn_ended v) r
@@ -213,16 +174,7 @@ module _ (v : Slices) (r : Environments) (e : ℕ) where
   none_left = record { runs = ended v.runner; parts = λ k. rw (hold_at-released e v.slots k) (released_part (hold_at v.slots k)) }
 
   released_undead : (hold : Option Hold) → IfSome hold (λ h. IsUndead r h.owner × IsUndead r h.holder) → IfSome (hold_without e hold) (λ h. IsUndead r h.owner × IsUndead r h.holder)
-  released_undead None undead = undead
-  released_undead (Some h) undead = by_owner (h.owner == e)
-    where
-      by_holder : (holds : Bool) → IfSome (if holds then Some (own_hold h.owner) else Some h) (λ h. IsUndead r h.owner × IsUndead r h.holder)
-      by_holder true = (undead.0, undead.0)
-      by_holder false = undead
-
-      by_owner : (owns : Bool) → IfSome (if owns then None else (if h.holder == e then Some (own_hold h.owner) else Some h)) (λ h. IsUndead r h.owner × IsUndead r h.holder)
-      by_owner true = tt
-      by_owner false = by_holder (h.holder == e)
+  released_undead hold undead = search rules
 
   pub release_manned : is_runner e v.runner ≡ true → IsManned v r → IsManned (without_env e v) r
   release_manned runs manned = rw runs (record {
@@ -238,27 +190,13 @@ module _ (v : Slices) (r : Environments) (e : ℕ) where
 -- and then it may die
 module _ (v : Slices) (r : Environments) (e : ℕ) (cause : Cause) (none : HasNoPart e v) where
   still_undead : (hold : Option Hold) → has_part e hold ≡ false → IfSome hold (λ h. IsUndead r h.owner × IsUndead r h.holder) → IfSome hold (λ h. IsUndead (with_list r (changed (dead_frame cause) r.list e)) h.owner × IsUndead (with_list r (changed (dead_frame cause) r.list e)) h.holder)
-  still_undead None apart undead = tt
-  still_undead (Some h) apart undead =
-      let others = or_parts (h.owner == e) (h.holder == e) apart in (
-        changed_undead r (dead_frame cause) e h.owner (eqb-false h.owner e others.0) undead.0,
-        changed_undead r (dead_frame cause) e h.holder (eqb-false h.holder e others.1) undead.1,
-      )
+  still_undead hold apart undead = search (rules, or_parts, eqb-false, changed_undead)
 
   still_live : (o : Option Runner) → is_runner e o ≡ false → IfSome o (λ x. IsLive r.list x.env) → IfSome o (λ x. IsLive (changed (dead_frame cause) r.list e) x.env)
-  still_live None apart live = tt
-  still_live (Some x) apart live = others_live r.list cause e x.env (eqb-false x.env e apart) live
+  still_live o apart live = search (rules, others_live, eqb-false)
 
   pub burial_manned : IsManned v r → IsManned v (with_list r (changed (dead_frame cause) r.list e))
-  burial_manned manned = record {
-    quantum = manned.quantum;
-    ticks = manned.ticks;
-    runner = still_live v.runner none.runs manned.runner;
-    holds = λ k. still_undead (hold_at v.slots k) (none.parts k) (manned.holds k);
-    count = manned.count;
-    numbered = manned.numbered;
-    owes = manned.owes;
-  }
+  burial_manned manned = search (rules, still_live, still_undead)
 
 -- what was written once is written over
 set_again : (xs : List ℕ) (k x y : ℕ) → slice_set (slice_set xs k x) k y ≡ slice_set xs k y
@@ -283,15 +221,7 @@ killed_manned v r x manned is =
 module _ (v : Slices) (r : Environments) (manned : IsManned v r) where
   -- the runner, with as many ticks and in this phase
   again : (x : Runner) (left : ℕ) (in_phase : Phase) → IsLive r.list x.env → 1 ≤ left → IsManned (record v { runner = Some (record x { left = left; phase = in_phase }) }) r
-  again x left in_phase live some = record {
-    quantum = manned.quantum;
-    ticks = some;
-    runner = live;
-    holds = manned.holds;
-    count = manned.count;
-    numbered = manned.numbered;
-    owes = manned.owes;
-  }
+  again x left in_phase live some = search rules
 
   -- the runner has another quantum, in time of grace
   graced : (x : Runner) → v.runner ≡ Some x → IsLive r.list x.env → IsManned (record v { runner = in_grace_again v v.runner }) r
@@ -306,20 +236,13 @@ module _ (v : Slices) (r : Environments) (manned : IsManned v r) where
   by_limit x excess false is live test = overrun x excess is live (ltb-false excess_limit excess test)
 
   by_phase : (x : Runner) (p : Phase) (has_end : Bool) (excess : ℕ) → v.runner ≡ Some x → IsLive r.list x.env → IsManned (use_of x.env v (timer_at_end p has_end excess)) r
-  by_phase x phase.Own true excess is live = graced x is live
-  by_phase x phase.Own false excess is live = end_manned v r manned
-  by_phase x phase.Grace has_end excess is live = by_limit x (excess + 1) (nat_lt excess_limit (excess + 1)) is live refl
+  by_phase x p has_end excess is live = search (rules, end_manned, graced, by_limit)
 
   by_left : (x : Runner) (has_end last : Bool) (excess : ℕ) → v.runner ≡ Some x → IsLive r.list x.env → 1 ≤ x.left → (x.left == 1) ≡ last → IsManned (use_of x.env v (if last then timer_at_end x.phase has_end excess else timer.Nothing)) r
-  by_left x has_end true excess is live some last = by_phase x x.phase has_end excess is live
-  by_left x has_end false excess is live some last = rw is (again x (x.left - 1) x.phase live (let more = eqb-false x.left 1 last in omega (arith, some, more)))
+  by_left x has_end last excess is live some test = search (rules, eqb-false, by_phase, again)
 
   by_runner : (o : Option Runner) (e : ℕ) (has_end : Bool) → v.runner ≡ o → running o ≡ Some e → IfSome o (λ x. IsLive r.list x.env) → HasTicks o → IsManned (use_of e v (timer_by o has_end (excess_of v.excess))) r
-  by_runner None e has_end is its live some = cc
-  by_runner (Some x) e has_end is its live some =
-      let same : x.env ≡ e = cc in
-      subst (λ n. IsManned (use_of n v (timer_by (Some x) has_end (excess_of v.excess))) r) same
-      (by_left x has_end (x.left == 1) (excess_of v.excess x.env) is live some refl)
+  by_runner o e has_end is its live some = search (rules, by_left)
 
   pub timer_manned : (e : ℕ) (has_end : Bool) → running v.runner ≡ Some e → IsManned (use_of e v (timer_answer v has_end)) r
   timer_manned e has_end runs = by_runner v.runner e has_end refl runs manned.runner manned.ticks
@@ -345,8 +268,7 @@ hold_manned v r k hold manned undead = record {
 }
 
 alive_undying : (o : Option Environment) → IsAlive o → IfSome o (λ x. x.life ≡ Live)
-alive_undying None alive = tt
-alive_undying (Some x) alive = alive
+alive_undying o alive = search rules
 
 -- whoever lives may own a slot
 live_undead : (r : Environments) (e : ℕ) → IsLive r.list e → IsUndead r e
@@ -354,17 +276,14 @@ live_undead r e live = (omega (arith, live.0), alive_undying (slice_get r.list e
 
 -- another who lives holds a slot
 held_undead : (r : Environments) (target : ℕ) (hold : Option Hold) → IsLive r.list target → IfSome hold (λ h. IsUndead r h.owner × IsUndead r h.holder) → IfSome (option_map (held_by target) hold) (λ h. IsUndead r h.owner × IsUndead r h.holder)
-held_undead r target None lives undead = tt
-held_undead r target (Some h) lives undead = (undead.0, live_undead r target lives)
+held_undead r target hold lives undead = search (rules, live_undead)
 
 -- a runner who is another's has as many ticks left, and lives as that one does
 handed_ticks : (target : ℕ) (o : Option Runner) → HasTicks o → HasTicks (handed target o)
-handed_ticks target None some = tt
-handed_ticks target (Some x) some = some
+handed_ticks target o some = search rules
 
 handed_live : (list : List Environment) (target : ℕ) (o : Option Runner) → IsLive list target → IfSome (handed target o) (λ x. IsLive list x.env)
-handed_live list target None lives = tt
-handed_live list target (Some x) lives = lives
+handed_live list target o lives = search rules
 
 -- another goes on with the rest of the slice, and has the slot with its later slices or not
 pub given_manned : (v : Slices) (r : Environments) (target : ℕ) (later : Bool) → IsManned v r → IsLive r.list target → IsManned (given_to target later v) r
@@ -391,12 +310,4 @@ given_manned v r target later manned lives = record {
     given_count true = omega (arith, length-set v.slots v.cursor (option_map (held_by target) (hold_at v.slots v.cursor)), manned.count)
 
 pub drop_manned : (v : Slices) (r : Environments) (e k : ℕ) → IsManned v r → IsManned (with_hold v k (dropped e (hold_at v.slots k))) r
-drop_manned v r e k manned = hold_manned v r k (dropped e (hold_at v.slots k)) manned (by_hold (hold_at v.slots k) (manned.holds k))
-  where
-    by_owner : (h : Hold) (its : Bool) → IsUndead r h.owner → IfSome (if its then None else Some (own_hold h.owner)) (λ h. IsUndead r h.owner × IsUndead r h.holder)
-    by_owner h true undead = tt
-    by_owner h false undead = (undead, undead)
-
-    by_hold : (o : Option Hold) → IfSome o (λ h. IsUndead r h.owner × IsUndead r h.holder) → IfSome (dropped e o) (λ h. IsUndead r h.owner × IsUndead r h.holder)
-    by_hold None undead = tt
-    by_hold (Some h) undead = by_owner h (h.owner == e) undead.0
+drop_manned v r e k manned = search (rules, hold_manned)

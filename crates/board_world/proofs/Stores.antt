@@ -1,5 +1,5 @@
 -- What a store does to the pages that each environment sees.
-use Rattle.std.proofs.Common.{◌≡◌, ◌≢◌, ℕ, ◌/◌, ◌%◌, ◌<◌, List, [], ◌∷◌, length, Bool, true, false, Option, Some, None, refl, sym, ◌∙◌, ap, subst, get_or-set_same, get_or-set_other}
+use Rattle.std.proofs.Common.{◌≡◌, ◌≢◌, ℕ, ◌/◌, ◌%◌, ◌<◌, List, [], ◌∷◌, length, Bool, true, false, Option, Some, None, refl, sym, ◌∙◌, ap, subst, get_or-set_same, get_or-set_other, rules}
 use Rattle.std.specs.Prelude.{◌==◌, if◌then◌else◌, slice_get}
 use Rattle.std.specs.Option.{option_map}
 use Rattle.std.proofs.lemmas.Bool.{eqb-true}
@@ -11,7 +11,7 @@ use Rattle.page_book.specs.declared.row.PageRow.TheVariants.{Guaranteed}
 use Rattle.page_book.specs.Row.{is_owned_by}
 use Rattle.page_book.specs.Rows.{row_in}
 use Rattle.bind_book.specs.declared.binding.Binding.{Binding}
-use Rattle.bind_book.specs.Stripe.{is_bound, is_of_page, stripes}
+use Rattle.bind_book.specs.Stripe.{is_bound, stripes}
 use Rattle.env_frames.specs.declared.mapping.Mapping.{Mapping}
 use Rattle.env_frames.specs.Frame.{mapping_at}
 use Rattle.guest_memory.specs.Look.{written_through}
@@ -34,11 +34,7 @@ same_mapping ns a k n m same at_a at_k = let both : Some n ≡ Some m = sym at_a
 
 -- physical memory as a table, after bytes were put into a page
 pub put_table : (frames : List (List ℕ)) (n offset : ℕ) (bytes : List ℕ) → n < length frames → (p : ℕ) → page_at (after_put frames n offset bytes) p ≡ set_at n (with_bytes (page_at frames n) offset bytes) (page_at frames) p
-put_table frames n offset bytes within =
-    let new = with_bytes (page_at frames n) offset bytes in
-    by_number (page_at (after_put frames n offset bytes)) (set_at n new (page_at frames)) n
-    (get_or-set_same frames n new [] within ∙ sym (set_here n new (page_at frames)))
-    (λ p ne. get_or-set_other frames n p new [] ne ∙ sym (set_else n p new (page_at frames) ne))
+put_table frames n offset bytes within = search (rules, by_number, get_or-set_same, set_here, get_or-set_other, set_else)
 
 pub kept_without : (kept : List KeptPage) (x : Store) (v : ℕ) → x.key ≡ Kept v → kept_at kept v ≡ None → kept_after kept x ≡ kept
 kept_without [] x v key none = refl
@@ -75,17 +71,7 @@ module _ (frames : List (List ℕ)) (pages : List PageRow) (list : List Environm
 
 -- a page that is guaranteed isn't bound
 pub guaranteed_unbound : (pages : List PageRow) (binds : List (Option Binding)) (r : Environments) → AreBooked pages binds r → (i e page : ℕ) → row_in pages page ≡ Guaranteed e → is_bound page (stripes binds i) ≡ false
-guaranteed_unbound pages binds r booked i e page is = bound_nowhere page (stripes binds i) (λ row. by_row row (stripes binds i row) refl)
-  where
-    by_page : (row : ℕ) (y : Binding) (test : Bool) → (y.page == page) ≡ test → stripes binds i row ≡ Some y → test ≡ false
-    by_page row y true same at =
-        let owned = booked.bound i row y at in
-        absurd (subst IsOwned (ap (row_in pages) (eqb-true y.page page same) ∙ is) owned)
-    by_page row y false differs at = refl
-
-    by_row : (row : ℕ) (o : Option Binding) → stripes binds i row ≡ o → is_of_page page o ≡ false
-    by_row row None at = refl
-    by_row row (Some y) at = by_page row y (y.page == page) refl at
+guaranteed_unbound pages binds r booked i e page is = search (rules, bound_nowhere, eqb-true)
 
 -- what is neither owned nor bound isn't seen
 unseen : (owned bound : Bool) (old new : List ℕ) → owned ≡ false → bound ≡ false → seen_if owned bound new ≡ seen_if owned bound old
@@ -93,10 +79,7 @@ unseen owned bound old new mine its = rw (mine, its) refl
 
 -- bytes that are put into a page that an environment doesn't see leave what it sees
 pub sights_stay : (i : ℕ) (pages : ℕ → PageRow) (stripe : ℕ → Option Binding) (old new : ℕ → List ℕ) (n : ℕ) → is_owned_by i (pages n) ≡ false → is_bound n stripe ≡ false → ((p : ℕ) → p ≢ n → new p ≡ old p) → (p : ℕ) → seen_in i pages stripe new p ≡ seen_in i pages stripe old p
-sights_stay i pages stripe old new n mine its others =
-    by_number (seen_in i pages stripe new) (seen_in i pages stripe old) n
-    (unseen (is_owned_by i (pages n)) (is_bound n stripe) (old n) (new n) mine its)
-    (λ p ne. ap (seen_if (is_owned_by i (pages p)) (is_bound p stripe)) (others p ne))
+sights_stay i pages stripe old new n mine its others = search (rules, by_number, unseen)
 
 -- a store through a guaranteed mapping leaves what is seen of the other pages
 module _ (frames : List (List ℕ)) (pages : List PageRow) (binds : List (Option Binding)) (r : Environments) (parted : IsParted frames pages r.list) (booked : AreBooked pages binds r) (e : ℕ) (w : Write) where

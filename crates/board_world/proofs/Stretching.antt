@@ -1,14 +1,12 @@
 -- Plain ticks of a board are ticks of the model.
-use Rattle.std.proofs.Common.{◌≡◌, ◌<◌, ℕ, zero, suc, ◌+◌, ◌-◌, ◌/◌, ◌%◌, List, [], length, length-set, Bool, false, Option, None, Some, IfSome, refl, sym, ◌∙◌, ap, add-zero, arith}
+use Rattle.std.proofs.Common.{◌≡◌, ◌<◌, ℕ, zero, suc, ◌+◌, ◌-◌, List, [], length, length-set, Bool, false, Option, Some, IfSome, refl, sym, ◌∙◌, ap, add-zero, arith, rules}
 use Rattle.std.specs.Prelude.{◌&&◌, is_none, map, unwrap_or}
 use Rattle.std.specs.Option.{option_map}
 use Rattle.std.proofs.lemmas.Bool.{ne_eqb}
-use Rattle.aegis_limits.specs.Limits.{page_size}
-use Rattle.frame_store.specs.Pages.{page_at, with_bytes}
 use Rattle.mips_exec.specs.Access.{Write}
 use Rattle.mips_exec.specs.declared.registers.Cpu.{Cpu}
 use Rattle.mips_exec.specs.declared.exception.Outcome.TheVariants as outcome
-use Rattle.mips_exec.specs.Step.{Step, Called, Retired, Trapped, outcome_of, write_after}
+use Rattle.mips_exec.specs.Step.{Step, Retired, outcome_of, write_after}
 use Rattle.env_frames.specs.declared.mapping.Mapping.{Mapping}
 use Rattle.external_event.specs.declared.event.Occurrence.{Occurrence}
 use Rattle.guest_memory.specs.Look.{frames_after, written_through}
@@ -16,9 +14,7 @@ use Rattle.guest_memory.specs.Steps.{Machine, after_steps, next_step}
 use Rattle.revocation_book.specs.Pending.{earliest_in}
 use Rattle.revocation_book.specs.RevocationBook.{RevocationBook, is_any_due, next_deadline}
 use Rattle.revocation_book.proofs.Earliest.{due_by_earliest, has_come}
-use Rattle.slot_vector.specs.declared.timer.Timer.{Timer}
-use Rattle.slot_vector.specs.declared.timer.Timer.TheVariants as timers
-use Rattle.slot_vector.specs.Slices.{HasTicks, Slices, after_ticks, excess_of, left_of, timer_answer, timer_by}
+use Rattle.slot_vector.specs.Slices.{HasTicks, Slices, after_ticks, left_of}
 use Rattle.world_model.specs.declared.slot.Runner.{Runner}
 use Rattle.world_model.specs.Book.{is_idle_book, running}
 use Rattle.world_model.specs.Deadlines.{takings}
@@ -28,7 +24,7 @@ use Rattle.world_model.specs.World.{World, after, run_phases}
 use Rattle.run_model.specs.Run.{next_world}
 use Rattle.run_model.proofs.Phases.{tick_in_parts}
 use Rattle.board_world.specs.declared.roster.Environment.{Environment}
-use Rattle.board_world.specs.Doing.{after_timer_by, after_count_down, has_end, lookup_of, after_machine_step, step_seen, with_next_time}
+use Rattle.board_world.specs.Doing.{after_count_down, lookup_of, after_machine_step, step_seen, with_next_time}
 use Rattle.board_world.specs.Laws.{ServingIsServing, TimerIsTimer}
 use Rattle.board_world.specs.Shown.{Environments, Shown}
 use Rattle.board_world.specs.Showing.{world_of}
@@ -42,12 +38,10 @@ use Rattle.board_world.proofs.Staying.{sound_frames, sound_machine, sound_slots}
 
 -- Physical memory keeps its size.
 write_size : (frames : List (List ℕ)) (w : Write) (m : Option Mapping) → length (written_through frames w m) ≡ length frames
-write_size frames w None = refl
-write_size frames w (Some m) = length-set frames m.page (with_bytes (page_at frames m.page) (w.address % page_size) w.bytes)
+write_size frames w m = search (rules, length-set)
 
 step_size : (frames : List (List ℕ)) (lookup : ℕ → Option Mapping) (w : Option Write) → length (frames_after frames lookup w) ≡ length frames
-step_size frames lookup None = refl
-step_size frames lookup (Some w) = write_size frames w (lookup (w.address / page_size))
+step_size frames lookup w = search (rules, write_size)
 
 steps_size : (lookup : ℕ → Option Mapping) (m : Machine) (k : ℕ) → length (after_steps lookup m k).frames ≡ length m.frames
 steps_size lookup m zero = refl
@@ -58,39 +52,25 @@ abbrev passed : ℕ → Option Runner → Option Runner
 passed k o = option_map (λ (r : Runner). record r { left = r.left - k }) o
 
 none_passed : (o : Option Runner) → passed 0 o ≡ o
-none_passed None = refl
-none_passed (Some r) = let same : r.left - 0 ≡ r.left = omega arith in ap (λ n. Some (record r { left = n })) same
+none_passed o = search rules
 
 one_passed : (k : ℕ) (o : Option Runner) → passed (suc k) o ≡ passed 1 (passed k o)
-one_passed k None = refl
-one_passed k (Some r) = let same : r.left - suc k ≡ r.left - k - 1 = omega arith in ap (λ n. Some (record r { left = n })) same
+one_passed k o = search rules
 
 runs_on : (k : ℕ) (o : Option Runner) → running (passed k o) ≡ running o
-runs_on k None = refl
-runs_on k (Some r) = refl
+runs_on k o = search rules
 
 left_on : (k : ℕ) (o : Option Runner) → left_of (passed k o) ≡ left_of o - k
-left_on k None = omega arith
-left_on k (Some r) = refl
+left_on k o = search rules
 
 ticks_on : (k : ℕ) (o : Option Runner) → k < left_of o → HasTicks (passed k o)
-ticks_on k None some = tt
-ticks_on k (Some r) some = omega arith
+ticks_on k o some = search rules
 
 lives_on : (list : List Environment) (k : ℕ) (o : Option Runner) → IfSome o (λ r. IsLive list r.env) → IfSome (passed k o) (λ r. IsLive list r.env)
-lives_on list k None live = tt
-lives_on list k (Some r) live = live
+lives_on list k o live = search rules
 
 pub passed_manned : (v : Slices) (r : Environments) (k : ℕ) → IsManned v r → k < left_of v.runner → IsManned (after_ticks k v) r
-passed_manned v r k manned some = record {
-  quantum = manned.quantum;
-  ticks = ticks_on k v.runner some;
-  runner = lives_on r.list k v.runner manned.runner;
-  holds = manned.holds;
-  count = manned.count;
-  numbered = manned.numbered;
-  owes = manned.owes;
-}
+passed_manned v r k manned some = search (rules, ticks_on, lives_on)
 
 pub stretch_sound : (b : Shown) (e k : ℕ) → IsSound b → k < left_of b.slots.runner → IsSound (stretched b e k)
 stretch_sound b e k sound some =
@@ -98,26 +78,21 @@ stretch_sound b e k sound some =
 
 -- before the next deadline none has come
 not_come : (t : ℕ) (deadline : Option ℕ) → t < unwrap_or deadline 4294967295 → has_come t deadline ≡ false
-not_come t None before = refl
-not_come t (Some d) before = grind (arith, before)
+not_come t deadline before = search rules
 
 none_due : (book : RevocationBook) (t : ℕ) → t < next_deadline book → is_any_due book t ≡ false
 none_due book t before = due_by_earliest t book.pending ∙ not_come t (earliest_in book.pending) before
 
 -- where somebody runs the world isn't idle
 busy : (o : Option Runner) (nobody : Bool) (e : ℕ) → running o ≡ Some e → (is_none o && nobody) ≡ false
-busy None nobody e runs = cc
-busy (Some r) nobody e runs = refl
+busy o nobody e runs = search rules
 
 still : (w : World) (o : Option Runner) (e : ℕ) → running o ≡ Some e → after w (turn_when w o) ≡ w
-still w None e runs = cc
-still w (Some r) e runs = sym (quiet_world w)
+still w o e runs = search (rules, quiet_world)
 
 -- what a step is that retires
 retires : (st : Step) → outcome_of st ≡ outcome.Retired → (cpu : Cpu) × (w : Option Write) × (st ≡ Retired cpu w)
-retires (Retired cpu w) is = (cpu, w, refl)
-retires Called is = cc
-retires (Trapped exc) is = cc
+retires st is = search rules
 
 stepped : (b : Shown) (e : ℕ) → IsSound b → running b.slots.runner ≡ Some e → outcome_of (step_seen b e) ≡ outcome.Retired → world_of (after_machine_step b e (step_seen b e)) ≡ after (world_of b) (step (world_of b))
 stepped b e sound runs retired =
@@ -127,11 +102,7 @@ stepped b e sound runs retired =
 
 -- the timer of a runner that has ticks left behind this one
 counts_on : (b now : Shown) (o : Option Runner) → now.slots.runner ≡ o → 1 < left_of o → with_next_time (after_count_down now o) ≡ record now { slots = after_ticks 1 now.slots; time = now.time + 1 }
-counts_on b now None is more = absurd (omega arith)
-counts_on b now (Some r) is more =
-    let answer : timer_answer now.slots (has_end now r.env) ≡ timers.Nothing =
-    ap (λ o. timer_by o (has_end now r.env) (excess_of now.slots.excess)) is ∙ rw (ne_eqb r.left 1 (λ same. omega arith)) refl in
-    ap (λ (t : Timer). with_next_time (after_timer_by now r.env t)) answer
+counts_on b now o is more = search (rules, ne_eqb)
 
 module _ (serves : ServingIsServing) (times : TimerIsTimer) where
   plain_tick : (b : Shown) (e : ℕ) → IsSound b → running b.slots.runner ≡ Some e → outcome_of (step_seen b e) ≡ outcome.Retired → 1 < left_of b.slots.runner → is_any_due b.revocations b.time ≡ false → world_of (stretched b e 1) ≡ tick_step (world_of b)

@@ -1,8 +1,9 @@
 -- The books as lists and as tables.
-use Rattle.std.proofs.Common.{◌≡◌, ◌≤◌, ◌<◌, ℕ, zero, suc, List, [], ◌∷◌, length, map, Option, Some, None, is_some, inl, inr, refl, sym, ◌∙◌, ap, arith, get_or-set_same, get_or-set_other}
-use Rattle.std.specs.Prelude.{◌==◌, ◌&&◌, nat_lt, if◌then◌else◌, slice_get, slice_set, slice_index_or}
+use Rattle.std.proofs.Common.{◌≡◌, ◌≤◌, ◌<◌, ℕ, zero, suc, List, length, map, Option, Some, None, is_some, refl, arith, get_or-set_same, get_or-set_other, rules}
+use Rattle.std.specs.Prelude.{nat_lt, if◌then◌else◌, slice_get, slice_set, slice_index_or, replicate}
 use Rattle.std.proofs.lemmas.Bool.{ne_eqb, eq-eqb, lt-ltb, le-ltb, cases_lt}
 use Rattle.std.proofs.lemmas.Option.{slice_get-get_or, slice_get_past}
+use Rattle.std.proofs.lemmas.Grind.{common_steps}
 use Rattle.page_book.specs.declared.row.PageRow.{PageRow}
 use Rattle.page_book.specs.declared.row.PageRow.TheVariants.{Free}
 use Rattle.page_book.specs.Row.{released}
@@ -17,38 +18,29 @@ use Rattle.page_sight.proofs.Tables.{set_same}
 
 -- a list with another element at one place
 pub table_set : {A : Type 0} (xs : List A) (n : ℕ) (x d : A) → n < length xs → (i : ℕ) → slice_index_or (slice_set xs n x) i d ≡ set_at n x (λ j. slice_index_or xs j d) i
-table_set xs n x d within =
-    by_env (λ i. slice_index_or (slice_set xs n x) i d) (set_at n x (λ j. slice_index_or xs j d)) n
-    (get_or-set_same xs n x d within ∙ sym (set_here n x (λ j. slice_index_or xs j d)))
-    (λ i ne. get_or-set_other xs n i x d ne ∙ sym (set_else n i x (λ j. slice_index_or xs j d) ne))
+table_set xs n x d within = search (rules, by_env, get_or-set_same, set_here, get_or-set_other, set_else)
+
+-- a list of one element alone, with the same behind its end
+pub all_alike : {A : Type 0} (d : A) (n i : ℕ) → slice_index_or (replicate n d) i d ≡ d
+all_alike d zero i = refl
+all_alike d (suc n) zero = refl
+all_alike d (suc n) (suc i) = all_alike d n i
 
 -- the row of a page, if there is one of this number
 pub row_got : (pages : List PageRow) (page : ℕ) → slice_get pages page ≡ (if nat_lt page (length pages) then Some (row_in pages page) else None)
-row_got pages page = elim (cases_lt page (length pages)) [
-  | inl within ↦ slice_get-get_or pages page Free within ∙ ap (λ t. if t then Some (row_in pages page) else None) (sym (lt-ltb page (length pages) within))
-  | inr past ↦ slice_get_past pages page past ∙ ap (λ t. if t then Some (row_in pages page) else None) (sym (le-ltb page (length pages) past))
-]
+row_got pages page = search (rules, cases_lt, slice_get-get_or, lt-ltb, slice_get_past, le-ltb)
 
 -- behind the last page each is as if free
 pub row_past : (pages : List PageRow) (page : ℕ) → length pages ≤ page → row_in pages page ≡ Free
-row_past [] page past = refl
-row_past (row ∷ pages) zero past = absurd (omega arith)
-row_past (row ∷ pages) (suc page) past = row_past pages page (omega arith)
+row_past pages page past = grind (arith, common_steps)
 
 -- the pages once an environment is gone
 pub row_released : (e : ℕ) (pages : List PageRow) (page : ℕ) → row_in (map (released e) pages) page ≡ released e (row_in pages page)
-row_released e [] page = refl
-row_released e (row ∷ pages) zero = refl
-row_released e (row ∷ pages) (suc page) = row_released e pages page
+row_released e pages page = grind (arith, common_steps)
 
 -- the stripes once a row of one of them is set
 pub stripe_set : (binds : List (Option Binding)) (e row : ℕ) (x : Option Binding) → HasStripe binds e → row < stripe_rows → (i r : ℕ) → stripes (slice_set binds (stripe_place e row) x) i r ≡ set_at e (set_at row x (stripes binds e)) (stripes binds) i r
-stripe_set binds e row x has below i r =
-    row_set binds e row x has below i r
-    ∙ by_env (λ j. if j == e && r == row then x else stripes binds j r) (λ j. set_at e (set_at row x (stripes binds e)) (stripes binds) j r) e
-    ((λ k. if eq-eqb e e refl k && r == row then x else stripes binds e r) ∙ (λ k. sym (set_here e (set_at row x (stripes binds e)) (stripes binds)) k r))
-    (λ j ne. (λ k. if ne_eqb j e ne k && r == row then x else stripes binds j r) ∙ (λ k. sym (set_else e j (set_at row x (stripes binds e)) (stripes binds) ne) k r))
-    i
+stripe_set binds e row x has below i r = search (rules, row_set, by_env, eq-eqb, set_here, ne_eqb, set_else)
 
 -- the stripes once a binding of one of them went, if there was one
 pub stripe_without : (binds : List (Option Binding)) (e vpn : ℕ) → HasStripe binds e → row_of vpn < stripe_rows → (i r : ℕ) →

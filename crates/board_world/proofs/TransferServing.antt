@@ -1,27 +1,23 @@
 -- The runner's transfers of control, on the world that is shown.
-use Rattle.std.proofs.Common.{◌≡◌, ◌≢◌, ◌≤◌, ℕ, ◌+◌, List, [], ◌∷◌, ◌++◌, length, Bool, true, false, Some, refl, sym, ◌∙◌, ap, arith, append_assoc, length-set}
+use Rattle.std.proofs.Common.{◌≡◌, ◌≢◌, ◌≤◌, ℕ, ◌+◌, List, [], ◌∷◌, ◌++◌, length, Bool, Some, refl, sym, ◌∙◌, ap, append_assoc, length-set, rules}
 use Rattle.std.specs.Prelude.{slice_get}
 use Rattle.std.specs.Option.{option_map}
 use Rattle.aegis_limits.specs.Limits.{page_size}
 use Rattle.mips_exec.specs.declared.registers.Cpu.{Cpu}
 use Rattle.mips_exec.specs.Access.{Write}
 use Rattle.env_frames.specs.declared.transfer.TransferKind.{TransferKind}
-use Rattle.env_frames.specs.declared.transfer.TransferKind.TheVariants as kind
-use Rattle.env_frames.specs.Context.{handler_of}
-use Rattle.env_frames.specs.Transfer.{carried, entered_cpu, entry_area, entry_bytes, entry_context, hands_slot}
-use Rattle.kernel_journal.specs.declared.row.Row.TheVariants as row
+use Rattle.env_frames.specs.Transfer.{carried, entry_area, entry_bytes, hands_slot}
 use Rattle.slot_vector.specs.Slices.{Slices, hold_at, slots_given}
 use Rattle.world_model.specs.declared.call.Deed.TheVariants.{Transfers}
 use Rattle.world_model.specs.declared.verdict.Verdict.TheVariants.{Grant}
 use Rattle.world_model.specs.May.{MayEnter}
 use Rattle.world_model.specs.Upcalls.{enter}
 use Rattle.world_model.specs.Item.{Transfer, absorb_all, answered_cpu}
-use Rattle.world_model.specs.SlotCalls.{held_by, slot_row}
 use Rattle.world_model.specs.Solo.{Solo, kept_after}
 use Rattle.world_model.specs.Transfers.{slots_handed, transfer_rows}
 use Rattle.world_model.specs.Verdict.{done}
 use Rattle.board_world.specs.declared.roster.Environment.{Environment}
-use Rattle.board_world.specs.Shown.{Shown, changed, handlers_in, mappings_in, mappings_of, registers_in, registers_of}
+use Rattle.board_world.specs.Shown.{Shown, changed, mappings_in, mappings_of, registers_in, registers_of}
 use Rattle.board_world.specs.Showing.{world_of, book_of, solo_of, solo_or_absent, solo_seen, cpu_seen, pages_seen}
 use Rattle.board_world.specs.Sound.{IsSound}
 use Rattle.board_world.specs.Doing as doing
@@ -36,22 +32,17 @@ use Rattle.board_world.proofs.Sound.{keeps_accepting, keeps_registers}
 
 -- The book: there are as many slots, and the cursor's has another holder, where it is handed on.
 given_count : (later : Bool) (target : ℕ) (v : Slices) → length (slots_given later target v) ≡ length v.slots
-given_count false target v = refl
-given_count true target v = length-set v.slots v.cursor (option_map (held_by target) (hold_at v.slots v.cursor))
+given_count later target v = search (rules, length-set)
 
 given_holds : (later : Bool) (target : ℕ) (b : Shown) (k : ℕ) → hold_at (slots_given later target b.slots) k ≡ slots_handed later target (book_of b) k
-given_holds false target b k = refl
-given_holds true target b k = hold_changed (held_by target) b.slots.slots b.slots.cursor k
+given_holds later target b k = search (rules, hold_changed)
 
 -- The ledger: a row, or two.
 entered_rows : (b : Shown) (e t : ℕ) (kind : TransferKind) → (doing.ledger_after_hand_on b e t kind).rows ≡ b.ledger.rows ++ transfer_rows (book_of b) e t kind
-entered_rows b e t kind.Asynchronous = refl
-entered_rows b e t kind.Synchronous =
-    append_assoc b.ledger.rows (row.Sync b.time b.slots.cursor e t ∷ []) (slot_row b.time b.slots.cursor (option_map (held_by t) (hold_at b.slots.slots b.slots.cursor)) ∷ [])
+entered_rows b e t kind = search (rules, append_assoc)
 
 pub entered_room : (b : Shown) (e t : ℕ) (kind : TransferKind) → b.ledger.spare ≤ (doing.ledger_after_hand_on b e t kind).spare + 128
-entered_room b e t kind.Asynchronous = omega arith
-entered_room b e t kind.Synchronous = omega arith
+entered_room b e t kind = search rules
 
 -- what a transfer stores to the context page of its target, of whom these registers were kept
 abbrev entry_write : ℕ → TransferKind → Cpu → Write
@@ -98,11 +89,7 @@ module _ (b : Shown) (e : ℕ) (x : Environment) (r : Runs b e x) (sound : IsSou
         ∙ (λ k. kept_after (pages_seen b.frames (maps k)) (left_store (entry_write e kind (registers_in (there.at k)))))
 
     entered : record (waiting b t y) { cpu = doing.entry_registers b t kind; mask = 0; kept = pages_seen new.frames y.env.mappings } ≡ enter e kind (carried b.cpu) (waiting b t y)
-    entered = λ k. record (waiting b t y) {
-      cpu = entered_cpu (handler_of (handlers_in (there.at k)) (entry_context kind)) (carried b.cpu);
-      mask = 0;
-      kept = entered_kept k;
-    }
+    entered = search (rules, entered_kept)
 
     target_solo : solo_of new t ≡ absorb_all (solo_of b t) (Transfer e kind (carried (solo_of b e).cpu) ∷ [])
     target_solo =
@@ -138,9 +125,7 @@ module _ (b : Shown) (e : ℕ) (x : Environment) (r : Runs b e x) (sound : IsSou
         })
 
     entered_mappings : (i : ℕ) → mappings_of new.roster.list i ≡ mappings_of b.roster.list i
-    entered_mappings i =
-        kept_mappings keeping (keeps_registers (answered_cpu (Grant v) b.cpu)) closed_list e i
-        ∙ kept_mappings (doing.with_mask 0) (keeps_accepting 0) b.roster.list t i
+    entered_mappings i = search (rules, kept_mappings, keeps_registers, keeps_accepting)
 
     transfers_to : Serves b e (deeded (Transfers t kind) v (solo_of b e)) (done (world_of b) e (Transfers t kind)) new
     transfers_to = record {

@@ -1,5 +1,5 @@
 -- The turn and the timer, on the world that is shown.
-use Rattle.std.proofs.Common.{◌≡◌, ◌≢◌, ℕ, zero, suc, ◌+◌, ◌-◌, ◌<◌, ◌≤◌, [], ◌∷◌, ◌++◌, length, map, length-set, get_or-set_same, Bool, true, false, not, Option, Some, None, IsSome, refl, sym, ◌∙◌, ap, subst, arith, append_assoc}
+use Rattle.std.proofs.Common.{◌≡◌, ◌≢◌, ℕ, zero, suc, ◌+◌, ◌-◌, ◌<◌, ◌≤◌, [], ◌∷◌, length, length-set, get_or-set_same, Bool, true, false, not, Option, Some, None, IsSome, refl, sym, ◌∙◌, ap, subst, arith, append_assoc, rules}
 use Rattle.std.specs.Prelude.{◌==◌, nat_lt, if◌then◌else◌, slice_get, slice_set}
 use Rattle.std.specs.Option.{option_map}
 use Rattle.std.proofs.lemmas.Bool.{ne_eqb, eq-eqb, eqb-true, eqb-false}
@@ -11,7 +11,7 @@ use Rattle.kernel_journal.specs.declared.row.Row.TheVariants as row
 use Rattle.slot_vector.specs.declared.turn.NextTurn.{NextTurn}
 use Rattle.slot_vector.specs.declared.turn.NextTurn.TheVariants as next
 use Rattle.slot_vector.specs.Laws.{owed_by_all}
-use Rattle.slot_vector.specs.Slices.{HasTicks, after_turn, counted as counted_runner, excess_of, in_grace_again, next_held, next_turn, raised_for, raised_once, spent, timer_at_end, timer_by, told_of, without_env}
+use Rattle.slot_vector.specs.Slices.{HasTicks, after_turn, counted as counted_runner, excess_of, in_grace_again, next_held, next_turn, raised_for, spent, timer_at_end, timer_by, told_of}
 use Rattle.slot_vector.specs.declared.timer.Timer.TheVariants as timer
 use Rattle.slot_vector.proofs.Owed.{excess_set}
 use Rattle.slot_vector.proofs.Whole.{idle_step, is_idle, paid_is, pay_lowers, pay_step, ran_is, run_step}
@@ -33,7 +33,7 @@ use Rattle.board_world.specs.declared.roster.Environment.{Environment}
 use Rattle.board_world.specs.Shown.{Shown, handlers_in, handlers_of, mappings_of}
 use Rattle.board_world.specs.Showing.{world_of, book_of, solo_of, solo_or_absent, solo_seen, cpu_seen, pages_seen}
 use Rattle.board_world.specs.Sound.{IsSound}
-use Rattle.board_world.specs.Doing.{after_timer_by, after_timer_phase, after_count_down, after_death, after_end, has_end, ledger_after_release, over_row, with_overrun, after_forfeit, start_registers, after_start, after_stop, with_next_time, after_turn_phase, after_told, after_turn_when, with_registers}
+use Rattle.board_world.specs.Doing.{after_timer_by, after_timer_phase, after_count_down, after_death, after_end, has_end, over_row, with_overrun, after_forfeit, start_registers, after_start, after_stop, with_next_time, after_turn_phase, after_told, after_turn_when, with_registers}
 use Rattle.board_world.proofs.Contexts.{left_by, left_others, left_own, left_sights, left_store, start_others, start_seen, start_sights, waiting}
 use Rattle.board_world.proofs.Dying.{MayDie, dies as dying, may_die, numbered_within}
 use Rattle.board_world.proofs.Lists.{changed_here, changed_else, length-changed}
@@ -52,9 +52,7 @@ idle_names b i none = ap (is_runner i) none
 -- the start of a slice
 module _ (b : Shown) (sound : IsSound b) (t : Turn) (x : Environment) (at : slice_get b.roster.list t.env ≡ Some x) (lives : x.life ≡ Live) (none : b.slots.runner ≡ None) where
   waiting_seen : solo_of b t.env ≡ waiting b t.env x
-  waiting_seen =
-      let cpu : cpu_seen b t.env x.env.cpu ≡ x.env.cpu = rw (idle_names b t.env none) refl in
-      ap (solo_or_absent b t.env) at ∙ (λ k. record (solo_seen b t.env x) { life = lives k; cpu = cpu k })
+  waiting_seen = search (rules, idle_names)
 
   starts : solo_of (after_start b t) t.env ≡ absorb_all (solo_of b t.env) (Start ∷ [])
   starts =
@@ -92,24 +90,11 @@ told_world b told = after (world_of b) (tick.take_turn (world_of b) told told.ru
 
 -- a forfeit, and then the rest of the turn, in which somebody runs
 forfeit_first : (b : Shown) (t : Turn) (rest : Told) (runs : Option Turn) → rest.runs ≡ runs → runs ≢ None → told_world (after_forfeit b t) rest ≡ told_world b (pays_first t rest)
-forfeit_first b t rest None is some = absurd (some refl)
-forfeit_first b t rest (Some u) is some =
-    let before = world_of (after_forfeit b t) in
-    let w = world_of b in
-    ap (λ o. after before (tick.take_turn before rest o)) is
-    ∙ worlds (after before (tick.take_turn before rest (Some u))) (after w (tick.take_turn w (pays_first t rest) (Some u))) refl refl
-    (λ i. ap (λ s. absorb_all s ((tick.take_turn w rest (Some u)).items i)) (paid_solo b t i))
-    (append_assoc b.ledger.rows (row.Pay b.time t.slot t.env ∷ []) (map (tick.pay_row b.time) rest.pays ++ row.Run b.time u.slot u.env ∷ []))
-    ∙ ap (λ o. after w (tick.take_turn w (pays_first t rest) o)) (sym is)
+forfeit_first b t rest runs is some = search (rules, paid_solo, append_assoc)
 
 -- after a forfeit somebody runs: the slot is still held
 pays_runs : (b : Shown) (t : Turn) → next_turn b.slots ≡ next.Pay t → (told_of (after_turn b.slots (next.Pay t))).runs ≢ None
-pays_runs b t is none =
-    let held : next_held b.slots ≡ Some t = (paid_is (excess_of b.slots.excess) (next_held b.slots) t is).0 in
-    let told : (told_of b.slots).runs ≡ None = ap (λ (told : Told). told.runs) (pay_step b.slots t is) ∙ none in
-    let idle : next_held b.slots ≡ None = (is_idle b.slots).0 told in
-    let both : Some t ≡ None = sym held ∙ idle in
-    cc
+pays_runs b t is none = search (rules, paid_is, pay_step, is_idle)
 
 -- the turn is the model's, where that of a board after a forfeit is
 abbrev IsTold : Shown → Type 0
@@ -149,11 +134,7 @@ turned_runs b busy = grind (arith, is_idle)
 -- the runner is stopped
 module _ (b : Shown) (e : ℕ) (x : Environment) (r : Runs b e x) where
   pub stopped_solo : solo_of (after_stop b e) e ≡ solo_of b e
-  stopped_solo =
-      let cpu : cpu_seen b e x.env.cpu ≡ b.cpu = rw r.runs.its refl in
-      ap (solo_or_absent (after_stop b e) e) (changed_here (with_registers b.cpu) b.roster.list e ∙ ap (option_map (with_registers b.cpu)) r.at)
-      ∙ (λ k. record (solo_seen b e x) { cpu = sym cpu k })
-      ∙ sym (ap (solo_or_absent b e) r.at)
+  stopped_solo = search (rules, changed_here)
 
   pub stopped_others : (i : ℕ) → i ≢ e → solo_of (after_stop b e) i ≡ solo_of b i
   stopped_others i ne =
@@ -185,8 +166,7 @@ abbrev going_on : Shown → Runner → Shown
 going_on b r = record b { slots = record b.slots { runner = Some r } }
 
 same_runner : (o : Option Runner) (r : Runner) (i : ℕ) → running o ≡ Some r.env → is_runner i (Some r) ≡ is_runner i o
-same_runner None r i is = cc
-same_runner (Some old) r i is = let same : old.env ≡ r.env = cc in ap (λ n. n == i) (sym same)
+same_runner o r i is = search rules
 
 goes_on : (b : Shown) (r : Runner) → running b.slots.runner ≡ Some r.env → world_of (going_on b r) ≡ after (world_of b) (tick.goes_on r (world_of b))
 goes_on b r runs =
@@ -296,12 +276,7 @@ module _ (b : Shown) (sound : IsSound b) (r : Runner) (is : b.slots.runner ≡ S
   spent_ends o is = rw is (rw (eq-eqb r.env r.env refl) refl)
 
   same_death : after_death (with_overrun b r.env) r.env cause.Excess ≡ after_death over r.env cause.Excess
-  same_death =
-      let once : raised_once b.slots.runner b.slots.excess ≡ over.slots.excess = ap (λ o. raised_once o b.slots.excess) is in
-      λ k. record (after_death over r.env cause.Excess) {
-        slots = record (without_env r.env over.slots) { runner = spent_ends b.slots.runner is k; excess = slice_set (once k) r.env 0 };
-        ledger = ledger_after_release b.time r.env b.slots (over_row b r.env ((ap (λ all. excess_of all r.env) once ∙ owes) k));
-      }
+  same_death = search (rules, spent_ends, owes)
 
   dies : world_of (after_timer_by b r.env timer.Kill) ≡ after (world_of over) (tick.kill r.env (world_of over))
   dies =
