@@ -1,5 +1,5 @@
 -- The book of revocations stays sound: each backup is a page of its environment's own.
-use Rattle.std.proofs.Common.{◌≡◌, ◌≢◌, ◌<◌, arith, ℕ, List, [], ◌∷◌, length, map, drop, Bool, true, false, Option, None, Some, IfSome, refl, sym, ◌∙◌, ap, subst, length-set, rules}
+use Rattle.std.proofs.Common.{◌≡◌, ◌≢◌, ◌<◌, arith, ℕ, List, [], ◌∷◌, length, map, drop, Bool, true, false, Option, None, IfSome, refl, sym, ◌∙◌, ap, subst, length-set, rules}
 use Rattle.std.specs.Prelude.{◌==◌, ◌||◌, not, if◌then◌else◌, slice_set}
 use Rattle.std.proofs.lemmas.Bool.{cases_eq, eq-eqb, eqb-false, eqb-true, ne_eqb, or_right}
 use Rattle.std.proofs.lemmas.List.{length-map}
@@ -12,7 +12,7 @@ use Rattle.page_book.specs.Rows.{row_in}
 use Rattle.page_book.proofs.Owners.{same_owner}
 use Rattle.revocation_book.specs.declared.revocation.Pending.{Pending}
 use Rattle.revocation_book.specs.Backups.{is_loaded, loaded, unloaded}
-use Rattle.revocation_book.specs.Pending.{asked, lowered, pending_of, unless_due}
+use Rattle.revocation_book.specs.Pending.{asked, lowered, unless_due}
 use Rattle.revocation_book.specs.RevocationBook.{RevocationBook, backups_at, most_numbers, once_freed, once_gone, once_served, pending_at, with_backups, with_pending}
 use Rattle.revocation_book.proofs.Takable.{rest_loaded}
 use Rattle.world_model.specs.Table.{set_at}
@@ -44,28 +44,14 @@ IsPositive pending = IfSome pending (λ p. 0 < p.outstanding)
 pub pending_asked : (book : RevocationBook) (pages : List PageRow) (e : ℕ) (pending : Option Pending) → IsPositive pending → AreAsked book pages → AreAsked (with_pending book e pending) pages
 pending_asked book pages e pending positive are = grind (arith, common_steps, length-set, set_all)
 
--- where something is pending, pages are outstanding
-pub positive_of : (outstanding deadline : ℕ) → IsPositive (pending_of outstanding deadline)
-positive_of n deadline = search (rules, eqb-false)
-
 positive_lowered : (pending : Option Pending) → IsPositive (lowered pending)
-positive_lowered pending = search (rules, positive_of)
-
-positive_unless : (time : ℕ) (pending : Option Pending) → IsPositive pending → IsPositive (unless_due time pending)
-positive_unless time pending positive = search rules
-
--- what is asked is pending, unless nothing is outstanding, and then nothing was pending
-abbrev unless_none : Bool → ℕ → ℕ → Option Pending
-unless_none t n deadline = if t then None else Some (record { outstanding = n; deadline = deadline })
-
-some_of : (n deadline : ℕ) (t : Bool) → (n == 0) ≡ t → 0 < n → unless_none t n deadline ≡ None → ⊥
-some_of n deadline t zeroed some is = search (rules, eqb-true)
+positive_lowered pending = search (rules, eqb-false)
 
 pub nothing_pending : (count deadline : ℕ) (pending : Option Pending) → IsPositive pending → asked count deadline pending ≡ None → pending ≡ None
-nothing_pending count deadline pending positive is = search (rules, some_of)
+nothing_pending count deadline pending positive is = search (rules, eqb-true)
 
 pub served_asked : (book : RevocationBook) (pages : List PageRow) (time : ℕ) → AreAsked book pages → AreAsked (once_served book time) pages
-served_asked book pages time are = search (rules, length-map, pending_served, positive_unless)
+served_asked book pages time are = search (rules, length-map, pending_served)
 
 -- an environment has other backups, which it owns
 module _ (book : RevocationBook) (pages given : List PageRow) (e : ℕ) (backups : List ℕ) (within : e < most_numbers) (are : AreAsked book pages) where
@@ -75,13 +61,6 @@ module _ (book : RevocationBook) (pages given : List PageRow) (e : ℕ) (backups
   pub rebacked : ((page : ℕ) → is_loaded backups page ≡ true → is_owned_by e (row_in given page) ≡ true)
       → ((i page : ℕ) → i ≢ e → is_loaded (backups_at book i) page ≡ true → is_owned_by i (row_in given page) ≡ true) → AreAsked (with_backups book e backups) given
   rebacked its others = search (rules, length-set, backups_set, cases_eq, set_here, set_else, there)
-
--- whether a page is loaded among others
-loaded_next : (t : Bool) (rest more : Bool) → (t || rest) ≡ true → (rest ≡ true → more ≡ true) → (t || more) ≡ true
-loaded_next t rest more is next = search rules
-
-loaded_last : (backups : List ℕ) (page p : ℕ) → is_loaded (loaded page backups) p ≡ true → p ≢ page → is_loaded backups p ≡ true
-loaded_last backups page p is other = grind (arith, common_steps, ne_eqb, loaded_next)
 
 left_one : (b page p : ℕ) (rest more : Bool) → (t : Bool) → (b == page) ≡ t → (if not t then b == p || rest else rest) ≡ true → (rest ≡ true → (more ≡ true) × (p ≢ page)) → ((b == p || more) ≡ true) × (p ≢ page)
 left_one b page p rest more t same is next = search (rules, or_right, eqb-false, eqb-true)
@@ -98,7 +77,7 @@ unloaded_still (b ∷ backups) page p is =
 
 -- a page is loaded
 pub loaded_asked : (book : RevocationBook) (pages : List PageRow) (e page : ℕ) → e < most_numbers → is_owned_by e (row_in pages page) ≡ true → AreAsked book pages → AreAsked (with_backups book e (loaded page (backups_at book e))) pages
-loaded_asked book pages e page within own are = search (rules, cases_eq, loaded_last)
+loaded_asked book pages e page within own are = grind (arith, common_steps, cases_eq, ne_eqb)
 
 -- a page of an environment's is nobody's, and another's backup it wasn't
 module _ (book : RevocationBook) (pages : List PageRow) (e page : ℕ) (there : page < length pages) (own : is_owned_by e (row_in pages page) ≡ true) (are : AreAsked book pages) where
@@ -106,9 +85,7 @@ module _ (book : RevocationBook) (pages : List PageRow) (e page : ℕ) (there : 
   freed_row i p other its = by_page (λ row. is_owned_by i row ≡ true) pages page p Free there (λ same. absurd (other same)) (λ apart. its)
 
   pub freed_others : (i p : ℕ) → i ≢ e → is_loaded (backups_at book i) p ≡ true → is_owned_by i (row_in (slice_set pages page Free) p) ≡ true
-  freed_others i p other is =
-      let its = are.owned i p is in
-      freed_row i p (λ same. other (same_owner i e (row_in pages page) (subst (λ n. is_owned_by i (row_in pages n) ≡ true) same its) own)) its
+  freed_others i p other is = grind (arith, same_owner, freed_row)
 
 -- by its owner
 pub freed_asked : (book : RevocationBook) (pages : List PageRow) (e page : ℕ) → e < most_numbers → page < length pages → is_owned_by e (row_in pages page) ≡ true → AreAsked book pages → AreAsked (once_freed book e page) (slice_set pages page Free)
@@ -129,10 +106,7 @@ allocated_asked book pages page e words within free are = search (rules, repaged
 
 -- a page gets other words
 pub recapped_asked : (book : RevocationBook) (pages : List PageRow) (page e : ℕ) (words : Capabilities) → page < length pages → is_owned_by e (row_in pages page) ≡ true → AreAsked book pages → AreAsked book (slice_set pages page (Owned e words))
-recapped_asked book pages page e words within owned are = repaged book pages (slice_set pages page (Owned e words)) (λ i p is own.
-    by_page (λ row. is_owned_by i row ≡ true) pages page p (Owned e words) within
-    (λ same. eq-eqb e i (sym (same_owner i e (row_in pages page) (subst (λ (n : ℕ). is_owned_by i (row_in pages n) ≡ true) same own) owned)))
-    (λ other. own)) are
+recapped_asked book pages page e words within owned are = search (rules, repaged, by_page, eq-eqb, same_owner)
 
 -- pages that are free are given
 pub given_asked : (book : RevocationBook) (pages given : List PageRow) → ((p : ℕ) → row_in pages p ≢ Free → row_in given p ≡ row_in pages p) → AreAsked book pages → AreAsked book given

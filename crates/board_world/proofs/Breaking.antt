@@ -79,14 +79,7 @@ module _ (b : Shown) (page : ℕ) (within : page < length b.pages) where
 
   pub freed_else : IsSound b → (e : ℕ) → is_owned_by e (row_in b.pages page) ≡ true → (i : ℕ) → i ≢ e → solo_of freed i ≡ absorb_all (solo_of b i) (calls.breaks (book_of b) page i)
   freed_else sound e owns i ne =
-      like_solo i freed (doing.with_broken b page Free None) (record {
-        record_is = refl;
-        rings = rings_dropped b.claims page i ∙ no_ring b.claims b.pages i page sound.claims.owned (anothers e i (row_in b.pages page) ne owns);
-        cpu = λ kept. refl;
-        pages = refl;
-        binds = refl;
-        sights = refl;
-      })
+      like_solo i freed (doing.with_broken b page Free None) (search (rules, (rings_dropped b.claims page i ∙ no_ring b.claims b.pages i page sound.claims.owned (anothers e i (row_in b.pages page) ne owns))))
       ∙ broken_else b page Free None within sound e owns i ne (λ same. let both : None ≡ Some i = same in cc) refl
 
   pub freed_own : (e : ℕ) (x : Environment) → slice_get b.roster.list e ≡ Some x → solo_of freed e ≡ lost page (solo_of b e)

@@ -285,14 +285,7 @@ module _ (b : Shown) (x : Environment) (frames : List (List ℕ)) (pages : List 
 
   added_others : (i : ℕ) → i ≢ length b.roster.list → solo_of (with_one b x frames pages) i ≡ absorb_all (solo_of b i) (only (length b.roster.list) (record_items (length b.roster.list) (Some p)) i)
   added_others i ne =
-      like_solo i (with_one b x frames pages) b (record {
-        record_is = other_get b.roster.list x i ne;
-        rings = refl;
-        cpu = λ kept. refl;
-        pages = left_pages b.pages b.frames frames i (mappings_of b.roster.list i) gives.left (sound.memory.mapped i).its;
-        binds = refl;
-        sights = λ k page. seen_alike i page k;
-      })
+      like_solo i (with_one b x frames pages) b (search (rules, (other_get b.roster.list x i ne), (left_pages b.pages b.frames frames i (mappings_of b.roster.list i) gives.left (sound.memory.mapped i).its), (seen_alike i)))
       ∙ ap (absorb_all (solo_of b i)) (sym (only_else (length b.roster.list) i (record_items (length b.roster.list) (Some p)) ne))
 
   pub added_world : world_of (with_one b x frames pages) ≡ added (world_of b) p

@@ -45,15 +45,7 @@ module _ (b : Shown) (e : ℕ) (x : Environment) (r : Runs b e x) (sound : IsSou
       (runner_seen now e x (record { at = r.at; lives = r.lives; runs = r.runs })
       ∙ ap (λ (s : Solo). record s { cpu = answered_cpu (Grant v) b.cpu }) own
       ∙ deeded_seen b e x r d v)
-      (λ i ne. same_solo i now b (record {
-        record_is = refl;
-        rings = others i ne;
-        idles = r.runs.others i ne;
-        idled = r.runs.others i ne;
-        pages = refl;
-        binds = refl;
-        sights = refl;
-      }))
+      (λ i ne. same_solo i now b (search (rules, (others i ne), (r.runs.others i ne))))
 
   pub claims : (claim address atoms page v : ℕ) → MayClaim (world_of b) e claim address atoms page → Serves b e (deeded (Claims claim address atoms page) v (solo_of b e)) (done (world_of b) e (Claims claim address atoms page)) (doing.after_grant b e v (Claims claim address atoms page))
   claims claim address atoms page v may =

@@ -115,9 +115,6 @@ module _ (id : ℕ) (f : RowValue → RowValue) (g : Ring → Ring) (same : (r :
   same_claims [] = refl
   same_claims (r ∷ rows) = λ k. same_claim r k ∷ same_claims rows k
 
-  row_ring : (r : RowValue) → ring_in (row r) ≡ its (ring_in r)
-  row_ring r = search rules
-
   rows_rings : (e : ℕ) (rows : List RowValue) → its_rings e (map row rows) ≡ map its (its_rings e rows)
   rows_rings e [] = refl
   rows_rings e (r ∷ rows) = search (rules, cases_Bool, (rows_rings e rows))

@@ -1,5 +1,5 @@
 -- A packet that goes into the ring of its claim, or that the claim's handler takes, on the world that is shown.
-use Rattle.std.proofs.Common.{◌≡◌, ◌≢◌, ℕ, List, map, true, Some, refl, sym, ◌∙◌, ap}
+use Rattle.std.proofs.Common.{◌≡◌, ◌≢◌, ℕ, List, map, true, Some, sym, ◌∙◌, ap, rules}
 use Rattle.std.specs.Prelude.{slice_get}
 use Rattle.std.specs.Option.{option_map}
 use Rattle.handler_code.specs.Running.{HandlerRun}
@@ -52,14 +52,7 @@ module _ (law : FirstIsNumbered) (b : Shown) (sound : IsSound b) (numbered : are
   -- whoever else sees the page
   pub ring_left : (i : ℕ) → i ≢ e → solo_of now i ≡ absorb_all (solo_of b i) (left_by (book_of b) e (page_store page bytes) i)
   ring_left i ne =
-      like_solo i now bytes_stored (record {
-        record_is = refl;
-        rings = rings_turned_else law b.claims r i numbered first ne;
-        cpu = λ kept. refl;
-        pages = refl;
-        binds = refl;
-        sights = refl;
-      })
+      like_solo i now bytes_stored (search (rules, (rings_turned_else law b.claims r i numbered first ne)))
       ∙ copying.stored_else b sound e page own x at lives bytes i ne
 
 module _ (b : Shown) (sound : IsSound b) (r : RowValue) (own : has_own_page b.pages r.claim ≡ true) (x : Environment) (at : slice_get b.roster.list r.claim.env ≡ Some x) (lives : x.life ≡ Live) (run : HandlerRun) where
@@ -88,12 +81,5 @@ module _ (b : Shown) (sound : IsSound b) (r : RowValue) (own : has_own_page b.pa
   -- whoever else sees the page
   pub run_else : (i : ℕ) → i ≢ owner → solo_of after_run i ≡ absorb_all (solo_of b i) (left_by (book_of b) owner (page_store r.claim.page run.page) i)
   run_else i ne =
-      like_solo i after_run page_written (record {
-        record_is = changed_else reply b.roster.list owner i ne;
-        rings = refl;
-        cpu = λ kept. refl;
-        pages = refl;
-        binds = refl;
-        sights = refl;
-      })
+      like_solo i after_run page_written (search (rules, (changed_else reply b.roster.list owner i ne)))
       ∙ copying.stored_else b sound owner r.claim.page own x at lives run.page i ne

@@ -97,15 +97,7 @@ module _ (b : Shown) (e : ℕ) (x : Environment) (r : Runs b e x) (sound : IsSou
 
     others : (i : ℕ) → i ≢ e → i ≢ t → solo_of new i ≡ solo_of b i
     others i ne ne_t =
-        same_solo i new b (record {
-          record_is = changed_else (doing.with_registers now.cpu) b.roster.list e i ne;
-          rings = refl;
-          idles = runs_next.runs.others i ne_t;
-          idled = r.runs.others i ne;
-          pages = start_others b sound t i ne_t;
-          binds = refl;
-          sights = λ k p. start_sights b sound t i p k;
-        })
+        same_solo i new b (search (rules, (changed_else (doing.with_registers now.cpu) b.roster.list e i ne), (runs_next.runs.others i ne_t), (r.runs.others i ne), (start_others b sound t i ne_t), (start_sights b sound t i)))
 
     gives_to : Serves b e (deeded (Gives t) v (solo_of b e)) (done (world_of b) e (Gives t)) new
     gives_to = record {

@@ -36,9 +36,6 @@ other_pages frames n bytes (m ∷ ms) other =
     let tail = other_pages frames n bytes ms (λ a k. other (suc a) k) in
     cc
 
-seen-append : (frames : List (List ℕ)) (ms : List Mapping) (m : Mapping) → pages_seen frames (ms ++ m ∷ []) ≡ pages_seen frames ms ++ page_seen frames m ∷ []
-seen-append frames ms m = grind (arith, common_steps)
-
 -- what stands in a longer list stands in the list, or is the last
 at_end : (ms : List Mapping) (m : Mapping) (a : ℕ) (x : Mapping) → slice_get (ms ++ m ∷ []) a ≡ Some x → ((a ≡ length ms) × (x ≡ m)) ⊎ (slice_get ms a ≡ Some x)
 at_end ms m a x at = search (rules, eqb-true, last_get, other_get, eqb-false)
@@ -59,7 +56,7 @@ module _ (frames : List (List ℕ)) (pages : List PageRow) (e vpn page : ℕ) (w
   elsewhere a m at same = search rules
 
   pub given_page : HasPages frames pages → pages_seen (with_page frames page bytes) (ms ++ record { vpn = vpn; page = page; writable = writable } ∷ []) ≡ pages_seen frames ms ++ record { vpn = vpn; writable = writable; bytes = bytes } ∷ []
-  given_page same = search (rules, seen-append, other_pages, get_or-set_same, elsewhere)
+  given_page same = grind (arith, common_steps, other_pages, get_or-set_same, elsewhere)
 
   its_row : (x : Mapping) → x ≡ its_mapping → row_in its_pages x.page ≡ Guaranteed e
   its_row x same = ap (λ (m : Mapping). row_in its_pages m.page) same ∙ get_or-set_same pages page (Guaranteed e) Free there

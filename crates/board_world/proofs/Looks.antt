@@ -1,5 +1,5 @@
 -- Where VPNs lead is what an environment sees there.
-use Rattle.std.proofs.Common.{◌≡◌, ℕ, ◌<◌, List, length, Bool, true, Option, Some, None, refl, sym, ◌∙◌, ap, rules}
+use Rattle.std.proofs.Common.{◌≡◌, ℕ, ◌<◌, List, length, true, Option, Some, None, refl, sym, ◌∙◌, ap, rules}
 use Rattle.std.specs.Option.{option_map, option_or}
 use Rattle.frame_store.specs.Pages.{page_at}
 use Rattle.page_book.specs.declared.row.PageRow.{PageRow}
@@ -8,14 +8,10 @@ use Rattle.bind_book.specs.Stripe.{binding_at, is_bound}
 use Rattle.env_frames.specs.declared.mapping.Mapping.{Mapping}
 use Rattle.env_frames.specs.Frame.{mapping_at}
 use Rattle.guest_memory.specs.Look.{bound_mapping, look, look_through, mapping_in}
-use Rattle.world_model.specs.Solo.{Solo, place_at, bound_place, kept_at, leads, bytes_in, bytes_seen, sight, mapped}
-use Rattle.page_sight.specs.Sight.{seen_if, seen_in}
+use Rattle.world_model.specs.Solo.{Solo, place_at, bound_place, kept_at, leads, bytes_in, sight, mapped}
+use Rattle.page_sight.specs.Sight.{seen_in}
 use Rattle.board_world.specs.Showing.{page_seen, pages_seen}
 use Rattle.board_world.proofs.Pages.{AreInside, page_there, seen_kept, placed}
-
--- what is bound is seen
-seen_bound : (owned bound : Bool) (bytes : List ℕ) → bound ≡ true → bytes_seen (seen_if owned bound bytes) ≡ bytes
-seen_bound owned bound bytes is = search rules
 
 module _ (frames : List (List ℕ)) (e : ℕ) (pages : ℕ → PageRow) (stripe : ℕ → Option Binding) (ms : List Mapping) (s : Solo)
     (kept : s.kept ≡ pages_seen frames ms) (binds : s.binds ≡ stripe) (seen : s.seen ≡ seen_in e pages stripe (page_at frames)) where
@@ -27,7 +23,7 @@ module _ (frames : List (List ℕ)) (e : ℕ) (pages : ℕ → PageRow) (stripe 
 
   by_binding : (v : ℕ) (y : Option Binding) → ((x : Binding) → y ≡ Some x → (x.page < length frames) × (is_bound x.page stripe ≡ true)) →
       look_through frames (option_map bound_mapping y) ≡ option_map (mapped s) (option_map bound_place y)
-  by_binding v y there = search (rules, page_there, seen_bound)
+  by_binding v y there = search (rules, page_there)
 
   by_mapping : (v : ℕ) (m : Option Mapping) → mapping_at ms v ≡ m → AreInside frames ms → ((x : Binding) → binding_at stripe v ≡ Some x → (x.page < length frames) × (is_bound x.page stripe ≡ true)) →
       look_through frames (option_or m (option_map bound_mapping (binding_at stripe v))) ≡ option_map (mapped s) (option_or (option_map (place_at v) (option_map (page_seen frames) m)) (option_map bound_place (binding_at stripe v)))

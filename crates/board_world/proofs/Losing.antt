@@ -1,5 +1,5 @@
 -- What environments are given of a change of the books.
-use Rattle.std.proofs.Common.{◌≡◌, ℕ, zero, suc, List, [], ◌++◌, Bool, true, false, Option, Some, None, inl, inr, ◌⊎◌, refl, sym, ◌∙◌, ap, subst, rules}
+use Rattle.std.proofs.Common.{◌≡◌, ℕ, zero, suc, List, [], Bool, true, false, Option, Some, None, inl, inr, ◌⊎◌, refl, sym, ◌∙◌, ap, subst, rules}
 use Rattle.std.specs.Prelude.{◌==◌, if◌then◌else◌, filter, not, slice_get}
 use Rattle.std.proofs.lemmas.Bool.{eqb-true}
 use Rattle.std.proofs.lemmas.List.Sums.{fold-append}
@@ -67,17 +67,7 @@ nothing_lost stripe none page = ap (λ t. lost_if t page) (unbound_page stripe n
 
 pub no_losses : (b : Book) (gone i n : ℕ) → ((row : ℕ) → b.binds i row ≡ None) → lost_with b gone i n ≡ []
 no_losses b gone i zero none = refl
-no_losses b gone i (suc n) none =
-    let before = no_losses b gone i n none in
-    let here = nothing_lost (b.binds i) none n in
-    (λ k. before k ++ (if belongs_to gone (b.pages n) then here k else [])) ∙ by_part (belongs_to gone (b.pages n))
-  where
-    nothing : List Item
-    nothing = []
-
-    by_part : (t : Bool) → (if t then nothing else nothing) ≡ nothing
-    by_part true = refl
-    by_part false = refl
+no_losses b gone i (suc n) none = search (rules, nothing_lost, (no_losses b gone i n none))
 
 -- an environment lives, or isn't one of the board that does
 pub lives_or_not : (list : List Environment) (i : ℕ) → ((x : Environment) × ((slice_get list i ≡ Some x) × (x.life ≡ Live))) ⊎ (IsLive list i → ⊥)

@@ -1,11 +1,10 @@
 -- A turn and the timer make no claim.
 use Rattle.std.proofs.Common.{◌≡◌, ℕ, Bool, Option, refl, rules}
 use Rattle.std.specs.Prelude.{nat_lt, if◌then◌else◌}
-use Rattle.world_model.specs.declared.slot.Phase.{Phase}
 use Rattle.world_model.specs.declared.slot.Runner.{Runner}
 use Rattle.world_model.specs.declared.slot.Turn.{Turn}
 use Rattle.world_model.specs.Book.{Told, excess_limit}
-use Rattle.world_model.specs.Tick.{goes_on, grace_of, judged, kill, run_out, take_turn, timer, turn, turn_when}
+use Rattle.world_model.specs.Tick.{goes_on, grace_of, judged, kill, take_turn, timer, turn, turn_when}
 use Rattle.world_model.specs.World.{Reply, World}
 
 taken : (w : World) (told : Told) (o : Option Turn) → (take_turn w told o).book.next_claim ≡ w.book.next_claim
@@ -24,8 +23,5 @@ either_way n t x y first second = search rules
 judged_claims : (w : World) (e : ℕ) → (judged e w).book.next_claim ≡ w.book.next_claim
 judged_claims w e = either_way w.book.next_claim (nat_lt excess_limit (w.book.excess e)) (kill e w) (goes_on (grace_of w e) w) refl refl
 
-out_claims : (w : World) (e : ℕ) (p : Phase) → (run_out e p w).book.next_claim ≡ w.book.next_claim
-out_claims w e p = search (rules, judged_claims)
-
 pub timer_claims : (w : World) → (timer w).book.next_claim ≡ w.book.next_claim
-timer_claims w = search (rules, either_way, out_claims)
+timer_claims w = search (rules, either_way, judged_claims)

@@ -45,12 +45,4 @@ module _ (b : Shown) (e : ℕ) (x : Environment) (r : Runs b e x) (sound : IsSou
       let still : Runs now e (f x) = record { at = changed_here f b.roster.list e ∙ ap (option_map f) r.at; lives = keeps.life x ∙ r.lives; runs = r.runs } in
       changes_one refl (λ k. record (book_of now) { kept = λ i. kept_mappings f keeps b.roster.list e i k }) (length-changed f b.roster.list e)
       (runner_seen now e (f x) still ∙ shows own v ∙ deeded_seen b e x r (Own own) v)
-      (λ i ne. same_solo i now b (record {
-        record_is = changed_else f b.roster.list e i ne;
-        rings = refl;
-        idles = r.runs.others i ne;
-        idled = r.runs.others i ne;
-        pages = refl;
-        binds = refl;
-        sights = refl;
-      }))
+      (λ i ne. same_solo i now b (search (rules, (changed_else f b.roster.list e i ne), (r.runs.others i ne))))

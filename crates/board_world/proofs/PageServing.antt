@@ -137,14 +137,7 @@ module _ (b : Shown) (e : ℕ) (x : Environment) (r : Runs b e x) (sound : IsSou
     -- whoever had bound the page loses it
     changed_others : is_owned_by e (row_in b.pages page) ≡ true → (i : ℕ) → i ≢ e → but ≢ Some i → is_owned_by i row ≡ false → solo_of changed i ≡ absorb_all (solo_of b i) (calls.breaks (book_of b) page i)
     changed_others owns i ne other after =
-        like_solo i changed (doing.with_broken b page row but) (record {
-          record_is = refl;
-          rings = refl;
-          cpu = λ kept. rw (r.runs.others i ne) refl;
-          pages = refl;
-          binds = refl;
-          sights = refl;
-        })
+        like_solo i changed (doing.with_broken b page row but) (search (rules, (r.runs.others i ne)))
         ∙ broken_else b page row but within sound e owns i ne other after
 
     -- what the runner sees, if the page's law says so
@@ -174,14 +167,7 @@ module _ (b : Shown) (e : ℕ) (x : Environment) (r : Runs b e x) (sound : IsSou
             ∙ (λ k. record (runner_solo b e x) { cpu = answered_cpu (Grant v) b.cpu; binds = λ n. sym (sees.binds n) k; seen = λ p. sym (sees.seen p) k; rings = rings_dropped b.claims page e k })
             ∙ ap (λ s. absorb_all s (Lost page ∷ [])) (deeded_seen b e x r (Frees page) v))
             (λ i ne.
-            like_solo i now (doing.with_freed b page) (record {
-              record_is = refl;
-              rings = refl;
-              cpu = λ kept. rw (r.runs.others i ne) refl;
-              pages = refl;
-              binds = refl;
-              sights = refl;
-            })
+            like_solo i now (doing.with_freed b page) (search (rules, (r.runs.others i ne)))
             ∙ freed_else b page may.there sound e may.owned i ne);
         rows = sym (append-nil b.ledger.rows);
         room = omega arith;

@@ -1,5 +1,5 @@
 -- What the kernel leaves in the context page of an environment from outside: bytes at a place, and a post word that is changed.
-use Rattle.std.proofs.Common.{◌≡◌, ◌≢◌, ℕ, ◌+◌, ◌/◌, ◌%◌, List, length, Option, Some, None, refl, sym, ◌∙◌, ap, length-set, rules}
+use Rattle.std.proofs.Common.{◌≡◌, ◌≢◌, ℕ, ◌+◌, ◌/◌, ◌%◌, List, length, Option, Some, None, sym, ◌∙◌, ap, length-set, rules}
 use Rattle.std.specs.Prelude.{slice_get}
 use Rattle.std.specs.Option.{option_map}
 use Rattle.aegis_limits.specs.Limits.{page_size}
@@ -89,14 +89,7 @@ module _ (b : Shown) (sound : IsSound b) (e : ℕ) (x : Environment) (at : slice
   pub left_else : (i : ℕ) → i ≢ e → solo_of (with_left b e place leave) i ≡ solo_of b i
   left_else i ne =
       ap (λ y. solo_of y i) written
-      ∙ like_solo i now b (record {
-        record_is = refl;
-        rings = refl;
-        cpu = λ kept. refl;
-        pages = left_others b sound e write number i ne;
-        binds = refl;
-        sights = λ k p. left_sights b sound e write number i p k;
-      })
+      ∙ like_solo i now b (search (rules, (left_others b sound e write number i ne), (left_sights b sound e write number i)))
 
 -- A post word lies within the page.
 post_number : (word : PostWord) → (page_size + post_offset word) / page_size ≡ context_number

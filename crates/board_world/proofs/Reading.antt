@@ -33,12 +33,9 @@ sent_same b e = search rules
 pub runner_registers : (b : Shown) (e : ℕ) → IsSound b → running b.slots.runner ≡ Some e → b.cpu ≡ (solo_of b e).cpu
 runner_registers b e sound runs = let x = runner_runs b e sound runs in ap (λ (s : Solo). s.cpu) (sym (runner_seen b e x.0 x.1))
 
-pub is_some_mapped : {A B : Type 0} (f : A → B) (o : Option A) → is_some o ≡ is_some (option_map f o)
-is_some_mapped f o = search rules
-
 -- the guaranteed VPNs of an environment
 pub guaranteed_same : (b : Shown) (e v : ℕ) → is_some (mapping_at (mappings_of b.roster.list e) v) ≡ is_guaranteed (solo_of b e) v
-guaranteed_same b e v = search (rules, is_some_mapped, seen_kept, kept_seen)
+guaranteed_same b e v = search (rules, seen_kept, kept_seen)
 
 -- the life of an environment
 pub life_same : (b : Shown) (e : ℕ) → option_map (λ (x : Environment). x.life) (slice_get b.roster.list e) ≡ life_at (world_of b) e

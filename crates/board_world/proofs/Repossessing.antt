@@ -1,16 +1,13 @@
 -- What is taken at deadlines, on the world that is shown.
 use Rattle.std.proofs.Common.{◌≡◌, ◌≢◌, ◌<◌, ◌≤◌, ℕ, zero, suc, ◌+◌, ◌/◌, ◌%◌, List, [], ◌∷◌, ◌++◌, length, map, drop, fold, Bool, true, false, Option, Some, None, IfSome, IsSome, refl, sym, ◌∙◌, ap, subst, arith, length-set, rules}
 use Rattle.std.specs.Prelude.{◌||◌, if◌then◌else◌, nat_lt, slice_get, slice_index_or}
-use Rattle.std.specs.Option.{option_map}
 use Rattle.std.proofs.lemmas.Bool.{eq-eqb, eqb-true, ltb-true, or_parts}
 use Rattle.std.proofs.lemmas.List.Sums.{fold-append}
 use Rattle.aegis_limits.specs.Limits.{most_pages, page_size}
 use Rattle.frame_store.specs.Pages.{page_at, word_at}
-use Rattle.env_frames.specs.declared.mapping.Mapping.{Mapping}
 use Rattle.env_frames.specs.declared.post.PostWord.TheVariants as post
 use Rattle.env_frames.specs.Context.{context_number}
-use Rattle.env_frames.specs.Frame.{left_in}
-use Rattle.env_frames.specs.Post.{counted_in, most_records, post_offset, record_bytes, record_offset, taken_in}
+use Rattle.env_frames.specs.Post.{most_records, post_offset, record_bytes, record_offset, taken_in}
 use Rattle.page_book.specs.declared.row.PageRow.TheVariants.{Free}
 use Rattle.page_book.specs.Row.{is_owned_by, owner_of}
 use Rattle.page_book.specs.Rows.{row_in}
@@ -32,12 +29,12 @@ use Rattle.world_model.specs.PageCalls.{breaks, page_bytes}
 use Rattle.world_model.specs.Post.{post_word}
 use Rattle.world_model.specs.Repossession.{copied, counted_taking, recorded, taken}
 use Rattle.world_model.specs.Rings.{page_store}
-use Rattle.world_model.specs.Solo.{Physical, bytes_in, bytes_of, with_store}
+use Rattle.world_model.specs.Solo.{Physical, bytes_of, with_store}
 use Rattle.world_model.specs.Tick.{served}
 use Rattle.world_model.specs.World.{World, Reply, after, run_phases}
 use Rattle.board_world.specs.declared.roster.Environment.{Environment}
 use Rattle.board_world.specs.Shown.{Shown}
-use Rattle.board_world.specs.Showing.{book_of, page_seen, solo_of, solo_or_absent, world_of}
+use Rattle.board_world.specs.Showing.{book_of, solo_of, solo_or_absent, world_of}
 use Rattle.board_world.specs.Sound.{IsLive, IsSound}
 use Rattle.board_world.specs.Doing.{context_of, frames_after_copy, with_deadlines_over, after_deadlines, after_taking, takings_in, with_freed}
 use Rattle.board_world.proofs.Asked.{backups_set, pending_served, taken_asked}
@@ -79,12 +76,6 @@ frames_if : (t : Bool) (b : Shown) (e n page : ℕ) (backup : Option ℕ) → le
 frames_if true b e n page backup = grind (arith, length-set)
 frames_if false b e n page backup = refl
 
--- the record and the count, as they are written
-recorded_frames : (page : ℕ) (backup : Option ℕ) (frames : List (List ℕ)) (m : Option Mapping) →
-    (let n = word_at (bytes_in (option_map (page_seen frames) m)) (post_offset post.Takings) in
-    taken_in page backup (option_map (λ (m : Mapping). m.page) m) frames ≡ counted_in post.Takings (option_map (λ (m : Mapping). m.page) m) (if nat_lt n most_records then left_in (record_offset n) (record_bytes page backup) (option_map (λ (m : Mapping). m.page) m) frames else frames))
-recorded_frames page backup frames m = search rules
-
 module _ (b : Shown) (sound : IsSound b) (e : ℕ) (x : Environment) (at : slice_get b.roster.list e ≡ Some x) (lives : x.life ≡ Live) (page : ℕ) (backup : Option ℕ) where
   abbrev n : ℕ
   n = records b e
@@ -120,7 +111,7 @@ module _ (b : Shown) (sound : IsSound b) (e : ℕ) (x : Environment) (at : slice
   now_at t = search rules
 
   pub written_is : record b { frames = taken_in page backup (context_of b e) b.frames } ≡ with_word now e post.Takings counts
-  written_is = grind (arith, recorded_frames, counted_changed)
+  written_is = grind (arith, common_steps, counted_changed)
 
   -- for the environment, and for the others
   pub written_here : solo_of (record b { frames = taken_in page backup (context_of b e) b.frames }) e ≡ counted_taking page backup (solo_of b e)
@@ -226,14 +217,7 @@ module _ (b : Shown) (sound : IsSound b) (x : Taking) (may : IsTakable (books_of
   gone = after_taking b x
 
   gone_like : (i : ℕ) → solo_of gone i ≡ solo_of (with_freed recorded_board x.page) i
-  gone_like i = like_solo i gone (with_freed recorded_board x.page) (record {
-    record_is = refl;
-    rings = refl;
-    cpu = λ kept. refl;
-    pages = refl;
-    binds = refl;
-    sights = refl;
-  })
+  gone_like i = like_solo i gone (with_freed recorded_board x.page) (search rules)
 
   gone_here : solo_of gone e ≡ absorb_all (solo_of b e) (Taken x.page x.backup ∷ [])
   gone_here =
@@ -330,9 +314,7 @@ pub record IsServed (b new : Shown) (rows : ℕ) : Type 0 where
 
 taken_leaves : (b : Shown) (xs : List Taking) → IsServed b (fold after_taking b xs) (length xs)
 taken_leaves b [] = record { slots = refl; time = refl; numbers = refl; whole = refl; room = omega arith }
-taken_leaves b (x ∷ xs) =
-    let rest = taken_leaves (after_taking b x) xs in
-    record { slots = rest.slots; time = rest.time; numbers = rest.numbers; whole = rest.whole; room = omega (arith, rest.room) }
+taken_leaves b (x ∷ xs) = search (rules, (taken_leaves (after_taking b x) xs))
 
 pub served_leaves : TakingsAreFew → (b : Shown) → IsSound b → IsServed b (after_deadlines b) most_pages
 served_leaves few b sound = search (rules, taken_leaves)

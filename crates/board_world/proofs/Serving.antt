@@ -131,11 +131,8 @@ pub record Leaves (b new : Shown) : Type 0 where
   pub time : new.time ≡ b.time
   pub numbers : new.claims.next ≤ b.claims.next + 1
 
-deed_leaves : (b : Shown) (e v : ℕ) (d : Deed) → Leaves b (doing.after_grant b e v d)
-deed_leaves b e v d = search (rules, entered_room)
-
 verdict_leaves : (b : Shown) (e : ℕ) (c : Option Call) (which : Verdict) → Leaves b (doing.after_verdict b e c which)
-verdict_leaves b e c which = search (rules, deed_leaves)
+verdict_leaves b e c which = search (rules, entered_room)
 
 pub called_leaves : (b : Shown) (e : ℕ) (exits : Bool) → IsSound b → running b.slots.runner ≡ Some e → Leaves b (doing.after_exit_or_call b e exits)
 called_leaves b e true sound runs = let s = death_serves b e (cause.Exit (reg b.cpu 4)) sound runs in record { room = s.room; spare = s.spare; time = s.time; numbers = omega arith }

@@ -1,7 +1,7 @@
 -- The slots of a board go on being sound.
 use Rattle.std.proofs.Common.{◌≡◌, ◌≢◌, ℕ, zero, suc, ◌+◌, ◌%◌, ◌<◌, ◌≤◌, List, [], ◌∷◌, length, map, Bool, true, false, Option, Some, None, IfSome, refl, sym, ◌∙◌, ap, subst, arith, rules}
 use Rattle.std.specs.Option.{option_map}
-use Rattle.std.specs.Prelude.{◌==◌, if◌then◌else◌, nat_lt, All, slice_get, slice_index_or, slice_set}
+use Rattle.std.specs.Prelude.{if◌then◌else◌, nat_lt, All, slice_get, slice_index_or, slice_set}
 use Rattle.std.proofs.Common.{length-set}
 use Rattle.std.proofs.lemmas.Bool.{eq-eqb, eqb-false, ltb-false, or_parts}
 use Rattle.std.proofs.lemmas.List.{length-map}
@@ -12,7 +12,7 @@ use Rattle.mips_exec.specs.declared.registers.Cpu.{Cpu}
 use Rattle.slot_vector.specs.declared.turn.NextTurn.TheVariants as next
 use Rattle.slot_vector.specs.declared.timer.Timer.{Timer}
 use Rattle.slot_vector.specs.declared.timer.Timer.TheVariants as timer
-use Rattle.slot_vector.specs.Slices.{Slices, HasTicks, after_timer, after_turn, excess_of, given_to, hold_at, next_held, in_grace_again, next_turn, slots_given, timer_answer, timer_at_end, timer_by, turn_ended, with_hold, without_env}
+use Rattle.slot_vector.specs.Slices.{Slices, HasTicks, after_timer, after_turn, excess_of, given_to, hold_at, next_held, in_grace_again, next_turn, slots_given, timer_answer, timer_by, turn_ended, with_hold, without_env}
 use Rattle.slot_vector.specs.Laws.{owed_by_all}
 use Rattle.slot_vector.proofs.Whole.{ran_is}
 use Rattle.env_frames.specs.declared.context.Context.{Context}
@@ -235,14 +235,8 @@ module _ (v : Slices) (r : Environments) (manned : IsManned v r) where
   by_limit x excess true is live test = killed_manned v r x manned is
   by_limit x excess false is live test = overrun x excess is live (ltb-false excess_limit excess test)
 
-  by_phase : (x : Runner) (p : Phase) (has_end : Bool) (excess : ℕ) → v.runner ≡ Some x → IsLive r.list x.env → IsManned (use_of x.env v (timer_at_end p has_end excess)) r
-  by_phase x p has_end excess is live = search (rules, end_manned, graced, by_limit)
-
-  by_left : (x : Runner) (has_end last : Bool) (excess : ℕ) → v.runner ≡ Some x → IsLive r.list x.env → 1 ≤ x.left → (x.left == 1) ≡ last → IsManned (use_of x.env v (if last then timer_at_end x.phase has_end excess else timer.Nothing)) r
-  by_left x has_end last excess is live some test = search (rules, eqb-false, by_phase, again)
-
   by_runner : (o : Option Runner) (e : ℕ) (has_end : Bool) → v.runner ≡ o → running o ≡ Some e → IfSome o (λ x. IsLive r.list x.env) → HasTicks o → IsManned (use_of e v (timer_by o has_end (excess_of v.excess))) r
-  by_runner o e has_end is its live some = search (rules, by_left)
+  by_runner o e has_end is its live some = search (rules, eqb-false, end_manned, graced, by_limit, again)
 
   pub timer_manned : (e : ℕ) (has_end : Bool) → running v.runner ≡ Some e → IsManned (use_of e v (timer_answer v has_end)) r
   timer_manned e has_end runs = by_runner v.runner e has_end refl runs manned.runner manned.ticks

@@ -1,5 +1,5 @@
 -- The runner's step, on the world that is shown.
-use Rattle.std.proofs.Common.{◌≤◌, ◌+◌, ◌≡◌, ◌≢◌, ℕ, ◌/◌, ◌%◌, ◌<◌, List, [], ◌∷◌, ◌++◌, length, Bool, true, false, Option, Some, None, ◌⊎◌, inl, inr, refl, sym, ◌∙◌, ap, subst, arith, get_or-set_other}
+use Rattle.std.proofs.Common.{◌≤◌, ◌+◌, ◌≡◌, ◌≢◌, ℕ, ◌/◌, ◌%◌, ◌<◌, List, [], ◌∷◌, ◌++◌, length, Bool, true, false, Option, Some, None, ◌⊎◌, inl, inr, refl, sym, ◌∙◌, ap, subst, arith, get_or-set_other, rules}
 use Rattle.std.specs.Prelude.{◌==◌, if◌then◌else◌, slice_get}
 use Rattle.std.specs.Option.{option_map, option_or}
 use Rattle.std.proofs.lemmas.Bool.{eq-eqb, ne_eqb, or_cases, or_parts}
@@ -289,15 +289,7 @@ module _ (b : Shown) (e : ℕ) (x : Environment) (r : Runs b e x) (sound : IsSou
             ∙ (λ k. record (runner_solo b e x) { cpu = raised_cpu (handlers_in (r.at k)).exception exc b.cpu; kept = pages k; seen = λ p. left_sights b sound e w refl e p k })
             ∙ ap (raise exc) (sym (runner_seen b e x r))
             ∙ sym (set_here e (raise exc (solo_of b e)) (solo_of b)))
-            (λ i ne. same_solo i now b (record {
-              record_is = refl;
-              rings = refl;
-              idles = r.runs.others i ne;
-              idled = r.runs.others i ne;
-              pages = left_others b sound e w refl i ne;
-              binds = refl;
-              sights = λ k p. left_sights b sound e w refl i p k;
-            })
+            (λ i ne. same_solo i now b (search (rules, (r.runs.others i ne), (left_others b sound e w refl i ne), (left_sights b sound e w refl i)))
             ∙ sym (set_else e i (raise exc (solo_of b e)) (solo_of b) ne));
         rows = sym (append-nil b.ledger.rows);
         room = omega arith;

@@ -1,5 +1,5 @@
 -- Plain ticks of a board are ticks of the model.
-use Rattle.std.proofs.Common.{◌≡◌, ◌<◌, ℕ, zero, suc, ◌+◌, ◌-◌, List, [], length, length-set, Bool, false, Option, Some, IfSome, refl, sym, ◌∙◌, ap, add-zero, arith, rules}
+use Rattle.std.proofs.Common.{◌≡◌, ◌<◌, ℕ, zero, suc, ◌+◌, ◌-◌, List, [], length, length-set, Bool, false, Option, Some, refl, sym, ◌∙◌, ap, add-zero, arith, rules}
 use Rattle.std.specs.Prelude.{◌&&◌, is_none, map, unwrap_or}
 use Rattle.std.specs.Option.{option_map}
 use Rattle.std.proofs.lemmas.Bool.{ne_eqb}
@@ -9,12 +9,12 @@ use Rattle.mips_exec.specs.declared.exception.Outcome.TheVariants as outcome
 use Rattle.mips_exec.specs.Step.{Step, Retired, outcome_of, write_after}
 use Rattle.env_frames.specs.declared.mapping.Mapping.{Mapping}
 use Rattle.external_event.specs.declared.event.Occurrence.{Occurrence}
-use Rattle.guest_memory.specs.Look.{frames_after, written_through}
+use Rattle.guest_memory.specs.Look.{frames_after}
 use Rattle.guest_memory.specs.Steps.{Machine, after_steps, next_step}
 use Rattle.revocation_book.specs.Pending.{earliest_in}
 use Rattle.revocation_book.specs.RevocationBook.{RevocationBook, is_any_due, next_deadline}
 use Rattle.revocation_book.proofs.Earliest.{due_by_earliest, has_come}
-use Rattle.slot_vector.specs.Slices.{HasTicks, Slices, after_ticks, left_of}
+use Rattle.slot_vector.specs.Slices.{Slices, after_ticks, left_of}
 use Rattle.world_model.specs.declared.slot.Runner.{Runner}
 use Rattle.world_model.specs.Book.{is_idle_book, running}
 use Rattle.world_model.specs.Deadlines.{takings}
@@ -23,12 +23,11 @@ use Rattle.world_model.specs.Tick.{phases_after, served, step, tick_step, timer,
 use Rattle.world_model.specs.World.{World, after, run_phases}
 use Rattle.run_model.specs.Run.{next_world}
 use Rattle.run_model.proofs.Phases.{tick_in_parts}
-use Rattle.board_world.specs.declared.roster.Environment.{Environment}
 use Rattle.board_world.specs.Doing.{after_count_down, lookup_of, after_machine_step, step_seen, with_next_time}
 use Rattle.board_world.specs.Laws.{ServingIsServing, TimerIsTimer}
 use Rattle.board_world.specs.Shown.{Environments, Shown}
 use Rattle.board_world.specs.Showing.{world_of}
-use Rattle.board_world.specs.Sound.{IsLive, IsManned, IsSound}
+use Rattle.board_world.specs.Sound.{IsManned, IsSound}
 use Rattle.board_world.specs.Stretch.{ArePlain, StretchIsTicks, machine_of, stretched}
 use Rattle.board_world.proofs.Phases.{quiet_world}
 use Rattle.board_world.proofs.Repossessing.{nothing_due}
@@ -36,12 +35,8 @@ use Rattle.board_world.proofs.Seen.{runner_runs}
 use Rattle.board_world.proofs.Stepping.{retired_step}
 use Rattle.board_world.proofs.Staying.{sound_frames, sound_machine, sound_slots}
 
--- Physical memory keeps its size.
-write_size : (frames : List (List ℕ)) (w : Write) (m : Option Mapping) → length (written_through frames w m) ≡ length frames
-write_size frames w m = search (rules, length-set)
-
 step_size : (frames : List (List ℕ)) (lookup : ℕ → Option Mapping) (w : Option Write) → length (frames_after frames lookup w) ≡ length frames
-step_size frames lookup w = search (rules, write_size)
+step_size frames lookup w = search (rules, length-set)
 
 steps_size : (lookup : ℕ → Option Mapping) (m : Machine) (k : ℕ) → length (after_steps lookup m k).frames ≡ length m.frames
 steps_size lookup m zero = refl
@@ -63,14 +58,8 @@ runs_on k o = search rules
 left_on : (k : ℕ) (o : Option Runner) → left_of (passed k o) ≡ left_of o - k
 left_on k o = search rules
 
-ticks_on : (k : ℕ) (o : Option Runner) → k < left_of o → HasTicks (passed k o)
-ticks_on k o some = search rules
-
-lives_on : (list : List Environment) (k : ℕ) (o : Option Runner) → IfSome o (λ r. IsLive list r.env) → IfSome (passed k o) (λ r. IsLive list r.env)
-lives_on list k o live = search rules
-
 pub passed_manned : (v : Slices) (r : Environments) (k : ℕ) → IsManned v r → k < left_of v.runner → IsManned (after_ticks k v) r
-passed_manned v r k manned some = search (rules, ticks_on, lives_on)
+passed_manned v r k manned some = search rules
 
 pub stretch_sound : (b : Shown) (e k : ℕ) → IsSound b → k < left_of b.slots.runner → IsSound (stretched b e k)
 stretch_sound b e k sound some =

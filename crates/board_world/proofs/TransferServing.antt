@@ -114,15 +114,7 @@ module _ (b : Shown) (e : ℕ) (x : Environment) (r : Runs b e x) (sound : IsSou
 
     others : (i : ℕ) → i ≢ e → i ≢ t → solo_of new i ≡ solo_of b i
     others i ne ne_t =
-        same_solo i new b (record {
-          record_is = other_at i ne ne_t;
-          rings = refl;
-          idles = runs_next.runs.others i ne_t;
-          idled = r.runs.others i ne;
-          pages = left_others b sound t write refl i ne_t;
-          binds = refl;
-          sights = λ k p. left_sights b sound t write refl i p k;
-        })
+        same_solo i new b (search (rules, (other_at i ne ne_t), (runs_next.runs.others i ne_t), (r.runs.others i ne), (left_others b sound t write refl i ne_t), (left_sights b sound t write refl i)))
 
     entered_mappings : (i : ℕ) → mappings_of new.roster.list i ≡ mappings_of b.roster.list i
     entered_mappings i = search (rules, kept_mappings, keeps_registers, keeps_accepting)

@@ -64,15 +64,7 @@ module _ (b : Shown) (sound : IsSound b) (t : Turn) (x : Environment) (at : slic
       ∙ ap (λ s. absorb_all s (Start ∷ [])) (sym waiting_seen)
 
   others : (i : ℕ) → i ≢ t.env → solo_of (after_start b t) i ≡ solo_of b i
-  others i ne = same_solo i (after_start b t) b (record {
-    record_is = refl;
-    rings = refl;
-    idles = ne_eqb t.env i (λ same. ne (sym same));
-    idled = idle_names b i none;
-    pages = start_others b sound t.env i ne;
-    binds = refl;
-    sights = λ k p. start_sights b sound t.env i p k;
-  })
+  others i ne = same_solo i (after_start b t) b (search (rules, (ne_eqb t.env i (λ same. ne (sym same))), (idle_names b i none), (start_others b sound t.env i ne), (start_sights b sound t.env i)))
 
   pub started_world : world_of (after_start b t) ≡ after (world_of b) (tick.take_turn (world_of b) (record { pays = []; runs = Some t; excess = excess_of b.slots.excess; cursor = t.slot }) (Some t))
   started_world =
@@ -138,15 +130,7 @@ module _ (b : Shown) (e : ℕ) (x : Environment) (r : Runs b e x) where
 
   pub stopped_others : (i : ℕ) → i ≢ e → solo_of (after_stop b e) i ≡ solo_of b i
   stopped_others i ne =
-      same_solo i (after_stop b e) b (record {
-        record_is = changed_else (with_registers b.cpu) b.roster.list e i ne;
-        rings = refl;
-        idles = refl;
-        idled = r.runs.others i ne;
-        pages = refl;
-        binds = refl;
-        sights = refl;
-      })
+      same_solo i (after_stop b e) b (search (rules, (changed_else (with_registers b.cpu) b.roster.list e i ne), (r.runs.others i ne)))
 
   pub stopped_mappings : (i : ℕ) → mappings_of (after_stop b e).roster.list i ≡ mappings_of b.roster.list i
   stopped_mappings i = kept_mappings (with_registers b.cpu) (keeps_registers b.cpu) b.roster.list e i
@@ -225,15 +209,7 @@ module _ (b : Shown) (sound : IsSound b) (r : Runner) (is : b.slots.runner ≡ S
       (runner_seen now e x still
       ∙ (λ k. record (runner_solo b e x) { cpu = resumed_cpu (handlers_in (runs.at k)).end b.cpu; kept = pages k; seen = λ p. left_sights b sound e w refl e p k })
       ∙ ap (λ s. absorb_all s (End ∷ [])) (sym (runner_seen b e x runs)))
-      (λ i ne. same_solo i now b (record {
-        record_is = refl;
-        rings = refl;
-        idles = still.runs.others i ne;
-        idled = runs.runs.others i ne;
-        pages = left_others b sound e w refl i ne;
-        binds = refl;
-        sights = λ k p. left_sights b sound e w refl i p k;
-      })))
+      (λ i ne. same_solo i now b (search (rules, (still.runs.others i ne), (runs.runs.others i ne), (left_others b sound e w refl i ne), (left_sights b sound e w refl i)))))
       refl
       ∙ rw some refl
 

@@ -1,16 +1,13 @@
 -- The environment at the place is the one that wrote more.
-use Rattle.std.proofs.Common.{List, ℕ, length, ap, ◌∙◌, arith}
+use Rattle.std.proofs.Common.{List, ℕ, ap, ◌∙◌, arith}
 use Rattle.std.specs.Prelude.{slice_index_or, slice_set}
-use Rattle.board_world.specs.Shown.{console_in}
 use Rattle.board_world.specs.Doing.{with_bytes_put}
 use Rattle.board_world.proofs.Lists.{changed_set}
 use Rattle.std.proofs.lemmas.Option.{slice_get-get_or}
 use Rattle.board_world.proofs.roster.put_in.Goals as goal
 
 pub put-requires : goal.put-requires
-put-requires c =
-    let its = ap console_in (slice_get-get_or c.args.list.now c.args.place c.index-list-place.result c.requires.there) in
-    omega (arith, c.requires.room, ap (λ (bytes : List ℕ). length bytes) its)
+put-requires c = grind (arith, slice_get-get_or)
 
 pub returns : goal.returns
 returns c =

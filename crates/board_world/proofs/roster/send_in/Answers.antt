@@ -1,16 +1,13 @@
 -- The environment at the place is the one that sent more.
-use Rattle.std.proofs.Common.{List, ℕ, length, ap, ◌∙◌, arith}
+use Rattle.std.proofs.Common.{List, ℕ, ap, ◌∙◌, arith}
 use Rattle.std.specs.Prelude.{slice_index_or, slice_set}
-use Rattle.board_world.specs.Shown.{sent_in}
 use Rattle.board_world.specs.Doing.{with_packet_sent}
 use Rattle.board_world.proofs.Lists.{changed_set}
 use Rattle.std.proofs.lemmas.Option.{slice_get-get_or}
 use Rattle.board_world.proofs.roster.send_in.Goals as goal
 
 pub send-requires-clause-room : goal.send-requires-clause-room
-send-requires-clause-room c =
-    let its = ap sent_in (slice_get-get_or c.args.list.now c.args.place c.index-list-place.result c.requires.there) in
-    omega (arith, c.requires.room, ap (λ (packets : List (List ℕ)). length packets) its)
+send-requires-clause-room c = grind (arith, slice_get-get_or)
 
 pub returns : goal.returns
 returns c =
