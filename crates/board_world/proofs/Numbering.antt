@@ -1,20 +1,16 @@
 -- A turn and the timer make no claim.
 use Rattle.std.proofs.Common.{◌≡◌, ℕ, Bool, Option, refl, rules}
 use Rattle.std.specs.Prelude.{nat_lt, if◌then◌else◌}
-use Rattle.world_model.specs.declared.slot.Runner.{Runner}
 use Rattle.world_model.specs.declared.slot.Turn.{Turn}
 use Rattle.world_model.specs.Book.{Told, excess_limit}
-use Rattle.world_model.specs.Tick.{goes_on, grace_of, judged, kill, take_turn, timer, turn, turn_when}
+use Rattle.world_model.specs.Tick.{goes_on, grace_of, judged, kill, take_turn, timer, turn}
 use Rattle.world_model.specs.World.{Reply, World}
 
 taken : (w : World) (told : Told) (o : Option Turn) → (take_turn w told o).book.next_claim ≡ w.book.next_claim
 taken w told o = search rules
 
-turned : (w : World) (o : Option Runner) → (turn_when w o).book.next_claim ≡ w.book.next_claim
-turned w o = search (rules, taken)
-
 pub turn_claims : (w : World) → (turn w).book.next_claim ≡ w.book.next_claim
-turn_claims w = turned w w.book.runner
+turn_claims w = search (rules, taken)
 
 -- one reply or the other
 either_way : (n : ℕ) (t : Bool) (x y : Reply) → x.book.next_claim ≡ n → y.book.next_claim ≡ n → (if t then x else y).book.next_claim ≡ n

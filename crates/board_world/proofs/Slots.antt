@@ -1,7 +1,7 @@
 -- The vector of slots as a list and as a table.
-use Rattle.std.proofs.Common.{◌≡◌, ◌≢◌, ◌<◌, ℕ, zero, suc, List, [], ◌∷◌, length, true, Option, Some, None, is_some, refl, ap, arith, rules}
+use Rattle.std.proofs.Common.{◌≡◌, ◌≢◌, ◌<◌, ℕ, zero, suc, List, [], ◌∷◌, length, true, Option, Some, None, is_some, refl, arith, rules, get_or-set_same, get_or-set_other, ◌∙◌, sym}
 use Rattle.std.specs.Option.{option_map}
-use Rattle.std.specs.Prelude.{nat_lt, if◌then◌else◌, slice_get, slice_set}
+use Rattle.std.specs.Prelude.{nat_lt, if◌then◌else◌, slice_get, slice_set, slice_index_or}
 use Rattle.std.proofs.lemmas.Bool.{cases_lt, lt-ltb, le-ltb}
 use Rattle.std.proofs.lemmas.Option.{slice_get_past}
 use Rattle.slot_vector.specs.Slices.{hold_at}
@@ -27,18 +27,18 @@ got_within (slot ∷ slots) (suc k) within = got_within slots k (omega arith)
 pub slot_got : (slots : List (Option Hold)) (k : ℕ) → slice_get slots k ≡ (if nat_lt k (length slots) then Some (hold_at slots k) else None)
 slot_got slots k = search (rules, cases_lt, got_within, lt-ltb, slice_get_past, le-ltb)
 
+-- the holds are the elements of the list, and none behind it
+pub hold_is : (slots : List (Option Hold)) (k : ℕ) → hold_at slots k ≡ slice_index_or slots k None
+hold_is [] k = refl
+hold_is (slot ∷ slots) zero = refl
+hold_is (slot ∷ slots) (suc k) = hold_is slots k
+
 -- the slot itself, and the others
 pub hold_here : (slots : List (Option Hold)) (k : ℕ) (hold : Option Hold) → k < length slots → hold_at (slice_set slots k hold) k ≡ hold
-hold_here [] k hold within = absurd (omega arith)
-hold_here (slot ∷ slots) zero hold within = refl
-hold_here (slot ∷ slots) (suc k) hold within = hold_here slots k hold (omega arith)
+hold_here slots k hold within = hold_is (slice_set slots k hold) k ∙ get_or-set_same slots k hold None within
 
 hold_else : (slots : List (Option Hold)) (k i : ℕ) (hold : Option Hold) → i ≢ k → hold_at (slice_set slots k hold) i ≡ hold_at slots i
-hold_else [] k i hold ne = refl
-hold_else (slot ∷ slots) zero zero hold ne = absurd (ne refl)
-hold_else (slot ∷ slots) zero (suc i) hold ne = refl
-hold_else (slot ∷ slots) (suc k) zero hold ne = refl
-hold_else (slot ∷ slots) (suc k) (suc i) hold ne = hold_else slots k i hold (λ same. ne (ap suc same))
+hold_else slots k i hold ne = hold_is (slice_set slots k hold) i ∙ get_or-set_other slots k i hold None ne ∙ sym (hold_is slots i)
 
 -- the slots once one of them has another hold
 pub hold_set : (slots : List (Option Hold)) (k : ℕ) (hold : Option Hold) → k < length slots → (i : ℕ) → hold_at (slice_set slots k hold) i ≡ set_at k hold (hold_at slots) i

@@ -22,7 +22,7 @@ use Rattle.world_model.specs.declared.slot.Turn.{Turn}
 use Rattle.world_model.specs.declared.slot.Phase.{Phase}
 use Rattle.world_model.specs.declared.slot.Phase.TheVariants as phase
 use Rattle.world_model.specs.Book.{excess_limit, first_turn, has_part, is_runner, hold_without, running, turn_or}
-use Rattle.world_model.specs.SlotCalls.{dropped, handed, held_by}
+use Rattle.world_model.specs.SlotCalls.{dropped, held_by}
 use Rattle.world_model.specs.declared.life.Life.TheVariants.{Live}
 use Rattle.world_model.specs.declared.life.Cause.{Cause}
 use Rattle.board_world.specs.declared.roster.Environment.{Environment}
@@ -31,6 +31,7 @@ use Rattle.board_world.specs.Sound.{HasNoPart, IsAlive, IsLive, IsUndead, IsMann
 use Rattle.board_world.specs.Doing.{with_mask, with_bytes_put, with_replies_sent, with_packet_sent, slots_settled, with_registers, with_handler_at, dead_frame}
 use Rattle.board_world.proofs.Lists.{changed_else, length-changed}
 use Rattle.board_world.proofs.Seen.{runner_live}
+use Rattle.board_world.proofs.Slots.{hold_is}
 
 -- whoever will live lives, once all are there
 undead_alive : (list : List Environment) (e : ℕ) → e < length list → IfSome (slice_get list e) (λ x. x.life ≡ Live) → IsAlive (slice_get list e)
@@ -243,11 +244,7 @@ module _ (v : Slices) (r : Environments) (manned : IsManned v r) where
 
 -- what holds of a slot's new hold, and of the others, holds of all
 hold_all : (P : Option Hold → Type 0) (slots : List (Option Hold)) (k i : ℕ) (hold : Option Hold) → P hold → P (hold_at slots i) → P (hold_at (slice_set slots k hold) i)
-hold_all P [] k i hold new old = old
-hold_all P (x ∷ slots) zero zero hold new old = new
-hold_all P (x ∷ slots) zero (suc i) hold new old = old
-hold_all P (x ∷ slots) (suc k) zero hold new old = old
-hold_all P (x ∷ slots) (suc k) (suc i) hold new old = hold_all P slots k i hold new old
+hold_all P slots k i hold new old = subst P (sym (hold_is (slice_set slots k hold) i)) (set_all P slots k i hold None new (subst P (hold_is slots i) old))
 
 -- a slot has another hold
 pub hold_manned : (v : Slices) (r : Environments) (k : ℕ) (hold : Option Hold) → IsManned v r → IfSome hold (λ h. IsUndead r h.owner × IsUndead r h.holder) → IsManned (with_hold v k hold) r
@@ -272,19 +269,12 @@ live_undead r e live = (omega (arith, live.0), alive_undying (slice_get r.list e
 held_undead : (r : Environments) (target : ℕ) (hold : Option Hold) → IsLive r.list target → IfSome hold (λ h. IsUndead r h.owner × IsUndead r h.holder) → IfSome (option_map (held_by target) hold) (λ h. IsUndead r h.owner × IsUndead r h.holder)
 held_undead r target hold lives undead = search (rules, live_undead)
 
--- a runner who is another's has as many ticks left, and lives as that one does
-handed_ticks : (target : ℕ) (o : Option Runner) → HasTicks o → HasTicks (handed target o)
-handed_ticks target o some = search rules
-
-handed_live : (list : List Environment) (target : ℕ) (o : Option Runner) → IsLive list target → IfSome (handed target o) (λ x. IsLive list x.env)
-handed_live list target o lives = search rules
-
 -- another goes on with the rest of the slice, and has the slot with its later slices or not
 pub given_manned : (v : Slices) (r : Environments) (target : ℕ) (later : Bool) → IsManned v r → IsLive r.list target → IsManned (given_to target later v) r
 given_manned v r target later manned lives = record {
   quantum = manned.quantum;
-  ticks = handed_ticks target v.runner manned.ticks;
-  runner = handed_live r.list target v.runner lives;
+  ticks = search rules;
+  runner = search rules;
   holds = given_holds later;
   count = given_count later;
   numbered = manned.numbered;
