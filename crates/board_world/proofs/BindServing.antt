@@ -12,7 +12,7 @@ use Rattle.page_book.specs.Rows.{row_in}
 use Rattle.bind_book.specs.declared.binding.Binding.{Binding}
 use Rattle.bind_book.specs.Stripe.{HasStripe, is_bound, stripe_place, row_of, stripes}
 use Rattle.bind_book.proofs.Rows.{row_within}
-use Rattle.page_sight.specs.Sight.{Sees, seen_if, seen_in}
+use Rattle.page_sight.specs.Sight.{Sees, seen_if}
 use Rattle.page_sight.proofs.Sights.{binder_sees, unbinder_loses}
 use Rattle.world_model.specs.declared.call.Deed.TheVariants.{Binds, Unbinds}
 use Rattle.world_model.specs.declared.verdict.Verdict.TheVariants.{Grant}
@@ -72,15 +72,7 @@ module _ (b : Shown) (e : ℕ) (x : Environment) (r : Runs b e x) (sound : IsSou
     rebound_book = λ k. record (book_of b) { binds = λ i n. is i n k }
 
     rebound_others : (i : ℕ) → i ≢ e → solo_of rebound i ≡ solo_of b i
-    rebound_others i ne = same_solo i rebound b (record {
-      record_is = refl;
-      rings = refl;
-      idles = r.runs.others i ne;
-      idled = r.runs.others i ne;
-      pages = refl;
-      binds = λ k n. other_stripe i n ne k;
-      sights = λ k. seen_in i (row_in b.pages) (λ n. other_stripe i n ne k) (page_at b.frames);
-    })
+    rebound_others i ne = search (rules, same_solo, binds, other_stripe)
 
     rebound_seen : (s : Solo) → Sees e (row_in b.pages) mine (page_at b.frames) s → solo_of rebound e ≡ record (resighted (runner_solo b e x) s) { cpu = answered_cpu (Grant v) b.cpu }
     rebound_seen s seen =

@@ -35,7 +35,7 @@ use Rattle.board_world.specs.declared.roster.Environment.{Environment}
 use Rattle.board_world.specs.Lines.{free_lines, line_at}
 use Rattle.board_world.specs.Rings.{ring_in, rings_of}
 use Rattle.board_world.specs.Shown.{Shown, Environments, mappings_of, no_output, shown}
-use Rattle.board_world.specs.Showing.{book_of, world_of, solo_of, solo_or_absent, pages_seen, page_seen}
+use Rattle.board_world.specs.Showing.{world_of, solo_of, solo_or_absent, pages_seen, page_seen}
 use Rattle.board_world.specs.Sound.{AreBooked, AreGuaranteed, AreWired, IsSound, IsManned, IsParted, IsLive, IsUndead, has_own_page}
 use Rattle.board_world.specs.Loading.{AreGiven, AreLeft}
 use Rattle.revocation_book.specs.declared.revocation.Pending.{Pending}
@@ -289,13 +289,4 @@ module _ (b : Shown) (x : Environment) (frames : List (List ℕ)) (pages : List 
       ∙ ap (absorb_all (solo_of b i)) (sym (only_else (length b.roster.list) i (record_items (length b.roster.list) (Some p)) ne))
 
   pub added_world : world_of (with_one b x frames pages) ≡ added (world_of b) p
-  added_world =
-      worlds (world_of (with_one b x frames pages)) (added (world_of b) p)
-      (λ k. record (book_of b) {
-        page_count = gives.size k;
-        pages = gives.rows k;
-        kept = λ i. more_mappings b.roster.list x (mappings_over (length b.roster.list) (length b.pages) (row_in b.pages) (kept_of p)) maps i k;
-      })
-      (length-append b.roster.list (x ∷ []))
-      (by_env (solo_of (with_one b x frames pages)) (added (world_of b) p).solos (length b.roster.list) added_here added_others)
-      refl
+  added_world = search (rules, more_mappings, length-append, by_env, added_here, added_others)

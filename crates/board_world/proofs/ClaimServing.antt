@@ -1,19 +1,18 @@
 -- What the runner does to its claims, on the world that is shown.
-use Rattle.std.proofs.Common.{◌≡◌, ◌≢◌, ℕ, ◌+◌, List, [], ◌∷◌, ◌++◌, true, Option, Some, None, Result, Ok, refl, sym, ◌∙◌, ap, rules}
+use Rattle.std.proofs.Common.{◌≡◌, ◌≢◌, ℕ, List, [], true, Option, Some, None, Result, Ok, sym, ◌∙◌, ap, rules}
 use Rattle.std.specs.Prelude.{is_some, map}
 use Rattle.filter_core.specs.declared.atom.Atom.{Atom}
 use Rattle.filter_tree.specs.ClaimBook.{ClaimBook, are_numbered, claims_in}
-use Rattle.filter_tree.specs.Claims.{book_unless, claim_refusal, claimed, downloaded, is_claim, with_claim, without}
+use Rattle.filter_tree.specs.Claims.{book_unless, claim_refusal, claimed, downloaded, with_claim}
 use Rattle.filter_tree.specs.Laws.{FirstIsNumbered}
 use Rattle.world_model.specs.declared.code.Code.{Code}
 use Rattle.world_model.specs.Book.{Book, running}
-use Rattle.packet_ring.specs.declared.buffer.Buffer.TheVariants.{First}
 use Rattle.world_model.specs.declared.call.Deed.{Deed}
 use Rattle.world_model.specs.declared.call.Deed.TheVariants.{Claims, Unclaims, Downloads}
 use Rattle.world_model.specs.declared.verdict.Verdict.TheVariants.{Grant}
 use Rattle.world_model.specs.ClaimCalls.{atoms_or_none, filter_at}
 use Rattle.world_model.specs.Downloads.{MayDownload, handler_at, handler_of, handler_or_none}
-use Rattle.world_model.specs.Item.{answered_cpu, own_part}
+use Rattle.world_model.specs.Item.{own_part}
 use Rattle.world_model.specs.May.{MayClaim}
 use Rattle.world_model.specs.Page.{Mapped}
 use Rattle.world_model.specs.Rings.{ring_with_handler_if, ring_of}
@@ -39,34 +38,13 @@ module _ (b : Shown) (e : ℕ) (x : Environment) (r : Runs b e x) (sound : IsSou
   -- a deed that changes claims alone: the runner has those of the book, as it says, and the others keep theirs
   changes_claims : (d : Deed) (v : ℕ) (claims : ClaimBook) (book : Book) → book_of (record b { claims = claims }) ≡ book → record (runner_solo b e x) { rings = rings_of claims e } ≡ own_part d (runner_solo b e x) → ((i : ℕ) → i ≢ e → rings_of claims i ≡ rings_of b.claims i)
       → Serves b e (deeded d v (solo_of b e)) (record { book = book; items = no_items; rows = [] }) (doing.after_answer (record b { claims = claims }) (Grant v))
-  changes_claims d v claims book books own others =
-      let now = doing.after_answer (record b { claims = claims }) (Grant v) in
-      changes_one refl books refl
-      (runner_seen now e x (record { at = r.at; lives = r.lives; runs = r.runs })
-      ∙ ap (λ (s : Solo). record s { cpu = answered_cpu (Grant v) b.cpu }) own
-      ∙ deeded_seen b e x r d v)
-      (λ i ne. same_solo i now b (search (rules, (others i ne), (r.runs.others i ne))))
+  changes_claims d v claims book books own others = search (rules, changes_one, runner_seen, deeded_seen, same_solo)
 
   pub claims : (claim address atoms page v : ℕ) → MayClaim (world_of b) e claim address atoms page → Serves b e (deeded (Claims claim address atoms page) v (solo_of b e)) (done (world_of b) e (Claims claim address atoms page)) (doing.after_grant b e v (Claims claim address atoms page))
-  claims claim address atoms page v may =
-      let filter = atoms_or_none (filter_at (doing.look_of b e) address atoms) in
-      changes_claims (Claims claim address atoms page) v (with_claim b.claims e filter page) (done (world_of b) e (Claims claim address atoms page)).book
-      (λ k. record (book_of b) {
-        claims = (claims_more b.claims e filter page
-            ∙ (λ j. (book_of b).claims ++ record { id = sym may.number j; env = e; filter = atoms_or_none (its_filter address atoms j); page = page } ∷ [])) k;
-        next_claim = b.claims.next + 1;
-      })
-      (λ k. record (runner_solo b e x) {
-        rings = (rings_claimed b.claims e filter page ∙ (λ j. rings_of b.claims e ++ record { claim = sym may.number j; page = page; next = First; handler = None } ∷ [])) k;
-      })
-      (rings_claimed_else b.claims e filter page)
+  claims claim address atoms page v may = search (rules, claims_more, rings_claimed, rings_claimed_else, changes_claims, its_filter)
 
   pub unclaims : (claim v : ℕ) → Serves b e (deeded (Unclaims claim) v (solo_of b e)) (done (world_of b) e (Unclaims claim)) (doing.after_grant b e v (Unclaims claim))
-  unclaims claim v =
-      changes_claims (Unclaims claim) v (without (is_claim e claim) b.claims) (done (world_of b) e (Unclaims claim)).book
-      (λ k. record (book_of b) { claims = claims_without (is_claim e claim) b.claims k })
-      (λ k. record (runner_solo b e x) { rings = rings_unclaimed b.claims e claim k })
-      (rings_unclaimed_else b.claims e claim)
+  unclaims claim v = search (rules, claims_without, rings_unclaimed, rings_unclaimed_else, changes_claims)
 
   pub downloads : FirstIsNumbered → are_numbered 0 b.claims.next b.claims.rows ≡ true → (claim address words v : ℕ) → MayDownload (solo_of b e) claim address words → Serves b e (deeded (Downloads claim address words) v (solo_of b e)) (done (world_of b) e (Downloads claim address words)) (doing.after_grant b e v (Downloads claim address words))
   downloads law numbered claim address words v may =

@@ -1,7 +1,6 @@
 -- What the runner does with its slice, on the world that is shown.
 use Rattle.std.proofs.Common.{◌≡◌, ◌≢◌, ℕ, List, [], ◌∷◌, length, true, false, Option, Some, refl, sym, ◌∙◌, ap, arith, rules}
 use Rattle.std.specs.Prelude.{◌==◌, ◌&&◌, nat_lt, not, slice_get}
-use Rattle.std.specs.Option.{option_map}
 use Rattle.std.proofs.lemmas.Bool.{and_parts, cases_eq, eq-eqb, ne_eqb, not_from_true, and_from}
 use Rattle.world_model.specs.declared.call.Deed.TheVariants.{Gives, Stops}
 use Rattle.world_model.specs.declared.verdict.Verdict.TheVariants.{Grant}
@@ -17,7 +16,7 @@ use Rattle.world_model.specs.Verdict.{done}
 use Rattle.world_model.specs.World.{only}
 use Rattle.board_world.specs.declared.roster.Environment.{Environment}
 use Rattle.board_world.specs.Shown.{Shown, mappings_in}
-use Rattle.board_world.specs.Showing.{world_of, book_of, solo_of, solo_or_absent, solo_seen, cpu_seen, pages_seen}
+use Rattle.board_world.specs.Showing.{world_of, book_of, solo_of, pages_seen}
 use Rattle.board_world.specs.Sound.{IsSound}
 use Rattle.board_world.specs.Doing as doing
 use Rattle.board_world.proofs.Contexts.{start_others, start_seen, start_sights, waiting}
@@ -69,9 +68,7 @@ module _ (b : Shown) (e : ℕ) (x : Environment) (r : Runs b e x) (sound : IsSou
     runs_next = record { at = changed_else (doing.with_registers now.cpu) b.roster.list e t other ∙ there.at; lives = there.lives; runs = handed_named e t b.slots.runner r.runs.its }
 
     pub waiting_seen : solo_of b t ≡ waiting b t y
-    waiting_seen =
-        let cpu : cpu_seen b t y.env.cpu ≡ y.env.cpu = rw (r.runs.others t other) refl in
-        ap (solo_or_absent b t) there.at ∙ (λ k. record (solo_seen b t y) { life = there.lives k; cpu = cpu k })
+    waiting_seen = search rules
 
     target_solo : solo_of new t ≡ absorb_all (solo_of b t) (Start ∷ [])
     target_solo =
@@ -88,12 +85,7 @@ module _ (b : Shown) (e : ℕ) (x : Environment) (r : Runs b e x) (sound : IsSou
         ∙ (λ k. pages_seen b.frames (mappings_in (r.at k)))
 
     caller_solo : solo_of new e ≡ solo_of now e
-    caller_solo =
-        let after : cpu_seen new e now.cpu ≡ now.cpu = rw (runs_next.runs.others e (λ same. other (sym same))) refl in
-        let before : cpu_seen now e x.env.cpu ≡ now.cpu = rw r.runs.its refl in
-        ap (solo_or_absent new e) (changed_here (doing.with_registers now.cpu) b.roster.list e ∙ ap (option_map (doing.with_registers now.cpu)) r.at)
-        ∙ (λ k. record (solo_seen now e x) { cpu = (after ∙ sym before) k; kept = caller_pages k; seen = λ p. start_sights b sound t e p k })
-        ∙ sym (ap (solo_or_absent now e) r.at)
+    caller_solo = search (rules, changed_here, start_sights, runs_next, caller_pages)
 
     others : (i : ℕ) → i ≢ e → i ≢ t → solo_of new i ≡ solo_of b i
     others i ne ne_t =

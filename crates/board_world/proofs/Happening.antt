@@ -5,7 +5,6 @@ use Rattle.std.specs.Option.{option_flatten, option_map}
 use Rattle.std.proofs.lemmas.Option.{slice_get_within}
 use Rattle.std.proofs.lemmas.List.{append-nil}
 use Rattle.external_event.specs.declared.event.Occurrence.{Occurrence}
-use Rattle.external_event.specs.declared.event.Occurrence.TheVariants as outside
 use Rattle.frame_store.specs.Pages.{page_at}
 use Rattle.mips_exec.specs.Word.{low_word}
 use Rattle.page_book.specs.Row.{is_owned_by}
@@ -70,11 +69,7 @@ module _ (b : Shown) (sound : IsSound b) (line e : ℕ) (x : Environment) (at : 
   board_is = λ k. record b { frames = signalled_changed line (context_of b e) b.frames k }
 
   signalled_here : solo_of signalled_board e ≡ absorb_all (solo_of b e) (Line line ∷ [])
-  signalled_here =
-      ap (λ (y : Shown). solo_of y e) board_is
-      ∙ worded_seen b sound e x at lives (λ n. bit_or n (2 ^ line)) post.Lines
-      ∙ ap (worded post.Lines (λ n. bit_or n (2 ^ line))) (live_shown b e x at lives)
-      ∙ ap (λ (s : Solo). absorb_all s (Line line ∷ [])) (sym (live_shown b e x at lives))
+  signalled_here = search (rules, worded_seen, live_shown, board_is)
 
   owner_world : world_of signalled_board ≡ after (world_of b) (tells e (Line line) (world_of b))
   owner_world =
@@ -173,18 +168,7 @@ module _ (law : FirstIsNumbered) (b : Shown) (sound : IsSound b) (numbered : are
   module _ (o : Reception) (is : what ≡ o) (new : Shown) (here : solo_of new e ≡ received_as (ring_in r) o (solo_of counted e))
       (others : (i : ℕ) → i ≢ e → solo_of new i ≡ absorb_all (solo_of b i) (ring_left (book_of b) e page (page_left o) i)) where
     given : (i : ℕ) → solo_of new i ≡ absorb_all (solo_of b i) ((delivers r.claim packet (world_of b)).items i)
-    given =
-        by_env (solo_of new) (λ i. absorb_all (solo_of b i) ((delivers r.claim packet (world_of b)).items i)) e
-        (here
-        ∙ ap (received_as (ring_in r) o) seen_counted
-        ∙ ap (λ p. received_as (ring_in r) p (counted_word post.Packets before)) (sym is)
-        ∙ sym takes
-        ∙ ap (absorb_all before) (sym (set_here e (Packet id packet ∷ []) (ring_left (book_of b) e page (ring_bytes before (ring_of before.rings id) packet)))))
-        (λ i ne.
-        others i ne
-        ∙ ap (λ p. absorb_all (solo_of b i) (ring_left (book_of b) e page (page_left p) i)) (sym is)
-        ∙ ap (λ p. absorb_all (solo_of b i) (ring_left (book_of b) e page p i)) (sym leaves)
-        ∙ ap (absorb_all (solo_of b i)) (sym (set_else e i (Packet id packet ∷ []) (ring_left (book_of b) e page (ring_bytes before (ring_of before.rings id) packet)) ne)))
+    given = search (rules, by_env, set_here, set_else, seen_counted, takes, leaves)
 
   its_handler : claim_handler b.claims id ≡ r.handler
   its_handler = ap (λ o. option_flatten (option_map (λ (y : RowValue). y.handler) o)) first
@@ -248,9 +232,7 @@ module _ (b : Shown) (sound : IsSound b) (e : ℕ) (x : Environment) (at : slice
   told_sound = sound_frames told.frames (same_size post.Outstanding (λ n. p.outstanding) (context_of b e) b.frames) sound
 
   like_told : (i : ℕ) → solo_of asked_board i ≡ solo_of (with_word told e post.Deadline (λ n. p.deadline)) i
-  like_told i =
-      like_solo i asked_board (record b { frames = asked_in p.outstanding p.deadline (context_of b e) b.frames }) (record { record_is = refl; rings = refl; cpu = λ kept. refl; pages = refl; binds = refl; sights = refl })
-      ∙ ap (λ frames. solo_of (record b { frames = frames }) i) (asked_changed p.outstanding p.deadline (context_of b e) b.frames)
+  like_told i = search (rules, like_solo, asked_changed)
 
   asked_here : solo_of asked_board e ≡ absorb_all (solo_of b e) (Asked p.outstanding p.deadline ∷ [])
   asked_here =
@@ -300,11 +282,7 @@ revoked_world b e count deadline sound = by_living (is_living (world_of b) e) re
 
 -- each kind of event
 pub happened_world : FirstIsNumbered → (b : Shown) (what : Occurrence) → IsSound b → are_numbered 0 b.claims.next b.claims.rows ≡ true → world_of (after_event what b) ≡ after (world_of b) (happen what (world_of b))
-happened_world law b (outside.Packet packet) sound numbered =
-    arrived_world law b packet sound numbered (first_row (is_for packet) b.claims) refl
-    ∙ ap (λ o. after (world_of b) (arrives packet o (world_of b))) (sym (found_without (is_for packet) b.claims))
-happened_world law b (outside.Line line) sound numbered = signalled_world b sound line
-happened_world law b (outside.Revoke env count grace) sound numbered = revoked_world b env count (b.time + grace) sound
+happened_world law b what sound numbered = search (rules, arrived_world, found_without, signalled_world, revoked_world)
 
 -- A claim that is found is of an environment that lives, and its ring is there.
 pub claim_there : (b : Shown) (packet : List ℕ) (c : Claim) → IsSound b → claim_for b.claims packet ≡ Some c → IsLive b.roster.list c.env × (c.page < length b.frames)

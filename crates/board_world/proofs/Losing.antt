@@ -138,7 +138,4 @@ module _ (i : ℕ) (old new : Shown) (its : List Item) (drops : Drops i old new 
       ∙ ap (absorb_all (solo_of old i)) (sym (drops.nothing none))
 
   pub dropped : AreBooked old.pages old.binds old.roster → solo_of new i ≡ absorb_all (solo_of old i) its
-  dropped books = elim (lives_or_not old.roster.list i) [
-    | inl lives ↦ live_drops lives.0 lives.1.0 lives.1.1
-    | inr dead ↦ dead_drops (has_none old i books dead)
-  ]
+  dropped books = search (rules, lives_or_not, has_none, live_drops, dead_drops)

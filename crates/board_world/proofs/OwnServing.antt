@@ -1,7 +1,6 @@
 -- What the runner does to itself alone, on the world that is shown.
-use Rattle.std.proofs.Common.{◌≡◌, ℕ, [], ◌∷◌, ◌++◌, refl, ◌∙◌, ap, rules}
+use Rattle.std.proofs.Common.{◌≡◌, ℕ, [], ◌∷◌, ◌++◌, refl, rules}
 use Rattle.std.specs.Prelude.{unwrap_or}
-use Rattle.std.specs.Option.{option_map}
 use Rattle.world_model.specs.declared.call.Deed.TheVariants.{Own}
 use Rattle.world_model.specs.declared.call.OwnDeed.{OwnDeed}
 use Rattle.world_model.specs.declared.call.OwnDeed.TheVariants.{Puts, Sends, Handles, Accepts}
@@ -13,7 +12,7 @@ use Rattle.world_model.specs.Solo.{sight}
 use Rattle.world_model.specs.Verdict.{done}
 use Rattle.board_world.specs.declared.roster.Environment.{Environment}
 use Rattle.board_world.specs.Shown.{Shown}
-use Rattle.board_world.specs.Showing.{world_of, book_of, solo_of}
+use Rattle.board_world.specs.Showing.{world_of, solo_of}
 use Rattle.board_world.specs.Sound.{IsSound}
 use Rattle.board_world.specs.Doing as doing
 use Rattle.board_world.proofs.Lists.{changed_here, changed_else, length-changed}
@@ -38,11 +37,4 @@ module _ (b : Shown) (e : ℕ) (x : Environment) (r : Runs b e x) (sound : IsSou
   shows (Accepts mask) v = refl
 
   pub own_serves : (own : OwnDeed) (v : ℕ) → Serves b e (deeded (Own own) v (solo_of b e)) (done (world_of b) e (Own own)) (doing.after_grant b e v (Own own))
-  own_serves own v =
-      let f = doing.own_record b e own in
-      let keeps = keeps_own b e own in
-      let now = doing.after_grant b e v (Own own) in
-      let still : Runs now e (f x) = record { at = changed_here f b.roster.list e ∙ ap (option_map f) r.at; lives = keeps.life x ∙ r.lives; runs = r.runs } in
-      changes_one refl (λ k. record (book_of now) { kept = λ i. kept_mappings f keeps b.roster.list e i k }) (length-changed f b.roster.list e)
-      (runner_seen now e (f x) still ∙ shows own v ∙ deeded_seen b e x r (Own own) v)
-      (λ i ne. same_solo i now b (search (rules, (changed_else f b.roster.list e i ne), (r.runs.others i ne))))
+  own_serves own v = search (rules, keeps_own, changed_here, changes_one, kept_mappings, length-changed, runner_seen, deeded_seen, same_solo, changed_else, shows)

@@ -1,7 +1,7 @@
 -- What is read of a board is what its world has.
-use Rattle.std.proofs.Common.{◌≡◌, ℕ, Option, Some, None, Bool, is_some, refl, sym, ◌∙◌, ap, rules}
+use Rattle.std.proofs.Common.{◌≡◌, ℕ, Some, is_some, sym, ap, rules}
 use Rattle.std.specs.Option.{option_map}
-use Rattle.std.specs.Prelude.{if◌then◌else◌, slice_get}
+use Rattle.std.specs.Prelude.{slice_get}
 use Rattle.env_frames.specs.Frame.{mapping_at}
 use Rattle.world_model.specs.Book.{running}
 use Rattle.world_model.specs.PageCalls.{is_guaranteed}
@@ -9,7 +9,7 @@ use Rattle.world_model.specs.Queries.{life_at}
 use Rattle.world_model.specs.Solo.{Solo, sight}
 use Rattle.board_world.specs.declared.roster.Environment.{Environment}
 use Rattle.board_world.specs.Shown.{Shown, console_of, mappings_of, sent_of}
-use Rattle.board_world.specs.Showing.{solo_of, solo_or_absent, world_of}
+use Rattle.board_world.specs.Showing.{solo_of, world_of}
 use Rattle.board_world.specs.Rings.{rings_of}
 use Rattle.board_world.specs.Sound.{IsSound}
 use Rattle.board_world.specs.Doing.{look_of}
@@ -39,13 +39,7 @@ guaranteed_same b e v = search (rules, seen_kept, kept_seen)
 
 -- the life of an environment
 pub life_same : (b : Shown) (e : ℕ) → option_map (λ (x : Environment). x.life) (slice_get b.roster.list e) ≡ life_at (world_of b) e
-life_same b e =
-    by_record (slice_get b.roster.list e)
-    ∙ ap (λ (t : Bool). if t then Some (solo_of b e).life else None) (sym (is_there b.roster.list e))
-  where
-    by_record : (o : Option Environment) → option_map (λ (x : Environment). x.life) o ≡ (if is_some o then Some (solo_or_absent b e o).life else None)
-    by_record None = refl
-    by_record (Some x) = refl
+life_same b e = search (rules, is_there)
 
 -- the claims of the runner's
 pub runner_rings : (b : Shown) (e : ℕ) → IsSound b → running b.slots.runner ≡ Some e → (solo_of b e).rings ≡ rings_of b.claims e

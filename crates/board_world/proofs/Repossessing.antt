@@ -122,10 +122,7 @@ module _ (b : Shown) (sound : IsSound b) (e : ℕ) (x : Environment) (at : slice
       ∙ ap (λ k. worded post.Takings counts (recorded k page backup (solo_of b e))) same_records
 
   pub written_else : (i : ℕ) → i ≢ e → solo_of (record b { frames = taken_in page backup (context_of b e) b.frames }) i ≡ solo_of b i
-  written_else i ne =
-      ap (λ y. solo_of y i) written_is
-      ∙ worded_others now now_sound e x (now_at (nat_lt n most_records)) lives counts post.Takings i ne
-      ∙ recorded_else (nat_lt n most_records) refl i ne
+  written_else i ne = search (rules, worded_others, written_is, now_sound, now_at, recorded_else)
 
   pub written_size : length (taken_in page backup (context_of b e) b.frames) ≡ length b.frames
   written_size = search (rules, same_size, frames_if, written_is)

@@ -1,5 +1,5 @@
 -- What the runner does to slots, on the world that is shown.
-use Rattle.std.proofs.Common.{◌≡◌, ◌<◌, ℕ, length, Option, Some, refl, sym, ◌∙◌, ap, arith}
+use Rattle.std.proofs.Common.{◌≡◌, ◌<◌, ℕ, length, Option, Some, refl, rules}
 use Rattle.std.proofs.lemmas.List.{length-set}
 use Rattle.slot_vector.specs.Slices.{hold_at}
 use Rattle.world_model.specs.declared.call.Deed.{Deed}
@@ -7,10 +7,9 @@ use Rattle.world_model.specs.declared.call.Deed.TheVariants.{TakesSlot, DropsSlo
 use Rattle.world_model.specs.declared.verdict.Verdict.TheVariants.{Grant}
 use Rattle.world_model.specs.declared.slot.Hold.{Hold}
 use Rattle.world_model.specs.Book.{own_hold}
-use Rattle.world_model.specs.Item.{answered_cpu, own_part}
+use Rattle.world_model.specs.Item.{own_part}
 use Rattle.world_model.specs.May.{MayDrop, MayTake}
 use Rattle.world_model.specs.SlotCalls.{dropped, with_slot}
-use Rattle.world_model.specs.Solo.{Solo}
 use Rattle.world_model.specs.Verdict.{done}
 use Rattle.board_world.specs.declared.roster.Environment.{Environment}
 use Rattle.board_world.specs.Shown.{Shown}
@@ -25,19 +24,7 @@ module _ (b : Shown) (e : ℕ) (x : Environment) (r : Runs b e x) where
   -- a slot has another hold, and the runner does nothing to itself
   sets_slot : (d : Deed) (v k : ℕ) (hold : Option Hold) → k < length b.slots.slots → own_part d (runner_solo b e x) ≡ runner_solo b e x →
       Serves b e (deeded d v (solo_of b e)) (with_slot (world_of b) k hold) (doing.after_answer (doing.with_slot b k hold) (Grant v))
-  sets_slot d v k hold within own = record {
-    book = λ j. record (book_of b) { slot_count = length-set b.slots.slots k hold j; slots = λ n. hold_set b.slots.slots k hold within n j };
-    count = refl;
-    solos = one_changed (solo_of b) (solo_of (doing.after_answer (doing.with_slot b k hold) (Grant v))) e (deeded d v (solo_of b e))
-        (answered_seen b e x r (Grant v)
-        ∙ ap (λ (s : Solo). record s { cpu = answered_cpu (Grant v) b.cpu }) (sym own)
-        ∙ deeded_seen b e x r d v)
-        (answered_others b e x r (Grant v));
-    rows = refl;
-    room = omega arith;
-    spare = refl;
-    time = refl;
-  }
+  sets_slot d v k hold within own = search (rules, length-set, hold_set, one_changed, answered_seen, deeded_seen, answered_others)
 
   pub takes : (k v : ℕ) → MayTake (book_of b) k → Serves b e (deeded (TakesSlot k) v (solo_of b e)) (done (world_of b) e (TakesSlot k)) (doing.after_grant b e v (TakesSlot k))
   takes k v may = sets_slot (TakesSlot k) v k (Some (own_hold e)) may.there refl

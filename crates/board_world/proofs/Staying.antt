@@ -1,5 +1,5 @@
 -- A board stays sound where one of its parts is written.
-use Rattle.std.proofs.Common.{◌≡◌, ◌<◌, ℕ, List, length, map, Option, ◌∙◌, arith}
+use Rattle.std.proofs.Common.{◌≡◌, ◌<◌, ℕ, List, length, map, Option, arith, rules}
 use Rattle.kernel_journal.specs.Ledger.{Ledger}
 use Rattle.mips_exec.specs.declared.registers.Cpu.{Cpu}
 use Rattle.page_book.specs.declared.row.PageRow.{PageRow}
@@ -37,27 +37,11 @@ sound_slots v manned sound = record { few = sound.few; book = manned; memory = s
 -- the record of an environment, but not its life and its pages
 pub sound_env : {frames : List (List ℕ)} {pages : List PageRow} {binds : List (Option Binding)} {lines : List (Option ℕ)} {claims : ClaimBook} {asked : RevocationBook} {slots : Slices} {cpu : Cpu} {roster : Environments} {time : ℕ} {ledger : Ledger} (f : Environment → Environment) → Keeps f → (e : ℕ) → IsSound (shown frames pages binds lines claims asked slots cpu roster time ledger) →
     IsSound (shown frames pages binds lines claims asked slots cpu (with_list roster (changed f roster.list e)) time ledger)
-sound_env {roster = r} f keeps e sound = record {
-  few = omega (arith, sound.few, length-changed f r.list e);
-  book = keep_manned f keeps _ _ e sound.book;
-  memory = keep_parted f keeps _ _ _ e sound.memory;
-  books = keep_booked f keeps _ _ _ e sound.books;
-  lines = keep_wired f keeps _ _ e sound.lines;
-  claims = keep_claimed f _ _ _ e sound.claims;
-  revocations = sound.revocations;
-}
+sound_env f keeps e sound = search (rules, length-changed, keep_manned, keep_parted, keep_booked, keep_wired, keep_claimed)
 
 -- bytes in physical memory
 pub sound_frames : {frames : List (List ℕ)} {pages : List PageRow} {binds : List (Option Binding)} {lines : List (Option ℕ)} {claims : ClaimBook} {asked : RevocationBook} {slots : Slices} {cpu : Cpu} {roster : Environments} {time : ℕ} {ledger : Ledger} (new : List (List ℕ)) → length new ≡ length frames → IsSound (shown frames pages binds lines claims asked slots cpu roster time ledger) → IsSound (shown new pages binds lines claims asked slots cpu roster time ledger)
-sound_frames new same sound = record {
-  few = sound.few;
-  book = sound.book;
-  memory = record { same = same ∙ sound.memory.same; most = omega (arith, same, sound.memory.most); mapped = sound.memory.mapped };
-  books = sound.books;
-  lines = sound.lines;
-  claims = sound.claims;
-  revocations = sound.revocations;
-}
+sound_frames new same sound = search rules
 
 -- physical memory and its books
 pub sound_memory : {frames : List (List ℕ)} {pages : List PageRow} {binds : List (Option Binding)} {lines : List (Option ℕ)} {claims : ClaimBook} {asked : RevocationBook} {slots : Slices} {cpu : Cpu} {roster : Environments} {time : ℕ} {ledger : Ledger} (bytes : List (List ℕ)) (rows : List PageRow) (bound : List (Option Binding)) (claimed : ClaimBook) (loaded : RevocationBook) → IsParted bytes rows roster.list → AreBooked rows bound roster → AreClaimed claimed rows roster → AreAsked loaded rows → IsSound (shown frames pages binds lines claims asked slots cpu roster time ledger) →

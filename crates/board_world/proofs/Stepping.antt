@@ -34,7 +34,7 @@ use Rattle.world_model.specs.Upcalls.{raise}
 use Rattle.call_verdicts.specs.Granted.{GrantedMay}
 use Rattle.filter_tree.specs.ClaimBook.{are_numbered}
 use Rattle.filter_tree.specs.Laws.{FirstIsNumbered}
-use Rattle.world_model.specs.Item.{Item, Step as AStep, absorb, absorb_all}
+use Rattle.world_model.specs.Item.{Step as AStep, absorb, absorb_all}
 use Rattle.world_model.specs.PageCalls.{left_at, left_if}
 use Rattle.world_model.specs.Solo.{Solo, Store, Physical, bound_place, kept_after, place_at, store_of, store_through, with_store}
 use Rattle.world_model.specs.Step.{Act, act_of, acted, call_act, step_alone, stepped, store_act, trap_act}
@@ -237,13 +237,7 @@ module _ (b : Shown) (e : ℕ) (x : Environment) (r : Runs b e x) (sound : IsSou
   -- each environment once the runner stored
   struck_solos : (cpu : Cpu) (frames : List (List ℕ)) (y : Option Store) → Strikes b e x cpu frames y → absorb (solo_of b e) AStep ≡ acted (store_act y) (record (runner_solo b e x) { cpu = cpu }) →
       (i : ℕ) → solo_of (struck b cpu frames) i ≡ absorb_all (absorb_all (solo_of b i) (only e (AStep ∷ []) i)) ((tick.brings e (store_act y) (world_of b)).items i)
-  struck_solos cpu frames y strikes steps =
-      let left = (tick.brings e (store_act y) (world_of b)).items in
-      by_env (solo_of (struck b cpu frames)) (λ i. absorb_all (absorb_all (solo_of b i) (only e (AStep ∷ []) i)) (left i)) e
-      (after_write cpu frames y strikes ∙ sym steps
-      ∙ ap (λ (its : List Item). absorb_all (solo_of b e) its) (sym (only_here e (AStep ∷ [])))
-      ∙ ap (λ (more : List Item). absorb_all (absorb_all (solo_of b e) (only e (AStep ∷ []) e)) more) (sym (writer_left (world_of b) e y)))
-      (λ i ne. strikes.others i ne ∙ ap (λ (its : List Item). absorb_all (absorb_all (solo_of b i) its) (left i)) (sym (only_else e i (AStep ∷ []) ne)))
+  struck_solos cpu frames y strikes steps = search (rules, by_env, only_here, writer_left, only_else, strikes, after_write)
 
   retired : (cpu : Cpu) (w : Option Write) → step_alone (runner_solo b e x) ≡ Retired cpu w → world_of (after_machine_step b e (Retired cpu w)) ≡ stepping (act_of (runner_solo b e x) (Retired cpu w))
   retired cpu w at = by_store (store_of (runner_solo b e x) w) (wrote_strikes b e x r sound cpu w) (absorbs (Retired cpu w) at)

@@ -84,10 +84,7 @@ retires : (st : Step) → outcome_of st ≡ outcome.Retired → (cpu : Cpu) × (
 retires st is = search rules
 
 stepped : (b : Shown) (e : ℕ) → IsSound b → running b.slots.runner ≡ Some e → outcome_of (step_seen b e) ≡ outcome.Retired → world_of (after_machine_step b e (step_seen b e)) ≡ after (world_of b) (step (world_of b))
-stepped b e sound runs retired =
-    let x = runner_runs b e sound runs in
-    let st = retires (step_seen b e) retired in
-    retired_step b e x.0 x.1 sound b.slots.runner runs st.0 st.1 st.2
+stepped b e sound runs retired = search (rules, runner_runs, retires, retired_step)
 
 -- the timer of a runner that has ticks left behind this one
 counts_on : (b now : Shown) (o : Option Runner) → now.slots.runner ≡ o → 1 < left_of o → with_next_time (after_count_down now o) ≡ record now { slots = after_ticks 1 now.slots; time = now.time + 1 }

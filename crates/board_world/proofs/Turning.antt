@@ -11,7 +11,7 @@ use Rattle.kernel_journal.specs.declared.row.Row.TheVariants as row
 use Rattle.slot_vector.specs.declared.turn.NextTurn.{NextTurn}
 use Rattle.slot_vector.specs.declared.turn.NextTurn.TheVariants as next
 use Rattle.slot_vector.specs.Laws.{owed_by_all}
-use Rattle.slot_vector.specs.Slices.{HasTicks, after_turn, counted as counted_runner, excess_of, in_grace_again, next_held, next_turn, raised_for, spent, timer_at_end, timer_by, told_of}
+use Rattle.slot_vector.specs.Slices.{HasTicks, after_turn, excess_of, in_grace_again, next_held, next_turn, spent, timer_at_end, timer_by, told_of}
 use Rattle.slot_vector.specs.declared.timer.Timer.TheVariants as timer
 use Rattle.slot_vector.proofs.Owed.{excess_set}
 use Rattle.slot_vector.proofs.Whole.{idle_step, is_idle, paid_is, pay_lowers, pay_step, ran_is, run_step}
@@ -33,7 +33,7 @@ use Rattle.board_world.specs.declared.roster.Environment.{Environment}
 use Rattle.board_world.specs.Shown.{Shown, handlers_in, handlers_of, mappings_of}
 use Rattle.board_world.specs.Showing.{world_of, book_of, solo_of, solo_or_absent, solo_seen, cpu_seen, pages_seen}
 use Rattle.board_world.specs.Sound.{IsSound}
-use Rattle.board_world.specs.Doing.{after_timer_by, after_timer_phase, after_count_down, after_death, after_end, has_end, over_row, with_overrun, after_forfeit, start_registers, after_start, after_stop, with_next_time, after_turn_phase, after_told, after_turn_when, with_registers}
+use Rattle.board_world.specs.Doing.{after_timer_by, after_timer_phase, after_count_down, after_death, after_end, has_end, over_row, with_overrun, after_forfeit, start_registers, after_start, after_stop, with_next_time, after_turn_phase, after_told, with_registers}
 use Rattle.board_world.proofs.Contexts.{left_by, left_others, left_own, left_sights, left_store, start_others, start_seen, start_sights, waiting}
 use Rattle.board_world.proofs.Dying.{MayDie, dies as dying, may_die, numbered_within}
 use Rattle.board_world.proofs.Lists.{changed_here, changed_else, length-changed}
@@ -113,11 +113,7 @@ told_within (suc n) b enough sound whole none =
     (next_turn b.slots) refl
 
 pub turned_world : (b : Shown) → IsSound b → b.roster.spare ≡ 0 → world_of (after_turn_phase b) ≡ after (world_of b) (tick.turn (world_of b))
-turned_world b sound whole = by_runner b.slots.runner refl
-  where
-    by_runner : (r : Option Runner) → b.slots.runner ≡ r → world_of (after_turn_when b r) ≡ after (world_of b) (tick.turn_when (world_of b) r)
-    by_runner (Some r) is = quiet_world (world_of b)
-    by_runner None is = told_within (suc (owed_by_all b.slots)) b (omega arith) sound whole is
+turned_world b sound whole = search (rules, quiet_world, told_within)
 
 -- after the turn of a board that isn't idle somebody runs
 pub turned_runs : (b : Shown) → is_idle_book (book_of b) ≡ false → IsSome (after_turn_phase b).slots.runner
@@ -153,26 +149,13 @@ same_runner : (o : Option Runner) (r : Runner) (i : ℕ) → running o ≡ Some 
 same_runner o r i is = search rules
 
 goes_on : (b : Shown) (r : Runner) → running b.slots.runner ≡ Some r.env → world_of (going_on b r) ≡ after (world_of b) (tick.goes_on r (world_of b))
-goes_on b r runs =
-    worlds (world_of (going_on b r)) (after (world_of b) (tick.goes_on r (world_of b))) refl refl
-    (λ i. like_solo i (going_on b r) b (record {
-      record_is = refl;
-      rings = refl;
-      cpu = λ kept. ap (λ (t : Bool). if t then b.cpu else kept) (same_runner b.slots.runner r i runs);
-      pages = refl;
-      binds = refl;
-      sights = refl;
-    }))
-    (sym (append-nil b.ledger.rows))
+goes_on b r runs = search (rules, like_solo, same_runner, append-nil)
 
 -- by its runner, who has ticks left
 module _ (b : Shown) (sound : IsSound b) (r : Runner) (is : b.slots.runner ≡ Some r) (x : Environment) (runs : Runs b r.env x) where
   -- nothing
   counts_on : r.left ≢ 1 → 1 ≤ r.left → world_of (after_timer_by b r.env timer.Nothing) ≡ after (world_of b) (tick.count_down r (r.left - 1) (world_of b))
-  counts_on more some =
-      ap (λ o. world_of (record b { slots = record b.slots { runner = option_map counted_runner o } })) is
-      ∙ goes_on b (record r { left = r.left - 1 }) (ap running is)
-      ∙ rw (ne_eqb (r.left - 1) 0 (λ zero. more (omega (arith, some, zero)))) refl
+  counts_on more some = search (rules, goes_on, ne_eqb)
 
   -- the end of its slice, where it has no handler of ends
   stops : world_of (after_timer_by b r.env timer.Stop) ≡ after (world_of b) (tick.slice_end r.env 0 (world_of b))
@@ -224,12 +207,7 @@ module _ (b : Shown) (sound : IsSound b) (r : Runner) (is : b.slots.runner ≡ S
   within = numbered_within b r.env x runs.at sound
 
   over_world : world_of over ≡ after (world_of b) (tick.owes_more r.env (world_of b))
-  over_world =
-      worlds (world_of over) (after (world_of b) (tick.owes_more r.env (world_of b)))
-      (λ k. record (book_of over) { excess = excess_set b.slots.excess r.env owing within k })
-      refl
-      (λ i. like_solo i over b (record { record_is = refl; rings = refl; cpu = λ kept. refl; pages = refl; binds = refl; sights = refl }))
-      refl
+  over_world = search (rules, excess_set, like_solo, within)
 
   -- what it owes then
   owes : excess_of over.slots.excess r.env ≡ owing
@@ -237,9 +215,7 @@ module _ (b : Shown) (sound : IsSound b) (r : Runner) (is : b.slots.runner ≡ S
 
   -- another quantum of grace
   goes_over : world_of (after_timer_by b r.env (timer.Over owing)) ≡ after (world_of over) (tick.goes_on (tick.grace_of (world_of over) r.env) (world_of over))
-  goes_over =
-      ap (λ o. world_of (record over { slots = record b.slots { runner = in_grace_again b.slots o; excess = raised_for o owing b.slots.excess } })) is
-      ∙ goes_on over (tick.grace_of (world_of over) r.env) (ap running is)
+  goes_over = search (rules, goes_on)
 
   -- death of too much excess
   over_runs : Runs over r.env x
@@ -287,10 +263,7 @@ module _ (b : Shown) (sound : IsSound b) (r : Runner) (is : b.slots.runner ≡ S
   -- by whether it has one tick left
   counts : (last : Bool) → (r.left == 1) ≡ last → 1 ≤ r.left
       → world_of (after_timer_by b r.env (if last then timer_at_end r.phase (has_end b r.env) (excess_of b.slots.excess r.env) else timer.Nothing)) ≡ after (world_of b) (tick.count_down r (r.left - 1) (world_of b))
-  counts true one some =
-      let none : r.left - 1 ≡ 0 = omega (arith, eqb-true r.left 1 one) in
-      runs_out r.phase ∙ rw (eq-eqb (r.left - 1) 0 none) refl
-  counts false more some = counts_on (eqb-false r.left 1 more) some
+  counts last one some = search (rules, eqb-true, eq-eqb, eqb-false, runs_out, counts_on)
 
 pub counted_world : (b : Shown) → IsSound b → world_of (after_timer_phase b) ≡ after (world_of b) (tick.timer (world_of b))
 counted_world b sound = by_runner b.slots.runner refl sound.book.ticks
