@@ -1,5 +1,5 @@
 -- Claims stay those of pages that their environments own.
-use Rattle.std.proofs.Common.{◌≡◌, ◌≢◌, ℕ, ◌+◌, ◌-◌, ◌<◌, List, [], ◌∷◌, ◌++◌, length, map, Bool, true, false, Option, refl, sym, ◌∙◌, ap, subst, inl, inr, rules}
+use Rattle.std.proofs.Common.{◌≡◌, ◌≢◌, ℕ, ◌+◌, ◌-◌, ◌<◌, List, [], ◌∷◌, ◌++◌, length, map, Bool, true, false, Option, refl, sym, ◌∙◌, ap, inl, inr, rules}
 use Rattle.std.specs.Prelude.{◌==◌, not, filter, slice_set}
 use Rattle.std.specs.List.{list_all}
 use Rattle.std.proofs.lemmas.Bool.{and_from, and_parts, cases_Bool, eq-eqb, eqb-false, eqb-true, ne_eqb, not-true}
@@ -58,13 +58,7 @@ allocated_claimed claims pages r page e words within free are = record {
 
 -- a page gets other words
 pub recapped_claimed : (claims : ClaimBook) (pages : List PageRow) (r : Environments) (page e : ℕ) (words : Capabilities) → page < length pages → is_owned_by e (row_in pages page) ≡ true → AreClaimed claims pages r → AreClaimed claims (slice_set pages page (Owned e words)) r
-recapped_claimed claims pages r page e words within owned are = record {
-  owned = each_own pages (slice_set pages page (Owned e words)) (λ c own.
-      by_page (λ row. is_owned_by c.env row ≡ true) pages page c.page (Owned e words) within
-      (λ same. eq-eqb e c.env (sym (same_owner c.env e (row_in pages page) (subst (λ (p : ℕ). is_owned_by c.env (row_in pages p) ≡ true) same own) owned)))
-      (λ other. own)) claims.rows are.owned;
-  count = are.count;
-}
+recapped_claimed claims pages r page e words within owned are = search (rules, each_own, by_page, eq-eqb, same_owner)
 
 -- a page is freed, and is no ring any more
 pub freed_claimed : (claims : ClaimBook) (pages : List PageRow) (r : Environments) (page : ℕ) → page < length pages → AreClaimed claims pages r → AreClaimed (without (is_into page) claims) (slice_set pages page Free) r

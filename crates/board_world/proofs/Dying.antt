@@ -82,10 +82,7 @@ module _ (b : Shown) (e : ℕ) (x : Environment) (r : Runs b e x) (may : MayDie 
   swept_stripe i row = swept_row (goes_with (row_in b.pages) e) b.binds i row
 
   has_nothing : HasNone e (row_in after_death.pages) (stripe_of after_death e)
-  has_nothing = record {
-    binds = λ row. swept_stripe e row ∙ own_goes (row_in b.pages) e (stripe_of b e row);
-    owns = λ page. ap (is_owned_by e) (row_released e b.pages page) ∙ released_own e (row_in b.pages page);
-  }
+  has_nothing = search (rules, own_goes, row_released, released_own, swept_stripe)
 
   dead_solo : solo_of after_death e ≡ dead cause (solo_of b e)
   dead_solo =

@@ -1,6 +1,6 @@
 -- What the runner does with its slice, on the world that is shown.
-use Rattle.std.proofs.Common.{◌≡◌, ◌≢◌, ℕ, List, [], ◌∷◌, length, true, false, Option, Some, refl, sym, ◌∙◌, ap, arith, rules}
-use Rattle.std.specs.Prelude.{◌==◌, ◌&&◌, nat_lt, not, slice_get}
+use Rattle.std.proofs.Common.{◌≡◌, ◌≢◌, ℕ, List, [], ◌∷◌, true, false, Option, Some, refl, sym, ◌∙◌, ap, arith, rules}
+use Rattle.std.specs.Prelude.{slice_get}
 use Rattle.std.proofs.lemmas.Bool.{and_parts, cases_eq, eq-eqb, ne_eqb, not_from_true, and_from}
 use Rattle.world_model.specs.declared.call.Deed.TheVariants.{Gives, Stops}
 use Rattle.world_model.specs.declared.verdict.Verdict.TheVariants.{Grant}
@@ -10,7 +10,7 @@ use Rattle.world_model.specs.Book.{is_runner}
 use Rattle.world_model.specs.Item.{Item, Start, absorb_all}
 use Rattle.world_model.specs.May.{MayReach}
 use Rattle.world_model.specs.SlotCalls.{handed, is_other}
-use Rattle.world_model.specs.Solo.{Solo, is_dead}
+use Rattle.world_model.specs.Solo.{Solo}
 use Rattle.world_model.specs.Table.{set_at}
 use Rattle.world_model.specs.Verdict.{done}
 use Rattle.world_model.specs.World.{only}
@@ -49,11 +49,7 @@ pub record IsOther (list : List Environment) (e t : ℕ) : Type 0 where
   pub other : t ≢ e
 
 pub other_in : (b : Shown) (e t : ℕ) → is_other (world_of b) e t ≡ true → IsOther b.roster.list e t
-other_in b e t is =
-    let parts = and_parts (nat_lt t (length b.roster.list)) (not (is_dead (solo_of b t).life) && not (t == e)) is in
-    let both = and_parts (not (is_dead (solo_of b t).life)) (not (t == e)) parts.1 in
-    let y = living_record b t (and_from (nat_lt t (length b.roster.list)) (not (is_dead (solo_of b t).life)) parts.0 both.0) in
-    record { its = y.0; there = record { at = y.1.0; lives = y.1.1 }; other = λ same. let no : false ≡ true = sym (not_from_true (t == e) (eq-eqb t e same)) ∙ both.1 in cc }
+other_in b e t is = search (rules, and_parts, living_record, and_from, not_from_true, eq-eqb)
 
 module _ (b : Shown) (e : ℕ) (x : Environment) (r : Runs b e x) (sound : IsSound b) where
   -- The target is started.

@@ -26,7 +26,7 @@ use Rattle.revocation_book.specs.RevocationBook.{pending_at}
 use Rattle.world_model.specs.Event.{arrives, asks, delivers, revokes, drops_packet, happen, ring_bytes, ring_left, signals}
 use Rattle.world_model.specs.Item.{Asked, Line, Packet, absorb_all}
 use Rattle.world_model.specs.Post.{asked_for, counted as counted_word}
-use Rattle.world_model.specs.Rings.{Handles, Loses, Queues, Reception, page_left, received, received_as, received_by, received_in, reception, ring_of}
+use Rattle.world_model.specs.Rings.{Handles, Loses, Queues, Reception, page_left, received_as, received_by, reception, ring_of}
 use Rattle.world_model.specs.Solo.{Solo, Physical, bytes_of}
 use Rattle.world_model.specs.World.{after, is_living, no_change, tells}
 use Rattle.board_world.specs.declared.roster.Environment.{Environment}
@@ -155,11 +155,7 @@ module _ (law : FirstIsNumbered) (b : Shown) (sound : IsSound b) (numbered : are
   its_ring = ap (λ o. ring_of (solo_or_absent b e o).rings id) at ∙ ring_found b.claims r first
 
   takes : absorb_all before (Packet id packet ∷ []) ≡ received_as (ring_in r) what (counted_word post.Packets before)
-  takes =
-      ap (λ (s : Solo). absorb_all s (Packet id packet ∷ [])) (live_shown b e x at lives)
-      ∙ ap (received id packet) (sym (live_shown b e x at lives))
-      ∙ ap (λ o. received_in o packet (counted_word post.Packets before)) its_ring
-      ∙ ap (λ o. received_as (ring_in r) o (counted_word post.Packets before)) (receives (counted_word post.Packets before) same_page)
+  takes = search (rules, live_shown, its_ring, receives, same_page)
 
   -- what the others are given
   leaves : ring_bytes before (ring_of before.rings id) packet ≡ page_left what

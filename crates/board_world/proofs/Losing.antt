@@ -22,7 +22,7 @@ use Rattle.world_model.specs.PageCalls.{lost_if}
 use Rattle.world_model.specs.Solo.{Solo, Ring}
 use Rattle.board_world.specs.declared.roster.Environment.{Environment}
 use Rattle.board_world.specs.Rings.{rings_of}
-use Rattle.board_world.specs.Shown.{Shown, mappings_in, mappings_of}
+use Rattle.board_world.specs.Shown.{Shown, mappings_of}
 use Rattle.board_world.specs.Showing.{solo_of, solo_seen, cpu_seen, pages_seen}
 use Rattle.board_world.specs.Sound.{AreBooked, IsAlive, IsLive}
 use Rattle.board_world.proofs.Seen.{like_solo, stripe_of, live_shown}
@@ -114,15 +114,7 @@ module _ (i : ℕ) (old new : Shown) (its : List Item) (drops : Drops i old new 
   live_solo b x = record (solo_seen b i x) { life = Live }
 
   live_drops : (x : Environment) → slice_get old.roster.list i ≡ Some x → x.life ≡ Live → solo_of new i ≡ absorb_all (solo_of old i) its
-  live_drops x at lives =
-      let s = live_solo old x in
-      let sees : Sees i (row_in new.pages) (stripe_of new i) (page_at new.frames) (absorb_all s its) = drops.sees s refl (record { binds = λ row. refl; seen = λ page. refl }) in
-      let pages : pages_seen new.frames x.env.mappings ≡ pages_seen old.frames x.env.mappings =
-      ap (λ y. pages_seen new.frames (mappings_in y)) (sym at) ∙ drops.pages ∙ ap (λ y. pages_seen old.frames (mappings_in y)) at in
-      live_shown new i x (drops.record_is ∙ at) lives
-      ∙ (λ k. record s { cpu = drops.cpu x.env.cpu k; kept = pages k; binds = λ row. sym (sees.binds row) k; seen = λ page. sym (sees.seen page) k; rings = drops.rings k })
-      ∙ sym (drops.keeps s refl)
-      ∙ ap (λ t. absorb_all t its) (sym (live_shown old i x at lives))
+  live_drops x at lives = search (rules, live_shown)
 
   dead_drops : HasNone i (row_in old.pages) (stripe_of old i) → solo_of new i ≡ absorb_all (solo_of old i) its
   dead_drops none =

@@ -7,13 +7,13 @@ use Rattle.world_model.specs.declared.call.Deed.{Deed}
 use Rattle.world_model.specs.declared.call.Deed.TheVariants.{Answers}
 use Rattle.world_model.specs.declared.verdict.Verdict.{Verdict}
 use Rattle.world_model.specs.declared.verdict.Verdict.TheVariants.{Refuse, Grant}
-use Rattle.world_model.specs.Item.{Item, Answer, absorb, absorb_all, answered_cpu, deed_at, own_part}
+use Rattle.world_model.specs.Item.{Item, absorb, absorb_all, answered_cpu, deed_at, own_part}
 use Rattle.world_model.specs.Solo.{Solo}
 use Rattle.world_model.specs.Step.{Act, acted}
 use Rattle.world_model.specs.Table.{set_at}
 use Rattle.world_model.specs.Tick as tick
 use Rattle.world_model.specs.Verdict.{done, reply_of}
-use Rattle.world_model.specs.World.{Reply, after, in_turn, no_change, only, tells, no_items}
+use Rattle.world_model.specs.World.{Reply, after, in_turn, no_change, tells, no_items}
 use Rattle.board_world.specs.declared.roster.Environment.{Environment}
 use Rattle.board_world.specs.Shown.{Shown}
 use Rattle.board_world.specs.Showing.{world_of, book_of, solo_of}
@@ -84,17 +84,7 @@ module _ (b : Shown) (e : ℕ) (x : Environment) (r : Runs b e x) where
 
   -- a call is refused
   pub refuses : (why : Code) (v : ℕ) → Serves b e (solo_of b e) (reply_of (world_of b) e (Refuse why v)) (doing.after_answer b (Refuse why v))
-  refuses why v = record {
-    book = refl;
-    count = refl;
-    solos = one_given (solo_of b) (solo_of (doing.after_answer b (Refuse why v))) e (solo_of b e) (Answer (Refuse why v) ∷ [])
-        (answered_seen (Refuse why v) ∙ ap (λ s. absorb_all s (Answer (Refuse why v) ∷ [])) (sym (runner_seen b e x r)))
-        (answered_others (Refuse why v));
-    rows = sym (append-nil b.ledger.rows);
-    room = omega arith;
-    spare = refl;
-    time = refl;
-  }
+  refuses why v = search (rules, one_given, runner_seen, append-nil, answered_seen, answered_others)
 
   -- a call is answered, and that is all
   pub answers : (v : ℕ) → Serves b e (deeded Answers v (solo_of b e)) (no_change (world_of b)) (doing.after_answer b (Grant v))
@@ -102,27 +92,4 @@ module _ (b : Shown) (e : ℕ) (x : Environment) (r : Runs b e x) where
 
   -- a call is granted: what it does comes behind the answer
   pub granted_serves : (v : ℕ) (new : Shown) → Serves b e (deeded (deed_at (solo_of b e) v) v (solo_of b e)) (done (world_of b) e (deed_at (solo_of b e) v)) new → Serves b e (solo_of b e) (reply_of (world_of b) e (Grant v)) new
-  granted_serves v new serves = record {
-    book = serves.book;
-    count = serves.count;
-    solos = λ i. serves.solos i ∙ ap (λ s. absorb_all s (items i)) (answers_first i) ∙ sym (fold-append absorb (set_at e (solo_of b e) (solo_of b) i) (only e (answer ∷ []) i) (items i));
-    rows = serves.rows;
-    room = serves.room;
-    spare = serves.spare;
-    time = serves.time;
-  }
-    where
-      answer : Item
-      answer = Answer (Grant v)
-
-      items : ℕ → List Item
-      items = (done (world_of b) e (deed_at (solo_of b e) v)).items
-
-      answers_it : deeded (deed_at (solo_of b e) v) v (solo_of b e) ≡ absorb (solo_of b e) answer
-      answers_it = ap (λ s. deeded (deed_at s v) v s) (runner_seen b e x r) ∙ ap (λ s. absorb s answer) (sym (runner_seen b e x r))
-
-      answers_first : (i : ℕ) → set_at e (deeded (deed_at (solo_of b e) v) v (solo_of b e)) (solo_of b) i ≡ absorb_all (set_at e (solo_of b e) (solo_of b) i) (only e (answer ∷ []) i)
-      answers_first =
-          one_given (solo_of b) (set_at e (deeded (deed_at (solo_of b e) v) v (solo_of b e)) (solo_of b)) e (solo_of b e) (answer ∷ [])
-          (set_here e (deeded (deed_at (solo_of b e) v) v (solo_of b e)) (solo_of b) ∙ answers_it)
-          (λ i ne. set_else e i (deeded (deed_at (solo_of b e) v) v (solo_of b e)) (solo_of b) ne)
+  granted_serves v new serves = search (rules, fold-append, runner_seen, one_given, set_here, set_else)

@@ -263,24 +263,14 @@ all_taken b (x ∷ xs) sound may =
 
 -- the deadlines are over
 over_world : (b : Shown) → world_of (with_deadlines_over b) ≡ after (world_of b) (settles (world_of b))
-over_world b =
-    worlds (world_of (with_deadlines_over b)) (after (world_of b) (settles (world_of b)))
-    (λ k. record (book_of b) { pending = λ i. pending_served b.revocations b.time i k })
-    refl
-    (λ i. like_solo i (with_deadlines_over b) b (record { record_is = refl; rings = refl; cpu = λ kept. refl; pages = refl; binds = refl; sights = refl }))
-    (sym (append-nil b.ledger.rows))
+over_world b = search (rules, pending_served, like_solo, append-nil)
 
 run_last : (w : World) (xs : List (World → Reply)) (phase : World → Reply) → run_phases w (xs ++ phase ∷ []) ≡ (let v = run_phases w xs in after v (phase v))
 run_last w [] phase = refl
 run_last w (x ∷ xs) phase = run_last (after w (x w)) xs phase
 
 pub served_world : TakingsAreTakable → (b : Shown) → IsSound b → world_of (after_deadlines b) ≡ served (world_of b)
-served_world law b sound =
-    let xs = takings_in b in
-    let taken = all_taken b xs sound (law (books_of b.pages b.revocations) b.time (length b.roster.list)) in
-    over_world (fold after_taking b xs)
-    ∙ ap (λ w. after w (settles w)) taken.0
-    ∙ sym (run_last (world_of b) (map takes xs) settles)
+served_world law b sound = search (rules, all_taken, over_world, run_last)
 
 -- Where no deadline has come nothing is taken, and none is over.
 not_due : (list : List (Option Pending)) (time e : ℕ) → list_any (is_due time) list ≡ false → is_due time (slice_index_or list e None) ≡ false

@@ -1,5 +1,5 @@
 -- What a board shows of its environments.
-use Rattle.std.proofs.Common.{◌≡◌, ◌≢◌, ℕ, ◌<◌, List, length, true, false, Option, Some, None, IfSome, refl, sym, ◌∙◌, ap, arith, rules}
+use Rattle.std.proofs.Common.{◌≡◌, ◌≢◌, ℕ, ◌<◌, List, length, true, false, Option, Some, IfSome, refl, sym, ◌∙◌, ap, arith, rules}
 use Rattle.std.specs.Prelude.{slice_get}
 use Rattle.std.proofs.lemmas.Bool.{ne_eqb, eq-eqb, and_parts}
 use Rattle.std.proofs.lemmas.Grind.{common_steps}
@@ -50,14 +50,7 @@ pub record IsLike (i : ℕ) (new old : Shown) : Type 0 where
   pub sights : sights_of new i ≡ sights_of old i
 
 pub like_solo : (i : ℕ) (new old : Shown) → IsLike i new old → solo_of new i ≡ solo_of old i
-like_solo i new old like = ap (solo_or_absent new i) like.record_is ∙ by_record (slice_get old.roster.list i) refl
-  where
-    by_record : (x : Option Environment) → slice_get old.roster.list i ≡ x → solo_or_absent new i x ≡ solo_or_absent old i x
-    by_record None is = refl
-    by_record (Some x) is =
-        let pages : pages_seen new.frames x.env.mappings ≡ pages_seen old.frames x.env.mappings =
-        ap (λ y. pages_seen new.frames (mappings_in y)) (sym is) ∙ like.pages ∙ ap (λ y. pages_seen old.frames (mappings_in y)) is in
-        λ k. record (solo_seen old i x) { cpu = like.cpu x.env.cpu k; kept = pages k; binds = like.binds k; seen = like.sights k; rings = like.rings k }
+like_solo i new old like = search rules
 
 -- an environment that neither runs before nor after, and whose record, claims, pages and bindings are as they were
 pub record IsSame (i : ℕ) (new old : Shown) : Type 0 where

@@ -1,6 +1,6 @@
 -- The runner's calls and its death, on the world that is shown.
-use Rattle.std.proofs.Common.{◌≡◌, ◌≤◌, ◌+◌, ℕ, arith, [], ◌∷◌, Bool, true, false, Option, Some, None, refl, sym, ◌∙◌, ap, subst, rules}
-use Rattle.std.specs.Prelude.{◌==◌, if◌then◌else◌}
+use Rattle.std.proofs.Common.{◌≡◌, ◌≤◌, ◌+◌, ℕ, arith, Bool, true, false, Option, Some, refl, sym, ◌∙◌, ap, subst, rules}
+use Rattle.std.specs.Prelude.{◌==◌}
 use Rattle.std.proofs.lemmas.List.{append-nil}
 use Rattle.mips_exec.specs.Cpu.{reg}
 use Rattle.world_model.specs.declared.call.Call.{Call}
@@ -16,14 +16,13 @@ use Rattle.world_model.specs.Book.{running}
 use Rattle.world_model.specs.Call.{called, exit_number}
 use Rattle.world_model.specs.Death.{death}
 use Rattle.world_model.specs.Call.{deed_of}
-use Rattle.world_model.specs.Item.{Answer, absorb_all, answered}
+use Rattle.world_model.specs.Item.{Answer}
 use Rattle.world_model.specs.May.{May}
 use Rattle.world_model.specs.Solo.{Solo, dead}
 use Rattle.world_model.specs.Step.{Calls, Dies, act_at_call, acted, call_act}
-use Rattle.world_model.specs.Table.{set_at}
 use Rattle.world_model.specs.Tick as tick
 use Rattle.world_model.specs.Verdict.{done, reply_of, verdict, verdict_now}
-use Rattle.world_model.specs.World.{World, after, only, tells}
+use Rattle.world_model.specs.World.{World, after, tells}
 use Rattle.call_verdicts.specs.Granted.{GrantedMay}
 use Rattle.filter_tree.specs.ClaimBook.{are_numbered}
 use Rattle.filter_tree.specs.Laws.{FirstIsNumbered}
@@ -32,7 +31,7 @@ use Rattle.board_world.specs.Shown.{Shown}
 use Rattle.board_world.specs.Showing.{world_of, solo_of}
 use Rattle.board_world.specs.Sound.{IsSound}
 use Rattle.board_world.specs.Doing as doing
-use Rattle.board_world.proofs.Parts.{worlds, by_env, set_here, set_else, only_here, only_else}
+use Rattle.board_world.proofs.Parts.{by_env, set_here, set_else, only_here, only_else}
 use Rattle.board_world.proofs.Seen.{Runs, runner_seen, runner_runs}
 use Rattle.board_world.proofs.BindServing.{binds, unbinds}
 use Rattle.board_world.proofs.OwnServing.{own_serves}
@@ -99,12 +98,7 @@ died_world b e cause sound runs = alone b e (Dies cause) (doing.after_death b e 
 -- Of a world whose verdict is a refusal: an exit has none, and the reply is the answer alone.
 module _ (w : World) (e : ℕ) (lives : (w.solos e).life ≡ Live) (why : Code) (v : ℕ) where
   answer_world : after w (tells e (Answer (Refuse why v)) w) ≡ tick.refused_world w e why v
-  answer_world =
-      worlds (after w (tells e (Answer (Refuse why v)) w)) (tick.refused_world w e why v) refl refl
-      (by_env (λ i. absorb_all (w.solos i) (only e (Answer (Refuse why v) ∷ []) i)) (set_at e (answered (Refuse why v) (w.solos e)) w.solos) e
-      (ap (absorb_all (w.solos e)) (only_here e (Answer (Refuse why v) ∷ [])) ∙ rw lives refl ∙ sym (set_here e (answered (Refuse why v) (w.solos e)) w.solos))
-      (λ i ne. ap (absorb_all (w.solos i)) (only_else e i (Answer (Refuse why v) ∷ []) ne) ∙ sym (set_else e i (answered (Refuse why v) (w.solos e)) w.solos ne)))
-      (append-nil w.rows)
+  answer_world = search (rules, by_env, only_here, set_here, only_else, set_else, append-nil)
 
   refusal_world : (c : Option Call) → verdict w e c ≡ Refuse why v → tick.act_world w e (Calls c) ≡ tick.refused_world w e why v
   refusal_world c is =
@@ -113,11 +107,7 @@ module _ (w : World) (e : ℕ) (lives : (w.solos e).life ≡ Live) (why : Code) 
       ∙ answer_world
 
   pub refused_is : verdict_now w e ≡ Some (Refuse why v) → tick.called_world w e ≡ tick.refused_world w e why v
-  refused_is is = by_exit (reg (w.solos e).cpu 2 == exit_number) is
-    where
-      by_exit : (exits : Bool) → (if exits then None else Some (verdict w e (called (w.solos e).cpu))) ≡ Some (Refuse why v) → tick.act_world w e (act_at_call (w.solos e).cpu exits) ≡ tick.refused_world w e why v
-      by_exit true is = cc
-      by_exit false is = let named : verdict w e (called (w.solos e).cpu) ≡ Refuse why v = cc in refusal_world (called (w.solos e).cpu) named
+  refused_is is = search (rules, refusal_world)
 
 pub refused_world : GrantedMay → FirstIsNumbered → (b : Shown) (e : ℕ) (why : Code) (v : ℕ) → IsSound b → are_numbered 0 b.claims.next b.claims.rows ≡ true → running b.slots.runner ≡ Some e → verdict_now (world_of b) e ≡ Some (Refuse why v) → world_of (doing.after_runner_call b e) ≡ tick.refused_world (world_of b) e why v
 refused_world law unique b e why v sound numbered runs is =
