@@ -11,7 +11,7 @@ use Rattle.page_book.specs.Rows.{lowest_free}
 use Rattle.page_book.proofs.Free.{is_lowest}
 use Rattle.bind_book.specs.declared.binding.Binding.{Binding}
 use Rattle.world_model.specs.declared.slot.Runner.{Runner}
-use Rattle.world_model.specs.Book.{Book, is_idle_book, running}
+use Rattle.world_model.specs.Book.{Book, running}
 use Rattle.filter_core.specs.declared.atom.Atom.{Atom}
 use Rattle.filter_core.specs.Asking.{agree}
 use Rattle.filter_core.specs.Filters.{is_filter}
@@ -32,11 +32,10 @@ use Rattle.world_model.specs.Deadlines.{revocations, settles, takes}
 use Rattle.world_model.specs.Tick.{phases_after, step, step_when, tick_phases, timer, turn}
 use Rattle.call_verdicts.specs.Granted.{GrantedMay}
 use Rattle.run_model.specs.Boot.{boot_book, boot_world, keep_lowest, keep_pages, record_items, with_all_kept, with_kept}
-use Rattle.run_model.specs.Run.{System, happens_in, moment, phases_in, takings_in, world_after}
+use Rattle.run_model.specs.Run.{System, happens_in, moment, takings_in, world_after}
 use Rattle.run_model.specs.Excess.{IsAccounted}
 use Rattle.run_model.specs.Licensed.{MayTaking}
 use Rattle.run_model.proofs.Balance.{KeepsAccounts, boots_accounted, happen_accounts, settling_accounts, step_keeps, taking_accounts, timer_accounts, turn_keeps}
-use Rattle.run_model.proofs.Phases.{tick_moment}
 use Rattle.page_sight.proofs.Tables.{set_else}
 use Rattle.page_sight.proofs.Sights.{HasNone}
 use Rattle.sharing_law.specs.Agreement.{AreBoundAllocated, BooksAgree, BackupsAreOwned, BoundIsAllocated, ClaimsAgree, ClaimsAreApart, ClaimsAreSound, claim_page, ring_page}
@@ -48,8 +47,8 @@ use Rattle.sharing_law.proofs.Delivering.{arrived_sound}
 use Rattle.sharing_law.proofs.Happening.{happen_lists, revoked_alike, signalled_alike}
 use Rattle.sharing_law.proofs.Listing.{allocated_less, settled_alike, taking_lists}
 use Rattle.sharing_law.proofs.Lists.{Has}
-use Rattle.sharing_law.proofs.Turning.{IsAlike, allocated_same, lists_alike, sound_alike, turn_alike, unchanged}
-use Rattle.sharing_law.proofs.Moments.{stays_idle, taken_may}
+use Rattle.sharing_law.proofs.Turning.{IsAlike, allocated_same, sound_alike, turn_alike, unchanged}
+use Rattle.sharing_law.proofs.Moments.{after_tick, taken_may}
 use Rattle.sharing_law.proofs.Repossessing.{taking_claimed, taking_sound}
 use Rattle.sharing_law.proofs.Stepping.{claimed_following, sound_following, step_follows}
 use Rattle.sharing_law.proofs.Timing.{allocated_timed, claimed_timed, sound_timed}
@@ -164,12 +163,12 @@ KeepsFine phase = (w : World) → Fine w → Fine (after w (phase w))
 
 -- backups are as they were
 backed_alike : (w v : World) → IsAlike w v → AreBacked w.book → AreBacked v.book
-backed_alike w v alike = backed_owned w.book v.book alike.backups (λ i p owned. (λ k. is_owned_by i (alike.pages k p)) ∙ owned)
+backed_alike w v alike = backed_owned w.book v.book alike.lists.backups (λ i p owned. (λ k. is_owned_by i (alike.lists.pages k p)) ∙ owned)
 
 fine_alike : (phase : World → Reply) → ((w : World) → IsAlike w (after w (phase w))) → KeepsAccounts phase → KeepsFine phase
 fine_alike phase alike accounts w fine =
     let v = after w (phase w) in
-    record { sound = sound_alike w v (alike w) fine.sound; allocated = allocated_same w v (lists_alike w v (alike w)) fine.allocated; accounted = accounts w fine.accounted; claimed = claimed_alike w v (alike w) fine.claimed; backed = backed_alike w v (alike w) fine.backed }
+    record { sound = sound_alike w v (alike w) fine.sound; allocated = allocated_same w v (alike w).lists fine.allocated; accounted = accounts w fine.accounted; claimed = claimed_alike w v (alike w) fine.claimed; backed = backed_alike w v (alike w) fine.backed }
 
 -- what happens from outside, kind by kind
 fine_event : (what : Occurrence) → KeepsFine (happen what)
@@ -207,22 +206,18 @@ fine_timer w fine =
 
 module _ (granted : GrantedMay) where
   -- the step, whoever runs
-  sound_step : (w : World) (o : Option Runner) → w.book.runner ≡ o → Fine w → AreBoundAllocated (after w (step_when w o)) → Sound (after w (step_when w o))
-  sound_step w None is fine next = sound_alike w (after w (step_when w None)) (unchanged w) fine.sound
+  sound_step : (w : World) (o : Option Runner) → w.book.runner ≡ o → Fine w → (let v = after w (step_when w o) in AreBoundAllocated v → Sound v × Claimed v)
+  sound_step w None is fine next = let v = after w (step_when w None) in (sound_alike w v (unchanged w) fine.sound, claimed_alike w v (unchanged w) fine.claimed)
   sound_step w (Some r) is fine next =
+      let v = after w (step_when w (Some r)) in
       let stepped = step_follows granted w r.env fine.sound fine.allocated fine.claimed (fine.accounted.runner_lives r is) (ap running is) in
-      sound_following w r.env stepped.came_to (after w (step_when w (Some r))) stepped.items fine.sound stepped.follows next
-
-  claimed_step : (w : World) (o : Option Runner) → w.book.runner ≡ o → Fine w → Claimed (after w (step_when w o))
-  claimed_step w None is fine = claimed_alike w (after w (step_when w None)) (unchanged w) fine.claimed
-  claimed_step w (Some r) is fine =
-      let stepped = step_follows granted w r.env fine.sound fine.allocated fine.claimed (fine.accounted.runner_lives r is) (ap running is) in
-      claimed_following w r.env stepped.came_to (after w (step_when w (Some r))) stepped.items fine.sound stepped.follows
+      (sound_following w r.env stepped.came_to v stepped.items fine.sound stepped.follows next, claimed_following w r.env stepped.came_to v stepped.items fine.sound stepped.follows)
 
   fine_step : KeepsFine step
   fine_step w fine =
       let next = step_allocated granted w fine.allocated in
-      record { sound = sound_step w w.book.runner refl fine next; allocated = next; accounted = step_keeps granted w fine.accounted; claimed = claimed_step w w.book.runner refl fine; backed = step_backed granted w fine.backed }
+      let stepped = sound_step w w.book.runner refl fine next in
+      record { sound = stepped.0; allocated = next; accounted = step_keeps granted w fine.accounted; claimed = stepped.1; backed = step_backed granted w fine.backed }
 
   -- a tick once so many of its phases behind its takings are over, and where what is taken may be, once so many of all
   fine_served : (w : World) → Fine w → (k : ℕ) → Fine (run_phases w (take k (tick_phases [])))
@@ -248,13 +243,8 @@ module _ (granted : GrantedMay) where
 
   module _ (takable : TakingsAreTakable) where
     -- at each moment of a tick
-    module _ (system : System) (t : ℕ) (fine : Fine (world_after system t)) where
-      pub moment_fine : (k : ℕ) → Fine (moment system t k)
-      moment_fine k = let w = world_after system t in fine_happened (happens_in system.schedule w) (takings_in system t) w (taken_may takable system t) fine k
-
-      fine_by : (idle : Bool) → is_idle_book (world_after system t).book ≡ idle → Fine (world_after system (suc t))
-      fine_by true idle = subst Fine (sym (stays_idle system t idle)) fine
-      fine_by false busy = subst Fine (sym (tick_moment system t busy)) (moment_fine (phases_in system t))
+    pub moment_fine : (system : System) (t : ℕ) → Fine (world_after system t) → (k : ℕ) → Fine (moment system t k)
+    moment_fine system t fine k = let w = world_after system t in fine_happened (happens_in system.schedule w) (takings_in system t) w (taken_may takable system t) fine k
 
     -- and after every number of ticks
     pub all_fine : (system : System) (t : ℕ) → Fine (world_after system t)
@@ -265,7 +255,7 @@ module _ (granted : GrantedMay) where
       claimed = claimed_boot system.image;
       backed = backed_boot system.image;
     }
-    all_fine system (suc t) = fine_by system t (all_fine system t) (is_idle_book (world_after system t).book) refl
+    all_fine system (suc t) = after_tick system t Fine (moment_fine system t (all_fine system t))
 
 pub books_agree : GrantedMay → TakingsAreTakable → BooksAgree
 books_agree granted takable system t = (all_fine granted takable system t).sound.agreed

@@ -1,11 +1,11 @@
 -- Why the bytes of an allocated page change.
-use Rattle.std.proofs.Common.{◌≡◌, ℕ, zero, suc, List, [], ◌∷◌, map, Bool, true, false, Option, Some, None, ◌⊎◌, inl, inr, refl, sym, ◌∙◌, ap, subst, take}
+use Rattle.std.proofs.Common.{◌≡◌, ℕ, zero, suc, List, [], ◌∷◌, map, true, false, Option, Some, None, ◌⊎◌, inl, inr, refl, sym, ◌∙◌, ap, subst, take}
 use Rattle.std.specs.Prelude.{slice_get}
 use Rattle.page_book.specs.declared.row.PageRow.{PageRow}
 use Rattle.page_book.specs.declared.row.PageRow.TheVariants.{Free}
 use Rattle.page_book.specs.Row.{is_owned_by}
 use Rattle.world_model.specs.declared.slot.Runner.{Runner}
-use Rattle.world_model.specs.Book.{is_idle_book, running}
+use Rattle.world_model.specs.Book.{running}
 use Rattle.external_event.specs.declared.event.Occurrence.{Occurrence}
 use Rattle.external_event.specs.declared.event.Occurrence.TheVariants as outside
 use Rattle.world_model.specs.Event.{happen}
@@ -17,8 +17,8 @@ use Rattle.world_model.specs.Tick.{phases_after, step, step_when, tick_phases, t
 use Rattle.world_model.specs.World.{World, Reply, after, run_phases}
 use Rattle.call_verdicts.specs.Granted.{GrantedMay}
 use Rattle.run_model.specs.Licensed.{MayTaking}
-use Rattle.run_model.specs.Run.{System, given_at, given_by, happens_in, moment, next_phases, phases_in, takings_in, world_after}
-use Rattle.run_model.proofs.Phases.{next_moment, once_more, tick_moment}
+use Rattle.run_model.specs.Run.{System, given_at, given_by, happens_in, moment, next_phases, takings_in, world_after}
+use Rattle.run_model.proofs.Phases.{next_moment, once_more}
 use Rattle.sharing_law.specs.Change.{AllocatedChange, AllocatedInTick, AllocatedZeros, IsAllocated, IsOwnedAt, IsStored, ZerosInTick}
 use Rattle.sharing_law.specs.Delivery.{IsCopied, IsDelivered}
 use Rattle.sharing_law.specs.Right.{row_after}
@@ -32,7 +32,7 @@ use Rattle.sharing_law.proofs.Turning.{IsAlike, bytes_alike, same_lists, turn_al
 use Rattle.sharing_law.proofs.Stepping.{all_see, step_follows}
 use Rattle.sharing_law.proofs.Timing.{timer_owned}
 use Rattle.sharing_law.proofs.Agreeing.{Fine, all_fine, moment_fine}
-use Rattle.sharing_law.proofs.Moments.{stays_idle, taken_may}
+use Rattle.sharing_law.proofs.Moments.{after_tick, taken_may}
 use Rattle.sharing_law.proofs.Leaving.{store_lives}
 
 -- What a phase makes of the pages that are owned after it.
@@ -45,10 +45,10 @@ StayOrCome w r = (o page : ℕ) → is_owned_by o (r.book.pages page) ≡ true
     → (is_owned_by o (w.book.pages page) ≡ true) × ((page_bytes (after w r) page ≡ page_bytes w page) ⊎ (IsInRing w r.items o page (page_bytes (after w r) page) ⊎ IsCopyIn w r.items o page (page_bytes (after w r) page)))
 
 alike_fates : (w v : World) → IsAlike w v → Fates w v
-alike_fates w v alike o page owns = Stays (ap (is_owned_by o) (λ k. sym alike.pages k page) ∙ owns) (bytes_alike w v alike page)
+alike_fates w v alike o page owns = Stays (ap (is_owned_by o) (λ k. sym alike.lists.pages k page) ∙ owns) (bytes_alike w v alike page)
 
 alike_stay : (w : World) (r : Reply) → IsAlike w (after w r) → StayOrCome w r
-alike_stay w r alike o page owns = (ap (is_owned_by o) (λ k. sym alike.pages k page) ∙ owns, inl (bytes_alike w (after w r) alike page))
+alike_stay w r alike o page owns = (ap (is_owned_by o) (λ k. sym alike.lists.pages k page) ∙ owns, inl (bytes_alike w (after w r) alike page))
 
 -- what happens from outside, kind by kind
 event_fates : (what : Occurrence) (w : World) → Fine w → StayOrCome w (happen what w)
@@ -200,14 +200,6 @@ module _ (granted : GrantedMay) (takable : TakingsAreTakable) where
     zeros_since zero page owner owns = inl owns
     zeros_since (suc n) page owner owns = elim (zeros n page owner owns) [ inl had ↦ zeros_since n page owner had | inr taken ↦ inr (n, taken) ]
 
-    in_tick : (idle : Bool) → is_idle_book before.book ≡ idle → (page owner : ℕ) → Since page owner (world_after system (suc t))
-    in_tick true idle page owner = subst (Since page owner) (sym (stays_idle system t idle)) (λ owns. inl (owns, refl))
-    in_tick false busy page owner = subst (Since page owner) (sym (tick_moment system t busy)) (since (phases_in system t) page owner)
-
-    zeros_in : (idle : Bool) → is_idle_book before.book ≡ idle → (page owner : ℕ) → ZerosSince page owner (world_after system (suc t))
-    zeros_in true idle page owner = subst (ZerosSince page owner) (sym (stays_idle system t idle)) (λ owns. inl owns)
-    zeros_in false busy page owner = subst (ZerosSince page owner) (sym (tick_moment system t busy)) (zeros_since (phases_in system t) page owner)
-
 pub allocated_change : GrantedMay → TakingsAreTakable → AllocatedChange
 allocated_change granted takable system t k page owner = change granted takable system t k page owner
 
@@ -215,7 +207,7 @@ pub allocated_zeros : GrantedMay → TakingsAreTakable → AllocatedZeros
 allocated_zeros granted takable system t k page owner = zeros granted takable system t k page owner
 
 pub allocated_in_tick : GrantedMay → TakingsAreTakable → AllocatedInTick
-allocated_in_tick granted takable system t page owner = in_tick granted takable system t (is_idle_book (world_after system t).book) refl page owner
+allocated_in_tick granted takable system t page owner = after_tick system t (Since granted takable system t page owner) (λ n. since granted takable system t n page owner)
 
 pub zeros_in_tick : GrantedMay → TakingsAreTakable → ZerosInTick
-zeros_in_tick granted takable system t page owner = zeros_in granted takable system t (is_idle_book (world_after system t).book) refl page owner
+zeros_in_tick granted takable system t page owner = after_tick system t (ZerosSince granted takable system t page owner) (λ n. zeros_since granted takable system t n page owner)

@@ -1,7 +1,7 @@
 -- Backups: each is a page of its environment's own, none is loaded twice, and there are few.
 use Rattle.std.proofs.Common.{◌≡◌, ◌≢◌, ◌≤◌, ◌<◌, ℕ, zero, suc, List, [], ◌∷◌, length, drop, Bool, true, false, not, cond, Option, Some, None, ◌⊎◌, inl, inr, refl, sym, ◌∙◌, ap, subst, arith, length-append}
 use Rattle.std.specs.Prelude.{◌==◌, nat_le, if◌then◌else◌, slice_get}
-use Rattle.std.proofs.lemmas.Bool.{cases_eq, eq-eqb, eqb-true, eqb-false, false_from_ne_true, leb-false, or_cases, or_left, or_right, or_parts}
+use Rattle.std.proofs.lemmas.Bool.{eq-eqb, eqb-true, eqb-false, false_from_ne_true, leb-false, or_cases, or_left, or_right, or_parts}
 use Rattle.std.proofs.lemmas.List.Folds.{list_any-append}
 use Rattle.revocation_book.specs.declared.revocation.LoadNo.TheVariants as no
 use Rattle.revocation_book.specs.Backups.{is_loaded, load_refusal, loaded, most_backups, unloaded}
@@ -10,7 +10,7 @@ use Rattle.page_book.specs.Row.{is_owned_by}
 use Rattle.page_book.proofs.Owners.{same_owner}
 use Rattle.world_model.specs.declared.call.Call.{Call}
 use Rattle.world_model.specs.declared.call.Deed.{Deed}
-use Rattle.world_model.specs.declared.call.Deed.TheVariants.{Answers, Own, Stops, Gives, Allocates, Frees, Recaps, Binds, Unbinds, Transfers, TakesSlot, DropsSlot, TakesLine, DropsLine, Claims, Unclaims, Downloads, Loads}
+use Rattle.world_model.specs.declared.call.Deed.TheVariants.{Allocates, Frees, Recaps, Loads}
 use Rattle.world_model.specs.declared.slot.Runner.{Runner}
 use Rattle.filter_tree.specs.ClaimBook.{ClaimValue}
 use Rattle.revocation_book.specs.declared.revocation.Taking.{Taking}
@@ -23,7 +23,7 @@ use Rattle.world_model.specs.Death.{death}
 use Rattle.world_model.specs.Event.{arrives}
 use Rattle.world_model.specs.Item.{Step}
 use Rattle.world_model.specs.May.{May}
-use Rattle.world_model.specs.Step.{Act, Nothing, Stores, Calls, Raises, Dies}
+use Rattle.world_model.specs.Step.{Act, Calls, Dies}
 use Rattle.world_model.specs.Tick.{act_now, brings, step, step_when, timer}
 use Rattle.world_model.specs.Verdict.{done, reply_to}
 use Rattle.world_model.specs.World.{World, Reply, after, tells}
@@ -33,6 +33,7 @@ use Rattle.run_model.proofs.Telling.{call_stands, deed_may, call_named}
 use Rattle.page_sight.proofs.Mourning.{owned_still}
 use Rattle.page_sight.proofs.Tables.{set_here, set_else}
 use Rattle.sharing_law.specs.Agreement.{AreBackupsOwned}
+use Rattle.sharing_law.proofs.Choices.{for_each}
 use Rattle.sharing_law.proofs.Owning.{free_else, own_else}
 use Rattle.sharing_law.proofs.Timing.{Comes, Died, Passed, timer_comes}
 
@@ -146,10 +147,9 @@ backed_but old new e its same backs still backed = record {
 }
   where
     by_env : (i : ℕ) → Backs i (set_at e its old.backups i) new
-    by_env i = elim (cases_eq i e) [
-      | inl own ↦ subst (λ (n : ℕ). Backs n (set_at e its old.backups n) new) (sym own) (subst (λ (pages : List ℕ). Backs e pages new) (sym (set_here e its old.backups)) backs)
-      | inr other ↦ subst (λ (pages : List ℕ). Backs i pages new) (sym (set_else e i its old.backups other)) (record { owned = λ page is. still i page other (backed.owned i page is); once = backed.once i; few = backed.few i })
-    ]
+    by_env =
+        for_each (λ i. Backs i (set_at e its old.backups i) new) e (subst (λ (pages : List ℕ). Backs e pages new) (sym (set_here e its old.backups)) backs)
+        (λ i ne. subst (λ (pages : List ℕ). Backs i pages new) (sym (set_else e i its old.backups ne)) (record { owned = λ page is. still i page ne (backed.owned i page is); once = backed.once i; few = backed.few i }))
 
 -- others' pages stay where an environment's page is free
 others_still : (b : Book) (e page : ℕ) → is_owned_by e (b.pages page) ≡ true → (i p : ℕ) → i ≢ e → is_owned_by i (b.pages p) ≡ true → is_owned_by i (set_at page Free b.pages p) ≡ true
@@ -196,10 +196,6 @@ module _ (w : World) (e : ℕ) (backed : AreBacked w.book) where
   same_backed new pages backups = backed_owned w.book new backups (λ i p owned. (λ k. is_owned_by i (pages k p)) ∙ owned) backed
 
   deed_backed : (d : Deed) → May w e d → AreBacked (done w e d).book
-  deed_backed Answers may = backed
-  deed_backed Stops may = same_backed (done w e Stops).book refl refl
-  deed_backed (Gives target) may = same_backed (done w e (Gives target)).book refl refl
-  deed_backed (Own own) may = backed
   deed_backed (Allocates page words) may = backed_owned w.book (done w e (Allocates page words)).book refl (free_else page (Owned e words) w.book.pages may.free) backed
   deed_backed (Frees page) may =
       let its = w.book.backups e in
@@ -211,16 +207,6 @@ module _ (w : World) (e : ℕ) (backed : AreBacked w.book) where
       })
       (others_still w.book e page may.owned) backed
   deed_backed (Recaps page words) may = backed_owned w.book (done w e (Recaps page words)).book refl (own_else e page words w.book.pages may.owned) backed
-  deed_backed (Binds b word) may = same_backed (done w e (Binds b word)).book refl refl
-  deed_backed (Unbinds vpn) may = same_backed (done w e (Unbinds vpn)).book refl refl
-  deed_backed (Transfers target kind) may = same_backed (done w e (Transfers target kind)).book refl refl
-  deed_backed (TakesSlot slot) may = same_backed (done w e (TakesSlot slot)).book refl refl
-  deed_backed (DropsSlot slot) may = same_backed (done w e (DropsSlot slot)).book refl refl
-  deed_backed (TakesLine line) may = same_backed (done w e (TakesLine line)).book refl refl
-  deed_backed (DropsLine line) may = same_backed (done w e (DropsLine line)).book refl refl
-  deed_backed (Claims claim address atoms page) may = same_backed (done w e (Claims claim address atoms page)).book refl refl
-  deed_backed (Unclaims claim) may = same_backed (done w e (Unclaims claim)).book refl refl
-  deed_backed (Downloads claim address words) may = backed
   deed_backed (Loads page) may =
       let its = w.book.backups e in
       let free = room its page may.room in
@@ -231,6 +217,7 @@ module _ (w : World) (e : ℕ) (backed : AreBacked w.book) where
         few = omega (arith, length-append its (page ∷ []), free.1);
       })
       (λ i p other owned. owned) backed
+  deed_backed d may = same_backed (done w e d).book refl refl
 
   module _ (granted : GrantedMay) where
     call_backed : (c : Option Call) → called (w.solos e).cpu ≡ c → AreBacked (reply_to w e c).book
@@ -238,11 +225,9 @@ module _ (w : World) (e : ℕ) (backed : AreBacked w.book) where
 
     -- what an act brings once the step is made
     act_backed : (act : Act) → act_now w e ≡ act → AreBacked (brings e act (after w (tells e Step w))).book
-    act_backed Nothing is = backed
-    act_backed (Stores x) is = backed
     act_backed (Calls c) is = subst (λ (v : World). AreBacked (brings e (Calls c) v).book) (sym (call_stands w e c is)) (call_backed c (call_named w e c is))
-    act_backed (Raises exc) is = backed
     act_backed (Dies cause) is = death_backed w e backed
+    act_backed act is = backed
 
 step_backed_by : GrantedMay → (w : World) (runner : Option Runner) → AreBacked w.book → AreBacked (step_when w runner).book
 step_backed_by granted w None backed = backed
@@ -253,7 +238,7 @@ step_backed granted w = step_backed_by granted w w.book.runner
 
 -- The timer.
 timed_by : (w : World) (r : Reply) → Comes w r → AreBacked w.book → AreBacked r.book
-timed_by w r (Passed alike) backed = backed_owned w.book r.book alike.backups (λ i p owned. (λ k. is_owned_by i (alike.pages k p)) ∙ owned) backed
+timed_by w r (Passed alike) backed = backed_owned w.book r.book alike.lists.backups (λ i p owned. (λ k. is_owned_by i (alike.lists.pages k p)) ∙ owned) backed
 timed_by w r (Died x runs killed) backed =
     subst AreBacked (sym killed.book) (backed_owned (death w x.env).book (record (death w x.env).book { excess = killed.excess; time = killed.time }) refl (λ i p owned. owned) (death_backed w x.env backed))
 

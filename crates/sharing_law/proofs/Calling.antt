@@ -13,7 +13,7 @@ use Rattle.page_book.proofs.Owners.{anothers}
 use Rattle.bind_book.specs.declared.binding.Binding.{Binding}
 use Rattle.bind_book.specs.Stripe.{binding_at, breaks_page, is_bound, row_of, without}
 use Rattle.world_model.specs.declared.call.Deed.{Deed}
-use Rattle.world_model.specs.declared.call.Deed.TheVariants.{Answers, Stops, Gives as Donates, Allocates, Frees, Recaps, Binds, Unbinds, Own, Transfers, TakesSlot, DropsSlot, TakesLine, DropsLine, Claims, Unclaims, Downloads, Loads}
+use Rattle.world_model.specs.declared.call.Deed.TheVariants.{Gives as Donates, Allocates, Frees, Recaps, Binds, Unbinds, Transfers}
 use Rattle.world_model.specs.declared.life.Life.TheVariants.{Live}
 use Rattle.world_model.specs.declared.slot.Hold.{Hold}
 use Rattle.world_model.specs.Table.{set_at}
@@ -38,11 +38,12 @@ use Rattle.page_sight.proofs.Sights.{allocator_sees, binder_sees, freer_loses, o
 use Rattle.page_sight.proofs.Stripes.{bound_nowhere, without_ends}
 use Rattle.page_sight.proofs.Tables.{set_here, set_else, set_owns}
 use Rattle.sharing_law.specs.Agreement.{AreBoundAllocated}
+use Rattle.sharing_law.proofs.Choices.{either}
 use Rattle.sharing_law.proofs.Given.{IsHanded, absorbs, handed_rests, own_leaves}
 use Rattle.sharing_law.proofs.Giving.{other_than}
 use Rattle.sharing_law.proofs.Owning.{one_owner}
 use Rattle.sharing_law.proofs.Sound.{Sound}
-use Rattle.sharing_law.proofs.Brings.{Brings, Fate, Stays, Taken, GoesOn, as_before, silent, silent_but}
+use Rattle.sharing_law.proofs.Brings.{Brings, Fate, Stays, Taken, GoesOn, as_before, silent_but}
 
 -- a row of a stripe is none behind its last one
 set_ends : (vpn : ℕ) (x : Option Binding) (stripe : ℕ → Option Binding) → IsStripe stripe → IsStripe (set_at (row_of vpn) x stripe)
@@ -173,15 +174,11 @@ module _ (w : World) (e : ℕ) (sound : Sound w) (lives : (w.solos e).life ≡ L
           subst (λ (its : List Item). SeesNow i restriped (page_bytes w) (absorb_all (w.solos i) its)) (sym (none i ne))
           (subst (λ (f : ℕ → Option Binding). Sees i w.book.pages f (page_bytes w) (w.solos i)) (sym (set_else e i stripe w.book.binds ne)) (sound.agreed i));
       none = λ i ne before. subst (λ (f : ℕ → Option Binding). HasNone i w.book.pages f) (sym (set_else e i stripe w.book.binds ne)) before;
-      stripes = λ i. by_test i (i == e);
+      stripes = λ i. either IsStripe (i == e) stripe (w.book.binds i) ends (sound.stripes i);
       behind = sound.behind;
       fate = λ o p owns. Stays owns refl;
       fortune = GoesOn (caller_lives d);
     }
-      where
-        by_test : (i : ℕ) (t : Bool) → IsStripe (if t then stripe else w.book.binds i)
-        by_test i true = ends
-        by_test i false = sound.stripes i
 
   bind_brings : (b : Binding) (word : ℕ) → Brings w e (caller (Binds b word)) (done w e (Binds b word)).book (done w e (Binds b word)).items
   bind_brings b word =
@@ -195,11 +192,9 @@ module _ (w : World) (e : ℕ) (sound : Sound w) (lives : (w.solos e).life ≡ L
       (binder_sees e b w.book.pages (w.book.binds e) (page_bytes w) (w.solos e) (sound.agreed e))))
 
   without_number_ends : (vpn : ℕ) → IsStripe (without_number vpn (w.book.binds e))
-  without_number_ends vpn = by_test (is_some (binding_at (w.book.binds e) vpn))
-    where
-      by_test : (t : Bool) → IsStripe (if t then set_at (row_of vpn) None (w.book.binds e) else w.book.binds e)
-      by_test true = set_ends vpn None (w.book.binds e) (sound.stripes e)
-      by_test false = sound.stripes e
+  without_number_ends vpn =
+      let stripe = w.book.binds e in
+      either IsStripe (is_some (binding_at stripe vpn)) (set_at (row_of vpn) None stripe) stripe (set_ends vpn None stripe (sound.stripes e)) (sound.stripes e)
 
   unbind_brings : (vpn : ℕ) → Brings w e (caller (Unbinds vpn)) (done w e (Unbinds vpn)).book no_items
   unbind_brings vpn =
@@ -209,11 +204,11 @@ module _ (w : World) (e : ℕ) (sound : Sound w) (lives : (w.solos e).life ≡ L
 
   -- The rest of a slice goes to another, which starts or is entered.
   module _ (target : ℕ) (item : Item) (is_handed : IsHanded item) (other : e ≢ target) where
-    other_sees : (i : ℕ) → (t : Bool) → SeesNow i w.book (page_bytes w) (absorb_all (w.solos i) (if t then item ∷ [] else []))
-    other_sees i true =
+    other_sees : (i : ℕ) → SeesNow i w.book (page_bytes w) (absorb_all (w.solos i) (only target (item ∷ []) i))
+    other_sees i =
         let its_rests = handed_rests item is_handed (w.solos i) in
-        as_before i w.book.pages (w.book.binds i) (page_bytes w) (w.solos i) (absorb_all (w.solos i) (item ∷ [])) its_rests.binds its_rests.seen (sound.agreed i)
-    other_sees i false = sound.agreed i
+        either (λ items. SeesNow i w.book (page_bytes w) (absorb_all (w.solos i) items)) (i == target) (item ∷ []) []
+        (as_before i w.book.pages (w.book.binds i) (page_bytes w) (w.solos i) (absorb_all (w.solos i) (item ∷ [])) its_rests.binds its_rests.seen (sound.agreed i)) (sound.agreed i)
 
     hands_brings : (s : Solo) → s.life ≡ Live → s.binds ≡ (w.solos e).binds → s.seen ≡ (w.solos e).seen → (slots : ℕ → Option Hold)
         → Brings w e s (record w.book { slots = slots; runner = handed target w.book.runner }) (only target (item ∷ []))
@@ -221,7 +216,7 @@ module _ (w : World) (e : ℕ) (sound : Sound w) (lives : (w.solos e).life ≡ L
       bytes = page_bytes w;
       own = subst (λ (its : List Item). SeesNow e w.book (page_bytes w) (absorb_all s its)) (sym (set_else target e (item ∷ []) no_items other))
           (as_before e w.book.pages (w.book.binds e) (page_bytes w) (w.solos e) s binds sights (sound.agreed e));
-      others = λ i ne live. other_sees i (i == target);
+      others = λ i ne live. other_sees i;
       none = λ i ne before. before;
       stripes = sound.stripes;
       behind = sound.behind;
@@ -231,10 +226,7 @@ module _ (w : World) (e : ℕ) (sound : Sound w) (lives : (w.solos e).life ≡ L
 
   -- deed by deed
   pub deed_brings : (d : Deed) → Does w e d → May w e d → Brings w e (caller d) (done w e d).book (done w e d).items
-  deed_brings Answers does may = silent w e sound lives (caller Answers) lives refl refl
-  deed_brings Stops does may = silent_but w e sound lives (caller Stops) (done w e Stops).book lives refl refl
   deed_brings (Donates target) does may = hands_brings target Start tt (other_than w e target may.other) (caller (Donates target)) lives refl refl w.book.slots
-  deed_brings (Own own) does may = silent w e sound lives (caller (Own own)) lives refl refl
   deed_brings (Allocates page words) does may = alloc_brings page words zero_page refl may does
   deed_brings (Frees page) does may = free_brings page may
   deed_brings (Recaps page words) does may = recap_brings page words may
@@ -242,11 +234,4 @@ module _ (w : World) (e : ℕ) (sound : Sound w) (lives : (w.solos e).life ≡ L
   deed_brings (Unbinds vpn) does may = unbind_brings vpn
   deed_brings (Transfers target kind) does may =
       hands_brings target (Transfer e kind (carried (w.solos e).cpu)) tt (other_than w e target may.reach.other) (caller (Transfers target kind)) lives refl refl (slots_handed (hands_slot kind) target w.book)
-  deed_brings (TakesSlot k) does may = silent_but w e sound lives (caller (TakesSlot k)) (done w e (TakesSlot k)).book lives refl refl
-  deed_brings (DropsSlot k) does may = silent_but w e sound lives (caller (DropsSlot k)) (done w e (DropsSlot k)).book lives refl refl
-  deed_brings (TakesLine line) does may = silent_but w e sound lives (caller (TakesLine line)) (done w e (TakesLine line)).book lives refl refl
-  deed_brings (DropsLine line) does may = silent_but w e sound lives (caller (DropsLine line)) (done w e (DropsLine line)).book lives refl refl
-  deed_brings (Claims claim address atoms page) does may = let d = Claims claim address atoms page in silent_but w e sound lives (caller d) (done w e d).book lives refl refl
-  deed_brings (Unclaims claim) does may = silent_but w e sound lives (caller (Unclaims claim)) (done w e (Unclaims claim)).book lives refl refl
-  deed_brings (Downloads claim address words) does may = silent w e sound lives (caller (Downloads claim address words)) lives refl refl
-  deed_brings (Loads page) does may = silent_but w e sound lives (caller (Loads page)) (done w e (Loads page)).book lives refl refl
+  deed_brings d does may = silent_but w e sound lives (caller d) (done w e d).book lives refl refl

@@ -158,6 +158,6 @@ rings_handled claim handler = grind (arith, rings_same)
 -- Worlds that are alike are claimed alike.
 pub claimed_alike : (w v : World) → IsAlike w v → Claimed w → Claimed v
 claimed_alike w v alike claimed = record {
-  rings = λ e. ap (map ring_page) (alike.solos e).rings ∙ claimed.rings e ∙ ap (λ (claims : List ClaimValue). map claim_page (filter (is_of_env e) claims)) (sym alike.claims);
-  good = good_same w.book v.book alike.claims alike.next (λ c owned. (λ k. is_owned_by c.env (alike.pages k c.page)) ∙ owned) claimed.good;
+  rings = λ e. ap (map ring_page) (alike.solos e).rings ∙ claimed.rings e ∙ ap (λ (claims : List ClaimValue). map claim_page (filter (is_of_env e) claims)) (sym alike.lists.claims);
+  good = good_same w.book v.book alike.lists.claims alike.lists.next (λ c owned. (λ k. is_owned_by c.env (alike.lists.pages k c.page)) ∙ owned) claimed.good;
 }

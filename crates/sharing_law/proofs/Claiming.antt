@@ -18,7 +18,7 @@ use Rattle.page_book.specs.Row.{belongs_to, is_owned_by}
 use Rattle.page_book.proofs.Owners.{anothers}
 use Rattle.bind_book.specs.Stripe.{binding_at, is_bound, row_of}
 use Rattle.world_model.specs.declared.call.Deed.{Deed}
-use Rattle.world_model.specs.declared.call.Deed.TheVariants.{Answers, Stops, Gives as Donates, Allocates, Frees, Recaps, Binds, Unbinds, Own, Transfers, TakesSlot, DropsSlot, TakesLine, DropsLine, Claims, Unclaims, Downloads, Loads}
+use Rattle.world_model.specs.declared.call.Deed.TheVariants.{Gives as Donates, Allocates, Frees, Recaps, Binds, Unbinds, Transfers, Claims, Unclaims, Downloads}
 use Rattle.world_model.specs.declared.code.Code.TheVariants as code
 use Rattle.packet_ring.specs.declared.buffer.Buffer.TheVariants.{First}
 use Rattle.world_model.specs.declared.life.Life.TheVariants.{Live}
@@ -39,16 +39,17 @@ use Rattle.world_model.specs.Page.{Mapped}
 use Rattle.world_model.specs.PageCalls.{breaks, left_at, left_by, left_if, lost_if, page_bytes}
 use Rattle.world_model.specs.Downloads.{handler_at, handler_or_none}
 use Rattle.world_model.specs.Rings.{page_store}
-use Rattle.world_model.specs.Solo.{Solo, Store, Key, Kept, Physical, Ring, dead, is_dead, sight}
+use Rattle.world_model.specs.Solo.{Solo, Store, Key, Kept, Physical, Ring, dead, sight}
 use Rattle.world_model.specs.Table.{set_at}
 use Rattle.world_model.specs.Verdict.{done}
 use Rattle.world_model.specs.World.{World, no_items, only}
 use Rattle.page_sight.proofs.Mourning.{not_owned, owned_still}
 use Rattle.page_sight.proofs.Tables.{set_here, set_else}
 use Rattle.sharing_law.specs.Agreement.{ClaimPage, claim_page}
+use Rattle.sharing_law.proofs.Choices.{either}
 use Rattle.sharing_law.proofs.Lists.{Has, filter_none, not_there}
 use Rattle.sharing_law.proofs.Claimed.{AreGood, AreRings, Claimed, good_less, good_more, good_same, rings_beside, rings_handled, rings_less, rings_more, rings_other, rings_spared}
-use Rattle.sharing_law.proofs.Given.{IsHanded, absorbs, dead_absorbs, handed_rests}
+use Rattle.sharing_law.proofs.Given.{IsHanded, absorb_or, absorbs, dead_absorbs, handed_rests}
 use Rattle.sharing_law.proofs.Owning.{free_else, own_else}
 
 -- What comes of a runner, which is s after its act and its answer: each environment has the claims that the book lists for it then.
@@ -65,18 +66,10 @@ spare_none : Spares []
 spare_none s = refl
 
 spare_one : (item : Item) → ((s : Solo) → (absorbed s item).rings ≡ s.rings) → Spares (item ∷ [])
-spare_one item same s = by_life (is_dead s.life)
-  where
-    by_life : (gone : Bool) → (if gone then s else absorbed s item).rings ≡ s.rings
-    by_life true = refl
-    by_life false = same s
-
-spare_if : (t : Bool) (xs ys : List Item) → Spares xs → Spares ys → Spares (if t then xs else ys)
-spare_if true xs ys first next = first
-spare_if false xs ys first next = next
+spare_one item same s = absorb_or (λ t. t.rings ≡ s.rings) s item refl (same s)
 
 spare_only : (e : ℕ) (items : List Item) → Spares items → (i : ℕ) → Spares (only e items i)
-spare_only e items spares i = spare_if (i == e) items [] spares spare_none
+spare_only e items spares i = either Spares (i == e) items [] spares spare_none
 
 -- as a store does
 left_spares : (t : Bool) (page : ℕ) (x : Store) → Spares (left_if t page x)
@@ -85,7 +78,7 @@ left_spares false page x = spare_none
 
 left_at_spares : (b : Book) (e : ℕ) (x : Store) (key : Key) (i : ℕ) → Spares (left_at b e x key i)
 left_at_spares b e x (Kept vpn) i = spare_none
-left_at_spares b e x (Physical page) i = spare_if (i == e) [] (left_if (sees b i page) page x) spare_none (left_spares (sees b i page) page x)
+left_at_spares b e x (Physical page) i = either Spares (i == e) [] (left_if (sees b i page) page x) spare_none (left_spares (sees b i page) page x)
 
 -- or a packet that is another's
 pub ring_left_spares : (b : Book) (owner page : ℕ) (bytes : Option (List ℕ)) (i : ℕ) → Spares (ring_left b owner page bytes i)
@@ -107,11 +100,7 @@ beside b good i page none c its own = ne_eqb c.page page (λ same. clash (λ k. 
 -- who loses such a page loses no claim
 pub loses_beside : (i page : ℕ) (claims : List ClaimValue) → ((c : ClaimValue) → Has claims c → is_of_env i c ≡ true → (c.page == page) ≡ false)
     → (t : Bool) (s : Solo) → AreRings i claims s.rings → AreRings i claims (absorb_all s (lost_if t page)).rings
-loses_beside i page claims other true s are = by_life (is_dead s.life)
-  where
-    by_life : (gone : Bool) → AreRings i claims (if gone then s else absorbed s (Lost page)).rings
-    by_life true = are
-    by_life false = rings_beside i page claims s.rings other are
+loses_beside i page claims other true s are = absorb_or (λ t. AreRings i claims t.rings) s (Lost page) are (rings_beside i page claims s.rings other are)
 loses_beside i page claims other false s are = are
 
 -- who loses what is gone with another loses no claim
@@ -201,11 +190,7 @@ module _ (w : World) (e : ℕ) (claimed : Claimed w) where
     }
 
     unbound_rings : (vpn : ℕ) → (own_part (Unbinds vpn) (w.solos e)).rings ≡ (w.solos e).rings
-    unbound_rings vpn = by_test (is_some (binding_at (w.solos e).binds vpn))
-      where
-        by_test : (t : Bool) → (if t then with_binds (set_at (row_of vpn) None (w.solos e).binds) (w.solos e) else w.solos e).rings ≡ (w.solos e).rings
-        by_test true = refl
-        by_test false = refl
+    unbound_rings vpn = let s = w.solos e in either (λ t. t.rings ≡ s.rings) (is_some (binding_at s.binds vpn)) (with_binds (set_at (row_of vpn) None s.binds) s) s refl refl
 
     hands_claims : (target : ℕ) (item : Item) → IsHanded item → (i : ℕ) → Spares (only target (item ∷ []) i)
     hands_claims target item is_handed i = spare_only target (item ∷ []) (λ s. (handed_rests item is_handed s).rings) i
@@ -284,10 +269,7 @@ module _ (w : World) (e : ℕ) (claimed : Claimed w) where
 
     -- deed by deed
     pub deed_claims : (d : Deed) → May w e d → Claiming w e (caller d) (done w e d).book (done w e d).items
-    deed_claims Answers may = steady (caller Answers) w.book no_items refl (λ i. spare_none)
-    deed_claims Stops may = steady (caller Stops) (done w e Stops).book no_items refl (λ i. spare_none)
     deed_claims (Donates target) may = steady (caller (Donates target)) (done w e (Donates target)).book (only target (Start ∷ [])) refl (hands_claims target Start tt)
-    deed_claims (Own own) may = steady (caller (Own own)) w.book no_items refl (λ i. spare_none)
     deed_claims (Allocates page words) may =
         let its : List Item = Gained page true zero_page ∷ [] in
         steady_but (caller (Allocates page words)) (done w e (Allocates page words)).book (only e its) refl (spare_only e its (spare_one (Gained page true zero_page) (λ s. refl))) refl refl
@@ -301,11 +283,7 @@ module _ (w : World) (e : ℕ) (claimed : Claimed w) where
     deed_claims (Transfers target kind) may =
         let item = Transfer e kind (carried (w.solos e).cpu) in
         steady (caller (Transfers target kind)) (done w e (Transfers target kind)).book (only target (item ∷ [])) refl (hands_claims target item tt)
-    deed_claims (TakesSlot k) may = steady (caller (TakesSlot k)) (done w e (TakesSlot k)).book no_items refl (λ i. spare_none)
-    deed_claims (DropsSlot k) may = steady (caller (DropsSlot k)) (done w e (DropsSlot k)).book no_items refl (λ i. spare_none)
-    deed_claims (TakesLine line) may = steady (caller (TakesLine line)) (done w e (TakesLine line)).book no_items refl (λ i. spare_none)
-    deed_claims (DropsLine line) may = steady (caller (DropsLine line)) (done w e (DropsLine line)).book no_items refl (λ i. spare_none)
     deed_claims (Claims claim address atoms page) may = claim_claims claim address atoms page may
     deed_claims (Unclaims claim) may = unclaim_claims claim
     deed_claims (Downloads claim address words) may = download_claims claim address words
-    deed_claims (Loads page) may = steady (caller (Loads page)) (done w e (Loads page)).book no_items refl (λ i. spare_none)
+    deed_claims d may = steady (caller d) (done w e d).book no_items refl (λ i. spare_none)

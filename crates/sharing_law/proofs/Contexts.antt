@@ -15,7 +15,7 @@ use Rattle.world_model.specs.Repossession.{copied, recorded, taken}
 use Rattle.world_model.specs.Solo.{Solo, Store, Kept, Physical, bytes_in, bytes_of, kept_at, stored_page}
 use Rattle.world_model.specs.Upcalls.{with_context}
 use Rattle.world_model.proofs.Stores.{kept_as_was}
-use Rattle.sharing_law.specs.Change.{HasAsked, HasRecord, asked_page, bytes_at, counted_page, recorded_page}
+use Rattle.sharing_law.specs.Change.{HasAsked, HasRecord, IsRewritten, asked_page, bytes_at, counted_page, recorded_page}
 use Rattle.sharing_law.proofs.Given.{kept_else, kept_here}
 
 -- The context page, if it is there, is rewritten so, and all other guaranteed pages are as they were.
@@ -26,15 +26,15 @@ pub record Rewrites (s t : Solo) (rewritten : List ℕ → List ℕ) : Type 0 wh
   pub has : (p : KeptPage) → kept_at s.kept context_number ≡ Some p → bytes_at t context_number ≡ rewritten (bytes_at s context_number)
 
 -- So its bytes stay, or it is the context page.
-pub rewrites_or : (s t : Solo) (rewritten : List ℕ → List ℕ) → Rewrites s t rewritten → (vpn : ℕ) → (bytes_at t vpn ≡ bytes_at s vpn) ⊎ ((vpn ≡ context_number) × (bytes_at t vpn ≡ rewritten (bytes_at s vpn)))
+pub rewrites_or : (s t : Solo) (rewritten : List ℕ → List ℕ) → Rewrites s t rewritten → (vpn : ℕ) → (bytes_at t vpn ≡ bytes_at s vpn) ⊎ IsRewritten s t vpn rewritten
 rewrites_or s t rewritten rewrites vpn = elim (cases_eq vpn context_number) [
   | inl here ↦ by_page (kept_at s.kept context_number) refl here
   | inr other ↦ inl (ap bytes_in (rewrites.beside vpn other))
 ]
   where
-    by_page : (o : Option KeptPage) → kept_at s.kept context_number ≡ o → vpn ≡ context_number → (bytes_at t vpn ≡ bytes_at s vpn) ⊎ ((vpn ≡ context_number) × (bytes_at t vpn ≡ rewritten (bytes_at s vpn)))
+    by_page : (o : Option KeptPage) → kept_at s.kept context_number ≡ o → vpn ≡ context_number → (bytes_at t vpn ≡ bytes_at s vpn) ⊎ IsRewritten s t vpn rewritten
     by_page None is here = inl (ap (bytes_at t) here ∙ ap bytes_in (rewrites.nowhere is ∙ sym is) ∙ ap (bytes_at s) (sym here))
-    by_page (Some p) is here = inr (here, ap (bytes_at t) here ∙ rewrites.has p is ∙ ap (λ n. rewritten (bytes_at s n)) (sym here))
+    by_page (Some p) is here = inr (record { context = here; has = ap (bytes_at t) here ∙ rewrites.has p is ∙ ap (λ n. rewritten (bytes_at s n)) (sym here) })
 
 -- Nothing is rewritten where the guaranteed pages are the same.
 pub rewrites_none : (s t : Solo) → t.kept ≡ s.kept → Rewrites s t (λ page. page)
@@ -85,10 +85,7 @@ module _ (outstanding deadline : ℕ) (s : Solo) where
       (context_rewrites (post_offset post.Deadline) (word_bytes deadline) first)
 
   pub ask_changes : (vpn : ℕ) → (bytes_at (asked_for outstanding deadline s) vpn ≡ bytes_at s vpn) ⊎ HasAsked s (asked_for outstanding deadline s) vpn outstanding deadline
-  ask_changes vpn = elim (rewrites_or s (asked_for outstanding deadline s) (asked_page outstanding deadline) ask_rewrites vpn) [
-    | inl same ↦ inl same
-    | inr has ↦ inr (record { context = has.0; has = has.1 })
-  ]
+  ask_changes = rewrites_or s (asked_for outstanding deadline s) (asked_page outstanding deadline) ask_rewrites
 
 -- A page that is taken is recorded and counted.
 copied_kept : (page : ℕ) (backup : Option ℕ) (s : Solo) → (copied page backup s).kept ≡ s.kept
@@ -124,5 +121,5 @@ module _ (page : ℕ) (backup : Option ℕ) (s : Solo) where
   pub take_changes : (vpn : ℕ) → (bytes_at (taken page backup s) vpn ≡ bytes_at s vpn) ⊎ HasRecord s (taken page backup s) vpn page backup
   take_changes vpn = elim (rewrites_or s (counted post.Takings (recorded number page backup copy)) (rewritten number) take_rewrites vpn) [
     | inl same ↦ inl same
-    | inr has ↦ inr (record { context = has.0; has = has.1 ∙ ap (λ n. rewritten n (bytes_at s vpn)) number_is })
+    | inr now ↦ inr (record { context = now.context; has = now.has ∙ ap (λ n. rewritten n (bytes_at s vpn)) number_is })
   ]

@@ -1,5 +1,5 @@
 -- What a packet does to the context page of whose claim it is for: it is counted there.
-use Rattle.std.proofs.Common.{◌≡◌, ℕ, Bool, true, false, List, Option, Some, None, ◌⊎◌, inl, inr, refl}
+use Rattle.std.proofs.Common.{◌≡◌, ℕ, Bool, true, false, List, Option, Some, None, ◌⊎◌, refl}
 use Rattle.std.specs.Prelude.{◌&&◌, if◌then◌else◌, is_none}
 use Rattle.handler_code.specs.Running.{handler_run}
 use Rattle.packet_ring.specs.Ring.{is_full, with_packet}
@@ -53,7 +53,4 @@ module _ (s : Solo) where
     packet_rewrites = rewrites_then s (counted_if lost) now (packet_counted lost) (λ page. page) (counts_rewrite lost) (rewrites_none (counted_if lost) now (received_counted (ring_of s.rings claim) packet))
 
     pub packet_counts : (vpn : ℕ) → (bytes_at now vpn ≡ bytes_at s vpn) ⊎ HasCounts s now vpn claim
-    packet_counts vpn = elim (rewrites_or s now (packet_counted lost) packet_rewrites vpn) [
-      | inl same ↦ inl same
-      | inr has ↦ inr (record { context = has.0; has = has.1 })
-    ]
+    packet_counts = rewrites_or s now (packet_counted lost) packet_rewrites

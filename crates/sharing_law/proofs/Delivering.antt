@@ -33,6 +33,7 @@ use Rattle.page_sight.proofs.Tables.{set_here, set_else}
 use Rattle.sharing_law.specs.Agreement.{AreBoundAllocated, ClaimPage, claim_page, ring_page}
 use Rattle.sharing_law.specs.Delivery.{IsDelivered}
 use Rattle.sharing_law.proofs.Brings.{as_before}
+use Rattle.sharing_law.proofs.Choices.{for_each}
 use Rattle.sharing_law.proofs.Claimed.{AreRings, Claimed, IsGood, claimed_alike, rings_turned}
 use Rattle.sharing_law.proofs.Claiming.{ring_left_spares}
 use Rattle.sharing_law.proofs.Given.{IsRested, absorbs, dead_absorbs, rests_same, told_leaves}
@@ -41,7 +42,7 @@ use Rattle.sharing_law.proofs.Handling.{filled_size, filled_whole, handled_holds
 use Rattle.sharing_law.proofs.Happening.{dropped_alike}
 use Rattle.sharing_law.proofs.Lists.{find_map, found_there, still_found}
 use Rattle.sharing_law.proofs.Sound.{Sound, agreed, owner_bytes, still_nothing}
-use Rattle.sharing_law.proofs.Turning.{IsAlike, bytes_alike, sound_alike}
+use Rattle.sharing_law.proofs.Turning.{IsAlike, bytes_alike, same_lists, sound_alike}
 
 -- A page into which a packet goes, or of which a handler takes it, is left no smaller.
 left_size : (handler : Option (List ℕ)) (r : Ring) (packet page bytes : List ℕ) → page_left (received_by handler r packet page) ≡ Some bytes → length page ≤ length bytes
@@ -162,16 +163,10 @@ module _ (w : World) (c : ClaimValue) (packet : List ℕ) (sound : Sound w) (cla
   -- The packet is lost.
   lost_alike : outcome ≡ None → IsAlike w now
   lost_alike full = record {
-    solos = λ i. elim (cases_eq i c.env) [
-      | inl same ↦ subst (λ (n : ℕ). IsRested (w.solos n) (now.solos n)) (sym same) (subst (IsRested s) (sym now_own) (lost_rests its.ring becomes_there s full))
-      | inr ne ↦ subst (IsRested (w.solos i)) (sym (now_other i ne ∙ ap (λ (bytes : Option (List ℕ)). absorb_all (w.solos i) (others_get bytes i)) full)) (rests_same (w.solos i))
-    ];
-    pages = refl;
-    binds = refl;
-    claims = refl;
-    next = refl;
-    backups = refl;
-    count = refl;
+    solos =
+        for_each (λ i. IsRested (w.solos i) (now.solos i)) c.env (subst (IsRested s) (sym now_own) (lost_rests its.ring becomes_there s full))
+        (λ i ne. subst (IsRested (w.solos i)) (sym (now_other i ne ∙ ap (λ (bytes : Option (List ℕ)). absorb_all (w.solos i) (others_get bytes i)) full)) (rests_same (w.solos i)));
+    lists = same_lists w.book;
   }
 
   -- Or it is there.
@@ -211,16 +206,15 @@ module _ (w : World) (c : ClaimValue) (packet : List ℕ) (sound : Sound w) (cla
         (still_nothing i w.book.pages w.book.pages (w.book.binds i) (w.book.binds i) (page_bytes w) bytes_now (w.solos i) none none (sound.agreed i))
 
     all_see : (i : ℕ) → Sees i w.book.pages (w.book.binds i) bytes_now (now.solos i)
-    all_see i = elim (cases_eq i c.env) [
-      | inl same ↦ subst (λ (n : ℕ). Sees n w.book.pages (w.book.binds n) bytes_now (now.solos n)) (sym same) (subst (λ (t : Solo). Sees c.env w.book.pages (w.book.binds c.env) bytes_now t) (sym now_own) own_sees)
-      | inr ne ↦ subst (λ (t : Solo). Sees i w.book.pages (w.book.binds i) bytes_now t) (sym (is_other i ne)) (other_sees i ne (w.solos i).life refl)
-    ]
+    all_see =
+        for_each (λ i. Sees i w.book.pages (w.book.binds i) bytes_now (now.solos i)) c.env
+        (subst (λ (t : Solo). Sees c.env w.book.pages (w.book.binds c.env) bytes_now t) (sym now_own) own_sees)
+        (λ i ne. subst (λ (t : Solo). Sees i w.book.pages (w.book.binds i) bytes_now t) (sym (is_other i ne)) (other_sees i ne (w.solos i).life refl))
 
     all_live : (i : ℕ) → (now.solos i).life ≡ (w.solos i).life
-    all_live i = elim (cases_eq i c.env) [
-      | inl same ↦ subst (λ (n : ℕ). (now.solos n).life ≡ (w.solos n).life) (sym same) (ap (λ (t : Solo). t.life) now_own ∙ put.life)
-      | inr ne ↦ ap (λ (t : Solo). t.life) (is_other i ne) ∙ (told_leaves (others_get (Some bytes) i) (ring_told w c.env c.page (Some bytes) i) (w.solos i)).life
-    ]
+    all_live =
+        for_each (λ i. (now.solos i).life ≡ (w.solos i).life) c.env (ap (λ (t : Solo). t.life) now_own ∙ put.life)
+        (λ i ne. ap (λ (t : Solo). t.life) (is_other i ne) ∙ (told_leaves (others_get (Some bytes) i) (ring_told w c.env c.page (Some bytes) i) (w.solos i)).life)
 
     filled_sound : AreBoundAllocated now → Sound now
     filled_sound allocated = record {
@@ -232,10 +226,9 @@ module _ (w : World) (c : ClaimValue) (packet : List ℕ) (sound : Sound w) (cla
 
     filled_claimed : Claimed now
     filled_claimed = record {
-      rings = λ i. elim (cases_eq i c.env) [
-        | inl same ↦ subst (λ (n : ℕ). AreRings n w.book.claims (now.solos n).rings) (sym same) (ap (λ (t : Solo). map ring_page t.rings) now_own ∙ put.rings ∙ claimed.rings c.env)
-        | inr ne ↦ ap (λ (t : Solo). map ring_page t.rings) (is_other i ne) ∙ ap (map ring_page) (ring_left_spares w.book c.env c.page (Some bytes) i (w.solos i)) ∙ claimed.rings i
-      ];
+      rings =
+          for_each (λ i. AreRings i w.book.claims (now.solos i).rings) c.env (ap (λ (t : Solo). map ring_page t.rings) now_own ∙ put.rings ∙ claimed.rings c.env)
+          (λ i ne. ap (λ (t : Solo). map ring_page t.rings) (is_other i ne) ∙ ap (map ring_page) (ring_left_spares w.book c.env c.page (Some bytes) i (w.solos i)) ∙ claimed.rings i);
       good = claimed.good;
     }
 

@@ -1,13 +1,10 @@
 -- What an environment is given: items that leave its guaranteed pages and its life, and others.
-use Rattle.std.proofs.Common.{◌≡◌, ◌≢◌, ℕ, zero, suc, List, [], ◌∷◌, ◌++◌, Bool, true, false, Option, Some, None, is_some, refl, sym, ◌∙◌, ap}
+use Rattle.std.proofs.Common.{◌≡◌, ◌≢◌, ℕ, zero, suc, List, [], ◌∷◌, ◌++◌, Bool, true, false, Some, None, is_some, refl, sym, ◌∙◌, ap}
 use Rattle.std.specs.Prelude.{◌==◌, if◌then◌else◌}
 use Rattle.std.specs.Option.{option_map}
 use Rattle.std.proofs.lemmas.Bool.{eqb-true, ne_eqb}
-use Rattle.env_frames.specs.declared.transfer.TransferKind.{TransferKind}
 use Rattle.env_frames.specs.Context.{resumed_cpu, start_area, start_bytes}
-use Rattle.env_frames.specs.Transfer.{Registers}
 use Rattle.page_book.specs.Row.{belongs_to}
-use Rattle.bind_book.specs.declared.binding.Binding.{Binding}
 use Rattle.bind_book.specs.Stripe.{binding_at, is_bound, row_of}
 use Rattle.mips_exec.specs.Cpu.{rested}
 use Rattle.world_model.specs.declared.call.Deed.{Deed}
@@ -21,12 +18,13 @@ use Rattle.world_model.specs.Table.{set_at}
 use Rattle.world_model.specs.Book.{Book}
 use Rattle.world_model.specs.Solo.{Solo, Store, Key, Kept, is_dead, is_key_of, kept_after, kept_at, stored_page}
 use Rattle.world_model.specs.Holding.{with_binds}
-use Rattle.world_model.specs.Upcalls.{enter, start_by, with_context}
-use Rattle.world_model.specs.Item.{Item, Boot, Step, Start, End, Transfer, Killed, Answer, Gained, Lost, Left, Packet, Line, Asked, Taken, absorb, absorb_all, absorbed, answered, deed_at, own_part}
+use Rattle.world_model.specs.Upcalls.{with_context}
+use Rattle.world_model.specs.Item.{Item, Start, Transfer, Answer, Gained, Lost, Left, absorb, absorb_all, absorbed, answered, deed_at, own_part}
 use Rattle.world_model.specs.Death.{death_items, lost_with}
 use Rattle.world_model.specs.PageCalls.{left_if, lost_if}
 use Rattle.world_model.specs.World.{only}
 use Rattle.world_model.proofs.Stores.{kept_as_was}
+use Rattle.sharing_law.proofs.Choices.{either}
 
 -- a store to a guaranteed page leaves those at other VPNs
 pub kept_else : (kept : List KeptPage) (x : Store) (v vpn : ℕ) → x.key ≡ Kept v → vpn ≢ v → kept_at (kept_after kept x) vpn ≡ kept_at kept vpn
@@ -54,20 +52,11 @@ kept_here (p ∷ kept) x v key =
 
 -- an item that leaves guaranteed pages and life
 abbrev pub IsTold : Item → Type 0
-IsTold (Boot number name entry accept kept) = ⊥
-IsTold Step = ⊥
-IsTold Start = ⊥
-IsTold End = ⊥
-IsTold (Transfer from kind registers) = ⊥
-IsTold Killed = ⊥
 IsTold (Answer verdict) = Unit {0}
 IsTold (Gained page writable bytes) = Unit {0}
 IsTold (Lost page) = Unit {0}
 IsTold (Left page offset bytes) = Unit {0}
-IsTold (Packet claim packet) = ⊥
-IsTold (Line line) = ⊥
-IsTold (Asked outstanding deadline) = ⊥
-IsTold (Taken page backup) = ⊥
+IsTold item = ⊥
 
 abbrev pub AreTold : List Item → Type 0
 AreTold [] = Unit {0}
@@ -83,47 +72,26 @@ pub record IsRested (s t : Solo) : Type 0 where
 pub rests_same : (s : Solo) → IsRested s s
 rests_same s = record { binds = refl; seen = refl; rings = refl; life = refl }
 
-started : (s : Solo) (handler : ℕ) → IsRested s (start_by handler s)
-started s handler = by_test (handler == 0)
-  where
-    by_test : (none : Bool) → IsRested s (if none then record s { cpu = rested s.cpu } else record (with_context start_area (start_bytes s.cpu) s) { cpu = resumed_cpu handler s.cpu })
-    by_test true = record { binds = refl; seen = refl; rings = refl; life = refl }
-    by_test false = record { binds = refl; seen = refl; rings = refl; life = refl }
+pub started : (s : Solo) → IsRested s (absorbed s Start)
+started s =
+    either (IsRested s) (s.handlers.start == 0) (record s { cpu = rested s.cpu }) (record (with_context start_area (start_bytes s.cpu) s) { cpu = resumed_cpu s.handlers.start s.cpu })
+    (record { binds = refl; seen = refl; rings = refl; life = refl }) (record { binds = refl; seen = refl; rings = refl; life = refl })
 
-pub either_rests : (gone : Bool) (s t : Solo) → IsRested s t → IsRested s (if gone then s else t)
-either_rests true s t rests = rests_same s
-either_rests false s t rests = rests
+-- what holds of an environment, and once it has absorbed an item, holds whether it lives or not
+pub absorb_or : (P : Solo → Type 0) (s : Solo) (item : Item) → P s → P (absorbed s item) → P (absorb s item)
+absorb_or P s item was is = either P (is_dead s.life) s (absorbed s item) was is
 
--- so is one at the start or the end of its slice
-pub start_rests : (s : Solo) → IsRested s (absorb_all s (Start ∷ []))
-start_rests s = either_rests (is_dead s.life) s (absorbed s Start) (started s s.handlers.start)
-
-pub end_rests : (s : Solo) → IsRested s (absorb_all s (End ∷ []))
-end_rests s = either_rests (is_dead s.life) s (absorbed s End) (record { binds = refl; seen = refl; rings = refl; life = refl })
-
--- or one that is entered
-pub enter_rests : (from : ℕ) (kind : TransferKind) (registers : Registers) (s : Solo) → IsRested s (absorb_all s (Transfer from kind registers ∷ []))
-enter_rests from kind registers s = either_rests (is_dead s.life) s (enter from kind registers s) (record { binds = refl; seen = refl; rings = refl; life = refl })
-
--- or one that gets a signal
-pub line_rests : (line : ℕ) (s : Solo) → IsRested s (absorb_all s (Line line ∷ []))
-line_rests line s = either_rests (is_dead s.life) s (absorbed s (Line line)) (record { binds = refl; seen = refl; rings = refl; life = refl })
-
--- or one that is asked for pages
-pub asked_rests : (outstanding deadline : ℕ) (s : Solo) → IsRested s (absorb_all s (Asked outstanding deadline ∷ []))
-asked_rests outstanding deadline s = either_rests (is_dead s.life) s (absorbed s (Asked outstanding deadline)) (record { binds = refl; seen = refl; rings = refl; life = refl })
+-- so does who rests by an item, whether it is given it or not
+pub given_rests : (s : Solo) (item : Item) → IsRested s (absorbed s item) → (mine : Bool) → IsRested s (absorb_all s (if mine then item ∷ [] else []))
+given_rests s item rests mine = either (λ (items : List Item). IsRested s (absorb_all s items)) mine (item ∷ []) [] (absorb_or (IsRested s) s item (rests_same s) rests) (rests_same s)
 
 -- an environment with the guaranteed pages and the life that it had
 pub record Leaves (s t : Solo) : Type 0 where
   pub kept : t.kept ≡ s.kept
   pub life : t.life ≡ s.life
 
-unbound_leaves : (s : Solo) (t : Bool) (binds : ℕ → Option Binding) → Leaves s (if t then with_binds binds s else s)
-unbound_leaves s true binds = record { kept = refl; life = refl }
-unbound_leaves s false binds = record { kept = refl; life = refl }
-
 pub own_leaves : (s : Solo) (d : Deed) → Leaves s (own_part d s)
-own_leaves s (Unbinds vpn) = unbound_leaves s (is_some (binding_at s.binds vpn)) (set_at (row_of vpn) None s.binds)
+own_leaves s (Unbinds vpn) = either (Leaves s) (is_some (binding_at s.binds vpn)) (with_binds (set_at (row_of vpn) None s.binds) s) s (record { kept = refl; life = refl }) (record { kept = refl; life = refl })
 own_leaves s d = record { kept = refl; life = refl }
 
 answered_leaves : (s : Solo) (verdict : Verdict) → Leaves s (answered verdict s)
@@ -131,30 +99,16 @@ answered_leaves s (Refuse code value) = record { kept = refl; life = refl }
 answered_leaves s (Grant value) = let own = own_leaves s (deed_at s value) in record { kept = own.kept; life = own.life }
 
 pub absorbed_leaves : (s : Solo) (item : Item) → IsTold item → Leaves s (absorbed s item)
-absorbed_leaves s (Boot number name entry accept kept) told = absurd told
-absorbed_leaves s Step told = absurd told
-absorbed_leaves s Start told = absurd told
-absorbed_leaves s End told = absurd told
-absorbed_leaves s (Transfer from kind registers) told = absurd told
-absorbed_leaves s Killed told = absurd told
 absorbed_leaves s (Answer verdict) told = answered_leaves s verdict
 absorbed_leaves s (Gained page writable bytes) told = record { kept = refl; life = refl }
 absorbed_leaves s (Lost page) told = record { kept = refl; life = refl }
 absorbed_leaves s (Left page offset bytes) told = record { kept = kept_as_was s.kept page offset bytes; life = refl }
-absorbed_leaves s (Packet claim packet) told = absurd told
-absorbed_leaves s (Line line) told = absurd told
-absorbed_leaves s (Asked outstanding deadline) told = absurd told
-absorbed_leaves s (Taken page backup) told = absurd told
-
--- whether it lives or not
-either_leaves : (gone : Bool) (s t : Solo) → Leaves s t → Leaves s (if gone then s else t)
-either_leaves true s t leaves = record { kept = refl; life = refl }
-either_leaves false s t leaves = leaves
+absorbed_leaves s item told = absurd told
 
 pub told_leaves : (items : List Item) → AreTold items → (s : Solo) → Leaves s (absorb_all s items)
 told_leaves [] told s = record { kept = refl; life = refl }
 told_leaves (item ∷ items) (told, rest) s =
-    let first = either_leaves (is_dead s.life) s (absorbed s item) (absorbed_leaves s item told) in
+    let first = absorb_or (Leaves s) s item (record { kept = refl; life = refl }) (absorbed_leaves s item told) in
     let next = told_leaves items rest (absorb s item) in
     record { kept = next.kept ∙ first.kept; life = next.life ∙ first.life }
 
@@ -162,13 +116,9 @@ pub told_both : (xs ys : List Item) → AreTold xs → AreTold ys → AreTold (x
 told_both [] ys first next = next
 told_both (x ∷ xs) ys (told, rest) next = (told, told_both xs ys rest next)
 
-pub told_if : (t : Bool) (xs ys : List Item) → AreTold xs → AreTold ys → AreTold (if t then xs else ys)
-told_if true xs ys first next = first
-told_if false xs ys first next = next
-
 -- what one is given, and what the others are
 pub told_at : (e i : ℕ) (items : List Item) (others : ℕ → List Item) → AreTold items → AreTold (others i) → AreTold (set_at e items others i)
-told_at e i items others its rest = told_if (i == e) items (others i) its rest
+told_at e i items others its rest = either AreTold (i == e) items (others i) its rest
 
 pub told_only : (e i : ℕ) (items : List Item) → AreTold items → AreTold (only e items i)
 told_only e i items its = told_at e i items (λ j. []) its tt
@@ -182,16 +132,16 @@ told_left_if true page x = (tt, tt)
 told_left_if false page x = tt
 
 pub told_left : (seen : Bool) (e i page : ℕ) (x : Store) → AreTold (if i == e then [] else left_if seen page x)
-told_left seen e i page x = told_if (i == e) [] (left_if seen page x) tt (told_left_if seen page x)
+told_left seen e i page x = either AreTold (i == e) [] (left_if seen page x) tt (told_left_if seen page x)
 
 told_losses : (b : Book) (gone i n : ℕ) → AreTold (lost_with b gone i n)
 told_losses b gone i zero = tt
 told_losses b gone i (suc n) =
     told_both (lost_with b gone i n) (if belongs_to gone (b.pages n) then lost_if (is_bound n (b.binds i)) n else []) (told_losses b gone i n)
-    (told_if (belongs_to gone (b.pages n)) (lost_if (is_bound n (b.binds i)) n) [] (told_lost_if (is_bound n (b.binds i)) n) tt)
+    (either AreTold (belongs_to gone (b.pages n)) (lost_if (is_bound n (b.binds i)) n) [] (told_lost_if (is_bound n (b.binds i)) n) tt)
 
 pub told_death : (b : Book) (gone i : ℕ) → AreTold (death_items b gone i)
-told_death b gone i = told_if (i == gone) [] (lost_with b gone i b.page_count) tt (told_losses b gone i b.page_count)
+told_death b gone i = either AreTold (i == gone) [] (lost_with b gone i b.page_count) tt (told_losses b gone i b.page_count)
 
 -- At most the first of these items changes guaranteed pages, or life.
 pub data Led (items : List Item) : Type 0 where
@@ -203,28 +153,13 @@ led_more xs ys (Rests told) more = Rests (told_both xs ys told more)
 led_more xs ys (Leads item rest told is) more = Leads item (rest ++ ys) (told_both rest ys told more) (ap (λ items. items ++ ys) is)
 
 pub led_only : (e i : ℕ) (item : Item) → Led (only e (item ∷ []) i)
-led_only e i item = by_test (i == e)
-  where
-    by_test : (mine : Bool) → Led (if mine then item ∷ [] else [])
-    by_test true = Leads item [] tt refl
-    by_test false = Rests tt
+led_only e i item = either Led (i == e) (item ∷ []) [] (Leads item [] tt refl) (Rests tt)
 
 -- What the act of a runner gives to an environment: items that leave guaranteed pages and life, or to another the start of a slice, or a transfer.
 abbrev pub IsHanded : Item → Type 0
-IsHanded (Boot number name entry accept kept) = ⊥
-IsHanded Step = ⊥
 IsHanded Start = Unit {0}
-IsHanded End = ⊥
 IsHanded (Transfer from kind registers) = Unit {0}
-IsHanded Killed = ⊥
-IsHanded (Answer verdict) = ⊥
-IsHanded (Gained page writable bytes) = ⊥
-IsHanded (Lost page) = ⊥
-IsHanded (Left page offset bytes) = ⊥
-IsHanded (Packet claim packet) = ⊥
-IsHanded (Line line) = ⊥
-IsHanded (Asked outstanding deadline) = ⊥
-IsHanded (Taken page backup) = ⊥
+IsHanded item = ⊥
 
 pub data Gives (e i : ℕ) (items : List Item) : Type 0 where
   Tells : AreTold items → Gives e i items
@@ -240,20 +175,9 @@ gives_own e i items (Hands another item handed is) own = absurd (another own)
 
 -- an environment that is started or entered
 pub handed_rests : (item : Item) → IsHanded item → (s : Solo) → IsRested s (absorb_all s (item ∷ []))
-handed_rests (Boot number name entry accept kept) handed s = absurd handed
-handed_rests Step handed s = absurd handed
-handed_rests Start handed s = start_rests s
-handed_rests End handed s = absurd handed
-handed_rests (Transfer from kind registers) handed s = enter_rests from kind registers s
-handed_rests Killed handed s = absurd handed
-handed_rests (Answer verdict) handed s = absurd handed
-handed_rests (Gained page writable bytes) handed s = absurd handed
-handed_rests (Lost page) handed s = absurd handed
-handed_rests (Left page offset bytes) handed s = absurd handed
-handed_rests (Packet claim packet) handed s = absurd handed
-handed_rests (Line line) handed s = absurd handed
-handed_rests (Asked outstanding deadline) handed s = absurd handed
-handed_rests (Taken page backup) handed s = absurd handed
+handed_rests Start handed s = given_rests s Start (started s) true
+handed_rests (Transfer from kind registers) handed s = given_rests s (Transfer from kind registers) (record { binds = refl; seen = refl; rings = refl; life = refl }) true
+handed_rests item handed s = absurd handed
 
 pub gives_life : (e i : ℕ) (items : List Item) → Gives e i items → (s : Solo) → (absorb_all s items).life ≡ s.life
 gives_life e i items (Tells told) s = (told_leaves items told s).life

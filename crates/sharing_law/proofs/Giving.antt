@@ -7,7 +7,7 @@ use Rattle.bind_book.specs.Stripe.{is_bound}
 use Rattle.kernel_journal.specs.declared.row.Row.TheVariants as row
 use Rattle.world_model.specs.declared.call.Call.{Call}
 use Rattle.world_model.specs.declared.call.Deed.{Deed}
-use Rattle.world_model.specs.declared.call.Deed.TheVariants.{Answers, Stops, Gives as Donates, Allocates, Frees, Recaps, Binds, Unbinds, Own, Transfers, TakesSlot, DropsSlot, TakesLine, DropsLine, Claims, Unclaims, Downloads, Loads}
+use Rattle.world_model.specs.declared.call.Deed.TheVariants.{Gives as Donates, Allocates, Frees, Recaps, Binds, Transfers}
 use Rattle.world_model.specs.declared.slot.Phase.{Phase}
 use Rattle.world_model.specs.declared.slot.Phase.TheVariants as phase
 use Rattle.world_model.specs.declared.slot.Runner.{Runner}
@@ -32,7 +32,7 @@ use Rattle.world_model.specs.May.{May}
 use Rattle.world_model.specs.PageCalls.{breaks, left_at, left_by, page_bytes}
 use Rattle.world_model.specs.SlotCalls.{is_other, stop_row}
 use Rattle.world_model.specs.Solo.{Store, Key, Kept, Physical, is_dead}
-use Rattle.world_model.specs.Step.{Act, Nothing, Stores, Calls, Raises, Dies}
+use Rattle.world_model.specs.Step.{Act, Stores, Calls, Dies}
 use Rattle.world_model.specs.Tick.{act_now, brings, count_when, goes_on, grace_of, judged, kill, owes_more, run_out, step, step_when, take_turn, timer, turn, turn_when}
 use Rattle.world_model.specs.Verdict.{done, reply_of, reply_to, verdict}
 use Rattle.world_model.specs.World.{World, Reply, after, is_living, no_change, no_items, only, tells}
@@ -59,24 +59,13 @@ hands e target item is_handed other i = by_test (i == target) refl
 
 -- deed by deed
 pub deed_gives : (w : World) (e : ℕ) (d : Deed) → May w e d → (i : ℕ) → Gives e i ((done w e d).items i)
-deed_gives w e Answers may i = Tells tt
-deed_gives w e Stops may i = Tells tt
 deed_gives w e (Donates target) may i = hands e target Start tt (other_than w e target may.other) i
-deed_gives w e (Own own) may i = Tells tt
 deed_gives w e (Allocates page words) may i = Tells (told_only e i (Gained page true zero_page ∷ []) (tt, tt))
 deed_gives w e (Frees page) may i = Tells (told_at e i (Lost page ∷ []) (breaks w.book page) (tt, tt) (told_lost_if (is_bound page (w.book.binds i)) page))
 deed_gives w e (Recaps page words) may i = Tells (told_at e i [] (breaks w.book page) tt (told_lost_if (is_bound page (w.book.binds i)) page))
 deed_gives w e (Binds b word) may i = Tells (told_only e i (Gained b.page b.writable (page_bytes w b.page) ∷ []) (tt, tt))
-deed_gives w e (Unbinds vpn) may i = Tells tt
 deed_gives w e (Transfers target kind) may i = hands e target (Transfer e kind (carried (w.solos e).cpu)) tt (other_than w e target may.reach.other) i
-deed_gives w e (TakesSlot slot) may i = Tells tt
-deed_gives w e (DropsSlot slot) may i = Tells tt
-deed_gives w e (TakesLine line) may i = Tells tt
-deed_gives w e (DropsLine line) may i = Tells tt
-deed_gives w e (Claims claim address atoms page) may i = Tells tt
-deed_gives w e (Unclaims claim) may i = Tells tt
-deed_gives w e (Downloads claim address words) may i = Tells tt
-deed_gives w e (Loads page) may i = Tells tt
+deed_gives w e d may i = Tells tt
 
 -- an answer comes first
 answers : (e i : ℕ) (v : Verdict) (items : List Item) → Gives e i items → Gives e i (only e (Answer v ∷ []) i ++ items)
@@ -103,11 +92,10 @@ module _ (granted : GrantedMay) (w : World) (e : ℕ) where
 
   -- what an act brings once the step is made
   act_gives : (act : Act) → act_now w e ≡ act → (i : ℕ) → Gives e i ((brings e act (after w (tells e Step w))).items i)
-  act_gives Nothing is i = Tells tt
   act_gives (Stores x) is i = store_gives w e x i
   act_gives (Calls c) is i = subst (λ (v : World). Gives e i ((brings e (Calls c) v).items i)) (sym (call_stands w e c is)) (call_gives c (call_named w e c is) i)
-  act_gives (Raises exc) is i = Tells tt
   act_gives (Dies cause) is i = Tells (told_death w.book e i)
+  act_gives act is i = Tells tt
 
 -- The phases. What happens from outside, kind by kind
 signal_led : (line : ℕ) (owner : Option ℕ) (w : World) (i : ℕ) → Led ((signals line owner w).items i)

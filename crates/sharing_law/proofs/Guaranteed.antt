@@ -12,28 +12,27 @@ use Rattle.env_frames.specs.Context.{end_area, end_bytes, exception_area, except
 use Rattle.env_frames.specs.Transfer.{entry_area, entry_bytes}
 use Rattle.env_frames.specs.declared.post.PostWord.TheVariants as post
 use Rattle.env_frames.specs.Post.{post_offset}
-use Rattle.world_model.specs.Book.{is_idle_book}
 use Rattle.world_model.specs.Call.{exit_number}
 use Rattle.external_event.specs.declared.event.Occurrence.{Occurrence}
 use Rattle.revocation_book.specs.declared.revocation.Taking.{Taking}
-use Rattle.world_model.specs.Item.{Item, Boot, Step, Start, End, Transfer, Killed, Answer, Gained, Lost, Left, Packet, Line, Asked, Taken, absorb, absorb_all, absorbed}
+use Rattle.world_model.specs.Item.{Item, Boot, Step, Start, End, Transfer, Killed, Packet, Line, Asked, Taken, absorb, absorb_all, absorbed}
 use Rattle.world_model.specs.Page.{KeptPage}
 use Rattle.world_model.specs.Post.{post_word, signalled}
-use Rattle.world_model.specs.Solo.{Solo, Store, Key, Kept, Physical, bytes_in, is_dead, kept_after, kept_at, store_of, with_store, stored_page}
+use Rattle.world_model.specs.Solo.{Solo, Store, Key, Kept, Physical, bytes_in, kept_after, kept_at, store_of, with_store, stored_page}
 use Rattle.world_model.specs.Step.{Act, Nothing, Stores, Calls, Raises, Dies, act_at_call, act_of, acted, step_alone, store_act}
 use Rattle.world_model.specs.Tick.{phases_after}
 use Rattle.world_model.specs.Upcalls.{enter, end_slice, raise, with_context}
 use Rattle.world_model.specs.World.{World, Reply, after}
 use Rattle.world_model.proofs.Stores.{kept_as_was}
 use Rattle.call_verdicts.specs.Granted.{GrantedMay}
-use Rattle.run_model.specs.Run.{System, given_by, happens_in, moment, phases_in, takings_in, world_after}
-use Rattle.run_model.proofs.Phases.{next_moment, of_each, once_more, tick_moment}
+use Rattle.run_model.specs.Run.{System, given_by, happens_in, moment, takings_in, world_after}
+use Rattle.run_model.proofs.Phases.{next_moment, of_each, once_more}
 use Rattle.sharing_law.specs.Change.{Changes, GuaranteedChange, GuaranteedInTick, HasStore, HasWords, IsChanged, ItemChange, StepChanges, bytes_at}
 use Rattle.sharing_law.proofs.Contexts.{Rewrites, ask_changes, context_rewrites, rewrites_none, rewrites_or, rewrites_then, take_changes}
 use Rattle.sharing_law.proofs.Counting.{packet_counts}
-use Rattle.sharing_law.proofs.Given.{IsTold, Led, Leads, Rests, absorbed_leaves, kept_else, kept_here, told_leaves}
+use Rattle.sharing_law.proofs.Given.{IsTold, Led, Leads, Rests, absorb_or, absorbed_leaves, kept_else, kept_here, told_leaves}
 use Rattle.sharing_law.proofs.Giving.{happen_led, settling_led, step_led, taking_led, timer_led, turn_led}
-use Rattle.sharing_law.proofs.Moments.{stays_idle}
+use Rattle.sharing_law.proofs.Moments.{after_tick}
 use Rattle.sharing_law.proofs.Writing.{stored_writable}
 
 -- words in the context page
@@ -45,10 +44,7 @@ context_kept area words s t vpn same =
     let now = with_context area words s in
     let wrote : List ℕ → List ℕ = λ page. with_bytes page area words in
     let rewrites : Rewrites s t wrote = rewrites_then s now t wrote (λ page. page) (context_rewrites area words s) (rewrites_none now t same) in
-    elim (rewrites_or s t wrote rewrites vpn) [
-      | inl same ↦ inl same
-      | inr has ↦ inr (record { context = has.0; has = has.1 })
-    ]
+    rewrites_or s t wrote rewrites vpn
 
 -- What its own step does to a guaranteed page.
 module _ (s : Solo) (vpn : ℕ) where
@@ -120,21 +116,14 @@ module _ (s : Solo) (vpn : ℕ) where
   by_item End = context_kept end_area (end_bytes s.cpu) s (end_slice s) vpn refl
   by_item (Transfer from kind registers) = context_kept entry_area (entry_bytes from kind s.cpu) s (enter from kind registers s) vpn refl
   by_item Killed = inr refl
-  by_item (Answer verdict) = inl (stays_told (Answer verdict) tt)
-  by_item (Gained page writable bytes) = inl (stays_told (Gained page writable bytes) tt)
-  by_item (Lost page) = inl (stays_told (Lost page) tt)
-  by_item (Left page offset bytes) = inl (stays_told (Left page offset bytes) tt)
   by_item (Packet claim packet) = packet_counts s claim packet vpn
   by_item (Asked outstanding deadline) = ask_changes outstanding deadline s vpn
   by_item (Taken page backup) = take_changes page backup s vpn
   by_item (Line line) = context_kept (post_offset post.Lines) (word_bytes (bit_or (post_word post.Lines s) (2 ^ line))) s (signalled line s) vpn refl
-
-  by_life : (item : Item) (gone : Bool) → let t = (if gone then s else absorbed s item) in Stays t ⊎ Changes s t vpn item
-  by_life item true = inl refl
-  by_life item false = by_item item
+  by_item item = inl (stays_told item tt)
 
 pub item_change : ItemChange
-item_change s item vpn = by_life s vpn item (is_dead s.life)
+item_change s item vpn = absorb_or (λ t. (bytes_at t vpn ≡ bytes_at s vpn) ⊎ Changes s t vpn item) s item (inl refl) (by_item s vpn item)
 
 -- What items of which at most the first changes such pages do to one.
 record FirstChanges (s : Solo) (items : List Item) (vpn : ℕ) : Type 0 where
@@ -202,12 +191,8 @@ module _ (granted : GrantedMay) (system : System) (t : ℕ) where
     | inr before ↦ inr before
   ]
 
-  by_idle : (idle : Bool) → is_idle_book (world_after system t).book ≡ idle → (e vpn : ℕ) → KeptSince e vpn (world_after system (suc t))
-  by_idle true idle e vpn = subst (KeptSince e vpn) (sym (stays_idle system t idle)) (inl refl)
-  by_idle false busy e vpn = subst (KeptSince e vpn) (sym (tick_moment system t busy)) (kept_since (phases_in system t) e vpn)
-
 pub guaranteed_change : GrantedMay → GuaranteedChange
 guaranteed_change granted system t k e vpn = phase_change granted system t k e vpn
 
 pub guaranteed_in_tick : GrantedMay → GuaranteedInTick
-guaranteed_in_tick granted system t e vpn = by_idle granted system t (is_idle_book (world_after system t).book) refl e vpn
+guaranteed_in_tick granted system t e vpn = after_tick system t (KeptSince granted system t e vpn) (λ n. kept_since granted system t n e vpn)

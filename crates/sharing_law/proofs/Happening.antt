@@ -1,5 +1,5 @@
 -- What happens from outside, kind by kind: what it leaves of what is listed and seen.
-use Rattle.std.proofs.Common.{ℕ, ◌+◌, List, [], ◌∷◌, map, Bool, true, false, Option, Some, None, refl}
+use Rattle.std.proofs.Common.{ℕ, ◌+◌, List, Bool, true, false, Option, Some, None, refl}
 use Rattle.std.specs.Prelude.{◌==◌, if◌then◌else◌}
 use Rattle.external_event.specs.declared.event.Occurrence.{Occurrence}
 use Rattle.external_event.specs.declared.event.Occurrence.TheVariants as outside
@@ -8,36 +8,27 @@ use Rattle.world_model.specs.ClaimCalls.{claim_of}
 use Rattle.revocation_book.specs.declared.revocation.Pending.{Pending}
 use Rattle.revocation_book.specs.Pending.{asked}
 use Rattle.world_model.specs.Event.{arrives, asks, drops_packet, happen, signals}
-use Rattle.world_model.specs.Item.{Asked, Line, absorb_all}
-use Rattle.world_model.specs.Solo.{Solo}
-use Rattle.world_model.specs.World.{World, after, is_living, no_change, run_phases}
-use Rattle.sharing_law.proofs.Given.{IsRested, asked_rests, line_rests, rests_same}
-use Rattle.sharing_law.proofs.Turning.{IsAlike, ListsSame, lists_alike, lists_then, same_lists, unchanged}
+use Rattle.world_model.specs.Item.{Asked, Line}
+use Rattle.world_model.specs.World.{World, after, is_living, no_change}
+use Rattle.sharing_law.proofs.Given.{given_rests, rests_same}
+use Rattle.sharing_law.proofs.Turning.{IsAlike, ListsSame, same_lists, unchanged}
 
 -- a packet that is dropped
 pub dropped_alike : (packet : List ℕ) (w : World) → IsAlike w (after w (drops_packet packet w))
-dropped_alike packet w = record { solos = λ i. rests_same (w.solos i); pages = refl; binds = refl; claims = refl; next = refl; backups = refl; count = refl }
+dropped_alike packet w = record { solos = λ i. rests_same (w.solos i); lists = record { pages = refl; binds = refl; claims = refl; next = refl; backups = refl; count = refl } }
 
 -- a signal: who gets it rests, and all others stay as they are
-given_line : (line : ℕ) (s : Solo) (t : Bool) → IsRested s (absorb_all s (if t then Line line ∷ [] else []))
-given_line line s false = rests_same s
-given_line line s true = line_rests line s
-
 signalled_by : (line : ℕ) (owner : Option ℕ) (w : World) → IsAlike w (after w (signals line owner w))
 signalled_by line None w = unchanged w
-signalled_by line (Some owner) w = record { solos = λ i. given_line line (w.solos i) (i == owner); pages = refl; binds = refl; claims = refl; next = refl; backups = refl; count = refl }
+signalled_by line (Some owner) w = record { solos = λ i. given_rests (w.solos i) (Line line) (record { binds = refl; seen = refl; rings = refl; life = refl }) (i == owner); lists = record { pages = refl; binds = refl; claims = refl; next = refl; backups = refl; count = refl } }
 
 pub signalled_alike : (line : ℕ) (w : World) → IsAlike w (after w (happen (outside.Line line) w))
 signalled_alike line w = signalled_by line (w.book.lines line) w
 
 -- a revocation: who is asked for pages rests
-given_asked : (outstanding deadline : ℕ) (s : Solo) (t : Bool) → IsRested s (absorb_all s (if t then Asked outstanding deadline ∷ [] else []))
-given_asked outstanding deadline s false = rests_same s
-given_asked outstanding deadline s true = asked_rests outstanding deadline s
-
 asked_by : (e : ℕ) (pending : Option Pending) (w : World) → IsAlike w (after w (asks e pending w))
 asked_by e None w = unchanged w
-asked_by e (Some p) w = record { solos = λ i. given_asked p.outstanding p.deadline (w.solos i) (i == e); pages = refl; binds = refl; claims = refl; next = refl; backups = refl; count = refl }
+asked_by e (Some p) w = record { solos = λ i. given_rests (w.solos i) (Asked p.outstanding p.deadline) (record { binds = refl; seen = refl; rings = refl; life = refl }) (i == e); lists = record { pages = refl; binds = refl; claims = refl; next = refl; backups = refl; count = refl } }
 
 pub revoked_alike : (e count grace : ℕ) (w : World) → IsAlike w (after w (happen (outside.Revoke e count grace) w))
 revoked_alike e count grace w = by_test (is_living w e)
@@ -56,11 +47,5 @@ arrival_lists packet (Some c) w = same_lists w.book
 
 pub happen_lists : (what : Occurrence) (w : World) → ListsSame w.book (after w (happen what w)).book
 happen_lists (outside.Packet packet) w = arrival_lists packet (claim_of w.book packet) w
-happen_lists (outside.Line line) w = lists_alike w (after w (happen (outside.Line line) w)) (signalled_alike line w)
-happen_lists (outside.Revoke env count grace) w = lists_alike w (after w (happen (outside.Revoke env count grace) w)) (revoked_alike env count grace w)
-
-pub events_list : (happens : List Occurrence) (w : World) → ListsSame w.book (run_phases w (map happen happens)).book
-events_list [] w = same_lists w.book
-events_list (what ∷ happens) w =
-    let v = after w (happen what w) in
-    lists_then w.book v.book (run_phases v (map happen happens)).book (happen_lists what w) (events_list happens v)
+happen_lists (outside.Line line) w = (signalled_alike line w).lists
+happen_lists (outside.Revoke env count grace) w = (revoked_alike env count grace w).lists

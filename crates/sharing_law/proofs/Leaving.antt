@@ -51,14 +51,12 @@ left_by_event (outside.Revoke env count grace) base w e page offset bytes its = 
 -- what comes behind the events
 left_behind : (xs : List Taking) (base w : World) (k : ℕ) → ListsLess base.book w.book
     → (let m = run_phases w (take k (tick_phases xs)) in (e page offset : ℕ) (bytes : List ℕ) → LicensedBehind xs k m e (Left page offset bytes) → LeftSo base m (slice_get (tick_phases xs) k) e page offset bytes)
-left_behind [] base w zero less e page offset bytes its = absurd its
-left_behind [] base w (suc zero) less e page offset bytes its = absurd its
 left_behind [] base w (suc (suc zero)) less e page offset bytes its =
     let v = after w (settles w) in
     let m = after v (turn v) in
     ByStore its (less_alike base v m (less_alike base w v less (settled_alike w)) (turn_alike v))
-left_behind [] base w (suc (suc (suc zero))) less e page offset bytes its = absurd its
 left_behind [] base w (suc (suc (suc (suc k)))) less e page offset bytes its = absurd its
+left_behind [] base w k less e page offset bytes its = absurd its
 left_behind (x ∷ xs) base w zero less e page offset bytes its = ByTaking x refl its
 left_behind (x ∷ xs) base w (suc k) less e page offset bytes its =
     let v = after w (takes x w) in

@@ -1,3 +1,4 @@
+mod Choices
 mod Given
 mod Giving
 mod Replies

@@ -11,7 +11,7 @@ use Rattle.bind_book.specs.Stripe.{binding_at, breaks_page, goes_with, row_of, w
 use Rattle.bind_book.proofs.Swept.{left_in_row}
 use Rattle.world_model.specs.declared.call.Call.{Call}
 use Rattle.world_model.specs.declared.call.Deed.{Deed}
-use Rattle.world_model.specs.declared.call.Deed.TheVariants.{Answers, Own, Stops, Gives, Allocates, Frees, Recaps, Binds, Unbinds, Transfers, TakesSlot, DropsSlot, TakesLine, DropsLine, Claims, Unclaims, Downloads, Loads}
+use Rattle.world_model.specs.declared.call.Deed.TheVariants.{Allocates, Frees, Recaps, Binds, Unbinds}
 use Rattle.world_model.specs.declared.verdict.Verdict.{Verdict}
 use Rattle.world_model.specs.declared.verdict.Verdict.TheVariants.{Refuse, Grant}
 use Rattle.world_model.specs.Table.{set_at}
@@ -20,7 +20,7 @@ use Rattle.world_model.specs.Death.{death}
 use Rattle.world_model.specs.Item.{Step, deed_at}
 use Rattle.world_model.specs.May.{HasRight, May}
 use Rattle.world_model.specs.PageCalls.{freed, with_binding, without_number}
-use Rattle.world_model.specs.Step.{Act, Nothing, Stores, Calls, Raises, Dies}
+use Rattle.world_model.specs.Step.{Act, Calls, Dies}
 use Rattle.world_model.specs.Tick.{brings}
 use Rattle.world_model.specs.Verdict.{done, reply_of, reply_to, verdict}
 use Rattle.world_model.specs.World.{World, Reply, after, tells}
@@ -160,24 +160,12 @@ unbinds w e vpn = record { each = λ i row b is. inr (record { listed = by_env i
 
 -- deed by deed
 deed_carries : (w : World) (e : ℕ) → AreBoundAllocated w → (d : Deed) → Does w e d → May w e d → CarriesInto w (done w e d)
-deed_carries w e allocated Answers does may = stays w
-deed_carries w e allocated Stops does may = stays w
-deed_carries w e allocated (Gives target) does may = stays w
-deed_carries w e allocated (Own own) does may = stays w
 deed_carries w e allocated (Allocates page words) does may = allocates w e page words allocated may.free
 deed_carries w e allocated (Frees page) does may = frees w page
 deed_carries w e allocated (Recaps page words) does may = recaps w e page words may.owned
 deed_carries w e allocated (Binds b word) does may = binds_over w e b word does may.right
 deed_carries w e allocated (Unbinds vpn) does may = unbinds w e vpn
-deed_carries w e allocated (Transfers target kind) does may = stays w
-deed_carries w e allocated (TakesSlot slot) does may = stays w
-deed_carries w e allocated (DropsSlot slot) does may = stays w
-deed_carries w e allocated (TakesLine line) does may = stays w
-deed_carries w e allocated (DropsLine line) does may = stays w
-deed_carries w e allocated (Claims claim address atoms page) does may = stays w
-deed_carries w e allocated (Unclaims claim) does may = stays w
-deed_carries w e allocated (Downloads claim address words) does may = stays w
-deed_carries w e allocated (Loads page) does may = stays w
+deed_carries w e allocated d does may = stays w
 
 call_carries : GrantedMay → (w : World) (e : ℕ) → AreBoundAllocated w → (c : Option Call) → Acts w e (Calls c) → CarriesInto w (reply_to w e c)
 call_carries granted w e allocated c acts = by_verdict (verdict w e c) refl
@@ -188,8 +176,6 @@ call_carries granted w e allocated c acts = by_verdict (verdict w e c) refl
 
 -- what an act of the runner brings, once its step is made, which a call isn't changed by
 pub told_carries : GrantedMay → (w : World) (e : ℕ) → AreBoundAllocated w → (act : Act) → Acts w e act → CarriesInto w (brings e act (after w (tells e Step w)))
-told_carries granted w e allocated Nothing acts = stays w
-told_carries granted w e allocated (Stores x) acts = stays w
 told_carries granted w e allocated (Calls c) acts = subst (λ (v : World). CarriesInto w (brings e (Calls c) v)) (sym (call_stands w e c acts.comes)) (call_carries granted w e allocated c acts)
-told_carries granted w e allocated (Raises exc) acts = stays w
 told_carries granted w e allocated (Dies cause) acts = mourns w e
+told_carries granted w e allocated act acts = stays w

@@ -38,6 +38,7 @@ use Rattle.sharing_law.specs.Agreement.{AreBoundAllocated, ClaimPage, ring_page}
 use Rattle.sharing_law.specs.Delivery.{IsCopied}
 use Rattle.sharing_law.proofs.Backups.{AreBacked, loaded_at}
 use Rattle.sharing_law.proofs.Brings.{as_before}
+use Rattle.sharing_law.proofs.Choices.{either, for_each}
 use Rattle.sharing_law.proofs.Claimed.{AreRings, Claimed, good_less, rings_less, rings_spared}
 use Rattle.sharing_law.proofs.Claiming.{beside, copy_spares, loses_beside}
 use Rattle.sharing_law.proofs.Delivering.{owner_sees}
@@ -66,11 +67,8 @@ copied_in system t k page owner r next given comes = record {
 
 -- The record of a page that is taken changes the context page alone.
 recorded_rests : (n page : ℕ) (backup : Option ℕ) (s : Solo) → IsRested s (recorded n page backup s)
-recorded_rests n page backup s = by_test (nat_lt n most_records)
-  where
-    by_test : (room : Bool) → IsRested s (if room then with_context (record_offset n) (record_bytes page backup) s else s)
-    by_test true = record { binds = refl; seen = refl; rings = refl; life = refl }
-    by_test false = rests_same s
+recorded_rests n page backup s =
+    either (IsRested s) (nat_lt n most_records) (with_context (record_offset n) (record_bytes page backup) s) s (record { binds = refl; seen = refl; rings = refl; life = refl }) (rests_same s)
 
 counted_rests : (page : ℕ) (backup : Option ℕ) (s : Solo) → IsRested s (counted_taking page backup s)
 counted_rests page backup s = let rests = recorded_rests (post_word post.Takings s) page backup s in record { binds = rests.binds; seen = rests.seen; rings = rests.rings; life = rests.life }
@@ -174,24 +172,19 @@ module _ (w : World) (x : Taking) (sound : Sound w) (claimed : Claimed w) (backe
       (still_nothing i w.book.pages now.book.pages (w.book.binds i) (now.book.binds i) (page_bytes w) bytes_now (w.solos i) none (still_none i none) (sound.agreed i))
 
   all_see : (i : ℕ) → Sees i now.book.pages (now.book.binds i) bytes_now (now.solos i)
-  all_see i = elim (cases_eq i e) [
-    | inl same ↦ subst (λ (n : ℕ). Sees n now.book.pages (now.book.binds n) bytes_now (now.solos n)) (sym same) (subst (λ (t : Solo). Sees e now.book.pages (now.book.binds e) bytes_now t) (sym is_holder) own_sees)
-    | inr ne ↦ other_sees i ne (w.solos i).life refl
-  ]
+  all_see =
+      for_each (λ i. Sees i now.book.pages (now.book.binds i) bytes_now (now.solos i)) e
+      (subst (λ (t : Solo). Sees e now.book.pages (now.book.binds e) bytes_now t) (sym is_holder) own_sees) (λ i ne. other_sees i ne (w.solos i).life refl)
 
   -- all live as before
   all_live : (i : ℕ) → (now.solos i).life ≡ (w.solos i).life
-  all_live i = elim (cases_eq i e) [
-    | inl same ↦ subst (λ (n : ℕ). (now.solos n).life ≡ (w.solos n).life) (sym same) (ap (λ (t : Solo). t.life) is_holder ∙ (counted_rests x.page x.backup (copied x.page x.backup s)).life ∙ copied_life x.page x.backup s)
-    | inr ne ↦ ap (λ (items : List Item). (absorb_all (w.solos i) items).life) (set_else e i (Taken x.page x.backup ∷ []) others_get ne) ∙ (told_leaves (others_get i) (taking_told w x i) (w.solos i)).life
-  ]
+  all_live =
+      for_each (λ i. (now.solos i).life ≡ (w.solos i).life) e
+      (ap (λ (t : Solo). t.life) is_holder ∙ (counted_rests x.page x.backup (copied x.page x.backup s)).life ∙ copied_life x.page x.backup s)
+      (λ i ne. ap (λ (items : List Item). (absorb_all (w.solos i) items).life) (set_else e i (Taken x.page x.backup ∷ []) others_get ne) ∙ (told_leaves (others_get i) (taking_told w x i) (w.solos i)).life)
 
   free_behind : (page : ℕ) → w.book.pages page ≡ Free → now.book.pages page ≡ Free
-  free_behind page free = by_test (page == x.page)
-    where
-      by_test : (t : Bool) → (if t then Free else w.book.pages page) ≡ Free
-      by_test true = refl
-      by_test false = free
+  free_behind page free = either (λ row. row ≡ Free) (page == x.page) Free (w.book.pages page) refl free
 
   pub taking_sound : AreBoundAllocated now → Sound now
   taking_sound allocated = record {
@@ -221,20 +214,13 @@ module _ (w : World) (x : Taking) (sound : Sound w) (claimed : Claimed w) (backe
 
   pub taking_claimed : Claimed now
   taking_claimed = record {
-    rings = λ i. elim (cases_eq i e) [
-      | inl same ↦ subst (λ (n : ℕ). AreRings n now.book.claims (now.solos n).rings) (sym same) (subst (λ (t : Solo). AreRings e now.book.claims t.rings) (sym is_holder) own_rings)
-      | inr ne ↦ other_rings i ne
-    ];
+    rings = for_each (λ i. AreRings i now.book.claims (now.solos i).rings) e (subst (λ (t : Solo). AreRings e now.book.claims t.rings) (sym is_holder) own_rings) other_rings;
     good = good_less w.book now.book not_into refl refl (λ c kept owned. ap (is_owned_by c.env) (set_else x.page c.page Free w.book.pages (eqb-false c.page x.page (not-true (is_into x.page c) kept))) ∙ owned) claimed.good;
   }
 
   -- Pages that are owned then were so, and have the bytes that they had, but for the backup.
   had_owned : (o page : ℕ) → is_owned_by o (now.book.pages page) ≡ true → is_owned_by o (w.book.pages page) ≡ true
-  had_owned o page owns = by_test (page == x.page) owns
-    where
-      by_test : (t : Bool) → is_owned_by o (if t then Free else w.book.pages page) ≡ true → is_owned_by o (w.book.pages page) ≡ true
-      by_test true is = cc
-      by_test false is = is
+  had_owned o page owns = either (λ row. is_owned_by o row ≡ true → is_owned_by o (w.book.pages page) ≡ true) (page == x.page) Free (w.book.pages page) (λ is. cc) (λ is. is) owns
 
   pub backup_owned : (backup : ℕ) → x.backup ≡ Some backup → is_owned_by e (w.book.pages backup) ≡ true
   backup_owned backup is = (is_backup backup is).owned

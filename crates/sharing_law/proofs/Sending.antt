@@ -1,5 +1,5 @@
 -- What environments send keeps within limits: an answer sends by its own rule, and a packet by what its handler replies.
-use Rattle.std.proofs.Common.{◌≡◌, ◌≤◌, ◌<◌, ◌+◌, ℕ, zero, suc, List, [], ◌∷◌, ◌++◌, length, take, Bool, true, false, Option, Some, None, refl, sym, ◌∙◌, ap, subst, arith, length-append}
+use Rattle.std.proofs.Common.{◌≡◌, ◌≤◌, ◌<◌, ℕ, zero, suc, List, [], ◌∷◌, ◌++◌, length, take, Bool, true, false, Option, Some, None, refl, sym, ◌∙◌, ap, subst, arith, length-append}
 use Rattle.std.specs.Prelude.{◌==◌, nat_lt, if◌then◌else◌, is_some, slice_get, unwrap_or}
 use Rattle.std.specs.List.{All, list_all}
 use Rattle.std.proofs.lemmas.Bool.{and_parts, eqb-true, eqb-false}
@@ -22,21 +22,21 @@ use Rattle.revocation_book.specs.declared.revocation.Taking.{Taking}
 use Rattle.world_model.specs.declared.call.Call.{Call}
 use Rattle.world_model.specs.declared.call.Deed.{Deed}
 use Rattle.world_model.specs.declared.call.Deed.TheVariants.{Own, Gives, Allocates, Frees, Recaps, Binds, Unbinds, Transfers}
-use Rattle.world_model.specs.declared.call.OwnDeed.TheVariants.{Puts, Sends, Handles, Accepts}
+use Rattle.world_model.specs.declared.call.OwnDeed.TheVariants.{Sends}
 use Rattle.world_model.specs.declared.slot.Runner.{Runner}
 use Rattle.world_model.specs.declared.verdict.Verdict.{Verdict}
 use Rattle.world_model.specs.declared.verdict.Verdict.TheVariants.{Refuse, Grant}
-use Rattle.world_model.specs.Book.{is_idle_book, running}
+use Rattle.world_model.specs.Book.{running}
 use Rattle.world_model.specs.Call.{good_range}
 use Rattle.world_model.specs.Holding.{with_binds}
-use Rattle.world_model.specs.Item.{Item, Boot, Step, Start, End, Transfer, Killed, Answer, Gained, Lost, Left, Packet, Line, Asked, Taken, absorb, absorb_all, absorbed, deed_at, own_part}
+use Rattle.world_model.specs.Item.{Item, Boot, Step, Start, Transfer, Answer, Gained, Lost, Packet, Taken, absorb, absorb_all, absorbed, deed_at, own_part}
 use Rattle.world_model.specs.May.{May}
 use Rattle.world_model.specs.Page.{Mapped}
 use Rattle.world_model.specs.PageCalls.{breaks, lost_if, page_bytes}
 use Rattle.world_model.specs.Post.{counted, post_word}
 use Rattle.world_model.specs.Repossession.{copied}
 use Rattle.world_model.specs.Rings.{Loses, Queues, received_as, received_by, received_in, replied, ring_of}
-use Rattle.world_model.specs.Solo.{Solo, Ring, Physical, absent, bytes_of, is_dead, sight}
+use Rattle.world_model.specs.Solo.{Solo, Ring, Physical, absent, bytes_of, sight}
 use Rattle.world_model.specs.Step.{Act, Nothing, Stores, Calls, Raises, Dies, act_of, acted, step_alone}
 use Rattle.world_model.specs.Table.{set_at}
 use Rattle.world_model.specs.Tick.{act_now, brings, phases_after, step, step_when, tick_phases}
@@ -46,13 +46,15 @@ use Rattle.world_model.specs.World.{World, Reply, after, in_turn, only, tells}
 use Rattle.call_verdicts.specs.Granted.{GrantedMay}
 use Rattle.run_model.specs.Boot.{boot_items, record_items}
 use Rattle.run_model.specs.Licensed.{AtEvent, AtStep, GivenIsLicensed, IsAnswered, LicensedAt, LicensedBehind, LicensedIn}
-use Rattle.run_model.specs.Run.{System, given_by, happens_in, moment, phases_in, takings_in, world_after}
-use Rattle.run_model.proofs.Phases.{in_turn_is_each, next_moment, once_more, tick_moment}
+use Rattle.run_model.specs.Run.{System, given_by, happens_in, moment, takings_in, world_after}
+use Rattle.run_model.proofs.Phases.{in_turn_is_each, next_moment, once_more}
 use Rattle.run_model.proofs.Telling.{call_named, call_stands, deed_may}
 use Rattle.page_sight.proofs.Tables.{set_here}
 use Rattle.sharing_law.specs.Sent.{IsSentWithin, SentIsWithin, is_short}
+use Rattle.sharing_law.proofs.Choices.{either}
+use Rattle.sharing_law.proofs.Given.{absorb_or}
 use Rattle.sharing_law.proofs.Handling.{handled_holds, short_more, taken_short}
-use Rattle.sharing_law.proofs.Moments.{stays_idle}
+use Rattle.sharing_law.proofs.Moments.{each_moment}
 
 -- ---- packets
 
@@ -112,18 +114,11 @@ acted_within (Raises exc) s within = within
 acted_within (Dies cause) s within = within
 
 start_within : (s : Solo) → Within s → Within (absorbed s Start)
-start_within s within = by_test (s.handlers.start == 0)
-  where
-    by_test : (t : Bool) → Within (if t then record s { cpu = rested s.cpu } else record (with_context start_area (start_bytes s.cpu) s) { cpu = resumed_cpu s.handlers.start s.cpu })
-    by_test true = within
-    by_test false = within
+start_within s within =
+    either Within (s.handlers.start == 0) (record s { cpu = rested s.cpu }) (record (with_context start_area (start_bytes s.cpu) s) { cpu = resumed_cpu s.handlers.start s.cpu }) within within
 
 received_within : (handler : Option (List ℕ)) (r : Ring) (packet page : List ℕ) (s : Solo) → Within s → Within (received_as r (received_by handler r packet page) s)
-received_within None r packet page s within = by_full (is_full page r.next)
-  where
-    by_full : (full : Bool) → Within (received_as r (if full then Loses else Queues (with_packet page r.next packet)) s)
-    by_full true = within
-    by_full false = within
+received_within None r packet page s within = either (λ becomes. Within (received_as r becomes s)) (is_full page r.next) Loses (Queues (with_packet page r.next packet)) within within
 received_within (Some words) r packet page s within =
     let run = handler_run words packet r.claim page in
     replied_within s.sent run.replies within (handled_holds words packet r.claim page).short
@@ -148,27 +143,15 @@ absorbed_within : (s : Solo) (item : Item) → IsPlain item → Within s → Wit
 absorbed_within s (Boot number name entry accept kept) plain within = record { count = omega arith; sizes = refl }
 absorbed_within s Step plain within = acted_within (act_of s (step_alone s)) (record s { cpu = cpu_after s.cpu (step_alone s) }) within
 absorbed_within s Start plain within = start_within s within
-absorbed_within s End plain within = within
-absorbed_within s (Transfer from kind registers) plain within = within
-absorbed_within s Killed plain within = within
 absorbed_within s (Answer verdict) plain within = absurd plain
-absorbed_within s (Gained page writable bytes) plain within = within
-absorbed_within s (Lost page) plain within = within
-absorbed_within s (Left page offset bytes) plain within = within
 absorbed_within s (Packet claim packet) plain within = packet_within (ring_of s.rings claim) packet (counted post.Packets s) within
-absorbed_within s (Line line) plain within = within
-absorbed_within s (Asked outstanding deadline) plain within = within
 absorbed_within s (Taken page backup) plain within = taken_within page backup s within
-
--- whether it lives or not
-either_within : (gone : Bool) (s t : Solo) → Within s → Within t → Within (if gone then s else t)
-either_within true s t was is = was
-either_within false s t was is = is
+absorbed_within s item plain within = within
 
 plain_within : (items : List Item) → ArePlain items → (s : Solo) → Within s → Within (absorb_all s items)
 plain_within [] plain s within = within
 plain_within (item ∷ items) (plain, rest) s within =
-    plain_within items rest (absorb s item) (either_within (is_dead s.life) s (absorbed s item) within (absorbed_within s item plain within))
+    plain_within items rest (absorb s item) (absorb_or Within s item within (absorbed_within s item plain within))
 
 all_plain : (P : Item → Type 0) → ((item : Item) → P item → IsPlain item) → (items : List Item) → All P items → ArePlain items
 all_plain P more [] all = tt
@@ -176,11 +159,7 @@ all_plain P more (item ∷ items) all = (more item (all 0 item (omega arith)), a
 
 -- what one is given, and what the others are
 plain_at : (n i : ℕ) (items : List Item) (others : ℕ → List Item) → ArePlain items → ArePlain (others i) → ArePlain (set_at n items others i)
-plain_at n i items others its rest = by_test (i == n)
-  where
-    by_test : (t : Bool) → ArePlain (if t then items else others i)
-    by_test true = its
-    by_test false = rest
+plain_at n i items others its rest = either ArePlain (i == n) items (others i) its rest
 
 plain_loss : (t : Bool) (page : ℕ) → ArePlain (lost_if t page)
 plain_loss true page = (tt, tt)
@@ -200,17 +179,12 @@ deed_plain w e d i = tt
 
 -- what a deed leaves of its caller, which sends by its own rule
 deed_within : (w : World) (e : ℕ) (d : Deed) → May w e d → Within (w.solos e) → Within (own_part d (w.solos e))
-deed_within w e (Own (Puts address size)) may within = within
 deed_within w e (Own (Sends address size)) may within =
     let s = w.solos e in
     sent_within s.sent (unwrap_or (good_range (sight s) address size) []) within may.room (range_short (sight s) address size may.most)
-deed_within w e (Own (Handles kind address)) may within = within
-deed_within w e (Own (Accepts mask)) may within = within
-deed_within w e (Unbinds vpn) may within = by_test (is_some (binding_at (w.solos e).binds vpn))
-  where
-    by_test : (t : Bool) → (let s = w.solos e in Within (if t then with_binds (set_at (row_of vpn) None s.binds) s else s))
-    by_test true = within
-    by_test false = within
+deed_within w e (Unbinds vpn) may within =
+    let s = w.solos e in
+    either Within (is_some (binding_at s.binds vpn)) (with_binds (set_at (row_of vpn) None s.binds) s) s within within
 deed_within w e d may within = within
 
 module _ (granted : GrantedMay) (w : World) (e : ℕ) (c : Option Call) (comes : act_now w e ≡ Calls c) (within : Within (w.solos e)) where
@@ -220,13 +194,13 @@ module _ (granted : GrantedMay) (w : World) (e : ℕ) (c : Option Call) (comes :
   answer_within : (verdict : Verdict) → Within (absorbed s (Answer verdict)) → (items : List Item) → ArePlain items → Within (absorb_all s (only e (Answer verdict ∷ []) e ++ items))
   answer_within verdict its items plain =
       subst (λ (first : List Item). Within (absorb_all s (first ++ items))) (sym (set_here e (Answer verdict ∷ []) (λ j. [])))
-      (plain_within items plain (absorb s (Answer verdict)) (either_within (is_dead s.life) s (absorbed s (Answer verdict)) within its))
+      (plain_within items plain (absorb s (Answer verdict)) (absorb_or Within s (Answer verdict) within its))
 
   by_verdict : (v : Verdict) → verdict w e c ≡ v → Within (absorb_all s ((reply_of w e v).items e))
   by_verdict (Refuse code value) is =
       let v = Refuse code value in
       subst (λ (items : List Item). Within (absorb_all s items)) (sym (set_here e (Answer v ∷ []) (λ j. [])))
-      (either_within (is_dead s.life) s (absorbed s (Answer v)) within within)
+      (absorb_or Within s (Answer v) within within)
   by_verdict (Grant value) is =
       let d = deed_at s value in
       answer_within (Grant value) (deed_within w e d (deed_may granted w e c (call_named w e c comes) value is) within) ((done w e d).items e) (deed_plain w e d e)
@@ -269,11 +243,8 @@ module _ (granted : GrantedMay) (w : World) (i : ℕ) (within : Within (w.solos 
     by_env c is false other all = none_within (λ v its. eqb-false i r.env other (sym (answered_runs v its))) (Calls c) all
 
     by_act : (act : Act) → act_now w r.env ≡ act → All (AtStep w i) (given act) → Within (absorb_all (w.solos i) (given act))
-    by_act Nothing is all = other_act Nothing is (λ c its. cc) all
-    by_act (Stores x) is all = other_act (Stores x) is (λ c its. cc) all
     by_act (Calls c) is all = by_env c is (i == r.env) refl all
-    by_act (Raises exc) is all = other_act (Raises exc) is (λ c its. cc) all
-    by_act (Dies cause) is all = other_act (Dies cause) is (λ c its. cc) all
+    by_act act is all = other_act act is (λ c its. cc) all
 
   by_runner : (o : Option Runner) → w.book.runner ≡ o → All (AtStep w i) ((step_when w o).items i) → Within (absorb_all (w.solos i) ((step_when w o).items i))
   by_runner None is all = within
@@ -291,11 +262,9 @@ data Sort (phase : World → Reply) (L : World → ℕ → Item → Type 0) : Ty
   Others : NoAnswer L → Sort phase L
 
 sort_behind : (xs : List Taking) (k : ℕ) (phase : World → Reply) → slice_get (tick_phases xs) k ≡ Some phase → Sort phase (LicensedBehind xs k)
-sort_behind [] zero phase is = Others (λ w e v its. its)
-sort_behind [] (suc zero) phase is = Others (λ w e v its. its)
 sort_behind [] (suc (suc zero)) phase is = let same : step ≡ phase = cc in Steps (sym same) (λ w e item its. its)
-sort_behind [] (suc (suc (suc zero))) phase is = Others (λ w e v its. its)
 sort_behind [] (suc (suc (suc (suc k)))) phase is = Others (λ w e v its. its)
+sort_behind [] k phase is = Others (λ w e v its. its)
 sort_behind (x ∷ xs) zero phase is = Others (λ w e v its. its)
 sort_behind (x ∷ xs) (suc k) phase is = sort_behind xs k phase is
 
@@ -353,18 +322,5 @@ module _ (granted : GrantedMay) (licensed : GivenIsLicensed) (system : System) w
     next_within : AllWithin (moment system t (suc k))
     next_within = by_phase (slice_get (phases_after happens taken) k) refl
 
-  -- at each moment of a tick, and after every number of ticks
-  moments_within : (t : ℕ) → AllWithin (world_after system t) → (k : ℕ) → AllWithin (moment system t k)
-  moments_within t within zero = within
-  moments_within t within (suc k) = next_within t k (moments_within t within k)
-
-  next_tick_within : (t : ℕ) → AllWithin (world_after system t) → (idle : Bool) → is_idle_book (world_after system t).book ≡ idle → AllWithin (world_after system (suc t))
-  next_tick_within t within true idle = subst AllWithin (sym (stays_idle system t idle)) within
-  next_tick_within t within false busy = subst AllWithin (sym (tick_moment system t busy)) (moments_within t within (phases_in system t))
-
-  ticks_within : (t : ℕ) → AllWithin (world_after system t)
-  ticks_within zero = booted_within system.image
-  ticks_within (suc t) = next_tick_within t (ticks_within t) (is_idle_book (world_after system t).book) refl
-
 pub sent_is_within : GrantedMay → GivenIsLicensed → SentIsWithin
-sent_is_within granted licensed system t k e = moments_within granted licensed system t (ticks_within granted licensed system t) k e
+sent_is_within granted licensed system = each_moment AllWithin system (next_within granted licensed system) (booted_within system.image)

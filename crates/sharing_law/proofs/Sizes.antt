@@ -1,5 +1,5 @@
 -- Allocated pages have all their bytes, where packets are within their limits.
-use Rattle.std.proofs.Common.{◌≡◌, ◌≤◌, ◌+◌, ℕ, zero, suc, List, [], ◌∷◌, ◌++◌, length, take, drop, Bool, true, false, Some, inl, inr, refl, sym, ◌∙◌, ap, subst, arith, length-append}
+use Rattle.std.proofs.Common.{◌≡◌, ◌≤◌, ◌+◌, ℕ, zero, suc, List, [], ◌∷◌, ◌++◌, length, take, drop, true, false, Some, inl, inr, sym, ◌∙◌, ap, subst, arith, length-append}
 use Rattle.std.specs.Prelude.{nat_le, slice_get}
 use Rattle.std.specs.List.{All}
 use Rattle.std.proofs.lemmas.Bool.{and_parts, leb-true}
@@ -16,14 +16,12 @@ use Rattle.packet_ring.specs.Ring.{buffer_offset}
 use Rattle.page_book.specs.Row.{is_owned_by}
 use Rattle.revocation_book.specs.declared.revocation.Taking.{Taking}
 use Rattle.revocation_book.specs.Takings.{TakingsAreTakable}
-use Rattle.world_model.specs.Book.{is_idle_book}
 use Rattle.world_model.specs.Item.{Packet}
 use Rattle.world_model.specs.PageCalls.{page_bytes}
 use Rattle.world_model.specs.World.{World}
 use Rattle.call_verdicts.specs.Granted.{GrantedMay}
 use Rattle.run_model.specs.Licensed.{AtEvent, GivenIsLicensed, LicensedAt, LicensedBehind, LicensedIn}
-use Rattle.run_model.specs.Run.{System, given_at, happens_in, moment, phases_in, takings_in, world_after}
-use Rattle.run_model.proofs.Phases.{tick_moment}
+use Rattle.run_model.specs.Run.{System, given_at, happens_in, moment, takings_in, world_after}
 use Rattle.sharing_law.specs.Change.{IsStored}
 use Rattle.sharing_law.specs.Delivery.{IsCopied, IsDelivered}
 use Rattle.sharing_law.specs.Whole.{CopiesAreWhole, IsWithinLimits, PagesAreWhole}
@@ -31,7 +29,7 @@ use Rattle.sharing_law.proofs.Agreeing.{none_owned}
 use Rattle.sharing_law.proofs.Allocated.{becomes}
 use Rattle.sharing_law.proofs.Delivering.{owner_sees}
 use Rattle.sharing_law.proofs.Handling.{filled_whole}
-use Rattle.sharing_law.proofs.Moments.{stays_idle}
+use Rattle.sharing_law.proofs.Moments.{each_moment}
 use Rattle.sharing_law.proofs.Writing.{stored_within}
 
 -- bytes within a page leave its length
@@ -55,11 +53,8 @@ IsWhole w = (owner page : ℕ) → is_owned_by owner (w.book.pages page) ≡ tru
 
 -- A packet that is given in a phase is one that happens in the tick.
 packet_behind : (xs : List Taking) (k : ℕ) (w : World) (e claim : ℕ) (packet : List ℕ) → LicensedBehind xs k w e (Packet claim packet) → ⊥
-packet_behind [] zero w e claim packet its = its
-packet_behind [] (suc zero) w e claim packet its = its
-packet_behind [] (suc (suc zero)) w e claim packet its = its
-packet_behind [] (suc (suc (suc zero))) w e claim packet its = its
 packet_behind [] (suc (suc (suc (suc k)))) w e claim packet its = its
+packet_behind [] k w e claim packet its = its
 packet_behind (x ∷ xs) zero w e claim packet its = its
 packet_behind (x ∷ xs) (suc k) w e claim packet its = packet_behind xs k w e claim packet its
 
@@ -118,21 +113,8 @@ module _ (granted : GrantedMay) (takable : TakingsAreTakable) (licensed : GivenI
       ]
     ]
 
-  -- at each moment of a tick, and after every number of ticks
-  moments_whole : (t : ℕ) → IsWhole (world_after system t) → (k : ℕ) → IsWhole (moment system t k)
-  moments_whole t whole zero = whole
-  moments_whole t whole (suc k) = next_whole t k (moments_whole t whole k)
-
-  next_tick_whole : (t : ℕ) → IsWhole (world_after system t) → (idle : Bool) → is_idle_book (world_after system t).book ≡ idle → IsWhole (world_after system (suc t))
-  next_tick_whole t whole true idle = subst IsWhole (sym (stays_idle system t idle)) whole
-  next_tick_whole t whole false busy = subst IsWhole (sym (tick_moment system t busy)) (moments_whole t whole (phases_in system t))
-
-  ticks_whole : (t : ℕ) → IsWhole (world_after system t)
-  ticks_whole zero = λ owner page owns. let never : false ≡ true = sym (none_owned system.image owner page) ∙ owns in cc
-  ticks_whole (suc t) = next_tick_whole t (ticks_whole t) (is_idle_book (world_after system t).book) refl
-
   all_whole : (t k : ℕ) → IsWhole (moment system t k)
-  all_whole t k = moments_whole t (ticks_whole t) k
+  all_whole = each_moment IsWhole system next_whole (λ owner page owns. let never : false ≡ true = sym (none_owned system.image owner page) ∙ owns in cc)
 
 pub pages_are_whole : GrantedMay → TakingsAreTakable → GivenIsLicensed → RunsKeepLimits → PagesAreWhole
 pages_are_whole granted takable licensed runs system t k page owner within owns = all_whole granted takable licensed runs system within t k owner page owns

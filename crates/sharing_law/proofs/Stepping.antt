@@ -1,6 +1,5 @@
 -- The phase of a tick in which the runner makes its step.
-use Rattle.std.proofs.Common.{◌≡◌, ◌≢◌, ℕ, List, [], ◌∷◌, ◌++◌, Option, Some, inl, inr, refl, sym, ◌∙◌, ap, subst}
-use Rattle.std.proofs.lemmas.Bool.{cases_eq}
+use Rattle.std.proofs.Common.{◌≡◌, ◌≢◌, ℕ, List, [], ◌∷◌, ◌++◌, Option, Some, refl, sym, ◌∙◌, ap, subst}
 use Rattle.mips_exec.specs.Step.{cpu_after}
 use Rattle.world_model.specs.declared.call.Call.{Call}
 use Rattle.world_model.specs.declared.life.Life.{Life}
@@ -25,6 +24,7 @@ use Rattle.page_sight.specs.Sight.{Sees}
 use Rattle.page_sight.proofs.Tables.{set_here, set_else}
 use Rattle.page_sight.proofs.Sights.{HasNone}
 use Rattle.sharing_law.specs.Agreement.{AreBoundAllocated}
+use Rattle.sharing_law.proofs.Choices.{for_each}
 use Rattle.sharing_law.proofs.Given.{Gives, Tells, absorbs, dead_absorbs, gives_life, told_death}
 use Rattle.sharing_law.proofs.Giving.{deed_gives, store_gives}
 use Rattle.sharing_law.proofs.Sound.{Sound, agreed, still_nothing}
@@ -140,10 +140,9 @@ module _ (w : World) (e : ℕ) (s : Solo) (now : World) (items : ℕ → List It
           (still_nothing i w.book.pages now.book.pages (w.book.binds i) (now.book.binds i) (page_bytes w) brings.bytes (w.solos i) before (brings.none i ne before) (sound.agreed i))
 
   pub all_see : (i : ℕ) → Sees i now.book.pages (now.book.binds i) brings.bytes (now.solos i)
-  all_see i = elim (cases_eq i e) [
-    | inl same ↦ subst (λ (n : ℕ). Sees n now.book.pages (now.book.binds n) brings.bytes (now.solos n)) (sym same) (subst (λ t. Sees e now.book.pages (now.book.binds e) brings.bytes t) (sym follows.own) brings.own)
-    | inr ne ↦ other_sees i ne
-  ]
+  all_see =
+      for_each (λ i. Sees i now.book.pages (now.book.binds i) brings.bytes (now.solos i)) e
+      (subst (λ t. Sees e now.book.pages (now.book.binds e) brings.bytes t) (sym follows.own) brings.own) other_sees
 
   other_none : (i : ℕ) → i ≢ e → (cause : Cause) → (now.solos i).life ≡ Dead cause → HasNone i now.book.pages (now.book.binds i)
   other_none i ne cause died = brings.none i ne (sound.none i cause (sym (other_life i ne) ∙ died))
@@ -156,10 +155,7 @@ module _ (w : World) (e : ℕ) (s : Solo) (now : World) (items : ℕ → List It
   pub sound_following : AreBoundAllocated now → Sound now
   sound_following allocated = record {
     agreed = agreed now brings.bytes all_see allocated;
-    none = λ i cause died. elim (cases_eq i e) [
-      | inl same ↦ subst (λ (n : ℕ). HasNone n now.book.pages (now.book.binds n)) (sym same) (own_none brings.fortune cause (ap (λ (n : ℕ). (now.solos n).life) (sym same) ∙ died))
-      | inr ne ↦ other_none i ne cause died
-    ];
+    none = for_each (λ i. (cause : Cause) → (now.solos i).life ≡ Dead cause → HasNone i now.book.pages (now.book.binds i)) e (own_none brings.fortune) other_none;
     stripes = brings.stripes;
     behind = brings.behind;
   }
@@ -167,9 +163,8 @@ module _ (w : World) (e : ℕ) (s : Solo) (now : World) (items : ℕ → List It
   -- and its claims
   pub claimed_following : Claimed now
   claimed_following = record {
-    rings = λ i. elim (cases_eq i e) [
-      | inl same ↦ subst (λ (n : ℕ). AreRings n now.book.claims (now.solos n).rings) (sym same) (subst (λ (t : Solo). AreRings e now.book.claims t.rings) (sym follows.own) follows.claims.own)
-      | inr ne ↦ subst (λ (t : Solo). AreRings i now.book.claims t.rings) (sym (follows.others i ne)) (follows.claims.others i ne)
-    ];
+    rings =
+        for_each (λ i. AreRings i now.book.claims (now.solos i).rings) e (subst (λ (t : Solo). AreRings e now.book.claims t.rings) (sym follows.own) follows.claims.own)
+        (λ i ne. subst (λ (t : Solo). AreRings i now.book.claims t.rings) (sym (follows.others i ne)) (follows.claims.others i ne));
     good = follows.claims.good;
   }

@@ -27,7 +27,7 @@ use Rattle.run_model.specs.Excess.{IsRunnerLive}
 use Rattle.run_model.proofs.Phases.{in_turn_is_each}
 use Rattle.run_model.proofs.Telling.{told_other, told_own}
 use Rattle.sharing_law.specs.Agreement.{AreBoundAllocated, IsAllocated}
-use Rattle.sharing_law.proofs.Given.{IsRested, Tells, absorbs, dead_absorbs, end_rests, rests_same, told_death}
+use Rattle.sharing_law.proofs.Given.{IsRested, Tells, absorbs, dead_absorbs, given_rests, rests_same, told_death}
 use Rattle.sharing_law.proofs.Sound.{Sound, owner_bytes}
 use Rattle.sharing_law.proofs.Brings.{Brings, death_keeps, owing_keeps}
 use Rattle.sharing_law.proofs.Replies.{Remains, mourned}
@@ -60,12 +60,7 @@ death_owing b excess gone i = ap (λ items. if i == gone then [] else items) (lo
 module _ (w : World) where
   passes : (runner : Option Runner) (items : ℕ → List Item) (rows : List Row) → ((i : ℕ) → IsRested (w.solos i) (absorb_all (w.solos i) (items i)))
       → Comes w (record { book = record w.book { runner = runner }; items = items; rows = rows })
-  passes runner items rows rests = Passed (record { solos = rests; pages = refl; binds = refl; claims = refl; next = refl; backups = refl; count = refl })
-
-  -- who is told of its end rests, and all others stay as they are
-  given_end : (s : Solo) (t : Bool) → IsRested s (absorb_all s (if t then End ∷ [] else []))
-  given_end s false = rests_same s
-  given_end s true = end_rests s
+  passes runner items rows rests = Passed (record { solos = rests; lists = record { pages = refl; binds = refl; claims = refl; next = refl; backups = refl; count = refl } })
 
   module _ (r : Runner) (runs : w.book.runner ≡ Some r) where
     abbrev stops : Reply
@@ -76,7 +71,7 @@ module _ (w : World) where
 
     slice_comes : (none : Bool) → Comes w (if none then stops else ends)
     slice_comes true = passes None no_items (stop_row w.book r.env ∷ []) (λ i. rests_same (w.solos i))
-    slice_comes false = passes (Some (grace_of w r.env)) (only r.env (End ∷ [])) (row.End w.book.time w.book.cursor r.env ∷ []) (λ i. given_end (w.solos i) (i == r.env))
+    slice_comes false = passes (Some (grace_of w r.env)) (only r.env (End ∷ [])) (row.End w.book.time w.book.cursor r.env ∷ []) (λ i. given_rests (w.solos i) End (record { binds = refl; seen = refl; rings = refl; life = refl }) (i == r.env))
 
     -- the world once its excess has risen, and once it is told that it is killed
     abbrev owing : World
@@ -107,7 +102,7 @@ module _ (w : World) where
           ∙ ap (λ (s : Solo). absorb_all s (death_items doomed.book r.env i)) (told_other owing r.env Killed i ne)
           ∙ ap (absorb_all (w.solos i)) (death_owing w.book owing.book.excess r.env i);
     })
-    grace_comes false = Passed (record { solos = λ i. rests_same (w.solos i); pages = refl; binds = refl; claims = refl; next = refl; backups = refl; count = refl })
+    grace_comes false = Passed (record { solos = λ i. rests_same (w.solos i); lists = record { pages = refl; binds = refl; claims = refl; next = refl; backups = refl; count = refl } })
 
     out_comes : (p : Phase) → Comes w (run_out r.env p w)
     out_comes phase.Own = slice_comes ((w.solos r.env).handlers.end == 0)
@@ -125,12 +120,7 @@ module _ (w : World) where
   clocked : (count : World → Reply) → Comes w (count w) → Comes w (in_turn (count ∷ clock ∷ []) w)
   clocked count (Passed alike) = Passed (record {
     solos = λ i. subst (λ (items : List Item). IsRested (w.solos i) (absorb_all (w.solos i) items)) (sym (append-nil ((count w).items i))) (alike.solos i);
-    pages = alike.pages;
-    binds = alike.binds;
-    claims = alike.claims;
-    next = alike.next;
-    backups = alike.backups;
-    count = alike.count;
+    lists = record { pages = alike.lists.pages; binds = alike.lists.binds; claims = alike.lists.claims; next = alike.lists.next; backups = alike.lists.backups; count = alike.lists.count };
   })
   clocked count (Died x runs killed) = Died x runs (record {
     excess = killed.excess;
@@ -145,7 +135,7 @@ module _ (w : World) where
 
   -- each binding that is listed after it was before, and its page has the row that it had
   remains_by : (r : Reply) → Comes w r → (i n : ℕ) (b : Binding) → r.book.binds i n ≡ Some b → Remains w.book r.book i n b
-  remains_by r (Passed alike) i n b is = record { listed = (λ k. sym alike.binds k i n) ∙ is; page = λ k. alike.pages k b.page }
+  remains_by r (Passed alike) i n b is = record { listed = (λ k. sym alike.lists.binds k i n) ∙ is; page = λ k. alike.lists.pages k b.page }
   remains_by r (Died x runs killed) i n b is =
       let left = mourned w x.env i n b (ap (λ (book : Book). book.binds i n) (sym killed.book) ∙ is) in
       record { listed = left.listed; page = ap (λ (book : Book). book.pages b.page) killed.book ∙ left.page }
@@ -208,7 +198,7 @@ module _ (w : World) (sound : Sound w) (claimed : Claimed w) (lives : IsRunnerLi
   WasSo owner page v = (is_owned_by owner (w.book.pages page) ≡ true) × (page_bytes v page ≡ page_bytes w page)
 
   owned_by : (r : Reply) → Comes w r → (owner page : ℕ) → is_owned_by owner (r.book.pages page) ≡ true → WasSo owner page (after w r)
-  owned_by r (Passed alike) owner page owns = (ap (is_owned_by owner) (λ k. sym alike.pages k page) ∙ owns, bytes_alike w (after w r) alike page)
+  owned_by r (Passed alike) owner page owns = (ap (is_owned_by owner) (λ k. sym alike.lists.pages k page) ∙ owns, bytes_alike w (after w r) alike page)
   owned_by r (Died x runs killed) owner page owns = (
     released_owned x.env owner (w.book.pages page) (ap (λ (book : Book). is_owned_by owner (book.pages page)) (sym killed.book) ∙ owns),
     death_bytes w sound claimed x.env (lives x runs) r killed owner page owns,

@@ -1,32 +1,33 @@
 -- The phase of a tick in which no book changes but whose turn it is.
-use Rattle.std.proofs.Common.{◌≡◌, ◌≤◌, ℕ, [], ◌∷◌, Bool, true, false, Option, Some, None, refl, sym, ◌∙◌, subst}
-use Rattle.std.specs.Prelude.{◌==◌, if◌then◌else◌}
+use Rattle.std.proofs.Common.{◌≡◌, ◌≤◌, ℕ, Option, Some, None, refl, sym, ◌∙◌, subst}
+use Rattle.std.specs.Prelude.{◌==◌}
 use Rattle.page_book.specs.declared.row.PageRow.{PageRow}
 use Rattle.page_book.specs.declared.row.PageRow.TheVariants.{Free, Guaranteed, Owned}
 use Rattle.page_book.specs.Row.{is_owned_by}
 use Rattle.world_model.specs.declared.slot.Runner.{Runner}
 use Rattle.world_model.specs.declared.slot.Turn.{Turn}
 use Rattle.world_model.specs.Book.{Book, Told, whole_turn}
-use Rattle.world_model.specs.Solo.{Solo, bytes_seen}
-use Rattle.world_model.specs.Item.{Start, absorb_all}
+use Rattle.world_model.specs.Solo.{bytes_seen}
+use Rattle.world_model.specs.Item.{Start}
 use Rattle.world_model.specs.PageCalls.{bytes_owned, page_bytes}
 use Rattle.world_model.specs.World.{World, after, no_change}
 use Rattle.world_model.specs.Tick.{take_turn, turn, turn_when}
 use Rattle.page_sight.specs.Sight.{seen_in}
 use Rattle.sharing_law.specs.Agreement.{AreBoundAllocated, IsAllocated}
-use Rattle.sharing_law.proofs.Given.{IsRested, rests_same, start_rests}
+use Rattle.sharing_law.proofs.Given.{IsRested, given_rests, rests_same, started}
 use Rattle.sharing_law.proofs.Sound.{Sound}
 
--- a book that lists the pages and the bindings of another
+-- a book that lists what another lists
 pub record ListsSame (old new : Book) : Type 0 where
   pub pages : new.pages ≡ old.pages
   pub binds : new.binds ≡ old.binds
+  pub claims : new.claims ≡ old.claims
+  pub next : new.next_claim ≡ old.next_claim
+  pub backups : new.backups ≡ old.backups
+  pub count : new.page_count ≡ old.page_count
 
 pub same_lists : (b : Book) → ListsSame b b
-same_lists b = record { pages = refl; binds = refl }
-
-pub lists_then : (a b c : Book) → ListsSame a b → ListsSame b c → ListsSame a c
-lists_then a b c first next = record { pages = next.pages ∙ first.pages; binds = next.binds ∙ first.binds }
+same_lists b = record { pages = refl; binds = refl; claims = refl; next = refl; backups = refl; count = refl }
 
 pub allocated_same : (w v : World) → ListsSame w.book v.book → AreBoundAllocated w → AreBoundAllocated v
 allocated_same w v same allocated e row b at =
@@ -36,18 +37,10 @@ allocated_same w v same allocated e row b at =
 -- two worlds whose books list the same, and whose environments differ in their registers and their guaranteed pages alone
 pub record IsAlike (w v : World) : Type 0 where
   pub solos : (i : ℕ) → IsRested (w.solos i) (v.solos i)
-  pub pages : v.book.pages ≡ w.book.pages
-  pub binds : v.book.binds ≡ w.book.binds
-  pub claims : v.book.claims ≡ w.book.claims
-  pub next : v.book.next_claim ≡ w.book.next_claim
-  pub backups : v.book.backups ≡ w.book.backups
-  pub count : v.book.page_count ≡ w.book.page_count
-
-pub lists_alike : (w v : World) → IsAlike w v → ListsSame w.book v.book
-lists_alike w v alike = record { pages = alike.pages; binds = alike.binds }
+  pub lists : ListsSame w.book v.book
 
 pub bytes_alike : (w v : World) → IsAlike w v → (page : ℕ) → page_bytes v page ≡ page_bytes w page
-bytes_alike w v alike page = (λ k. bytes_owned v page (alike.pages k page)) ∙ by_row (w.book.pages page)
+bytes_alike w v alike page = (λ k. bytes_owned v page (alike.lists.pages k page)) ∙ by_row (w.book.pages page)
   where
     by_row : (row : PageRow) → bytes_owned v page row ≡ bytes_owned w page row
     by_row Free = refl
@@ -57,28 +50,23 @@ bytes_alike w v alike page = (λ k. bytes_owned v page (alike.pages k page)) ∙
 pub sound_alike : (w v : World) → IsAlike w v → Sound w → Sound v
 sound_alike w v alike sound = record {
   agreed = λ e. record {
-    binds = λ row. (λ k. (alike.solos e).binds k row) ∙ (sound.agreed e).binds row ∙ (λ k. sym alike.binds k e row);
-    seen = λ page. (λ k. (alike.solos e).seen k page) ∙ (sound.agreed e).seen page ∙ (λ k. seen_in e (sym alike.pages k) (sym alike.binds k e) (λ p. sym (bytes_alike w v alike p) k) page);
+    binds = λ row. (λ k. (alike.solos e).binds k row) ∙ (sound.agreed e).binds row ∙ (λ k. sym alike.lists.binds k e row);
+    seen = λ page. (λ k. (alike.solos e).seen k page) ∙ (sound.agreed e).seen page ∙ (λ k. seen_in e (sym alike.lists.pages k) (sym alike.lists.binds k e) (λ p. sym (bytes_alike w v alike p) k) page);
   };
   none = λ i cause died.
       let before = sound.none i cause (sym (alike.solos i).life ∙ died) in
-      record { binds = λ row. (λ k. alike.binds k i row) ∙ before.binds row; owns = λ page. (λ k. is_owned_by i (alike.pages k page)) ∙ before.owns page };
-  stripes = λ i row behind. (λ k. alike.binds k i row) ∙ sound.stripes i row behind;
-  behind = λ page more. (λ k. alike.pages k page) ∙ sound.behind page (subst (λ (n : ℕ). n ≤ page) alike.count more);
+      record { binds = λ row. (λ k. alike.lists.binds k i row) ∙ before.binds row; owns = λ page. (λ k. is_owned_by i (alike.lists.pages k page)) ∙ before.owns page };
+  stripes = λ i row behind. (λ k. alike.lists.binds k i row) ∙ sound.stripes i row behind;
+  behind = λ page more. (λ k. alike.lists.pages k page) ∙ sound.behind page (subst (λ (n : ℕ). n ≤ page) alike.lists.count more);
 }
 
--- who starts rests, and all others stay as they are
-given_start : (s : Solo) (t : Bool) → IsRested s (absorb_all s (if t then Start ∷ [] else []))
-given_start s false = rests_same s
-given_start s true = start_rests s
-
 pub unchanged : (w : World) → IsAlike w (after w (no_change w))
-unchanged w = record { solos = λ i. rests_same (w.solos i); pages = refl; binds = refl; claims = refl; next = refl; backups = refl; count = refl }
+unchanged w = record { solos = λ i. rests_same (w.solos i); lists = same_lists w.book }
 
--- The turn.
+-- The turn: who starts rests, and all others stay as they are.
 turn_taken : (w : World) (told : Told) (x : Option Turn) → IsAlike w (after w (take_turn w told x))
 turn_taken w told None = unchanged w
-turn_taken w told (Some t) = record { solos = λ i. given_start (w.solos i) (i == t.env); pages = refl; binds = refl; claims = refl; next = refl; backups = refl; count = refl }
+turn_taken w told (Some t) = record { solos = λ i. given_rests (w.solos i) Start (started (w.solos i)) (i == t.env); lists = record { pages = refl; binds = refl; claims = refl; next = refl; backups = refl; count = refl } }
 
 turn_by : (w : World) (o : Option Runner) → IsAlike w (after w (turn_when w o))
 turn_by w None = turn_taken w (whole_turn w.book) (whole_turn w.book).runs

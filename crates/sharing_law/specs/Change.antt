@@ -30,10 +30,14 @@ use Rattle.sharing_law.specs.Right.{HasLiveBinding, row_after}
 abbrev pub bytes_at : Solo → ℕ → List ℕ
 bytes_at s vpn = bytes_in (kept_at s.kept vpn)
 
--- words stand in an area of the context page, which is else as it was
-pub record HasWords (s t : Solo) (vpn area : ℕ) (words : List ℕ) : Type 0 where
+-- the page is the context page, which is rewritten so
+pub record IsRewritten (s t : Solo) (vpn : ℕ) (rewritten : List ℕ → List ℕ) : Type 0 where
   pub context : vpn ≡ context_number
-  pub has : bytes_at t vpn ≡ with_bytes (bytes_at s vpn) area words
+  pub has : bytes_at t vpn ≡ rewritten (bytes_at s vpn)
+
+-- words stand in an area of the context page, which is else as it was
+abbrev pub HasWords : Solo → Solo → ℕ → ℕ → List ℕ → Type 0
+HasWords s t vpn area words = IsRewritten s t vpn (λ page. with_bytes page area words)
 
 -- the bytes of a store stand in the page, which the store names and which may be stored to
 pub record HasStore (s t : Solo) (vpn : ℕ) (store : Store) : Type 0 where
@@ -58,9 +62,8 @@ packet_counted false page = counted_page post.Packets page
 packet_counted true page = counted_page post.Lost (counted_page post.Packets page)
 
 -- A packet for a claim is counted in the context page, and counted as lost exactly if the claim has no handler and its buffer is full.
-pub record HasCounts (s t : Solo) (vpn claim : ℕ) : Type 0 where
-  pub context : vpn ≡ context_number
-  pub has : bytes_at t vpn ≡ packet_counted (is_lost_in s (ring_of s.rings claim)) (bytes_at s vpn)
+abbrev pub HasCounts : Solo → Solo → ℕ → ℕ → Type 0
+HasCounts s t vpn claim = IsRewritten s t vpn (packet_counted (is_lost_in s (ring_of s.rings claim)))
 
 -- the context page, with what the environment is asked for
 abbrev pub asked_page : ℕ → ℕ → List ℕ → List ℕ
@@ -71,14 +74,12 @@ abbrev pub recorded_page : ℕ → ℕ → Option ℕ → List ℕ → List ℕ
 recorded_page n taken backup page = if nat_lt n most_records then with_bytes page (record_offset n) (record_bytes taken backup) else page
 
 -- An environment is told what it is asked for.
-pub record HasAsked (s t : Solo) (vpn outstanding deadline : ℕ) : Type 0 where
-  pub context : vpn ≡ context_number
-  pub has : bytes_at t vpn ≡ asked_page outstanding deadline (bytes_at s vpn)
+abbrev pub HasAsked : Solo → Solo → ℕ → ℕ → ℕ → Type 0
+HasAsked s t vpn outstanding deadline = IsRewritten s t vpn (asked_page outstanding deadline)
 
 -- A page that was taken is recorded, and counted.
-pub record HasRecord (s t : Solo) (vpn taken : ℕ) (backup : Option ℕ) : Type 0 where
-  pub context : vpn ≡ context_number
-  pub has : bytes_at t vpn ≡ counted_page post.Takings (recorded_page (post_word post.Takings s) taken backup (bytes_at s vpn))
+abbrev pub HasRecord : Solo → Solo → ℕ → ℕ → Option ℕ → Type 0
+HasRecord s t vpn taken backup = IsRewritten s t vpn (λ page. counted_page post.Takings (recorded_page (post_word post.Takings s) taken backup page))
 
 -- How an environment's own step changes a guaranteed page, by what the step comes to.
 abbrev pub StepChanges : Solo → Solo → ℕ → Act → Type 0
