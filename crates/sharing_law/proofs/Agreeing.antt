@@ -1,8 +1,8 @@
 -- The book and the environments agree, at each moment.
-use Rattle.std.proofs.Common.{◌≡◌, ◌≤◌, ℕ, zero, suc, ◌+◌, List, [], ◌∷◌, length, map, take, Bool, true, false, Option, Some, None, inl, inr, refl, sym, ◌∙◌, ap, subst, arith}
+use Rattle.std.proofs.Common.{◌≡◌, ◌≤◌, ℕ, zero, suc, ◌+◌, List, [], ◌∷◌, length, map, take, true, false, Option, Some, None, inl, inr, refl, sym, ◌∙◌, ap, subst, arith}
 use Rattle.std.proofs.lemmas.Bool.{both_ways}
 use Rattle.std.proofs.Math.Seq.{take-nil}
-use Rattle.std.specs.Prelude.{◌==◌, ◌↔◌, filter, if◌then◌else◌, slice_get}
+use Rattle.std.specs.Prelude.{◌==◌, ◌↔◌, filter, slice_get}
 use Rattle.boot_image.specs.ImageValue.{ImageValue, ProgramValue, guaranteed_mappings}
 use Rattle.page_book.specs.declared.row.PageRow.{PageRow}
 use Rattle.page_book.specs.declared.row.PageRow.TheVariants.{Free, Guaranteed}
@@ -42,6 +42,7 @@ use Rattle.sharing_law.specs.Agreement.{AreBoundAllocated, BooksAgree, BackupsAr
 use Rattle.sharing_law.proofs.Sound.{Sound, sees_nothing}
 use Rattle.sharing_law.proofs.Backups.{AreBacked, AreOnce, arrival_backed, backed_owned, backups_owned, step_backed, taking_backed, timer_backed}
 use Rattle.sharing_law.proofs.Books.{step_allocated}
+use Rattle.sharing_law.proofs.Choices.{either}
 use Rattle.sharing_law.proofs.Claimed.{Claimed, claimed_alike}
 use Rattle.sharing_law.proofs.Delivering.{arrived_sound}
 use Rattle.sharing_law.proofs.Happening.{happen_lists, revoked_alike, signalled_alike}
@@ -61,14 +62,10 @@ record AreFresh (count : ℕ) (pages : ℕ → PageRow) : Type 0 where
 fresh_lowest : (e count : ℕ) (pages : ℕ → PageRow) (o : Option ℕ) → lowest_free pages count ≡ o → AreFresh count pages → AreFresh count (keep_lowest e o pages)
 fresh_lowest e count pages None is fresh = fresh
 fresh_lowest e count pages (Some page) is fresh = record {
-  owns = λ i p. by_test i p (p == page);
+  owns = λ i p. either (λ row. is_owned_by i row ≡ false) (p == page) (Guaranteed e) (pages p) refl (fresh.owns i p);
   behind = λ p more. set_else page p (Guaranteed e) pages (λ same. other p more same) ∙ fresh.behind p more;
 }
   where
-    by_test : (i p : ℕ) (t : Bool) → is_owned_by i (if t then Guaranteed e else pages p) ≡ false
-    by_test i p true = refl
-    by_test i p false = fresh.owns i p
-
     other : (p : ℕ) → count ≤ p → p ≡ page → ⊥
     other p more same = omega (arith, (is_lowest pages count page is).below)
 

@@ -1,5 +1,5 @@
 -- A packet that is claimed: what each environment sees once it is in its ring.
-use Rattle.std.proofs.Common.{◌≡◌, ◌≢◌, ◌≤◌, ℕ, suc, List, [], ◌∷◌, ◌++◌, length, map, Bool, true, false, Option, Some, None, ◌⊎◌, inl, inr, refl, sym, ◌∙◌, ap, subst}
+use Rattle.std.proofs.Common.{◌≡◌, ◌≢◌, ◌≤◌, ℕ, suc, List, [], ◌∷◌, ◌++◌, length, map, true, false, Option, Some, None, ◌⊎◌, inl, inr, refl, sym, ◌∙◌, ap, subst}
 use Rattle.std.specs.Prelude.{◌==◌, filter, find, if◌then◌else◌}
 use Rattle.std.specs.Option.{option_map}
 use Rattle.std.proofs.lemmas.Bool.{cases_eq, eq-eqb, eqb-true, ne_eqb}
@@ -33,7 +33,7 @@ use Rattle.page_sight.proofs.Tables.{set_here, set_else}
 use Rattle.sharing_law.specs.Agreement.{AreBoundAllocated, ClaimPage, claim_page, ring_page}
 use Rattle.sharing_law.specs.Delivery.{IsDelivered}
 use Rattle.sharing_law.proofs.Brings.{as_before}
-use Rattle.sharing_law.proofs.Choices.{for_each}
+use Rattle.sharing_law.proofs.Choices.{either, for_each}
 use Rattle.sharing_law.proofs.Claimed.{AreRings, Claimed, IsGood, claimed_alike, rings_turned}
 use Rattle.sharing_law.proofs.Claiming.{ring_left_spares}
 use Rattle.sharing_law.proofs.Given.{IsRested, absorbs, dead_absorbs, rests_same, told_leaves}
@@ -46,13 +46,10 @@ use Rattle.sharing_law.proofs.Turning.{IsAlike, bytes_alike, same_lists, sound_a
 
 -- A page into which a packet goes, or of which a handler takes it, is left no smaller.
 left_size : (handler : Option (List ℕ)) (r : Ring) (packet page bytes : List ℕ) → page_left (received_by handler r packet page) ≡ Some bytes → length page ≤ length bytes
-left_size None r packet page bytes is = by_full (is_full page r.next) is
-  where
-    by_full : (full : Bool) → page_left (if full then Loses else Queues (with_packet page r.next packet)) ≡ Some bytes → length page ≤ length bytes
-    by_full true is = cc
-    by_full false is =
-        let same : with_packet page r.next packet ≡ bytes = cc in
-        subst (λ (left : List ℕ). length page ≤ length left) same (filled_size page (word_bytes (length packet) ++ packet) (buffer_offset r.next))
+left_size None r packet page bytes is =
+    either (λ becomes. page_left becomes ≡ Some bytes → length page ≤ length bytes) (is_full page r.next) Loses (Queues (with_packet page r.next packet)) (λ none. cc) (λ has.
+      let same : with_packet page r.next packet ≡ bytes = cc in
+      subst (λ (left : List ℕ). length page ≤ length left) same (filled_size page (word_bytes (length packet) ++ packet) (buffer_offset r.next))) is
 left_size (Some words) r packet page bytes is =
     let same : (handler_run words packet r.claim page).page ≡ bytes = cc in
     subst (λ (left : List ℕ). length page ≤ length left) same (handled_holds words packet r.claim page).page_size

@@ -39,6 +39,7 @@ use Rattle.world_model.specs.World.{World, Reply, after, is_living, no_change, n
 use Rattle.frame_store.specs.Pages.{zero_page}
 use Rattle.call_verdicts.specs.Granted.{GrantedMay}
 use Rattle.run_model.proofs.Telling.{call_stands, deed_may, call_named}
+use Rattle.sharing_law.proofs.Choices.{either}
 use Rattle.sharing_law.proofs.Given.{AreTold, Gives, Hands, IsHanded, Led, Leads, Rests, Tells, gives_led, gives_own, led_more, led_only, told_at, told_both, told_death, told_left, told_lost_if, told_only}
 
 -- what may be reached is another
@@ -108,25 +109,18 @@ ring_told w owner page (Some bytes) i = told_left (sees w.book i page) owner i p
 
 arrival_led : (packet : List ℕ) (claim : Option ClaimValue) (w : World) (i : ℕ) → Led ((arrives packet claim w).items i)
 arrival_led packet None w i = Rests tt
-arrival_led packet (Some c) w i = by_test (i == c.env)
-  where
-    left : List Item
-    left = let s = w.solos c.env in ring_left w.book c.env c.page (ring_bytes s (ring_of s.rings c.id) packet) i
-
-    by_test : (mine : Bool) → Led (if mine then Packet c.id packet ∷ [] else left)
-    by_test true = Leads (Packet c.id packet) [] tt refl
-    by_test false = Rests (ring_told w c.env c.page (let s = w.solos c.env in ring_bytes s (ring_of s.rings c.id) packet) i)
+arrival_led packet (Some c) w i =
+    let bytes = let s = w.solos c.env in ring_bytes s (ring_of s.rings c.id) packet in
+    either Led (i == c.env) (Packet c.id packet ∷ []) (ring_left w.book c.env c.page bytes i) (Leads (Packet c.id packet) [] tt refl) (Rests (ring_told w c.env c.page bytes i))
 
 ask_led : (e : ℕ) (pending : Option Pending) (w : World) (i : ℕ) → Led ((asks e pending w).items i)
 ask_led e None w i = Rests tt
 ask_led e (Some p) w i = led_only e i (Asked p.outstanding p.deadline)
 
 revocation_led : (e count deadline : ℕ) (w : World) (i : ℕ) → Led ((revokes e count deadline w).items i)
-revocation_led e count deadline w i = by_test (is_living w e)
-  where
-    by_test : (t : Bool) → (let r : Reply = (if t then asks e (asked count deadline (w.book.pending e)) w else no_change w) in Led (r.items i))
-    by_test true = ask_led e (asked count deadline (w.book.pending e)) w i
-    by_test false = Rests tt
+revocation_led e count deadline w i =
+    let pending = asked count deadline (w.book.pending e) in
+    either (λ (r : Reply). Led (r.items i)) (is_living w e) (asks e pending w) (no_change w) (ask_led e pending w i) (Rests tt)
 
 pub happen_led : (what : Occurrence) (w : World) (i : ℕ) → Led ((happen what w).items i)
 happen_led (outside.Packet packet) w i = arrival_led packet (claim_of w.book packet) w i
@@ -142,11 +136,9 @@ pub taking_told : (w : World) (x : Taking) (i : ℕ) → AreTold (copy_left w x 
 taking_told w x i = told_both (copy_left w x x.backup i) (breaks w.book x.page i) (copy_told w x x.backup i) (told_lost_if (is_bound x.page (w.book.binds i)) x.page)
 
 pub taking_led : (x : Taking) (w : World) (i : ℕ) → Led ((takes x w).items i)
-taking_led x w i = by_test (i == x.env)
-  where
-    by_test : (mine : Bool) → Led (if mine then Taken x.page x.backup ∷ [] else copy_left w x x.backup i ++ breaks w.book x.page i)
-    by_test true = Leads (Taken x.page x.backup) [] tt refl
-    by_test false = Rests (taking_told w x i)
+taking_led x w i =
+    let told = Taken x.page x.backup in
+    either Led (i == x.env) (told ∷ []) (copy_left w x x.backup i ++ breaks w.book x.page i) (Leads told [] tt refl) (Rests (taking_told w x i))
 
 pub settling_led : (w : World) (i : ℕ) → Led ((settles w).items i)
 settling_led w i = Rests tt
@@ -176,18 +168,13 @@ step_led granted w i = by_runner w.book.runner
         by_test r.env ((brings r.env act (after w (tells r.env Step w))).items i) (act_gives granted w r.env act refl i) (i == r.env) refl
 
 killed_led : (w : World) (e i : ℕ) → Led ((kill e w).items i)
-killed_led w e i = by_test (i == e)
-  where
-    by_test : (t : Bool) → Led ((if t then Killed ∷ [] else []) ++ (death_items w.book e i ++ []))
-    by_test true = Leads Killed (death_items w.book e i ++ []) (told_both (death_items w.book e i) [] (told_death w.book e i) tt) refl
-    by_test false = Rests (told_both (death_items w.book e i) [] (told_death w.book e i) tt)
+killed_led w e i =
+    let rest = death_items w.book e i ++ [] in
+    let told = told_both (death_items w.book e i) [] (told_death w.book e i) tt in
+    either (λ (first : List Item). Led (first ++ rest)) (i == e) (Killed ∷ []) [] (Leads Killed rest told refl) (Rests told)
 
 judged_led : (w : World) (e i : ℕ) → Led ((judged e w).items i)
-judged_led w e i = by_test (nat_lt excess_limit (w.book.excess e))
-  where
-    by_test : (t : Bool) → (let r : Reply = (if t then kill e w else goes_on (grace_of w e) w) in Led (r.items i))
-    by_test true = killed_led w e i
-    by_test false = Rests tt
+judged_led w e i = either (λ (r : Reply). Led (r.items i)) (nat_lt excess_limit (w.book.excess e)) (kill e w) (goes_on (grace_of w e) w) (killed_led w e i) (Rests tt)
 
 out_led : (w : World) (e i : ℕ) (p : Phase) → Led ((run_out e p w).items i)
 out_led w e i phase.Own = by_test ((w.solos e).handlers.end == 0)
@@ -202,10 +189,6 @@ out_led w e i phase.Grace = let u = after w (owes_more e w) in led_more ((judged
 pub timer_led : (w : World) (i : ℕ) → Led ((timer w).items i)
 timer_led w i = led_more ((count_when w.book.runner w).items i) [] (by_runner w.book.runner) tt
   where
-    by_left : (r : Runner) (t : Bool) → (let reply : Reply = (if t then run_out r.env r.phase w else goes_on (record r { left = r.left - 1 }) w) in Led (reply.items i))
-    by_left r true = out_led w r.env i r.phase
-    by_left r false = Rests tt
-
     by_runner : (o : Option Runner) → Led ((count_when o w).items i)
     by_runner None = Rests tt
-    by_runner (Some r) = by_left r (r.left - 1 == 0)
+    by_runner (Some r) = either (λ (reply : Reply). Led (reply.items i)) (r.left - 1 == 0) (run_out r.env r.phase w) (goes_on (record r { left = r.left - 1 }) w) (out_led w r.env i r.phase) (Rests tt)

@@ -1,6 +1,6 @@
 -- What happens from outside, kind by kind: what it leaves of what is listed and seen.
-use Rattle.std.proofs.Common.{ℕ, ◌+◌, List, Bool, true, false, Option, Some, None, refl}
-use Rattle.std.specs.Prelude.{◌==◌, if◌then◌else◌}
+use Rattle.std.proofs.Common.{ℕ, ◌+◌, List, Option, Some, None, refl}
+use Rattle.std.specs.Prelude.{◌==◌}
 use Rattle.external_event.specs.declared.event.Occurrence.{Occurrence}
 use Rattle.external_event.specs.declared.event.Occurrence.TheVariants as outside
 use Rattle.filter_tree.specs.ClaimBook.{ClaimValue}
@@ -9,7 +9,8 @@ use Rattle.revocation_book.specs.declared.revocation.Pending.{Pending}
 use Rattle.revocation_book.specs.Pending.{asked}
 use Rattle.world_model.specs.Event.{arrives, asks, drops_packet, happen, signals}
 use Rattle.world_model.specs.Item.{Asked, Line}
-use Rattle.world_model.specs.World.{World, after, is_living, no_change}
+use Rattle.world_model.specs.World.{World, Reply, after, is_living, no_change}
+use Rattle.sharing_law.proofs.Choices.{either}
 use Rattle.sharing_law.proofs.Given.{given_rests, rests_same}
 use Rattle.sharing_law.proofs.Turning.{IsAlike, ListsSame, same_lists, unchanged}
 
@@ -31,14 +32,9 @@ asked_by e None w = unchanged w
 asked_by e (Some p) w = record { solos = λ i. given_rests (w.solos i) (Asked p.outstanding p.deadline) (record { binds = refl; seen = refl; rings = refl; life = refl }) (i == e); lists = record { pages = refl; binds = refl; claims = refl; next = refl; backups = refl; count = refl } }
 
 pub revoked_alike : (e count grace : ℕ) (w : World) → IsAlike w (after w (happen (outside.Revoke e count grace) w))
-revoked_alike e count grace w = by_test (is_living w e)
-  where
-    pending : Option Pending
-    pending = asked count (w.book.time + grace) (w.book.pending e)
-
-    by_test : (t : Bool) → IsAlike w (after w (if t then asks e pending w else no_change w))
-    by_test true = asked_by e pending w
-    by_test false = unchanged w
+revoked_alike e count grace w =
+    let pending = asked count (w.book.time + grace) (w.book.pending e) in
+    either (λ (r : Reply). IsAlike w (after w r)) (is_living w e) (asks e pending w) (no_change w) (asked_by e pending w) (unchanged w)
 
 -- what is listed stays, whatever happens
 arrival_lists : (packet : List ℕ) (claim : Option ClaimValue) (w : World) → ListsSame w.book (after w (arrives packet claim w)).book

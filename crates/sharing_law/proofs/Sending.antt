@@ -1,6 +1,6 @@
 -- What environments send keeps within limits: an answer sends by its own rule, and a packet by what its handler replies.
 use Rattle.std.proofs.Common.{◌≡◌, ◌≤◌, ◌<◌, ℕ, zero, suc, List, [], ◌∷◌, ◌++◌, length, take, Bool, true, false, Option, Some, None, refl, sym, ◌∙◌, ap, subst, arith, length-append}
-use Rattle.std.specs.Prelude.{◌==◌, nat_lt, if◌then◌else◌, is_some, slice_get, unwrap_or}
+use Rattle.std.specs.Prelude.{◌==◌, nat_lt, is_some, slice_get, unwrap_or}
 use Rattle.std.specs.List.{All, list_all}
 use Rattle.std.proofs.lemmas.Bool.{and_parts, eqb-true, eqb-false}
 use Rattle.std.proofs.lemmas.List.{length-take}
@@ -128,16 +128,14 @@ packet_within None packet s within = within
 packet_within (Some r) packet s within = received_within r.handler r packet (bytes_of s (Physical r.page)) s within
 
 taken_within : (page : ℕ) (backup : Option ℕ) (s : Solo) → Within s → Within (absorbed s (Taken page backup))
-taken_within page backup s within = by_room (copied page backup s) (by_backup backup) (nat_lt (post_word post.Takings (copied page backup s)) most_records)
+taken_within page backup s within =
+    let t = copied page backup s in
+    let n = post_word post.Takings t in
+    either Within (nat_lt n most_records) (with_context (record_offset n) (record_bytes page backup) t) t (by_backup backup) (by_backup backup)
   where
     by_backup : (o : Option ℕ) → Within (copied page o s)
     by_backup None = within
     by_backup (Some into) = within
-
-    by_room : (t : Solo) → Within t → (room : Bool)
-        → (let n = post_word post.Takings t in Within (if room then with_context (record_offset n) (record_bytes page backup) t else t))
-    by_room t its true = its
-    by_room t its false = its
 
 absorbed_within : (s : Solo) (item : Item) → IsPlain item → Within s → Within (absorbed s item)
 absorbed_within s (Boot number name entry accept kept) plain within = record { count = omega arith; sizes = refl }

@@ -32,6 +32,7 @@ use Rattle.mips_exec.specs.Cpu.{address_of, reg}
 use Rattle.world_model.specs.Page.{KeptPage, Mapped, address_error, answers_by, if_served, raised, reach, served, user_end}
 use Rattle.world_model.specs.Solo.{Solo, Store, Kept, Physical, Place, bound_place, kept_at, leads, mapped, place_at, sight, store_through}
 use Rattle.world_model.specs.Step.{Stores, Raises, Dies, act_at_call, act_of, step_alone, store_act}
+use Rattle.sharing_law.proofs.Choices.{either}
 
 -- an instruction that retires writes what its access does
 ended_write : (cpu new : Cpu) (change : Change) (write o : Option Write) → ended cpu change write ≡ Retired new o → write ≡ o
@@ -112,12 +113,10 @@ module _ (look : ℕ → Option Mapped) (address : ℕ) where
   by_place None m is granted = cc
   by_place (Some n) m is granted = let same : n ≡ m = cc in ap (λ (x : Mapped). x.writable) (sym same) ∙ by_writable n n.writable refl granted
 
-  by_range : (t : Bool) (m : Mapped) → look (address / page_size) ≡ Some m → answer_to (if t then Err (raised (address_error purpose.Store) address) else served purpose.Store address (look (address / page_size))) ≡ Ok tt → m.writable ≡ true
-  by_range true m is granted = cc
-  by_range false m is granted = by_place (look (address / page_size)) m is granted
-
   granted_writable : (m : Mapped) → look (address / page_size) ≡ Some m → answer_to (reach look purpose.Store address) ≡ Ok tt → m.writable ≡ true
-  granted_writable m is granted = by_range (nat_le user_end address) m is granted
+  granted_writable m is granted =
+      let o = look (address / page_size) in
+      either (λ r. answer_to r ≡ Ok tt → m.writable ≡ true) (nat_le user_end address) (Err (raised (address_error purpose.Store) address)) (served purpose.Store address o) (λ never. cc) (by_place o m is) granted
 
 -- a page is stored to through a binding that may be stored through
 pub record IsThrough (s : Solo) (page : ℕ) : Type 0 where
@@ -159,15 +158,11 @@ module _ (s : Solo) (x : Store) where
   by_call true acts = cc
   by_call false acts = cc
 
-  by_handler : (exc : Exc) (none : Bool) → (if none then Dies (cause.Trapped exc.code) else Raises exc) ≡ Stores x → IsLed s x
-  by_handler exc true acts = cc
-  by_handler exc false acts = cc
-
   by_step : (st : Step) → step_alone s ≡ st → act_of s st ≡ Stores x → IsLed s x
   by_step (Retired new None) is acts = cc
   by_step (Retired new (Some w)) is acts = by_led new w is (leads s (w.address / page_size)) refl acts
   by_step Called is acts = by_call (reg s.cpu 2 == exit_number) acts
-  by_step (Trapped exc) is acts = by_handler exc (s.handlers.exception == 0) acts
+  by_step (Trapped exc) is acts = either (λ act. act ≡ Stores x → IsLed s x) (s.handlers.exception == 0) (Dies (cause.Trapped exc.code)) (Raises exc) (λ never. cc) (λ never. cc) acts
 
   led_store : act_of s (step_alone s) ≡ Stores x → IsLed s x
   led_store acts = by_step (step_alone s) refl acts
