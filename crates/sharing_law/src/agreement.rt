@@ -7,6 +7,7 @@ use revocation_book::law_takable;
 
 /// Each environment has just the bindings that the book lists for it, and sees just the pages that by the book it owns
 /// or has bound, with the bytes that their owner sees.
+#[tactic(auto, using(crate::proofs::Agreeing::books_agree))]
 pub fn law_agreement()
     ensures { BooksAgree }
 {
@@ -15,6 +16,7 @@ pub fn law_agreement()
 }
 
 /// No page is bound that is free or guaranteed.
+#[tactic(auto, using(crate::proofs::Agreeing::bound_is_allocated))]
 pub fn law_bound()
     ensures { BoundIsAllocated }
 {
@@ -23,6 +25,7 @@ pub fn law_bound()
 }
 
 /// Each environment has just the claims that the book lists for it, into the pages that the book says.
+#[tactic(auto, using(crate::proofs::Agreeing::claims_agree))]
 pub fn law_claims()
     ensures { ClaimsAgree }
 {
@@ -39,6 +42,7 @@ pub fn law_claim_pages()
 }
 
 /// Each backup is a page that its environment owns, none is loaded twice, and an environment has at most 64.
+#[tactic(auto, using(crate::proofs::Agreeing::backups_are_owned))]
 pub fn law_backups()
     ensures { BackupsAreOwned }
 {
@@ -47,6 +51,7 @@ pub fn law_backups()
 }
 
 /// Claims of two environments don't overlap: no packet is matched by both.
+#[tactic(auto, using(crate::proofs::Agreeing::claims_are_apart))]
 pub fn law_claims_apart()
     ensures { ClaimsAreApart }
 {

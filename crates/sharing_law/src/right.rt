@@ -7,6 +7,7 @@ use run_model::law_licence;
 
 /// Every binding that the book lists is live: its environment bound it, and owned the page ever since or presented a
 /// word that has given the right ever since.
+#[tactic(auto, using(crate::proofs::Live::each_is_live))]
 pub fn law_live()
     ensures { EachIsLive }
 {

@@ -7,6 +7,7 @@ use run_model::law_licence;
 use safe_handler::law_runs_keep_limits;
 
 /// Where what happens from outside is within its limits, each allocated page has its 4,096 bytes, at each moment.
+#[tactic(auto, using(crate::proofs::Sizes::pages_are_whole))]
 pub fn law_whole()
     ensures { PagesAreWhole }
 {

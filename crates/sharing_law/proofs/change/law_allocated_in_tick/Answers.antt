@@ -1,5 +1,0 @@
-use Rattle.sharing_law.proofs.Allocated.{allocated_in_tick}
-use Rattle.sharing_law.proofs.change.law_allocated_in_tick.Goals as goal
-
-pub returns : goal.returns
-returns c = allocated_in_tick c.law_granted.ensures c.law_takable.ensures

@@ -1,5 +1,0 @@
-use Rattle.sharing_law.proofs.Sizes.{pages_are_whole}
-use Rattle.sharing_law.proofs.whole.law_whole.Goals as goal
-
-pub returns : goal.returns
-returns c = pages_are_whole c.law_granted.ensures c.law_takable.ensures c.law_licence.ensures c.law_runs_keep_limits.ensures
