@@ -1,5 +1,6 @@
 -- Why the bytes of an allocated page change.
-use Rattle.std.proofs.Common.{◌≡◌, ℕ, zero, suc, List, [], ◌∷◌, map, true, false, Option, Some, None, ◌⊎◌, inl, inr, refl, sym, ◌∙◌, ap, subst, take}
+use Rattle.std.proofs.Common.{◌≡◌, ℕ, zero, suc, List, [], ◌∷◌, map, true, false, Option, Some, None, ◌⊎◌, inl, inr, refl, sym, ◌∙◌, ap, subst, take, arith}
+use Rattle.std.proofs.lemmas.Grind.{common_steps}
 use Rattle.std.specs.Prelude.{slice_get}
 use Rattle.page_book.specs.declared.row.PageRow.{PageRow}
 use Rattle.page_book.specs.declared.row.PageRow.TheVariants.{Free}
@@ -60,9 +61,7 @@ event_fates (outside.Revoke env count grace) w fine o page owns = alike_stay w (
 
 -- a page that is taken
 taking_fates : (x : Taking) (w : World) → MayTaking w x → Fine w → StayOrCome w (takes x w)
-taking_fates x w may fine o page owns =
-    let its = taking_owned w x fine.sound fine.claimed fine.backed may o page owns in
-    (its.0, elim its.1 [ inl same ↦ inl same | inr copy ↦ inr (inr copy) ])
+taking_fates x w may fine o page owns = grind (arith, common_steps, taking_owned)
 
 step_fates : GrantedMay → (w : World) (o : Option Runner) → w.book.runner ≡ o → Fine w → Fates w (after w (step_when w o))
 step_fates granted w None is fine o page owns = alike_fates w (after w (step_when w None)) (unchanged w) o page owns

@@ -1,11 +1,11 @@
 -- What a tick does to a binding that is listed, and to its page.
-use Rattle.std.proofs.Common.{◌≡◌, ℕ, suc, Bool, true, false, Option, Some, None, refl, sym, ◌∙◌, ap, subst, inl, inr}
+use Rattle.std.proofs.Common.{◌≡◌, ℕ, suc, Bool, true, false, Option, Some, None, refl, sym, ◌∙◌, ap, subst, inl, inr, arith}
+use Rattle.std.proofs.lemmas.Grind.{common_steps}
 use Rattle.std.specs.Prelude.{◌⊎◌}
 use Rattle.page_book.specs.declared.row.PageRow.{PageRow}
 use Rattle.bind_book.specs.declared.binding.Binding.{Binding}
 use Rattle.world_model.specs.declared.slot.Runner.{Runner}
 use Rattle.world_model.specs.Book.{Book, is_idle_book, running}
-use Rattle.world_model.specs.May.{HasRight}
 use Rattle.world_model.specs.World.{World, after}
 use Rattle.world_model.specs.Tick.{act_now, timer, step, step_when}
 use Rattle.call_verdicts.specs.Granted.{GrantedMay}
@@ -38,12 +38,7 @@ turned_listed w v pages e row b less was =
 
 -- and the timer leaves what it doesn't unbind
 put_timed : (v : World) (old new : Book) (e row : ℕ) (b : Binding) → Remains old new e row b → IsPut v old.pages e row b → IsPut v new.pages e row b
-put_timed v old new e row b left put = record {
-  word = put.word;
-  bound = put.bound;
-  stands = put.stands;
-  right = subst (λ (one : PageRow). HasRight e b.writable put.word one) (sym left.page) put.right;
-}
+put_timed v old new e row b left put = grind (arith, common_steps)
 
 listed_timed : (w : World) (old new : Book) (e row : ℕ) (b : Binding) → Remains old new e row b → WasListed w old.pages e row b → WasListed w new.pages e row b
 listed_timed w old new e row b left was = record { listed = was.listed; carried = subst (λ (one : PageRow). IsCarried e (w.book.pages b.page) one) (sym left.page) was.carried }

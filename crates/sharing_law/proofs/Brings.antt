@@ -1,5 +1,6 @@
 -- What comes of the runner's act: what each environment sees after it.
-use Rattle.std.proofs.Common.{◌≡◌, ◌≢◌, ◌≤◌, ℕ, List, [], Bool, true, false, Option, refl, sym, ◌∙◌, ap, subst}
+use Rattle.std.proofs.Common.{◌≡◌, ◌≢◌, ◌≤◌, ℕ, List, [], Bool, true, false, Option, refl, sym, ◌∙◌, ap, subst, arith}
+use Rattle.std.proofs.lemmas.Grind.{common_steps}
 use Rattle.std.specs.Prelude.{◌==◌, if◌then◌else◌}
 use Rattle.std.specs.Option.{option_map}
 use Rattle.std.proofs.lemmas.Bool.{eq-eqb, eqb-true, ne_eqb}
@@ -56,10 +57,7 @@ pub record Brings (w : World) (e : ℕ) (s : Solo) (b : Book) (items : ℕ → L
 
 -- who has the same bindings and sees the same
 pub as_before : (e : ℕ) (pages : ℕ → PageRow) (stripe : ℕ → Option Binding) (bytes : ℕ → List ℕ) (s t : Solo) → t.binds ≡ s.binds → t.seen ≡ s.seen → Sees e pages stripe bytes s → Sees e pages stripe bytes t
-as_before e pages stripe bytes s t binds sights seen = record {
-  binds = λ row. ap (λ (f : ℕ → Option Binding). f row) binds ∙ seen.binds row;
-  seen = λ page. (λ k. sights k page) ∙ seen.seen page;
-}
+as_before e pages stripe bytes s t binds sights seen = grind (arith, common_steps)
 
 module _ (w : World) (e : ℕ) (sound : Sound w) (lives : (w.solos e).life ≡ Live) where
   -- An act that changes nothing that is seen: the book may be another one with the same pages and bindings.

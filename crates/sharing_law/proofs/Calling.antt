@@ -1,5 +1,6 @@
 -- What comes of a granted call: what each environment sees once it is answered and done.
 use Rattle.std.proofs.Common.{◌≡◌, ◌≢◌, ◌≤◌, ℕ, List, [], ◌∷◌, Bool, true, false, Option, Some, None, is_some, refl, sym, ◌∙◌, ap, subst, arith}
+use Rattle.std.proofs.lemmas.Grind.{common_steps}
 use Rattle.std.specs.Prelude.{◌==◌, if◌then◌else◌}
 use Rattle.std.proofs.lemmas.Bool.{eqb-true, ne_eqb}
 use Rattle.frame_store.specs.Pages.{zero_page}
@@ -47,10 +48,7 @@ use Rattle.sharing_law.proofs.Brings.{Brings, Fate, Stays, Taken, GoesOn, as_bef
 
 -- a row of a stripe is none behind its last one
 set_ends : (vpn : ℕ) (x : Option Binding) (stripe : ℕ → Option Binding) → IsStripe stripe → IsStripe (set_at (row_of vpn) x stripe)
-set_ends vpn x stripe ends row behind = set_else (row_of vpn) row x stripe (λ same. apart (sym same)) ∙ ends row behind
-  where
-    apart : row_of vpn ≡ row → ⊥
-    apart same = omega arith
+set_ends vpn x stripe ends row behind = grind (arith, common_steps, set_else)
 
 module _ (w : World) (e : ℕ) (sound : Sound w) (lives : (w.solos e).life ≡ Live) (allocated : AreBoundAllocated w) (cpu : Cpu) where
   -- the caller once it is answered, and lives

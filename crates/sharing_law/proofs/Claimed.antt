@@ -1,5 +1,6 @@
 -- Claims: each environment has those that the book lists for it, and each goes into a page of its environment's.
-use Rattle.std.proofs.Common.{◌≡◌, ◌≢◌, ◌<◌, ℕ, List, [], ◌∷◌, ◌++◌, map, Bool, true, false, not, cond, Some, ◌⊎◌, inl, inr, Option, refl, sym, ◌∙◌, ap, subst, arith}
+use Rattle.std.proofs.Common.{◌≡◌, ◌≢◌, ◌<◌, ℕ, List, [], ◌∷◌, ◌++◌, map, Bool, true, false, not, Some, ◌⊎◌, inl, inr, Option, refl, sym, ◌∙◌, ap, subst, arith}
+use Rattle.std.proofs.lemmas.Grind.{common_steps}
 use Rattle.std.specs.Prelude.{◌==◌, filter, find}
 use Rattle.std.proofs.lemmas.Bool.{eq-eqb, ne_eqb}
 use Rattle.std.proofs.lemmas.List.{append-nil, map-append}
@@ -128,21 +129,10 @@ rings_beside e page claims rings beside are =
 
 -- it claims once more, or another does
 pub rings_more : (claims : List ClaimValue) (rings : List Ring) (c : ClaimValue) (r : Ring) → ring_page r ≡ claim_page c → AreRings c.env claims rings → AreRings c.env (claims ++ c ∷ []) (rings ++ r ∷ [])
-rings_more claims rings c r same are =
-    map-append ring_page rings (r ∷ [])
-    ∙ (λ k. are k ++ same k ∷ [])
-    ∙ sym (map-append claim_page (filter (is_of_env c.env) claims) (c ∷ []))
-    ∙ ap (λ (its : List ClaimValue). map claim_page (filter (is_of_env c.env) claims ++ its)) (ap (λ t. cond t (c ∷ []) []) (sym (eq-eqb c.env c.env refl)))
-    ∙ ap (map claim_page) (sym (filter-append (is_of_env c.env) claims (c ∷ [])))
+rings_more claims rings c r same are = grind (arith, common_steps, map-append, eq-eqb, filter-append)
 
 pub rings_other : (e : ℕ) (claims : List ClaimValue) (rings : List Ring) (c : ClaimValue) → e ≢ c.env → AreRings e claims rings → AreRings e (claims ++ c ∷ []) rings
-rings_other e claims rings c other are =
-    are
-    ∙ ap (map claim_page) (
-    sym (append-nil (filter (is_of_env e) claims))
-    ∙ ap (λ (its : List ClaimValue). filter (is_of_env e) claims ++ its) (ap (λ t. cond t (c ∷ []) []) (sym (ne_eqb c.env e (λ same. other (sym same)))))
-    ∙ sym (filter-append (is_of_env e) claims (c ∷ []))
-    )
+rings_other e claims rings c other are = grind (arith, common_steps, append-nil, ne_eqb, filter-append)
 
 -- the next buffer of a ring is nothing that the book lists, nor is its handler
 rings_same : (change : Ring → Ring) → ((r : Ring) → ring_page (change r) ≡ ring_page r) → (rings : List Ring) → map ring_page (map change rings) ≡ map ring_page rings
@@ -157,7 +147,4 @@ rings_handled claim handler = grind (arith, rings_same)
 
 -- Worlds that are alike are claimed alike.
 pub claimed_alike : (w v : World) → IsAlike w v → Claimed w → Claimed v
-claimed_alike w v alike claimed = record {
-  rings = λ e. ap (map ring_page) (alike.solos e).rings ∙ claimed.rings e ∙ ap (λ (claims : List ClaimValue). map claim_page (filter (is_of_env e) claims)) (sym alike.lists.claims);
-  good = good_same w.book v.book alike.lists.claims alike.lists.next (λ c owned. (λ k. is_owned_by c.env (alike.lists.pages k c.page)) ∙ owned) claimed.good;
-}
+claimed_alike w v alike claimed = grind (arith, common_steps, good_same)

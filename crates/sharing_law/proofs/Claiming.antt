@@ -1,5 +1,6 @@
 -- What comes of the runner's act to claims.
-use Rattle.std.proofs.Common.{◌≡◌, ◌≢◌, ℕ, zero, suc, List, [], ◌∷◌, map, Bool, true, false, not, ◌&&◌, Option, Some, None, Ok, Err, is_some, inl, refl, sym, ◌∙◌, ap, subst}
+use Rattle.std.proofs.Common.{◌≡◌, ◌≢◌, ℕ, zero, suc, List, [], ◌∷◌, map, Bool, true, false, not, ◌&&◌, Option, Some, None, Ok, Err, is_some, inl, refl, sym, ◌∙◌, ap, subst, arith}
+use Rattle.std.proofs.lemmas.Grind.{common_steps}
 use Rattle.std.specs.Prelude.{◌==◌, ◌%◌, ◌*◌, count_by, nat_le, filter, find, length, ok_or, if◌then◌else◌}
 use mathlib.Core.Bool.{and-false, and-true}
 use Rattle.std.specs.Option.{option_map}
@@ -92,10 +93,7 @@ copy_spares w x (Some backup) i = left_at_spares w.book x.env (page_store backup
 
 -- no claim of an environment goes into a page that isn't its own
 pub beside : (b : Book) → AreGood b → (i page : ℕ) → is_owned_by i (b.pages page) ≡ false → (c : ClaimValue) → Has b.claims c → is_of_env i c ≡ true → (c.page == page) ≡ false
-beside b good i page none c its own = ne_eqb c.page page (λ same. clash (λ k. is_owned_by (eqb-true c.env i own k) (b.pages (same k))))
-  where
-    clash : is_owned_by c.env (b.pages c.page) ≡ is_owned_by i (b.pages page) → ⊥
-    clash same = let never : false ≡ true = sym none ∙ sym same ∙ (good.each c its).owned in cc
+beside b good i page none c its own = grind (arith, common_steps, ne_eqb, eqb-true)
 
 -- who loses such a page loses no claim
 pub loses_beside : (i page : ℕ) (claims : List ClaimValue) → ((c : ClaimValue) → Has claims c → is_of_env i c ≡ true → (c.page == page) ≡ false)

@@ -1,14 +1,11 @@
 -- A packet that is claimed: what each environment sees once it is in its ring.
-use Rattle.std.proofs.Common.{◌≡◌, ◌≢◌, ◌≤◌, ℕ, suc, List, [], ◌∷◌, ◌++◌, length, map, true, false, Option, Some, None, ◌⊎◌, inl, inr, refl, sym, ◌∙◌, ap, subst}
+use Rattle.std.proofs.Common.{◌≡◌, ◌≢◌, ◌≤◌, ℕ, suc, List, [], ◌∷◌, length, map, true, false, Option, Some, None, ◌⊎◌, inl, inr, refl, sym, ◌∙◌, ap, subst, arith}
+use Rattle.std.proofs.lemmas.Grind.{common_steps}
 use Rattle.std.specs.Prelude.{◌==◌, filter, find, if◌then◌else◌}
 use Rattle.std.specs.Option.{option_map}
 use Rattle.std.proofs.lemmas.Bool.{cases_eq, eq-eqb, eqb-true, ne_eqb}
 use Rattle.env_frames.specs.declared.post.PostWord.TheVariants as post
-use Rattle.frame_store.specs.Pages.{with_bytes, word_bytes}
-use Rattle.packet_ring.specs.Ring.{buffer_offset, is_full, with_packet}
-use Rattle.handler_code.specs.Running.{handler_run}
-use Rattle.page_book.specs.declared.row.PageRow.{PageRow}
-use Rattle.page_book.specs.declared.row.PageRow.TheVariants.{Free, Guaranteed, Owned}
+use Rattle.frame_store.specs.Pages.{with_bytes}
 use Rattle.page_book.specs.Row.{is_owned_by}
 use Rattle.page_book.proofs.Owners.{same_owner}
 use Rattle.filter_tree.specs.ClaimBook.{ClaimValue, is_of_env}
@@ -20,9 +17,9 @@ use Rattle.world_model.specs.ClaimCalls.{claim_of}
 use Rattle.external_event.specs.declared.event.Occurrence.TheVariants as outside
 use Rattle.world_model.specs.Event.{arrives, delivers, happen, ring_bytes, ring_left}
 use Rattle.world_model.specs.Item.{Item, Packet, absorb_all}
-use Rattle.world_model.specs.PageCalls.{bytes_owned, left_if, page_bytes}
+use Rattle.world_model.specs.PageCalls.{left_if, page_bytes}
 use Rattle.world_model.specs.Post.{counted}
-use Rattle.world_model.specs.Rings.{Reception, Loses, Queues, Handles, page_left, page_store, received_as, received_by, received_in, reception, ring_of}
+use Rattle.world_model.specs.Rings.{Reception, page_left, page_store, received_as, received_by, received_in, reception, ring_of}
 use Rattle.world_model.specs.Solo.{Solo, Ring, Physical, bytes_seen, with_store}
 use Rattle.world_model.specs.Table.{set_at}
 use Rattle.world_model.specs.World.{World, Reply, after}
@@ -33,7 +30,7 @@ use Rattle.page_sight.proofs.Tables.{set_here, set_else}
 use Rattle.sharing_law.specs.Agreement.{AreBoundAllocated, ClaimPage, claim_page, ring_page}
 use Rattle.sharing_law.specs.Delivery.{IsDelivered}
 use Rattle.sharing_law.proofs.Brings.{as_before}
-use Rattle.sharing_law.proofs.Choices.{either, for_each}
+use Rattle.sharing_law.proofs.Choices.{for_each}
 use Rattle.sharing_law.proofs.Claimed.{AreRings, Claimed, IsGood, claimed_alike, rings_turned}
 use Rattle.sharing_law.proofs.Claiming.{ring_left_spares}
 use Rattle.sharing_law.proofs.Given.{IsRested, absorbs, dead_absorbs, rests_same, told_leaves}
@@ -46,13 +43,7 @@ use Rattle.sharing_law.proofs.Turning.{IsAlike, bytes_alike, same_lists, sound_a
 
 -- A page into which a packet goes, or of which a handler takes it, is left no smaller.
 left_size : (handler : Option (List ℕ)) (r : Ring) (packet page bytes : List ℕ) → page_left (received_by handler r packet page) ≡ Some bytes → length page ≤ length bytes
-left_size None r packet page bytes is =
-    either (λ becomes. page_left becomes ≡ Some bytes → length page ≤ length bytes) (is_full page r.next) Loses (Queues (with_packet page r.next packet)) (λ none. cc) (λ has.
-      let same : with_packet page r.next packet ≡ bytes = cc in
-      subst (λ (left : List ℕ). length page ≤ length left) same (filled_size page (word_bytes (length packet) ++ packet) (buffer_offset r.next))) is
-left_size (Some words) r packet page bytes is =
-    let same : (handler_run words packet r.claim page).page ≡ bytes = cc in
-    subst (λ (left : List ℕ). length page ≤ length left) same (handled_holds words packet r.claim page).page_size
+left_size handler r packet page bytes is = grind (arith, common_steps, filled_size, handled_holds)
 
 -- What its environment is once the packet is there: these bytes are stored in the ring page, and the claims have their pages.
 record IsPut (s t : Solo) (page : ℕ) (bytes : List ℕ) : Type 0 where
@@ -62,28 +53,15 @@ record IsPut (s t : Solo) (page : ℕ) (bytes : List ℕ) : Type 0 where
   life : t.life ≡ s.life
 
 puts : (r : Ring) (becomes : Reception) (s : Solo) (bytes : List ℕ) → page_left becomes ≡ Some bytes → IsPut s (received_as r becomes s) r.page bytes
-puts r Loses s bytes is = cc
-puts r (Queues page) s bytes is =
-    let same : page ≡ bytes = cc in
-    record { binds = refl; seen = ap (λ (left : List ℕ). (with_store (page_store r.page left) s).seen) same; rings = rings_turned r.claim s.rings; life = refl }
-puts r (Handles page replies) s bytes is =
-    let same : page ≡ bytes = cc in
-    record { binds = refl; seen = ap (λ (left : List ℕ). (with_store (page_store r.page left) s).seen) same; rings = refl; life = refl }
+puts r becomes s bytes is = grind (arith, common_steps, rings_turned)
 
 -- or once it is lost
 lost_rests : (r : Ring) (becomes : Reception) (s : Solo) → page_left becomes ≡ None → IsRested s (received_as r becomes (counted post.Packets s))
-lost_rests r Loses s is = record { binds = refl; seen = refl; rings = refl; life = refl }
-lost_rests r (Queues page) s is = cc
-lost_rests r (Handles page replies) s is = cc
+lost_rests r becomes s is = grind (arith, common_steps)
 
 -- the owner of a page sees its bytes
 pub owner_sees : (w : World) (o page : ℕ) → is_owned_by o (w.book.pages page) ≡ true → page_bytes w page ≡ bytes_seen ((w.solos o).seen page)
-owner_sees w o page owned = by_row (w.book.pages page) owned
-  where
-    by_row : (row : PageRow) → is_owned_by o row ≡ true → bytes_owned w page row ≡ bytes_seen ((w.solos o).seen page)
-    by_row Free is = cc
-    by_row (Guaranteed owner) is = cc
-    by_row (Owned owner words) is = ap (λ (n : ℕ). bytes_seen ((w.solos n).seen page)) (eqb-true owner o is)
+owner_sees w o page owned = grind (arith, common_steps, eqb-true)
 
 -- A packet is given to an environment for a claim whose ring a page is, which has these bytes then.
 pub record IsInRing (w : World) (items : ℕ → List Item) (o page : ℕ) (bytes : List ℕ) : Type 0 where
@@ -296,12 +274,4 @@ module _ (w : World) (packet : List ℕ) (sound : Sound w) (claimed : Claimed w)
 -- so it is delivered in a phase
 pub delivered_in : (system : System) (t k page owner : ℕ) (r : Reply) → moment system t (suc k) ≡ after (moment system t k) r → given_at system t k owner ≡ r.items owner
     → IsInRing (moment system t k) r.items owner page (page_bytes (after (moment system t k) r) page) → IsDelivered system t k page owner
-delivered_in system t k page owner r next given comes = record {
-  claim = comes.claim;
-  packet = comes.packet;
-  given = given ∙ comes.given;
-  ring = comes.ring;
-  stands = comes.stands;
-  its = comes.its;
-  has = comes.has ∙ ap (λ (v : World). Some (page_bytes v page)) (sym next);
-}
+delivered_in system t k page owner r next given comes = grind (arith, common_steps)

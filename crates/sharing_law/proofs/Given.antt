@@ -1,12 +1,11 @@
 -- What an environment is given: items that leave its guaranteed pages and its life, and others.
-use Rattle.std.proofs.Common.{◌≡◌, ◌≢◌, ℕ, zero, suc, List, [], ◌∷◌, ◌++◌, Bool, true, false, Some, None, is_some, refl, sym, ◌∙◌, ap}
+use Rattle.std.proofs.Common.{◌≡◌, ◌≢◌, ℕ, zero, suc, List, [], ◌∷◌, ◌++◌, Bool, true, false, Some, None, is_some, refl, sym, ◌∙◌, ap, arith}
+use Rattle.std.proofs.lemmas.Grind.{common_steps}
 use Rattle.std.specs.Prelude.{◌==◌, if◌then◌else◌}
 use Rattle.std.specs.Option.{option_map}
 use Rattle.std.proofs.lemmas.Bool.{eqb-true, ne_eqb}
-use Rattle.env_frames.specs.Context.{resumed_cpu, start_area, start_bytes}
 use Rattle.page_book.specs.Row.{belongs_to}
 use Rattle.bind_book.specs.Stripe.{binding_at, is_bound, row_of}
-use Rattle.mips_exec.specs.Cpu.{rested}
 use Rattle.world_model.specs.declared.call.Deed.{Deed}
 use Rattle.world_model.specs.declared.call.Deed.TheVariants.{Unbinds}
 use Rattle.world_model.specs.declared.life.Life.TheVariants.{Live, Dead}
@@ -18,7 +17,6 @@ use Rattle.world_model.specs.Table.{set_at}
 use Rattle.world_model.specs.Book.{Book}
 use Rattle.world_model.specs.Solo.{Solo, Store, Key, Kept, is_dead, is_key_of, kept_after, kept_at, stored_page}
 use Rattle.world_model.specs.Holding.{with_binds}
-use Rattle.world_model.specs.Upcalls.{with_context}
 use Rattle.world_model.specs.Item.{Item, Start, Transfer, Answer, Gained, Lost, Left, absorb, absorb_all, absorbed, answered, deed_at, own_part}
 use Rattle.world_model.specs.Death.{death_items, lost_with}
 use Rattle.world_model.specs.PageCalls.{left_if, lost_if}
@@ -73,9 +71,7 @@ pub rests_same : (s : Solo) → IsRested s s
 rests_same s = record { binds = refl; seen = refl; rings = refl; life = refl }
 
 pub started : (s : Solo) → IsRested s (absorbed s Start)
-started s =
-    either (IsRested s) (s.handlers.start == 0) (record s { cpu = rested s.cpu }) (record (with_context start_area (start_bytes s.cpu) s) { cpu = resumed_cpu s.handlers.start s.cpu })
-    (record { binds = refl; seen = refl; rings = refl; life = refl }) (record { binds = refl; seen = refl; rings = refl; life = refl })
+started s = grind (arith, common_steps)
 
 -- what holds of an environment, and once it has absorbed an item, holds whether it lives or not
 pub absorb_or : (P : Solo → Type 0) (s : Solo) (item : Item) → P s → P (absorbed s item) → P (absorb s item)
@@ -99,11 +95,7 @@ answered_leaves s (Refuse code value) = record { kept = refl; life = refl }
 answered_leaves s (Grant value) = let own = own_leaves s (deed_at s value) in record { kept = own.kept; life = own.life }
 
 pub absorbed_leaves : (s : Solo) (item : Item) → IsTold item → Leaves s (absorbed s item)
-absorbed_leaves s (Answer verdict) told = answered_leaves s verdict
-absorbed_leaves s (Gained page writable bytes) told = record { kept = refl; life = refl }
-absorbed_leaves s (Lost page) told = record { kept = refl; life = refl }
-absorbed_leaves s (Left page offset bytes) told = record { kept = kept_as_was s.kept page offset bytes; life = refl }
-absorbed_leaves s item told = absurd told
+absorbed_leaves s item told = grind (arith, common_steps, answered_leaves, kept_as_was)
 
 pub told_leaves : (items : List Item) → AreTold items → (s : Solo) → Leaves s (absorb_all s items)
 told_leaves [] told s = record { kept = refl; life = refl }
@@ -175,9 +167,7 @@ gives_own e i items (Hands another item handed is) own = absurd (another own)
 
 -- an environment that is started or entered
 pub handed_rests : (item : Item) → IsHanded item → (s : Solo) → IsRested s (absorb_all s (item ∷ []))
-handed_rests Start handed s = given_rests s Start (started s) true
-handed_rests (Transfer from kind registers) handed s = given_rests s (Transfer from kind registers) (record { binds = refl; seen = refl; rings = refl; life = refl }) true
-handed_rests item handed s = absurd handed
+handed_rests item handed s = grind (arith, common_steps, given_rests, started)
 
 pub gives_life : (e i : ℕ) (items : List Item) → Gives e i items → (s : Solo) → (absorb_all s items).life ≡ s.life
 gives_life e i items (Tells told) s = (told_leaves items told s).life

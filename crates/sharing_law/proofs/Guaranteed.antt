@@ -1,5 +1,6 @@
 -- Why the bytes of a guaranteed page change.
-use Rattle.std.proofs.Common.{◌≡◌, ◌^◌, ℕ, zero, suc, List, ◌∷◌, Bool, true, false, Option, Some, None, ◌⊎◌, inl, inr, refl, sym, ◌∙◌, ap, subst}
+use Rattle.std.proofs.Common.{◌≡◌, ◌^◌, ℕ, zero, suc, List, ◌∷◌, Bool, true, false, Option, Some, None, ◌⊎◌, inl, inr, refl, sym, ◌∙◌, ap, subst, arith}
+use Rattle.std.proofs.lemmas.Grind.{common_steps}
 use Rattle.std.specs.Prelude.{◌==◌, bit_or, if◌then◌else◌, slice_get}
 use Rattle.std.specs.Option.{option_map}
 use Rattle.std.proofs.lemmas.Bool.{cases_eq, eqb-false}
@@ -30,7 +31,7 @@ use Rattle.run_model.proofs.Phases.{next_moment, of_each, once_more}
 use Rattle.sharing_law.specs.Change.{Changes, GuaranteedChange, GuaranteedInTick, HasStore, HasWords, IsChanged, ItemChange, StepChanges, bytes_at}
 use Rattle.sharing_law.proofs.Contexts.{Rewrites, ask_changes, context_rewrites, rewrites_none, rewrites_or, rewrites_then, take_changes}
 use Rattle.sharing_law.proofs.Counting.{packet_counts}
-use Rattle.sharing_law.proofs.Given.{IsTold, Led, Leads, Rests, absorb_or, absorbed_leaves, kept_else, kept_here, told_leaves}
+use Rattle.sharing_law.proofs.Given.{IsTold, Led, absorb_or, absorbed_leaves, kept_else, kept_here, told_leaves}
 use Rattle.sharing_law.proofs.Giving.{happen_led, settling_led, step_led, taking_led, timer_led, turn_led}
 use Rattle.sharing_law.proofs.Moments.{after_tick}
 use Rattle.sharing_law.proofs.Writing.{stored_writable}
@@ -134,14 +135,7 @@ record FirstChanges (s : Solo) (items : List Item) (vpn : ℕ) : Type 0 where
   has : bytes_at (absorb_all s items) vpn ≡ bytes_at (absorb s item) vpn
 
 led_change : (s : Solo) (items : List Item) (vpn : ℕ) → Led items → (bytes_at (absorb_all s items) vpn ≡ bytes_at s vpn) ⊎ FirstChanges s items vpn
-led_change s items vpn (Rests told) = inl (ap (λ ps. bytes_in (kept_at ps vpn)) (told_leaves items told s).kept)
-led_change s items vpn (Leads item rest told is) =
-    let has : bytes_at (absorb_all s items) vpn ≡ bytes_at (absorb s item) vpn =
-    ap (λ (its : List Item). bytes_at (absorb_all s its) vpn) is ∙ ap (λ ps. bytes_in (kept_at ps vpn)) (told_leaves rest told (absorb s item)).kept in
-    elim (item_change s item vpn) [
-      | inl same ↦ inl (has ∙ same)
-      | inr changes ↦ inr (record { item = item; rest = rest; given = is; changes = changes; has = has })
-    ]
+led_change s items vpn led = grind (arith, common_steps, told_leaves, item_change)
 
 abbrev GivesLed : (World → Reply) → Type 0
 GivesLed phase = (w : World) (e : ℕ) → Led ((phase w).items e)

@@ -1,6 +1,6 @@
 -- What a run of a handler leaves: no less of a page than there was, and replies that are short.
-use Rattle.std.proofs.Common.{◌≡◌, ◌≤◌, ◌+◌, ◌-◌, ℕ, zero, suc, List, [], ◌∷◌, ◌++◌, length, take, drop, Bool, true, false, Option, Some, None, refl, ◌∙◌, ap, arith, length-append}
-use Rattle.std.specs.Prelude.{◌&&◌, nat_lt, if◌then◌else◌}
+use Rattle.std.proofs.Common.{◌≡◌, ◌≤◌, ◌+◌, ℕ, zero, suc, List, [], ◌∷◌, ◌++◌, length, take, drop, true, Option, Some, None, refl, ◌∙◌, ap, arith, length-append}
+use Rattle.std.proofs.lemmas.Grind.{common_steps}
 use Rattle.std.specs.List.{list_all}
 use Rattle.std.proofs.lemmas.Bool.{and_parts, le-leb, leb-true}
 use Rattle.std.proofs.lemmas.List.{append-nil, drop_all, length-drop, length-take}
@@ -8,11 +8,10 @@ use Rattle.std.proofs.lemmas.List.Folds.{list_all-append}
 use Rattle.external_event.specs.Limits.{most_packet_size}
 use Rattle.frame_store.specs.Pages.{with_bytes}
 use Rattle.mips_exec.specs.declared.registers.Cpu.{Cpu}
-use Rattle.mips_exec.specs.Step.{Step, Retired, Called, Trapped, step_of, view_of}
+use Rattle.mips_exec.specs.Step.{Step, step_of, view_of}
 use Rattle.handler_code.specs.declared.outcome.HandlerEnd.{HandlerEnd}
-use Rattle.handler_code.specs.declared.outcome.HandlerEnd.TheVariants.{Fault}
-use Rattle.handler_code.specs.Memory.{answers_of, page_start}
-use Rattle.handler_code.specs.Running.{HandlerRun, HandlerState, after_call, after_step, ends, ended_or, entry_state, handler_run, handler_step, most_replies, replied, reply_of, run_on}
+use Rattle.handler_code.specs.Memory.{answers_of}
+use Rattle.handler_code.specs.Running.{HandlerRun, HandlerState, after_call, after_step, ended_or, entry_state, handler_run, handler_step, reply_of, run_on}
 use Rattle.sharing_law.specs.Sent.{is_short}
 
 -- a page with bytes in it has no fewer than before
@@ -26,10 +25,7 @@ filled_whole page bytes size = ap (λ (rest : List ℕ). bytes ++ rest) (drop_al
 
 -- a packet more that is short
 pub short_more : (packets : List (List ℕ)) (packet : List ℕ) → list_all is_short packets ≡ true → is_short packet ≡ true → list_all is_short (packets ++ packet ∷ []) ≡ true
-short_more packets packet all short = list_all-append is_short packets (packet ∷ []) ∙ both all short
-  where
-    both : {a b : Bool} → a ≡ true → b ≡ true → (a && (b && true)) ≡ true
-    both a b = rw (a, b) refl
+short_more packets packet all short = grind (arith, common_steps, list_all-append)
 
 -- so many bytes at most are taken
 pub taken_short : (size : ℕ) (bytes : List ℕ) → size ≤ most_packet_size → is_short (take size bytes) ≡ true
@@ -47,19 +43,10 @@ abbrev StateHolds : ℕ → HandlerState → Type 0
 StateHolds size state = Holds size state.page state.replies
 
 call_holds : (size : ℕ) (state : HandlerState) → StateHolds size state → StateHolds size (after_call state).state
-call_holds size state holds = by_room (nat_lt (length state.replies) most_replies) (reply_of state.cpu state.page) refl
-  where
-    by_room : (t : Bool) (reply : Option (List ℕ)) → reply_of state.cpu state.page ≡ reply → StateHolds size (if t then replied state reply else ends Fault state).state
-    by_room false reply is = holds
-    by_room true None is = holds
-    by_room true (Some reply) is = record { page_size = holds.page_size; short = short_more state.replies reply holds.short (reply_short state.cpu state.page reply is) }
+call_holds size state holds = grind (arith, common_steps, short_more, reply_short)
 
 step_holds : (size : ℕ) (state : HandlerState) (step : Step) → StateHolds size state → StateHolds size (after_step state step).state
-step_holds size state (Retired cpu None) holds = holds
-step_holds size state (Retired cpu (Some write)) holds =
-    record { page_size = omega (arith, holds.page_size, filled_size state.page write.bytes (write.address - page_start)); short = holds.short }
-step_holds size state Called holds = call_holds size state holds
-step_holds size state (Trapped exc) holds = holds
+step_holds size state step holds = grind (arith, common_steps, filled_size, call_holds)
 
 abbrev RunHolds : ℕ → HandlerRun → Type 0
 RunHolds size run = Holds size run.page run.replies

@@ -1,5 +1,6 @@
 -- Allocated pages have all their bytes, where packets are within their limits.
-use Rattle.std.proofs.Common.{◌≡◌, ◌≤◌, ◌+◌, ℕ, zero, suc, List, [], ◌∷◌, ◌++◌, length, take, drop, true, false, Some, inl, inr, sym, ◌∙◌, ap, subst, arith, length-append}
+use Rattle.std.proofs.Common.{◌≡◌, ◌≤◌, ◌+◌, ℕ, zero, suc, List, [], ◌∷◌, ◌++◌, length, true, false, Some, inl, inr, sym, ◌∙◌, ap, subst, arith, length-append}
+use Rattle.std.proofs.lemmas.Grind.{common_steps}
 use Rattle.std.specs.Prelude.{nat_le, slice_get}
 use Rattle.std.specs.List.{All}
 use Rattle.std.proofs.lemmas.Bool.{and_parts, leb-true}
@@ -34,10 +35,7 @@ use Rattle.sharing_law.proofs.Writing.{stored_within}
 
 -- bytes within a page leave its length
 with_length : (page : List ℕ) (offset : ℕ) (bytes : List ℕ) → offset + length bytes ≤ length page → length (with_bytes page offset bytes) ≡ length page
-with_length page offset bytes within =
-    let size = length bytes in
-    let rest = drop (offset + size) page in
-    omega (arith, length-append (take offset page ++ bytes) rest, length-append (take offset page) bytes, length-take offset page, length-drop (offset + size) page)
+with_length page offset bytes within = grind (arith, common_steps, length-append, length-take, length-drop)
 
 zero_length : length zero_page ≡ page_size
 zero_length = length-replicate {A = ℕ} page_size 0
@@ -59,9 +57,7 @@ packet_behind (x ∷ xs) zero w e claim packet its = its
 packet_behind (x ∷ xs) (suc k) w e claim packet its = packet_behind xs k w e claim packet its
 
 packet_by : (what : Occurrence) (w : World) (e claim : ℕ) (packet : List ℕ) → AtEvent what w e (Packet claim packet) → what ≡ outside.Packet packet
-packet_by (outside.Packet given) w e claim packet its = ap outside.Packet (sym its.same)
-packet_by (outside.Line line) w e claim packet its = absurd its
-packet_by (outside.Revoke env count grace) w e claim packet its = absurd its
+packet_by what w e claim packet its = grind (arith, common_steps)
 
 packet_in : (happens : List Occurrence) (xs : List Taking) (k : ℕ) (w : World) (e claim : ℕ) (packet : List ℕ) → LicensedIn happens xs k w e (Packet claim packet) → slice_get happens k ≡ Some (outside.Packet packet)
 packet_in [] xs k w e claim packet its = absurd (packet_behind xs k w e claim packet its)

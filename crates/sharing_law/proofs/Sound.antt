@@ -1,5 +1,6 @@
 -- Worlds whose book and environments agree.
-use Rattle.std.proofs.Common.{◌≡◌, ◌≤◌, ℕ, List, Bool, true, false, Option, Some, None, refl, sym, ◌∙◌, ap}
+use Rattle.std.proofs.Common.{◌≡◌, ◌≤◌, ℕ, List, Bool, true, false, Option, Some, None, refl, sym, ◌∙◌, ap, arith}
+use Rattle.std.proofs.lemmas.Grind.{common_steps}
 use Rattle.std.proofs.lemmas.Bool.{eq-eqb, eqb-true}
 use Rattle.page_book.specs.declared.row.PageRow.{PageRow}
 use Rattle.page_book.specs.declared.row.PageRow.TheVariants.{Free, Guaranteed, Owned}
@@ -18,10 +19,7 @@ use Rattle.sharing_law.specs.Agreement.{AreAgreed, AreBoundAllocated, IsAllocate
 
 -- who has no bindings and owns no page sees nothing
 pub sees_nothing : (i : ℕ) (pages : ℕ → PageRow) (stripe : ℕ → Option Binding) (bytes : ℕ → List ℕ) (s : Solo) → HasNone i pages stripe → ((row : ℕ) → s.binds row ≡ None) → ((page : ℕ) → s.seen page ≡ None) → Sees i pages stripe bytes s
-sees_nothing i pages stripe bytes s none binds seen = record {
-  binds = λ row. binds row ∙ sym (none.binds row);
-  seen = λ page. seen page ∙ sym (nothing_seen i pages stripe bytes none page);
-}
+sees_nothing i pages stripe bytes s none binds seen = grind (arith, common_steps, nothing_seen)
 
 -- and had nothing to see before
 pub still_nothing : (i : ℕ) (pages rows : ℕ → PageRow) (stripe binds : ℕ → Option Binding) (bytes now : ℕ → List ℕ) (s : Solo) → HasNone i pages stripe → HasNone i rows binds → Sees i pages stripe bytes s → Sees i rows binds now s

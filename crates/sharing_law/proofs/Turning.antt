@@ -1,19 +1,17 @@
 -- The phase of a tick in which no book changes but whose turn it is.
-use Rattle.std.proofs.Common.{◌≡◌, ◌≤◌, ℕ, Option, Some, None, refl, sym, ◌∙◌, subst}
+use Rattle.std.proofs.Common.{◌≡◌, ◌≤◌, ℕ, Option, Some, None, refl, sym, ◌∙◌, subst, arith}
+use Rattle.std.proofs.lemmas.Grind.{common_steps}
 use Rattle.std.specs.Prelude.{◌==◌}
-use Rattle.page_book.specs.declared.row.PageRow.{PageRow}
-use Rattle.page_book.specs.declared.row.PageRow.TheVariants.{Free, Guaranteed, Owned}
 use Rattle.page_book.specs.Row.{is_owned_by}
 use Rattle.world_model.specs.declared.slot.Runner.{Runner}
 use Rattle.world_model.specs.declared.slot.Turn.{Turn}
 use Rattle.world_model.specs.Book.{Book, Told, whole_turn}
-use Rattle.world_model.specs.Solo.{bytes_seen}
 use Rattle.world_model.specs.Item.{Start}
-use Rattle.world_model.specs.PageCalls.{bytes_owned, page_bytes}
+use Rattle.world_model.specs.PageCalls.{page_bytes}
 use Rattle.world_model.specs.World.{World, after, no_change}
 use Rattle.world_model.specs.Tick.{take_turn, turn, turn_when}
 use Rattle.page_sight.specs.Sight.{seen_in}
-use Rattle.sharing_law.specs.Agreement.{AreBoundAllocated, IsAllocated}
+use Rattle.sharing_law.specs.Agreement.{AreBoundAllocated}
 use Rattle.sharing_law.proofs.Given.{IsRested, given_rests, rests_same, started}
 use Rattle.sharing_law.proofs.Sound.{Sound}
 
@@ -30,9 +28,7 @@ pub same_lists : (b : Book) → ListsSame b b
 same_lists b = record { pages = refl; binds = refl; claims = refl; next = refl; backups = refl; count = refl }
 
 pub allocated_same : (w v : World) → ListsSame w.book v.book → AreBoundAllocated w → AreBoundAllocated v
-allocated_same w v same allocated e row b at =
-    subst (λ (pages : ℕ → PageRow). IsAllocated (pages b.page)) (sym same.pages)
-    (allocated e row b ((λ k. sym same.binds k e row) ∙ at))
+allocated_same w v same allocated e row b at = grind (arith, common_steps)
 
 -- two worlds whose books list the same, and whose environments differ in their registers and their guaranteed pages alone
 pub record IsAlike (w v : World) : Type 0 where
@@ -40,12 +36,7 @@ pub record IsAlike (w v : World) : Type 0 where
   pub lists : ListsSame w.book v.book
 
 pub bytes_alike : (w v : World) → IsAlike w v → (page : ℕ) → page_bytes v page ≡ page_bytes w page
-bytes_alike w v alike page = (λ k. bytes_owned v page (alike.lists.pages k page)) ∙ by_row (w.book.pages page)
-  where
-    by_row : (row : PageRow) → bytes_owned v page row ≡ bytes_owned w page row
-    by_row Free = refl
-    by_row (Guaranteed owner) = refl
-    by_row (Owned owner words) = λ k. bytes_seen ((alike.solos owner).seen k page)
+bytes_alike w v alike page = grind (arith, common_steps)
 
 pub sound_alike : (w v : World) → IsAlike w v → Sound w → Sound v
 sound_alike w v alike sound = record {

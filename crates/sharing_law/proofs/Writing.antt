@@ -1,5 +1,6 @@
 -- A store goes to where its VPN leads, and only where that may be stored to.
 use Rattle.std.proofs.Common.{arith, ◌≡◌, ℕ, ◌+◌, ◌/◌, ◌%◌, ◌≤◌, length, Bool, true, false, not, Option, Some, None, Result, Ok, Err, refl, sym, ◌∙◌, ap, subst}
+use Rattle.std.proofs.lemmas.Grind.{common_steps}
 use Rattle.std.specs.Prelude.{◌==◌, nat_le, if◌then◌else◌}
 use Rattle.std.specs.Option.{option_map, option_or}
 use Rattle.std.specs.Int.{w32, to_le_bytes}
@@ -8,7 +9,6 @@ use Rattle.std.proofs.lemmas.List.{length-take}
 use Rattle.aegis_limits.specs.Limits.{page_size}
 use Rattle.mips_isa.specs.Encoding.{insn_of}
 use Rattle.mips_isa.specs.declared.insn.Insn.{Insn}
-use Rattle.mips_isa.specs.declared.insn.Insn.TheVariants as insn
 use Rattle.mips_exec.specs.declared.registers.Cpu.{Cpu}
 use Rattle.mips_exec.specs.declared.reach.Access.{Access}
 use Rattle.mips_exec.specs.declared.reach.Access.TheVariants as access
@@ -20,7 +20,6 @@ use Rattle.mips_exec.specs.Access as accesses
 use Rattle.mips_exec.specs.Access.{Write, is_aligned, place_of, write_of}
 use Rattle.mips_exec.specs.Effect as effects
 use Rattle.mips_exec.specs.declared.change.Change.{Change}
-use Rattle.mips_exec.specs.declared.change.Change.TheVariants as change
 use Rattle.mips_exec.specs.Step.{Answers, Step, Retired, Called, Trapped, accessed, answered, answered_if, ended, executed, access_after, decoded, fetched, step_of, view_of, without_value}
 use Rattle.bind_book.specs.declared.binding.Binding.{Binding}
 use Rattle.bind_book.specs.Stripe.{binding_at, row_of}
@@ -28,7 +27,7 @@ use Rattle.bind_book.proofs.Rows.{found_in_row}
 use Rattle.world_model.specs.declared.life.Cause.TheVariants as cause
 use Rattle.world_model.specs.declared.page.Purpose.TheVariants as purpose
 use Rattle.world_model.specs.Call.{exit_number}
-use Rattle.mips_exec.specs.Cpu.{address_of, reg}
+use Rattle.mips_exec.specs.Cpu.{reg}
 use Rattle.world_model.specs.Page.{KeptPage, Mapped, address_error, answers_by, if_served, raised, reach, served, user_end}
 use Rattle.world_model.specs.Solo.{Solo, Store, Kept, Physical, Place, bound_place, kept_at, leads, mapped, place_at, sight, store_through}
 use Rattle.world_model.specs.Step.{Stores, Raises, Dies, act_at_call, act_of, step_alone, store_act}
@@ -36,13 +35,7 @@ use Rattle.sharing_law.proofs.Choices.{either}
 
 -- an instruction that retires writes what its access does
 ended_write : (cpu new : Cpu) (change : Change) (write o : Option Write) → ended cpu change write ≡ Retired new o → write ≡ o
-ended_write cpu new (change.Puts n value) write o is = cc
-ended_write cpu new (change.PutsHiLo high low) write o is = cc
-ended_write cpu new change.Passes write o is = cc
-ended_write cpu new (change.Jumps target) write o is = cc
-ended_write cpu new (change.JumpsAndLinks n target) write o is = cc
-ended_write cpu new change.Calls write o is = cc
-ended_write cpu new (change.Raises exc) write o is = cc
+ended_write cpu new change write o is = grind (arith, common_steps)
 
 -- what an access stores, where it is aligned, lies in one word
 abbrev LiesIn : Option Access → Type 0
@@ -52,12 +45,7 @@ LiesIn (Some (access.Store spot value)) = is_aligned spot ≡ true → place_of 
 
 access_lies : (insn : Insn) (cpu : Cpu) → LiesIn (accesses.access insn cpu)
 unfolding accesses.access
-access_lies (insn.Sb rt imm rs) cpu = λ aligned. omega arith
-access_lies (insn.Sh rt imm rs) cpu = λ aligned. omega (arith, eqb-true (address_of cpu rs imm % 2) 0 aligned)
-access_lies (insn.Sw rt imm rs) cpu = λ aligned. omega (arith, eqb-true (address_of cpu rs imm % 4) 0 aligned)
-access_lies (insn.Swl rt imm rs) cpu = λ aligned. omega arith
-access_lies (insn.Swr rt imm rs) cpu = λ aligned. omega arith
-access_lies _ cpu = tt
+access_lies insn cpu = grind (arith, common_steps, eqb-true)
 
 -- memory granted a store of these bytes, which lie in one word
 record IsGranted (answers : Answers) (w : Write) : Type 0 where
