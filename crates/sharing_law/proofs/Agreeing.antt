@@ -44,7 +44,7 @@ use Rattle.sharing_law.proofs.Backups.{AreBacked, AreOnce, arrival_backed, backe
 use Rattle.sharing_law.proofs.Books.{step_allocated}
 use Rattle.sharing_law.proofs.Choices.{either}
 use Rattle.sharing_law.proofs.Claimed.{Claimed, claimed_alike}
-use Rattle.sharing_law.proofs.Delivering.{arrived_sound}
+use Rattle.sharing_law.proofs.Delivering.{arrived}
 use Rattle.sharing_law.proofs.Happening.{happen_lists, revoked_alike, signalled_alike}
 use Rattle.sharing_law.proofs.Listing.{allocated_less, settled_alike, taking_lists}
 use Rattle.sharing_law.proofs.Lists.{Has}
@@ -171,8 +171,8 @@ fine_alike phase alike accounts w fine =
 fine_event : (what : Occurrence) → KeepsFine (happen what)
 fine_event (outside.Packet packet) w fine =
     let v = after w (happen (outside.Packet packet) w) in
-    let arrived = arrived_sound w packet fine.sound fine.claimed fine.allocated in
-    record { sound = arrived.0; allocated = allocated_same w v (happen_lists (outside.Packet packet) w) fine.allocated; accounted = happen_accounts (outside.Packet packet) w fine.accounted; claimed = arrived.1; backed = arrival_backed packet (claim_of w.book packet) w fine.backed }
+    let its = arrived w packet fine.sound fine.claimed in
+    record { sound = its.sound fine.allocated; allocated = allocated_same w v (happen_lists (outside.Packet packet) w) fine.allocated; accounted = happen_accounts (outside.Packet packet) w fine.accounted; claimed = its.claimed; backed = arrival_backed packet (claim_of w.book packet) w fine.backed }
 fine_event (outside.Line line) w fine = fine_alike (happen (outside.Line line)) (signalled_alike line) (happen_accounts (outside.Line line)) w fine
 fine_event (outside.Revoke env count grace) w fine =
     let what = outside.Revoke env count grace in fine_alike (happen what) (revoked_alike env count grace) (happen_accounts what) w fine

@@ -25,7 +25,7 @@ use Rattle.sharing_law.specs.Delivery.{IsCopied, IsDelivered}
 use Rattle.sharing_law.specs.Right.{row_after}
 use Rattle.sharing_law.proofs.Sound.{owner_bytes}
 use Rattle.sharing_law.proofs.Brings.{Fate, Stays, Written, Taken}
-use Rattle.sharing_law.proofs.Delivering.{IsInRing, arrived_bytes, delivered_in}
+use Rattle.sharing_law.proofs.Delivering.{IsInRing, arrived, delivered_in}
 use Rattle.sharing_law.proofs.Happening.{happen_lists, revoked_alike, signalled_alike}
 use Rattle.sharing_law.proofs.Listing.{ListsLess, less_alike, less_same, less_then, settled_alike, taking_lists}
 use Rattle.sharing_law.proofs.Repossessing.{IsCopyIn, copied_in, taking_owned}
@@ -55,7 +55,7 @@ alike_stay w r alike o page owns = (ap (is_owned_by o) (λ k. sym alike.lists.pa
 event_fates : (what : Occurrence) (w : World) → Fine w → StayOrCome w (happen what w)
 event_fates (outside.Packet packet) w fine o page owns =
     let had = (λ k. is_owned_by o (sym (happen_lists (outside.Packet packet) w).pages k page)) ∙ owns in
-    (had, elim (arrived_bytes w packet fine.sound fine.claimed o page had) [ inl same ↦ inl same | inr comes ↦ inr (inl comes) ])
+    (had, elim ((arrived w packet fine.sound fine.claimed).becomes o page had) [ inl same ↦ inl same | inr comes ↦ inr (inl comes) ])
 event_fates (outside.Line line) w fine o page owns = alike_stay w (happen (outside.Line line) w) (signalled_alike line w) o page owns
 event_fates (outside.Revoke env count grace) w fine o page owns = alike_stay w (happen (outside.Revoke env count grace) w) (revoked_alike env count grace w) o page owns
 

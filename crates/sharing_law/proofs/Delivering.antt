@@ -73,6 +73,19 @@ pub record IsInRing (w : World) (items : ℕ → List Item) (o page : ℕ) (byte
   pub its : ring.page ≡ page
   pub has : page_left (reception (w.solos o) ring packet) ≡ Some bytes
 
+-- What comes of a packet: what agreed agrees still, and the bytes of an allocated page stay but where the packet goes.
+pub record Arrives (w now : World) (items : ℕ → List Item) : Type 0 where
+  pub sound : AreBoundAllocated w → Sound now
+  pub claimed : Claimed now
+  pub becomes : (owner page : ℕ) → is_owned_by owner (w.book.pages page) ≡ true → (page_bytes now page ≡ page_bytes w page) ⊎ IsInRing w items owner page (page_bytes now page)
+
+alike_arrives : (w now : World) (items : ℕ → List Item) → Sound w → Claimed w → IsAlike w now → Arrives w now items
+alike_arrives w now items sound claimed alike = record {
+  sound = λ allocated. sound_alike w now alike sound;
+  claimed = claimed_alike w now alike claimed;
+  becomes = λ owner page owns. inl (bytes_alike w now alike page);
+}
+
 module _ (w : World) (c : ClaimValue) (packet : List ℕ) (sound : Sound w) (claimed : Claimed w) (goes : claim_of w.book packet ≡ Some c) where
   abbrev s : Solo
   s = w.solos c.env
@@ -231,20 +244,12 @@ module _ (w : World) (c : ClaimValue) (packet : List ℕ) (sound : Sound w) (cla
     ]
 
   -- either way
-  sound_by : AreBoundAllocated w → (o : Option (List ℕ)) → outcome ≡ o → Sound now × Claimed now
-  sound_by allocated None is = (sound_alike w now (lost_alike is) sound, claimed_alike w now (lost_alike is) claimed)
-  sound_by allocated (Some bytes) is = (filled_sound bytes is allocated, filled_claimed bytes is)
+  by_outcome : (o : Option (List ℕ)) → outcome ≡ o → Arrives w now (delivers c packet w).items
+  by_outcome None is = alike_arrives w now (delivers c packet w).items sound claimed (lost_alike is)
+  by_outcome (Some bytes) is = record { sound = filled_sound bytes is; claimed = filled_claimed bytes is; becomes = becomes bytes is }
 
-  becomes_by : (o : Option (List ℕ)) → outcome ≡ o → (owner page : ℕ) → is_owned_by owner (w.book.pages page) ≡ true
-      → (page_bytes now page ≡ page_bytes w page) ⊎ IsInRing w (delivers c packet w).items owner page (page_bytes now page)
-  becomes_by None is owner page owns = inl (bytes_alike w now (lost_alike is) page)
-  becomes_by (Some bytes) is owner page owns = becomes bytes is owner page owns
-
-  pub delivered_sound : AreBoundAllocated w → Sound now × Claimed now
-  delivered_sound allocated = sound_by allocated outcome refl
-
-  pub delivered_bytes : (owner page : ℕ) → is_owned_by owner (w.book.pages page) ≡ true → (page_bytes now page ≡ page_bytes w page) ⊎ IsInRing w (delivers c packet w).items owner page (page_bytes now page)
-  delivered_bytes = becomes_by outcome refl
+  pub delivered : Arrives w now (delivers c packet w).items
+  delivered = by_outcome outcome refl
 
   -- what is left of it to another are all bytes of the page
   pub delivered_whole : (bytes : List ℕ) → ring_bytes s (ring_of s.rings c.id) packet ≡ Some bytes → IsInRing w (delivers c packet w).items c.env c.page (page_bytes now c.page) × (bytes ≡ page_bytes now c.page) × (is_owned_by c.env (w.book.pages c.page) ≡ true)
@@ -252,24 +257,12 @@ module _ (w : World) (c : ClaimValue) (packet : List ℕ) (sound : Sound w) (cla
 
 -- A packet that comes, whether it is claimed or not.
 module _ (w : World) (packet : List ℕ) (sound : Sound w) (claimed : Claimed w) where
-  abbrev comes : Option ClaimValue → World
-  comes o = after w (arrives packet o w)
+  by_claim : (o : Option ClaimValue) → claim_of w.book packet ≡ o → (let r = arrives packet o w in Arrives w (after w r) r.items)
+  by_claim None goes = let r = arrives packet None w in alike_arrives w (after w r) r.items sound claimed (dropped_alike packet w)
+  by_claim (Some c) goes = delivered w c packet sound claimed goes
 
-  sound_of : AreBoundAllocated w → (o : Option ClaimValue) → claim_of w.book packet ≡ o → Sound (comes o) × Claimed (comes o)
-  sound_of allocated None goes = (sound_alike w (comes None) (dropped_alike packet w) sound, claimed_alike w (comes None) (dropped_alike packet w) claimed)
-  sound_of allocated (Some c) goes = delivered_sound w c packet sound claimed goes allocated
-
-  pub arrived_sound : AreBoundAllocated w → (let v = after w (happen (outside.Packet packet) w) in Sound v × Claimed v)
-  arrived_sound allocated = sound_of allocated (claim_of w.book packet) refl
-
-  bytes_of : (o : Option ClaimValue) → claim_of w.book packet ≡ o → (owner page : ℕ) → is_owned_by owner (w.book.pages page) ≡ true
-      → (page_bytes (comes o) page ≡ page_bytes w page) ⊎ IsInRing w (arrives packet o w).items owner page (page_bytes (comes o) page)
-  bytes_of None goes owner page owns = inl (bytes_alike w (comes None) (dropped_alike packet w) page)
-  bytes_of (Some c) goes owner page owns = delivered_bytes w c packet sound claimed goes owner page owns
-
-  pub arrived_bytes : (owner page : ℕ) → is_owned_by owner (w.book.pages page) ≡ true
-      → (let r = happen (outside.Packet packet) w in (page_bytes (after w r) page ≡ page_bytes w page) ⊎ IsInRing w r.items owner page (page_bytes (after w r) page))
-  arrived_bytes = bytes_of (claim_of w.book packet) refl
+  pub arrived : (let r = happen (outside.Packet packet) w in Arrives w (after w r) r.items)
+  arrived = by_claim (claim_of w.book packet) refl
 
 -- so it is delivered in a phase
 pub delivered_in : (system : System) (t k page owner : ℕ) (r : Reply) → moment system t (suc k) ≡ after (moment system t k) r → given_at system t k owner ≡ r.items owner
