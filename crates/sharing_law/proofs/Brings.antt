@@ -123,9 +123,9 @@ module _ (w : World) (e : ℕ) (sound : Sound w) (lives : (w.solos e).life ≡ L
     nothing_left : HasNone e (death w e).book.pages ((death w e).book.binds e)
     nothing_left = record { binds = λ row. own_goes w.book.pages e (w.book.binds e row); owns = λ page. released_own e (w.book.pages page) }
 
-    -- the pages of the others keep their bytes
-    pub death_keeps : (brings : Brings w e corpse (death w e).book (death_items w.book e)) × (brings.bytes ≡ page_bytes w)
-    death_keeps = (
+    -- the pages of the others keep their bytes, whatever is owed then, at whatever time
+    pub death_keeps : (excess : ℕ → ℕ) (time : ℕ) → (brings : Brings w e corpse (record (death w e).book { excess = excess; time = time }) (death_items w.book e)) × (brings.bytes ≡ page_bytes w)
+    death_keeps excess time = (
       record {
         bytes = page_bytes w;
         own = subst (λ (s : Solo). Sees e (death w e).book.pages ((death w e).book.binds e) (page_bytes w) s) (sym (dead_absorbs corpse cause (death_items w.book e e) refl))
@@ -146,25 +146,4 @@ module _ (w : World) (e : ℕ) (sound : Sound w) (lives : (w.solos e).life ≡ L
     )
 
     pub death_brings : Brings w e corpse (death w e).book (death_items w.book e)
-    death_brings = death_keeps.0
-
-  -- the same with other excess, at another time
-  owing_fortune : (b : Book) (s : Solo) (excess : ℕ → ℕ) (time : ℕ) → Fortune e s b → Fortune e s (record b { excess = excess; time = time })
-  owing_fortune b s excess time (GoesOn alive) = GoesOn alive
-  owing_fortune b s excess time (Ends nothing) = Ends nothing
-
-  pub owing_keeps : (b : Book) (s : Solo) (items : ℕ → List Item) (excess : ℕ → ℕ) (time : ℕ) (brings : Brings w e s b items)
-      → (now : Brings w e s (record b { excess = excess; time = time }) items) × (now.bytes ≡ brings.bytes)
-  owing_keeps b s items excess time brings = (
-    record {
-      bytes = brings.bytes;
-      own = brings.own;
-      others = brings.others;
-      none = brings.none;
-      stripes = brings.stripes;
-      behind = brings.behind;
-      fate = brings.fate;
-      fortune = owing_fortune b s excess time brings.fortune;
-    },
-    refl,
-  )
+    death_brings = (death_keeps (death w e).book.excess (death w e).book.time).0

@@ -88,19 +88,14 @@ EachStands system t = (e row : ℕ) (b : Binding) → (world_after system t).boo
 in_its_row : (system : System) (t e row : ℕ) (b : Binding) → row ≡ row_of b.vpn → (world_after system t).book.binds e row ≡ Some b → (world_after system t).book.binds e (row_of b.vpn) ≡ Some b
 in_its_row system t e row b stands listed = subst (λ (r : ℕ). (world_after system t).book.binds e r ≡ Some b) stands listed
 
-was_stands : (system : System) (t e row : ℕ) (b : Binding) → WasListed (world_after system t) (world_after system (suc t)).book.pages e row b
-    → Stands system t e row b → (world_after system (suc t)).book.binds e row ≡ Some b → Stands system (suc t) e row b
-was_stands system t e row b was before listed = record {
-  stands = before.stands;
-  live = still_live system t e b before.live (in_its_row system (suc t) e row b before.stands listed) was.carried;
-}
-
 each_stands : GrantedMay → TakingsAreTakable → (system : System) (t : ℕ) → EachStands system t
 each_stands granted takable system zero e row b listed = absurd (none_bound system.image e row b listed)
 each_stands granted takable system (suc t) e row b listed =
     elim (next_carries granted system t (all_fine granted takable system t).allocated e row b listed) [
       | inl put ↦ record { stands = put.stands; live = put_lives system t e row b put (in_its_row system (suc t) e row b put.stands listed) }
-      | inr was ↦ was_stands system t e row b was (each_stands granted takable system t e row b was.listed) listed
+      | inr was ↦
+          let before = each_stands granted takable system t e row b was.listed in
+          record { stands = before.stands; live = still_live system t e b before.live (in_its_row system (suc t) e row b before.stands listed) was.carried }
     ]
 
 pub each_is_live : GrantedMay → TakingsAreTakable → EachIsLive

@@ -27,9 +27,10 @@ use Rattle.run_model.specs.Excess.{IsRunnerLive}
 use Rattle.run_model.proofs.Phases.{in_turn_is_each}
 use Rattle.run_model.proofs.Telling.{told_other, told_own}
 use Rattle.sharing_law.specs.Agreement.{AreBoundAllocated, IsAllocated}
+use Rattle.sharing_law.proofs.Choices.{either}
 use Rattle.sharing_law.proofs.Given.{IsRested, Tells, absorbs, dead_absorbs, given_rests, rests_same, told_death}
 use Rattle.sharing_law.proofs.Sound.{Sound, owner_bytes}
-use Rattle.sharing_law.proofs.Brings.{Brings, death_keeps, owing_keeps}
+use Rattle.sharing_law.proofs.Brings.{Brings, death_keeps}
 use Rattle.sharing_law.proofs.Replies.{Remains, mourned}
 use Rattle.sharing_law.proofs.Claimed.{Claimed, claimed_alike, good_same}
 use Rattle.sharing_law.proofs.Claiming.{Claiming, death_claims}
@@ -69,9 +70,8 @@ module _ (w : World) where
     abbrev ends : Reply
     ends = record { book = record w.book { runner = Some (grace_of w r.env) }; items = only r.env (End ∷ []); rows = row.End w.book.time w.book.cursor r.env ∷ [] }
 
-    slice_comes : (none : Bool) → Comes w (if none then stops else ends)
-    slice_comes true = passes None no_items (stop_row w.book r.env ∷ []) (λ i. rests_same (w.solos i))
-    slice_comes false = passes (Some (grace_of w r.env)) (only r.env (End ∷ [])) (row.End w.book.time w.book.cursor r.env ∷ []) (λ i. given_rests (w.solos i) End (record { binds = refl; seen = refl; rings = refl; life = refl }) (i == r.env))
+    slice_ends : Comes w ends
+    slice_ends = passes (Some (grace_of w r.env)) (only r.env (End ∷ [])) (row.End w.book.time w.book.cursor r.env ∷ []) (λ i. given_rests (w.solos i) End (record { binds = refl; seen = refl; rings = refl; life = refl }) (i == r.env))
 
     -- the world once its excess has risen, and once it is told that it is killed
     abbrev owing : World
@@ -105,16 +105,14 @@ module _ (w : World) where
     grace_comes false = Passed (record { solos = λ i. rests_same (w.solos i); lists = record { pages = refl; binds = refl; claims = refl; next = refl; backups = refl; count = refl } })
 
     out_comes : (p : Phase) → Comes w (run_out r.env p w)
-    out_comes phase.Own = slice_comes ((w.solos r.env).handlers.end == 0)
+    out_comes phase.Own = either (Comes w) ((w.solos r.env).handlers.end == 0) stops ends (passes None no_items (stop_row w.book r.env ∷ []) (λ i. rests_same (w.solos i))) slice_ends
     out_comes phase.Grace = grace_comes (nat_lt excess_limit (owing.book.excess r.env))
-
-    left_comes : (left : ℕ) (out : Bool) → Comes w (if out then run_out r.env r.phase w else goes_on (record r { left = left }) w)
-    left_comes left true = out_comes r.phase
-    left_comes left false = passes (Some (record r { left = left })) no_items [] (λ i. rests_same (w.solos i))
 
   comes_by : (o : Option Runner) → w.book.runner ≡ o → Comes w (count_when o w)
   comes_by None is = passes w.book.runner no_items [] (λ i. rests_same (w.solos i))
-  comes_by (Some r) is = left_comes r is (r.left - 1) (r.left - 1 == 0)
+  comes_by (Some r) is =
+      let goes = record r { left = r.left - 1 } in
+      either (Comes w) (r.left - 1 == 0) (run_out r.env r.phase w) (goes_on goes w) (out_comes r is r.phase) (passes (Some goes) no_items [] (λ i. rests_same (w.solos i)))
 
   -- and then time rises
   clocked : (count : World → Reply) → Comes w (count w) → Comes w (in_turn (count ∷ clock ∷ []) w)
@@ -153,9 +151,8 @@ module _ (w : World) (sound : Sound w) (claimed : Claimed w) (e : ℕ) (lives : 
 
   pub death_now : (brings : Brings w e corpse r.book (death_items w.book e)) × (brings.bytes ≡ page_bytes w)
   death_now =
-      let keeps = death_keeps w e sound lives (w.solos e).cpu cause.Excess in
-      let owing = owing_keeps w e sound lives (death w e).book corpse (death_items w.book e) killed.excess killed.time keeps.0 in
-      subst (λ (b : Book). (brings : Brings w e corpse b (death_items w.book e)) × (brings.bytes ≡ page_bytes w)) (sym killed.book) (owing.0, owing.1 ∙ keeps.1)
+      subst (λ (b : Book). (brings : Brings w e corpse b (death_items w.book e)) × (brings.bytes ≡ page_bytes w)) (sym killed.book)
+      (death_keeps w e sound lives (w.solos e).cpu cause.Excess killed.excess killed.time)
 
   pub claims_now : Claiming w e corpse r.book (death_items w.book e)
   claims_now =
