@@ -1,11 +1,12 @@
 -- The book and the environments agree, at each moment.
-use Rattle.std.proofs.Common.{◌≡◌, ◌≤◌, ℕ, zero, suc, ◌+◌, List, [], ◌∷◌, length, map, take, true, false, Option, Some, None, inl, inr, refl, sym, ◌∙◌, ap, subst, arith}
+use Rattle.std.proofs.lemmas.Grind.{common_steps}
+use Rattle.std.proofs.Common.{◌≡◌, ◌≤◌, ℕ, zero, suc, ◌+◌, List, [], ◌∷◌, map, take, true, false, Option, Some, None, inl, inr, refl, sym, ◌∙◌, ap, subst, arith}
 use Rattle.std.proofs.lemmas.Bool.{both_ways}
 use Rattle.std.proofs.Math.Seq.{take-nil}
-use Rattle.std.specs.Prelude.{◌==◌, ◌↔◌, filter, slice_get}
+use Rattle.std.specs.Prelude.{◌↔◌, slice_get}
 use Rattle.boot_image.specs.ImageValue.{ImageValue, ProgramValue, guaranteed_mappings}
 use Rattle.page_book.specs.declared.row.PageRow.{PageRow}
-use Rattle.page_book.specs.declared.row.PageRow.TheVariants.{Free, Guaranteed}
+use Rattle.page_book.specs.declared.row.PageRow.TheVariants.{Free}
 use Rattle.page_book.specs.Row.{is_owned_by}
 use Rattle.page_book.specs.Rows.{lowest_free}
 use Rattle.page_book.proofs.Free.{is_lowest}
@@ -16,16 +17,13 @@ use Rattle.filter_core.specs.declared.atom.Atom.{Atom}
 use Rattle.filter_core.specs.Asking.{agree}
 use Rattle.filter_core.specs.Filters.{is_filter}
 use Rattle.filter_core.specs.Matching.{Overlap}
-use Rattle.filter_tree.specs.ClaimBook.{ClaimValue, is_of_env}
 use Rattle.external_event.specs.declared.event.Occurrence.{Occurrence}
 use Rattle.external_event.specs.declared.event.Occurrence.TheVariants as outside
 use Rattle.world_model.specs.Event.{happen}
 use Rattle.world_model.specs.Solo.{Solo, absent}
 use Rattle.world_model.specs.Item.{absorb_all}
-use Rattle.world_model.specs.PageCalls.{page_bytes}
 use Rattle.world_model.specs.World.{World, Reply, after, run_phases}
 use Rattle.revocation_book.specs.declared.revocation.Taking.{Taking}
-use Rattle.revocation_book.specs.Backups.{is_loaded, most_backups}
 use Rattle.revocation_book.specs.Takings.{AreTakable, TakingsAreTakable}
 use Rattle.world_model.specs.ClaimCalls.{claim_of}
 use Rattle.world_model.specs.Deadlines.{revocations, settles, takes}
@@ -38,16 +36,14 @@ use Rattle.run_model.specs.Licensed.{MayTaking}
 use Rattle.run_model.proofs.Balance.{KeepsAccounts, boots_accounted, happen_accounts, settling_accounts, step_keeps, taking_accounts, timer_accounts, turn_keeps}
 use Rattle.page_sight.proofs.Tables.{set_else}
 use Rattle.page_sight.proofs.Sights.{HasNone}
-use Rattle.sharing_law.specs.Agreement.{AreBoundAllocated, BooksAgree, BackupsAreOwned, BoundIsAllocated, ClaimsAgree, ClaimsAreApart, ClaimsAreSound, claim_page, ring_page}
+use Rattle.sharing_law.specs.Agreement.{AreBoundAllocated, BooksAgree, BackupsAreOwned, BoundIsAllocated, ClaimsAgree, ClaimsAreApart, ClaimsAreSound}
 use Rattle.sharing_law.proofs.Sound.{Sound, sees_nothing}
-use Rattle.sharing_law.proofs.Backups.{AreBacked, AreOnce, arrival_backed, backed_owned, backups_owned, step_backed, taking_backed, timer_backed}
+use Rattle.sharing_law.proofs.Backups.{AreBacked, arrival_backed, backed_owned, backups_owned, step_backed, taking_backed, timer_backed}
 use Rattle.sharing_law.proofs.Books.{step_allocated}
-use Rattle.sharing_law.proofs.Choices.{either}
 use Rattle.sharing_law.proofs.Claimed.{Claimed, claimed_alike}
 use Rattle.sharing_law.proofs.Delivering.{arrived}
 use Rattle.sharing_law.proofs.Happening.{happen_lists, revoked_alike, signalled_alike}
 use Rattle.sharing_law.proofs.Listing.{allocated_less, settled_alike, taking_lists}
-use Rattle.sharing_law.proofs.Lists.{Has}
 use Rattle.sharing_law.proofs.Turning.{IsAlike, allocated_same, sound_alike, turn_alike, unchanged}
 use Rattle.sharing_law.proofs.Moments.{after_tick, taken_may}
 use Rattle.sharing_law.proofs.Repossessing.{taking_claimed, taking_sound}
@@ -61,13 +57,7 @@ record AreFresh (count : ℕ) (pages : ℕ → PageRow) : Type 0 where
 
 fresh_lowest : (e count : ℕ) (pages : ℕ → PageRow) (o : Option ℕ) → lowest_free pages count ≡ o → AreFresh count pages → AreFresh count (keep_lowest e o pages)
 fresh_lowest e count pages None is fresh = fresh
-fresh_lowest e count pages (Some page) is fresh = record {
-  owns = λ i p. either (λ row. is_owned_by i row ≡ false) (p == page) (Guaranteed e) (pages p) refl (fresh.owns i p);
-  behind = λ p more. set_else page p (Guaranteed e) pages (λ same. other p more same) ∙ fresh.behind p more;
-}
-  where
-    other : (p : ℕ) → count ≤ p → p ≡ page → ⊥
-    other p more same = omega (arith, (is_lowest pages count page is).below)
+fresh_lowest e count pages (Some page) is fresh = grind (arith, common_steps, set_else, is_lowest)
 
 fresh_pages : (e count n : ℕ) (pages : ℕ → PageRow) → AreFresh count pages → AreFresh count (keep_pages e count n pages)
 fresh_pages e count zero pages fresh = fresh
@@ -121,31 +111,13 @@ module _ (image : ImageValue) where
   none_bound e row b is = let never : None ≡ Some b = sym (book_fresh.binds e row) ∙ is in cc
 
   sound_boot : Sound (boot_world image)
-  sound_boot = record {
-    agreed = λ e. sees_nothing e (boot_world image).book.pages ((boot_world image).book.binds e) (page_bytes (boot_world image)) ((boot_world image).solos e) (none_yet e) (booted e).binds (booted e).seen;
-    none = λ i cause died. none_yet i;
-    stripes = λ i row behind. book_fresh.binds i row;
-    behind = book_fresh.pages.behind;
-  }
+  sound_boot = grind (arith, common_steps, sees_nothing, none_yet, book_fresh)
 
   claimed_boot : Claimed (boot_world image)
-  claimed_boot = record {
-    rings = λ e. ap (map ring_page) (booted e).rings ∙ ap (λ (claims : List ClaimValue). map claim_page (filter (is_of_env e) claims)) (sym book_fresh.claims);
-    good = record {
-      each = λ c its. absurd (none_claimed c its);
-      apart = λ c d its others. absurd (none_claimed c its);
-    };
-  }
-    where
-      none_claimed : (c : ClaimValue) → Has (boot_world image).book.claims c → ⊥
-      none_claimed c (k, there) = let never : None ≡ Some c = ap (λ (claims : List ClaimValue). slice_get claims k) (sym book_fresh.claims) ∙ there in cc
+  claimed_boot = grind (arith, common_steps, book_fresh)
 
   backed_boot : AreBacked (boot_world image).book
-  backed_boot = record {
-    owned = λ e page is. let never : false ≡ true = ap (λ (pages : List ℕ). is_loaded pages page) (sym (book_fresh.backups e)) ∙ is in cc;
-    once = λ e. subst AreOnce (sym (book_fresh.backups e)) tt;
-    few = λ e. subst (λ (pages : List ℕ). length pages ≤ most_backups) (sym (book_fresh.backups e)) (omega arith);
-  }
+  backed_boot = grind (arith, common_steps, book_fresh)
 
 -- A world that is sound and accounted, where no page is bound that isn't allocated, and backups are their owners': each phase of a tick leaves such a one.
 pub record Fine (w : World) : Type 0 where

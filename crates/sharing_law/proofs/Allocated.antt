@@ -53,9 +53,7 @@ alike_stay w r alike o page owns = (ap (is_owned_by o) (λ k. sym alike.lists.pa
 
 -- what happens from outside, kind by kind
 event_fates : (what : Occurrence) (w : World) → Fine w → StayOrCome w (happen what w)
-event_fates (outside.Packet packet) w fine o page owns =
-    let had = (λ k. is_owned_by o (sym (happen_lists (outside.Packet packet) w).pages k page)) ∙ owns in
-    (had, elim ((arrived w packet fine.sound fine.claimed).becomes o page had) [ inl same ↦ inl same | inr comes ↦ inr (inl comes) ])
+event_fates (outside.Packet packet) w fine o page owns = grind (arith, common_steps, happen_lists, arrived)
 event_fates (outside.Line line) w fine o page owns = alike_stay w (happen (outside.Line line) w) (signalled_alike line w) o page owns
 event_fates (outside.Revoke env count grace) w fine o page owns = alike_stay w (happen (outside.Revoke env count grace) w) (revoked_alike env count grace w) o page owns
 

@@ -1,16 +1,15 @@
 -- Backups: each is a page of its environment's own, none is loaded twice, and there are few.
-use Rattle.std.proofs.Common.{◌≡◌, ◌≢◌, ◌≤◌, ◌<◌, ℕ, zero, suc, List, [], ◌∷◌, length, drop, Bool, true, false, not, cond, Option, Some, None, ◌⊎◌, inl, inr, refl, sym, ◌∙◌, ap, subst, arith, length-append}
-use Rattle.std.specs.Prelude.{◌==◌, nat_le, if◌then◌else◌, slice_get}
+use Rattle.std.proofs.lemmas.Grind.{common_steps}
+use Rattle.std.proofs.Common.{◌≡◌, ◌≢◌, ◌≤◌, ◌<◌, ℕ, zero, suc, List, [], ◌∷◌, length, drop, true, false, Option, Some, None, ◌⊎◌, inl, inr, refl, sym, ◌∙◌, ap, subst, arith, length-append}
+use Rattle.std.specs.Prelude.{◌==◌, slice_get}
 use Rattle.std.proofs.lemmas.Bool.{eq-eqb, eqb-true, eqb-false, false_from_ne_true, leb-false, or_cases, or_left, or_right, or_parts}
 use Rattle.std.proofs.lemmas.List.Folds.{list_any-append}
-use Rattle.revocation_book.specs.declared.revocation.LoadNo.TheVariants as no
 use Rattle.revocation_book.specs.Backups.{is_loaded, load_refusal, loaded, most_backups, unloaded}
-use Rattle.page_book.specs.declared.row.PageRow.TheVariants.{Free, Owned}
+use Rattle.page_book.specs.declared.row.PageRow.TheVariants.{Free}
 use Rattle.page_book.specs.Row.{is_owned_by}
 use Rattle.page_book.proofs.Owners.{same_owner}
 use Rattle.world_model.specs.declared.call.Call.{Call}
 use Rattle.world_model.specs.declared.call.Deed.{Deed}
-use Rattle.world_model.specs.declared.call.Deed.TheVariants.{Allocates, Frees, Recaps, Loads}
 use Rattle.world_model.specs.declared.slot.Runner.{Runner}
 use Rattle.filter_tree.specs.ClaimBook.{ClaimValue}
 use Rattle.revocation_book.specs.declared.revocation.Taking.{Taking}
@@ -51,14 +50,8 @@ loaded_at (p ∷ pages) (suc k) page is = or_right (p == page) (is_loaded pages 
 once_at : (pages : List ℕ) → AreOnce pages → (j k page : ℕ) → slice_get pages j ≡ Some page → slice_get pages k ≡ Some page → j ≡ k
 once_at [] once j k page at there = cc
 once_at (p ∷ pages) (alone, once) zero zero page at there = refl
-once_at (p ∷ pages) (alone, once) zero (suc k) page at there =
-    let same : p ≡ page = cc in
-    let clash : false ≡ true = sym alone ∙ loaded_at pages k p (there ∙ ap Some (sym same)) in
-    cc
-once_at (p ∷ pages) (alone, once) (suc j) zero page at there =
-    let same : p ≡ page = cc in
-    let clash : false ≡ true = sym alone ∙ loaded_at pages j p (at ∙ ap Some (sym same)) in
-    cc
+once_at (p ∷ pages) (alone, once) zero (suc k) page at there = grind (arith, common_steps, loaded_at)
+once_at (p ∷ pages) (alone, once) (suc j) zero page at there = grind (arith, common_steps, loaded_at)
 once_at (p ∷ pages) (alone, once) (suc j) (suc k) page at there = ap suc (once_at pages once j k page at there)
 
 -- One more, which is the last.
@@ -82,26 +75,11 @@ once_more (p ∷ pages) last (alone, once) other =
 -- One less.
 unloaded_was : (gone : ℕ) (pages : List ℕ) (page : ℕ) → is_loaded (unloaded gone pages) page ≡ true → (is_loaded pages page ≡ true) × (page ≢ gone)
 unloaded_was gone [] page is = cc
-unloaded_was gone (p ∷ pages) page is = by_test (p == gone) refl (unloaded_was gone pages page) is
-  where
-    further : (is_loaded pages page ≡ true) × (page ≢ gone) → (is_loaded (p ∷ pages) page ≡ true) × (page ≢ gone)
-    further (before, other) = (or_right (p == page) (is_loaded pages page) before, other)
-
-    by_test : (t : Bool) → (p == gone) ≡ t → (is_loaded (unloaded gone pages) page ≡ true → (is_loaded pages page ≡ true) × (page ≢ gone))
-        → is_loaded (cond (not t) (p ∷ unloaded gone pages) (unloaded gone pages)) page ≡ true → (is_loaded (p ∷ pages) page ≡ true) × (page ≢ gone)
-    by_test true same rest is = further (rest is)
-    by_test false other rest is = elim (or_cases (p == page) (is_loaded (unloaded gone pages) page) is) [
-      | inl here ↦ (or_left (p == page) (is_loaded pages page) here, λ same. eqb-false p gone other (eqb-true p page here ∙ same))
-      | inr before ↦ further (rest before)
-    ]
+unloaded_was gone (p ∷ pages) page is = grind (arith, common_steps, or_right, or_cases, or_left, eqb-false, eqb-true, (unloaded_was gone pages page))
 
 once_less : (gone : ℕ) (pages : List ℕ) → AreOnce pages → AreOnce (unloaded gone pages)
 once_less gone [] once = tt
-once_less gone (p ∷ pages) (alone, once) = by_test (p == gone) (once_less gone pages once)
-  where
-    by_test : (t : Bool) → AreOnce (unloaded gone pages) → AreOnce (cond (not t) (p ∷ unloaded gone pages) (unloaded gone pages))
-    by_test true rest = rest
-    by_test false rest = (false_from_ne_true (is_loaded (unloaded gone pages) p) (λ is. let clash : false ≡ true = sym alone ∙ (unloaded_was gone pages p is).0 in cc), rest)
+once_less gone (p ∷ pages) (alone, once) = grind (arith, common_steps, false_from_ne_true, unloaded_was, (once_less gone pages once))
 
 few_less : (gone : ℕ) (pages : List ℕ) → length (unloaded gone pages) ≤ length pages
 few_less gone [] = omega arith
@@ -183,41 +161,14 @@ death_backed w e backed =
 -- Deed by deed
 module _ (w : World) (e : ℕ) (backed : AreBacked w.book) where
   room : (pages : List ℕ) (page : ℕ) → load_refusal pages page ≡ None → (is_loaded pages page ≡ false) × (length pages < most_backups)
-  room pages page is = by_tests (is_loaded pages page) (nat_le most_backups (length pages)) refl refl is
-    where
-      by_tests : (there full : Bool) → is_loaded pages page ≡ there → nat_le most_backups (length pages) ≡ full → (if there then Some no.Loaded else (if full then Some no.Full else None)) ≡ None
-          → (is_loaded pages page ≡ false) × (length pages < most_backups)
-      by_tests true full there is_full is = cc
-      by_tests false true there is_full is = cc
-      by_tests false false there is_full is = (there, leb-false most_backups (length pages) is_full)
+  room pages page is = grind (arith, common_steps, leb-false)
 
   -- the same pages and backups
   same_backed : (new : Book) → new.pages ≡ w.book.pages → new.backups ≡ w.book.backups → AreBacked new
   same_backed new pages backups = backed_owned w.book new backups (λ i p owned. (λ k. is_owned_by i (pages k p)) ∙ owned) backed
 
   deed_backed : (d : Deed) → May w e d → AreBacked (done w e d).book
-  deed_backed (Allocates page words) may = backed_owned w.book (done w e (Allocates page words)).book refl (free_else page (Owned e words) w.book.pages may.free) backed
-  deed_backed (Frees page) may =
-      let its = w.book.backups e in
-      backed_but w.book (done w e (Frees page)).book e (unloaded page its) refl
-      (record {
-        owned = λ p is. let was = unloaded_was page its p is in own_still w.book e page p was.1 (backed.owned e p was.0);
-        once = once_less page its (backed.once e);
-        few = omega (arith, few_less page its, backed.few e);
-      })
-      (others_still w.book e page may.owned) backed
-  deed_backed (Recaps page words) may = backed_owned w.book (done w e (Recaps page words)).book refl (own_else e page words w.book.pages may.owned) backed
-  deed_backed (Loads page) may =
-      let its = w.book.backups e in
-      let free = room its page may.room in
-      backed_but w.book (done w e (Loads page)).book e (loaded page its) refl
-      (record {
-        owned = λ p is. elim (loaded_more its page p is) [ inl was ↦ backed.owned e p was | inr same ↦ ap (λ (n : ℕ). is_owned_by e (w.book.pages n)) (sym same) ∙ may.own.owned ];
-        once = once_more its page (backed.once e) free.0;
-        few = omega (arith, length-append its (page ∷ []), free.1);
-      })
-      (λ i p other owned. owned) backed
-  deed_backed d may = same_backed (done w e d).book refl refl
+  deed_backed d may = grind (arith, common_steps, backed_owned, free_else, backed_but, unloaded_was, own_still, once_less, few_less, others_still, own_else, loaded_more, once_more, length-append, same_backed)
 
   module _ (granted : GrantedMay) where
     call_backed : (c : Option Call) → called (w.solos e).cpu ≡ c → AreBacked (reply_to w e c).book

@@ -203,10 +203,7 @@ module _ (w : World) (e : ℕ) (sound : Sound w) (lives : (w.solos e).life ≡ L
   -- The rest of a slice goes to another, which starts or is entered.
   module _ (target : ℕ) (item : Item) (is_handed : IsHanded item) (other : e ≢ target) where
     other_sees : (i : ℕ) → SeesNow i w.book (page_bytes w) (absorb_all (w.solos i) (only target (item ∷ []) i))
-    other_sees i =
-        let its_rests = handed_rests item is_handed (w.solos i) in
-        either (λ items. SeesNow i w.book (page_bytes w) (absorb_all (w.solos i) items)) (i == target) (item ∷ []) []
-        (as_before i w.book.pages (w.book.binds i) (page_bytes w) (w.solos i) (absorb_all (w.solos i) (item ∷ [])) its_rests.binds its_rests.seen (sound.agreed i)) (sound.agreed i)
+    other_sees i = grind (arith, common_steps, handed_rests, as_before)
 
     hands_brings : (s : Solo) → s.life ≡ Live → s.binds ≡ (w.solos e).binds → s.seen ≡ (w.solos e).seen → (slots : ℕ → Option Hold)
         → Brings w e s (record w.book { slots = slots; runner = handed target w.book.runner }) (only target (item ∷ []))

@@ -84,21 +84,13 @@ module _ (b : Book) (c : ClaimValue) (owned : is_owned_by c.env (b.pages c.page)
   swapped d is other = elim (is (λ same. other (sym same))) [ inl apart ↦ inr apart | inr apart ↦ inl apart ]
 
   more_apart : (x y : ClaimValue) → Has b.claims x ⊎ (c ≡ x) → Has b.claims y ⊎ (c ≡ y) → AreApart x y
-  more_apart x y (inl its) (inl others) = good.apart x y its others
-  more_apart x y (inl its) (inr last) = subst (AreApart x) last (swapped x (apart x its))
-  more_apart x y (inr last) (inl others) = subst (λ (z : ClaimValue). AreApart z y) last (apart y others)
-  more_apart x y (inr first) (inr last) = λ other. absurd (other (ap (λ (z : ClaimValue). z.env) (sym first ∙ last)))
+  more_apart x y its others = grind (arith, common_steps)
 
   more_each : (x : ClaimValue) → Has b.claims x ⊎ (c ≡ x) → IsGood (with_claim b c) x
   more_each x (inl its) =
       let before = good.each x its in
       record { owned = before.owned; below = omega (arith, before.below); only = found_before (is_numbered x.id) b.claims c x before.only; rule = before.rule }
-  more_each x (inr last) = subst (IsGood (with_claim b c)) last (record {
-    owned = owned;
-    below = omega (arith, next);
-    only = found_last (is_numbered c.id) b.claims c other_number (eq-eqb c.id c.id refl);
-    rule = rule;
-  })
+  more_each x (inr last) = grind (arith, common_steps, found_last, other_number, eq-eqb)
 
   pub good_more : AreGood (with_claim b c)
   good_more = record {

@@ -1,16 +1,14 @@
 -- What comes of the runner's act to claims.
-use Rattle.std.proofs.Common.{◌≡◌, ◌≢◌, ℕ, zero, suc, List, [], ◌∷◌, map, Bool, true, false, not, ◌&&◌, Option, Some, None, Ok, Err, is_some, inl, refl, sym, ◌∙◌, ap, subst, arith}
+use Rattle.std.proofs.Common.{◌≡◌, ◌≢◌, ℕ, zero, suc, List, [], ◌∷◌, map, Bool, true, false, not, ◌&&◌, Option, Some, None, Ok, is_some, inl, refl, sym, ◌∙◌, ap, subst, arith}
 use Rattle.std.proofs.lemmas.Grind.{common_steps}
-use Rattle.std.specs.Prelude.{◌==◌, ◌%◌, ◌*◌, count_by, nat_le, filter, find, length, ok_or, if◌then◌else◌}
+use Rattle.std.specs.Prelude.{◌==◌, filter, find, if◌then◌else◌}
 use mathlib.Core.Bool.{and-false, and-true}
-use Rattle.std.specs.Option.{option_map}
 use Rattle.std.proofs.lemmas.Bool.{and_parts, eqb-true, eqb-false, ne_eqb, not-true}
 use Rattle.std.proofs.lemmas.List.Sums.{fold-append}
 use Rattle.filter_core.specs.declared.atom.Atom.{Atom}
 use Rattle.filter_core.specs.Asking.{agree}
-use Rattle.filter_core.specs.Filters.{atom_size, atoms_in, filter_of, is_filter, most_atoms}
-use Rattle.filter_tree.specs.declared.claim.ClaimNo.TheVariants as no
-use Rattle.filter_tree.specs.ClaimBook.{ClaimValue, is_of_env, most_claims}
+use Rattle.filter_core.specs.Filters.{filter_of, is_filter}
+use Rattle.filter_tree.specs.ClaimBook.{ClaimValue, is_of_env}
 use Rattle.filter_tree.specs.Claims.{claim_refusal, is_claim, is_in_the_way, is_into, is_numbered}
 use Rattle.mips_exec.specs.declared.registers.Cpu.{Cpu}
 use Rattle.page_book.specs.declared.row.Capabilities.{Capabilities}
@@ -20,15 +18,13 @@ use Rattle.page_book.proofs.Owners.{anothers}
 use Rattle.bind_book.specs.Stripe.{binding_at, is_bound, row_of}
 use Rattle.world_model.specs.declared.call.Deed.{Deed}
 use Rattle.world_model.specs.declared.call.Deed.TheVariants.{Gives as Donates, Allocates, Frees, Recaps, Binds, Unbinds, Transfers, Claims, Unclaims, Downloads}
-use Rattle.world_model.specs.declared.code.Code.TheVariants as code
 use Rattle.packet_ring.specs.declared.buffer.Buffer.TheVariants.{First}
 use Rattle.world_model.specs.declared.life.Life.TheVariants.{Live}
 use Rattle.world_model.specs.declared.life.Cause.{Cause}
 use Rattle.env_frames.specs.Transfer.{carried}
 use Rattle.frame_store.specs.Pages.{zero_page}
 use Rattle.world_model.specs.Book.{Book, sees}
-use Rattle.world_model.specs.Call.{good_range}
-use Rattle.world_model.specs.ClaimCalls.{atoms_or_none, filter_at, filter_in}
+use Rattle.world_model.specs.ClaimCalls.{atoms_or_none, filter_at}
 use Rattle.world_model.specs.Death.{death, death_items, lost_with}
 use Rattle.revocation_book.specs.declared.revocation.Taking.{Taking}
 use Rattle.world_model.specs.Deadlines.{copy_left}
@@ -38,9 +34,8 @@ use Rattle.world_model.specs.Item.{Item, Start, Transfer, Gained, Lost, Left, ab
 use Rattle.world_model.specs.May.{May, MayChange, MayClaim}
 use Rattle.world_model.specs.Page.{Mapped}
 use Rattle.world_model.specs.PageCalls.{breaks, left_at, left_by, left_if, lost_if, page_bytes}
-use Rattle.world_model.specs.Downloads.{handler_at, handler_or_none}
 use Rattle.world_model.specs.Rings.{page_store}
-use Rattle.world_model.specs.Solo.{Solo, Store, Key, Kept, Physical, Ring, dead, sight}
+use Rattle.world_model.specs.Solo.{Solo, Store, Key, Kept, Physical, dead, sight}
 use Rattle.world_model.specs.Table.{set_at}
 use Rattle.world_model.specs.Verdict.{done}
 use Rattle.world_model.specs.World.{World, no_items, only}
@@ -117,14 +112,7 @@ module _ (w : World) (e : ℕ) (claimed : Claimed w) where
   -- Nothing becomes of claims.
   pub steady_but : (s : Solo) (b : Book) (items : ℕ → List Item) → s.rings ≡ (w.solos e).rings → ((i : ℕ) → Spares (items i)) → b.claims ≡ w.book.claims → b.next_claim ≡ w.book.next_claim
       → ((c : ClaimValue) → is_owned_by c.env (w.book.pages c.page) ≡ true → is_owned_by c.env (b.pages c.page) ≡ true) → Claiming w e s b items
-  steady_but s b items rings spares same next owned = record {
-    own = now e (absorb_all s (items e)).rings (spares e s ∙ rings);
-    others = λ i ne. now i (absorb_all (w.solos i) (items i)).rings (spares i (w.solos i));
-    good = good_same w.book b same next owned claimed.good;
-  }
-    where
-      now : (i : ℕ) (rings : List Ring) → rings ≡ (w.solos i).rings → AreRings i b.claims rings
-      now i rings are = subst (λ (claims : List ClaimValue). AreRings i claims rings) (sym same) (subst (AreRings i w.book.claims) (sym are) (claimed.rings i))
+  steady_but s b items rings spares same next owned = grind (arith, common_steps, good_same)
 
   -- the book lists the same pages, too
   pub steady : (s : Solo) (b : Book) (items : ℕ → List Item) → s.rings ≡ (w.solos e).rings → ((i : ℕ) → Spares (items i))
@@ -139,9 +127,7 @@ module _ (w : World) (e : ℕ) (claimed : Claimed w) where
   others_beside page own i ne = beside w.book claimed.good i page (anothers e i (w.book.pages page) ne own)
 
   others_keep : (page : ℕ) → is_owned_by e (w.book.pages page) ≡ true → (its : List Item) (i : ℕ) → i ≢ e → AreRings i w.book.claims (absorb_all (w.solos i) (set_at e its (breaks w.book page) i)).rings
-  others_keep page own its i ne =
-      subst (λ (items : List Item). AreRings i w.book.claims (absorb_all (w.solos i) items).rings) (sym (set_else e i its (breaks w.book page) ne))
-      (loses_beside i page w.book.claims (others_beside page own i ne) (is_bound page (w.book.binds i)) (w.solos i) (claimed.rings i))
+  others_keep page own its i ne = grind (arith, common_steps, set_else, loses_beside, others_beside)
 
   -- Death: an environment's claims go with it.
   module _ (cpu : Cpu) (cause : Cause) where
@@ -181,11 +167,7 @@ module _ (w : World) (e : ℕ) (claimed : Claimed w) where
     }
 
     recap_claims : (page : ℕ) (words : Capabilities) → MayChange w.book e page → Claiming w e (caller (Recaps page words)) (done w e (Recaps page words)).book (done w e (Recaps page words)).items
-    recap_claims page words may = record {
-      own = subst (λ (items : List Item). AreRings e w.book.claims (absorb_all (caller (Recaps page words)) items).rings) (sym (set_here e [] (breaks w.book page))) (claimed.rings e);
-      others = λ i ne. others_keep page may.owned [] i ne;
-      good = good_same w.book (done w e (Recaps page words)).book refl refl (λ c. own_else e page words w.book.pages may.owned c.env c.page) claimed.good;
-    }
+    recap_claims page words may = grind (arith, common_steps, set_here, others_keep, good_same, own_else)
 
     unbound_rings : (vpn : ℕ) → (own_part (Unbinds vpn) (w.solos e)).rings ≡ (w.solos e).rings
     unbound_rings vpn = let s = w.solos e in either (λ t. t.rings ≡ s.rings) (is_some (binding_at s.binds vpn)) (with_binds (set_at (row_of vpn) None s.binds) s) s refl refl
@@ -196,35 +178,14 @@ module _ (w : World) (e : ℕ) (claimed : Claimed w) where
     -- a filter that is named is one
     named_rule : (filter : List Atom) (bytes : List ℕ) → filter_of bytes ≡ Some filter → is_filter filter ≡ true
     unfolding filter_of
-    named_rule filter bytes is = by_test (length bytes % atom_size == 0 && is_filter (atoms_in bytes)) refl is
-      where
-        by_test : (t : Bool) → (length bytes % atom_size == 0 && is_filter (atoms_in bytes)) ≡ t → (if t then Some (atoms_in bytes) else None) ≡ Some filter → is_filter filter ≡ true
-        by_test true rule is = let same : atoms_in bytes ≡ filter = cc in ap is_filter (sym same) ∙ (and_parts (length bytes % atom_size == 0) (is_filter (atoms_in bytes)) rule).1
-        by_test false rule is = cc
+    named_rule filter bytes is = grind (arith, common_steps, and_parts)
 
     rule_of : (look : ℕ → Option Mapped) (address atoms : ℕ) (filter : List Atom) → filter_at look address atoms ≡ Ok filter → is_filter filter ≡ true
-    rule_of look address atoms filter is = by_count (nat_le 1 atoms && nat_le atoms most_atoms) is
-      where
-        by_filter : (bytes : List ℕ) (o : Option (List Atom)) → filter_of bytes ≡ o → ok_or o code.BadFilter ≡ Ok filter → is_filter filter ≡ true
-        by_filter bytes None named is = cc
-        by_filter bytes (Some found) named is = let same : found ≡ filter = cc in named_rule filter bytes (named ∙ ap Some same)
-
-        by_range : (o : Option (List ℕ)) → filter_in o ≡ Ok filter → is_filter filter ≡ true
-        by_range None is = cc
-        by_range (Some bytes) is = by_filter bytes (filter_of bytes) refl is
-
-        by_count : (t : Bool) → (if t then filter_in (good_range look address (atoms * atom_size)) else Err code.BadFilter) ≡ Ok filter → is_filter filter ≡ true
-        by_count true is = by_range (good_range look address (atoms * atom_size)) is
-        by_count false is = cc
+    rule_of look address atoms filter is = grind (arith, common_steps, named_rule)
 
     -- where a claim isn't refused none is in its way
     none_in_the_way : (filter : List Atom) → claim_refusal w.book.claims e filter ≡ None → find (is_in_the_way e filter) w.book.claims ≡ None
-    none_in_the_way filter is = by_count (nat_le most_claims (count_by (is_of_env e) w.book.claims)) (find (is_in_the_way e filter) w.book.claims) is
-      where
-        by_count : (full : Bool) (o : Option ClaimValue) → (if full then Some no.Full else option_map (λ (c : ClaimValue). no.Overlap c.id) o) ≡ None → o ≡ None
-        by_count true o is = cc
-        by_count false None is = refl
-        by_count false (Some c) is = cc
+    none_in_the_way filter is = grind (arith, common_steps)
 
     none_agrees : (filter : List Atom) → claim_refusal w.book.claims e filter ≡ None → (d : ClaimValue) → Has w.book.claims d → e ≢ d.env → agree filter d.filter ≡ false
     none_agrees filter beside d its other =
@@ -259,11 +220,7 @@ module _ (w : World) (e : ℕ) (claimed : Claimed w) where
         others_stay i ne c own = ap not (ap (λ t. is_numbered claim c && t) (ne_eqb c.env e (λ same. ne (sym (eqb-true c.env i own) ∙ same))) ∙ and-false (is_numbered claim c))
 
     download_claims : (claim address words : ℕ) → Claiming w e (caller (Downloads claim address words)) w.book no_items
-    download_claims claim address words = record {
-      own = rings_handled claim (handler_or_none (handler_at (sight (w.solos e)) address words)) (w.solos e).rings ∙ claimed.rings e;
-      others = λ i ne. claimed.rings i;
-      good = claimed.good;
-    }
+    download_claims claim address words = grind (arith, common_steps, rings_handled)
 
     -- deed by deed
     pub deed_claims : (d : Deed) → May w e d → Claiming w e (caller d) (done w e d).book (done w e d).items

@@ -1,11 +1,10 @@
 -- What an environment is given: items that leave its guaranteed pages and its life, and others.
-use Rattle.std.proofs.Common.{◌≡◌, ◌≢◌, ℕ, zero, suc, List, [], ◌∷◌, ◌++◌, Bool, true, false, Some, None, is_some, refl, sym, ◌∙◌, ap, arith}
+use Rattle.std.proofs.Common.{◌≡◌, ◌≢◌, ℕ, zero, suc, List, [], ◌∷◌, ◌++◌, Bool, true, false, None, is_some, refl, ◌∙◌, ap, arith}
 use Rattle.std.proofs.lemmas.Grind.{common_steps}
 use Rattle.std.specs.Prelude.{◌==◌, if◌then◌else◌}
 use Rattle.std.specs.Option.{option_map}
 use Rattle.std.proofs.lemmas.Bool.{eqb-true, ne_eqb}
-use Rattle.page_book.specs.Row.{belongs_to}
-use Rattle.bind_book.specs.Stripe.{binding_at, is_bound, row_of}
+use Rattle.bind_book.specs.Stripe.{binding_at, row_of}
 use Rattle.world_model.specs.declared.call.Deed.{Deed}
 use Rattle.world_model.specs.declared.call.Deed.TheVariants.{Unbinds}
 use Rattle.world_model.specs.declared.life.Life.TheVariants.{Live, Dead}
@@ -15,7 +14,7 @@ use Rattle.world_model.specs.declared.verdict.Verdict.TheVariants.{Refuse, Grant
 use Rattle.world_model.specs.Page.{KeptPage}
 use Rattle.world_model.specs.Table.{set_at}
 use Rattle.world_model.specs.Book.{Book}
-use Rattle.world_model.specs.Solo.{Solo, Store, Key, Kept, is_dead, is_key_of, kept_after, kept_at, stored_page}
+use Rattle.world_model.specs.Solo.{Solo, Store, Kept, is_dead, kept_after, kept_at, stored_page}
 use Rattle.world_model.specs.Holding.{with_binds}
 use Rattle.world_model.specs.Item.{Item, Start, Transfer, Answer, Gained, Lost, Left, absorb, absorb_all, absorbed, answered, deed_at, own_part}
 use Rattle.world_model.specs.Death.{death_items, lost_with}
@@ -27,26 +26,12 @@ use Rattle.sharing_law.proofs.Choices.{either}
 -- a store to a guaranteed page leaves those at other VPNs
 pub kept_else : (kept : List KeptPage) (x : Store) (v vpn : ℕ) → x.key ≡ Kept v → vpn ≢ v → kept_at (kept_after kept x) vpn ≡ kept_at kept vpn
 kept_else [] x v vpn key ne = refl
-kept_else (p ∷ kept) x v vpn key ne =
-    ap (λ (k : Key). kept_at ((if is_key_of p k then stored_page x p else p) ∷ kept_after kept x) vpn) key
-    ∙ by_page (p.vpn == v) refl (kept_else kept x v vpn key ne)
-  where
-    by_page : (t : Bool) → (p.vpn == v) ≡ t → kept_at (kept_after kept x) vpn ≡ kept_at kept vpn → kept_at ((if t then stored_page x p else p) ∷ kept_after kept x) vpn ≡ kept_at (p ∷ kept) vpn
-    by_page true is rest =
-        let other : (p.vpn == vpn) ≡ false = ne_eqb p.vpn vpn (λ same. ne (sym same ∙ eqb-true p.vpn v is)) in
-        (λ k. if other k then Some (stored_page x p) else rest k) ∙ ap (λ t. if t then Some p else kept_at kept vpn) (sym other)
-    by_page false is rest = λ k. if p.vpn == vpn then Some p else rest k
+kept_else (p ∷ kept) x v vpn key ne = grind (arith, common_steps, ne_eqb, eqb-true, (kept_else kept x v vpn key ne))
 
 -- and has its bytes in the page there
 pub kept_here : (kept : List KeptPage) (x : Store) (v : ℕ) → x.key ≡ Kept v → kept_at (kept_after kept x) v ≡ option_map (stored_page x) (kept_at kept v)
 kept_here [] x v key = refl
-kept_here (p ∷ kept) x v key =
-    ap (λ (k : Key). kept_at ((if is_key_of p k then stored_page x p else p) ∷ kept_after kept x) v) key
-    ∙ by_page (p.vpn == v) refl (kept_here kept x v key)
-  where
-    by_page : (t : Bool) → (p.vpn == v) ≡ t → kept_at (kept_after kept x) v ≡ option_map (stored_page x) (kept_at kept v) → kept_at ((if t then stored_page x p else p) ∷ kept_after kept x) v ≡ option_map (stored_page x) (kept_at (p ∷ kept) v)
-    by_page true is rest = (λ k. if is k then Some (stored_page x p) else kept_at (kept_after kept x) v) ∙ (λ k. option_map (stored_page x) (if sym is k then Some p else kept_at kept v))
-    by_page false is rest = (λ k. if is k then Some p else kept_at (kept_after kept x) v) ∙ rest ∙ (λ k. option_map (stored_page x) (if sym is k then Some p else kept_at kept v))
+kept_here (p ∷ kept) x v key = grind (arith, common_steps, (kept_here kept x v key))
 
 -- an item that leaves guaranteed pages and life
 abbrev pub IsTold : Item → Type 0
@@ -128,9 +113,7 @@ told_left seen e i page x = either AreTold (i == e) [] (left_if seen page x) tt 
 
 told_losses : (b : Book) (gone i n : ℕ) → AreTold (lost_with b gone i n)
 told_losses b gone i zero = tt
-told_losses b gone i (suc n) =
-    told_both (lost_with b gone i n) (if belongs_to gone (b.pages n) then lost_if (is_bound n (b.binds i)) n else []) (told_losses b gone i n)
-    (either AreTold (belongs_to gone (b.pages n)) (lost_if (is_bound n (b.binds i)) n) [] (told_lost_if (is_bound n (b.binds i)) n) tt)
+told_losses b gone i (suc n) = grind (arith, common_steps, told_both, told_lost_if, (told_losses b gone i n))
 
 pub told_death : (b : Book) (gone i : ℕ) → AreTold (death_items b gone i)
 told_death b gone i = either AreTold (i == gone) [] (lost_with b gone i b.page_count) tt (told_losses b gone i b.page_count)

@@ -7,19 +7,18 @@ use Rattle.std.proofs.lemmas.Bool.{cases_eq, eqb-false}
 use Rattle.frame_store.specs.Pages.{with_bytes, word_bytes}
 use Rattle.mips_exec.specs.declared.registers.Cpu.{Cpu}
 use Rattle.mips_exec.specs.declared.exception.Exc.{Exc}
-use Rattle.mips_exec.specs.Cpu.{reg, rested}
-use Rattle.mips_exec.specs.Step.{Step as MachineStep, Retired, Called, Trapped, cpu_after}
+use Rattle.mips_exec.specs.Cpu.{rested}
+use Rattle.mips_exec.specs.Step.{Step as MachineStep, cpu_after}
 use Rattle.env_frames.specs.Context.{end_area, end_bytes, exception_area, exception_bytes, resumed_cpu, start_area, start_bytes}
 use Rattle.env_frames.specs.Transfer.{entry_area, entry_bytes}
 use Rattle.env_frames.specs.declared.post.PostWord.TheVariants as post
 use Rattle.env_frames.specs.Post.{post_offset}
-use Rattle.world_model.specs.Call.{exit_number}
 use Rattle.external_event.specs.declared.event.Occurrence.{Occurrence}
 use Rattle.revocation_book.specs.declared.revocation.Taking.{Taking}
 use Rattle.world_model.specs.Item.{Item, Boot, Step, Start, End, Transfer, Killed, Packet, Line, Asked, Taken, absorb, absorb_all, absorbed}
 use Rattle.world_model.specs.Page.{KeptPage}
 use Rattle.world_model.specs.Post.{post_word, signalled}
-use Rattle.world_model.specs.Solo.{Solo, Store, Key, Kept, Physical, bytes_in, kept_after, kept_at, store_of, with_store, stored_page}
+use Rattle.world_model.specs.Solo.{Solo, Store, Key, Kept, Physical, bytes_in, kept_after, kept_at, with_store, stored_page}
 use Rattle.world_model.specs.Step.{Act, Nothing, Stores, Calls, Raises, Dies, act_at_call, act_of, acted, step_alone, store_act}
 use Rattle.world_model.specs.Tick.{phases_after}
 use Rattle.world_model.specs.Upcalls.{enter, end_slice, raise, with_context}
@@ -85,9 +84,7 @@ module _ (s : Solo) (vpn : ℕ) where
   call_raises_not false exc is = cc
 
   raise_cpu : (st : MachineStep) (exc : Exc) → act_of s st ≡ Raises exc → cpu_after s.cpu st ≡ s.cpu
-  raise_cpu (Retired new write) exc is = absurd (store_raises_not (store_of s write) exc is)
-  raise_cpu Called exc is = absurd (call_raises_not (reg s.cpu 2 == exit_number) exc is)
-  raise_cpu (Trapped found) exc is = refl
+  raise_cpu st exc is = grind (arith, common_steps, store_raises_not, call_raises_not)
 
   by_act : (act : Act) → act_of s (step_alone s) ≡ act → (cpu : Cpu) → cpu_after s.cpu (step_alone s) ≡ cpu → Stays (acted act (record s { cpu = cpu })) ⊎ StepChanges s (acted act (record s { cpu = cpu })) vpn act
   by_act Nothing is cpu after = inl refl
@@ -180,10 +177,7 @@ module _ (granted : GrantedMay) (system : System) (t : ℕ) where
 
   kept_since : (n e vpn : ℕ) → KeptSince e vpn (moment system t n)
   kept_since zero e vpn = inl refl
-  kept_since (suc n) e vpn = elim (kept_since n e vpn) [
-    | inl same ↦ elim (phase_change n e vpn) [ inl stays ↦ inl (stays ∙ same) | inr changed ↦ inr (n, changed) ]
-    | inr before ↦ inr before
-  ]
+  kept_since (suc n) e vpn = grind (arith, common_steps, phase_change, (kept_since n e vpn))
 
 pub guaranteed_change : GrantedMay → GuaranteedChange
 guaranteed_change granted system t k e vpn = phase_change granted system t k e vpn

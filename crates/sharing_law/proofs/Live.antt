@@ -12,7 +12,7 @@ use Rattle.run_model.specs.Run.{System, at_step, world_after}
 use Rattle.revocation_book.specs.Takings.{TakingsAreTakable}
 use Rattle.call_verdicts.specs.Granted.{GrantedMay}
 use Rattle.sharing_law.specs.Right.{row_after, Since, HasWord, IsLive, EachIsLive}
-use Rattle.sharing_law.proofs.Replies.{IsCarried, IsPut, WasListed}
+use Rattle.sharing_law.proofs.Replies.{IsCarried, IsPut}
 use Rattle.sharing_law.proofs.Agreeing.{all_fine, none_bound}
 use Rattle.sharing_law.proofs.Books.{next_carries}
 

@@ -1,4 +1,5 @@
 -- What the runner's step does to a binding that is listed, and to its page.
+use Rattle.std.proofs.lemmas.Grind.{common_steps}
 use Rattle.std.proofs.Common.{arith, ◌≡◌, ℕ, Bool, true, false, ◌&&◌, Option, Some, None, is_some, refl, sym, ◌∙◌, ap, subst, inl, inr}
 use Rattle.std.specs.Prelude.{◌==◌, ◌⊎◌, not, if◌then◌else◌}
 use Rattle.std.proofs.lemmas.Bool.{and_cases, eq-eqb, eqb-true, not-false, or_parts}
@@ -127,22 +128,7 @@ mourns w e = record { each = λ i row b is. let before = mourned w e i row b is 
 
 -- a binding is put over that in its row
 binds_over : (w : World) (e : ℕ) (b : Binding) (word : ℕ) → Does w e (Binds b word) → HasRight e b.writable word (w.book.pages b.page) → Carries w w.book.pages (with_binding e b w.book.binds)
-binds_over w e b word does right = record { each = λ i row x is. by_env i row x (i == e) refl is }
-  where
-    by_row : (i row : ℕ) (x : Binding) → e ≡ i → (t : Bool) → (row == row_of b.vpn) ≡ t → (if t then Some b else w.book.binds e row) ≡ Some x → IsPut w w.book.pages i row x ⊎ WasListed w w.book.pages i row x
-    by_row i row x own true stands is =
-        let same : b ≡ x = cc in
-        inl (record {
-          word = word;
-          bound = subst (λ (y : Binding). Does w i (Binds y word)) same (subst (λ (n : ℕ). Does w n (Binds b word)) own does);
-          stands = eqb-true row (row_of b.vpn) stands ∙ ap (λ (y : Binding). row_of y.vpn) same;
-          right = subst (λ (y : Binding). HasRight i y.writable word (w.book.pages y.page)) same (subst (λ (n : ℕ). HasRight n b.writable word (w.book.pages b.page)) own right);
-        })
-    by_row i row x own false stands is = inr (record { listed = ap (λ (n : ℕ). w.book.binds n row) (sym own) ∙ is; carried = inl refl })
-
-    by_env : (i row : ℕ) (x : Binding) (t : Bool) → (i == e) ≡ t → (if t then set_at (row_of b.vpn) (Some b) (w.book.binds e) else w.book.binds i) row ≡ Some x → IsPut w w.book.pages i row x ⊎ WasListed w w.book.pages i row x
-    by_env i row x true own is = by_row i row x (sym (eqb-true i e own)) (row == row_of b.vpn) refl is
-    by_env i row x false own is = inr (record { listed = is; carried = inl refl })
+binds_over w e b word does right = grind (arith, common_steps, eqb-true)
 
 -- what stands in a row once the binding of a VPN is gone stood there before
 left_of_number : (vpn : ℕ) (stripe : ℕ → Option Binding) (row : ℕ) (b : Binding) (there : Bool) → (if there then set_at (row_of vpn) None stripe else stripe) row ≡ Some b → stripe row ≡ Some b

@@ -1,6 +1,7 @@
 -- A page that is taken: what each environment sees once the backup has a copy and the page is nobody's.
-use Rattle.std.proofs.Common.{◌≡◌, ◌≢◌, ℕ, suc, List, [], ◌∷◌, ◌++◌, map, Bool, true, false, not, Option, Some, None, ◌⊎◌, inl, inr, refl, sym, ◌∙◌, ap, subst}
-use Rattle.std.specs.Prelude.{◌==◌, filter, nat_lt, if◌then◌else◌}
+use Rattle.std.proofs.lemmas.Grind.{common_steps}
+use Rattle.std.proofs.Common.{◌≡◌, ◌≢◌, ℕ, suc, List, [], ◌∷◌, ◌++◌, map, Bool, true, false, not, Option, Some, None, ◌⊎◌, inl, inr, refl, sym, ◌∙◌, ap, subst, arith}
+use Rattle.std.specs.Prelude.{◌==◌, filter, nat_lt}
 use Rattle.std.proofs.lemmas.Bool.{cases_eq, eqb-false, ne_eqb, not-true}
 use Rattle.std.proofs.lemmas.List.Sums.{fold-append}
 use Rattle.frame_store.specs.Pages.{with_bytes}
@@ -13,18 +14,15 @@ use Rattle.bind_book.specs.Stripe.{breaks_page, is_bound, without}
 use Rattle.filter_tree.specs.ClaimBook.{ClaimValue}
 use Rattle.filter_tree.specs.Claims.{is_into}
 use Rattle.revocation_book.specs.declared.revocation.Taking.{Taking}
-use Rattle.revocation_book.specs.Backups.{is_loaded}
 use Rattle.world_model.specs.declared.life.Life.{Life}
 use Rattle.world_model.specs.declared.life.Life.TheVariants.{Live, Dead}
 use Rattle.world_model.specs.Table.{set_at}
-use Rattle.world_model.specs.Book.{sees}
 use Rattle.world_model.specs.Deadlines.{copy_left, takes}
 use Rattle.world_model.specs.Item.{Item, Taken, absorb, absorb_all}
-use Rattle.world_model.specs.PageCalls.{breaks, left_if, page_bytes}
+use Rattle.world_model.specs.PageCalls.{breaks, page_bytes}
 use Rattle.world_model.specs.Post.{post_word}
 use Rattle.world_model.specs.Repossession.{copied, counted_taking, recorded, taken}
-use Rattle.world_model.specs.Rings.{page_store}
-use Rattle.world_model.specs.Solo.{Solo, Physical, bytes_of}
+use Rattle.world_model.specs.Solo.{Solo}
 use Rattle.world_model.specs.Upcalls.{with_context}
 use Rattle.world_model.specs.World.{World, Reply, after}
 use Rattle.run_model.specs.Licensed.{MayTaking}
@@ -98,13 +96,7 @@ module _ (w : World) (x : Taking) (sound : Sound w) (claimed : Claimed w) (backe
     other : backup ≢ x.page
 
   is_backup : (backup : ℕ) → x.backup ≡ Some backup → IsBackup backup
-  is_backup backup is =
-      let its = w.book.backups e in
-      let there : is_loaded its backup ≡ true = loaded_at its 0 backup (sym may.first ∙ is) in
-      record { owned = backed.owned e backup there; other = λ same. spared (ap (is_loaded its) (sym same) ∙ there) }
-    where
-      spared : is_loaded (w.book.backups e) x.page ≡ true → ⊥
-      spared there = let clash : false ≡ true = sym may.spared ∙ there in cc
+  is_backup backup is = grind (arith, common_steps, loaded_at)
 
   -- the world once it is taken
   abbrev now : World
@@ -123,11 +115,7 @@ module _ (w : World) (x : Taking) (sound : Sound w) (claimed : Claimed w) (backe
 
   -- Its owner has the copy in the backup, and then the record, and loses the page.
   own_copied : (backup : Option ℕ) → Sees e w.book.pages (w.book.binds e) (bytes_with backup) (copied x.page backup s)
-  own_copied None = sound.agreed e
-  own_copied (Some backup) =
-      let its = bytes_of s (Physical x.page) in
-      subst (λ (bytes : List ℕ). Sees e w.book.pages (w.book.binds e) (set_at backup (with_bytes (page_bytes w backup) 0 bytes) (page_bytes w)) (copied x.page (Some backup) s)) (sym (owner_sees w e x.page may.owned))
-      (writer_sees e backup (page_store backup its) w.book.pages (w.book.binds e) (page_bytes w) s (sound.agreed e) refl)
+  own_copied backup = grind (arith, common_steps, owner_sees, writer_sees)
 
   abbrev holder : Solo
   holder = taken x.page x.backup s
@@ -144,11 +132,7 @@ module _ (w : World) (x : Taking) (sound : Sound w) (claimed : Claimed w) (backe
 
   -- Whoever else has bound the backup has the copy in it.
   other_copied : (i : ℕ) → i ≢ e → (w.solos i).life ≡ Live → (backup : Option ℕ) → Sees i w.book.pages (w.book.binds i) (bytes_with backup) (absorb_all (w.solos i) (copy_left w x backup i))
-  other_copied i ne live None = sound.agreed i
-  other_copied i ne live (Some backup) =
-      let its = page_store backup (page_bytes w x.page) in
-      subst (λ (items : List Item). Sees i w.book.pages (w.book.binds i) (bytes_with (Some backup)) (absorb_all (w.solos i) items)) (ap (λ t. if t then [] else left_if (sees w.book i backup) backup its) (sym (ne_eqb i e ne)))
-      (readers_see i backup its w.book (page_bytes w) (w.solos i) (sound.agreed i) live)
+  other_copied i ne live backup = grind (arith, common_steps, ne_eqb, readers_see)
 
   -- and who has bound the page loses it
   is_other : (i : ℕ) → i ≢ e → now.solos i ≡ absorb_all (absorb_all (w.solos i) (copy_left w x x.backup i)) (breaks w.book x.page i)
@@ -172,16 +156,11 @@ module _ (w : World) (x : Taking) (sound : Sound w) (claimed : Claimed w) (backe
       (still_nothing i w.book.pages now.book.pages (w.book.binds i) (now.book.binds i) (page_bytes w) bytes_now (w.solos i) none (still_none i none) (sound.agreed i))
 
   all_see : (i : ℕ) → Sees i now.book.pages (now.book.binds i) bytes_now (now.solos i)
-  all_see =
-      for_each (λ i. Sees i now.book.pages (now.book.binds i) bytes_now (now.solos i)) e
-      (subst (λ (t : Solo). Sees e now.book.pages (now.book.binds e) bytes_now t) (sym is_holder) own_sees) (λ i ne. other_sees i ne (w.solos i).life refl)
+  all_see = grind (arith, common_steps, for_each, is_holder, own_sees, other_sees)
 
   -- all live as before
   all_live : (i : ℕ) → (now.solos i).life ≡ (w.solos i).life
-  all_live =
-      for_each (λ i. (now.solos i).life ≡ (w.solos i).life) e
-      (ap (λ (t : Solo). t.life) is_holder ∙ (counted_rests x.page x.backup (copied x.page x.backup s)).life ∙ copied_life x.page x.backup s)
-      (λ i ne. ap (λ (items : List Item). (absorb_all (w.solos i) items).life) (set_else e i (Taken x.page x.backup ∷ []) others_get ne) ∙ (told_leaves (others_get i) (taking_told w x i) (w.solos i)).life)
+  all_live = grind (arith, common_steps, for_each, is_holder, counted_rests, copied_life, set_else, told_leaves, taking_told)
 
   free_behind : (page : ℕ) → w.book.pages page ≡ Free → now.book.pages page ≡ Free
   free_behind page free = either (λ row. row ≡ Free) (page == x.page) Free (w.book.pages page) refl free
@@ -213,10 +192,7 @@ module _ (w : World) (x : Taking) (sound : Sound w) (claimed : Claimed w) (backe
       (loses_beside i x.page w.book.claims apart (is_bound x.page (w.book.binds i)) copy (ap (map ring_page) (copy_spares w x x.backup i (w.solos i)) ∙ claimed.rings i)))
 
   pub taking_claimed : Claimed now
-  taking_claimed = record {
-    rings = for_each (λ i. AreRings i now.book.claims (now.solos i).rings) e (subst (λ (t : Solo). AreRings e now.book.claims t.rings) (sym is_holder) own_rings) other_rings;
-    good = good_less w.book now.book not_into refl refl (λ c kept owned. ap (is_owned_by c.env) (set_else x.page c.page Free w.book.pages (eqb-false c.page x.page (not-true (is_into x.page c) kept))) ∙ owned) claimed.good;
-  }
+  taking_claimed = grind (arith, common_steps, for_each, is_holder, own_rings, other_rings, good_less, set_else, eqb-false, not-true)
 
   -- Pages that are owned then were so, and have the bytes that they had, but for the backup.
   had_owned : (o page : ℕ) → is_owned_by o (now.book.pages page) ≡ true → is_owned_by o (w.book.pages page) ≡ true

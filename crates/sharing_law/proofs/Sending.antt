@@ -1,6 +1,7 @@
 -- What environments send keeps within limits: an answer sends by its own rule, and a packet by what its handler replies.
+use Rattle.std.proofs.lemmas.Grind.{common_steps}
 use Rattle.std.proofs.Common.{◌≡◌, ◌≤◌, ◌<◌, ℕ, zero, suc, List, [], ◌∷◌, ◌++◌, length, take, Bool, true, false, Option, Some, None, refl, sym, ◌∙◌, ap, subst, arith, length-append}
-use Rattle.std.specs.Prelude.{◌==◌, nat_lt, is_some, slice_get, unwrap_or}
+use Rattle.std.specs.Prelude.{◌==◌, nat_lt, slice_get, unwrap_or}
 use Rattle.std.specs.List.{All, list_all}
 use Rattle.std.proofs.lemmas.Bool.{and_parts, eqb-true, eqb-false}
 use Rattle.std.proofs.lemmas.List.{length-take}
@@ -8,7 +9,7 @@ use Rattle.boot_image.specs.ImageValue.{ImageValue, ProgramValue}
 use Rattle.external_event.specs.declared.event.Occurrence.{Occurrence}
 use Rattle.external_event.specs.declared.event.Occurrence.TheVariants as outside
 use Rattle.external_event.specs.Limits.{most_packet_size, most_sent}
-use Rattle.bind_book.specs.Stripe.{binding_at, is_bound, row_of}
+use Rattle.bind_book.specs.Stripe.{is_bound}
 use Rattle.env_frames.specs.Context.{resumed_cpu, start_area, start_bytes}
 use Rattle.env_frames.specs.Post.{most_records, record_bytes, record_offset}
 use Rattle.env_frames.specs.Transfer.{carried}
@@ -28,7 +29,6 @@ use Rattle.world_model.specs.declared.verdict.Verdict.{Verdict}
 use Rattle.world_model.specs.declared.verdict.Verdict.TheVariants.{Refuse, Grant}
 use Rattle.world_model.specs.Book.{running}
 use Rattle.world_model.specs.Call.{good_range}
-use Rattle.world_model.specs.Holding.{with_binds}
 use Rattle.world_model.specs.Item.{Item, Boot, Step, Start, Transfer, Answer, Gained, Lost, Packet, Taken, absorb, absorb_all, absorbed, deed_at, own_part}
 use Rattle.world_model.specs.May.{May}
 use Rattle.world_model.specs.Page.{Mapped}
@@ -180,9 +180,7 @@ deed_within : (w : World) (e : ℕ) (d : Deed) → May w e d → Within (w.solos
 deed_within w e (Own (Sends address size)) may within =
     let s = w.solos e in
     sent_within s.sent (unwrap_or (good_range (sight s) address size) []) within may.room (range_short (sight s) address size may.most)
-deed_within w e (Unbinds vpn) may within =
-    let s = w.solos e in
-    either Within (is_some (binding_at s.binds vpn)) (with_binds (set_at (row_of vpn) None s.binds) s) s within within
+deed_within w e (Unbinds vpn) may within = grind (arith, common_steps)
 deed_within w e d may within = within
 
 module _ (granted : GrantedMay) (w : World) (e : ℕ) (c : Option Call) (comes : act_now w e ≡ Calls c) (within : Within (w.solos e)) where

@@ -84,18 +84,13 @@ module _ (granted : GrantedMay) (takable : TakingsAreTakable) (licensed : GivenI
     HasSize page = length (page_bytes next page) ≡ page_size
 
     stored_whole : (page owner : ℕ) → is_owned_by owner (m.book.pages page) ≡ true → IsStored system t k page → HasSize page
-    stored_whole page owner owns stored =
-        let was = whole owner page owns in
-        let fits = stored_within (m.solos stored.writer) stored.store stored.acts.comes in
-        ap length stored.has ∙ with_length (page_bytes m page) stored.store.offset stored.store.bytes (omega (arith, was, fits)) ∙ was
+    stored_whole page owner owns stored = grind (arith, common_steps, stored_within, with_length)
 
     delivered_whole : (page owner : ℕ) → is_owned_by owner (m.book.pages page) ≡ true → IsDelivered system t k page owner → HasSize page
     delivered_whole page owner owns delivered = grind (arith, owner_sees, packet_fits, packet_short, with_length)
 
     copy_is : (page owner : ℕ) (copied : IsCopied system t k page owner) → page_bytes next page ≡ page_bytes m copied.taken
-    copy_is page owner copied =
-        let size : length (page_bytes m page) ≤ length (page_bytes m copied.taken) = omega (arith, whole owner page copied.into, whole owner copied.taken copied.from) in
-        copied.has ∙ filled_whole (page_bytes m page) (page_bytes m copied.taken) size
+    copy_is page owner copied = grind (arith, common_steps, filled_whole)
 
     next_whole : IsWhole next
     next_whole owner page owns = elim (becomes granted takable system t k page owner owns) [

@@ -1,5 +1,6 @@
 -- The timer: a runner is told of its end, has grace, or dies of its excess.
-use Rattle.std.proofs.Common.{◌≡◌, ◌≢◌, ℕ, zero, suc, ◌+◌, List, [], ◌∷◌, ◌++◌, Bool, true, false, Option, Some, None, refl, sym, ◌∙◌, ap, subst}
+use Rattle.std.proofs.lemmas.Grind.{common_steps}
+use Rattle.std.proofs.Common.{◌≡◌, ◌≢◌, ℕ, zero, suc, ◌+◌, List, [], ◌∷◌, ◌++◌, Bool, true, false, Option, Some, None, refl, sym, ◌∙◌, ap, subst, arith}
 use Rattle.std.proofs.lemmas.Bool.{eq-eqb}
 use Rattle.std.proofs.lemmas.List.{append-nil}
 use Rattle.std.specs.Prelude.{◌==◌, ◌-◌, nat_lt, if◌then◌else◌}
@@ -31,7 +32,7 @@ use Rattle.sharing_law.proofs.Choices.{either}
 use Rattle.sharing_law.proofs.Given.{IsRested, Tells, absorbs, dead_absorbs, given_rests, rests_same, told_death}
 use Rattle.sharing_law.proofs.Sound.{Sound, owner_bytes}
 use Rattle.sharing_law.proofs.Brings.{Brings, death_keeps}
-use Rattle.sharing_law.proofs.Replies.{Remains, mourned}
+use Rattle.sharing_law.proofs.Replies.{Remains}
 use Rattle.sharing_law.proofs.Claimed.{Claimed, claimed_alike, good_same}
 use Rattle.sharing_law.proofs.Claiming.{Claiming, death_claims}
 use Rattle.sharing_law.proofs.Stepping.{Follows, all_see, claimed_following, sound_following}
@@ -116,10 +117,7 @@ module _ (w : World) where
 
   -- and then time rises
   clocked : (count : World → Reply) → Comes w (count w) → Comes w (in_turn (count ∷ clock ∷ []) w)
-  clocked count (Passed alike) = Passed (record {
-    solos = λ i. subst (λ (items : List Item). IsRested (w.solos i) (absorb_all (w.solos i) items)) (sym (append-nil ((count w).items i))) (alike.solos i);
-    lists = record { pages = alike.lists.pages; binds = alike.lists.binds; claims = alike.lists.claims; next = alike.lists.next; backups = alike.lists.backups; count = alike.lists.count };
-  })
+  clocked count (Passed alike) = grind (arith, common_steps, append-nil)
   clocked count (Died x runs killed) = Died x runs (record {
     excess = killed.excess;
     time = killed.time + 1;
@@ -133,10 +131,7 @@ module _ (w : World) where
 
   -- each binding that is listed after it was before, and its page has the row that it had
   remains_by : (r : Reply) → Comes w r → (i n : ℕ) (b : Binding) → r.book.binds i n ≡ Some b → Remains w.book r.book i n b
-  remains_by r (Passed alike) i n b is = record { listed = (λ k. sym alike.lists.binds k i n) ∙ is; page = λ k. alike.lists.pages k b.page }
-  remains_by r (Died x runs killed) i n b is =
-      let left = mourned w x.env i n b (ap (λ (book : Book). book.binds i n) (sym killed.book) ∙ is) in
-      record { listed = left.listed; page = ap (λ (book : Book). book.pages b.page) killed.book ∙ left.page }
+  remains_by r comes i n b is = grind (arith, common_steps)
 
   pub timer_remains : (i n : ℕ) (b : Binding) → (timer w).book.binds i n ≡ Some b → Remains w.book (timer w).book i n b
   timer_remains = remains_by (timer w) timer_comes
@@ -195,11 +190,7 @@ module _ (w : World) (sound : Sound w) (claimed : Claimed w) (lives : IsRunnerLi
   WasSo owner page v = (is_owned_by owner (w.book.pages page) ≡ true) × (page_bytes v page ≡ page_bytes w page)
 
   owned_by : (r : Reply) → Comes w r → (owner page : ℕ) → is_owned_by owner (r.book.pages page) ≡ true → WasSo owner page (after w r)
-  owned_by r (Passed alike) owner page owns = (ap (is_owned_by owner) (λ k. sym alike.lists.pages k page) ∙ owns, bytes_alike w (after w r) alike page)
-  owned_by r (Died x runs killed) owner page owns = (
-    released_owned x.env owner (w.book.pages page) (ap (λ (book : Book). is_owned_by owner (book.pages page)) (sym killed.book) ∙ owns),
-    death_bytes w sound claimed x.env (lives x runs) r killed owner page owns,
-  )
+  owned_by r comes owner page owns = grind (arith, common_steps, bytes_alike, released_owned, death_bytes)
 
   pub timer_owned : (owner page : ℕ) → is_owned_by owner ((timer w).book.pages page) ≡ true → WasSo owner page (after w (timer w))
   timer_owned = owned_by (timer w) (timer_comes w)

@@ -1,7 +1,7 @@
 -- A store goes to where its VPN leads, and only where that may be stored to.
 use Rattle.std.proofs.Common.{arith, ◌≡◌, ℕ, ◌+◌, ◌/◌, ◌%◌, ◌≤◌, length, Bool, true, false, not, Option, Some, None, Result, Ok, Err, refl, sym, ◌∙◌, ap, subst}
 use Rattle.std.proofs.lemmas.Grind.{common_steps}
-use Rattle.std.specs.Prelude.{◌==◌, nat_le, if◌then◌else◌}
+use Rattle.std.specs.Prelude.{◌==◌, if◌then◌else◌}
 use Rattle.std.specs.Option.{option_map, option_or}
 use Rattle.std.specs.Int.{w32, to_le_bytes}
 use Rattle.std.proofs.lemmas.Bool.{eqb-true}
@@ -20,15 +20,15 @@ use Rattle.mips_exec.specs.Access as accesses
 use Rattle.mips_exec.specs.Access.{Write, is_aligned, place_of, write_of}
 use Rattle.mips_exec.specs.Effect as effects
 use Rattle.mips_exec.specs.declared.change.Change.{Change}
-use Rattle.mips_exec.specs.Step.{Answers, Step, Retired, Called, Trapped, accessed, answered, answered_if, ended, executed, access_after, decoded, fetched, step_of, view_of, without_value}
+use Rattle.mips_exec.specs.Step.{Answers, Step, Retired, Called, Trapped, accessed, answered_if, ended, executed, access_after, decoded, fetched, step_of, view_of, without_value}
 use Rattle.bind_book.specs.declared.binding.Binding.{Binding}
-use Rattle.bind_book.specs.Stripe.{binding_at, row_of}
+use Rattle.bind_book.specs.Stripe.{binding_at}
 use Rattle.bind_book.proofs.Rows.{found_in_row}
 use Rattle.world_model.specs.declared.life.Cause.TheVariants as cause
 use Rattle.world_model.specs.declared.page.Purpose.TheVariants as purpose
 use Rattle.world_model.specs.Call.{exit_number}
 use Rattle.mips_exec.specs.Cpu.{reg}
-use Rattle.world_model.specs.Page.{KeptPage, Mapped, address_error, answers_by, if_served, raised, reach, served, user_end}
+use Rattle.world_model.specs.Page.{KeptPage, Mapped, answers_by, if_served, raised, reach, served}
 use Rattle.world_model.specs.Solo.{Solo, Store, Kept, Physical, Place, bound_place, kept_at, leads, mapped, place_at, sight, store_through}
 use Rattle.world_model.specs.Step.{Stores, Raises, Dies, act_at_call, act_of, step_alone, store_act}
 use Rattle.sharing_law.proofs.Choices.{either}
@@ -76,9 +76,7 @@ module _ (answers : Answers) (cpu new : Cpu) (w : Write) where
   by_load insn spot (Err exc) retired = cc
 
   by_access : (insn : Insn) (a : Option Access) → LiesIn a → executed insn cpu a (answered_if answers a) ≡ Retired new (Some w) → IsGranted answers w
-  by_access insn None lies retired = let none : None ≡ Some w = ended_write cpu new (effects.effect insn cpu 0) None (Some w) retired in cc
-  by_access insn (Some (access.Load spot)) lies retired = by_load insn spot (answered answers (access.Load spot)) retired
-  by_access insn (Some (access.Store spot value)) lies retired = by_aligned insn spot value lies (is_aligned spot) refl retired
+  by_access insn a lies retired = grind (arith, common_steps, ended_write, by_load, by_aligned)
 
   by_fetch : (r : Result ℕ Exc) → decoded cpu r (access_after answers cpu r) ≡ Retired new (Some w) → IsGranted answers w
   by_fetch (Ok word) retired = by_access (insn_of word) (accesses.access (insn_of word) cpu) (access_lies (insn_of word) cpu) retired
@@ -102,9 +100,7 @@ module _ (look : ℕ → Option Mapped) (address : ℕ) where
   by_place (Some n) m is granted = let same : n ≡ m = cc in ap (λ (x : Mapped). x.writable) (sym same) ∙ by_writable n n.writable refl granted
 
   granted_writable : (m : Mapped) → look (address / page_size) ≡ Some m → answer_to (reach look purpose.Store address) ≡ Ok tt → m.writable ≡ true
-  granted_writable m is granted =
-      let o = look (address / page_size) in
-      either (λ r. answer_to r ≡ Ok tt → m.writable ≡ true) (nat_le user_end address) (Err (raised (address_error purpose.Store) address)) (served purpose.Store address o) (λ never. cc) (by_place o m is) granted
+  granted_writable m is granted = grind (arith, common_steps, by_place)
 
 -- a page is stored to through a binding that may be stored through
 pub record IsThrough (s : Solo) (page : ℕ) : Type 0 where
@@ -162,21 +158,7 @@ module _ (s : Solo) (x : Store) (page : ℕ) (into : x.key ≡ Physical page) wh
   -- the VPN leads to the binding
   by_binding : (vpn : ℕ) (p : Option KeptPage) (b : Option Binding) (place : Place) → binding_at s.binds vpn ≡ b → option_or (option_map (place_at vpn) p) (option_map bound_place b) ≡ Some place
       → place.key ≡ Physical page → place.writable ≡ true → IsThrough s page
-  by_binding vpn (Some p) b place found led key writable =
-      let same : place_at vpn p ≡ place = cc in
-      let clash : Kept vpn ≡ Physical page = ap (λ (q : Place). q.key) same ∙ key in
-      cc
-  by_binding vpn None None place found led key writable = cc
-  by_binding vpn None (Some b) place found led key writable =
-      let same : bound_place b ≡ place = cc in
-      let its : Physical b.page ≡ Physical page = ap (λ (q : Place). q.key) same ∙ key in
-      record {
-        row = row_of vpn;
-        binding = b;
-        found = found_in_row vpn (s.binds (row_of vpn)) b found;
-        its = cc;
-        writable = ap (λ (q : Place). q.writable) same ∙ writable;
-      }
+  by_binding vpn p b place found led key writable = grind (arith, common_steps, found_in_row)
 
   pub stored_through : act_of s (step_alone s) ≡ Stores x → IsThrough s page
   stored_through acts = let it = led_store s x acts in by_binding it.vpn (kept_at s.kept it.vpn) (binding_at s.binds it.vpn) it.place refl it.led (it.key ∙ into) it.writable
@@ -191,16 +173,7 @@ module _ (s : Solo) (x : Store) (vpn : ℕ) (into : x.key ≡ Kept vpn) where
   -- the VPN leads to it
   by_page : (n : ℕ) (p : Option KeptPage) (b : Option Binding) (place : Place) → kept_at s.kept n ≡ p → option_or (option_map (place_at n) p) (option_map bound_place b) ≡ Some place
       → place.key ≡ Kept vpn → place.writable ≡ true → IsWritable s vpn
-  by_page n (Some p) b place found led key writable =
-      let same : place_at n p ≡ place = cc in
-      let its : Kept n ≡ Kept vpn = ap (λ (q : Place). q.key) same ∙ key in
-      let number : n ≡ vpn = cc in
-      record { page = p; there = ap (kept_at s.kept) (sym number) ∙ found; writable = ap (λ (q : Place). q.writable) same ∙ writable }
-  by_page n None None place found led key writable = cc
-  by_page n None (Some b) place found led key writable =
-      let same : bound_place b ≡ place = cc in
-      let clash : Physical b.page ≡ Kept vpn = ap (λ (q : Place). q.key) same ∙ key in
-      cc
+  by_page n p b place found led key writable = grind (arith, common_steps)
 
   pub stored_writable : act_of s (step_alone s) ≡ Stores x → IsWritable s vpn
   stored_writable acts = let it = led_store s x acts in by_page it.vpn (kept_at s.kept it.vpn) (binding_at s.binds it.vpn) it.place refl it.led (it.key ∙ into) it.writable
