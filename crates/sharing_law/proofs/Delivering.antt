@@ -1,7 +1,7 @@
 -- A packet that is claimed: what each environment sees once it is in its ring.
 use Rattle.std.proofs.Common.{◌≡◌, ◌≢◌, ◌≤◌, ℕ, suc, List, [], ◌∷◌, length, map, true, false, Option, Some, None, ◌⊎◌, inl, inr, refl, sym, ◌∙◌, ap, subst, arith}
 use Rattle.std.proofs.lemmas.Grind.{common_steps}
-use Rattle.std.specs.Prelude.{◌==◌, filter, find}
+use Rattle.std.specs.Prelude.{◌==◌, filter, find, if◌then◌else◌}
 use Rattle.std.specs.Option.{option_map}
 use Rattle.std.proofs.lemmas.Bool.{cases_eq, eq-eqb, eqb-true, ne_eqb}
 use Rattle.env_frames.specs.declared.post.PostWord.TheVariants as post
@@ -12,14 +12,15 @@ use Rattle.filter_tree.specs.ClaimBook.{ClaimValue, is_of_env}
 use Rattle.filter_tree.specs.Claims.{is_for, is_numbered}
 use Rattle.world_model.specs.declared.life.Life.{Life}
 use Rattle.world_model.specs.declared.life.Life.TheVariants.{Live, Dead}
+use Rattle.world_model.specs.Book.{sees}
 use Rattle.world_model.specs.ClaimCalls.{claim_of}
 use Rattle.external_event.specs.declared.event.Occurrence.TheVariants as outside
 use Rattle.world_model.specs.Event.{arrives, delivers, happen, ring_bytes, ring_left}
 use Rattle.world_model.specs.Item.{Item, Packet, absorb_all}
-use Rattle.world_model.specs.PageCalls.{page_bytes}
+use Rattle.world_model.specs.PageCalls.{left_if, page_bytes}
 use Rattle.world_model.specs.Post.{counted}
 use Rattle.world_model.specs.Rings.{Reception, page_left, page_store, received_as, received_by, received_in, reception, ring_of}
-use Rattle.world_model.specs.Solo.{Solo, Ring, bytes_seen, with_store}
+use Rattle.world_model.specs.Solo.{Solo, Ring, Physical, bytes_seen, with_store}
 use Rattle.world_model.specs.Table.{set_at}
 use Rattle.world_model.specs.World.{World, Reply, after}
 use Rattle.run_model.specs.Run.{System, given_at, moment}
@@ -143,11 +144,18 @@ module _ (w : World) (c : ClaimValue) (packet : List ℕ) (sound : Sound w) (cla
       ∙ ap (λ (o : Option Ring). received_in o packet once) its.stands
 
   now_other : (i : ℕ) → i ≢ c.env → now.solos i ≡ absorb_all (w.solos i) (others_get outcome i)
-  now_other i ne = grind (arith, common_steps, set_else, outcome_is)
+  now_other i ne =
+      ap (absorb_all (w.solos i)) (set_else c.env i (Packet c.id packet ∷ []) (others_get (ring_bytes s (ring_of s.rings c.id) packet)) ne)
+      ∙ ap (λ (bytes : Option (List ℕ)). absorb_all (w.solos i) (others_get bytes i)) outcome_is
 
   -- The packet is lost.
   lost_alike : outcome ≡ None → IsAlike w now
-  lost_alike full = grind (arith, common_steps, for_each, now_own, lost_rests, now_other, rests_same, same_lists)
+  lost_alike full = record {
+    solos =
+        for_each (λ i. IsRested (w.solos i) (now.solos i)) c.env (subst (IsRested s) (sym now_own) (lost_rests its.ring becomes_there s full))
+        (λ i ne. subst (IsRested (w.solos i)) (sym (now_other i ne ∙ ap (λ (bytes : Option (List ℕ)). absorb_all (w.solos i) (others_get bytes i)) full)) (rests_same (w.solos i)));
+    lists = same_lists w.book;
+  }
 
   -- Or it is there.
   module _ (bytes : List ℕ) (filled : outcome ≡ Some bytes) where
@@ -171,20 +179,30 @@ module _ (w : World) (c : ClaimValue) (packet : List ℕ) (sound : Sound w) (cla
     bytes_now = set_at c.page (with_bytes (page_bytes w c.page) 0 bytes) (page_bytes w)
 
     own_sees : Sees c.env w.book.pages (w.book.binds c.env) bytes_now holder
-    own_sees = grind (arith, common_steps, as_before, writer_sees)
+    own_sees =
+        as_before c.env w.book.pages (w.book.binds c.env) bytes_now (with_store (page_store its.ring.page bytes) once) holder put.binds put.seen
+        (writer_sees c.env c.page (page_store its.ring.page bytes) w.book.pages (w.book.binds c.env) (page_bytes w) once
+        (as_before c.env w.book.pages (w.book.binds c.env) (page_bytes w) s once refl refl (sound.agreed c.env)) (ap Physical its.page))
 
     other_sees : (i : ℕ) → i ≢ c.env → (life : Life) → (w.solos i).life ≡ life → Sees i w.book.pages (w.book.binds i) bytes_now (absorb_all (w.solos i) (others_get (Some bytes) i))
-    other_sees i ne Live is = grind (arith, common_steps, ne_eqb, readers_see)
+    other_sees i ne Live is =
+        subst (λ (items : List Item). Sees i w.book.pages (w.book.binds i) bytes_now (absorb_all (w.solos i) items)) (ap (λ t. if t then [] else left_if (sees w.book i c.page) c.page (page_store c.page bytes)) (sym (ne_eqb i c.env ne)))
+        (readers_see i c.page (page_store c.page bytes) w.book (page_bytes w) (w.solos i) (sound.agreed i) is)
     other_sees i ne (Dead cause) is =
         let none = sound.none i cause is in
         subst (λ (t : Solo). Sees i w.book.pages (w.book.binds i) bytes_now t) (sym (dead_absorbs (w.solos i) cause (others_get (Some bytes) i) is))
         (still_nothing i w.book.pages w.book.pages (w.book.binds i) (w.book.binds i) (page_bytes w) bytes_now (w.solos i) none none (sound.agreed i))
 
     all_see : (i : ℕ) → Sees i w.book.pages (w.book.binds i) bytes_now (now.solos i)
-    all_see = grind (arith, common_steps, for_each, now_own, own_sees, is_other, other_sees)
+    all_see =
+        for_each (λ i. Sees i w.book.pages (w.book.binds i) bytes_now (now.solos i)) c.env
+        (subst (λ (t : Solo). Sees c.env w.book.pages (w.book.binds c.env) bytes_now t) (sym now_own) own_sees)
+        (λ i ne. subst (λ (t : Solo). Sees i w.book.pages (w.book.binds i) bytes_now t) (sym (is_other i ne)) (other_sees i ne (w.solos i).life refl))
 
     all_live : (i : ℕ) → (now.solos i).life ≡ (w.solos i).life
-    all_live = grind (arith, common_steps, for_each, now_own, is_other, told_leaves, ring_told)
+    all_live =
+        for_each (λ i. (now.solos i).life ≡ (w.solos i).life) c.env (ap (λ (t : Solo). t.life) now_own ∙ put.life)
+        (λ i ne. ap (λ (t : Solo). t.life) (is_other i ne) ∙ (told_leaves (others_get (Some bytes) i) (ring_told w c.env c.page (Some bytes) i) (w.solos i)).life)
 
     filled_sound : AreBoundAllocated now → Sound now
     filled_sound allocated = record {

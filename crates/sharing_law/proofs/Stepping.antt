@@ -1,6 +1,5 @@
 -- The phase of a tick in which the runner makes its step.
-use Rattle.std.proofs.lemmas.Grind.{common_steps}
-use Rattle.std.proofs.Common.{◌≡◌, ◌≢◌, ℕ, List, [], ◌∷◌, ◌++◌, Option, Some, refl, sym, ◌∙◌, ap, subst, arith}
+use Rattle.std.proofs.Common.{◌≡◌, ◌≢◌, ℕ, List, [], ◌∷◌, ◌++◌, Option, Some, refl, sym, ◌∙◌, ap, subst}
 use Rattle.mips_exec.specs.Step.{cpu_after}
 use Rattle.world_model.specs.declared.call.Call.{Call}
 use Rattle.world_model.specs.declared.life.Life.{Life}
@@ -31,7 +30,7 @@ use Rattle.sharing_law.proofs.Giving.{deed_gives, store_gives}
 use Rattle.sharing_law.proofs.Sound.{Sound, agreed, still_nothing}
 use Rattle.sharing_law.proofs.Brings.{Brings, Fortune, GoesOn, Ends, death_brings, silent, store_brings}
 use Rattle.sharing_law.proofs.Calling.{caller, deed_brings}
-use Rattle.sharing_law.proofs.Claimed.{Claimed}
+use Rattle.sharing_law.proofs.Claimed.{AreRings, Claimed}
 use Rattle.sharing_law.proofs.Claiming.{Claiming, deed_claims, death_claims, store_claims, steady}
 
 -- A world follows on another, in which the runner came to this, whatever it was given in between.
@@ -141,7 +140,9 @@ module _ (w : World) (e : ℕ) (s : Solo) (now : World) (items : ℕ → List It
           (still_nothing i w.book.pages now.book.pages (w.book.binds i) (now.book.binds i) (page_bytes w) brings.bytes (w.solos i) before (brings.none i ne before) (sound.agreed i))
 
   pub all_see : (i : ℕ) → Sees i now.book.pages (now.book.binds i) brings.bytes (now.solos i)
-  all_see = grind (arith, common_steps, for_each, other_sees)
+  all_see =
+      for_each (λ i. Sees i now.book.pages (now.book.binds i) brings.bytes (now.solos i)) e
+      (subst (λ t. Sees e now.book.pages (now.book.binds e) brings.bytes t) (sym follows.own) brings.own) other_sees
 
   other_none : (i : ℕ) → i ≢ e → (cause : Cause) → (now.solos i).life ≡ Dead cause → HasNone i now.book.pages (now.book.binds i)
   other_none i ne cause died = brings.none i ne (sound.none i cause (sym (other_life i ne) ∙ died))
@@ -161,4 +162,9 @@ module _ (w : World) (e : ℕ) (s : Solo) (now : World) (items : ℕ → List It
 
   -- and its claims
   pub claimed_following : Claimed now
-  claimed_following = grind (arith, common_steps, for_each)
+  claimed_following = record {
+    rings =
+        for_each (λ i. AreRings i now.book.claims (now.solos i).rings) e (subst (λ (t : Solo). AreRings e now.book.claims t.rings) (sym follows.own) follows.claims.own)
+        (λ i ne. subst (λ (t : Solo). AreRings i now.book.claims t.rings) (sym (follows.others i ne)) (follows.claims.others i ne));
+    good = follows.claims.good;
+  }
