@@ -1,7 +1,7 @@
 -- The balance of excess, and lawful ledgers.
-use Rattle.std.proofs.Common.{arith, refl, sym, ◌∙◌, ap, subst, ◌≡◌, ◌<◌, ◌+◌, ◌-◌, ℕ, zero, suc, List, [], ◌∷◌, ◌++◌, map, length, Bool, true, false, Option, None, Some}
+use Rattle.std.proofs.Common.{arith, rules, refl, sym, ◌∙◌, ap, subst, ◌≡◌, ◌<◌, ◌+◌, ◌-◌, ℕ, zero, suc, List, [], ◌∷◌, ◌++◌, map, length, Bool, true, false, Option, None, Some}
 use Rattle.std.specs.Prelude.{◌==◌, nat_lt, if◌then◌else◌, slice_get}
-use Rattle.std.proofs.lemmas.Bool.{eqb-true, eqb-false}
+use Rattle.std.proofs.lemmas.Bool.{cond_both, eqb-true, eqb-false}
 use Rattle.boot_image.specs.ImageValue.{ProgramValue}
 use Rattle.kernel_journal.specs.declared.row.Row.{Row}
 use Rattle.kernel_journal.specs.declared.row.Row.TheVariants as row
@@ -37,8 +37,8 @@ use Rattle.world_model.specs.World.{World, Reply, after, is_living, no_change, n
 use Rattle.world_model.proofs.Slots.{holder_in}
 use Rattle.run_model.proofs.Lives.{breaks_keep, copy_left_keeps, keep_asked, keep_both, keep_end, keep_line, keep_none, keep_only, keep_packet, keep_set, keep_start, keep_taken, ring_left_keeps}
 use Rattle.run_model.proofs.NextTurn.{Found, search_finds}
-use Rattle.run_model.proofs.Replies.{accounts, act_accounts, death_accounts, dies, in_turn_accounts, mild_accounts, no_change_is_mild}
-use Rattle.run_model.proofs.Rows.{Adds, AreQuiet, Balances, adds_over, adds_pay, adds_quiet, adds_run, quiet_asked, quiet_both, quiet_end, quiet_slot, quiet_stop, quiet_take, quiet_unclaimed}
+use Rattle.run_model.proofs.Replies.{accounts, act_accounts, death_accounts, dies, in_turn_accounts, mild_accounts, no_change_is_mild, still_accounts}
+use Rattle.run_model.proofs.Rows.{Adds, AreQuiet, Balances, adds_over, adds_pay, adds_quiet, adds_run, quiet_both, quiet_slot}
 
 -- A phase that keeps the accounts, and phases that do.
 abbrev pub KeepsAccounts : (World → Reply) → Type 0
@@ -58,26 +58,14 @@ no_change_accounts w good = mild_accounts w (no_change w) good (no_change_is_mil
 
 -- A packet that is dropped has a row that counts for nobody.
 dropped_accounts : (packet : List ℕ) → KeepsAccounts (drops_packet packet)
-dropped_accounts packet w good = mild_accounts w (drops_packet packet w) good (record {
-  excess = refl;
-  quiet = (quiet_unclaimed w.book.time (length packet), tt);
-  keeps = λ i. keep_none;
-  slots = good.slots_live;
-  runner = good.runner_lives;
-})
+dropped_accounts packet w good = still_accounts w (drops_packet packet w) good refl (search rules, tt) (λ i. keep_none)
 
 -- One that is claimed leaves the life of whose claim it is, and of those who see the ring page.
 delivered_accounts : (c : ClaimValue) (packet : List ℕ) → KeepsAccounts (delivers c packet)
 delivered_accounts c packet w good =
     let s = w.solos c.env in
     let bytes = ring_bytes s (ring_of s.rings c.id) packet in
-    mild_accounts w (delivers c packet w) good (record {
-      excess = refl;
-      quiet = tt;
-      keeps = keep_set c.env (Packet c.id packet ∷ []) (ring_left w.book c.env c.page bytes) (keep_packet c.id packet) (ring_left_keeps w.book c.env c.page bytes);
-      slots = good.slots_live;
-      runner = good.runner_lives;
-    })
+    still_accounts w (delivers c packet w) good refl tt (keep_set c.env (Packet c.id packet ∷ []) (ring_left w.book c.env c.page bytes) (keep_packet c.id packet) (ring_left_keeps w.book c.env c.page bytes))
 
 arrival_accounts : (packet : List ℕ) (claim : Option ClaimValue) → KeepsAccounts (arrives packet claim)
 arrival_accounts packet None w good = dropped_accounts packet w good
@@ -86,31 +74,17 @@ arrival_accounts packet (Some c) w good = delivered_accounts c packet w good
 -- A signal leaves the life of whose line it is.
 signal_accounts : (line : ℕ) (owner : Option ℕ) → KeepsAccounts (signals line owner)
 signal_accounts line None w good = no_change_accounts w good
-signal_accounts line (Some owner) w good = mild_accounts w (tells owner (Line line) w) good (record {
-  excess = refl;
-  quiet = tt;
-  keeps = keep_only owner (Line line ∷ []) (keep_line line);
-  slots = good.slots_live;
-  runner = good.runner_lives;
-})
+signal_accounts line (Some owner) w good = still_accounts w (tells owner (Line line) w) good refl tt (keep_only owner (Line line ∷ []) (keep_line line))
 
 -- A revocation leaves the life of whom it asks.
 ask_accounts : (e : ℕ) (pending : Option Pending) → KeepsAccounts (asks e pending)
 ask_accounts e None w good = no_change_accounts w good
-ask_accounts e (Some p) w good = mild_accounts w (asks e (Some p) w) good (record {
-  excess = refl;
-  quiet = (quiet_asked w.book.time e p.outstanding p.deadline, tt);
-  keeps = keep_only e (Asked p.outstanding p.deadline ∷ []) (keep_asked p.outstanding p.deadline);
-  slots = good.slots_live;
-  runner = good.runner_lives;
-})
+ask_accounts e (Some p) w good = still_accounts w (asks e (Some p) w) good refl (search rules, tt) (keep_only e (Asked p.outstanding p.deadline ∷ []) (keep_asked p.outstanding p.deadline))
 
 revocation_accounts : (e count deadline : ℕ) → KeepsAccounts (revokes e count deadline)
-revocation_accounts e count deadline w good = by_test (is_living w e)
-  where
-    by_test : (t : Bool) → IsAccounted (after w (if t then asks e (asked count deadline (w.book.pending e)) w else no_change w))
-    by_test true = ask_accounts e (asked count deadline (w.book.pending e)) w good
-    by_test false = no_change_accounts w good
+revocation_accounts e count deadline w good =
+    let pending = asked count deadline (w.book.pending e) in
+    cond_both (is_living w e) (asks e pending w) (no_change w) (λ (r : Reply). IsAccounted (after w r)) (λ lives. ask_accounts e pending w good) (λ gone. no_change_accounts w good)
 
 -- What happens from outside, kind by kind.
 pub happen_accounts : (what : Occurrence) → KeepsAccounts (happen what)
@@ -120,18 +94,14 @@ happen_accounts (outside.Revoke env count grace) w good = revocation_accounts en
 
 -- A page that is taken leaves the life of its owner, and of those who have bound it or the backup.
 pub taking_accounts : (x : Taking) → KeepsAccounts (takes x)
-taking_accounts x w good = mild_accounts w (takes x w) good (record {
-  excess = refl;
-  quiet = (quiet_take w.book.time x.env x.page x.backup, tt);
-  keeps = keep_set x.env (Taken x.page x.backup ∷ []) (λ e. copy_left w x x.backup e ++ breaks w.book x.page e) (keep_taken x.page x.backup)
-      (λ e. keep_both (copy_left w x x.backup e) (breaks w.book x.page e) (copy_left_keeps w x x.backup e) (breaks_keep w.book x.page e));
-  slots = good.slots_live;
-  runner = good.runner_lives;
-})
+taking_accounts x w good =
+    still_accounts w (takes x w) good refl (search rules, tt)
+    (keep_set x.env (Taken x.page x.backup ∷ []) (λ e. copy_left w x x.backup e ++ breaks w.book x.page e) (keep_taken x.page x.backup)
+    (λ e. keep_both (copy_left w x x.backup e) (breaks w.book x.page e) (copy_left_keeps w x x.backup e) (breaks_keep w.book x.page e)))
 
 -- The end of deadlines changes nothing of lives and slots.
 pub settling_accounts : KeepsAccounts settles
-settling_accounts w good = mild_accounts w (settles w) good (record { excess = refl; quiet = tt; keeps = λ i. keep_none; slots = good.slots_live; runner = good.runner_lives })
+settling_accounts w good = still_accounts w (settles w) good refl tt (λ i. keep_none)
 
 -- The turn. Each forfeit is of one that lives and owes, and who runs lives and owes nothing.
 abbrev Forfeits : World → (ℕ → ℕ) → List Turn → Option Turn → (ℕ → ℕ) → Type 0
@@ -207,7 +177,7 @@ step_accounts granted w (Some r) is good = act_accounts granted w r.env good (go
 
 -- The timer. Time rises by one.
 clock_accounts : KeepsAccounts clock
-clock_accounts w good = mild_accounts w (clock w) good (record { excess = refl; quiet = tt; keeps = λ i. keep_none; slots = good.slots_live; runner = good.runner_lives })
+clock_accounts w good = still_accounts w (clock w) good refl tt (λ i. keep_none)
 
 -- who lives runs on
 goes_on_accounts : (w : World) (r : Runner) → IsAccounted w → Lives w r.env → IsAccounted (after w (goes_on r w))
@@ -232,14 +202,14 @@ slice_end_accounts w e handler good lives = by_test (handler == 0)
     by_test : (t : Bool) → IsAccounted (after w (if t then stops else ends))
     by_test true = mild_accounts w stops good (record {
       excess = refl;
-      quiet = (quiet_stop w.book.time w.book.cursor e, tt);
+      quiet = (search rules, tt);
       keeps = λ i. keep_none;
       slots = good.slots_live;
       runner = λ x is. cc;
     })
     by_test false = mild_accounts w ends good (record {
       excess = refl;
-      quiet = (quiet_end w.book.time w.book.cursor e, tt);
+      quiet = (search rules, tt);
       keeps = keep_only e (End ∷ []) keep_end;
       slots = good.slots_live;
       runner = λ x is. let same : e ≡ x.env = cc in subst (λ (n : ℕ). Lives w n) same lives;
@@ -258,11 +228,9 @@ kill_accounts w e good =
     death_accounts w e Killed cause.Excess good (dies (is_dead s.life) s (dead cause.Excess s) refl (λ never. cc))
 
 judged_accounts : (w : World) (e : ℕ) → IsAccounted w → Lives w e → IsAccounted (after w (judged e w))
-judged_accounts w e good lives = by_test (nat_lt excess_limit (w.book.excess e))
-  where
-    by_test : (t : Bool) → IsAccounted (after w (if t then kill e w else goes_on (grace_of w e) w))
-    by_test true = kill_accounts w e good
-    by_test false = goes_on_accounts w (grace_of w e) good lives
+judged_accounts w e good lives =
+    cond_both (nat_lt excess_limit (w.book.excess e)) (kill e w) (goes_on (grace_of w e) w) (λ (r : Reply). IsAccounted (after w r))
+    (λ over. kill_accounts w e good) (λ within. goes_on_accounts w (grace_of w e) good lives)
 
 run_out_accounts : (w : World) (e : ℕ) (p : Phase) → IsAccounted w → Lives w e → IsAccounted (after w (run_out e p w))
 run_out_accounts w e phase.Own good lives = slice_end_accounts w e (w.solos e).handlers.end good lives
@@ -271,11 +239,10 @@ run_out_accounts w e phase.Grace good lives =
 
 count_accounts : (w : World) (runner : Option Runner) → w.book.runner ≡ runner → IsAccounted w → IsAccounted (after w (count_when runner w))
 count_accounts w None is good = no_change_accounts w good
-count_accounts w (Some r) is good = by_test (r.left - 1 == 0)
-  where
-    by_test : (t : Bool) → IsAccounted (after w (if t then run_out r.env r.phase w else goes_on (record r { left = r.left - 1 }) w))
-    by_test true = run_out_accounts w r.env r.phase good (good.runner_lives r is)
-    by_test false = goes_on_accounts w (record r { left = r.left - 1 }) good (good.runner_lives r is)
+count_accounts w (Some r) is good =
+    let later : Runner = record r { left = r.left - 1 } in
+    cond_both (r.left - 1 == 0) (run_out r.env r.phase w) (goes_on later w) (λ (s : Reply). IsAccounted (after w s))
+    (λ out. run_out_accounts w r.env r.phase good (good.runner_lives r is)) (λ left. goes_on_accounts w later good (good.runner_lives r is))
 
 pub timer_accounts : KeepsAccounts timer
 timer_accounts w good =
@@ -298,11 +265,9 @@ all_account granted [] xs = tick_accounts granted xs
 all_account granted (what ∷ happens) xs = (happen_accounts what, all_account granted happens xs)
 
 next_accounts : GrantedMay → (schedule : Schedule) (w : World) → IsAccounted w → IsAccounted (next_world schedule w)
-next_accounts granted schedule w good = by_test (is_idle_book w.book)
-  where
-    by_test : (idle : Bool) → IsAccounted (if idle then w else run_phases w (next_phases schedule w))
-    by_test true = good
-    by_test false = run_accounts (next_phases schedule w) (all_account granted (happens_in schedule w) (takings_next schedule w)) w good
+next_accounts granted schedule w good =
+    let phases = next_phases schedule w in
+    cond_both (is_idle_book w.book) w (run_phases w phases) IsAccounted (λ idle. good) (λ busy. run_accounts phases (all_account granted (happens_in schedule w) (takings_next schedule w)) w good)
 
 -- more ticks keep the accounts, and so the balance
 pub ticks_keep_accounts : GrantedMay → TicksKeepAccounts

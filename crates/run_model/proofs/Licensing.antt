@@ -2,7 +2,7 @@
 use Rattle.std.proofs.Common.{◌≡◌, ◌≢◌, ◌+◌, ◌-◌, ℕ, zero, suc, List, [], ◌∷◌, ◌++◌, map, take, Bool, true, false, Option, Some, None, inl, inr, refl, sym, ap, subst, arith}
 use Rattle.std.specs.Prelude.{◌==◌, if◌then◌else◌, nat_lt, slice_get}
 use Rattle.std.specs.List.{All}
-use Rattle.std.proofs.lemmas.Bool.{eq-eqb, eqb-true, eqb-false, ltb-true}
+use Rattle.std.proofs.lemmas.Bool.{cond_both, eq-eqb, eqb-true, eqb-false, ltb-true}
 use Rattle.boot_image.specs.ImageValue.{ImageValue, ProgramValue}
 use Rattle.frame_store.specs.Pages.{zero_page}
 use Rattle.env_frames.specs.Transfer.{carried}
@@ -73,11 +73,8 @@ each_all P (x ∷ xs) (its, rest) (suc k) d below = each_all P xs rest k d (omeg
 
 -- what one is given, and what the others are
 each_at : (P : ℕ → Item → Type 0) (n : ℕ) (xs : List Item) (f : ℕ → List Item) (i : ℕ) → Each (P n) xs → (i ≢ n → Each (P i) (f i)) → Each (P i) (set_at n xs f i)
-each_at P n xs f i its others = by_test (i == n) refl
-  where
-    by_test : (t : Bool) → (i == n) ≡ t → Each (P i) (if t then xs else f i)
-    by_test true same = subst (λ (m : ℕ). Each (P m) xs) (sym (eqb-true i n same)) its
-    by_test false other = others (eqb-false i n other)
+each_at P n xs f i its others =
+    cond_both (i == n) xs (f i) (Each (P i)) (λ same. subst (λ (m : ℕ). Each (P m) xs) (sym (eqb-true i n same)) its) (λ other. others (eqb-false i n other))
 
 each_only : (P : ℕ → Item → Type 0) (n : ℕ) (xs : List Item) (i : ℕ) → Each (P n) xs → Each (P i) (only n xs i)
 each_only P n xs i its = each_at P n xs no_items i its (λ other. tt)
@@ -92,18 +89,13 @@ each_break P b page i its = by_test (is_bound page (b.binds i)) refl
 
 each_loss : (P : Item → Type 0) (b : Book) (gone i n : ℕ) → ((page : ℕ) → belongs_to gone (b.pages page) ≡ true → is_bound page (b.binds i) ≡ true → P (Lost page)) → Each P (lost_with b gone i n)
 each_loss P b gone i zero its = tt
-each_loss P b gone i (suc n) its = each_both P (lost_with b gone i n) (if belongs_to gone (b.pages n) then breaks b n i else []) (each_loss P b gone i n its) (by_test (belongs_to gone (b.pages n)) refl)
-  where
-    by_test : (t : Bool) → belongs_to gone (b.pages n) ≡ t → Each P (if t then breaks b n i else [])
-    by_test true owned = each_break P b n i (its n owned)
-    by_test false owned = tt
+each_loss P b gone i (suc n) its =
+    each_both P (lost_with b gone i n) (if belongs_to gone (b.pages n) then breaks b n i else []) (each_loss P b gone i n its)
+    (cond_both (belongs_to gone (b.pages n)) (breaks b n i) [] (Each P) (λ owned. each_break P b n i (its n owned)) (λ other. tt))
 
 each_death : (P : Item → Type 0) (b : Book) (gone i : ℕ) → (i ≢ gone → (page : ℕ) → belongs_to gone (b.pages page) ≡ true → is_bound page (b.binds i) ≡ true → P (Lost page)) → Each P (death_items b gone i)
-each_death P b gone i its = by_test (i == gone) refl
-  where
-    by_test : (t : Bool) → (i == gone) ≡ t → Each P (if t then [] else lost_with b gone i b.page_count)
-    by_test true own = tt
-    by_test false other = each_loss P b gone i b.page_count (its (eqb-false i gone other))
+each_death P b gone i its =
+    cond_both (i == gone) [] (lost_with b gone i b.page_count) (Each P) (λ own. tt) (λ other. each_loss P b gone i b.page_count (its (eqb-false i gone other)))
 
 -- What happens from outside, kind by kind.
 signal_licensed : (line : ℕ) (w : World) (i : ℕ) → Each (AtSignal line w i) ((signals line (w.book.lines line) w).items i)
@@ -121,15 +113,12 @@ arrival_licensed packet w i = by_claim (claim_of w.book packet) refl
     by_sight c bytes goes filled other true seen = (record { lowest = c; goes = goes; another = other; into = refl; filled = filled; whole = refl; seen = seen }, tt)
     by_sight c bytes goes filled other false seen = tt
 
-    by_env : (c : ClaimValue) (bytes : List ℕ) → claim_of w.book packet ≡ Some c → ring_bytes (w.solos c.env) (ring_of (w.solos c.env).rings c.id) packet ≡ Some bytes → i ≢ c.env
-        → (t : Bool) → (i == c.env) ≡ t → Each (AtArrival packet w i) (if t then [] else left_if (sees w.book i c.page) c.page (page_store c.page bytes))
-    by_env c bytes goes filled other true own = tt
-    by_env c bytes goes filled other false its = by_sight c bytes goes filled other (sees w.book i c.page) refl
-
     by_ring : (c : ClaimValue) → claim_of w.book packet ≡ Some c → i ≢ c.env → (bytes : Option (List ℕ)) → ring_bytes (w.solos c.env) (ring_of (w.solos c.env).rings c.id) packet ≡ bytes
         → Each (AtArrival packet w i) (ring_left w.book c.env c.page bytes i)
     by_ring c goes other None lost = tt
-    by_ring c goes other (Some bytes) filled = by_env c bytes goes filled other (i == c.env) refl
+    by_ring c goes other (Some bytes) filled =
+        let seen = sees w.book i c.page in
+        cond_both (i == c.env) [] (left_if seen c.page (page_store c.page bytes)) (Each (AtArrival packet w i)) (λ own. tt) (λ its. by_sight c bytes goes filled other seen refl)
 
     by_claim : (o : Option ClaimValue) → claim_of w.book packet ≡ o → Each (AtArrival packet w i) ((arrives packet o w).items i)
     by_claim None goes = tt
@@ -141,15 +130,13 @@ arrival_licensed packet w i = by_claim (claim_of w.book packet) refl
         (λ other. by_ring c goes other bytes refl)
 
 revocation_licensed : (named count until : ℕ) (w : World) (i : ℕ) → Each (AtRevocation named count until w i) ((revokes named count until w).items i)
-revocation_licensed named count until w i = by_life (is_living w named) refl
+revocation_licensed named count until w i =
+    let pending = asked count until (w.book.pending named) in
+    cond_both (is_living w named) (asks named pending w) (no_change w) (λ (r : Reply). Each (AtRevocation named count until w i) (r.items i)) (λ lives. by_pending lives pending refl) (λ gone. tt)
   where
     by_pending : is_living w named ≡ true → (o : Option Pending) → asked count until (w.book.pending named) ≡ o → Each (AtRevocation named count until w i) ((asks named o w).items i)
     by_pending lives None its = tt
     by_pending lives (Some p) its = each_only (AtRevocation named count until w) named (Asked p.outstanding p.deadline ∷ []) i (record { its = refl; lives = lives; pending = its }, tt)
-
-    by_life : (t : Bool) → is_living w named ≡ t → (let reply : Reply = (if t then asks named (asked count until (w.book.pending named)) w else no_change w) in Each (AtRevocation named count until w i) (reply.items i))
-    by_life true lives = by_pending lives (asked count until (w.book.pending named)) refl
-    by_life false gone = tt
 
 event_licensed : (what : Occurrence) (w : World) (i : ℕ) → Each (AtEvent what w i) ((happen what w).items i)
 event_licensed (outside.Packet packet) w i = arrival_licensed packet w i
@@ -201,7 +188,8 @@ owned_belongs e (Owned owner words) owned = owned
 module _ (x : Taking) (w : World) (may : MayTaking w x) (i : ℕ) where
   copy_licensed : i ≢ x.env → (backup : Option ℕ) → x.backup ≡ backup → Each (AtTaking x w i) (copy_left w x backup i)
   copy_licensed other None into = tt
-  copy_licensed other (Some backup) into = by_env (i == x.env) refl
+  copy_licensed other (Some backup) into =
+      cond_both (i == x.env) [] (left_if (sees w.book i backup) backup its) (Each (AtTaking x w i)) (λ own. tt) (λ others. by_sight (sees w.book i backup) refl)
     where
       its : Store
       its = page_store backup (page_bytes w x.page)
@@ -209,10 +197,6 @@ module _ (x : Taking) (w : World) (may : MayTaking w x) (i : ℕ) where
       by_sight : (t : Bool) → sees w.book i backup ≡ t → Each (AtTaking x w i) (left_if t backup its)
       by_sight true seen = (record { may = may; another = other; into = into; whole = refl; its = refl; seen = seen }, tt)
       by_sight false seen = tt
-
-      by_env : (t : Bool) → (i == x.env) ≡ t → Each (AtTaking x w i) (if t then [] else left_if (sees w.book i backup) backup its)
-      by_env true own = tt
-      by_env false others = by_sight (sees w.book i backup) refl
 
   taking_licensed : Each (AtTaking x w i) ((takes x w).items i)
   taking_licensed =
@@ -274,13 +258,11 @@ module _ (w : World) (e : ℕ) where
         by_sight page into other true seen = (record { writer = e; another = other; store = x; acts = acts; into = into; at = refl; its = refl; seen = seen }, tt)
         by_sight page into other false seen = tt
 
-        by_env : (page : ℕ) → x.key ≡ Physical page → (t : Bool) → (i == e) ≡ t → Each (AtStep w i) (if t then [] else left_if (sees w.book i page) page x)
-        by_env page into true own = tt
-        by_env page into false other = by_sight page into (eqb-false i e other) (sees w.book i page) refl
-
         by_key : (key : Key) → x.key ≡ key → Each (AtStep w i) (left_at w.book e x key i)
         by_key (Kept vpn) into = tt
-        by_key (Physical page) into = by_env page into (i == e) refl
+        by_key (Physical page) into =
+            let seen = sees w.book i page in
+            cond_both (i == e) [] (left_if seen page x) (Each (AtStep w i)) (λ own. tt) (λ other. by_sight page into (eqb-false i e other) seen refl)
 
     act_licensed : (act : Act) → Acts w e act → (i : ℕ) → Each (AtStep w i) ((brings e act (after w (tells e Step w))).items i)
     act_licensed Nothing acts i = tt
@@ -386,13 +368,12 @@ module _ (granted : GrantedMay) where
       each_both P ((phase w).items e) ((in_turn phases v).items e) (each 0) (in_turn_each P phases v e (λ k. each (suc k)))
 
   tick_licensed : TakingsAreTakable → (system : System) (t e : ℕ) → Each (λ item. (k : ℕ) × LicensedAt system t k e item) (items_in system t e)
-  tick_licensed takable system t e = by_idle (is_idle_book (world_after system t).book)
-    where
-      by_idle : (idle : Bool) → Each (λ item. (k : ℕ) × LicensedAt system t k e item) (if idle then [] else (in_turn (next_phases system.schedule (world_after system t)) (world_after system t)).items e)
-      by_idle true = tt
-      by_idle false =
-          in_turn_each (λ item. (k : ℕ) × LicensedAt system t k e item) (next_phases system.schedule (world_after system t)) (world_after system t) e
-          (λ k. each_then (LicensedAt system t k e) (λ item. (n : ℕ) × LicensedAt system t n e item) (λ item its. (k, its)) (given_at system t k e) (given_licensed takable system t k e))
+  tick_licensed takable system t e =
+      let w = world_after system t in
+      let phases = next_phases system.schedule w in
+      cond_both (is_idle_book w.book) [] ((in_turn phases w).items e) (Each (λ item. (k : ℕ) × LicensedAt system t k e item)) (λ idle. tt)
+      (λ busy. in_turn_each (λ item. (k : ℕ) × LicensedAt system t k e item) phases w e
+      (λ k. each_then (LicensedAt system t k e) (λ item. (n : ℕ) × LicensedAt system t n e item) (λ item its. (k, its)) (given_at system t k e) (given_licensed takable system t k e)))
 
   -- in a feed
   boot_licensed : (image : ImageValue) (e : ℕ) → Each (AtBoot image e) (boot_items image e)

@@ -1,12 +1,11 @@
 -- What leaves an environment's life as it is.
-use Rattle.std.proofs.Common.{◌≡◌, ℕ, zero, suc, List, [], ◌∷◌, ◌++◌, Bool, true, false, refl, ◌∙◌, ap, Option, Some, None}
+use Rattle.std.proofs.Common.{arith, ◌≡◌, ℕ, zero, suc, List, [], ◌∷◌, ◌++◌, Bool, true, false, refl, ◌∙◌, ap, Option, Some, None}
 use Rattle.std.specs.Prelude.{◌==◌, nat_lt, if◌then◌else◌, is_some}
+use Rattle.std.proofs.lemmas.Grind.{common_steps}
 use Rattle.std.proofs.lemmas.List.Sums.{fold-append}
 use Rattle.env_frames.specs.declared.transfer.TransferKind.{TransferKind}
 use Rattle.env_frames.specs.Transfer.{Registers}
-use Rattle.env_frames.specs.Context.{resumed_cpu, start_area, start_bytes}
 use Rattle.bind_book.specs.Stripe.{binding_at, is_bound, row_of}
-use Rattle.mips_exec.specs.Cpu.{rested}
 use Rattle.page_book.specs.Row.{belongs_to}
 use Rattle.world_model.specs.declared.call.Deed.{Deed}
 use Rattle.world_model.specs.declared.call.Deed.TheVariants.{Unbinds}
@@ -71,11 +70,7 @@ answered_same (Refuse code value) s = refl
 answered_same (Grant value) s = own_part_same (deed_at s value) s
 
 start_same : (handler : ℕ) (s : Solo) → (start_by handler s).life ≡ s.life
-start_same handler s = by_test (handler == 0)
-  where
-    by_test : (t : Bool) → (if t then record s { cpu = rested s.cpu } else record (with_context start_area (start_bytes s.cpu) s) { cpu = resumed_cpu handler s.cpu }).life ≡ s.life
-    by_test true = refl
-    by_test false = refl
+start_same handler s = grind (arith, common_steps)
 
 pub keep_start : Keeps (Start ∷ [])
 keep_start = keep_one Start (λ s. start_same s.handlers.start s)

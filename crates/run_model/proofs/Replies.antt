@@ -1,5 +1,5 @@
 -- What the reply to the runner's step leaves of lives and slots.
-use Rattle.std.proofs.Common.{◌≡◌, ◌+◌, ℕ, List, [], ◌∷◌, ◌++◌, Bool, true, false, ◌&&◌, refl, sym, ◌∙◌, ap, subst, Option, Some, None}
+use Rattle.std.proofs.Common.{rules, ◌≡◌, ◌+◌, ℕ, List, [], ◌∷◌, ◌++◌, Bool, true, false, ◌&&◌, refl, sym, ◌∙◌, ap, subst, Option, Some, None}
 use Rattle.std.specs.Prelude.{◌==◌, not, nat_lt, if◌then◌else◌}
 use Rattle.std.specs.Option.{option_map}
 use Rattle.std.proofs.lemmas.Bool.{and_parts, eqb-true, eqb-false, eq-eqb, not-true}
@@ -10,9 +10,6 @@ use Rattle.mips_exec.specs.Step.{cpu_after}
 use Rattle.env_frames.specs.declared.transfer.TransferKind.{TransferKind}
 use Rattle.env_frames.specs.declared.transfer.TransferKind.TheVariants as kind
 use Rattle.env_frames.specs.Transfer.{carried, hands_slot}
-use Rattle.page_book.specs.declared.row.PageRow.{PageRow}
-use Rattle.page_book.specs.declared.row.PageRow.TheVariants.{Free, Owned}
-use Rattle.bind_book.specs.declared.binding.Binding.{Binding}
 use Rattle.world_model.specs.declared.call.Call.{Call}
 use Rattle.world_model.specs.declared.life.Life.{Life}
 use Rattle.world_model.specs.declared.life.Life.TheVariants.{Live, Dead}
@@ -23,33 +20,26 @@ use Rattle.world_model.specs.declared.call.Deed.{Deed}
 use Rattle.world_model.specs.declared.call.Deed.TheVariants.{Answers, Own, Stops, Gives, Allocates, Frees, Recaps, Binds, Unbinds, Transfers, TakesSlot, DropsSlot, TakesLine, DropsLine, Claims, Unclaims, Downloads, Loads}
 use Rattle.world_model.specs.declared.verdict.Verdict.{Verdict}
 use Rattle.world_model.specs.declared.verdict.Verdict.TheVariants.{Refuse, Grant}
-use Rattle.filter_tree.specs.ClaimBook.{ClaimValue}
-use Rattle.filter_tree.specs.Claims.{is_into}
-use Rattle.revocation_book.specs.declared.revocation.Pending.{Pending}
-use Rattle.revocation_book.specs.Pending.{lowered}
-use Rattle.revocation_book.specs.Backups.{loaded, unloaded}
 use Rattle.world_model.specs.Table.{set_at}
-use Rattle.world_model.specs.Book.{broken, own_hold, hold_without, withdrawn}
+use Rattle.world_model.specs.Book.{Book, own_hold, hold_without}
 use Rattle.world_model.specs.Call.{called}
 use Rattle.world_model.specs.Death.{death, lost_with}
 use Rattle.world_model.specs.Item.{Item, Step, Start, Transfer, Answer, Gained, Lost, absorb, absorb_all, deed_at}
 use Rattle.world_model.specs.May.{May}
-use Rattle.world_model.specs.PageCalls.{breaks, left_by, page_bytes, with_binding, without_number}
+use Rattle.world_model.specs.PageCalls.{breaks, page_bytes}
 use Rattle.world_model.specs.SlotCalls.{dropped, handed, held_by, is_other, turn_slot, with_slot}
-use Rattle.world_model.specs.LineCalls.{with_line}
-use Rattle.world_model.specs.ClaimCalls.{claims_packets, unclaims}
 use Rattle.world_model.specs.Solo.{Solo, is_dead}
 use Rattle.world_model.specs.Step.{Act, Nothing, Stores, Calls, Raises, Dies, act_of, acted, step_alone, stepped}
 use Rattle.world_model.specs.Tick.{act_now, brings}
 use Rattle.world_model.specs.Transfers.{slots_handed, transfer_rows}
 use Rattle.world_model.specs.Verdict.{done, reply_of, reply_to, verdict}
-use Rattle.world_model.specs.World.{World, Reply, after, followed, in_turn, no_change, no_items, only, run_phases, tells}
+use Rattle.world_model.specs.World.{World, Reply, after, followed, in_turn, no_change, only, run_phases, tells}
 use Rattle.call_verdicts.specs.Granted.{GrantedMay}
 use Rattle.run_model.specs.Excess.{pays, AreSlotsLive, IsAccounted, IsRunnerLive, Lives}
 use Rattle.run_model.proofs.Phases.{in_turn_is_each}
 use Rattle.run_model.proofs.Telling.{deed_may, told_named, told_own}
 use Rattle.run_model.proofs.Lives.{Keeps, if_living, keep_answer, keep_both, keep_none, keep_set, keep_only, keep_start, keep_transfer, keep_gained, keep_lost, breaks_keep, left_by_keeps, lost_with_keeps}
-use Rattle.run_model.proofs.Rows.{AreQuiet, Adds, adds_quiet, lawful_both, set_other, quiet_async, quiet_both, quiet_dead, quiet_give, quiet_releases, quiet_stop, quiet_slot, quiet_sync}
+use Rattle.run_model.proofs.Rows.{AreQuiet, Adds, adds_quiet, lawful_both, set_other, quiet_both, quiet_releases, quiet_slot}
 
 -- After a reply who lives lived before, with this excess, and who has slots or runs lives.
 pub record Calm (w : World) (r : Reply) (excess : ℕ → ℕ) : Type 0 where
@@ -126,7 +116,7 @@ mourning_is_calm w e r left live mourns = record {
     by_test i lives false is = (sym (mourns.others i is) ∙ lives, mourns.excess i is)
 
 pub death_is_quiet : (w : World) (e : ℕ) → AreQuiet (death w e).rows
-death_is_quiet w e = (quiet_dead w.book.time w.book.cursor e, quiet_releases w.book.time e w.book.slots w.book.slot_count)
+death_is_quiet w e = (search rules, quiet_releases w.book.time e w.book.slots w.book.slot_count)
 
 -- whoever absorbs a death doesn't live
 pub dies : (b : Bool) (s t : Solo) → is_dead s.life ≡ b → (t.life ≡ Live → ⊥) → (if b then s else t).life ≡ Live → ⊥
@@ -144,9 +134,29 @@ steps_on (Dies cause) s lives = absurd (lives cause refl)
 step_leaves : (s : Solo) (act : Act) → act_of s (step_alone s) ≡ act → ((cause : Cause) → act ≡ Dies cause → ⊥) → (absorb s Step).life ≡ s.life
 step_leaves s act is lives = if_living (is_dead s.life) s (stepped s (step_alone s)) (rw is (steps_on act (record s { cpu = cpu_after s.cpu (step_alone s) }) lives))
 
+-- what the accounts say of a book: the excess, who has slots, and who runs
+abbrev pub Account : Type 0
+Account = (ℕ → ℕ) × (ℕ → Option Hold) × Option Runner
+
+abbrev pub account : Book → Account
+account b = (b.excess, b.slots, b.runner)
+
+-- a reply that leaves these is mild, if its rows and items are
+pub still_is_mild : (w : World) (r : Reply) → IsAccounted w → account r.book ≡ account w.book → AreQuiet r.rows → ((i : ℕ) → Keeps (r.items i)) → Mild w r
+still_is_mild w r good same quiet keeps = record {
+  excess = ap (λ (a : Account). a.0) same;
+  quiet = quiet;
+  keeps = keeps;
+  slots = subst (AreSlotsLive w) (ap (λ (a : Account). a.1) (sym same)) good.slots_live;
+  runner = subst (IsRunnerLive w) (ap (λ (a : Account). a.2) (sym same)) good.runner_lives;
+}
+
+pub still_accounts : (w : World) (r : Reply) → IsAccounted w → account r.book ≡ account w.book → AreQuiet r.rows → ((i : ℕ) → Keeps (r.items i)) → IsAccounted (after w r)
+still_accounts w r good same quiet keeps = mild_accounts w r good (still_is_mild w r good same quiet keeps)
+
 -- nothing happens
 pub no_change_is_mild : (w : World) → IsAccounted w → Mild w (no_change w)
-no_change_is_mild w good = record { excess = refl; quiet = tt; keeps = λ i. keep_none; slots = good.slots_live; runner = good.runner_lives }
+no_change_is_mild w good = still_is_mild w (no_change w) good refl tt (λ i. keep_none)
 
 -- an environment is told something that leaves its life
 tells_accounts : (w : World) (e : ℕ) (item : Item) → IsAccounted w → (absorb (w.solos e) item).life ≡ (w.solos e).life → IsAccounted (after w (tells e item w))
@@ -250,25 +260,15 @@ slots_handed_live w false target lives live = live
 
 -- the rows of a transfer count for nobody
 transfer_is_quiet : (w : World) (e target : ℕ) (kind : TransferKind) → AreQuiet (transfer_rows w.book e target kind)
-transfer_is_quiet w e target kind.Asynchronous = (quiet_async w.book.time w.book.cursor e target, tt)
+transfer_is_quiet w e target kind.Asynchronous = (search rules, tt)
 transfer_is_quiet w e target kind.Synchronous =
-    (quiet_sync w.book.time w.book.cursor e target, (quiet_slot w.book.time w.book.cursor (option_map (held_by target) (turn_slot w.book)), tt))
+    (search rules, (quiet_slot w.book.time w.book.cursor (option_map (held_by target) (turn_slot w.book)), tt))
 
 -- The deeds of a caller that lives.
 module _ (w : World) (e : ℕ) (good : IsAccounted w) (lives : Lives w e) where
-  -- items alone
-  unmoved : (items : ℕ → List Item) → ((i : ℕ) → Keeps (items i)) → Mild w (record { book = w.book; items = items; rows = [] })
-  unmoved items keeps = record { excess = refl; quiet = tt; keeps = keeps; slots = good.slots_live; runner = good.runner_lives }
-
-  -- other pages, bindings and claims
-  repaged : (pages : ℕ → PageRow) (binds : ℕ → ℕ → Option Binding) (claims : List ClaimValue) (items : ℕ → List Item) → ((i : ℕ) → Keeps (items i))
-      → Mild w (record { book = record w.book { pages = pages; binds = binds; claims = claims }; items = items; rows = [] })
-  repaged pages binds claims items keeps = record { excess = refl; quiet = tt; keeps = keeps; slots = good.slots_live; runner = good.runner_lives }
-
-  -- and other backups, where another number of pages may be asked for
-  revoked : (pages : ℕ → PageRow) (binds : ℕ → ℕ → Option Binding) (claims : List ClaimValue) (pending : ℕ → Option Pending) (backups : ℕ → List ℕ) (items : ℕ → List Item) → ((i : ℕ) → Keeps (items i))
-      → Mild w (record { book = record w.book { pages = pages; binds = binds; claims = claims; pending = pending; backups = backups }; items = items; rows = [] })
-  revoked pages binds claims pending backups items keeps = record { excess = refl; quiet = tt; keeps = keeps; slots = good.slots_live; runner = good.runner_lives }
+  -- items alone, or with another owner of a page, of a binding, of a claim or of an interrupt line
+  still : (r : Reply) → account r.book ≡ account w.book → AreQuiet r.rows → ((i : ℕ) → Keeps (r.items i)) → Mild w r
+  still r = still_is_mild w r good
 
   -- another slot
   reslotted : (k : ℕ) (hold : Option Hold) → ((new : Hold) → hold ≡ Some new → Lives w new.owner × Lives w new.holder) → Mild w (with_slot w k hold)
@@ -279,14 +279,6 @@ module _ (w : World) (e : ℕ) (good : IsAccounted w) (lives : Lives w e) where
     slots = with_slot_live w k hold good.slots_live now;
     runner = good.runner_lives;
   }
-
-  -- another owner of an interrupt line
-  relined : (line : ℕ) (owner : Option ℕ) → Mild w (with_line w line owner)
-  relined line owner = record { excess = refl; quiet = tt; keeps = λ i. keep_none; slots = good.slots_live; runner = good.runner_lives }
-
-  -- other claims
-  reclaimed : (claims : List ClaimValue) (next : ℕ) → Mild w (record { book = record w.book { claims = claims; next_claim = next }; items = no_items; rows = [] })
-  reclaimed claims next = record { excess = refl; quiet = tt; keeps = λ i. keep_none; slots = good.slots_live; runner = good.runner_lives }
 
   -- the rest of the slice, and with it the slot or not, to one that lives
   hands_on : (target : ℕ) (item : Item) (later : Bool) (rows : List Row) → Lives w target → Keeps (item ∷ []) → AreQuiet rows
@@ -301,33 +293,27 @@ module _ (w : World) (e : ℕ) (good : IsAccounted w) (lives : Lives w e) where
 
   deed_is_mild : (d : Deed) → May w e d → Mild w (done w e d)
   deed_is_mild Answers may = no_change_is_mild w good
-  deed_is_mild Stops may = record { excess = refl; quiet = (quiet_stop w.book.time w.book.cursor e, tt); keeps = λ i. keep_none; slots = good.slots_live; runner = λ x is. cc }
-  deed_is_mild (Gives target) may = hands_on target Start false (row.Give w.book.time w.book.cursor e target ∷ []) (target_lives w e target may.other) keep_start (quiet_give w.book.time w.book.cursor e target, tt)
+  deed_is_mild Stops may = record { excess = refl; quiet = (search rules, tt); keeps = λ i. keep_none; slots = good.slots_live; runner = λ x is. cc }
+  deed_is_mild (Gives target) may = hands_on target Start false (row.Give w.book.time w.book.cursor e target ∷ []) (target_lives w e target may.other) keep_start (search rules, tt)
   deed_is_mild (Own own) may = no_change_is_mild w good
-  deed_is_mild (Allocates page words) may =
-      let items = Gained page true zero_page ∷ [] in
-      repaged (set_at page (Owned e words) w.book.pages) w.book.binds w.book.claims (only e items) (keep_only e items (keep_gained page true zero_page))
-  deed_is_mild (Frees page) may =
-      let items = Lost page ∷ [] in
-      revoked (set_at page Free w.book.pages) (broken page None w.book).binds (withdrawn (is_into page) w.book).claims (set_at e (lowered (w.book.pending e)) w.book.pending) (set_at e (unloaded page (w.book.backups e)) w.book.backups)
-      (set_at e items (breaks w.book page)) (keep_set e items (breaks w.book page) (keep_lost page) (breaks_keep w.book page))
-  deed_is_mild (Recaps page words) may =
-      repaged (set_at page (Owned e words) w.book.pages) (broken page (Some e) w.book).binds w.book.claims (set_at e [] (breaks w.book page)) (keep_set e [] (breaks w.book page) keep_none (breaks_keep w.book page))
+  deed_is_mild (Allocates page words) may = still (done w e (Allocates page words)) refl tt (keep_only e (Gained page true zero_page ∷ []) (keep_gained page true zero_page))
+  deed_is_mild (Frees page) may = still (done w e (Frees page)) refl tt (keep_set e (Lost page ∷ []) (breaks w.book page) (keep_lost page) (breaks_keep w.book page))
+  deed_is_mild (Recaps page words) may = still (done w e (Recaps page words)) refl tt (keep_set e [] (breaks w.book page) keep_none (breaks_keep w.book page))
   deed_is_mild (Binds b word) may =
-      let items = Gained b.page b.writable (page_bytes w b.page) ∷ [] in
-      repaged w.book.pages (with_binding e b w.book.binds) w.book.claims (only e items) (keep_only e items (keep_gained b.page b.writable (page_bytes w b.page)))
-  deed_is_mild (Unbinds vpn) may = repaged w.book.pages (set_at e (without_number vpn (w.book.binds e)) w.book.binds) w.book.claims no_items (λ i. keep_none)
+      let bytes = page_bytes w b.page in
+      still (done w e (Binds b word)) refl tt (keep_only e (Gained b.page b.writable bytes ∷ []) (keep_gained b.page b.writable bytes))
+  deed_is_mild (Unbinds vpn) may = still (done w e (Unbinds vpn)) refl tt (λ i. keep_none)
   deed_is_mild (Transfers target kind) may =
       let registers = carried (w.solos e).cpu in
       hands_on target (Transfer e kind registers) (hands_slot kind) (transfer_rows w.book e target kind) (target_lives w e target may.reach.other) (keep_transfer e kind registers) (transfer_is_quiet w e target kind)
   deed_is_mild (TakesSlot k) may = reslotted k (Some (own_hold e)) (own_lives w e lives)
   deed_is_mild (DropsSlot k) may = reslotted k (dropped e (w.book.slots k)) (dropped_lives w e (w.book.slots k) (good.slots_live k))
-  deed_is_mild (TakesLine line) may = relined line (Some e)
-  deed_is_mild (DropsLine line) may = relined line None
-  deed_is_mild (Claims claim address atoms page) may = reclaimed (claims_packets w e claim address atoms page).book.claims (w.book.next_claim + 1)
-  deed_is_mild (Unclaims claim) may = reclaimed (unclaims w e claim).book.claims w.book.next_claim
+  deed_is_mild (TakesLine line) may = still (done w e (TakesLine line)) refl tt (λ i. keep_none)
+  deed_is_mild (DropsLine line) may = still (done w e (DropsLine line)) refl tt (λ i. keep_none)
+  deed_is_mild (Claims claim address atoms page) may = still (done w e (Claims claim address atoms page)) refl tt (λ i. keep_none)
+  deed_is_mild (Unclaims claim) may = still (done w e (Unclaims claim)) refl tt (λ i. keep_none)
   deed_is_mild (Downloads claim address words) may = no_change_is_mild w good
-  deed_is_mild (Loads page) may = revoked w.book.pages w.book.binds w.book.claims w.book.pending (set_at e (loaded page (w.book.backups e)) w.book.backups) no_items (λ i. keep_none)
+  deed_is_mild (Loads page) may = still (done w e (Loads page)) refl tt (λ i. keep_none)
 
   -- behind an answer
   answer_is_mild : (verdict : Verdict) (r : Reply) → Mild w r → Mild w (followed (tells e (Answer verdict) w) r)
@@ -340,7 +326,7 @@ module _ (w : World) (e : ℕ) (good : IsAccounted w) (lives : Lives w e) where
   }
 
   reply_is_mild : (v : Verdict) → ((value : ℕ) → v ≡ Grant value → May w e (deed_at (w.solos e) value)) → Mild w (reply_of w e v)
-  reply_is_mild (Refuse code value) may = unmoved (only e (Answer (Refuse code value) ∷ [])) (keep_only e (Answer (Refuse code value) ∷ []) (keep_answer (Refuse code value)))
+  reply_is_mild (Refuse code value) may = still (reply_of w e (Refuse code value)) refl tt (keep_only e (Answer (Refuse code value) ∷ []) (keep_answer (Refuse code value)))
   reply_is_mild (Grant value) may = let d = deed_at (w.solos e) value in answer_is_mild (Grant value) (done w e d) (deed_is_mild d (may value refl))
 
   call_is_mild : GrantedMay → (c : Option Call) → called (w.solos e).cpu ≡ c → Mild w (reply_to w e c)
@@ -363,7 +349,7 @@ pub act_accounts : GrantedMay → (w : World) (e : ℕ) → IsAccounted w → Li
 act_accounts granted w e good lives Nothing is = goes_on w e Nothing good lives is (λ cause dies. cc) (λ good lives. no_change_is_mild (after w (tells e Step w)) good)
 act_accounts granted w e good lives (Stores x) is =
     let v = after w (tells e Step w) in
-    goes_on w e (Stores x) good lives is (λ cause dies. cc) (λ good lives. unmoved v e good lives (left_by v.book e x) (left_by_keeps v.book e x))
+    goes_on w e (Stores x) good lives is (λ cause dies. cc) (λ good lives. still_is_mild v (brings e (Stores x) v) good refl tt (left_by_keeps v.book e x))
 act_accounts granted w e good lives (Calls c) is =
     let v = after w (tells e Step w) in
     goes_on w e (Calls c) good lives is (λ cause dies. cc) (λ good lives. call_is_mild v e good lives granted c (told_named w e c is))

@@ -1,7 +1,7 @@
 -- What rows that are written do to the balance.
 use Rattle.std.proofs.Common.{arith, refl, sym, ap, subst, ◌∙◌, ◌≡◌, ◌<◌, ◌+◌, ◌-◌, ℕ, zero, suc, List, [], ◌∷◌, ◌++◌, Bool, true, false, cond, inl, inr, Option, None, Some, append_assoc}
-use Rattle.std.specs.Prelude.{count_by, if◌then◌else◌}
-use Rattle.std.proofs.lemmas.Bool.{cases_eq, eq-eqb, ne_eqb}
+use Rattle.std.specs.Prelude.{count_by}
+use Rattle.std.proofs.lemmas.Bool.{cases_eq, cond_both, eq-eqb, ne_eqb}
 use Rattle.std.proofs.lemmas.List.{append-nil}
 use Rattle.std.proofs.lemmas.List.Sums.{sum_by_push}
 use Rattle.kernel_journal.specs.declared.row.Row.{Row}
@@ -55,33 +55,6 @@ AreQuiet (r ∷ rows) = IsQuiet r × AreQuiet rows
 pub quiet_own : (t k : ℕ) (owner holder : Option ℕ) → IsQuiet (row.Own t k owner holder)
 quiet_own t k owner holder = record { no_over = λ e. refl; no_pay = λ e. refl; lawful = λ before. tt }
 
-pub quiet_give : (t k from to : ℕ) → IsQuiet (row.Give t k from to)
-quiet_give t k from to = record { no_over = λ e. refl; no_pay = λ e. refl; lawful = λ before. tt }
-
-pub quiet_async : (t k from to : ℕ) → IsQuiet (row.Async t k from to)
-quiet_async t k from to = record { no_over = λ e. refl; no_pay = λ e. refl; lawful = λ before. tt }
-
-pub quiet_sync : (t k from to : ℕ) → IsQuiet (row.Sync t k from to)
-quiet_sync t k from to = record { no_over = λ e. refl; no_pay = λ e. refl; lawful = λ before. tt }
-
-pub quiet_end : (t k e : ℕ) → IsQuiet (row.End t k e)
-quiet_end t k e = record { no_over = λ e. refl; no_pay = λ e. refl; lawful = λ before. tt }
-
-pub quiet_stop : (t k e : ℕ) → IsQuiet (row.Stop t k e)
-quiet_stop t k e = record { no_over = λ e. refl; no_pay = λ e. refl; lawful = λ before. tt }
-
-pub quiet_dead : (t k e : ℕ) → IsQuiet (row.Dead t k e)
-quiet_dead t k e = record { no_over = λ e. refl; no_pay = λ e. refl; lawful = λ before. tt }
-
-pub quiet_unclaimed : (t length : ℕ) → IsQuiet (row.Unclaimed t length)
-quiet_unclaimed t length = record { no_over = λ e. refl; no_pay = λ e. refl; lawful = λ before. tt }
-
-pub quiet_asked : (t e outstanding deadline : ℕ) → IsQuiet (row.Asked t e outstanding deadline)
-quiet_asked t e outstanding deadline = record { no_over = λ e. refl; no_pay = λ e. refl; lawful = λ before. tt }
-
-pub quiet_take : (t e page : ℕ) (backup : Option ℕ) → IsQuiet (row.Take t e page backup)
-quiet_take t e page backup = record { no_over = λ e. refl; no_pay = λ e. refl; lawful = λ before. tt }
-
 pub quiet_slot : (t k : ℕ) (hold : Option Hold) → IsQuiet (slot_row t k hold)
 quiet_slot t k None = quiet_own t k None None
 quiet_slot t k (Some hold) = quiet_own t k (Some hold.owner) (Some hold.holder)
@@ -91,11 +64,9 @@ quiet_both [] ys first second = second
 quiet_both (x ∷ xs) ys (quiet, rest) second = (quiet, quiet_both xs ys rest second)
 
 quiet_released : (t e k : ℕ) (hold : Option Hold) → AreQuiet (released_row t e k hold)
-quiet_released t e k hold = by_test (has_part e hold)
-  where
-    by_test : (b : Bool) → AreQuiet (if b then slot_row t k (hold_without e hold) ∷ [] else [])
-    by_test true = (quiet_slot t k (hold_without e hold), tt)
-    by_test false = tt
+quiet_released t e k hold =
+    let left = hold_without e hold in
+    cond_both (has_part e hold) (slot_row t k left ∷ []) [] AreQuiet (λ part. (quiet_slot t k left, tt)) (λ none. tt)
 
 pub quiet_releases : (t e : ℕ) (slots : ℕ → Option Hold) (count : ℕ) → AreQuiet (released_rows t e slots count)
 quiet_releases t e slots zero = tt

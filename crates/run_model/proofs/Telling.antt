@@ -1,7 +1,7 @@
 -- What an environment is told, and that a call leaves it as it is until it is answered.
 use Rattle.std.proofs.Common.{◌≡◌, ◌≢◌, ℕ, [], ◌∷◌, Bool, true, false, Option, Some, None, refl, sym, ◌∙◌, ap, subst}
 use Rattle.std.specs.Prelude.{◌==◌, if◌then◌else◌}
-use Rattle.std.proofs.lemmas.Bool.{eq-eqb, eqb-true, ne_eqb}
+use Rattle.std.proofs.lemmas.Bool.{cond_both, eq-eqb, eqb-true, ne_eqb}
 use Rattle.std.proofs.lemmas.List.{append-nil}
 use Rattle.mips_exec.specs.declared.registers.Cpu.{Cpu}
 use Rattle.mips_exec.specs.declared.exception.Exc.{Exc}
@@ -35,11 +35,7 @@ store_calls_not None c is = cc
 store_calls_not (Some x) c is = cc
 
 pub trap_calls_not : (handler : ℕ) (exc : Exc) (c : Option Call) → trap_act handler exc ≡ Calls c → ⊥
-trap_calls_not handler exc c is = by_test (handler == 0) is
-  where
-    by_test : (t : Bool) → (if t then Dies (cause.Trapped exc.code) else Raises exc) ≡ Calls c → ⊥
-    by_test true is = cc
-    by_test false is = cc
+trap_calls_not handler exc c = cond_both (handler == 0) (Dies (cause.Trapped exc.code)) (Raises exc) (λ (act : Act). act ≡ Calls c → ⊥) (λ none is. cc) (λ handles is. cc)
 
 -- a call is that which the registers name
 call_names : (cpu : Cpu) (c : Option Call) (exits : Bool) → act_at_call cpu exits ≡ Calls c → called cpu ≡ c
@@ -66,11 +62,7 @@ call_stepped s c is =
     ∙ ap (λ (cpu : Cpu). record s { cpu = cpu }) (call_cpu s (step_alone s) c is)
 
 call_absorbed : (s : Solo) (c : Option Call) → act_of s (step_alone s) ≡ Calls c → absorb s Step ≡ s
-call_absorbed s c is = by_life (is_dead s.life)
-  where
-    by_life : (gone : Bool) → (if gone then s else stepped s (step_alone s)) ≡ s
-    by_life true = refl
-    by_life false = call_stepped s c is
+call_absorbed s c is = cond_both (is_dead s.life) s (stepped s (step_alone s)) (λ (t : Solo). t ≡ s) (λ gone. refl) (λ lives. call_stepped s c is)
 
 -- and so the whole world
 pub call_stands : (w : World) (e : ℕ) (c : Option Call) → act_now w e ≡ Calls c → after w (tells e Step w) ≡ w

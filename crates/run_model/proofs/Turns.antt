@@ -1,5 +1,5 @@
 -- A turn goes by the rule of excess.
-use Rattle.std.proofs.Common.{arith, refl, [], ◌≡◌, ◌<◌, ◌+◌, ◌-◌, ◌%◌, ℕ, zero, suc, Bool, true, false, Option, None, Some}
+use Rattle.std.proofs.Common.{arith, refl, [], ◌≡◌, ◌<◌, ◌+◌, ◌%◌, ℕ, zero, suc, Bool, true, false, Option, None, Some}
 use Rattle.std.specs.Prelude.{◌==◌, if◌then◌else◌}
 use Rattle.std.proofs.lemmas.Bool.{eqb-true, eqb-false}
 use Rattle.std.proofs.Math.Nat.{mod-lt}
