@@ -1,5 +1,5 @@
 -- A deadline has come exactly if the earliest one has.
-use Rattle.std.proofs.Common.{◌≡◌, ℕ, min, Bool, true, false, ◌||◌, List, [], ◌∷◌, Option, None, Some, refl, sym, ◌∙◌, ap, arith}
+use Rattle.std.proofs.Common.{◌≡◌, ℕ, min, Bool, false, ◌||◌, List, [], ◌∷◌, Option, None, Some, refl, sym, ◌∙◌, ap, arith}
 use Rattle.std.specs.Prelude.{nat_le}
 use Rattle.std.specs.List.{filter_map, fold, list_any, reduce}
 use Rattle.revocation_book.specs.declared.revocation.Pending.{Pending}
@@ -10,23 +10,14 @@ abbrev pub has_come : ℕ → Option ℕ → Bool
 has_come time None = false
 has_come time (Some deadline) = nat_le deadline time
 
--- the laws of "or"
-or_assoc : (a b c : Bool) → (a || b) || c ≡ (a || (b || c))
-or_assoc true b c = refl
-or_assoc false b c = refl
-
-or_false : (a : Bool) → a ≡ (a || false)
-or_false true = refl
-or_false false = refl
-
 -- the lower of two has come if one of them has
 lower_comes : (time x y : ℕ) → nat_le (min x y) time ≡ (nat_le x time || nat_le y time)
 lower_comes time x y = grind arith
 
 -- and so the lowest of all
 lowest_comes : (time x : ℕ) (xs : List ℕ) → nat_le (fold min x xs) time ≡ (nat_le x time || list_any (λ d. nat_le d time) xs)
-lowest_comes time x [] = or_false (nat_le x time)
-lowest_comes time x (y ∷ ys) = rw (lowest_comes time (min x y) ys, lower_comes time x y) (or_assoc (nat_le x time) (nat_le y time) (list_any (λ d. nat_le d time) ys))
+lowest_comes time x [] = grind arith
+lowest_comes time x (y ∷ ys) = rw (lowest_comes time (min x y) ys, lower_comes time x y) (grind arith)
 
 -- of no deadline none has come
 first_comes : (time : ℕ) (xs : List ℕ) → has_come time (reduce min xs) ≡ list_any (λ d. nat_le d time) xs

@@ -37,40 +37,31 @@ no_owner row none (suc e) = rw (no_owner row none e, none e) refl
 -- an owner is one of them, or isn't
 one_owner : (owner : ℕ) (words : Capabilities) (envs : ℕ) → owners (Owned owner words) envs ≤ once (nat_lt owner envs)
 one_owner owner words zero = omega arith
-one_owner owner words (suc e) = let before = one_owner owner words e in grind arith
+one_owner owner words (suc e) = grind (arith, (one_owner owner words e))
 
 -- a page that is free has no owner, and another one at most
 one_at_most : (row : PageRow) (envs : ℕ) → owners row envs + once (is_free row) ≤ 1
 one_at_most Free envs = rw (no_owner Free (λ e. refl) envs) (omega arith)
 one_at_most (Guaranteed owner) envs = rw (no_owner (Guaranteed owner) (λ e. refl) envs) (omega arith)
-one_at_most (Owned owner words) envs = let one = one_owner owner words envs in grind arith
+one_at_most (Owned owner words) envs = grind (arith, one_owner)
 
 -- a victim is owned
 owned : (mine loaded : Bool) → once (mine && not loaded) ≤ once mine
-owned true true = omega arith
-owned true false = omega arith
-owned false loaded = omega arith
+owned mine loaded = grind arith
 
 -- so who has a page as a victim owns it
 takers_own : (b : Books) (envs page : ℕ) → takers b envs page ≤ owners (b.pages page) envs
 takers_own b zero page = omega arith
-takers_own b (suc e) page =
-    let before = takers_own b e page in
-    let here = owned (is_owned_by e (b.pages page)) (is_loaded (b.backups e) page) in
-    omega arith
+takers_own b (suc e) page = omega (arith, takers_own b e page, owned (is_owned_by e (b.pages page)) (is_loaded (b.backups e) page))
 
 -- a list of one page or none is as long as that
 length_if : (b : Bool) (page : ℕ) → length (cond b (page ∷ []) []) ≡ once b
-length_if true page = refl
-length_if false page = refl
+length_if b page = grind arith
 
 -- one page more has so many victims more as it has takers
 one_more : (b : Books) (envs page : ℕ) → all_victims b envs (suc page) ≡ all_victims b envs page + takers b envs page
 one_more b zero page = refl
-one_more b (suc e) page =
-    let before = one_more b e page in
-    let here = length_if (is_victim b e page) page in
-    rw (length-append (victims_below b e page)) (omega arith)
+one_more b (suc e) page = rw (length-append (victims_below b e page)) (omega (arith, one_more b e page, length_if (is_victim b e page) page))
 
 -- of no pages nobody has a victim
 no_page : (b : Books) (envs : ℕ) → all_victims b envs 0 ≡ 0
@@ -79,17 +70,13 @@ no_page b (suc e) = rw (no_page b e) refl
 
 -- a free page counts once
 free_once : (free : Bool) (n : ℕ) → cond free (suc n) n ≡ n + once free
-free_once true n = omega arith
-free_once false n = omega arith
+free_once free n = grind arith
 
 -- of the pages below a number each is free, or the victim of one environment at most
 few_victims : (b : Books) (envs count : ℕ) → all_victims b envs count + free_below b.pages count ≤ count
 few_victims b envs zero = rw (no_page b envs) (omega arith)
 few_victims b envs (suc page) =
-    let before = few_victims b envs page in
-    let free = free_once (is_free (b.pages page)) (free_below b.pages page) in
-    let one = one_at_most (b.pages page) envs in
-    omega (arith, one_more b envs page, takers_own b envs page)
+    omega (arith, few_victims b envs page, free_once (is_free (b.pages page)) (free_below b.pages page), one_at_most (b.pages page) envs, one_more b envs page, takers_own b envs page)
 
 -- each victim is taken once
 pub length-paired : (e : ℕ) (pages backups : List ℕ) → length (paired e pages backups) ≡ length pages
@@ -105,10 +92,7 @@ few_of b time e false = omega arith
 -- and so from all below a number
 few_below : (b : Books) (time envs : ℕ) → length (takings_below b time envs) ≤ all_victims b envs b.page_count
 few_below b time zero = omega arith
-few_below b time (suc e) =
-    let before = few_below b time e in
-    let here = few_of b time e (is_due time (b.pending e)) in
-    rw (length-append (takings_below b time e)) (omega arith)
+few_below b time (suc e) = rw (length-append (takings_below b time e)) (omega (arith, few_below b time e, few_of b time e (is_due time (b.pending e))))
 
 -- so no more is taken than isn't free
 pub few_takings : (b : Books) (time envs : ℕ) → length (takings_below b time envs) + free_below b.pages b.page_count ≤ b.page_count

@@ -73,19 +73,11 @@ all_taken b time e page p before takings is come below all so_far =
 one_of_them : (b : Books) (e page count most : ℕ) → page < count → is_victim b e page ≡ true → length (victims_below b e page) < most → length (victims_below b e page) < length (take most (victims_below b e count))
 one_of_them b e page count most below is more =
     let first = front b e (page + 1) count (omega arith) in
-    let all = ap length first.is in
-    let so_far = ap length (victim_more b e page is) in
-    let one = length-append (victims_below b e page) (page ∷ []) in
-    let both = length-append (victims_below b e (page + 1)) first.rest in
-    rw length-take (omega arith)
+    rw (length-take, first.is, victim_more b e page is, length-append, length-append) (omega arith)
 
 -- so there is room for it
 pub has_room : (b : Books) (time e page : ℕ) (p : Pending) (before takings : List Taking) (room : ℕ) → b.pending e ≡ Some p → p.deadline ≤ time → page < b.page_count → is_victim b e page ≡ true → length (victims_below b e page) < p.outstanding
     → takings ≡ before ++ paired e (victims_below b e page) (b.backups e) → length before + length (takings_of b time e) ≤ room → length takings < room
 has_room b time e page p before takings room is come below victim more so_far fits =
-    let due = ap length (due_takings b time e p is come) in
-    let all = length-paired e (take p.outstanding (victims_below b e b.page_count)) (b.backups e) in
-    let here = ap length so_far in
-    let both = length-append before (paired e (victims_below b e page) (b.backups e)) in
-    let some = length-paired e (victims_below b e page) (b.backups e) in
-    omega (arith, one_of_them b e page b.page_count p.outstanding below victim more)
+    let due = rw (due_takings b time e p is come, length-paired) at fits in
+    rw (so_far, length-append, length-paired) (omega (arith, due, one_of_them b e page b.page_count p.outstanding below victim more))
