@@ -1,11 +1,11 @@
 -- How many different prefixes there are.
 use Rattle.std.proofs.Common.{◌≡◌, ℕ, ◌+◌, ◌≤◌, Bool, true, false, not, List, [], ◌∷◌, ◌++◌, length, length-drop, drop, take, ◌<◌, refl, sym, ap, subst, ◌∙◌, arith, inl, inr}
 use Rattle.std.specs.List.{flat_map, list_all, list_any}
-use Rattle.std.specs.Prelude.{◌==◌, ◌&&◌, ◌||◌, filter, map, slice_index_or, sum_by, if◌then◌else◌}
-use Rattle.std.proofs.lemmas.Bool.{and_parts, cases_Bool, eq-eqb, eqb-true, or_cases, or_left, or_parts, or_right}
-use Rattle.std.proofs.lemmas.List.{append-nil, drop-drop, drop_more, length-append, length-map, map-append}
-use Rattle.std.proofs.lemmas.List.Folds.{list_all-append, list_all-map, list_any-append}
-use Rattle.std.proofs.lemmas.List.Sums.{sum_by-cons}
+use Rattle.std.specs.Prelude.{◌==◌, ◌||◌, filter, map, slice_index_or, sum_by, if◌then◌else◌}
+use Rattle.std.proofs.lemmas.Grind.{common_steps}
+use Rattle.std.proofs.lemmas.Bool.{and_parts, cases_Bool, eq-eqb, or_cases, or_left, or_right}
+use Rattle.std.proofs.lemmas.List.{append-nil, drop-drop, drop_more, length-map}
+use Rattle.std.proofs.lemmas.List.Folds.{list_all-map, list_any-append}
 use Rattle.filter_core.specs.declared.atom.Atom.{Atom}
 use Rattle.filter_tree.specs.ClaimBook.{ClaimBook, ClaimValue, RowValue, claim_in}
 use Rattle.filter_tree.specs.Claims.{atom_count}
@@ -14,13 +14,7 @@ use Rattle.filter_tree.specs.Tree.{begins, begins_with, is_branch, starts_with, 
 
 -- equal shapes, and lists of them
 shape_same : (s t : Shape) → same_shape s t ≡ true → s ≡ t
-shape_same s t is =
-    let parts = and_parts (s.offset == t.offset && s.width == t.width) (s.mask == t.mask) is in
-    let more = and_parts (s.offset == t.offset) (s.width == t.width) parts.0 in
-    equal (eqb-true s.offset t.offset more.0) (eqb-true s.width t.width more.1) (eqb-true s.mask t.mask parts.1)
-  where
-    equal : s.offset ≡ t.offset → s.width ≡ t.width → s.mask ≡ t.mask → s ≡ t
-    equal a b c = λ i. record { offset = a i; width = b i; mask = c i }
+shape_same s t is = grind (arith, common_steps)
 
 same_itself : (s : Shape) → same_shape s s ≡ true
 same_itself s = rw (eq-eqb s.offset s.offset refl, eq-eqb s.width s.width refl, eq-eqb s.mask s.mask refl) refl
@@ -29,20 +23,14 @@ lists_same : (p q : List Shape) → same_shapes p q ≡ true → p ≡ q
 lists_same [] [] is = refl
 lists_same [] (t ∷ q) is = cc
 lists_same (s ∷ p) [] is = cc
-lists_same (s ∷ p) (t ∷ q) is =
-    let parts = and_parts (same_shape s t) (same_shapes p q) is in
-    ap (λ x. x ∷ p) (shape_same s t parts.0) ∙ ap (λ x. t ∷ x) (lists_same p q parts.1)
+lists_same (s ∷ p) (t ∷ q) is = grind (arith, common_steps, shape_same, (lists_same p q))
 
 list_itself : (p : List Shape) → same_shapes p p ≡ true
 list_itself [] = refl
 list_itself (s ∷ p) = rw (same_itself s) (list_itself p)
 
 other_way : (p q : List Shape) → same_shapes p q ≡ false → same_shapes q p ≡ false
-other_way p q not =
-    elim (cases_Bool (same_shapes q p)) [
-      | inl is ↦ let e : q ≡ p = lists_same q p is in absurd (cc (subst (λ x. same_shapes p x ≡ false) e not, list_itself p))
-      | inr other ↦ other
-    ]
+other_way p q not = grind (arith, common_steps, (lists_same q p), list_itself)
 
 abbrev pub is_in : List Shape → List (List Shape) → Bool
 is_in p lists = list_any (same_shapes p) lists
@@ -53,40 +41,15 @@ others p lists = filter (λ q. not (same_shapes p q)) lists
 
 none_else : (p : List Shape) (lists : List (List Shape)) → is_in p lists ≡ false → others p lists ≡ lists
 none_else p [] is = refl
-none_else p (q ∷ lists) is =
-    let parts = or_parts (same_shapes p q) (is_in p lists) is in
-    rw parts.0 (ap (λ x. q ∷ x) (none_else p lists parts.1))
+none_else p (q ∷ lists) is = grind (arith, common_steps, (none_else p lists))
 
 still_in : (p q : List Shape) (lists : List (List Shape)) → same_shapes p q ≡ false → is_in q (others p lists) ≡ is_in q lists
 still_in p q [] not = refl
-still_in p q (r ∷ lists) not =
-    elim (cases_Bool (same_shapes p r)) [
-      | inl is ↦
-          let differs : same_shapes q r ≡ false = subst (λ x. same_shapes q x ≡ false) (lists_same p r is) (other_way p q not) in
-          rw (is, differs) (still_in p q lists not)
-      | inr other ↦ rw other (ap (λ x. same_shapes q r || x) (still_in p q lists not))
-    ]
+still_in p q (r ∷ lists) not = grind (arith, common_steps, (lists_same p r), (other_way p q), (still_in p q lists))
 
 one_less : (p : List Shape) (lists : List (List Shape)) → is_in p lists ≡ true → distinct lists ≡ 1 + distinct (others p lists)
 one_less p [] is = cc
-one_less p (q ∷ lists) is =
-    elim (cases_Bool (same_shapes p q)) [
-      | inl here ↦
-          let e : p ≡ q = lists_same p q here in
-          elim (cases_Bool (is_in p lists)) [
-            | inl again ↦
-                let too : is_in q lists ≡ true = subst (λ x. is_in x lists ≡ true) e again in
-                rw (too, here) (omega (arith, one_less p lists again))
-            | inr last ↦
-                let too : is_in q lists ≡ false = subst (λ x. is_in x lists ≡ false) e last in
-                rw (too, here) (ap (λ x. 1 + distinct x) (sym (none_else p lists last)))
-          ]
-      | inr other ↦
-          let there : is_in p lists ≡ true = rw other at is in
-          let rest = one_less p lists there in
-          let same = still_in p q lists other in
-          rw (other, same) (omega (arith, rest))
-    ]
+one_less p (q ∷ lists) is = grind (arith, common_steps, (lists_same p q), (none_else p lists), (still_in p q lists), (one_less p lists))
 
 -- where each list of some is one of others, there are no more different ones
 pub distinct_below : (some all : List (List Shape)) → ((p : List Shape) → is_in p some ≡ true → is_in p all ≡ true) → distinct some ≤ distinct all
@@ -167,32 +130,11 @@ claim_begins depth a c is = rw (← drop-drop 1 depth c.filter) (prefixes_begin 
 behind_shape : (depth v : ℕ) (a : Atom) (claims : List ClaimValue) (p : List Shape) → list_all (begins depth a) claims ≡ true
     → is_in p (map (λ prefix. shape_of a ∷ prefix) (of_claims (depth + 1) (filter (λ c. v == value_at depth c) claims))) ≡ true → is_in p (of_claims depth claims) ≡ true
 behind_shape depth v a [] p all is = cc
-behind_shape depth v a (c ∷ claims) p all is =
-    let parts = and_parts (begins depth a c) (list_all (begins depth a) claims) all in
-    let joined = list_any-append (same_shapes p) (of_claim depth c) (of_claims depth claims) in
-    let own = claim_begins depth a c parts.0 in
-    elim (cases_Bool (v == value_at depth c)) [
-      | inl asks ↦
-          let whole = rw asks at is in
-          let front : List (List Shape) = map (λ prefix. shape_of a ∷ prefix) (of_claim (depth + 1) c) in
-          let back : List (List Shape) = map (λ prefix. shape_of a ∷ prefix) (of_claims (depth + 1) (filter (λ d. v == value_at depth d) claims)) in
-          let cut : is_in p (front ++ back) ≡ true =
-          ap (is_in p) (sym (map-append (λ prefix. shape_of a ∷ prefix) (of_claim (depth + 1) c) (of_claims (depth + 1) (filter (λ d. v == value_at depth d) claims)))) ∙ whole in
-          elim (or_cases (is_in p front) (is_in p back) (sym (list_any-append (same_shapes p) front back) ∙ cut)) [
-            | inl here ↦ joined ∙ or_left (is_in p (of_claim depth c)) (is_in p (of_claims depth claims)) (ap (is_in p) own ∙ or_right (same_shapes p (shape_of a ∷ [])) (is_in p front) here)
-            | inr there ↦ joined ∙ or_right (is_in p (of_claim depth c)) (is_in p (of_claims depth claims)) (behind_shape depth v a claims p parts.1 there)
-          ]
-      | inr other ↦
-          joined ∙ or_right (is_in p (of_claim depth c)) (is_in p (of_claims depth claims)) (behind_shape depth v a claims p parts.1 (rw other at is))
-    ]
+behind_shape depth v a (c ∷ claims) p all is = grind (arith, common_steps, (claim_begins depth a c), (behind_shape depth v a claims p))
 
 shape_alone : (depth : ℕ) (a : Atom) (claims : List ClaimValue) → starts_with depth a claims ≡ true → is_in (shape_of a ∷ []) (of_claims depth claims) ≡ true
 shape_alone depth a [] first = cc
-shape_alone depth a (c ∷ claims) first =
-    list_any-append (same_shapes (shape_of a ∷ [])) (of_claim depth c) (of_claims depth claims)
-    ∙ or_left (is_in (shape_of a ∷ []) (of_claim depth c)) (is_in (shape_of a ∷ []) (of_claims depth claims))
-    (ap (is_in (shape_of a ∷ [])) (claim_begins depth a c first)
-    ∙ or_left (same_shapes (shape_of a ∷ []) (shape_of a ∷ [])) (is_in (shape_of a ∷ []) (map (λ prefix. shape_of a ∷ prefix) (of_claim (depth + 1) c))) (list_itself (shape_of a ∷ [])))
+shape_alone depth a (c ∷ claims) first = grind (arith, common_steps, claim_begins, list_itself)
 
 -- a branch has one prefix more than those of its claims that are reached
 pub one_prefix_more : (depth v : ℕ) (a : Atom) (claims : List ClaimValue) → is_branch depth a claims ≡ true
@@ -239,44 +181,19 @@ no_heads a (b ∷ f) is =
 
 heads_of : (depth : ℕ) (a : Atom) (claims : List ClaimValue) → list_all (head_is a) (of_claims depth (filter (begins depth a) claims)) ≡ true
 heads_of depth a [] = refl
-heads_of depth a (c ∷ claims) =
-    elim (cases_Bool (begins depth a c)) [
-      | inl is ↦
-          rw is (list_all-append (head_is a) (of_claim depth c) (of_claims depth (filter (begins depth a) claims)) ∙ rw (heads a (drop depth c.filter) is) (heads_of depth a claims))
-      | inr other ↦ rw other (heads_of depth a claims)
-    ]
+heads_of depth a (c ∷ claims) = grind (arith, common_steps, heads, (heads_of depth a claims))
 
 no_heads_of : (depth : ℕ) (a : Atom) (claims : List ClaimValue) → list_all (λ p. not (head_is a p)) (of_claims depth (filter (λ c. not (begins depth a c)) claims)) ≡ true
 no_heads_of depth a [] = refl
-no_heads_of depth a (c ∷ claims) =
-    elim (cases_Bool (begins depth a c)) [
-      | inl is ↦ rw is (no_heads_of depth a claims)
-      | inr other ↦
-          rw other (list_all-append (λ p. not (head_is a p)) (of_claim depth c) (of_claims depth (filter (λ d. not (begins depth a d)) claims)) ∙ rw (no_heads a (drop depth c.filter) other) (no_heads_of depth a claims))
-    ]
+no_heads_of depth a (c ∷ claims) = grind (arith, common_steps, no_heads, (no_heads_of depth a claims))
 
 in_all : (h : List Shape → Bool) (p : List Shape) (lists : List (List Shape)) → list_all h lists ≡ true → is_in p lists ≡ true → h p ≡ true
 in_all h p [] all is = cc
-in_all h p (q ∷ lists) all is =
-    let parts = and_parts (h q) (list_all h lists) all in
-    elim (or_cases (same_shapes p q) (is_in p lists) is) [
-      | inl here ↦ subst (λ x. h x ≡ true) (sym (lists_same p q here)) parts.0
-      | inr there ↦ in_all h p lists parts.1 there
-    ]
+in_all h p (q ∷ lists) all is = grind (arith, common_steps, (lists_same p q), (in_all h p lists))
 
 kept_in : (depth : ℕ) (k : ClaimValue → Bool) (claims : List ClaimValue) (p : List Shape) → is_in p (of_claims depth (filter k claims)) ≡ true → is_in p (of_claims depth claims) ≡ true
 kept_in depth k [] p is = is
-kept_in depth k (c ∷ claims) p is =
-    let joined = list_any-append (same_shapes p) (of_claim depth c) (of_claims depth claims) in
-    elim (cases_Bool (k c)) [
-      | inl keeps ↦
-          let whole = rw keeps at is in
-          elim (or_cases (is_in p (of_claim depth c)) (is_in p (of_claims depth (filter k claims))) (sym (list_any-append (same_shapes p) (of_claim depth c) (of_claims depth (filter k claims))) ∙ whole)) [
-            | inl here ↦ joined ∙ or_left (is_in p (of_claim depth c)) (is_in p (of_claims depth claims)) here
-            | inr there ↦ joined ∙ or_right (is_in p (of_claim depth c)) (is_in p (of_claims depth claims)) (kept_in depth k claims p there)
-          ]
-      | inr other ↦ joined ∙ or_right (is_in p (of_claim depth c)) (is_in p (of_claims depth claims)) (kept_in depth k claims p (rw other at is))
-    ]
+kept_in depth k (c ∷ claims) p is = grind (arith, common_steps, (kept_in depth k claims p))
 
 -- the prefixes of a branch and of all others
 pub prefixes_apart : (depth : ℕ) (a : Atom) (claims : List ClaimValue)
@@ -312,11 +229,7 @@ in_joined p some more = list_any-append (same_shapes p) some more
 -- there are no more prefixes than atoms
 pub distinct_few : (lists : List (List Shape)) → distinct lists ≤ length lists
 distinct_few [] = omega arith
-distinct_few (p ∷ lists) =
-    elim (cases_Bool (is_in p lists)) [
-      | inl is ↦ rw is (omega (arith, distinct_few lists))
-      | inr other ↦ rw other (omega (arith, distinct_few lists))
-    ]
+distinct_few (p ∷ lists) = grind (arith, common_steps, (distinct_few lists))
 
 pub length_prefixes : (shapes : List Shape) → length (prefixes_of shapes) ≡ length shapes
 length_prefixes [] = refl
@@ -324,15 +237,7 @@ length_prefixes (s ∷ shapes) = omega (arith, length-map (prefixes_of shapes) (
 
 length_of : (rows : List RowValue) → length (of_claims 0 (map claim_in rows)) ≡ sum_by (λ (r : RowValue). length r.claim.filter) rows
 length_of [] = refl
-length_of (r ∷ rows) =
-    omega (
-      arith,
-      length-append (of_claim 0 r.claim) (of_claims 0 (map claim_in rows)),
-      length_prefixes (shapes_from 0 r.claim),
-      length-map r.claim.filter shape_of,
-      length_of rows,
-      sum_by-cons (λ (x : RowValue). length x.claim.filter) r rows,
-    )
+length_of (r ∷ rows) = grind (arith, common_steps, length_prefixes, (length_of rows))
 
 pub few_prefixes : (book : ClaimBook) → prefixes book ≤ atom_count book
 few_prefixes book = omega (arith, distinct_few (of_claims 0 (map claim_in book.rows)), length_of book.rows)

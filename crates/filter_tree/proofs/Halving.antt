@@ -1,8 +1,9 @@
 -- Claims that are found by their numbers.
-use Rattle.std.proofs.Common.{◌≡◌, ℕ, zero, suc, ◌<◌, ◌≤◌, Bool, true, false, List, [], ◌∷◌, Some, None, length, set, refl, sym, ap, subst, ◌∙◌, arith, inl, inr}
+use Rattle.std.proofs.Common.{◌≡◌, ℕ, zero, suc, ◌<◌, ◌≤◌, Bool, true, false, List, [], ◌∷◌, Some, None, length, set, refl, sym, ap, subst, ◌∙◌, arith}
 use Rattle.std.specs.Prelude.{All, find, map, nat_le, nat_lt, if◌then◌else◌, slice_index_or}
 use Rattle.std.specs.List.Sorted.{IsNonDecreasingBy}
-use Rattle.std.proofs.lemmas.Bool.{and_parts, cases_Bool, cases_eq, eqb-true, leb-true, ltb-false, ltb-true, ne_eqb}
+use Rattle.std.proofs.lemmas.Grind.{common_steps}
+use Rattle.std.proofs.lemmas.Bool.{and_parts, eqb-true, leb-true, ltb-false, ltb-true, ne_eqb}
 use Rattle.std.proofs.lemmas.List.Kept.{AllPairs-cons}
 use Rattle.filter_tree.specs.ClaimBook.{AreRising, RowValue, are_numbered, is_of_env}
 use Rattle.filter_tree.specs.Claims.{is_claim, is_numbered}
@@ -15,19 +16,13 @@ rising_tail x rows rise = λ i j d before within. rise (suc i) (suc j) d (omega 
 
 -- by rising number they are in order for a search
 pub rising_ids : (rows : List RowValue) → AreRising rows → IsNonDecreasingBy (λ (r : RowValue). r.claim.id) rows
-rising_ids rows rise i j d before within =
-    elim (cases_eq i j) [
-      | inl same ↦ rw same (omega arith)
-      | inr other ↦ let below = rise i j d (omega (arith, before, other)) within in omega (arith, below)
-    ]
+rising_ids rows rise i j d before within = grind (arith, common_steps, (rise i j d))
 
 -- the claims of a book rise
 all_from : (least end : ℕ) (rows : List RowValue) → are_numbered least end rows ≡ true → (k : ℕ) (d : RowValue) → k < length rows → least ≤ (slice_index_or rows k d).claim.id
 all_from least end [] is k d within = absurd (omega (arith, within))
 all_from least end (r ∷ rows) is zero d within = leb-true least r.claim.id (and_parts (nat_le least r.claim.id) (are_numbered (suc r.claim.id) end rows) is).0
-all_from least end (r ∷ rows) is (suc k) d within =
-    let parts = and_parts (nat_le least r.claim.id) (are_numbered (suc r.claim.id) end rows) is in
-    omega (arith, leb-true least r.claim.id parts.0, all_from (suc r.claim.id) end rows parts.1 k d (omega (arith, within)))
+all_from least end (r ∷ rows) is (suc k) d within = grind (arith, common_steps, (all_from (suc r.claim.id) end rows))
 
 pub numbered_rising : (least end : ℕ) (rows : List RowValue) → are_numbered least end rows ≡ true → AreRising rows
 numbered_rising least end [] is = λ i j d before within. absurd (omega (arith, within))
@@ -48,10 +43,7 @@ pub found_at : (id k : ℕ) (r d : RowValue) (rows : List RowValue) → AreRisin
     → find (numbered id) rows ≡ Some (slice_index_or rows k d)
 found_at id k r d [] rise within is own = absurd (omega (arith, within))
 found_at id zero r d (x ∷ rows) rise within is own = let here : numbered id x ≡ true = subst (λ (y : RowValue). numbered id y ≡ true) is own in rw here refl
-found_at id (suc k) r d (x ∷ rows) rise within is own =
-    let below : x.claim.id < r.claim.id = subst (λ (y : RowValue). x.claim.id < y.claim.id) (sym is) (rise 0 (suc k) r (omega arith) within) in
-    let its = eqb-true r.claim.id id own in
-    rw (ne_eqb x.claim.id id (λ e. absurd (omega (arith, e, below, its)))) (found_at id k r d rows (rising_tail x rows rise) (omega (arith, within)) is own)
+found_at id (suc k) r d (x ∷ rows) rise within is own = grind (arith, common_steps, (rise 0 (suc k) r), (found_at id k r d rows (rising_tail x rows rise)))
 
 -- where the search ends at another, there is none
 pub none_at : (id n : ℕ) (rows : List RowValue) → AreRising rows → n ≤ length rows → ((k : ℕ) (d : RowValue) → k < n → nat_lt (slice_index_or rows k d).claim.id id ≡ true)
@@ -70,24 +62,12 @@ none_at id (suc n) (x ∷ rows) rise within lower other upper =
 -- the claim of an environment and a number
 pub held_none : (env id : ℕ) (rows : List RowValue) → find (numbered id) rows ≡ None → find (λ (r : RowValue). is_claim env id r.claim) rows ≡ None
 held_none env id [] none = refl
-held_none env id (x ∷ rows) none =
-    elim (cases_Bool (numbered id x)) [
-      | inl is ↦ cc (rw is at none)
-      | inr other ↦ rw other (held_none env id rows (rw other at none))
-    ]
+held_none env id (x ∷ rows) none = grind (arith, common_steps, (held_none env id rows))
 
 held_some : (env id : ℕ) (r : RowValue) (rows : List RowValue) → AreRising rows → find (numbered id) rows ≡ Some r
     → find (λ (s : RowValue). is_claim env id s.claim) rows ≡ (if is_of_env env r.claim then Some r else None)
 held_some env id r [] rise found = cc
-held_some env id r (x ∷ rows) rise found =
-    elim (cases_Bool (numbered id x)) [
-      | inl is ↦
-          let same : x ≡ r = cc (rw is at found) in
-          let its = eqb-true x.claim.id id is in
-          let none = held_none env id rows (none_behind id x rows rise (omega (arith, its))) in
-          rw (is, none) (ap (λ (y : RowValue). if is_of_env env y.claim then Some y else None) same)
-      | inr other ↦ rw other (held_some env id r rows (rising_tail x rows rise) (rw other at found))
-    ]
+held_some env id r (x ∷ rows) rise found = grind (arith, common_steps, (held_none env id rows), (none_behind id x rows rise), (held_some env id r rows (rising_tail x rows rise)))
 
 pub held_own : (env id : ℕ) (r : RowValue) (rows : List RowValue) → AreRising rows → find (numbered id) rows ≡ Some r → is_of_env env r.claim ≡ true
     → find (λ (s : RowValue). is_claim env id s.claim) rows ≡ Some r
@@ -100,19 +80,11 @@ held_other env id r rows rise found other = held_some env id r rows rise found �
 -- what changes the claim of a number changes it alone
 pub passes_found : {X : Type 0} (p : X → Bool) (x : X) (xs : List X) → find p xs ≡ Some x → p x ≡ true
 passes_found p x [] found = cc
-passes_found p x (y ∷ xs) found =
-    elim (cases_Bool (p y)) [
-      | inl is ↦ let same : y ≡ x = cc (rw is at found) in subst (λ z. p z ≡ true) same is
-      | inr other ↦ passes_found p x xs (rw other at found)
-    ]
+passes_found p x (y ∷ xs) found = grind (arith, common_steps, (passes_found p x xs))
 
 pub none_changes : (f : RowValue → RowValue) (id : ℕ) (rows : List RowValue) → find (numbered id) rows ≡ None → map (λ (r : RowValue). if numbered id r then f r else r) rows ≡ rows
 none_changes f id [] none = refl
-none_changes f id (x ∷ rows) none =
-    elim (cases_Bool (numbered id x)) [
-      | inl is ↦ cc (rw is at none)
-      | inr other ↦ rw other (ap (λ xs. x ∷ xs) (none_changes f id rows (rw other at none)))
-    ]
+none_changes f id (x ∷ rows) none = grind (arith, common_steps, (none_changes f id rows))
 
 changes_at : (f : RowValue → RowValue) (id k : ℕ) (d : RowValue) (rows : List RowValue) → AreRising rows → k < length rows → numbered id (slice_index_or rows k d) ≡ true
     → map (λ (r : RowValue). if numbered id r then f r else r) rows ≡ set rows k (f (slice_index_or rows k d))

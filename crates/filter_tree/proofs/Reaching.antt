@@ -1,16 +1,19 @@
 -- The claims to which a packet comes.
-use Rattle.std.proofs.Common.{◌≡◌, ℕ, ◌+◌, ◌<◌, Bool, true, false, not, List, [], ◌∷◌, Option, Some, None, length, drop, refl, sym, ap, ◌∙◌, arith, inl, inr}
+use Rattle.std.proofs.Common.{◌≡◌, ℕ, ◌+◌, ◌<◌, Bool, true, false, not, List, [], ◌∷◌, Option, Some, None, length, drop, refl, sym, ap, ◌∙◌, arith}
 use Rattle.std.specs.List.{list_all}
 use Rattle.std.specs.Prelude.{◌==◌, ◌&&◌, nat_le, filter, slice_index_or, bit_and, if◌then◌else◌}
-use Rattle.std.proofs.lemmas.Bool.{and_from, and_parts, cases_Bool, eqb-true}
+use Rattle.std.proofs.lemmas.Grind.{common_steps}
+use Rattle.std.proofs.lemmas.Bool.{and_from, eqb-true}
+use Rattle.std.proofs.lemmas.List.Elements.{All-filter, filter_passes}
 use Rattle.std.proofs.lemmas.List.Kept.{AllPairs-filter}
+use Rattle.std.proofs.lemmas.List.Sums.{AllPass-from_list_all, list_all-from_AllPass}
 use Rattle.std.proofs.lemmas.List.{drop-drop}
 use Rattle.filter_core.specs.declared.atom.Atom.{Atom}
 use Rattle.filter_core.specs.Matching.{field, matches}
 use Rattle.filter_tree.specs.ClaimBook.{ClaimValue}
 use Rattle.filter_tree.specs.Tree.{AreInOrder, IsSplit, begins, begins_with, comes_before, first_value, is_branch, lower, lowest, matches_from, starts_with, value_at}
 use Rattle.filter_tree.proofs.Lowest.{lower_join, lowest_filter, lowest_parts, lowest_none, lowest_same}
-use Rattle.filter_tree.proofs.Order.{all_at, has_own_shape, shape_is, tails_before}
+use Rattle.filter_tree.proofs.Order.{has_own_shape, tails_before}
 
 -- a field that was read, or not
 pub read_some : (b : Bool) (x y : ℕ) → Some y ≡ (if b then Some x else None) → (b ≡ true) × (y ≡ x)
@@ -20,23 +23,6 @@ read_some false x y is = cc
 pub read_none : (b : Bool) (x : ℕ) → None ≡ (if b then Some x else None) → b ≡ false
 read_none true x is = cc
 read_none false x is = refl
-
-pub passes : {X : Type 0} (p : X → Bool) (xs : List X) → list_all p (filter p xs) ≡ true
-passes p [] = refl
-passes p (x ∷ xs) =
-    elim (cases_Bool (p x)) [
-      | inl is ↦ rw (is, is) (passes p xs)
-      | inr other ↦ rw other (passes p xs)
-    ]
-
-pub pass_too : {X : Type 0} (p q : X → Bool) (xs : List X) → list_all q xs ≡ true → list_all q (filter p xs) ≡ true
-pass_too p q [] all = refl
-pass_too p q (x ∷ xs) all =
-    let parts = and_parts (q x) (list_all q xs) all in
-    elim (cases_Bool (p x)) [
-      | inl is ↦ rw (is, parts.0) (pass_too p q xs parts.1)
-      | inr other ↦ rw other (pass_too p q xs parts.1)
-    ]
 
 abbrev asks : ℕ → ℕ → ClaimValue → Bool
 asks depth v c = v == value_at depth c
@@ -52,28 +38,22 @@ pub reached_order : (depth v : ℕ) (a : Atom) (claims : List ClaimValue) → Ar
     → AreInOrder (depth + 1) (filter (λ c. v == value_at depth c) claims)
 reached_order depth v a claims order all = λ i j d before within.
     let some : List ClaimValue = filter (asks depth v) claims in
-    let begin : list_all (begins depth a) some ≡ true = pass_too (asks depth v) (begins depth a) claims all in
-    let ask : list_all (asks depth v) some ≡ true = passes (asks depth v) claims in
+    let begin = All-filter (asks depth v) (λ c. begins depth a c ≡ true) claims (AllPass-from_list_all (begins depth a) claims all) in
+    let ask = filter_passes (asks depth v) claims in
     both_after depth v a (slice_index_or some i d) (slice_index_or some j d)
-    (all_at (begins depth a) some begin i d (omega (arith, before, within))) (all_at (begins depth a) some begin j d within)
-    (all_at (asks depth v) some ask i d (omega (arith, before, within))) (all_at (asks depth v) some ask j d within)
+    (begin i d (omega (arith, before, within))) (begin j d within)
+    (ask i d (omega (arith, before, within))) (ask j d within)
     (AllPairs-filter (λ x y. comes_before depth x y ≡ true) (asks depth v) claims order i j d before within)
 
 -- an atom matches a packet if the packet's field has its value
 one_atom : (a : Atom) (packet : List ℕ) (f : List Atom) → nat_le (a.offset + a.width) (length packet) ≡ true → begins_with a f ≡ true
     → (bit_and (field a.offset a.width packet) a.mask == first_value f && matches (drop 1 f) packet) ≡ matches f packet
 one_atom a packet [] fits is = cc
-one_atom a packet (x ∷ f) fits is =
-    let shape = shape_is a x is in
-    let own : nat_le (x.offset + x.width) (length packet) ≡ true = rw (shape.offset, shape.width) at fits in
-    rw (shape.offset, shape.width, shape.mask, own) refl
+one_atom a packet (x ∷ f) fits is = grind (arith, common_steps)
 
 no_atom : (a : Atom) (packet : List ℕ) (f : List Atom) → nat_le (a.offset + a.width) (length packet) ≡ false → begins_with a f ≡ true → matches f packet ≡ false
 no_atom a packet [] fits is = cc
-no_atom a packet (x ∷ f) fits is =
-    let shape = shape_is a x is in
-    let own : nat_le (x.offset + x.width) (length packet) ≡ false = rw (shape.offset, shape.width) at fits in
-    rw own refl
+no_atom a packet (x ∷ f) fits is = grind (arith, common_steps)
 
 pub reached_lowest : (depth v : ℕ) (a : Atom) (packet : List ℕ) (claims : List ClaimValue) → nat_le (a.offset + a.width) (length packet) ≡ true
     → v ≡ bit_and (field a.offset a.width packet) a.mask → list_all (begins depth a) claims ≡ true
@@ -91,9 +71,7 @@ reached_none depth a packet claims fits all = lowest_none (begins depth a) (matc
 pub starts : (depth : ℕ) (a : Atom) (more : List Atom) (claims : List ClaimValue) (c : ClaimValue) → 0 < length claims → c ≡ slice_index_or claims 0 c → drop depth c.filter ≡ a ∷ more
     → starts_with depth a claims ≡ true
 starts depth a more [] c some is atom = absurd (omega (arith, some))
-starts depth a more (d ∷ claims) c some is atom =
-    let same : drop depth d.filter ≡ a ∷ more = ap (λ (x : ClaimValue). drop depth x.filter) (sym is) ∙ atom in
-    rw same (has_own_shape a)
+starts depth a more (d ∷ claims) c some is atom = grind (arith, common_steps, has_own_shape)
 
 -- those of some claims that begin as the first does
 pub branch_is : (depth : ℕ) (a : Atom) (claims : List ClaimValue) → starts_with depth a claims ≡ true → is_branch depth a (filter (begins depth a) claims) ≡ true
@@ -101,7 +79,7 @@ branch_is depth a [] first = cc
 branch_is depth a (c ∷ claims) first =
     let kept : filter (begins depth a) (c ∷ claims) ≡ c ∷ filter (begins depth a) claims = rw first refl in
     ap (is_branch depth a) kept ∙ and_from (begins depth a c) (begins depth a c && list_all (begins depth a) (filter (begins depth a) claims)) first
-    (and_from (begins depth a c) (list_all (begins depth a) (filter (begins depth a) claims)) first (passes (begins depth a) claims))
+    (and_from (begins depth a c) (list_all (begins depth a) (filter (begins depth a) claims)) first (list_all-from_AllPass (begins depth a) (filter (begins depth a) claims) (filter_passes (begins depth a) claims)))
 
 pub behind_is : {X : Type 0} (p : X → Bool) (xs : List X) (start end : ℕ) → IsSplit p (drop start xs) end → drop (start + end) xs ≡ filter (λ x. not (p x)) (drop start xs)
 behind_is p xs start end split = sym (drop-drop end start xs) ∙ split.back

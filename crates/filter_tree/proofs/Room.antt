@@ -1,38 +1,26 @@
 -- Room for claims.
 use Rattle.std.proofs.Common.{◌≡◌, ℕ, zero, suc, ◌+◌, ◌*◌, ◌<◌, ◌≤◌, Bool, true, false, cond, not, List, [], ◌∷◌, ◌++◌, length, Option, Some, None, refl, sym, ap, subst, ◌∙◌, arith, inl, inr}
-use Rattle.std.proofs.lemmas.Bool.{cases_Bool, cases_eq, cases_lt, eq-eqb, le-leb, ne_eqb}
+use Rattle.std.proofs.lemmas.Grind.{common_steps}
+use Rattle.std.proofs.lemmas.Bool.{cases_eq, eq-eqb, ne_eqb}
+use Rattle.std.proofs.lemmas.List.Elements.{All-filter, All-from_recursion, All-push, recursion_from_All}
 use Rattle.std.proofs.lemmas.List.Sums.{sum_by-cons, sum_by_push}
 use Rattle.std.specs.List.{AllByRecursion, list_any}
-use Rattle.std.specs.Prelude.{filter, find, map, count_by, nat_le, if◌then◌else◌}
+use Rattle.std.specs.Prelude.{filter, find, map, count_by}
 use Rattle.std.specs.Option.{option_map}
 use Rattle.filter_core.specs.declared.atom.Atom.{Atom}
 use Rattle.filter_tree.specs.ClaimBook.{ClaimBook, ClaimValue, IsKept, RowValue, claim_in, claims_in, is_of_env, most_claims}
-use Rattle.filter_tree.specs.declared.claim.ClaimNo.{ClaimNo}
-use Rattle.filter_tree.specs.declared.claim.ClaimNo.TheVariants.{Full, Overlap}
-use Rattle.filter_tree.specs.Claims.{claim_refusal, is_in_the_way, row_refusal, delivered, downloaded, row_with_handler_if, new_row, row_after_packet_if, with_claim, without}
+use Rattle.filter_tree.specs.Claims.{claim_refusal, row_refusal, delivered, downloaded, row_with_handler_if, new_row, row_after_packet_if, with_claim, without}
 use Rattle.filter_tree.proofs.Numbers.{numbered_filter, numbered_more, numbered_same, same_claim, still_claim}
 
 all_kept : {X : Type 0} (P : X → Type 0) (t : X → Bool) (xs : List X) → AllByRecursion P xs → AllByRecursion P (filter t xs)
-all_kept P t [] all = tt
-all_kept P t (x ∷ xs) all =
-    elim (cases_Bool (t x)) [
-      | inl is ↦ rw is (all.0, all_kept P t xs all.1)
-      | inr other ↦ rw other (all_kept P t xs all.1)
-    ]
+all_kept P t xs all = recursion_from_All P (filter t xs) (All-filter t P xs (All-from_recursion P xs all))
 
 all_and_one : {X : Type 0} (P : X → Type 0) (xs : List X) (x : X) → AllByRecursion P xs → P x → AllByRecursion P (xs ++ x ∷ [])
-all_and_one P [] x are is = (is, tt)
-all_and_one P (y ∷ xs) x are is = (are.0, all_and_one P xs x are.1 is)
+all_and_one P xs x are is = recursion_from_All P (xs ++ x ∷ []) (All-push P xs x (All-from_recursion P xs are) is)
 
 -- how many, one more element at the front
 pub counted : {X : Type 0} (p : X → Bool) (x : X) (xs : List X) → count_by p (x ∷ xs) ≡ cond (p x) 1 0 + count_by p xs
 counted {X} p x xs = sum_by-cons (λ (y : X). cond (p y) 1 0) x xs
-
-counted_in : {X : Type 0} (p : X → Bool) (x : X) (xs : List X) → p x ≡ true → count_by p (x ∷ xs) ≡ 1 + count_by p xs
-counted_in p x xs is = counted p x xs ∙ ap (λ (b : Bool). cond b 1 0 + count_by p xs) is
-
-counted_out : {X : Type 0} (p : X → Bool) (x : X) (xs : List X) → p x ≡ false → count_by p (x ∷ xs) ≡ 0 + count_by p xs
-counted_out p x xs other = counted p x xs ∙ ap (λ (b : Bool). cond b 1 0 + count_by p xs) other
 
 one_if : {b : Bool} → b ≡ true → cond {A = ℕ} b 1 0 ≡ 1
 one_if is = rw is refl
@@ -46,11 +34,7 @@ counted_last {X} p xs x = sum_by_push (λ (y : X). cond (p y) 1 0) xs x
 
 fewer : {X : Type 0} (p t : X → Bool) (xs : List X) → count_by p (filter t xs) ≤ count_by p xs
 fewer p t [] = omega arith
-fewer p t (x ∷ xs) =
-    elim (cases_Bool (t x)) [
-      | inl is ↦ rw is (omega (arith, counted p x (filter t xs), counted p x xs, fewer p t xs))
-      | inr other ↦ rw other (omega (arith, counted p x xs, fewer p t xs))
-    ]
+fewer p t (x ∷ xs) = grind (arith, common_steps, (counted p x), (fewer p t xs))
 
 -- whose a claim is that stands
 abbrev of : ℕ → RowValue → Bool
@@ -76,21 +60,11 @@ total_none (suc n) = omega (arith, total_none n)
 
 total_other : (n : ℕ) (c : RowValue) (claims : List RowValue) → n ≤ c.claim.env → total n (c ∷ claims) ≡ total n claims
 total_other zero c claims past = refl
-total_other (suc n) c claims past =
-    let here = counted_out (of n) c claims (ne_eqb c.claim.env n (λ e. absurd (omega arith))) in
-    omega (arith, here, total_other n c claims (omega arith))
+total_other (suc n) c claims past = grind (arith, common_steps, (counted (of n) c claims), (total_other n c claims))
 
 total_one : (n : ℕ) (c : RowValue) (claims : List RowValue) → c.claim.env < n → total n (c ∷ claims) ≡ total n claims + 1
 total_one zero c claims below = absurd (omega arith)
-total_one (suc n) c claims below =
-    elim (cases_eq c.claim.env n) [
-      | inl last ↦
-          let here = counted_in (of n) c claims (eq-eqb c.claim.env n last) in
-          omega (arith, here, total_other n c claims (omega (arith, last)))
-      | inr other ↦
-          let here = counted_out (of n) c claims (ne_eqb c.claim.env n other) in
-          omega (arith, here, total_one n c claims (omega (arith, other)))
-    ]
+total_one (suc n) c claims below = grind (arith, common_steps, (counted (of n) c claims), (total_other n c claims), (total_one n c claims))
 
 -- all claims are those of all environments
 all_total : (n : ℕ) (claims : List RowValue) → AllByRecursion (λ (c : RowValue). c.claim.env < n) claims → total n claims ≡ length claims
@@ -138,20 +112,12 @@ counted_in_rows p (r ∷ rows) =
 
 -- a filter that isn't refused is of an environment that has fewer than eight
 pub has_fewer : (book : ClaimBook) (e : ℕ) (atoms : List Atom) → None ≡ claim_refusal (claims_in book) e atoms → count_by (λ (r : RowValue). is_of_env e r.claim) book.rows < most_claims
-has_fewer book e atoms none =
-    elim (cases_lt (count_by (is_of_env e) (claims_in book)) most_claims) [
-      | inl below ↦ omega (arith, below, counted_in_rows (is_of_env e) book.rows)
-      | inr full ↦ absurd (cc (rw (le-leb most_claims (count_by (is_of_env e) (claims_in book)) full) at none))
-    ]
+has_fewer book e atoms none = grind (arith, common_steps, counted_in_rows)
 
 -- where claims stay there is room as before
 same_count : (f : RowValue → RowValue) → ((r : RowValue) → (f r).claim ≡ r.claim) → (e : ℕ) (rows : List RowValue) → count_by (of e) (map f rows) ≡ count_by (of e) rows
 same_count f same e [] = refl
-same_count f same e (r ∷ rows) =
-    counted (of e) (f r) (map f rows)
-    ∙ ap (λ (n : ℕ). cond (of e (f r)) 1 0 + n) (same_count f same e rows)
-    ∙ ap (λ (c : ClaimValue). cond (is_of_env e c) 1 0 + count_by (of e) rows) (same r)
-    ∙ sym (counted (of e) r rows)
+same_count f same e (r ∷ rows) = grind (arith, common_steps, counted, (same r), (same_count f same e rows))
 
 same_envs : (f : RowValue → RowValue) → ((r : RowValue) → (f r).claim ≡ r.claim) → (envs : ℕ) (rows : List RowValue) → AllByRecursion (λ (r : RowValue). r.claim.env < envs) rows
     → AllByRecursion (λ (r : RowValue). r.claim.env < envs) (map f rows)
@@ -175,11 +141,7 @@ room_handled id handler = room_same (row_with_handler_if id handler) (still_clai
 -- the claims as lists of one kind or the other
 found_in_rows : (p : ClaimValue → Bool) (rows : List RowValue) → find p (map claim_in rows) ≡ option_map claim_in (find (λ (r : RowValue). p r.claim) rows)
 found_in_rows p [] = refl
-found_in_rows p (r ∷ rows) =
-    elim (cases_Bool (p r.claim)) [
-      | inl is ↦ rw is refl
-      | inr other ↦ rw other (found_in_rows p rows)
-    ]
+found_in_rows p (r ∷ rows) = grind (arith, common_steps, (found_in_rows p rows))
 
 number_of : {A : Type 0} (f : ClaimValue → A) (o : Option RowValue) → option_map f (option_map claim_in o) ≡ option_map (λ (r : RowValue). f r.claim) o
 number_of f None = refl
@@ -187,19 +149,12 @@ number_of f (Some r) = refl
 
 -- why a filter is refused, by the rows
 pub refused_by_rows : (e : ℕ) (atoms : List Atom) (rows : List RowValue) → claim_refusal (map claim_in rows) e atoms ≡ row_refusal rows e atoms
-refused_by_rows e atoms rows =
-    ap (λ (n : ℕ). if nat_le most_claims n then Some Full else option_map (λ (c : ClaimValue). Overlap c.id) (find (is_in_the_way e atoms) (map claim_in rows))) (counted_in_rows (is_of_env e) rows)
-    ∙ ap (λ (o : Option ClaimNo). if nat_le most_claims (count_by (λ (r : RowValue). is_of_env e r.claim) rows) then Some Full else o)
-    (ap (option_map (λ (c : ClaimValue). Overlap c.id)) (found_in_rows (is_in_the_way e atoms) rows) ∙ number_of (λ (c : ClaimValue). Overlap c.id) (find (λ (r : RowValue). is_in_the_way e atoms r.claim) rows))
+refused_by_rows e atoms rows = grind (arith, common_steps, counted_in_rows, found_in_rows, number_of)
 
 -- where none of some claims goes, all stay
 pub none_goes : {X : Type 0} (p : X → Bool) (xs : List X) → list_any p xs ≡ false → filter (λ x. not (p x)) xs ≡ xs
 none_goes p [] none = refl
-none_goes p (x ∷ xs) none =
-    elim (cases_Bool (p x)) [
-      | inl is ↦ cc (rw is at none)
-      | inr other ↦ rw other (ap (λ ys. x ∷ ys) (none_goes p xs (rw other at none)))
-    ]
+none_goes p (x ∷ xs) none = grind (arith, common_steps, (none_goes p xs))
 
 pub same_without : (gone : ClaimValue → Bool) (book : ClaimBook) → list_any (λ (r : RowValue). gone r.claim) book.rows ≡ false → book ≡ without gone book
 same_without gone book none = ap (λ (rows : List RowValue). record book { rows = rows }) (sym (none_goes (λ (r : RowValue). gone r.claim) book.rows none))

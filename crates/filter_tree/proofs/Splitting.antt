@@ -1,7 +1,7 @@
 -- Lists that are split where a test ceases to hold.
-use Rattle.std.proofs.Common.{◌≡◌, ℕ, zero, suc, ◌<◌, ◌≤◌, Bool, true, false, not, List, [], ◌∷◌, length, take, drop, refl, ap, ◌∙◌, ◌-◌, arith, inl, inr}
+use Rattle.std.proofs.Common.{◌≡◌, ℕ, zero, suc, ◌<◌, ◌≤◌, Bool, true, false, not, List, [], ◌∷◌, length, take, drop, refl, ap, arith}
 use Rattle.std.specs.Prelude.{filter, ◌==◌, ◌&&◌, nat_le, nat_lt, slice_index_or}
-use Rattle.std.proofs.lemmas.Bool.{cases_Bool, cases_eq, cases_lt, eq-eqb, le-leb, le-ltb, lt-leb, lt-ltb, ne_eqb}
+use Rattle.std.proofs.lemmas.Grind.{common_steps}
 use Rattle.filter_tree.specs.Tree.{IsSplit}
 
 none_pass : {X : Type 0} (p : X → Bool) (xs : List X) → ((k : ℕ) (d : X) → k < length xs → p (slice_index_or xs k d) ≡ false) → [] ≡ filter p xs
@@ -33,30 +33,8 @@ split_is p xs n within some pass fail = record { within = within; some = some; f
 -- what passes two tests, one after the other
 pub filter_twice : {X : Type 0} (p q r : X → Bool) → ((x : X) → r x ≡ (p x && q x)) → (xs : List X) → filter q (filter p xs) ≡ filter r xs
 filter_twice p q r same [] = refl
-filter_twice p q r same (x ∷ xs) =
-    elim (cases_Bool (p x)) [
-      | inl is ↦
-          elim (cases_Bool (q x)) [
-            | inl also ↦
-                let passes : r x ≡ true = same x ∙ rw (is, also) refl in
-                rw (is, also, passes) (ap (λ ys. x ∷ ys) (filter_twice p q r same xs))
-            | inr not ↦
-                let fails : r x ≡ false = same x ∙ rw (is, not) refl in
-                rw (is, not, fails) (filter_twice p q r same xs)
-          ]
-      | inr other ↦
-          let fails : r x ≡ false = same x ∙ rw other refl in
-          rw (other, fails) (filter_twice p q r same xs)
-    ]
+filter_twice p q r same (x ∷ xs) = grind (arith, common_steps, (same x), (filter_twice p q r same xs))
 
 -- no less than a number, and no more
 pub just_between : (x y : ℕ) → (y == x) ≡ (not (nat_lt x y) && nat_le x y)
-just_between x y =
-    elim (cases_lt x y) [
-      | inl below ↦ rw (ne_eqb y x (λ e. absurd (omega (arith, e, below))), lt-ltb x y below) refl
-      | inr from ↦
-          elim (cases_eq y x) [
-            | inl same ↦ rw (eq-eqb y x same, le-ltb x y from, le-leb x y (omega (arith, same))) refl
-            | inr other ↦ rw (ne_eqb y x other, le-ltb x y from, lt-leb x y (omega (arith, from, other))) refl
-          ]
-    ]
+just_between x y = grind (arith, common_steps)
