@@ -1,6 +1,7 @@
 -- What atoms ask of each byte, and which packets they match.
 use Rattle.std.proofs.Common.{◌≡◌, ℕ, zero, suc, ◌+◌, ◌-◌, ◌^◌, ◌<◌, ◌≤◌, true, false, leb, List, length, drop, slice_index, refl, sym, ap, ◌∙◌, arith, inl, inr, subst}
-use Rattle.std.proofs.lemmas.Bool.{and_from, and_parts, both_ways, or_cases, cases_eq, cases_lt, eq-eqb, eqb-true, le-leb, leb-true, lt-leb, le-ltb, lt-ltb, ltb-true}
+use Rattle.std.proofs.lemmas.Grind.{common_steps}
+use Rattle.std.proofs.lemmas.Bool.{and_from, and_parts, both_ways, or_cases, cases_lt, eq-eqb, eqb-true, le-leb, lt-leb, le-ltb, lt-ltb}
 use Rattle.std.proofs.lemmas.List.{get_or-drop}
 use Rattle.std.proofs.lemmas.Nat.{and_le_r}
 use Rattle.std.specs.Int.{byte_at}
@@ -32,26 +33,14 @@ one_two_four w is =
       | inr four ↦ inr (inr (eqb-true w 4 four))
     ]
 
-few_wide : (w : ℕ) → is_width w ≡ true → (0 < w) × (w ≤ 4)
-few_wide w is =
-    elim (one_two_four w is) [
-      | inl one ↦ (omega (arith, one), omega (arith, one))
-      | inr more ↦ elim more [ inl two ↦ (omega (arith, two), omega (arith, two)) | inr four ↦ (omega (arith, four), omega (arith, four)) ]
-    ]
-
 pub good : (a : Atom) → is_atom a ≡ true → IsGood a
-good a is =
-    let outer = and_parts _ _ is in
-    let inner = and_parts _ _ outer.0 in
-    let first = and_parts _ _ inner.0 in
-    let wide = few_wide a.width first.0 in
-    record {
-      some = wide.0;
-      few = wide.1;
-      within = leb-true _ _ first.1;
-      fits = ltb-true _ _ inner.1;
-      value = eqb-true _ _ outer.1;
-    }
+good a is = record {
+  some = grind (arith, common_steps);
+  few = grind (arith, common_steps);
+  within = grind (arith, common_steps);
+  fits = grind (arith, common_steps);
+  value = grind (arith, common_steps);
+}
 
 -- a place is in an atom's field, or outside
 pub data InField (a : Atom) (p : ℕ) : Type 0 where
@@ -137,12 +126,7 @@ AgreeAll a b = (p : ℕ) → bit_and (value_at p a) (mask_at p b) ≡ bit_and (v
 
 agree_first : (n : ℕ) (a b : Atom) → agree_on_first n a b ≡ true → (i : ℕ) → i < n → agree_at (a.offset + i) a b ≡ true
 agree_first zero a b are i below = absurd (omega arith)
-agree_first (suc n) a b are i below =
-    let parts = and_parts (agree_on_first n a b) (agree_at (a.offset + n) a b) are in
-    elim (cases_eq i n) [
-      | inl last ↦ rw last parts.1
-      | inr other ↦ agree_first n a b parts.0 i (omega (arith, other))
-    ]
+agree_first (suc n) a b are i below = grind (arith, common_steps, (agree_first n a b))
 
 first_agree : (n : ℕ) (a b : Atom) → AgreeAll a b → agree_on_first n a b ≡ true
 first_agree zero a b all = refl

@@ -1,5 +1,6 @@
 -- Atoms as they are read.
 use Rattle.std.proofs.Common.{◌≡◌, ℕ, zero, suc, ◌+◌, ◌-◌, ◌*◌, ◌<◌, ◌/◌, ◌%◌, true, false, cond, ◌&&◌, List, [], ◌∷◌, ◌++◌, length, Some, None, refl, sym, ap, ◌∙◌, subst, arith, leb, inl, inr, append_assoc}
+use Rattle.std.proofs.lemmas.Grind.{common_steps}
 use Rattle.std.proofs.lemmas.Bool.{and_cases, and_from, and_left, and_parts, and_right, cases_Bool}
 use Rattle.std.proofs.lemmas.List.Folds.{list_all-append}
 use Rattle.std.specs.List.{list_all}
@@ -36,11 +37,7 @@ wrong_count bytes wrong =
 
 -- bytes of an atom that may not stand in a filter
 bad_is : (bytes : List ℕ) (place : ℕ) → None ≡ good_atom bytes place → is_atom (atom_at bytes place) ≡ false
-bad_is bytes place none =
-    elim (cases_Bool (is_atom (atom_at bytes place))) [
-      | inl is ↦ absurd (cc (rw is at none))
-      | inr other ↦ other
-    ]
+bad_is bytes place none = grind (arith, common_steps)
 
 pub bad_atom : (bytes : List ℕ) (so_far : List Atom) (i n : ℕ) → i < n → so_far ++ atoms_from bytes (i * 12) (n - i) ≡ atoms_in bytes → None ≡ good_atom bytes (i * 12) → None ≡ good_atoms bytes
 bad_atom bytes so_far i n below all none =
@@ -53,11 +50,7 @@ bad_atom bytes so_far i n below all none =
 
 -- bytes of an atom that may
 pub good_is : (bytes : List ℕ) (place : ℕ) (a : Atom) → Some a ≡ good_atom bytes place → (a ≡ atom_at bytes place) × (is_atom a ≡ true)
-good_is bytes place a some =
-    elim (cases_Bool (is_atom (atom_at bytes place))) [
-      | inl is ↦ let same : a ≡ atom_at bytes place = cc (rw is at some) in (same, rw same is)
-      | inr other ↦ absurd (cc (rw other at some))
-    ]
+good_is bytes place a some = (grind (arith, common_steps), grind (arith, common_steps))
 
 pub one_more : (bytes : List ℕ) (so_far : List Atom) (a : Atom) (i n : ℕ) → i < n → so_far ++ atoms_from bytes (i * 12) (n - i) ≡ atoms_in bytes → a ≡ atom_at bytes (i * 12)
     → (so_far ++ a ∷ []) ++ atoms_from bytes ((i + 1) * 12) (n - (i + 1)) ≡ atoms_in bytes

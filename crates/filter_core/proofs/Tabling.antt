@@ -1,7 +1,8 @@
 -- Atoms in tables, and held against them.
 use Rattle.std.proofs.Common.{◌≡◌, ◌≢◌, ℕ, ◌+◌, ◌-◌, ◌<◌, ◌≤◌, true, List, length, slice_index, get_or, set, drop, sym, ap, ◌∙◌, arith, add-one, inl, inr, get_or-set_same, get_or-set_other, replicate}
-use Rattle.std.proofs.lemmas.Bool.{and_from, cases_eq, cases_lt, eq-eqb}
-use Rattle.std.proofs.lemmas.List.{at_drop_more, drop_all, get_or-replicate, get_or_past, length-replicate}
+use Rattle.std.proofs.lemmas.Grind.{common_steps}
+use Rattle.std.proofs.lemmas.Bool.{and_from, cases_eq, eq-eqb}
+use Rattle.std.proofs.lemmas.List.{at_drop_more, drop_all}
 use Rattle.std.specs.Int.{byte_at}
 use Rattle.std.specs.Prelude.{bit_and, bit_or}
 use Rattle.filter_core.specs.declared.atom.Atom.{Atom}
@@ -69,8 +70,4 @@ entry_all part atoms i entry whole past left =
 
 -- an entry of an empty table
 pub entry_none : (n p whole : ℕ) → bit_or (slice_index (replicate n 0) p) whole ≡ whole
-entry_none n p whole =
-    elim (cases_lt p n) [
-      | inl below ↦ rw (get_or-replicate {A = ℕ} n p 0 0 below) (zero_or whole)
-      | inr past ↦ rw (get_or_past {X = ℕ} (replicate n 0) p 0 (rw (length-replicate {A = ℕ} n 0) past)) (zero_or whole)
-    ]
+entry_none n p whole = grind (arith, common_steps, zero_or)
