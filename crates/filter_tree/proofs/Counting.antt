@@ -1,9 +1,9 @@
 -- How many different prefixes there are.
-use Rattle.std.proofs.Common.{◌≡◌, ℕ, ◌+◌, ◌≤◌, Bool, true, false, not, List, [], ◌∷◌, ◌++◌, length, length-drop, drop, take, ◌<◌, refl, sym, ap, subst, ◌∙◌, arith, inl, inr}
+use Rattle.std.proofs.Common.{◌≡◌, ℕ, ◌+◌, ◌≤◌, Bool, true, false, not, List, [], ◌∷◌, ◌++◌, length, length-drop, drop, take, ◌<◌, refl, sym, ap, ◌∙◌, arith, inl, inr}
 use Rattle.std.specs.List.{flat_map, list_all, list_any}
 use Rattle.std.specs.Prelude.{◌==◌, ◌||◌, filter, map, slice_index_or, sum_by, if◌then◌else◌}
 use Rattle.std.proofs.lemmas.Grind.{common_steps}
-use Rattle.std.proofs.lemmas.Bool.{and_parts, cases_Bool, eq-eqb, or_cases, or_left, or_right}
+use Rattle.std.proofs.lemmas.Bool.{and_parts, cases_Bool, eq-eqb, or_left, or_right}
 use Rattle.std.proofs.lemmas.List.{append-nil, drop-drop, drop_more, length-map}
 use Rattle.std.proofs.lemmas.List.Folds.{list_all-map, list_any-append}
 use Rattle.filter_core.specs.declared.atom.Atom.{Atom}
@@ -67,23 +67,14 @@ distinct_below (p ∷ some) all within =
     ]
   where
     kept : (q : List Shape) → is_in q some ≡ true → is_in p some ≡ false → is_in q (others p all) ≡ true
-    kept q is last =
-        elim (cases_Bool (same_shapes p q)) [
-          | inl same ↦ absurd (cc (subst (λ x. is_in x some ≡ true) (sym (lists_same p q same)) is, last))
-          | inr other ↦ still_in p q all other ∙ within q (or_right (same_shapes q p) (is_in q some) is)
-        ]
+    kept q is last = grind (arith, common_steps, (lists_same p q), (still_in p q all), (within q))
 
 -- lists of which none is among others
 distinct_apart : (some more : List (List Shape)) → ((p : List Shape) → is_in p some ≡ true → is_in p more ≡ false) → distinct (some ++ more) ≡ distinct some + distinct more
 distinct_apart [] more apart = omega arith
 distinct_apart (p ∷ some) more apart =
     let rest = distinct_apart some more (λ q is. apart q (or_right (same_shapes q p) (is_in q some) is)) in
-    let away : is_in p more ≡ false = apart p (or_left (same_shapes p p) (is_in p some) (list_itself p)) in
-    let joined = list_any-append (same_shapes p) some more in
-    elim (cases_Bool (is_in p some)) [
-      | inl again ↦ rw (joined, again) (omega (arith, rest))
-      | inr last ↦ rw (joined, last, away) (omega (arith, rest))
-    ]
+    grind (arith, common_steps, list_itself, (apart p), rest)
 
 -- lists with one shape at the front
 front_in : (s : Shape) (p : List Shape) (lists : List (List Shape)) → is_in (s ∷ p) (map (λ prefix. s ∷ prefix) lists) ≡ is_in p lists
@@ -151,11 +142,7 @@ one_prefix_more depth v a claims branch =
   where
     within : (p : List Shape) → starts_with depth a claims ≡ true → list_all (begins depth a) claims ≡ true
         → is_in p ((shape_of a ∷ []) ∷ map (λ prefix. shape_of a ∷ prefix) (of_claims (depth + 1) (filter (λ c. v == value_at depth c) claims))) ≡ true → is_in p (of_claims depth claims) ≡ true
-    within p first all is =
-        elim (or_cases (same_shapes p (shape_of a ∷ [])) (is_in p (map (λ prefix. shape_of a ∷ prefix) (of_claims (depth + 1) (filter (λ c. v == value_at depth c) claims)))) is) [
-          | inl here ↦ subst (λ x. is_in x (of_claims depth claims) ≡ true) (sym (lists_same p (shape_of a ∷ []) here)) (shape_alone depth a claims first)
-          | inr there ↦ behind_shape depth v a claims p all there
-        ]
+    within p first all is = grind (arith, common_steps, (lists_same p (shape_of a ∷ [])), (shape_alone depth a claims first), (behind_shape depth v a claims p))
 
 pub some_prefix : (depth : ℕ) (a : Atom) (claims : List ClaimValue) → is_branch depth a claims ≡ true → 1 ≤ prefixes_from depth claims
 some_prefix depth a claims branch = let more = one_prefix_more depth 0 a claims branch in omega (arith, more)
@@ -207,21 +194,11 @@ prefixes_apart depth a claims =
   where
     away : (p : List Shape) → is_in p (of_claims depth (filter (begins depth a) claims)) ≡ true → is_in p (of_claims depth (filter (λ c. not (begins depth a c)) claims)) ≡ false
     away p is =
-        elim (cases_Bool (is_in p (of_claims depth (filter (λ c. not (begins depth a c)) claims)))) [
-          | inl too ↦
-              let own : head_is a p ≡ true = in_all (head_is a) p (of_claims depth (filter (begins depth a) claims)) (heads_of depth a claims) is in
-              let other : not (head_is a p) ≡ true = in_all (λ q. not (head_is a q)) p (of_claims depth (filter (λ c. not (begins depth a c)) claims)) (no_heads_of depth a claims) too in
-              absurd (cc (rw own at other))
-          | inr other ↦ other
-        ]
+        let own = in_all (head_is a) p (of_claims depth (filter (begins depth a) claims)) (heads_of depth a claims) is in
+        grind (arith, common_steps, own, (in_all (λ q. not (head_is a q)) p (of_claims depth (filter (λ c. not (begins depth a c)) claims)) (no_heads_of depth a claims)))
 
     within : (p : List Shape) → is_in p (of_claims depth (filter (begins depth a) claims) ++ of_claims depth (filter (λ c. not (begins depth a c)) claims)) ≡ true → is_in p (of_claims depth claims) ≡ true
-    within p is =
-        elim (or_cases (is_in p (of_claims depth (filter (begins depth a) claims))) (is_in p (of_claims depth (filter (λ c. not (begins depth a c)) claims)))
-        (sym (list_any-append (same_shapes p) (of_claims depth (filter (begins depth a) claims)) (of_claims depth (filter (λ c. not (begins depth a c)) claims))) ∙ is)) [
-          | inl here ↦ kept_in depth (begins depth a) claims p here
-          | inr there ↦ kept_in depth (λ c. not (begins depth a c)) claims p there
-        ]
+    within p is = grind (arith, common_steps, (kept_in depth (begins depth a) claims p), (kept_in depth (λ c. not (begins depth a c)) claims p))
 
 pub in_joined : (p : List Shape) (some more : List (List Shape)) → is_in p (some ++ more) ≡ (is_in p some || is_in p more)
 in_joined p some more = list_any-append (same_shapes p) some more
