@@ -1,4 +1,5 @@
 -- What the search for the next held slot finds.
+use Rattle.std.proofs.lemmas.Grind.{common_steps}
 use Rattle.std.proofs.Common.{arith, refl, ap, sym, ◌∙◌, inl, inr, ◌≡◌, ◌≤◌, ◌<◌, ◌+◌, ◌-◌, ◌%◌, ℕ, zero, suc, Option, None, Some}
 use Rattle.std.proofs.lemmas.Bool.{cases_eq, cases_lt}
 use Rattle.std.proofs.Math.Nat.{add-mod_right, mod-eq_of_lt}
@@ -43,14 +44,7 @@ further slots count place tries None (Some t) is found = record {
   stands = found.stands ∙ ap (λ (n : ℕ). ((place + 1) % count + n) % count) (omega arith) ∙ step_on place (found.steps + 1) (count) (omega arith);
   between = empty_on slots count place found.steps is found.between;
 }
-further slots count place tries (Some hold) later is found = record {
-  held = ap holder_in is;
-  steps = 1;
-  steps_least = omega arith;
-  steps_most = omega arith;
-  stands = refl;
-  between = λ j least most. absurd (omega arith);
-}
+further slots count place tries (Some hold) later is found = grind (arith, common_steps, holder_in)
 
 pub search_finds : (slots : ℕ → Option Hold) (count place tries : ℕ) → Found slots count place tries (first_turn slots count place tries)
 search_finds slots count place zero = λ j least most. absurd (omega arith)
@@ -73,14 +67,7 @@ all_around b None within found =
     λ k below.
     let around = stands_around b.cursor k b.slot_count within below in
     ap b.slots (sym around.3) ∙ found around.0 around.1 around.2
-all_around b (Some t) within found = record {
-  held = found.held;
-  steps = found.steps;
-  steps_least = found.steps_least;
-  steps_most = found.steps_most;
-  stands = found.stands;
-  between = found.between;
-}
+all_around b (Some t) within found = grind (arith, common_steps)
 
 -- the search from the cursor, once around
 pub next_is_found : (b : Book) → b.cursor < b.slot_count → IsNextTurn b (next_turn b)

@@ -1,5 +1,5 @@
 -- Phases in turn, and the moments of a tick.
-use Rattle.std.proofs.Common.{arith, ◌≡◌, ℕ, zero, suc, ◌+◌, List, [], ◌∷◌, ◌++◌, length, map, take, Bool, false, refl, sym, ◌∙◌, ap, subst, append_assoc, Option, None, Some}
+use Rattle.std.proofs.Common.{arith, ◌≡◌, ℕ, zero, suc, ◌+◌, List, [], ◌∷◌, ◌++◌, length, map, take, Bool, false, refl, sym, ◌∙◌, ap, subst, append_assoc, Option, None, Some, rules}
 use Rattle.std.specs.Prelude.{if◌then◌else◌, slice_get}
 use Rattle.std.proofs.lemmas.List.{append-nil, length-append, length-map}
 use Rattle.std.proofs.lemmas.List.Sums.{fold-append}
@@ -24,12 +24,7 @@ pub after_no_change : (w : World) → after w (no_change w) ≡ w
 after_no_change w = λ k. record w { rows = append-nil w.rows k }
 
 pub after_followed : (w : World) (r s : Reply) → after w (followed r s) ≡ after (after w r) s
-after_followed w r s = λ k. record {
-  book = s.book;
-  count = w.count;
-  solos = λ i. absorb-append (w.solos i) (r.items i) (s.items i) k;
-  rows = sym (append_assoc w.rows r.rows s.rows) k;
-}
+after_followed w r s = search (rules, absorb-append, append_assoc)
 
 pub in_turn_is_each : InTurnIsEach
 in_turn_is_each w [] = after_no_change w
@@ -187,10 +182,7 @@ next_moment system t k = let w = world_after system t in more_phases (next_phase
 
 -- the world after a tick is that behind its last phase
 pub tick_moment : (system : System) (t : ℕ) → is_idle_book (world_after system t).book ≡ false → world_after system (suc t) ≡ moment system t (phases_in system t)
-tick_moment system t busy =
-    let w = world_after system t in
-    let phases = next_phases system.schedule w in
-    ap (λ (idle : Bool). if idle then w else run_phases w phases) busy ∙ ap (run_phases w) (sym (take-length phases))
+tick_moment system t busy = search (rules, take-length)
 
 -- Each phase of a tick is an event, a taking, the end of deadlines, the turn, the step or the timer.
 one : (P : (World → Reply) → Type 0) (p q : World → Reply) → P p → Some p ≡ Some q → P q

@@ -1,5 +1,6 @@
 -- What rows that are written do to the balance.
-use Rattle.std.proofs.Common.{arith, refl, sym, ap, subst, ◌∙◌, ◌≡◌, ◌<◌, ◌+◌, ◌-◌, ℕ, zero, suc, List, [], ◌∷◌, ◌++◌, Bool, true, false, cond, inl, inr, Option, None, Some, append_assoc}
+use Rattle.std.proofs.lemmas.Grind.{common_steps}
+use Rattle.std.proofs.Common.{arith, refl, sym, ap, subst, ◌∙◌, ◌≡◌, ◌<◌, ◌+◌, ℕ, zero, suc, List, [], ◌∷◌, ◌++◌, Bool, true, false, cond, inl, inr, Option, append_assoc, rules}
 use Rattle.std.specs.Prelude.{count_by}
 use Rattle.std.proofs.lemmas.Bool.{cases_eq, cond_both, eq-eqb, ne_eqb}
 use Rattle.std.proofs.lemmas.List.{append-nil}
@@ -7,7 +8,7 @@ use Rattle.std.proofs.lemmas.List.Sums.{sum_by_push}
 use Rattle.kernel_journal.specs.declared.row.Row.{Row}
 use Rattle.kernel_journal.specs.declared.row.Row.TheVariants as row
 use Rattle.world_model.specs.declared.slot.Hold.{Hold}
-use Rattle.world_model.specs.Book.{has_part, lowered, hold_without}
+use Rattle.world_model.specs.Book.{lowered}
 use Rattle.run_model.specs.Excess.{AreLawfulAfter, IsLawful, Lives, is_over_of, is_pay_of, overs, pays}
 use Rattle.world_model.specs.Table.{set_at}
 use Rattle.world_model.specs.Death.{released_row, released_rows}
@@ -27,10 +28,7 @@ pub adds_none : (w : World) (before : List Row) (excess : ℕ → ℕ) → Balan
 adds_none w before excess balanced = record { lawful = tt; balanced = rw (append-nil before) balanced }
 
 pub adds_row : (w : World) (before rows : List Row) (r : Row) (excess : ℕ → ℕ) → IsLawful before r → Adds w (before ++ r ∷ []) rows excess → Adds w before (r ∷ rows) excess
-adds_row w before rows r excess lawful adds = record {
-  lawful = (lawful, adds.lawful);
-  balanced = subst (λ (all : List Row). Balances w all excess) (append_assoc before (r ∷ []) rows) adds.balanced;
-}
+adds_row w before rows r excess lawful adds = search (rules, append_assoc)
 
 -- rows that are lawful after others are so in two parts
 pub lawful_both : (before xs ys : List Row) → AreLawfulAfter before xs → AreLawfulAfter (before ++ xs) ys → AreLawfulAfter before (xs ++ ys)
@@ -56,17 +54,14 @@ pub quiet_own : (t k : ℕ) (owner holder : Option ℕ) → IsQuiet (row.Own t k
 quiet_own t k owner holder = record { no_over = λ e. refl; no_pay = λ e. refl; lawful = λ before. tt }
 
 pub quiet_slot : (t k : ℕ) (hold : Option Hold) → IsQuiet (slot_row t k hold)
-quiet_slot t k None = quiet_own t k None None
-quiet_slot t k (Some hold) = quiet_own t k (Some hold.owner) (Some hold.holder)
+quiet_slot t k hold = search (rules, quiet_own)
 
 pub quiet_both : (xs ys : List Row) → AreQuiet xs → AreQuiet ys → AreQuiet (xs ++ ys)
 quiet_both [] ys first second = second
 quiet_both (x ∷ xs) ys (quiet, rest) second = (quiet, quiet_both xs ys rest second)
 
 quiet_released : (t e k : ℕ) (hold : Option Hold) → AreQuiet (released_row t e k hold)
-quiet_released t e k hold =
-    let left = hold_without e hold in
-    cond_both (has_part e hold) (slot_row t k left ∷ []) [] AreQuiet (λ part. (quiet_slot t k left, tt)) (λ none. tt)
+quiet_released t e k hold = search (rules, cond_both, quiet_slot)
 
 pub quiet_releases : (t e : ℕ) (slots : ℕ → Option Hold) (count : ℕ) → AreQuiet (released_rows t e slots count)
 quiet_releases t e slots zero = tt
@@ -75,8 +70,7 @@ quiet_releases t e slots (suc k) = quiet_both (released_rows t e slots k) (relea
 -- a row that counts for nobody leaves the balance
 same_balance : (w : World) (before : List Row) (r : Row) (excess : ℕ → ℕ) → ((e : ℕ) → is_over_of e r ≡ false) → ((e : ℕ) → is_pay_of e r ≡ false) → Balances w before excess
     → Balances w (before ++ r ∷ []) excess
-same_balance w before r excess no_over no_pay balanced e lives =
-    omega (arith, balanced e lives, count_more (is_over_of e) before r false (no_over e), count_more (is_pay_of e) before r false (no_pay e))
+same_balance w before r excess no_over no_pay balanced e lives = search (rules, count_more)
 
 pub adds_quiet : (w : World) (before rows : List Row) (excess : ℕ → ℕ) → AreQuiet rows → Balances w before excess → Adds w before rows excess
 adds_quiet w before [] excess quiet balanced = adds_none w before excess balanced
@@ -85,9 +79,7 @@ adds_quiet w before (r ∷ rows) excess (quiet, rest) balanced =
 
 -- a run of one who owes nothing
 pub adds_run : (w : World) (before : List Row) (t k e : ℕ) (excess : ℕ → ℕ) → Lives w e → excess e ≡ 0 → Balances w before excess → Adds w before (row.Run t k e ∷ []) excess
-adds_run w before t k e excess lives free balanced =
-    adds_row w before [] (row.Run t k e) excess (omega (arith, balanced e lives))
-    (adds_none w (before ++ row.Run t k e ∷ []) excess (same_balance w before (row.Run t k e) excess (λ i. refl) (λ i. refl) balanced))
+adds_run w before t k e excess lives free balanced = search (rules, adds_row, adds_none, same_balance)
 
 set_own : {A : Type 0} (n : ℕ) (x : A) (f : ℕ → A) (i : ℕ) → i ≡ n → set_at n x f i ≡ x
 set_own n x f i same = rw (eq-eqb i n same)
@@ -98,24 +90,7 @@ set_other n x f i other = rw (ne_eqb i n other)
 -- a forfeit of one who owes
 pub adds_pay : (w : World) (before rows : List Row) (t k e : ℕ) (excess left : ℕ → ℕ) → Lives w e → 0 < excess e → Balances w before excess
     → (Balances w (before ++ row.Pay t k e ∷ []) (lowered e excess) → Adds w (before ++ row.Pay t k e ∷ []) rows left) → Adds w before (row.Pay t k e ∷ rows) left
-adds_pay w before rows t k e excess left lives owes balanced rest =
-    adds_row w before rows (row.Pay t k e) left (omega (arith, balanced e lives)) (rest paid)
-  where
-    paid : Balances w (before ++ row.Pay t k e ∷ []) (lowered e excess)
-    paid i alive =
-        let was = balanced i alive in
-        let overs_same = count_more (is_over_of i) before (row.Pay t k e) false refl in
-        elim (cases_eq i e) [
-          | inl same ↦
-              let one_more = count_more (is_pay_of i) before (row.Pay t k e) true (eq-eqb e i (sym same)) in
-              let fallen = set_own e (excess e - 1) excess i same in
-              let as_much : excess i ≡ excess e = ap excess same in
-              omega arith
-          | inr other ↦
-              let pays_same = count_more (is_pay_of i) before (row.Pay t k e) false (ne_eqb e i (λ (same : e ≡ i). other (sym same))) in
-              let kept = set_other e (excess e - 1) excess i other in
-              omega arith
-        ]
+adds_pay w before rows t k e excess left lives owes balanced rest = grind (arith, common_steps, adds_row, count_more, set_own, set_other)
 
 -- a quantum that was run past a slice
 pub adds_over : (w : World) (before rows : List Row) (t k e : ℕ) (excess : ℕ → ℕ) → Lives w e → AreQuiet rows → Balances w before excess

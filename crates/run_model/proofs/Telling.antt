@@ -1,12 +1,11 @@
 -- What an environment is told, and that a call leaves it as it is until it is answered.
-use Rattle.std.proofs.Common.{◌≡◌, ◌≢◌, ℕ, [], ◌∷◌, Bool, true, false, Option, Some, None, refl, sym, ◌∙◌, ap, subst}
+use Rattle.std.proofs.Common.{◌≡◌, ◌≢◌, ℕ, [], ◌∷◌, Bool, true, false, Option, refl, sym, ◌∙◌, ap, subst, rules}
 use Rattle.std.specs.Prelude.{◌==◌, if◌then◌else◌}
 use Rattle.std.proofs.lemmas.Bool.{cond_both, eq-eqb, eqb-true, ne_eqb}
 use Rattle.std.proofs.lemmas.List.{append-nil}
 use Rattle.mips_exec.specs.declared.registers.Cpu.{Cpu}
 use Rattle.mips_exec.specs.declared.exception.Exc.{Exc}
-use Rattle.mips_exec.specs.Cpu.{reg}
-use Rattle.mips_exec.specs.Step.{Step as MachineStep, Retired, Called, Trapped, cpu_after}
+use Rattle.mips_exec.specs.Step.{Step as MachineStep, cpu_after}
 use Rattle.world_model.specs.declared.call.Call.{Call}
 use Rattle.world_model.specs.declared.life.Cause.TheVariants as cause
 use Rattle.world_model.specs.declared.verdict.Verdict.TheVariants.{Grant}
@@ -16,9 +15,9 @@ use Rattle.world_model.specs.May.{May}
 use Rattle.world_model.specs.Verdict.{verdict}
 use Rattle.call_verdicts.specs.Granted.{GrantedMay}
 use Rattle.run_model.specs.Acting.{Acts, Does}
-use Rattle.world_model.specs.Solo.{Solo, Store, is_dead, store_of}
-use Rattle.world_model.specs.Call.{called, exit_number}
-use Rattle.world_model.specs.Step.{Act, Calls, Raises, Dies, act_at_call, act_of, acted, step_alone, stepped, store_act, trap_act}
+use Rattle.world_model.specs.Solo.{Solo, Store, is_dead}
+use Rattle.world_model.specs.Call.{called}
+use Rattle.world_model.specs.Step.{Act, Calls, Raises, Dies, act_at_call, act_of, step_alone, stepped, store_act, trap_act}
 use Rattle.world_model.specs.Tick.{act_now}
 use Rattle.world_model.specs.World.{World, after, tells}
 
@@ -31,35 +30,27 @@ told_other w e item i other = ap (λ (mine : Bool). absorb_all (w.solos i) (if m
 
 -- neither a store nor a trap is a call
 pub store_calls_not : (x : Option Store) (c : Option Call) → store_act x ≡ Calls c → ⊥
-store_calls_not None c is = cc
-store_calls_not (Some x) c is = cc
+store_calls_not x c is = search rules
 
 pub trap_calls_not : (handler : ℕ) (exc : Exc) (c : Option Call) → trap_act handler exc ≡ Calls c → ⊥
 trap_calls_not handler exc c = cond_both (handler == 0) (Dies (cause.Trapped exc.code)) (Raises exc) (λ (act : Act). act ≡ Calls c → ⊥) (λ none is. cc) (λ handles is. cc)
 
 -- a call is that which the registers name
 call_names : (cpu : Cpu) (c : Option Call) (exits : Bool) → act_at_call cpu exits ≡ Calls c → called cpu ≡ c
-call_names cpu c true is = cc
-call_names cpu c false is = cc
+call_names cpu c exits is = search rules
 
 step_names : (s : Solo) (st : MachineStep) (c : Option Call) → act_of s st ≡ Calls c → called s.cpu ≡ c
-step_names s (Retired cpu write) c is = absurd (store_calls_not (store_of s write) c is)
-step_names s Called c is = call_names s.cpu c (reg s.cpu 2 == exit_number) is
-step_names s (Trapped exc) c is = absurd (trap_calls_not s.handlers.exception exc c is)
+step_names s st c is = search (rules, store_calls_not, call_names, trap_calls_not)
 
 pub call_named : (w : World) (e : ℕ) (c : Option Call) → act_now w e ≡ Calls c → called (w.solos e).cpu ≡ c
 call_named w e c is = let s = w.solos e in step_names s (step_alone s) c is
 
 -- a call leaves its caller's registers
 call_cpu : (s : Solo) (st : MachineStep) (c : Option Call) → act_of s st ≡ Calls c → cpu_after s.cpu st ≡ s.cpu
-call_cpu s (Retired cpu write) c is = absurd (store_calls_not (store_of s write) c is)
-call_cpu s Called c is = refl
-call_cpu s (Trapped exc) c is = refl
+call_cpu s st c is = search (rules, store_calls_not)
 
 call_stepped : (s : Solo) (c : Option Call) → act_of s (step_alone s) ≡ Calls c → stepped s (step_alone s) ≡ s
-call_stepped s c is =
-    ap (λ (act : Act). acted act (record s { cpu = cpu_after s.cpu (step_alone s) })) is
-    ∙ ap (λ (cpu : Cpu). record s { cpu = cpu }) (call_cpu s (step_alone s) c is)
+call_stepped s c is = search (rules, call_cpu)
 
 call_absorbed : (s : Solo) (c : Option Call) → act_of s (step_alone s) ≡ Calls c → absorb s Step ≡ s
 call_absorbed s c is = cond_both (is_dead s.life) s (stepped s (step_alone s)) (λ (t : Solo). t ≡ s) (λ gone. refl) (λ lives. call_stepped s c is)
