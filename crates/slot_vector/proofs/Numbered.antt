@@ -1,7 +1,7 @@
 -- The environments that slots name have numbers below most_numbers, and keep them.
-use Rattle.std.proofs.Common.{inl, inr, ◌<◌, ℕ, List, Option, None, Some, IfSome, map, get_or, All}
+use Rattle.std.proofs.Common.{◌<◌, ℕ, List, Option, None, Some, IfSome, map, get_or, All, arith}
 use Rattle.std.specs.Option.{option_map}
-use Rattle.std.proofs.lemmas.Bool.{cases_eq, eq-eqb, ne_eqb}
+use Rattle.std.proofs.lemmas.Grind.{common_steps}
 use Rattle.std.proofs.lemmas.List.Elements.{All-map}
 use Rattle.world_model.specs.declared.slot.Hold.{Hold}
 use Rattle.world_model.specs.Book.{own_hold, hold_without}
@@ -16,14 +16,7 @@ owners_numbered owners below = All-map IsNumbered (option_map own_hold) owners (
 
 released_numbered : (e : ℕ) (slot : Option Hold) → IsNumbered slot → IsNumbered (hold_without e slot)
 released_numbered e None numbered = tt
-released_numbered e (Some hold) numbered =
-    elim (cases_eq hold.owner e) [
-      | inl owns ↦ rw (eq-eqb hold.owner e owns) tt
-      | inr other ↦ elim (cases_eq hold.holder e) [
-        | inl holds ↦ rw (ne_eqb hold.owner e other, eq-eqb hold.holder e holds) (numbered.0, numbered.0)
-        | inr apart ↦ rw (ne_eqb hold.owner e other, ne_eqb hold.holder e apart) numbered
-      ]
-    ]
+released_numbered e (Some hold) numbered = grind (arith, common_steps)
 
 pub slots_numbered : (e : ℕ) (slots : List (Option Hold)) → All IsNumbered slots → All IsNumbered (map (hold_without e) slots)
 slots_numbered e slots numbered = All-map IsNumbered (hold_without e) slots (λ k d within. released_numbered e (get_or slots k d) (numbered k d within))

@@ -1,7 +1,6 @@
 -- What the holders owe, and how a forfeit lowers it.
-use Rattle.std.proofs.Common.{arith, ap, ◌∙◌, inl, inr, ◌≡◌, ◌≢◌, ◌<◌, ℕ, List, length, Option, Some, slice_set, get_or-set_same, get_or-set_other}
-use Rattle.std.proofs.lemmas.Bool.{cases_eq, cases_lt, eq-eqb, ne_eqb}
-use Rattle.std.proofs.lemmas.List.{get_or_past}
+use Rattle.std.proofs.Common.{arith, ap, ◌∙◌, ◌≡◌, ◌≢◌, ◌<◌, ℕ, List, length, Option, Some, slice_set}
+use Rattle.std.proofs.lemmas.Grind.{common_steps}
 use Rattle.world_model.specs.declared.slot.Hold.{Hold}
 use Rattle.world_model.specs.declared.slot.Turn.{Turn}
 use Rattle.world_model.specs.Table.{set_at}
@@ -12,22 +11,14 @@ use Rattle.slot_vector.proofs.Around.{turn_held}
 
 -- an excess once that of one environment is another
 excess_at : (all : List ℕ) (e excess : ℕ) → e < length all → (i : ℕ) → excess_of (slice_set all e excess) i ≡ set_at e excess (excess_of all) i
-excess_at all e excess within i =
-    elim (cases_eq i e) [
-      | inl same ↦ rw (eq-eqb i e same, same) (get_or-set_same all e excess 0 within)
-      | inr other ↦ rw (ne_eqb i e other) (get_or-set_other all e i excess 0 other)
-    ]
+excess_at all e excess within i = grind (arith, common_steps)
 
 pub excess_set : (all : List ℕ) (e excess : ℕ) → e < length all → excess_of (slice_set all e excess) ≡ set_at e excess (excess_of all)
 excess_set all e excess within = λ i k. excess_at all e excess within k i
 
 -- who owes is one of those who have an excess
 pub owes_within : (all : List ℕ) (e : ℕ) → excess_of all e ≢ 0 → e < length all
-owes_within all e owes =
-    elim (cases_lt e (length all)) [
-      | inl below ↦ below
-      | inr past ↦ absurd (owes (get_or_past all e 0 past))
-    ]
+owes_within all e owes = grind (arith, common_steps)
 
 -- With the forfeit of a slot the holders owe less.
 pub forfeit_falls : (excess : ℕ → ℕ) (slots : ℕ → Option Hold) (count cursor : ℕ) (t : Turn) → first_turn slots count cursor count ≡ Some t → excess t.env ≢ 0 → owed (lowered t.env excess) slots count < owed excess slots count

@@ -1,6 +1,7 @@
 -- The whole turn, which is told at once, taken by what comes next, again and again.
 use Rattle.std.proofs.Common.{arith, refl, ap, sym, ◌∙◌, inl, inr, ◌≡◌, ◌≢◌, ◌<◌, ◌+◌, ◌-◌, ℕ, zero, suc, [], length, Option, None, Some, IsSome, slice_set}
 use Rattle.std.specs.Prelude.{◌↔◌}
+use Rattle.std.proofs.lemmas.Grind.{common_steps}
 use Rattle.std.proofs.lemmas.Bool.{cases_eq, eq-eqb, ne_eqb}
 use Rattle.std.proofs.lemmas.List.Sums.{sum_by-set}
 use Rattle.world_model.specs.declared.slot.Hold.{Hold}
@@ -15,33 +16,15 @@ use Rattle.slot_vector.proofs.Owed.{excess_set, owes_within, forfeit_falls}
 -- what came next tells whose turn is next, and whether it owes
 pub paid_is : (excess : ℕ → ℕ) (held : Option Turn) (t : Turn) → turn_of excess held ≡ next.Pay t → (held ≡ Some t) × (excess t.env ≢ 0)
 paid_is excess None t is = absurd (cc)
-paid_is excess (Some u) t is =
-    elim (cases_eq (excess u.env) 0) [
-      | inl free ↦ let other : next.Run u ≡ next.Pay t = rw (eq-eqb (excess u.env) 0 free) at is in absurd (cc)
-      | inr owes ↦
-          let paid : next.Pay u ≡ next.Pay t = rw (ne_eqb (excess u.env) 0 owes) at is in
-          let same : u ≡ t = cc in
-          (ap (λ (x : Turn). Some x) same, λ free. owes (ap (λ (x : Turn). excess x.env) same ∙ free))
-    ]
+paid_is excess (Some u) t is = (grind (arith, common_steps), grind (arith, common_steps))
 
 pub ran_is : (excess : ℕ → ℕ) (held : Option Turn) (t : Turn) → turn_of excess held ≡ next.Run t → (held ≡ Some t) × (excess t.env ≡ 0)
 ran_is excess None t is = absurd (cc)
-ran_is excess (Some u) t is =
-    elim (cases_eq (excess u.env) 0) [
-      | inl free ↦
-          let ran : next.Run u ≡ next.Run t = rw (eq-eqb (excess u.env) 0 free) at is in
-          let same : u ≡ t = cc in
-          (ap (λ (x : Turn). Some x) same, ap (λ (x : Turn). excess x.env) (sym same) ∙ free)
-      | inr owes ↦ let other : next.Pay u ≡ next.Run t = rw (ne_eqb (excess u.env) 0 owes) at is in absurd (cc)
-    ]
+ran_is excess (Some u) t is = (grind (arith, common_steps), grind (arith, common_steps))
 
 pub idle_is : (excess : ℕ → ℕ) (held : Option Turn) → turn_of excess held ≡ next.Idle → held ≡ None
 idle_is excess None is = refl
-idle_is excess (Some u) is =
-    elim (cases_eq (excess u.env) 0) [
-      | inl free ↦ let other : next.Run u ≡ next.Idle = rw (eq-eqb (excess u.env) 0 free) at is in absurd (cc)
-      | inr owes ↦ let other : next.Pay u ≡ next.Idle = rw (ne_eqb (excess u.env) 0 owes) at is in absurd (cc)
-    ]
+idle_is excess (Some u) is = grind (arith, common_steps)
 
 -- a turn, by whose the first slot is and what it owes
 told_paid : (slots : ℕ → Option Hold) (count n cursor : ℕ) (excess : ℕ → ℕ) (t : Turn) → first_turn slots count cursor count ≡ Some t → excess t.env ≢ 0
@@ -58,13 +41,7 @@ same_told : (slots : ℕ → Option Hold) (count n m cursor : ℕ) (excess : ℕ
     → ((place : ℕ) (left : ℕ → ℕ) → owed left slots count < n → owed left slots count < m → told_turn slots count n place left ≡ told_turn slots count m place left)
     → told_at (told_turn slots count n) cursor excess t ≡ told_at (told_turn slots count m) cursor excess t
 same_told slots count n m cursor excess None found enough plenty same = refl
-same_told slots count n m cursor excess (Some t) found enough plenty same =
-    elim (cases_eq (excess t.env) 0) [
-      | inl free ↦ rw (eq-eqb (excess t.env) 0 free) refl
-      | inr owes ↦
-          let falls = forfeit_falls excess slots count cursor t found owes in
-          rw (ne_eqb (excess t.env) 0 owes) (ap (pays_first t) (same t.slot (lowered t.env excess) (omega (arith, falls)) (omega (arith, falls))))
-    ]
+same_told slots count n m cursor excess (Some t) found enough plenty same = grind (arith, common_steps, (forfeit_falls excess slots count cursor t), (same t.slot (lowered t.env excess)))
 
 pub enough_fuel : (slots : ℕ → Option Hold) (count n m cursor : ℕ) (excess : ℕ → ℕ) → owed excess slots count < n → owed excess slots count < m → told_turn slots count n cursor excess ≡ told_turn slots count m cursor excess
 enough_fuel slots count zero m cursor excess enough plenty = absurd (omega arith)
