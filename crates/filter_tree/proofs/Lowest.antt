@@ -1,10 +1,9 @@
 -- The lowest number of the claims that pass a test.
-use Rattle.std.proofs.Common.{◌≡◌, ℕ, suc, ◌≤◌, Bool, true, false, not, List, [], ◌∷◌, ◌++◌, Option, Some, None, refl, sym, ap, ◌∙◌, arith}
+use Rattle.std.proofs.Common.{◌≡◌, ℕ, suc, Bool, true, false, not, List, [], ◌∷◌, ◌++◌, Option, Some, None, refl, sym, ap, ◌∙◌, arith}
 use Rattle.std.specs.List.{list_all}
 use Rattle.std.specs.Prelude.{◌&&◌, filter, find, map}
 use Rattle.std.specs.Option.{option_map}
 use Rattle.std.proofs.lemmas.Grind.{common_steps}
-use Rattle.std.proofs.lemmas.Bool.{le-leb}
 use Rattle.filter_tree.specs.ClaimBook.{ClaimValue, RowValue, are_numbered, claim_in}
 use Rattle.filter_tree.specs.Tree.{lower, lowest, number_if, planted}
 use Rattle.filter_tree.proofs.Numbers.{above}
@@ -12,10 +11,6 @@ use Rattle.filter_tree.proofs.Numbers.{above}
 pub lower_none : (a : Option ℕ) → lower a None ≡ a
 lower_none None = refl
 lower_none (Some a) = refl
-
--- the lower of two numbers, by cases
-pub lower_left : (a b : ℕ) → a ≤ b → lower (Some a) (Some b) ≡ Some a
-lower_left a b below = rw (le-leb a b below) refl
 
 pub lower_swap : (a b : Option ℕ) → lower a b ≡ lower b a
 lower_swap None b = sym (lower_none b)
