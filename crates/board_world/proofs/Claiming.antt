@@ -5,7 +5,7 @@ use Rattle.std.specs.List.{list_all}
 use Rattle.std.proofs.lemmas.Bool.{and_from, and_parts, cases_Bool, eq-eqb, eqb-false, eqb-true, ne_eqb, not-true}
 use Rattle.filter_tree.specs.ClaimBook.{ClaimBook, ClaimValue, RowValue, is_of_env}
 use Rattle.filter_tree.specs.Claims as book
-use Rattle.filter_tree.specs.Claims.{delivered, downloaded, is_into, is_numbered, without}
+use Rattle.filter_tree.specs.Claims.{delivered, downloaded, is_into, without}
 use Rattle.page_book.specs.declared.row.Capabilities.{Capabilities}
 use Rattle.page_book.specs.declared.row.PageRow.{PageRow}
 use Rattle.page_book.specs.declared.row.PageRow.TheVariants.{Free, Owned}

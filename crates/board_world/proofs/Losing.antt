@@ -23,7 +23,7 @@ use Rattle.world_model.specs.Solo.{Solo, Ring}
 use Rattle.board_world.specs.declared.roster.Environment.{Environment}
 use Rattle.board_world.specs.Rings.{rings_of}
 use Rattle.board_world.specs.Shown.{Shown, mappings_of}
-use Rattle.board_world.specs.Showing.{solo_of, solo_seen, cpu_seen, pages_seen}
+use Rattle.board_world.specs.Showing.{solo_of, cpu_seen, pages_seen}
 use Rattle.board_world.specs.Sound.{AreBooked, IsAlive, IsLive}
 use Rattle.board_world.proofs.Seen.{like_solo, stripe_of, live_shown}
 
@@ -110,9 +110,6 @@ pub record Drops (i : ℕ) (old new : Shown) (its : List Item) : Type 0 where
   pub nothing : HasNone i (row_in old.pages) (stripe_of old i) → its ≡ []
 
 module _ (i : ℕ) (old new : Shown) (its : List Item) (drops : Drops i old new its) where
-  abbrev live_solo : Shown → Environment → Solo
-  live_solo b x = record (solo_seen b i x) { life = Live }
-
   live_drops : (x : Environment) → slice_get old.roster.list i ≡ Some x → x.life ≡ Live → solo_of new i ≡ absorb_all (solo_of old i) its
   live_drops x at lives = search (rules, live_shown)
 

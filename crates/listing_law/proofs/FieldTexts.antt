@@ -5,7 +5,6 @@ use Rattle.mips_text.specs.declared.shape.Field.{Field}
 use Rattle.mips_text.specs.declared.shape.Field.TheVariants.{Amount, Signed, Unsigned, Code, Branch, Jump}
 use Rattle.mips_list.specs.WordText.{branch_target, field_text, jump_target}
 use Rattle.mips_asm.specs.Field as fields
-use Rattle.mips_asm.specs.Field.{aligned_target, distance, lies, ranged}
 use Rattle.listing_law.proofs.NumberTexts.{IsNumber, decimal_text, half_text_read, signed_text_read, signed_value, word_text_read}
 
 -- the number that is printed of a field

@@ -1,10 +1,7 @@
 -- Words stay words, and what a step writes is a write.
-use Rattle.std.proofs.Common.{◌≡◌, ℕ, Option, Some, None, Bool, [], ◌∷◌, Ok, Err, Result, ◌%◌, ◌<◌, ◌≤◌, ◌/◌, ◌^◌, arith, if◌then◌else◌, rules}
-use Rattle.std.specs.Prelude.{IfSome, get_or}
-use Rattle.std.specs.List.{All}
-use Rattle.std.specs.Int.{w32, to_le_bytes}
+use Rattle.std.proofs.Common.{◌≡◌, ℕ, Option, Some, None, Bool, Ok, Err, Result, ◌<◌, ◌≤◌, ◌^◌, arith, if◌then◌else◌, rules}
+use Rattle.std.specs.Prelude.{IfSome}
 use Rattle.std.proofs.lemmas.List.{length-set, length-take-le}
-use Rattle.std.proofs.lemmas.List.Elements.{All-take}
 use Rattle.mips_isa.specs.Encoding.{insn_of}
 use Rattle.mips_isa.specs.declared.insn.Insn.{Insn}
 use Rattle.mips_isa.specs.declared.insn.Insn.TheVariants.{Reserved}
@@ -13,7 +10,7 @@ use Rattle.mips_exec.specs.declared.exception.Exc.{Exc}
 use Rattle.mips_exec.specs.declared.reach.Spot.{Spot}
 use Rattle.mips_exec.specs.declared.reach.Access.{Access}
 use Rattle.mips_exec.specs.declared.reach.Access.TheVariants.{Load, Store}
-use Rattle.mips_exec.specs.Access.{access, Write, IsSpot, is_aligned, place_of, low_bytes}
+use Rattle.mips_exec.specs.Access.{access, Write, IsSpot, is_aligned, place_of}
 use Rattle.mips_exec.specs.declared.exception.ExcCode.TheVariants.{Ades}
 use Rattle.mips_exec.specs.Exception.{plain}
 use Rattle.mips_exec.specs.Word.{low_word}
@@ -45,13 +42,6 @@ StoreFits-access : (i : Insn) (c : Cpu) → IfSome (access i c) StoreFits
 unfolding access
 StoreFits-access (Reserved w) c = tt
 StoreFits-access _ c = search arith
-
--- four bytes, each below 256
-four_bytes : (a b c d k e : ℕ) → a < 2 ^ 8 → b < 2 ^ 8 → c < 2 ^ 8 → d < 2 ^ 8 → k < 4 → get_or (a ∷ b ∷ c ∷ d ∷ []) k e < 2 ^ 8
-four_bytes a b c d k e ha hb hc hd h = search rules
-
-All-low_bytes : (n v : ℕ) → All (λ b. b < 2 ^ 8) (low_bytes n v)
-All-low_bytes n v = All-take (λ b. b < 2 ^ 8) n (to_le_bytes w32 v) (λ k e h. four_bytes (v % 256) (v / 256 % 256) (v / 65536 % 256) (v / 16777216 % 256) k e (omega arith) (omega arith) (omega arith) (omega arith) h)
 
 -- what a step writes that has nothing to write
 nothing : (c : Cpu) (e : Change) (w : Write) → write_after (ended c e None) ≡ Some w → ⊥

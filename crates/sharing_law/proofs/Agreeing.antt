@@ -3,7 +3,7 @@ use Rattle.std.proofs.lemmas.Grind.{common_steps}
 use Rattle.std.proofs.Common.{◌≡◌, ◌≤◌, ℕ, zero, suc, ◌+◌, List, [], ◌∷◌, map, take, true, false, Option, Some, None, inl, inr, refl, sym, ◌∙◌, ap, subst, arith}
 use Rattle.std.proofs.lemmas.Bool.{both_ways}
 use Rattle.std.proofs.Math.Seq.{take-nil}
-use Rattle.std.specs.Prelude.{◌↔◌, slice_get}
+use Rattle.std.specs.Prelude.{◌↔◌}
 use Rattle.boot_image.specs.ImageValue.{ImageValue, ProgramValue, guaranteed_mappings}
 use Rattle.page_book.specs.declared.row.PageRow.{PageRow}
 use Rattle.page_book.specs.declared.row.PageRow.TheVariants.{Free}
@@ -90,9 +90,6 @@ blank e None = record { binds = λ row. refl; seen = λ page. refl; rings = refl
 blank e (Some p) = record { binds = λ row. refl; seen = λ page. refl; rings = refl }
 
 module _ (image : ImageValue) where
-  booted : (e : ℕ) → IsBlank ((boot_world image).solos e)
-  booted e = blank e (slice_get image.programs e)
-
   book_fresh : IsFresh (boot_world image).book
   book_fresh = fresh_kept 0 image.programs (boot_book image.pages image.quantum image.slots) (record {
     pages = record { owns = λ i page. refl; behind = λ page more. refl };

@@ -80,9 +80,6 @@ module _ (b : Book) (c : ClaimValue) (owned : is_owned_by c.env (b.pages c.page)
   other_number : (d : ClaimValue) → Has b.claims d → is_numbered c.id d ≡ false
   other_number d its = ne_eqb d.id c.id (λ same. absurd (omega (arith, (good.each d its).below, next, same)))
 
-  swapped : (d : ClaimValue) → AreApart c d → AreApart d c
-  swapped d is other = elim (is (λ same. other (sym same))) [ inl apart ↦ inr apart | inr apart ↦ inl apart ]
-
   more_apart : (x y : ClaimValue) → Has b.claims x ⊎ (c ≡ x) → Has b.claims y ⊎ (c ≡ y) → AreApart x y
   more_apart x y its others = grind (arith, common_steps)
 
