@@ -154,7 +154,12 @@ built_sound pages quantum envs owners cpu ledger few long slots most all = recor
   books = built_booked pages envs;
   lines = built_wired;
   claims = record { owned = refl; count = omega arith };
-  revocations = record { pending = length-replicate most_asked no_pending; backups = length-replicate most_asked no_backups; some = λ e. subst (λ pending. IfSome pending (λ p. 0 < p.outstanding)) (sym (all_alike no_pending most_asked e)) tt; owned = λ e page loaded. let none : true ≡ false = sym loaded ∙ ap (λ backups. is_loaded backups page) (all_alike no_backups most_asked e) in cc };
+  revocations = record {
+    pending = length-replicate most_asked no_pending;
+    backups = length-replicate most_asked no_backups;
+    some = λ e. subst (λ pending. IfSome pending (λ p. 0 < p.outstanding)) (sym (all_alike no_pending most_asked e)) tt;
+    owned = λ e page loaded. let none : true ≡ false = sym loaded ∙ ap (λ backups. is_loaded backups page) (all_alike no_backups most_asked e) in cc;
+  };
 }
 
 -- Pages are given to the environment that is added.
