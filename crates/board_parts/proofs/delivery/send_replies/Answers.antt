@@ -1,9 +1,8 @@
 -- One reply more is sent.
-use Rattle.std.proofs.Common.{◌≡◌, ℕ, List, [], ◌∷◌, ◌++◌, ◌+◌, length, take, arith, ap, sym, ◌∙◌}
+use Rattle.std.proofs.Common.{◌≡◌, [], ◌∷◌, ◌++◌, ◌+◌, length, take, arith, ap, sym, ◌∙◌, refl}
 use Rattle.std.proofs.lemmas.List.{take_more}
 use Rattle.std.proofs.Math.Seq.{take_all}
-use Rattle.board_world.specs.declared.roster.Environment.{Environment}
-use Rattle.board_world.specs.Shown.{Environments, changed, with_list}
+use Rattle.board_world.specs.Shown.{Environments}
 use Rattle.board_world.specs.Doing.{with_replies_sent}
 use Rattle.board_world.proofs.Lists.{length-changed}
 use Rattle.board_world.proofs.Sending.{replying_twice}
@@ -15,16 +14,11 @@ reply-requires-in-loop-n-clause-there c = omega (arith, c.requires, ap (λ (r : 
 pub loop-n-preserved : goal.loop-n-preserved
 loop-n-preserved c =
     let replies = c.args.replies.now in
-    let list = c.args.roster.now.list in
-    let e = c.args.env in
     let n = c.loop-n.n in
-    let more : take n replies ++ c.reply.result.now ∷ [] ≡ take (n + 1) replies =
+    let reply = c.reply.result.now in
+    let more : take n replies ++ reply ∷ [] ≡ take (n + 1) replies =
     (λ k. take n replies ++ c.reply.ensures.bytes k ∷ []) ∙ sym (take_more replies n [] (omega (arith, c.loop-n-test.true, c.count-n-end.ensures.count))) in
-    c.reply-in-loop-n.ensures
-    ∙ ap (λ (r : Environments). with_list r (changed (with_replies_sent (c.reply.result.now ∷ [])) r.list e)) c.loop-n.invariant
-    ∙ ap (λ (xs : List Environment). with_list c.args.roster.now xs) (replying_twice (take n replies) (c.reply.result.now ∷ []) list e ∙ ap (λ (all : List (List ℕ)). changed (with_replies_sent all) list e) more)
+    rw (c.reply-in-loop-n.ensures, c.loop-n.invariant, replying_twice (take n replies) (reply ∷ []) c.args.roster.now.list c.args.env, more) refl
 
 pub returns : goal.returns
-returns c =
-    c.loop-n.invariant
-    ∙ ap (λ (all : List (List ℕ)). with_list c.args.roster.now (changed (with_replies_sent all) c.args.roster.now.list c.args.env)) (take_all c.loop-n.n c.args.replies.now (omega (arith, c.loop-n-test.false, c.count-n-end.ensures.count)))
+returns c = rw (c.loop-n.invariant, take_all c.loop-n.n c.args.replies.now (omega (arith, c.loop-n-test.false, c.count-n-end.ensures.count))) refl

@@ -1,8 +1,7 @@
 -- One row more, where the mask names the slot.
-use Rattle.std.proofs.Common.{arith, ap, ◌∙◌}
-use Rattle.kernel_journal.specs.Ledger.{Ledger, with_row}
+use Rattle.std.proofs.Common.{arith, ap}
+use Rattle.kernel_journal.specs.Ledger.{Ledger}
 use Rattle.slot_vector.specs.Slices.{hold_at}
-use Rattle.world_model.specs.SlotCalls.{slot_row}
 use Rattle.board_world.proofs.Masks.{named_on, unnamed_on, left_on}
 use Rattle.board_parts.proofs.slot_rows.push_slots.Goals as goal
 use Rattle.board_parts.proofs.slot_rows.push_slots.Goals.{then-rest-eq1, else-rest-eq1}
@@ -16,16 +15,12 @@ loop-slot-preserved c =
     let left = left_on c.args.mask k c.loop-slot.rest so_far.rest in
     elim c.if-rest-eq1.branch [
       | then-rest-eq1 w ↦ record {
-        rows =
-            w.journal-is
-            ∙ w.push_slot.ensures
-            ∙ ap (λ (l : Ledger). with_row l (slot_row c.args.time k (slots k))) so_far.rows
-            ∙ named_on j c.args.time c.args.mask slots k c.loop-slot.rest so_far.rest w.if-rest-eq1.true;
+        rows = rw (w.journal-is, w.push_slot.ensures, so_far.rows) (named_on j c.args.time c.args.mask slots k c.loop-slot.rest so_far.rest w.if-rest-eq1.true);
         room = omega (arith, ap (λ (l : Ledger). l.spare) w.journal-is, ap (λ (l : Ledger). l.spare) w.push_slot.ensures, so_far.room);
         rest = left;
       }
       | else-rest-eq1 w ↦ record {
-        rows = w.journal-is ∙ so_far.rows ∙ unnamed_on j c.args.time c.args.mask slots k c.loop-slot.rest so_far.rest w.if-rest-eq1.false;
+        rows = rw (w.journal-is, so_far.rows) (unnamed_on j c.args.time c.args.mask slots k c.loop-slot.rest so_far.rest w.if-rest-eq1.false);
         room = omega (arith, ap (λ (l : Ledger). l.spare) w.journal-is, so_far.room);
         rest = left;
       }
