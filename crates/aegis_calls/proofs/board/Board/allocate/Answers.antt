@@ -4,7 +4,6 @@ use Rattle.frame_store.specs.Pages.{zero_page}
 use Rattle.page_book.specs.declared.refusal.PageNo.{PageNo}
 use Rattle.page_book.specs.declared.row.PageRow.TheVariants.{Owned}
 use Rattle.page_book.specs.Rows.{changed_unless, row_in}
-use Rattle.world_model.specs.Book.{running}
 use Rattle.world_model.specs.May.{MayAllocate}
 use Rattle.board_world.specs.Shown.{Shown}
 use Rattle.board_world.specs.Showing.{book_of}
@@ -12,9 +11,9 @@ use Rattle.board_world.proofs.Allowed.{allocable, free_to_all}
 use Rattle.board_world.proofs.Booked.{owned_booked}
 use Rattle.board_world.proofs.Claiming.{allocated_claimed}
 use Rattle.board_world.proofs.Parted.{page_parted, row_parted}
-use Rattle.board_world.proofs.Sound.{runner_alive}
 use Rattle.board_world.proofs.Asked.{allocated_asked}
 use Rattle.board_world.proofs.Staying.{sound_memory}
+use Rattle.aegis_calls.proofs.Runner.{runner_live}
 use Rattle.aegis_calls.proofs.board.Board.allocate.Goals as goal
 
 pub invariant_of-self : goal.invariant_of-self
@@ -24,7 +23,7 @@ invariant_of-self c =
     let page = c.args.page in
     let row = Owned e c.args.words in
     let may = subst (λ (s : Shown). MayAllocate (book_of s) page) (sym c.self.view_is) c.requires.may in
-    let lives = runner_alive b.slots b.roster e c.self.invariant.book (ap (λ (s : Shown). running s.slots.runner) c.self.view_is ∙ c.requires.runs) in
+    let lives = runner_live c.self.view_is c.self.invariant c.requires.runs in
     let taken = c.alloc_at.ensures.after ∙ ap (λ (why : Option PageNo). changed_unless why b.pages page row) (allocable b.pages page may.there may.free) in
     rw (c.zero.ensures, taken)
     (sound_memory _ _ b.bindings b.claims b.revocations

@@ -29,14 +29,12 @@ delivered_sound b c packet same sound = by_handler (claim_handler b.claims c.id)
 
 pub deliver-requires : goal.deliver-requires
 deliver-requires c =
-    let i = c.self.inside in
-    let b = shown i.frames i.pages i.bindings i.lines i.claims i.revocations i.slots i.cpu i.roster i.time i.journal in
     let claim = c.in-Some.claim in
-    let there = claim_there b c.of-packet.result claim c.self.invariant (sym c.claim_for.ensures ∙ c.in-Some.is) in
+    let there = claim_there _ c.of-packet.result claim c.self.invariant (sym c.claim_for.ensures ∙ c.in-Some.is) in
     record {
       ring = there.1;
       there = there.0.0;
-      page = context_there i.frames i.pages i.roster.list c.self.invariant.memory claim.env;
+      page = context_there _ _ _ c.self.invariant.memory claim.env;
     }
 
 pub invariant_of-self : goal.invariant_of-self

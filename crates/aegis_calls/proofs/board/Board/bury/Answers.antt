@@ -1,6 +1,6 @@
 -- A burial leaves the others' lives and pages.
-use Rattle.std.proofs.Common.{◌<◌, length, ap, ◌∙◌, arith}
-use Rattle.board_world.specs.Shown.{Shown, shown}
+use Rattle.std.proofs.Common.{◌<◌, length, ap, arith}
+use Rattle.board_world.specs.Shown.{Shown}
 use Rattle.board_world.specs.Doing.{after_burial}
 use Rattle.board_world.specs.Sound.{HasNoPart}
 use Rattle.board_world.proofs.Staying.{sound_burial}
@@ -14,9 +14,8 @@ invariant_of-self c =
 
 pub returns : goal.returns
 returns c =
-    let b = c.self.inside in
-    (λ k. shown b.frames (c.release_env.ensures k) (c.clear_env.ensures.after k) (c.clear.ensures k) (c.clear_env-2.ensures k) (c.forget.ensures k) b.slots b.cpu (c.die.ensures k) b.time b.journal)
-    ∙ ap (λ (s : Shown). after_burial s c.args.env c.args.cause) c.self.view_is
+    rw (c.release_env.ensures, c.clear_env.ensures.after, c.clear.ensures, c.clear_env-2.ensures, c.forget.ensures, c.die.ensures)
+    (ap (λ (s : Shown). after_burial s c.args.env c.args.cause) c.self.view_is)
 
 pub forget-requires : goal.forget-requires
 forget-requires c =

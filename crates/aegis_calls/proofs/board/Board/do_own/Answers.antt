@@ -2,7 +2,6 @@
 use Rattle.std.proofs.Common.{◌≤◌, ◌<◌, ◌+◌, ℕ, List, Option, is_some, length, ap, sym, subst, ◌∙◌}
 use Rattle.aegis_limits.specs.Limits.{console_size}
 use Rattle.external_event.specs.Limits.{most_sent}
-use Rattle.world_model.specs.Book.{running}
 use Rattle.world_model.specs.Call.{good_range}
 use Rattle.world_model.specs.OwnCalls.{MayOwn, MayPut, MaySend, put_bytes}
 use Rattle.world_model.specs.Page.{Mapped}
@@ -11,13 +10,13 @@ use Rattle.board_world.specs.Shown.{Shown, console_of, sent_of}
 use Rattle.board_world.specs.Showing.{solo_of}
 use Rattle.board_world.specs.Sound.{IsSound}
 use Rattle.board_world.proofs.Reading.{console_same, runner_look, sent_same}
-use Rattle.board_world.proofs.Sound.{keeps_accepting, keeps_handling, keeps_putting, keeps_sending, runner_within}
+use Rattle.board_world.proofs.Sound.{keeps_accepting, keeps_handling, keeps_putting, keeps_sending}
 use Rattle.board_world.proofs.Staying.{sound_env}
+use Rattle.aegis_calls.proofs.Runner.{runner_live}
 use Rattle.aegis_calls.proofs.board.Board.do_own.Goals as goal
 
 pub put-requires : goal.put-requires
 put-requires c =
-    let b = c.self.inside in
     let now = c.args.self.now in
     let e = c.args.env in
     let address = c.in-Puts.address in
@@ -28,14 +27,13 @@ put-requires c =
     ap (λ (s : Shown). is_some (put_bytes (look_of s e) address size)) c.self.view_is
     ∙ ap (λ (l : ℕ → Option Mapped). is_some (put_bytes l address size)) (runner_look now e sound c.requires.runs) in
     record {
-      there = runner_within b.slots b.roster e c.self.invariant.book (ap (λ (s : Shown). running s.slots.runner) c.self.view_is ∙ c.requires.runs);
+      there = (runner_live c.self.view_is c.self.invariant c.requires.runs).0;
       good = looks ∙ may.good;
       room = subst (λ (held : List ℕ). length held + size ≤ console_size) (sym (ap (λ (s : Shown). console_of s.roster.list e) c.self.view_is ∙ console_same now e)) may.room;
     }
 
 pub send-requires : goal.send-requires
 send-requires c =
-    let b = c.self.inside in
     let now = c.args.self.now in
     let e = c.args.env in
     let address = c.in-Sends.address in
@@ -46,7 +44,7 @@ send-requires c =
     ap (λ (s : Shown). is_some (good_range (look_of s e) address size)) c.self.view_is
     ∙ ap (λ (l : ℕ → Option Mapped). is_some (good_range l address size)) (runner_look now e sound c.requires.runs) in
     record {
-      there = runner_within b.slots b.roster e c.self.invariant.book (ap (λ (s : Shown). running s.slots.runner) c.self.view_is ∙ c.requires.runs);
+      there = (runner_live c.self.view_is c.self.invariant c.requires.runs).0;
       most = may.most;
       good = looks ∙ may.good;
       room = subst (λ (packets : List (List ℕ)). length packets < most_sent) (sym (ap (λ (s : Shown). sent_of s.roster.list e) c.self.view_is ∙ sent_same now e)) may.room;

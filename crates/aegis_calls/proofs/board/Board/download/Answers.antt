@@ -1,9 +1,9 @@
 -- The handler is named, and the claims keep their pages.
-use Rattle.std.proofs.Common.{◌≡◌, List, ℕ, Option, Ok, sym, ap, subst, ◌∙◌}
+use Rattle.std.proofs.Common.{◌≡◌, Ok, sym, ap, subst, ◌∙◌}
 use Rattle.filter_tree.specs.Claims.{downloaded}
 use Rattle.world_model.specs.Downloads.{handler_at, handler_of}
 use Rattle.world_model.specs.Solo.{sight}
-use Rattle.board_world.specs.Shown.{Shown, shown}
+use Rattle.board_world.specs.Shown.{Shown}
 use Rattle.board_world.specs.Showing.{solo_of}
 use Rattle.board_world.specs.Sound.{IsSound}
 use Rattle.board_world.proofs.ClaimServing.{downloaded_board}
@@ -18,11 +18,9 @@ invariant_of-self c =
 
 pub returns : goal.returns
 returns c =
-    let i = c.self.inside in
     let b = c.args.self.now in
     let e = c.args.env in
     let named : handler_at (sight (solo_of b e)) c.args.address c.args.words ≡ Ok c.unwrap-named.result = sym c.named_handler.ensures ∙ c.unwrap-named.ensures in
-    (λ k. shown i.frames i.pages i.bindings i.lines (c.download.ensures k) i.revocations i.slots i.cpu i.roster i.time i.journal)
-    ∙ ap (λ (handler : Option (List ℕ)). shown i.frames i.pages i.bindings i.lines (downloaded c.args.claim handler i.claims) i.revocations i.slots i.cpu i.roster i.time i.journal) c.unless_empty.ensures
-    ∙ ap (λ (s : Shown). record s { claims = downloaded c.args.claim (handler_of c.unwrap-named.result) s.claims }) c.self.view_is
-    ∙ downloaded_board b e c.args.claim c.args.address c.args.words c.unwrap-named.result (subst IsSound c.self.view_is c.self.invariant) c.requires.runs named
+    rw (c.download.ensures, c.unless_empty.ensures)
+    (ap (λ (s : Shown). record s { claims = downloaded c.args.claim (handler_of c.unwrap-named.result) s.claims }) c.self.view_is
+    ∙ downloaded_board b e c.args.claim c.args.address c.args.words c.unwrap-named.result (subst IsSound c.self.view_is c.self.invariant) c.requires.runs named)

@@ -1,16 +1,17 @@
 -- The slot is there and the runner's to drop, and whoever it is left to isn't dead.
 use Rattle.std.proofs.Common.{◌≡◌, ap, sym, subst, ◌∙◌, Result, Ok}
 use Rattle.std.specs.Prelude.{OnOk}
-use Rattle.slot_vector.specs.Slices.{Slices, hold_at, unless, with_hold}
+use Rattle.slot_vector.specs.Slices.{hold_at, unless, with_hold}
 use Rattle.world_model.specs.declared.code.Code.{Code}
 use Rattle.world_model.specs.May.{MayDrop}
 use Rattle.world_model.specs.SlotCalls.{dropped}
+use Rattle.board_world.specs.Doing.{with_slot}
 use Rattle.board_world.specs.Shown.{Shown}
 use Rattle.board_world.specs.Showing.{book_of}
 use Rattle.board_world.proofs.Allowed.{droppable}
+use Rattle.board_world.proofs.Slots.{hold_here}
 use Rattle.board_world.proofs.Sound.{drop_manned}
 use Rattle.board_world.proofs.Staying.{sound_machine, sound_slots}
-use Rattle.aegis_calls.proofs.Called.{slot_held}
 use Rattle.aegis_calls.proofs.board.Board.drop_slot.Goals as goal
 
 -- the slot is dropped
@@ -30,7 +31,9 @@ invariant_of-self c =
 
 pub returns : goal.returns
 returns c =
+    let v = c.self.inside.slots in
     let e = c.args.env in
     let k = c.args.slot in
     let may = subst (λ (s : Shown). MayDrop (book_of s) e k) (sym c.self.view_is) c.requires.may in
-    slot_held (λ (v : Slices). dropped e (hold_at v.slots k)) _ _ k _ _ c.self.view_is may.there (is_dropped c) c.push_slot.ensures
+    rw (c.push_slot.ensures, is_dropped c, hold_here v.slots k (dropped e (hold_at v.slots k)) may.there)
+    (ap (λ (s : Shown). with_slot s k (dropped e (hold_at s.slots.slots k))) c.self.view_is)

@@ -11,9 +11,8 @@ use Rattle.board_world.proofs.Asked.{freed_asked}
 use Rattle.board_world.proofs.Booked.{free_booked}
 use Rattle.board_world.proofs.Claiming.{freed_claimed}
 use Rattle.board_world.proofs.Parted.{row_parted}
-use Rattle.board_world.proofs.Sound.{runner_within}
 use Rattle.board_world.proofs.Staying.{sound_memory}
-use Rattle.world_model.specs.Book.{running}
+use Rattle.aegis_calls.proofs.Runner.{runner_live}
 use Rattle.aegis_calls.proofs.board.Board.free.Goals as goal
 
 pub invariant_of-self : goal.invariant_of-self
@@ -22,16 +21,13 @@ invariant_of-self c =
     let e = c.args.env in
     let page = c.args.page in
     let may = subst (λ (s : Shown). MayChange (book_of s) e page) (sym c.self.view_is) c.requires.may in
-    let within = runner_within b.slots b.roster e c.self.invariant.book (ap (λ (s : Shown). running s.slots.runner) c.self.view_is ∙ c.requires.runs) in
+    let lives = runner_live c.self.view_is c.self.invariant c.requires.runs in
     let freed = c.free.ensures.after ∙ ap (λ (why : Option PageNo). changed_unless why b.pages page Free) (changeable e b.pages page may.there may.owned) in
     rw (freed, c.break_page.ensures.after, c.drop_page.ensures, c.freed.ensures)
     (sound_memory b.frames _ _ _ _ (row_parted b.frames b.pages b.roster.list page Free (owned_by_none e (row_in b.pages page) may.owned) c.self.invariant.memory)
     (free_booked b.pages b.bindings b.roster page may.there c.self.invariant.books)
     (freed_claimed b.claims b.pages b.roster page may.there c.self.invariant.claims)
-    (freed_asked b.revocations b.pages e page (omega (arith, within, c.self.invariant.few)) may.there may.owned c.self.invariant.revocations) c.self.invariant)
+    (freed_asked b.revocations b.pages e page (omega (arith, lives.0, c.self.invariant.few)) may.there may.owned c.self.invariant.revocations) c.self.invariant)
 
 pub freed-requires : goal.freed-requires
-freed-requires c =
-    let b = c.self.inside in
-    let within = runner_within b.slots b.roster c.args.env c.self.invariant.book (ap (λ (s : Shown). running s.slots.runner) c.self.view_is ∙ c.requires.runs) in
-    omega (arith, within, c.self.invariant.few)
+freed-requires c = omega (arith, (runner_live c.self.view_is c.self.invariant c.requires.runs).0, c.self.invariant.few)

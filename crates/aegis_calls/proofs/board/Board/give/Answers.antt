@@ -1,17 +1,16 @@
 -- Whoever is given the slice lives and has its context page, and kept registers change nobody's life or pages.
-use Rattle.std.proofs.Common.{sym, subst}
+use Rattle.std.proofs.Common.{ap, sym, subst}
 use Rattle.std.specs.Prelude.{false}
-use Rattle.board_world.specs.Doing.{with_registers}
+use Rattle.board_world.specs.Doing.{after_gift, with_registers}
 use Rattle.board_world.specs.Shown.{Shown}
 use Rattle.board_world.specs.Sound.{IsLive}
 use Rattle.board_world.proofs.Parted.{context_there}
 use Rattle.board_world.proofs.Sound.{given_manned, keeps_registers}
-use Rattle.aegis_calls.proofs.Called.{slice_given}
 use Rattle.board_world.proofs.Staying.{sound_env, sound_frames, sound_machine, sound_slots}
 use Rattle.aegis_calls.proofs.board.Board.give.Goals as goal
 
 pub start-self-inside-requires : goal.start-self-inside-requires
-start-self-inside-requires c = rw c.frame.ensures.mappings (context_there c.self.inside.frames c.self.inside.pages c.self.inside.roster.list c.self.invariant.memory c.args.target)
+start-self-inside-requires c = rw c.frame.ensures.mappings (context_there _ _ _ c.self.invariant.memory c.args.target)
 
 pub invariant_of-self : goal.invariant_of-self
 invariant_of-self c =
@@ -24,4 +23,6 @@ invariant_of-self c =
     (sound_slots _ (given_manned b.slots b.roster c.args.target false c.self.invariant.book live) c.self.invariant))))
 
 pub returns : goal.returns
-returns c = slice_given c.args.env c.args.target _ _ c.frame.result.now _ _ _ _ _ _ c.self.view_is c.frame.ensures.mappings c.frame.ensures.registers c.frame.ensures.handlers c.donate.ensures c.start-self-inside.ensures.frames c.start-self-inside.ensures.cpu c.keep.ensures c.slot.ensures.cursor c.push.ensures
+returns c =
+    rw (c.push.ensures, c.slot.ensures.cursor, c.donate.ensures, c.start-self-inside.ensures.frames, c.start-self-inside.ensures.cpu, c.frame.ensures.mappings, c.frame.ensures.registers, c.frame.ensures.handlers, c.keep.ensures)
+    (ap (λ (s : Shown). after_gift s c.args.env c.args.target) c.self.view_is)

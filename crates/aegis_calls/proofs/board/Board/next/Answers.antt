@@ -1,8 +1,8 @@
 -- Whoever starts lives.
 use Rattle.std.proofs.Common.{sym, ap, ◌∙◌}
+use Rattle.board_world.specs.Doing.{after_forfeit, after_start}
 use Rattle.board_world.specs.Shown.{Shown}
 use Rattle.board_world.proofs.Sound.{pay_manned, run_manned, turn_live}
-use Rattle.aegis_calls.proofs.Called.{turn_paid, turn_run}
 use Rattle.board_world.proofs.Staying.{sound_machine, sound_slots}
 use Rattle.aegis_calls.proofs.board.Board.next.Goals as goal
 
@@ -21,7 +21,7 @@ invariant_of-self-in-Run c =
     rw (c.next_turn-next.ensures.after, c.in-Run.is) (sound_machine (sound_slots _ (run_manned b.slots b.roster c.in-Run.turn c.self.invariant.book lives) c.self.invariant))
 
 pub returns-in-Run-clause-after : goal.returns-in-Run-clause-after
-returns-in-Run-clause-after c = turn_run _ _ _ c.in-Run.turn _ _ c.self.view_is c.in-Run.ensures.after c.push-in-Run.ensures c.start.ensures
+returns-in-Run-clause-after c = rw (c.start.ensures, c.push-in-Run.ensures, c.in-Run.ensures.after) (ap (λ (s : Shown). after_start s c.in-Run.turn) c.self.view_is)
 
 pub returns-in-Pay-clause-after : goal.returns-in-Pay-clause-after
-returns-in-Pay-clause-after c = turn_paid _ _ c.in-Pay.turn _ _ c.self.view_is c.in-Pay.ensures.after c.push.ensures
+returns-in-Pay-clause-after c = rw (c.push.ensures, c.in-Pay.ensures.after) (ap (λ (s : Shown). after_forfeit s c.in-Pay.turn) c.self.view_is)

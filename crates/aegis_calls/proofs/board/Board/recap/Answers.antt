@@ -3,7 +3,6 @@ use Rattle.std.proofs.Common.{Option, subst, sym, ap, ◌∙◌}
 use Rattle.page_book.specs.declared.refusal.PageNo.{PageNo}
 use Rattle.page_book.specs.declared.row.PageRow.TheVariants.{Owned}
 use Rattle.page_book.specs.Rows.{changed_unless, row_in}
-use Rattle.world_model.specs.Book.{running}
 use Rattle.world_model.specs.May.{MayChange}
 use Rattle.board_world.specs.Shown.{Shown}
 use Rattle.board_world.specs.Showing.{book_of}
@@ -11,9 +10,9 @@ use Rattle.board_world.proofs.Allowed.{changeable, owned_by_none}
 use Rattle.board_world.proofs.Booked.{owned_booked, sweep_booked}
 use Rattle.board_world.proofs.Claiming.{recapped_claimed}
 use Rattle.board_world.proofs.Parted.{row_parted}
-use Rattle.board_world.proofs.Sound.{runner_alive}
 use Rattle.board_world.proofs.Asked.{recapped_asked}
 use Rattle.board_world.proofs.Staying.{sound_memory}
+use Rattle.aegis_calls.proofs.Runner.{runner_live}
 use Rattle.aegis_calls.proofs.board.Board.recap.Goals as goal
 
 pub invariant_of-self : goal.invariant_of-self
@@ -24,7 +23,7 @@ invariant_of-self c =
     let row = Owned e c.args.words in
     let may = subst (λ (s : Shown). MayChange (book_of s) e page) (sym c.self.view_is) c.requires.may in
     let recapped = c.recap.ensures.after ∙ ap (λ (why : Option PageNo). changed_unless why b.pages page row) (changeable e b.pages page may.there may.owned) in
-    let lives = runner_alive b.slots b.roster e c.self.invariant.book (ap (λ (s : Shown). running s.slots.runner) c.self.view_is ∙ c.requires.runs) in
+    let lives = runner_live c.self.view_is c.self.invariant c.requires.runs in
     rw (recapped, c.break_page.ensures.after)
     (sound_memory b.frames _ _ b.claims b.revocations (row_parted b.frames b.pages b.roster.list page row (owned_by_none e (row_in b.pages page) may.owned) c.self.invariant.memory)
     (sweep_booked _ _ b.bindings b.roster (owned_booked b.pages b.bindings b.roster page e c.args.words may.there lives c.self.invariant.books))

@@ -32,4 +32,4 @@ ask-requires c =
     omega (arith, there b c.args.env c.in-Some-Live.field-0 lives, c.self.invariant.few)
 
 pub ask-requires-2 : goal.ask-requires-2
-ask-requires-2 c = let i = c.self.inside in rw c.frame-frame.ensures.mappings (context_there i.frames i.pages i.roster.list c.self.invariant.memory c.args.env)
+ask-requires-2 c = rw c.frame-frame.ensures.mappings (context_there _ _ _ c.self.invariant.memory c.args.env)

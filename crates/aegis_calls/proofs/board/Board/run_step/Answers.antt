@@ -1,9 +1,8 @@
 -- What follows a step is done to the board after it, and is what the step came to.
-use Rattle.std.proofs.Common.{◌≡◌, ◌<◌, ◌^◌, ℕ, refl, sym, ap, ◌∙◌, subst}
+use Rattle.std.proofs.Common.{◌≡◌, ℕ, refl, sym, ap, ◌∙◌}
 use Rattle.mips_exec.specs.declared.exception.Exc.{Exc}
 use Rattle.mips_exec.specs.declared.exception.Outcome.TheVariants as outcome
 use Rattle.mips_exec.specs.Step.{Step, Retired, Called, Trapped, outcome_of}
-use Rattle.world_model.specs.Book.{running}
 use Rattle.board_world.specs.Shown.{Shown}
 use Rattle.board_world.specs.Doing.{after_runner_call, after_runner_step, after_machine_step, step_seen, after_trap}
 use Rattle.board_world.proofs.Stepping.{came_called}
@@ -20,17 +19,11 @@ came_trapped b e (Retired cpu write) exc is = cc
 came_trapped b e Called exc is = cc
 came_trapped b e (Trapped raised) exc is = let same : exc ≡ raised = cc in ap (after_trap b e) same
 
-pub take_call-requires-clause-runs : goal.take_call-requires-clause-runs
-take_call-requires-clause-runs c = ap (λ (s : Shown). running s.slots.runner) c.run_machine.ensures.shown ∙ c.requires.runs
+pub take_call-requires : goal.take_call-requires
+take_call-requires c = rw c.run_machine.ensures.shown (record { runs = c.requires.runs; room = c.requires.room; numbers = c.requires.numbers })
 
-pub take_call-requires-clause-room : goal.take_call-requires-clause-room
-take_call-requires-clause-room c = subst (λ (s : Shown). 64 < s.ledger.spare) (sym c.run_machine.ensures.shown) c.requires.room
-
-pub trap-requires-clause-runs : goal.trap-requires-clause-runs
-trap-requires-clause-runs c = ap (λ (s : Shown). running s.slots.runner) c.run_machine.ensures.shown ∙ c.requires.runs
-
-pub trap-requires-clause-room : goal.trap-requires-clause-room
-trap-requires-clause-room c = subst (λ (s : Shown). 64 < s.ledger.spare) (sym c.run_machine.ensures.shown) c.requires.room
+pub trap-requires : goal.trap-requires
+trap-requires c = rw c.run_machine.ensures.shown (record { runs = c.requires.runs; room = c.requires.room })
 
 pub returns-in-Retired : goal.returns-in-Retired
 returns-in-Retired c = c.run_machine.ensures.shown ∙ came_retired c.args.self.now c.args.env (step_seen c.args.self.now c.args.env) (sym c.run_machine.ensures.outcome ∙ c.in-Retired.is)
@@ -46,6 +39,3 @@ returns-in-Trap c =
     c.trap.ensures
     ∙ ap (λ (s : Shown). after_trap s c.args.env c.in-Trap.exc) c.run_machine.ensures.shown
     ∙ came_trapped c.args.self.now c.args.env (step_seen c.args.self.now c.args.env) c.in-Trap.exc (sym c.run_machine.ensures.outcome ∙ c.in-Trap.is)
-
-pub take_call-requires-clause-numbers : goal.take_call-requires-clause-numbers
-take_call-requires-clause-numbers c = subst (λ (s : Shown). s.claims.next < 2 ^ 32) (sym c.run_machine.ensures.shown) c.requires.numbers

@@ -10,4 +10,4 @@ frame-requires c =
     omega (arith, live.0)
 
 pub signal-requires-clause-there : goal.signal-requires-clause-there
-signal-requires-clause-there c = rw c.frame.ensures.mappings (context_there c.self.inside.frames c.self.inside.pages c.self.inside.roster.list c.self.invariant.memory _)
+signal-requires-clause-there c = rw c.frame.ensures.mappings (context_there _ _ _ c.self.invariant.memory _)

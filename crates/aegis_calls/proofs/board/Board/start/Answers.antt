@@ -3,4 +3,4 @@ use Rattle.board_world.proofs.Parted.{context_there}
 use Rattle.aegis_calls.proofs.board.Board.start.Goals as goal
 
 pub start-self-inside-requires : goal.start-self-inside-requires
-start-self-inside-requires c = rw c.frame.ensures.mappings (context_there c.self.inside.frames c.self.inside.pages c.self.inside.roster.list c.self.invariant.memory c.args.env)
+start-self-inside-requires c = rw c.frame.ensures.mappings (context_there _ _ _ c.self.invariant.memory c.args.env)

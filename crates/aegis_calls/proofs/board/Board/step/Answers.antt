@@ -7,25 +7,18 @@ use Rattle.board_world.specs.Doing.{step_seen}
 use Rattle.board_world.proofs.Stepping.{came_leaves}
 use Rattle.aegis_calls.proofs.board.Board.step.Goals as goal
 
-pub returns-in-Some-clause-world : goal.returns-in-Some-clause-world
-returns-in-Some-clause-world c = ap world_of c.run_step.ensures ∙ c.law_step.ensures c.args.self.now c.in-Some.env (subst IsSound c.self.view_is c.self.invariant) c.law_claim_numbers.ensures (sym c.runner.ensures ∙ c.in-Some.is)
-
-pub returns-in-Some-clause-room : goal.returns-in-Some-clause-room
-returns-in-Some-clause-room c =
-    let leaves = came_leaves c.args.self.now c.in-Some.env (step_seen c.args.self.now c.in-Some.env) (subst IsSound c.self.view_is c.self.invariant) (sym c.runner.ensures ∙ c.in-Some.is) in
-    omega (arith, leaves.room, ap (λ (b : Shown). b.ledger.spare) c.run_step.ensures)
-
-pub returns-in-Some-clause-time : goal.returns-in-Some-clause-time
-returns-in-Some-clause-time c =
-    let leaves = came_leaves c.args.self.now c.in-Some.env (step_seen c.args.self.now c.in-Some.env) (subst IsSound c.self.view_is c.self.invariant) (sym c.runner.ensures ∙ c.in-Some.is) in
-    ap (λ (b : Shown). b.time) c.run_step.ensures ∙ leaves.time
-
-pub returns-in-Some-clause-whole : goal.returns-in-Some-clause-whole
-returns-in-Some-clause-whole c =
-    let leaves = came_leaves c.args.self.now c.in-Some.env (step_seen c.args.self.now c.in-Some.env) (subst IsSound c.self.view_is c.self.invariant) (sym c.runner.ensures ∙ c.in-Some.is) in
-    ap (λ (b : Shown). b.roster.spare) c.run_step.ensures ∙ leaves.spare
-
-pub returns-in-Some-clause-numbers : goal.returns-in-Some-clause-numbers
-returns-in-Some-clause-numbers c =
-    let leaves = came_leaves c.args.self.now c.in-Some.env (step_seen c.args.self.now c.in-Some.env) (subst IsSound c.self.view_is c.self.invariant) (sym c.runner.ensures ∙ c.in-Some.is) in
-    omega (arith, leaves.numbers, ap (λ (b : Shown). b.claims.next) c.run_step.ensures)
+pub returns-in-Some : goal.returns-in-Some
+returns-in-Some c =
+    let b = c.args.self.now in
+    let e = c.in-Some.env in
+    let sound = subst IsSound c.self.view_is c.self.invariant in
+    let runs = sym c.runner.ensures ∙ c.in-Some.is in
+    let after = c.run_step.ensures in
+    let leaves = came_leaves b e (step_seen b e) sound runs in
+    record {
+      world = ap world_of after ∙ c.law_step.ensures b e sound c.law_claim_numbers.ensures runs;
+      time = ap (λ (s : Shown). s.time) after ∙ leaves.time;
+      numbers = omega (arith, leaves.numbers, ap (λ (s : Shown). s.claims.next) after);
+      whole = ap (λ (s : Shown). s.roster.spare) after ∙ leaves.spare;
+      room = omega (arith, leaves.room, ap (λ (s : Shown). s.ledger.spare) after);
+    }

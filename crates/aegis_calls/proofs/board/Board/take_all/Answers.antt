@@ -1,5 +1,5 @@
 -- Each may be taken in its turn, and uses one row.
-use Rattle.std.proofs.Common.{◌≡◌, ◌<◌, ◌+◌, ℕ, List, ◌∷◌, drop, fold, length, None, arith, sym, ◌∙◌, ap, subst}
+use Rattle.std.proofs.Common.{◌+◌, drop, fold, length, None, arith, sym, ◌∙◌, ap, subst}
 use Rattle.std.specs.Prelude.{slice_index_or}
 use Rattle.std.proofs.lemmas.List.{drop_more}
 use Rattle.revocation_book.specs.declared.revocation.Taking.{Taking}
@@ -14,17 +14,13 @@ use Rattle.aegis_calls.proofs.board.Board.take_all.Goals as goal
 abbrev first : Taking
 first = record { env = 0; page = 0; backup = None }
 
--- what is left begins with this one
-left : (xs : List Taking) (i : ℕ) → i < length xs → drop i xs ≡ slice_index_or xs i first ∷ drop (i + 1) xs
-left xs i within = drop_more xs i first within
-
 pub take-requires-clause-may : goal.take-requires-clause-may
 take-requires-clause-may c =
     let b = c.loop-taking.self in
-    (subst (AreTakable (books_of b.pages b.revocations) b.time) (left c.args.takings.now c.loop-taking.taking-index c.loop-taking-test.true) c.loop-taking.invariant.may).0
+    (subst (AreTakable (books_of b.pages b.revocations) b.time) (drop_more c.args.takings.now c.loop-taking.taking-index first c.loop-taking-test.true) c.loop-taking.invariant.may).0
 
 pub take-requires-clause-room : goal.take-requires-clause-room
-take-requires-clause-room c = omega (arith, ap length (left c.args.takings.now c.loop-taking.taking-index c.loop-taking-test.true), c.loop-taking.invariant.room)
+take-requires-clause-room c = omega (arith, ap length (drop_more c.args.takings.now c.loop-taking.taking-index first c.loop-taking-test.true), c.loop-taking.invariant.room)
 
 pub loop-taking-preserved : goal.loop-taking-preserved
 loop-taking-preserved c =
@@ -34,7 +30,7 @@ loop-taking-preserved c =
     let i = c.loop-taking.taking-index in
     let rest = drop (i + 1) xs in
     let x = slice_index_or xs i first in
-    let is = left xs i c.loop-taking-test.true in
+    let is = drop_more xs i first c.loop-taking-test.true in
     let may = subst (AreTakable (books_of b.pages b.revocations) b.time) is c.loop-taking.invariant.may in
     let books = sym (taken_books b x (page_there b sound x may.0) (its_place b sound x may.0)) in
     record {

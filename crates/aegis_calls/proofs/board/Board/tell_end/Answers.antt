@@ -3,4 +3,4 @@ use Rattle.board_world.proofs.Parted.{context_there}
 use Rattle.aegis_calls.proofs.board.Board.tell_end.Goals as goal
 
 pub end-requires-clause-there : goal.end-requires-clause-there
-end-requires-clause-there c = rw c.frame-frame.ensures.mappings (context_there c.self.inside.frames c.self.inside.pages c.self.inside.roster.list c.self.invariant.memory c.args.env)
+end-requires-clause-there c = rw c.frame-frame.ensures.mappings (context_there _ _ _ c.self.invariant.memory c.args.env)

@@ -4,26 +4,25 @@ use Rattle.env_frames.specs.Context.{handler_of}
 use Rattle.env_frames.specs.Transfer.{entry_context, hands_slot}
 use Rattle.mips_exec.specs.declared.registers.Cpu.{Cpu}
 use Rattle.slot_vector.specs.Slices.{given_to}
-use Rattle.world_model.specs.Book.{running}
 use Rattle.world_model.specs.Item.{answered_cpu}
 use Rattle.world_model.specs.declared.verdict.Verdict.TheVariants.{Grant}
 use Rattle.board_world.specs.Doing.{with_mask, after_entry, after_hand_on, entry_roster, with_registers}
 use Rattle.board_world.specs.Shown.{Shown, handlers_of, shown, with_list}
 use Rattle.board_world.specs.Sound.{IsLive}
 use Rattle.board_world.proofs.Parted.{context_there}
-use Rattle.board_world.proofs.Sound.{given_manned, keeps_accepting, keeps_registers, runner_within}
+use Rattle.board_world.proofs.Sound.{given_manned, keeps_accepting, keeps_registers}
 use Rattle.board_world.proofs.Staying.{sound_env, sound_frames, sound_machine, sound_slots}
+use Rattle.aegis_calls.proofs.Runner.{runner_live}
 use Rattle.aegis_calls.proofs.board.Board.transfer.Goals as goal
 
 pub enter-requires : goal.enter-requires
 enter-requires c =
-    let i = c.self.inside in
     let live = subst (λ (s : Shown). IsLive s.roster.list c.args.target) (sym c.self.view_is) c.requires.lives in
     record {
-      caller = runner_within i.slots i.roster c.args.env c.self.invariant.book (ap (λ (s : Shown). running s.slots.runner) c.self.view_is ∙ c.requires.runs);
+      caller = (runner_live c.self.view_is c.self.invariant c.requires.runs).0;
       there = live.0;
       «open» = subst (λ (s : Shown). handler_of (handlers_of s.roster.list c.args.target) (entry_context c.args.kind) ≢ 0) (sym c.self.view_is) c.requires.«open»;
-      page = context_there i.frames i.pages i.roster.list c.self.invariant.memory c.args.target;
+      page = context_there _ _ _ c.self.invariant.memory c.args.target;
     }
 
 pub invariant_of-self : goal.invariant_of-self
