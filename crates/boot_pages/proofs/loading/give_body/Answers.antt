@@ -1,9 +1,9 @@
 -- One page more, and one fewer that is left.
-use Rattle.std.proofs.Common.{◌≡◌, ℕ, ◌+◌, ◌-◌, ◌∙◌, List, [], ◌∷◌, length, map, ap, arith, refl, subst, sym}
+use Rattle.std.proofs.Common.{◌≡◌, ℕ, ◌+◌, ◌-◌, ◌∙◌, [], ◌∷◌, length, map, ap, arith, refl, subst, sym}
 use Rattle.env_frames.specs.Frame.{EnvValue}
 use Rattle.segment_pages.specs.Pages.{pages_from}
 use Rattle.run_model.specs.Boot.{body_page}
-use Rattle.board_world.specs.Loading.{AreGiven, with_mapped}
+use Rattle.board_world.specs.Loading.{AreGiven}
 use Rattle.board_world.proofs.Giving.{one_moved}
 use Rattle.board_world.proofs.Keeping.{given_both, mapped_more}
 use Rattle.boot_pages.proofs.loading.give_body.Goals as goal
@@ -21,11 +21,9 @@ loop-vpn-preserved c =
       same = more.given.left.size ∙ so_far.same ∙ sym more.given.size;
       given = subst (λ (n : ℕ). AreGiven c.args.number n c.args.pages.now c.give_page.new.pages c.args.frames.now c.give_page.new.frames) one (given_both c.args.number (length c.loop-vpn.env.mappings - first) 1 _ _ _ _ _ _ so_far.given more.given);
       mapped =
-          ap (with_mapped c.args.number c.give_page.new.pages (map f (pages_from c.args.body.now (c.in-Some.vpn + 1)))) more.mapped
-          ∙ mapped_more c.args.number 1 _ _ _ _ (f c.in-Some.vpn ∷ []) (map f (pages_from c.args.body.now (c.in-Some.vpn + 1))) c.loop-vpn.env.mappings more.given refl
-          ∙ ap (λ (vpns : List ℕ). with_mapped c.args.number c.loop-vpn.pages (map f vpns) c.loop-vpn.env.mappings) (sym found.some)
-          ∙ so_far.mapped;
-      seen = one_moved _ _ _ (body_page c.args.body.now) c.in-Some.vpn _ _ _ more.seen found.some so_far.seen;
+          rw (more.mapped, ← so_far.mapped, found.some)
+          (mapped_more c.args.number 1 _ _ _ _ (f c.in-Some.vpn ∷ []) (map f (pages_from c.args.body.now (c.in-Some.vpn + 1))) c.loop-vpn.env.mappings more.given refl);
+      seen = one_moved _ _ _ f c.in-Some.vpn _ _ _ more.seen found.some so_far.seen;
       above = λ k h. omega (arith, more.above k h, found.range.1);
       numbers = omega (arith, found.range.2);
       more = omega (arith, more.count, so_far.more);

@@ -1,10 +1,8 @@
 -- One page more.
-use Rattle.std.proofs.Common.{ℕ, ◌+◌, ◌∙◌, List, [], ◌∷◌, ap, arith, refl, sym}
+use Rattle.std.proofs.Common.{ℕ, ◌+◌, ◌∙◌, [], ◌∷◌, ap, arith, refl, sym}
 use Rattle.env_frames.specs.Frame.{EnvValue}
-use Rattle.world_model.specs.Page.{KeptPage}
 use Rattle.world_model.specs.Table.{listed}
 use Rattle.run_model.specs.Boot.{open_page}
-use Rattle.board_world.specs.Loading.{with_mapped}
 use Rattle.frame_store.specs.Pages.{zero_page}
 use Rattle.board_world.proofs.Giving.{length-listed, listed_more, one_more}
 use Rattle.board_world.proofs.Keeping.{given_both, mapped_more}
@@ -19,13 +17,11 @@ loop-i-preserved c =
     record {
       guaranteed = more.guaranteed;
       same = more.given.left.size ∙ so_far.same ∙ sym more.given.size;
-      given = given_both c.args.number c.loop-i.i 1 _ _ _ _ _ _ so_far.given more.given;
+      given = given_both c.args.number i 1 _ _ _ _ _ _ so_far.given more.given;
       mapped =
-          more.mapped
-          ∙ ap (with_mapped c.args.number c.loop-i.pages (f i ∷ [])) so_far.mapped
-          ∙ mapped_more c.args.number i _ _ _ _ (listed f i) (f i ∷ []) c.args.env.now.mappings so_far.given (length-listed f i)
-          ∙ ap (λ (ps : List KeptPage). with_mapped c.args.number c.args.pages.now ps c.args.env.now.mappings) (sym (listed_more f i));
-      seen = one_more _ _ _ (λ i. open_page (c.args.vpn + i) zero_page) c.loop-i.i _ more.seen so_far.seen refl;
+          rw (more.mapped, so_far.mapped, listed_more f i)
+          (mapped_more c.args.number i _ _ _ _ (listed f i) (f i ∷ []) c.args.env.now.mappings so_far.given (length-listed f i));
+      seen = one_more _ _ _ f i _ more.seen so_far.seen refl;
       above = λ k h. omega (arith, more.above k h);
       count = omega (arith, more.count, so_far.count);
       rest = more.rest ∙ ap (λ (env : EnvValue). record env { mappings = c.give_zero_page.new.env.mappings }) so_far.rest;
