@@ -1,11 +1,8 @@
 -- Whoever is asked is there, and has its place in the book of revocations.
-use Rattle.std.proofs.Common.{◌≡◌, ◌<◌, ℕ, length, Option, Some, None, refl, ap, sym, ◌∙◌, arith}
-use Rattle.std.specs.Prelude.{slice_get}
-use Rattle.std.specs.Option.{option_map}
+use Rattle.std.proofs.Common.{◌≡◌, ◌<◌, ℕ, length, Some, ap, sym, ◌∙◌, arith, rules}
 use Rattle.std.proofs.lemmas.Option.{slice_get_within}
 use Rattle.world_model.specs.declared.life.Life.{Life}
 use Rattle.world_model.specs.Queries.{life_at}
-use Rattle.board_world.specs.declared.roster.Environment.{Environment}
 use Rattle.board_world.specs.Shown.{Shown, shown}
 use Rattle.board_world.specs.Showing.{world_of}
 use Rattle.board_world.proofs.Parted.{context_there}
@@ -14,11 +11,7 @@ use Rattle.aegis_calls.proofs.board.Board.revoke.Goals as goal
 
 -- whose life is known is one of the environments
 there : (b : Shown) (e : ℕ) (life : Life) → life_at (world_of b) e ≡ Some life → e < length b.roster.list
-there b e life lives = by_record (slice_get b.roster.list e) refl (life_same b e ∙ lives)
-  where
-    by_record : (o : Option Environment) → slice_get b.roster.list e ≡ o → option_map (λ (x : Environment). x.life) o ≡ Some life → e < length b.roster.list
-    by_record None at lives = cc
-    by_record (Some x) at lives = slice_get_within b.roster.list e x at
+there b e life lives = search (rules, life_same, slice_get_within)
 
 pub ask-requires : goal.ask-requires
 ask-requires c =

@@ -1,23 +1,19 @@
 -- What follows a step is done to the board after it, and is what the step came to.
-use Rattle.std.proofs.Common.{◌≡◌, ℕ, refl, sym, ap, ◌∙◌}
+use Rattle.std.proofs.Common.{◌≡◌, ℕ, sym, ap, ◌∙◌, rules}
 use Rattle.mips_exec.specs.declared.exception.Exc.{Exc}
 use Rattle.mips_exec.specs.declared.exception.Outcome.TheVariants as outcome
-use Rattle.mips_exec.specs.Step.{Step, Retired, Called, Trapped, outcome_of}
+use Rattle.mips_exec.specs.Step.{Step, outcome_of}
 use Rattle.board_world.specs.Shown.{Shown}
 use Rattle.board_world.specs.Doing.{after_runner_call, after_runner_step, after_machine_step, step_seen, after_trap}
 use Rattle.board_world.proofs.Stepping.{came_called}
 use Rattle.aegis_calls.proofs.board.Board.run_step.Goals as goal
 
 came_retired : (b : Shown) (e : ℕ) (step : Step) → outcome_of step ≡ outcome.Retired → after_machine_step b e step ≡ after_runner_step b e step
-came_retired b e (Retired cpu write) is = refl
-came_retired b e Called is = cc
-came_retired b e (Trapped exc) is = cc
+came_retired b e step is = search rules
 
 -- a step that trapped changed nothing yet
 came_trapped : (b : Shown) (e : ℕ) (step : Step) (exc : Exc) → outcome_of step ≡ outcome.Trap exc → after_trap (after_machine_step b e step) e exc ≡ after_runner_step b e step
-came_trapped b e (Retired cpu write) exc is = cc
-came_trapped b e Called exc is = cc
-came_trapped b e (Trapped raised) exc is = let same : exc ≡ raised = cc in ap (after_trap b e) same
+came_trapped b e step exc is = search rules
 
 pub take_call-requires : goal.take_call-requires
 take_call-requires c = rw c.run_machine.ensures.shown (record { runs = c.requires.runs; room = c.requires.room; numbers = c.requires.numbers })

@@ -1,5 +1,5 @@
 -- The bytes of a page are seen by whom it is owned.
-use Rattle.std.proofs.Common.{◌≡◌, ◌<◌, ℕ, Bool, true, false, Option, Some, None, List, length, refl, sym, ap, ◌∙◌, inl, inr, arith}
+use Rattle.std.proofs.Common.{◌≡◌, ◌<◌, ℕ, Bool, Option, Some, None, List, length, sym, ap, ◌∙◌, inl, inr, arith, rules}
 use Rattle.std.specs.Prelude.{if◌then◌else◌, unwrap_or}
 use Rattle.std.proofs.lemmas.Option.{get_or_from_slice_get, slice_get_cases, unwrap_or-slice_get}
 use Rattle.frame_store.specs.Pages.{page_at}
@@ -20,9 +20,7 @@ abbrev bytes_if : Bool → List ℕ → Option (List ℕ)
 bytes_if owned bytes = if owned then Some bytes else None
 
 seen_bytes : (owned bound : Bool) (bytes : List ℕ) → owned_bytes (seen_if owned bound bytes) ≡ bytes_if owned bytes
-seen_bytes true bound bytes = refl
-seen_bytes false true bytes = refl
-seen_bytes false false bytes = refl
+seen_bytes owned bound bytes = search rules
 
 -- of a page with this row
 row_bytes : (b : Shown) (e page : ℕ) (row : PageRow) → e < length b.roster.list → row_in b.pages page ≡ row → owned_bytes ((solo_of b e).seen page) ≡ bytes_if (is_owned_by e row) (page_at b.frames page)

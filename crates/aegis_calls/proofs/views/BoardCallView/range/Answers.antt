@@ -1,7 +1,5 @@
 -- The bytes of a range are those that the runner sees.
 use Rattle.std.proofs.Common.{ℕ, Option, ap, ◌∙◌, subst}
-use Rattle.guest_memory.specs.Look.{look}
-use Rattle.guest_memory.specs.Space.{SpaceValue, lookup}
 use Rattle.world_model.specs.Call.{good_range}
 use Rattle.world_model.specs.Page.{Mapped}
 use Rattle.board_world.specs.Shown.{Shown}
@@ -12,9 +10,6 @@ use Rattle.aegis_calls.proofs.views.BoardCallView.range.Goals as goal
 
 pub returns : goal.returns
 returns c =
-    let b = c.self.inside in
     let e = c.args.env in
-    let now = c.args.self.now in
-    let sees = ap (λ (space : SpaceValue). look b.frames (lookup space)) c.space_in-space.ensures in
-    c.guest_range.ensures
-    ∙ ap (λ (l : ℕ → Option Mapped). good_range l c.args.address c.args.size) (sees ∙ ap (λ (s : Shown). look_of s e) c.self.view_is ∙ runner_look now e (subst IsSound c.self.view_is c.self.invariant) c.requires)
+    let sees = ap (λ (s : Shown). look_of s e) c.self.view_is ∙ runner_look c.args.self.now e (subst IsSound c.self.view_is c.self.invariant) c.requires in
+    rw (c.guest_range.ensures, c.space_in-space.ensures) (ap (λ (l : ℕ → Option Mapped). good_range l c.args.address c.args.size) sees)
