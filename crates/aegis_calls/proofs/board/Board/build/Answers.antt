@@ -1,9 +1,7 @@
 -- A board without programs.
-use Rattle.std.proofs.Common.{refl, ap, length, ◌∙◌}
+use Rattle.std.proofs.Common.{refl, ap, rules}
 use Rattle.std.proofs.lemmas.List.{length-replicate}
 use Rattle.filter_tree.specs.ClaimBook.{ClaimBook}
-use Rattle.frame_store.specs.Pages.{zero_page}
-use Rattle.page_book.specs.Rows.{free_pages}
 use Rattle.board_world.specs.Shown.{Environments, shown}
 use Rattle.board_world.proofs.Building.{built_free, built_sound, built_world}
 use Rattle.aegis_calls.proofs.board.Board.build.Goals as goal
@@ -20,9 +18,4 @@ returns-clause-world c =
     (ap (λ (r : Environments). r.list) c.in_ok-roster.ensures) refl c.in_ok-journal.ensures
 
 pub returns-clause-bare : goal.returns-clause-bare
-returns-clause-bare c = record {
-  pages_are = ap length c.in_ok-frames.ensures.0 ∙ length-replicate c.args.pages zero_page;
-  free = ap free_pages c.in_ok-frames.ensures.1 ∙ built_free c.args.pages;
-  spare = ap (λ (r : Environments). r.spare) c.in_ok-roster.ensures;
-  time = refl;
-}
+returns-clause-bare c = search (rules, length-replicate, built_free)

@@ -1,7 +1,6 @@
 -- A burial leaves the others' lives and pages.
-use Rattle.std.proofs.Common.{◌<◌, length, ap, arith}
+use Rattle.std.proofs.Common.{◌<◌, length, ap, rules}
 use Rattle.board_world.specs.Shown.{Shown}
-use Rattle.board_world.specs.Doing.{after_burial}
 use Rattle.board_world.specs.Sound.{HasNoPart}
 use Rattle.board_world.proofs.Staying.{sound_burial}
 use Rattle.aegis_calls.proofs.board.Board.bury.Goals as goal
@@ -13,11 +12,7 @@ invariant_of-self c =
     rw (c.release_env.ensures, c.clear_env.ensures.after, c.clear.ensures, c.clear_env-2.ensures, c.forget.ensures, c.die.ensures) (sound_burial c.args.env c.args.cause there none c.self.invariant)
 
 pub returns : goal.returns
-returns c =
-    rw (c.release_env.ensures, c.clear_env.ensures.after, c.clear.ensures, c.clear_env-2.ensures, c.forget.ensures, c.die.ensures)
-    (ap (λ (s : Shown). after_burial s c.args.env c.args.cause) c.self.view_is)
+returns c = search (rules)
 
 pub forget-requires : goal.forget-requires
-forget-requires c =
-    let there : c.args.env < length c.self.inside.roster.list = rw (ap (λ (s : Shown). s.roster) c.self.view_is) c.requires.there in
-    omega (arith, there, c.self.invariant.few)
+forget-requires c = search (rules)

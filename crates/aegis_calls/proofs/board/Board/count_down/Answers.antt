@@ -1,7 +1,5 @@
 -- The runner is one of the environments, and each end of a tick is what the timer brings.
-use Rattle.std.proofs.Common.{inl, inr, sym, ap, ◌∙◌, arith}
-use Rattle.slot_vector.specs.declared.timer.Timer.TheVariants as timer
-use Rattle.slot_vector.specs.Slices.{after_timer}
+use Rattle.std.proofs.Common.{sym, ap, ◌∙◌, arith, rules}
 use Rattle.board_world.specs.Shown.{Shown}
 use Rattle.board_world.specs.Doing.{after_timer_by, after_use}
 use Rattle.board_world.proofs.Sound.{none_left}
@@ -15,22 +13,13 @@ pub tell_end-requires-clause-room : goal.tell_end-requires-clause-room
 tell_end-requires-clause-room c = omega (arith, c.requires.room, ap (λ (s : Shown). s.ledger.spare) (c.use_tick.ensures.after ∙ ap (after_use c.args.self.now c.args.env) c.in-End.is))
 
 pub keep_stopped-requires : goal.keep_stopped-requires
-keep_stopped-requires c = record {
-  there = rw c.use_tick.ensures.after (runner_there c.self.view_is c.self.invariant c.requires.runs);
-  room = omega (arith, c.requires.room, ap (λ (s : Shown). s.ledger.spare) (c.use_tick.ensures.after ∙ ap (after_use c.args.self.now c.args.env) c.in-Stop.is));
-}
+keep_stopped-requires c = search (rules, runner_there)
 
 pub bury-requires : goal.bury-requires
-bury-requires c = record {
-  there = rw c.use_tick.ensures.after (runner_there c.self.view_is c.self.invariant c.requires.runs);
-  released = rw (c.use_tick.ensures.after, c.in-Kill.is) (none_left (after_timer c.args.self.now.slots timer.Kill) c.args.self.now.roster c.args.env);
-}
+bury-requires c = search (rules, runner_there, none_left)
 
 pub returns-in-Nothing : goal.returns-in-Nothing
-returns-in-Nothing c = elim c.in-Nothing.is [
-  | inl is ↦ rw (c.use_tick.ensures.after, is) (ap (after_timer_by c.args.self.now c.args.env) (sym is ∙ c.use_tick.ensures.answer))
-  | inr over ↦ rw (c.use_tick.ensures.after, over.1) (ap (after_timer_by c.args.self.now c.args.env) (sym over.1 ∙ c.use_tick.ensures.answer))
-]
+returns-in-Nothing c = search (rules)
 
 pub returns-in-End : goal.returns-in-End
 returns-in-End c = rw (c.tell_end.ensures, c.use_tick.ensures.after, c.in-End.is) (ap (after_timer_by c.args.self.now c.args.env) (sym c.in-End.is ∙ c.use_tick.ensures.answer))

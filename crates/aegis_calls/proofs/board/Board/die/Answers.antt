@@ -1,5 +1,5 @@
 -- The slots are released, and then the rest.
-use Rattle.std.proofs.Common.{ap, ◌∙◌, arith}
+use Rattle.std.proofs.Common.{ap, ◌∙◌, rules}
 use Rattle.world_model.specs.Book.{running}
 use Rattle.board_world.specs.Shown.{Shown}
 use Rattle.board_world.specs.Doing.{after_death}
@@ -10,10 +10,7 @@ use Rattle.aegis_calls.proofs.Runner.{runner_live}
 use Rattle.aegis_calls.proofs.board.Board.die.Goals as goal
 
 pub release_slots-requires : goal.release_slots-requires
-release_slots-requires c = record {
-  number = omega (arith, (runner_live c.self.view_is c.self.invariant c.requires.runs).0, c.self.invariant.few);
-  room = omega (arith, c.requires.room, ap (λ (s : Shown). s.ledger.spare) c.self.view_is, c.self.invariant.book.count);
-}
+release_slots-requires c = search (rules, runner_live)
 
 pub invariant_of-self : goal.invariant_of-self
 invariant_of-self c =
@@ -22,10 +19,7 @@ invariant_of-self c =
     rw c.release_slots.ensures.slots (sound_machine (sound_slots _ (release_manned b.slots b.roster c.args.env runs.its c.self.invariant.book) c.self.invariant))
 
 pub bury-requires : goal.bury-requires
-bury-requires c = record {
-  there = (runner_live c.self.view_is c.self.invariant c.requires.runs).0;
-  released = rw c.release_slots.ensures.slots (none_left c.self.inside.slots c.self.inside.roster c.args.env);
-}
+bury-requires c = search (rules, runner_live, none_left)
 
 pub returns : goal.returns
 returns c = rw (c.bury.ensures, c.release_slots.ensures.slots, c.release_slots.ensures.journal) (ap (λ (s : Shown). after_death s c.args.env c.args.cause) c.self.view_is)

@@ -1,7 +1,7 @@
 -- Whoever is given the slice lives and has its context page, and kept registers change nobody's life or pages.
-use Rattle.std.proofs.Common.{ap, sym, subst}
+use Rattle.std.proofs.Common.{sym, subst, rules}
 use Rattle.std.specs.Prelude.{false}
-use Rattle.board_world.specs.Doing.{after_gift, with_registers}
+use Rattle.board_world.specs.Doing.{with_registers}
 use Rattle.board_world.specs.Shown.{Shown}
 use Rattle.board_world.specs.Sound.{IsLive}
 use Rattle.board_world.proofs.Parted.{context_there}
@@ -23,6 +23,4 @@ invariant_of-self c =
     (sound_slots _ (given_manned b.slots b.roster c.args.target false c.self.invariant.book live) c.self.invariant))))
 
 pub returns : goal.returns
-returns c =
-    rw (c.push.ensures, c.slot.ensures.cursor, c.donate.ensures, c.start-self-inside.ensures.frames, c.start-self-inside.ensures.cpu, c.frame.ensures.mappings, c.frame.ensures.registers, c.frame.ensures.handlers, c.keep.ensures)
-    (ap (λ (s : Shown). after_gift s c.args.env c.args.target) c.self.view_is)
+returns c = search (rules)

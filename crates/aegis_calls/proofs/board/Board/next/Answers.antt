@@ -1,5 +1,5 @@
 -- Whoever starts lives.
-use Rattle.std.proofs.Common.{sym, ap, ◌∙◌}
+use Rattle.std.proofs.Common.{sym, ap, ◌∙◌, rules}
 use Rattle.board_world.specs.Doing.{after_forfeit, after_start}
 use Rattle.board_world.specs.Shown.{Shown}
 use Rattle.board_world.proofs.Sound.{pay_manned, run_manned, turn_live}
@@ -7,18 +7,13 @@ use Rattle.board_world.proofs.Staying.{sound_machine, sound_slots}
 use Rattle.aegis_calls.proofs.board.Board.next.Goals as goal
 
 pub invariant_of-self : goal.invariant_of-self
-invariant_of-self c =
-    rw (c.next_turn-next.ensures.after, c.in-Pay.is)
-    (sound_machine (sound_slots _ (pay_manned c.self.inside.slots c.self.inside.roster c.in-Pay.turn c.self.invariant.book) c.self.invariant))
+invariant_of-self c = search (rules, sound_machine, sound_slots, pay_manned)
 
 pub start-requires : goal.start-requires
 start-requires c = (turn_live c.self.inside.slots c.self.inside.roster c.in-Run.turn c.self.invariant.book (ap (λ (b : Shown). b.roster.spare) c.self.view_is ∙ c.requires.whole) (sym c.next_turn-next.ensures.turn ∙ c.in-Run.is)).0
 
 pub invariant_of-self-in-Run : goal.invariant_of-self-in-Run
-invariant_of-self-in-Run c =
-    let b = c.self.inside in
-    let lives = turn_live b.slots b.roster c.in-Run.turn c.self.invariant.book (ap (λ (s : Shown). s.roster.spare) c.self.view_is ∙ c.requires.whole) (sym c.next_turn-next.ensures.turn ∙ c.in-Run.is) in
-    rw (c.next_turn-next.ensures.after, c.in-Run.is) (sound_machine (sound_slots _ (run_manned b.slots b.roster c.in-Run.turn c.self.invariant.book lives) c.self.invariant))
+invariant_of-self-in-Run c = search (rules, turn_live, sound_machine, sound_slots, run_manned)
 
 pub returns-in-Run-clause-after : goal.returns-in-Run-clause-after
 returns-in-Run-clause-after c = rw (c.start.ensures, c.push-in-Run.ensures, c.in-Run.ensures.after) (ap (λ (s : Shown). after_start s c.in-Run.turn) c.self.view_is)

@@ -1,10 +1,10 @@
 -- What follows a step is done to the board after it, and is what the step came to.
-use Rattle.std.proofs.Common.{◌≡◌, ℕ, sym, ap, ◌∙◌, rules}
+use Rattle.std.proofs.Common.{◌≡◌, ℕ, sym, ◌∙◌, rules}
 use Rattle.mips_exec.specs.declared.exception.Exc.{Exc}
 use Rattle.mips_exec.specs.declared.exception.Outcome.TheVariants as outcome
 use Rattle.mips_exec.specs.Step.{Step, outcome_of}
 use Rattle.board_world.specs.Shown.{Shown}
-use Rattle.board_world.specs.Doing.{after_runner_call, after_runner_step, after_machine_step, step_seen, after_trap}
+use Rattle.board_world.specs.Doing.{after_runner_step, after_machine_step, step_seen, after_trap}
 use Rattle.board_world.proofs.Stepping.{came_called}
 use Rattle.aegis_calls.proofs.board.Board.run_step.Goals as goal
 
@@ -25,13 +25,7 @@ pub returns-in-Retired : goal.returns-in-Retired
 returns-in-Retired c = c.run_machine.ensures.shown ∙ came_retired c.args.self.now c.args.env (step_seen c.args.self.now c.args.env) (sym c.run_machine.ensures.outcome ∙ c.in-Retired.is)
 
 pub returns-in-Call : goal.returns-in-Call
-returns-in-Call c =
-    c.take_call.ensures
-    ∙ ap (λ (b : Shown). after_runner_call b c.args.env) c.run_machine.ensures.shown
-    ∙ came_called c.args.self.now c.args.env (step_seen c.args.self.now c.args.env) (sym c.run_machine.ensures.outcome ∙ c.in-Call.is)
+returns-in-Call c = search (rules, came_called)
 
 pub returns-in-Trap : goal.returns-in-Trap
-returns-in-Trap c =
-    c.trap.ensures
-    ∙ ap (λ (s : Shown). after_trap s c.args.env c.in-Trap.exc) c.run_machine.ensures.shown
-    ∙ came_trapped c.args.self.now c.args.env (step_seen c.args.self.now c.args.env) c.in-Trap.exc (sym c.run_machine.ensures.outcome ∙ c.in-Trap.is)
+returns-in-Trap c = search (rules, came_trapped)

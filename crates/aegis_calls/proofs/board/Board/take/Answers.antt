@@ -1,4 +1,5 @@
 -- The page and the backup are there, its owner lives, and the board stays sound.
+use Rattle.std.proofs.lemmas.Grind.{common_steps}
 use Rattle.std.proofs.Common.{◌≡◌, sym, subst, arith}
 use Rattle.revocation_book.specs.declared.revocation.Taking.{Taking}
 use Rattle.revocation_book.specs.RevocationBook.{books_of}
@@ -25,9 +26,7 @@ pub record-requires : goal.record-requires
 record-requires c = rw (c.frame-frame.ensures.mappings, c.copy_to_backup.ensures.size) (context_there _ _ _ c.self.invariant.memory c.args.taking.env)
 
 pub backup-used-requires : goal.backup-used-requires
-backup-used-requires c =
-    let live = owner_live _ c.self.invariant c.args.taking (may c.self.view_is c.requires.may) in
-    omega (arith, live.0, c.self.invariant.few)
+backup-used-requires c = grind (arith, common_steps, owner_live, may)
 
 pub release-requires : goal.release-requires
 release-requires c = owner_there _ c.self.invariant c.args.taking (may c.self.view_is c.requires.may)

@@ -1,10 +1,9 @@
 -- The timer is the model's.
-use Rattle.std.proofs.Common.{ap, ◌∙◌, subst}
+use Rattle.std.proofs.Common.{ap, ◌∙◌, subst, rules}
 use Rattle.board_world.specs.Showing.{world_of}
 use Rattle.board_world.specs.Sound.{IsSound}
 use Rattle.board_world.proofs.Counting.{counted_counts}
 use Rattle.board_world.proofs.Turning.{counted_world}
-use Rattle.world_model.specs.World.{World}
 use Rattle.board_world.proofs.Numbering.{timer_claims}
 use Rattle.aegis_calls.proofs.board.Board.timer.Goals as goal
 
@@ -21,6 +20,4 @@ pub returns-clause-room : goal.returns-clause-room
 returns-clause-room c = rw c.count.ensures (counted_counts c.args.self.now (subst IsSound c.self.view_is c.self.invariant)).room
 
 pub returns-clause-numbers : goal.returns-clause-numbers
-returns-clause-numbers c =
-    ap (λ (w : World). w.book.next_claim) (ap world_of c.count.ensures ∙ counted_world c.args.self.now (subst IsSound c.self.view_is c.self.invariant))
-    ∙ timer_claims (world_of c.args.self.now)
+returns-clause-numbers c = search (rules, counted_world, timer_claims)

@@ -1,5 +1,5 @@
 -- The bytes of a page are seen by whom it is owned.
-use Rattle.std.proofs.Common.{◌≡◌, ◌<◌, ℕ, Bool, Option, Some, None, List, length, sym, ap, ◌∙◌, inl, inr, arith, rules}
+use Rattle.std.proofs.Common.{◌≡◌, ◌<◌, ℕ, Bool, Option, Some, None, List, length, sym, ap, ◌∙◌, rules}
 use Rattle.std.specs.Prelude.{if◌then◌else◌, unwrap_or}
 use Rattle.std.proofs.lemmas.Option.{get_or_from_slice_get, slice_get_cases, unwrap_or-slice_get}
 use Rattle.frame_store.specs.Pages.{page_at}
@@ -8,10 +8,8 @@ use Rattle.page_book.specs.declared.row.PageRow.TheVariants.{Free}
 use Rattle.page_book.specs.Row.{is_owned_by}
 use Rattle.page_book.specs.Rows.{row_in}
 use Rattle.page_sight.specs.Sight.{seen_if}
-use Rattle.bind_book.specs.Stripe.{is_bound, stripes}
-use Rattle.board_world.specs.declared.roster.Environment.{Environment}
 use Rattle.board_world.specs.Shown.{Shown}
-use Rattle.board_world.specs.Showing.{solo_of, solo_or_absent}
+use Rattle.board_world.specs.Showing.{solo_of}
 use Rattle.world_model.specs.View.{owned_bytes}
 use Rattle.aegis_calls.proofs.readers.BoardWorldView.owned_page.Goals as goal
 
@@ -24,13 +22,7 @@ seen_bytes owned bound bytes = search rules
 
 -- of a page with this row
 row_bytes : (b : Shown) (e page : ℕ) (row : PageRow) → e < length b.roster.list → row_in b.pages page ≡ row → owned_bytes ((solo_of b e).seen page) ≡ bytes_if (is_owned_by e row) (page_at b.frames page)
-row_bytes b e page row there is = elim (slice_get_cases b.roster.list e).1 [
-  | inl w ↦
-      ap (λ (o : Option Environment). owned_bytes ((solo_or_absent b e o).seen page)) w.2
-      ∙ seen_bytes (is_owned_by e (row_in b.pages page)) (is_bound page (stripes b.binds e)) (page_at b.frames page)
-      ∙ ap (λ (r : PageRow). bytes_if (is_owned_by e r) (page_at b.frames page)) is
-  | inr w ↦ absurd (omega arith)
-]
+row_bytes b e page row there is = search (rules, slice_get_cases, seen_bytes)
 
 pub returns-in_err-row : goal.returns-in_err-row
 returns-in_err-row c =
@@ -53,10 +45,4 @@ returns-then-is_owned c =
     ∙ sym (row_bytes b c.args.env page row c.requires.env is)
 
 pub returns-else-is_owned : goal.returns-else-is_owned
-returns-else-is_owned c =
-    let b = c.args.self.now in
-    let page = c.args.page in
-    let row = c.in_ok-row.row in
-    let is : row_in b.pages page ≡ row = ap (λ (s : Shown). row_in s.pages page) (sym c.self.view_is) ∙ get_or_from_slice_get c.self.inside.pages page row Free (sym c.row.ensures ∙ c.in_ok-row.was) in
-    ap (λ (owned : Bool). bytes_if owned (page_at b.frames page)) (sym c.if-is_owned.false ∙ c.is_owned.ensures)
-    ∙ sym (row_bytes b c.args.env page row c.requires.env is)
+returns-else-is_owned c = search (rules, get_or_from_slice_get, row_bytes)
