@@ -1,7 +1,7 @@
 -- The runner is one of the environments, and each end of a tick is what the timer brings.
-use Rattle.std.proofs.Common.{sym, ap, ◌∙◌, arith, rules}
+use Rattle.std.proofs.Common.{ap, ◌∙◌, arith, rules}
 use Rattle.board_world.specs.Shown.{Shown}
-use Rattle.board_world.specs.Doing.{after_timer_by, after_use}
+use Rattle.board_world.specs.Doing.{after_use}
 use Rattle.board_world.proofs.Sound.{none_left}
 use Rattle.aegis_calls.proofs.Runner.{runner_there}
 use Rattle.aegis_calls.proofs.board.Board.count_down.Goals as goal
@@ -17,15 +17,3 @@ keep_stopped-requires c = search (rules, runner_there)
 
 pub bury-requires : goal.bury-requires
 bury-requires c = search (rules, runner_there, none_left)
-
-pub returns-in-Nothing : goal.returns-in-Nothing
-returns-in-Nothing c = search (rules)
-
-pub returns-in-End : goal.returns-in-End
-returns-in-End c = rw (c.tell_end.ensures, c.use_tick.ensures.after, c.in-End.is) (ap (after_timer_by c.args.self.now c.args.env) (sym c.in-End.is ∙ c.use_tick.ensures.answer))
-
-pub returns-in-Stop : goal.returns-in-Stop
-returns-in-Stop c = rw (c.keep_stopped.ensures, c.use_tick.ensures.after, c.in-Stop.is) (ap (after_timer_by c.args.self.now c.args.env) (sym c.in-Stop.is ∙ c.use_tick.ensures.answer))
-
-pub returns-in-Kill : goal.returns-in-Kill
-returns-in-Kill c = rw (c.bury.ensures, c.use_tick.ensures.after, c.in-Kill.is) (ap (after_timer_by c.args.self.now c.args.env) (sym c.in-Kill.is ∙ c.use_tick.ensures.answer))

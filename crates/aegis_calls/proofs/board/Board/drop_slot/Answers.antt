@@ -9,7 +9,7 @@ use Rattle.aegis_calls.proofs.board.Board.drop_slot.Goals as goal
 
 -- the slot is dropped
 is_dropped : (c : goal.After-push_slot) → c.drop_slot.new.self ≡ with_hold c.self.inside.slots c.args.slot (dropped c.args.env (hold_at c.self.inside.slots.slots c.args.slot))
-is_dropped c = search (rules)
+is_dropped c = search rules
 
 pub invariant_of-self : goal.invariant_of-self
 invariant_of-self c = search (rules, is_dropped, sound_machine, sound_slots, drop_manned)

@@ -1,5 +1,5 @@
 -- Whoever is given the slice lives and has its context page, and kept registers change nobody's life or pages.
-use Rattle.std.proofs.Common.{sym, subst, rules}
+use Rattle.std.proofs.Common.{sym, subst}
 use Rattle.std.specs.Prelude.{false}
 use Rattle.board_world.specs.Doing.{with_registers}
 use Rattle.board_world.specs.Shown.{Shown}
@@ -21,6 +21,3 @@ invariant_of-self c =
     (sound_frames _ c.start-self-inside.ensures.size
     (sound_env (with_registers b.cpu) (keeps_registers b.cpu) c.args.env
     (sound_slots _ (given_manned b.slots b.roster c.args.target false c.self.invariant.book live) c.self.invariant))))
-
-pub returns : goal.returns
-returns c = search (rules)

@@ -1,7 +1,7 @@
 -- A VPN is guaranteed where the frame has a mapping for it.
-use Rattle.std.proofs.Common.{is_some, rules}
+use Rattle.std.proofs.Common.{rules}
 use Rattle.board_world.proofs.Reading.{guaranteed_same}
 use Rattle.aegis_calls.proofs.views.BoardCallView.is_guaranteed.Goals as goal
 
 pub returns : goal.returns
-returns c = search (rules, is_some, guaranteed_same)
+returns c = search (rules, guaranteed_same)
