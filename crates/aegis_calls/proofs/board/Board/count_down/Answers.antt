@@ -1,4 +1,4 @@
--- The runner is one of the environments, and each end of a tick is what the timer brings.
+-- The runner is one of the environments, and a runner that is to die has no slot left.
 use Rattle.std.proofs.Common.{ap, ◌∙◌, arith, rules}
 use Rattle.board_world.specs.Shown.{Shown}
 use Rattle.board_world.specs.Doing.{after_use}
@@ -8,9 +8,6 @@ use Rattle.aegis_calls.proofs.board.Board.count_down.Goals as goal
 
 pub tell_end-requires-clause-there : goal.tell_end-requires-clause-there
 tell_end-requires-clause-there c = rw c.use_tick.ensures.after (runner_there c.self.view_is c.self.invariant c.requires.runs)
-
-pub tell_end-requires-clause-room : goal.tell_end-requires-clause-room
-tell_end-requires-clause-room c = omega (arith, c.requires.room, ap (λ (s : Shown). s.ledger.spare) (c.use_tick.ensures.after ∙ ap (after_use c.args.self.now c.args.env) c.in-End.is))
 
 pub keep_stopped-requires : goal.keep_stopped-requires
 keep_stopped-requires c = search (rules, runner_there)

@@ -14,9 +14,3 @@ start-requires c = (turn_live c.self.inside.slots c.self.inside.roster c.in-Run.
 
 pub invariant_of-self-in-Run : goal.invariant_of-self-in-Run
 invariant_of-self-in-Run c = search (rules, turn_live, sound_machine, sound_slots, run_manned)
-
-pub returns-in-Run-clause-after : goal.returns-in-Run-clause-after
-returns-in-Run-clause-after c = rw (c.start.ensures, c.push-in-Run.ensures, c.in-Run.ensures.after) (ap (λ (s : Shown). after_start s c.in-Run.turn) c.self.view_is)
-
-pub returns-in-Pay-clause-after : goal.returns-in-Pay-clause-after
-returns-in-Pay-clause-after c = rw (c.push.ensures, c.in-Pay.ensures.after) (ap (λ (s : Shown). after_forfeit s c.in-Pay.turn) c.self.view_is)

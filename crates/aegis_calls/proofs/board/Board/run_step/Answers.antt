@@ -15,12 +15,6 @@ came_retired b e step is = search rules
 came_trapped : (b : Shown) (e : ℕ) (step : Step) (exc : Exc) → outcome_of step ≡ outcome.Trap exc → after_trap (after_machine_step b e step) e exc ≡ after_runner_step b e step
 came_trapped b e step exc is = search rules
 
-pub take_call-requires : goal.take_call-requires
-take_call-requires c = rw c.run_machine.ensures.shown (record { runs = c.requires.runs; room = c.requires.room; numbers = c.requires.numbers })
-
-pub trap-requires : goal.trap-requires
-trap-requires c = rw c.run_machine.ensures.shown (record { runs = c.requires.runs; room = c.requires.room })
-
 pub returns-in-Retired : goal.returns-in-Retired
 returns-in-Retired c = c.run_machine.ensures.shown ∙ came_retired c.args.self.now c.args.env (step_seen c.args.self.now c.args.env) (sym c.run_machine.ensures.outcome ∙ c.in-Retired.is)
 

@@ -1,4 +1,4 @@
--- The line's owner lives, and its context page is there.
+-- The owner's context page is there.
 use Rattle.board_world.proofs.Parted.{context_there}
 use Rattle.aegis_calls.proofs.board.Board.signal.Goals as goal
 
