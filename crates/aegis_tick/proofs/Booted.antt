@@ -1,6 +1,6 @@
 -- Programs that are added one after another to the bare world give the boot of their image.
-use Rattle.std.proofs.Common.{◌≡◌, ◌≢◌, ℕ, suc, ◌+◌, List, [], ◌∷◌, ◌++◌, length, Some, inl, inr, refl, sym, ◌∙◌, ap, append_assoc, add-zero, arith}
-use Rattle.std.specs.Prelude.{fold, slice_get, ◌⊎◌}
+use Rattle.std.proofs.Common.{◌≡◌, ℕ, suc, ◌+◌, List, [], ◌∷◌, ◌++◌, length, Some, inl, inr, refl, sym, ◌∙◌, ap, append_assoc, add-zero, arith}
+use Rattle.std.specs.Prelude.{fold, slice_get}
 use Rattle.std.proofs.lemmas.Bool.{cases_eq, ne_eqb, eq-eqb}
 use Rattle.std.proofs.lemmas.List.{length-append, append-nil}
 use Rattle.boot_image.specs.ImageValue.{ImageValue, ProgramValue}
@@ -28,11 +28,10 @@ kept_more e (q ∷ ps) p b =
     ∙ kept_more (e + 1) ps p (with_kept e q b)
 
 next_solo : (ps : List ProgramValue) (p : ProgramValue) (e : ℕ) → absorb_all (booted_solo ps e) (only (length ps) (record_items (length ps) (Some p)) e) ≡ booted_solo (ps ++ p ∷ []) e
-next_solo ps p e = by_number (cases_eq e (length ps))
-  where
-    by_number : (e ≡ length ps) ⊎ (e ≢ length ps) → absorb_all (booted_solo ps e) (only (length ps) (record_items (length ps) (Some p)) e) ≡ booted_solo (ps ++ p ∷ []) e
-    by_number (inl same) = rw (same, eq-eqb (length ps) (length ps) refl, past_get ps, last_get ps p) refl
-    by_number (inr other) = rw (ne_eqb e (length ps) other, other_get ps p e other) refl
+next_solo ps p e = elim (cases_eq e (length ps)) [
+  | inl same ↦ rw (same, eq-eqb (length ps) (length ps) refl, past_get ps, last_get ps p) refl
+  | inr other ↦ rw (ne_eqb e (length ps) other, other_get ps p e other) refl
+]
 
 one_more : (bare : World) (ps : List ProgramValue) (p : ProgramValue) → added (with_programs bare ps) p ≡ with_programs bare (ps ++ p ∷ [])
 one_more bare ps p = λ i. record { book = first_kept bare.book i; count = sym (length-append ps (p ∷ [])) i; solos = λ e. next_solo ps p e i; rows = bare.rows }

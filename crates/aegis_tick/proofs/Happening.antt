@@ -1,18 +1,12 @@
 -- What happens from outside, one after another.
-use Rattle.std.proofs.Common.{◌≡◌, ℕ, ◌+◌, ◌<◌, List, [], ◌∷◌, ◌++◌, length, map, take, get_or, Bool, true, false, refl, sym, ◌∙◌, ap, subst, Option, None, Some}
-use Rattle.std.specs.Prelude.{if◌then◌else◌}
+use Rattle.std.proofs.Common.{◌≡◌, ℕ, ◌+◌, ◌<◌, List, [], ◌∷◌, ◌++◌, length, map, take, get_or, false, refl, sym, ◌∙◌, ap, subst, rules}
 use Rattle.std.proofs.lemmas.List.{map-append, take_more}
 use Rattle.external_event.specs.declared.event.Occurrence.{Occurrence}
-use Rattle.external_event.specs.declared.event.Occurrence.TheVariants as outside
 use Rattle.external_event.specs.EventValue.{EventValue}
-use Rattle.filter_tree.specs.ClaimBook.{ClaimValue}
 use Rattle.world_model.specs.Book.{is_idle_book}
-use Rattle.world_model.specs.ClaimCalls.{claim_of}
-use Rattle.revocation_book.specs.declared.revocation.Pending.{Pending}
-use Rattle.revocation_book.specs.Pending.{asked}
-use Rattle.world_model.specs.Event.{Schedule, arrives, asks, happen, revokes, signals}
+use Rattle.world_model.specs.Event.{Schedule, happen}
 use Rattle.world_model.specs.Tick.{tick_phases, tick_step}
-use Rattle.world_model.specs.World.{World, Reply, after, is_living, no_change, run_phases}
+use Rattle.world_model.specs.World.{World, after, run_phases}
 use Rattle.run_model.specs.Excess.{IsAccounted, TicksKeepAccounts}
 use Rattle.run_model.specs.Run.{happens_in, next_phases, run_on, takings_next}
 use Rattle.run_model.proofs.Balance.{happen_accounts}
@@ -35,29 +29,8 @@ pub then_ticks : (schedule : Schedule) (w : World) → run_phases w (next_phases
 then_ticks schedule w = run_append w (map happen (happens_in schedule w)) (tick_phases (takings_next schedule w))
 
 -- nothing that happens takes or gives a turn
-signal_idle : (line : ℕ) (owner : Option ℕ) (w : World) → is_idle_book (signals line owner w).book ≡ is_idle_book w.book
-signal_idle line None w = refl
-signal_idle line (Some owner) w = refl
-
-arrival_idle : (packet : List ℕ) (claim : Option ClaimValue) (w : World) → is_idle_book (arrives packet claim w).book ≡ is_idle_book w.book
-arrival_idle packet None w = refl
-arrival_idle packet (Some c) w = refl
-
-ask_idle : (e : ℕ) (pending : Option Pending) (w : World) → is_idle_book (asks e pending w).book ≡ is_idle_book w.book
-ask_idle e None w = refl
-ask_idle e (Some p) w = refl
-
-revoke_idle : (e count deadline : ℕ) (w : World) → is_idle_book (revokes e count deadline w).book ≡ is_idle_book w.book
-revoke_idle e count deadline w = by_test (is_living w e)
-  where
-    by_test : (t : Bool) → (let r : Reply = (if t then asks e (asked count deadline (w.book.pending e)) w else no_change w) in is_idle_book r.book ≡ is_idle_book w.book)
-    by_test true = ask_idle e (asked count deadline (w.book.pending e)) w
-    by_test false = refl
-
 happen_idle : (what : Occurrence) (w : World) → is_idle_book (happen what w).book ≡ is_idle_book w.book
-happen_idle (outside.Packet packet) w = arrival_idle packet (claim_of w.book packet) w
-happen_idle (outside.Line line) w = signal_idle line (w.book.lines line) w
-happen_idle (outside.Revoke env count grace) w = revoke_idle env count (w.book.time + grace) w
+happen_idle what w = search rules
 
 pub still_busy : (happens : List Occurrence) (w : World) → is_idle_book (world_with happens w).book ≡ is_idle_book w.book
 still_busy [] w = refl

@@ -1,9 +1,7 @@
 -- All programs of the image, added to the bare world, give its boot.
-use Rattle.std.proofs.Common.{◌≡◌, ℕ, List, Option, ap, sym, subst, ◌∙◌}
-use Rattle.std.specs.Prelude.{fold}
-use Rattle.boot_image.specs.ImageValue.{ProgramValue}
+use Rattle.std.proofs.Common.{◌≡◌, ap, sym, subst, ◌∙◌}
 use Rattle.world_model.specs.World.{World}
-use Rattle.run_model.specs.Boot.{bare_world, added, boot_world}
+use Rattle.run_model.specs.Boot.{boot_world}
 use Rattle.run_model.specs.Excess.{IsAccounted}
 use Rattle.board_world.specs.Showing.{world_of}
 use Rattle.aegis_tick.proofs.Booted.{added_boot, boot_time}
@@ -12,14 +10,9 @@ use Rattle.aegis_tick.proofs.booting.boot.Goals as goal
 booted : (c : goal.After-law_boot_accounts) → world_of c.add_all.new.board ≡ boot_world c.args.image.now
 booted c =
     let image = c.image.inside in
-    let slots = c.as_slice-slots.result.now in
-    let programs = c.as_slice-programs.result.now in
-    c.add_all.ensures.world
-    ∙ ap (λ (w : World). fold added w programs) c.in_ok-board.ensures.world
-    ∙ ap (λ (owners : List (Option ℕ)). fold added (bare_world image.pages image.quantum owners) programs) c.as_slice-slots.ensures.value
-    ∙ ap (λ (ps : List ProgramValue). fold added (bare_world image.pages image.quantum image.slots.items) ps) c.as_slice-programs.ensures.value
-    ∙ added_boot (record { pages = image.pages; quantum = image.quantum; slots = image.slots.items; programs = image.programs.items })
-    ∙ ap boot_world c.image.view_is
+    rw (c.add_all.ensures.world, c.in_ok-board.ensures.world, c.as_slice-slots.ensures.value, c.as_slice-programs.ensures.value)
+    (added_boot (record { pages = image.pages; quantum = image.quantum; slots = image.slots.items; programs = image.programs.items })
+    ∙ ap boot_world c.image.view_is)
 
 pub returns-clause-world : goal.returns-clause-world
 returns-clause-world c = booted c
