@@ -1,6 +1,5 @@
 -- Whoever starts lives.
 use Rattle.std.proofs.Common.{sym, ap, ◌∙◌, rules}
-use Rattle.board_world.specs.Doing.{after_forfeit, after_start}
 use Rattle.board_world.specs.Shown.{Shown}
 use Rattle.board_world.proofs.Sound.{pay_manned, run_manned, turn_live}
 use Rattle.board_world.proofs.Staying.{sound_machine, sound_slots}
