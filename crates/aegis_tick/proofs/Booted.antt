@@ -1,5 +1,5 @@
 -- Programs that are added one after another to the bare world give the boot of their image.
-use Rattle.std.proofs.Common.{◌≡◌, ℕ, suc, ◌+◌, List, [], ◌∷◌, ◌++◌, length, Some, inl, inr, refl, sym, ◌∙◌, ap, append_assoc, add-zero, arith}
+use Rattle.std.proofs.Common.{◌≡◌, ℕ, suc, ◌+◌, List, [], ◌∷◌, ◌++◌, length, Some, inl, inr, refl, sym, ◌∙◌, ap, append_assoc, add-zero, arith, rules}
 use Rattle.std.specs.Prelude.{fold, slice_get}
 use Rattle.std.proofs.lemmas.Bool.{cases_eq, ne_eqb, eq-eqb}
 use Rattle.std.proofs.lemmas.List.{length-append, append-nil}
@@ -28,10 +28,7 @@ kept_more e (q ∷ ps) p b =
     ∙ kept_more (e + 1) ps p (with_kept e q b)
 
 next_solo : (ps : List ProgramValue) (p : ProgramValue) (e : ℕ) → absorb_all (booted_solo ps e) (only (length ps) (record_items (length ps) (Some p)) e) ≡ booted_solo (ps ++ p ∷ []) e
-next_solo ps p e = elim (cases_eq e (length ps)) [
-  | inl same ↦ rw (same, eq-eqb (length ps) (length ps) refl, past_get ps, last_get ps p) refl
-  | inr other ↦ rw (ne_eqb e (length ps) other, other_get ps p e other) refl
-]
+next_solo ps p e = search (rules, cases_eq, eq-eqb, past_get, last_get, ne_eqb, other_get)
 
 one_more : (bare : World) (ps : List ProgramValue) (p : ProgramValue) → added (with_programs bare ps) p ≡ with_programs bare (ps ++ p ∷ [])
 one_more bare ps p = λ i. record { book = first_kept bare.book i; count = sym (length-append ps (p ∷ [])) i; solos = λ e. next_solo ps p e i; rows = bare.rows }
@@ -48,9 +45,7 @@ all_added bare ps (q ∷ qs) =
 
 -- a board without programs shows a world without programs
 none_yet : (image : ImageValue) → with_programs (bare_world image.pages image.quantum image.slots) [] ≡ bare_world image.pages image.quantum image.slots
-none_yet image =
-    let bare = bare_world image.pages image.quantum image.slots in
-    λ i. record { book = bare.book; count = 0; solos = absent; rows = bare.rows }
+none_yet image = search rules
 
 pub added_boot : (image : ImageValue) → fold added (bare_world image.pages image.quantum image.slots) image.programs ≡ boot_world image
 added_boot image =

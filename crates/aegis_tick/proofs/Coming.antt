@@ -1,5 +1,5 @@
 -- The events that are still to come, in order: those of a time stand first.
-use Rattle.std.proofs.Common.{◌≡◌, ℕ, suc, ◌+◌, ◌<◌, ◌≤◌, Bool, true, List, [], ◌∷◌, take, drop, length, refl, sym, ◌∙◌, ap, subst, arith, inl, inr}
+use Rattle.std.proofs.Common.{◌≡◌, ℕ, suc, ◌+◌, ◌<◌, ◌≤◌, Bool, true, List, [], ◌∷◌, take, drop, length, refl, sym, ◌∙◌, ap, subst, arith, inl, inr, rules}
 use Rattle.std.specs.Prelude.{◌==◌, nat_le, filter}
 use Rattle.std.specs.List.{prefix_len, take_while}
 use Rattle.std.proofs.lemmas.List.{drop-drop, length-drop}
@@ -37,14 +37,11 @@ none_before from t (x ∷ xs) ordered before =
 
 -- the next isn't over
 pub next_later : (from : ℕ) (xs : List EventValue) → are_in_order from xs ≡ true → from ≤ 4294967295 → from ≤ next_time_of xs
-next_later from [] ordered most = most
-next_later from (x ∷ xs) ordered most = leb-true from x.time (and_parts (nat_le from x.time) (are_in_order x.time xs) ordered).0
+next_later from xs ordered most = search (rules, leb-true, and_parts)
 
 -- they are in order from any time on that isn't behind the next
 pub order_later : (from t : ℕ) (xs : List EventValue) → are_in_order from xs ≡ true → t ≤ next_time_of xs → are_in_order t xs ≡ true
-order_later from t [] ordered within = refl
-order_later from t (x ∷ xs) ordered within =
-    and_from (nat_le t x.time) (are_in_order x.time xs) (le-leb t x.time within) (and_parts (nat_le from x.time) (are_in_order x.time xs) ordered).1
+order_later from t xs ordered within = search (rules, and_from, le-leb, and_parts)
 
 -- those of a time are the first
 firsts : (t : ℕ) (xs : List EventValue) → are_in_order t xs ≡ true → filter (is_at t) xs ≡ take (first_at t xs) xs

@@ -44,13 +44,7 @@ still_accounted (what ∷ happens) w good = still_accounted happens (after w (ha
 -- where what happens in a tick happened in part, the run was cut off
 pub cut_off : (schedule : Schedule) (w v u : World) (t ticks : ℕ) (happens : List Occurrence) → v ≡ run_on schedule w t → t < ticks → is_idle_book v.book ≡ false
     → happens_in schedule v ≡ happens → HappenedInPart happens v u → IsCutOff schedule w ticks u
-cut_off schedule w v u t ticks happens now fewer busy are part = record {
-  done = t;
-  fewer = fewer;
-  busy = ap (λ (x : World). is_idle_book x.book) (sym now) ∙ busy;
-  events = part.0;
-  is = part.1 ∙ ap (λ (xs : List Occurrence). world_with (take part.0 xs) v) (sym are) ∙ ap (λ (x : World). world_with (take part.0 (happens_in schedule x)) x) now;
-}
+cut_off schedule w v u t ticks happens now fewer busy are part = search rules
 
 pub cut_accounted : TicksKeepAccounts → (schedule : Schedule) (w : World) (ticks : ℕ) (u : World) → IsCutOff schedule w ticks u → IsAccounted w → IsAccounted u
 cut_accounted keep schedule w ticks u cut good =

@@ -1,5 +1,5 @@
 -- All programs of the image, added to the bare world, give its boot.
-use Rattle.std.proofs.Common.{◌≡◌, ap, sym, subst, ◌∙◌}
+use Rattle.std.proofs.Common.{◌≡◌, ap, sym, subst, ◌∙◌, rules}
 use Rattle.world_model.specs.World.{World}
 use Rattle.run_model.specs.Boot.{boot_world}
 use Rattle.run_model.specs.Excess.{IsAccounted}
@@ -8,11 +8,7 @@ use Rattle.aegis_tick.proofs.Booted.{added_boot, boot_time}
 use Rattle.aegis_tick.proofs.booting.boot.Goals as goal
 
 booted : (c : goal.After-law_boot_accounts) → world_of c.add_all.new.board ≡ boot_world c.args.image.now
-booted c =
-    let image = c.image.inside in
-    rw (c.add_all.ensures.world, c.in_ok-board.ensures.world, c.as_slice-slots.ensures.value, c.as_slice-programs.ensures.value)
-    (added_boot (record { pages = image.pages; quantum = image.quantum; slots = image.slots.items; programs = image.programs.items })
-    ∙ ap boot_world c.image.view_is)
+booted c = search (rules, added_boot)
 
 pub returns-clause-world : goal.returns-clause-world
 returns-clause-world c = booted c

@@ -1,5 +1,5 @@
 -- Each turn of the loop is one event more.
-use Rattle.std.proofs.Common.{List, sym, ◌∙◌, ap, arith}
+use Rattle.std.proofs.Common.{List, sym, ◌∙◌, ap, arith, rules}
 use Rattle.std.specs.List.{take-map}
 use Rattle.external_event.specs.declared.event.Occurrence.{Occurrence}
 use Rattle.external_event.specs.EventValue.{EventValue}
@@ -23,19 +23,4 @@ returns-in_err-make_room-clause-part c =
     )
 
 pub loop-one-preserved : goal.loop-one-preserved
-loop-one-preserved c =
-    let i = c.loop-one.one-index in
-    let w = world_of c.args.board.now in
-    let what = c.one-item.result.what in
-    let same = c.in_ok-make_room.ensures.world ∙ c.loop-one.invariant.world in
-    record {
-      world = c.event.ensures.world ∙ ap (λ (v : World). after v (happen what v)) same ∙ sym (one_more w c.args.events.now i c.one-item.result c.loop-one-test.true c.one-item.is);
-      time = c.event.ensures.time ∙ ap (λ (b : Shown). b.time) c.in_ok-make_room.ensures.same ∙ c.loop-one.invariant.time;
-      whole = c.event.ensures.whole ∙ ap (λ (b : Shown). b.roster.spare) c.in_ok-make_room.ensures.same ∙ c.loop-one.invariant.whole;
-      numbers = c.event.ensures.numbers ∙ ap (λ (b : Shown). b.claims.next) c.in_ok-make_room.ensures.same ∙ c.loop-one.invariant.numbers;
-      room = λ enough.
-          let spare = c.loop-one.invariant.room enough in
-          let there = c.in_ok-make_room.ensures.there (omega arith) in
-          let kept = ap (λ (b : Shown). b.ledger.spare) there.1 in
-          omega arith;
-    }
+loop-one-preserved c = search (rules, one_more)
