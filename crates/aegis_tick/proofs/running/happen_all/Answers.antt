@@ -1,12 +1,9 @@
 -- Each turn of the loop is one event more.
-use Rattle.std.proofs.Common.{List, sym, ◌∙◌, ap, arith, rules}
+use Rattle.std.proofs.Common.{List, sym, ◌∙◌, ap, rules}
 use Rattle.std.specs.List.{take-map}
 use Rattle.external_event.specs.declared.event.Occurrence.{Occurrence}
 use Rattle.external_event.specs.EventValue.{EventValue}
-use Rattle.board_world.specs.Shown.{Shown}
 use Rattle.board_world.specs.Showing.{world_of}
-use Rattle.world_model.specs.Event.{happen}
-use Rattle.world_model.specs.World.{World, after}
 use Rattle.aegis_tick.specs.Course.{world_with}
 use Rattle.aegis_tick.proofs.Happening.{one_more}
 use Rattle.aegis_tick.proofs.Refusals.{on_err}

@@ -1,11 +1,10 @@
 -- What happens leaves the board busy, and a tick follows.
-use Rattle.std.proofs.Common.{sym, ◌∙◌, ap, arith, List, length, rules}
+use Rattle.std.proofs.Common.{sym, ◌∙◌, ap, List, length, rules}
 use Rattle.std.proofs.Math.Seq.{take-length}
 use Rattle.external_event.specs.declared.event.Occurrence.{Occurrence}
 use Rattle.board_world.specs.Shown.{Shown}
 use Rattle.board_world.specs.Showing.{world_of}
 use Rattle.world_model.specs.Book.{is_idle_book}
-use Rattle.world_model.specs.Tick.{tick_step}
 use Rattle.world_model.specs.World.{World}
 use Rattle.aegis_tick.specs.Course.{occurrences, world_with}
 use Rattle.aegis_tick.proofs.Happening.{still_busy}
