@@ -1,14 +1,11 @@
--- What is known of a page that may be allocated or changed, and of a slot that may be dropped.
+-- What is known of a page that may be allocated or changed.
 use Rattle.std.proofs.Common.{◌≡◌, ◌≢◌, ◌<◌, ℕ, List, length, Bool, true, false, Some, None, sym, ◌∙◌, ap, rules}
 use Rattle.std.specs.Prelude.{if◌then◌else◌, slice_get}
-use Rattle.std.proofs.lemmas.Bool.{eq-eqb, lt-ltb}
+use Rattle.std.proofs.lemmas.Bool.{lt-ltb}
 use Rattle.page_book.specs.declared.row.PageRow.{PageRow}
 use Rattle.page_book.specs.declared.row.PageRow.TheVariants.{Free, Guaranteed}
 use Rattle.page_book.specs.Row.{alloc_refusal, change_refusal, is_owned_by}
 use Rattle.page_book.specs.Rows.{row_in}
-use Rattle.slot_vector.specs.Slices.{Slices, hold_at, refusal_of_drop}
-use Rattle.world_model.specs.declared.slot.Hold.{Hold}
-use Rattle.board_world.proofs.Slots.{slot_got}
 use Rattle.board_world.proofs.Tables.{row_got}
 
 -- neither a free page nor one that is owned is guaranteed
@@ -29,7 +26,3 @@ allocable pages page there free = ap alloc_refusal (row_of_there pages page ther
 -- a page that one owns may be changed by it
 pub changeable : (e : ℕ) (pages : List PageRow) (page : ℕ) → page < length pages → is_owned_by e (row_in pages page) ≡ true → change_refusal e (slice_get pages page) ≡ None
 changeable e pages page there owned = search (rules, row_of_there)
-
--- a slot that one holds may be dropped by it
-pub droppable : (v : Slices) (e k : ℕ) (hold : Hold) → k < length v.slots → hold_at v.slots k ≡ Some hold → hold.holder ≡ e → refusal_of_drop e v k ≡ None
-droppable v e k hold there stands holder = search (rules, slot_got, lt-ltb, eq-eqb)

@@ -1,7 +1,7 @@
 -- The vector of slots as a list and as a table.
-use Rattle.std.proofs.Common.{◌≡◌, ◌≢◌, ◌<◌, ℕ, zero, suc, List, [], ◌∷◌, length, true, Option, Some, None, is_some, refl, arith, rules, get_or-set_same, get_or-set_other, ◌∙◌, sym}
+use Rattle.std.proofs.Common.{◌≡◌, ◌≢◌, ◌<◌, ℕ, zero, suc, List, [], ◌∷◌, length, true, Option, None, is_some, refl, arith, rules, get_or-set_same, get_or-set_other, ◌∙◌, sym}
 use Rattle.std.specs.Option.{option_map}
-use Rattle.std.specs.Prelude.{nat_lt, if◌then◌else◌, slice_get, slice_set, slice_index_or}
+use Rattle.std.specs.Prelude.{nat_lt, slice_get, slice_set, slice_index_or}
 use Rattle.std.proofs.lemmas.Bool.{cases_lt, lt-ltb, le-ltb}
 use Rattle.std.proofs.lemmas.Option.{slice_get_past}
 use Rattle.slot_vector.specs.Slices.{hold_at}
@@ -17,15 +17,6 @@ some_within (x ∷ xs) (suc k) within = some_within xs k (omega arith)
 -- what is below the length is there
 pub is_there : {A : Type 0} (xs : List A) (k : ℕ) → nat_lt k (length xs) ≡ is_some (slice_get xs k)
 is_there xs k = search (rules, cases_lt, lt-ltb, some_within, le-ltb, slice_get_past)
-
-got_within : (slots : List (Option Hold)) (k : ℕ) → k < length slots → slice_get slots k ≡ Some (hold_at slots k)
-got_within [] k within = absurd (omega arith)
-got_within (slot ∷ slots) zero within = refl
-got_within (slot ∷ slots) (suc k) within = got_within slots k (omega arith)
-
--- the slot of a number, if there is one
-pub slot_got : (slots : List (Option Hold)) (k : ℕ) → slice_get slots k ≡ (if nat_lt k (length slots) then Some (hold_at slots k) else None)
-slot_got slots k = search (rules, cases_lt, got_within, lt-ltb, slice_get_past, le-ltb)
 
 -- the holds are the elements of the list, and none behind it
 pub hold_is : (slots : List (Option Hold)) (k : ℕ) → hold_at slots k ≡ slice_index_or slots k None

@@ -152,9 +152,6 @@ end_manned v r manned = record { quantum = manned.quantum; ticks = tt; runner = 
 pub runner_alive : (v : Slices) (r : Environments) (e : ℕ) → IsManned v r → running v.runner ≡ Some e → IsLive r.list e
 runner_alive v r e manned runs = runner_live r.list e v.runner manned.runner runs
 
-pub runner_within : (v : Slices) (r : Environments) (e : ℕ) → IsManned v r → running v.runner ≡ Some e → e < length r.list
-runner_within v r e manned runs = (runner_alive v r e manned runs).0
-
 -- the slots once one is gone
 pub hold_at-released : (e : ℕ) (slots : List (Option Hold)) (k : ℕ) → hold_at (map (hold_without e) slots) k ≡ hold_without e (hold_at slots k)
 hold_at-released e [] k = refl

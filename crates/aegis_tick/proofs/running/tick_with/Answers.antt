@@ -1,5 +1,5 @@
 -- What happens leaves the board busy, and a tick follows.
-use Rattle.std.proofs.Common.{sym, ◌∙◌, ap, List, length, rules}
+use Rattle.std.proofs.Common.{sym, ◌∙◌, ap, List, length}
 use Rattle.std.proofs.Math.Seq.{take-length}
 use Rattle.external_event.specs.declared.event.Occurrence.{Occurrence}
 use Rattle.board_world.specs.Shown.{Shown}
@@ -21,14 +21,8 @@ tick-requires-clause-busy c =
 pub tick-requires-clause-whole : goal.tick-requires-clause-whole
 tick-requires-clause-whole c = ap (λ (b : Shown). b.roster.spare) c.in_ok-make_room.ensures.same ∙ c.in_ok-happen_all.ensures.whole ∙ c.requires.whole
 
-pub tick-requires-clause-numbers : goal.tick-requires-clause-numbers
-tick-requires-clause-numbers c = search rules
-
 pub returns-in_err-make_room-clause-part : goal.returns-in_err-make_room-clause-part
 returns-in_err-make_room-clause-part c =
     let w = world_of c.args.board.now in
     let happens = occurrences c.args.events.now in
     on_err c.from_residual-in_err-make_room.result (length happens, c.in_err-make_room.ensures.world ∙ c.in_ok-happen_all.ensures.world ∙ ap (λ (xs : List Occurrence). world_with xs w) (sym (take-length happens)))
-
-pub returns-clause-world : goal.returns-clause-world
-returns-clause-world c = search rules
