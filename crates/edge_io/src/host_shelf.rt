@@ -77,9 +77,7 @@ impl<D: Folder> Shelf for HostShelf<D> {
         match read_file(&self.folder, alloc, name) {
             Ok(bytes) => Ok(self.kept.keep(title, bytes)?),
             Err(ReadFail::Failed) => {
-                self.kept.faults = self.kept.faults.saturating_add(1);
-                self.kept.failed = Some(title);
-                self.kept.failed_call = self.kept.calls;
+                self.kept.count_failure(title);
                 Err(ReadFail::Failed)
             }
             Err(ReadFail::OutOfMemory) => Err(ReadFail::OutOfMemory),

@@ -1,5 +1,6 @@
 //! What a shelf keeps of its reads.
-ghost use Rattle.std.specs.Prelude.{◌≡◌, [], ◌∷◌, ◌++◌, OnOk, OnErr, string_bytes};
+ghost use Rattle.std.specs.Prelude.{◌≡◌, ◌≤◌, [], ◌∷◌, ◌++◌, Some, OnOk, OnErr, string_bytes};
+ghost use Rattle.edge_io.specs.Faults.{one_more};
 ghost use Rattle.edge_io.specs.Reads.{no_readings, readings_seen};
 
 use std::alloc::{AllocError, Global};
@@ -34,6 +35,20 @@ impl Readings {
             failed: None,
             failed_call: 0,
         }
+    }
+
+    /// Counts a failure of the last read that was counted, whose name this is.
+    pub fn count_failure(&mut self, name: String)
+        ensures counted { readings_seen self.new ≡ record (readings_seen self.old) {
+          faults = one_more (readings_seen self.old).faults;
+          failed = Some (string_bytes name);
+          failed_call = (readings_seen self.old).calls;
+        } }
+        ensures never_falls { self.old.faults ≤ self.new.faults }
+    {
+        self.faults = self.faults.saturating_add(1);
+        self.failed = Some(name);
+        self.failed_call = self.calls;
     }
 
     /// Keeps a file behind the others. Where memory is wanting, all stays as it was.

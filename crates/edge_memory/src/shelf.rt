@@ -92,9 +92,7 @@ impl Shelf for MemoryShelf {
                 Ok(self.kept.keep(title, bytes)?)
             }
             None => {
-                self.kept.faults = self.kept.faults.saturating_add(1);
-                self.kept.failed = Some(title);
-                self.kept.failed_call = self.kept.calls;
+                self.kept.count_failure(title);
                 Err(ReadFail::Failed)
             }
         }
