@@ -1,9 +1,9 @@
 -- The runner of a board lives, by what the board shows.
 use Rattle.std.proofs.Common.{◌≡◌, ◌<◌, ℕ, Some, length, refl, ap, subst, ◌∙◌}
 use Rattle.world_model.specs.Book.{running}
-use Rattle.board_world.specs.Shown.{Shown}
-use Rattle.board_world.specs.Sound.{IsLive, IsSound}
-use Rattle.board_world.proofs.Sound.{runner_alive}
+use Rattle.board_model.specs.Shown.{Shown}
+use Rattle.board_model.specs.Sound.{IsLive, IsSound}
+use Rattle.board_model.proofs.Sound.{runner_alive}
 
 pub runner_live : {b now : Shown} {e : ℕ} → b ≡ now → IsSound b → running now.slots.runner ≡ Some e → IsLive b.roster.list e
 runner_live {b} {now} {e} same sound runs = runner_alive b.slots b.roster e sound.book (ap (λ (s : Shown). running s.slots.runner) same ∙ runs)

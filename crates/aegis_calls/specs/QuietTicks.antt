@@ -2,9 +2,9 @@
 use Rattle.std.specs.Prelude.{◌≡◌, ℕ, ◌+◌}
 use Rattle.world_model.specs.Event.{Schedule}
 use Rattle.run_model.specs.Run.{run_on}
-use Rattle.board_world.specs.Shown.{Shown}
-use Rattle.board_world.specs.Showing.{world_of}
-use Rattle.board_world.specs.Stretch.{IsQuiet}
+use Rattle.board_model.specs.Shown.{Shown}
+use Rattle.board_model.specs.Showing.{world_of}
+use Rattle.board_model.specs.Stretch.{IsQuiet}
 
 -- where nothing happens from outside in so many ticks between two boards, they are the model's
 abbrev pub AreQuietTicks : Shown → Shown → ℕ → Type 0

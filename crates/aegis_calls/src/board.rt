@@ -1,7 +1,7 @@
 //! The board and what it shows.
 
 use bind_book::Bindings;
-use board_world::{Lines, Roster};
+use board_model::{Lines, Roster};
 use filter_tree::Claims;
 use frame_store::Frames;
 use kernel_journal::Journal;
@@ -28,8 +28,8 @@ pub struct Board {
 }
 
 impl Model for Board {
-    ghost use Rattle.board_world.specs.Shown.{Shown, shown};
-    ghost use Rattle.board_world.specs.Sound.{IsSound};
+    ghost use Rattle.board_model.specs.Shown.{Shown, shown};
+    ghost use Rattle.board_model.specs.Sound.{IsSound};
 
     ghost Value = { Shown };
 

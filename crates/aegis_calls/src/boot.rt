@@ -4,14 +4,13 @@ ghost use Rattle.boot_image.specs.ImageValue.{guaranteed_mappings};
 ghost use Rattle.aegis_limits.specs.Limits.{least_pages, most_pages, least_quantum, most_quantum, most_slots, most_environments};
 ghost use Rattle.page_book.specs.Rows.{free_pages};
 ghost use Rattle.run_model.specs.Boot.{bare_world, added};
-ghost use Rattle.board_world.specs.Showing.{world_of};
+ghost use Rattle.board_model.specs.Showing.{world_of};
 
 use crate::board::Board;
 use aegis_limits::OutOfMemory;
-use board_parts::{bare_memory, boot_journal};
-use board_world::{Lines, Roster};
+use board_boot::{bare_memory, boot_journal, load};
+use board_model::{Lines, Roster};
 use boot_image::Program;
-use boot_pages::load;
 use filter_tree::Claims;
 use mips_exec::Cpu;
 use revocation_book::Revocations;
@@ -19,7 +18,7 @@ use slot_vector::Slots;
 use std::alloc::Global;
 
 impl Board {
-    ghost use Rattle.board_world.specs.Loading.{IsBare};
+    ghost use Rattle.board_model.specs.Loading.{IsBare};
 
     /// A board without programs, with so many pages of memory, a quantum in ticks, the owner of each slot,
     /// and room for so many environments (`docs/KERNEL.md`, "Boot"). It takes the memory for all that the

@@ -4,7 +4,7 @@ ghost use Rattle.world_model.specs.Book.{running};
 ghost use Rattle.world_model.specs.May.{May};
 
 use crate::board::Board;
-use board_parts::answer;
+use board_acts::answer;
 use call_verdicts::{decide, deed_of, law_granted};
 use world_model::{Call, Cause, Deed, EXIT, Verdict};
 
@@ -15,8 +15,8 @@ const CALL_NUMBER: u8 = 2;
 const EXIT_CODE: u8 = 4;
 
 impl Board {
-    ghost use Rattle.board_world.specs.Doing.{after_answer, after_runner_call, after_grant, after_decision};
-    ghost use Rattle.board_world.specs.Showing.{world_of};
+    ghost use Rattle.board_model.specs.Doing.{after_answer, after_runner_call, after_grant, after_decision};
+    ghost use Rattle.board_model.specs.Showing.{world_of};
 
     /// The runner's call is answered.
     fn answer(&mut self, verdict: Verdict)

@@ -3,15 +3,15 @@ ghost use Rattle.std.specs.Prelude.{◌≡◌, ◌<◌, ◌^◌, Some};
 ghost use Rattle.world_model.specs.Book.{running};
 ghost use Rattle.world_model.specs.Downloads.{MayDownload};
 ghost use Rattle.world_model.specs.May.{MayClaim};
-ghost use Rattle.board_world.specs.Showing.{world_of};
+ghost use Rattle.board_model.specs.Showing.{world_of};
 
 use crate::board::Board;
-use board_parts::unless_empty;
+use board_acts::unless_empty;
 use call_verdicts::{claimed_filter, named_handler};
 
 impl Board {
-    ghost use Rattle.board_world.specs.Doing.{with_claimed, with_downloaded, with_unclaimed};
-    ghost use Rattle.board_world.specs.Showing.{solo_of};
+    ghost use Rattle.board_model.specs.Doing.{with_claimed, with_downloaded, with_unclaimed};
+    ghost use Rattle.board_model.specs.Showing.{solo_of};
 
     /// The packets that a filter in the runner's memory matches, of so many atoms from an address on, are the runner's
     /// from now on, and go into a page of its own.

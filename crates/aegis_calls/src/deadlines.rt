@@ -4,12 +4,12 @@ ghost use Rattle.revocation_book.specs.RevocationBook.{books_of};
 ghost use Rattle.revocation_book.specs.Takings.{AreTakable, IsTakable};
 
 use crate::board::Board;
-use board_parts::copy_to_backup;
+use board_acts::copy_to_backup;
 use kernel_journal::Row;
 use revocation_book::{Taking, law_few_takings, law_takable};
 
 impl Board {
-    ghost use Rattle.board_world.specs.Doing.{after_deadlines, after_taking};
+    ghost use Rattle.board_model.specs.Doing.{after_deadlines, after_taking};
 
     /// A page is taken by force: the backup gets a copy and is an ordinary page again, its owner finds the record, and the
     /// page is nobody's.

@@ -1,14 +1,14 @@
 //! Deaths: what they do to the board's parts.
 ghost use Rattle.std.specs.Prelude.{◌≡◌, ◌<◌, length, Some};
 ghost use Rattle.world_model.specs.Book.{running};
-ghost use Rattle.board_world.specs.Sound.{HasNoPart};
+ghost use Rattle.board_model.specs.Sound.{HasNoPart};
 
 use crate::board::Board;
-use board_parts::release_slots;
+use board_acts::release_slots;
 use world_model::Cause;
 
 impl Board {
-    ghost use Rattle.board_world.specs.Doing.{after_burial, after_death};
+    ghost use Rattle.board_model.specs.Doing.{after_burial, after_death};
 
     /// What an environment has whose slots are released goes: its pages are free, neither its bindings nor those of
     /// its pages are left, its interrupt lines are nobody's, its claims are withdrawn, nothing is asked of it, and it is

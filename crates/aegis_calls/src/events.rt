@@ -4,7 +4,7 @@ ghost use Rattle.external_event.specs.Limits.{lines};
 ghost use Rattle.filter_tree.specs.ClaimBook.{are_numbered};
 
 use crate::board::Board;
-use board_parts::deliver;
+use board_acts::deliver;
 use call_verdicts::CallView;
 use external_event::PacketBytes;
 use filter_core::Packet;
@@ -13,7 +13,7 @@ use revocation_book::Pending;
 use world_model::Life;
 
 impl Board {
-    ghost use Rattle.board_world.specs.Doing.{after_arrival, after_revocation, after_signal};
+    ghost use Rattle.board_model.specs.Doing.{after_arrival, after_revocation, after_signal};
 
     /// A packet comes: for the lowest claim whose filter matches it, or for nobody. Then it is dropped, and the ledger tells
     /// its length.

@@ -7,7 +7,7 @@ use mips_exec::Exc;
 use world_model::Cause;
 
 impl Board {
-    ghost use Rattle.board_world.specs.Doing.{after_trap};
+    ghost use Rattle.board_model.specs.Doing.{after_trap};
 
     /// The runner goes on at its handler of exceptions, and where it has none it dies.
     pub(crate) fn trap(&mut self, env: u8, exc: &Exc)

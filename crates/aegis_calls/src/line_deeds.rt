@@ -1,12 +1,12 @@
 //! What granted calls do to interrupt lines.
 ghost use Rattle.std.specs.Prelude.{◌≡◌, ◌<◌, IfSome};
 ghost use Rattle.external_event.specs.Limits.{lines};
-ghost use Rattle.board_world.specs.Sound.{IsLive};
+ghost use Rattle.board_model.specs.Sound.{IsLive};
 
 use crate::board::Board;
 
 impl Board {
-    ghost use Rattle.board_world.specs.Doing.{with_line};
+    ghost use Rattle.board_model.specs.Doing.{with_line};
 
     /// A line is another's from now on, who lives, or nobody's.
     pub(crate) fn set_line(&mut self, line: u32, owner: Option<u8>)

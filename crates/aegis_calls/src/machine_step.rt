@@ -4,12 +4,12 @@ ghost use Rattle.mips_exec.specs.Step.{outcome_of};
 ghost use Rattle.world_model.specs.Book.{running};
 
 use crate::board::Board;
-use board_parts::space_in;
+use board_acts::space_in;
 use guest_step::step_guest;
 use mips_exec::Outcome;
 
 impl Board {
-    ghost use Rattle.board_world.specs.Doing.{after_runner_step, after_machine_step, step_seen};
+    ghost use Rattle.board_model.specs.Doing.{after_runner_step, after_machine_step, step_seen};
 
     /// The machine makes one step for the runner.
     pub(crate) fn run_machine(&mut self, env: u8) -> Outcome

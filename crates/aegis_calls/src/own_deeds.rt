@@ -4,16 +4,16 @@ ghost use Rattle.aegis_limits.specs.Limits.{vpn_end};
 ghost use Rattle.page_book.specs.Rows.{row_in};
 ghost use Rattle.world_model.specs.Book.{running};
 ghost use Rattle.world_model.specs.OwnCalls.{MayOwn};
-ghost use Rattle.board_world.specs.Sound.{IsOwned};
+ghost use Rattle.board_model.specs.Sound.{IsOwned};
 
 use crate::board::Board;
 use bind_book::Binding;
-use board_parts::{put, send};
+use board_acts::{put, send};
 use world_model::OwnDeed;
 
 impl Board {
-    ghost use Rattle.board_world.specs.Doing.{after_own_deed, with_bound, with_unbound};
-    ghost use Rattle.board_world.specs.Showing.{solo_of};
+    ghost use Rattle.board_model.specs.Doing.{after_own_deed, with_bound, with_unbound};
+    ghost use Rattle.board_model.specs.Showing.{solo_of};
 
     /// The runner does this to itself alone, which it may.
     pub(crate) fn do_own(&mut self, env: u8, own: OwnDeed)

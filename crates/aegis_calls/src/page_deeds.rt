@@ -3,13 +3,13 @@ ghost use Rattle.std.specs.Prelude.{◌≡◌, Some, None};
 ghost use Rattle.page_book.specs.declared.row.PageRow.TheVariants.{Free, Owned};
 ghost use Rattle.world_model.specs.Book.{running};
 ghost use Rattle.world_model.specs.May.{MayAllocate, MayChange, MayLoad};
-ghost use Rattle.board_world.specs.Showing.{book_of};
+ghost use Rattle.board_model.specs.Showing.{book_of};
 
 use crate::board::Board;
 use page_book::Capabilities;
 
 impl Board {
-    ghost use Rattle.board_world.specs.Doing.{with_broken, with_freed, with_given_back, with_loaded, with_allocated};
+    ghost use Rattle.board_model.specs.Doing.{with_broken, with_freed, with_given_back, with_loaded, with_allocated};
 
     /// A free page is the runner's own from now on, with these words, and holds zeros.
     pub(crate) fn allocate(&mut self, env: u8, page: u32, words: Capabilities)

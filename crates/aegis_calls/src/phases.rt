@@ -8,7 +8,7 @@ ghost use Rattle.world_model.specs.World.{after};
 ghost use Rattle.world_model.specs.Tick.{served, turn as turn_phase, step as step_phase, timer as timer_phase, died, IsCalled, IsRefused};
 
 use crate::board::Board;
-use board_world::{law_call, law_happen, law_refusal, law_serving, law_step};
+use board_model::{law_call, law_happen, law_refusal, law_serving, law_step};
 use external_event::Occurrence;
 use revocation_book::law_few_takings;
 use world_model::{Cause, WorldView};
@@ -27,7 +27,7 @@ pub const STEP_ROWS: usize = 256;
 pub const CALL_ROWS: usize = 128;
 
 impl Board {
-    ghost use Rattle.board_world.specs.Showing.{world_of};
+    ghost use Rattle.board_model.specs.Showing.{world_of};
 
     /// Nobody runs and no slot has a holder.
     pub fn idle(&self) -> bool

@@ -1,12 +1,12 @@
 //! What the layers above read of a board.
 ghost use Rattle.std.specs.Prelude.{◌≡◌, ◌<◌, ◌≤◌, Some, OnOk, OnErr, IsOk, length, slice_get};
 ghost use Rattle.std.specs.Option.{option_map};
-ghost use Rattle.board_world.specs.Shown.{with_spare};
+ghost use Rattle.board_model.specs.Shown.{with_spare};
 
 use crate::board::Board;
 use aegis_limits::OutOfMemory;
 use bind_book::{Binding, Bindings};
-use board_parts::{is_owned, page_behind};
+use board_acts::{is_owned, page_behind};
 use env_frames::Env;
 use frame_store::Frames;
 use kernel_journal::Row;
@@ -16,7 +16,7 @@ use slot_vector::Slots;
 use world_model::{Life, PageView, WorldView};
 
 impl Board {
-    ghost use Rattle.board_world.specs.Showing.{world_of};
+    ghost use Rattle.board_model.specs.Showing.{world_of};
 
     /// Physical memory.
     pub fn frames(&self) -> &Frames
@@ -68,7 +68,7 @@ impl Board {
 }
 
 impl WorldView for Board {
-    ghost use Rattle.board_world.specs.Showing.{world_of};
+    ghost use Rattle.board_model.specs.Showing.{world_of};
 
     ghost world = { world_of };
 

@@ -6,17 +6,17 @@ ghost use Rattle.world_model.specs.SlotCalls.{dropped};
 ghost use Rattle.slot_vector.specs.Slices.{hold_at};
 ghost use Rattle.env_frames.specs.Context.{handler_of};
 ghost use Rattle.env_frames.specs.Transfer.{entry_context};
-ghost use Rattle.board_world.specs.Shown.{handlers_of};
-ghost use Rattle.board_world.specs.Showing.{book_of};
-ghost use Rattle.board_world.specs.Sound.{IsLive};
+ghost use Rattle.board_model.specs.Shown.{handlers_of};
+ghost use Rattle.board_model.specs.Showing.{book_of};
+ghost use Rattle.board_model.specs.Sound.{IsLive};
 
 use crate::board::Board;
-use board_parts::{enter, hand_on, push_slot};
+use board_acts::{enter, hand_on, push_slot};
 use env_frames::TransferKind;
 use kernel_journal::Row;
 
 impl Board {
-    ghost use Rattle.board_world.specs.Doing.{after_gift, after_transfer, with_slot};
+    ghost use Rattle.board_model.specs.Doing.{after_gift, after_transfer, with_slot};
 
     /// The rest of the runner's slice goes to another environment, which starts.
     pub(crate) fn give(&mut self, env: u8, target: u8)

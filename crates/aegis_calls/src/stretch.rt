@@ -2,17 +2,17 @@
 ghost use Rattle.std.specs.Prelude.{◌≡◌, ◌≤◌, ◌+◌, Some};
 ghost use Rattle.aegis_limits.specs.Limits.{most_ticks};
 ghost use Rattle.world_model.specs.Book.{is_idle_book, running};
-ghost use Rattle.board_world.specs.Stretch.{ArePlain, stretched};
+ghost use Rattle.board_model.specs.Stretch.{ArePlain, stretched};
 ghost use Rattle.aegis_calls.specs.QuietTicks.{AreQuietTicks};
 
 use crate::board::Board;
-use board_parts::{plain_most, space_in};
-use board_world::law_stretch;
+use board_acts::{plain_most, space_in};
+use board_model::law_stretch;
 use guest_step::run_guest;
 use world_model::WorldView;
 
 impl Board {
-    ghost use Rattle.board_world.specs.Showing.{world_of};
+    ghost use Rattle.board_model.specs.Showing.{world_of};
 
     /// The runner makes plain ticks, at most so many; the result is how many.
     fn run_plain(&mut self, env: u8, most: u32) -> u32

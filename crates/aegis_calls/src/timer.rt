@@ -4,14 +4,14 @@ ghost use Rattle.slot_vector.specs.Slices.{timer_answer};
 ghost use Rattle.world_model.specs.Book.{running};
 
 use crate::board::Board;
-use board_parts::settle;
+use board_acts::settle;
 use env_frames::Context;
 use kernel_journal::Row;
 use slot_vector::Timer;
 use world_model::{Cause, WorldView};
 
 impl Board {
-    ghost use Rattle.board_world.specs.Doing.{after_timer_by, after_timer_phase, after_end, has_end, with_stop_kept, after_stop, after_use};
+    ghost use Rattle.board_model.specs.Doing.{after_timer_by, after_timer_phase, after_end, has_end, with_stop_kept, after_stop, after_use};
 
     /// The registers of an environment that is stopped are kept, and the ledger says so.
     fn keep_stopped(&mut self, env: u8)

@@ -9,7 +9,7 @@ use slot_vector::NextTurn;
 use world_model::WorldView;
 
 impl Board {
-    ghost use Rattle.board_world.specs.Doing.{after_next, start_frames, start_registers, after_turn_phase};
+    ghost use Rattle.board_model.specs.Doing.{after_next, start_frames, start_registers, after_turn_phase};
 
     /// An environment starts: at its handler of starts, or without one where its registers were kept.
     pub(crate) fn start(&mut self, env: u8)

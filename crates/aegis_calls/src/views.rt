@@ -2,7 +2,7 @@
 ghost use Rattle.std.specs.Prelude.{◌≡◌, Some};
 
 use crate::board::Board;
-use board_parts::space_in;
+use board_acts::space_in;
 use call_verdicts::CallView;
 use env_frames::Context;
 use filter_core::Filter;
@@ -14,7 +14,7 @@ use revocation_book::LoadNo;
 use world_model::{Code, Hold, Life};
 
 impl CallView for Board {
-    ghost use Rattle.board_world.specs.Showing.{world_of};
+    ghost use Rattle.board_model.specs.Showing.{world_of};
 
     ghost world = { world_of };
 

@@ -3,15 +3,15 @@ use Rattle.std.proofs.Common.{◌≡◌, ◌≢◌, length, ℕ, List, [], ◌�
 use Rattle.boot_image.specs.ImageFaults.{image_fault}
 use Rattle.boot_image.specs.ImageValue.{image_of}
 use Rattle.boot_schedule.specs.Schedule.{events_of, schedule_fault}
-use Rattle.command_work.specs.declared.status.Status.{Status}
-use Rattle.command_work.specs.declared.status.Status.TheVariants as status
-use Rattle.command_work.specs.declared.work.Answer.{Answer}
-use Rattle.command_work.specs.Edges.{ShelfEdge, SinkEdge}
-use Rattle.command_work.specs.Command.{CommandValue, names_of}
-use Rattle.command_work.specs.Files.{AreRead, AreTold}
-use Rattle.command_work.specs.Due.{Due, Refusal, Whole, Found, text_of, status_of}
-use Rattle.command_work.specs.Outcome.{Decided, IsWhole, IsPart, Outcome, Finished, Wrote}
-use Rattle.command_work.specs.Work.{Performed}
+use Rattle.commands.specs.declared.status.Status.{Status}
+use Rattle.commands.specs.declared.status.Status.TheVariants as status
+use Rattle.commands.specs.declared.work.Answer.{Answer}
+use Rattle.commands.specs.Edges.{ShelfEdge, SinkEdge}
+use Rattle.commands.specs.Command.{CommandValue, names_of}
+use Rattle.commands.specs.Files.{AreRead, AreTold}
+use Rattle.commands.specs.Due.{Due, Refusal, Whole, Found, text_of, status_of}
+use Rattle.commands.specs.Outcome.{Decided, IsWhole, IsPart, Outcome, Finished, Wrote}
+use Rattle.commands.specs.Work.{Performed}
 use Rattle.aegis_command.specs.Headline.{NoFault, Ends, IsComplete, IsHeadline, IsLoad, IsReadHeadline, IsTaken, IsWanting, WroteReport}
 use Rattle.std.specs.Io.KnownBytes.{Appends}
 use Rattle.std.specs.Option.{option_map}

@@ -5,12 +5,12 @@ use Rattle.boot_image.specs.ImageValue.{image_of}
 use Rattle.boot_schedule.specs.Schedule.{events_of, schedule_fault}
 use Rattle.edge_io.specs.Faults.{Rose}
 use Rattle.std.specs.Io.KnownBytes.{Appends}
-use Rattle.command_work.specs.declared.status.Status.{Status}
-use Rattle.command_work.specs.declared.status.Status.TheVariants as status
-use Rattle.command_work.specs.Command.{CommandValue, names_of}
-use Rattle.command_work.specs.Due.{Due, status_of, text_of, usage_text}
-use Rattle.command_work.specs.Edges.{ShelfEdge, SinkEdge}
-use Rattle.command_work.specs.Files.{AreTold, IsServed}
+use Rattle.commands.specs.declared.status.Status.{Status}
+use Rattle.commands.specs.declared.status.Status.TheVariants as status
+use Rattle.commands.specs.Command.{CommandValue, names_of}
+use Rattle.commands.specs.Due.{Due, status_of, text_of, usage_text}
+use Rattle.commands.specs.Edges.{ShelfEdge, SinkEdge}
+use Rattle.commands.specs.Files.{AreTold, IsServed}
 use Rattle.aegis_command.specs.LoadSeed.{load_summary, seed_of}
 use Rattle.aegis_command.specs.RunImage.{report_after, ticks_of}
 

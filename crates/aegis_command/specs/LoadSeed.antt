@@ -11,8 +11,8 @@ use Rattle.exos_text.specs.LoadSchedule.{load_events}
 use Rattle.world_model.specs.Event.{schedule_of}
 use Rattle.run_model.specs.Run.{world_after, end_of_run}
 use Rattle.run_report.specs.Report.{summary_text}
-use Rattle.command_work.specs.Command.{CommandValue, no_further, only_name}
-use Rattle.command_work.specs.Due.{Whole}
+use Rattle.commands.specs.Command.{CommandValue, no_further, only_name}
+use Rattle.commands.specs.Due.{Whole}
 
 -- SEED: one to ten decimal digits, of a number below 2^32
 abbrev pub seed_of : List ℕ → Option ℕ

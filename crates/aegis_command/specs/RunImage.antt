@@ -14,8 +14,8 @@ use Rattle.boot_schedule.specs.Schedule.{events_of, schedule_fault}
 use Rattle.world_model.specs.Event.{schedule_of}
 use Rattle.run_model.specs.Run.{world_after, end_of_run}
 use Rattle.run_report.specs.Report.{report_text}
-use Rattle.command_work.specs.Command.{CommandValue, content, no_further}
-use Rattle.command_work.specs.Due.{Due, Whole, refused, unless_refused}
+use Rattle.commands.specs.Command.{CommandValue, content, no_further}
+use Rattle.commands.specs.Due.{Due, Whole, refused, unless_refused}
 
 -- a number within a limit
 abbrev pub within : ℕ → Option ℕ → Option ℕ

@@ -2,10 +2,10 @@
 use Rattle.std.specs.Prelude.{ℕ, List, [], ◌∷◌, Option, None, String, if◌then◌else◌, codes, map, string_bytes}
 use Rattle.std.specs.Global.{Global}
 use Rattle.std.specs.Str.{bytes_eq}
-use Rattle.command_work.specs.Asm.{asm}
-use Rattle.command_work.specs.Command.{CommandValue, of_one_name}
-use Rattle.command_work.specs.ListElf.{list_elf}
-use Rattle.command_work.specs.MakeImage.{make_image}
+use Rattle.commands.specs.Asm.{asm}
+use Rattle.commands.specs.Command.{CommandValue, of_one_name}
+use Rattle.commands.specs.ListElf.{list_elf}
+use Rattle.commands.specs.MakeImage.{make_image}
 use Rattle.aegis_command.specs.declared.words.Words.{Words}
 use Rattle.aegis_command.specs.declared.words.Words.TheVariants.{RunImage, Asm, ListElf, MakeImage, LoadSeed}
 use Rattle.aegis_command.specs.LoadSeed.{load_seed, load_words}

@@ -2,7 +2,7 @@
 //!
 //! `aegis` is the top call. Its clauses say, for every shelf and every sink, which files are read, what is written, and
 //! with which status the program ends; the headline is that what `run` writes is the report of the world. What a command
-//! is, and how a call ends, is defined in `command_work`, on which this stands; `Words` here has the table of commands.
+//! is, and how a call ends, is defined in `commands`, on which this stands; `Words` here has the table of commands.
 #![tactic(auto)]
 
 mod load_seed;
@@ -11,5 +11,5 @@ mod ticks;
 mod top;
 mod words;
 
-pub use command_work::Status;
+pub use commands::Status;
 pub use top::aegis;

@@ -11,7 +11,7 @@ use crate::ticks::Ticks;
 use aegis_limits::OutOfMemory;
 use aegis_tick::{boot, run};
 use boot_image::{Image, read_image};
-use command_work::{Answer, Command, Status};
+use commands::{Answer, Command, Status};
 use exos_text::{load_image, load_schedule};
 use external_event::Event;
 use line_text::{Word, decimal, push_line};

@@ -1,7 +1,7 @@
 //! The command `run IMAGE SCHEDULE TICKS`.
 ghost use Rattle.std.specs.Prelude.{◌≡◌, ◌<◌, ◌^◌, IfOk, length, map, option_map, string_bytes, true};
 ghost use Rattle.external_event.specs.Order.{are_in_order};
-ghost use Rattle.command_work.specs.Work.{Settles};
+ghost use Rattle.commands.specs.Work.{Settles};
 ghost use Rattle.aegis_command.specs.RunImage.{report_after as report_text_after, run_due, run_image, run_words};
 
 use crate::ticks::Ticks;
@@ -9,7 +9,7 @@ use aegis_limits::OutOfMemory;
 use aegis_tick::{boot, run};
 use boot_image::{Image, read_image};
 use boot_schedule::{law_in_order, read_schedule};
-use command_work::{Answer, Command, Status, content};
+use commands::{Answer, Command, Status, content};
 use external_event::Event;
 use line_text::Failure;
 use run_report::report;

@@ -1,12 +1,12 @@
 //! The top call.
 ghost use Rattle.std.specs.Prelude.{◌≡◌, IfNone, length, map, string_bytes};
-ghost use Rattle.command_work.specs.Edges.{shelf_edge, sink_edge};
-ghost use Rattle.command_work.specs.Outcome.{Finished, IsOutcome, IsUsage};
+ghost use Rattle.commands.specs.Edges.{shelf_edge, sink_edge};
+ghost use Rattle.commands.specs.Outcome.{Finished, IsOutcome, IsUsage};
 ghost use Rattle.aegis_command.specs.Headline.{IsComplete, IsDenied, IsGiven, IsHeadline, IsLoad, IsReadHeadline, IsTaken};
 ghost use Rattle.aegis_command.specs.Words.{asked_by};
 
 use crate::words::{parse, perform_words};
-use command_work::{Status, Stop};
+use commands::{Status, Stop};
 use edge_io::{Shelf, Sink, write_whole};
 use std::alloc::Global;
 
@@ -61,7 +61,7 @@ pub fn aegis<S: Shelf, K: Sink>(
     // What load writes is a run in short, of the image and the schedule that its number gives. It is never refused.
     ensures load { IsLoad (map string_bytes words.now) (shelf_edge S.Shelf shelf.old shelf.new) (sink_edge K.Sink out.old out.new) result }
 
-    // What any command writes is what is due for its files. The laws of `command_work` say what is due.
+    // What any command writes is what is due for its files. The laws of `commands` say what is due.
     ensures complete { IsComplete (asked_by words.now) (shelf_edge S.Shelf shelf.old shelf.new) (sink_edge K.Sink out.old out.new) result }
 
     // Words that are no command's are answered so, no file is read, and no memory is wanted.

@@ -1,15 +1,15 @@
 //! The words of the command line, and the work that they ask for.
 ghost use Rattle.std.specs.Prelude.{◌≡◌, ◌≤◌, IfOk, IfErr, IsErr, length, option_map, map, string_bytes};
 ghost use Rattle.std.specs.Option.{option_copied};
-ghost use Rattle.command_work.specs.Command.{names_of, only_name};
-ghost use Rattle.command_work.specs.Edges.{shelf_edge};
-ghost use Rattle.command_work.specs.Files.{IsServed};
-ghost use Rattle.command_work.specs.Work.{Performed, Stopped, StopsByWantAlone};
+ghost use Rattle.commands.specs.Command.{names_of, only_name};
+ghost use Rattle.commands.specs.Edges.{shelf_edge};
+ghost use Rattle.commands.specs.Files.{IsServed};
+ghost use Rattle.commands.specs.Work.{Performed, Stopped, StopsByWantAlone};
 ghost use Rattle.aegis_command.specs.Words.{asked_by, command_seen};
 
 use crate::load_seed::LoadSeed;
 use crate::run_image::RunImage;
-use command_work::{Answer, Asm, ListElf, MakeImage, Stop, perform};
+use commands::{Answer, Asm, ListElf, MakeImage, Stop, perform};
 use edge_io::Shelf;
 use std::alloc::Global;
 

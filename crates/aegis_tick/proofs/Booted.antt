@@ -9,7 +9,7 @@ use Rattle.world_model.specs.Solo.{Solo, absent}
 use Rattle.world_model.specs.Item.{absorb_all}
 use Rattle.world_model.specs.World.{World, only}
 use Rattle.run_model.specs.Boot.{record_items, bare_world, added, boot_world, with_kept, with_all_kept, boot_book}
-use Rattle.board_world.proofs.Lists.{last_get, other_get, past_get}
+use Rattle.board_model.proofs.Lists.{last_get, other_get, past_get}
 
 -- an environment of so many programs
 abbrev booted_solo : List ProgramValue → ℕ → Solo

@@ -1,6 +1,6 @@
 //! The boot of an image: a board with all of its environments.
 ghost use Rattle.std.specs.Prelude.{◌≡◌, ◌≤◌, IfOk, fold, length, sum_by};
-ghost use Rattle.board_world.specs.Showing.{world_of};
+ghost use Rattle.board_model.specs.Showing.{world_of};
 ghost use Rattle.boot_image.specs.ImageValue.{guaranteed_mappings};
 ghost use Rattle.page_book.specs.Rows.{free_pages};
 ghost use Rattle.run_model.specs.Boot.{added, boot_world};

@@ -2,8 +2,8 @@
 ghost use Rattle.std.specs.Prelude.{◌≡◌, ◌≤◌, ◌<◌, ◌+◌, ◌*◌, ◌==◌, drop, false, length, true, IfOk, IsOk, OnOk, OnErr};
 ghost use Rattle.std.specs.List.{prefix_len, take_while};
 ghost use Rattle.aegis_limits.specs.Limits.{most_ticks};
-ghost use Rattle.board_world.specs.Shown.{with_spare};
-ghost use Rattle.board_world.specs.Showing.{world_of};
+ghost use Rattle.board_model.specs.Shown.{with_spare};
+ghost use Rattle.board_model.specs.Showing.{world_of};
 ghost use Rattle.external_event.specs.EventValue.{EventValue};
 ghost use Rattle.external_event.specs.Order.{are_in_order};
 ghost use Rattle.world_model.specs.Book.{is_idle_book};

@@ -1,14 +1,14 @@
 //! The verdict on a download of a handler.
 ghost use Rattle.std.specs.Prelude.{◌≡◌, ◌≤◌, Some};
 ghost use Rattle.std.specs.Option.{option_map};
-ghost use Rattle.handler_code.specs.Verification.{most_words};
+ghost use Rattle.handler_rules.specs.Verification.{most_words};
 ghost use Rattle.world_model.specs.Book.{running};
 ghost use Rattle.world_model.specs.Downloads.{download, download_verdict, handler_at, handler_bytes};
 ghost use Rattle.world_model.specs.Solo.{sight};
 
 use crate::arguments::{FIRST_ARGUMENT, SECOND_ARGUMENT, THIRD_ARGUMENT};
 use crate::view::CallView;
-use handler_code::{Handler, HandlerFault, MOST_WORDS, WORD_SIZE, read_handler};
+use handler_rules::{Handler, HandlerFault, MOST_WORDS, WORD_SIZE, read_handler};
 use world_model::{Code, HandlerNo, Verdict};
 
 /// The bytes of the words that a call of the runner's names; of none they need no range.

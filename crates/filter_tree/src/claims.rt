@@ -14,7 +14,7 @@ use crate::tree::Tree;
 use crate::withdrawal::{download, turn, withdraw, withdraw_into, withdraw_of};
 use aegis_limits::OutOfMemory;
 use filter_core::{Filter, Packet};
-use handler_code::Handler;
+use handler_rules::Handler;
 use packet_ring::Buffer;
 use std::alloc::Global;
 use std::marker::{Brand, Model};

@@ -6,7 +6,7 @@ ghost use Rattle.filter_tree.specs.Claims.{claim_seen, row_with_handler, is_clai
 
 use crate::claim::Claim;
 use filter_core::{Filter, Layout};
-use handler_code::Handler;
+use handler_rules::Handler;
 use std::marker::Model;
 
 /// A claim with its filter, and with its handler if it has one.

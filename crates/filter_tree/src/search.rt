@@ -8,7 +8,7 @@ ghost use Rattle.filter_tree.specs.Claims.{claim_seen, is_claim, is_in_the_way, 
 use crate::claim::{Claim, ClaimNo};
 use crate::row::ClaimRow;
 use filter_core::{Filter, Layout};
-use handler_code::Handler;
+use handler_rules::Handler;
 
 /// The most claims of an environment.
 pub const MOST_CLAIMS: usize = 8;

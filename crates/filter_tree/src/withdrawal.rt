@@ -6,7 +6,7 @@ ghost use Rattle.filter_tree.specs.Claims.{row_with_handler_if, is_claim, is_int
 
 use crate::row::ClaimRow;
 use crate::search::place_numbered;
-use handler_code::Handler;
+use handler_rules::Handler;
 
 /// Withdraws the environment's claim of this number.
 pub(crate) fn withdraw(rows: &mut Vec<ClaimRow>, env: u8, id: u32)

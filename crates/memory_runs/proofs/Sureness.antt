@@ -5,17 +5,17 @@ use Rattle.std.specs.List.{AllByRecursion}
 use Rattle.std.proofs.lemmas.Bool.{cases_lt}
 use Rattle.edge_io.specs.Limits.{file_limit}
 use Rattle.std.specs.Io.KnownBytes.{Appends}
-use Rattle.edge_memory.specs.Files.{IsSureOf, file_named, is_set_to_fail}
-use Rattle.edge_memory.specs.Room.{HasRoomFor}
-use Rattle.edge_memory.specs.declared.shelf.MemoryShelf.{MemoryShelf}
-use Rattle.edge_memory.specs.declared.sink.MemorySink.{MemorySink}
-use Rattle.command_work.specs.declared.status.Status.{Status}
-use Rattle.command_work.specs.declared.status.Status.TheVariants as status
-use Rattle.command_work.specs.Command.{CommandValue, names_of}
-use Rattle.command_work.specs.Due.{Due, status_of, text_of}
-use Rattle.command_work.specs.Edges.{ShelfEdge, SinkEdge}
-use Rattle.command_work.specs.Files.{AreRead, AreTold, IsServed, names_so_far, next_name}
-use Rattle.command_work.specs.Outcome.{IsOutcome, Outcome, Wrote}
+use Rattle.memory_runs.specs.Files.{IsSureOf, file_named, is_set_to_fail}
+use Rattle.memory_runs.specs.Room.{HasRoomFor}
+use Rattle.memory_runs.specs.declared.shelf.MemoryShelf.{MemoryShelf}
+use Rattle.memory_runs.specs.declared.sink.MemorySink.{MemorySink}
+use Rattle.commands.specs.declared.status.Status.{Status}
+use Rattle.commands.specs.declared.status.Status.TheVariants as status
+use Rattle.commands.specs.Command.{CommandValue, names_of}
+use Rattle.commands.specs.Due.{Due, status_of, text_of}
+use Rattle.commands.specs.Edges.{ShelfEdge, SinkEdge}
+use Rattle.commands.specs.Files.{AreRead, AreTold, IsServed, names_so_far, next_name}
+use Rattle.commands.specs.Outcome.{IsOutcome, Outcome, Wrote}
 use Rattle.aegis_command.specs.Headline.{IsDenied, IsGiven, IsTaken, IsWanting, IsWritten}
 use Rattle.aegis_command.proofs.Completeness.{told_due}
 use Rattle.memory_runs.specs.InMemory.{IsRefused, IsSure, IsWithinLimit, IsWanting as IsWantingInMemory, IsWritten as IsWrittenInMemory}

@@ -2,15 +2,15 @@
 use Rattle.std.specs.Prelude.{◌≡◌, ◌⊎◌, ◌≤◌, ℕ, List, [], ◌++◌, Option, Some, length, true}
 use Rattle.std.specs.List.{AllByRecursion}
 use Rattle.edge_io.specs.Limits.{file_limit}
-use Rattle.edge_memory.specs.Files.{File, file_named, is_set_to_fail}
-use Rattle.edge_memory.specs.Room.{HasRoomFor}
-use Rattle.edge_memory.specs.declared.shelf.MemoryShelf.{MemoryShelf}
-use Rattle.edge_memory.specs.declared.sink.MemorySink.{MemorySink}
-use Rattle.command_work.specs.declared.status.Status.{Status}
-use Rattle.command_work.specs.declared.status.Status.TheVariants as status
-use Rattle.command_work.specs.Command.{CommandValue, names_of}
-use Rattle.command_work.specs.Due.{Due, status_of, text_of}
-use Rattle.command_work.specs.Files.{AreRead}
+use Rattle.memory_runs.specs.Files.{File, file_named, is_set_to_fail}
+use Rattle.memory_runs.specs.Room.{HasRoomFor}
+use Rattle.memory_runs.specs.declared.shelf.MemoryShelf.{MemoryShelf}
+use Rattle.memory_runs.specs.declared.sink.MemorySink.{MemorySink}
+use Rattle.commands.specs.declared.status.Status.{Status}
+use Rattle.commands.specs.declared.status.Status.TheVariants as status
+use Rattle.commands.specs.Command.{CommandValue, names_of}
+use Rattle.commands.specs.Due.{Due, status_of, text_of}
+use Rattle.commands.specs.Files.{AreRead}
 use Rattle.memory_runs.specs.declared.running.Output.{Output}
 
 -- no longer than a file may be

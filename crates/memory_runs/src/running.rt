@@ -3,9 +3,10 @@ ghost use Rattle.std.specs.Prelude.{IfOk};
 ghost use Rattle.aegis_command.specs.Words.{asked_by};
 ghost use Rattle.memory_runs.specs.InMemory.{HasAnswer, IsRefused, IsSure};
 
+use crate::shelf::MemoryShelf;
+use crate::sink::MemorySink;
 use aegis_command::{Status, aegis};
 use aegis_limits::OutOfMemory;
-use edge_memory::{MemoryShelf, MemorySink};
 use std::alloc::Global;
 
 /// How a call ended, and what it wrote.

@@ -7,7 +7,7 @@ use Rattle.mips_exec.specs.declared.change.Change.{Change}
 use Rattle.mips_exec.specs.declared.change.Change.TheVariants.{Jumps, JumpsAndLinks}
 use Rattle.mips_exec.specs.Cpu.{branch_target}
 use Rattle.mips_exec.specs.Effect.{effect}
-use Rattle.handler_code.specs.Instructions.{branch_offset, is_allowed, is_barred_from_slots}
+use Rattle.handler_rules.specs.Instructions.{branch_offset, is_allowed, is_barred_from_slots}
 
 -- it doesn't jump
 abbrev pub is_straight : Change → Bool

@@ -15,13 +15,13 @@ use Rattle.mips_exec.specs.Access.{Write, access}
 use Rattle.mips_exec.specs.Cpu.{with_hi_lo, with_reg}
 use Rattle.mips_exec.specs.Effect.{effect}
 use Rattle.mips_exec.specs.Step.{ended, executed, fetched}
-use Rattle.handler_code.specs.declared.outcome.HandlerEnd.{HandlerEnd}
-use Rattle.handler_code.specs.declared.outcome.HandlerEnd.TheVariants.{Done, Fault}
-use Rattle.handler_code.specs.Instructions.{branch_offset, is_barred_from_slots}
-use Rattle.handler_code.specs.Memory.{answer_or, answers_of}
-use Rattle.handler_code.specs.Running.{Progress, HandlerState, after_call, after_step, ends, entry_cpu, entry_state, handler_run, most_replies, handler_step, ended_or, run_of, replied, reply_of, run_on}
-use Rattle.handler_code.specs.Laws.{FirstBadIsFirst, HandlersEnd}
-use Rattle.handler_code.specs.Verification.{follows_branch, insn_at}
+use Rattle.handler_rules.specs.declared.outcome.HandlerEnd.{HandlerEnd}
+use Rattle.handler_rules.specs.declared.outcome.HandlerEnd.TheVariants.{Done, Fault}
+use Rattle.handler_rules.specs.Instructions.{branch_offset, is_barred_from_slots}
+use Rattle.handler_rules.specs.Memory.{answer_or, answers_of}
+use Rattle.handler_rules.specs.Running.{Progress, HandlerState, after_call, after_step, ends, entry_cpu, entry_state, handler_run, most_replies, handler_step, ended_or, run_of, replied, reply_of, run_on}
+use Rattle.handler_rules.specs.Laws.{FirstBadIsFirst, HandlersEnd}
+use Rattle.handler_rules.specs.Verification.{follows_branch, insn_at}
 use Rattle.safe_handler.proofs.Effects.{branch_is_barred, branches, goes_straight, is_straight}
 use Rattle.safe_handler.proofs.Positions.{IsAt, IsBeyond, IsVerified, advances, good_branch, good_word, is_verified, jumps}
 

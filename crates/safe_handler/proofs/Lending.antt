@@ -4,7 +4,7 @@ use Rattle.mips_exec.specs.Access.{Write}
 use Rattle.mips_exec.specs.Step.{Wrote}
 use Rattle.safe_handler.specs.declared.lent.HandlerBus.{HandlerBus}
 use Rattle.safe_handler.specs.Lent.{IsKept, IsStored}
-use Rattle.handler_code.specs.Memory.{page_after}
+use Rattle.handler_rules.specs.Memory.{page_after}
 
 -- it is the same page that was lent
 pub wrote_lent : (old new : HandlerBus) (w : Option Write) → Wrote IsKept IsStored old w new → old.page.ghost_name ≡ new.page.ghost_name

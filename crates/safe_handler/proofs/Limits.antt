@@ -7,10 +7,10 @@ use Rattle.std.proofs.lemmas.List.Folds.{list_all-append}
 use Rattle.mips_exec.specs.Access.{Write}
 use Rattle.mips_exec.specs.Kept.{IsWrite, StepsAreSound}
 use Rattle.mips_exec.specs.Step.{Step, Retired, Called, Trapped, step_of, view_of, write_after}
-use Rattle.handler_code.specs.declared.outcome.HandlerEnd.{HandlerEnd}
-use Rattle.handler_code.specs.Laws.{IsWithinLimits, RunsKeepLimits, is_frame}
-use Rattle.handler_code.specs.Memory.{answers_of}
-use Rattle.handler_code.specs.Running.{HandlerRun, HandlerState, after_call, after_step, handler_run, most_replies, handler_step, ended_or, run_on}
+use Rattle.handler_rules.specs.declared.outcome.HandlerEnd.{HandlerEnd}
+use Rattle.handler_rules.specs.Laws.{IsWithinLimits, RunsKeepLimits, is_frame}
+use Rattle.handler_rules.specs.Memory.{answers_of}
+use Rattle.handler_rules.specs.Running.{HandlerRun, HandlerState, after_call, after_step, handler_run, most_replies, handler_step, ended_or, run_on}
 
 -- the ring page has its size, and the replies are few and frames
 record Keeps (size : ℕ) (state : HandlerState) : Type 0 where

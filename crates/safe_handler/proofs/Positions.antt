@@ -5,9 +5,9 @@ use Rattle.std.proofs.lemmas.Bool.{eqb-false, lt-ltb, ltb-true, or_parts}
 use Rattle.mips_isa.specs.Word.{sign16_of}
 use Rattle.mips_exec.specs.declared.registers.Cpu.{Cpu}
 use Rattle.mips_exec.specs.Cpu.{advanced, branch_target, jumped}
-use Rattle.handler_code.specs.Instructions.{branch_offset, is_allowed, is_barred_from_slots, is_branch}
-use Rattle.handler_code.specs.Laws.{AreGood, FirstBadIsFirst}
-use Rattle.handler_code.specs.Verification.{first_bad, follows_branch, insn_at, is_bad_branch, is_bad_word, most_words}
+use Rattle.handler_rules.specs.Instructions.{branch_offset, is_allowed, is_barred_from_slots, is_branch}
+use Rattle.handler_rules.specs.Laws.{AreGood, FirstBadIsFirst}
+use Rattle.handler_rules.specs.Verification.{first_bad, follows_branch, insn_at, is_bad_branch, is_bad_word, most_words}
 
 -- no word is bad
 pub record IsVerified (words : List ℕ) : Type 0 where

@@ -1,8 +1,8 @@
 -- A run, instruction by instruction.
 use Rattle.std.proofs.Common.{arith, ◌≡◌, ◌<◌, ◌+◌, ◌-◌, ℕ, suc, List, refl, Option, None}
 use Rattle.mips_exec.specs.declared.registers.Cpu.{Cpu}
-use Rattle.handler_code.specs.declared.outcome.HandlerEnd.{HandlerEnd}
-use Rattle.handler_code.specs.Running.{HandlerRun, Progress, HandlerState, handler_step, ended_or, run_on, progress_of, state_of}
+use Rattle.handler_rules.specs.declared.outcome.HandlerEnd.{HandlerEnd}
+use Rattle.handler_rules.specs.Running.{HandlerRun, Progress, HandlerState, handler_step, ended_or, run_on, progress_of, state_of}
 
 -- the run whose first instruction leaves this
 abbrev from_progress : ℕ → List ℕ → List ℕ → Progress → HandlerRun

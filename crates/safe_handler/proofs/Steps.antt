@@ -4,8 +4,8 @@ use Rattle.mips_exec.specs.declared.registers.Cpu.{Cpu}
 use Rattle.mips_exec.specs.declared.exception.Exc.{Exc}
 use Rattle.mips_exec.specs.declared.exception.Outcome.TheVariants as outcomes
 use Rattle.mips_exec.specs.Step.{Step, cpu_after, outcome_of, write_after}
-use Rattle.handler_code.specs.Memory.{page_after}
-use Rattle.handler_code.specs.Running.{Progress, after_call, after_step, end_by, ends, state_of}
+use Rattle.handler_rules.specs.Memory.{page_after}
+use Rattle.handler_rules.specs.Running.{Progress, after_call, after_step, end_by, ends, state_of}
 
 -- a call leaves registers and page, and its progress is that of a SYSCALL
 pub call_progress : (cpu after : Cpu) (page left : List ℕ) (replies : List (List ℕ)) (step : Step) (progress : Progress)

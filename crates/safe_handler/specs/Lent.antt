@@ -1,7 +1,7 @@
 -- What is lent for the accesses of a handler.
 use Rattle.std.specs.Prelude.{◌≡◌, ℕ, List}
 use Rattle.safe_handler.specs.declared.lent.HandlerBus.{HandlerBus}
-use Rattle.handler_code.specs.Memory.{stored}
+use Rattle.handler_rules.specs.Memory.{stored}
 
 -- it is the same memory that was lent, and nothing was stored
 pub record IsKept (old new : HandlerBus) : Type 0 where

@@ -1,7 +1,7 @@
 //! What holds of the runs of handlers.
-ghost use Rattle.handler_code.specs.Laws.{HandlersEnd, RunsKeepLimits};
+ghost use Rattle.handler_rules.specs.Laws.{HandlersEnd, RunsKeepLimits};
 
-use handler_code::law_first_bad;
+use handler_rules::law_first_bad;
 use mips_step::steps_are_sound;
 
 /// Law: a verified handler ends in as many instructions as it has words.

@@ -2,7 +2,7 @@
 ghost use Rattle.std.specs.Prelude.{◌≡◌, ◌≢◌, ◌<◌, ◌≤◌, length};
 ghost use Rattle.byteorder.specs.Endian.{little_number};
 ghost use Rattle.mips_exec.specs.Step.{cpu_after, outcome_of, step_of, view_of, write_after};
-ghost use Rattle.handler_code.specs.Memory.{answers_of, page_after};
+ghost use Rattle.handler_rules.specs.Memory.{answers_of, page_after};
 
 use crate::memory::{PAGE_START, bytes_at, readable_at};
 use aegis_limits::PAGE_SIZE;
@@ -20,7 +20,7 @@ struct HandlerBus<'a> {
 
 impl Bus for HandlerBus<'_> {
     ghost use Rattle.std.proofs.Common.{refl, sym, ◌∙◌, ap};
-    ghost use Rattle.handler_code.specs.Memory.{answers_of, stored};
+    ghost use Rattle.handler_rules.specs.Memory.{answers_of, stored};
     ghost use Rattle.safe_handler.specs.Lent.{IsKept, IsStored};
 
     ghost answers = { λ b. answers_of b.words.now b.packet.now b.page.now };

@@ -1,7 +1,7 @@
 //! Runs handlers: code that an environment gave to the kernel, over a packet and the page of the ring into which the
 //! packet would go.
 //!
-//! The words of a handler were verified (`handler_code`), so it ends in as many instructions as it has words
+//! The words of a handler were verified (`handler_rules`), so it ends in as many instructions as it has words
 //! (`law_handlers_end`), without a clock. Its steps are the machine's own, and its loads and stores reach the packet and
 //! the page alone.
 #![tactic(auto)]

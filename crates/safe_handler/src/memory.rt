@@ -1,7 +1,7 @@
 //! What a handler reaches.
 ghost use Rattle.std.specs.Prelude.{◌≡◌};
 ghost use Rattle.std.specs.Option.{option_map};
-ghost use Rattle.handler_code.specs.Memory.{bytes_at, readable_at};
+ghost use Rattle.handler_rules.specs.Memory.{bytes_at, readable_at};
 
 /// Where the packet begins.
 const PACKET_START: u32 = 0;

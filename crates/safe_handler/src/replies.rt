@@ -1,8 +1,8 @@
 //! The replies of a handler.
 ghost use Rattle.std.specs.Prelude.{◌≡◌, ◌<◌, ◌≤◌, [], ◌∷◌, ◌++◌, length, true, slice_index_or};
 ghost use Rattle.external_event.specs.Limits.{most_packet_size};
-ghost use Rattle.handler_code.specs.Laws.{is_frame};
-ghost use Rattle.handler_code.specs.Running.{most_replies};
+ghost use Rattle.handler_rules.specs.Laws.{is_frame};
+ghost use Rattle.handler_rules.specs.Running.{most_replies};
 
 use arrayvec::ArrayVec;
 use external_event::MOST_PACKET_SIZE;
@@ -53,7 +53,7 @@ pub struct Replies {
 impl Model for Replies {
     ghost use Rattle.std.specs.Prelude.{◌≡◌, ℕ, List, true};
     ghost use Rattle.std.specs.List.{list_all};
-    ghost use Rattle.handler_code.specs.Laws.{is_frame};
+    ghost use Rattle.handler_rules.specs.Laws.{is_frame};
 
     ghost Value = { List (List ℕ) };
 

@@ -1,16 +1,16 @@
 //! The run of a handler.
 ghost use Rattle.std.specs.Prelude.{◌≡◌};
-ghost use Rattle.handler_code.specs.Running.{handler_run};
+ghost use Rattle.handler_rules.specs.Running.{handler_run};
 
 use crate::replies::Replies;
 use crate::step::{entry_cpu, step_handler};
 use aegis_limits::PAGE_SIZE;
 use filter_core::Packet;
-use handler_code::{Handler, HandlerEnd};
+use handler_rules::{Handler, HandlerEnd};
 
 /// Runs a handler over a packet, which the claim `id` gets, and the ring page. What `replies` had is gone.
 /// `docs/KERNEL.md`, "Handlers of packets", says what it reaches.
-#[tactic(auto, unfolding(handler_code::specs::Running::handler_run))]
+#[tactic(auto, unfolding(handler_rules::specs::Running::handler_run))]
 pub fn run_handler(
     handler: &Handler,
     packet: &Packet<'_>,

@@ -2,14 +2,14 @@
 ghost use Rattle.std.specs.Prelude.{◌≡◌, length};
 ghost use Rattle.std.specs.Option.{option_map};
 ghost use Rattle.mips_exec.specs.Cpu.{advanced};
-ghost use Rattle.handler_code.specs.Running.{after_call, end_by, entry_cpu, handler_step, reply_of, progress_of, state_of};
+ghost use Rattle.handler_rules.specs.Running.{after_call, end_by, entry_cpu, handler_step, reply_of, progress_of, state_of};
 
 use crate::lent::step_machine;
 use crate::memory::{PAGE_START, bytes_at};
 use crate::replies::{MOST_REPLIES, Replies};
 use aegis_limits::PAGE_SIZE;
 use external_event::{LEAST_FRAME_SIZE, MOST_PACKET_SIZE};
-use handler_code::HandlerEnd;
+use handler_rules::HandlerEnd;
 use mips_exec::{Cpu, ExcCode, Outcome};
 
 /// The register of a first argument: the length of the packet, and the address of a reply.

@@ -2,7 +2,7 @@
 use super::*;
 use aegis_limits::PAGE_SIZE;
 use filter_core::Packet;
-use handler_code::{HandlerEnd, verify};
+use handler_rules::{HandlerEnd, verify};
 
 /// A branch that is always taken, by so many words from the word behind it.
 const BRANCH: u32 = 0x1000_0000;

@@ -34,8 +34,8 @@ use Rattle.run_model.specs.Run.{System, happens_in, moment, takings_in, world_af
 use Rattle.run_model.specs.Excess.{IsAccounted}
 use Rattle.run_model.specs.Licensed.{MayTaking}
 use Rattle.run_model.proofs.Balance.{KeepsAccounts, boots_accounted, happen_accounts, settling_accounts, step_keeps, taking_accounts, timer_accounts, turn_keeps}
-use Rattle.page_sight.proofs.Tables.{set_else}
-use Rattle.page_sight.proofs.Sights.{HasNone}
+use Rattle.page_laws.proofs.Tables.{set_else}
+use Rattle.page_laws.proofs.Sights.{HasNone}
 use Rattle.sharing_law.specs.Agreement.{AreBoundAllocated, BooksAgree, BackupsAreOwned, BoundIsAllocated, ClaimsAgree, ClaimsAreApart, ClaimsAreSound}
 use Rattle.sharing_law.proofs.Sound.{Sound, sees_nothing}
 use Rattle.sharing_law.proofs.Backups.{AreBacked, arrival_backed, backed_owned, backups_owned, step_backed, taking_backed, timer_backed}

@@ -29,8 +29,8 @@ use Rattle.world_model.specs.World.{World, Reply, after, tells}
 use Rattle.call_verdicts.specs.Granted.{GrantedMay}
 use Rattle.run_model.specs.Licensed.{MayTaking}
 use Rattle.run_model.proofs.Telling.{call_stands, deed_may, call_named}
-use Rattle.page_sight.proofs.Mourning.{owned_still}
-use Rattle.page_sight.proofs.Tables.{set_here, set_else}
+use Rattle.page_laws.proofs.Mourning.{owned_still}
+use Rattle.page_laws.proofs.Tables.{set_here, set_else}
 use Rattle.sharing_law.specs.Agreement.{AreBackupsOwned}
 use Rattle.sharing_law.proofs.Choices.{for_each}
 use Rattle.sharing_law.proofs.Owning.{free_else, own_else}

@@ -26,10 +26,10 @@ use Rattle.world_model.specs.Solo.{Solo, Store, Key, Kept, Physical, dead, is_ph
 use Rattle.world_model.specs.Step.{Stores}
 use Rattle.world_model.specs.World.{World, no_items}
 use Rattle.run_model.specs.Acting.{Acts, Does}
-use Rattle.page_sight.specs.Sight.{IsStripe, Sees}
-use Rattle.page_sight.proofs.Mourning.{mourners_lose}
-use Rattle.page_sight.proofs.Sights.{readers_see, writer_sees, HasNone}
-use Rattle.page_sight.proofs.Stripes.{without_ends}
+use Rattle.page_laws.specs.Sight.{IsStripe, Sees}
+use Rattle.page_laws.proofs.Mourning.{mourners_lose}
+use Rattle.page_laws.proofs.Sights.{readers_see, writer_sees, HasNone}
+use Rattle.page_laws.proofs.Stripes.{without_ends}
 use Rattle.sharing_law.proofs.Given.{dead_absorbs}
 use Rattle.sharing_law.proofs.Sound.{Sound, sees_nothing}
 

@@ -34,10 +34,10 @@ use Rattle.world_model.specs.Transfers.{slots_handed}
 use Rattle.world_model.specs.Verdict.{done}
 use Rattle.world_model.specs.World.{World, no_items, only}
 use Rattle.run_model.specs.Acting.{Does}
-use Rattle.page_sight.specs.Sight.{IsStripe, Sees}
-use Rattle.page_sight.proofs.Sights.{allocator_sees, binder_sees, freer_loses, others_dont, others_lose, recapper_keeps, unbinder_loses, HasNone}
-use Rattle.page_sight.proofs.Stripes.{bound_nowhere, without_ends}
-use Rattle.page_sight.proofs.Tables.{set_here, set_else, set_owns}
+use Rattle.page_laws.specs.Sight.{IsStripe, Sees}
+use Rattle.page_laws.proofs.Sights.{allocator_sees, binder_sees, freer_loses, others_dont, others_lose, recapper_keeps, unbinder_loses, HasNone}
+use Rattle.page_laws.proofs.Stripes.{bound_nowhere, without_ends}
+use Rattle.page_laws.proofs.Tables.{set_here, set_else, set_owns}
 use Rattle.sharing_law.specs.Agreement.{AreBoundAllocated}
 use Rattle.sharing_law.proofs.Choices.{either}
 use Rattle.sharing_law.proofs.Given.{IsHanded, absorbs, handed_rests, own_leaves}

@@ -39,8 +39,8 @@ use Rattle.world_model.specs.Solo.{Solo, Store, Key, Kept, Physical, dead, sight
 use Rattle.world_model.specs.Table.{set_at}
 use Rattle.world_model.specs.Verdict.{done}
 use Rattle.world_model.specs.World.{World, no_items, only}
-use Rattle.page_sight.proofs.Mourning.{not_owned, owned_still}
-use Rattle.page_sight.proofs.Tables.{set_here, set_else}
+use Rattle.page_laws.proofs.Mourning.{not_owned, owned_still}
+use Rattle.page_laws.proofs.Tables.{set_here, set_else}
 use Rattle.sharing_law.specs.Agreement.{ClaimPage, claim_page}
 use Rattle.sharing_law.proofs.Choices.{either}
 use Rattle.sharing_law.proofs.Lists.{Has, filter_none, not_there}

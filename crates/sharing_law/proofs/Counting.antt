@@ -1,7 +1,7 @@
 -- What a packet does to the context page of whose claim it is for: it is counted there.
 use Rattle.std.proofs.Common.{◌≡◌, ℕ, Bool, true, false, List, Option, Some, None, ◌⊎◌, refl}
 use Rattle.std.specs.Prelude.{◌&&◌, if◌then◌else◌, is_none}
-use Rattle.handler_code.specs.Running.{handler_run}
+use Rattle.handler_rules.specs.Running.{handler_run}
 use Rattle.packet_ring.specs.Ring.{is_full, with_packet}
 use Rattle.env_frames.specs.declared.post.PostWord.TheVariants as post
 use Rattle.world_model.specs.Post.{counted}

@@ -24,9 +24,9 @@ use Rattle.world_model.specs.Solo.{Solo, Ring, Physical, bytes_seen, with_store}
 use Rattle.world_model.specs.Table.{set_at}
 use Rattle.world_model.specs.World.{World, Reply, after}
 use Rattle.run_model.specs.Run.{System, given_at, moment}
-use Rattle.page_sight.specs.Sight.{Sees}
-use Rattle.page_sight.proofs.Sights.{readers_see, writer_sees}
-use Rattle.page_sight.proofs.Tables.{set_here, set_else}
+use Rattle.page_laws.specs.Sight.{Sees}
+use Rattle.page_laws.proofs.Sights.{readers_see, writer_sees}
+use Rattle.page_laws.proofs.Tables.{set_here, set_else}
 use Rattle.sharing_law.specs.Agreement.{AreBoundAllocated, ClaimPage, claim_page, ring_page}
 use Rattle.sharing_law.specs.Delivery.{IsDelivered}
 use Rattle.sharing_law.proofs.Brings.{as_before}

@@ -9,9 +9,9 @@ use Rattle.external_event.specs.Limits.{most_packet_size}
 use Rattle.frame_store.specs.Pages.{with_bytes}
 use Rattle.mips_exec.specs.declared.registers.Cpu.{Cpu}
 use Rattle.mips_exec.specs.Step.{Step, step_of, view_of}
-use Rattle.handler_code.specs.declared.outcome.HandlerEnd.{HandlerEnd}
-use Rattle.handler_code.specs.Memory.{answers_of}
-use Rattle.handler_code.specs.Running.{HandlerRun, HandlerState, after_call, after_step, ended_or, entry_state, handler_run, handler_step, reply_of, run_on}
+use Rattle.handler_rules.specs.declared.outcome.HandlerEnd.{HandlerEnd}
+use Rattle.handler_rules.specs.Memory.{answers_of}
+use Rattle.handler_rules.specs.Running.{HandlerRun, HandlerState, after_call, after_step, ended_or, entry_state, handler_run, handler_step, reply_of, run_on}
 use Rattle.sharing_law.specs.Sent.{is_short}
 
 -- a page with bytes in it has no fewer than before

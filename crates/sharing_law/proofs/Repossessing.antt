@@ -28,10 +28,10 @@ use Rattle.world_model.specs.World.{World, Reply, after}
 use Rattle.run_model.specs.Licensed.{MayTaking}
 use Rattle.run_model.specs.Run.{System, given_at, moment}
 use Rattle.run_model.proofs.Lives.{copied_life}
-use Rattle.page_sight.specs.Sight.{Sees}
-use Rattle.page_sight.proofs.Sights.{freer_loses, others_lose, readers_see, writer_sees, HasNone}
-use Rattle.page_sight.proofs.Stripes.{without_ends}
-use Rattle.page_sight.proofs.Tables.{set_here, set_else, set_owns}
+use Rattle.page_laws.specs.Sight.{Sees}
+use Rattle.page_laws.proofs.Sights.{freer_loses, others_lose, readers_see, writer_sees, HasNone}
+use Rattle.page_laws.proofs.Stripes.{without_ends}
+use Rattle.page_laws.proofs.Tables.{set_here, set_else, set_owns}
 use Rattle.sharing_law.specs.Agreement.{AreBoundAllocated, ClaimPage, ring_page}
 use Rattle.sharing_law.specs.Delivery.{IsCopied}
 use Rattle.sharing_law.proofs.Backups.{AreBacked, loaded_at}

@@ -15,7 +15,7 @@ use Rattle.env_frames.specs.Post.{most_records, record_bytes, record_offset}
 use Rattle.env_frames.specs.Transfer.{carried}
 use Rattle.env_frames.specs.declared.post.PostWord.TheVariants as post
 use Rattle.frame_store.specs.Pages.{zero_page}
-use Rattle.handler_code.specs.Running.{handler_run}
+use Rattle.handler_rules.specs.Running.{handler_run}
 use Rattle.mips_exec.specs.Cpu.{rested}
 use Rattle.mips_exec.specs.Step.{cpu_after}
 use Rattle.packet_ring.specs.Ring.{is_full, with_packet}
@@ -49,7 +49,7 @@ use Rattle.run_model.specs.Licensed.{AtEvent, AtStep, GivenIsLicensed, IsAnswere
 use Rattle.run_model.specs.Run.{System, given_by, happens_in, moment, takings_in, world_after}
 use Rattle.run_model.proofs.Phases.{in_turn_is_each, next_moment, once_more}
 use Rattle.run_model.proofs.Telling.{call_named, call_stands, deed_may}
-use Rattle.page_sight.proofs.Tables.{set_here}
+use Rattle.page_laws.proofs.Tables.{set_here}
 use Rattle.sharing_law.specs.Sent.{IsSentWithin, SentIsWithin, is_short}
 use Rattle.sharing_law.proofs.Choices.{either}
 use Rattle.sharing_law.proofs.Given.{absorb_or}

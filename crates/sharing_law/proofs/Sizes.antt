@@ -10,7 +10,7 @@ use Rattle.external_event.specs.declared.event.Occurrence.{Occurrence}
 use Rattle.external_event.specs.declared.event.Occurrence.TheVariants as outside
 use Rattle.external_event.specs.Limits.{most_packet_size}
 use Rattle.frame_store.specs.Pages.{with_bytes, word_bytes, zero_page}
-use Rattle.handler_code.specs.Laws.{RunsKeepLimits}
+use Rattle.handler_rules.specs.Laws.{RunsKeepLimits}
 use Rattle.packet_ring.specs.declared.buffer.Buffer.{Buffer}
 use Rattle.packet_ring.specs.declared.buffer.Buffer.TheVariants.{First, Second}
 use Rattle.packet_ring.specs.Ring.{buffer_offset}

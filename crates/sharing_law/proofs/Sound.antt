@@ -12,9 +12,9 @@ use Rattle.world_model.specs.declared.life.Cause.{Cause}
 use Rattle.world_model.specs.Solo.{Solo, bytes_seen}
 use Rattle.world_model.specs.PageCalls.{page_bytes}
 use Rattle.world_model.specs.World.{World}
-use Rattle.page_sight.specs.Sight.{IsStripe, Sees, seen_if}
-use Rattle.page_sight.proofs.Sights.{HasNone, nothing_seen}
-use Rattle.page_sight.proofs.Stripes.{bound_row}
+use Rattle.page_laws.specs.Sight.{IsStripe, Sees, seen_if}
+use Rattle.page_laws.proofs.Sights.{HasNone, nothing_seen}
+use Rattle.page_laws.proofs.Stripes.{bound_row}
 use Rattle.sharing_law.specs.Agreement.{AreAgreed, AreBoundAllocated, IsAllocated}
 
 -- who has no bindings and owns no page sees nothing

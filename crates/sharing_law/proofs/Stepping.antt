@@ -20,9 +20,9 @@ use Rattle.call_verdicts.specs.Granted.{GrantedMay}
 use Rattle.run_model.specs.Acting.{Acts}
 use Rattle.run_model.proofs.Phases.{in_turn_is_each}
 use Rattle.run_model.proofs.Telling.{call_does, call_named, call_stands, deed_may, told_other, told_own}
-use Rattle.page_sight.specs.Sight.{Sees}
-use Rattle.page_sight.proofs.Tables.{set_here, set_else}
-use Rattle.page_sight.proofs.Sights.{HasNone}
+use Rattle.page_laws.specs.Sight.{Sees}
+use Rattle.page_laws.proofs.Tables.{set_here, set_else}
+use Rattle.page_laws.proofs.Sights.{HasNone}
 use Rattle.sharing_law.specs.Agreement.{AreBoundAllocated}
 use Rattle.sharing_law.proofs.Choices.{for_each}
 use Rattle.sharing_law.proofs.Given.{Gives, Tells, absorbs, dead_absorbs, gives_life, told_death}

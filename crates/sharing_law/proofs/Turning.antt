@@ -10,7 +10,7 @@ use Rattle.world_model.specs.Item.{Start}
 use Rattle.world_model.specs.PageCalls.{page_bytes}
 use Rattle.world_model.specs.World.{World, after, no_change}
 use Rattle.world_model.specs.Tick.{take_turn, turn, turn_when}
-use Rattle.page_sight.specs.Sight.{seen_in}
+use Rattle.page_laws.specs.Sight.{seen_in}
 use Rattle.sharing_law.specs.Agreement.{AreBoundAllocated}
 use Rattle.sharing_law.proofs.Given.{IsRested, given_rests, rests_same, started}
 use Rattle.sharing_law.proofs.Sound.{Sound}

@@ -13,7 +13,7 @@ use Rattle.bind_book.specs.declared.binding.Binding.{Binding}
 use Rattle.world_model.specs.World.{World}
 use Rattle.world_model.specs.PageCalls.{page_bytes}
 use Rattle.run_model.specs.Run.{System, world_after}
-use Rattle.page_sight.specs.Sight.{Sees}
+use Rattle.page_laws.specs.Sight.{Sees}
 
 -- each environment has just the bindings that the book lists for it, and sees just the pages that by the book it owns or has bound, with the bytes that their owner sees
 abbrev pub AreAgreed : World → Type 0

@@ -1,8 +1,8 @@
 -- The call that downloads a handler: code that the kernel runs over the packets of a claim.
 use Rattle.std.specs.Prelude.{◌≡◌, ℕ, ◌*◌, ◌==◌, nat_lt, List, [], ◌∷◌, if◌then◌else◌, is_some, Option, Some, None, Result, Ok, Err, true}
 use Rattle.mips_exec.specs.Cpu.{reg}
-use Rattle.handler_code.specs.declared.outcome.HandlerFault.{HandlerFault}
-use Rattle.handler_code.specs.Verification.{most_words, verified, word_size, words_in}
+use Rattle.handler_rules.specs.declared.outcome.HandlerFault.{HandlerFault}
+use Rattle.handler_rules.specs.Verification.{most_words, verified, word_size, words_in}
 use Rattle.world_model.specs.declared.code.Code.TheVariants as code
 use Rattle.world_model.specs.declared.verdict.HandlerNo.{HandlerNo}
 use Rattle.world_model.specs.declared.verdict.HandlerNo.TheVariants as no

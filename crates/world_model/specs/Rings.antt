@@ -1,7 +1,7 @@
 -- An environment's claims: what it makes of the packets that come for them.
 use Rattle.std.specs.Prelude.{ℕ, List, [], ◌∷◌, ◌++◌, Bool, not, ◌==◌, filter, find, map, take, if◌then◌else◌, Option, Some, None}
 use Rattle.external_event.specs.Limits.{most_sent}
-use Rattle.handler_code.specs.Running.{HandlerRun, handler_run}
+use Rattle.handler_rules.specs.Running.{HandlerRun, handler_run}
 use Rattle.env_frames.specs.declared.post.PostWord.TheVariants as post
 use Rattle.packet_ring.specs.declared.buffer.Buffer.TheVariants.{First}
 use Rattle.packet_ring.specs.Ring.{is_full, other_buffer, with_packet}

@@ -4,7 +4,7 @@ use Rattle.world_model.specs.World.{World}
 use Rattle.world_model.specs.Event.{schedule_of}
 use Rattle.run_model.specs.Run.{run_on, world_after, end_of_run}
 use Rattle.run_report.specs.Report.{report_text}
-use Rattle.board_world.specs.Showing.{world_of}
+use Rattle.board_model.specs.Showing.{world_of}
 use Rattle.aegis_command.specs.RunImage.{report_after}
 use Rattle.aegis_command.proofs.Texts.{same_text}
 use Rattle.aegis_command.proofs.run_image.report_after.Goals as goal

@@ -1,8 +1,8 @@
 -- What is written is what is due, and a sink that takes that gives no fault.
 use Rattle.std.proofs.Common.{Option, IfSome, subst}
-use Rattle.command_work.specs.Command.{CommandValue}
-use Rattle.command_work.specs.Edges.{ShelfEdge, SinkEdge, shelf_edge, sink_edge}
-use Rattle.command_work.specs.Outcome.{Outcome}
+use Rattle.commands.specs.Command.{CommandValue}
+use Rattle.commands.specs.Edges.{ShelfEdge, SinkEdge, shelf_edge, sink_edge}
+use Rattle.commands.specs.Outcome.{Outcome}
 use Rattle.aegis_command.specs.Headline.{IsTaken}
 use Rattle.aegis_command.specs.Words.{command_seen}
 use Rattle.aegis_command.proofs.Completeness.{is_taken, is_outcome}

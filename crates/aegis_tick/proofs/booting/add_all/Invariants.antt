@@ -4,7 +4,7 @@ use Rattle.std.specs.Prelude.{fold, sum_by}
 use Rattle.page_book.specs.Rows.{free_pages}
 use Rattle.boot_image.specs.ImageValue.{guaranteed_mappings}
 use Rattle.run_model.specs.Boot.{added}
-use Rattle.board_world.specs.Showing.{world_of}
+use Rattle.board_model.specs.Showing.{world_of}
 use Rattle.aegis_tick.proofs.booting.add_all.Given as goal
 
 abbrev pub invariant-loop-program : goal.invariant-loop-program

@@ -3,7 +3,7 @@ use Rattle.std.proofs.Common.{◌≡◌, ap, sym, subst, ◌∙◌, rules}
 use Rattle.world_model.specs.World.{World}
 use Rattle.run_model.specs.Boot.{boot_world}
 use Rattle.run_model.specs.Excess.{IsAccounted}
-use Rattle.board_world.specs.Showing.{world_of}
+use Rattle.board_model.specs.Showing.{world_of}
 use Rattle.aegis_tick.proofs.Booted.{added_boot, boot_time}
 use Rattle.aegis_tick.proofs.booting.boot.Goals as goal
 

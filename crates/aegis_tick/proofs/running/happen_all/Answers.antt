@@ -3,7 +3,7 @@ use Rattle.std.proofs.Common.{List, sym, ◌∙◌, ap, rules}
 use Rattle.std.specs.List.{take-map}
 use Rattle.external_event.specs.declared.event.Occurrence.{Occurrence}
 use Rattle.external_event.specs.EventValue.{EventValue}
-use Rattle.board_world.specs.Showing.{world_of}
+use Rattle.board_model.specs.Showing.{world_of}
 use Rattle.aegis_tick.specs.Course.{world_with}
 use Rattle.aegis_tick.proofs.Happening.{one_more}
 use Rattle.aegis_tick.proofs.Refusals.{on_err}

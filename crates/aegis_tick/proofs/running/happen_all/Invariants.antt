@@ -1,6 +1,6 @@
 -- The events so far have happened.
 use Rattle.std.proofs.Common.{◌≡◌, ◌≤◌, ◌+◌, ◌*◌, length, take}
-use Rattle.board_world.specs.Showing.{world_of}
+use Rattle.board_model.specs.Showing.{world_of}
 use Rattle.aegis_tick.specs.Course.{occurrences, world_with}
 use Rattle.aegis_tick.proofs.running.happen_all.Given as goal
 

@@ -2,7 +2,7 @@
 use Rattle.std.proofs.Common.{◌≡◌, ◌+◌, ◌-◌, ℕ, List, drop, length, sym, ◌∙◌, ap, arith}
 use Rattle.external_event.specs.declared.event.Occurrence.{Occurrence}
 use Rattle.kernel_journal.specs.Ledger.{Ledger}
-use Rattle.board_world.specs.Showing.{world_of}
+use Rattle.board_model.specs.Showing.{world_of}
 use Rattle.world_model.specs.Book.{is_idle_book}
 use Rattle.world_model.specs.Event.{schedule_of}
 use Rattle.world_model.specs.Tick.{tick_step}

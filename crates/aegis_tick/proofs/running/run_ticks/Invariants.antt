@@ -2,7 +2,7 @@
 use Rattle.std.proofs.Common.{◌≡◌, ◌≤◌, ℕ, ◌+◌, ◌-◌, ◌*◌, true, drop, length}
 use Rattle.external_event.specs.Order.{are_in_order}
 use Rattle.world_model.specs.Event.{schedule_of}
-use Rattle.board_world.specs.Showing.{world_of}
+use Rattle.board_model.specs.Showing.{world_of}
 use Rattle.run_model.specs.Run.{run_on}
 use Rattle.aegis_tick.specs.Course.{next_time_of}
 use Rattle.aegis_tick.proofs.running.run_ticks.Given as goal

@@ -2,7 +2,7 @@
 use Rattle.std.proofs.Common.{sym, ap, ◌∙◌}
 use Rattle.world_model.specs.World.{World, after}
 use Rattle.world_model.specs.Tick.{step, timer, turn}
-use Rattle.board_world.specs.Showing.{world_of}
+use Rattle.board_model.specs.Showing.{world_of}
 use Rattle.run_model.proofs.Phases.{tick_in_parts}
 use Rattle.aegis_tick.proofs.running.tick.Goals as goal
 

@@ -2,8 +2,8 @@
 use Rattle.std.proofs.Common.{sym, ◌∙◌, ap, List, length}
 use Rattle.std.proofs.Math.Seq.{take-length}
 use Rattle.external_event.specs.declared.event.Occurrence.{Occurrence}
-use Rattle.board_world.specs.Shown.{Shown}
-use Rattle.board_world.specs.Showing.{world_of}
+use Rattle.board_model.specs.Shown.{Shown}
+use Rattle.board_model.specs.Showing.{world_of}
 use Rattle.world_model.specs.Book.{is_idle_book}
 use Rattle.world_model.specs.World.{World}
 use Rattle.aegis_tick.specs.Course.{occurrences, world_with}

@@ -1,5 +1,5 @@
 use Rattle.std.proofs.Common.{◌≡◌, ◌-◌, length}
-use Rattle.handler_code.specs.Running.{handler_run, run_on, state_of}
+use Rattle.handler_rules.specs.Running.{handler_run, run_on, state_of}
 use Rattle.safe_handler.proofs.running.run_handler.Given as goal
 
 -- The run with as many instructions as are left is the handler's.

@@ -1,7 +1,7 @@
 -- One environment more.
 use Rattle.std.proofs.lemmas.Grind.{common_steps}
 use Rattle.std.proofs.Common.{arith, rules}
-use Rattle.board_world.proofs.Building.{added_sound, added_world}
+use Rattle.board_model.proofs.Building.{added_sound, added_world}
 use Rattle.aegis_calls.proofs.board.Board.add.Goals as goal
 
 pub invariant_of-self : goal.invariant_of-self

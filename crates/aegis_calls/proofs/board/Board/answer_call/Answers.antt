@@ -2,10 +2,10 @@
 use Rattle.std.proofs.Common.{ap, sym, subst, ◌∙◌}
 use Rattle.world_model.specs.Call.{deed_of}
 use Rattle.world_model.specs.May.{May}
-use Rattle.board_world.specs.Shown.{Shown}
-use Rattle.board_world.specs.Showing.{world_of}
-use Rattle.board_world.specs.Sound.{IsSound}
-use Rattle.board_world.proofs.Reading.{runner_registers}
+use Rattle.board_model.specs.Shown.{Shown}
+use Rattle.board_model.specs.Showing.{world_of}
+use Rattle.board_model.specs.Sound.{IsSound}
+use Rattle.board_model.proofs.Reading.{runner_registers}
 use Rattle.aegis_calls.proofs.board.Board.answer_call.Goals as goal
 
 pub grant-requires-clause-may : goal.grant-requires-clause-may

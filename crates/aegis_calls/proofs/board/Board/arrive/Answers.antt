@@ -5,14 +5,14 @@ use Rattle.filter_tree.specs.declared.claim.Claim.{Claim}
 use Rattle.filter_tree.specs.Claims.{claim_for, claim_handler}
 use Rattle.frame_store.specs.Pages.{page_at}
 use Rattle.packet_ring.specs.Ring.{is_full}
-use Rattle.board_world.specs.Doing.{after_arrival_for, after_arrival, with_count, after_delivery_by, after_queue, after_delivery}
-use Rattle.board_world.specs.Shown.{Shown, shown}
-use Rattle.board_world.specs.Sound.{IsSound}
-use Rattle.board_world.proofs.Claiming.{delivered_claimed}
-use Rattle.board_world.proofs.Happening.{claim_there}
-use Rattle.board_world.proofs.Parted.{context_there}
-use Rattle.board_world.proofs.Sound.{keeps_replying}
-use Rattle.board_world.proofs.Staying.{sound_claims, sound_env, sound_frames}
+use Rattle.board_model.specs.Doing.{after_arrival_for, after_arrival, with_count, after_delivery_by, after_queue, after_delivery}
+use Rattle.board_model.specs.Shown.{Shown, shown}
+use Rattle.board_model.specs.Sound.{IsSound}
+use Rattle.board_model.proofs.Claiming.{delivered_claimed}
+use Rattle.board_model.proofs.Happening.{claim_there}
+use Rattle.board_model.proofs.Parted.{context_there}
+use Rattle.board_model.proofs.Sound.{keeps_replying}
+use Rattle.board_model.proofs.Staying.{sound_claims, sound_env, sound_frames}
 use Rattle.aegis_calls.proofs.board.Board.arrive.Goals as goal
 
 -- a board stays sound where a packet for a claim comes

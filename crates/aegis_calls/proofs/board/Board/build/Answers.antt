@@ -2,8 +2,8 @@
 use Rattle.std.proofs.Common.{refl, ap, rules}
 use Rattle.std.proofs.lemmas.List.{length-replicate}
 use Rattle.filter_tree.specs.ClaimBook.{ClaimBook}
-use Rattle.board_world.specs.Shown.{Environments, shown}
-use Rattle.board_world.proofs.Building.{built_free, built_sound, built_world}
+use Rattle.board_model.specs.Shown.{Environments, shown}
+use Rattle.board_model.proofs.Building.{built_free, built_sound, built_world}
 use Rattle.aegis_calls.proofs.board.Board.build.Goals as goal
 
 pub invariant_of-result : goal.invariant_of-result

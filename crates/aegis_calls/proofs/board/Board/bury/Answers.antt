@@ -1,8 +1,8 @@
 -- A burial leaves the others' lives and pages.
 use Rattle.std.proofs.Common.{◌<◌, length, ap}
-use Rattle.board_world.specs.Shown.{Shown}
-use Rattle.board_world.specs.Sound.{HasNoPart}
-use Rattle.board_world.proofs.Staying.{sound_burial}
+use Rattle.board_model.specs.Shown.{Shown}
+use Rattle.board_model.specs.Sound.{HasNoPart}
+use Rattle.board_model.proofs.Staying.{sound_burial}
 use Rattle.aegis_calls.proofs.board.Board.bury.Goals as goal
 
 pub invariant_of-self : goal.invariant_of-self

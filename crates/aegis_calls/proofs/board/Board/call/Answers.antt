@@ -4,10 +4,10 @@ use Rattle.mips_exec.specs.Cpu.{reg}
 use Rattle.world_model.specs.Call.{exit_number}
 use Rattle.world_model.specs.Verdict.{verdict_now}
 use Rattle.world_model.specs.Tick as tick
-use Rattle.board_world.specs.Shown.{Shown}
-use Rattle.board_world.specs.Showing.{world_of}
-use Rattle.board_world.specs.Sound.{IsSound}
-use Rattle.board_world.proofs.Serving.{called_leaves}
+use Rattle.board_model.specs.Shown.{Shown}
+use Rattle.board_model.specs.Showing.{world_of}
+use Rattle.board_model.specs.Sound.{IsSound}
+use Rattle.board_model.proofs.Serving.{called_leaves}
 use Rattle.aegis_calls.proofs.board.Board.call.Goals as goal
 
 -- one runner is the runner

@@ -1,6 +1,6 @@
 -- The runner is one of the environments, and a runner that is to die has no slot left.
 use Rattle.std.proofs.Common.{rules}
-use Rattle.board_world.proofs.Sound.{none_left}
+use Rattle.board_model.proofs.Sound.{none_left}
 use Rattle.aegis_calls.proofs.Runner.{runner_there}
 use Rattle.aegis_calls.proofs.board.Board.count_down.Goals as goal
 

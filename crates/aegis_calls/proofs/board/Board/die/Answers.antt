@@ -1,11 +1,11 @@
 -- The slots are released, and then the rest.
 use Rattle.std.proofs.Common.{ap, ◌∙◌, rules}
 use Rattle.world_model.specs.Book.{running}
-use Rattle.board_world.specs.Shown.{Shown}
-use Rattle.board_world.specs.Doing.{after_death}
-use Rattle.board_world.proofs.Seen.{named}
-use Rattle.board_world.proofs.Sound.{none_left, release_manned}
-use Rattle.board_world.proofs.Staying.{sound_machine, sound_slots}
+use Rattle.board_model.specs.Shown.{Shown}
+use Rattle.board_model.specs.Doing.{after_death}
+use Rattle.board_model.proofs.Seen.{named}
+use Rattle.board_model.proofs.Sound.{none_left, release_manned}
+use Rattle.board_model.proofs.Staying.{sound_machine, sound_slots}
 use Rattle.aegis_calls.proofs.Runner.{runner_live}
 use Rattle.aegis_calls.proofs.board.Board.die.Goals as goal
 

@@ -5,13 +5,13 @@ use Rattle.external_event.specs.Limits.{most_sent}
 use Rattle.world_model.specs.Call.{good_range}
 use Rattle.world_model.specs.OwnCalls.{MayOwn, MayPut, MaySend, put_bytes}
 use Rattle.world_model.specs.Page.{Mapped}
-use Rattle.board_world.specs.Doing.{look_of}
-use Rattle.board_world.specs.Shown.{Shown, console_of, sent_of}
-use Rattle.board_world.specs.Showing.{solo_of}
-use Rattle.board_world.specs.Sound.{IsSound}
-use Rattle.board_world.proofs.Reading.{console_same, runner_look, sent_same}
-use Rattle.board_world.proofs.Sound.{keeps_accepting, keeps_handling, keeps_putting, keeps_sending}
-use Rattle.board_world.proofs.Staying.{sound_env}
+use Rattle.board_model.specs.Doing.{look_of}
+use Rattle.board_model.specs.Shown.{Shown, console_of, sent_of}
+use Rattle.board_model.specs.Showing.{solo_of}
+use Rattle.board_model.specs.Sound.{IsSound}
+use Rattle.board_model.proofs.Reading.{console_same, runner_look, sent_same}
+use Rattle.board_model.proofs.Sound.{keeps_accepting, keeps_handling, keeps_putting, keeps_sending}
+use Rattle.board_model.proofs.Staying.{sound_env}
 use Rattle.aegis_calls.proofs.Runner.{runner_live}
 use Rattle.aegis_calls.proofs.board.Board.do_own.Goals as goal
 

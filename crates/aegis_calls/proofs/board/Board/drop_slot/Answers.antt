@@ -2,9 +2,9 @@
 use Rattle.std.proofs.Common.{◌≡◌, rules}
 use Rattle.slot_vector.specs.Slices.{hold_at, with_hold}
 use Rattle.world_model.specs.SlotCalls.{dropped}
-use Rattle.board_world.proofs.Slots.{hold_here}
-use Rattle.board_world.proofs.Sound.{drop_manned}
-use Rattle.board_world.proofs.Staying.{sound_machine, sound_slots}
+use Rattle.board_model.proofs.Slots.{hold_here}
+use Rattle.board_model.proofs.Sound.{drop_manned}
+use Rattle.board_model.proofs.Staying.{sound_machine, sound_slots}
 use Rattle.aegis_calls.proofs.board.Board.drop_slot.Goals as goal
 
 -- the slot is dropped

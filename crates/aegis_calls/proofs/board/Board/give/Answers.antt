@@ -1,12 +1,12 @@
 -- Whoever is given the slice lives and has its context page, and kept registers change nobody's life or pages.
 use Rattle.std.proofs.Common.{sym, subst}
 use Rattle.std.specs.Prelude.{false}
-use Rattle.board_world.specs.Doing.{with_registers}
-use Rattle.board_world.specs.Shown.{Shown}
-use Rattle.board_world.specs.Sound.{IsLive}
-use Rattle.board_world.proofs.Parted.{context_there}
-use Rattle.board_world.proofs.Sound.{given_manned, keeps_registers}
-use Rattle.board_world.proofs.Staying.{sound_env, sound_frames, sound_machine, sound_slots}
+use Rattle.board_model.specs.Doing.{with_registers}
+use Rattle.board_model.specs.Shown.{Shown}
+use Rattle.board_model.specs.Sound.{IsLive}
+use Rattle.board_model.proofs.Parted.{context_there}
+use Rattle.board_model.proofs.Sound.{given_manned, keeps_registers}
+use Rattle.board_model.proofs.Staying.{sound_env, sound_frames, sound_machine, sound_slots}
 use Rattle.aegis_calls.proofs.board.Board.give.Goals as goal
 
 pub start-self-inside-requires : goal.start-self-inside-requires

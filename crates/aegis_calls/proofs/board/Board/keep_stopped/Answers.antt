@@ -1,7 +1,7 @@
 -- Kept registers change nobody's life or pages.
-use Rattle.board_world.specs.Doing.{with_registers}
-use Rattle.board_world.proofs.Sound.{keeps_registers}
-use Rattle.board_world.proofs.Staying.{sound_env, sound_machine}
+use Rattle.board_model.specs.Doing.{with_registers}
+use Rattle.board_model.proofs.Sound.{keeps_registers}
+use Rattle.board_model.proofs.Staying.{sound_env, sound_machine}
 use Rattle.aegis_calls.proofs.board.Board.keep_stopped.Goals as goal
 
 pub invariant_of-self : goal.invariant_of-self

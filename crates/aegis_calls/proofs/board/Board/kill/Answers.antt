@@ -1,8 +1,8 @@
 -- A death is the model's.
 use Rattle.std.proofs.Common.{ap, ◌∙◌, subst}
-use Rattle.board_world.specs.Showing.{world_of}
-use Rattle.board_world.specs.Sound.{IsSound}
-use Rattle.board_world.proofs.Serving.{death_serves, died_world}
+use Rattle.board_model.specs.Showing.{world_of}
+use Rattle.board_model.specs.Sound.{IsSound}
+use Rattle.board_model.proofs.Serving.{death_serves, died_world}
 use Rattle.aegis_calls.proofs.board.Board.kill.Goals as goal
 
 pub returns-clause-world : goal.returns-clause-world

@@ -1,8 +1,8 @@
 -- Whoever starts lives.
 use Rattle.std.proofs.Common.{sym, ap, ◌∙◌, rules}
-use Rattle.board_world.specs.Shown.{Shown}
-use Rattle.board_world.proofs.Sound.{pay_manned, run_manned, turn_live}
-use Rattle.board_world.proofs.Staying.{sound_machine, sound_slots}
+use Rattle.board_model.specs.Shown.{Shown}
+use Rattle.board_model.proofs.Sound.{pay_manned, run_manned, turn_live}
+use Rattle.board_model.proofs.Staying.{sound_machine, sound_slots}
 use Rattle.aegis_calls.proofs.board.Board.next.Goals as goal
 
 pub invariant_of-self : goal.invariant_of-self

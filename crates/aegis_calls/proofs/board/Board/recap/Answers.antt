@@ -4,14 +4,14 @@ use Rattle.page_book.specs.declared.refusal.PageNo.{PageNo}
 use Rattle.page_book.specs.declared.row.PageRow.TheVariants.{Owned}
 use Rattle.page_book.specs.Rows.{changed_unless, row_in}
 use Rattle.world_model.specs.May.{MayChange}
-use Rattle.board_world.specs.Shown.{Shown}
-use Rattle.board_world.specs.Showing.{book_of}
-use Rattle.board_world.proofs.Allowed.{changeable, owned_by_none}
-use Rattle.board_world.proofs.Booked.{owned_booked, sweep_booked}
-use Rattle.board_world.proofs.Claiming.{recapped_claimed}
-use Rattle.board_world.proofs.Parted.{row_parted}
-use Rattle.board_world.proofs.Asked.{recapped_asked}
-use Rattle.board_world.proofs.Staying.{sound_memory}
+use Rattle.board_model.specs.Shown.{Shown}
+use Rattle.board_model.specs.Showing.{book_of}
+use Rattle.board_model.proofs.Allowed.{changeable, owned_by_none}
+use Rattle.board_model.proofs.Booked.{owned_booked, sweep_booked}
+use Rattle.board_model.proofs.Claiming.{recapped_claimed}
+use Rattle.board_model.proofs.Parted.{row_parted}
+use Rattle.board_model.proofs.Asked.{recapped_asked}
+use Rattle.board_model.proofs.Staying.{sound_memory}
 use Rattle.aegis_calls.proofs.Runner.{runner_live}
 use Rattle.aegis_calls.proofs.board.Board.recap.Goals as goal
 

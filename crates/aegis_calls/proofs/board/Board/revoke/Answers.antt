@@ -3,10 +3,10 @@ use Rattle.std.proofs.Common.{◌≡◌, ◌<◌, ℕ, length, Some, ap, sym, �
 use Rattle.std.proofs.lemmas.Option.{slice_get_within}
 use Rattle.world_model.specs.declared.life.Life.{Life}
 use Rattle.world_model.specs.Queries.{life_at}
-use Rattle.board_world.specs.Shown.{Shown, shown}
-use Rattle.board_world.specs.Showing.{world_of}
-use Rattle.board_world.proofs.Parted.{context_there}
-use Rattle.board_world.proofs.Reading.{life_same}
+use Rattle.board_model.specs.Shown.{Shown, shown}
+use Rattle.board_model.specs.Showing.{world_of}
+use Rattle.board_model.proofs.Parted.{context_there}
+use Rattle.board_model.proofs.Reading.{life_same}
 use Rattle.aegis_calls.proofs.board.Board.revoke.Goals as goal
 
 -- whose life is known is one of the environments

@@ -3,9 +3,9 @@ use Rattle.std.proofs.Common.{◌≡◌, ℕ, sym, ◌∙◌, rules}
 use Rattle.mips_exec.specs.declared.exception.Exc.{Exc}
 use Rattle.mips_exec.specs.declared.exception.Outcome.TheVariants as outcome
 use Rattle.mips_exec.specs.Step.{Step, outcome_of}
-use Rattle.board_world.specs.Shown.{Shown}
-use Rattle.board_world.specs.Doing.{after_runner_step, after_machine_step, step_seen, after_trap}
-use Rattle.board_world.proofs.Stepping.{came_called}
+use Rattle.board_model.specs.Shown.{Shown}
+use Rattle.board_model.specs.Doing.{after_runner_step, after_machine_step, step_seen, after_trap}
+use Rattle.board_model.proofs.Stepping.{came_called}
 use Rattle.aegis_calls.proofs.board.Board.run_step.Goals as goal
 
 came_retired : (b : Shown) (e : ℕ) (step : Step) → outcome_of step ≡ outcome.Retired → after_machine_step b e step ≡ after_runner_step b e step

@@ -1,8 +1,8 @@
 -- Where no deadline has come nothing is done.
 use Rattle.std.proofs.Common.{sym, ap, ◌∙◌}
 use Rattle.revocation_book.specs.RevocationBook.{is_any_due}
-use Rattle.board_world.specs.Shown.{Shown}
-use Rattle.board_world.proofs.Repossessing.{nothing_due}
+use Rattle.board_model.specs.Shown.{Shown}
+use Rattle.board_model.proofs.Repossessing.{nothing_due}
 use Rattle.aegis_calls.proofs.board.Board.serve_deadlines.Goals as goal
 
 pub returns-else-is_due : goal.returns-else-is_due

@@ -1,5 +1,5 @@
 -- The owner's context page is there.
-use Rattle.board_world.proofs.Parted.{context_there}
+use Rattle.board_model.proofs.Parted.{context_there}
 use Rattle.aegis_calls.proofs.board.Board.signal.Goals as goal
 
 pub signal-requires-clause-there : goal.signal-requires-clause-there

@@ -1,5 +1,5 @@
 -- Its context page is there.
-use Rattle.board_world.proofs.Parted.{context_there}
+use Rattle.board_model.proofs.Parted.{context_there}
 use Rattle.aegis_calls.proofs.board.Board.start.Goals as goal
 
 pub start-self-inside-requires : goal.start-self-inside-requires

@@ -1,6 +1,6 @@
 -- The turn is over.
-use Rattle.board_world.proofs.Sound.{end_manned}
-use Rattle.board_world.proofs.Staying.{sound_slots}
+use Rattle.board_model.proofs.Sound.{end_manned}
+use Rattle.board_model.proofs.Staying.{sound_slots}
 use Rattle.aegis_calls.proofs.board.Board.stop.Goals as goal
 
 pub invariant_of-self : goal.invariant_of-self

@@ -4,9 +4,9 @@ use Rattle.std.proofs.Common.{◌≡◌, sym, subst, arith}
 use Rattle.revocation_book.specs.declared.revocation.Taking.{Taking}
 use Rattle.revocation_book.specs.RevocationBook.{books_of}
 use Rattle.revocation_book.specs.Takings.{IsTakable}
-use Rattle.board_world.specs.Shown.{Shown}
-use Rattle.board_world.proofs.Parted.{context_there}
-use Rattle.board_world.proofs.Repossessing.{backup_there, frame_there, owner_live, owner_there, taken_sound}
+use Rattle.board_model.specs.Shown.{Shown}
+use Rattle.board_model.proofs.Parted.{context_there}
+use Rattle.board_model.proofs.Repossessing.{backup_there, frame_there, owner_live, owner_there, taken_sound}
 use Rattle.aegis_calls.proofs.board.Board.take.Goals as goal
 
 -- what may be taken of what is shown may be taken of the board

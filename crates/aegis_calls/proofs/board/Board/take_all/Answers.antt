@@ -2,7 +2,7 @@
 use Rattle.std.proofs.Common.{length, None, arith, ap, rules}
 use Rattle.std.proofs.lemmas.List.{drop_more}
 use Rattle.revocation_book.specs.declared.revocation.Taking.{Taking}
-use Rattle.board_world.proofs.Repossessing.{its_place, page_there, taken_books}
+use Rattle.board_model.proofs.Repossessing.{its_place, page_there, taken_books}
 use Rattle.aegis_calls.proofs.board.Board.take_all.Goals as goal
 
 abbrev first : Taking

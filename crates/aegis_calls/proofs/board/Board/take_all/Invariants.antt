@@ -2,7 +2,7 @@
 use Rattle.std.proofs.Common.{◌≡◌, ◌≤◌, drop, fold, length}
 use Rattle.revocation_book.specs.RevocationBook.{books_of}
 use Rattle.revocation_book.specs.Takings.{AreTakable}
-use Rattle.board_world.specs.Doing.{after_taking}
+use Rattle.board_model.specs.Doing.{after_taking}
 use Rattle.aegis_calls.proofs.board.Board.take_all.Given as goal
 
 abbrev pub invariant-loop-taking : goal.invariant-loop-taking

@@ -1,8 +1,8 @@
 -- Each page is taken in its turn.
 use Rattle.std.proofs.Common.{rules}
-use Rattle.board_world.proofs.Asked.{served_asked}
-use Rattle.board_world.proofs.Repossessing.{takings_few}
-use Rattle.board_world.proofs.Staying.{sound_asked}
+use Rattle.board_model.proofs.Asked.{served_asked}
+use Rattle.board_model.proofs.Repossessing.{takings_few}
+use Rattle.board_model.proofs.Staying.{sound_asked}
 use Rattle.aegis_calls.proofs.board.Board.take_due.Goals as goal
 
 pub take_all-requires : goal.take_all-requires

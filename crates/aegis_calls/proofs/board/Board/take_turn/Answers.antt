@@ -3,9 +3,9 @@ use Rattle.std.proofs.Common.{sym, ap, ◌∙◌, arith}
 use Rattle.slot_vector.specs.Laws.{owed_by_all}
 use Rattle.slot_vector.specs.Slices.{told_of}
 use Rattle.slot_vector.proofs.Whole.{pay_lowers}
-use Rattle.board_world.specs.Shown.{Shown}
-use Rattle.board_world.specs.Doing.{after_told}
-use Rattle.board_world.proofs.Turns.{pay_turned}
+use Rattle.board_model.specs.Shown.{Shown}
+use Rattle.board_model.specs.Doing.{after_told}
+use Rattle.board_model.proofs.Turns.{pay_turned}
 use Rattle.aegis_calls.proofs.board.Board.take_turn.Goals as goal
 
 pub loop-smaller : goal.loop-smaller

@@ -2,7 +2,7 @@
 use Rattle.std.proofs.Common.{◌≡◌, ◌≤◌, ◌+◌, None}
 use Rattle.slot_vector.specs.Laws.{owed_by_all}
 use Rattle.slot_vector.specs.Slices.{told_of}
-use Rattle.board_world.specs.Doing.{after_told}
+use Rattle.board_model.specs.Doing.{after_told}
 use Rattle.aegis_calls.proofs.board.Board.take_turn.Given as goal
 
 abbrev pub invariant-loop : goal.invariant-loop

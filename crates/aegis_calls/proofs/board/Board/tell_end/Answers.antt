@@ -1,5 +1,5 @@
 -- The runner's context page is there.
-use Rattle.board_world.proofs.Parted.{context_there}
+use Rattle.board_model.proofs.Parted.{context_there}
 use Rattle.aegis_calls.proofs.board.Board.tell_end.Goals as goal
 
 pub end-requires-clause-there : goal.end-requires-clause-there

@@ -1,10 +1,10 @@
 -- The timer is the model's.
 use Rattle.std.proofs.Common.{ap, ◌∙◌, subst, rules}
-use Rattle.board_world.specs.Showing.{world_of}
-use Rattle.board_world.specs.Sound.{IsSound}
-use Rattle.board_world.proofs.Counting.{counted_counts}
-use Rattle.board_world.proofs.Turning.{counted_world}
-use Rattle.board_world.proofs.Numbering.{timer_claims}
+use Rattle.board_model.specs.Showing.{world_of}
+use Rattle.board_model.specs.Sound.{IsSound}
+use Rattle.board_model.proofs.Counting.{counted_counts}
+use Rattle.board_model.proofs.Turning.{counted_world}
+use Rattle.board_model.proofs.Numbering.{timer_claims}
 use Rattle.aegis_calls.proofs.board.Board.timer.Goals as goal
 
 pub returns-clause-world : goal.returns-clause-world

@@ -6,12 +6,12 @@ use Rattle.mips_exec.specs.declared.registers.Cpu.{Cpu}
 use Rattle.slot_vector.specs.Slices.{given_to}
 use Rattle.world_model.specs.Item.{answered_cpu}
 use Rattle.world_model.specs.declared.verdict.Verdict.TheVariants.{Grant}
-use Rattle.board_world.specs.Doing.{with_mask, after_entry, after_hand_on, entry_roster, with_registers}
-use Rattle.board_world.specs.Shown.{Shown, handlers_of, shown, with_list}
-use Rattle.board_world.specs.Sound.{IsLive}
-use Rattle.board_world.proofs.Parted.{context_there}
-use Rattle.board_world.proofs.Sound.{given_manned, keeps_accepting, keeps_registers}
-use Rattle.board_world.proofs.Staying.{sound_env, sound_frames, sound_machine, sound_slots}
+use Rattle.board_model.specs.Doing.{with_mask, after_entry, after_hand_on, entry_roster, with_registers}
+use Rattle.board_model.specs.Shown.{Shown, handlers_of, shown, with_list}
+use Rattle.board_model.specs.Sound.{IsLive}
+use Rattle.board_model.proofs.Parted.{context_there}
+use Rattle.board_model.proofs.Sound.{given_manned, keeps_accepting, keeps_registers}
+use Rattle.board_model.proofs.Staying.{sound_env, sound_frames, sound_machine, sound_slots}
 use Rattle.aegis_calls.proofs.Runner.{runner_live}
 use Rattle.aegis_calls.proofs.board.Board.transfer.Goals as goal
 

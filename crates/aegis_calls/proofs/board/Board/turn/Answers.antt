@@ -1,11 +1,11 @@
 -- The turn is the model's, and writes no more rows than its forfeits and a start.
 use Rattle.std.proofs.Common.{ap, ◌∙◌, subst, arith}
-use Rattle.board_world.specs.Showing.{world_of}
-use Rattle.board_world.specs.Sound.{IsSound}
-use Rattle.board_world.proofs.Sound.{owed_most}
-use Rattle.board_world.proofs.Turning.{turned_runs, turned_world}
+use Rattle.board_model.specs.Showing.{world_of}
+use Rattle.board_model.specs.Sound.{IsSound}
+use Rattle.board_model.proofs.Sound.{owed_most}
+use Rattle.board_model.proofs.Turning.{turned_runs, turned_world}
 use Rattle.world_model.specs.World.{World}
-use Rattle.board_world.proofs.Numbering.{turn_claims}
+use Rattle.board_model.proofs.Numbering.{turn_claims}
 use Rattle.aegis_calls.proofs.board.Board.turn.Goals as goal
 
 pub take_turn-requires-clause-room : goal.take_turn-requires-clause-room

@@ -1,7 +1,7 @@
 -- The claims that are left go into pages of their environments' own.
 use Rattle.filter_tree.specs.Claims.{is_claim}
-use Rattle.board_world.proofs.Claiming.{withdrawn_claimed}
-use Rattle.board_world.proofs.Staying.{sound_claims}
+use Rattle.board_model.proofs.Claiming.{withdrawn_claimed}
+use Rattle.board_model.proofs.Staying.{sound_claims}
 use Rattle.aegis_calls.proofs.board.Board.unclaim.Goals as goal
 
 pub invariant_of-self : goal.invariant_of-self

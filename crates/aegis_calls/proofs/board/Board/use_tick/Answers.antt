@@ -1,9 +1,9 @@
 -- The slots once the timer counted, and what it brought is settled.
 use Rattle.std.proofs.Common.{ap, ◌∙◌}
 use Rattle.world_model.specs.Book.{running}
-use Rattle.board_world.specs.Shown.{Shown}
-use Rattle.board_world.proofs.Sound.{timer_manned}
-use Rattle.board_world.proofs.Staying.{sound_machine, sound_slots}
+use Rattle.board_model.specs.Shown.{Shown}
+use Rattle.board_model.proofs.Sound.{timer_manned}
+use Rattle.board_model.proofs.Staying.{sound_machine, sound_slots}
 use Rattle.aegis_calls.proofs.board.Board.use_tick.Goals as goal
 
 pub invariant_of-self : goal.invariant_of-self

@@ -2,7 +2,7 @@
 use Rattle.std.proofs.Common.{false, rules}
 use Rattle.std.proofs.lemmas.Option.{slice_get-get_or}
 use Rattle.env_frames.specs.declared.mapping.Mapping.{Mapping}
-use Rattle.board_world.proofs.Seen.{guaranteed_there}
+use Rattle.board_model.proofs.Seen.{guaranteed_there}
 use Rattle.aegis_calls.proofs.readers.BoardWorldView.kept_page.Goals as goal
 
 abbrev pub no_mapping : Mapping

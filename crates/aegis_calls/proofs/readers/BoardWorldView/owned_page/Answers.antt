@@ -7,9 +7,9 @@ use Rattle.page_book.specs.declared.row.PageRow.{PageRow}
 use Rattle.page_book.specs.declared.row.PageRow.TheVariants.{Free}
 use Rattle.page_book.specs.Row.{is_owned_by}
 use Rattle.page_book.specs.Rows.{row_in}
-use Rattle.page_sight.specs.Sight.{seen_if}
-use Rattle.board_world.specs.Shown.{Shown}
-use Rattle.board_world.specs.Showing.{solo_of}
+use Rattle.page_laws.specs.Sight.{seen_if}
+use Rattle.board_model.specs.Shown.{Shown}
+use Rattle.board_model.specs.Showing.{solo_of}
 use Rattle.world_model.specs.View.{owned_bytes}
 use Rattle.aegis_calls.proofs.readers.BoardWorldView.owned_page.Goals as goal
 

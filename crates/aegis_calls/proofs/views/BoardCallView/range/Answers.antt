@@ -2,10 +2,10 @@
 use Rattle.std.proofs.Common.{ℕ, Option, ap, ◌∙◌, subst}
 use Rattle.world_model.specs.Call.{good_range}
 use Rattle.world_model.specs.Page.{Mapped}
-use Rattle.board_world.specs.Shown.{Shown}
-use Rattle.board_world.specs.Sound.{IsSound}
-use Rattle.board_world.specs.Doing.{look_of}
-use Rattle.board_world.proofs.Reading.{runner_look}
+use Rattle.board_model.specs.Shown.{Shown}
+use Rattle.board_model.specs.Sound.{IsSound}
+use Rattle.board_model.specs.Doing.{look_of}
+use Rattle.board_model.proofs.Reading.{runner_look}
 use Rattle.aegis_calls.proofs.views.BoardCallView.range.Goals as goal
 
 pub returns : goal.returns

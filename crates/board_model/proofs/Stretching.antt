@@ -1,0 +1,128 @@
+-- Plain ticks of a board are ticks of the model.
+use Rattle.std.proofs.Common.{◌≡◌, ◌<◌, ℕ, zero, suc, ◌+◌, ◌-◌, List, [], length, length-set, Bool, false, Option, Some, refl, sym, ◌∙◌, ap, add-zero, arith, rules}
+use Rattle.std.specs.Prelude.{◌&&◌, is_none, map, unwrap_or}
+use Rattle.std.specs.Option.{option_map}
+use Rattle.std.proofs.lemmas.Bool.{ne_eqb}
+use Rattle.mips_exec.specs.Access.{Write}
+use Rattle.mips_exec.specs.declared.registers.Cpu.{Cpu}
+use Rattle.mips_exec.specs.declared.exception.Outcome.TheVariants as outcome
+use Rattle.mips_exec.specs.Step.{Step, Retired, outcome_of, write_after}
+use Rattle.env_frames.specs.declared.mapping.Mapping.{Mapping}
+use Rattle.external_event.specs.declared.event.Occurrence.{Occurrence}
+use Rattle.guest_memory.specs.Look.{frames_after}
+use Rattle.guest_memory.specs.Steps.{Machine, after_steps, next_step}
+use Rattle.revocation_book.specs.Pending.{earliest_in}
+use Rattle.revocation_book.specs.RevocationBook.{RevocationBook, is_any_due, next_deadline}
+use Rattle.revocation_book.proofs.Earliest.{due_by_earliest, has_come}
+use Rattle.slot_vector.specs.Slices.{Slices, after_ticks, left_of}
+use Rattle.world_model.specs.declared.slot.Runner.{Runner}
+use Rattle.world_model.specs.Book.{is_idle_book, running}
+use Rattle.world_model.specs.Deadlines.{takings}
+use Rattle.world_model.specs.Event.{Schedule, happen}
+use Rattle.world_model.specs.Tick.{phases_after, served, step, tick_step, timer, turn, turn_when}
+use Rattle.world_model.specs.World.{World, after, run_phases}
+use Rattle.run_model.specs.Run.{next_world}
+use Rattle.run_model.proofs.Phases.{tick_in_parts}
+use Rattle.board_model.specs.Doing.{after_count_down, lookup_of, after_machine_step, step_seen, with_next_time}
+use Rattle.board_model.specs.Laws.{ServingIsServing, TimerIsTimer}
+use Rattle.board_model.specs.Shown.{Environments, Shown}
+use Rattle.board_model.specs.Showing.{world_of}
+use Rattle.board_model.specs.Sound.{IsManned, IsSound}
+use Rattle.board_model.specs.Stretch.{ArePlain, StretchIsTicks, machine_of, stretched}
+use Rattle.board_model.proofs.Phases.{quiet_world}
+use Rattle.board_model.proofs.Repossessing.{nothing_due}
+use Rattle.board_model.proofs.Seen.{runner_runs}
+use Rattle.board_model.proofs.Stepping.{retired_step}
+use Rattle.board_model.proofs.Staying.{sound_frames, sound_machine, sound_slots}
+
+step_size : (frames : List (List ℕ)) (lookup : ℕ → Option Mapping) (w : Option Write) → length (frames_after frames lookup w) ≡ length frames
+step_size frames lookup w = search (rules, length-set)
+
+steps_size : (lookup : ℕ → Option Mapping) (m : Machine) (k : ℕ) → length (after_steps lookup m k).frames ≡ length m.frames
+steps_size lookup m zero = refl
+steps_size lookup m (suc k) = let n = after_steps lookup m k in step_size n.frames lookup (write_after (next_step lookup n)) ∙ steps_size lookup m k
+
+-- The runner has so many ticks fewer.
+abbrev passed : ℕ → Option Runner → Option Runner
+passed k o = option_map (λ (r : Runner). record r { left = r.left - k }) o
+
+none_passed : (o : Option Runner) → passed 0 o ≡ o
+none_passed o = search rules
+
+one_passed : (k : ℕ) (o : Option Runner) → passed (suc k) o ≡ passed 1 (passed k o)
+one_passed k o = search rules
+
+runs_on : (k : ℕ) (o : Option Runner) → running (passed k o) ≡ running o
+runs_on k o = search rules
+
+left_on : (k : ℕ) (o : Option Runner) → left_of (passed k o) ≡ left_of o - k
+left_on k o = search rules
+
+pub passed_manned : (v : Slices) (r : Environments) (k : ℕ) → IsManned v r → k < left_of v.runner → IsManned (after_ticks k v) r
+passed_manned v r k manned some = search rules
+
+pub stretch_sound : (b : Shown) (e k : ℕ) → IsSound b → k < left_of b.slots.runner → IsSound (stretched b e k)
+stretch_sound b e k sound some =
+    sound_machine (sound_slots _ (passed_manned b.slots b.roster k sound.book some) (sound_frames _ (steps_size (lookup_of b e) (machine_of b) k) sound))
+
+-- before the next deadline none has come
+not_come : (t : ℕ) (deadline : Option ℕ) → t < unwrap_or deadline 4294967295 → has_come t deadline ≡ false
+not_come t deadline before = search rules
+
+none_due : (book : RevocationBook) (t : ℕ) → t < next_deadline book → is_any_due book t ≡ false
+none_due book t before = due_by_earliest t book.pending ∙ not_come t (earliest_in book.pending) before
+
+-- where somebody runs the world isn't idle
+busy : (o : Option Runner) (nobody : Bool) (e : ℕ) → running o ≡ Some e → (is_none o && nobody) ≡ false
+busy o nobody e runs = search rules
+
+still : (w : World) (o : Option Runner) (e : ℕ) → running o ≡ Some e → after w (turn_when w o) ≡ w
+still w o e runs = search (rules, quiet_world)
+
+-- what a step is that retires
+retires : (st : Step) → outcome_of st ≡ outcome.Retired → (cpu : Cpu) × (w : Option Write) × (st ≡ Retired cpu w)
+retires st is = search rules
+
+stepped : (b : Shown) (e : ℕ) → IsSound b → running b.slots.runner ≡ Some e → outcome_of (step_seen b e) ≡ outcome.Retired → world_of (after_machine_step b e (step_seen b e)) ≡ after (world_of b) (step (world_of b))
+stepped b e sound runs retired = search (rules, runner_runs, retires, retired_step)
+
+-- the timer of a runner that has ticks left behind this one
+counts_on : (b now : Shown) (o : Option Runner) → now.slots.runner ≡ o → 1 < left_of o → with_next_time (after_count_down now o) ≡ record now { slots = after_ticks 1 now.slots; time = now.time + 1 }
+counts_on b now o is more = search (rules, ne_eqb)
+
+module _ (serves : ServingIsServing) (times : TimerIsTimer) where
+  plain_tick : (b : Shown) (e : ℕ) → IsSound b → running b.slots.runner ≡ Some e → outcome_of (step_seen b e) ≡ outcome.Retired → 1 < left_of b.slots.runner → is_any_due b.revocations b.time ≡ false → world_of (stretched b e 1) ≡ tick_step (world_of b)
+  plain_tick b e sound runs retired more none =
+      let w = world_of b in
+      let st = step_seen b e in
+      let now = after_machine_step b e st in
+      let none_served : w ≡ served w = ap world_of (nothing_due b none) ∙ serves b sound in
+      let none_turned : w ≡ after w (turn w) = sym (still w b.slots.runner e runs) in
+      let size : length now.frames ≡ length b.frames = step_size b.frames (lookup_of b e) (write_after st) in
+      let after_sound : IsSound now = sound_machine (sound_frames now.frames size sound) in
+      ap world_of (sym (counts_on b now b.slots.runner refl more))
+      ∙ times now after_sound
+      ∙ ap (λ u. after u (timer u)) (stepped b e sound runs retired)
+      ∙ ap (λ u. let t = after u (step u) in after t (timer t)) none_turned
+      ∙ ap (λ v. let u = after v (turn v) in let t = after u (step u) in after t (timer t)) none_served
+      ∙ sym (tick_in_parts w)
+
+  -- a tick of a run in which nothing happens from outside
+  quiet_tick : (schedule : Schedule) (w : World) → is_idle_book w.book ≡ false → schedule w.book.time ≡ [] → tick_step w ≡ next_world schedule w
+  quiet_tick schedule w goes nothing =
+      rw goes (ap (λ (happens : List Occurrence). run_phases w (phases_after happens (takings (run_phases w (map happen happens))))) (sym nothing))
+
+  pub stretch_ticks : StretchIsTicks
+  stretch_ticks b e zero schedule sound runs plain quiet = ap world_of (λ i. record b { slots = record b.slots { runner = none_passed b.slots.runner i }; time = add-zero b.time i })
+  stretch_ticks b e (suc k) schedule sound runs plain quiet =
+      let v = stretched b e k in
+      let more = plain.left in
+      let soon = plain.early in
+      let later : b.time + suc k ≡ b.time + k + 1 = omega arith in
+      let once : stretched b e (suc k) ≡ stretched v e 1 = (λ i. record (stretched b e (suc k)) { slots = record b.slots { runner = one_passed k b.slots.runner i }; time = later i }) in
+      let fewer : ArePlain b e k = record { retire = record { each = λ i less. plain.retire.each i (omega arith) }; left = omega arith; early = omega arith } in
+      let goes = runs_on k b.slots.runner ∙ runs in
+      ap world_of once
+      ∙ plain_tick v e (stretch_sound b e k sound (omega arith)) goes (plain.retire.each k (omega arith)) (omega (arith, left_on k b.slots.runner)) (none_due b.revocations (b.time + k) (omega arith))
+      ∙ quiet_tick schedule (world_of v) (busy v.slots.runner _ e goes) (quiet.nothing (b.time + k) (omega arith) (omega arith))
+      ∙ ap (next_world schedule) (stretch_ticks b e k schedule sound runs fewer (record { nothing = λ t from until. quiet.nothing t from (omega arith) }))

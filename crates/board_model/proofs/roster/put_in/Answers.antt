@@ -1,0 +1,16 @@
+-- The environment at the place is the one that wrote more.
+use Rattle.std.proofs.Common.{List, ℕ, ap, ◌∙◌, arith}
+use Rattle.std.specs.Prelude.{slice_index_or, slice_set}
+use Rattle.board_model.specs.Doing.{with_bytes_put}
+use Rattle.board_model.proofs.Lists.{changed_set}
+use Rattle.std.proofs.lemmas.Option.{slice_get-get_or}
+use Rattle.board_model.proofs.roster.put_in.Goals as goal
+
+pub put-requires : goal.put-requires
+put-requires c = grind (arith, slice_get-get_or)
+
+pub returns : goal.returns
+returns c =
+    let x = slice_index_or c.args.list.now c.args.place c.index-list-place.result in
+    ap (λ (bytes : List ℕ). slice_set c.args.list.now c.args.place (record x { output = record x.output { console = bytes } })) c.put.ensures
+    ∙ changed_set (with_bytes_put c.args.bytes.now) c.args.list.now c.args.place c.index-list-place.result c.requires.there

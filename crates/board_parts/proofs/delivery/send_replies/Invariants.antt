@@ -1,8 +1,0 @@
--- The replies so far are sent.
-use Rattle.std.proofs.Common.{◌≡◌, take}
-use Rattle.board_world.specs.Shown.{changed, with_list}
-use Rattle.board_world.specs.Doing.{with_replies_sent}
-use Rattle.board_parts.proofs.delivery.send_replies.Given as goal
-
-abbrev pub invariant-loop-n : goal.invariant-loop-n
-invariant-loop-n l = l.roster ≡ with_list l.fn.roster (changed (with_replies_sent (take l.n l.replies)) l.fn.roster.list l.env)

@@ -1,5 +1,0 @@
-use Rattle.board_world.proofs.Serving.{called_world}
-use Rattle.board_world.proofs.laws.law_call.Goals as goal
-
-pub returns : goal.returns
-returns c = called_world c.law_granted.ensures c.law_numbered.ensures

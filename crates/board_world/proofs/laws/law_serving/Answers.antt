@@ -1,5 +1,0 @@
-use Rattle.board_world.proofs.Repossessing.{served_world}
-use Rattle.board_world.proofs.laws.law_serving.Goals as goal
-
-pub returns : goal.returns
-returns c = served_world c.law_takable.ensures

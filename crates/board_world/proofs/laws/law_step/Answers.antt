@@ -1,5 +1,0 @@
-use Rattle.board_world.proofs.Stepping.{stepped_world}
-use Rattle.board_world.proofs.laws.law_step.Goals as goal
-
-pub returns : goal.returns
-returns c = stepped_world c.law_granted.ensures c.law_numbered.ensures

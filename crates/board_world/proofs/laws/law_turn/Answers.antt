@@ -1,5 +1,0 @@
-use Rattle.board_world.proofs.Turning.{turned_world}
-use Rattle.board_world.proofs.laws.law_turn.Goals as goal
-
-pub returns : goal.returns
-returns c = turned_world

@@ -1,6 +1,0 @@
--- The law is the lemma.
-use Rattle.page_sight.proofs.Sights.{others_lose}
-use Rattle.page_sight.proofs.laws.law_losers.Goals as goal
-
-pub returns : goal.returns
-returns c = others_lose

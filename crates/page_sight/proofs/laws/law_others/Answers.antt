@@ -1,6 +1,0 @@
--- The law is the lemma.
-use Rattle.page_sight.proofs.Sights.{others_dont}
-use Rattle.page_sight.proofs.laws.law_others.Goals as goal
-
-pub returns : goal.returns
-returns c = others_dont
