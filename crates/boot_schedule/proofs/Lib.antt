@@ -1,2 +1,3 @@
-pub mod FormLemmas
-pub mod Order
+mod FormLemmas
+mod Order
+mod PacketLemmas

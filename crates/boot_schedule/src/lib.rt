@@ -6,6 +6,7 @@
 
 mod fault;
 mod laws;
+mod packet_line;
 mod ranges;
 mod reading;
 mod statement;

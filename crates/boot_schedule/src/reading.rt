@@ -1,10 +1,12 @@
 //! The reader of schedules, line by line.
 ghost use Rattle.std.specs.Prelude.{◌≡◌, ◌<◌, ◌^◌, None, Some, length, IfErr, IfOk};
 ghost use Rattle.std.specs.Option.{option_map};
-ghost use Rattle.line_text.specs.Failing.{IsFound, fault_at};
+ghost use Rattle.line_text.specs.Failing.{Gives, IsFound, fault_at, in_line};
+ghost use Rattle.boot_schedule.specs.Saying.{said};
 ghost use Rattle.boot_schedule.specs.Schedule.{event_said, line_fault, schedule_fault, events_of};
 
 use crate::fault::ScheduleWhy;
+use crate::packet_line::packet_said;
 use crate::ranges::words_said;
 use crate::statement::parts_of;
 use external_event::Event;
@@ -42,8 +44,7 @@ fn read_event(
     ensures ok { IfOk result (λ event. (line_fault before others line.now.text.now ≡ None) × (event_said line.now.text.now ≡ Some event)) }
     ensures err { IfErr result (IsFound (option_map (fault_at line.now.number) (line_fault before others line.now.text.now))) }
 {
-    let parts = parts_of(line.text).ok_or(line.breaks(ScheduleWhy::Syntax))?;
-    let event = words_said(alloc, line, parts)?;
+    let event = line_said(alloc, line)?;
     if event.time < before {
         return Err(line.breaks(ScheduleWhy::Order));
     }
@@ -51,4 +52,22 @@ fn read_event(
         return Err(line.breaks(ScheduleWhy::Many));
     }
     Ok(event)
+}
+
+/// The event that a line says by itself.
+fn line_said(alloc: Global, line: &Line<'_>) -> Result<Event, TextFailure<ScheduleWhy>>
+    ensures { Gives (λ event. event) result (in_line line.now.number (said line.now.text.now)) }
+{
+    match packet_said(alloc, line.text) {
+        Some(event) => Ok(event),
+        None => said_by_words(alloc, line),
+    }
+}
+
+/// The same, whatever the form of the line.
+fn said_by_words(alloc: Global, line: &Line<'_>) -> Result<Event, TextFailure<ScheduleWhy>>
+    ensures { Gives (λ event. event) result (in_line line.now.number (said line.now.text.now)) }
+{
+    let parts = parts_of(line.text).ok_or(line.breaks(ScheduleWhy::Syntax))?;
+    words_said(alloc, line, parts)
 }

@@ -10,7 +10,7 @@ use Rattle.filter_core.specs.declared.atom.Atom.{Atom}
 use Rattle.filter_tree.specs.ClaimBook.{ClaimBook, ClaimValue, RowValue, claim_in}
 use Rattle.filter_tree.specs.Claims.{atom_count}
 use Rattle.filter_tree.specs.Prefixes.{Shape, distinct, prefixes, prefixes_from, prefixes_of, same_shape, same_shapes, shape_of, shapes_from}
-use Rattle.filter_tree.specs.Tree.{begins, begins_with, is_branch, starts_with, value_at}
+use Rattle.filter_tree.specs.Tree.{begins, begins_with, is_branch, starts_with, leaf_value}
 
 -- equal shapes, and lists of them
 shape_same : (s t : Shape) → same_shape s t ≡ true → s ≡ t
@@ -119,7 +119,7 @@ claim_begins depth a c is = rw (← drop-drop 1 depth c.filter) (prefixes_begin 
 
 -- what stands behind a shape stands behind it among all
 behind_shape : (depth v : ℕ) (a : Atom) (claims : List ClaimValue) (p : List Shape) → list_all (begins depth a) claims ≡ true
-    → is_in p (map (λ prefix. shape_of a ∷ prefix) (of_claims (depth + 1) (filter (λ c. v == value_at depth c) claims))) ≡ true → is_in p (of_claims depth claims) ≡ true
+    → is_in p (map (λ prefix. shape_of a ∷ prefix) (of_claims (depth + 1) (filter (λ c. v == leaf_value depth c) claims))) ≡ true → is_in p (of_claims depth claims) ≡ true
 behind_shape depth v a [] p all is = cc
 behind_shape depth v a (c ∷ claims) p all is = grind (arith, common_steps, (claim_begins depth a c), (behind_shape depth v a claims p))
 
@@ -129,10 +129,10 @@ shape_alone depth a (c ∷ claims) first = grind (arith, common_steps, claim_beg
 
 -- a branch has one prefix more than those of its claims that are reached
 pub one_prefix_more : (depth v : ℕ) (a : Atom) (claims : List ClaimValue) → is_branch depth a claims ≡ true
-    → prefixes_from (depth + 1) (filter (λ c. v == value_at depth c) claims) + 1 ≤ prefixes_from depth claims
+    → prefixes_from (depth + 1) (filter (λ c. v == leaf_value depth c) claims) + 1 ≤ prefixes_from depth claims
 one_prefix_more depth v a claims branch =
     let parts = and_parts (starts_with depth a claims) (list_all (begins depth a) claims) branch in
-    let reached : List ClaimValue = filter (λ c. v == value_at depth c) claims in
+    let reached : List ClaimValue = filter (λ c. v == leaf_value depth c) claims in
     let longer : List (List Shape) = map (λ prefix. shape_of a ∷ prefix) (of_claims (depth + 1) reached) in
     let alone : is_in (shape_of a ∷ []) longer ≡ false = front_in (shape_of a) [] (of_claims (depth + 1) reached) ∙ none_empty_of (depth + 1) reached in
     let same = distinct_front (shape_of a) (of_claims (depth + 1) reached) in
@@ -141,7 +141,7 @@ one_prefix_more depth v a claims branch =
     omega (arith, same, count, below)
   where
     within : (p : List Shape) → starts_with depth a claims ≡ true → list_all (begins depth a) claims ≡ true
-        → is_in p ((shape_of a ∷ []) ∷ map (λ prefix. shape_of a ∷ prefix) (of_claims (depth + 1) (filter (λ c. v == value_at depth c) claims))) ≡ true → is_in p (of_claims depth claims) ≡ true
+        → is_in p ((shape_of a ∷ []) ∷ map (λ prefix. shape_of a ∷ prefix) (of_claims (depth + 1) (filter (λ c. v == leaf_value depth c) claims))) ≡ true → is_in p (of_claims depth claims) ≡ true
     within p first all is = grind (arith, common_steps, (lists_same p (shape_of a ∷ [])), (shape_alone depth a claims first), (behind_shape depth v a claims p))
 
 pub some_prefix : (depth : ℕ) (a : Atom) (claims : List ClaimValue) → is_branch depth a claims ≡ true → 1 ≤ prefixes_from depth claims
@@ -218,27 +218,3 @@ length_of (r ∷ rows) = grind (arith, common_steps, length_prefixes, (length_of
 
 pub few_prefixes : (book : ClaimBook) → prefixes book ≤ atom_count book
 few_prefixes book = omega (arith, distinct_few (of_claims 0 (map claim_in book.rows)), length_of book.rows)
-
--- and as many as atoms where there is one claim
-distinct_all : (shapes : List Shape) → distinct (prefixes_of shapes) ≡ length shapes
-distinct_all [] = refl
-distinct_all (s ∷ shapes) =
-    let alone : is_in (s ∷ []) (map (λ prefix. s ∷ prefix) (prefixes_of shapes)) ≡ false = front_in s [] (prefixes_of shapes) ∙ none_empty shapes in
-    rw alone (omega (arith, distinct_front s (prefixes_of shapes), distinct_all shapes))
-
-pub prefixes_alone : (depth : ℕ) (c : ClaimValue) → length (drop depth c.filter) ≤ prefixes_from depth (c ∷ [])
-prefixes_alone depth c =
-    let joined : of_claims depth (c ∷ []) ≡ of_claim depth c = append-nil (of_claim depth c) in
-    rw joined (omega (arith, distinct_all (shapes_from depth c), length-map (drop depth c.filter) shape_of))
-
-pub alone_prefixes : (depth : ℕ) (claims : List ClaimValue) (d : ClaimValue) → length claims ≡ 1 → length (drop depth (slice_index_or claims 0 d).filter) ≤ prefixes_from depth claims
-alone_prefixes depth [] d one = absurd (omega (arith, one))
-alone_prefixes depth (c ∷ []) d one = prefixes_alone depth c
-alone_prefixes depth (c ∷ e ∷ claims) d one = absurd (omega (arith, one))
-
--- one claim among some others, by itself
-pub alone_part : (n count : ℕ) (claims : List ClaimValue) (d : ClaimValue) → count ≡ 1 → count ≤ length (drop n claims)
-    → length (drop 0 (slice_index_or claims n d).filter) ≤ prefixes_from 0 (take count (drop n claims))
-alone_part n count claims d one within =
-    let there : n < length claims = omega (arith, one, within, length-drop n claims) in
-    rw (one, drop_more claims n d there) (prefixes_alone 0 (slice_index_or claims n d))

@@ -5,7 +5,8 @@ use Rattle.std.specs.List.Sorted.{IsNonDecreasingBy}
 use Rattle.std.proofs.lemmas.Grind.{common_steps}
 use Rattle.std.proofs.lemmas.Bool.{and_parts, eqb-true, leb-true, ltb-false, ltb-true, ne_eqb}
 use Rattle.std.proofs.lemmas.List.Kept.{AllPairs-cons}
-use Rattle.filter_tree.specs.ClaimBook.{AreRising, RowValue, are_numbered, is_of_env}
+use Rattle.filter_tree.specs.Keeping.{AreRising}
+use Rattle.filter_tree.specs.ClaimBook.{RowValue, are_numbered, is_of_env}
 use Rattle.filter_tree.specs.Claims.{is_claim, is_numbered}
 
 abbrev pub numbered : ℕ → RowValue → Bool

@@ -1,11 +1,14 @@
-pub mod Alike
-pub mod Counting
-pub mod Halving
-pub mod Lowest
-pub mod Numbers
-pub mod Order
-pub mod Planting
-pub mod Reaching
-pub mod Room
-pub mod Rooted
-pub mod Splitting
+mod Alike
+mod Counting
+mod Halving
+mod Laid
+mod Lowest
+mod Numbers
+mod Order
+mod Parting
+mod Planting
+mod Reaching
+mod Room
+mod Rooted
+mod Splitting
+mod Ways

@@ -11,7 +11,7 @@ use Rattle.std.proofs.lemmas.List.{drop-drop}
 use Rattle.filter_core.specs.declared.atom.Atom.{Atom}
 use Rattle.filter_core.specs.Matching.{field, matches}
 use Rattle.filter_tree.specs.ClaimBook.{ClaimValue}
-use Rattle.filter_tree.specs.Tree.{AreInOrder, IsSplit, begins, begins_with, comes_before, first_value, is_branch, lower, lowest, matches_from, starts_with, value_at}
+use Rattle.filter_tree.specs.Tree.{AreInOrder, IsSplit, begins, begins_with, comes_before, first_value, is_branch, lower_number, lowest, matches_from, starts_with, leaf_value}
 use Rattle.filter_tree.proofs.Lowest.{lower_join, lowest_filter, lowest_parts, lowest_none, lowest_same}
 use Rattle.filter_tree.proofs.Order.{has_own_shape, tails_before}
 
@@ -25,17 +25,17 @@ read_none true x is = cc
 read_none false x is = refl
 
 abbrev asks : ℕ → ℕ → ClaimValue → Bool
-asks depth v c = v == value_at depth c
+asks depth v c = v == leaf_value depth c
 
 -- two claims with one atom at a depth are in the order of what follows it
 both_after : (depth v : ℕ) (a : Atom) (c d : ClaimValue) → begins depth a c ≡ true → begins depth a d ≡ true → asks depth v c ≡ true → asks depth v d ≡ true
     → comes_before depth c d ≡ true → comes_before (depth + 1) c d ≡ true
 both_after depth v a c d left right own other is =
-    let same : first_value (drop depth c.filter) ≡ first_value (drop depth d.filter) = sym (eqb-true v (value_at depth c) own) ∙ eqb-true v (value_at depth d) other in
+    let same : first_value (drop depth c.filter) ≡ first_value (drop depth d.filter) = sym (eqb-true v (leaf_value depth c) own) ∙ eqb-true v (leaf_value depth d) other in
     rw (← drop-drop 1 depth c.filter, ← drop-drop 1 depth d.filter) (tails_before a (drop depth c.filter) (drop depth d.filter) left right same is)
 
 pub reached_order : (depth v : ℕ) (a : Atom) (claims : List ClaimValue) → AreInOrder depth claims → list_all (begins depth a) claims ≡ true
-    → AreInOrder (depth + 1) (filter (λ c. v == value_at depth c) claims)
+    → AreInOrder (depth + 1) (filter (λ c. v == leaf_value depth c) claims)
 reached_order depth v a claims order all = λ i j d before within.
     let some : List ClaimValue = filter (asks depth v) claims in
     let begin = All-filter (asks depth v) (λ c. begins depth a c ≡ true) claims (AllPass-from_list_all (begins depth a) claims all) in
@@ -57,7 +57,7 @@ no_atom a packet (x ∷ f) fits is = grind (arith, common_steps)
 
 pub reached_lowest : (depth v : ℕ) (a : Atom) (packet : List ℕ) (claims : List ClaimValue) → nat_le (a.offset + a.width) (length packet) ≡ true
     → v ≡ bit_and (field a.offset a.width packet) a.mask → list_all (begins depth a) claims ≡ true
-    → lowest (matches_from (depth + 1) packet) (filter (λ c. v == value_at depth c) claims) ≡ lowest (matches_from depth packet) claims
+    → lowest (matches_from (depth + 1) packet) (filter (λ c. v == leaf_value depth c) claims) ≡ lowest (matches_from depth packet) claims
 reached_lowest depth v a packet claims fits is all =
     lowest_filter (matches_from (depth + 1) packet) (asks depth v) claims
     ∙ lowest_same (begins depth a) (λ c. asks depth v c && matches_from (depth + 1) packet c) (matches_from depth packet)
@@ -80,12 +80,3 @@ branch_is depth a (c ∷ claims) first =
     let kept : filter (begins depth a) (c ∷ claims) ≡ c ∷ filter (begins depth a) claims = rw first refl in
     ap (is_branch depth a) kept ∙ and_from (begins depth a c) (begins depth a c && list_all (begins depth a) (filter (begins depth a) claims)) first
     (and_from (begins depth a c) (list_all (begins depth a) (filter (begins depth a) claims)) first (list_all-from_AllPass (begins depth a) (filter (begins depth a) claims) (filter_passes (begins depth a) claims)))
-
-pub behind_is : {X : Type 0} (p : X → Bool) (xs : List X) (start end : ℕ) → IsSplit p (drop start xs) end → drop (start + end) xs ≡ filter (λ x. not (p x)) (drop start xs)
-behind_is p xs start end split = sym (drop-drop end start xs) ∙ split.back
-
--- a branch after what was found
-pub join_step : (t q : ClaimValue → Bool) (found : Option ℕ) (rest all : List ClaimValue) → lower found (lowest t rest) ≡ lowest t all
-    → lower (lower found (lowest t (filter q rest))) (lowest t (filter (λ c. not (q c)) rest)) ≡ lowest t all
-join_step t q found rest all is =
-    sym (lower_join found (lowest t (filter q rest)) (lowest t (filter (λ c. not (q c)) rest))) ∙ ap (lower found) (lowest_parts t q rest) ∙ is

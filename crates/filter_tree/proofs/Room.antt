@@ -8,11 +8,12 @@ use Rattle.std.specs.List.{AllByRecursion, list_any}
 use Rattle.std.specs.Prelude.{filter, find, map, count_by}
 use Rattle.std.specs.Option.{option_map}
 use Rattle.filter_core.specs.declared.atom.Atom.{Atom}
-use Rattle.filter_tree.specs.ClaimBook.{ClaimBook, ClaimValue, IsKept, RowValue, claim_in, claims_in, is_of_env, most_claims}
-use Rattle.filter_tree.specs.Claims.{claim_refusal, row_refusal, delivered, downloaded, row_with_handler_if, new_row, row_after_packet_if, with_claim, without}
+use Rattle.filter_tree.specs.Keeping.{IsKept, row_refusal}
+use Rattle.filter_tree.specs.ClaimBook.{ClaimBook, ClaimValue, RowValue, claim_in, claims_in, is_of_env, most_claims}
+use Rattle.filter_tree.specs.Claims.{claim_refusal, delivered, downloaded, row_with_handler_if, new_row, row_after_packet_if, with_claim, without}
 use Rattle.filter_tree.proofs.Numbers.{numbered_filter, numbered_more, numbered_same, same_claim, still_claim}
 
-all_kept : {X : Type 0} (P : X → Type 0) (t : X → Bool) (xs : List X) → AllByRecursion P xs → AllByRecursion P (filter t xs)
+pub all_kept : {X : Type 0} (P : X → Type 0) (t : X → Bool) (xs : List X) → AllByRecursion P xs → AllByRecursion P (filter t xs)
 all_kept P t xs all = recursion_from_All P (filter t xs) (All-filter t P xs (All-from_recursion P xs all))
 
 all_and_one : {X : Type 0} (P : X → Type 0) (xs : List X) (x : X) → AllByRecursion P xs → P x → AllByRecursion P (xs ++ x ∷ [])

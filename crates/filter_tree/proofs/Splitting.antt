@@ -29,12 +29,3 @@ back_is p (x ∷ xs) (suc n) within pass fail =
 pub split_is : {X : Type 0} (p : X → Bool) (xs : List X) (n : ℕ) → n ≤ length xs → 0 < n → ((k : ℕ) (d : X) → k < n → p (slice_index_or xs k d) ≡ true)
     → ((k : ℕ) (d : X) → n ≤ k → k < length xs → p (slice_index_or xs k d) ≡ false) → IsSplit p xs n
 split_is p xs n within some pass fail = record { within = within; some = some; front = front_is p xs n within pass fail; back = back_is p xs n within pass fail }
-
--- what passes two tests, one after the other
-pub filter_twice : {X : Type 0} (p q r : X → Bool) → ((x : X) → r x ≡ (p x && q x)) → (xs : List X) → filter q (filter p xs) ≡ filter r xs
-filter_twice p q r same [] = refl
-filter_twice p q r same (x ∷ xs) = grind (arith, common_steps, (same x), (filter_twice p q r same xs))
-
--- no less than a number, and no more
-pub just_between : (x y : ℕ) → (y == x) ≡ (not (nat_lt x y) && nat_le x y)
-just_between x y = grind (arith, common_steps)

@@ -1,6 +1,5 @@
 -- The book of claims, as it is seen.
-use Rattle.std.specs.Prelude.{◌≡◌, ◌≤◌, ◌<◌, ℕ, suc, ◌*◌, Bool, true, ◌==◌, ◌&&◌, nat_le, Option, List, [], ◌∷◌, map, count_by}
-use Rattle.std.specs.List.{AllByRecursion, AllPairs}
+use Rattle.std.specs.Prelude.{ℕ, suc, Bool, ◌==◌, ◌&&◌, nat_le, Option, List, [], ◌∷◌, map}
 use Rattle.filter_core.specs.declared.atom.Atom.{Atom}
 use Rattle.packet_ring.specs.declared.buffer.Buffer.{Buffer}
 
@@ -15,8 +14,8 @@ pub record ClaimValue : Type 0 where
   pub filter : List Atom
   pub page : ℕ
 
--- a claim that stands, the buffer of its page into which its next packet goes, and the words of the handler that runs over
--- its packets in place of that, if it has one
+-- a claim that stands, the buffer of its page into which its next packet goes, and the words of the handler that runs
+-- over its packets in place of that, if it has one
 pub record RowValue : Type 0 where
   pub claim : ClaimValue
   pub next : Buffer
@@ -42,14 +41,3 @@ is_of_env env c = c.env == env
 abbrev pub are_numbered : ℕ → ℕ → List RowValue → Bool
 are_numbered least end [] = nat_le least end
 are_numbered least end (r ∷ rows) = nat_le least r.claim.id && are_numbered (suc r.claim.id) end rows
-
--- a book for which so many claims can be kept
-pub record IsKept (book : ClaimBook) (room : ℕ) : Type 0 where
-  pub few : (e : ℕ) → count_by (λ (r : RowValue). is_of_env e r.claim) book.rows ≤ most_claims
-  pub of_envs : AllByRecursion (λ (r : RowValue). r.claim.env < book.envs) book.rows
-  pub numbered : are_numbered 0 book.next book.rows ≡ true
-  pub enough : book.envs * most_claims ≤ room
-
--- claims by rising number
-abbrev pub AreRising : List RowValue → Type 0
-AreRising = AllPairs (λ (r s : RowValue). r.claim.id < s.claim.id)

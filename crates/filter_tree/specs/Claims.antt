@@ -36,12 +36,6 @@ claim_refusal claims env filter =
     if nat_le most_claims (count_by (is_of_env env) claims) then Some Full else
     option_map (λ (c : ClaimValue). Overlap c.id) (find (is_in_the_way env filter) claims)
 
--- the same, where the claims have their buffers beside them
-abbrev pub row_refusal : List RowValue → ℕ → List Atom → Option ClaimNo
-row_refusal rows env filter =
-    if nat_le most_claims (count_by (λ (r : RowValue). is_of_env env r.claim) rows) then Some Full else
-    option_map (λ (r : RowValue). Overlap r.claim.id) (find (λ (r : RowValue). is_in_the_way env filter r.claim) rows)
-
 -- what a claim is answered: its number, unless it is refused
 abbrev pub answer_unless : Option ClaimNo → ℕ → Result ℕ ClaimNo
 answer_unless None id = Ok id
@@ -52,11 +46,19 @@ claim_answer book env filter = answer_unless (claim_refusal (claims_in book) env
 
 -- a new claim, whose first packet goes into the first buffer; it has no handler
 abbrev pub new_row : ClaimBook → ℕ → List Atom → ℕ → RowValue
-new_row book env filter page = record { claim = record { id = book.next; env = env; filter = filter; page = page }; next = First; handler = None }
+new_row book env filter page = record {
+  claim = record { id = book.next; env = env; filter = filter; page = page };
+  next = First;
+  handler = None;
+}
 
 -- the book with one claim more
 abbrev pub with_claim : ClaimBook → ℕ → List Atom → ℕ → ClaimBook
-with_claim book env filter page = record { rows = book.rows ++ new_row book env filter page ∷ []; next = book.next + 1; envs = book.envs }
+with_claim book env filter page = record {
+  rows = book.rows ++ new_row book env filter page ∷ [];
+  next = book.next + 1;
+  envs = book.envs;
+}
 
 -- the book after a claim, which stays if that is refused
 abbrev pub book_unless : Option ClaimNo → ClaimBook → ClaimBook → ClaimBook
@@ -64,7 +66,8 @@ book_unless None old new = new
 book_unless (Some why) old new = old
 
 abbrev pub claimed : ClaimBook → ℕ → List Atom → ℕ → ClaimBook
-claimed book env filter page = book_unless (claim_refusal (claims_in book) env filter) book (with_claim book env filter page)
+claimed book env filter page =
+    book_unless (claim_refusal (claims_in book) env filter) book (with_claim book env filter page)
 
 -- the book without some claims
 abbrev pub without : (ClaimValue → Bool) → ClaimBook → ClaimBook

@@ -1,6 +1,9 @@
 pub mod Branches
 pub mod ClaimBook
 pub mod Claims
+pub mod Keeping
 pub mod Laws
+pub mod Laying
+pub mod Nodes
 pub mod Prefixes
 pub mod Tree

@@ -17,8 +17,8 @@ use filter_core::{Filter, Packet};
 use handler_rules::Handler;
 use packet_ring::Buffer;
 use std::alloc::Global;
-use std::marker::{Brand, Model};
-use std::sync::ledger::{Blank, Ledger};
+use std::marker::{Brand as StepBrand, Model};
+use std::sync::ledger::{Blank as StepBlank, Ledger as StepLedger};
 
 /// The claims that stand, by rising number. Room for eight of each environment is taken at the start, so that no claim
 /// takes memory.
@@ -33,7 +33,7 @@ pub struct Claims {
 impl Model for Claims {
     ghost use Rattle.std.specs.Prelude.{vec_capacity};
     ghost use Rattle.filter_tree.specs.ClaimBook.{ClaimBook};
-    ghost use Rattle.filter_tree.specs.Tree.{IsGrown};
+    ghost use Rattle.filter_tree.specs.Keeping.{IsGrown};
 
     ghost Value = { ClaimBook };
 
@@ -157,7 +157,7 @@ impl Claims {
 
     /// The claim to which a packet goes: the lowest whose filter matches it. Each field that is read of the packet is a
     /// step.
-    pub fn find<L: Ledger>(&self, packet: &Packet<'_>, steps: &mut Steps<L>) -> Option<Claim>
+    pub fn find<L: StepLedger>(&self, packet: &Packet<'_>, steps: &mut Steps<L>) -> Option<Claim>
         ensures answer { result ≡ claim_for self.now packet.now }
         ensures steps { steps.new ≤ steps.old + atom_count self.now }
         ensures prefixes { steps.new ≤ steps.old + prefixes self.now }
@@ -170,11 +170,11 @@ impl Claims {
     pub fn claim_for(&self, packet: &Packet<'_>) -> Option<Claim>
         ensures { result ≡ claim_for self.now packet.now }
     {
-        self.find_from::<Brand>(packet, Blank::new(1))
+        self.find_from::<StepBrand>(packet, StepBlank::new(1))
     }
 
     /// The same, with the steps in a ledger that is begun here.
-    fn find_from<L: Ledger>(&self, packet: &Packet<'_>, blank: Blank) -> Option<Claim>
+    fn find_from<L: StepLedger>(&self, packet: &Packet<'_>, blank: StepBlank) -> Option<Claim>
         requires name { blank.name ≡ L.name }
         requires parts { blank.parts ≡ L.parts }
         requires some { 0 < L.parts }

@@ -1,16 +1,12 @@
 //! The leaves of the tree of claims.
 ghost use Rattle.std.specs.Prelude.{◌≡◌, ◌<◌, ◌≤◌, ◌+◌, [], ◌∷◌, drop, length, IfNone, IfSome, true};
-ghost use Rattle.std.specs.List.{list_all};
 ghost use Rattle.filter_core.specs.Filters.{is_atom, most_atoms};
-ghost use Rattle.filter_core.specs.Matching.{matches};
 ghost use Rattle.filter_tree.specs.ClaimBook.{is_of_env};
 ghost use Rattle.filter_tree.specs.Claims.{is_claim, is_into};
-ghost use Rattle.filter_tree.specs.Tree.{begins, has_shape, is_before, matches_from, number_if, numbers, value_at};
+ghost use Rattle.filter_tree.specs.Tree.{begins, has_shape, is_before, numbers, leaf_value};
 
-use crate::steps::Steps;
-use filter_core::{Atom, Filter, Packet};
+use filter_core::{Atom, Filter};
 use std::marker::Model;
-use std::sync::ledger::Ledger;
 
 /// A claim, as the tree has it.
 #[derive(Drop)]
@@ -68,49 +64,9 @@ impl Leaf {
         self.filter.atoms().get(depth).copied()
     }
 
-    /// Whether its atoms from a depth on match a packet. Each field that is read of the packet is a step.
-    #[inline(always)]
-    pub(crate) fn matches<L: Ledger>(
-        &self,
-        depth: usize,
-        packet: &Packet<'_>,
-        steps: &mut Steps<L>,
-    ) -> bool
-        ensures answer { result ≡ matches_from depth packet.now self.now }
-        ensures steps { steps.new ≤ steps.old + length (drop depth self.now.filter) }
-    {
-        self.law_atoms();
-        all_match(self.rest(depth), packet, steps)
-    }
-
-    /// Its number, if its atoms from a depth on match a packet. Each field that is read of the packet is a step.
-    #[inline(always)]
-    pub(crate) fn number_if<L: Ledger>(
-        &self,
-        depth: usize,
-        packet: &Packet<'_>,
-        steps: &mut Steps<L>,
-    ) -> Option<u32>
-        ensures answer { result ≡ number_if (matches_from depth packet.now) self.now }
-        ensures steps { steps.new ≤ steps.old + length (drop depth self.now.filter) }
-    {
-        if self.matches(depth, packet, steps) {
-            Some(self.id)
-        } else {
-            None
-        }
-    }
-
-    /// Its atoms from a depth on.
-    fn rest(&self, depth: usize) -> &[Atom]
-        ensures { result.now ≡ drop depth self.now.filter }
-    {
-        self.filter.atoms().get(depth..).unwrap_or(&[])
-    }
-
-    /// Law: its atoms may stand in a filter.
-    fn law_atoms(&self)
-        ensures { list_all is_atom self.now.filter ≡ true }
+    /// Law: it has no more atoms than the longest filter.
+    pub(crate) fn law_short(&self)
+        ensures { length self.now.filter ≤ most_atoms }
     {
         let _atoms = self.filter.atoms();
     }
@@ -127,7 +83,7 @@ impl Leaf {
 
     /// The value for which its atom at a depth asks, or 0.
     pub(crate) fn value(&self, depth: usize) -> u32
-        ensures { result ≡ value_at depth self.now }
+        ensures { result ≡ leaf_value depth self.now }
     {
         match self.atom(depth) {
             Some(own) => own.value,
@@ -141,22 +97,6 @@ impl Leaf {
     {
         is_before(self.filter.atoms(), filter.atoms())
     }
-}
-
-/// Whether each of some atoms matches a packet. Each field that is read of the packet is a step.
-#[inline(always)]
-fn all_match<L: Ledger>(atoms: &[Atom], packet: &Packet<'_>, steps: &mut Steps<L>) -> bool
-    requires { list_all is_atom atoms.now ≡ true }
-    ensures answer { result ≡ matches atoms.now packet.now }
-    ensures steps { steps.new ≤ steps.old + length atoms.now }
-{
-    for atom in atoms {
-        steps.tick();
-        if !atom.matches(packet) {
-            return false;
-        }
-    }
-    true
 }
 
 /// Whether two atoms have the same shape.

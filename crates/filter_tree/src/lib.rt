@@ -10,11 +10,14 @@ mod branching;
 mod claim;
 mod claims;
 mod laws;
+mod laying;
 mod leaf;
+mod node;
 mod row;
 mod search;
 mod steps;
 mod tree;
+mod walk;
 mod withdrawal;
 
 pub use claim::{Claim, ClaimNo};

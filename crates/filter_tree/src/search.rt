@@ -1,9 +1,10 @@
-//! Searches through the claims: for one of a number by halving, and else through all.
+//! Searches through the claims: for one of a number at its distance from the first or by halving, and else through all.
 ghost use Rattle.std.specs.Prelude.{◌≡◌, ◌<◌, IfNone, IfSome, None, Some, count_by, find, length, slice_index_or};
 ghost use Rattle.std.specs.List.{list_any};
 ghost use Rattle.std.specs.Option.{option_flatten, option_map};
-ghost use Rattle.filter_tree.specs.ClaimBook.{AreRising, RowValue, is_of_env};
-ghost use Rattle.filter_tree.specs.Claims.{claim_seen, is_claim, is_in_the_way, is_into, row_numbered, row_refusal};
+ghost use Rattle.filter_tree.specs.Keeping.{AreRising, row_refusal};
+ghost use Rattle.filter_tree.specs.ClaimBook.{RowValue, is_of_env};
+ghost use Rattle.filter_tree.specs.Claims.{claim_seen, is_claim, is_in_the_way, is_into, row_numbered};
 
 use crate::claim::{Claim, ClaimNo};
 use crate::row::ClaimRow;
@@ -51,8 +52,37 @@ pub(crate) fn refusal(rows: &[ClaimRow], env: u8, filter: &Filter) -> Option<Cla
     Some(ClaimNo::Overlap(claim.id))
 }
 
-/// The place of the claim of this number, if it stands. It is found by halving.
+/// The place of the claim of this number, if it stands. Where no claim before it was withdrawn it stands as far behind
+/// the first as its number is above that one's, and there it is looked for first.
 pub(crate) fn place_numbered(rows: &[ClaimRow], id: u32) -> Option<usize>
+    requires { AreRising rows.now }
+    ensures within { IfSome result (λ k. k < length rows.now) }
+    ensures some { IfSome result (λ k. (d : RowValue) → row_numbered id rows.now ≡ Some (slice_index_or rows.now k d)) }
+    ensures none { IfNone result (row_numbered id rows.now ≡ None) }
+{
+    match place_by_distance(rows, id) {
+        Some(place) => Some(place),
+        None => place_by_halving(rows, id),
+    }
+}
+
+/// The place of the claim of this number, if it stands as far behind the first as its number is above that one's.
+fn place_by_distance(rows: &[ClaimRow], id: u32) -> Option<usize>
+    requires { AreRising rows.now }
+    ensures within { IfSome result (λ k. k < length rows.now) }
+    ensures some { IfSome result (λ k. (d : RowValue) → row_numbered id rows.now ≡ Some (slice_index_or rows.now k d)) }
+{
+    let first = rows.first()?.id();
+    let place = id.checked_sub(first)? as usize;
+    if place < rows.len() && rows[place].is_numbered(id) {
+        Some(place)
+    } else {
+        None
+    }
+}
+
+/// The place of the claim of this number, if it stands. It is found by halving.
+fn place_by_halving(rows: &[ClaimRow], id: u32) -> Option<usize>
     requires { AreRising rows.now }
     ensures within { IfSome result (λ k. k < length rows.now) }
     ensures some { IfSome result (λ k. (d : RowValue) → row_numbered id rows.now ≡ Some (slice_index_or rows.now k d)) }

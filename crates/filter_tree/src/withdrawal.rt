@@ -1,7 +1,8 @@
 //! Claims that are withdrawn, claims whose buffers take turns, and claims that get a handler.
 ghost use Rattle.std.specs.Prelude.{◌≡◌, filter, map, not, vec_capacity};
 ghost use Rattle.std.specs.Option.{option_map};
-ghost use Rattle.filter_tree.specs.ClaimBook.{AreRising, RowValue, is_of_env};
+ghost use Rattle.filter_tree.specs.Keeping.{AreRising};
+ghost use Rattle.filter_tree.specs.ClaimBook.{RowValue, is_of_env};
 ghost use Rattle.filter_tree.specs.Claims.{row_with_handler_if, is_claim, is_into, row_after_packet_if};
 
 use crate::row::ClaimRow;

@@ -2,9 +2,9 @@ pub mod FailingLemmas
 pub mod FewLemmas
 pub mod FrontLemmas
 pub mod HexLemmas
-pub mod LineLemmas
-pub mod NumeralLemmas
-pub mod PieceLemmas
-pub mod PlaceLemmas
+mod LineLemmas
+mod NumeralLemmas
+mod PieceLemmas
+mod PlaceLemmas
 pub mod TableLemmas
 pub mod WordLemmas

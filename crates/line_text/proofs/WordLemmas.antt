@@ -1,11 +1,15 @@
 -- The words of bytes, one after another.
-use Rattle.std.proofs.Common.{◌≡◌, ℕ, suc, ◌+◌, ◌<◌, List, [], ◌∷◌, Bool, true, length, take, drop, refl, arith, inl, inr}
-use Rattle.std.proofs.lemmas.Bool.{and_parts, cases_Bool, cases_lt}
+use Rattle.std.proofs.Common.{◌≡◌, ℕ, suc, ◌+◌, ◌<◌, List, [], ◌∷◌, Bool, true, false, length, take, drop, refl, arith, inl, inr}
+use Rattle.std.proofs.Math.Bool.{and-false}
+use Rattle.std.proofs.lemmas.Bool.{and_parts, cases_Bool, cases_lt, ne_eqb}
+use Rattle.std.proofs.lemmas.Grind.{common_steps}
 use Rattle.std.proofs.lemmas.List.Elements.{All-filter, All-take}
 use Rattle.std.proofs.lemmas.List.Splits.{slice_split-cons_yes, slice_split-cons_no}
 use Rattle.std.proofs.lemmas.List.Sums.{AllPass-from_list_all, list_all-from_AllPass, prefix_len-drop_all, prefix_len-drop_no, prefix_len_stops}
 use Rattle.std.specs.List.{filter, list_all, onto_first, position_or_len, prefix_len, slice_split}
-use Rattle.line_text.specs.Characters.{is_blank}
+use Rattle.std.specs.Prelude.{◌==◌, slice_index_or}
+use Rattle.line_text.specs.Characters.{is_blank, is_text_byte}
+use Rattle.line_text.specs.Statements.{is_empty_line}
 use Rattle.line_text.specs.Words.{before_comment, is_word, words_in, words_of}
 
 -- behind the blanks at the front no blank stands
@@ -48,6 +52,31 @@ first_word (b ∷ bs) some solid =
       | inl is ↦ let more = rw is at solid in absurd (omega (arith, more))
       | inr is ↦ rw (is, next) (word_from b bs)
     ]
+
+-- before a comment
+before_more : (b : ℕ) (bs : List ℕ) → (b == 35) ≡ false → before_comment (b ∷ bs) ≡ b ∷ before_comment bs
+before_more b bs other =
+    let next : 1 + position_or_len (λ c. c == 35) bs ≡ suc (position_or_len (λ c. c == 35) bs) = omega arith in
+    rw (other, next) refl
+
+-- where a byte behind the blanks at the front begins no comment, it begins a word
+word_begins : (bs : List ℕ) → prefix_len is_blank bs < length bs → (slice_index_or bs (prefix_len is_blank bs) 0 == 35) ≡ false → (length (words_of bs) == 0) ≡ false
+word_begins [] within other = absurd (omega (arith, within))
+word_begins (b ∷ bs) within other =
+    let next : 1 + prefix_len is_blank bs ≡ suc (prefix_len is_blank bs) = omega arith in
+    elim (cases_Bool (is_blank b)) [
+      | inl is ↦
+          let bare : (b == 35) ≡ false = grind (arith, common_steps) in
+          let here = rw (is, next) at other in
+          let some = rw (is, next) at within in
+          rw (before_more b bs bare, is) (word_begins bs (omega (arith, some)) here)
+      | inr is ↦
+          let bare = rw is at other in
+          rw (before_more b bs bare, is, word_from b (before_comment bs)) (ne_eqb _ 0 (λ e. absurd (omega (arith, e))))
+    ]
+
+pub not_empty : (bs : List ℕ) → prefix_len is_blank bs < length bs → (slice_index_or bs (prefix_len is_blank bs) 0 == 35) ≡ false → is_empty_line bs ≡ false
+not_empty bs within other = rw (word_begins bs within other) (and-false (list_all is_text_byte bs))
 
 -- What holds of each byte of a line holds of each byte of its words.
 all_first : (test : ℕ → Bool) (b : ℕ) (parts : List (List ℕ)) → test b ≡ true → list_all (list_all test) parts ≡ true → list_all (list_all test) (onto_first b parts) ≡ true

@@ -8,7 +8,7 @@ use crate::characters::is_blank;
 use std::marker::Model;
 
 /// What a comment begins with.
-const COMMENT: u8 = b'#';
+pub(crate) const COMMENT: u8 = b'#';
 
 /// The words of a line that are left.
 #[derive(Drop)]

@@ -4,7 +4,7 @@ ghost use Rattle.line_text.specs.Lines.{lines_of};
 ghost use Rattle.line_text.specs.Statements.{end_of, is_empty_line, statements_of};
 
 use crate::characters::is_text;
-use crate::line_words::words_of;
+use crate::line_words::{COMMENT, blanks_before, words_of};
 use crate::lines::{Line, Lines, cut};
 use std::marker::Model;
 
@@ -65,9 +65,13 @@ pub fn end_of(text: &[u8]) -> u32
     end
 }
 
-/// Whether a line is a text without words.
+/// Whether a line is a text without words. It isn't where a word begins behind the blanks at its front.
 fn is_empty_line(text: &[u8]) -> bool
     ensures { result ≡ is_empty_line text.now }
 {
+    let front = blanks_before(text);
+    if front < text.len() && text[front] != COMMENT {
+        return false;
+    }
     words_of(text).next().is_none() && is_text(text)
 }

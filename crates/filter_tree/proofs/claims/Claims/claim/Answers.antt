@@ -1,6 +1,7 @@
 use Rattle.std.proofs.Common.{arith}
 use Rattle.std.specs.Prelude.{vec_capacity}
-use Rattle.filter_tree.specs.ClaimBook.{ClaimBook, IsKept}
+use Rattle.filter_tree.specs.Keeping.{IsKept}
+use Rattle.filter_tree.specs.ClaimBook.{ClaimBook}
 use Rattle.filter_tree.specs.Claims.{new_row}
 use Rattle.filter_tree.proofs.Planting.{has_length, has_planted}
 use Rattle.filter_tree.proofs.Room.{has_fewer, has_room, room_with}
