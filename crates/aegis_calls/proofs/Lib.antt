@@ -1,1 +1,1 @@
-pub mod Runner
+mod Runner

@@ -1,1 +1,2 @@
 pub mod QuietTicks
+pub mod Rows

@@ -28,12 +28,23 @@ pub struct Board {
 }
 
 impl Model for Board {
-    ghost use Rattle.board_model.specs.Shown.{Shown, shown};
-    ghost use Rattle.board_model.specs.Sound.{IsSound};
+    ghost use Rattle.board_model.specs.Shown.{Shown};
+    ghost use Rattle.board_model.specs.Sound.{IsSoundBoard};
 
     ghost Value = { Shown };
 
-    ghost view = { λ b. shown b.frames b.pages b.bindings b.lines b.claims b.revocations b.slots b.cpu b.roster b.time b.journal };
+    ghost view = { λ b. record { frames = b.frames; pages = b.pages; binds = b.bindings; lines = b.lines; claims = b.claims; revocations = b.revocations; slots = b.slots; cpu = b.cpu; roster = b.roster; time = b.time; ledger = b.journal } };
 
-    ghost invariant = { λ b. IsSound (shown b.frames b.pages b.bindings b.lines b.claims b.revocations b.slots b.cpu b.roster b.time b.journal) };
+    ghost invariant = { λ b. IsSoundBoard (record { frames = b.frames; pages = b.pages; binds = b.bindings; lines = b.lines; claims = b.claims; revocations = b.revocations; slots = b.slots; cpu = b.cpu; roster = b.roster; time = b.time; ledger = b.journal }) };
+}
+
+impl Board {
+    ghost use Rattle.board_model.specs.Sound.{IsSoundBoard};
+
+    /// Law: a board is sound. What reads no part of it knows that by this alone.
+    pub(crate) fn law_sound(&self)
+        ensures { IsSoundBoard self.now }
+    {
+        let _ = &self.time;
+    }
 }

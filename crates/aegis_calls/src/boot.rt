@@ -3,7 +3,7 @@ ghost use Rattle.std.specs.Prelude.{◌≡◌, ◌≤◌, ◌<◌, ◌+◌, ◌-
 ghost use Rattle.boot_image.specs.ImageValue.{guaranteed_mappings};
 ghost use Rattle.aegis_limits.specs.Limits.{least_pages, most_pages, least_quantum, most_quantum, most_slots, most_environments};
 ghost use Rattle.page_book.specs.Rows.{free_pages};
-ghost use Rattle.run_model.specs.Boot.{bare_world, added};
+ghost use Rattle.run_model.specs.Boot.{bare_world, with_program};
 ghost use Rattle.board_model.specs.Showing.{world_of};
 
 use crate::board::Board;
@@ -63,7 +63,7 @@ impl Board {
     pub fn add(&mut self, program: &Program<'_>)
         requires room { 0 < self.old.roster.spare }
         requires pages { guaranteed_mappings program.now ≤ free_pages self.old.pages }
-        ensures world { world_of self.new ≡ added (world_of self.old) program.now }
+        ensures world { world_of self.new ≡ with_program (world_of self.old) program.now }
         ensures free { free_pages self.old.pages ≡ free_pages self.new.pages + guaranteed_mappings program.now }
         ensures spare { self.new.roster.spare ≡ self.old.roster.spare - 1 }
         ensures pages { length self.new.frames ≡ length self.old.frames }

@@ -33,40 +33,11 @@ impl Board {
         requires may { May (world_of self.old) env deed }
         ensures { self.new ≡ after_grant self.old env value deed }
     {
-        // Reads a part, and with it that the board is sound, as below.
-        let _ = &self.time;
-        if let Deed::Transfers { target, kind } = deed {
-            return self.transfer(env, value, target as u8, kind);
-        }
-        if let Deed::Own(own) = deed {
-            self.do_own(env, own);
-            return self.answer(Verdict::Grant(value));
-        }
-        if let Deed::Claims {
-            address,
-            atoms,
-            page,
-            ..
-        } = deed
-        {
-            self.claim(env, address, atoms, page);
-            return self.answer(Verdict::Grant(value));
-        }
-        if let Deed::Downloads {
-            claim,
-            address,
-            words,
-        } = deed
-        {
-            self.download(env, claim, address, words);
-            return self.answer(Verdict::Grant(value));
-        }
-        self.answer(Verdict::Grant(value));
+        self.law_sound();
+        let granted = Verdict::Grant(value);
         match deed {
-            Deed::Answers | Deed::Own(_) | Deed::Transfers { .. } => {}
-            Deed::Claims { .. } | Deed::Downloads { .. } => {}
-            Deed::Stops => self.stop(env),
-            Deed::Gives(target) => self.give(env, target as u8),
+            Deed::Answers => {}
+            Deed::Own(own) => self.do_own(env, own),
             Deed::Allocates { page, words } => self.allocate(env, page, words),
             Deed::Frees(page) => self.free(env, page),
             Deed::Recaps { page, words } => self.recap(env, page, words),
@@ -76,9 +47,32 @@ impl Board {
             Deed::DropsSlot(slot) => self.drop_slot(env, slot),
             Deed::TakesLine(line) => self.set_line(line, Some(env)),
             Deed::DropsLine(line) => self.set_line(line, None),
+            Deed::Claims {
+                address,
+                atoms,
+                page,
+                ..
+            } => self.claim(env, address, atoms, page),
             Deed::Unclaims(claim) => self.unclaim(env, claim),
+            Deed::Downloads {
+                claim,
+                address,
+                words,
+            } => self.download(env, claim, address, words),
             Deed::Loads(page) => self.load(env, page),
+            Deed::Stops => {
+                self.answer(granted);
+                return self.stop(env);
+            }
+            Deed::Gives(target) => {
+                self.answer(granted);
+                return self.give(env, target as u8);
+            }
+            Deed::Transfers { target, kind } => {
+                return self.transfer(env, value, target as u8, kind);
+            }
         }
+        self.answer(granted);
     }
 
     /// A kernel call of the runner, which isn't an exit.
@@ -88,7 +82,7 @@ impl Board {
         requires numbers { self.old.claims.next < 2 ^ 32 }
         ensures { self.new ≡ after_decision self.old env call }
     {
-        let _ = &self.time;
+        self.law_sound();
         match decide(self, env, call) {
             Verdict::Grant(value) => {
                 law_granted();

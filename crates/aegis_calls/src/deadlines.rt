@@ -41,8 +41,7 @@ impl Board {
         ensures { self.new ≡ fold after_taking self.old takings.now }
     {
         for taking in takings {
-            // Reads a part, and with it that the board is sound.
-            let _ = &self.time;
+            self.law_sound();
             self.take(*taking);
         }
     }

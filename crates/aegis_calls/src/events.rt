@@ -1,7 +1,6 @@
 //! What happens from outside: what it does to the board's parts.
 ghost use Rattle.std.specs.Prelude.{◌≡◌, ◌<◌, true};
 ghost use Rattle.external_event.specs.Limits.{lines};
-ghost use Rattle.filter_tree.specs.ClaimBook.{are_numbered};
 
 use crate::board::Board;
 use board_acts::deliver;
@@ -14,6 +13,7 @@ use world_model::Life;
 
 impl Board {
     ghost use Rattle.board_model.specs.Doing.{after_arrival, after_revocation, after_signal};
+    ghost use Rattle.board_model.specs.Sound.{HasClaimNumbers};
 
     /// A packet comes: for the lowest claim whose filter matches it, or for nobody. Then it is dropped, and the ledger tells
     /// its length.
@@ -78,7 +78,7 @@ impl Board {
 
     /// Law: the numbers of the claims rise, and are below that of the next one.
     pub(crate) fn law_claim_numbers(&self)
-        ensures { are_numbered 0 self.now.claims.next self.now.claims.rows ≡ true }
+        ensures { HasClaimNumbers self.now }
     {
         self.claims.law_numbers();
     }

@@ -21,8 +21,7 @@ impl Board {
         requires may { MayOwn (solo_of self.old env) own }
         ensures { self.new ≡ after_own_deed self.old env own }
     {
-        // Reads a part, and with it that the board is sound.
-        let _ = &self.time;
+        self.law_sound();
         match own {
             OwnDeed::Puts { address, size } => put(
                 &mut self.roster,

@@ -8,23 +8,23 @@ ghost use Rattle.world_model.specs.World.{after};
 ghost use Rattle.world_model.specs.Tick.{served, turn as turn_phase, step as step_phase, timer as timer_phase, died, IsCalled, IsRefused};
 
 use crate::board::Board;
+use aegis_limits::{ENVIRONMENT_NUMBERS, EXCESS_LIMIT, MOST_PAGES, MOST_SLOTS};
 use board_model::{law_call, law_happen, law_refusal, law_serving, law_step};
 use external_event::Occurrence;
 use revocation_book::law_few_takings;
 use world_model::{Cause, WorldView};
 
-/// Rows enough for a turn, which writes a start, and a forfeit for each quantum that the environments owe: 32 of them
-/// at most eight each.
-pub const TURN_ROWS: usize = 512;
+/// Rows enough for a kernel call, or a death, behind which each slot may go back to its owner.
+pub const CALL_ROWS: usize = 2 * MOST_SLOTS;
+
+/// Rows enough for an event, a step with its call or death, or the timer.
+pub const STEP_ROWS: usize = 2 * CALL_ROWS;
+
+/// Rows enough for a turn, which writes a start, and a forfeit for each quantum that the environments owe.
+pub const TURN_ROWS: usize = 2 * ENVIRONMENT_NUMBERS * EXCESS_LIMIT as usize;
 
 /// The most rows that are written where deadlines are served: one for each page that is taken.
-pub const SERVE_ROWS: usize = 1024;
-
-/// The most rows that an event, a step, or the timer, may write.
-pub const STEP_ROWS: usize = 256;
-
-/// The most rows that a kernel call, or a death, may write.
-pub const CALL_ROWS: usize = 128;
+pub const SERVE_ROWS: usize = MOST_PAGES as usize;
 
 impl Board {
     ghost use Rattle.board_model.specs.Showing.{world_of};
@@ -49,7 +49,7 @@ impl Board {
         ensures whole { self.new.roster.spare ≡ self.old.roster.spare }
         ensures room { self.old.ledger.spare ≤ self.new.ledger.spare + STEP_ROWS }
     {
-        let _ = &self.time;
+        self.law_sound();
         law_happen();
         self.law_claim_numbers();
         match what {
@@ -72,7 +72,7 @@ impl Board {
         ensures whole { self.new.roster.spare ≡ self.old.roster.spare }
         ensures room { self.old.ledger.spare ≤ self.new.ledger.spare + SERVE_ROWS }
     {
-        let _ = &self.time;
+        self.law_sound();
         law_serving();
         law_few_takings();
         self.serve_deadlines();
@@ -90,8 +90,7 @@ impl Board {
         ensures whole { self.new.roster.spare ≡ 0 }
         ensures room { self.old.ledger.spare ≤ self.new.ledger.spare + TURN_ROWS }
     {
-        // Reads a part, and with it that the board is sound, as below.
-        let _ = &self.time;
+        self.law_sound();
         self.take_turn();
     }
 
@@ -106,6 +105,8 @@ impl Board {
         ensures whole { self.new.roster.spare ≡ self.old.roster.spare }
         ensures room { self.old.ledger.spare ≤ self.new.ledger.spare + STEP_ROWS }
     {
+        self.law_sound();
+        // Reads the time, and with it that it is a number of 32 bits, as that of the next claim.
         let _ = &self.time;
         law_step();
         self.law_claim_numbers();
@@ -124,7 +125,7 @@ impl Board {
         ensures whole { self.new.roster.spare ≡ self.old.roster.spare }
         ensures room { self.old.ledger.spare ≤ self.new.ledger.spare + STEP_ROWS }
     {
-        let _ = &self.time;
+        self.law_sound();
         self.count();
     }
 
@@ -142,6 +143,8 @@ impl Board {
         ensures whole { self.new.roster.spare ≡ self.old.roster.spare }
         ensures room { self.old.ledger.spare ≤ self.new.ledger.spare + CALL_ROWS }
     {
+        self.law_sound();
+        // Reads the time, and with it that it is a number of 32 bits, as that of the next claim.
         let _ = &self.time;
         law_call();
         law_refusal();
@@ -161,7 +164,7 @@ impl Board {
         ensures whole { self.new.roster.spare ≡ self.old.roster.spare }
         ensures room { self.old.ledger.spare ≤ self.new.ledger.spare + CALL_ROWS }
     {
-        let _ = &self.time;
+        self.law_sound();
         self.die(env, cause);
     }
 }

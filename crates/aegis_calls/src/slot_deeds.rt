@@ -8,20 +8,20 @@ ghost use Rattle.env_frames.specs.Context.{handler_of};
 ghost use Rattle.env_frames.specs.Transfer.{entry_context};
 ghost use Rattle.board_model.specs.Shown.{handlers_of};
 ghost use Rattle.board_model.specs.Showing.{book_of};
-ghost use Rattle.board_model.specs.Sound.{IsLive};
+ghost use Rattle.board_model.specs.Sound.{IsLiving};
 
 use crate::board::Board;
-use board_acts::{enter, hand_on, push_slot};
+use board_acts::{Entry, enter, hand_on, push_slot};
 use env_frames::TransferKind;
 use kernel_journal::Row;
 
 impl Board {
-    ghost use Rattle.board_model.specs.Doing.{after_gift, after_transfer, with_slot};
+    ghost use Rattle.board_model.specs.Doing.{after_gift, after_transfer, board_with_slot};
 
     /// The rest of the runner's slice goes to another environment, which starts.
     pub(crate) fn give(&mut self, env: u8, target: u8)
         requires runs { running self.old.slots.runner ≡ Some env }
-        requires lives { IsLive self.old.roster.list target }
+        requires lives { IsLiving self.old.roster.list target }
         requires room { 0 < self.old.ledger.spare }
         ensures { self.new ≡ after_gift self.old env target }
     {
@@ -41,7 +41,7 @@ impl Board {
     /// the slot too.
     pub(crate) fn transfer(&mut self, env: u8, value: u32, target: u8, kind: TransferKind)
         requires runs { running self.old.slots.runner ≡ Some env }
-        requires lives { IsLive self.old.roster.list target }
+        requires lives { IsLiving self.old.roster.list target }
         requires open { handler_of (handlers_of self.old.roster.list target) (entry_context kind) ≢ 0 }
         requires room { 1 < self.old.ledger.spare }
         ensures { self.new ≡ after_transfer self.old env value target kind }
@@ -58,10 +58,12 @@ impl Board {
             &mut self.roster,
             &mut self.frames,
             &mut self.cpu,
-            env,
-            value,
-            target,
-            kind,
+            Entry {
+                env,
+                value,
+                target,
+                kind,
+            },
         );
     }
 
@@ -70,7 +72,7 @@ impl Board {
         requires runs { running self.old.slots.runner ≡ Some env }
         requires may { MayTake (book_of self.old) slot }
         requires room { 0 < self.old.ledger.spare }
-        ensures { self.new ≡ with_slot self.old slot (Some (own_hold env)) }
+        ensures { self.new ≡ board_with_slot self.old slot (Some (own_hold env)) }
     {
         self.slots.take(env, slot).unwrap();
         push_slot(&mut self.journal, &self.slots, self.time, slot);
@@ -80,7 +82,7 @@ impl Board {
     pub(crate) fn drop_slot(&mut self, env: u8, slot: u32)
         requires may { MayDrop (book_of self.old) env slot }
         requires room { 0 < self.old.ledger.spare }
-        ensures { self.new ≡ with_slot self.old slot (dropped env (hold_at self.old.slots.slots slot)) }
+        ensures { self.new ≡ board_with_slot self.old slot (dropped env (hold_at self.old.slots.slots slot)) }
     {
         self.slots.drop_slot(env, slot).unwrap();
         push_slot(&mut self.journal, &self.slots, self.time, slot);

@@ -43,7 +43,7 @@ impl Board {
         ensures whole { self.new.roster.spare ≡ self.old.roster.spare }
         ensures ledger { self.new.ledger ≡ self.old.ledger }
     {
-        let _ = &self.time;
+        self.law_sound();
         law_stretch();
         match self.runner() {
             Some(env) => self.run_plain(env, most),

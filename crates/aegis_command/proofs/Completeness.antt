@@ -9,10 +9,10 @@ use Rattle.commands.specs.declared.work.Answer.{Answer}
 use Rattle.commands.specs.Edges.{ShelfEdge, SinkEdge}
 use Rattle.commands.specs.Command.{CommandValue, names_of}
 use Rattle.commands.specs.Files.{AreRead, AreTold}
-use Rattle.commands.specs.Due.{Due, Refusal, Whole, Found, text_of, status_of}
+use Rattle.commands.specs.Due.{Due, Refusal, Whole, Found, due_text, status_of}
 use Rattle.commands.specs.Outcome.{Decided, IsWhole, IsPart, Outcome, Finished, Wrote}
 use Rattle.commands.specs.Work.{Performed}
-use Rattle.aegis_command.specs.Headline.{NoFault, Ends, IsComplete, IsHeadline, IsLoad, IsReadHeadline, IsTaken, IsWanting, WroteReport}
+use Rattle.aegis_command.specs.Headline.{NoFault, Ends, IsComplete, IsHeadline, IsLoad, IsReadHeadline, TakesAll, IsWanting, WroteReport}
 use Rattle.std.specs.Io.KnownBytes.{Appends}
 use Rattle.std.specs.Option.{option_map}
 use Rattle.aegis_command.specs.Words.{command_of}
@@ -114,7 +114,7 @@ two_contents told one other (a ∷ b ∷ c ∷ contents) read = absurd read.1.1
 
 -- what was written whole of a run is the report of what was read
 wrote_report : (image_name schedule_name : List ℕ) (ticks : ℕ) (s : ShelfEdge) (k : SinkEdge) (result : Status) (decided : Decided (run_image image_name schedule_name ticks) s)
-    → status_of decided.due ≡ result → IsWhole k (text_of decided.due) → WroteReport image_name schedule_name ticks s k result
+    → status_of decided.due ≡ result → IsWhole k (due_text decided.due) → WroteReport image_name schedule_name ticks s k result
 wrote_report image_name schedule_name ticks s k result decided settled whole =
     let two = two_contents s.told image_name schedule_name decided.contents decided.read.read in
     record {
@@ -126,7 +126,7 @@ wrote_report image_name schedule_name ticks s k result decided settled whole =
           let text = report_after (image_of two.0) (events_of two.1) ticks in
           let is : Some decided.due ≡ Some (Whole text) = sym decided.is_due ∙ ap (run_image image_name schedule_name ticks).due two.2 ∙ due_whole image_name schedule_name ticks two.0 two.1 image_ok schedule_ok in
           let one : decided.due ≡ Whole text = cc in
-          (sym settled ∙ ap status_of one, subst (λ (d : Due). Appends k.written_before k.written_after (text_of d)) one whole.appended);
+          (sym settled ∙ ap status_of one, subst (λ (d : Due). Appends k.written_before k.written_after (due_text d)) one whole.appended);
     }
 
 -- the headline by what was read
@@ -146,15 +146,15 @@ due_status (Whole text) w = cc
 due_status (Found text) w = cc
 
 -- a sink that takes the due text gives no fault
-pub is_taken : (c : CommandValue) (s : ShelfEdge) (k : SinkEdge) (answer : Answer) (text : List ℕ) (result : Status) → Performed c s answer → text ≡ answer.text.items → (k.Takes (length text) → result ≡ answer.status) → IsTaken (Some c) s k result
+pub is_taken : (c : CommandValue) (s : ShelfEdge) (k : SinkEdge) (answer : Answer) (text : List ℕ) (result : Status) → Performed c s answer → text ≡ answer.text.items → (k.Takes (length text) → result ≡ answer.status) → TakesAll (Some c) s k result
 is_taken c s k answer text result p same sure contents due told is takes =
     let decided = told_due c s p.0 contents told in
     let one : due ≡ p.0.due = cc in
-    let long : length (text_of due) ≡ length text = ap (λ (d : Due). length (text_of d)) one ∙ ap length (sym (same ∙ p.1.text)) in
+    let long : length (due_text due) ≡ length text = ap (λ (d : Due). length (due_text d)) one ∙ ap length (sym (same ∙ p.1.text)) in
     λ w. due_status p.0.due (sym (sure (subst k.Takes long takes) ∙ p.1.status) ∙ w)
 
 -- what was written whole is an outcome, by its status
-outcome_by : (c : CommandValue) (s : ShelfEdge) (k : SinkEdge) (decided : Decided c s) (due : Due) → decided.due ≡ due → IsWhole k (text_of decided.due) → Outcome c s k (status_of due)
+outcome_by : (c : CommandValue) (s : ShelfEdge) (k : SinkEdge) (decided : Decided c s) (due : Due) → decided.due ≡ due → IsWhole k (due_text decided.due) → Outcome c s k (status_of due)
 outcome_by c s k decided (Refusal text) is whole = (decided, ap status_of is, whole)
 outcome_by c s k decided (Whole text) is whole = (decided, ap status_of is, whole)
 outcome_by c s k decided (Found text) is whole = (decided, ap status_of is, whole)

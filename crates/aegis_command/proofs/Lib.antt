@@ -1,2 +1,2 @@
-pub mod Texts
+mod Texts
 pub mod Completeness

@@ -8,7 +8,7 @@ use Rattle.std.specs.Io.KnownBytes.{Appends}
 use Rattle.commands.specs.declared.status.Status.{Status}
 use Rattle.commands.specs.declared.status.Status.TheVariants as status
 use Rattle.commands.specs.Command.{CommandValue, names_of}
-use Rattle.commands.specs.Due.{Due, status_of, text_of, usage_text}
+use Rattle.commands.specs.Due.{Due, status_of, due_text, usage_text}
 use Rattle.commands.specs.Edges.{ShelfEdge, SinkEdge}
 use Rattle.commands.specs.Files.{AreTold, IsServed}
 use Rattle.aegis_command.specs.LoadSeed.{load_summary, seed_of}
@@ -31,29 +31,32 @@ IsWanting k result = (result ≡ status.OutOfMemory) × (k.written_after ≡ k.w
 abbrev pub IsGiven : Option CommandValue → ShelfEdge → Status → Type 0
 IsGiven words s result = IfSome words (λ command. IsServed (names_of command) s → result ≢ status.ReadFault)
 
--- A shelf whose next read is sure to give no bytes ends a command that names a file by a fault of reading, or memory was
--- wanting.
+-- A shelf whose next read is sure to give no bytes ends a command that names a file by a fault of reading, or memory
+-- was wanting.
 abbrev pub IsDenied : Option CommandValue → ShelfEdge → Status → Type 0
 IsDenied words s result =
-    IfSome words (λ command. s.Refuses → 1 ≤ length command.names → (result ≡ status.ReadFault) ⊎ (result ≡ status.OutOfMemory))
+    IfSome words (λ command. s.Refuses → 1 ≤ length command.names → (result ≡ status.ReadFault) ⊎
+    (result ≡ status.OutOfMemory))
 
 -- what is due, if anything, was written whole, or memory was wanting and nothing was written
 abbrev pub Ends : Option Due → SinkEdge → Status → Type 0
 Ends None k result = IsWanting k result
-Ends (Some due) k result = IsWritten (status_of due) (text_of due) k result ⊎ IsWanting k result
+Ends (Some due) k result = IsWritten (status_of due) (due_text due) k result ⊎ IsWanting k result
 
 -- A sink that is sure to take so many bytes as are to be written gives no fault: those of the usage, or of
 -- what is due, where the shelf tells the contents.
-abbrev pub IsTaken : Option CommandValue → ShelfEdge → SinkEdge → Status → Type 0
-IsTaken None s k result = k.Takes (length usage_text) → result ≢ status.WriteFault
-IsTaken (Some command) s k result =
-    (contents : List (List ℕ)) (due : Due) → AreTold s.told (names_of command contents) contents → command.due contents ≡ Some due →
-    k.Takes (length (text_of due)) → result ≢ status.WriteFault
+abbrev pub TakesAll : Option CommandValue → ShelfEdge → SinkEdge → Status → Type 0
+TakesAll None s k result = k.Takes (length usage_text) → result ≢ status.WriteFault
+TakesAll (Some command) s k result =
+    (contents : List (List ℕ)) (due : Due) → AreTold s.told (names_of command contents) contents
+    → command.due contents ≡ Some due →
+    k.Takes (length (due_text due)) → result ≢ status.WriteFault
 
 -- Where no fault is met, what is due for the told contents is written whole, or memory was wanting.
 abbrev pub IsComplete : Option CommandValue → ShelfEdge → SinkEdge → Status → Type 0
 IsComplete words s k result =
-    (command : CommandValue) (contents : List (List ℕ)) → words ≡ Some command → AreTold s.told (names_of command contents) contents → NoFault s k →
+    (command : CommandValue) (contents : List (List ℕ)) → words ≡ Some command
+    → AreTold s.told (names_of command contents) contents → NoFault s k →
     Ends (command.due contents) k result
 
 -- The headline: for the words `run IMAGE SCHEDULE TICKS`, every image and schedule without fault and every number of
@@ -61,31 +64,36 @@ IsComplete words s k result =
 -- which the schedule's events happen, or memory was wanting.
 abbrev pub IsHeadline : List (List ℕ) → ShelfEdge → SinkEdge → Status → Type 0
 IsHeadline words s k result =
-    (image_name schedule_name number : List ℕ) (ticks : ℕ) (files : List ℕ → Option (List ℕ)) (image schedule : List ℕ) →
-    words ≡ codes "run" ∷ image_name ∷ schedule_name ∷ number ∷ [] → ticks_of number ≡ Some ticks → s.told ≡ Some files →
+    (image_name schedule_name number : List ℕ) (ticks : ℕ) (files : List ℕ → Option (List ℕ))
+    (image schedule : List ℕ) →
+    words ≡ codes "run" ∷ image_name ∷ schedule_name ∷ number ∷ [] → ticks_of number ≡ Some ticks
+    → s.told ≡ Some files →
     files image_name ≡ Some image → files schedule_name ≡ Some schedule →
     image_fault image ≡ None → schedule_fault schedule ≡ None → NoFault s k →
     IsWritten status.Done (report_after (image_of image) (events_of schedule) ticks) k result ⊎ IsWanting k result
 
 -- A run read just these two files in the call, and what the reads gave is the image and the schedule: if neither has a
 -- fault, the report was written.
-pub record WroteReport (image_name schedule_name : List ℕ) (ticks : ℕ) (s : ShelfEdge) (k : SinkEdge) (result : Status) : Type 0 where
+pub record WroteReport (image_name schedule_name : List ℕ) (ticks : ℕ) (s : ShelfEdge) (k : SinkEdge)
+    (result : Status) : Type 0 where
   pub image : List ℕ
   pub schedule : List ℕ
   pub names_read : s.after.names ≡ s.before.names ++ image_name ∷ schedule_name ∷ []
   pub contents_read : s.after.contents ≡ s.before.contents ++ image ∷ schedule ∷ []
-  pub report : image_fault image ≡ None → schedule_fault schedule ≡ None → IsWritten status.Done (report_after (image_of image) (events_of schedule) ticks) k result
+  pub report : image_fault image ≡ None → schedule_fault schedule ≡ None
+      → IsWritten status.Done (report_after (image_of image) (events_of schedule) ticks) k result
 
 -- The headline by what was read, also of a shelf that tells nothing of its files, as the host's: for the words
 -- `run IMAGE SCHEDULE TICKS`, where no fault is met, the two files of these names were read, and what is written is the
 -- report of what the reads gave, or memory was wanting.
 abbrev pub IsReadHeadline : List (List ℕ) → ShelfEdge → SinkEdge → Status → Type 0
 IsReadHeadline words s k result =
-    (image_name schedule_name number : List ℕ) (ticks : ℕ) → words ≡ codes "run" ∷ image_name ∷ schedule_name ∷ number ∷ [] → ticks_of number ≡ Some ticks →
+    (image_name schedule_name number : List ℕ) (ticks : ℕ)
+    → words ≡ codes "run" ∷ image_name ∷ schedule_name ∷ number ∷ [] → ticks_of number ≡ Some ticks →
     NoFault s k → WroteReport image_name schedule_name ticks s k result ⊎ IsWanting k result
 
--- For the words `load SEED`, where no fault is met, the run of the seed's image and events is written in short, or memory
--- was wanting. There is no file that could be refused.
+-- For the words `load SEED`, where no fault is met, the run of the seed's image and events is written in short, or
+-- memory was wanting. There is no file that could be refused.
 abbrev pub IsLoad : List (List ℕ) → ShelfEdge → SinkEdge → Status → Type 0
 IsLoad words s k result =
     (number : List ℕ) (seed : ℕ) → words ≡ codes "load" ∷ number ∷ [] → seed_of number ≡ Some seed → NoFault s k →

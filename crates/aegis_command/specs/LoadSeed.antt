@@ -20,7 +20,9 @@ seed_of word = digits_number 10 10 word
 
 -- a run of so many ticks in short, of an image and events
 unfoldable pub summary_after : ImageValue → List EventValue → ℕ → List ℕ
-summary_after image events ticks = let w = world_after (record { image = image; schedule = schedule_of events }) ticks in summary_text w (end_of_run w ticks)
+summary_after image events ticks =
+    let w = world_after (record { image = image; schedule = schedule_of events }) ticks
+    in summary_text w (end_of_run w ticks)
 
 -- how many ticks are run
 unfoldable pub load_ticks : ℕ
@@ -28,7 +30,8 @@ load_ticks = 1000000
 
 -- the seed, and its run in short
 unfoldable pub load_summary : ℕ → List ℕ
-load_summary seed = line (codes "load" ∷ dec_text seed ∷ []) ++ summary_after (load_image_value seed) (load_events seed) load_ticks
+load_summary seed =
+    line (codes "load" ∷ dec_text seed ∷ []) ++ summary_after (load_image_value seed) (load_events seed) load_ticks
 
 -- It names no file, and is never refused.
 abbrev pub load_seed : ℕ → CommandValue

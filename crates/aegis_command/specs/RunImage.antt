@@ -1,4 +1,5 @@
--- `run IMAGE SCHEDULE TICKS`: the report of an image's world after so many ticks, in which the schedule's events happen.
+-- `run IMAGE SCHEDULE TICKS`: the report of an image's world after so many ticks, in which the schedule's events
+-- happen.
 use Rattle.std.specs.Prelude.{ℕ, List, [], ◌∷◌, Option, Some, None, option_map, nat_le, if◌then◌else◌}
 use Rattle.aegis_limits.specs.Limits.{most_ticks}
 use Rattle.line_text.specs.Number.{digits_number}
@@ -28,7 +29,9 @@ ticks_of word = within most_ticks (digits_number 10 10 word)
 
 -- the report of an image's world after so many ticks, in which these events happen
 unfoldable pub report_after : ImageValue → List EventValue → ℕ → List ℕ
-report_after image events ticks = let w = world_after (record { image = image; schedule = schedule_of events }) ticks in report_text w (end_of_run w ticks)
+report_after image events ticks =
+    let w = world_after (record { image = image; schedule = schedule_of events }) ticks
+    in report_text w (end_of_run w ticks)
 
 -- an image with this fault is refused
 abbrev pub image_refused : List ℕ → Option ImageFault → Option Due
@@ -36,12 +39,14 @@ image_refused name fault = option_map (λ (f : ImageFault). refused name (image_
 
 -- a schedule with this fault is refused
 abbrev pub schedule_refused : List ℕ → Option (LineFault ScheduleWhy) → Option Due
-schedule_refused name fault = option_map (λ (f : LineFault ScheduleWhy). refused name (schedule_why_text f.why) f.line) fault
+schedule_refused name fault =
+    option_map (λ (f : LineFault ScheduleWhy). refused name (schedule_why_text f.why) f.line) fault
 
 -- the first file with a fault is refused, and if none has one, the report is due
 abbrev pub run_due : (image_name schedule_name : List ℕ) → ℕ → (image schedule : List ℕ) → Due
 run_due image_name schedule_name ticks image schedule =
-    unless_refused (image_refused image_name (image_fault image) ∷ schedule_refused schedule_name (schedule_fault schedule) ∷ [])
+    unless_refused (image_refused image_name (image_fault image) ∷ schedule_refused schedule_name
+    (schedule_fault schedule) ∷ [])
     (Whole (report_after (image_of image) (events_of schedule) ticks))
 
 abbrev pub run_image : (image schedule : List ℕ) → ℕ → CommandValue

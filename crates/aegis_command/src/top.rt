@@ -2,7 +2,7 @@
 ghost use Rattle.std.specs.Prelude.{◌≡◌, IfNone, length, map, string_bytes};
 ghost use Rattle.commands.specs.Edges.{shelf_edge, sink_edge};
 ghost use Rattle.commands.specs.Outcome.{Finished, IsOutcome, IsUsage};
-ghost use Rattle.aegis_command.specs.Headline.{IsComplete, IsDenied, IsGiven, IsHeadline, IsLoad, IsReadHeadline, IsTaken};
+ghost use Rattle.aegis_command.specs.Headline.{IsComplete, IsDenied, IsGiven, IsHeadline, IsLoad, IsReadHeadline, TakesAll};
 ghost use Rattle.aegis_command.specs.Words.{asked_by};
 
 use crate::words::{parse, perform_words};
@@ -31,7 +31,7 @@ fn respond<S: Shelf, K: Sink>(alloc: Global, words: &[String], shelf: &mut S, ou
     ensures outcome { IsOutcome (asked_by words.now) (shelf_edge S.Shelf shelf.old shelf.new) (sink_edge K.Sink out.old out.new) result }
     ensures served { IsGiven (asked_by words.now) (shelf_edge S.Shelf shelf.old shelf.new) result }
     ensures refused { IsDenied (asked_by words.now) (shelf_edge S.Shelf shelf.old shelf.new) result }
-    ensures taken { IsTaken (asked_by words.now) (shelf_edge S.Shelf shelf.old shelf.new) (sink_edge K.Sink out.old out.new) result }
+    ensures taken { TakesAll (asked_by words.now) (shelf_edge S.Shelf shelf.old shelf.new) (sink_edge K.Sink out.old out.new) result }
 {
     let Some(words) = parse(words) else {
         return finish(out, USAGE, Status::Usage);
@@ -79,7 +79,7 @@ pub fn aegis<S: Shelf, K: Sink>(
     ensures refused { IsDenied (asked_by words.now) (shelf_edge S.Shelf shelf.old shelf.new) result }
 
     // A sink that is sure to take what is due, or the usage, gives no fault of writing.
-    ensures taken { IsTaken (asked_by words.now) (shelf_edge S.Shelf shelf.old shelf.new) (sink_edge K.Sink out.old out.new) result }
+    ensures taken { TakesAll (asked_by words.now) (shelf_edge S.Shelf shelf.old shelf.new) (sink_edge K.Sink out.old out.new) result }
 {
     respond(alloc, words, shelf, out)
 }

@@ -20,6 +20,10 @@ least_pages = 16
 abbrev pub most_pages : ℕ
 most_pages = 1024
 
+-- the pages of which physical memory can be made
+abbrev pub most_frames : ℕ
+most_frames = 4096
+
 -- the ticks of a quantum
 abbrev pub least_quantum : ℕ
 least_quantum = 16
@@ -30,6 +34,18 @@ most_quantum = 65536
 -- environments are numbered from 0, at most so many
 abbrev pub most_environments : ℕ
 most_environments = 16
+
+-- Numbers of environments lie below this one, also where an event names one that isn't there: a set of them is a word.
+abbrev pub environment_numbers : ℕ
+environment_numbers = 32
+
+-- the quanta that an environment may owe; one more is its death
+abbrev pub excess_limit : ℕ
+excess_limit = 8
+
+-- the rows in which an environment's bindings stand
+abbrev pub stripe_rows : ℕ
+stripe_rows = 256
 
 abbrev pub most_slots : ℕ
 most_slots = 64

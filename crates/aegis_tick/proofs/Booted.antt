@@ -8,7 +8,7 @@ use Rattle.world_model.specs.Book.{Book}
 use Rattle.world_model.specs.Solo.{Solo, absent}
 use Rattle.world_model.specs.Item.{absorb_all}
 use Rattle.world_model.specs.World.{World, only}
-use Rattle.run_model.specs.Boot.{record_items, bare_world, added, boot_world, with_kept, with_all_kept, boot_book}
+use Rattle.run_model.specs.Boot.{record_items, bare_world, with_program, boot_world, with_kept, with_all_kept, boot_book}
 use Rattle.board_model.proofs.Lists.{last_get, other_get, past_get}
 
 -- an environment of so many programs
@@ -30,16 +30,16 @@ kept_more e (q ∷ ps) p b =
 next_solo : (ps : List ProgramValue) (p : ProgramValue) (e : ℕ) → absorb_all (booted_solo ps e) (only (length ps) (record_items (length ps) (Some p)) e) ≡ booted_solo (ps ++ p ∷ []) e
 next_solo ps p e = search (rules, cases_eq, eq-eqb, past_get, last_get, ne_eqb, other_get)
 
-one_more : (bare : World) (ps : List ProgramValue) (p : ProgramValue) → added (with_programs bare ps) p ≡ with_programs bare (ps ++ p ∷ [])
+one_more : (bare : World) (ps : List ProgramValue) (p : ProgramValue) → with_program (with_programs bare ps) p ≡ with_programs bare (ps ++ p ∷ [])
 one_more bare ps p = λ i. record { book = first_kept bare.book i; count = sym (length-append ps (p ∷ [])) i; solos = λ e. next_solo ps p e i; rows = bare.rows }
   where
     first_kept : (b : Book) → with_kept (length ps) p (with_all_kept 0 ps b) ≡ with_all_kept 0 (ps ++ p ∷ []) b
     first_kept b = let none : length ps ≡ 0 + length ps = omega arith in ap (λ (n : ℕ). with_kept n p (with_all_kept 0 ps b)) none ∙ kept_more 0 ps p b
 
-all_added : (bare : World) (ps qs : List ProgramValue) → fold added (with_programs bare ps) qs ≡ with_programs bare (ps ++ qs)
+all_added : (bare : World) (ps qs : List ProgramValue) → fold with_program (with_programs bare ps) qs ≡ with_programs bare (ps ++ qs)
 all_added bare ps [] = ap (with_programs bare) (sym (append-nil ps))
 all_added bare ps (q ∷ qs) =
-    ap (λ (w : World). fold added w qs) (one_more bare ps q)
+    ap (λ (w : World). fold with_program w qs) (one_more bare ps q)
     ∙ all_added bare (ps ++ q ∷ []) qs
     ∙ ap (with_programs bare) (append_assoc ps (q ∷ []) qs)
 
@@ -47,9 +47,9 @@ all_added bare ps (q ∷ qs) =
 none_yet : (image : ImageValue) → with_programs (bare_world image.pages image.quantum image.slots) [] ≡ bare_world image.pages image.quantum image.slots
 none_yet image = search rules
 
-pub added_boot : (image : ImageValue) → fold added (bare_world image.pages image.quantum image.slots) image.programs ≡ boot_world image
+pub added_boot : (image : ImageValue) → fold with_program (bare_world image.pages image.quantum image.slots) image.programs ≡ boot_world image
 added_boot image =
-    ap (λ (w : World). fold added w image.programs) (sym (none_yet image))
+    ap (λ (w : World). fold with_program w image.programs) (sym (none_yet image))
     ∙ all_added (bare_world image.pages image.quantum image.slots) [] image.programs
 
 -- a boot takes no time

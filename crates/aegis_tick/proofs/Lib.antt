@@ -1,6 +1,6 @@
-pub mod Whole
-pub mod Coming
-pub mod Happening
-pub mod Refusals
-pub mod Booted
-pub mod Programs
+mod Whole
+mod Coming
+mod Happening
+mod Refusals
+mod Booted
+mod Programs

@@ -3,7 +3,7 @@ use Rattle.std.proofs.Common.{◌≡◌, ℕ, zero, suc, ◌+◌, true, false, r
 use Rattle.world_model.specs.Book.{is_idle_book}
 use Rattle.world_model.specs.Event.{Schedule}
 use Rattle.world_model.specs.World.{World, run_phases}
-use Rattle.run_model.specs.Run.{next_phases, next_world, run_on}
+use Rattle.run_model.specs.Run.{next_phases, next_world, world_after_ticks}
 
 next_idle : (schedule : Schedule) (w : World) → is_idle_book w.book ≡ true → next_world schedule w ≡ w
 next_idle schedule w idle = rw idle refl
@@ -12,15 +12,15 @@ next_busy : (schedule : Schedule) (w : World) → is_idle_book w.book ≡ false 
 next_busy schedule w busy = rw busy refl
 
 -- an idle world stays as it is
-pub stays : (schedule : Schedule) (w : World) (i k : ℕ) → is_idle_book (run_on schedule w i).book ≡ true → run_on schedule w (i + k) ≡ run_on schedule w i
+pub stays : (schedule : Schedule) (w : World) (i k : ℕ) → is_idle_book (world_after_ticks schedule w i).book ≡ true → world_after_ticks schedule w (i + k) ≡ world_after_ticks schedule w i
 stays schedule w i zero idle = rw add-zero refl
-stays schedule w i (suc k) idle = rw add-suc (ap (next_world schedule) (stays schedule w i k idle) ∙ next_idle schedule (run_on schedule w i) idle)
+stays schedule w i (suc k) idle = rw add-suc (ap (next_world schedule) (stays schedule w i k idle) ∙ next_idle schedule (world_after_ticks schedule w i) idle)
 
 -- a busy one goes through what happens in its next tick, and then the tick
-pub goes_on : (schedule : Schedule) (w : World) (i : ℕ) → is_idle_book (run_on schedule w i).book ≡ false → run_on schedule w (i + 1) ≡ run_phases (run_on schedule w i) (next_phases schedule (run_on schedule w i))
-goes_on schedule w i busy = rw add-one (next_busy schedule (run_on schedule w i) busy)
+pub goes_on : (schedule : Schedule) (w : World) (i : ℕ) → is_idle_book (world_after_ticks schedule w i).book ≡ false → world_after_ticks schedule w (i + 1) ≡ run_phases (world_after_ticks schedule w i) (next_phases schedule (world_after_ticks schedule w i))
+goes_on schedule w i busy = rw add-one (next_busy schedule (world_after_ticks schedule w i) busy)
 
 -- ticks after ticks
-pub run_further : (schedule : Schedule) (w : World) (t k : ℕ) → run_on schedule (run_on schedule w t) k ≡ run_on schedule w (t + k)
+pub run_further : (schedule : Schedule) (w : World) (t k : ℕ) → world_after_ticks schedule (world_after_ticks schedule w t) k ≡ world_after_ticks schedule w (t + k)
 run_further schedule w t zero = rw add-zero refl
 run_further schedule w t (suc k) = rw add-suc (ap (next_world schedule) (run_further schedule w t k))

@@ -5,7 +5,8 @@ use Rattle.external_event.specs.EventValue.{EventValue}
 use Rattle.world_model.specs.Book.{is_idle_book}
 use Rattle.world_model.specs.Event.{Schedule, happen}
 use Rattle.world_model.specs.World.{World, run_phases}
-use Rattle.run_model.specs.Run.{happens_in, run_on}
+use Rattle.run_model.specs.Run.{happens_in, world_after_ticks}
+use Rattle.aegis_calls.specs.Rows.{tick_rows}
 
 -- what happens by these events, in order
 abbrev pub occurrences : List EventValue → List Occurrence
@@ -20,21 +21,19 @@ abbrev pub next_time_of : List EventValue → ℕ
 next_time_of [] = 4294967295
 next_time_of (x ∷ xs) = x.time
 
--- A run was cut off: after fewer ticks than were asked, in a world that isn't idle, once so many events of its next tick had happened.
+-- A run was cut off: after fewer ticks than were asked, in a world that isn't idle, once so many events of its next
+-- tick had happened.
 pub record IsCutOff (schedule : Schedule) (w : World) (ticks : ℕ) (v : World) : Type 0 where
   pub done : ℕ
   pub fewer : done < ticks
-  pub busy : is_idle_book (run_on schedule w done).book ≡ false
+  pub busy : is_idle_book (world_after_ticks schedule w done).book ≡ false
   pub events : ℕ
-  pub is : v ≡ world_with (take events (happens_in schedule (run_on schedule w done))) (run_on schedule w done)
+  pub is : v ≡ world_with (take events (happens_in schedule (world_after_ticks schedule w done)))
+      (world_after_ticks schedule w done)
 
 -- Some first ones of these have happened.
 abbrev pub HappenedInPart : List Occurrence → World → World → Type 0
 HappenedInPart happens w v = (k : ℕ) × (v ≡ world_with (take k happens) w)
-
--- the rows of the ledger that an event, or a tick, takes at most
-abbrev pub tick_rows : ℕ
-tick_rows = 2048
 
 -- Where the rows of so many events and ticks are spare, none of them is refused, and no more of these rows are taken.
 abbrev pub IsSure : {T E : Type 0} → ℕ → Result T E → ℕ → ℕ → Type 0

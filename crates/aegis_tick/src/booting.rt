@@ -1,9 +1,10 @@
 //! The boot of an image: a board with all of its environments.
 ghost use Rattle.std.specs.Prelude.{◌≡◌, ◌≤◌, IfOk, fold, length, sum_by};
 ghost use Rattle.board_model.specs.Showing.{world_of};
+ghost use Rattle.board_model.specs.Ticks.{IsFresh};
 ghost use Rattle.boot_image.specs.ImageValue.{guaranteed_mappings};
 ghost use Rattle.page_book.specs.Rows.{free_pages};
-ghost use Rattle.run_model.specs.Boot.{added, boot_world};
+ghost use Rattle.run_model.specs.Boot.{with_program, boot_world};
 ghost use Rattle.run_model.specs.Excess.{IsAccounted};
 
 use aegis_calls::Board;
@@ -16,7 +17,7 @@ use std::alloc::Global;
 fn add_all(board: &mut Board, programs: &[Program<'_>])
     requires room { board.old.roster.spare ≡ length programs.now }
     requires pages { sum_by guaranteed_mappings programs.now ≤ free_pages board.old.pages }
-    ensures world { world_of board.new ≡ fold added (world_of board.old) programs.now }
+    ensures world { world_of board.new ≡ fold with_program (world_of board.old) programs.now }
     ensures whole { board.new.roster.spare ≡ 0 }
     ensures numbers { board.new.claims.next ≡ board.old.claims.next }
     ensures pages { length board.new.frames ≡ length board.old.frames }
@@ -31,9 +32,7 @@ fn add_all(board: &mut Board, programs: &[Program<'_>])
 pub fn boot(alloc: Global, image: &Image<'_>) -> Result<Board, OutOfMemory>
     ensures world { IfOk result (λ b. world_of b ≡ boot_world image.now) }
     ensures balance { IfOk result (λ b. IsAccounted (world_of b)) }
-    ensures fresh { IfOk result (λ b. b.time ≡ 0) }
-    ensures numbers { IfOk result (λ b. b.claims.next ≡ 0) }
-    ensures whole { IfOk result (λ b. b.roster.spare ≡ 0) }
+    ensures fresh { IfOk result IsFresh }
     ensures pages { IfOk result (λ b. length b.frames ≡ image.now.pages) }
 {
     let slots = image.slots.as_slice();

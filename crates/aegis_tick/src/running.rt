@@ -4,6 +4,7 @@ ghost use Rattle.std.specs.List.{prefix_len, take_while};
 ghost use Rattle.aegis_limits.specs.Limits.{most_ticks};
 ghost use Rattle.board_model.specs.Shown.{with_spare};
 ghost use Rattle.board_model.specs.Showing.{world_of};
+ghost use Rattle.board_model.specs.Ticks.{IsFresh, IsSameTick, IsTicked, MayHappen, MayTick};
 ghost use Rattle.external_event.specs.EventValue.{EventValue};
 ghost use Rattle.external_event.specs.Order.{are_in_order};
 ghost use Rattle.world_model.specs.Book.{is_idle_book};
@@ -11,18 +12,18 @@ ghost use Rattle.world_model.specs.Event.{happen, schedule_of};
 ghost use Rattle.world_model.specs.Tick.{tick_step};
 ghost use Rattle.world_model.specs.World.{after};
 ghost use Rattle.run_model.specs.Excess.{IsAccounted};
-ghost use Rattle.run_model.specs.Run.{run_on, end_of_run};
+ghost use Rattle.run_model.specs.Run.{world_after_ticks, end_of_run};
 ghost use Rattle.aegis_tick.specs.Course.{HappenedInPart, IsCutOff, IsSure, next_time_of, occurrences, world_with};
 
-use aegis_calls::Board;
+use aegis_calls::{Board, SERVE_ROWS, STEP_ROWS, TURN_ROWS};
 use aegis_limits::OutOfMemory;
 use external_event::Event;
 use kernel_journal::RunEnd;
 use run_model::law_accounts;
 use world_model::WorldView;
 
-/// The most rows of the ledger that a tick, or an event, may write.
-pub const TICK_ROWS: u32 = 2048;
+/// Rows enough for a tick, with its deadlines, its turn, its step and the timer; and for an event.
+pub const TICK_ROWS: u32 = (SERVE_ROWS + TURN_ROWS + 2 * STEP_ROWS) as u32;
 
 /// Takes memory for so many rows of the ledger more, where it isn't there yet. After Ok that many are
 /// spare, and all else is as before; after a refusal the board is as before.
@@ -39,11 +40,9 @@ pub fn make_room(board: &mut Board, rows: u32) -> Result<(), OutOfMemory>
 /// What happens from outside by an event, before the turn of its tick. It takes no memory.
 pub fn event(board: &mut Board, event: &Event)
     requires room { TICK_ROWS ≤ board.old.ledger.spare }
-    requires time { board.old.time ≤ most_ticks }
+    requires may { MayHappen board.old }
     ensures world { world_of board.new ≡ after (world_of board.old) (happen event.now.what (world_of board.old)) }
-    ensures time { board.new.time ≡ board.old.time }
-    ensures whole { board.new.roster.spare ≡ board.old.roster.spare }
-    ensures numbers { board.new.claims.next ≡ board.old.claims.next }
+    ensures same { IsSameTick board.old board.new }
     ensures room { board.old.ledger.spare ≤ board.new.ledger.spare + TICK_ROWS }
 {
     board.happen(&event.what);
@@ -52,15 +51,10 @@ pub fn event(board: &mut Board, event: &Event)
 /// One tick in which nothing happens from outside: the deadlines that have come, the turn, the runner's step, and the
 /// timer. It takes no memory. A tick makes one claim at most, so that the number of the next claim is at most the time.
 pub fn tick(board: &mut Board)
-    requires whole { board.old.roster.spare ≡ 0 }
-    requires busy { is_idle_book (world_of board.old).book ≡ false }
-    requires time { board.old.time < most_ticks }
-    requires numbers { board.old.claims.next ≤ board.old.time }
+    requires may { MayTick board.old }
     requires room { TICK_ROWS ≤ board.old.ledger.spare }
     ensures world { world_of board.new ≡ tick_step (world_of board.old) }
-    ensures time { board.new.time ≡ board.old.time + 1 }
-    ensures whole { board.new.roster.spare ≡ 0 }
-    ensures numbers { board.new.claims.next ≤ board.new.time }
+    ensures ticked { IsTicked board.old board.new }
     ensures room { board.old.ledger.spare ≤ board.new.ledger.spare + TICK_ROWS }
 {
     board.serve();
@@ -116,12 +110,10 @@ fn take_due<'a>(events: &'a [Event], next: &mut usize, soon: &mut u32, time: u32
 
 /// These events, one after another.
 fn happen_all(board: &mut Board, events: &[Event]) -> Result<(), OutOfMemory>
-    requires { board.old.time ≤ most_ticks }
+    requires { MayHappen board.old }
     ensures world { OnOk result (world_of board.new ≡ world_with (occurrences events.now) (world_of board.old)) }
     ensures part { OnErr result (HappenedInPart (occurrences events.now) (world_of board.old) (world_of board.new)) }
-    ensures time { board.new.time ≡ board.old.time }
-    ensures whole { board.new.roster.spare ≡ board.old.roster.spare }
-    ensures numbers { board.new.claims.next ≡ board.old.claims.next }
+    ensures same { IsSameTick board.old board.new }
     ensures sure { IsSure (length events.now) result board.old.ledger.spare board.new.ledger.spare }
 {
     for one in events {
@@ -133,15 +125,10 @@ fn happen_all(board: &mut Board, events: &[Event]) -> Result<(), OutOfMemory>
 
 /// One tick with what happens in it: these events, in their order, and then the rest of the tick.
 fn tick_with(board: &mut Board, events: &[Event]) -> Result<(), OutOfMemory>
-    requires whole { board.old.roster.spare ≡ 0 }
-    requires busy { is_idle_book (world_of board.old).book ≡ false }
-    requires time { board.old.time < most_ticks }
-    requires numbers { board.old.claims.next ≤ board.old.time }
+    requires may { MayTick board.old }
     ensures world { OnOk result (world_of board.new ≡ tick_step (world_with (occurrences events.now) (world_of board.old))) }
     ensures part { OnErr result (HappenedInPart (occurrences events.now) (world_of board.old) (world_of board.new)) }
-    ensures time { OnOk result (board.new.time ≡ board.old.time + 1) }
-    ensures whole { OnOk result (board.new.roster.spare ≡ 0) }
-    ensures numbers { OnOk result (board.new.claims.next ≤ board.new.time) }
+    ensures ticked { OnOk result (IsTicked board.old board.new) }
     ensures sure { IsSure (length events.now + 1) result board.old.ledger.spare board.new.ledger.spare }
 {
     happen_all(board, events)?;
@@ -152,12 +139,10 @@ fn tick_with(board: &mut Board, events: &[Event]) -> Result<(), OutOfMemory>
 
 /// So many ticks with the events of their times, or fewer where the board is idle before.
 fn run_ticks(board: &mut Board, events: &[Event], ticks: u32) -> Result<(), OutOfMemory>
-    requires whole { board.old.roster.spare ≡ 0 }
-    requires fresh { board.old.time ≡ 0 }
-    requires numbers { board.old.claims.next ≡ 0 }
+    requires fresh { IsFresh board.old }
     requires order { are_in_order 0 events.now ≡ true }
     requires limit { ticks ≤ most_ticks }
-    ensures world { OnOk result (world_of board.new ≡ run_on (schedule_of events.now) (world_of board.old) ticks) }
+    ensures world { OnOk result (world_of board.new ≡ world_after_ticks (schedule_of events.now) (world_of board.old) ticks) }
     ensures cut { OnErr result (IsCutOff (schedule_of events.now) (world_of board.old) ticks (world_of board.new)) }
     ensures balance { IsAccounted (world_of board.old) → IsAccounted (world_of board.new) }
     ensures sure { TICK_ROWS * (length events.now + ticks) ≤ board.old.ledger.spare → IsOk result }
@@ -184,12 +169,10 @@ fn run_ticks(board: &mut Board, events: &[Event], ticks: u32) -> Result<(), OutO
 /// some first events of the next. What environments ran past their slices by the ledger, they forfeited by it or still
 /// owe, as before. Where `TICK_ROWS` rows are spare for each event and each tick it takes no memory and isn't refused.
 pub fn run(board: &mut Board, events: &[Event], ticks: u32) -> Result<RunEnd, OutOfMemory>
-    requires whole { board.old.roster.spare ≡ 0 }
-    requires fresh { board.old.time ≡ 0 }
-    requires numbers { board.old.claims.next ≡ 0 }
+    requires fresh { IsFresh board.old }
     requires order { are_in_order 0 events.now ≡ true }
     requires limit { ticks ≤ most_ticks }
-    ensures world { OnOk result (world_of board.new ≡ run_on (schedule_of events.now) (world_of board.old) ticks) }
+    ensures world { OnOk result (world_of board.new ≡ world_after_ticks (schedule_of events.now) (world_of board.old) ticks) }
     ensures end { IfOk result (λ end. end ≡ end_of_run (world_of board.new) ticks) }
     ensures cut { OnErr result (IsCutOff (schedule_of events.now) (world_of board.old) ticks (world_of board.new)) }
     ensures balance { IsAccounted (world_of board.old) → IsAccounted (world_of board.new) }

@@ -11,9 +11,10 @@ use Rattle.asm_layout.specs.declared.section.Section.TheVariants.{Text, Data}
 use Rattle.asm_layout.specs.Action.{Action, Put, Align, Enter, Define, action_of}
 use Rattle.asm_layout.specs.Content.{Content, Given, content_length}
 use Rattle.asm_layout.specs.Laid.{HasStart, IsLaid, StartIn, length_in, total}
-use Rattle.asm_layout.specs.Layout.{Layout, Placed, acted, added, appended, equated, grown_by, is_start, labelled, laid, laid_from, line_added, named, nothing_placed, place_of, put, started, stated, used_by}
+use Rattle.asm_layout.specs.Layout.{Layout, Placed, acted, added, appended, equated, grown_by, is_start, labelled, laid, laid_from, line_added, with_name, nothing_placed, place_of, put, started, stated, used_by}
 use Rattle.asm_layout.specs.Value.{Names}
 use Rattle.asm_layout.proofs.OutcomeLemmas.{any_then, if_chosen, if_in_line, if_other, if_then}
+use Rattle.asm_layout.specs.Limits.{section_limit}
 
 total-append : (section : Section) (ps : List Placed) (p : Placed) → total section (ps ++ p ∷ []) ≡ total section ps + length_in section p.section (content_length p.content)
 total-append section [] p = omega arith
@@ -34,7 +35,7 @@ StartIn-later (Some place) ps p has = HasStart-later place ps p has
 
 -- the sections are within their limit, and as long as what stands in them
 abbrev IsSized : Layout → Type 0
-IsSized layout = (section : Section) → (used_by section layout ≤ 1048576) × (used_by section layout ≡ total section layout.placed)
+IsSized layout = (section : Section) → (used_by section layout ≤ section_limit) × (used_by section layout ≡ total section layout.placed)
 
 -- The parts of a layout that is laid. They hold whatever its names and the section for what comes.
 abbrev HasParts : Layout → Type 0
@@ -45,8 +46,8 @@ abbrev IsReady : Bool → Layout → Type 0
 IsReady starts layout = IsSized layout × ((p : Placed) → p.is_start ≡ starts → p.place ≡ place_of layout → StartIn layout.start (layout.placed ++ p ∷ []))
 
 -- one statement more in a section that has room for it
-grown_sized : (section other : Section) (p : Placed) (layout : Layout) → p.section ≡ section → content_length p.content ≤ 1048576 - used_by section layout → IsSized layout
-    → let after = grown_by section (content_length p.content) (record layout { placed = layout.placed ++ p ∷ [] }) in (used_by other after ≤ 1048576) × (used_by other after ≡ total other after.placed)
+grown_sized : (section other : Section) (p : Placed) (layout : Layout) → p.section ≡ section → content_length p.content ≤ section_limit - used_by section layout → IsSized layout
+    → let after = grown_by section (content_length p.content) (record layout { placed = layout.placed ++ p ∷ [] }) in (used_by other after ≤ section_limit) × (used_by other after ≡ total other after.placed)
 grown_sized Text Text p layout is room sized = let s = sized Text in rw (total-append Text layout.placed p, is) (omega arith, omega arith)
 grown_sized Text Data p layout is room sized = let s = sized Data in rw (total-append Data layout.placed p, is) (omega arith, omega arith)
 grown_sized Data Text p layout is room sized = let s = sized Text in rw (total-append Text layout.placed p, is) (omega arith, omega arith)
@@ -56,7 +57,7 @@ grown_start : (section : Section) (n : ℕ) (layout : Layout) → StartIn layout
 grown_start Text n layout has = has
 grown_start Data n layout has = has
 
-appended_laid : (line : ℕ) (starts : Bool) (content : Content) (layout : Layout) → IsReady starts layout → nat_le (content_length content) (1048576 - used_by layout.section layout) ≡ true
+appended_laid : (line : ℕ) (starts : Bool) (content : Content) (layout : Layout) → IsReady starts layout → nat_le (content_length content) (section_limit - used_by layout.section layout) ≡ true
     → HasParts (appended line starts content layout)
 appended_laid line starts content layout ready fits =
     let p : Placed = record { line = line; section = layout.section; place = place_of layout; is_start = starts; content = content } in
@@ -66,7 +67,7 @@ put_laid : (line : ℕ) (starts : Bool) (content : Content) (layout : Layout) �
 put_laid line starts content layout ready = search (if_chosen, appended_laid line starts content layout ready)
 
 -- a name changes nothing else
-named_any : (P : Layout → Type 0) (name : List ℕ) (value : ℕ) (layout : Layout) → ((names : Names) → P (record layout { names = names })) → IfOk (named name value layout) P
+named_any : (P : Layout → Type 0) (name : List ℕ) (value : ℕ) (layout : Layout) → ((names : Names) → P (record layout { names = names })) → IfOk (with_name name value layout) P
 named_any P name value layout any = search (if_other, any)
 
 equated_any : (P : Layout → Type 0) (name : List ℕ) (e : ExpressionValue) (layout : Layout) → ((names : Names) → P (record layout { names = names })) → IfOk (equated name e layout) P
@@ -110,7 +111,7 @@ laid_from_laid layout (line ∷ lines) parts =
     (any_then HasParts (due_of line) _ (λ said. added_laid said layout parts))
     (λ after. laid_from_laid after lines)
 
-nothing_sized : (section : Section) → (used_by section nothing_placed ≤ 1048576) × (used_by section nothing_placed ≡ 0)
+nothing_sized : (section : Section) → (used_by section nothing_placed ≤ section_limit) × (used_by section nothing_placed ≡ 0)
 nothing_sized Text = (lit≤ tt, refl)
 nothing_sized Data = (lit≤ tt, refl)
 

@@ -1,5 +1,5 @@
 pub mod LaidLemmas
-pub mod LineLemmas
-pub mod NameLemmas
-pub mod OperandLemmas
+mod LineLemmas
+mod NameLemmas
+mod OperandLemmas
 pub mod OutcomeLemmas

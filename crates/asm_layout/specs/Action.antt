@@ -17,7 +17,7 @@ use Rattle.asm_layout.specs.declared.section.Section.{Section}
 use Rattle.asm_layout.specs.declared.section.Section.TheVariants.{Text, Data}
 use Rattle.asm_layout.specs.Content.{Content, Instruction, Numbers, Given}
 use Rattle.asm_layout.specs.Draft.{draft_of}
-use Rattle.mips_text.specs.Texts.{text_of}
+use Rattle.mips_text.specs.Texts.{instruction_text}
 use Rattle.line_text.specs.Outcome.{◌>>=◌}
 
 pub data Action : Type 0 where
@@ -116,7 +116,7 @@ operands_in args = map (λ arg. arg.operand) args
 unfoldable pub action_of : Section → AsmBody → Result Action AsmWhy
 action_of section bodies.Nothing = Ok (Put (Given []))
 action_of section (bodies.Op name args) = do
-  text ← ok_or (text_of name) UnknownName
+  text ← ok_or (instruction_text name) UnknownName
   none ← in_text section
   draft ← draft_of text (operands_in args)
   Ok (Put (Instruction draft))

@@ -42,11 +42,14 @@ with_register slot None word = None
 
 -- what is read with an operand of a form, or without one: another form is Syntax
 abbrev pub read_operand : OperandForm → Option OperandValue → Reading → Result Reading AsmWhy
-read_operand (forms.Register slot) (Some (Register r)) before = Ok (record { word = with_register slot r before.word; filling = before.filling })
+read_operand (forms.Register slot) (Some (Register r)) before =
+    Ok (record { word = with_register slot r before.word; filling = before.filling })
 read_operand (forms.Value field) (Some (Value e)) before = Ok (record { word = before.word; filling = Filled field e })
-read_operand (forms.Optional field) (Some (Value e)) before = Ok (record { word = before.word; filling = Filled field e })
+read_operand (forms.Optional field) (Some (Value e)) before =
+    Ok (record { word = before.word; filling = Filled field e })
 read_operand (forms.Optional field) None before = Ok before
-read_operand forms.Based (Some (Based e r)) before = Ok (record { word = with_register Rs r before.word; filling = Filled Signed e })
+read_operand forms.Based (Some (Based e r)) before =
+    Ok (record { word = with_register Rs r before.word; filling = Filled Signed e })
 read_operand forms.Halves (Some (Value e)) before = Ok (record { word = before.word; filling = Halves e })
 read_operand _ _ before = Err Syntax
 

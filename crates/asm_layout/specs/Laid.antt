@@ -3,7 +3,8 @@ use Rattle.std.specs.Prelude.{◌≡◌, ℕ, ◌+◌, ◌≤◌, true, ◌⊎�
 use Rattle.asm_layout.specs.declared.section.Section.{Section}
 use Rattle.asm_layout.specs.declared.section.Section.TheVariants.{Text, Data}
 use Rattle.asm_layout.specs.Content.{content_length}
-use Rattle.asm_layout.specs.Layout.{Layout, Placed, section_limit, used_by}
+use Rattle.asm_layout.specs.Layout.{Layout, Placed, used_by}
+use Rattle.asm_layout.specs.Limits.{section_limit}
 
 -- so many bytes, where they stand in this section
 abbrev pub length_in : Section → Section → ℕ → ℕ

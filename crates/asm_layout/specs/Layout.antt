@@ -16,6 +16,7 @@ use Rattle.asm_layout.specs.Action.{Action, Put, Align, Enter, Define, action_of
 use Rattle.asm_layout.specs.Content.{Content, Given, alignment, content_length}
 use Rattle.line_text.specs.Outcome.{◌>>=◌}
 use Rattle.asm_layout.specs.Value.{Names, defined, value_of_name}
+use Rattle.asm_layout.specs.Limits.{section_limit}
 
 -- what a statement puts, and where
 pub record Placed : Type 0 where
@@ -45,10 +46,6 @@ pub record Layout : Type 0 where
 abbrev pub nothing_placed : Layout
 nothing_placed = record { section = Text; text = 0; data_bytes = 0; names = []; start = None; placed = [] }
 
--- the most bytes that a section may have
-abbrev pub section_limit : ℕ
-section_limit = 1048576
-
 -- the address of a section's first byte
 abbrev pub base_of : Section → ℕ
 base_of Text = 0x00400000
@@ -73,8 +70,8 @@ grown_by Text n layout = record layout { text = layout.text + n }
 grown_by Data n layout = record layout { data_bytes = layout.data_bytes + n }
 
 -- a name that has no value yet gets one
-abbrev pub named : List ℕ → ℕ → Layout → Result Layout AsmWhy
-named name value layout =
+abbrev pub with_name : List ℕ → ℕ → Layout → Result Layout AsmWhy
+with_name name value layout =
     if is_some (value_of_name name layout.names) then Err Redefined
     else Ok (record layout { names = layout.names ++ (name, value) ∷ [] })
 
@@ -92,14 +89,21 @@ started false place layout = layout
 abbrev pub labelled : Option (List ℕ) → Layout → Result Layout AsmWhy
 labelled None layout = Ok layout
 labelled (Some name) layout = do
-  after ← named name (place_of layout) layout
+  after ← with_name name (place_of layout) layout
   Ok (started (is_start (Some name)) (place_of layout) after)
 
 -- a content at its place
 abbrev pub appended : ℕ → Bool → Content → Layout → Layout
 appended line starts content layout =
     grown_by layout.section (content_length content) (record layout {
-      placed = layout.placed ++ (record { line = line; section = layout.section; place = place_of layout; is_start = starts; content = content }) ∷ [];
+      placed =
+          layout.placed ++ (record {
+            line = line;
+            section = layout.section;
+            place = place_of layout;
+            is_start = starts;
+            content = content;
+          }) ∷ [];
     })
 
 -- a content, where its place is aligned and the section has room
@@ -117,14 +121,15 @@ padding place multiple = (multiple - place % multiple) % multiple
 -- zeros up to a multiple of a power of 2, at most 2 ^ 12
 abbrev pub padded : ℕ → Bool → ℕ → Layout → Result Layout AsmWhy
 padded line starts n layout =
-    if nat_le n 12 then put line starts (Given (replicate (padding (place_of layout) (2 ^ n)) 0)) layout else Err OutOfRange
+    if nat_le n 12 then put line starts (Given (replicate (padding (place_of layout) (2 ^ n)) 0)) layout
+    else Err OutOfRange
 
 -- a name of `.equ`, whose expression has a value already
 abbrev pub equated : List ℕ → ExpressionValue → Layout → Result Layout AsmWhy
 equated name e layout =
     if is_some (value_of_name name layout.names) then Err Redefined else do
       value ← defined layout.names e
-      named name value layout
+      with_name name value layout
 
 -- what an action does
 unfoldable pub acted : ℕ → Bool → Action → Layout → Result Layout AsmWhy

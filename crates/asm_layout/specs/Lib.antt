@@ -1,3 +1,4 @@
+pub mod Limits
 pub mod Action
 pub mod Content
 pub mod Draft

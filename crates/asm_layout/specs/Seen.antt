@@ -51,10 +51,23 @@ action_seen (action.Enter section) = actions.Enter section
 action_seen (action.Define name e) = actions.Define name.now (expression_seen e)
 
 abbrev pub placed_seen : Placed → layouts.Placed
-placed_seen p = record { line = p.line; section = p.section; place = p.place; is_start = p.is_start; content = content_seen p.content }
+placed_seen p = record {
+  line = p.line;
+  section = p.section;
+  place = p.place;
+  is_start = p.is_start;
+  content = content_seen p.content;
+}
 
 abbrev pub all_placed_seen : List Placed → List layouts.Placed
 all_placed_seen ps = map placed_seen ps
 
 abbrev pub layout_seen : Layout → layouts.Layout
-layout_seen l = record { section = l.section; text = l.text; data_bytes = l.data_bytes; names = l.names; start = l.start; placed = all_placed_seen l.placed.items }
+layout_seen l = record {
+  section = l.section;
+  text = l.text;
+  data_bytes = l.data_bytes;
+  names = l.names;
+  start = l.start;
+  placed = all_placed_seen l.placed.items;
+}

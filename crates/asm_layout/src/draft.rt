@@ -1,5 +1,6 @@
 //! Instructions as they are read.
 ghost use Rattle.std.specs.Prelude.{◌<◌};
+ghost use Rattle.asm_layout.specs.Limits.{word_limit};
 
 use crate::reading::Reading;
 use asm_parse::{Arg, AsmWhy, Expression};
@@ -12,7 +13,7 @@ pub struct Draft<'a> {
     pub word: u32,
     /// What the expression gives.
     pub filling: Filling<'a>,
-    ghost small: { word < 0xd0000000 },
+    ghost small: { word < word_limit },
 }
 
 /// What an expression gives to an instruction. It isn't a value yet.
@@ -28,6 +29,7 @@ pub enum Filling<'a> {
 
 impl<'a> Draft<'a> {
     ghost use Rattle.std.specs.Prelude.{◌≡◌, ◌<◌, ◌≤◌, length};
+    ghost use Rattle.mips_text.specs.Limits.{most_operands, text_word_limit};
     ghost use Rattle.mips_text.specs.Seen.{text_seen};
     ghost use Rattle.line_text.specs.Outcome.{ok_seen};
     ghost use Rattle.asm_layout.specs.Content.{draft_length};
@@ -46,8 +48,8 @@ impl<'a> Draft<'a> {
 
     /// The instruction of a text with these operands. The fault is Syntax or UnknownName.
     pub(crate) fn new(text: Text, operands: &[Arg<'a>]) -> Result<Draft<'a>, AsmWhy>
-        requires small { text.0 < 0xc0000000 }
-        requires few { length text.1.now ≤ 3 }
+        requires small { text.0 < text_word_limit }
+        requires few { length text.1.now ≤ most_operands }
         ensures { ok_seen draft_seen result ≡ draft_of (text_seen text) (operands_seen operands.now) }
     {
         let Reading { word, filling } = Reading::of(text, operands)?;

@@ -1,6 +1,7 @@
 //! The first pass: where each statement stands, and the values of the names.
 ghost use Rattle.std.specs.Prelude.{◌≡◌, ◌≤◌, ◌<◌};
 ghost use Rattle.asm_layout.specs.Layout.{is_start};
+ghost use Rattle.asm_layout.specs.Limits.{place_limit, section_limit};
 
 use crate::action::{Action, read_action};
 use crate::content::Content;
@@ -24,7 +25,7 @@ pub struct Placed<'a> {
     pub is_start: bool,
     /// What it puts.
     pub content: Content<'a>,
-    ghost low: { place < 0x20000000 },
+    ghost low: { place < place_limit },
 }
 
 /// How far the first pass has come.
@@ -42,8 +43,8 @@ pub struct Layout<'a> {
     pub start: Option<u32>,
     /// The statements in order.
     pub placed: Vec<Placed<'a>>,
-    ghost text_fits: { text ≤ 1048576 },
-    ghost data_fits: { data_bytes ≤ 1048576 },
+    ghost text_fits: { text ≤ section_limit },
+    ghost data_fits: { data_bytes ≤ section_limit },
 }
 
 /// The largest power of 2 to which `.align` goes.
@@ -55,6 +56,7 @@ impl<'a> Layout<'a> {
     ghost use Rattle.asm_parse.specs.Seen.{expression_seen};
     ghost use Rattle.asm_layout.specs.Layout.{acted, appended, equated, is_start, labelled, line_added, nothing_placed, padded, place_of, put, stated, used_by};
     ghost use Rattle.asm_layout.specs.Content.{content_length};
+    ghost use Rattle.asm_layout.specs.Limits.{place_limit, section_limit};
     ghost use Rattle.line_text.specs.LineView.{line_value};
     ghost use Rattle.asm_layout.specs.Seen.{action_seen, content_seen, layout_seen};
 
@@ -75,7 +77,7 @@ impl<'a> Layout<'a> {
     /// How many bytes the section has, to which statements are added.
     fn used(&self) -> u32
         ensures value { result ≡ used_by self.now.section (layout_seen self.now) }
-        ensures within { result ≤ 1048576 }
+        ensures within { result ≤ section_limit }
     {
         match self.section {
             Section::Text => self.text,
@@ -86,7 +88,7 @@ impl<'a> Layout<'a> {
     /// The address at which the next statement stands.
     fn place(&self) -> u32
         ensures value { result ≡ place_of (layout_seen self.now) }
-        ensures low { result < 0x20000000 }
+        ensures low { result < place_limit }
     {
         self.section.base() + self.used()
     }
@@ -214,7 +216,7 @@ impl<'a> Layout<'a> {
         length: u32,
     ) -> Result<(), Failure<AsmWhy>>
         requires length { length ≡ content_length (content_seen content) }
-        requires room { used_by self.old.section (layout_seen self.old) + length ≤ 1048576 }
+        requires room { used_by self.old.section (layout_seen self.old) + length ≤ section_limit }
         ensures { Gives (λ _. layout_seen self.new) result (Ok (appended line is_start (content_seen content.entry) (layout_seen self.old))) }
     {
         let placed = Placed {

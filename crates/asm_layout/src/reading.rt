@@ -3,6 +3,7 @@ ghost use Rattle.std.specs.Prelude.{◌≡◌, ◌+◌, ◌<◌, ◌^◌};
 ghost use Rattle.std.specs.Option.{option_map, unwrap_or};
 ghost use Rattle.asm_parse.specs.Seen.{number_seen};
 ghost use Rattle.asm_layout.specs.Draft as drafts;
+ghost use Rattle.asm_layout.specs.Limits.{word_limit};
 
 use crate::draft::Filling;
 use asm_parse::{Arg, AsmWhy, Operand, Register};
@@ -20,6 +21,8 @@ pub(crate) struct Reading<'a> {
 impl<'a> Reading<'a> {
     ghost use Rattle.std.specs.Prelude.{◌≡◌, ◌+◌, ◌<◌, ◌≤◌, ◌^◌, IfOk, length};
     ghost use Rattle.std.specs.Option.{option_map, unwrap_or};
+    ghost use Rattle.asm_layout.specs.Limits.{word_limit};
+    ghost use Rattle.mips_text.specs.Limits.{most_operands, text_word_limit};
     ghost use Rattle.mips_text.specs.Seen.{text_seen};
     ghost use Rattle.asm_parse.specs.Seen.{arg_seen};
     ghost use Rattle.line_text.specs.Outcome.{ok_seen};
@@ -28,10 +31,10 @@ impl<'a> Reading<'a> {
 
     /// What is read of an instruction with these operands. The fault is Syntax.
     pub(crate) fn of(text: Text, operands: &[Arg<'a>]) -> Result<Reading<'a>, AsmWhy>
-        requires small { text.0 < 0xc0000000 }
-        requires few { length text.1.now ≤ 3 }
+        requires small { text.0 < text_word_limit }
+        requires few { length text.1.now ≤ most_operands }
         ensures value { ok_seen reading_seen result ≡ read_text (text_seen text) (operands_seen operands.now) }
-        ensures within { IfOk result (λ reading. unwrap_or reading.word 0 < 0xd0000000) }
+        ensures within { IfOk result (λ reading. unwrap_or reading.word 0 < word_limit) }
     {
         let Text(word, forms) = text;
         let mut reading = Reading {
@@ -49,7 +52,7 @@ impl<'a> Reading<'a> {
 
     /// What is read with one operand more, or without it. The fault is Syntax.
     fn with(self, form: OperandForm, arg: Option<&Arg<'a>>) -> Result<Reading<'a>, AsmWhy>
-        requires { unwrap_or self.word 0 < 0xd0000000 }
+        requires { unwrap_or self.word 0 < word_limit }
         ensures value { ok_seen reading_seen result ≡ read_operand form (option_map (λ a. (arg_seen a.now).operand) arg.entry) (reading_seen self.entry) }
         ensures grows { IfOk result (λ reading. unwrap_or reading.word 0 < unwrap_or self.entry.word 0 + 2 ^ 26) }
     {
@@ -82,7 +85,7 @@ impl<'a> Reading<'a> {
 
 /// A word with a register, where there are both.
 fn with_register(word: Option<u32>, slot: Slot, register: Option<Register>) -> Option<u32>
-    requires { unwrap_or word 0 < 0xd0000000 }
+    requires { unwrap_or word 0 < word_limit }
     ensures value { result ≡ drafts.with_register slot (option_map number_seen register) word }
     ensures grows { unwrap_or result 0 < unwrap_or word 0 + 2 ^ 26 }
 {

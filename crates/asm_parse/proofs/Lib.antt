@@ -1,8 +1,8 @@
-pub mod ArgLemmas
-pub mod BareLemmas
-pub mod EncloseLemmas
-pub mod MarkLemmas
-pub mod OpeningLemmas
-pub mod PartLemmas
-pub mod SpanLemmas
-pub mod StatementLemmas
+mod ArgLemmas
+mod BareLemmas
+mod EncloseLemmas
+mod MarkLemmas
+mod OpeningLemmas
+mod PartLemmas
+mod SpanLemmas
+mod StatementLemmas

@@ -8,7 +8,7 @@ use Rattle.std.specs.List.{AllByRecursion, prefix_len}
 use Rattle.std.specs.Option.{option_map, option_and_then}
 use Rattle.asm_parse.specs.Arg.{ArgValue}
 use Rattle.asm_parse.specs.Operand.{OperandValue, operand_of, based_of}
-use Rattle.asm_parse.specs.Expression.{expression_of, inner_of, number_of}
+use Rattle.asm_parse.specs.Expression.{expression_of, inner_of, literal_value}
 use Rattle.asm_parse.specs.Form.{Piece, front, skip, trimmed, args_at, arg_of, operands_of}
 use Rattle.asm_parse.specs.Span.{IsCutArg}
 use Rattle.asm_parse.proofs.ArgLemmas.{comma, args_here, args_on}
@@ -16,7 +16,7 @@ use Rattle.asm_parse.proofs.PartLemmas.{IsPart, part_span, part_front, part_skip
 
 -- nothing is no operand
 operand_none : operand_of [] ≡ None
-unfolding operand_of expression_of inner_of number_of based_of
+unfolding operand_of expression_of inner_of literal_value based_of
 operand_none = refl
 
 operand_some : (bs : List ℕ) (operand : OperandValue) → operand_of bs ≡ Some operand → 0 < length bs

@@ -35,8 +35,8 @@ abbrev pub negated : ℕ → ℕ
 negated n = (2 ^ 32 - n) % 2 ^ 32
 
 -- a number from -2 ^ 31 to 2 ^ 32 - 1: decimal digits, with a minus sign or without, or `0x` and hexadecimal digits
-unfoldable pub number_of : List ℕ → Option ℕ
-number_of bs =
+unfoldable pub literal_value : List ℕ → Option ℕ
+literal_value bs =
     if starts_with nat_eq bs (codes "0x") then numeral_of 16 (2 ^ 32 - 1) (drop 2 bs) else
     if starts_with nat_eq bs (codes "-") then option_map negated (numeral_of 10 (2 ^ 31) (drop 1 bs)) else
     numeral_of 10 (2 ^ 32 - 1) bs
@@ -45,14 +45,14 @@ number_of bs =
 abbrev pub named : List ℕ → List ℕ → Option InnerValue
 named name [] = Some (Name name)
 named name (sign ∷ number) =
-    if sign == byte "+" then option_map (λ n. Sum name n) (number_of number) else
-    if sign == byte "-" then option_map (λ n. Sum name (negated n)) (number_of number) else
+    if sign == byte "+" then option_map (λ n. Sum name n) (literal_value number) else
+    if sign == byte "-" then option_map (λ n. Sum name (negated n)) (literal_value number) else
     None
 
 unfoldable pub inner_of : List ℕ → Option InnerValue
 inner_of bs =
     if begins_name bs then (let name = take_while is_name_byte bs in named name (drop (length name) bs))
-    else option_map (λ n. Number n) (number_of bs)
+    else option_map (λ n. Number n) (literal_value bs)
 
 -- the half that bytes open at their front, by `hi(` or `lo(`
 abbrev pub half_opened : List ℕ → Option Half

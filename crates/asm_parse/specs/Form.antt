@@ -71,7 +71,11 @@ before_mark mark q (b ∷ bs) =
 unfoldable pub arg_of : Piece → Option ArgValue
 arg_of p =
     let inner = trimmed p in
-    option_map (λ operand. record { operand = operand; start = inner.start; end = inner.start + length inner.bytes }) (operand_of inner.bytes)
+    option_map (λ operand. record {
+      operand = operand;
+      start = inner.start;
+      end = inner.start + length inner.bytes;
+    }) (operand_of inner.bytes)
 
 -- an operand from each part, where the first part stands at a place and a comma stands behind each but the last
 abbrev pub args_of : ℕ → List (List ℕ) → Option (List ArgValue)
@@ -128,27 +132,28 @@ abbrev pub said : LineValue → Piece
 said line = trimmed (record { start = line.start; bytes = before_mark (byte "#") Outside line.text })
 
 -- a line's statement, where it has one; None where the line has another form
-unfoldable pub line_of : LineValue → Option (Option AsmLine)
-line_of line =
+unfoldable pub parsed_line : LineValue → Option (Option AsmLine)
+parsed_line line =
     if not (list_all is_text_byte line.text) then None else
     if length (said line).bytes == 0 then Some None else
     option_map (λ statement. Some statement) (statement_of line.number (said line))
 
 -- what is due for a line: its statement, or that it has another form
 abbrev pub due_of : LineValue → Result (Option AsmLine) (LineFault AsmWhy)
-due_of line = ok_or (line_of line) (fault_at line.number Syntax)
+due_of line = ok_or (parsed_line line) (fault_at line.number Syntax)
 
 -- a line's statement before those of the lines behind it
-abbrev pub joined : Result (Option AsmLine) (LineFault AsmWhy) → Result (List AsmLine) (LineFault AsmWhy) → Result (List AsmLine) (LineFault AsmWhy)
+abbrev pub joined : Result (Option AsmLine) (LineFault AsmWhy) → Result (List AsmLine) (LineFault AsmWhy)
+    → Result (List AsmLine) (LineFault AsmWhy)
 joined (Err fault) rest = Err fault
 joined (Ok said) (Err fault) = Err fault
 joined (Ok said) (Ok statements) = Ok (option_to_list said ++ statements)
 
 -- the statements of lines in order, or the first line of another form
-abbrev pub statements_of : List LineValue → Result (List AsmLine) (LineFault AsmWhy)
-statements_of [] = Ok []
-statements_of (line ∷ lines) = joined (due_of line) (statements_of lines)
+abbrev pub parsed_statements : List LineValue → Result (List AsmLine) (LineFault AsmWhy)
+parsed_statements [] = Ok []
+parsed_statements (line ∷ lines) = joined (due_of line) (parsed_statements lines)
 
 -- what a source says: its statements in order, or the first line of another form
 unfoldable pub parsed : List ℕ → Result (List AsmLine) (LineFault AsmWhy)
-parsed source = statements_of (lines_of source)
+parsed source = parsed_statements (lines_of source)

@@ -35,5 +35,8 @@ pub record IsCut (source : List ℕ) (statement : AsmLine) : Type 0 where
   pub some : statement.start < statement.end
   pub to : statement.end ≤ length source
   pub bare : IsBare (slice_range source statement.start statement.end)
-  pub form : statement_of statement.line (record { start = statement.start; bytes = slice_range source statement.start statement.end }) ≡ Some statement
+  pub form : statement_of statement.line (record {
+    start = statement.start;
+    bytes = slice_range source statement.start statement.end;
+  }) ≡ Some statement
   pub args : AllByRecursion (IsCutArg source statement.start statement.end) (args_in statement.body)

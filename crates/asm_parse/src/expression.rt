@@ -4,7 +4,7 @@ ghost use Rattle.std.specs.List.{list_all};
 ghost use Rattle.std.specs.Str.{byte};
 ghost use Rattle.std.specs.Option.{option_map, option_copied};
 ghost use Rattle.asm_parse.specs.Seen.{expression_seen, inner_seen};
-ghost use Rattle.asm_parse.specs.Expression.{Number, expression_of, inner_of, named, number_of, without_closings};
+ghost use Rattle.asm_parse.specs.Expression.{Number, expression_of, inner_of, named, literal_value, without_closings};
 
 use crate::openings::{OPENING_LENGTH, Openings, opening_count};
 use crate::words::{begins_name, name_length};
@@ -112,9 +112,9 @@ fn sum<'a>(name: &'a [u8], sign: u8, digits: &[u8]) -> Option<Inner<'a>>
 }
 
 /// The number modulo 2^32 that bytes are, if they are one from -2^31 to 2^32 - 1.
-#[tactic(auto, unfolding(crate::specs::Expression::number_of))]
+#[tactic(auto, unfolding(crate::specs::Expression::literal_value))]
 fn number(bytes: &[u8]) -> Option<u32>
-    ensures { result ≡ number_of bytes.now }
+    ensures { result ≡ literal_value bytes.now }
 {
     if let Some(digits) = bytes.strip_prefix(b"0x") {
         return numeral(digits, 16, u32::MAX);

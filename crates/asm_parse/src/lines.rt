@@ -42,7 +42,7 @@ pub fn parse(alloc: Global, source: &[u8]) -> Result<Vec<AsmLine<'_>>, TextFailu
 
 /// The statement of a line, where it has one. A fault is `Syntax` where the line has another form, or
 /// that memory ran out.
-#[tactic(auto, unfolding(crate::specs::Form::line_of))]
+#[tactic(auto, unfolding(crate::specs::Form::parsed_line))]
 pub fn parse_line<'a>(
     alloc: Global,
     line: &Line<'a>,

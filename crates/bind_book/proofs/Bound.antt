@@ -3,7 +3,8 @@ use Rattle.std.proofs.Common.{arith, refl, inl, inr, ◌≡◌, ◌<◌, ℕ, ze
 use Rattle.std.proofs.lemmas.Bool.{cases_eq, cases_Bool, or_parts, or_from}
 use Rattle.bind_book.specs.declared.binding.Binding.{Binding}
 use Rattle.bind_book.specs.Laws.{StaysUnbound}
-use Rattle.bind_book.specs.Stripe.{stripe_rows, is_of_page, is_bound_below, is_bound, without}
+use Rattle.bind_book.specs.Stripe.{is_of_page, is_bound_below, is_bound, without}
+use Rattle.aegis_limits.specs.Limits.{stripe_rows}
 
 unbound_below : (page : ℕ) (stripe : ℕ → Option Binding) (rows : ℕ) → is_bound_below page stripe rows ≡ false → (r : ℕ) → r < rows → is_of_page page (stripe r) ≡ false
 unbound_below page stripe zero none r below = absurd (omega arith)

@@ -1,3 +1,3 @@
-pub mod Bound
+mod Bound
 pub mod Rows
 pub mod Swept

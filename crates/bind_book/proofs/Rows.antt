@@ -5,7 +5,8 @@ use Rattle.std.proofs.lemmas.List.{length-replicate, get_or-replicate, get_or_pa
 use Rattle.std.proofs.lemmas.Nat.{same_from_place}
 use Rattle.bind_book.specs.declared.binding.Binding.{Binding}
 use Rattle.bind_book.specs.Laws.{SetInOneRow}
-use Rattle.bind_book.specs.Stripe.{stripe_rows, stripe_place, HasStripe, stripes, of_number, row_of}
+use Rattle.bind_book.specs.Stripe.{stripe_place, HasStripe, stripes, of_number, row_of}
+use Rattle.aegis_limits.specs.Limits.{stripe_rows}
 
 -- rows that are all empty
 empty_place : (places place : ℕ) → get_or (replicate {A = Option Binding} places None) place None ≡ None

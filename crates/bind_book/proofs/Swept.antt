@@ -6,7 +6,8 @@ use Rattle.std.specs.Prelude.{if◌then◌else◌}
 use Rattle.page_book.specs.declared.row.PageRow.{PageRow}
 use Rattle.bind_book.specs.declared.binding.Binding.{Binding}
 use Rattle.bind_book.specs.Laws.{SweptByRow}
-use Rattle.bind_book.specs.Stripe.{stripe_rows, stripe_place, without, swept_from, swept, goes_with}
+use Rattle.bind_book.specs.Stripe.{stripe_place, without, swept_from, swept, goes_with}
+use Rattle.aegis_limits.specs.Limits.{stripe_rows}
 
 swept_place : (place : ℕ) (broken : ℕ → Binding → Bool) (binds : List (Option Binding)) (i : ℕ) → get_or (swept_from place broken binds) i None ≡ without (broken ((place + i) / stripe_rows)) (get_or binds i None)
 swept_place place broken [] i = refl

@@ -1,13 +1,9 @@
 -- Bindings, and the stripe of rows that each environment has for them.
 use Rattle.std.specs.Prelude.{ℕ, zero, suc, ◌+◌, ◌*◌, ◌/◌, ◌%◌, ◌≤◌, Bool, false, not, ◌==◌, ◌&&◌, ◌||◌, nat_lt, if◌then◌else◌, List, [], ◌∷◌, length, Option, Some, None, is_some, slice_index_or, slice_set}
-use Rattle.aegis_limits.specs.Limits.{most_environments}
+use Rattle.aegis_limits.specs.Limits.{most_environments, stripe_rows}
 use Rattle.page_book.specs.declared.row.PageRow.{PageRow}
 use Rattle.page_book.specs.Row.{belongs_to}
 use Rattle.bind_book.specs.declared.binding.Binding.{Binding}
-
--- the rows of a stripe
-abbrev pub stripe_rows : ℕ
-stripe_rows = 256
 
 -- the rows of the stripes of all environments
 abbrev pub most_places : ℕ
@@ -44,7 +40,8 @@ rows_with_binding binds e b = slice_set binds (stripe_place e (row_of b.vpn)) (S
 
 -- the rows once the binding of an environment's VPN, if there is one, is gone
 abbrev pub unbound : List (Option Binding) → ℕ → ℕ → List (Option Binding)
-unbound binds e vpn = if is_some (binding_at (stripes binds e) vpn) then slice_set binds (stripe_place e (row_of vpn)) None else binds
+unbound binds e vpn =
+    if is_some (binding_at (stripes binds e) vpn) then slice_set binds (stripe_place e (row_of vpn)) None else binds
 
 -- whether the binding in a row is of this page
 abbrev pub is_of_page : ℕ → Option Binding → Bool
@@ -70,8 +67,8 @@ is_but None e = false
 is_but (Some but) e = but == e
 
 -- whether an environment's binding is broken with its page, which spares those of one environment
-abbrev pub breaks_page : ℕ → Option ℕ → ℕ → Binding → Bool
-breaks_page page but e b = b.page == page && not (is_but but e)
+abbrev pub leads_to_page : ℕ → Option ℕ → ℕ → Binding → Bool
+leads_to_page page but e b = b.page == page && not (is_but but e)
 
 -- whether a binding goes with an environment: it is its own, or of one of its pages
 abbrev pub goes_with : (ℕ → PageRow) → ℕ → ℕ → Binding → Bool

@@ -1,20 +1,17 @@
 //! The book of bindings.
 ghost use Rattle.std.specs.Prelude.{◌≡◌, ◌<◌, ◌≤◌, ◌*◌, length, replicate, is_some, IfOk};
-ghost use Rattle.aegis_limits.specs.Limits.{most_environments, vpn_end};
+ghost use Rattle.aegis_limits.specs.Limits.{most_environments, most_frames, vpn_end, stripe_rows};
 ghost use Rattle.page_book.specs.Rows.{row_in};
-ghost use Rattle.bind_book.specs.Stripe.{stripe_rows, row_of, stripe_place, HasStripe, stripes, binding_at, unbound, rows_with_binding, breaks_page, goes_with, swept};
+ghost use Rattle.bind_book.specs.Stripe.{row_of, stripe_place, HasStripe, stripes, binding_at, unbound, rows_with_binding, leads_to_page, goes_with, swept};
 
 use crate::binding::Binding;
 use crate::sweep::{break_page, clear_env};
-use aegis_limits::OutOfMemory;
+use aegis_limits::{OutOfMemory, STRIPE_ROWS};
 use page_book::Pages;
 use std::alloc::Global;
 use std::marker::Model;
 
-/// The rows of a stripe: how many bindings an environment has at most.
-pub const STRIPE_ROWS: u32 = 256;
-
-/// The bindings of all environments: a stripe of 256 rows for each.
+/// The bindings of all environments: a stripe of `STRIPE_ROWS` rows for each.
 #[derive(Drop)]
 pub struct Bindings {
     rows: Vec<Option<Binding>>,
@@ -33,7 +30,7 @@ impl Model for Bindings {
 }
 
 impl Bindings {
-    /// Empty stripes for so many environments, at most 16. An `Err` says that there is no memory for them.
+    /// Empty stripes for so many environments, at most `MOST_ENVIRONMENTS`. An `Err` says that there is no memory for them.
     pub fn new(alloc: Global, envs: u8) -> Result<Bindings, OutOfMemory>
         requires { envs ≤ most_environments }
         ensures { IfOk result (λ b. b ≡ replicate (envs * stripe_rows) None) }
@@ -42,11 +39,12 @@ impl Bindings {
         Ok(Bindings { rows })
     }
 
-    /// Binds a page to the environment's VPN, below 0x80000. What stood in the row of that
+    /// Binds a page, below `MOST_FRAMES`, to the environment's VPN, below `VPN_END`. What stood in the row of that
     /// number gives way, and is the answer. All other rows stay.
     pub fn bind(&mut self, env: u8, vpn: u32, page: u32, writable: bool) -> Option<Binding>
         requires stripe { HasStripe self.old env }
         requires number { vpn < vpn_end }
+        requires page { page < most_frames }
         ensures replaced { result ≡ stripes self.old env (row_of vpn) }
         ensures after { self.new ≡ rows_with_binding self.old env (record { vpn = vpn; page = page; writable = writable }) }
         ensures count { length self.new ≡ length self.old }
@@ -87,7 +85,7 @@ impl Bindings {
         }
     }
 
-    /// The binding that stands in this row, below 256, of the environment's stripe, if one does.
+    /// The binding that stands in this row, below `STRIPE_ROWS`, of the environment's stripe, if one does.
     pub fn in_row(&self, env: u8, row: u32) -> Option<Binding>
         requires { row < stripe_rows }
         ensures { result ≡ stripes self.now env row }
@@ -97,7 +95,7 @@ impl Bindings {
 
     /// Breaks the bindings of a page, of all environments but this one, if one is spared.
     pub fn break_page(&mut self, page: u32, but: Option<u8>)
-        ensures after { self.new ≡ swept (breaks_page page but) self.old }
+        ensures after { self.new ≡ swept (leads_to_page page but) self.old }
         ensures count { length self.new ≡ length self.old }
     {
         break_page(&mut self.rows, page, but);

@@ -1,7 +1,7 @@
 //! The book of bindings: at which of their VPNs environments see pages that they bound.
 //!
-//! Each environment has a stripe of 256 rows, and the binding of a VPN stands in the row of that number
-//! modulo 256. The book is seen as the list of all rows, those of environment 0 first.
+//! Each environment has a stripe of `STRIPE_ROWS` rows, and the binding of a VPN stands in the row of that number modulo
+//! `STRIPE_ROWS`. The book is seen as the list of all rows, those of environment 0 first.
 #![tactic(auto)]
 
 mod binding;
@@ -10,5 +10,5 @@ mod laws;
 mod sweep;
 
 pub use binding::Binding;
-pub use bindings::{Bindings, STRIPE_ROWS};
+pub use bindings::Bindings;
 pub use laws::{law_bound, law_empty_rows, law_row_set, law_stays_unbound, law_swept};

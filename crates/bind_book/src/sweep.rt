@@ -2,16 +2,17 @@
 ghost use Rattle.std.specs.Prelude.{◌≡◌, ◌≤◌, ◌<◌, ◌/◌, None, if◌then◌else◌, length};
 ghost use Rattle.page_book.specs.Row.{belongs_to};
 ghost use Rattle.page_book.specs.Rows.{row_in};
-ghost use Rattle.bind_book.specs.Stripe.{stripe_rows, most_places, breaks_page, goes_with, without, swept};
+ghost use Rattle.bind_book.specs.Stripe.{most_places, leads_to_page, goes_with, without, swept};
+ghost use Rattle.aegis_limits.specs.Limits.{stripe_rows};
 
 use crate::binding::Binding;
-use crate::bindings::STRIPE_ROWS;
+use aegis_limits::STRIPE_ROWS;
 use page_book::Pages;
 
 /// Breaks the bindings of a page, of all environments but this one, if one is spared.
 pub(crate) fn break_page(rows: &mut [Option<Binding>], page: u32, but: Option<u8>)
     requires { length rows.old ≤ most_places }
-    ensures { rows.new ≡ swept (breaks_page page but) rows.old }
+    ensures { rows.new ≡ swept (leads_to_page page but) rows.old }
 {
     for (place, row) in rows.iter_mut().enumerate() {
         if is_broken(*row, env_of(place), page, but) {
@@ -40,7 +41,7 @@ fn env_of(place: usize) -> u8
 
 /// Whether the environment's binding in a row, if there is one, is broken with the page.
 fn is_broken(row: Option<Binding>, env: u8, page: u32, but: Option<u8>) -> bool
-    ensures { without (breaks_page page but env) row ≡ (if result then None else row) }
+    ensures { without (leads_to_page page but env) row ≡ (if result then None else row) }
 {
     match row {
         Some(binding) => binding.page == page && but != Some(env),

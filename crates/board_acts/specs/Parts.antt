@@ -11,7 +11,7 @@ use Rattle.world_model.specs.Call.{good_range}
 use Rattle.world_model.specs.OwnCalls.{put_bytes}
 use Rattle.world_model.specs.Page.{Mapped}
 use Rattle.board_model.specs.declared.roster.Environment.{Environment}
-use Rattle.board_model.specs.Shown.{Environments, Shown, changed, mappings_of, with_list}
+use Rattle.board_model.specs.Shown.{Environments, Shown, with_record, mappings_of, with_list}
 use Rattle.board_model.specs.Doing.{with_bytes_put, with_packet_sent}
 
 -- what a packet for a claim changes: physical memory, the claims and what was sent
@@ -36,8 +36,10 @@ look_in frames binds list e = look frames (lookup (space_in binds list e))
 
 -- the environments once one of them puts bytes of its memory on its console, by where its VPNs lead
 abbrev pub roster_after_put : (ℕ → Option Mapped) → Environments → ℕ → ℕ → ℕ → Environments
-roster_after_put look r e address size = with_list r (changed (with_bytes_put (unwrap_or (put_bytes look address size) [])) r.list e)
+roster_after_put look r e address size =
+    with_list r (with_record (with_bytes_put (unwrap_or (put_bytes look address size) [])) r.list e)
 
 -- and once one of them sends bytes of its memory as a packet
 abbrev pub roster_after_send : (ℕ → Option Mapped) → Environments → ℕ → ℕ → ℕ → Environments
-roster_after_send look r e address size = with_list r (changed (with_packet_sent (unwrap_or (good_range look address size) [])) r.list e)
+roster_after_send look r e address size =
+    with_list r (with_record (with_packet_sent (unwrap_or (good_range look address size) [])) r.list e)

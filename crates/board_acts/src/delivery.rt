@@ -4,7 +4,7 @@ ghost use Rattle.env_frames.specs.Context.{context_number};
 ghost use Rattle.env_frames.specs.Frame.{page_of};
 ghost use Rattle.filter_tree.specs.Claims.{claim_handler};
 ghost use Rattle.frame_store.specs.Pages.{after_put};
-ghost use Rattle.board_model.specs.Shown.{Shown, changed, mappings_of, with_list};
+ghost use Rattle.board_model.specs.Shown.{Shown, with_record, mappings_of, with_list};
 ghost use Rattle.board_model.specs.Doing.{after_delivery_by, after_delivery, with_replies_sent};
 ghost use Rattle.board_acts.specs.Delivery.{claim_run};
 ghost use Rattle.board_acts.specs.Parts.{with_mail};
@@ -40,7 +40,7 @@ fn run_in(
 /// dropped.
 fn send_replies(roster: &mut Roster, env: u8, replies: &Replies)
     requires { env < length roster.old.list }
-    ensures { roster.new ≡ with_list roster.old (changed (with_replies_sent replies.now) roster.old.list env) }
+    ensures { roster.new ≡ with_list roster.old (with_record (with_replies_sent replies.now) roster.old.list env) }
 {
     roster.law_no_reply(env);
     for n in 0..replies.count() {

@@ -4,7 +4,7 @@ ghost use Rattle.std.specs.Option.{option_map};
 ghost use Rattle.page_book.specs.Row.{is_owned_by};
 ghost use Rattle.revocation_book.specs.RevocationBook.{next_deadline};
 ghost use Rattle.slot_vector.specs.Slices.{left_of};
-ghost use Rattle.world_model.specs.Downloads.{handler_of};
+ghost use Rattle.world_model.specs.Downloads.{handler_of_words};
 ghost use Rattle.world_model.specs.View.{view_seen};
 ghost use Rattle.board_model.specs.Showing.{page_seen};
 ghost use Rattle.board_acts.specs.Parts.{space_in};
@@ -57,7 +57,7 @@ pub fn page_behind(frames: &Frames, mapping: Mapping) -> PageView<'_>
 
 /// A handler, but none of no words.
 pub fn unless_empty(handler: &Handler) -> Option<&Handler>
-    ensures { option_map (λ handler. handler.now) result ≡ handler_of handler.now }
+    ensures { option_map (λ handler. handler.now) result ≡ handler_of_words handler.now }
 {
     if handler.words().is_empty() {
         return None;

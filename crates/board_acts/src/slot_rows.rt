@@ -2,7 +2,8 @@
 ghost use Rattle.std.specs.Prelude.{◌≡◌, ◌≤◌, ◌<◌, ◌+◌, length};
 ghost use Rattle.kernel_journal.specs.Ledger.{with_row};
 ghost use Rattle.kernel_journal.specs.declared.row.Row.TheVariants as row;
-ghost use Rattle.slot_vector.specs.Slices.{hold_at, most_numbers, without_env};
+ghost use Rattle.slot_vector.specs.Slices.{hold_at, without_env};
+ghost use Rattle.aegis_limits.specs.Limits.{environment_numbers};
 ghost use Rattle.world_model.specs.SlotCalls.{slot_row};
 ghost use Rattle.board_model.specs.Doing.{ledger_after_release, ledger_after_timer, mask_rows, slots_settled, with_rows};
 
@@ -39,7 +40,7 @@ fn push_slots(journal: &mut Journal, slots: &Slots, time: u32, mask: u64)
 /// Releases the slots of an environment that dies: its own are empty, and those that it held for others are theirs
 /// again. The ledger tells its death, and what becomes of each slot.
 pub fn release_slots(slots: &mut Slots, journal: &mut Journal, time: u32, env: u8)
-    requires number { env < most_numbers }
+    requires number { env < environment_numbers }
     requires room { length slots.old.slots < journal.old.spare }
     ensures slots { slots.new ≡ without_env env slots.old }
     ensures journal { journal.new ≡ ledger_after_release time env slots.old journal.old }
@@ -69,7 +70,7 @@ fn push_over(journal: &mut Journal, slots: &Slots, time: u32, env: u8, excess: u
 /// Settles what the timer brought to a runner, before anything else happens: the ledger tells of a quantum of grace
 /// that is over, and the slots of a runner that is to die are released.
 pub fn settle(slots: &mut Slots, journal: &mut Journal, time: u32, env: u8, timer: Timer)
-    requires number { env < most_numbers }
+    requires number { env < environment_numbers }
     requires room { length slots.old.slots + 1 < journal.old.spare }
     ensures slots { slots.new ≡ slots_settled env slots.old timer }
     ensures journal { journal.new ≡ ledger_after_timer time env slots.old journal.old timer }

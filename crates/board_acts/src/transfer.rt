@@ -3,7 +3,7 @@ ghost use Rattle.std.specs.Prelude.{◌≡◌, ◌≢◌, ◌<◌, IfSome, IsSom
 ghost use Rattle.env_frames.specs.Context.{context_number, handler_of};
 ghost use Rattle.env_frames.specs.Frame.{page_of};
 ghost use Rattle.env_frames.specs.Transfer.{entry_context};
-ghost use Rattle.slot_vector.specs.Slices.{most_numbers};
+ghost use Rattle.aegis_limits.specs.Limits.{environment_numbers};
 ghost use Rattle.board_model.specs.Shown.{Shown, handlers_of, mappings_of};
 ghost use Rattle.board_model.specs.Doing.{after_entry, after_hand_on};
 ghost use Rattle.board_acts.specs.Parts.{with_entry, with_turns};
@@ -28,7 +28,7 @@ pub fn hand_on(
     kind: TransferKind,
 )
     requires runs { IsSome slots.old.runner }
-    requires number { target < most_numbers }
+    requires number { target < environment_numbers }
     requires room { 1 < journal.old.spare }
     ensures { (b : Shown) → with_turns b slots.new time journal.new ≡ after_hand_on (with_turns b slots.old time journal.old) env target kind }
 {
@@ -53,24 +53,34 @@ pub fn hand_on(
     }
 }
 
+/// What enters an environment by a transfer.
+#[derive(Clone, Copy)]
+pub struct Entry {
+    /// The environment that calls.
+    pub env: u8,
+    /// The value with which its call is granted.
+    pub value: u32,
+    /// The environment that is entered.
+    pub target: u8,
+    pub kind: TransferKind,
+}
+
 /// The target goes on at its entry with the caller's registers as they stand at its call; the call is granted
 /// with a value then, and what the caller goes on with later is kept.
-pub fn enter(
-    roster: &mut Roster,
-    frames: &mut Frames,
-    cpu: &mut Cpu,
-    env: u8,
-    value: u32,
-    target: u8,
-    kind: TransferKind,
-)
-    requires caller { env < length roster.old.list }
-    requires there { target < length roster.old.list }
-    requires open { handler_of (handlers_of roster.old.list target) (entry_context kind) ≢ 0 }
-    requires page { IfSome (page_of (mappings_of roster.old.list target) context_number) (λ page. page < length frames.old) }
-    ensures after { (b : Shown) → with_entry b frames.new cpu.new roster.new ≡ after_entry (with_entry b frames.old cpu.old roster.old) env value target kind }
+pub fn enter(roster: &mut Roster, frames: &mut Frames, cpu: &mut Cpu, entry: Entry)
+    requires caller { entry.env < length roster.old.list }
+    requires there { entry.target < length roster.old.list }
+    requires open { handler_of (handlers_of roster.old.list entry.target) (entry_context entry.kind) ≢ 0 }
+    requires page { IfSome (page_of (mappings_of roster.old.list entry.target) context_number) (λ page. page < length frames.old) }
+    ensures after { (b : Shown) → with_entry b frames.new cpu.new roster.new ≡ after_entry (with_entry b frames.old cpu.old roster.old) entry.env entry.value entry.target entry.kind }
     ensures size { length frames.new ≡ length frames.old }
 {
+    let Entry {
+        env,
+        value,
+        target,
+        kind,
+    } = entry;
     let entered = roster.enter(target, frames, env, kind, cpu);
     answer(cpu, Verdict::Grant(value));
     roster.keep(env, cpu);

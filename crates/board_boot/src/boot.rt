@@ -1,9 +1,8 @@
 //! The parts of a board before it runs.
 ghost use Rattle.std.specs.Prelude.{◌≡◌, ◌≤◌, ◌<◌, ◌+◌, ◌*◌, None, IfOk, length, replicate};
 ghost use Rattle.std.specs.Option.{option_map};
-ghost use Rattle.aegis_limits.specs.Limits.{least_pages, most_pages, most_slots, most_environments};
+ghost use Rattle.aegis_limits.specs.Limits.{least_pages, most_pages, most_slots, most_environments, stripe_rows};
 ghost use Rattle.frame_store.specs.Pages.{zeroed};
-ghost use Rattle.bind_book.specs.Stripe.{stripe_rows};
 ghost use Rattle.page_book.specs.declared.row.PageRow.TheVariants.{Free};
 ghost use Rattle.world_model.specs.Book.{own_hold};
 ghost use Rattle.run_model.specs.Boot.{own_row, own_rows};

@@ -13,10 +13,11 @@ use Rattle.page_book.proofs.Owners.{same_owner}
 use Rattle.revocation_book.specs.declared.revocation.Pending.{Pending}
 use Rattle.revocation_book.specs.Backups.{is_loaded, loaded, unloaded}
 use Rattle.revocation_book.specs.Pending.{asked, lowered, unless_due}
-use Rattle.revocation_book.specs.RevocationBook.{RevocationBook, backups_at, most_numbers, once_freed, once_gone, once_served, pending_at, with_backups, with_pending}
+use Rattle.revocation_book.specs.RevocationBook.{RevocationBook, backups_at, once_freed, once_gone, once_served, pending_at, with_backups, with_pending}
+use Rattle.aegis_limits.specs.Limits.{environment_numbers}
 use Rattle.revocation_book.proofs.Takable.{rest_loaded}
 use Rattle.world_model.specs.Table.{set_at}
-use Rattle.board_model.specs.Sound.{AreAsked}
+use Rattle.board_model.specs.Sound.{RevocationsAgree}
 use Rattle.board_model.proofs.Booked.{by_page}
 use Rattle.board_model.proofs.Claiming.{released_else}
 use Rattle.board_model.proofs.Parts.{set_here, set_else}
@@ -34,14 +35,14 @@ pub pending_served : (book : RevocationBook) (time i : ℕ) → pending_at (once
 pending_served book time i = grind (arith, common_steps)
 
 -- other pages of which the backups are owned
-pub repaged : (book : RevocationBook) (pages given : List PageRow) → ((e page : ℕ) → is_loaded (backups_at book e) page ≡ true → is_owned_by e (row_in pages page) ≡ true → is_owned_by e (row_in given page) ≡ true) → AreAsked book pages → AreAsked book given
+pub repaged : (book : RevocationBook) (pages given : List PageRow) → ((e page : ℕ) → is_loaded (backups_at book e) page ≡ true → is_owned_by e (row_in pages page) ≡ true → is_owned_by e (row_in given page) ≡ true) → RevocationsAgree book pages → RevocationsAgree book given
 repaged book pages given stays are = record { pending = are.pending; backups = are.backups; some = are.some; owned = λ e page loaded. stays e page loaded (are.owned e page loaded) }
 
 -- what is pending is another
 abbrev IsPositive : Option Pending → Type 0
 IsPositive pending = IfSome pending (λ p. 0 < p.outstanding)
 
-pub pending_asked : (book : RevocationBook) (pages : List PageRow) (e : ℕ) (pending : Option Pending) → IsPositive pending → AreAsked book pages → AreAsked (with_pending book e pending) pages
+pub pending_asked : (book : RevocationBook) (pages : List PageRow) (e : ℕ) (pending : Option Pending) → IsPositive pending → RevocationsAgree book pages → RevocationsAgree (with_pending book e pending) pages
 pending_asked book pages e pending positive are = grind (arith, common_steps, length-set, set_all)
 
 positive_lowered : (pending : Option Pending) → IsPositive (lowered pending)
@@ -50,16 +51,16 @@ positive_lowered pending = search (rules, eqb-false)
 pub nothing_pending : (count deadline : ℕ) (pending : Option Pending) → IsPositive pending → asked count deadline pending ≡ None → pending ≡ None
 nothing_pending count deadline pending positive is = search (rules, eqb-true)
 
-pub served_asked : (book : RevocationBook) (pages : List PageRow) (time : ℕ) → AreAsked book pages → AreAsked (once_served book time) pages
+pub served_asked : (book : RevocationBook) (pages : List PageRow) (time : ℕ) → RevocationsAgree book pages → RevocationsAgree (once_served book time) pages
 served_asked book pages time are = search (rules, length-map, pending_served)
 
 -- an environment has other backups, which it owns
-module _ (book : RevocationBook) (pages given : List PageRow) (e : ℕ) (backups : List ℕ) (within : e < most_numbers) (are : AreAsked book pages) where
+module _ (book : RevocationBook) (pages given : List PageRow) (e : ℕ) (backups : List ℕ) (within : e < environment_numbers) (are : RevocationsAgree book pages) where
   there : e < length book.backups
   there = subst (λ n. e < n) (sym are.backups) within
 
   pub rebacked : ((page : ℕ) → is_loaded backups page ≡ true → is_owned_by e (row_in given page) ≡ true)
-      → ((i page : ℕ) → i ≢ e → is_loaded (backups_at book i) page ≡ true → is_owned_by i (row_in given page) ≡ true) → AreAsked (with_backups book e backups) given
+      → ((i page : ℕ) → i ≢ e → is_loaded (backups_at book i) page ≡ true → is_owned_by i (row_in given page) ≡ true) → RevocationsAgree (with_backups book e backups) given
   rebacked its others = search (rules, length-set, backups_set, cases_eq, set_here, set_else, there)
 
 left_one : (b page p : ℕ) (rest more : Bool) → (t : Bool) → (b == page) ≡ t → (if not t then b == p || rest else rest) ≡ true → (rest ≡ true → (more ≡ true) × (p ≢ page)) → ((b == p || more) ≡ true) × (p ≢ page)
@@ -76,11 +77,11 @@ unloaded_still (b ∷ backups) page p is =
     by_test false is = is
 
 -- a page is loaded
-pub loaded_asked : (book : RevocationBook) (pages : List PageRow) (e page : ℕ) → e < most_numbers → is_owned_by e (row_in pages page) ≡ true → AreAsked book pages → AreAsked (with_backups book e (loaded page (backups_at book e))) pages
+pub loaded_asked : (book : RevocationBook) (pages : List PageRow) (e page : ℕ) → e < environment_numbers → is_owned_by e (row_in pages page) ≡ true → RevocationsAgree book pages → RevocationsAgree (with_backups book e (loaded page (backups_at book e))) pages
 loaded_asked book pages e page within own are = grind (arith, common_steps, cases_eq, ne_eqb)
 
 -- a page of an environment's is nobody's, and another's backup it wasn't
-module _ (book : RevocationBook) (pages : List PageRow) (e page : ℕ) (there : page < length pages) (own : is_owned_by e (row_in pages page) ≡ true) (are : AreAsked book pages) where
+module _ (book : RevocationBook) (pages : List PageRow) (e page : ℕ) (there : page < length pages) (own : is_owned_by e (row_in pages page) ≡ true) (are : RevocationsAgree book pages) where
   pub freed_row : (i p : ℕ) → p ≢ page → is_owned_by i (row_in pages p) ≡ true → is_owned_by i (row_in (slice_set pages page Free) p) ≡ true
   freed_row i p other its = by_page (λ row. is_owned_by i row ≡ true) pages page p Free there (λ same. absurd (other same)) (λ apart. its)
 
@@ -88,11 +89,11 @@ module _ (book : RevocationBook) (pages : List PageRow) (e page : ℕ) (there : 
   freed_others i p other is = grind (arith, same_owner, freed_row)
 
 -- by its owner
-pub freed_asked : (book : RevocationBook) (pages : List PageRow) (e page : ℕ) → e < most_numbers → page < length pages → is_owned_by e (row_in pages page) ≡ true → AreAsked book pages → AreAsked (once_freed book e page) (slice_set pages page Free)
+pub freed_asked : (book : RevocationBook) (pages : List PageRow) (e page : ℕ) → e < environment_numbers → page < length pages → is_owned_by e (row_in pages page) ≡ true → RevocationsAgree book pages → RevocationsAgree (once_freed book e page) (slice_set pages page Free)
 freed_asked book pages e page within there own are = search (rules, pending_asked, positive_lowered, unloaded_still)
 
 -- by force, where it is no backup
-pub taken_asked : (book : RevocationBook) (pages : List PageRow) (e page : ℕ) → e < most_numbers → page < length pages → is_owned_by e (row_in pages page) ≡ true → is_loaded (backups_at book e) page ≡ false → AreAsked book pages → AreAsked (with_backups book e (drop 1 (backups_at book e))) (slice_set pages page Free)
+pub taken_asked : (book : RevocationBook) (pages : List PageRow) (e page : ℕ) → e < environment_numbers → page < length pages → is_owned_by e (row_in pages page) ≡ true → is_loaded (backups_at book e) page ≡ false → RevocationsAgree book pages → RevocationsAgree (with_backups book e (drop 1 (backups_at book e))) (slice_set pages page Free)
 taken_asked book pages e page within there own spared are =
     rebacked book pages (slice_set pages page Free) e (drop 1 (backups_at book e)) within are
     (λ p is.
@@ -101,17 +102,17 @@ taken_asked book pages e page within there own spared are =
     (freed_others book pages e page there own are)
 
 -- a page that is free comes to be owned
-pub allocated_asked : (book : RevocationBook) (pages : List PageRow) (page e : ℕ) (words : Capabilities) → page < length pages → row_in pages page ≡ Free → AreAsked book pages → AreAsked book (slice_set pages page (Owned e words))
+pub allocated_asked : (book : RevocationBook) (pages : List PageRow) (page e : ℕ) (words : Capabilities) → page < length pages → row_in pages page ≡ Free → RevocationsAgree book pages → RevocationsAgree book (slice_set pages page (Owned e words))
 allocated_asked book pages page e words within free are = search (rules, repaged, by_page)
 
 -- a page gets other words
-pub recapped_asked : (book : RevocationBook) (pages : List PageRow) (page e : ℕ) (words : Capabilities) → page < length pages → is_owned_by e (row_in pages page) ≡ true → AreAsked book pages → AreAsked book (slice_set pages page (Owned e words))
+pub recapped_asked : (book : RevocationBook) (pages : List PageRow) (page e : ℕ) (words : Capabilities) → page < length pages → is_owned_by e (row_in pages page) ≡ true → RevocationsAgree book pages → RevocationsAgree book (slice_set pages page (Owned e words))
 recapped_asked book pages page e words within owned are = search (rules, repaged, by_page, eq-eqb, same_owner)
 
 -- pages that are free are given
-pub given_asked : (book : RevocationBook) (pages given : List PageRow) → ((p : ℕ) → row_in pages p ≢ Free → row_in given p ≡ row_in pages p) → AreAsked book pages → AreAsked book given
+pub given_asked : (book : RevocationBook) (pages given : List PageRow) → ((p : ℕ) → row_in pages p ≢ Free → row_in given p ≡ row_in pages p) → RevocationsAgree book pages → RevocationsAgree book given
 given_asked book pages given stays are = repaged book pages given (λ e p is own. ap (is_owned_by e) (stays p (λ free. let none : true ≡ false = sym own ∙ ap (is_owned_by e) free in cc)) ∙ own) are
 
 -- an environment dies
-pub death_asked : (book : RevocationBook) (pages : List PageRow) (e : ℕ) → e < most_numbers → AreAsked book pages → AreAsked (once_gone book e) (map (released e) pages)
+pub death_asked : (book : RevocationBook) (pages : List PageRow) (e : ℕ) → e < environment_numbers → RevocationsAgree book pages → RevocationsAgree (once_gone book e) (map (released e) pages)
 death_asked book pages e within are = search (rules, pending_asked, row_released, released_else)

@@ -16,7 +16,7 @@ use Rattle.page_laws.specs.Sight.{Sees, seen_if}
 use Rattle.page_laws.proofs.Sights.{binder_sees, unbinder_loses}
 use Rattle.world_model.specs.declared.call.Deed.TheVariants.{Binds, Unbinds}
 use Rattle.world_model.specs.declared.verdict.Verdict.TheVariants.{Grant}
-use Rattle.world_model.specs.Holding.{bound, gained, unbound}
+use Rattle.world_model.specs.Holding.{bound, gained, after_unbind}
 use Rattle.world_model.specs.Item.{Gained, absorb_all, answered_cpu}
 use Rattle.world_model.specs.PageCalls as calls
 use Rattle.world_model.specs.Solo.{Solo, bytes_seen}
@@ -26,7 +26,7 @@ use Rattle.world_model.specs.Verdict.{done}
 use Rattle.board_model.specs.declared.roster.Environment.{Environment}
 use Rattle.board_model.specs.Shown.{Shown}
 use Rattle.board_model.specs.Showing.{world_of, book_of, solo_of, solo_or_absent}
-use Rattle.board_model.specs.Sound.{IsSound, IsOwned}
+use Rattle.board_model.specs.Sound.{IsSoundBoard, IsOwned}
 use Rattle.board_model.specs.Doing as doing
 use Rattle.board_model.proofs.Losing.{resighted}
 use Rattle.board_model.proofs.PageServing.{own_sees}
@@ -36,11 +36,11 @@ use Rattle.board_model.proofs.Seen.{same_solo, Runs, runner_solo, runner_seen, l
 use Rattle.board_model.proofs.Tables.{stripe_set, stripe_without}
 
 -- who unbinds_number a VPN keeps all but its bindings and what it sees
-unbound_keeps : (vpn : ℕ) (s : Solo) → unbound vpn s ≡ resighted s (unbound vpn s)
+unbound_keeps : (vpn : ℕ) (s : Solo) → after_unbind vpn s ≡ resighted s (after_unbind vpn s)
 unbound_keeps vpn s = search rules
 
 -- the bytes of a page that is owned are those that its owner sees
-bytes_owned : (b : Shown) (page : ℕ) → IsSound b → IsOwned (row_in b.pages page) → calls.page_bytes (world_of b) page ≡ page_at b.frames page
+bytes_owned : (b : Shown) (page : ℕ) → IsSoundBoard b → IsOwned (row_in b.pages page) → calls.page_bytes (world_of b) page ≡ page_at b.frames page
 bytes_owned b page sound owned = by_row (row_in b.pages page) refl owned
   where
     by_row : (row : PageRow) → row_in b.pages page ≡ row → IsOwned row → calls.bytes_owned (world_of b) page row ≡ page_at b.frames page
@@ -53,7 +53,7 @@ bytes_owned b page sound owned = by_row (row_in b.pages page) refl owned
         ∙ (λ k. bytes_seen (seen_if (is_owned_by owner (is k)) (is_bound page (stripe_of b owner)) (page_at b.frames page)))
         ∙ (λ k. bytes_seen (seen_if (eq-eqb owner owner refl k) (is_bound page (stripe_of b owner)) (page_at b.frames page)))
 
-module _ (b : Shown) (e : ℕ) (x : Environment) (r : Runs b e x) (sound : IsSound b) where
+module _ (b : Shown) (e : ℕ) (x : Environment) (r : Runs b e x) (sound : IsSoundBoard b) where
   striped : HasStripe b.binds e
   striped = omega (arith, sound.books.striped, slice_get_within b.roster.list e x r.at)
 
@@ -115,7 +115,7 @@ module _ (b : Shown) (e : ℕ) (x : Environment) (r : Runs b e x) (sound : IsSou
       let set = stripe_without b.binds e vpn striped (row_within vpn) in
       let sees = unbinder_loses e vpn (row_in b.pages) (stripe_of b e) (page_at b.frames) (runner_solo b e x) (own_sees b e x) in
       changes_one refl (rebound_book rows mine v set) refl
-      (rebound_seen rows mine v set (unbound vpn (runner_solo b e x)) sees
+      (rebound_seen rows mine v set (after_unbind vpn (runner_solo b e x)) sees
       ∙ (λ k. record (sym (unbound_keeps vpn (runner_solo b e x)) k) { cpu = answered_cpu (Grant v) b.cpu })
       ∙ deeded_seen b e x r (Unbinds vpn) v)
       (rebound_others rows mine v set)

@@ -8,12 +8,13 @@ use Rattle.page_book.specs.declared.row.PageRow.TheVariants.{Free, Owned}
 use Rattle.page_book.specs.Row.{belongs_to, owner_of, released}
 use Rattle.page_book.specs.Rows.{row_in}
 use Rattle.bind_book.specs.declared.binding.Binding.{Binding}
-use Rattle.bind_book.specs.Stripe.{breaks_page, goes_with, stripe_rows, stripes, swept}
+use Rattle.bind_book.specs.Stripe.{leads_to_page, goes_with, stripes, swept}
+use Rattle.aegis_limits.specs.Limits.{stripe_rows}
 use Rattle.bind_book.proofs.Swept.{length-swept, swept_row, left_in_row}
 use Rattle.world_model.specs.declared.life.Cause.{Cause}
 use Rattle.board_model.specs.declared.roster.Environment.{Environment}
-use Rattle.board_model.specs.Shown.{Environments, changed, with_list}
-use Rattle.board_model.specs.Sound.{AreBooked, IsLive, IsOwned}
+use Rattle.board_model.specs.Shown.{Environments, with_record, with_list}
+use Rattle.board_model.specs.Sound.{BooksAgree, IsLiving, IsOwned}
 use Rattle.board_model.specs.Doing.{dead_frame}
 use Rattle.board_model.proofs.Lists.{length-changed}
 use Rattle.board_model.proofs.Parted.{other_row}
@@ -21,7 +22,7 @@ use Rattle.board_model.proofs.Sound.{Keeps, kept_live, others_live}
 use Rattle.board_model.proofs.Tables.{row_released}
 
 -- a change of an environment that leaves its life
-pub keep_booked : (f : Environment → Environment) → Keeps f → (pages : List PageRow) (binds : List (Option Binding)) (r : Environments) (e : ℕ) → AreBooked pages binds r → AreBooked pages binds (with_list r (changed f r.list e))
+pub keep_booked : (f : Environment → Environment) → Keeps f → (pages : List PageRow) (binds : List (Option Binding)) (r : Environments) (e : ℕ) → BooksAgree pages binds r → BooksAgree pages binds (with_list r (with_record f r.list e))
 keep_booked f keeps pages binds r e are = record {
   striped = are.striped ∙ ap (λ n. (n + r.spare) * stripe_rows) (sym (length-changed f r.list e));
   owners = λ page i is. kept_live f keeps r.list e i (are.owners page i is);
@@ -34,10 +35,10 @@ pub by_page : (P : PageRow → Type 0) (pages : List PageRow) (page p : ℕ) (ro
 by_page P pages page p row within here others = search (rules, cases_eq, get_or-set_same, other_row)
 
 -- a page becomes an environment's that lives, or stays so with other words
-pub owned_booked : (pages : List PageRow) (binds : List (Option Binding)) (r : Environments) (page e : ℕ) (words : Capabilities) → page < length pages → IsLive r.list e → AreBooked pages binds r → AreBooked (slice_set pages page (Owned e words)) binds r
+pub owned_booked : (pages : List PageRow) (binds : List (Option Binding)) (r : Environments) (page e : ℕ) (words : Capabilities) → page < length pages → IsLiving r.list e → BooksAgree pages binds r → BooksAgree (slice_set pages page (Owned e words)) binds r
 owned_booked pages binds r page e words within lives are = record {
   striped = are.striped;
-  owners = λ p i. by_page (λ row. owner_of row ≡ Some i → IsLive r.list i) pages page p (Owned e words) within (λ same is. let its : e ≡ i = cc in subst (IsLive r.list) its lives) (λ other. are.owners p i);
+  owners = λ p i. by_page (λ row. owner_of row ≡ Some i → IsLiving r.list i) pages page p (Owned e words) within (λ same is. let its : e ≡ i = cc in subst (IsLiving r.list) its lives) (λ other. are.owners p i);
   binders = are.binders;
   bound = λ i row x is. by_page IsOwned pages page x.page (Owned e words) within (λ same. tt) (λ other. are.bound i row x is);
 }
@@ -46,25 +47,25 @@ left_binding : (broken : ℕ → Binding → Bool) (binds : List (Option Binding
 left_binding broken binds e row x is = left_in_row (broken e) (stripes binds e row) x (sym (swept_row broken binds e row) ∙ is)
 
 -- bindings are broken
-pub sweep_booked : (broken : ℕ → Binding → Bool) (pages : List PageRow) (binds : List (Option Binding)) (r : Environments) → AreBooked pages binds r → AreBooked pages (swept broken binds) r
+pub sweep_booked : (broken : ℕ → Binding → Bool) (pages : List PageRow) (binds : List (Option Binding)) (r : Environments) → BooksAgree pages binds r → BooksAgree pages (swept broken binds) r
 sweep_booked broken pages binds r are = search (rules, length-swept, left_binding)
 
 -- a page is freed, and all bindings of it are broken
-pub free_booked : (pages : List PageRow) (binds : List (Option Binding)) (r : Environments) (page : ℕ) → page < length pages → AreBooked pages binds r → AreBooked (slice_set pages page Free) (swept (breaks_page page None) binds) r
+pub free_booked : (pages : List PageRow) (binds : List (Option Binding)) (r : Environments) (page : ℕ) → page < length pages → BooksAgree pages binds r → BooksAgree (slice_set pages page Free) (swept (leads_to_page page None) binds) r
 free_booked pages binds r page within are = record {
-  striped = length-swept (breaks_page page None) binds ∙ are.striped;
-  owners = λ p i. by_page (λ row. owner_of row ≡ Some i → IsLive r.list i) pages page p Free within (λ same is. cc) (λ other. are.owners p i);
-  binders = λ i row x is. are.binders i row x (left_binding (breaks_page page None) binds i row x is).0;
+  striped = length-swept (leads_to_page page None) binds ∙ are.striped;
+  owners = λ p i. by_page (λ row. owner_of row ≡ Some i → IsLiving r.list i) pages page p Free within (λ same is. cc) (λ other. are.owners p i);
+  binders = λ i row x is. are.binders i row x (left_binding (leads_to_page page None) binds i row x is).0;
   bound = λ i row x is.
-      let before = left_binding (breaks_page page None) binds i row x is in
+      let before = left_binding (leads_to_page page None) binds i row x is in
       by_page IsOwned pages page x.page Free within (λ same. of_page i x same before.1) (λ other. are.bound i row x before.0);
 }
   where
-    of_page : (i : ℕ) (x : Binding) → x.page ≡ page → breaks_page page None i x ≡ false → ⊥
-    of_page i x same spared = let broken : breaks_page page None i x ≡ true = rw (eq-eqb x.page page same) refl in cc
+    of_page : (i : ℕ) (x : Binding) → x.page ≡ page → leads_to_page page None i x ≡ false → ⊥
+    of_page i x same spared = let broken : leads_to_page page None i x ≡ true = rw (eq-eqb x.page page same) refl in cc
 
 -- an environment dies
-module _ (cause : Cause) (pages : List PageRow) (binds : List (Option Binding)) (r : Environments) (e : ℕ) (are : AreBooked pages binds r) where
+module _ (cause : Cause) (pages : List PageRow) (binds : List (Option Binding)) (r : Environments) (e : ℕ) (are : BooksAgree pages binds r) where
   -- what is left has an owner that isn't gone
   owner_left : (row : PageRow) (i : ℕ) → owner_of (released e row) ≡ Some i → (owner_of row ≡ Some i) × (i ≢ e)
   owner_left row i is = search (rules, eqb-false)
@@ -76,7 +77,7 @@ module _ (cause : Cause) (pages : List PageRow) (binds : List (Option Binding)) 
   still_owned : (row : PageRow) → belongs_to e row ≡ false → IsOwned row → IsOwned (released e row)
   still_owned row stays owned = rw stays owned
 
-  pub death_booked : AreBooked (map (released e) pages) (swept (goes_with (row_in pages) e) binds) (with_list r (changed (dead_frame cause) r.list e))
+  pub death_booked : BooksAgree (map (released e) pages) (swept (goes_with (row_in pages) e) binds) (with_list r (with_record (dead_frame cause) r.list e))
   death_booked = record {
     striped = length-swept (goes_with (row_in pages) e) binds ∙ are.striped ∙ ap (λ n. (n + r.spare) * stripe_rows) (sym (length-changed (dead_frame cause) r.list e));
     owners = λ p i is.

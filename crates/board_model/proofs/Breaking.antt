@@ -8,14 +8,14 @@ use Rattle.page_book.specs.declared.row.PageRow.TheVariants.{Free}
 use Rattle.page_book.specs.Row.{is_owned_by}
 use Rattle.page_book.specs.Rows.{row_in}
 use Rattle.page_book.proofs.Owners.{anothers}
-use Rattle.bind_book.specs.Stripe.{breaks_page, is_bound, without}
+use Rattle.bind_book.specs.Stripe.{leads_to_page, is_bound, without}
 use Rattle.bind_book.proofs.Swept.{swept_row}
 use Rattle.filter_tree.specs.Claims.{is_into}
 use Rattle.page_laws.specs.Sight.{Sees}
 use Rattle.page_laws.proofs.Sights.{freer_loses, others_lose}
 use Rattle.page_laws.proofs.Stripes.{stripes_end}
 use Rattle.page_laws.proofs.Tables.{set_owns}
-use Rattle.world_model.specs.Book.{broken}
+use Rattle.world_model.specs.Book.{without_bindings_of}
 use Rattle.world_model.specs.Holding.{lost}
 use Rattle.world_model.specs.Item.{absorb_all}
 use Rattle.world_model.specs.PageCalls as calls
@@ -24,7 +24,7 @@ use Rattle.world_model.specs.Table.{set_at}
 use Rattle.board_model.specs.declared.roster.Environment.{Environment}
 use Rattle.board_model.specs.Shown.{Shown}
 use Rattle.board_model.specs.Showing.{book_of, solo_of, solo_or_absent, solo_seen}
-use Rattle.board_model.specs.Sound.{IsSound}
+use Rattle.board_model.specs.Sound.{IsSoundBoard}
 use Rattle.board_model.specs.Doing as doing
 use Rattle.board_model.proofs.Claimed.{claims_without, no_ring, rings_dropped}
 use Rattle.board_model.proofs.Losing.{dropped, lost_keeps, nothing_lost, rings_but, sees_by}
@@ -39,35 +39,35 @@ module _ (b : Shown) (page : ℕ) (row : PageRow) (but : Option ℕ) (within : p
   now_rows : (p : ℕ) → row_in now.pages p ≡ set_at page row (row_in b.pages) p
   now_rows = table_set b.pages page row Free within
 
-  now_stripe : (i k : ℕ) → stripe_of now i k ≡ without (breaks_page page but i) (stripe_of b i k)
-  now_stripe i k = swept_row (breaks_page page but) b.binds i k
+  now_stripe : (i k : ℕ) → stripe_of now i k ≡ without (leads_to_page page but i) (stripe_of b i k)
+  now_stripe i k = swept_row (leads_to_page page but) b.binds i k
 
-  pub broken_book : book_of now ≡ broken page but (record (book_of b) { pages = set_at page row (row_in b.pages) })
+  pub broken_book : book_of now ≡ without_bindings_of page but (record (book_of b) { pages = set_at page row (row_in b.pages) })
   broken_book = search (rules, length-set, now_rows, now_stripe)
 
   -- whoever had bound the page loses it, but for its owner
-  pub broken_else : IsSound b → (e : ℕ) → is_owned_by e (row_in b.pages page) ≡ true → (i : ℕ) → i ≢ e → but ≢ Some i → is_owned_by i row ≡ false → solo_of now i ≡ absorb_all (solo_of b i) (calls.breaks (book_of b) page i)
-  broken_else sound e owns i ne other after = dropped i b now (calls.breaks (book_of b) page i) (record {
+  pub broken_else : IsSoundBoard b → (e : ℕ) → is_owned_by e (row_in b.pages page) ≡ true → (i : ℕ) → i ≢ e → but ≢ Some i → is_owned_by i row ≡ false → solo_of now i ≡ absorb_all (solo_of b i) (calls.lost_bindings (book_of b) page i)
+  broken_else sound e owns i ne other after = dropped i b now (calls.lost_bindings (book_of b) page i) (record {
     record_is = refl;
     rings = refl;
     cpu = λ kept. refl;
     pages = refl;
     sees = λ s lives seen.
-        sees_by i (set_at page row (row_in b.pages)) (row_in now.pages) (λ n. without (breaks_page page but i) (stripe_of b i n)) (stripe_of now i) (page_at b.frames) (page_at b.frames)
-        (absorb_all s (calls.breaks (book_of b) page i)) now_rows (now_stripe i) (λ p. refl)
+        sees_by i (set_at page row (row_in b.pages)) (row_in now.pages) (λ n. without (leads_to_page page but i) (stripe_of b i n)) (stripe_of now i) (page_at b.frames) (page_at b.frames)
+        (absorb_all s (calls.lost_bindings (book_of b) page i)) now_rows (now_stripe i) (λ p. refl)
         (others_lose i page but row (row_in b.pages) (stripe_of b i) (page_at b.frames) s seen lives other (anothers e i (row_in b.pages page) ne owns) after (stripes_end b.binds i));
     keeps = λ s same. lost_keeps s (is_bound page (stripe_of b i)) page (ap (rings_but page) same ∙ no_ring b.claims b.pages i page sound.claims.owned (anothers e i (row_in b.pages page) ne owns) ∙ sym same);
     none = λ none. record {
-      binds = λ n. now_stripe i n ∙ ap (without (breaks_page page but i)) (none.binds n);
+      binds = λ n. now_stripe i n ∙ ap (without (leads_to_page page but i)) (none.binds n);
       owns = λ p. ap (is_owned_by i) (now_rows p) ∙ set_owns i page row (row_in b.pages) after none.owns p;
     };
     nothing = λ none. nothing_lost (stripe_of b i) none.binds page;
   }) sound.books
 
   -- what one sees by these books
-  pub broken_sees : (e : ℕ) (s : Solo) → Sees e (set_at page row (row_in b.pages)) (λ n. without (breaks_page page but e) (stripe_of b e n)) (page_at b.frames) s → Sees e (row_in now.pages) (stripe_of now e) (page_at b.frames) s
+  pub broken_sees : (e : ℕ) (s : Solo) → Sees e (set_at page row (row_in b.pages)) (λ n. without (leads_to_page page but e) (stripe_of b e n)) (page_at b.frames) s → Sees e (row_in now.pages) (stripe_of now e) (page_at b.frames) s
   broken_sees e s seen =
-      sees_by e (set_at page row (row_in b.pages)) (row_in now.pages) (λ n. without (breaks_page page but e) (stripe_of b e n)) (stripe_of now e) (page_at b.frames) (page_at b.frames) s now_rows (now_stripe e) (λ p. refl) seen
+      sees_by e (set_at page row (row_in b.pages)) (row_in now.pages) (λ n. without (leads_to_page page but e) (stripe_of b e n)) (stripe_of now e) (page_at b.frames) (page_at b.frames) s now_rows (now_stripe e) (λ p. refl) seen
 
 -- The page is nobody's, and no claim puts packets there.
 module _ (b : Shown) (page : ℕ) (within : page < length b.pages) where
@@ -77,7 +77,7 @@ module _ (b : Shown) (page : ℕ) (within : page < length b.pages) where
   pub freed_book : book_of freed ≡ calls.freed page (book_of b)
   freed_book = λ k. record (broken_book b page Free None within k) { claims = claims_without (is_into page) b.claims k }
 
-  pub freed_else : IsSound b → (e : ℕ) → is_owned_by e (row_in b.pages page) ≡ true → (i : ℕ) → i ≢ e → solo_of freed i ≡ absorb_all (solo_of b i) (calls.breaks (book_of b) page i)
+  pub freed_else : IsSoundBoard b → (e : ℕ) → is_owned_by e (row_in b.pages page) ≡ true → (i : ℕ) → i ≢ e → solo_of freed i ≡ absorb_all (solo_of b i) (calls.lost_bindings (book_of b) page i)
   freed_else sound e owns i ne =
       like_solo i freed (doing.with_broken b page Free None) (search (rules, (rings_dropped b.claims page i ∙ no_ring b.claims b.pages i page sound.claims.owned (anothers e i (row_in b.pages page) ne owns))))
       ∙ broken_else b page Free None within sound e owns i ne (λ same. let both : None ≡ Some i = same in cc) refl

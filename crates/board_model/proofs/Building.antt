@@ -2,7 +2,7 @@
 use Rattle.std.proofs.Common.{subst, ◌≡◌, ◌≢◌, ◌≤◌, ◌<◌, ℕ, zero, suc, ◌+◌, ◌-◌, ◌*◌, List, [], ◌∷◌, ◌++◌, length, map, replicate, Bool, true, false, Option, Some, None, IfSome, inl, inr, refl, sym, ◌∙◌, ap, arith, rules}
 use Rattle.std.specs.Prelude.{◌==◌, ◌&&◌, filter, slice_get, All}
 use Rattle.std.specs.List.{list_all}
-use Rattle.filter_tree.specs.ClaimBook.{RowValue, claim_in, is_of_env}
+use Rattle.filter_tree.specs.ClaimBook.{RowValue, is_of_env}
 use Rattle.std.specs.Option.{option_map}
 use Rattle.std.proofs.lemmas.List.{length-append, length-map, length-replicate}
 use Rattle.std.proofs.lemmas.Bool.{ne_eqb, eqb-true, eqb-false}
@@ -17,30 +17,30 @@ use Rattle.page_book.specs.Row.{is_owned_by, owner_of}
 use Rattle.page_book.specs.Rows.{free_below, free_pages, row_in}
 use Rattle.page_book.proofs.Owners.{owner_is}
 use Rattle.bind_book.specs.declared.binding.Binding.{Binding}
-use Rattle.bind_book.specs.Stripe.{is_bound, stripe_rows, stripes}
+use Rattle.bind_book.specs.Stripe.{is_bound, stripes}
 use Rattle.bind_book.proofs.Rows.{empty_row}
 use Rattle.env_frames.specs.declared.mapping.Mapping.{Mapping}
 use Rattle.env_frames.specs.Context.{no_handlers}
 use Rattle.slot_vector.specs.Slices as vector
-use Rattle.aegis_limits.specs.Limits.{least_quantum, most_slots, most_environments, most_pages}
+use Rattle.aegis_limits.specs.Limits.{least_quantum, most_slots, most_environments, most_pages, environment_numbers, stripe_rows}
 use Rattle.boot_image.specs.ImageValue.{ProgramValue, guaranteed_mappings}
 use Rattle.world_model.specs.declared.life.Life.TheVariants.{Live}
 use Rattle.world_model.specs.Book.{is_runner, own_hold}
-use Rattle.run_model.specs.Boot.{boot_slot, bare_world, added, kept_of, mappings_over, own_rows, record_items}
+use Rattle.run_model.specs.Boot.{boot_slot, bare_world, with_program, kept_of, mappings_over, own_rows, record_items}
 use Rattle.world_model.specs.Item.{absorb_all, boot_cpu}
 use Rattle.world_model.specs.World.{only}
 use Rattle.page_laws.proofs.Sights.{nothing_of}
 use Rattle.page_laws.proofs.Stripes.{bound_nowhere}
 use Rattle.board_model.specs.declared.roster.Environment.{Environment}
-use Rattle.board_model.specs.Lines.{free_lines, line_at}
+use Rattle.board_model.specs.Lines.{free_lines}
 use Rattle.board_model.specs.Rings.{ring_in, rings_of}
-use Rattle.board_model.specs.Shown.{Shown, Environments, mappings_of, no_output, shown}
-use Rattle.board_model.specs.Showing.{world_of, solo_of, solo_or_absent, pages_seen, page_seen}
-use Rattle.board_model.specs.Sound.{AreBooked, AreGuaranteed, AreWired, IsSound, IsManned, IsParted, IsLive, IsUndead, has_own_page}
+use Rattle.board_model.specs.Shown.{Shown, Environments, mappings_of, no_output}
+use Rattle.board_model.specs.Showing.{book_of, world_of, solo_of, pages_seen, page_seen}
+use Rattle.board_model.specs.Sound.{BooksAgree, AreGuaranteed, LinesAgree, IsSoundBoard, SlotsAgree, PagesAgree, IsLiving, IsUndead, has_own_page}
 use Rattle.board_model.specs.Loading.{AreGiven, AreLeft}
 use Rattle.revocation_book.specs.declared.revocation.Pending.{Pending}
 use Rattle.revocation_book.specs.Backups.{is_loaded}
-use Rattle.revocation_book.specs.RevocationBook.{backups_at, most_numbers as most_asked, nothing_asked, pending_at}
+use Rattle.revocation_book.specs.RevocationBook.{nothing_asked}
 use Rattle.board_model.proofs.Asked.{given_asked}
 use Rattle.board_model.proofs.Claiming.{given_claimed}
 use Rattle.board_model.proofs.Giving.{none_guaranteed}
@@ -60,18 +60,18 @@ own_holds envs (None ∷ owners) all zero = tt
 own_holds envs (Some e ∷ owners) all zero = (all 0 None (omega arith), all 0 None (omega arith))
 own_holds envs (o ∷ owners) all (suc k) = own_holds envs owners (λ i d within. all (suc i) d (omega arith)) k
 
-pub built_manned : (quantum envs : ℕ) (owners : List (Option ℕ)) → least_quantum ≤ quantum → length owners ≤ most_slots → All (λ owner. IfSome owner (λ e. e < envs)) owners → IsManned (vector.first_slices quantum owners) (record { list = []; spare = envs })
+pub built_manned : (quantum envs : ℕ) (owners : List (Option ℕ)) → least_quantum ≤ quantum → length owners ≤ most_slots → All (λ owner. IfSome owner (λ e. e < envs)) owners → SlotsAgree (vector.first_slices quantum owners) (record { list = []; spare = envs })
 built_manned quantum envs owners long few all = record {
   quantum = omega arith;
   ticks = tt;
   runner = tt;
   holds = λ k. if_both (vector.hold_at (map (option_map own_hold) owners) k) (λ h is both. ((omega (arith, both.0), tt), (omega (arith, both.1), tt))) (own_holds envs owners all k);
   count = omega (arith, length-map owners (option_map own_hold));
-  numbered = length-replicate {A = ℕ} vector.most_numbers 0;
-  owes = λ e. omega (arith, all_alike {A = ℕ} 0 vector.most_numbers e);
+  numbered = length-replicate {A = ℕ} environment_numbers 0;
+  owes = λ e. omega (arith, all_alike {A = ℕ} 0 environment_numbers e);
 }
 
-pub built_parted : (pages : ℕ) → pages ≤ most_pages → IsParted (zeroed pages) (replicate pages Free) []
+pub built_parted : (pages : ℕ) → pages ≤ most_pages → PagesAgree (zeroed pages) (replicate pages Free) []
 built_parted pages few = search (rules, length-replicate, none_guaranteed)
 
 free_among : (rows : ℕ → PageRow) (count : ℕ) → ((page : ℕ) → rows page ≡ Free) → free_below rows count ≡ count
@@ -82,7 +82,7 @@ free_among rows (suc count) free = rw (free count, free_among rows count free) r
 pub built_free : (pages : ℕ) → free_pages (replicate pages Free) ≡ pages
 built_free pages = free_among (row_in (replicate pages Free)) (length (replicate pages Free)) (all_alike Free pages) ∙ length-replicate pages Free
 
-pub built_booked : (pages envs : ℕ) → AreBooked (replicate pages Free) (replicate (envs * stripe_rows) None) (record { list = []; spare = envs })
+pub built_booked : (pages envs : ℕ) → BooksAgree (replicate pages Free) (replicate (envs * stripe_rows) None) (record { list = []; spare = envs })
 built_booked pages envs = search (rules, length-replicate, all_alike, empty_row)
 
 own_slots : (owners : List (Option ℕ)) (k : ℕ) → vector.hold_at (map (option_map own_hold) owners) k ≡ boot_slot owners k
@@ -98,32 +98,41 @@ no_pending = None
 abbrev no_backups : List ℕ
 no_backups = []
 
--- what a board without programs shows
-pub built_world : (pages envs quantum : ℕ) (owners : List (Option ℕ)) (b : Shown) → b.pages ≡ replicate pages Free → b.binds ≡ replicate (envs * stripe_rows) None → b.lines ≡ free_lines → b.claims.rows ≡ [] → b.claims.next ≡ 0 → b.revocations ≡ nothing_asked → b.slots ≡ vector.first_slices quantum owners → b.roster.list ≡ [] → b.time ≡ 0 → b.ledger.rows ≡ own_rows owners (length owners) → world_of b ≡ bare_world pages quantum owners
-built_world pages envs quantum owners b free unbound untaken unclaimed first unasked slots none start rows =
-    let count : length b.slots.slots ≡ length owners = ap (λ v. length v.slots) slots ∙ length-map owners (option_map own_hold) in
-    let page_count : length b.pages ≡ pages = ap length free ∙ length-replicate pages Free in
+-- A board without programs.
+abbrev pub built : ℕ → ℕ → ℕ → List (Option ℕ) → Cpu → Ledger → Shown
+built pages quantum envs owners cpu ledger = record {
+  frames = zeroed pages;
+  pages = replicate pages Free;
+  binds = replicate (envs * stripe_rows) None;
+  lines = free_lines;
+  claims = record { rows = []; next = 0; envs = envs };
+  revocations = nothing_asked;
+  slots = vector.first_slices quantum owners;
+  cpu = cpu;
+  roster = record { list = []; spare = envs };
+  time = 0;
+  ledger = ledger;
+}
+
+-- what it shows
+pub built_world : (pages quantum envs : ℕ) (owners : List (Option ℕ)) (cpu : Cpu) (ledger : Ledger)
+    → ledger.rows ≡ own_rows owners (length owners) → world_of (built pages quantum envs owners cpu ledger) ≡ bare_world pages quantum owners
+built_world pages quantum envs owners cpu ledger rows =
+    let b = built pages quantum envs owners cpu ledger in
     worlds (world_of b) (bare_world pages quantum owners)
-    (λ i. record {
-      slot_count = count i;
-      slots = λ k. (ap (λ v. vector.hold_at v.slots k) slots ∙ own_slots owners k) i;
-      quantum = (slots i).quantum;
-      cursor = (slots i).cursor;
-      runner = (slots i).runner;
-      excess = λ e. (ap (λ v. vector.excess_of v.excess e) slots ∙ all_alike 0 vector.most_numbers e) i;
-      page_count = page_count i;
-      pages = λ page. (ap (λ rows. row_in rows page) free ∙ all_alike Free pages page) i;
-      kept = λ e. ap (λ list. mappings_of list e) none i;
-      binds = λ e row. (ap (λ rows. stripes rows e row) unbound ∙ empty_row (envs * stripe_rows) e row) i;
-      lines = λ line. (ap (λ taken. line_at taken line) untaken ∙ all_alike None most_lines line) i;
-      claims = (ap (map claim_in) unclaimed) i;
-      next_claim = first i;
-      pending = λ e. (ap (λ book. pending_at book e) unasked ∙ all_alike no_pending most_asked e) i;
-      backups = λ e. (ap (λ book. backups_at book e) unasked ∙ all_alike no_backups most_asked e) i;
-      time = start i;
+    (λ i. record (book_of b) {
+      slot_count = length-map owners (option_map own_hold) i;
+      slots = λ k. own_slots owners k i;
+      excess = λ e. all_alike 0 environment_numbers e i;
+      page_count = length-replicate pages Free i;
+      pages = λ page. all_alike Free pages page i;
+      binds = λ e row. empty_row (envs * stripe_rows) e row i;
+      lines = λ line. all_alike None most_lines line i;
+      pending = λ e. all_alike no_pending environment_numbers e i;
+      backups = λ e. all_alike no_backups environment_numbers e i;
     })
-    (ap length none)
-    (λ e. ap (λ list. solo_or_absent b e (slice_get list e)) none)
+    refl
+    (λ e. refl)
     rows
 
 -- One environment more.
@@ -131,22 +140,21 @@ module _ (r : Environments) (x : Environment) (lives : x.life ≡ Live) (room : 
   one_longer : length (r.list ++ x ∷ []) ≡ length r.list + 1
   one_longer = length-append r.list (x ∷ [])
 
-  still_live : (i : ℕ) → IsLive r.list i → IsLive (r.list ++ x ∷ []) i
+  still_live : (i : ℕ) → IsLiving r.list i → IsLiving (r.list ++ x ∷ []) i
   still_live i live = (omega (arith, live.0, one_longer), rw (other_get r.list x i (λ same. omega (arith, same, live.0))) live.1)
 
   still_undead : (i : ℕ) → IsUndead r i → IsUndead (record { list = r.list ++ x ∷ []; spare = r.spare - 1 }) i
   still_undead i undead = grind (arith, common_steps, eqb-true, last_get, other_get, eqb-false, one_longer)
 
-  pub added_manned : (v : vector.Slices) → IsManned v r → IsManned v (record { list = r.list ++ x ∷ []; spare = r.spare - 1 })
+  pub added_manned : (v : vector.Slices) → SlotsAgree v r → SlotsAgree v (record { list = r.list ++ x ∷ []; spare = r.spare - 1 })
   added_manned v manned = search (rules, if_both, still_live, still_undead)
 
-  pub added_wired : (lines : List (Option ℕ)) → AreWired lines r.list → AreWired lines (r.list ++ x ∷ [])
+  pub added_wired : (lines : List (Option ℕ)) → LinesAgree lines r.list → LinesAgree lines (r.list ++ x ∷ [])
   added_wired lines wired = search (rules, if_both, still_live)
 
 -- A board without programs is sound.
-pub built_sound : (pages quantum envs : ℕ) (owners : List (Option ℕ)) (cpu : Cpu) (ledger : Ledger) → pages ≤ most_pages → least_quantum ≤ quantum → length owners ≤ most_slots → envs ≤ most_environments
-    → All (λ owner. IfSome owner (λ e. e < envs)) owners
-    → IsSound (shown (zeroed pages) (replicate pages Free) (replicate (envs * stripe_rows) None) free_lines (record { rows = []; next = 0; envs = envs }) nothing_asked (vector.first_slices quantum owners) cpu (record { list = []; spare = envs }) 0 ledger)
+pub built_sound : (pages quantum envs : ℕ) (owners : List (Option ℕ)) (cpu : Cpu) (ledger : Ledger) → pages ≤ most_pages → least_quantum ≤ quantum
+    → length owners ≤ most_slots → envs ≤ most_environments → All (λ owner. IfSome owner (λ e. e < envs)) owners → IsSoundBoard (built pages quantum envs owners cpu ledger)
 built_sound pages quantum envs owners cpu ledger few long slots most all = record {
   few = omega arith;
   book = built_manned quantum envs owners long slots all;
@@ -155,10 +163,10 @@ built_sound pages quantum envs owners cpu ledger few long slots most all = recor
   lines = built_wired;
   claims = record { owned = refl; count = omega arith };
   revocations = record {
-    pending = length-replicate most_asked no_pending;
-    backups = length-replicate most_asked no_backups;
-    some = λ e. subst (λ pending. IfSome pending (λ p. 0 < p.outstanding)) (sym (all_alike no_pending most_asked e)) tt;
-    owned = λ e page loaded. let none : true ≡ false = sym loaded ∙ ap (λ backups. is_loaded backups page) (all_alike no_backups most_asked e) in cc;
+    pending = length-replicate environment_numbers no_pending;
+    backups = length-replicate environment_numbers no_backups;
+    some = λ e. subst (λ pending. IfSome pending (λ p. 0 < p.outstanding)) (sym (all_alike no_pending environment_numbers e)) tt;
+    owned = λ e page loaded. let none : true ≡ false = sym loaded ∙ ap (λ backups. is_loaded backups page) (all_alike no_backups environment_numbers e) in cc;
   };
 }
 
@@ -174,7 +182,7 @@ module _ (r : Environments) (x : Environment) (count : ℕ) (pages given : List 
   still_guaranteed : (i : ℕ) (ms : List Mapping) → AreGuaranteed pages i ms → AreGuaranteed given i ms
   still_guaranteed i ms are = search (rules, taken_row, becomes)
 
-  pub added_parted : IsParted frames pages r.list → AreGuaranteed given (length r.list) x.env.mappings → IsParted new given (r.list ++ x ∷ [])
+  pub added_parted : PagesAgree frames pages r.list → AreGuaranteed given (length r.list) x.env.mappings → PagesAgree new given (r.list ++ x ∷ [])
   added_parted parted its = record {
     same = gives.left.size ∙ parted.same ∙ sym gives.size;
     most = omega (arith, gives.left.size, parted.most);
@@ -188,7 +196,7 @@ module _ (r : Environments) (x : Environment) (count : ℕ) (pages given : List 
           rw (same, last) its
       by_last i false is = rw (other_mappings r.list x i (eqb-false i (length r.list) is)) (still_guaranteed i (mappings_of r.list i) (parted.mapped i))
 
-  pub added_booked : AreBooked pages binds r → x.life ≡ Live → 0 < r.spare → AreBooked given binds (record { list = r.list ++ x ∷ []; spare = r.spare - 1 })
+  pub added_booked : BooksAgree pages binds r → x.life ≡ Live → 0 < r.spare → BooksAgree given binds (record { list = r.list ++ x ∷ []; spare = r.spare - 1 })
   added_booked booked lives room =
       let count_is : length r.list + r.spare ≡ length (r.list ++ x ∷ []) + (r.spare - 1) = omega (arith, one_longer r x lives room, room) in
       record {
@@ -200,7 +208,7 @@ module _ (r : Environments) (x : Environment) (count : ℕ) (pages given : List 
             rw (taken_row (length r.list) (row_in pages y.page) (row_in given y.page) (becomes y.page) (owned_taken (row_in pages y.page) owned)) owned;
       }
     where
-      by_row : (page e : ℕ) → owner_of (row_in given page) ≡ Some e → its_row page → IsLive (r.list ++ x ∷ []) e
+      by_row : (page e : ℕ) → owner_of (row_in given page) ≡ Some e → its_row page → IsLiving (r.list ++ x ∷ []) e
       by_row page e is (inl stays) = still_live r x lives room e (booked.owners page e (ap owner_of (sym stays) ∙ is))
       by_row page e is (inr new) =
           let its : Some (length r.list) ≡ Some e = ap owner_of (sym new.1) ∙ is in
@@ -220,8 +228,8 @@ left_pages pages frames new e (m ∷ ms) left its =
 abbrev pub with_one : Shown → Environment → List (List ℕ) → List PageRow → Shown
 with_one b x frames pages = record b { frames = frames; pages = pages; roster = record { list = b.roster.list ++ x ∷ []; spare = b.roster.spare - 1 } }
 
-pub added_sound : (b : Shown) (x : Environment) (count : ℕ) (frames : List (List ℕ)) (pages : List PageRow) → IsSound b → AreGiven (length b.roster.list) count b.pages pages b.frames frames → AreGuaranteed pages (length b.roster.list) x.env.mappings → x.life ≡ Live → 0 < b.roster.spare
-    → IsSound (with_one b x frames pages)
+pub added_sound : (b : Shown) (x : Environment) (count : ℕ) (frames : List (List ℕ)) (pages : List PageRow) → IsSoundBoard b → AreGiven (length b.roster.list) count b.pages pages b.frames frames → AreGuaranteed pages (length b.roster.list) x.env.mappings → x.life ≡ Live → 0 < b.roster.spare
+    → IsSoundBoard (with_one b x frames pages)
 added_sound b x count frames pages sound gives its lives room = record {
   few = omega (arith, sound.few, room, length-append b.roster.list (x ∷ []));
   book = added_manned b.roster x lives room b.slots sound.book;
@@ -232,7 +240,7 @@ added_sound b x count frames pages sound gives its lives room = record {
   revocations = given_asked b.revocations b.pages pages (λ p taken. taken_row (length b.roster.list) (row_in b.pages p) (row_in pages p) (given_row (length b.roster.list) count b.pages pages b.frames frames gives p) taken) sound.revocations;
 }
 
-module _ (b : Shown) (x : Environment) (frames : List (List ℕ)) (pages : List PageRow) (p : ProgramValue) (sound : IsSound b) (gives : AreGiven (length b.roster.list) (guaranteed_mappings p) b.pages pages b.frames frames)
+module _ (b : Shown) (x : Environment) (frames : List (List ℕ)) (pages : List PageRow) (p : ProgramValue) (sound : IsSoundBoard b) (gives : AreGiven (length b.roster.list) (guaranteed_mappings p) b.pages pages b.frames frames)
     (name : x.name ≡ p.name) (lives : x.life ≡ Live) (cpu : x.env.cpu ≡ boot_cpu p.body.entry) (handlers : x.env.handlers ≡ no_handlers) (mask : x.env.mask ≡ p.accept) (output : x.output ≡ no_output) (kept : pages_seen frames x.env.mappings ≡ kept_of p)
     (maps : x.env.mappings ≡ mappings_over (length b.roster.list) (length b.pages) (row_in b.pages) (kept_of p)) where
   unrun : is_runner (length b.roster.list) b.slots.runner ≡ false
@@ -293,5 +301,5 @@ module _ (b : Shown) (x : Environment) (frames : List (List ℕ)) (pages : List 
       like_solo i (with_one b x frames pages) b (search (rules, (other_get b.roster.list x i ne), (left_pages b.pages b.frames frames i (mappings_of b.roster.list i) gives.left (sound.memory.mapped i).its), (seen_alike i)))
       ∙ ap (absorb_all (solo_of b i)) (sym (only_else (length b.roster.list) i (record_items (length b.roster.list) (Some p)) ne))
 
-  pub added_world : world_of (with_one b x frames pages) ≡ added (world_of b) p
+  pub added_world : world_of (with_one b x frames pages) ≡ with_program (world_of b) p
   added_world = search (rules, more_mappings, length-append, by_env, added_here, added_others)

@@ -2,7 +2,7 @@
 use Rattle.std.proofs.Common.{◌≡◌, ◌≢◌, ℕ, List, [], true, Option, Some, None, Result, Ok, sym, ◌∙◌, ap, rules}
 use Rattle.std.specs.Prelude.{is_some, map}
 use Rattle.filter_core.specs.declared.atom.Atom.{Atom}
-use Rattle.filter_tree.specs.ClaimBook.{ClaimBook, are_numbered, claims_in}
+use Rattle.filter_tree.specs.ClaimBook.{ClaimBook, claims_in}
 use Rattle.filter_tree.specs.Claims.{book_unless, claim_refusal, claimed, downloaded, with_claim}
 use Rattle.filter_tree.specs.Laws.{FirstIsNumbered}
 use Rattle.world_model.specs.declared.code.Code.{Code}
@@ -11,7 +11,7 @@ use Rattle.world_model.specs.declared.call.Deed.{Deed}
 use Rattle.world_model.specs.declared.call.Deed.TheVariants.{Claims, Unclaims, Downloads}
 use Rattle.world_model.specs.declared.verdict.Verdict.TheVariants.{Grant}
 use Rattle.world_model.specs.ClaimCalls.{atoms_or_none, filter_at}
-use Rattle.world_model.specs.Downloads.{MayDownload, handler_at, handler_of, handler_or_none}
+use Rattle.world_model.specs.Downloads.{MayDownload, handler_at, handler_of_words, handler_or_none}
 use Rattle.world_model.specs.Item.{own_part}
 use Rattle.world_model.specs.May.{MayClaim}
 use Rattle.world_model.specs.Page.{Mapped}
@@ -23,14 +23,14 @@ use Rattle.board_model.specs.declared.roster.Environment.{Environment}
 use Rattle.board_model.specs.Rings.{rings_of}
 use Rattle.board_model.specs.Shown.{Shown}
 use Rattle.board_model.specs.Showing.{world_of, book_of, solo_of}
-use Rattle.board_model.specs.Sound.{IsSound}
+use Rattle.board_model.specs.Sound.{HasClaimNumbers, IsSoundBoard}
 use Rattle.board_model.specs.Doing as doing
 use Rattle.board_model.proofs.Claimed.{claims_downloaded, claims_more, claims_without, rings_claimed, rings_claimed_else, rings_downloaded, rings_downloaded_else, rings_unclaimed, rings_unclaimed_else}
 use Rattle.board_model.proofs.Reading.{runner_look}
 use Rattle.board_model.proofs.Replying.{Serves, deeded, deeded_seen, changes_one}
 use Rattle.board_model.proofs.Seen.{Runs, its_look, runner_seen, runner_solo, same_solo}
 
-module _ (b : Shown) (e : ℕ) (x : Environment) (r : Runs b e x) (sound : IsSound b) where
+module _ (b : Shown) (e : ℕ) (x : Environment) (r : Runs b e x) (sound : IsSoundBoard b) where
   -- the filter that the runner names, as it is shown
   its_filter : (address atoms : ℕ) → filter_at (doing.look_of b e) address atoms ≡ filter_at (sight (solo_of b e)) address atoms
   its_filter address atoms = search (rules, its_look, runner_seen)
@@ -46,7 +46,7 @@ module _ (b : Shown) (e : ℕ) (x : Environment) (r : Runs b e x) (sound : IsSou
   pub unclaims : (claim v : ℕ) → Serves b e (deeded (Unclaims claim) v (solo_of b e)) (done (world_of b) e (Unclaims claim)) (doing.after_grant b e v (Unclaims claim))
   unclaims claim v = search (rules, claims_without, rings_unclaimed, rings_unclaimed_else, changes_claims)
 
-  pub downloads : FirstIsNumbered → are_numbered 0 b.claims.next b.claims.rows ≡ true → (claim address words v : ℕ) → MayDownload (solo_of b e) claim address words → Serves b e (deeded (Downloads claim address words) v (solo_of b e)) (done (world_of b) e (Downloads claim address words)) (doing.after_grant b e v (Downloads claim address words))
+  pub downloads : FirstIsNumbered → HasClaimNumbers b → (claim address words v : ℕ) → MayDownload (solo_of b e) claim address words → Serves b e (deeded (Downloads claim address words) v (solo_of b e)) (done (world_of b) e (Downloads claim address words)) (doing.after_grant b e v (Downloads claim address words))
   downloads law numbered claim address words v may =
       let handler = handler_or_none (handler_at (doing.look_of b e) address words) in
       let looks : doing.look_of b e ≡ sight (runner_solo b e x) = λ k v. its_look b e x r sound v k in
@@ -59,7 +59,7 @@ module _ (b : Shown) (e : ℕ) (x : Environment) (r : Runs b e x) (sound : IsSou
       (λ i ne. rings_downloaded_else law b.claims e claim i handler numbered own ne)
 
 -- the book of claims where a filter that is named is granted
-pub claimed_board : (b : Shown) (e address atoms page : ℕ) (filter : List Atom) → IsSound b → running b.slots.runner ≡ Some e → filter_at (sight (solo_of b e)) address atoms ≡ Ok filter → claim_refusal (claims_in b.claims) e filter ≡ None
+pub claimed_board : (b : Shown) (e address atoms page : ℕ) (filter : List Atom) → IsSoundBoard b → running b.slots.runner ≡ Some e → filter_at (sight (solo_of b e)) address atoms ≡ Ok filter → claim_refusal (claims_in b.claims) e filter ≡ None
     → record b { claims = claimed b.claims e filter page } ≡ doing.with_claimed b e address atoms page
 claimed_board b e address atoms page filter sound runs named none =
     let its : filter_at (doing.look_of b e) address atoms ≡ Ok filter = ap (λ (look : ℕ → Option Mapped). filter_at look address atoms) (runner_look b e sound runs) ∙ named in
@@ -71,8 +71,8 @@ pub one_filter : (named : Result (List Atom) Code) (f g : List Atom) → named �
 one_filter named f g is other = let same : Ok f ≡ Ok g = sym is ∙ other in cc
 
 -- the book of claims where a handler that is named is downloaded
-pub downloaded_board : (b : Shown) (e claim address words : ℕ) (handler : List ℕ) → IsSound b → running b.slots.runner ≡ Some e → handler_at (sight (solo_of b e)) address words ≡ Ok handler
-    → record b { claims = downloaded claim (handler_of handler) b.claims } ≡ doing.with_downloaded b e claim address words
+pub downloaded_board : (b : Shown) (e claim address words : ℕ) (handler : List ℕ) → IsSoundBoard b → running b.slots.runner ≡ Some e → handler_at (sight (solo_of b e)) address words ≡ Ok handler
+    → record b { claims = downloaded claim (handler_of_words handler) b.claims } ≡ doing.with_downloaded b e claim address words
 downloaded_board b e claim address words handler sound runs named =
     let its : handler_at (doing.look_of b e) address words ≡ Ok handler = ap (λ (look : ℕ → Option Mapped). handler_at look address words) (runner_look b e sound runs) ∙ named in
     λ k. record b { claims = downloaded claim (handler_or_none (sym its k)) b.claims }

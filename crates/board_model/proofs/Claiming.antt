@@ -14,7 +14,7 @@ use Rattle.page_book.specs.Rows.{row_in}
 use Rattle.page_book.proofs.Owners.{same_owner}
 use Rattle.world_model.specs.declared.life.Cause.{Cause}
 use Rattle.board_model.specs.declared.roster.Environment.{Environment}
-use Rattle.board_model.specs.Shown.{Environments, changed, with_list}
+use Rattle.board_model.specs.Shown.{Environments, with_record, with_list}
 use Rattle.board_model.specs.Sound.{AreClaimed, has_own_page}
 use Rattle.board_model.specs.Doing.{dead_frame}
 use Rattle.board_model.proofs.Booked.{by_page}
@@ -43,7 +43,7 @@ each_own pages rows_now stays (x ∷ rows) all =
     and_from (has_own_page rows_now x.claim) (are_own rows_now rows) (stays x.claim parts.0) (each_own pages rows_now stays rows parts.1)
 
 -- a change of an environment that keeps how many there are
-pub keep_claimed : (f : Environment → Environment) (claims : ClaimBook) (pages : List PageRow) (r : Environments) (e : ℕ) → AreClaimed claims pages r → AreClaimed claims pages (with_list r (changed f r.list e))
+pub keep_claimed : (f : Environment → Environment) (claims : ClaimBook) (pages : List PageRow) (r : Environments) (e : ℕ) → AreClaimed claims pages r → AreClaimed claims pages (with_list r (with_record f r.list e))
 keep_claimed f claims pages r e are = record { owned = are.owned; count = are.count ∙ ap (λ n. n + r.spare) (sym (length-changed f r.list e)) }
 
 -- a page that is free comes to be owned
@@ -100,7 +100,7 @@ pub released_else : (row : PageRow) (i e : ℕ) → i ≢ e → is_owned_by i ro
 released_else row i e ne own = search (rules, ne_eqb, eqb-true)
 
 -- an environment dies
-pub death_claimed : (cause : Cause) (claims : ClaimBook) (pages : List PageRow) (r : Environments) (e : ℕ) → AreClaimed claims pages r → AreClaimed (without (is_of_env e) claims) (map (released e) pages) (with_list r (changed (dead_frame cause) r.list e))
+pub death_claimed : (cause : Cause) (claims : ClaimBook) (pages : List PageRow) (r : Environments) (e : ℕ) → AreClaimed claims pages r → AreClaimed (without (is_of_env e) claims) (map (released e) pages) (with_list r (with_record (dead_frame cause) r.list e))
 death_claimed cause claims pages r e are = record {
   owned = still_own pages (map (released e) pages) (λ (x : RowValue). not (is_of_env e x.claim)) (λ x keeps own.
       ap (is_owned_by x.claim.env) (row_released e pages x.claim.page) ∙ released_else (row_in pages x.claim.page) x.claim.env e (eqb-false x.claim.env e (not-true (x.claim.env == e) keeps)) own) claims.rows are.owned;

@@ -18,7 +18,7 @@ use Rattle.world_model.specs.Solo.{Solo, Store, Kept, kept_after}
 use Rattle.board_model.specs.declared.roster.Environment.{Environment}
 use Rattle.board_model.specs.Shown.{Shown, handlers_of, mappings_in, mappings_of, registers_in}
 use Rattle.board_model.specs.Showing.{pages_seen, solo_seen}
-use Rattle.board_model.specs.Sound.{IsSound}
+use Rattle.board_model.specs.Sound.{IsSoundBoard}
 use Rattle.board_model.specs.Doing.{start_frames, start_registers}
 use Rattle.board_model.proofs.Seen.{sights_of, stripe_of}
 use Rattle.board_model.proofs.Stores.{guaranteed_sights, other_kept, own_kept}
@@ -32,7 +32,7 @@ abbrev pub left_store : Write → Store
 left_store w = record { key = Kept context_number; offset = w.address % page_size; bytes = w.bytes }
 
 -- An address within the context page.
-module _ (b : Shown) (sound : IsSound b) (e : ℕ) (w : Write) (number : w.address / page_size ≡ context_number) where
+module _ (b : Shown) (sound : IsSoundBoard b) (e : ℕ) (w : Write) (number : w.address / page_size ≡ context_number) where
   abbrev maps : List Mapping
   maps = mappings_of b.roster.list e
 
@@ -66,7 +66,7 @@ waiting b e x = record (solo_seen b e x) { life = Live; cpu = x.env.cpu }
 abbrev start_write : Cpu → Write
 start_write cpu = record { address = page_size + start_area; bytes = start_bytes cpu }
 
-module _ (b : Shown) (sound : IsSound b) (e : ℕ) (x : Environment) (at : slice_get b.roster.list e ≡ Some x) where
+module _ (b : Shown) (sound : IsSoundBoard b) (e : ℕ) (x : Environment) (at : slice_get b.roster.list e ≡ Some x) where
   same_maps : mappings_of b.roster.list e ≡ x.env.mappings
   same_maps = ap mappings_in at
 
@@ -85,7 +85,7 @@ module _ (b : Shown) (sound : IsSound b) (e : ℕ) (x : Environment) (at : slice
   start_seen = search (rules, by_handler)
 
 -- What other environments see doesn't change with the start of one.
-module _ (b : Shown) (sound : IsSound b) (e : ℕ) where
+module _ (b : Shown) (sound : IsSoundBoard b) (e : ℕ) where
   pub start_others : (i : ℕ) → i ≢ e → pages_seen (start_frames b e) (mappings_of b.roster.list i) ≡ pages_seen b.frames (mappings_of b.roster.list i)
   start_others i ne = by_test ((handlers_of b.roster.list e).start == 0)
     where

@@ -24,12 +24,12 @@ use Rattle.world_model.proofs.Stores.{kept_as_was}
 use Rattle.board_model.specs.declared.roster.Environment.{Environment}
 use Rattle.board_model.specs.Shown.{Shown, mappings_in, mappings_of}
 use Rattle.board_model.specs.Showing.{book_of, pages_seen, solo_of, solo_or_absent, solo_seen}
-use Rattle.board_model.specs.Sound.{IsOwned, IsSound}
+use Rattle.board_model.specs.Sound.{IsOwned, IsSoundBoard}
 use Rattle.board_model.proofs.Seen.{like_solo, live_record, owned_taken, row_there, stripe_of}
 use Rattle.board_model.proofs.Stepping.{seer_live}
 use Rattle.board_model.proofs.Stores.{bound_kept, put_table, sights_stay}
 
-module _ (b : Shown) (sound : IsSound b) (e page : ℕ) (own : is_owned_by e (row_in b.pages page) ≡ true) (x : Environment) (at : slice_get b.roster.list e ≡ Some x) (lives : x.life ≡ Live) (bytes : List ℕ) where
+module _ (b : Shown) (sound : IsSoundBoard b) (e page : ℕ) (own : is_owned_by e (row_in b.pages page) ≡ true) (x : Environment) (at : slice_get b.roster.list e ≡ Some x) (lives : x.life ≡ Live) (bytes : List ℕ) where
   abbrev store : Store
   store = page_store page bytes
 

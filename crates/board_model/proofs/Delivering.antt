@@ -4,27 +4,27 @@ use Rattle.std.specs.Prelude.{slice_get}
 use Rattle.std.specs.Option.{option_map}
 use Rattle.handler_rules.specs.Running.{HandlerRun}
 use Rattle.frame_store.specs.Pages.{after_put}
-use Rattle.filter_tree.specs.ClaimBook.{RowValue, are_numbered}
+use Rattle.filter_tree.specs.ClaimBook.{RowValue}
 use Rattle.filter_tree.specs.Claims.{claim_seen, delivered, first_row, is_numbered}
 use Rattle.filter_tree.specs.Laws.{FirstIsNumbered}
 use Rattle.world_model.specs.declared.life.Life.TheVariants.{Live}
 use Rattle.world_model.specs.Item.{absorb_all}
 use Rattle.world_model.specs.PageCalls.{left_by}
 use Rattle.world_model.specs.Rings as ring
-use Rattle.world_model.specs.Rings.{Handles, Queues, page_store, received_as, replied}
+use Rattle.world_model.specs.Rings.{Handles, Queues, page_store, after_reception, sent_with_replies}
 use Rattle.world_model.specs.Solo.{Solo}
 use Rattle.board_model.specs.declared.roster.Environment.{Environment}
 use Rattle.board_model.specs.Rings.{ring_in}
 use Rattle.board_model.specs.Shown.{Shown}
 use Rattle.board_model.specs.Showing.{book_of, solo_of, solo_or_absent, solo_seen}
-use Rattle.board_model.specs.Sound.{IsSound, has_own_page}
+use Rattle.board_model.specs.Sound.{HasClaimNumbers, IsSoundBoard, has_own_page}
 use Rattle.board_model.specs.Doing.{after_handler, with_replies_sent}
 use Rattle.board_model.proofs.Claimed.{rings_turned, rings_turned_else}
 use Rattle.board_model.proofs.Copying as copying
 use Rattle.board_model.proofs.Lists.{changed_else, changed_here}
 use Rattle.board_model.proofs.Seen.{like_solo}
 
-module _ (law : FirstIsNumbered) (b : Shown) (sound : IsSound b) (numbered : are_numbered 0 b.claims.next b.claims.rows ≡ true) (r : RowValue) (first : first_row (is_numbered r.claim.id) b.claims ≡ Some r) (own : has_own_page b.pages r.claim ≡ true)
+module _ (law : FirstIsNumbered) (b : Shown) (sound : IsSoundBoard b) (numbered : HasClaimNumbers b) (r : RowValue) (first : first_row (is_numbered r.claim.id) b.claims ≡ Some r) (own : has_own_page b.pages r.claim ≡ true)
     (x : Environment) (at : slice_get b.roster.list r.claim.env ≡ Some x) (lives : x.life ≡ Live) (bytes : List ℕ) where
   abbrev e : ℕ
   e = r.claim.env
@@ -39,7 +39,7 @@ module _ (law : FirstIsNumbered) (b : Shown) (sound : IsSound b) (numbered : are
   now = record bytes_stored { claims = delivered r.claim.id b.claims }
 
   -- the claim's environment has its page with the bytes, and the other buffer is next
-  pub ring_filled : solo_of now e ≡ received_as (ring_in r) (Queues bytes) (solo_of b e)
+  pub ring_filled : solo_of now e ≡ after_reception (ring_in r) (Queues bytes) (solo_of b e)
   ring_filled =
       ap (solo_or_absent now e) at
       ∙ (λ k. record (solo_seen bytes_stored e x) { rings = rings_turned b.claims r.claim.id e k })
@@ -55,7 +55,7 @@ module _ (law : FirstIsNumbered) (b : Shown) (sound : IsSound b) (numbered : are
       like_solo i now bytes_stored (search (rules, (rings_turned_else law b.claims r i numbered first ne)))
       ∙ copying.stored_else b sound e page own x at lives bytes i ne
 
-module _ (b : Shown) (sound : IsSound b) (r : RowValue) (own : has_own_page b.pages r.claim ≡ true) (x : Environment) (at : slice_get b.roster.list r.claim.env ≡ Some x) (lives : x.life ≡ Live) (run : HandlerRun) where
+module _ (b : Shown) (sound : IsSoundBoard b) (r : RowValue) (own : has_own_page b.pages r.claim ≡ true) (x : Environment) (at : slice_get b.roster.list r.claim.env ≡ Some x) (lives : x.life ≡ Live) (run : HandlerRun) where
   abbrev owner : ℕ
   owner = r.claim.env
 
@@ -69,14 +69,14 @@ module _ (b : Shown) (sound : IsSound b) (r : RowValue) (own : has_own_page b.pa
   after_run = after_handler b (claim_seen r) run
 
   -- the claim's environment has its page as the handler left it, and sent the replies
-  pub run_here : solo_of after_run owner ≡ received_as (ring_in r) (Handles run.page run.replies) (solo_of b owner)
+  pub run_here : solo_of after_run owner ≡ after_reception (ring_in r) (Handles run.page run.replies) (solo_of b owner)
   run_here =
       ap (solo_or_absent after_run owner) (changed_here reply b.roster.list owner ∙ ap (option_map reply) at)
       ∙ (λ k. replies (ap (solo_or_absent page_written owner) (sym at) k))
       ∙ ap replies (copying.stored_here b sound owner r.claim.page own x at lives run.page)
     where
       replies : Solo → Solo
-      replies s = record s { sent = replied s.sent run.replies }
+      replies s = record s { sent = sent_with_replies s.sent run.replies }
 
   -- whoever else sees the page
   pub run_else : (i : ℕ) → i ≢ owner → solo_of after_run i ≡ absorb_all (solo_of b i) (left_by (book_of b) owner (page_store r.claim.page run.page) i)

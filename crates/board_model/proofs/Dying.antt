@@ -32,7 +32,7 @@ use Rattle.world_model.specs.Table.{set_at}
 use Rattle.board_model.specs.declared.roster.Environment.{Environment}
 use Rattle.board_model.specs.Shown.{Shown}
 use Rattle.board_model.specs.Showing.{world_of, book_of, solo_of, solo_or_absent, solo_seen}
-use Rattle.board_model.specs.Sound.{AreBooked, IsSound, has_own_page}
+use Rattle.board_model.specs.Sound.{BooksAgree, IsSoundBoard, has_own_page}
 use Rattle.revocation_book.specs.RevocationBook.{with_pending}
 use Rattle.board_model.proofs.Asked.{backups_set, pending_set}
 use Rattle.board_model.proofs.Claimed.{claims_without, no_ring, rings_gone, rings_gone_else}
@@ -62,16 +62,16 @@ not_its i e row ne its = search (rules, ne_eqb, eqb-true)
 pub record MayDie (b : Shown) (e : ℕ) : Type 0 where
   pub numbered : e < length b.slots.excess
   pub count : length b.slots.slots ≤ most_slots
-  pub books : AreBooked b.pages b.binds b.roster
+  pub books : BooksAgree b.pages b.binds b.roster
   pub claims : list_all (λ (c : RowValue). has_own_page b.pages c.claim) b.claims.rows ≡ true
   pub pending : e < length b.revocations.pending
   pub backups : e < length b.revocations.backups
 
 -- each environment of the board has an excess
-pub numbered_within : (b : Shown) (e : ℕ) (x : Environment) → slice_get b.roster.list e ≡ Some x → IsSound b → e < length b.slots.excess
+pub numbered_within : (b : Shown) (e : ℕ) (x : Environment) → slice_get b.roster.list e ≡ Some x → IsSoundBoard b → e < length b.slots.excess
 numbered_within b e x at sound = omega (arith, slice_get_within b.roster.list e x at, sound.few, sound.book.numbered)
 
-pub may_die : (b : Shown) (e : ℕ) (x : Environment) → slice_get b.roster.list e ≡ Some x → IsSound b → MayDie b e
+pub may_die : (b : Shown) (e : ℕ) (x : Environment) → slice_get b.roster.list e ≡ Some x → IsSoundBoard b → MayDie b e
 may_die b e x at sound = search (rules, slice_get_within, numbered_within)
 
 module _ (b : Shown) (e : ℕ) (x : Environment) (r : Runs b e x) (may : MayDie b e) (cause : Cause) where
@@ -148,5 +148,5 @@ module _ (b : Shown) (e : ℕ) (x : Environment) (r : Runs b e x) (may : MayDie 
     time = refl;
   }
 
-pub died_serves : (b : Shown) (e : ℕ) (x : Environment) → Runs b e x → IsSound b → (cause : Cause) → Serves b e (dead cause (solo_of b e)) (death (world_of b) e) (doing.after_death b e cause)
+pub died_serves : (b : Shown) (e : ℕ) (x : Environment) → Runs b e x → IsSoundBoard b → (cause : Cause) → Serves b e (dead cause (solo_of b e)) (death (world_of b) e) (doing.after_death b e cause)
 died_serves b e x r sound cause = dies b e x r (may_die b e x r.at sound) cause

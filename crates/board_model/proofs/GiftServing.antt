@@ -17,7 +17,7 @@ use Rattle.world_model.specs.World.{only}
 use Rattle.board_model.specs.declared.roster.Environment.{Environment}
 use Rattle.board_model.specs.Shown.{Shown, mappings_in}
 use Rattle.board_model.specs.Showing.{world_of, book_of, solo_of, pages_seen}
-use Rattle.board_model.specs.Sound.{IsSound}
+use Rattle.board_model.specs.Sound.{IsSoundBoard}
 use Rattle.board_model.specs.Doing as doing
 use Rattle.board_model.proofs.Contexts.{start_others, start_seen, start_sights, waiting}
 use Rattle.board_model.proofs.Lists.{changed_here, changed_else, length-changed}
@@ -51,7 +51,7 @@ pub record IsOther (list : List Environment) (e t : ℕ) : Type 0 where
 pub other_in : (b : Shown) (e t : ℕ) → is_other (world_of b) e t ≡ true → IsOther b.roster.list e t
 other_in b e t is = search (rules, and_parts, living_record, and_from, not_from_true, eq-eqb)
 
-module _ (b : Shown) (e : ℕ) (x : Environment) (r : Runs b e x) (sound : IsSound b) where
+module _ (b : Shown) (e : ℕ) (x : Environment) (r : Runs b e x) (sound : IsSoundBoard b) where
   -- The target is started.
   module _ (t : ℕ) (y : Environment) (there : IsThere b.roster.list t y) (other : t ≢ e) (v : ℕ) where
     abbrev now : Shown

@@ -4,7 +4,6 @@ use Rattle.std.specs.Prelude.{bit_or, slice_get, if◌then◌else◌}
 use Rattle.std.specs.Option.{option_flatten, option_map}
 use Rattle.std.proofs.lemmas.Option.{slice_get_within}
 use Rattle.std.proofs.lemmas.List.{append-nil}
-use Rattle.external_event.specs.declared.event.Occurrence.{Occurrence}
 use Rattle.frame_store.specs.Pages.{page_at}
 use Rattle.mips_exec.specs.Word.{low_word}
 use Rattle.page_book.specs.Row.{is_owned_by}
@@ -15,7 +14,7 @@ use Rattle.env_frames.specs.declared.post.PostWord.TheVariants as post
 use Rattle.env_frames.specs.Post.{asked_in, counted_in, signalled_in}
 use Rattle.packet_ring.specs.Ring.{is_full, with_packet}
 use Rattle.handler_rules.specs.Running.{HandlerRun, handler_run}
-use Rattle.filter_tree.specs.ClaimBook.{RowValue, are_numbered, claim_in}
+use Rattle.filter_tree.specs.ClaimBook.{RowValue, claim_in}
 use Rattle.filter_tree.specs.declared.claim.Claim.{Claim}
 use Rattle.filter_tree.specs.Claims.{claim_for, claim_handler, claim_seen, first_row, is_for, is_numbered}
 use Rattle.filter_tree.specs.Laws.{FirstIsNumbered}
@@ -23,10 +22,10 @@ use Rattle.world_model.specs.declared.life.Life.TheVariants.{Live}
 use Rattle.revocation_book.specs.declared.revocation.Pending.{Pending}
 use Rattle.revocation_book.specs.Pending.{asked}
 use Rattle.revocation_book.specs.RevocationBook.{pending_at}
-use Rattle.world_model.specs.Event.{arrives, asks, delivers, revokes, drops_packet, happen, ring_bytes, ring_left, signals}
+use Rattle.world_model.specs.Event.{arrives, asks, delivers, revokes, drops_packet, ring_bytes, ring_left, signals}
 use Rattle.world_model.specs.Item.{Asked, Line, Packet, absorb_all}
 use Rattle.world_model.specs.Post.{asked_for, counted as counted_word}
-use Rattle.world_model.specs.Rings.{Handles, Loses, Queues, Reception, page_left, received_as, received_by, reception, ring_of}
+use Rattle.world_model.specs.Rings.{Handles, Loses, Queues, Reception, page_left, after_reception, reception_by, reception, ring_of}
 use Rattle.world_model.specs.Solo.{Solo, Physical, bytes_of}
 use Rattle.world_model.specs.World.{after, is_living, no_change, tells}
 use Rattle.board_model.specs.declared.roster.Environment.{Environment}
@@ -34,8 +33,9 @@ use Rattle.board_model.specs.Lines.{line_at}
 use Rattle.board_model.specs.Rings.{ring_in}
 use Rattle.board_model.specs.Shown.{Shown}
 use Rattle.board_model.specs.Showing.{book_of, solo_of, solo_or_absent, world_of}
-use Rattle.board_model.specs.Sound.{IsLive, IsSound, has_own_page}
-use Rattle.board_model.specs.Doing.{after_arrival_for, with_asked, after_revocation, context_of, with_count, after_delivery_by, after_queue, after_delivery, after_drop, after_handler, after_event, with_replies_sent, after_signal, after_signal_to}
+use Rattle.board_model.specs.Sound.{HasClaimNumbers, IsLiving, IsSoundBoard, has_own_page}
+use Rattle.board_model.specs.Laws.{EventShowsModel}
+use Rattle.board_model.specs.Doing.{after_arrival_for, with_asked, after_revocation, context_of, with_count, after_delivery_by, after_queue, after_delivery, after_drop, after_handler, with_replies_sent, after_signal, after_signal_to}
 use Rattle.board_model.proofs.Asked.{nothing_pending, pending_set}
 use Rattle.board_model.proofs.Lists.{length-changed}
 use Rattle.board_model.proofs.Claimed.{claims_turned, found_owned, found_without, ring_found}
@@ -61,7 +61,7 @@ dropped_world b packet = worlds (world_of (after_drop b packet)) (after (world_o
 signalled_changed : (line : ℕ) (page : Option ℕ) (frames : List (List ℕ)) → signalled_in line page frames ≡ changed_in post.Lines (λ n. bit_or n (2 ^ line)) page frames
 signalled_changed line page frames = search rules
 
-module _ (b : Shown) (sound : IsSound b) (line e : ℕ) (x : Environment) (at : slice_get b.roster.list e ≡ Some x) (lives : x.life ≡ Live) where
+module _ (b : Shown) (sound : IsSoundBoard b) (line e : ℕ) (x : Environment) (at : slice_get b.roster.list e ≡ Some x) (lives : x.life ≡ Live) where
   abbrev signalled_board : Shown
   signalled_board = after_signal_to b line (Some e)
 
@@ -78,10 +78,10 @@ module _ (b : Shown) (sound : IsSound b) (line e : ℕ) (x : Environment) (at : 
       (λ i ne. ap (λ (y : Shown). solo_of y i) board_is ∙ worded_others b sound e x at lives (λ n. bit_or n (2 ^ line)) post.Lines i ne))
       (sym (append-nil b.ledger.rows))
 
-signalled_world : (b : Shown) → IsSound b → (line : ℕ) → world_of (after_signal b line) ≡ after (world_of b) (signals line (line_at b.lines line) (world_of b))
+signalled_world : (b : Shown) → IsSoundBoard b → (line : ℕ) → world_of (after_signal b line) ≡ after (world_of b) (signals line (line_at b.lines line) (world_of b))
 signalled_world b sound line = by_owner (line_at b.lines line) (sound.lines.owners line)
   where
-    by_owner : (owner : Option ℕ) → IfSome owner (IsLive b.roster.list) → world_of (after_signal_to b line owner) ≡ after (world_of b) (signals line owner (world_of b))
+    by_owner : (owner : Option ℕ) → IfSome owner (IsLiving b.roster.list) → world_of (after_signal_to b line owner) ≡ after (world_of b) (signals line owner (world_of b))
     by_owner None live = quiet_world (world_of b)
     by_owner (Some e) live = let x = live_record b.roster.list e live.1 in owner_world b sound line e x.0 x.1.0 x.1.1
 
@@ -92,7 +92,7 @@ counts n = low_word (n + 1)
 pub counted_changed : (word : PostWord) (page : Option ℕ) (frames : List (List ℕ)) → counted_in word page frames ≡ changed_in word counts page frames
 counted_changed word page frames = search rules
 
-module _ (b : Shown) (sound : IsSound b) (e : ℕ) (x : Environment) (at : slice_get b.roster.list e ≡ Some x) (lives : x.life ≡ Live) (word : PostWord) where
+module _ (b : Shown) (sound : IsSoundBoard b) (e : ℕ) (x : Environment) (at : slice_get b.roster.list e ≡ Some x) (lives : x.life ≡ Live) (word : PostWord) where
   counted_is : with_count b word e ≡ with_word b e word counts
   counted_is = λ k. record b { frames = counted_changed word (context_of b e) b.frames k }
 
@@ -102,11 +102,11 @@ module _ (b : Shown) (sound : IsSound b) (e : ℕ) (x : Environment) (at : slice
   counted_others : (i : ℕ) → i ≢ e → solo_of (with_count b word e) i ≡ solo_of b i
   counted_others i ne = ap (λ (y : Shown). solo_of y i) counted_is ∙ worded_others b sound e x at lives counts word i ne
 
-  counted_sound : IsSound (with_count b word e)
+  counted_sound : IsSoundBoard (with_count b word e)
   counted_sound = sound_frames (counted_in word (context_of b e) b.frames) (ap length (counted_changed word (context_of b e) b.frames) ∙ same_size word counts (context_of b e) b.frames) sound
 
 -- a packet for a claim that is found
-module _ (law : FirstIsNumbered) (b : Shown) (sound : IsSound b) (numbered : are_numbered 0 b.claims.next b.claims.rows ≡ true) (packet : List ℕ) (r : RowValue) (first : first_row (is_numbered r.claim.id) b.claims ≡ Some r) (own : has_own_page b.pages r.claim ≡ true)
+module _ (law : FirstIsNumbered) (b : Shown) (sound : IsSoundBoard b) (numbered : HasClaimNumbers b) (packet : List ℕ) (r : RowValue) (first : first_row (is_numbered r.claim.id) b.claims ≡ Some r) (own : has_own_page b.pages r.claim ≡ true)
     (x : Environment) (at : slice_get b.roster.list r.claim.env ≡ Some x) (lives : x.life ≡ Live) where
   abbrev e : ℕ
   e = r.claim.env
@@ -123,7 +123,7 @@ module _ (law : FirstIsNumbered) (b : Shown) (sound : IsSound b) (numbered : are
   abbrev counted : Shown
   counted = with_count b post.Packets e
 
-  abbrev sound_counted : IsSound counted
+  abbrev sound_counted : IsSoundBoard counted
   sound_counted = counted_sound b sound e x at lives post.Packets
 
   seen_counted : solo_of counted e ≡ counted_word post.Packets before
@@ -138,30 +138,30 @@ module _ (law : FirstIsNumbered) (b : Shown) (sound : IsSound b) (numbered : are
 
   -- what becomes of the packet at the ring
   abbrev what : Reception
-  what = received_by r.handler (ring_in r) packet (page_at counted.frames page)
+  what = reception_by r.handler (ring_in r) packet (page_at counted.frames page)
 
   receives : (s : Solo) → bytes_of s (Physical page) ≡ page_at counted.frames page → reception s (ring_in r) packet ≡ what
-  receives s same = ap (received_by r.handler (ring_in r) packet) same
+  receives s same = ap (reception_by r.handler (ring_in r) packet) same
 
   -- where no handler takes it
   abbrev queued_if : Bool → Reception
   queued_if full = if full then Loses else Queues (with_packet (page_at counted.frames page) r.next packet)
 
   queues : (full : Bool) → r.handler ≡ None → is_full (page_at counted.frames page) r.next ≡ full → what ≡ queued_if full
-  queues full none is = ap (λ h. received_by h (ring_in r) packet (page_at counted.frames page)) none ∙ ap queued_if is
+  queues full none is = ap (λ h. reception_by h (ring_in r) packet (page_at counted.frames page)) none ∙ ap queued_if is
 
   -- the claim, as its environment has it
   its_ring : ring_of before.rings id ≡ Some (ring_in r)
   its_ring = ap (λ o. ring_of (solo_or_absent b e o).rings id) at ∙ ring_found b.claims r first
 
-  takes : absorb_all before (Packet id packet ∷ []) ≡ received_as (ring_in r) what (counted_word post.Packets before)
+  takes : absorb_all before (Packet id packet ∷ []) ≡ after_reception (ring_in r) what (counted_word post.Packets before)
   takes = search (rules, live_shown, its_ring, receives, same_page)
 
   -- what the others are given
   leaves : ring_bytes before (ring_of before.rings id) packet ≡ page_left what
   leaves = ap (λ o. ring_bytes before o packet) its_ring ∙ ap page_left (receives before same_page)
 
-  module _ (o : Reception) (is : what ≡ o) (new : Shown) (here : solo_of new e ≡ received_as (ring_in r) o (solo_of counted e))
+  module _ (o : Reception) (is : what ≡ o) (new : Shown) (here : solo_of new e ≡ after_reception (ring_in r) o (solo_of counted e))
       (others : (i : ℕ) → i ≢ e → solo_of new i ≡ absorb_all (solo_of b i) (ring_left (book_of b) e page (page_left o) i)) where
     given : (i : ℕ) → solo_of new i ≡ absorb_all (solo_of b i) ((delivers r.claim packet (world_of b)).items i)
     given = search (rules, by_env, set_here, set_else, seen_counted, takes, leaves)
@@ -202,9 +202,9 @@ module _ (law : FirstIsNumbered) (b : Shown) (sound : IsSound b) (numbered : are
 
       by_handler : (h : Option (List ℕ)) → r.handler ≡ h → world_of (after_delivery_by h counted (claim_seen r) packet) ≡ after (world_of b) (delivers r.claim packet (world_of b))
       by_handler None none = by_full (is_full (page_at counted.frames page) r.next) none refl
-      by_handler (Some words) some = by_run (handler_run words packet id (page_at counted.frames page)) (ap (λ h. received_by h (ring_in r) packet (page_at counted.frames page)) some)
+      by_handler (Some words) some = by_run (handler_run words packet id (page_at counted.frames page)) (ap (λ h. reception_by h (ring_in r) packet (page_at counted.frames page)) some)
 
-arrived_world : FirstIsNumbered → (b : Shown) (packet : List ℕ) → IsSound b → are_numbered 0 b.claims.next b.claims.rows ≡ true → (o : Option RowValue) → first_row (is_for packet) b.claims ≡ o → world_of (after_arrival_for b packet (option_map claim_seen o)) ≡ after (world_of b) (arrives packet (option_map claim_in o) (world_of b))
+arrived_world : FirstIsNumbered → (b : Shown) (packet : List ℕ) → IsSoundBoard b → HasClaimNumbers b → (o : Option RowValue) → first_row (is_for packet) b.claims ≡ o → world_of (after_arrival_for b packet (option_map claim_seen o)) ≡ after (world_of b) (arrives packet (option_map claim_in o) (world_of b))
 arrived_world law b packet sound numbered None found = dropped_world b packet
 arrived_world law b packet sound numbered (Some r) found =
     let first = law b.claims (is_for packet) r numbered found in
@@ -217,14 +217,14 @@ arrived_world law b packet sound numbered (Some r) found =
 asked_changed : (outstanding deadline : ℕ) (page : Option ℕ) (frames : List (List ℕ)) → asked_in outstanding deadline page frames ≡ changed_in post.Deadline (λ n. deadline) page (changed_in post.Outstanding (λ n. outstanding) page frames)
 asked_changed outstanding deadline page frames = search rules
 
-module _ (b : Shown) (sound : IsSound b) (e : ℕ) (x : Environment) (at : slice_get b.roster.list e ≡ Some x) (lives : x.life ≡ Live) (p : Pending) where
+module _ (b : Shown) (sound : IsSoundBoard b) (e : ℕ) (x : Environment) (at : slice_get b.roster.list e ≡ Some x) (lives : x.life ≡ Live) (p : Pending) where
   abbrev asked_board : Shown
   asked_board = with_asked b e (Some p)
 
   abbrev told : Shown
   told = with_word b e post.Outstanding (λ n. p.outstanding)
 
-  told_sound : IsSound told
+  told_sound : IsSoundBoard told
   told_sound = sound_frames told.frames (same_size post.Outstanding (λ n. p.outstanding) (context_of b e) b.frames) sound
 
   like_told : (i : ℕ) → solo_of asked_board i ≡ solo_of (with_word told e post.Deadline (λ n. p.deadline)) i
@@ -252,7 +252,7 @@ module _ (b : Shown) (sound : IsSound b) (e : ℕ) (x : Environment) (at : slice
       ∙ worded_others b sound e x at lives (λ n. p.outstanding) post.Outstanding i ne))
       refl
 
-revoked_world : (b : Shown) (e count deadline : ℕ) → IsSound b → world_of (after_revocation b e count deadline) ≡ after (world_of b) (revokes e count deadline (world_of b))
+revoked_world : (b : Shown) (e count deadline : ℕ) → IsSoundBoard b → world_of (after_revocation b e count deadline) ≡ after (world_of b) (revokes e count deadline (world_of b))
 revoked_world b e count deadline sound = by_living (is_living (world_of b) e) refl
   where
     -- nothing was pending, and nothing is
@@ -277,18 +277,18 @@ revoked_world b e count deadline sound = by_living (is_living (world_of b) e) re
     by_living false gone = quiet_world (world_of b)
 
 -- each kind of event
-pub happened_world : FirstIsNumbered → (b : Shown) (what : Occurrence) → IsSound b → are_numbered 0 b.claims.next b.claims.rows ≡ true → world_of (after_event what b) ≡ after (world_of b) (happen what (world_of b))
-happened_world law b what sound numbered = search (rules, arrived_world, found_without, signalled_world, revoked_world)
+pub happened_world : FirstIsNumbered → EventShowsModel
+happened_world law b what sound numbers = search (rules, arrived_world, found_without, signalled_world, revoked_world)
 
 -- A claim that is found is of an environment that lives, and its ring is there.
-pub claim_there : (b : Shown) (packet : List ℕ) (c : Claim) → IsSound b → claim_for b.claims packet ≡ Some c → IsLive b.roster.list c.env × (c.page < length b.frames)
+pub claim_there : (b : Shown) (packet : List ℕ) (c : Claim) → IsSoundBoard b → claim_for b.claims packet ≡ Some c → IsLiving b.roster.list c.env × (c.page < length b.frames)
 claim_there b packet c sound found = by_row (first_row (is_for packet) b.claims) refl found
   where
-    by_row : (o : Option RowValue) → first_row (is_for packet) b.claims ≡ o → option_map claim_seen o ≡ Some c → IsLive b.roster.list c.env × (c.page < length b.frames)
+    by_row : (o : Option RowValue) → first_row (is_for packet) b.claims ≡ o → option_map claim_seen o ≡ Some c → IsLiving b.roster.list c.env × (c.page < length b.frames)
     by_row None is found = cc
     by_row (Some r) is found =
         let same : claim_seen r ≡ c = cc in
         let own = found_owned b.pages (is_for packet) b.claims.rows r sound.claims.owned is in
         let live = sound.books.owners r.claim.page r.claim.env (owner_is r.claim.env (row_in b.pages r.claim.page) own) in
         let there : r.claim.page < length b.frames = omega (arith, sound.memory.same, row_there b.pages r.claim.page (λ free. let none : true ≡ false = sym own ∙ ap (is_owned_by r.claim.env) free in cc)) in
-        subst (λ (d : Claim). IsLive b.roster.list d.env × (d.page < length b.frames)) same (live, there)
+        subst (λ (d : Claim). IsLiving b.roster.list d.env × (d.page < length b.frames)) same (live, there)

@@ -1,50 +1,51 @@
 pub mod Allowed
 pub mod Asked
-pub mod BindServing
+mod BindServing
 pub mod Booked
-pub mod Breaking
+mod Breaking
 pub mod Building
 pub mod Claimed
 pub mod ClaimServing
 pub mod Claiming
-pub mod Contexts
+mod Contexts
 pub mod Copying
 pub mod Counting
-pub mod Delivering
-pub mod Dying
-pub mod GiftServing
+mod Delivering
+mod Dying
+mod Environments
+mod GiftServing
 pub mod Giving
 pub mod Happening
 pub mod Keeping
-pub mod LineServing
+mod LineServing
 pub mod Lists
-pub mod Looks
-pub mod Losing
-pub mod Mappings
+mod Looks
+mod Losing
+mod Mappings
 pub mod Masks
-pub mod PageServing
+mod PageServing
 pub mod Numbering
-pub mod OwnServing
-pub mod Pages
+mod OwnServing
+mod Pages
 pub mod Parted
-pub mod Parts
-pub mod Phases
-pub mod Posting
+mod Parts
+mod Phases
+mod Posting
 pub mod Reading
 pub mod Repossessing
-pub mod Replying
+mod Replying
 pub mod Seen
 pub mod Sending
 pub mod Serving
-pub mod SlotServing
+mod SlotServing
 pub mod Slots
 pub mod Sound
 pub mod Staying
 pub mod Stepping
-pub mod Stores
-pub mod Stretching
-pub mod Tables
-pub mod TransferServing
+mod Stores
+mod Stretching
+mod Tables
+mod TransferServing
 pub mod Turning
 pub mod Turns
 pub mod Wired

@@ -11,17 +11,17 @@ use Rattle.world_model.specs.Verdict.{done}
 use Rattle.board_model.specs.declared.roster.Environment.{Environment}
 use Rattle.board_model.specs.Shown.{Shown}
 use Rattle.board_model.specs.Showing.{world_of, book_of, solo_of}
-use Rattle.board_model.specs.Sound.{IsSound}
+use Rattle.board_model.specs.Sound.{IsSoundBoard}
 use Rattle.board_model.specs.Doing as doing
 use Rattle.board_model.proofs.Asked.{backups_set}
 use Rattle.board_model.proofs.Replying.{Serves, answered_others, answered_seen, deeded, deeded_seen, changes_one}
 use Rattle.board_model.proofs.Seen.{Runs, runner_solo}
 use Rattle.board_model.proofs.Tables.{table_set}
 
-module _ (b : Shown) (e : ℕ) (x : Environment) (r : Runs b e x) (sound : IsSound b) where
+module _ (b : Shown) (e : ℕ) (x : Environment) (r : Runs b e x) (sound : IsSoundBoard b) where
   -- a line has another owner, and the runner does nothing to itself
   sets_line : (d : Deed) (v line : ℕ) (owner : Option ℕ) → line < length b.lines → own_part d (runner_solo b e x) ≡ runner_solo b e x →
-      Serves b e (deeded d v (solo_of b e)) (with_line (world_of b) line owner) (doing.after_answer (doing.with_line b line owner) (Grant v))
+      Serves b e (deeded d v (solo_of b e)) (with_line (world_of b) line owner) (doing.after_answer (doing.board_with_line b line owner) (Grant v))
   sets_line d v line owner within own = search (rules, changes_one, table_set, answered_seen, deeded_seen, answered_others)
 
   -- a page is the last of the runner's backups

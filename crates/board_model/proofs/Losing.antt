@@ -24,7 +24,7 @@ use Rattle.board_model.specs.declared.roster.Environment.{Environment}
 use Rattle.board_model.specs.Rings.{rings_of}
 use Rattle.board_model.specs.Shown.{Shown, mappings_of}
 use Rattle.board_model.specs.Showing.{solo_of, cpu_seen, pages_seen}
-use Rattle.board_model.specs.Sound.{AreBooked, IsAlive, IsLive}
+use Rattle.board_model.specs.Sound.{BooksAgree, IsAlive, IsLiving}
 use Rattle.board_model.proofs.Seen.{like_solo, stripe_of, live_shown}
 
 -- Books with the same tables serve alike.
@@ -70,19 +70,19 @@ no_losses b gone i zero none = refl
 no_losses b gone i (suc n) none = search (rules, nothing_lost, (no_losses b gone i n none))
 
 -- an environment lives, or isn't one of the board that does
-pub lives_or_not : (list : List Environment) (i : ℕ) → ((x : Environment) × ((slice_get list i ≡ Some x) × (x.life ≡ Live))) ⊎ (IsLive list i → ⊥)
+pub lives_or_not : (list : List Environment) (i : ℕ) → ((x : Environment) × ((slice_get list i ≡ Some x) × (x.life ≡ Live))) ⊎ (IsLiving list i → ⊥)
 lives_or_not list i = by_record (slice_get list i) refl
   where
-    by_life : (x : Environment) (life : Life) → slice_get list i ≡ Some x → x.life ≡ life → ((y : Environment) × ((slice_get list i ≡ Some y) × (y.life ≡ Live))) ⊎ (IsLive list i → ⊥)
+    by_life : (x : Environment) (life : Life) → slice_get list i ≡ Some x → x.life ≡ life → ((y : Environment) × ((slice_get list i ≡ Some y) × (y.life ≡ Live))) ⊎ (IsLiving list i → ⊥)
     by_life x Live is lives = inl (x, (is, lives))
     by_life x (Dead cause) is died = inr (λ live. let both : Live ≡ Dead cause = sym (subst IsAlive is live.1) ∙ died in cc)
 
-    by_record : (y : Option Environment) → slice_get list i ≡ y → ((x : Environment) × ((slice_get list i ≡ Some x) × (x.life ≡ Live))) ⊎ (IsLive list i → ⊥)
+    by_record : (y : Option Environment) → slice_get list i ≡ y → ((x : Environment) × ((slice_get list i ≡ Some x) × (x.life ≡ Live))) ⊎ (IsLiving list i → ⊥)
     by_record None is = inr (λ live. subst IsAlive is live.1)
     by_record (Some x) is = by_life x x.life is refl
 
 -- one that doesn't live has no bindings and owns no page
-pub has_none : (b : Shown) (i : ℕ) → AreBooked b.pages b.binds b.roster → (IsLive b.roster.list i → ⊥) → HasNone i (row_in b.pages) (stripe_of b i)
+pub has_none : (b : Shown) (i : ℕ) → BooksAgree b.pages b.binds b.roster → (IsLiving b.roster.list i → ⊥) → HasNone i (row_in b.pages) (stripe_of b i)
 has_none b i books dead = record { binds = λ row. by_binding row (stripe_of b i row) refl; owns = λ page. by_row page (row_in b.pages page) refl }
   where
     by_binding : (row : ℕ) (x : Option Binding) → stripe_of b i row ≡ x → x ≡ None
@@ -126,5 +126,5 @@ module _ (i : ℕ) (old new : Shown) (its : List Item) (drops : Drops i old new 
       })
       ∙ ap (absorb_all (solo_of old i)) (sym (drops.nothing none))
 
-  pub dropped : AreBooked old.pages old.binds old.roster → solo_of new i ≡ absorb_all (solo_of old i) its
+  pub dropped : BooksAgree old.pages old.binds old.roster → solo_of new i ≡ absorb_all (solo_of old i) its
   dropped books = search (rules, lives_or_not, has_none, live_drops, dead_drops)

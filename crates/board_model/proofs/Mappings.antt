@@ -4,26 +4,26 @@ use Rattle.env_frames.specs.declared.mapping.Mapping.{Mapping}
 use Rattle.world_model.specs.declared.life.Cause.{Cause}
 use Rattle.world_model.specs.Table.{set_at}
 use Rattle.board_model.specs.declared.roster.Environment.{Environment}
-use Rattle.board_model.specs.Shown.{mappings_in, mappings_of, changed}
+use Rattle.board_model.specs.Shown.{mappings_in, mappings_of, with_record}
 use Rattle.board_model.specs.Doing.{dead_frame}
 use Rattle.board_model.proofs.Lists.{changed_else, last_get, other_get}
 use Rattle.board_model.proofs.Parts.{by_env, set_here, set_else}
 use Rattle.board_model.proofs.Sound.{Keeps}
 
-pub kept_mappings : (f : Environment → Environment) → Keeps f → (list : List Environment) (e i : ℕ) → mappings_of (changed f list e) i ≡ mappings_of list i
+pub kept_mappings : (f : Environment → Environment) → Keeps f → (list : List Environment) (e i : ℕ) → mappings_of (with_record f list e) i ≡ mappings_of list i
 kept_mappings f keeps [] e i = refl
 kept_mappings f keeps (x ∷ list) zero zero = keeps.mappings x
 kept_mappings f keeps (x ∷ list) zero (suc i) = refl
 kept_mappings f keeps (x ∷ list) (suc e) zero = refl
 kept_mappings f keeps (x ∷ list) (suc e) (suc i) = kept_mappings f keeps list e i
 
-pub lost_mappings : (cause : Cause) (list : List Environment) (e : ℕ) → mappings_of (changed (dead_frame cause) list e) e ≡ []
+pub lost_mappings : (cause : Cause) (list : List Environment) (e : ℕ) → mappings_of (with_record (dead_frame cause) list e) e ≡ []
 lost_mappings cause [] e = refl
 lost_mappings cause (x ∷ list) zero = refl
 lost_mappings cause (x ∷ list) (suc e) = lost_mappings cause list e
 
 -- of all, once one is dead
-pub dead_mappings : (cause : Cause) (list : List Environment) (e i : ℕ) → mappings_of (changed (dead_frame cause) list e) i ≡ set_at e [] (mappings_of list) i
+pub dead_mappings : (cause : Cause) (list : List Environment) (e i : ℕ) → mappings_of (with_record (dead_frame cause) list e) i ≡ set_at e [] (mappings_of list) i
 dead_mappings cause list e = search (rules, by_env, lost_mappings, set_here, changed_else, set_else)
 
 -- the mappings of the last, and of the others

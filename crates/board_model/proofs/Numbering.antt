@@ -1,23 +1,20 @@
 -- A turn and the timer make no claim.
-use Rattle.std.proofs.Common.{◌≡◌, ℕ, Bool, Option, refl, rules}
-use Rattle.std.specs.Prelude.{nat_lt, if◌then◌else◌}
+use Rattle.std.proofs.Common.{◌≡◌, Option, rules}
+use Rattle.world_model.specs.declared.slot.Runner.{Runner}
 use Rattle.world_model.specs.declared.slot.Turn.{Turn}
-use Rattle.world_model.specs.Book.{Told, excess_limit}
-use Rattle.world_model.specs.Tick.{goes_on, grace_of, judged, kill, take_turn, timer, turn}
-use Rattle.world_model.specs.World.{Reply, World}
+use Rattle.world_model.specs.Book.{WholeTurn}
+use Rattle.world_model.specs.declared.timer.Timer.{Timer}
+use Rattle.world_model.specs.Tick.{take_turn, timer, timer_reply, turn}
+use Rattle.world_model.specs.World.{World}
 
-taken : (w : World) (told : Told) (o : Option Turn) → (take_turn w told o).book.next_claim ≡ w.book.next_claim
+taken : (w : World) (told : WholeTurn) (o : Option Turn) → (take_turn w told o).book.next_claim ≡ w.book.next_claim
 taken w told o = search rules
 
 pub turn_claims : (w : World) → (turn w).book.next_claim ≡ w.book.next_claim
 turn_claims w = search (rules, taken)
 
--- one reply or the other
-either_way : (n : ℕ) (t : Bool) (x y : Reply) → x.book.next_claim ≡ n → y.book.next_claim ≡ n → (if t then x else y).book.next_claim ≡ n
-either_way n t x y first second = search rules
-
-judged_claims : (w : World) (e : ℕ) → (judged e w).book.next_claim ≡ w.book.next_claim
-judged_claims w e = either_way w.book.next_claim (nat_lt excess_limit (w.book.excess e)) (kill e w) (goes_on (grace_of w e) w) refl refl
+answer_claims : (w : World) (r : Runner) (what : Timer) → (timer_reply r what w).book.next_claim ≡ w.book.next_claim
+answer_claims w r what = search rules
 
 pub timer_claims : (w : World) → (timer w).book.next_claim ≡ w.book.next_claim
-timer_claims w = search (rules, either_way, judged_claims)
+timer_claims w = search (rules, answer_claims)

@@ -13,7 +13,7 @@ use Rattle.world_model.specs.Verdict.{done}
 use Rattle.board_model.specs.declared.roster.Environment.{Environment}
 use Rattle.board_model.specs.Shown.{Shown}
 use Rattle.board_model.specs.Showing.{world_of, solo_of}
-use Rattle.board_model.specs.Sound.{IsSound}
+use Rattle.board_model.specs.Sound.{IsSoundBoard}
 use Rattle.board_model.specs.Doing as doing
 use Rattle.board_model.proofs.Lists.{changed_here, changed_else, length-changed}
 use Rattle.board_model.proofs.Mappings.{kept_mappings}
@@ -25,7 +25,7 @@ use Rattle.board_model.proofs.Sound.{Keeps, keeps_accepting, keeps_handling, kee
 pub keeps_own : (b : Shown) (e : ℕ) (own : OwnDeed) → Keeps (doing.own_record b e own)
 keeps_own b e own = search (rules, keeps_putting, keeps_sending, keeps_handling, keeps_accepting)
 
-module _ (b : Shown) (e : ℕ) (x : Environment) (r : Runs b e x) (sound : IsSound b) where
+module _ (b : Shown) (e : ℕ) (x : Environment) (r : Runs b e x) (sound : IsSoundBoard b) where
   looks : (λ v. doing.look_of b e v) ≡ sight (runner_solo b e x)
   looks = λ k v. its_look b e x r sound v k
 

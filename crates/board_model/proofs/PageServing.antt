@@ -10,14 +10,14 @@ use Rattle.page_book.specs.declared.row.PageRow.{PageRow}
 use Rattle.page_book.specs.declared.row.PageRow.TheVariants.{Free, Guaranteed, Owned}
 use Rattle.page_book.specs.Row.{is_owned_by}
 use Rattle.page_book.specs.Rows.{row_in}
-use Rattle.bind_book.specs.Stripe.{breaks_page, is_bound, without}
+use Rattle.bind_book.specs.Stripe.{leads_to_page, is_bound, without}
 use Rattle.page_laws.specs.Sight.{Sees}
 use Rattle.page_laws.proofs.Sights.{allocator_sees, others_dont, freer_loses, recapper_keeps}
 use Rattle.page_laws.proofs.Stripes.{bound_nowhere}
 use Rattle.page_laws.proofs.Tables.{set_owns}
 use Rattle.world_model.specs.declared.call.Deed.TheVariants.{Allocates, Frees, Recaps}
 use Rattle.world_model.specs.declared.verdict.Verdict.TheVariants.{Grant}
-use Rattle.world_model.specs.Book.{broken}
+use Rattle.world_model.specs.Book.{without_bindings_of}
 use Rattle.world_model.specs.Holding.{gained, owning, lost}
 use Rattle.world_model.specs.Item.{Gained, Lost, absorb_all, answered_cpu}
 use Rattle.world_model.specs.PageCalls as calls
@@ -29,7 +29,7 @@ use Rattle.world_model.specs.World.{Reply, only}
 use Rattle.board_model.specs.declared.roster.Environment.{Environment}
 use Rattle.board_model.specs.Shown.{Shown, mappings_of}
 use Rattle.board_model.specs.Showing.{world_of, book_of, solo_of, pages_seen}
-use Rattle.board_model.specs.Sound.{IsSound}
+use Rattle.board_model.specs.Sound.{IsSoundBoard}
 use Rattle.board_model.specs.Doing as doing
 use Rattle.revocation_book.specs.Backups.{unloaded}
 use Rattle.revocation_book.specs.Pending.{lowered}
@@ -49,7 +49,7 @@ use Rattle.board_model.proofs.Giving.{other_pages}
 pub own_sees : (b : Shown) (e : ℕ) (x : Environment) → Sees e (row_in b.pages) (stripe_of b e) (page_at b.frames) (runner_solo b e x)
 own_sees b e x = record { binds = λ row. refl; seen = λ page. refl }
 
-module _ (b : Shown) (e : ℕ) (x : Environment) (r : Runs b e x) (sound : IsSound b) where
+module _ (b : Shown) (e : ℕ) (x : Environment) (r : Runs b e x) (sound : IsSoundBoard b) where
   -- a page that isn't guaranteed is mapped by nobody
   mapped_else : (page : ℕ) (bytes : List ℕ) → row_in b.pages page ≡ Free → (i : ℕ) → pages_seen (with_page b.frames page bytes) (mappings_of b.roster.list i) ≡ pages_seen b.frames (mappings_of b.roster.list i)
   mapped_else page bytes free i =
@@ -131,17 +131,17 @@ module _ (b : Shown) (e : ℕ) (x : Environment) (r : Runs b e x) (sound : IsSou
     abbrev changed : Shown
     changed = doing.after_answer (doing.with_broken b page row but) (Grant v)
 
-    changed_book : book_of changed ≡ broken page but (record (book_of b) { pages = set_at page row (row_in b.pages) })
+    changed_book : book_of changed ≡ without_bindings_of page but (record (book_of b) { pages = set_at page row (row_in b.pages) })
     changed_book = broken_book b page row but within
 
     -- whoever had bound the page loses it
-    changed_others : is_owned_by e (row_in b.pages page) ≡ true → (i : ℕ) → i ≢ e → but ≢ Some i → is_owned_by i row ≡ false → solo_of changed i ≡ absorb_all (solo_of b i) (calls.breaks (book_of b) page i)
+    changed_others : is_owned_by e (row_in b.pages page) ≡ true → (i : ℕ) → i ≢ e → but ≢ Some i → is_owned_by i row ≡ false → solo_of changed i ≡ absorb_all (solo_of b i) (calls.lost_bindings (book_of b) page i)
     changed_others owns i ne other after =
         like_solo i changed (doing.with_broken b page row but) (search (rules, (r.runs.others i ne)))
         ∙ broken_else b page row but within sound e owns i ne other after
 
     -- what the runner sees, if the page's law says so
-    changed_own : (s : Solo) → Sees e (set_at page row (row_in b.pages)) (λ n. without (breaks_page page but e) (stripe_of b e n)) (page_at b.frames) s → Sees e (row_in changed.pages) (stripe_of changed e) (page_at b.frames) s
+    changed_own : (s : Solo) → Sees e (set_at page row (row_in b.pages)) (λ n. without (leads_to_page page but e) (stripe_of b e n)) (page_at b.frames) s → Sees e (row_in changed.pages) (stripe_of changed e) (page_at b.frames) s
     changed_own s seen = broken_sees b page row but within e s seen
 
   -- the runner's place in the book of revocations
@@ -162,7 +162,7 @@ module _ (b : Shown) (e : ℕ) (x : Environment) (r : Runs b e x) (sound : IsSou
           backups = λ i. backups_set (with_pending b.revocations e (lowered (pending_at b.revocations e))) e (unloaded page (backups_at b.revocations e)) its_place.1 i k;
         };
         count = refl;
-        solos = all_given (solo_of b) (solo_of now) e (deeded (Frees page) v (solo_of b e)) (Lost page ∷ []) (calls.breaks (book_of b) page)
+        solos = all_given (solo_of b) (solo_of now) e (deeded (Frees page) v (solo_of b e)) (Lost page ∷ []) (calls.lost_bindings (book_of b) page)
             (runner_seen now e x still
             ∙ (λ k. record (runner_solo b e x) { cpu = answered_cpu (Grant v) b.cpu; binds = λ n. sym (sees.binds n) k; seen = λ p. sym (sees.seen p) k; rings = rings_dropped b.claims page e k })
             ∙ ap (λ s. absorb_all s (Lost page ∷ [])) (deeded_seen b e x r (Frees page) v))
@@ -186,7 +186,7 @@ module _ (b : Shown) (e : ℕ) (x : Environment) (r : Runs b e x) (sound : IsSou
       record {
         book = changed_book page row (Some e) v may.there;
         count = refl;
-        solos = all_given (solo_of b) (solo_of now) e (deeded (Recaps page words) v (solo_of b e)) [] (calls.breaks (book_of b) page)
+        solos = all_given (solo_of b) (solo_of now) e (deeded (Recaps page words) v (solo_of b e)) [] (calls.lost_bindings (book_of b) page)
             (runner_seen now e x still
             ∙ (λ k. record (runner_solo b e x) { cpu = answered_cpu (Grant v) b.cpu; binds = λ n. sym (sees.binds n) k; seen = λ p. sym (sees.seen p) k })
             ∙ deeded_seen b e x r (Recaps page words) v)

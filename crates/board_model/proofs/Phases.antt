@@ -24,10 +24,10 @@ pub called_still : (w : World) (e : ℕ) (c : Option Call) → acted_world w e (
 called_still w e c = worlds (acted_world w e (Calls c)) w refl refl (set_same e w.solos) refl
 
 -- what an act brings doesn't hang on what the environment did itself
-pub acted_brings : (w : World) (e : ℕ) (act : Act) → tick.brings e act (acted_world w e act) ≡ tick.brings e act w
+pub acted_brings : (w : World) (e : ℕ) (act : Act) → tick.act_reply e act (acted_world w e act) ≡ tick.act_reply e act w
 acted_brings w e Nothing = refl
 acted_brings w e (Stores x) = refl
-acted_brings w e (Calls c) = ap (tick.brings e (Calls c)) (called_still w e c)
+acted_brings w e (Calls c) = ap (tick.act_reply e (Calls c)) (called_still w e c)
 acted_brings w e (Raises exc) = refl
 acted_brings w e (Dies cause) = refl
 
@@ -41,7 +41,7 @@ told_acted w e item act acts =
     (append-nil w.rows)
 
 -- it is told, and then comes what the act brings
-pub told_first : (w : World) (e : ℕ) (item : Item) (act : Act) → absorb (w.solos e) item ≡ acted act (w.solos e) → after w (in_turn (tells e item ∷ tick.brings e act ∷ []) w) ≡ tick.act_world w e act
+pub told_first : (w : World) (e : ℕ) (item : Item) (act : Act) → absorb (w.solos e) item ≡ acted act (w.solos e) → after w (in_turn (tells e item ∷ tick.act_reply e act ∷ []) w) ≡ tick.act_world w e act
 told_first w e item act acts =
-    in_turn_is_each w (tells e item ∷ tick.brings e act ∷ [])
-    ∙ ap (λ v. after v (tick.brings e act v)) (told_acted w e item act acts)
+    in_turn_is_each w (tells e item ∷ tick.act_reply e act ∷ [])
+    ∙ ap (λ v. after v (tick.act_reply e act v)) (told_acted w e item act acts)

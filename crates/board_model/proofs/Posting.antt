@@ -17,7 +17,7 @@ use Rattle.world_model.specs.Upcalls.{with_context}
 use Rattle.board_model.specs.declared.roster.Environment.{Environment}
 use Rattle.board_model.specs.Shown.{Shown, mappings_in, mappings_of}
 use Rattle.board_model.specs.Showing.{page_seen, pages_seen, solo_of, solo_or_absent, solo_seen}
-use Rattle.board_model.specs.Sound.{IsSound}
+use Rattle.board_model.specs.Sound.{IsSoundBoard}
 use Rattle.board_model.specs.Doing.{context_of}
 use Rattle.board_model.proofs.Contexts.{left_by, left_others, left_own, left_sights, left_store}
 use Rattle.board_model.proofs.Pages.{seen_kept}
@@ -51,7 +51,7 @@ with_left b e place leave = record b { frames = left_in place (leave (context_by
 abbrev pub left_with : ℕ → (List ℕ → List ℕ) → Solo → Solo
 left_with place leave s = with_context place (leave (bytes_in (kept_at s.kept context_number))) s
 
-module _ (b : Shown) (sound : IsSound b) (e : ℕ) (x : Environment) (at : slice_get b.roster.list e ≡ Some x) (lives : x.life ≡ Live) (place : ℕ) (leave : List ℕ → List ℕ)
+module _ (b : Shown) (sound : IsSoundBoard b) (e : ℕ) (x : Environment) (at : slice_get b.roster.list e ≡ Some x) (lives : x.life ≡ Live) (place : ℕ) (leave : List ℕ → List ℕ)
     (number : (page_size + place) / page_size ≡ context_number) (same_place : (page_size + place) % page_size ≡ place) where
   abbrev owner : Solo
   owner = record (solo_seen b e x) { life = Live }
@@ -106,7 +106,7 @@ changed_left : (word : PostWord) (f : ℕ → ℕ) (frames : List (List ℕ)) (m
     changed_in word f (option_map (λ (m : Mapping). m.page) m) frames ≡ left_in (post_offset word) (new_word word f (bytes_in (option_map (page_seen frames) m))) (option_map (λ (m : Mapping). m.page) m) frames
 changed_left word f frames m = search rules
 
-module _ (b : Shown) (sound : IsSound b) (e : ℕ) (x : Environment) (at : slice_get b.roster.list e ≡ Some x) (lives : x.life ≡ Live) (f : ℕ → ℕ) where
+module _ (b : Shown) (sound : IsSoundBoard b) (e : ℕ) (x : Environment) (at : slice_get b.roster.list e ≡ Some x) (lives : x.life ≡ Live) (f : ℕ → ℕ) where
   board_is : (word : PostWord) → with_word b e word f ≡ with_left b e (post_offset word) (new_word word f)
   board_is word = λ k. record b { frames = changed_left word f b.frames (mapping_at (mappings_of b.roster.list e) context_number) k }
 

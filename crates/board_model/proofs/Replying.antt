@@ -12,7 +12,7 @@ use Rattle.world_model.specs.Solo.{Solo}
 use Rattle.world_model.specs.Step.{Act, acted}
 use Rattle.world_model.specs.Table.{set_at}
 use Rattle.world_model.specs.Tick as tick
-use Rattle.world_model.specs.Verdict.{done, reply_of}
+use Rattle.world_model.specs.Verdict.{done, reply_by_verdict}
 use Rattle.world_model.specs.World.{Reply, after, in_turn, no_change, tells, no_items}
 use Rattle.board_model.specs.declared.roster.Environment.{Environment}
 use Rattle.board_model.specs.Shown.{Shown}
@@ -35,15 +35,15 @@ pub record Serves (b : Shown) (e : ℕ) (first : Solo) (reply : Reply) (new : Sh
   pub time : new.time ≡ b.time
 
 -- apart from a tick it is the world once the act is served
-pub alone : (b : Shown) (e : ℕ) (act : Act) (new : Shown) → Serves b e (acted act (solo_of b e)) (tick.brings e act (world_of b)) new → world_of new ≡ tick.act_world (world_of b) e act
+pub alone : (b : Shown) (e : ℕ) (act : Act) (new : Shown) → Serves b e (acted act (solo_of b e)) (tick.act_reply e act (world_of b)) new → world_of new ≡ tick.act_world (world_of b) e act
 alone b e act new serves =
     let w = world_of b in
-    worlds (world_of new) (after (acted_world w e act) (tick.brings e act w)) serves.book serves.count serves.solos serves.rows
+    worlds (world_of new) (after (acted_world w e act) (tick.act_reply e act w)) serves.book serves.count serves.solos serves.rows
     ∙ ap (after (acted_world w e act)) (sym (acted_brings w e act))
 
 -- and where what the runner is told makes it do the act it is the world after both
-pub told : (b : Shown) (e : ℕ) (item : Item) (act : Act) (new : Shown) → Serves b e (acted act (solo_of b e)) (tick.brings e act (world_of b)) new → absorb (solo_of b e) item ≡ acted act (solo_of b e) →
-    world_of new ≡ after (world_of b) (in_turn (tells e item ∷ tick.brings e act ∷ []) (world_of b))
+pub told : (b : Shown) (e : ℕ) (item : Item) (act : Act) (new : Shown) → Serves b e (acted act (solo_of b e)) (tick.act_reply e act (world_of b)) new → absorb (solo_of b e) item ≡ acted act (solo_of b e) →
+    world_of new ≡ after (world_of b) (in_turn (tells e item ∷ tick.act_reply e act ∷ []) (world_of b))
 told b e item act new serves acts = alone b e act new serves ∙ sym (told_first (world_of b) e item act acts)
 
 -- where one did something itself, and each is given something
@@ -83,7 +83,7 @@ module _ (b : Shown) (e : ℕ) (x : Environment) (r : Runs b e x) where
   deeded_seen d v = ap (deeded d v) (sym (runner_seen b e x r))
 
   -- a call is refused
-  pub refuses : (why : Code) (v : ℕ) → Serves b e (solo_of b e) (reply_of (world_of b) e (Refuse why v)) (doing.after_answer b (Refuse why v))
+  pub refuses : (why : Code) (v : ℕ) → Serves b e (solo_of b e) (reply_by_verdict (world_of b) e (Refuse why v)) (doing.after_answer b (Refuse why v))
   refuses why v = search (rules, one_given, runner_seen, append-nil, answered_seen, answered_others)
 
   -- a call is answered, and that is all
@@ -91,5 +91,5 @@ module _ (b : Shown) (e : ℕ) (x : Environment) (r : Runs b e x) where
   answers v = changes_one refl refl refl (answered_seen (Grant v) ∙ deeded_seen Answers v) (answered_others (Grant v))
 
   -- a call is granted: what it does comes behind the answer
-  pub granted_serves : (v : ℕ) (new : Shown) → Serves b e (deeded (deed_at (solo_of b e) v) v (solo_of b e)) (done (world_of b) e (deed_at (solo_of b e) v)) new → Serves b e (solo_of b e) (reply_of (world_of b) e (Grant v)) new
+  pub granted_serves : (v : ℕ) (new : Shown) → Serves b e (deeded (deed_at (solo_of b e) v) v (solo_of b e)) (done (world_of b) e (deed_at (solo_of b e) v)) new → Serves b e (solo_of b e) (reply_by_verdict (world_of b) e (Grant v)) new
   granted_serves v new serves = search (rules, fold-append, runner_seen, one_given, set_here, set_else)

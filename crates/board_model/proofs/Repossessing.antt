@@ -25,18 +25,18 @@ use Rattle.world_model.specs.declared.life.Life.TheVariants.{Live}
 use Rattle.world_model.specs.Deadlines.{copy_left, settles, takes}
 use Rattle.world_model.specs.Item.{Taken, absorb, absorb_all}
 use Rattle.world_model.specs.PageCalls as calls
-use Rattle.world_model.specs.PageCalls.{breaks, page_bytes}
+use Rattle.world_model.specs.PageCalls.{lost_bindings, page_bytes}
 use Rattle.world_model.specs.Post.{post_word}
-use Rattle.world_model.specs.Repossession.{copied, counted_taking, recorded, taken}
+use Rattle.world_model.specs.Repossession.{copied, counted_taking, recorded, with_page_taken}
 use Rattle.world_model.specs.Rings.{page_store}
 use Rattle.world_model.specs.Solo.{Physical, bytes_of, with_store}
-use Rattle.world_model.specs.Tick.{served}
 use Rattle.world_model.specs.World.{World, Reply, after, run_phases}
 use Rattle.board_model.specs.declared.roster.Environment.{Environment}
 use Rattle.board_model.specs.Shown.{Shown}
 use Rattle.board_model.specs.Showing.{book_of, solo_of, solo_or_absent, world_of}
-use Rattle.board_model.specs.Sound.{IsLive, IsSound}
-use Rattle.board_model.specs.Doing.{context_of, frames_after_copy, with_deadlines_over, after_deadlines, after_taking, takings_in, with_freed}
+use Rattle.board_model.specs.Sound.{IsLiving, IsSoundBoard}
+use Rattle.board_model.specs.Laws.{ServingShowsModel}
+use Rattle.board_model.specs.Doing.{context_of, frames_after_copy, with_deadlines_over, after_deadlines, after_taking, board_takings, with_freed}
 use Rattle.board_model.proofs.Asked.{backups_set, pending_served, taken_asked}
 use Rattle.board_model.proofs.Booked.{free_booked}
 use Rattle.board_model.proofs.Breaking.{freed_book, freed_else, freed_own}
@@ -76,7 +76,7 @@ frames_if : (t : Bool) (b : Shown) (e n page : ℕ) (backup : Option ℕ) → le
 frames_if true b e n page backup = grind (arith, length-set)
 frames_if false b e n page backup = refl
 
-module _ (b : Shown) (sound : IsSound b) (e : ℕ) (x : Environment) (at : slice_get b.roster.list e ≡ Some x) (lives : x.life ≡ Live) (page : ℕ) (backup : Option ℕ) where
+module _ (b : Shown) (sound : IsSoundBoard b) (e : ℕ) (x : Environment) (at : slice_get b.roster.list e ≡ Some x) (lives : x.life ≡ Live) (page : ℕ) (backup : Option ℕ) where
   abbrev n : ℕ
   n = records b e
 
@@ -100,10 +100,10 @@ module _ (b : Shown) (sound : IsSound b) (e : ℕ) (x : Environment) (at : slice
   abbrev now : Shown
   now = with_record b e page backup
 
-  now_sound : IsSound now
+  now_sound : IsSoundBoard now
   now_sound = by_test (nat_lt n most_records)
     where
-      by_test : (t : Bool) → IsSound (recorded_if t b e n page backup)
+      by_test : (t : Bool) → IsSoundBoard (recorded_if t b e n page backup)
       by_test true = sound_frames _ (frames_if true b e n page backup) sound
       by_test false = sound
 
@@ -128,11 +128,11 @@ module _ (b : Shown) (sound : IsSound b) (e : ℕ) (x : Environment) (at : slice
   written_size = search (rules, same_size, frames_if, written_is)
 
 -- A page that may be taken is its owner's, who lives, and so is the backup.
-module _ (b : Shown) (sound : IsSound b) (x : Taking) (may : IsTakable (books_of b.pages b.revocations) b.time x) where
+module _ (b : Shown) (sound : IsSoundBoard b) (x : Taking) (may : IsTakable (books_of b.pages b.revocations) b.time x) where
   abbrev e : ℕ
   e = x.env
 
-  pub owner_live : IsLive b.roster.list x.env
+  pub owner_live : IsLiving b.roster.list x.env
   owner_live = sound.books.owners x.page x.env (owner_is x.env (row_in b.pages x.page) may.owned)
 
   not_free : (page : ℕ) → is_owned_by e (row_in b.pages page) ≡ true → row_in b.pages page ≢ Free
@@ -180,7 +180,7 @@ module _ (b : Shown) (sound : IsSound b) (x : Taking) (may : IsTakable (books_of
   pub copy_size : length (frames_after_copy x.page x.backup b.frames) ≡ length b.frames
   copy_size = grind (arith, length-set)
 
-  copied_sound : IsSound copied_board
+  copied_sound : IsSoundBoard copied_board
   copied_sound = sound_frames (frames_after_copy x.page x.backup b.frames) copy_size sound
 
   -- the page, as its owner sees it
@@ -206,7 +206,7 @@ module _ (b : Shown) (sound : IsSound b) (x : Taking) (may : IsTakable (books_of
   abbrev recorded_board : Shown
   recorded_board = record copied_board { frames = taken_in x.page x.backup (context_of copied_board e) copied_board.frames }
 
-  recorded_sound : IsSound recorded_board
+  recorded_sound : IsSoundBoard recorded_board
   recorded_sound = sound_frames _ (written_size copied_board copied_sound e its lived.1.0 lived.1.1 x.page x.backup) copied_sound
 
   -- and then the page goes
@@ -221,15 +221,15 @@ module _ (b : Shown) (sound : IsSound b) (x : Taking) (may : IsTakable (books_of
       gone_like e
       ∙ freed_own recorded_board x.page page_there e its lived.1.0
       ∙ ap (lost x.page) (written_here copied_board copied_sound e its lived.1.0 lived.1.1 x.page x.backup ∙ ap (counted_taking x.page x.backup) (copied_here x.backup refl))
-      ∙ ap (taken x.page x.backup) (live_shown b e its lived.1.0 lived.1.1)
+      ∙ ap (with_page_taken x.page x.backup) (live_shown b e its lived.1.0 lived.1.1)
       ∙ ap (λ s. absorb_all s (Taken x.page x.backup ∷ [])) (sym (live_shown b e its lived.1.0 lived.1.1))
 
-  gone_else : (i : ℕ) → i ≢ e → solo_of gone i ≡ absorb_all (solo_of b i) (copy_left (world_of b) x x.backup i ++ breaks (book_of b) x.page i)
+  gone_else : (i : ℕ) → i ≢ e → solo_of gone i ≡ absorb_all (solo_of b i) (copy_left (world_of b) x x.backup i ++ lost_bindings (book_of b) x.page i)
   gone_else i ne =
       gone_like i
       ∙ freed_else recorded_board x.page page_there recorded_sound e may.owned i ne
-      ∙ ap (λ s. absorb_all s (breaks (book_of b) x.page i)) (written_else copied_board copied_sound e its lived.1.0 lived.1.1 x.page x.backup i ne ∙ copied_else x.backup refl i ne)
-      ∙ sym (fold-append absorb (solo_of b i) (copy_left (world_of b) x x.backup i) (breaks (book_of b) x.page i))
+      ∙ ap (λ s. absorb_all s (lost_bindings (book_of b) x.page i)) (written_else copied_board copied_sound e its lived.1.0 lived.1.1 x.page x.backup i ne ∙ copied_else x.backup refl i ne)
+      ∙ sym (fold-append absorb (solo_of b i) (copy_left (world_of b) x x.backup i) (lost_bindings (book_of b) x.page i))
 
   pub taken_world : world_of gone ≡ after (world_of b) (takes x (world_of b))
   taken_world =
@@ -237,11 +237,11 @@ module _ (b : Shown) (sound : IsSound b) (x : Taking) (may : IsTakable (books_of
       (λ k. record (freed_book b x.page page_there k) { backups = λ i. backups_set b.revocations e (drop 1 (backups_at b.revocations e)) its_place i k })
       refl
       (by_env (solo_of gone) (λ i. absorb_all (solo_of b i) ((takes x (world_of b)).items i)) e
-      (gone_here ∙ ap (absorb_all (solo_of b e)) (sym (set_here e (Taken x.page x.backup ∷ []) (λ i. copy_left (world_of b) x x.backup i ++ breaks (book_of b) x.page i))))
-      (λ i ne. gone_else i ne ∙ ap (absorb_all (solo_of b i)) (sym (set_else e i (Taken x.page x.backup ∷ []) (λ i. copy_left (world_of b) x x.backup i ++ breaks (book_of b) x.page i) ne))))
+      (gone_here ∙ ap (absorb_all (solo_of b e)) (sym (set_here e (Taken x.page x.backup ∷ []) (λ i. copy_left (world_of b) x x.backup i ++ lost_bindings (book_of b) x.page i))))
+      (λ i ne. gone_else i ne ∙ ap (absorb_all (solo_of b i)) (sym (set_else e i (Taken x.page x.backup ∷ []) (λ i. copy_left (world_of b) x x.backup i ++ lost_bindings (book_of b) x.page i) ne))))
       refl
 
-  pub taken_sound : IsSound gone
+  pub taken_sound : IsSoundBoard gone
   taken_sound =
       sound_memory _ _ _ _ _
       (row_parted gone.frames b.pages b.roster.list x.page Free (owned_by_none e (row_in b.pages x.page) may.owned) recorded_sound.memory)
@@ -254,7 +254,7 @@ module _ (b : Shown) (sound : IsSound b) (x : Taking) (may : IsTakable (books_of
 pub taken_books : (b : Shown) (x : Taking) → x.page < length b.pages → x.env < length b.revocations.backups → books_of (after_taking b x).pages (after_taking b x).revocations ≡ books_taken x (books_of b.pages b.revocations)
 taken_books b x there place = search (rules, table_set, length-set, backups_set)
 
-all_taken : (b : Shown) (xs : List Taking) → IsSound b → AreTakable (books_of b.pages b.revocations) b.time xs → (world_of (fold after_taking b xs) ≡ run_phases (world_of b) (map takes xs)) × IsSound (fold after_taking b xs)
+all_taken : (b : Shown) (xs : List Taking) → IsSoundBoard b → AreTakable (books_of b.pages b.revocations) b.time xs → (world_of (fold after_taking b xs) ≡ run_phases (world_of b) (map takes xs)) × IsSoundBoard (fold after_taking b xs)
 all_taken b [] sound may = (refl, sound)
 all_taken b (x ∷ xs) sound may =
     let there = page_there b sound x may.0 in
@@ -269,7 +269,7 @@ run_last : (w : World) (xs : List (World → Reply)) (phase : World → Reply) �
 run_last w [] phase = refl
 run_last w (x ∷ xs) phase = run_last (after w (x w)) xs phase
 
-pub served_world : TakingsAreTakable → (b : Shown) → IsSound b → world_of (after_deadlines b) ≡ served (world_of b)
+pub served_world : TakingsAreTakable → ServingShowsModel
 served_world law b sound = search (rules, all_taken, over_world, run_last)
 
 -- Where no deadline has come nothing is taken, and none is over.
@@ -303,9 +303,9 @@ taken_leaves : (b : Shown) (xs : List Taking) → IsServed b (fold after_taking 
 taken_leaves b [] = record { slots = refl; time = refl; numbers = refl; whole = refl; room = omega arith }
 taken_leaves b (x ∷ xs) = search (rules, (taken_leaves (after_taking b x) xs))
 
-pub served_leaves : TakingsAreFew → (b : Shown) → IsSound b → IsServed b (after_deadlines b) most_pages
+pub served_leaves : TakingsAreFew → (b : Shown) → IsSoundBoard b → IsServed b (after_deadlines b) most_pages
 served_leaves few b sound = search (rules, taken_leaves)
 
 -- nothing more is taken than there are rows for
-pub takings_few : TakingsAreFew → (b : Shown) → length (takings_in b) ≤ length b.pages
+pub takings_few : TakingsAreFew → (b : Shown) → length (board_takings b) ≤ length b.pages
 takings_few few b = omega (arith, few (books_of b.pages b.revocations) b.time (length b.roster.list))

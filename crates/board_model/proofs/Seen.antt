@@ -27,7 +27,7 @@ use Rattle.board_model.specs.declared.roster.Environment.{Environment}
 use Rattle.board_model.specs.Rings.{rings_of}
 use Rattle.board_model.specs.Shown.{Shown, mappings_in, mappings_of}
 use Rattle.board_model.specs.Showing.{solo_of, solo_or_absent, solo_seen, cpu_seen, pages_seen, world_of}
-use Rattle.board_model.specs.Sound.{IsSound, IsParted, IsAlive, IsLive, IsOwned}
+use Rattle.board_model.specs.Sound.{IsSoundBoard, PagesAgree, IsAlive, IsLiving, IsOwned}
 use Rattle.board_model.specs.Doing.{step_seen, look_of}
 use Rattle.board_model.proofs.Looks.{seen_look}
 use Rattle.board_model.proofs.Slots.{is_there}
@@ -87,7 +87,7 @@ pub row_there : (pages : List PageRow) (page : ℕ) → row_in pages page ≢ Fr
 row_there pages page taken = grind (arith, common_steps)
 
 -- a page that is mapped is there, and guaranteed
-pub guaranteed_there : (frames : List (List ℕ)) (pages : List PageRow) (list : List Environment) → IsParted frames pages list → (e a : ℕ) (m : Mapping) → slice_get (mappings_of list e) a ≡ Some m → m.page < length frames
+pub guaranteed_there : (frames : List (List ℕ)) (pages : List PageRow) (list : List Environment) → PagesAgree frames pages list → (e a : ℕ) (m : Mapping) → slice_get (mappings_of list e) a ≡ Some m → m.page < length frames
 guaranteed_there frames pages list parted e a m at =
     let its : row_in pages m.page ≡ Guaranteed e = (parted.mapped e).its a m at in
     omega (arith, parted.same, row_there pages m.page (λ free. let both : Guaranteed e ≡ Free = sym its ∙ free in cc))
@@ -97,7 +97,7 @@ pub owned_taken : (row : PageRow) → IsOwned row → row ≢ Free
 owned_taken row owned is = search rules
 
 -- a page that is bound is there, and is bound
-pub bound_there : (b : Shown) (e v : ℕ) (y : Binding) → IsSound b → binding_at (stripe_of b e) v ≡ Some y → (y.page < length b.frames) × (is_bound y.page (stripe_of b e) ≡ true)
+pub bound_there : (b : Shown) (e v : ℕ) (y : Binding) → IsSoundBoard b → binding_at (stripe_of b e) v ≡ Some y → (y.page < length b.frames) × (is_bound y.page (stripe_of b e) ≡ true)
 bound_there b e v y sound found =
     let at = found_in_row v (stripe_of b e (row_of v)) y found in
     let there = row_there b.pages y.page (owned_taken (row_in b.pages y.page) (sound.books.bound e (row_of v) y at)) in
@@ -122,10 +122,10 @@ pub live_shown : (b : Shown) (e : ℕ) (x : Environment) → slice_get b.roster.
 live_shown b e x at lives = ap (solo_or_absent b e) at ∙ (λ k. record (solo_seen b e x) { life = lives k })
 
 -- a runner is an environment that lives
-pub runner_live : (list : List Environment) (e : ℕ) (runner : Option Runner) → IfSome runner (λ r. IsLive list r.env) → running runner ≡ Some e → IsLive list e
+pub runner_live : (list : List Environment) (e : ℕ) (runner : Option Runner) → IfSome runner (λ r. IsLiving list r.env) → running runner ≡ Some e → IsLiving list e
 runner_live list e runner live is = search rules
 
-pub runner_runs : (b : Shown) (e : ℕ) → IsSound b → running b.slots.runner ≡ Some e → (x : Environment) × Runs b e x
+pub runner_runs : (b : Shown) (e : ℕ) → IsSoundBoard b → running b.slots.runner ≡ Some e → (x : Environment) × Runs b e x
 runner_runs b e sound runs = search (rules, runner_live, live_record, named)
 
 module _ (b : Shown) (e : ℕ) (x : Environment) (r : Runs b e x) where
@@ -137,7 +137,7 @@ module _ (b : Shown) (e : ℕ) (x : Environment) (r : Runs b e x) where
   pub its_mappings : mappings_of b.roster.list e ≡ x.env.mappings
   its_mappings = ap mappings_in r.at
 
-  pub its_look : IsSound b → (v : ℕ) → look_of b e v ≡ sight (runner_solo b e x) v
+  pub its_look : IsSoundBoard b → (v : ℕ) → look_of b e v ≡ sight (runner_solo b e x) v
   its_look sound v =
       opened_look b e v
       ∙ ap (λ ms. look b.frames (mapping_in ms (stripe_of b e)) v) its_mappings
@@ -146,7 +146,7 @@ module _ (b : Shown) (e : ℕ) (x : Environment) (r : Runs b e x) where
       (λ y at. bound_there b e v y sound at)
 
   -- the machine's step is what the environment does alone
-  pub its_step : IsSound b → step_seen b e ≡ step_alone (runner_solo b e x)
+  pub its_step : IsSoundBoard b → step_seen b e ≡ step_alone (runner_solo b e x)
   its_step sound = ap (λ (l : ℕ → Option Mapped). step_of b.cpu (view_of (answers_by l) b.cpu)) (λ k v. its_look sound v k)
 
 -- the pages that an environment of the board sees

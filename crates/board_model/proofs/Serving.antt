@@ -12,7 +12,6 @@ use Rattle.world_model.specs.declared.life.Cause.{Cause}
 use Rattle.world_model.specs.declared.life.Cause.TheVariants as cause
 use Rattle.world_model.specs.declared.verdict.Verdict.{Verdict}
 use Rattle.world_model.specs.declared.verdict.Verdict.TheVariants.{Refuse, Grant}
-use Rattle.world_model.specs.Book.{running}
 use Rattle.world_model.specs.Call.{called, exit_number}
 use Rattle.world_model.specs.Death.{death}
 use Rattle.world_model.specs.Call.{deed_of}
@@ -21,15 +20,15 @@ use Rattle.world_model.specs.May.{May}
 use Rattle.world_model.specs.Solo.{Solo, dead}
 use Rattle.world_model.specs.Step.{Calls, Dies, act_at_call, acted, call_act}
 use Rattle.world_model.specs.Tick as tick
-use Rattle.world_model.specs.Verdict.{done, reply_of, verdict, verdict_now}
+use Rattle.world_model.specs.Verdict.{done, reply_by_verdict, verdict, verdict_now}
 use Rattle.world_model.specs.World.{World, after, tells}
 use Rattle.call_verdicts.specs.Granted.{GrantedMay}
-use Rattle.filter_tree.specs.ClaimBook.{are_numbered}
 use Rattle.filter_tree.specs.Laws.{FirstIsNumbered}
 use Rattle.board_model.specs.declared.roster.Environment.{Environment}
 use Rattle.board_model.specs.Shown.{Shown}
 use Rattle.board_model.specs.Showing.{world_of, solo_of}
-use Rattle.board_model.specs.Sound.{IsSound}
+use Rattle.board_model.specs.Laws.{CallShowsModel, DeathShowsModel, RefusalShowsModel}
+use Rattle.board_model.specs.Sound.{HasClaimNumbers, HasRunner, IsSoundBoard}
 use Rattle.board_model.specs.Doing as doing
 use Rattle.board_model.proofs.Parts.{by_env, set_here, set_else, only_here, only_else}
 use Rattle.board_model.proofs.Seen.{Runs, runner_seen, runner_runs}
@@ -46,7 +45,7 @@ use Rattle.board_model.proofs.LineServing.{drops_line, loads_page, takes_line}
 use Rattle.board_model.proofs.SlotServing.{drops, takes}
 use Rattle.board_model.proofs.TransferServing.{entered_room, transfers}
 
-module _ (b : Shown) (e : ℕ) (x : Environment) (r : Runs b e x) (sound : IsSound b) (unique : FirstIsNumbered) (numbered : are_numbered 0 b.claims.next b.claims.rows ≡ true) where
+module _ (b : Shown) (e : ℕ) (x : Environment) (r : Runs b e x) (sound : IsSoundBoard b) (unique : FirstIsNumbered) (numbered : HasClaimNumbers b) where
   -- each deed
   does : (d : Deed) (v : ℕ) → May (world_of b) e d → Serves b e (deeded d v (solo_of b e)) (done (world_of b) e d) (doing.after_grant b e v d)
   does Answers v may = answers b e x r v
@@ -69,7 +68,7 @@ module _ (b : Shown) (e : ℕ) (x : Environment) (r : Runs b e x) (sound : IsSou
   does (Loads page) v may = loads_page b e x r sound page v
 
   -- each verdict on a call
-  judged : GrantedMay → (which : Verdict) → verdict (world_of b) e (called b.cpu) ≡ which → Serves b e (solo_of b e) (reply_of (world_of b) e which) (doing.after_verdict b e (called b.cpu) which)
+  judged : GrantedMay → (which : Verdict) → verdict (world_of b) e (called b.cpu) ≡ which → Serves b e (solo_of b e) (reply_by_verdict (world_of b) e which) (doing.after_verdict b e (called b.cpu) which)
   judged law (Refuse why v) is = refuses b e x r why v
   judged law (Grant v) is =
       let same = ap (λ (s : Solo). s.cpu) (runner_seen b e x r) in
@@ -77,23 +76,23 @@ module _ (b : Shown) (e : ℕ) (x : Environment) (r : Runs b e x) (sound : IsSou
       (subst (λ cpu. Serves b e (deeded (deed_of (called cpu) v cpu) v (solo_of b e)) (done (world_of b) e (deed_of (called cpu) v cpu)) (doing.after_grant b e v (deed_of (called b.cpu) v b.cpu))) (sym same)
       (does (deed_of (called b.cpu) v b.cpu) v (subst (λ cpu. May (world_of b) e (deed_of (called b.cpu) v cpu)) same (law (world_of b) e (called b.cpu) v is))))
 
-  pub call_serves : GrantedMay → (exits : Bool) → Serves b e (acted (act_at_call b.cpu exits) (solo_of b e)) (tick.brings e (act_at_call b.cpu exits) (world_of b)) (doing.after_exit_or_call b e exits)
+  pub call_serves : GrantedMay → (exits : Bool) → Serves b e (acted (act_at_call b.cpu exits) (solo_of b e)) (tick.act_reply e (act_at_call b.cpu exits) (world_of b)) (doing.after_exit_or_call b e exits)
   call_serves law true = died_serves b e x r sound (cause.Exit (reg b.cpu 4))
   call_serves law false = judged law (verdict (world_of b) e (called b.cpu)) refl
 
 -- What is shown after a call, apart from a tick.
-pub called_world : GrantedMay → FirstIsNumbered → (b : Shown) (e : ℕ) → IsSound b → are_numbered 0 b.claims.next b.claims.rows ≡ true → running b.slots.runner ≡ Some e → world_of (doing.after_runner_call b e) ≡ tick.called_world (world_of b) e
-called_world law unique b e sound numbered runs =
-    let x = runner_runs b e sound runs in
-    alone b e (call_act b.cpu) (doing.after_runner_call b e) (call_serves b e x.0 x.1 sound unique numbered law (reg b.cpu 2 == exit_number))
+pub called_world : GrantedMay → FirstIsNumbered → CallShowsModel
+called_world law unique b e has numbers =
+    let x = runner_runs b e has.sound has.runs in
+    alone b e (call_act b.cpu) (doing.after_runner_call b e) (call_serves b e x.0 x.1 has.sound unique numbers law (reg b.cpu 2 == exit_number))
     ∙ ap (λ (s : Solo). tick.act_world (world_of b) e (call_act s.cpu)) (sym (runner_seen b e x.0 x.1))
 
 -- and after a death
-pub death_serves : (b : Shown) (e : ℕ) (cause : Cause) → IsSound b → running b.slots.runner ≡ Some e → Serves b e (dead cause (solo_of b e)) (death (world_of b) e) (doing.after_death b e cause)
-death_serves b e cause sound runs = let x = runner_runs b e sound runs in died_serves b e x.0 x.1 sound cause
+pub death_serves : (b : Shown) (e : ℕ) (cause : Cause) → HasRunner b e → Serves b e (dead cause (solo_of b e)) (death (world_of b) e) (doing.after_death b e cause)
+death_serves b e cause has = let x = runner_runs b e has.sound has.runs in died_serves b e x.0 x.1 has.sound cause
 
-pub died_world : (b : Shown) (e : ℕ) (cause : Cause) → IsSound b → running b.slots.runner ≡ Some e → world_of (doing.after_death b e cause) ≡ tick.died (world_of b) e cause
-died_world b e cause sound runs = alone b e (Dies cause) (doing.after_death b e cause) (death_serves b e cause sound runs)
+pub died_world : DeathShowsModel
+died_world b e cause has = alone b e (Dies cause) (doing.after_death b e cause) (death_serves b e cause has)
 
 -- Of a world whose verdict is a refusal: an exit has none, and the reply is the answer alone.
 module _ (w : World) (e : ℕ) (lives : (w.solos e).life ≡ Live) (why : Code) (v : ℕ) where
@@ -102,17 +101,18 @@ module _ (w : World) (e : ℕ) (lives : (w.solos e).life ≡ Live) (why : Code) 
 
   refusal_world : (c : Option Call) → verdict w e c ≡ Refuse why v → tick.act_world w e (Calls c) ≡ tick.refused_world w e why v
   refusal_world c is =
-      ap (λ u. after u (reply_of u e (verdict u e c))) (called_still w e c)
-      ∙ ap (λ d. after w (reply_of w e d)) is
+      ap (λ u. after u (reply_by_verdict u e (verdict u e c))) (called_still w e c)
+      ∙ ap (λ d. after w (reply_by_verdict w e d)) is
       ∙ answer_world
 
   pub refused_is : verdict_now w e ≡ Some (Refuse why v) → tick.called_world w e ≡ tick.refused_world w e why v
   refused_is is = search (rules, refusal_world)
 
-pub refused_world : GrantedMay → FirstIsNumbered → (b : Shown) (e : ℕ) (why : Code) (v : ℕ) → IsSound b → are_numbered 0 b.claims.next b.claims.rows ≡ true → running b.slots.runner ≡ Some e → verdict_now (world_of b) e ≡ Some (Refuse why v) → world_of (doing.after_runner_call b e) ≡ tick.refused_world (world_of b) e why v
-refused_world law unique b e why v sound numbered runs is =
-    let x = runner_runs b e sound runs in
-    called_world law unique b e sound numbered runs ∙ refused_is (world_of b) e (ap (λ (s : Solo). s.life) (runner_seen b e x.0 x.1)) why v is
+pub refused_world : GrantedMay → FirstIsNumbered → RefusalShowsModel
+refused_world law unique b e why v has numbers is =
+    let x = runner_runs b e has.sound has.runs in
+    called_world law unique b e has numbers
+    ∙ refused_is (world_of b) e (ap (λ (s : Solo). s.life) (runner_seen b e x.0 x.1)) why v is
 
 -- how many rows are written and claims made, and that all environments stay
 pub record Leaves (b new : Shown) : Type 0 where
@@ -124,6 +124,6 @@ pub record Leaves (b new : Shown) : Type 0 where
 verdict_leaves : (b : Shown) (e : ℕ) (c : Option Call) (which : Verdict) → Leaves b (doing.after_verdict b e c which)
 verdict_leaves b e c which = search (rules, entered_room)
 
-pub called_leaves : (b : Shown) (e : ℕ) (exits : Bool) → IsSound b → running b.slots.runner ≡ Some e → Leaves b (doing.after_exit_or_call b e exits)
-called_leaves b e true sound runs = let s = death_serves b e (cause.Exit (reg b.cpu 4)) sound runs in record { room = s.room; spare = s.spare; time = s.time; numbers = omega arith }
-called_leaves b e false sound runs = verdict_leaves b e (called b.cpu) (verdict (world_of b) e (called b.cpu))
+pub called_leaves : (b : Shown) (e : ℕ) (exits : Bool) → HasRunner b e → Leaves b (doing.after_exit_or_call b e exits)
+called_leaves b e true has = let s = death_serves b e (cause.Exit (reg b.cpu 4)) has in record { room = s.room; spare = s.spare; time = s.time; numbers = omega arith }
+called_leaves b e false has = verdict_leaves b e (called b.cpu) (verdict (world_of b) e (called b.cpu))

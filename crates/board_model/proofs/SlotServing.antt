@@ -23,7 +23,7 @@ use Rattle.board_model.proofs.Slots.{hold_set}
 module _ (b : Shown) (e : ℕ) (x : Environment) (r : Runs b e x) where
   -- a slot has another hold, and the runner does nothing to itself
   sets_slot : (d : Deed) (v k : ℕ) (hold : Option Hold) → k < length b.slots.slots → own_part d (runner_solo b e x) ≡ runner_solo b e x →
-      Serves b e (deeded d v (solo_of b e)) (with_slot (world_of b) k hold) (doing.after_answer (doing.with_slot b k hold) (Grant v))
+      Serves b e (deeded d v (solo_of b e)) (with_slot (world_of b) k hold) (doing.after_answer (doing.board_with_slot b k hold) (Grant v))
   sets_slot d v k hold within own = search (rules, length-set, hold_set, one_changed, answered_seen, deeded_seen, answered_others)
 
   pub takes : (k v : ℕ) → MayTake (book_of b) k → Serves b e (deeded (TakesSlot k) v (solo_of b e)) (done (world_of b) e (TakesSlot k)) (doing.after_grant b e v (TakesSlot k))

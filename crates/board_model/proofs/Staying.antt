@@ -1,22 +1,17 @@
 -- A board stays sound where one of its parts is written.
-use Rattle.std.proofs.Common.{◌≡◌, ◌<◌, ℕ, List, length, map, Option, arith, rules}
+use Rattle.std.proofs.Common.{◌≡◌, ◌<◌, ℕ, List, length, Option, arith, rules}
 use Rattle.kernel_journal.specs.Ledger.{Ledger}
 use Rattle.mips_exec.specs.declared.registers.Cpu.{Cpu}
 use Rattle.page_book.specs.declared.row.PageRow.{PageRow}
-use Rattle.page_book.specs.Row.{released}
-use Rattle.page_book.specs.Rows.{row_in}
 use Rattle.bind_book.specs.declared.binding.Binding.{Binding}
-use Rattle.bind_book.specs.Stripe.{goes_with, swept}
-use Rattle.filter_tree.specs.ClaimBook.{ClaimBook, is_of_env}
-use Rattle.filter_tree.specs.Claims.{without}
-use Rattle.revocation_book.specs.RevocationBook.{RevocationBook, once_gone}
+use Rattle.filter_tree.specs.ClaimBook.{ClaimBook}
+use Rattle.revocation_book.specs.RevocationBook.{RevocationBook}
 use Rattle.slot_vector.specs.Slices.{Slices}
 use Rattle.world_model.specs.declared.life.Cause.{Cause}
-use Rattle.world_model.specs.LineCalls.{line_without}
 use Rattle.board_model.specs.declared.roster.Environment.{Environment}
-use Rattle.board_model.specs.Shown.{Environments, changed, shown, with_list}
-use Rattle.board_model.specs.Sound.{AreAsked, AreBooked, AreClaimed, AreWired, HasNoPart, IsManned, IsParted, IsSound}
-use Rattle.board_model.specs.Doing.{dead_frame}
+use Rattle.board_model.specs.Shown.{Shown, with_record, with_list}
+use Rattle.board_model.specs.Sound.{RevocationsAgree, BooksAgree, AreClaimed, LinesAgree, HasNoPart, SlotsAgree, PagesAgree, IsSoundBoard}
+use Rattle.board_model.specs.Doing.{after_burial, dead_frame}
 use Rattle.board_model.proofs.Asked.{death_asked}
 use Rattle.board_model.proofs.Booked.{death_booked, keep_booked}
 use Rattle.board_model.proofs.Claiming.{death_claimed, keep_claimed}
@@ -26,45 +21,44 @@ use Rattle.board_model.proofs.Sound.{Keeps, burial_manned, keep_manned}
 use Rattle.board_model.proofs.Wired.{death_wired, keep_wired}
 
 -- the registers, the time and the ledger
-pub sound_machine : {frames : List (List ℕ)} {pages : List PageRow} {binds : List (Option Binding)} {lines : List (Option ℕ)} {claims : ClaimBook} {asked : RevocationBook} {slots : Slices} {cpu to : Cpu} {roster : Environments} {time then : ℕ} {ledger told : Ledger} →
-    IsSound (shown frames pages binds lines claims asked slots cpu roster time ledger) → IsSound (shown frames pages binds lines claims asked slots to roster then told)
-sound_machine sound = record { few = sound.few; book = sound.book; memory = sound.memory; books = sound.books; lines = sound.lines; claims = sound.claims; revocations = sound.revocations }
+pub sound_machine : {b : Shown} {cpu : Cpu} {time : ℕ} {ledger : Ledger} → IsSoundBoard b → IsSoundBoard (record b { cpu = cpu; time = time; ledger = ledger })
+sound_machine sound = search rules
 
 -- the slots
-pub sound_slots : {frames : List (List ℕ)} {pages : List PageRow} {binds : List (Option Binding)} {lines : List (Option ℕ)} {claims : ClaimBook} {asked : RevocationBook} {slots : Slices} {cpu : Cpu} {roster : Environments} {time : ℕ} {ledger : Ledger} (v : Slices) → IsManned v roster → IsSound (shown frames pages binds lines claims asked slots cpu roster time ledger) → IsSound (shown frames pages binds lines claims asked v cpu roster time ledger)
-sound_slots v manned sound = record { few = sound.few; book = manned; memory = sound.memory; books = sound.books; lines = sound.lines; claims = sound.claims; revocations = sound.revocations }
+pub sound_slots : {b : Shown} (v : Slices) → SlotsAgree v b.roster → IsSoundBoard b → IsSoundBoard (record b { slots = v })
+sound_slots v manned sound = search rules
 
 -- the record of an environment, but not its life and its pages
-pub sound_env : {frames : List (List ℕ)} {pages : List PageRow} {binds : List (Option Binding)} {lines : List (Option ℕ)} {claims : ClaimBook} {asked : RevocationBook} {slots : Slices} {cpu : Cpu} {roster : Environments} {time : ℕ} {ledger : Ledger} (f : Environment → Environment) → Keeps f → (e : ℕ) → IsSound (shown frames pages binds lines claims asked slots cpu roster time ledger) →
-    IsSound (shown frames pages binds lines claims asked slots cpu (with_list roster (changed f roster.list e)) time ledger)
+pub sound_env : {b : Shown} (f : Environment → Environment) → Keeps f → (e : ℕ) → IsSoundBoard b →
+    IsSoundBoard (record b { roster = with_list b.roster (with_record f b.roster.list e) })
 sound_env f keeps e sound = search (rules, length-changed, keep_manned, keep_parted, keep_booked, keep_wired, keep_claimed)
 
 -- bytes in physical memory
-pub sound_frames : {frames : List (List ℕ)} {pages : List PageRow} {binds : List (Option Binding)} {lines : List (Option ℕ)} {claims : ClaimBook} {asked : RevocationBook} {slots : Slices} {cpu : Cpu} {roster : Environments} {time : ℕ} {ledger : Ledger} (new : List (List ℕ)) → length new ≡ length frames → IsSound (shown frames pages binds lines claims asked slots cpu roster time ledger) → IsSound (shown new pages binds lines claims asked slots cpu roster time ledger)
+pub sound_frames : {b : Shown} (new : List (List ℕ)) → length new ≡ length b.frames → IsSoundBoard b → IsSoundBoard (record b { frames = new })
 sound_frames new same sound = search rules
 
 -- physical memory and its books
-pub sound_memory : {frames : List (List ℕ)} {pages : List PageRow} {binds : List (Option Binding)} {lines : List (Option ℕ)} {claims : ClaimBook} {asked : RevocationBook} {slots : Slices} {cpu : Cpu} {roster : Environments} {time : ℕ} {ledger : Ledger} (bytes : List (List ℕ)) (rows : List PageRow) (bound : List (Option Binding)) (claimed : ClaimBook) (loaded : RevocationBook) → IsParted bytes rows roster.list → AreBooked rows bound roster → AreClaimed claimed rows roster → AreAsked loaded rows → IsSound (shown frames pages binds lines claims asked slots cpu roster time ledger) →
-    IsSound (shown bytes rows bound lines claimed loaded slots cpu roster time ledger)
-sound_memory bytes rows bound claimed loaded parted booked are asked sound = record { few = sound.few; book = sound.book; memory = parted; books = booked; lines = sound.lines; claims = are; revocations = asked }
+pub sound_memory : {b : Shown} (bytes : List (List ℕ)) (rows : List PageRow) (bound : List (Option Binding)) (claimed : ClaimBook) (loaded : RevocationBook) →
+    PagesAgree bytes rows b.roster.list → BooksAgree rows bound b.roster → AreClaimed claimed rows b.roster → RevocationsAgree loaded rows → IsSoundBoard b →
+    IsSoundBoard (record b { frames = bytes; pages = rows; binds = bound; claims = claimed; revocations = loaded })
+sound_memory bytes rows bound claimed loaded parted booked are asked sound = search rules
 
 -- the interrupt lines
-pub sound_lines : {frames : List (List ℕ)} {pages : List PageRow} {binds : List (Option Binding)} {lines : List (Option ℕ)} {claims : ClaimBook} {asked : RevocationBook} {slots : Slices} {cpu : Cpu} {roster : Environments} {time : ℕ} {ledger : Ledger} (owners : List (Option ℕ)) → AreWired owners roster.list → IsSound (shown frames pages binds lines claims asked slots cpu roster time ledger) → IsSound (shown frames pages binds owners claims asked slots cpu roster time ledger)
-sound_lines owners wired sound = record { few = sound.few; book = sound.book; memory = sound.memory; books = sound.books; lines = wired; claims = sound.claims; revocations = sound.revocations }
+pub sound_lines : {b : Shown} (owners : List (Option ℕ)) → LinesAgree owners b.roster.list → IsSoundBoard b → IsSoundBoard (record b { lines = owners })
+sound_lines owners wired sound = search rules
 
 -- the claims
-pub sound_claims : {frames : List (List ℕ)} {pages : List PageRow} {binds : List (Option Binding)} {lines : List (Option ℕ)} {claims : ClaimBook} {asked : RevocationBook} {slots : Slices} {cpu : Cpu} {roster : Environments} {time : ℕ} {ledger : Ledger} (claimed : ClaimBook) → AreClaimed claimed pages roster → IsSound (shown frames pages binds lines claims asked slots cpu roster time ledger) → IsSound (shown frames pages binds lines claimed asked slots cpu roster time ledger)
-sound_claims claimed are sound = record { few = sound.few; book = sound.book; memory = sound.memory; books = sound.books; lines = sound.lines; claims = are; revocations = sound.revocations }
+pub sound_claims : {b : Shown} (claimed : ClaimBook) → AreClaimed claimed b.pages b.roster → IsSoundBoard b → IsSoundBoard (record b { claims = claimed })
+sound_claims claimed are sound = search rules
 
 -- what is asked, and the backups
-pub sound_asked : {frames : List (List ℕ)} {pages : List PageRow} {binds : List (Option Binding)} {lines : List (Option ℕ)} {claims : ClaimBook} {asked : RevocationBook} {slots : Slices} {cpu : Cpu} {roster : Environments} {time : ℕ} {ledger : Ledger} (loaded : RevocationBook) → AreAsked loaded pages → IsSound (shown frames pages binds lines claims asked slots cpu roster time ledger) → IsSound (shown frames pages binds lines claims loaded slots cpu roster time ledger)
-sound_asked loaded are sound = record { few = sound.few; book = sound.book; memory = sound.memory; books = sound.books; lines = sound.lines; claims = sound.claims; revocations = are }
+pub sound_asked : {b : Shown} (loaded : RevocationBook) → RevocationsAgree loaded b.pages → IsSoundBoard b → IsSoundBoard (record b { revocations = loaded })
+sound_asked loaded are sound = search rules
 
 -- all that an environment has whose slots are released
-pub sound_burial : {frames : List (List ℕ)} {pages : List PageRow} {binds : List (Option Binding)} {lines : List (Option ℕ)} {claims : ClaimBook} {asked : RevocationBook} {slots : Slices} {cpu : Cpu} {roster : Environments} {time : ℕ} {ledger : Ledger} (e : ℕ) (cause : Cause) → e < length roster.list → HasNoPart e slots → IsSound (shown frames pages binds lines claims asked slots cpu roster time ledger) →
-    IsSound (shown frames (map (released e) pages) (swept (goes_with (row_in pages) e) binds) (map (line_without e) lines) (without (is_of_env e) claims) (once_gone asked e) slots cpu (with_list roster (changed (dead_frame cause) roster.list e)) time ledger)
-sound_burial {roster = r} e cause there none sound = record {
-  few = omega (arith, sound.few, length-changed (dead_frame cause) r.list e);
+pub sound_burial : {b : Shown} (e : ℕ) (cause : Cause) → e < length b.roster.list → HasNoPart e b.slots → IsSoundBoard b → IsSoundBoard (after_burial b e cause)
+sound_burial {b} e cause there none sound = record {
+  few = omega (arith, sound.few, length-changed (dead_frame cause) b.roster.list e);
   book = burial_manned _ _ e cause none sound.book;
   memory = death_parted cause _ _ _ e sound.memory;
   books = death_booked cause _ _ _ e sound.books;

@@ -32,7 +32,6 @@ use Rattle.world_model.specs.Book.{running, sees}
 use Rattle.world_model.specs.Call.{exit_number}
 use Rattle.world_model.specs.Upcalls.{raise}
 use Rattle.call_verdicts.specs.Granted.{GrantedMay}
-use Rattle.filter_tree.specs.ClaimBook.{are_numbered}
 use Rattle.filter_tree.specs.Laws.{FirstIsNumbered}
 use Rattle.world_model.specs.Item.{Step as AStep, absorb, absorb_all}
 use Rattle.world_model.specs.PageCalls.{left_at, left_if}
@@ -48,7 +47,8 @@ use Rattle.run_model.proofs.Phases.{in_turn_is_each}
 use Rattle.board_model.specs.declared.roster.Environment.{Environment}
 use Rattle.board_model.specs.Shown.{Shown, handlers_in, handlers_of, mappings_in, mappings_of}
 use Rattle.board_model.specs.Showing.{world_of, book_of, solo_of, solo_or_absent, solo_seen, cpu_seen, page_seen, pages_seen}
-use Rattle.board_model.specs.Sound.{IsSound, IsLive, IsOwned}
+use Rattle.board_model.specs.Sound.{HasClaimNumbers, HasRunner, IsSoundBoard, IsLiving, IsOwned}
+use Rattle.board_model.specs.Laws.{StepShowsModel}
 use Rattle.board_model.specs.Doing.{after_death, step_seen, lookup_of, after_machine_step, after_raise, after_trap, after_runner_call, after_runner_step}
 use Rattle.board_model.proofs.Contexts.{left_by, left_others, left_own, left_sights, left_store}
 use Rattle.board_model.proofs.Looks.{leads_by}
@@ -64,14 +64,14 @@ unfolding lookup
 opened_lookup b e v = refl
 
 -- who sees a page that isn't guaranteed lives
-pub seer_live : (b : Shown) (i page : ℕ) → IsSound b → sees (book_of b) i page ≡ true → IsLive b.roster.list i
+pub seer_live : (b : Shown) (i page : ℕ) → IsSoundBoard b → sees (book_of b) i page ≡ true → IsLiving b.roster.list i
 seer_live b i page sound is = by_cause (or_cases (is_owned_by i (row_in b.pages page)) (is_bound page (stripe_of b i)) is)
   where
-    by_row : (row : ℕ) (o : Option Binding) → stripe_of b i row ≡ o → is_of_page page o ≡ true → IsLive b.roster.list i
+    by_row : (row : ℕ) (o : Option Binding) → stripe_of b i row ≡ o → is_of_page page o ≡ true → IsLiving b.roster.list i
     by_row row None at its = cc
     by_row row (Some y) at its = sound.books.binders i row y at
 
-    by_cause : (is_owned_by i (row_in b.pages page) ≡ true) ⊎ (is_bound page (stripe_of b i) ≡ true) → IsLive b.roster.list i
+    by_cause : (is_owned_by i (row_in b.pages page) ≡ true) ⊎ (is_bound page (stripe_of b i) ≡ true) → IsLiving b.roster.list i
     by_cause (inl owns) = sound.books.owners page i (owner_is i (row_in b.pages page) owns)
     by_cause (inr binds) = let there = bound_row page (stripe_of b i) binds in by_row there.0 (stripe_of b i there.0) refl there.1
 
@@ -82,7 +82,7 @@ came_called b e Called is = refl
 came_called b e (Trapped exc) is = cc
 
 -- nothing is left to the writer
-writer_left : (w : World) (e : ℕ) (x : Option Store) → (tick.brings e (store_act x) w).items e ≡ []
+writer_left : (w : World) (e : ℕ) (x : Option Store) → (tick.act_reply e (store_act x) w).items e ≡ []
 writer_left w e None = refl
 writer_left w e (Some x) = grind (arith, eq-eqb)
 
@@ -100,9 +100,9 @@ memory_after b w page = after_put b.frames page (w.address % page_size) w.bytes
 record Strikes (b : Shown) (e : ℕ) (x : Environment) (cpu : Cpu) (frames : List (List ℕ)) (store : Option Store) : Type 0 where
   own_pages : pages_seen frames x.env.mappings ≡ (acted (store_act store) (runner_solo b e x)).kept
   own_sights : seen_in e (row_in b.pages) (stripe_of b e) (page_at frames) ≡ (acted (store_act store) (runner_solo b e x)).seen
-  others : (i : ℕ) → i ≢ e → solo_of (struck b cpu frames) i ≡ absorb_all (solo_of b i) ((tick.brings e (store_act store) (world_of b)).items i)
+  others : (i : ℕ) → i ≢ e → solo_of (struck b cpu frames) i ≡ absorb_all (solo_of b i) ((tick.act_reply e (store_act store) (world_of b)).items i)
 
-module _ (b : Shown) (e : ℕ) (x : Environment) (r : Runs b e x) (sound : IsSound b) (cpu : Cpu) (w : Write) where
+module _ (b : Shown) (e : ℕ) (x : Environment) (r : Runs b e x) (sound : IsSoundBoard b) (cpu : Cpu) (w : Write) where
   ms_are : mappings_of b.roster.list e ≡ x.env.mappings
   ms_are = its_mappings b e x r
 
@@ -207,14 +207,14 @@ module _ (b : Shown) (e : ℕ) (x : Environment) (r : Runs b e x) (sound : IsSou
       (strikes_by (mapping_at ms v) (binding_at (stripe_of b e) v) refl refl))
 
 -- whatever the step writes
-wrote_strikes : (b : Shown) (e : ℕ) (x : Environment) → Runs b e x → IsSound b → (cpu : Cpu) (w : Option Write) → Strikes b e x cpu (frames_after b.frames (lookup_of b e) w) (store_of (runner_solo b e x) w)
+wrote_strikes : (b : Shown) (e : ℕ) (x : Environment) → Runs b e x → IsSoundBoard b → (cpu : Cpu) (w : Option Write) → Strikes b e x cpu (frames_after b.frames (lookup_of b e) w) (store_of (runner_solo b e x) w)
 wrote_strikes b e x r sound cpu None = record { own_pages = refl; own_sights = refl; others = λ i ne. same_solo i (struck b cpu b.frames) b (record { record_is = refl; rings = refl; idles = r.runs.others i ne; idled = r.runs.others i ne; pages = refl; binds = refl; sights = refl }) }
 wrote_strikes b e x r sound cpu (Some w) = strikes b e x r sound cpu w
 
-module _ (b : Shown) (e : ℕ) (x : Environment) (r : Runs b e x) (sound : IsSound b) where
+module _ (b : Shown) (e : ℕ) (x : Environment) (r : Runs b e x) (sound : IsSoundBoard b) where
   -- the world after the runner's step, which comes to this
   abbrev stepping : Act → World
-  stepping act = after (world_of b) (in_turn (tells e AStep ∷ tick.brings e act ∷ []) (world_of b))
+  stepping act = after (world_of b) (in_turn (tells e AStep ∷ tick.act_reply e act ∷ []) (world_of b))
 
   -- absorbing the step is what it comes to
   absorbs : (st : Step) → step_alone (runner_solo b e x) ≡ st → absorb (solo_of b e) AStep ≡ stepped (runner_solo b e x) st
@@ -236,7 +236,7 @@ module _ (b : Shown) (e : ℕ) (x : Environment) (r : Runs b e x) (sound : IsSou
 
   -- each environment once the runner stored
   struck_solos : (cpu : Cpu) (frames : List (List ℕ)) (y : Option Store) → Strikes b e x cpu frames y → absorb (solo_of b e) AStep ≡ acted (store_act y) (record (runner_solo b e x) { cpu = cpu }) →
-      (i : ℕ) → solo_of (struck b cpu frames) i ≡ absorb_all (absorb_all (solo_of b i) (only e (AStep ∷ []) i)) ((tick.brings e (store_act y) (world_of b)).items i)
+      (i : ℕ) → solo_of (struck b cpu frames) i ≡ absorb_all (absorb_all (solo_of b i) (only e (AStep ∷ []) i)) ((tick.act_reply e (store_act y) (world_of b)).items i)
   struck_solos cpu frames y strikes steps = search (rules, by_env, only_here, writer_left, only_else, strikes, after_write)
 
   retired : (cpu : Cpu) (w : Option Write) → step_alone (runner_solo b e x) ≡ Retired cpu w → world_of (after_machine_step b e (Retired cpu w)) ≡ stepping (act_of (runner_solo b e x) (Retired cpu w))
@@ -248,13 +248,13 @@ module _ (b : Shown) (e : ℕ) (x : Environment) (r : Runs b e x) (sound : IsSou
       by_store : (y : Option Store) → Strikes b e x cpu (frames_after b.frames (lookup_of b e) w) y → absorb (solo_of b e) AStep ≡ acted (store_act y) (record (runner_solo b e x) { cpu = cpu }) →
           world_of (after_machine_step b e (Retired cpu w)) ≡ stepping (store_act y)
       by_store None strikes steps =
-          worlds (world_of (after_machine_step b e (Retired cpu w))) (run_phases (world_of b) (tells e AStep ∷ tick.brings e (store_act None) ∷ [])) refl refl
+          worlds (world_of (after_machine_step b e (Retired cpu w))) (run_phases (world_of b) (tells e AStep ∷ tick.act_reply e (store_act None) ∷ [])) refl refl
           (struck_solos cpu (frames_after b.frames (lookup_of b e) w) None strikes steps) (sym rows)
-          ∙ sym (in_turn_is_each (world_of b) (tells e AStep ∷ tick.brings e (store_act None) ∷ []))
+          ∙ sym (in_turn_is_each (world_of b) (tells e AStep ∷ tick.act_reply e (store_act None) ∷ []))
       by_store (Some y) strikes steps =
-          worlds (world_of (after_machine_step b e (Retired cpu w))) (run_phases (world_of b) (tells e AStep ∷ tick.brings e (store_act (Some y)) ∷ [])) refl refl
+          worlds (world_of (after_machine_step b e (Retired cpu w))) (run_phases (world_of b) (tells e AStep ∷ tick.act_reply e (store_act (Some y)) ∷ [])) refl refl
           (struck_solos cpu (frames_after b.frames (lookup_of b e) w) (Some y) strikes steps) (sym rows)
-          ∙ sym (in_turn_is_each (world_of b) (tells e AStep ∷ tick.brings e (store_act (Some y)) ∷ []))
+          ∙ sym (in_turn_is_each (world_of b) (tells e AStep ∷ tick.act_reply e (store_act (Some y)) ∷ []))
 
   -- a step that retires is the model's
   pub retired_step : (o : Option Runner) → running o ≡ Some e → (cpu : Cpu) (w : Option Write) → step_seen b e ≡ Retired cpu w → world_of (after_machine_step b e (step_seen b e)) ≡ after (world_of b) (tick.step_when (world_of b) o)
@@ -265,7 +265,7 @@ module _ (b : Shown) (e : ℕ) (x : Environment) (r : Runs b e x) (sound : IsSou
       ∙ retired cpu w (sym (its_step b e x r sound) ∙ at)
       ∙ ap (λ st. stepping (act_of (runner_solo b e x) st)) (sym at ∙ its_step b e x r sound)
       ∙ ap (λ (s : Solo). stepping (act_of s (step_alone s))) (sym (runner_seen b e x r))
-      ∙ ap (λ n. after (world_of b) (in_turn (tells n AStep ∷ tick.brings n (tick.act_now (world_of b) n) ∷ []) (world_of b))) same
+      ∙ ap (λ n. after (world_of b) (in_turn (tells n AStep ∷ tick.act_reply n (tick.act_now (world_of b) n) ∷ []) (world_of b))) same
 
   -- The runner's exception goes to its handler: the words stand in its context page, and nobody else's page changes.
   raised_serves : (exc : Exc) → Serves b e (raise exc (solo_of b e)) (no_change (world_of b)) (after_raise b e (handlers_of b.roster.list e).exception exc)
@@ -291,18 +291,18 @@ module _ (b : Shown) (e : ℕ) (x : Environment) (r : Runs b e x) (sound : IsSou
         time = refl;
       }
 
-  trapped_serves : (exc : Exc) → Serves b e (acted (trap_act x.env.handlers.exception exc) (solo_of b e)) (tick.brings e (trap_act x.env.handlers.exception exc) (world_of b)) (after_trap b e exc)
+  trapped_serves : (exc : Exc) → Serves b e (acted (trap_act x.env.handlers.exception exc) (solo_of b e)) (tick.act_reply e (trap_act x.env.handlers.exception exc) (world_of b)) (after_trap b e exc)
   trapped_serves exc =
       let handler : (handlers_of b.roster.list e).exception ≡ x.env.handlers.exception = ap (λ o. (handlers_in o).exception) r.at in
-      subst (λ h. Serves b e (acted (trap_act h exc) (solo_of b e)) (tick.brings e (trap_act h exc) (world_of b)) (after_trap b e exc)) handler
+      subst (λ h. Serves b e (acted (trap_act h exc) (solo_of b e)) (tick.act_reply e (trap_act h exc) (world_of b)) (after_trap b e exc)) handler
       (by_test ((handlers_of b.roster.list e).exception == 0) refl)
     where
-      by_test : (none : Bool) → ((handlers_of b.roster.list e).exception == 0) ≡ none → Serves b e (acted (trap_act (handlers_of b.roster.list e).exception exc) (solo_of b e)) (tick.brings e (trap_act (handlers_of b.roster.list e).exception exc) (world_of b)) (after_trap b e exc)
+      by_test : (none : Bool) → ((handlers_of b.roster.list e).exception == 0) ≡ none → Serves b e (acted (trap_act (handlers_of b.roster.list e).exception exc) (solo_of b e)) (tick.act_reply e (trap_act (handlers_of b.roster.list e).exception exc) (world_of b)) (after_trap b e exc)
       by_test true none = rw none (died_serves b e x r sound (cause.Trapped exc.code))
       by_test false some = rw some (raised_serves exc)
 
   -- whatever the step comes to
-  came : GrantedMay → FirstIsNumbered → are_numbered 0 b.claims.next b.claims.rows ≡ true → (st : Step) → step_alone (runner_solo b e x) ≡ st → world_of (after_runner_step b e st) ≡ stepping (act_of (runner_solo b e x) st)
+  came : GrantedMay → FirstIsNumbered → HasClaimNumbers b → (st : Step) → step_alone (runner_solo b e x) ≡ st → world_of (after_runner_step b e st) ≡ stepping (act_of (runner_solo b e x) st)
   came law unique numbered (Retired cpu w) at = retired cpu w at
   came law unique numbered Called at =
       let act = call_act b.cpu in
@@ -311,25 +311,27 @@ module _ (b : Shown) (e : ℕ) (x : Environment) (r : Runs b e x) (sound : IsSou
       let act = trap_act x.env.handlers.exception exc in
       told b e AStep act (after_trap b e exc) (trapped_serves exc) (acts (Trapped exc) at refl)
 
-  stepped_alone : GrantedMay → FirstIsNumbered → are_numbered 0 b.claims.next b.claims.rows ≡ true → (o : Option Runner) → running o ≡ Some e → world_of (after_runner_step b e (step_seen b e)) ≡ after (world_of b) (tick.step_when (world_of b) o)
+  stepped_alone : GrantedMay → FirstIsNumbered → HasClaimNumbers b → (o : Option Runner) → running o ≡ Some e → world_of (after_runner_step b e (step_seen b e)) ≡ after (world_of b) (tick.step_when (world_of b) o)
   stepped_alone law unique numbered None is = cc
   stepped_alone law unique numbered (Some runner) is =
       let same : e ≡ runner.env = cc in
       came law unique numbered (step_seen b e) (sym (its_step b e x r sound))
       ∙ ap (λ st. stepping (act_of (runner_solo b e x) st)) (its_step b e x r sound)
       ∙ ap (λ (s : Solo). stepping (act_of s (step_alone s))) (sym (runner_seen b e x r))
-      ∙ ap (λ n. after (world_of b) (in_turn (tells n AStep ∷ tick.brings n (tick.act_now (world_of b) n) ∷ []) (world_of b))) same
+      ∙ ap (λ n. after (world_of b) (in_turn (tells n AStep ∷ tick.act_reply n (tick.act_now (world_of b) n) ∷ []) (world_of b))) same
 
 -- The same of any board.
-pub stepped_world : GrantedMay → FirstIsNumbered → (b : Shown) (e : ℕ) → IsSound b → are_numbered 0 b.claims.next b.claims.rows ≡ true → running b.slots.runner ≡ Some e → world_of (after_runner_step b e (step_seen b e)) ≡ after (world_of b) (tick.step (world_of b))
-stepped_world law unique b e sound numbered runs = let x = runner_runs b e sound runs in stepped_alone b e x.0 x.1 sound law unique numbered b.slots.runner runs
+pub stepped_world : GrantedMay → FirstIsNumbered → StepShowsModel
+stepped_world law unique b e has numbers =
+    let x = runner_runs b e has.sound has.runs in
+    stepped_alone b e x.0 x.1 has.sound law unique numbers b.slots.runner has.runs
 
-pub came_leaves : (b : Shown) (e : ℕ) (st : Step) → IsSound b → running b.slots.runner ≡ Some e → Leaves b (after_runner_step b e st)
-came_leaves b e (Retired cpu w) sound runs = record { room = omega arith; spare = refl; time = refl; numbers = omega arith }
-came_leaves b e Called sound runs = called_leaves b e (reg b.cpu 2 == exit_number) sound runs
-came_leaves b e (Trapped exc) sound runs =
-    let x = runner_runs b e sound runs in
-    let s = trapped_serves b e x.0 x.1 sound exc in record { room = s.room; spare = s.spare; time = s.time; numbers = by_handler ((handlers_of b.roster.list e).exception == 0) }
+pub came_leaves : (b : Shown) (e : ℕ) (st : Step) → HasRunner b e → Leaves b (after_runner_step b e st)
+came_leaves b e (Retired cpu w) has = record { room = omega arith; spare = refl; time = refl; numbers = omega arith }
+came_leaves b e Called has = called_leaves b e (reg b.cpu 2 == exit_number) has
+came_leaves b e (Trapped exc) has =
+    let x = runner_runs b e has.sound has.runs in
+    let s = trapped_serves b e x.0 x.1 has.sound exc in record { room = s.room; spare = s.spare; time = s.time; numbers = by_handler ((handlers_of b.roster.list e).exception == 0) }
   where
     by_handler : (none : Bool) → (if none then after_death b e (cause.Trapped exc.code) else after_raise b e (handlers_of b.roster.list e).exception exc).claims.next ≤ b.claims.next + 1
     by_handler true = omega arith

@@ -24,7 +24,7 @@ use Rattle.page_laws.proofs.Tables.{by_number, set_here, set_else}
 use Rattle.board_model.specs.declared.roster.Environment.{Environment}
 use Rattle.board_model.specs.Shown.{Environments, mappings_of}
 use Rattle.board_model.specs.Showing.{page_seen, pages_seen}
-use Rattle.board_model.specs.Sound.{IsParted, AreBooked, IsOwned}
+use Rattle.board_model.specs.Sound.{PagesAgree, BooksAgree, IsOwned}
 use Rattle.board_model.proofs.Pages.{its_store, stored_own, stored_else, placed, one_place, seen_kept}
 use Rattle.board_model.proofs.Seen.{guaranteed_there}
 
@@ -48,7 +48,7 @@ kept_without (p ∷ kept) x v key none = by_test (p.vpn == v) refl none (λ furt
         cc
 
 -- A store through a guaranteed mapping: there the page is the environment's own, and nobody else's page changes.
-module _ (frames : List (List ℕ)) (pages : List PageRow) (list : List Environment) (parted : IsParted frames pages list) (e : ℕ) (w : Write) where
+module _ (frames : List (List ℕ)) (pages : List PageRow) (list : List Environment) (parted : PagesAgree frames pages list) (e : ℕ) (w : Write) where
   pub own_kept : (y : Option Mapping) → mapping_at (mappings_of list e) (w.address / page_size) ≡ y → pages_seen (written_through frames w y) (mappings_of list e) ≡ kept_after (pages_seen frames (mappings_of list e)) (its_store w)
   own_kept None is =
       sym (kept_without (pages_seen frames (mappings_of list e)) (its_store w) (w.address / page_size) refl (seen_kept frames (mappings_of list e) (w.address / page_size) ∙ ap (option_map (page_seen frames)) is))
@@ -70,7 +70,7 @@ module _ (frames : List (List ℕ)) (pages : List PageRow) (list : List Environm
       let one : i ≡ e = cc in ne one)
 
 -- a page that is guaranteed isn't bound
-pub guaranteed_unbound : (pages : List PageRow) (binds : List (Option Binding)) (r : Environments) → AreBooked pages binds r → (i e page : ℕ) → row_in pages page ≡ Guaranteed e → is_bound page (stripes binds i) ≡ false
+pub guaranteed_unbound : (pages : List PageRow) (binds : List (Option Binding)) (r : Environments) → BooksAgree pages binds r → (i e page : ℕ) → row_in pages page ≡ Guaranteed e → is_bound page (stripes binds i) ≡ false
 guaranteed_unbound pages binds r booked i e page is = search (rules, bound_nowhere, eqb-true)
 
 -- what is neither owned nor bound isn't seen
@@ -82,7 +82,7 @@ pub sights_stay : (i : ℕ) (pages : ℕ → PageRow) (stripe : ℕ → Option B
 sights_stay i pages stripe old new n mine its others = search (rules, by_number, unseen)
 
 -- a store through a guaranteed mapping leaves what is seen of the other pages
-module _ (frames : List (List ℕ)) (pages : List PageRow) (binds : List (Option Binding)) (r : Environments) (parted : IsParted frames pages r.list) (booked : AreBooked pages binds r) (e : ℕ) (w : Write) where
+module _ (frames : List (List ℕ)) (pages : List PageRow) (binds : List (Option Binding)) (r : Environments) (parted : PagesAgree frames pages r.list) (booked : BooksAgree pages binds r) (e : ℕ) (w : Write) where
   pub guaranteed_sights : (i : ℕ) (y : Option Mapping) → mapping_at (mappings_of r.list e) (w.address / page_size) ≡ y → (p : ℕ) → seen_in i (row_in pages) (stripes binds i) (page_at (written_through frames w y)) p ≡ seen_in i (row_in pages) (stripes binds i) (page_at frames) p
   guaranteed_sights i None is p = refl
   guaranteed_sights i (Some m) is p =
@@ -93,7 +93,7 @@ module _ (frames : List (List ℕ)) (pages : List PageRow) (binds : List (Option
       (λ q ne. get_or-set_other frames m.page q (with_bytes (page_at frames m.page) (w.address % page_size) w.bytes) [] ne) p
 
 -- A store through a binding changes no guaranteed page.
-pub bound_kept : (frames : List (List ℕ)) (pages : List PageRow) (list : List Environment) → IsParted frames pages list → (i : ℕ) (w : Write) (n : ℕ) → n < length frames → IsOwned (row_in pages n) → pages_seen (after_put frames n (w.address % page_size) w.bytes) (mappings_of list i) ≡ pages_seen frames (mappings_of list i)
+pub bound_kept : (frames : List (List ℕ)) (pages : List PageRow) (list : List Environment) → PagesAgree frames pages list → (i : ℕ) (w : Write) (n : ℕ) → n < length frames → IsOwned (row_in pages n) → pages_seen (after_put frames n (w.address % page_size) w.bytes) (mappings_of list i) ≡ pages_seen frames (mappings_of list i)
 bound_kept frames pages list parted i w n within owned =
     stored_else frames w n within (mappings_of list i)
     (λ a m at same. absurd (subst IsOwned (ap (row_in pages) (sym same) ∙ (parted.mapped i).its a m at) owned))

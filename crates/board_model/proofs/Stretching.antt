@@ -24,11 +24,11 @@ use Rattle.world_model.specs.World.{World, after, run_phases}
 use Rattle.run_model.specs.Run.{next_world}
 use Rattle.run_model.proofs.Phases.{tick_in_parts}
 use Rattle.board_model.specs.Doing.{after_count_down, lookup_of, after_machine_step, step_seen, with_next_time}
-use Rattle.board_model.specs.Laws.{ServingIsServing, TimerIsTimer}
+use Rattle.board_model.specs.Laws.{ServingShowsModel, TimerShowsModel}
 use Rattle.board_model.specs.Shown.{Environments, Shown}
 use Rattle.board_model.specs.Showing.{world_of}
-use Rattle.board_model.specs.Sound.{IsManned, IsSound}
-use Rattle.board_model.specs.Stretch.{ArePlain, StretchIsTicks, machine_of, stretched}
+use Rattle.board_model.specs.Sound.{HasRunner, SlotsAgree, IsSoundBoard}
+use Rattle.board_model.specs.Stretch.{ArePlain, StretchShowsModel, machine_of, stretched}
 use Rattle.board_model.proofs.Phases.{quiet_world}
 use Rattle.board_model.proofs.Repossessing.{nothing_due}
 use Rattle.board_model.proofs.Seen.{runner_runs}
@@ -58,10 +58,10 @@ runs_on k o = search rules
 left_on : (k : ℕ) (o : Option Runner) → left_of (passed k o) ≡ left_of o - k
 left_on k o = search rules
 
-pub passed_manned : (v : Slices) (r : Environments) (k : ℕ) → IsManned v r → k < left_of v.runner → IsManned (after_ticks k v) r
+pub passed_manned : (v : Slices) (r : Environments) (k : ℕ) → SlotsAgree v r → k < left_of v.runner → SlotsAgree (after_ticks k v) r
 passed_manned v r k manned some = search rules
 
-pub stretch_sound : (b : Shown) (e k : ℕ) → IsSound b → k < left_of b.slots.runner → IsSound (stretched b e k)
+pub stretch_sound : (b : Shown) (e k : ℕ) → IsSoundBoard b → k < left_of b.slots.runner → IsSoundBoard (stretched b e k)
 stretch_sound b e k sound some =
     sound_machine (sound_slots _ (passed_manned b.slots b.roster k sound.book some) (sound_frames _ (steps_size (lookup_of b e) (machine_of b) k) sound))
 
@@ -83,26 +83,26 @@ still w o e runs = search (rules, quiet_world)
 retires : (st : Step) → outcome_of st ≡ outcome.Retired → (cpu : Cpu) × (w : Option Write) × (st ≡ Retired cpu w)
 retires st is = search rules
 
-stepped : (b : Shown) (e : ℕ) → IsSound b → running b.slots.runner ≡ Some e → outcome_of (step_seen b e) ≡ outcome.Retired → world_of (after_machine_step b e (step_seen b e)) ≡ after (world_of b) (step (world_of b))
+stepped : (b : Shown) (e : ℕ) → IsSoundBoard b → running b.slots.runner ≡ Some e → outcome_of (step_seen b e) ≡ outcome.Retired → world_of (after_machine_step b e (step_seen b e)) ≡ after (world_of b) (step (world_of b))
 stepped b e sound runs retired = search (rules, runner_runs, retires, retired_step)
 
 -- the timer of a runner that has ticks left behind this one
 counts_on : (b now : Shown) (o : Option Runner) → now.slots.runner ≡ o → 1 < left_of o → with_next_time (after_count_down now o) ≡ record now { slots = after_ticks 1 now.slots; time = now.time + 1 }
 counts_on b now o is more = search (rules, ne_eqb)
 
-module _ (serves : ServingIsServing) (times : TimerIsTimer) where
-  plain_tick : (b : Shown) (e : ℕ) → IsSound b → running b.slots.runner ≡ Some e → outcome_of (step_seen b e) ≡ outcome.Retired → 1 < left_of b.slots.runner → is_any_due b.revocations b.time ≡ false → world_of (stretched b e 1) ≡ tick_step (world_of b)
-  plain_tick b e sound runs retired more none =
+module _ (serves : ServingShowsModel) (times : TimerShowsModel) where
+  plain_tick : (b : Shown) (e : ℕ) → HasRunner b e → outcome_of (step_seen b e) ≡ outcome.Retired → 1 < left_of b.slots.runner → is_any_due b.revocations b.time ≡ false → world_of (stretched b e 1) ≡ tick_step (world_of b)
+  plain_tick b e has retired more none =
       let w = world_of b in
       let st = step_seen b e in
       let now = after_machine_step b e st in
-      let none_served : w ≡ served w = ap world_of (nothing_due b none) ∙ serves b sound in
-      let none_turned : w ≡ after w (turn w) = sym (still w b.slots.runner e runs) in
+      let none_served : w ≡ served w = ap world_of (nothing_due b none) ∙ serves b has.sound in
+      let none_turned : w ≡ after w (turn w) = sym (still w b.slots.runner e has.runs) in
       let size : length now.frames ≡ length b.frames = step_size b.frames (lookup_of b e) (write_after st) in
-      let after_sound : IsSound now = sound_machine (sound_frames now.frames size sound) in
+      let after_sound : IsSoundBoard now = sound_machine (sound_frames now.frames size has.sound) in
       ap world_of (sym (counts_on b now b.slots.runner refl more))
       ∙ times now after_sound
-      ∙ ap (λ u. after u (timer u)) (stepped b e sound runs retired)
+      ∙ ap (λ u. after u (timer u)) (stepped b e has.sound has.runs retired)
       ∙ ap (λ u. let t = after u (step u) in after t (timer t)) none_turned
       ∙ ap (λ v. let u = after v (turn v) in let t = after u (step u) in after t (timer t)) none_served
       ∙ sym (tick_in_parts w)
@@ -112,17 +112,17 @@ module _ (serves : ServingIsServing) (times : TimerIsTimer) where
   quiet_tick schedule w goes nothing =
       rw goes (ap (λ (happens : List Occurrence). run_phases w (phases_after happens (takings (run_phases w (map happen happens))))) (sym nothing))
 
-  pub stretch_ticks : StretchIsTicks
-  stretch_ticks b e zero schedule sound runs plain quiet = ap world_of (λ i. record b { slots = record b.slots { runner = none_passed b.slots.runner i }; time = add-zero b.time i })
-  stretch_ticks b e (suc k) schedule sound runs plain quiet =
+  pub stretch_ticks : StretchShowsModel
+  stretch_ticks b e zero schedule has plain quiet = ap world_of (λ i. record b { slots = record b.slots { runner = none_passed b.slots.runner i }; time = add-zero b.time i })
+  stretch_ticks b e (suc k) schedule has plain quiet =
       let v = stretched b e k in
       let more = plain.left in
       let soon = plain.early in
       let later : b.time + suc k ≡ b.time + k + 1 = omega arith in
       let once : stretched b e (suc k) ≡ stretched v e 1 = (λ i. record (stretched b e (suc k)) { slots = record b.slots { runner = one_passed k b.slots.runner i }; time = later i }) in
       let fewer : ArePlain b e k = record { retire = record { each = λ i less. plain.retire.each i (omega arith) }; left = omega arith; early = omega arith } in
-      let goes = runs_on k b.slots.runner ∙ runs in
+      let goes = runs_on k b.slots.runner ∙ has.runs in
       ap world_of once
-      ∙ plain_tick v e (stretch_sound b e k sound (omega arith)) goes (plain.retire.each k (omega arith)) (omega (arith, left_on k b.slots.runner)) (none_due b.revocations (b.time + k) (omega arith))
+      ∙ plain_tick v e (record { sound = stretch_sound b e k has.sound (omega arith); runs = goes }) (plain.retire.each k (omega arith)) (omega (arith, left_on k b.slots.runner)) (none_due b.revocations (b.time + k) (omega arith))
       ∙ quiet_tick schedule (world_of v) (busy v.slots.runner _ e goes) (quiet.nothing (b.time + k) (omega arith) (omega arith))
-      ∙ ap (next_world schedule) (stretch_ticks b e k schedule sound runs fewer (record { nothing = λ t from until. quiet.nothing t from (omega arith) }))
+      ∙ ap (next_world schedule) (stretch_ticks b e k schedule has fewer (record { nothing = λ t from until. quiet.nothing t from (omega arith) }))

@@ -9,7 +9,8 @@ use Rattle.page_book.specs.declared.row.PageRow.TheVariants.{Free}
 use Rattle.page_book.specs.Row.{released}
 use Rattle.page_book.specs.Rows.{row_in}
 use Rattle.bind_book.specs.declared.binding.Binding.{Binding}
-use Rattle.bind_book.specs.Stripe.{HasStripe, binding_at, stripe_place, row_of, stripe_rows, stripes}
+use Rattle.bind_book.specs.Stripe.{HasStripe, binding_at, stripe_place, row_of, stripes}
+use Rattle.aegis_limits.specs.Limits.{stripe_rows}
 use Rattle.bind_book.proofs.Rows.{row_set}
 use Rattle.world_model.specs.Table.{set_at}
 use Rattle.world_model.specs.PageCalls.{without_number}

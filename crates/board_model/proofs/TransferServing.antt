@@ -17,9 +17,9 @@ use Rattle.world_model.specs.Solo.{Solo, kept_after}
 use Rattle.world_model.specs.Transfers.{slots_handed, transfer_rows}
 use Rattle.world_model.specs.Verdict.{done}
 use Rattle.board_model.specs.declared.roster.Environment.{Environment}
-use Rattle.board_model.specs.Shown.{Shown, changed, mappings_in, mappings_of, registers_in, registers_of}
+use Rattle.board_model.specs.Shown.{Shown, with_record, mappings_in, mappings_of, registers_in, registers_of}
 use Rattle.board_model.specs.Showing.{world_of, book_of, solo_of, solo_or_absent, solo_seen, cpu_seen, pages_seen}
-use Rattle.board_model.specs.Sound.{IsSound}
+use Rattle.board_model.specs.Sound.{IsSoundBoard}
 use Rattle.board_model.specs.Doing as doing
 use Rattle.board_model.proofs.Contexts.{left_others, left_own, left_sights, left_store, waiting}
 use Rattle.board_model.proofs.GiftServing.{IsThere, handed_named, other_given, other_in, waiting_seen}
@@ -48,7 +48,7 @@ entered_room b e t kind = search rules
 abbrev entry_write : ℕ → TransferKind → Cpu → Write
 entry_write e kind cpu = record { address = page_size + entry_area; bytes = entry_bytes e kind cpu }
 
-module _ (b : Shown) (e : ℕ) (x : Environment) (r : Runs b e x) (sound : IsSound b) where
+module _ (b : Shown) (e : ℕ) (x : Environment) (r : Runs b e x) (sound : IsSoundBoard b) where
   -- The target is entered.
   module _ (t : ℕ) (y : Environment) (there : IsThere b.roster.list t y) (other : t ≢ e) (kind : TransferKind) (v : ℕ) where
     abbrev new : Shown
@@ -58,7 +58,7 @@ module _ (b : Shown) (e : ℕ) (x : Environment) (r : Runs b e x) (sound : IsSou
     keeping = doing.with_registers (answered_cpu (Grant v) b.cpu)
 
     abbrev closed_list : List Environment
-    closed_list = changed (doing.with_mask 0) b.roster.list t
+    closed_list = with_record (doing.with_mask 0) b.roster.list t
 
     abbrev write : Write
     write = entry_write e kind (registers_of b.roster.list t)

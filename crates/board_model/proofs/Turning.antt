@@ -4,15 +4,16 @@ use Rattle.std.specs.Prelude.{◌==◌, nat_lt, if◌then◌else◌, slice_get, 
 use Rattle.std.specs.Option.{option_map}
 use Rattle.std.proofs.lemmas.Bool.{ne_eqb, eq-eqb, eqb-true, eqb-false}
 use Rattle.std.proofs.lemmas.List.{append-nil}
-use Rattle.aegis_limits.specs.Limits.{page_size}
+use Rattle.aegis_limits.specs.Limits.{page_size, excess_limit}
 use Rattle.mips_exec.specs.Access.{Write}
 use Rattle.env_frames.specs.Context.{end_area, end_bytes, resumed_cpu}
 use Rattle.kernel_journal.specs.declared.row.Row.TheVariants as row
 use Rattle.slot_vector.specs.declared.turn.NextTurn.{NextTurn}
 use Rattle.slot_vector.specs.declared.turn.NextTurn.TheVariants as next
 use Rattle.slot_vector.specs.Laws.{owed_by_all}
-use Rattle.slot_vector.specs.Slices.{HasTicks, after_turn, excess_of, in_grace_again, next_held, next_turn, spent, timer_at_end, timer_by, told_of}
-use Rattle.slot_vector.specs.declared.timer.Timer.TheVariants as timer
+use Rattle.slot_vector.specs.Slices.{HasTicks, after_turn, excess_of, in_grace_again, next_held, next_turn, spent, timer_by, whole_turn_of}
+use Rattle.world_model.specs.Timer.{timer_at_end, timer_of}
+use Rattle.world_model.specs.declared.timer.Timer.TheVariants as timer
 use Rattle.slot_vector.proofs.Owed.{excess_set}
 use Rattle.slot_vector.proofs.Whole.{idle_step, is_idle, paid_is, pay_lowers, pay_step, ran_is, run_step}
 use Rattle.world_model.specs.declared.life.Life.{Life}
@@ -22,7 +23,7 @@ use Rattle.world_model.specs.declared.slot.Phase.{Phase}
 use Rattle.world_model.specs.declared.slot.Phase.TheVariants as phase
 use Rattle.world_model.specs.declared.slot.Runner.{Runner}
 use Rattle.world_model.specs.declared.slot.Turn.{Turn}
-use Rattle.world_model.specs.Book.{Told, excess_limit, is_idle_book, is_runner, pays_first, running}
+use Rattle.world_model.specs.Book.{WholeTurn, is_idle_book, is_runner, pays_first, running}
 use Rattle.world_model.specs.Item.{End, Killed, Start, absorb_all}
 use Rattle.world_model.specs.Solo.{Solo, dead, is_dead, kept_after}
 use Rattle.world_model.specs.Step.{Dies}
@@ -32,7 +33,8 @@ use Rattle.run_model.proofs.Phases.{in_turn_is_each}
 use Rattle.board_model.specs.declared.roster.Environment.{Environment}
 use Rattle.board_model.specs.Shown.{Shown, handlers_in, handlers_of, mappings_of}
 use Rattle.board_model.specs.Showing.{world_of, book_of, solo_of, solo_or_absent, solo_seen, cpu_seen, pages_seen}
-use Rattle.board_model.specs.Sound.{IsSound}
+use Rattle.board_model.specs.Sound.{IsSoundBoard}
+use Rattle.board_model.specs.Laws.{TimerShowsModel, TurnShowsModel}
 use Rattle.board_model.specs.Doing.{after_timer_by, after_timer_phase, after_count_down, after_death, after_end, has_end, over_row, with_overrun, after_forfeit, start_registers, after_start, after_stop, with_next_time, after_turn_phase, after_told, with_registers}
 use Rattle.board_model.proofs.Contexts.{left_by, left_others, left_own, left_sights, left_store, start_others, start_seen, start_sights, waiting}
 use Rattle.board_model.proofs.Dying.{MayDie, dies as dying, may_die, numbered_within}
@@ -44,13 +46,14 @@ use Rattle.board_model.proofs.Replying.{told}
 use Rattle.board_model.proofs.Seen.{like_solo, same_solo, named, Runs, its_mappings, live_record, runner_runs, runner_seen, runner_solo}
 use Rattle.board_model.proofs.Sound.{held_live, keeps_registers}
 use Rattle.board_model.proofs.Turns.{paid_sound}
+use Rattle.world_model.specs.declared.timer.Timer.{Timer}
 
 -- nobody runs
 idle_names : (b : Shown) (i : ℕ) → b.slots.runner ≡ None → is_runner i b.slots.runner ≡ false
 idle_names b i none = ap (is_runner i) none
 
 -- the start of a slice
-module _ (b : Shown) (sound : IsSound b) (t : Turn) (x : Environment) (at : slice_get b.roster.list t.env ≡ Some x) (lives : x.life ≡ Live) (none : b.slots.runner ≡ None) where
+module _ (b : Shown) (sound : IsSoundBoard b) (t : Turn) (x : Environment) (at : slice_get b.roster.list t.env ≡ Some x) (lives : x.life ≡ Live) (none : b.slots.runner ≡ None) where
   waiting_seen : solo_of b t.env ≡ waiting b t.env x
   waiting_seen = search (rules, idle_names)
 
@@ -77,22 +80,22 @@ paid_solo : (b : Shown) (t : Turn) (i : ℕ) → solo_of (after_forfeit b t) i �
 paid_solo b t i = like_solo i (after_forfeit b t) b (record { record_is = refl; rings = refl; cpu = λ kept. refl; pages = refl; binds = refl; sights = refl })
 
 -- the turn as the model tells it
-abbrev told_world : Shown → Told → World
+abbrev told_world : Shown → WholeTurn → World
 told_world b told = after (world_of b) (tick.take_turn (world_of b) told told.runs)
 
 -- a forfeit, and then the rest of the turn, in which somebody runs
-forfeit_first : (b : Shown) (t : Turn) (rest : Told) (runs : Option Turn) → rest.runs ≡ runs → runs ≢ None → told_world (after_forfeit b t) rest ≡ told_world b (pays_first t rest)
+forfeit_first : (b : Shown) (t : Turn) (rest : WholeTurn) (runs : Option Turn) → rest.runs ≡ runs → runs ≢ None → told_world (after_forfeit b t) rest ≡ told_world b (pays_first t rest)
 forfeit_first b t rest runs is some = search (rules, paid_solo, append_assoc)
 
 -- after a forfeit somebody runs: the slot is still held
-pays_runs : (b : Shown) (t : Turn) → next_turn b.slots ≡ next.Pay t → (told_of (after_turn b.slots (next.Pay t))).runs ≢ None
+pays_runs : (b : Shown) (t : Turn) → next_turn b.slots ≡ next.Pay t → (whole_turn_of (after_turn b.slots (next.Pay t))).runs ≢ None
 pays_runs b t is none = search (rules, paid_is, pay_step, is_idle)
 
 -- the turn is the model's, where that of a board after a forfeit is
 abbrev IsTold : Shown → Type 0
-IsTold b = world_of (after_told b (told_of b.slots)) ≡ told_world b (told_of b.slots)
+IsTold b = world_of (after_told b (whole_turn_of b.slots)) ≡ told_world b (whole_turn_of b.slots)
 
-module _ (b : Shown) (sound : IsSound b) (whole : b.roster.spare ≡ 0) (none : b.slots.runner ≡ None) where
+module _ (b : Shown) (sound : IsSoundBoard b) (whole : b.roster.spare ≡ 0) (none : b.slots.runner ≡ None) where
   told_next : ((t : Turn) → next_turn b.slots ≡ next.Pay t → IsTold (after_forfeit b t)) → (comes : NextTurn) → next_turn b.slots ≡ comes → IsTold b
   told_next later next.Idle is = rw (idle_step b.slots is) (quiet_world (world_of b))
   told_next later (next.Run t) is =
@@ -101,18 +104,18 @@ module _ (b : Shown) (sound : IsSound b) (whole : b.roster.spare ≡ 0) (none : 
       let x = live_record b.roster.list t.env live.1 in
       rw (run_step b.slots t is) (started_world b sound t x.0 x.1.0 x.1.1 none)
   told_next later (next.Pay t) is =
-      let rest = told_of (after_turn b.slots (next.Pay t)) in
+      let rest = whole_turn_of (after_turn b.slots (next.Pay t)) in
       rw (pay_step b.slots t is) (later t is ∙ forfeit_first b t rest rest.runs refl (pays_runs b t is))
 
 -- so it is with fewer than so much owed
-told_within : (n : ℕ) (b : Shown) → owed_by_all b.slots < n → IsSound b → b.roster.spare ≡ 0 → b.slots.runner ≡ None → IsTold b
+told_within : (n : ℕ) (b : Shown) → owed_by_all b.slots < n → IsSoundBoard b → b.roster.spare ≡ 0 → b.slots.runner ≡ None → IsTold b
 told_within zero b enough sound whole none = absurd (omega arith)
 told_within (suc n) b enough sound whole none =
     told_next b sound whole none
     (λ t is. told_within n (after_forfeit b t) (let less = pay_lowers b.slots t is in omega (arith, less)) (paid_sound b t sound) whole none)
     (next_turn b.slots) refl
 
-pub turned_world : (b : Shown) → IsSound b → b.roster.spare ≡ 0 → world_of (after_turn_phase b) ≡ after (world_of b) (tick.turn (world_of b))
+pub turned_world : TurnShowsModel
 turned_world b sound whole = search (rules, quiet_world, told_within)
 
 -- after the turn of a board that isn't idle somebody runs
@@ -148,20 +151,20 @@ going_on b r = record b { slots = record b.slots { runner = Some r } }
 same_runner : (o : Option Runner) (r : Runner) (i : ℕ) → running o ≡ Some r.env → is_runner i (Some r) ≡ is_runner i o
 same_runner o r i is = search rules
 
-goes_on : (b : Shown) (r : Runner) → running b.slots.runner ≡ Some r.env → world_of (going_on b r) ≡ after (world_of b) (tick.goes_on r (world_of b))
+goes_on : (b : Shown) (r : Runner) → running b.slots.runner ≡ Some r.env → world_of (going_on b r) ≡ after (world_of b) (tick.with_runner r (world_of b))
 goes_on b r runs = search (rules, like_solo, same_runner, append-nil)
 
 -- by its runner, who has ticks left
-module _ (b : Shown) (sound : IsSound b) (r : Runner) (is : b.slots.runner ≡ Some r) (x : Environment) (runs : Runs b r.env x) where
+module _ (b : Shown) (sound : IsSoundBoard b) (r : Runner) (is : b.slots.runner ≡ Some r) (x : Environment) (runs : Runs b r.env x) where
   -- nothing
-  counts_on : r.left ≢ 1 → 1 ≤ r.left → world_of (after_timer_by b r.env timer.Nothing) ≡ after (world_of b) (tick.count_down r (r.left - 1) (world_of b))
-  counts_on more some = search (rules, goes_on, ne_eqb)
+  counts_on : world_of (after_timer_by b r.env timer.Nothing) ≡ after (world_of b) (tick.timer_reply r timer.Nothing (world_of b))
+  counts_on = search (rules, goes_on)
 
   -- the end of its slice, where it has no handler of ends
-  stops : world_of (after_timer_by b r.env timer.Stop) ≡ after (world_of b) (tick.slice_end r.env 0 (world_of b))
+  stops : world_of (after_timer_by b r.env timer.Stop) ≡ after (world_of b) (tick.stop_at_end r.env (world_of b))
   stops =
       let now = after_stop b r.env in
-      worlds (world_of now) (after (world_of b) (tick.slice_end r.env 0 (world_of b)))
+      worlds (world_of now) (after (world_of b) (tick.stop_at_end r.env (world_of b)))
       (λ k. record (book_of now) { kept = λ i. stopped_mappings b r.env x runs i k })
       (stopped_count b r.env x runs)
       (by_env (solo_of now) (solo_of b) r.env (stopped_solo b r.env x runs) (stopped_others b r.env x runs))
@@ -171,21 +174,16 @@ module _ (b : Shown) (sound : IsSound b) (r : Runner) (is : b.slots.runner ≡ S
   in_grace = ap (in_grace_again b.slots) is
 
   -- and where it has one
-  ends : (h : ℕ) → (h == 0) ≡ false → (handlers_of b.roster.list r.env).end ≡ h → world_of (after_timer_by b r.env timer.End) ≡ after (world_of b) (tick.slice_end r.env h (world_of b))
-  ends h some handler =
+  ends : world_of (after_timer_by b r.env timer.End) ≡ after (world_of b) (tick.slice_end r.env (world_of b))
+  ends =
       let e = r.env in
       let now = after_end b e in
       let w : Write = record { address = page_size + end_area; bytes = end_bytes b.cpu } in
-      let reply : Reply = record {
-        book = record (book_of b) { runner = Some (tick.grace_of (world_of b) e) };
-        items = only e (End ∷ []);
-        rows = row.End b.time b.slots.cursor e ∷ [];
-      } in
       let maps = its_mappings b e x runs in
       let pages : pages_seen now.frames x.env.mappings ≡ kept_after (pages_seen b.frames x.env.mappings) (left_store w) =
       ap (pages_seen (left_by b e w)) (sym maps) ∙ left_own b sound e w refl ∙ ap (λ ms. kept_after (pages_seen b.frames ms) (left_store w)) maps in
       let still : Runs now e x = record { at = runs.at; lives = runs.lives; runs = named e now.slots.runner (ap running in_grace) } in
-      worlds (world_of now) (after (world_of b) reply)
+      worlds (world_of now) (after (world_of b) (tick.slice_end e (world_of b)))
       (λ k. record (book_of now) { runner = in_grace k })
       refl
       (one_absorbed (solo_of b) (solo_of now) e (End ∷ [])
@@ -194,7 +192,6 @@ module _ (b : Shown) (sound : IsSound b) (r : Runner) (is : b.slots.runner ≡ S
       ∙ ap (λ s. absorb_all s (End ∷ [])) (sym (runner_seen b e x runs)))
       (λ i ne. same_solo i now b (search (rules, (still.runs.others i ne), (runs.runs.others i ne), (left_others b sound e w refl i ne), (left_sights b sound e w refl i)))))
       refl
-      ∙ rw some refl
 
   -- A quantum of grace is over: the runner owes one more, and the ledger says so.
   abbrev owing : ℕ
@@ -214,7 +211,7 @@ module _ (b : Shown) (sound : IsSound b) (r : Runner) (is : b.slots.runner ≡ S
   owes = get_or-set_same b.slots.excess r.env owing 0 within
 
   -- another quantum of grace
-  goes_over : world_of (after_timer_by b r.env (timer.Over owing)) ≡ after (world_of over) (tick.goes_on (tick.grace_of (world_of over) r.env) (world_of over))
+  goes_over : world_of (after_timer_by b r.env (timer.Over owing)) ≡ after (world_of over) (tick.grace_again r.env (world_of over))
   goes_over = search (rules, goes_on)
 
   -- death of too much excess
@@ -238,45 +235,52 @@ module _ (b : Shown) (sound : IsSound b) (r : Runner) (is : b.slots.runner ≡ S
       ∙ told over e Killed (Dies cause.Excess) (after_death over e cause.Excess) (dying over e x over_runs may cause.Excess)
       (ap (λ (life : Life). if is_dead life then solo_of over e else dead cause.Excess (solo_of over e)) lives)
 
-  -- which of both
-  judged : (much : Bool) → nat_lt excess_limit owing ≡ much
-      → world_of (after_timer_by b r.env (if much then timer.Kill else timer.Over owing)) ≡ after (world_of over) (tick.judged r.env (world_of over))
-  judged true is_much = dies ∙ rw (ap (nat_lt excess_limit) owes ∙ is_much) refl
-  judged false is_little = goes_over ∙ rw (ap (nat_lt excess_limit) owes ∙ is_little) refl
-
-  -- by the phase of what it used up
-  runs_out : (p : Phase) → world_of (after_timer_by b r.env (timer_at_end p (has_end b r.env) (excess_of b.slots.excess r.env))) ≡ after (world_of b) (tick.run_out r.env p (world_of b))
-  runs_out phase.Own =
-      let handler : (handlers_of b.roster.list r.env).end ≡ (solo_of b r.env).handlers.end = ap (λ o. (handlers_in o).end) runs.at ∙ ap (λ (s : Solo). s.handlers.end) (sym (runner_seen b r.env x runs)) in
-      subst (λ h. world_of (after_timer_by b r.env (timer_at_end phase.Own (has_end b r.env) (excess_of b.slots.excess r.env))) ≡ after (world_of b) (tick.slice_end r.env h (world_of b))) handler
-      (by_test ((handlers_of b.roster.list r.env).end == 0) refl)
+  -- by what the timer answers
+  answers : (last : Bool) → (let answer : Timer = if last then timer_at_end r.phase (has_end b r.env) (excess_of b.slots.excess r.env) else timer.Nothing in
+      world_of (after_timer_by b r.env answer) ≡ after (world_of b) (tick.timer_reply r answer (world_of b)))
+  answers false = counts_on
+  answers true = by_phase r.phase
     where
-      by_test : (none : Bool) → ((handlers_of b.roster.list r.env).end == 0) ≡ none →
-          world_of (after_timer_by b r.env (timer_at_end phase.Own (not none) (excess_of b.slots.excess r.env))) ≡ after (world_of b) (tick.slice_end r.env (handlers_of b.roster.list r.env).end (world_of b))
-      by_test true none = rw (eqb-true (handlers_of b.roster.list r.env).end 0 none) stops
-      by_test false some = ends (handlers_of b.roster.list r.env).end some refl
-  runs_out phase.Grace =
-      judged (nat_lt excess_limit owing) refl
-      ∙ ap (λ v. after v (tick.judged r.env v)) over_world
-      ∙ sym (in_turn_is_each (world_of b) (tick.owes_more r.env ∷ tick.judged r.env ∷ []))
+      by_handler : (has : Bool) → (let answer : Timer = timer_at_end phase.Own has (excess_of b.slots.excess r.env) in
+          world_of (after_timer_by b r.env answer) ≡ after (world_of b) (tick.timer_reply r answer (world_of b)))
+      by_handler true = ends
+      by_handler false = stops
 
-  -- by whether it has one tick left
-  counts : (last : Bool) → (r.left == 1) ≡ last → 1 ≤ r.left
-      → world_of (after_timer_by b r.env (if last then timer_at_end r.phase (has_end b r.env) (excess_of b.slots.excess r.env) else timer.Nothing)) ≡ after (world_of b) (tick.count_down r (r.left - 1) (world_of b))
-  counts last one some = search (rules, eqb-true, eq-eqb, eqb-false, runs_out, counts_on)
+      by_excess : (over : Bool) → (let answer : Timer = if over then timer.Kill else timer.Over owing in
+          world_of (after_timer_by b r.env answer) ≡ after (world_of b) (tick.timer_reply r answer (world_of b)))
+      by_excess true =
+          dies ∙ ap (λ v. after v (tick.kill r.env v)) over_world
+          ∙ sym (in_turn_is_each (world_of b) (tick.owes_more r.env ∷ tick.kill r.env ∷ []))
+      by_excess false =
+          goes_over ∙ ap (λ v. after v (tick.grace_again r.env v)) over_world
+          ∙ sym (in_turn_is_each (world_of b) (tick.owes_more r.env ∷ tick.grace_again r.env ∷ []))
 
-pub counted_world : (b : Shown) → IsSound b → world_of (after_timer_phase b) ≡ after (world_of b) (tick.timer (world_of b))
-counted_world b sound = by_runner b.slots.runner refl sound.book.ticks
+      by_phase : (p : Phase) → (let answer : Timer = timer_at_end p (has_end b r.env) (excess_of b.slots.excess r.env) in
+          world_of (after_timer_by b r.env answer) ≡ after (world_of b) (tick.timer_reply r answer (world_of b)))
+      by_phase phase.Own = by_handler (has_end b r.env)
+      by_phase phase.Grace = by_excess (nat_lt excess_limit owing)
+
+  -- the slots' answer is the model's
+  handles : has_end b r.env ≡ tick.handles_end (world_of b) r.env
+  handles = ap (λ o. not ((handlers_in o).end == 0)) runs.at ∙ ap (λ (s : Solo). not (s.handlers.end == 0)) (sym (runner_seen b r.env x runs))
+
+  counts : world_of (after_timer_by b r.env (timer_of r (has_end b r.env) (excess_of b.slots.excess r.env))) ≡ after (world_of b) (tick.count_when (Some r) (world_of b))
+  counts =
+      answers (r.left == 1)
+      ∙ ap (λ has. after (world_of b) (tick.timer_reply r (timer_of r has (excess_of b.slots.excess r.env)) (world_of b))) handles
+
+pub counted_world : TimerShowsModel
+counted_world b sound = by_runner b.slots.runner refl
   where
-    after_timer_phase : (o : Option Runner) → b.slots.runner ≡ o → HasTicks o → world_of (after_count_down b o) ≡ after (world_of b) (tick.count_when o (world_of b))
-    after_timer_phase None is some = quiet_world (world_of b)
-    after_timer_phase (Some r) is some =
+    after_timer_phase : (o : Option Runner) → b.slots.runner ≡ o → world_of (after_count_down b o) ≡ after (world_of b) (tick.count_when o (world_of b))
+    after_timer_phase None is = quiet_world (world_of b)
+    after_timer_phase (Some r) is =
         let x = runner_runs b r.env sound (ap running is) in
         ap (λ o. world_of (after_timer_by b r.env (timer_by o (has_end b r.env) (excess_of b.slots.excess)))) is
-        ∙ counts b sound r is x.0 x.1 (r.left == 1) refl some
+        ∙ counts b sound r is x.0 x.1
 
-    by_runner : (o : Option Runner) → b.slots.runner ≡ o → HasTicks o → world_of (with_next_time (after_count_down b o)) ≡ after (world_of b) (in_turn (tick.count_when o ∷ tick.clock ∷ []) (world_of b))
-    by_runner o is some =
+    by_runner : (o : Option Runner) → b.slots.runner ≡ o → world_of (with_next_time (after_count_down b o)) ≡ after (world_of b) (in_turn (tick.count_when o ∷ tick.clock ∷ []) (world_of b))
+    by_runner o is =
         ticked_world (after_count_down b o)
-        ∙ ap (λ v. after v (tick.clock v)) (after_timer_phase o is some)
+        ∙ ap (λ v. after v (tick.clock v)) (after_timer_phase o is)
         ∙ sym (in_turn_is_each (world_of b) (tick.count_when o ∷ tick.clock ∷ []))

@@ -1,4 +1,4 @@
--- What the parts of a board's tick do to what it shows.
+-- The model retold over lists, part by part of a tick. Nobody has to believe it: the laws say that it shows the model.
 use Rattle.std.specs.Prelude.{ℕ, zero, suc, ◌+◌, ◌-◌, ◌/◌, ◌%◌, Bool, true, false, not, drop, fold, List, [], ◌∷◌, ◌++◌, length, map, ◌==◌, if◌then◌else◌, Option, Some, None, unwrap_or, slice_set}
 use Rattle.external_event.specs.declared.event.Occurrence.{Occurrence}
 use Rattle.external_event.specs.declared.event.Occurrence.TheVariants as outside
@@ -25,7 +25,7 @@ use Rattle.filter_tree.specs.Claims.{claim_for, claim_handler, delivered, downlo
 use Rattle.handler_rules.specs.Running.{HandlerRun, handler_run}
 use Rattle.world_model.specs.ClaimCalls.{atoms_or_none, filter_at}
 use Rattle.world_model.specs.Downloads.{handler_at, handler_or_none}
-use Rattle.world_model.specs.Rings.{replied}
+use Rattle.world_model.specs.Rings.{sent_with_replies}
 use Rattle.revocation_book.specs.declared.revocation.Pending.{Pending}
 use Rattle.revocation_book.specs.declared.revocation.Taking.{Taking}
 use Rattle.revocation_book.specs.Pending.{asked}
@@ -40,14 +40,14 @@ use Rattle.page_book.specs.declared.row.Capabilities.{Capabilities}
 use Rattle.page_book.specs.Row.{released}
 use Rattle.page_book.specs.Rows.{row_in}
 use Rattle.bind_book.specs.declared.binding.Binding.{Binding}
-use Rattle.bind_book.specs.Stripe.{breaks_page, goes_with, stripe_place, row_of, swept, unbound}
+use Rattle.bind_book.specs.Stripe.{leads_to_page, goes_with, stripe_place, row_of, swept, unbound}
 use Rattle.guest_memory.specs.Look.{look, frames_after, guest_step}
 use Rattle.guest_memory.specs.Space.{lookup}
 use Rattle.slot_vector.specs.declared.turn.NextTurn.{NextTurn}
 use Rattle.slot_vector.specs.declared.turn.NextTurn.TheVariants as next
-use Rattle.slot_vector.specs.declared.timer.Timer.{Timer}
-use Rattle.slot_vector.specs.declared.timer.Timer.TheVariants as timer
-use Rattle.slot_vector.specs.Slices.{Slices, after_timer, after_turn, excess_of, given_to, hold_at, timer_answer, told_of, turn_ended, with_hold, without_env}
+use Rattle.world_model.specs.declared.timer.Timer.{Timer}
+use Rattle.world_model.specs.declared.timer.Timer.TheVariants as timer
+use Rattle.slot_vector.specs.Slices.{Slices, after_timer, after_turn, excess_of, given_to, hold_at, timer_answer, whole_turn_of, turn_ended, with_hold, without_env}
 use Rattle.world_model.specs.declared.slot.Hold.{Hold}
 use Rattle.world_model.specs.declared.slot.Runner.{Runner}
 use Rattle.world_model.specs.declared.slot.Turn.{Turn}
@@ -69,13 +69,13 @@ use Rattle.world_model.specs.Call.{deed_of, good_range}
 use Rattle.std.specs.Option.{option_map}
 use Rattle.world_model.specs.Death.{released_rows}
 use Rattle.world_model.specs.Verdict.{verdict}
-use Rattle.world_model.specs.Book.{Told, own_hold}
+use Rattle.world_model.specs.Book.{WholeTurn, own_hold}
 use Rattle.world_model.specs.LineCalls.{line_without}
 use Rattle.world_model.specs.SlotCalls.{dropped, held_by, slot_row}
 use Rattle.world_model.specs.Call.{called, exit_number}
 use Rattle.board_model.specs.declared.roster.Environment.{Environment}
 use Rattle.board_model.specs.Lines.{line_at}
-use Rattle.board_model.specs.Shown.{Shown, mappings_of, handlers_of, registers_of, changed, with_list}
+use Rattle.board_model.specs.Shown.{Shown, mappings_of, handlers_of, registers_of, with_record, with_list}
 use Rattle.board_model.specs.Showing.{world_of}
 
 -- What happens from outside. A packet that nobody claims is dropped, and the ledger tells its length.
@@ -85,13 +85,15 @@ after_drop b packet = record b { ledger = with_row b.ledger (row.Unclaimed b.tim
 -- A signal on a line that is an environment's sets the line's bit in its context page.
 abbrev pub after_signal_to : Shown → ℕ → Option ℕ → Shown
 after_signal_to b line None = b
-after_signal_to b line (Some owner) = record b { frames = signalled_in line (page_of (mappings_of b.roster.list owner) context_number) b.frames }
+after_signal_to b line (Some owner) =
+    record b { frames = signalled_in line (page_of (mappings_of b.roster.list owner) context_number) b.frames }
 
 abbrev pub after_signal : Shown → ℕ → Shown
 after_signal b line = after_signal_to b line (line_at b.lines line)
 
--- A packet for a claim is counted in the context page of the claim's environment. If the buffer whose turn it is has room, it
--- goes there, and the other is next; else it is counted as lost, too. If the claim has a handler, that runs in place of this.
+-- A packet for a claim is counted in the context page of the claim's environment. If the buffer whose turn it is has
+-- room, it goes there, and the other is next; else it is counted as lost, too. If the claim has a handler, that runs in
+-- place of this.
 abbrev pub context_of : Shown → ℕ → Option ℕ
 context_of b e = page_of (mappings_of b.roster.list e) context_number
 
@@ -110,13 +112,14 @@ after_queue false b c packet = with_queued_packet b c packet
 
 -- an environment that sent a handler's replies, but for those that find 256 packets held
 abbrev pub with_replies_sent : List (List ℕ) → Environment → Environment
-with_replies_sent replies x = record x { output = record x.output { sent = replied x.output.sent replies } }
+with_replies_sent replies x = record x { output = record x.output { sent = sent_with_replies x.output.sent replies } }
 
 abbrev pub with_replies : Shown → ℕ → List (List ℕ) → Shown
-with_replies b e replies = record b { roster = with_list b.roster (changed (with_replies_sent replies) b.roster.list e) }
+with_replies b e replies =
+    record b { roster = with_list b.roster (with_record (with_replies_sent replies) b.roster.list e) }
 
--- A handler took the packet: the ring page is what it left, and the claim's environment sent its replies. The buffer whose turn
--- it is stays.
+-- A handler took the packet: the ring page is what it left, and the claim's environment sent its replies. The buffer
+-- whose turn it is stays.
 abbrev pub after_handler : Shown → Claim → HandlerRun → Shown
 after_handler b c run = with_replies (record b { frames = after_put b.frames c.page 0 run.page }) c.env run.replies
 
@@ -134,7 +137,8 @@ after_arrival_for b packet (Some c) = after_delivery b c packet
 abbrev pub after_arrival : Shown → List ℕ → Shown
 after_arrival b packet = after_arrival_for b packet (claim_for b.claims packet)
 
--- A revocation: the environment finds in its context page how many pages are outstanding, and until when; the ledger tells it.
+-- A revocation: the environment finds in its context page how many pages are outstanding, and until when; the ledger
+-- tells it.
 abbrev pub with_asked : Shown → ℕ → Option Pending → Shown
 with_asked b e None = record b { revocations = with_pending b.revocations e None }
 with_asked b e (Some p) = record b {
@@ -145,25 +149,28 @@ with_asked b e (Some p) = record b {
 
 -- it is for an environment that is there and lives
 abbrev pub after_revocation : Shown → ℕ → ℕ → ℕ → Shown
-after_revocation b e count deadline = if is_living (world_of b) e then with_asked b e (asked count deadline (pending_at b.revocations e)) else b
+after_revocation b e count deadline =
+    if is_living (world_of b) e then with_asked b e (asked count deadline (pending_at b.revocations e)) else b
 
 abbrev pub after_event : Occurrence → Shown → Shown
 after_event (outside.Packet packet) b = after_arrival b packet
 after_event (outside.Line line) b = after_signal b line
 after_event (outside.Revoke env count grace) b = after_revocation b env count (b.time + grace)
 
--- The start of an environment's slice: the registers with which it starts, and physical memory with what its handler of starts finds.
+-- The start of an environment's slice: the registers with which it starts, and physical memory with what its handler of
+-- starts finds.
 abbrev pub start_registers : List Environment → ℕ → Cpu
 start_registers list e = started_cpu (handlers_of list e).start (registers_of list e)
 
 abbrev pub start_frames : Shown → ℕ → List (List ℕ)
 start_frames b e =
     if (handlers_of b.roster.list e).start == 0 then b.frames
-    else left_in start_area (start_bytes (registers_of b.roster.list e)) (page_of (mappings_of b.roster.list e) context_number) b.frames
+    else left_in start_area (start_bytes (registers_of b.roster.list e)) (context_of b e) b.frames
 
 -- a slot that is forfeited
 abbrev pub after_forfeit : Shown → Turn → Shown
-after_forfeit b t = record b { slots = after_turn b.slots (next.Pay t); ledger = with_row b.ledger (row.Pay b.time t.slot t.env) }
+after_forfeit b t =
+    record b { slots = after_turn b.slots (next.Pay t); ledger = with_row b.ledger (row.Pay b.time t.slot t.env) }
 
 -- the start of a slot's holder
 abbrev pub after_start : Shown → Turn → Shown
@@ -184,11 +191,11 @@ abbrev pub after_start_if : Shown → Option Turn → Shown
 after_start_if b None = b
 after_start_if b (Some t) = after_start b t
 
-abbrev pub after_told : Shown → Told → Shown
+abbrev pub after_told : Shown → WholeTurn → Shown
 after_told b told = after_start_if (fold after_forfeit b told.pays) told.runs
 
 abbrev pub after_turn_when : Shown → Option Runner → Shown
-after_turn_when b None = after_told b (told_of b.slots)
+after_turn_when b None = after_told b (whole_turn_of b.slots)
 after_turn_when b (Some r) = b
 
 -- the turn
@@ -250,16 +257,19 @@ mask_from mask (suc k) = mask_from (mask / 2) k
 -- the rows of the slots below k that a mask names, by rising slot
 abbrev pub mask_rows : ℕ → ℕ → (ℕ → Option Hold) → ℕ → List Row
 mask_rows t mask slots zero = []
-mask_rows t mask slots (suc k) = mask_rows t mask slots k ++ (if mask_from mask k % 2 == 1 then slot_row t k (slots k) ∷ [] else [])
+mask_rows t mask slots (suc k) =
+    mask_rows t mask slots k ++ (if mask_from mask k % 2 == 1 then slot_row t k (slots k) ∷ [] else [])
 
 -- An environment's death. Its slots are released, and the ledger tells its death and what becomes of them.
 abbrev pub ledger_after_release : ℕ → ℕ → Slices → Ledger → Ledger
-ledger_after_release t e v ledger = with_rows (with_row ledger (row.Dead t v.cursor e)) (released_rows t e (hold_at v.slots) (length v.slots))
+ledger_after_release t e v ledger =
+    with_rows (with_row ledger (row.Dead t v.cursor e)) (released_rows t e (hold_at v.slots) (length v.slots))
 
 abbrev pub after_release : Shown → ℕ → Shown
 after_release b e = record b { slots = without_env e b.slots; ledger = ledger_after_release b.time e b.slots b.ledger }
 
--- Its pages are free, neither its bindings nor those of its pages are left, its lines are nobody's, its claims are withdrawn, nothing is asked of it, and its registers and mappings go.
+-- Its pages are free, neither its bindings nor those of its pages are left, its lines are nobody's, its claims are
+-- withdrawn, nothing is asked of it, and its registers and mappings go.
 abbrev pub after_burial : Shown → ℕ → Cause → Shown
 after_burial b e cause = record b {
   pages = map (released e) b.pages;
@@ -267,7 +277,7 @@ after_burial b e cause = record b {
   lines = map (line_without e) b.lines;
   claims = without (is_of_env e) b.claims;
   revocations = once_gone b.revocations e;
-  roster = with_list b.roster (changed (dead_frame cause) b.roster.list e);
+  roster = with_list b.roster (with_record (dead_frame cause) b.roster.list e);
 }
 
 -- both
@@ -277,7 +287,7 @@ after_death b e cause = after_burial (after_release b e) e cause
 -- the registers of an environment that is stopped are kept
 abbrev pub with_stop_kept : Shown → ℕ → Shown
 with_stop_kept b e = record b {
-  roster = with_list b.roster (changed (with_registers b.cpu) b.roster.list e);
+  roster = with_list b.roster (with_record (with_registers b.cpu) b.roster.list e);
   ledger = with_row b.ledger (row.Stop b.time b.slots.cursor e);
 }
 
@@ -297,7 +307,7 @@ own_record b e (Handles kind address) = with_handler_at kind address
 own_record b e (Accepts mask) = with_mask mask
 
 abbrev pub after_own_deed : Shown → ℕ → OwnDeed → Shown
-after_own_deed b e own = record b { roster = with_list b.roster (changed (own_record b e own) b.roster.list e) }
+after_own_deed b e own = record b { roster = with_list b.roster (with_record (own_record b e own) b.roster.list e) }
 
 -- the rest of the runner's slice goes to another environment, which is started
 abbrev pub after_gift : Shown → ℕ → ℕ → Shown
@@ -305,29 +315,35 @@ after_gift b e target = record b {
   slots = given_to target false b.slots;
   frames = start_frames b target;
   cpu = start_registers b.roster.list target;
-  roster = with_list b.roster (changed (with_registers b.cpu) b.roster.list e);
+  roster = with_list b.roster (with_record (with_registers b.cpu) b.roster.list e);
   ledger = with_row b.ledger (row.Give b.time b.slots.cursor e target);
 }
 
 -- physical memory after a transfer has entered an environment: the entry area of its context page is written
 abbrev pub frames_after_entry : List Environment → ℕ → ℕ → TransferKind → List (List ℕ) → List (List ℕ)
 frames_after_entry list from target kind frames =
-    left_in entry_area (entry_bytes from kind (registers_of list target)) (page_of (mappings_of list target) context_number) frames
+    let context = page_of (mappings_of list target) context_number in
+    left_in entry_area (entry_bytes from kind (registers_of list target)) context frames
 
 abbrev pub entry_registers : Shown → ℕ → TransferKind → Cpu
-entry_registers b target kind = entered_cpu (handler_of (handlers_of b.roster.list target) (entry_context kind)) (carried b.cpu)
+entry_registers b target kind =
+    entered_cpu (handler_of (handlers_of b.roster.list target) (entry_context kind)) (carried b.cpu)
 
 abbrev pub entry_roster : Shown → ℕ → ℕ → ℕ → List Environment
-entry_roster b e value target = changed (with_registers (answered_cpu (Grant value) b.cpu)) (changed (with_mask 0) b.roster.list target) e
+entry_roster b e value target =
+    with_record (with_registers (answered_cpu (Grant value) b.cpu)) (with_record (with_mask 0) b.roster.list target) e
 
 abbrev pub ledger_after_hand_on : Shown → ℕ → ℕ → TransferKind → Ledger
 ledger_after_hand_on b e target kind.Asynchronous = with_row b.ledger (row.Async b.time b.slots.cursor e target)
 ledger_after_hand_on b e target kind.Synchronous =
-    with_row (with_row b.ledger (row.Sync b.time b.slots.cursor e target)) (slot_row b.time b.slots.cursor (option_map (held_by target) (hold_at b.slots.slots b.slots.cursor)))
+    let slot = b.slots.cursor in
+    with_row (with_row b.ledger (row.Sync b.time slot e target))
+    (slot_row b.time slot (option_map (held_by target) (hold_at b.slots.slots slot)))
 
 -- The target runs for the rest of the runner's slice, and holds the slot, if that is handed on; the ledger says so.
 abbrev pub after_hand_on : Shown → ℕ → ℕ → TransferKind → Shown
-after_hand_on b e target kind = record b { slots = given_to target (hands_slot kind) b.slots; ledger = ledger_after_hand_on b e target kind }
+after_hand_on b e target kind =
+    record b { slots = given_to target (hands_slot kind) b.slots; ledger = ledger_after_hand_on b e target kind }
 
 -- The runner's registers are kept behind its call, which is granted with a value, and the target goes on at its entry.
 abbrev pub after_entry : Shown → ℕ → ℕ → ℕ → TransferKind → Shown
@@ -337,17 +353,21 @@ after_entry b e value target kind = record b {
   roster = with_list b.roster (entry_roster b e value target);
 }
 
--- Transfer: the runner's registers are kept behind its call, which is answered; another environment goes on at its entry with those that the runner had at the call, for the rest of the slice, and holds the slot or not.
+-- Transfer: the runner's registers are kept behind its call, which is answered; another environment goes on at its
+-- entry with those that the runner had at the call, for the rest of the slice, and holds the slot or not.
 abbrev pub after_transfer : Shown → ℕ → ℕ → ℕ → TransferKind → Shown
 after_transfer b e value target kind = after_entry (after_hand_on b e target kind) e value target kind
 
 -- Take and drop: a slot has another hold.
-abbrev pub with_slot : Shown → ℕ → Option Hold → Shown
-with_slot b k hold = record b { slots = with_hold b.slots k hold; ledger = with_row b.ledger (slot_row b.time k hold) }
+abbrev pub board_with_slot : Shown → ℕ → Option Hold → Shown
+board_with_slot b k hold = record b {
+  slots = with_hold b.slots k hold;
+  ledger = with_row b.ledger (slot_row b.time k hold);
+}
 
 -- An interrupt line has another owner, or none.
-abbrev pub with_line : Shown → ℕ → Option ℕ → Shown
-with_line b line owner = record b { lines = slice_set b.lines line owner }
+abbrev pub board_with_line : Shown → ℕ → Option ℕ → Shown
+board_with_line b line owner = record b { lines = slice_set b.lines line owner }
 
 -- The runner's exception goes to its handler, which stands at this address.
 abbrev pub after_raise : Shown → ℕ → ℕ → Exc → Shown
@@ -358,33 +378,39 @@ after_raise b e handler exc = record b {
 
 -- where there is none it dies
 abbrev pub after_trap_by : Shown → ℕ → ℕ → Exc → Shown
-after_trap_by b e handler exc = if handler == 0 then after_death b e (cause.Trapped exc.code) else after_raise b e handler exc
+after_trap_by b e handler exc =
+    if handler == 0 then after_death b e (cause.Trapped exc.code) else after_raise b e handler exc
 
 abbrev pub after_trap : Shown → ℕ → Exc → Shown
 after_trap b e exc = after_trap_by b e (handlers_of b.roster.list e).exception exc
 
 -- Allocation: the page is the runner's and holds zeros.
 abbrev pub with_allocated : Shown → ℕ → ℕ → Capabilities → Shown
-with_allocated b e page words = record b { frames = with_page b.frames page zero_page; pages = slice_set b.pages page (Owned e words) }
+with_allocated b e page words =
+    record b { frames = with_page b.frames page zero_page; pages = slice_set b.pages page (Owned e words) }
 
 -- Free and recap: the page has another row, and the bindings of it are broken, but for those of one environment.
 abbrev pub with_broken : Shown → ℕ → PageRow → Option ℕ → Shown
-with_broken b page row but = record b { pages = slice_set b.pages page row; binds = swept (breaks_page page but) b.binds }
+with_broken b page row but =
+    record b { pages = slice_set b.pages page row; binds = swept (leads_to_page page but) b.binds }
 
 -- Free: the page is nobody's, and the claims whose ring it is are withdrawn.
 abbrev pub with_freed : Shown → ℕ → Shown
-with_freed b page = let broken = with_broken b page Free None in record broken { claims = without (is_into page) b.claims }
+with_freed b page =
+    let broken = with_broken b page Free None in record broken { claims = without (is_into page) b.claims }
 
 -- by its owner, of whom one page fewer is outstanding then, and whose backup it isn't any more
 abbrev pub with_given_back : Shown → ℕ → ℕ → Shown
-with_given_back b e page = let freed = with_freed b page in record freed { revocations = once_freed b.revocations e page }
+with_given_back b e page =
+    let freed = with_freed b page in record freed { revocations = once_freed b.revocations e page }
 
 -- Backup: the page is the last of the runner's backups.
 abbrev pub with_loaded : Shown → ℕ → ℕ → Shown
-with_loaded b e page = record b { revocations = with_backups b.revocations e (loaded page (backups_at b.revocations e)) }
+with_loaded b e page =
+    record b { revocations = with_backups b.revocations e (loaded page (backups_at b.revocations e)) }
 
--- A page is taken from its owner: its first backup gets a copy and is an ordinary page again, the owner finds the record, the page
--- is nobody's, and the ledger tells it.
+-- A page is taken from its owner: its first backup gets a copy and is an ordinary page again, the owner finds the
+-- record, the page is nobody's, and the ledger tells it.
 abbrev pub frames_after_copy : ℕ → Option ℕ → List (List ℕ) → List (List ℕ)
 frames_after_copy page None frames = frames
 frames_after_copy page (Some backup) frames = after_put frames backup 0 (page_at frames page)
@@ -397,25 +423,27 @@ after_taking b x = let freed = with_freed b x.page in record freed {
 }
 
 -- What is taken at deadlines that have come is taken, and these deadlines are over.
-abbrev pub takings_in : Shown → List Taking
-takings_in b = takings_below (books_of b.pages b.revocations) b.time (length b.roster.list)
+abbrev pub board_takings : Shown → List Taking
+board_takings b = takings_below (books_of b.pages b.revocations) b.time (length b.roster.list)
 
 abbrev pub with_deadlines_over : Shown → Shown
 with_deadlines_over b = record b { revocations = once_served b.revocations b.time }
 
 abbrev pub after_deadlines : Shown → Shown
-after_deadlines b = with_deadlines_over (fold after_taking b (takings_in b))
+after_deadlines b = with_deadlines_over (fold after_taking b (board_takings b))
 
 -- Claim: the claim stands, with the filter that is named. Unclaim: it doesn't stand any more.
 abbrev pub with_claimed : Shown → ℕ → ℕ → ℕ → ℕ → Shown
-with_claimed b e address atoms page = record b { claims = with_claim b.claims e (atoms_or_none (filter_at (look_of b e) address atoms)) page }
+with_claimed b e address atoms page =
+    record b { claims = with_claim b.claims e (atoms_or_none (filter_at (look_of b e) address atoms)) page }
 
 abbrev pub with_unclaimed : Shown → ℕ → ℕ → Shown
 with_unclaimed b e claim = record b { claims = without (is_claim e claim) b.claims }
 
 -- Handler: the claim has the handler that is named, or none.
 abbrev pub with_downloaded : Shown → ℕ → ℕ → ℕ → ℕ → Shown
-with_downloaded b e claim address words = record b { claims = downloaded claim (handler_or_none (handler_at (look_of b e) address words)) b.claims }
+with_downloaded b e claim address words =
+    record b { claims = downloaded claim (handler_or_none (handler_at (look_of b e) address words)) b.claims }
 
 -- Bind: the binding stands in its row.
 abbrev pub with_bound : Shown → ℕ → Binding → Shown
@@ -437,13 +465,16 @@ after_grant b e value (Recaps page words) = after_answer (with_broken b page (Ow
 after_grant b e value (Binds binding word) = after_answer (with_bound b e binding) (Grant value)
 after_grant b e value (Unbinds vpn) = after_answer (with_unbound b e vpn) (Grant value)
 after_grant b e value (Transfers target kind) = after_transfer b e value target kind
-after_grant b e value (TakesSlot slot) = after_answer (with_slot b slot (Some (own_hold e))) (Grant value)
-after_grant b e value (DropsSlot slot) = after_answer (with_slot b slot (dropped e (hold_at b.slots.slots slot))) (Grant value)
-after_grant b e value (TakesLine line) = after_answer (with_line b line (Some e)) (Grant value)
-after_grant b e value (DropsLine line) = after_answer (with_line b line None) (Grant value)
-after_grant b e value (Claims claim address atoms page) = after_answer (with_claimed b e address atoms page) (Grant value)
+after_grant b e value (TakesSlot slot) = after_answer (board_with_slot b slot (Some (own_hold e))) (Grant value)
+after_grant b e value (DropsSlot slot) =
+    after_answer (board_with_slot b slot (dropped e (hold_at b.slots.slots slot))) (Grant value)
+after_grant b e value (TakesLine line) = after_answer (board_with_line b line (Some e)) (Grant value)
+after_grant b e value (DropsLine line) = after_answer (board_with_line b line None) (Grant value)
+after_grant b e value (Claims claim address atoms page) =
+    after_answer (with_claimed b e address atoms page) (Grant value)
 after_grant b e value (Unclaims claim) = after_answer (with_unclaimed b e claim) (Grant value)
-after_grant b e value (Downloads claim address words) = after_answer (with_downloaded b e claim address words) (Grant value)
+after_grant b e value (Downloads claim address words) =
+    after_answer (with_downloaded b e claim address words) (Grant value)
 after_grant b e value (Loads page) = after_answer (with_loaded b e page) (Grant value)
 
 -- a call of the runner on which this is the verdict
@@ -486,7 +517,8 @@ after_end b e = record b {
 abbrev pub over_row : Shown → ℕ → ℕ → Ledger
 over_row b e excess = with_row b.ledger (row.Over b.time b.slots.cursor e excess)
 
--- What the timer brought is settled at once: the ledger tells of a quantum of grace that is over, and the slots of a runner that is to die are released.
+-- What the timer brought is settled at once: the ledger tells of a quantum of grace that is over, and the slots of a
+-- runner that is to die are released.
 abbrev pub slots_settled : ℕ → Slices → Timer → Slices
 slots_settled e v timer.Nothing = v
 slots_settled e v timer.Stop = v
@@ -499,22 +531,27 @@ ledger_after_timer t e v ledger timer.Nothing = ledger
 ledger_after_timer t e v ledger timer.Stop = ledger
 ledger_after_timer t e v ledger timer.End = ledger
 ledger_after_timer t e v ledger (timer.Over excess) = with_row ledger (row.Over t v.cursor e excess)
-ledger_after_timer t e v ledger timer.Kill = ledger_after_release t e v (with_row ledger (row.Over t v.cursor e (excess_of v.excess e)))
+ledger_after_timer t e v ledger timer.Kill =
+    ledger_after_release t e v (with_row ledger (row.Over t v.cursor e (excess_of v.excess e)))
 
 -- a tick of the runner's slice is used
 abbrev pub after_use : Shown → ℕ → Timer → Shown
-after_use b e answer = let v = after_timer b.slots answer in record b { slots = slots_settled e v answer; ledger = ledger_after_timer b.time e v b.ledger answer }
+after_use b e answer =
+    let v = after_timer b.slots answer in
+    record b { slots = slots_settled e v answer; ledger = ledger_after_timer b.time e v b.ledger answer }
 
 -- a runner with too much excess, which is to die
 abbrev pub with_overrun : Shown → ℕ → Shown
-with_overrun b e = let v = after_timer b.slots timer.Kill in record b { slots = v; ledger = over_row b e (excess_of v.excess e) }
+with_overrun b e =
+    let v = after_timer b.slots timer.Kill in record b { slots = v; ledger = over_row b e (excess_of v.excess e) }
 
 -- what the timer brings to the runner
 abbrev pub after_timer_by : Shown → ℕ → Timer → Shown
 after_timer_by b e timer.Nothing = record b { slots = after_timer b.slots timer.Nothing }
 after_timer_by b e timer.Stop = after_stop b e
 after_timer_by b e timer.End = after_end b e
-after_timer_by b e (timer.Over excess) = record b { slots = after_timer b.slots (timer.Over excess); ledger = over_row b e excess }
+after_timer_by b e (timer.Over excess) =
+    record b { slots = after_timer b.slots (timer.Over excess); ledger = over_row b e excess }
 after_timer_by b e timer.Kill = after_death (with_overrun b e) e cause.Excess
 
 abbrev pub has_end : Shown → ℕ → Bool

@@ -1,9 +1,11 @@
 pub mod Lines
 pub mod Rings
 pub mod Shown
+pub mod Lending
 pub mod Showing
 pub mod Sound
 pub mod Doing
 pub mod Loading
 pub mod Laws
 pub mod Stretch
+pub mod Ticks

@@ -22,8 +22,8 @@ pub record Environments : Type 0 where
   pub spare : ℕ
 
 -- The pages of physical memory; whose each of them is; the rows of all stripes of bindings; whose the interrupt lines
--- are; the claims that stand; what is asked of environments, and their backups; the vector of slots; the registers of the
--- machine; the environments; the time; and the ledger.
+-- are; the claims that stand; what is asked of environments, and their backups; the vector of slots; the registers of
+-- the machine; the environments; the time; and the ledger.
 pub record Shown : Type 0 where
   pub frames : List (List ℕ)
   pub pages : List PageRow
@@ -36,10 +36,6 @@ pub record Shown : Type 0 where
   pub roster : Environments
   pub time : ℕ
   pub ledger : Ledger
-
--- a board of these parts
-abbrev pub shown : List (List ℕ) → List PageRow → List (Option Binding) → List (Option ℕ) → ClaimBook → RevocationBook → Slices → Cpu → Environments → ℕ → Ledger → Shown
-shown frames pages binds lines claims revocations slots cpu roster time ledger = record { frames = frames; pages = pages; binds = binds; lines = lines; claims = claims; revocations = revocations; slots = slots; cpu = cpu; roster = roster; time = time; ledger = ledger }
 
 abbrev pub mappings_in : Option Environment → List Mapping
 mappings_in None = []
@@ -79,7 +75,10 @@ no_output = record { console = []; sent = [] }
 
 -- the environments and a new one, which lives and put out nothing
 abbrev pub with_newcomer : List ℕ → EnvValue → Environments → Environments
-with_newcomer name env r = record { list = r.list ++ record { name = name; life = Live; env = env; output = no_output } ∷ []; spare = r.spare - 1 }
+with_newcomer name env r = record {
+  list = r.list ++ record { name = name; life = Live; env = env; output = no_output } ∷ [];
+  spare = r.spare - 1;
+}
 
 abbrev pub console_in : Option Environment → List ℕ
 console_in None = []
@@ -98,10 +97,10 @@ abbrev pub sent_of : List Environment → ℕ → List (List ℕ)
 sent_of list e = sent_in (slice_get list e)
 
 -- a list with the element at one place changed
-abbrev pub changed : {A : Type 0} → (A → A) → List A → ℕ → List A
-changed f [] e = []
-changed f (x ∷ xs) zero = f x ∷ xs
-changed f (x ∷ xs) (suc e) = x ∷ changed f xs e
+abbrev pub with_record : {A : Type 0} → (A → A) → List A → ℕ → List A
+with_record f [] e = []
+with_record f (x ∷ xs) zero = f x ∷ xs
+with_record f (x ∷ xs) (suc e) = x ∷ with_record f xs e
 
 -- other environments in a roster
 abbrev pub with_list : Environments → List Environment → Environments

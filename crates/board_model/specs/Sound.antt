@@ -1,21 +1,21 @@
 -- What holds of every board.
 use Rattle.std.specs.Prelude.{◌≡◌, ◌≤◌, ◌<◌, ◌+◌, ◌*◌, ℕ, false, List, length, Option, Some, None, Bool, IfSome, slice_get, true}
 use Rattle.std.specs.List.{list_all}
-use Rattle.aegis_limits.specs.Limits.{most_environments, most_pages, most_slots}
+use Rattle.aegis_limits.specs.Limits.{most_environments, most_pages, most_slots, excess_limit, environment_numbers, stripe_rows}
 use Rattle.external_event.specs.Limits.{lines as most_lines}
 use Rattle.page_book.specs.declared.row.PageRow.{PageRow}
 use Rattle.page_book.specs.declared.row.PageRow.TheVariants.{Free, Guaranteed, Owned}
 use Rattle.page_book.specs.Row.{is_owned_by, owner_of}
-use Rattle.filter_tree.specs.ClaimBook.{ClaimBook, ClaimValue, RowValue}
+use Rattle.filter_tree.specs.ClaimBook.{ClaimBook, ClaimValue, RowValue, are_numbered}
 use Rattle.page_book.specs.Rows.{row_in}
 use Rattle.revocation_book.specs.Backups.{is_loaded}
-use Rattle.revocation_book.specs.RevocationBook.{RevocationBook, backups_at, pending_at, most_numbers as most_asked}
+use Rattle.revocation_book.specs.RevocationBook.{RevocationBook, backups_at, pending_at}
 use Rattle.bind_book.specs.declared.binding.Binding.{Binding}
-use Rattle.bind_book.specs.Stripe.{stripe_rows, stripes}
+use Rattle.bind_book.specs.Stripe.{stripes}
 use Rattle.env_frames.specs.declared.mapping.Mapping.{Mapping}
 use Rattle.env_frames.specs.Frame.{IsRising, numbers}
-use Rattle.slot_vector.specs.Slices.{Slices, HasTicks, excess_of, hold_at, most_numbers}
-use Rattle.world_model.specs.Book.{excess_limit, has_part, is_runner}
+use Rattle.slot_vector.specs.Slices.{Slices, HasTicks, excess_of, hold_at}
+use Rattle.world_model.specs.Book.{has_part, is_runner, running}
 use Rattle.world_model.specs.declared.life.Life.TheVariants.{Live}
 use Rattle.board_model.specs.declared.roster.Environment.{Environment}
 use Rattle.board_model.specs.Lines.{line_at}
@@ -26,8 +26,8 @@ IsAlive None = ⊥
 IsAlive (Some x) = x.life ≡ Live
 
 -- an environment of the board that lives
-abbrev pub IsLive : List Environment → ℕ → Type 0
-IsLive list e = (e < length list) × IsAlive (slice_get list e)
+abbrev pub IsLiving : List Environment → ℕ → Type 0
+IsLiving list e = (e < length list) × IsAlive (slice_get list e)
 
 -- a number that an environment of the board has or will have, which isn't dead
 abbrev pub IsUndead : Environments → ℕ → Type 0
@@ -36,11 +36,12 @@ IsUndead r e = (e < length r.list + r.spare) × IfSome (slice_get r.list e) (λ 
 -- an environment's guaranteed mappings lead to pages that are guaranteed to it, each to one of its own
 pub record AreGuaranteed (pages : List PageRow) (e : ℕ) (mappings : List Mapping) : Type 0 where
   pub its : (a : ℕ) (m : Mapping) → slice_get mappings a ≡ Some m → row_in pages m.page ≡ Guaranteed e
-  pub apart : (a b : ℕ) (m n : Mapping) → slice_get mappings a ≡ Some m → slice_get mappings b ≡ Some n → m.page ≡ n.page → a ≡ b
+  pub apart : (a b : ℕ) (m n : Mapping) →
+      slice_get mappings a ≡ Some m → slice_get mappings b ≡ Some n → m.page ≡ n.page → a ≡ b
   pub rising : IsRising (numbers mappings)
 
 -- Physical memory: each page has a row, and what is mapped is guaranteed.
-pub record IsParted (frames : List (List ℕ)) (pages : List PageRow) (list : List Environment) : Type 0 where
+pub record PagesAgree (frames : List (List ℕ)) (pages : List PageRow) (list : List Environment) : Type 0 where
   pub same : length frames ≡ length pages
   pub most : length frames ≤ most_pages
   pub mapped : (e : ℕ) → AreGuaranteed pages e (mappings_of list e)
@@ -50,27 +51,29 @@ IsOwned Free = ⊥
 IsOwned (Guaranteed owner) = ⊥
 IsOwned (Owned owner words) = Unit {0}
 
--- The books: there is a stripe for each environment; pages and bindings are those of environments that live; and no page is bound that is free or guaranteed.
-pub record AreBooked (pages : List PageRow) (binds : List (Option Binding)) (r : Environments) : Type 0 where
+-- The books: there is a stripe for each environment; pages and bindings are those of environments that live; and no
+-- page is bound that is free or guaranteed.
+pub record BooksAgree (pages : List PageRow) (binds : List (Option Binding)) (r : Environments) : Type 0 where
   pub striped : length binds ≡ (length r.list + r.spare) * stripe_rows
-  pub owners : (page e : ℕ) → owner_of (row_in pages page) ≡ Some e → IsLive r.list e
-  pub binders : (e row : ℕ) (x : Binding) → stripes binds e row ≡ Some x → IsLive r.list e
+  pub owners : (page e : ℕ) → owner_of (row_in pages page) ≡ Some e → IsLiving r.list e
+  pub binders : (e row : ℕ) (x : Binding) → stripes binds e row ≡ Some x → IsLiving r.list e
   pub bound : (e row : ℕ) (x : Binding) → stripes binds e row ≡ Some x → IsOwned (row_in pages x.page)
 
--- The slots: a runner lives and has ticks left, whoever owns or holds a slot isn't dead, and nobody owes more than the limit.
-pub record IsManned (v : Slices) (r : Environments) : Type 0 where
+-- The slots: a runner lives and has ticks left, whoever owns or holds a slot isn't dead, and nobody owes more than the
+-- limit.
+pub record SlotsAgree (v : Slices) (r : Environments) : Type 0 where
   pub quantum : 0 < v.quantum
   pub ticks : HasTicks v.runner
-  pub runner : IfSome v.runner (λ x. IsLive r.list x.env)
+  pub runner : IfSome v.runner (λ x. IsLiving r.list x.env)
   pub holds : (k : ℕ) → IfSome (hold_at v.slots k) (λ h. IsUndead r h.owner × IsUndead r h.holder)
   pub count : length v.slots ≤ most_slots
-  pub numbered : length v.excess ≡ most_numbers
+  pub numbered : length v.excess ≡ environment_numbers
   pub owes : (e : ℕ) → excess_of v.excess e ≤ excess_limit
 
 -- The interrupt lines: each has an owner that lives, or none.
-pub record AreWired (lines : List (Option ℕ)) (list : List Environment) : Type 0 where
+pub record LinesAgree (lines : List (Option ℕ)) (list : List Environment) : Type 0 where
   pub count : length lines ≡ most_lines
-  pub owners : (line : ℕ) → IfSome (line_at lines line) (IsLive list)
+  pub owners : (line : ℕ) → IfSome (line_at lines line) (IsLiving list)
 
 -- whether the page of a claim is its environment's own
 abbrev pub has_own_page : List PageRow → ClaimValue → Bool
@@ -81,10 +84,11 @@ pub record AreClaimed (claims : ClaimBook) (pages : List PageRow) (r : Environme
   pub owned : list_all (λ (x : RowValue). has_own_page pages x.claim) claims.rows ≡ true
   pub count : claims.envs ≡ length r.list + r.spare
 
--- The book of revocations: each environment has its place, where something is pending pages are outstanding, and each backup is a page of its environment's own.
-pub record AreAsked (book : RevocationBook) (pages : List PageRow) : Type 0 where
-  pub pending : length book.pending ≡ most_asked
-  pub backups : length book.backups ≡ most_asked
+-- The book of revocations: each environment has its place, where something is pending pages are outstanding, and each
+-- backup is a page of its environment's own.
+pub record RevocationsAgree (book : RevocationBook) (pages : List PageRow) : Type 0 where
+  pub pending : length book.pending ≡ environment_numbers
+  pub backups : length book.backups ≡ environment_numbers
   pub some : (e : ℕ) → IfSome (pending_at book e) (λ p. 0 < p.outstanding)
   pub owned : (e page : ℕ) → is_loaded (backups_at book e) page ≡ true → is_owned_by e (row_in pages page) ≡ true
 
@@ -94,11 +98,21 @@ pub record HasNoPart (e : ℕ) (v : Slices) : Type 0 where
   pub parts : (k : ℕ) → has_part e (hold_at v.slots k) ≡ false
 
 -- what holds of every board
-pub record IsSound (b : Shown) : Type 0 where
+pub record IsSoundBoard (b : Shown) : Type 0 where
   pub few : length b.roster.list + b.roster.spare ≤ most_environments
-  pub book : IsManned b.slots b.roster
-  pub memory : IsParted b.frames b.pages b.roster.list
-  pub books : AreBooked b.pages b.binds b.roster
-  pub lines : AreWired b.lines b.roster.list
+  pub book : SlotsAgree b.slots b.roster
+  pub memory : PagesAgree b.frames b.pages b.roster.list
+  pub books : BooksAgree b.pages b.binds b.roster
+  pub lines : LinesAgree b.lines b.roster.list
   pub claims : AreClaimed b.claims b.pages b.roster
-  pub revocations : AreAsked b.revocations b.pages
+  pub revocations : RevocationsAgree b.revocations b.pages
+
+-- a sound board on which an environment runs
+pub record HasRunner (b : Shown) (e : ℕ) : Type 0 where
+  pub sound : IsSoundBoard b
+  pub runs : running b.slots.runner ≡ Some e
+
+-- the numbers of the claims rise, and are below that of the next one, so that a handler is downloaded for one claim
+-- alone
+abbrev pub HasClaimNumbers : Shown → Type 0
+HasClaimNumbers b = are_numbered 0 b.claims.next b.claims.rows ≡ true

@@ -1,15 +1,14 @@
 -- A stretch of plain ticks: in each of them the runner's step retires, and nothing else happens.
-use Rattle.std.specs.Prelude.{◌≡◌, ◌≤◌, ◌<◌, ℕ, ◌+◌, ◌-◌, [], Some}
+use Rattle.std.specs.Prelude.{◌≡◌, ◌≤◌, ◌<◌, ℕ, ◌+◌, ◌-◌, []}
 use Rattle.guest_memory.specs.Steps.{AllRetire, Machine, after_steps}
 use Rattle.revocation_book.specs.RevocationBook.{next_deadline}
 use Rattle.slot_vector.specs.Slices.{after_ticks, left_of}
-use Rattle.world_model.specs.Book.{running}
 use Rattle.world_model.specs.Event.{Schedule}
-use Rattle.run_model.specs.Run.{run_on}
+use Rattle.run_model.specs.Run.{world_after_ticks}
 use Rattle.board_model.specs.Doing.{lookup_of}
 use Rattle.board_model.specs.Shown.{Shown}
 use Rattle.board_model.specs.Showing.{world_of}
-use Rattle.board_model.specs.Sound.{IsSound}
+use Rattle.board_model.specs.Sound.{HasRunner}
 
 -- what the runner's steps change
 abbrev pub machine_of : Shown → Machine
@@ -35,5 +34,8 @@ pub record IsQuiet (schedule : Schedule) (from until : ℕ) : Type 0 where
   pub nothing : (t : ℕ) → from ≤ t → t < until → schedule t ≡ []
 
 -- In a run in which nothing happens from outside during them, plain ticks of a sound board are ticks of the model.
-abbrev pub StretchIsTicks : Type 0
-StretchIsTicks = (b : Shown) (e ticks : ℕ) (schedule : Schedule) → IsSound b → running b.slots.runner ≡ Some e → ArePlain b e ticks → IsQuiet schedule b.time (b.time + ticks) → world_of (stretched b e ticks) ≡ run_on schedule (world_of b) ticks
+abbrev pub StretchShowsModel : Type 0
+StretchShowsModel =
+    (b : Shown) (e ticks : ℕ) (schedule : Schedule) → HasRunner b e → ArePlain b e ticks
+    → IsQuiet schedule b.time (b.time + ticks)
+    → world_of (stretched b e ticks) ≡ world_after_ticks schedule (world_of b) ticks

@@ -1,6 +1,6 @@
 //! The laws of what a board shows: each part of a tick is that part of the model's.
-ghost use Rattle.board_model.specs.Laws.{CallIsCall, DeathIsDeath, EventIsEvent, IdleIsIdle, RefusalIsRefusal, ServingIsServing, StepIsStep, TimerIsTimer, TurnIsTurn};
-ghost use Rattle.board_model.specs.Stretch.{StretchIsTicks};
+ghost use Rattle.board_model.specs.Laws.{CallShowsModel, DeathShowsModel, EventShowsModel, IdleShowsModel, RefusalShowsModel, ServingShowsModel, StepShowsModel, TimerShowsModel, TurnShowsModel};
+ghost use Rattle.board_model.specs.Stretch.{StretchShowsModel};
 
 use call_verdicts::law_granted;
 use filter_tree::law_numbered;
@@ -8,31 +8,31 @@ use revocation_book::law_takable;
 
 /// A board is idle exactly where its world is.
 pub fn law_idle()
-    ensures { IdleIsIdle }
+    ensures { IdleShowsModel }
 {}
 
 /// What happens from outside is the model's.
 pub fn law_happen()
-    ensures { EventIsEvent }
+    ensures { EventShowsModel }
 {
     law_numbered();
 }
 
 /// What is taken from a sound board at deadlines that have come is what the model says.
 pub fn law_serving()
-    ensures { ServingIsServing }
+    ensures { ServingShowsModel }
 {
     law_takable();
 }
 
 /// The turn of a sound board is the model's.
 pub fn law_turn()
-    ensures { TurnIsTurn }
+    ensures { TurnShowsModel }
 {}
 
 /// The runner's step, with its call or death, is the model's.
 pub fn law_step()
-    ensures { StepIsStep }
+    ensures { StepShowsModel }
 {
     law_granted();
     law_numbered();
@@ -40,12 +40,12 @@ pub fn law_step()
 
 /// The timer is the model's.
 pub fn law_timer()
-    ensures { TimerIsTimer }
+    ensures { TimerShowsModel }
 {}
 
 /// In a run in which nothing happens from outside during them, plain ticks are ticks of the model.
 pub fn law_stretch()
-    ensures { StretchIsTicks }
+    ensures { StretchShowsModel }
 {
     law_serving();
     law_timer();
@@ -53,7 +53,7 @@ pub fn law_stretch()
 
 /// A kernel call apart from a tick is the model's.
 pub fn law_call()
-    ensures { CallIsCall }
+    ensures { CallShowsModel }
 {
     law_granted();
     law_numbered();
@@ -61,7 +61,7 @@ pub fn law_call()
 
 /// A refused call changes its caller's registers 2 and 3 and where it stands, and nothing else.
 pub fn law_refusal()
-    ensures { RefusalIsRefusal }
+    ensures { RefusalShowsModel }
 {
     law_granted();
     law_numbered();
@@ -69,5 +69,5 @@ pub fn law_refusal()
 
 /// A death apart from a tick is the model's.
 pub fn law_death()
-    ensures { DeathIsDeath }
+    ensures { DeathShowsModel }
 {}

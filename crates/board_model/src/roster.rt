@@ -5,8 +5,9 @@ ghost use Rattle.external_event.specs.Limits.{most_packet_size, most_sent};
 ghost use Rattle.env_frames.specs.Context.{context_number, handler_of};
 ghost use Rattle.env_frames.specs.Frame.{page_of};
 ghost use Rattle.env_frames.specs.Transfer.{carried, entered_cpu, entry_context};
+ghost use Rattle.std.specs.Borrow.{sem};
 ghost use Rattle.std.specs.Option.{option_map};
-ghost use Rattle.board_model.specs.Shown.{changed, console_of, handlers_of, mappings_of, accept_mask_of, no_output, registers_of, sent_of, with_list, with_newcomer};
+ghost use Rattle.board_model.specs.Shown.{with_record, console_of, handlers_of, mappings_of, accept_mask_of, no_output, registers_of, sent_of, with_list, with_newcomer};
 ghost use Rattle.board_model.specs.Doing.{frames_after_entry, with_registers, with_mask, with_handler_at, dead_frame, with_bytes_put, with_replies_sent, with_packet_sent};
 
 use crate::console::Console;
@@ -52,6 +53,8 @@ impl Model for Roster {
 }
 
 impl Roster {
+    ghost use Rattle.board_model.specs.Lending.{LendsEnvironment};
+
     /// A roster with room for so many environments.
     pub fn new(alloc: Global, envs: u8) -> Result<Roster, OutOfMemory>
         ensures { IfOk result (λ r. r ≡ record { list = []; spare = envs }) }
@@ -74,6 +77,15 @@ impl Roster {
         ensures { slice_get self.now.list env ≡ Some result.now }
     {
         &self.list[usize::from(env)]
+    }
+
+    /// The environment of this number, to be written. All others stay as they are.
+    fn record_mut(&mut self, env: u8) -> &mut Environment
+        requires { env < length self.old.list }
+        ensures* writes_back { sem 𝓛 (LendsEnvironment self.entry env result) }
+        ensures environment { slice_get self.old.list env ≡ Some result.now }
+    {
+        &mut self.list[usize::from(env)]
     }
 
     /// The frame of the environment of this number.
@@ -124,9 +136,9 @@ impl Roster {
     pub fn put(&mut self, env: u8, bytes: &[u8])
         requires there { env < length self.old.list }
         requires room { length (console_of self.old.list env) + length bytes.now ≤ console_size }
-        ensures { self.new ≡ with_list self.old (changed (with_bytes_put bytes.now) self.old.list env) }
+        ensures { self.new ≡ with_list self.old (with_record (with_bytes_put bytes.now) self.old.list env) }
     {
-        put_in(&mut self.list, usize::from(env), bytes);
+        self.record_mut(env).output.console.put(bytes);
     }
 
     /// The packets that the environment of this number sent.
@@ -142,9 +154,9 @@ impl Roster {
         requires there { env < length self.old.list }
         requires size { length bytes.now ≤ most_packet_size }
         requires room { length (sent_of self.old.list env) < most_sent }
-        ensures { self.new ≡ with_list self.old (changed (with_packet_sent bytes.now) self.old.list env) }
+        ensures { self.new ≡ with_list self.old (with_record (with_packet_sent bytes.now) self.old.list env) }
     {
-        send_in(&mut self.list, usize::from(env), bytes);
+        self.record_mut(env).output.sent.send(bytes);
     }
 
     /// Appends a handler's reply of these bytes to the packets that the environment of this number sent, or drops it where
@@ -152,15 +164,15 @@ impl Roster {
     pub fn reply(&mut self, env: u8, bytes: &[u8])
         requires there { env < length self.old.list }
         requires size { length bytes.now ≤ most_packet_size }
-        ensures { self.new ≡ with_list self.old (changed (with_replies_sent (bytes.now ∷ [])) self.old.list env) }
+        ensures { self.new ≡ with_list self.old (with_record (with_replies_sent (bytes.now ∷ [])) self.old.list env) }
     {
-        reply_in(&mut self.list, usize::from(env), bytes);
+        self.record_mut(env).output.sent.reply(bytes);
     }
 
     /// Law: no replies change nothing, since each environment holds at most 256 packets.
     pub fn law_no_reply(&self, env: u8)
         requires { env < length self.now.list }
-        ensures { changed (with_replies_sent []) self.now.list env ≡ self.now.list }
+        ensures { with_record (with_replies_sent []) self.now.list env ≡ self.now.list }
     {
         self.sent(env).law_few();
     }
@@ -168,25 +180,25 @@ impl Roster {
     /// Keeps the registers of the environment of this number.
     pub fn keep(&mut self, env: u8, cpu: &Cpu)
         requires { env < length self.old.list }
-        ensures { self.new ≡ with_list self.old (changed (with_registers cpu.now) self.old.list env) }
+        ensures { self.new ≡ with_list self.old (with_record (with_registers cpu.now) self.old.list env) }
     {
-        keep_in(&mut self.list, usize::from(env), cpu);
+        self.record_mut(env).env.keep(cpu);
     }
 
     /// The handler of a context of the environment of this number stands at an address from now on; 0 is none.
     pub fn handle(&mut self, env: u8, context: Context, address: u32)
         requires { env < length self.old.list }
-        ensures { self.new ≡ with_list self.old (changed (with_handler_at context address) self.old.list env) }
+        ensures { self.new ≡ with_list self.old (with_record (with_handler_at context address) self.old.list env) }
     {
-        handle_in(&mut self.list, usize::from(env), context, address);
+        self.record_mut(env).env.set_handler(context, address);
     }
 
     /// The environment of this number accepts the yields and transfers of those in this mask, and of no others.
     pub fn accept(&mut self, env: u8, mask: u32)
         requires { env < length self.old.list }
-        ensures { self.new ≡ with_list self.old (changed (with_mask mask) self.old.list env) }
+        ensures { self.new ≡ with_list self.old (with_record (with_mask mask) self.old.list env) }
     {
-        accept_in(&mut self.list, usize::from(env), mask);
+        self.record_mut(env).env.set_accept(mask);
     }
 
     /// A transfer of another's enters the environment of this number, which has an entry for its kind: the
@@ -204,18 +216,20 @@ impl Roster {
         requires page { IfSome (page_of (mappings_of self.old.list env) context_number) (λ page. page < length frames.old) }
         ensures cpu { result ≡ entered_cpu (handler_of (handlers_of self.old.list env) (entry_context kind)) (carried caller.now) }
         ensures frames { frames.new ≡ frames_after_entry self.old.list from env kind frames.old }
-        ensures roster { self.new ≡ with_list self.old (changed (with_mask 0) self.old.list env) }
+        ensures roster { self.new ≡ with_list self.old (with_record (with_mask 0) self.old.list env) }
         ensures size { length frames.new ≡ length frames.old }
     {
-        enter_in(&mut self.list, usize::from(env), frames, from, kind, caller)
+        self.record_mut(env).env.enter(frames, from, kind, caller)
     }
 
     /// The environment of this number dies: its registers and its mappings go.
     pub fn die(&mut self, env: u8, cause: Cause)
         requires { env < length self.old.list }
-        ensures { self.new ≡ with_list self.old (changed (dead_frame cause) self.old.list env) }
+        ensures { self.new ≡ with_list self.old (with_record (dead_frame cause) self.old.list env) }
     {
-        die_in(&mut self.list, usize::from(env), cause);
+        let environment = self.record_mut(env);
+        environment.life = Life::Dead(cause);
+        environment.env.clear();
     }
 }
 
@@ -228,93 +242,4 @@ fn empty_outputs(alloc: Global, count: u8) -> Result<Vec<Output>, OutOfMemory>
         outputs.push(Output::new(alloc)?)?;
     }
     Ok(outputs)
-}
-
-/// Appends bytes to the console of the environment at a place.
-fn put_in(list: &mut [Environment], place: usize, bytes: &[u8])
-    requires there { place < length list.old }
-    requires room { length (console_of list.old place) + length bytes.now ≤ console_size }
-    ensures { list.new ≡ changed (with_bytes_put bytes.now) list.old place }
-{
-    let environment = &mut list[place];
-    environment.output.console.put(bytes);
-}
-
-/// Appends a packet to those that the environment at a place sent.
-fn send_in(list: &mut [Environment], place: usize, bytes: &[u8])
-    requires there { place < length list.old }
-    requires size { length bytes.now ≤ most_packet_size }
-    requires room { length (sent_of list.old place) < most_sent }
-    ensures { list.new ≡ changed (with_packet_sent bytes.now) list.old place }
-{
-    let environment = &mut list[place];
-    environment.output.sent.send(bytes);
-}
-
-/// Appends a reply to the packets that the environment at a place sent, or drops it.
-fn reply_in(list: &mut [Environment], place: usize, bytes: &[u8])
-    requires there { place < length list.old }
-    requires size { length bytes.now ≤ most_packet_size }
-    ensures { list.new ≡ changed (with_replies_sent (bytes.now ∷ [])) list.old place }
-{
-    let environment = &mut list[place];
-    environment.output.sent.reply(bytes);
-}
-
-/// Keeps the registers of the environment at a place.
-fn keep_in(list: &mut [Environment], place: usize, cpu: &Cpu)
-    requires { place < length list.old }
-    ensures { list.new ≡ changed (with_registers cpu.now) list.old place }
-{
-    let environment = &mut list[place];
-    environment.env.keep(cpu);
-}
-
-/// Sets the handler of a context of the environment at a place.
-fn handle_in(list: &mut [Environment], place: usize, context: Context, address: u32)
-    requires { place < length list.old }
-    ensures { list.new ≡ changed (with_handler_at context address) list.old place }
-{
-    let environment = &mut list[place];
-    environment.env.set_handler(context, address);
-}
-
-/// Sets whom the environment at a place accepts.
-fn accept_in(list: &mut [Environment], place: usize, mask: u32)
-    requires { place < length list.old }
-    ensures { list.new ≡ changed (with_mask mask) list.old place }
-{
-    let environment = &mut list[place];
-    environment.env.set_accept(mask);
-}
-
-/// A transfer enters the environment at a place.
-fn enter_in(
-    list: &mut [Environment],
-    place: usize,
-    frames: &mut Frames,
-    from: u8,
-    kind: TransferKind,
-    caller: &Cpu,
-) -> Cpu
-    requires there { place < length list.old }
-    requires open { handler_of (handlers_of list.old place) (entry_context kind) ≢ 0 }
-    requires page { IfSome (page_of (mappings_of list.old place) context_number) (λ page. page < length frames.old) }
-    ensures cpu { result ≡ entered_cpu (handler_of (handlers_of list.old place) (entry_context kind)) (carried caller.now) }
-    ensures frames { frames.new ≡ frames_after_entry list.old from place kind frames.old }
-    ensures list { list.new ≡ changed (with_mask 0) list.old place }
-    ensures size { length frames.new ≡ length frames.old }
-{
-    let environment = &mut list[place];
-    environment.env.enter(frames, from, kind, caller)
-}
-
-/// The environment at a place dies.
-fn die_in(list: &mut [Environment], place: usize, cause: Cause)
-    requires { place < length list.old }
-    ensures { list.new ≡ changed (dead_frame cause) list.old place }
-{
-    let environment = &mut list[place];
-    environment.life = Life::Dead(cause);
-    environment.env.clear();
 }

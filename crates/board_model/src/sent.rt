@@ -2,46 +2,12 @@
 ghost use Rattle.std.specs.Prelude.{◌≡◌, ◌<◌, ◌≤◌, [], ◌∷◌, ◌++◌, length, slice_get, IfOk};
 ghost use Rattle.std.specs.Option.{option_map};
 ghost use Rattle.external_event.specs.Limits.{most_packet_size, most_sent};
-ghost use Rattle.world_model.specs.Rings.{replied};
+ghost use Rattle.world_model.specs.Rings.{sent_with_replies};
 
 use aegis_limits::OutOfMemory;
-use arrayvec::ArrayVec;
-use external_event::{MOST_PACKET_SIZE, MOST_SENT};
+use external_event::{MOST_SENT, SentPacket};
 use std::alloc::Global;
 use std::marker::Model;
-
-/// A packet that was sent, of at most 1,514 bytes.
-#[derive(Drop)]
-struct SentPacket {
-    bytes: ArrayVec<u8, MOST_PACKET_SIZE>,
-}
-
-impl Model for SentPacket {
-    ghost use Rattle.std.specs.Prelude.{ℕ, List};
-
-    ghost Value = { List ℕ };
-
-    ghost view = { λ p. p.bytes.items };
-}
-
-impl SentPacket {
-    /// A packet of these bytes, which are copied.
-    fn new(bytes: &[u8]) -> SentPacket
-        requires { length bytes.now ≤ most_packet_size }
-        ensures { result ≡ bytes.now }
-    {
-        let mut copy = ArrayVec::new();
-        copy.try_extend_from_slice(bytes).unwrap();
-        SentPacket { bytes: copy }
-    }
-
-    /// Its bytes.
-    fn bytes(&self) -> &[u8]
-        ensures { result.now ≡ self.now }
-    {
-        self.bytes.as_slice()
-    }
-}
 
 /// What an environment sent, packet by packet. The memory for all that it may send is taken when it is made.
 #[derive(Drop)]
@@ -96,7 +62,7 @@ impl Sent {
     /// Appends a packet of these bytes, or drops it where 256 are held.
     pub fn reply(&mut self, bytes: &[u8])
         requires { length bytes.now ≤ most_packet_size }
-        ensures { self.new ≡ replied self.old (bytes.now ∷ []) }
+        ensures { self.new ≡ sent_with_replies self.old (bytes.now ∷ []) }
     {
         if self.packets.len() < MOST_SENT {
             self.send(bytes);

@@ -2,7 +2,7 @@
 use Rattle.std.proofs.Common.{◌≡◌, ◌≤◌, ◌<◌, ℕ, zero, suc, ◌+◌, ◌%◌, true, List, [], ◌∷◌, Option, None, Some, map, length, inl, inr, refl, ap, sym, ◌∙◌, arith, subst}
 use Rattle.std.specs.Prelude.{sum_by, ◌==◌}
 use Rattle.std.specs.List.{AllByRecursion}
-use Rattle.aegis_limits.specs.Limits.{most_stack_pages}
+use Rattle.aegis_limits.specs.Limits.{most_stack_pages, least_pages, most_pages, least_quantum, most_environments}
 use Rattle.boot_image.proofs.Bytes.{word_small}
 use Rattle.elf_static.specs.declared.fault.ElfFault.{ElfFault}
 use Rattle.elf_static.specs.ElfFaults.{elf_fault}
@@ -11,18 +11,18 @@ use Rattle.elf_static.specs.ElfValue.{elf_of}
 use Rattle.elf_static.proofs.Acceptance.{accepted as elf_accepted}
 use Rattle.std.proofs.lemmas.Bool.{cases_eq, cond_both, eqb-true}
 use Rattle.std.proofs.lemmas.List.{length-take, length-drop, length-map}
-use Rattle.boot_image.specs.ImageValue.{IsBytes, ImageValue, pages_in, quantum_in, environments_in, slots_in, slot_bytes, owner_of, first_header, name_in, base_in, stack_in, kind_in, length_in, bytes_in, body_end, body_of, flat_body, headers_from, headers, program_at, image_of, guaranteed_mappings}
+use Rattle.boot_image.specs.ImageValue.{IsBytes, ImageValue, pages_in, quantum_in, environments_in, slots_in, slot_bytes, owner_of, first_header, name_in, base_in, stack_in, kind_in, length_in, bytes_in, body_end, body_of, flat_body, headers_from, headers, program_at, image_of, guaranteed_mappings, header_size}
 use Rattle.boot_image.specs.ImageFaults.{is_name, is_base, is_flat_base, header_fault, slot_fault, owners_fault, slots_fault, program_header_fault, body_fault, elf_fault_at, program_fault, first_fault, mappings_fault, pages_fault, image_fault}
 use Rattle.boot_image.specs.Accepted.{IsFitting, IsOwnerBelow, IsAccepted}
 use Rattle.boot_image.proofs.Programs.{length-headers_from}
 
 record Header (file : List ℕ) : Type 0 where
-  pub pages_least : 16 ≤ pages_in file
-  pub pages_most : pages_in file ≤ 1024
-  pub quantum_least : 16 ≤ quantum_in file
+  pub pages_least : least_pages ≤ pages_in file
+  pub pages_most : pages_in file ≤ most_pages
+  pub quantum_least : least_quantum ≤ quantum_in file
   pub quantum_most : quantum_in file ≤ 65536
   pub environments_least : 1 ≤ environments_in file
-  pub environments_most : environments_in file ≤ 16
+  pub environments_most : environments_in file ≤ most_environments
   pub slots_least : 1 ≤ slots_in file
   pub slots_most : slots_in file ≤ 64
 
@@ -52,7 +52,7 @@ owners_below environments place [] none = tt
 owners_below environments place (byte ∷ bytes) none =
     (owner_below environments place byte (grind (arith, none)), owners_below environments (place + 1) bytes (grind (arith, none)))
 
-slots_pass : (file : List ℕ) → slots_fault file ≡ None → (16 + slots_in file ≤ length file) × (owners_fault (environments_in file) 16 (slot_bytes file) ≡ None)
+slots_pass : (file : List ℕ) → slots_fault file ≡ None → (header_size + slots_in file ≤ length file) × (owners_fault (environments_in file) header_size (slot_bytes file) ≡ None)
 unfolding slots_fault
 slots_pass file none = (grind arith, grind arith)
 
@@ -156,7 +156,7 @@ parts_accepted file bytes header_none slots_none programs_none mappings_none roo
       slots_least = omega (arith, header.slots_least);
       slots_most = omega (arith, header.slots_most);
       owners = subst (λ (count : ℕ). AllByRecursion (IsOwnerBelow count) (map owner_of (slot_bytes file))) (sym programs_count)
-          (owners_below (environments_in file) 16 (slot_bytes file) (slots_pass file slots_none).1);
+          (owners_below (environments_in file) header_size (slot_bytes file) (slots_pass file slots_none).1);
       programs_least = omega (arith, header.environments_least);
       programs_most = omega (arith, header.environments_most);
       programs = programs_fit (environments_in file) file (first_header file) bytes programs_none mappings_none;

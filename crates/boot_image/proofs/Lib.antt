@@ -1,6 +1,6 @@
 -- The lemmas on images.
 mod Bytes
-pub mod Programs
-pub mod Acceptance
-pub mod Spelled
+mod Programs
+mod Acceptance
+mod Spelled
 pub mod Read

@@ -10,11 +10,12 @@ use Rattle.boot_image.specs.declared.entry.Entry.{Entry}
 use Rattle.boot_image.specs.declared.entry.Kind.{Kind}
 use Rattle.boot_image.specs.declared.entry.Kind.TheVariants.{Flat, Elf}
 use Rattle.boot_image.specs.declared.fault.ImageWhy.TheVariants.{TooMany}
-use Rattle.boot_image.specs.ImageValue.{ProgramValue, ImageValue, pages_in, quantum_in, environments_in, slots_in, slot_bytes, owner_of, first_header, name_in, base_in, stack_in, accept_in, kind_in, length_in, bytes_in, body_of, body_end, bodies_end, headers_from, headers, program_at, image_of, guaranteed_mappings}
+use Rattle.boot_image.specs.ImageValue.{ProgramValue, ImageValue, pages_in, quantum_in, environments_in, slots_in, slot_bytes, owner_of, first_header, name_in, base_in, stack_in, accept_in, kind_in, length_in, bytes_in, body_of, body_end, bodies_end, headers_from, headers, program_at, image_of, guaranteed_mappings, header_size}
 use Rattle.boot_image.specs.ImageFaults.{fault, is_within, has_magic, is_name, is_base, header_fault, slot_fault, slots_fault, owners_fault, program_header_fault, body_fault, elf_fault_at, program_fault, first_fault, trailing_fault, mappings_fault, pages_fault, image_fault}
 use Rattle.boot_image.specs.Accepted.{IsFitting, IsOwnerBelow, IsAccepted}
 use Rattle.boot_image.specs.Spelling.{PlanValue, kind_number, base_number, slot_byte, program_text, programs_text, image_text, program_with, programs_with, image_with, IsBody, AreBodies}
 use Rattle.boot_image.proofs.Bytes.{behind, half_read, word_read}
+use Rattle.aegis_limits.specs.Limits.{least_pages, most_pages, least_quantum, most_quantum, most_environments}
 
 -- a program as it was spelled
 record Reads (file : List ℕ) (header : ℕ) (entry : Entry) (bytes rest : List ℕ) : Type 0 where
@@ -135,11 +136,11 @@ programs_count (entry ∷ entries) [] are = absurd are
 programs_count (entry ∷ entries) (bytes ∷ bodies) are = ap suc (programs_count entries bodies are.2)
 
 -- the owners that a slot byte names are no others
-owner_again : (count : ℕ) (owner : Option ℕ) → count ≤ 16 → IsOwnerBelow count owner → owner_of (slot_byte owner) ≡ owner
+owner_again : (count : ℕ) (owner : Option ℕ) → count ≤ most_environments → IsOwnerBelow count owner → owner_of (slot_byte owner) ≡ owner
 owner_again count None few below = refl
 owner_again count (Some e) few below = let least : e < 255 = omega (arith, below) in grind (arith, least)
 
-owners_again : (count : ℕ) (owners : List (Option ℕ)) → count ≤ 16 → AllByRecursion (IsOwnerBelow count) owners → map owner_of (map slot_byte owners) ≡ owners
+owners_again : (count : ℕ) (owners : List (Option ℕ)) → count ≤ most_environments → AllByRecursion (IsOwnerBelow count) owners → map owner_of (map slot_byte owners) ≡ owners
 owners_again count [] few below = refl
 owners_again count (owner ∷ owners) few below =
     λ i. owner_again count owner few below.0 i ∷ owners_again count owners few below.1 i
@@ -159,7 +160,7 @@ record Header (file : List ℕ) (plan : PlanValue) (bodies : List (List ℕ)) : 
   pub quantum : quantum_in file ≡ plan.quantum
   pub environments : environments_in file ≡ length plan.entries
   pub slots : slots_in file ≡ length plan.slots
-  pub whole : 16 + slots_in file ≤ length file
+  pub whole : header_size + slots_in file ≤ length file
   pub bytes : slot_bytes file ≡ map slot_byte plan.slots
   pub programs : drop (first_header file) file ≡ programs_text plan.entries bodies
 
@@ -170,8 +171,8 @@ header_read file plan bodies are accepted is =
     let owners = map slot_byte plan.slots in
     let programs = programs_text plan.entries bodies in
     let count : length owners ≡ length plan.slots = length-map plan.slots slot_byte in
-    let at16 : drop 16 file ≡ owners ++ programs = ap (drop 16) is in
-    let size : length file ≡ 16 + (length owners + length programs) = ap length is ∙ simp length-append (omega arith) in
+    let behind_header : drop header_size file ≡ owners ++ programs = ap (drop header_size) is in
+    let size : length file ≡ header_size + (length owners + length programs) = ap length is ∙ simp length-append (omega arith) in
     let slots : slots_in file ≡ length plan.slots = half_read file 0 text 14 (length plan.slots) (drop 16 text) 14 is refl (omega (arith, accepted.slots_most)) refl in
     record {
       magic = ap has_magic is;
@@ -180,25 +181,25 @@ header_read file plan bodies are accepted is =
       environments = half_read file 0 text 12 (length plan.entries) (drop 14 text) 12 is refl (omega (arith, accepted.programs_most, entries_count)) refl;
       slots = slots;
       whole = omega (arith, size, count, slots);
-      bytes = ap (take (slots_in file)) at16 ∙ take_at owners programs (slots_in file) (count ∙ sym slots);
-      programs = behind file 16 owners programs (first_header file) at16 (omega (arith, count, slots));
+      bytes = ap (take (slots_in file)) behind_header ∙ take_at owners programs (slots_in file) (count ∙ sym slots);
+      programs = behind file header_size owners programs (first_header file) behind_header (omega (arith, count, slots));
     }
 
 file_header_passes : (file : List ℕ) (plan : PlanValue) (bodies : List (List ℕ)) → length (programs_with plan.entries bodies) ≡ length plan.entries → IsAccepted (image_with plan bodies) → Header file plan bodies → header_fault file ≡ None
 unfolding header_fault
 file_header_passes file plan bodies same accepted header =
-    let whole : nat_lt (length file) 16 ≡ false = grind (arith, header.whole) in
-    let pages : is_within 16 1024 (pages_in file) ≡ true = grind (arith, header.pages, accepted.pages_least, accepted.pages_most) in
-    let quantum : is_within 16 65536 (quantum_in file) ≡ true = grind (arith, header.quantum, accepted.quantum_least, accepted.quantum_most) in
-    let environments : is_within 1 16 (environments_in file) ≡ true = grind (arith, header.environments, same, accepted.programs_least, accepted.programs_most) in
+    let whole : nat_lt (length file) header_size ≡ false = grind (arith, header.whole) in
+    let pages : is_within least_pages most_pages (pages_in file) ≡ true = grind (arith, header.pages, accepted.pages_least, accepted.pages_most) in
+    let quantum : is_within least_quantum most_quantum (quantum_in file) ≡ true = grind (arith, header.quantum, accepted.quantum_least, accepted.quantum_most) in
+    let environments : is_within 1 most_environments (environments_in file) ≡ true = grind (arith, header.environments, same, accepted.programs_least, accepted.programs_most) in
     let slots : is_within 1 64 (slots_in file) ≡ true = grind (arith, header.slots, accepted.slots_least, accepted.slots_most) in
     rw (whole, header.magic, pages, quantum, environments, slots) refl
 
 slots_pass : (file : List ℕ) (plan : PlanValue) (bodies : List (List ℕ)) → length (programs_with plan.entries bodies) ≡ length plan.entries → IsAccepted (image_with plan bodies) → Header file plan bodies → slots_fault file ≡ None
 unfolding slots_fault
 slots_pass file plan bodies same accepted header =
-    let owners : owners_fault (environments_in file) 16 (slot_bytes file) ≡ None
-    = (λ i. owners_fault ((header.environments ∙ sym same) i) 16 (header.bytes i)) ∙ owners_pass (length (programs_with plan.entries bodies)) 16 plan.slots accepted.owners in
+    let owners : owners_fault (environments_in file) header_size (slot_bytes file) ≡ None
+    = (λ i. owners_fault ((header.environments ∙ sym same) i) header_size (header.bytes i)) ∙ owners_pass (length (programs_with plan.entries bodies)) header_size plan.slots accepted.owners in
     grind (arith, owners, header.whole)
 
 nothing_trails : (file : List ℕ) → drop (bodies_end (environments_in file) file (first_header file)) file ≡ [] → trailing_fault file ≡ None

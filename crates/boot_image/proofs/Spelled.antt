@@ -6,7 +6,7 @@ use Rattle.std.proofs.lemmas.List.{length-drop, length-map, take-append-drop, dr
 use lib.Pointwise.{bytes_decides}
 use Rattle.byte_numbers.specs.Numbers.{half_at, word_at}
 use Rattle.boot_image.proofs.Bytes.{half_bytes, word_bytes}
-use Rattle.boot_image.specs.ImageValue.{IsBytes, pages_in, quantum_in, slots_in, slot_bytes, owner_of, environments_in, first_header, name_in, base_in, stack_in, accept_in, kind_in, length_in, bytes_in, body_of, body_end, bodies_end, headers_from, headers, program_at, image_of}
+use Rattle.boot_image.specs.ImageValue.{IsBytes, pages_in, quantum_in, slots_in, slot_bytes, owner_of, environments_in, first_header, name_in, base_in, stack_in, accept_in, kind_in, length_in, bytes_in, body_of, body_end, bodies_end, headers_from, headers, program_at, image_of, header_size}
 use Rattle.boot_image.specs.ImageFaults.{has_magic, header_fault, slots_fault, program_fault, first_fault, trailing_fault, image_fault}
 use Rattle.boot_image.specs.Spelling.{slot_byte, kind_number, base_number, kind_at, entry_at, plan_of, bodies_of, program_text, programs_text, image_text, program_with, programs_with, image_with}
 use Rattle.boot_image.proofs.Acceptance.{Program, program_passes, body_size, count_of_slots}
@@ -94,7 +94,7 @@ stands_whole file text end past stands =
     let nothing : drop end file ≡ [] = nil_from_length (drop end file) (omega (arith, length-drop end file)) in
     stands.is ∙ ap (λ (t : List ℕ). text ++ t) nothing ∙ append-nil text
 
-header_passes : (file : List ℕ) → header_fault file ≡ None → (has_magic file ≡ true) × (16 ≤ length file)
+header_passes : (file : List ℕ) → header_fault file ≡ None → (has_magic file ≡ true) × (header_size ≤ length file)
 unfolding header_fault
 header_passes file none = (grind arith, grind arith)
 
@@ -116,7 +116,7 @@ spelled file fits none =
     let quantum = word_stands file 8 12 (quantum_in file) fits refl refl (omega (arith, header.1)) in
     let environments = half_stands file 12 14 _ fits entries_count refl (omega (arith, header.1)) in
     let slots = half_stands file 14 16 _ fits (count_of_slots file slots_none) refl (omega (arith, header.1)) in
-    let owners = bytes_stand file 16 (slots_in file) (first_header file) _ (owners_again (slot_bytes file)) refl in
+    let owners = bytes_stand file header_size (slots_in file) (first_header file) _ (owners_again (slot_bytes file)) refl in
     let programs = programs_spelled (environments_in file) file (first_header file) fits programs_none in (
       stands_whole file _ _ (nothing_trails file trailing_none) (magic then pages then quantum then environments then slots then owners then programs.stand),
       λ i. record { pages = pages_in file; quantum = quantum_in file; slots = map owner_of (slot_bytes file); programs = sym programs.mean i },

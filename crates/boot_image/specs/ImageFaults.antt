@@ -8,7 +8,7 @@ use Rattle.boot_image.specs.declared.fault.ImageWhy.TheVariants.{Short, Magic, P
 use Rattle.elf_static.specs.Faulting.{◌or_else◌}
 use Rattle.elf_static.specs.declared.fault.ElfFault.{ElfFault}
 use Rattle.elf_static.specs.ElfFaults.{elf_fault}
-use Rattle.boot_image.specs.ImageValue.{ImageValue, name_text, guaranteed_mappings, pages_in, quantum_in, environments_in, slots_in, slot_bytes, first_header, name_in, base_in, stack_in, kind_in, length_in, bytes_in, body_end, bodies_end, headers, program_at, image_of}
+use Rattle.boot_image.specs.ImageValue.{ImageValue, name_text, guaranteed_mappings, pages_in, quantum_in, environments_in, slots_in, slot_bytes, first_header, header_size, name_in, base_in, stack_in, kind_in, length_in, bytes_in, body_end, bodies_end, headers, program_at, image_of}
 
 abbrev pub fault : ImageWhy → ℕ → Option ImageFault
 fault why place = Some (record { place = place; why = why })
@@ -29,7 +29,7 @@ has_magic file = starts_with nat_eq file (codes "AEG1")
 -- The header: the magic, and four numbers within their limits.
 unfoldable pub header_fault : List ℕ → Option ImageFault
 header_fault file =
-    if nat_lt (length file) 16 then fault Short (length file) else
+    if nat_lt (length file) header_size then fault Short (length file) else
     if not (has_magic file) then fault Magic 0 else
     if not (is_within least_pages most_pages (pages_in file)) then fault Pages 4 else
     if not (is_within least_quantum most_quantum (quantum_in file)) then fault Quantum 8 else
@@ -50,8 +50,8 @@ owners_fault environments place (byte ∷ bytes) =
 
 unfoldable pub slots_fault : List ℕ → Option ImageFault
 slots_fault file =
-    if nat_lt (length file) (16 + slots_in file) then fault Short (length file) else
-    owners_fault (environments_in file) 16 (slot_bytes file)
+    if nat_lt (length file) (header_size + slots_in file) then fault Short (length file) else
+    owners_fault (environments_in file) header_size (slot_bytes file)
 
 -- a to z, 0 to 9, and the underscore
 abbrev pub is_name_byte : ℕ → Bool

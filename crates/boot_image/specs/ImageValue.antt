@@ -56,18 +56,27 @@ slots_in file = half_at file 14
 
 -- the numbers of the header
 abbrev pub header_of : List ℕ → Header
-header_of file = record { pages = pages_in file; quantum = quantum_in file; environments = environments_in file; slots = slots_in file }
+header_of file = record {
+  pages = pages_in file;
+  quantum = quantum_in file;
+  environments = environments_in file;
+  slots = slots_in file;
+}
+
+-- the bytes of an image's header; the slot bytes stand behind it
+abbrev pub header_size : ℕ
+header_size = 16
 
 -- After it a byte for each slot: its owner, or 255 where the slot is empty.
 abbrev pub slot_bytes : List ℕ → List ℕ
-slot_bytes file = take (slots_in file) (drop 16 file)
+slot_bytes file = take (slots_in file) (drop header_size file)
 
 abbrev pub owner_of : ℕ → Option ℕ
 owner_of byte = if byte == 255 then None else Some byte
 
 -- After these the programs, each a header of 28 bytes and the body.
 abbrev pub first_header : List ℕ → ℕ
-first_header file = 16 + slots_in file
+first_header file = header_size + slots_in file
 
 abbrev pub name_in : List ℕ → ℕ → List ℕ
 name_in file header = take 8 (drop header file)

@@ -31,7 +31,8 @@ slot_byte owner = unwrap_or owner 255
 -- a program: name, base, stack, accept, kind, length, body
 abbrev pub program_text : Entry → List ℕ → List ℕ
 program_text entry bytes =
-    entry.name ++ to_le_bytes w32 (base_number entry.kind) ++ to_le_bytes w32 entry.stack ++ to_le_bytes w32 entry.accept
+    entry.name ++ to_le_bytes w32 (base_number entry.kind) ++ to_le_bytes w32 entry.stack
+    ++ to_le_bytes w32 entry.accept
     ++ to_le_bytes w32 (kind_number entry.kind) ++ to_le_bytes w32 (length bytes) ++ bytes
 
 -- each entry with the body of its number
@@ -42,7 +43,12 @@ programs_text (entry ∷ entries) (bytes ∷ bodies) = program_text entry bytes 
 
 -- the numbers of the header
 abbrev pub header_in : PlanValue → Header
-header_in plan = record { pages = plan.pages; quantum = plan.quantum; environments = length plan.entries; slots = length plan.slots }
+header_in plan = record {
+  pages = plan.pages;
+  quantum = plan.quantum;
+  environments = length plan.entries;
+  slots = length plan.slots;
+}
 
 -- a header: magic, pages, quantum, environments, slots
 abbrev pub header_text : Header → List ℕ
@@ -87,7 +93,8 @@ abbrev pub AreBodies : List Entry → List (List ℕ) → Type 0
 AreBodies [] [] = Unit {0}
 AreBodies [] (bytes ∷ bodies) = ⊥
 AreBodies (entry ∷ entries) [] = ⊥
-AreBodies (entry ∷ entries) (bytes ∷ bodies) = IsBody entry.kind bytes × (length bytes < 2 ^ 32) × AreBodies entries bodies
+AreBodies (entry ∷ entries) (bytes ∷ bodies) =
+    IsBody entry.kind bytes × (length bytes < 2 ^ 32) × AreBodies entries bodies
 
 -- What a file is spelled from. It is meant where image_fault finds nothing.
 abbrev pub kind_at : List ℕ → ℕ → Kind

@@ -12,9 +12,9 @@ pub enum ImageWhy {
     Short,
     /// The file doesn't begin with `AEG1`.
     Magic,
-    /// The number of pages isn't from 16 to 1,024.
+    /// The number of pages isn't from `LEAST_PAGES` to `MOST_PAGES`.
     Pages,
-    /// The quantum isn't from 16 to 65,536 ticks.
+    /// The quantum isn't from `LEAST_QUANTUM` to `MOST_QUANTUM` ticks.
     Quantum,
     /// The number of environments isn't from 1 to 16.
     Envs,

@@ -1,14 +1,14 @@
 //! The header of an image and its slot bytes.
 ghost use Rattle.std.specs.Prelude.{◌≡◌, ◌+◌, ◌<◌, ◌≤◌, ◌^◌, IfOk, OnOk, length, map};
 ghost use Rattle.aegis_limits.specs.Limits.{most_environments, most_slots};
-ghost use Rattle.boot_image.specs.ImageValue.{environments_in, header_of, slots_in, owner_of, slot_bytes};
+ghost use Rattle.boot_image.specs.ImageValue.{environments_in, header_of, header_size, slots_in, owner_of, slot_bytes};
 ghost use Rattle.boot_image.specs.ImageFaults.{is_within, header_fault, slots_fault, slot_fault, owners_fault};
 ghost use Rattle.elf_static.specs.Faulting.{Answers};
 
 use crate::fault::{ImageFault, ImageWhy};
 use crate::image::Owners;
 use crate::layout::{ENVIRONMENTS_AT, HEADER_SIZE, MAGIC, NOBODY, PAGES_AT, QUANTUM_AT, SLOTS_AT};
-use crate::limits::{
+use aegis_limits::{
     LEAST_PAGES, LEAST_QUANTUM, MOST_ENVIRONMENTS, MOST_PAGES, MOST_QUANTUM, MOST_SLOTS,
 };
 use arrayvec::ArrayVec;
@@ -38,7 +38,7 @@ fn is_within(least: u32, most: u32, number: u32) -> bool
 pub(crate) fn read_header(file: &[u8]) -> Result<Header, ImageFault>
     requires { length file.now < 2 ^ 27 }
     ensures answer { Answers (λ header. header) result (header_fault file.now) (header_of file.now) }
-    ensures whole { OnOk result (16 ≤ length file.now) }
+    ensures whole { OnOk result (header_size ≤ length file.now) }
     ensures limits { IfOk result (λ header. (header.environments ≤ most_environments) × (header.slots ≤ most_slots)) }
 {
     if file.len() < HEADER_SIZE {
@@ -56,11 +56,11 @@ pub(crate) fn read_header(file: &[u8]) -> Result<Header, ImageFault>
         return Err(ImageFault::at(ImageWhy::Quantum, QUANTUM_AT));
     }
     let environments = half_at(file, ENVIRONMENTS_AT);
-    if !is_within(1, MOST_ENVIRONMENTS, environments.into()) {
+    if !is_within(1, MOST_ENVIRONMENTS as u32, environments.into()) {
         return Err(ImageFault::at(ImageWhy::Envs, ENVIRONMENTS_AT));
     }
     let slots = half_at(file, SLOTS_AT);
-    if !is_within(1, MOST_SLOTS, slots.into()) {
+    if !is_within(1, MOST_SLOTS as u32, slots.into()) {
         return Err(ImageFault::at(ImageWhy::Slots, SLOTS_AT));
     }
     Ok(Header {
@@ -75,12 +75,12 @@ pub(crate) fn read_header(file: &[u8]) -> Result<Header, ImageFault>
 #[tactic(auto, unfolding(crate::specs::ImageFaults::slots_fault))]
 pub(crate) fn read_slots(file: &[u8], header: &Header) -> Result<Owners, ImageFault>
     requires small { length file.now < 2 ^ 27 }
-    requires long { 16 ≤ length file.now }
+    requires long { header_size ≤ length file.now }
     requires environments { header.now.environments ≡ environments_in file.now }
     requires slots { header.now.slots ≡ slots_in file.now }
     requires room { header.now.slots ≤ most_slots }
     ensures answer { Answers (λ slots. slots.items) result (slots_fault file.now) (map owner_of (slot_bytes file.now)) }
-    ensures long { IfOk result (λ slots. 16 + slots_in file.now ≤ length file.now) }
+    ensures long { IfOk result (λ slots. header_size + slots_in file.now ≤ length file.now) }
 {
     let end = HEADER_SIZE + header.slots as usize;
     if file.len() < end {
@@ -92,7 +92,7 @@ pub(crate) fn read_slots(file: &[u8], header: &Header) -> Result<Owners, ImageFa
 /// The owners that these slot bytes name, the first of which stands after the header.
 fn read_owners(bytes: &[u8], environments: u16) -> Result<Owners, ImageFault>
     requires { length bytes.now ≤ most_slots }
-    ensures { Answers (λ slots. slots.items) result (owners_fault environments 16 bytes.now) (map owner_of bytes.now) }
+    ensures { Answers (λ slots. slots.items) result (owners_fault environments header_size bytes.now) (map owner_of bytes.now) }
 {
     let mut owners = ArrayVec::new();
     for (i, byte) in bytes.iter().enumerate() {

@@ -6,8 +6,7 @@ ghost use Rattle.boot_image.specs.ImageFaults.{is_name};
 ghost use Rattle.boot_image.specs.Parts.{if_fitting};
 
 use crate::layout::NAME_SIZE;
-use crate::limits::MOST_MAPPINGS;
-use aegis_limits::{MOST_ENVIRONMENTS, MOST_SLOTS};
+use aegis_limits::{MOST_ENVIRONMENTS, MOST_MAPPINGS, MOST_SLOTS};
 use arrayvec::ArrayVec;
 use elf_static::Elf;
 use segment_pages::{count_pages, law_smallest};
@@ -19,9 +18,9 @@ pub type Owners = ArrayVec<Option<u8>, MOST_SLOTS>;
 /// An image of a boot. `docs/FORMATS.md`, "Image", has its limits, which hold of every value of this type.
 #[derive(Drop)]
 pub struct Image<'a> {
-    /// How many pages the machine has, 16 to 1,024, and at least as many as its programs need together.
+    /// How many pages the machine has, `LEAST_PAGES` to `MOST_PAGES`, and at least as many as its programs need together.
     pub pages: u32,
-    /// How many ticks a slice has, 16 to 65,536.
+    /// How many ticks a slice has, `LEAST_QUANTUM` to `MOST_QUANTUM`.
     pub quantum: u32,
     /// The environment that owns each of the 1 to 64 slots, where one does.
     pub slots: Owners,
@@ -46,7 +45,7 @@ impl<'a> Model for Image<'a> {
 pub struct Program<'a> {
     /// The text of the name, one to eight of `a` to `z`, `0` to `9` and `_`, and then zeros.
     pub name: [u8; NAME_SIZE],
-    /// How many pages of stack it asks for, at most 16.
+    /// How many pages of stack it asks for, at most `MOST_STACK_PAGES`.
     pub stack: u32,
     /// The environments from which it accepts yields and transfers, a bit each.
     pub accept: u32,
@@ -78,7 +77,7 @@ impl<'a> Program<'a> {
         requires stack { stack ≤ most_stack_pages }
         ensures { result ≡ if_fitting (record { name = name; stack = stack; accept = accept; body = body.entry }) }
     {
-        let room = MOST_MAPPINGS - 1 - stack;
+        let room = MOST_MAPPINGS as u32 - 1 - stack;
         count_pages(&body, room)?;
         Some(Program {
             name,
@@ -94,9 +93,9 @@ impl<'a> Program<'a> {
         ensures count { result ≡ guaranteed_mappings self.now }
         ensures most { result ≤ most_mappings }
     {
-        match count_pages(&self.body, MOST_MAPPINGS) {
+        match count_pages(&self.body, MOST_MAPPINGS as u32) {
             Some(pages) => 1 + pages + self.stack,
-            None => MOST_MAPPINGS,
+            None => MOST_MAPPINGS as u32,
         }
     }
 }

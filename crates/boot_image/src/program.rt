@@ -14,8 +14,8 @@ use crate::layout::{
     ACCEPT_AT, BASE_AT, ELF, FLAT, KIND_AT, LENGTH_AT, NAME_SIZE, NO_BASE, PROGRAM_HEADER_SIZE,
     STACK_AT,
 };
-use crate::limits::{BODY_LIMIT, LEAST_BASE, MOST_STACK_PAGES, PAGE_SIZE};
-use aegis_limits::MOST_ENVIRONMENTS;
+use crate::limits::{BODY_LIMIT, LEAST_BASE};
+use aegis_limits::{MOST_ENVIRONMENTS, MOST_STACK_PAGES, PAGE_SIZE};
 use arrayvec::ArrayVec;
 use byte_numbers::word_at;
 use elf_static::{Elf, Segment, read};
@@ -98,7 +98,7 @@ fn is_base(kind: u32, base: u32, length: u32) -> bool
 fn is_flat_base(base: u32, length: u32) -> bool
     ensures { result ≡ is_flat_base base length }
 {
-    base.is_multiple_of(PAGE_SIZE)
+    base.is_multiple_of(PAGE_SIZE as u32)
         && base >= LEAST_BASE
         && u64::from(base) + u64::from(length) <= BODY_LIMIT
 }

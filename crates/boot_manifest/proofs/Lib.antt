@@ -1,5 +1,5 @@
-pub mod Bodies
-pub mod OwnerLemmas
-pub mod ReadingLemmas
-pub mod Sizes
-pub mod TextLemmas
+mod Bodies
+mod OwnerLemmas
+mod ReadingLemmas
+mod Sizes
+mod TextLemmas

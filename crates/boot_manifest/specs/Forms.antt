@@ -12,7 +12,8 @@ count_form key words = None
 -- `slots X ..`, with one to sixty-four X: these
 abbrev pub slots_form : List (List ℕ) → Option (List (List ℕ))
 slots_form [] = None
-slots_form (first ∷ words) = if bytes_eq first (codes "slots") && is_within 1 most_slots (length words) then Some words else None
+slots_form (first ∷ words) =
+    if bytes_eq first (codes "slots") && is_within 1 most_slots (length words) then Some words else None
 
 -- the words of an environment's line, among which a flat body has a base
 pub record EnvWords : Type 0 where
@@ -25,9 +26,21 @@ pub record EnvWords : Type 0 where
 -- `NAME flat BASE STACK ACCEPT FILE` or `NAME elf STACK ACCEPT FILE`
 abbrev pub program_form : List (List ℕ) → Option EnvWords
 program_form (name ∷ kind ∷ base ∷ stack ∷ accept ∷ file ∷ []) =
-    if bytes_eq kind (codes "flat") then Some (record { name = name; base = Some base; stack = stack; accept = accept; file = file }) else None
+    if bytes_eq kind (codes "flat") then Some (record {
+      name = name;
+      base = Some base;
+      stack = stack;
+      accept = accept;
+      file = file;
+    }) else None
 program_form (name ∷ kind ∷ stack ∷ accept ∷ file ∷ []) =
-    if bytes_eq kind (codes "elf") then Some (record { name = name; base = None; stack = stack; accept = accept; file = file }) else None
+    if bytes_eq kind (codes "elf") then Some (record {
+      name = name;
+      base = None;
+      stack = stack;
+      accept = accept;
+      file = file;
+    }) else None
 program_form words = None
 
 -- `env ..`, with these behind it

@@ -19,20 +19,21 @@ owner_in word =
 
 abbrev pub owners_in : List (List ℕ) → Option (List (Option ℕ))
 owners_in [] = Some []
-owners_in (word ∷ words) = option_and_then (λ owner. option_map (λ owners. owner ∷ owners) (owners_in words)) (owner_in word)
+owners_in (word ∷ words) =
+    option_and_then (λ owner. option_map (λ owners. owner ∷ owners) (owners_in words)) (owner_in word)
 
 -- a name in its eight bytes, with zeros behind it
 abbrev pub padded : List ℕ → List ℕ
 padded word = word ++ replicate (8 - length word) 0
 
 -- a name, by the rule of images
-abbrev pub name_in : List ℕ → Option (List ℕ)
-name_in word = if nat_le (length word) 8 && is_name (padded word) then Some (padded word) else None
+abbrev pub manifest_name : List ℕ → Option (List ℕ)
+manifest_name word = if nat_le (length word) 8 && is_name (padded word) then Some (padded word) else None
 
 -- how a body stands in its file: at its base, if it has one
-abbrev pub kind_in : Option (List ℕ) → Option Kind
-kind_in None = Some Elf
-kind_in (Some base) = option_map (λ n. Flat n) (number_of base)
+abbrev pub manifest_kind : Option (List ℕ) → Option Kind
+manifest_kind None = Some Elf
+manifest_kind (Some base) = option_map (λ n. Flat n) (number_of base)
 
 -- a program without its body
 abbrev pub program_in : EnvWords → Option Entry
@@ -40,10 +41,15 @@ program_in words =
     option_and_then
     (λ name. option_and_then
     (λ kind. option_and_then
-    (λ stack. option_map (λ accept. record { name = name; kind = kind; stack = stack; accept = accept }) (number_of words.accept))
+    (λ stack. option_map (λ accept. record {
+      name = name;
+      kind = kind;
+      stack = stack;
+      accept = accept;
+    }) (number_of words.accept))
     (number_within 0 most_stack_pages words.stack))
-    (kind_in words.base))
-    (name_in words.name)
+    (manifest_kind words.base))
+    (manifest_name words.name)
 
 -- an entry: a program and the name of its file
 abbrev pub entry_in : EnvWords → Option ManifestEntryValue

@@ -6,7 +6,7 @@ use std::marker::Model;
 /// of every value of this type.
 #[derive(Drop)]
 pub struct ManifestEntry {
-    /// The program without its body. It asks for at most 16 pages of stack.
+    /// The program without its body. It asks for at most `MOST_STACK_PAGES` pages of stack.
     pub entry: Entry,
     /// The name of the file that has the body.
     pub file: String,
@@ -28,11 +28,11 @@ impl Model for ManifestEntry {
 /// hold of every value of this type. An owner that is no environment is left to the reader of the image.
 #[derive(Drop)]
 pub struct Manifest {
-    /// How many pages the machine has, 16 to 1,024.
+    /// How many pages the machine has, `LEAST_PAGES` to `MOST_PAGES`.
     pub pages: u32,
-    /// How many ticks a slice has, 16 to 65,536.
+    /// How many ticks a slice has, `LEAST_QUANTUM` to `MOST_QUANTUM`.
     pub quantum: u32,
-    /// The environment that owns each of the 1 to 64 slots, where one does; at most 15.
+    /// The environment that owns each of the slots, 1 to `MOST_SLOTS`, where one does; below `MOST_ENVIRONMENTS`.
     pub slots: Vec<Option<u8>>,
     /// An entry for each of the 1 to 16 environments, by its number.
     pub entries: Vec<ManifestEntry>,

@@ -7,7 +7,7 @@ ghost use Rattle.boot_image.specs.Accepted.{IsOwnerBelow};
 ghost use Rattle.boot_image.specs.ImageFaults.{is_name};
 ghost use Rattle.line_text.specs.Characters.{is_text_byte};
 ghost use Rattle.line_text.specs.WordView.{words_seen};
-ghost use Rattle.boot_manifest.specs.Ranges.{entry_in, kind_in, name_in, owner_in, owners_in, program_in};
+ghost use Rattle.boot_manifest.specs.Ranges.{entry_in, manifest_kind, manifest_name, owner_in, owners_in, program_in};
 ghost use Rattle.boot_manifest.specs.Answers.{parts_seen};
 
 use crate::manifest::ManifestEntry;
@@ -56,7 +56,7 @@ pub(crate) fn owners_of(
 
 /// A name in its eight bytes, by the rule of images.
 fn name_of(word: &[u8]) -> Option<[u8; NAME_SIZE]>
-    ensures value { result ≡ name_in word.now }
+    ensures value { result ≡ manifest_name word.now }
     ensures rule { IfSome result (λ name. IsTrue (is_name name)) }
 {
     if word.len() > NAME_SIZE {
@@ -69,7 +69,7 @@ fn name_of(word: &[u8]) -> Option<[u8; NAME_SIZE]>
 
 /// How a body is spelled: at its base, if it has one.
 fn kind_of(base: Option<&[u8]>) -> Option<Kind>
-    ensures { result ≡ kind_in (option_copied base.entry) }
+    ensures { result ≡ manifest_kind (option_copied base.entry) }
 {
     match base {
         Some(word) => number(word).map(|base| Kind::Flat { base }),

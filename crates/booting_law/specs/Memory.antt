@@ -7,7 +7,8 @@ use Rattle.segment_pages.specs.Pages.{numbers_from}
 
 -- whether a part has a byte in the page of this number: the later start lies before the earlier end
 abbrev pub is_in : ℕ → PartValue → Bool
-is_in vpn part = nat_lt (max part.vaddr (page_size * vpn)) (min (part.vaddr + length part.bytes) (page_size * (vpn + 1)))
+is_in vpn part =
+    nat_lt (max part.vaddr (page_size * vpn)) (min (part.vaddr + length part.bytes) (page_size * (vpn + 1)))
 
 -- whether some part has
 abbrev pub has_memory : List PartValue → ℕ → Bool

@@ -29,7 +29,7 @@ use Rattle.world_model.specs.declared.verdict.HandlerNo.{HandlerNo}
 use Rattle.world_model.specs.declared.verdict.HandlerNo.TheVariants as handler_no
 use Rattle.world_model.specs.Downloads.{MayDownload, download_verdict, handler_at}
 use Rattle.world_model.specs.Rings.{ring_of}
-use Rattle.world_model.specs.Answer.{unless, verdict_of}
+use Rattle.world_model.specs.Answer.{granted_unless, verdict_of}
 use Rattle.world_model.specs.Book.{Book, page_row}
 use Rattle.world_model.specs.Call.{any, binding_of, presented}
 use Rattle.world_model.specs.Code.{code_of}
@@ -40,7 +40,7 @@ use Rattle.world_model.specs.BackupCalls.{code_of_load, refusal_of_load}
 use Rattle.world_model.specs.LineCalls.{is_line_of, is_line_of_other, refusal_of_line, refusal_of_line_drop, refusal_of_line_take}
 use Rattle.world_model.specs.OwnCalls.{MayPut, MaySend, is_frame_size, put_bytes}
 use Rattle.world_model.specs.May.{HasRight, May, MayAllocate, MayClaim, MayBind, MayChange, MayDrop, MayEnter, MayLoad, MayMap, MayReach, MayTake}
-use Rattle.world_model.specs.PageCalls.{chosen_page, is_guaranteed, named_page, vpn_refusal, refusal_of_change}
+use Rattle.world_model.specs.PageCalls.{chosen_page, is_guaranteed_vpn, named_page, vpn_refusal, refusal_of_change}
 use Rattle.world_model.specs.SlotCalls.{accepts, drop_refusal, gift_refusal, is_other, refusal_of_gift, refusal_of_giving, slot_at, take_refusal, turn_slot, yield_by}
 use Rattle.world_model.specs.Solo.{Solo, sight}
 use Rattle.world_model.specs.Transfers.{is_open, refusal_of_transfer, transfer_by}
@@ -49,7 +49,7 @@ use Rattle.call_verdicts.specs.Granted.{GrantedMay}
 use Rattle.call_verdicts.specs.Refusals.{refusal_of_bind_call, refusal_of_put_call, refusal_of_send_call}
 
 -- what isn't refused
-not_refused : (why : Option Code) (v value : ℕ) → unless why v ≡ Grant value → why ≡ None
+not_refused : (why : Option Code) (v value : ℕ) → granted_unless why v ≡ Grant value → why ≡ None
 not_refused None v value is = refl
 not_refused (Some why) v value is = cc
 
@@ -130,10 +130,10 @@ may_change w e page none = by_row (nat_lt page w.book.page_count) (w.book.pages 
     by_row true (Owned owner words) there stands none = record { there = ltb-true page w.book.page_count there; owned = ap (is_owned_by e) stands ∙ its owner (owner == e) none }
     by_row false row there stands none = cc
 
-may_map : (s : Solo) (vpn : ℕ) → vpn_refusal (is_guaranteed s vpn) vpn ≡ None → MayMap s vpn
-may_map s vpn none = by_test (nat_le vpn_end vpn) (is_guaranteed s vpn) refl refl none
+may_map : (s : Solo) (vpn : ℕ) → vpn_refusal (is_guaranteed_vpn s vpn) vpn ≡ None → MayMap s vpn
+may_map s vpn none = by_test (nat_le vpn_end vpn) (is_guaranteed_vpn s vpn) refl refl none
   where
-    by_test : (above guaranteed : Bool) → nat_le vpn_end vpn ≡ above → is_guaranteed s vpn ≡ guaranteed
+    by_test : (above guaranteed : Bool) → nat_le vpn_end vpn ≡ above → is_guaranteed_vpn s vpn ≡ guaranteed
         → (if above then Some code.BadVpn else (if guaranteed then Some code.Guaranteed else None)) ≡ None → MayMap s vpn
     by_test true guaranteed below is none = cc
     by_test false true below is none = cc
@@ -154,10 +154,10 @@ may_bind w e none =
     let s = w.solos e in
     let page = reg s.cpu 5 in
     let why = bind_refusal e (binding_of s.cpu).writable (presented s.cpu) (page_row w.book page) in
-    let parts = neither (vpn_refusal (is_guaranteed s (reg s.cpu 4)) (reg s.cpu 4)) (option_map code_of why) none in
+    let parts = neither (vpn_refusal (is_guaranteed_vpn s (reg s.cpu 4)) (reg s.cpu 4)) (option_map code_of why) none in
     by_there (nat_lt page w.book.page_count) refl parts.0 (unmapped code_of why parts.1)
   where
-    by_there : (t : Bool) → nat_lt (reg (w.solos e).cpu 5) w.book.page_count ≡ t → vpn_refusal (is_guaranteed (w.solos e) (reg (w.solos e).cpu 4)) (reg (w.solos e).cpu 4) ≡ None
+    by_there : (t : Bool) → nat_lt (reg (w.solos e).cpu 5) w.book.page_count ≡ t → vpn_refusal (is_guaranteed_vpn (w.solos e) (reg (w.solos e).cpu 4)) (reg (w.solos e).cpu 4) ≡ None
         → bind_refusal e (binding_of (w.solos e).cpu).writable (presented (w.solos e).cpu) (if t then Some (w.book.pages (reg (w.solos e).cpu 5)) else None) ≡ None
         → MayBind w e (binding_of (w.solos e).cpu) (presented (w.solos e).cpu)
     by_there true there mapped none = record {
@@ -219,7 +219,7 @@ may_drop b e k none = by_slot (nat_lt k b.slot_count) (b.slots k) refl refl none
     by_slot true (Some hold) there stands none = by_holder hold (ltb-true k b.slot_count there) stands (hold.holder == e) refl none
 
 -- interrupt lines
-may_line : (w : World) (e line act value : ℕ) → unless (refusal_of_line e line act (w.book.lines line)) 0 ≡ Grant value → May w e (line_deed line (act == 1))
+may_line : (w : World) (e line act value : ℕ) → granted_unless (refusal_of_line e line act (w.book.lines line)) 0 ≡ Grant value → May w e (line_deed line (act == 1))
 may_line w e line act value is = by_tests (nat_lt line lines) (act == 1) (act == 0) refl (not_refused (refusal_of_line e line act (w.book.lines line)) 0 value is)
   where
     taken : (other : Bool) → (if other then Some code.LineTaken else None) ≡ None → other ≡ false
@@ -294,7 +294,7 @@ granted_may lowest w e (Some call.Bind) value is = may_bind w e (not_refused (re
 granted_may lowest w e (Some call.Unbind) value is =
     let s = w.solos e in
     let vpn = reg s.cpu 4 in
-    may_map s vpn (not_refused (vpn_refusal (is_guaranteed s vpn) vpn) (if is_some (binding_at s.binds vpn) then 1 else 0) value is)
+    may_map s vpn (not_refused (vpn_refusal (is_guaranteed_vpn s vpn) vpn) (if is_some (binding_at s.binds vpn) then 1 else 0) value is)
 granted_may lowest w e (Some call.Context) value is = let cpu = (w.solos e).cpu in handles w e (reg cpu 5) (context_numbered (reg cpu 4))
 granted_may lowest w e (Some call.Accept) value is = tt
 granted_may lowest w e (Some call.Transfer) value is =

@@ -9,4 +9,6 @@ use Rattle.world_model.specs.World.{World}
 
 -- the deed of a call that is granted with a value presupposes nothing that the world lacks
 abbrev pub GrantedMay : Type 0
-GrantedMay = (w : World) (e : ℕ) (call : Option Call) (value : ℕ) → verdict w e call ≡ Grant value → May w e (deed_of call value (w.solos e).cpu)
+GrantedMay =
+    (w : World) (e : ℕ) (call : Option Call) (value : ℕ) → verdict w e call ≡ Grant value
+    → May w e (deed_of call value (w.solos e).cpu)

@@ -1,5 +1,6 @@
 //! The verdict on a call, and what it does where it is granted.
 ghost use Rattle.std.specs.Prelude.{◌≡◌, ◌<◌, ◌^◌, Some};
+ghost use Rattle.aegis_limits.specs.Limits.{environment_numbers};
 ghost use Rattle.world_model.specs.Book.{running};
 ghost use Rattle.world_model.specs.Call.{deed_of as deed_of_call};
 ghost use Rattle.world_model.specs.Verdict.{verdict};
@@ -14,18 +15,18 @@ use crate::line_calls::{TAKE, refuse_line};
 use crate::own_calls::{refuse_context, refuse_put, refuse_send};
 use crate::page_calls::{choose_page, refuse_bind, refuse_change, refuse_unbind};
 use crate::queries::ask;
-use crate::slot_calls::{decide_transfer, decide_yield, refuse_drop, refuse_take};
+use crate::slot_calls::{decide_transfer, decide_yield};
 use crate::view::CallView;
 use env_frames::{Context, TransferKind};
 use mips_exec::Cpu;
-use world_model::{Call, Code, Deed, OwnDeed, Verdict};
+use world_model::{Call, Code, Deed, OwnDeed, Verdict, drop_refusal, take_refusal};
 
 /// The verdict on a call of the runner's; a number that names no call is refused. Each reader of the view is asked at
 /// most once.
 pub fn decide<V: CallView>(view: &V, env: u8, call: Option<Call>) -> Verdict
     requires runs { running (V.world view.now).book.runner ≡ Some env }
-    requires number { env < 32 }
-    requires count { (V.world view.now).count < 256 }
+    requires number { env < environment_numbers }
+    requires count { (V.world view.now).count < 2 ^ 8 }
     requires own { ((V.world view.now).solos env).number ≡ env }
     requires numbers { (V.world view.now).book.next_claim < 2 ^ 32 }
     ensures { result ≡ verdict (V.world view.now) env call }
@@ -49,8 +50,8 @@ pub fn decide<V: CallView>(view: &V, env: u8, call: Option<Call>) -> Verdict
         Call::Context => Verdict::unless(refuse_context(cpu), 0),
         Call::Accept => Verdict::Grant(0),
         Call::Transfer => decide_transfer(view, env, first, second),
-        Call::SlotTake => Verdict::unless(refuse_take(view.slot(first)), 0),
-        Call::SlotDrop => Verdict::unless(refuse_drop(env, view.slot(first)), 0),
+        Call::SlotTake => Verdict::unless(take_refusal(view.slot(first)), 0),
+        Call::SlotDrop => Verdict::unless(drop_refusal(view.slot(first), env), 0),
         Call::Query => Verdict::of(ask(view, env, first, second)),
         Call::Claim => decide_claim(view, env),
         Call::Unclaim if view.has_claim(env, first) => Verdict::Grant(0),

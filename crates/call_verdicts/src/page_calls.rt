@@ -4,7 +4,7 @@ ghost use Rattle.std.specs.Option.{option_map};
 ghost use Rattle.page_book.specs.Row.{alloc_refusal, bind_refusal, change_refusal};
 ghost use Rattle.world_model.specs.Code.{code_of};
 ghost use Rattle.world_model.specs.Book.{page_row, running};
-ghost use Rattle.world_model.specs.PageCalls.{chosen_page, is_guaranteed, vpn_refusal, refusal_of_change};
+ghost use Rattle.world_model.specs.PageCalls.{chosen_page, is_guaranteed_vpn, vpn_refusal, refusal_of_change};
 ghost use Rattle.call_verdicts.specs.Refusals.{refusal_of_bind_call};
 
 use crate::arguments::{ANY, binding, presented};
@@ -76,7 +76,7 @@ fn refuse_vpn(guaranteed: bool, vpn: u32) -> Option<Code>
 /// Why the runner's unbind is refused, or its bind, by the VPN that it names.
 pub(crate) fn refuse_unbind<V: CallView>(view: &V, env: u8, vpn: u32) -> Option<Code>
     requires { running (V.world view.now).book.runner ≡ Some env }
-    ensures { result ≡ vpn_refusal (is_guaranteed ((V.world view.now).solos env) vpn) vpn }
+    ensures { result ≡ vpn_refusal (is_guaranteed_vpn ((V.world view.now).solos env) vpn) vpn }
 {
     refuse_vpn(view.is_guaranteed(env, vpn), vpn)
 }

@@ -1,9 +1,10 @@
 //! Why calls on slices and slots are refused, and transfers.
-ghost use Rattle.std.specs.Prelude.{◌≡◌, ◌<◌, ◌==◌, Some};
+ghost use Rattle.std.specs.Prelude.{◌≡◌, ◌<◌, ◌^◌, ◌==◌, Some};
+ghost use Rattle.aegis_limits.specs.Limits.{environment_numbers};
 ghost use Rattle.env_frames.specs.Transfer.{transfer_numbered};
 ghost use Rattle.world_model.specs.Book.{running};
 ghost use Rattle.world_model.specs.Call.{any};
-ghost use Rattle.world_model.specs.SlotCalls.{accepts, drop_refusal, is_other, refusal_of_gift, take_refusal, yield_by};
+ghost use Rattle.world_model.specs.SlotCalls.{accepts, is_other, refusal_of_gift, yield_by};
 ghost use Rattle.world_model.specs.Transfers.{refusal_of_transfer, transfer_by};
 
 use crate::arguments::ANY;
@@ -13,7 +14,7 @@ use world_model::{Code, Hold, Life, Verdict};
 
 /// Whether a mask has the bit of an environment.
 fn accepts(mask: u32, env: u8) -> bool
-    requires { env < 32 }
+    requires { env < environment_numbers }
     ensures { result ≡ accepts mask env }
 {
     (mask >> env) % 2 == 1
@@ -32,8 +33,8 @@ fn is_other<V: CallView>(view: &V, env: u8, target: u32) -> bool
 /// Why the runner can't give the rest of its slice to a target.
 fn refuse_give<V: CallView>(view: &V, env: u8, target: u32) -> Option<Code>
     requires runs { running (V.world view.now).book.runner ≡ Some env }
-    requires number { env < 32 }
-    requires count { (V.world view.now).count < 256 }
+    requires number { env < environment_numbers }
+    requires count { (V.world view.now).count < 2 ^ 8 }
     ensures { result ≡ refusal_of_gift (V.world view.now) env target }
 {
     if !is_other(view, env, target) {
@@ -52,8 +53,8 @@ fn refuse_give<V: CallView>(view: &V, env: u8, target: u32) -> Option<Code>
 /// The verdict on a yield to a target, or to whoever is next.
 pub(crate) fn decide_yield<V: CallView>(view: &V, env: u8, target: u32) -> Verdict
     requires runs { running (V.world view.now).book.runner ≡ Some env }
-    requires number { env < 32 }
-    requires count { (V.world view.now).count < 256 }
+    requires number { env < environment_numbers }
+    requires count { (V.world view.now).count < 2 ^ 8 }
     ensures { result ≡ yield_by (V.world view.now) env target (target == any) }
 {
     if target == ANY {
@@ -65,8 +66,8 @@ pub(crate) fn decide_yield<V: CallView>(view: &V, env: u8, target: u32) -> Verdi
 /// Why the runner can't enter a target.
 fn refuse_transfer<V: CallView>(view: &V, env: u8, target: u32, kind: TransferKind) -> Option<Code>
     requires runs { running (V.world view.now).book.runner ≡ Some env }
-    requires number { env < 32 }
-    requires count { (V.world view.now).count < 256 }
+    requires number { env < environment_numbers }
+    requires count { (V.world view.now).count < 2 ^ 8 }
     ensures { result ≡ refusal_of_transfer (V.world view.now) env target kind }
 {
     if !is_other(view, env, target) {
@@ -86,34 +87,12 @@ fn refuse_transfer<V: CallView>(view: &V, env: u8, target: u32, kind: TransferKi
 /// The verdict on a transfer to a target, of the kind of this number.
 pub(crate) fn decide_transfer<V: CallView>(view: &V, env: u8, target: u32, number: u32) -> Verdict
     requires runs { running (V.world view.now).book.runner ≡ Some env }
-    requires number { env < 32 }
-    requires count { (V.world view.now).count < 256 }
+    requires number { env < environment_numbers }
+    requires count { (V.world view.now).count < 2 ^ 8 }
     ensures { result ≡ transfer_by (V.world view.now) env target (transfer_numbered number) }
 {
     match TransferKind::numbered(number) {
         Some(kind) => Verdict::unless(refuse_transfer(view, env, target, kind), 0),
         None => Verdict::Refuse(Code::BadCall, 0),
-    }
-}
-
-/// Why the slot with this hold, if there is one, can't be taken.
-pub(crate) fn refuse_take(slot: Option<Option<Hold>>) -> Option<Code>
-    ensures { result ≡ take_refusal slot }
-{
-    match slot {
-        None => Some(Code::NoSlice),
-        Some(None) => None,
-        Some(Some(_)) => Some(Code::SlotTaken),
-    }
-}
-
-/// Why an environment can't drop the slot with this hold, if there is one.
-pub(crate) fn refuse_drop(env: u8, slot: Option<Option<Hold>>) -> Option<Code>
-    ensures { result ≡ drop_refusal env slot }
-{
-    match slot {
-        None => Some(Code::NoSlice),
-        Some(Some(hold)) if hold.holder == env => None,
-        Some(_) => Some(Code::NotHolder),
     }
 }

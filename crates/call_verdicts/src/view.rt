@@ -11,7 +11,7 @@ ghost use Rattle.revocation_book.specs.Backups.{load_refusal};
 ghost use Rattle.world_model.specs.Book.{page_row, running};
 ghost use Rattle.world_model.specs.Rings.{ring_of};
 ghost use Rattle.world_model.specs.Call.{good_range};
-ghost use Rattle.world_model.specs.PageCalls.{is_guaranteed};
+ghost use Rattle.world_model.specs.PageCalls.{is_guaranteed_vpn};
 ghost use Rattle.world_model.specs.Queries.{life_at};
 ghost use Rattle.world_model.specs.SlotCalls.{gift_refusal, slot_at, turn_slot};
 ghost use Rattle.world_model.specs.Solo.{sight};
@@ -56,7 +56,7 @@ pub trait CallView {
     /// Whether a page is guaranteed to the runner at a VPN.
     fn is_guaranteed(&self, env: u8, vpn: u32) -> bool
         requires { running (world self.now).book.runner ≡ Some env }
-        ensures { result ≡ is_guaranteed ((world self.now).solos env) vpn };
+        ensures { result ≡ is_guaranteed_vpn ((world self.now).solos env) vpn };
 
     /// Whether the runner has bound a page at a VPN.
     fn is_bound(&self, env: u8, vpn: u32) -> bool

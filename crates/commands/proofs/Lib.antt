@@ -1,1 +1,1 @@
-pub mod ReadingOn
+mod ReadingOn

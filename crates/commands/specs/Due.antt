@@ -12,10 +12,10 @@ pub data Due : Type 0 where
   Found : (text : List ℕ) → Due
 
 -- the text that is to be written
-abbrev pub text_of : Due → List ℕ
-text_of (Refusal text) = text
-text_of (Whole text) = text
-text_of (Found text) = text
+abbrev pub due_text : Due → List ℕ
+due_text (Refusal text) = text
+due_text (Whole text) = text
+due_text (Found text) = text
 
 -- the status once it is written
 abbrev pub status_of : Due → Status

@@ -34,7 +34,8 @@ AreTold (Some files) names contents = AreRead (Some files) names contents
 
 -- the shelf is sure to serve each name that may be next
 abbrev pub IsServed : Names → ShelfEdge → Type 0
-IsServed names s = (contents : List (List ℕ)) → AreFirst names s.told contents → IfSome (next_name names contents) s.Serves
+IsServed names s =
+    (contents : List (List ℕ)) → AreFirst names s.told contents → IfSome (next_name names contents) s.Serves
 
 -- the contents that the shelf got in the call
 abbrev pub got_contents : ShelfEdge → List (List ℕ)
@@ -58,8 +59,8 @@ abbrev pub reads_of : Option (List ℕ) → ℕ
 reads_of None = 0
 reads_of (Some name) = 1
 
--- Some first files were read, each once and in order, and the shelf got their contents. There was no other read, or one,
--- for the next name, which gave nothing.
+-- Some first files were read, each once and in order, and the shelf got their contents. There was no other read, or
+-- one, for the next name, which gave nothing.
 pub record CameTo (names : Names) (s : ShelfEdge) (last : Option (List ℕ)) : Type 0 where
   pub contents : List (List ℕ)
   pub read : AreFirst names s.told contents

@@ -37,5 +37,6 @@ NamesFiles =
 abbrev pub Images : Type 0
 Images =
     (name text : List ℕ) (bodies : List (List ℕ)) → manifest_fault text ≡ None →
-    length (image_text (plan_in (manifest_of text)) bodies) < 2 ^ 27 → image_fault (image_text (plan_in (manifest_of text)) bodies) ≡ None →
+    length (image_text (plan_in (manifest_of text)) bodies) < 2 ^ 27
+    → image_fault (image_text (plan_in (manifest_of text)) bodies) ≡ None →
     (make_image name).due (text ∷ bodies) ≡ Some (Whole (image_text (plan_in (manifest_of text)) bodies))

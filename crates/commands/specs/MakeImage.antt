@@ -38,5 +38,6 @@ abbrev pub make_image : List ℕ → CommandValue
 make_image manifest = record {
   names = manifest ∷ [];
   further = λ contents. files_named (content contents 0) (manifest_fault (content contents 0));
-  due = λ contents. Some (image_due manifest (content contents 0) (drop 1 contents) (manifest_fault (content contents 0)));
+  due = λ contents. Some
+      (image_due manifest (content contents 0) (drop 1 contents) (manifest_fault (content contents 0)));
 }

@@ -8,7 +8,7 @@ use Rattle.commands.specs.declared.status.Status.TheVariants as status
 use Rattle.commands.specs.Edges.{ShelfEdge, SinkEdge}
 use Rattle.commands.specs.Command.{CommandValue, names_of}
 use Rattle.commands.specs.Files.{WereRead, FailedAt, CameFar}
-use Rattle.commands.specs.Due.{Due, text_of, status_of, usage_text}
+use Rattle.commands.specs.Due.{Due, due_text, status_of, usage_text}
 
 -- All files of the command were read, these are the contents that the shelf got in the call, and this is due for them.
 pub record Decided (command : CommandValue) (s : ShelfEdge) : Type 0 where
@@ -34,7 +34,8 @@ pub record IsUntouched (k : SinkEdge) : Type 0 where
 
 -- What is due was written whole, with its status.
 abbrev pub Wrote : CommandValue → ShelfEdge → SinkEdge → Status → Type 0
-Wrote command s k result = (decided : Decided command s) × (status_of decided.due ≡ result) × IsWhole k (text_of decided.due)
+Wrote command s k result =
+    (decided : Decided command s) × (status_of decided.due ≡ result) × IsWhole k (due_text decided.due)
 
 -- What holds after a call with the words of this command, by its status. No other status comes.
 abbrev pub Outcome : CommandValue → ShelfEdge → SinkEdge → Status → Type 0
@@ -43,7 +44,7 @@ Outcome command s k status.Found = Wrote command s k status.Found
 Outcome command s k status.Usage = ⊥
 Outcome command s k status.Refused = Wrote command s k status.Refused
 Outcome command s k status.ReadFault = FailedAt (names_of command) s × IsUntouched k
-Outcome command s k status.WriteFault = (decided : Decided command s) × IsPart k (text_of decided.due)
+Outcome command s k status.WriteFault = (decided : Decided command s) × IsPart k (due_text decided.due)
 Outcome command s k status.OutOfMemory = CameFar (names_of command) s × IsUntouched k
 
 -- A call with the words of a command ends as this command does.

@@ -8,12 +8,12 @@ use Rattle.commands.specs.declared.work.Stop.TheVariants as stop
 use Rattle.commands.specs.Edges.{ShelfEdge}
 use Rattle.commands.specs.Command.{CommandValue}
 use Rattle.commands.specs.Files.{Names, FailedAt, CameFar}
-use Rattle.commands.specs.Due.{Due, text_of, status_of}
+use Rattle.commands.specs.Due.{Due, due_text, status_of}
 use Rattle.commands.specs.Outcome.{Decided}
 
 -- the answer is what is due, with its status
 pub record Settles (due : Due) (answer : Answer) : Type 0 where
-  pub text : answer.text.items ≡ text_of due
+  pub text : answer.text.items ≡ due_text due
   pub status : answer.status ≡ status_of due
 
 -- something is due, and it is the answer

@@ -1,2 +1,2 @@
-pub mod AppendsLemmas
-pub mod ReaderLemmas
+mod AppendsLemmas
+mod ReaderLemmas

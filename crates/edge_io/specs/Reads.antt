@@ -59,7 +59,8 @@ no_readings = record {
 
 -- One content more was read, by this name, and both are kept behind those before: the content that is told of the name,
 -- where one is. It is no longer than a file may be.
-pub record Gains (told : Option (List ℕ → Option (List ℕ))) (name : List ℕ) (before after : ReadingsValue) : Type 0 where
+pub record Gains (told : Option (List ℕ → Option (List ℕ))) (name : List ℕ)
+    (before after : ReadingsValue) : Type 0 where
   pub bytes : List ℕ
   pub is_told : Tells told name bytes
   pub within_limit : length bytes ≤ file_limit
@@ -70,7 +71,8 @@ pub record Gains (told : Option (List ℕ → Option (List ℕ))) (name : List �
   }
 
 -- One read more was made, by this name, with this answer: a file is kept, and a failure is counted, named and numbered.
-abbrev pub AddsRead : {T : Type 0} → Option (List ℕ → Option (List ℕ)) → List ℕ → (before after : ReadingsValue) → Result T ReadFail → Type 0
+abbrev pub AddsRead : {T : Type 0} → Option (List ℕ → Option (List ℕ)) → List ℕ → (before after : ReadingsValue)
+    → Result T ReadFail → Type 0
 AddsRead told name before after (Ok v) = Gains told name before after
 AddsRead told name before after (Err Failed) = after ≡ record before {
   calls = one_more before.calls;

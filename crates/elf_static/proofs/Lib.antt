@@ -1,7 +1,7 @@
-pub mod Rest
-pub mod Sizes
+mod Rest
+mod Sizes
 pub mod HeaderSteps
 pub mod Acceptance
-pub mod HeaderReread
-pub mod FileReread
+mod HeaderReread
+mod FileReread
 pub mod PartsReread

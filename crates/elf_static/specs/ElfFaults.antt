@@ -44,7 +44,8 @@ abbrev pub is_in_range : List ℕ → ℕ → Bool
 is_in_range file header =
     nat_le (filesz_in file header) (memsz_in file header)
     && nat_le (offset_in file header + filesz_in file header) (length file)
-    && ((memsz_in file header == 0) || (nat_le 0x2000 (vaddr_in file header) && nat_le (vaddr_in file header + memsz_in file header) 0x7FF00000))
+    && ((memsz_in file header == 0) ||
+    (nat_le 0x2000 (vaddr_in file header) && nat_le (vaddr_in file header + memsz_in file header) 0x7FF00000))
 
 -- whether two segments have bytes at one address: the later start lies before the earlier end
 abbrev pub meets : SegmentValue → SegmentValue → Bool
@@ -63,7 +64,8 @@ header_fault file earlier header =
 abbrev pub headers_fault : List ℕ → List SegmentValue → List ℕ → Option ElfFault
 headers_fault file earlier [] = None
 headers_fault file earlier (header ∷ headers) =
-    header_fault file earlier header or_else headers_fault file (earlier ++ option_to_list (kept_at file header)) headers
+    header_fault file earlier header or_else headers_fault file
+    (earlier ++ option_to_list (kept_at file header)) headers
 
 -- whether the address is that of a byte of the segment
 abbrev pub is_covered : ℕ → SegmentValue → Bool

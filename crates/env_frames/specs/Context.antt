@@ -58,7 +58,8 @@ with_handler h context.Synchronous address = record h { synchronous = address }
 
 -- what an exception leaves in the exception area
 abbrev pub exception_words : Exc → Cpu → List ℕ
-exception_words exc cpu = reg cpu 1 ∷ reg cpu 26 ∷ reg cpu 27 ∷ restart_of cpu ∷ exc.bad ∷ cause_word_of exc cpu.slot ∷ []
+exception_words exc cpu =
+    reg cpu 1 ∷ reg cpu 26 ∷ reg cpu 27 ∷ restart_of cpu ∷ exc.bad ∷ cause_word_of exc cpu.slot ∷ []
 
 -- the bytes of the exception area, the lowest of each word first
 unfoldable pub exception_bytes : Exc → Cpu → List ℕ
@@ -70,7 +71,8 @@ continued address cpu = record cpu { pc = address; next = low_word (address + 4)
 
 -- the handler finds Cause in $1, EPC in $26 and the bad address in $27
 abbrev pub raised_cpu : ℕ → Exc → Cpu → Cpu
-raised_cpu handler exc cpu = continued handler (with_reg (with_reg (with_reg cpu 1 (cause_word_of exc cpu.slot)) 26 (restart_of cpu)) 27 exc.bad)
+raised_cpu handler exc cpu =
+    continued handler (with_reg (with_reg (with_reg cpu 1 (cause_word_of exc cpu.slot)) 26 (restart_of cpu)) 27 exc.bad)
 
 -- What the start of a slice leaves in the start area, of registers that go on at their restart address.
 unfoldable pub start_bytes : Cpu → List ℕ

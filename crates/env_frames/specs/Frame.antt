@@ -9,7 +9,8 @@ use Rattle.env_frames.specs.declared.context.Handlers.{Handlers}
 use Rattle.env_frames.specs.Context.{exception_area, exception_bytes, no_handlers}
 use Rattle.env_frames.specs.declared.mapping.Mapping.{Mapping}
 
--- the kept registers, the handlers, the mask of those whose yields and transfers it accepts, and the guaranteed mappings by rising VPN
+-- the kept registers, the handlers, the mask of those whose yields and transfers it accepts, and the guaranteed
+-- mappings by rising VPN
 pub record EnvValue : Type 0 where
   pub cpu : Cpu
   pub handlers : Handlers

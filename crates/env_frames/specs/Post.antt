@@ -30,12 +30,14 @@ counted_in word (Some page) frames = posted frames page word (low_word (post_at 
 -- a signal on an interrupt line sets the line's bit
 abbrev pub signalled_in : ℕ → Option ℕ → List (List ℕ) → List (List ℕ)
 signalled_in line None frames = frames
-signalled_in line (Some page) frames = posted frames page post.Lines (bit_or (post_at frames page post.Lines) (2 ^ line))
+signalled_in line (Some page) frames =
+    posted frames page post.Lines (bit_or (post_at frames page post.Lines) (2 ^ line))
 
 -- who is asked for pages is told how many are outstanding, and until when
 abbrev pub asked_in : ℕ → ℕ → Option ℕ → List (List ℕ) → List (List ℕ)
 asked_in outstanding deadline None frames = frames
-asked_in outstanding deadline (Some page) frames = posted (posted frames page post.Outstanding outstanding) page post.Deadline deadline
+asked_in outstanding deadline (Some page) frames =
+    posted (posted frames page post.Outstanding outstanding) page post.Deadline deadline
 
 -- The repossession vector: records of the pages that were taken, two words each, as many as there is room for.
 abbrev pub most_records : ℕ
@@ -54,9 +56,11 @@ record_bytes page backup = word_bytes page ++ word_bytes (unwrap_or backup no_ba
 
 -- the record of this number, if there is room for it
 abbrev pub recorded_in : ℕ → ℕ → Option ℕ → ℕ → List (List ℕ) → List (List ℕ)
-recorded_in n taken backup page frames = if nat_lt n most_records then after_put frames page (record_offset n) (record_bytes taken backup) else frames
+recorded_in n taken backup page frames =
+    if nat_lt n most_records then after_put frames page (record_offset n) (record_bytes taken backup) else frames
 
 -- a page that was taken is recorded, and counted
 abbrev pub taken_in : ℕ → Option ℕ → Option ℕ → List (List ℕ) → List (List ℕ)
 taken_in taken backup None frames = frames
-taken_in taken backup (Some page) frames = counted_in post.Takings (Some page) (recorded_in (post_at frames page post.Takings) taken backup page frames)
+taken_in taken backup (Some page) frames =
+    counted_in post.Takings (Some page) (recorded_in (post_at frames page post.Takings) taken backup page frames)

@@ -2,7 +2,7 @@
 /// A guaranteed mapping: a page of physical memory that an environment sees.
 #[derive(Clone, Copy, Default)]
 pub struct Mapping {
-    /// The VPN at which the environment sees the page: the addresses of its bytes over 4,096.
+    /// The VPN at which the environment sees the page: the addresses of its bytes over `PAGE_SIZE`.
     pub vpn: u32,
     /// The number of the page in physical memory.
     pub page: u32,

@@ -110,11 +110,13 @@ pub(crate) fn enter_resumed(cpu: &mut Cpu, handler: u32)
     go_on(cpu, handler);
 }
 
-/// The registers with which a transfer enters its target: its caller's, at the entry.
+/// The registers with which a transfer enters its target: its caller's `$1` to `$31`, HI and LO, at the entry.
 pub(crate) fn entered(entry: u32, caller: &Cpu) -> Cpu
     ensures { result ≡ entered_cpu entry (carried caller.now) }
 {
-    let mut cpu = *caller;
+    let mut regs = [0; 32];
+    regs[1..32].copy_from_slice(&caller.regs[1..32]);
+    let mut cpu = Cpu { regs, ..*caller };
     go_on(&mut cpu, entry);
     cpu
 }

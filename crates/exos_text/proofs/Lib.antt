@@ -1,6 +1,6 @@
-pub mod Drawing
-pub mod Ordering
-pub mod Programs
-pub mod Written
-pub mod Body
-pub mod Sound
+mod Drawing
+mod Ordering
+mod Programs
+mod Written
+mod Body
+mod Sound

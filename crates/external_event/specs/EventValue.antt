@@ -15,7 +15,8 @@ pub record EventValue : Type 0 where
 abbrev pub is_occurrence : Occurrence → Bool
 is_occurrence (Packet bytes) = is_packet bytes
 is_occurrence (Line line) = nat_lt line lines
-is_occurrence (Revoke env count grace) = nat_le env last_environment && (nat_le count most_asked && nat_le grace most_ticks)
+is_occurrence (Revoke env count grace) =
+    nat_le env last_environment && (nat_le count most_asked && nat_le grace most_ticks)
 
 -- the numbers of an event are within their limits
 abbrev pub is_event : EventValue → Bool

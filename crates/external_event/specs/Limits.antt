@@ -1,5 +1,6 @@
 -- The limits of what comes from outside.
-use Rattle.std.specs.Prelude.{ℕ}
+use Rattle.std.specs.Prelude.{ℕ, ◌-◌}
+use Rattle.aegis_limits.specs.Limits.{environment_numbers}
 
 -- the bytes of the longest packet
 abbrev pub most_packet_size : ℕ
@@ -19,7 +20,7 @@ lines = 8
 
 -- the greatest number of an environment that is asked for pages, and the most pages for which one is asked at once
 abbrev pub last_environment : ℕ
-last_environment = 31
+last_environment = environment_numbers - 1
 
 abbrev pub most_asked : ℕ
 most_asked = 4096

@@ -1,12 +1,13 @@
 //! Events, each at its time.
 use crate::packet::PacketBytes;
+use aegis_limits::ENVIRONMENT_NUMBERS;
 use std::marker::Model;
 
 /// How many interrupt lines the machine has, numbered from 0.
 pub const LINES: u8 = 8;
 
 /// The greatest number of an environment that is asked for pages.
-pub const LAST_ENVIRONMENT: u8 = 31;
+pub const LAST_ENVIRONMENT: u8 = ENVIRONMENT_NUMBERS as u8 - 1;
 
 /// The most pages for which an environment is asked at once.
 pub const MOST_ASKED: u32 = 4096;
@@ -16,15 +17,15 @@ pub const MOST_ASKED: u32 = 4096;
 pub enum Occurrence {
     /// A packet arrives.
     Packet(PacketBytes),
-    /// The interrupt line of this number, below 8, is raised.
+    /// The interrupt line of this number, below `LINES`, is raised.
     Line(u8),
     /// An environment is asked for pages.
     Revoke {
-        /// Its number, at most 31.
+        /// Its number, at most `LAST_ENVIRONMENT`.
         env: u8,
-        /// How many, at most 4,096.
+        /// How many, at most `MOST_ASKED`.
         count: u32,
-        /// The ticks until the deadline, at most 4,194,304.
+        /// The ticks until the deadline, at most `MOST_TICKS`.
         grace: u32,
     },
 }
@@ -32,7 +33,7 @@ pub enum Occurrence {
 /// Something that happens at a time. Its limits hold of every value of this type.
 #[derive(Drop)]
 pub struct Event {
-    /// The tick at whose beginning it happens, at most 4,194,304.
+    /// The tick at whose beginning it happens, at most `MOST_TICKS`.
     pub time: u32,
     /// What happens.
     pub what: Occurrence,

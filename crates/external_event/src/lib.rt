@@ -7,6 +7,8 @@
 
 mod event;
 mod packet;
+mod sent;
 
 pub use event::{Event, LAST_ENVIRONMENT, LINES, MOST_ASKED, Occurrence};
 pub use packet::{LEAST_FRAME_SIZE, MOST_PACKET_SIZE, MOST_SENT, PacketBytes};
+pub use sent::SentPacket;

@@ -1,8 +1,8 @@
-pub mod Asks
-pub mod Atoms
-pub mod Bits
-pub mod Bytes
-pub mod Holding
-pub mod Lists
-pub mod Overlapping
-pub mod Tabling
+mod Asks
+mod Atoms
+mod Bits
+mod Bytes
+mod Holding
+mod Lists
+mod Overlapping
+mod Tabling

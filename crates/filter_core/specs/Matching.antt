@@ -11,7 +11,8 @@ field offset width packet = big_number width (drop offset packet)
 
 -- an atom matches a packet in which its field lies, if the field's bits under the mask are the value
 abbrev pub atom_matches : Atom → List ℕ → Bool
-atom_matches a packet = nat_le (a.offset + a.width) (length packet) && bit_and (field a.offset a.width packet) a.mask == a.value
+atom_matches a packet =
+    nat_le (a.offset + a.width) (length packet) && bit_and (field a.offset a.width packet) a.mask == a.value
 
 -- a filter matches a packet that each of its atoms matches
 abbrev pub matches : List Atom → List ℕ → Bool

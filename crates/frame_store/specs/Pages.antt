@@ -3,13 +3,6 @@ use Rattle.std.specs.Prelude.{ℕ, ◌+◌, List, [], ◌++◌, length, take, dr
 use Rattle.aegis_limits.specs.Limits.{page_size}
 use Rattle.byteorder.specs.Endian.{little_number, little_bytes}
 
--- how many pages there may be
-abbrev pub least_frames : ℕ
-least_frames = 16
-
-abbrev pub most_frames : ℕ
-most_frames = 4096
-
 -- a page of zeros
 abbrev pub zero_page : List ℕ
 zero_page = replicate page_size 0

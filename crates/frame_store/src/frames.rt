@@ -1,15 +1,15 @@
 //! The pages of physical memory, lent of one vector of all bytes.
 ghost use Rattle.std.specs.Prelude.{◌≡◌, ◌<◌, ◌≤◌, ◌+◌, ◌*◌, ◌%◌, length, IfOk};
-ghost use Rattle.aegis_limits.specs.Limits.{page_size};
+ghost use Rattle.aegis_limits.specs.Limits.{least_pages, most_frames, page_size};
 ghost use Rattle.std.specs.Borrow.{sem};
-ghost use Rattle.frame_store.specs.Pages.{least_frames, most_frames, zero_page, zeroed, page_at, with_page, after_put, word_at, word_bytes};
+ghost use Rattle.frame_store.specs.Pages.{zero_page, zeroed, page_at, with_page, after_put, word_at, word_bytes};
 
 use aegis_limits::{OutOfMemory, PAGE_SIZE};
 use byteorder::{ByteOrder, LittleEndian};
 use std::alloc::Global;
 use std::marker::Model;
 
-/// The pages of physical memory, from 16 to 4,096 of them, numbered from 0. Their bytes stand one behind another.
+/// The pages of physical memory, from `LEAST_PAGES` to `MOST_FRAMES` of them, numbered from 0. Their bytes stand one behind another.
 #[derive(Drop)]
 pub struct Frames {
     pages: u32,
@@ -39,9 +39,9 @@ impl Frames {
     ghost use Rattle.frame_store.specs.Lending.{LendsPage};
     ghost use Rattle.frame_store.specs.Memory.{IsOnePage};
 
-    /// So many pages of zeros, from 16 to 4,096. An `Err` says that there is no memory for them.
+    /// So many pages of zeros, from `LEAST_PAGES` to `MOST_FRAMES`. An `Err` says that there is no memory for them.
     pub fn new(alloc: Global, pages: u32) -> Result<Frames, OutOfMemory>
-        requires enough { least_frames ≤ pages }
+        requires enough { least_pages ≤ pages }
         requires within { pages ≤ most_frames }
         ensures { IfOk result (λ f. f ≡ zeroed pages) }
     {
@@ -49,16 +49,16 @@ impl Frames {
         Ok(Frames { pages, bytes })
     }
 
-    /// How many pages there are, from 16 to 4,096.
+    /// How many pages there are, from `LEAST_PAGES` to `MOST_FRAMES`.
     pub fn pages(&self) -> u32
         ensures count { result ≡ length self.now }
-        ensures least { least_frames ≤ result }
+        ensures least { least_pages ≤ result }
         ensures most { result ≤ most_frames }
     {
         self.pages
     }
 
-    /// The 4,096 bytes of the page with this number.
+    /// The bytes of the page with this number, `PAGE_SIZE` of them.
     pub fn page(&self, n: u32) -> &[u8]
         requires { n < length self.now }
         ensures bytes { result.now ≡ page_at self.now n }
@@ -68,7 +68,7 @@ impl Frames {
         &self.bytes[start..start + PAGE_SIZE]
     }
 
-    /// The 4,096 bytes of the page with this number, to be written. All other pages stay as they are.
+    /// The bytes of the page with this number, `PAGE_SIZE` of them, to be written. All other pages stay as they are.
     pub fn page_mut(&mut self, n: u32) -> &mut [u8]
         requires { n < length self.old }
         ensures* writes_back { sem 𝓛 (LendsPage self.entry n result) }
@@ -109,7 +109,7 @@ impl Frames {
         self.page_mut(n)[offset..offset + bytes.len()].copy_from_slice(bytes);
     }
 
-    /// The word at an offset in bytes, a multiple of 4 below 4,096: its lowest byte stands first.
+    /// The word at an offset in bytes, a multiple of 4 below `PAGE_SIZE`: its lowest byte stands first.
     pub fn word(&self, n: u32, offset: u32) -> u32
         requires there { n < length self.now }
         requires within { offset < page_size }
@@ -119,7 +119,7 @@ impl Frames {
         LittleEndian::read_u32(&self.page(n)[offset as usize..])
     }
 
-    /// Puts a word at an offset in bytes, a multiple of 4 below 4,096, its lowest byte first.
+    /// Puts a word at an offset in bytes, a multiple of 4 below `PAGE_SIZE`, its lowest byte first.
     pub fn set_word(&mut self, n: u32, offset: u32, value: u32)
         requires there { n < length self.old }
         requires within { offset < page_size }

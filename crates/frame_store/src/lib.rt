@@ -1,4 +1,4 @@
-//! Physical memory: a number of pages of 4,096 bytes, lent of one vector of all bytes.
+//! Physical memory: a number of pages of `PAGE_SIZE` bytes, lent of one vector of all bytes.
 //!
 //! `Frames` is seen as the list of its pages. Each call that writes says what becomes of one page,
 //! and that all others stay as they are. Words stand in a page with their lowest byte first.

@@ -23,7 +23,8 @@ mapping_in mappings stripe vpn = option_or (mapping_at mappings vpn) (option_map
 -- a mapping leads to its page, where physical memory has it
 abbrev pub look_through : List (List ℕ) → Option Mapping → Option Mapped
 look_through frames None = None
-look_through frames (Some m) = option_map (λ bytes. record { writable = m.writable; bytes = bytes }) (slice_get frames m.page)
+look_through frames (Some m) =
+    option_map (λ bytes. record { writable = m.writable; bytes = bytes }) (slice_get frames m.page)
 
 -- where a VPN leads by a look-up, which gives the mapping that it has, if it has one
 abbrev pub look : List (List ℕ) → (ℕ → Option Mapping) → ℕ → Option Mapped

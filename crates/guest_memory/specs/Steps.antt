@@ -16,7 +16,10 @@ abbrev pub next_step : (ℕ → Option Mapping) → Machine → Step
 next_step lookup m = guest_step m.frames lookup m.cpu
 
 abbrev pub stepped_by : (ℕ → Option Mapping) → Machine → Step → Machine
-stepped_by lookup m step = record { cpu = cpu_after m.cpu step; frames = frames_after m.frames lookup (write_after step) }
+stepped_by lookup m step = record {
+  cpu = cpu_after m.cpu step;
+  frames = frames_after m.frames lookup (write_after step);
+}
 
 -- the machine after so many steps
 abbrev pub after_steps : (ℕ → Option Mapping) → Machine → ℕ → Machine

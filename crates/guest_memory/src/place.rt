@@ -1,7 +1,7 @@
 //! The mapping that an access goes through, or what the access raises.
 ghost use Rattle.std.specs.Prelude.{◌≡◌, ◌+◌, ◌/◌, ◌%◌, ◌<◌, length, drop, None, MatchOption};
 ghost use Rattle.frame_store.specs.Pages.{page_at};
-ghost use Rattle.world_model.specs.Page.{address_error as address_error_of, miss as miss_of, reach, raised as raised_at, is_store as is_store_of};
+ghost use Rattle.world_model.specs.Page.{reach};
 ghost use Rattle.aegis_limits.specs.Limits.{page_size};
 ghost use Rattle.guest_memory.specs.Space.{lookup};
 ghost use Rattle.guest_memory.specs.Look.{look};
@@ -20,45 +20,6 @@ pub const PAGE_BYTES: u32 = PAGE_SIZE as u32;
 /// The first address that isn't a user's.
 pub(crate) const USER_END: u32 = 0x8000_0000;
 
-/// What an address outside user space raises.
-fn address_error(purpose: Purpose) -> ExcCode
-    ensures { result ≡ address_error_of purpose }
-{
-    match purpose {
-        Purpose::Fetch | Purpose::Load => ExcCode::Adel,
-        Purpose::Store => ExcCode::Ades,
-    }
-}
-
-/// What a VPN that leads nowhere raises.
-fn miss(purpose: Purpose) -> ExcCode
-    ensures { result ≡ miss_of purpose }
-{
-    match purpose {
-        Purpose::Fetch | Purpose::Load => ExcCode::Tlbl,
-        Purpose::Store => ExcCode::Tlbs,
-    }
-}
-
-fn is_store(purpose: Purpose) -> bool
-    ensures { result ≡ is_store_of purpose }
-{
-    match purpose {
-        Purpose::Fetch | Purpose::Load => false,
-        Purpose::Store => true,
-    }
-}
-
-fn raised(code: ExcCode, address: u32) -> Exc
-    ensures { result ≡ raised_at code address }
-{
-    Exc {
-        code,
-        bad: address,
-        unit: 0,
-    }
-}
-
 /// The mapping of a VPN, where physical memory has its page.
 pub(crate) fn mapping_of(frames: &Frames, space: &Space<'_>, vpn: u32) -> Option<Mapping>
     ensures { MatchOption result (look frames.now (lookup space.now) vpn ≡ None) (LeadsThrough frames.now (lookup space.now) vpn) }
@@ -76,13 +37,13 @@ pub fn locate(frames: &Frames, space: &Space<'_>, purpose: Purpose, va: u32) -> 
     ensures { Located frames.now (lookup space.now) (va / page_size) (reach (look frames.now (lookup space.now)) purpose va) result }
 {
     if va >= USER_END {
-        return Err(raised(address_error(purpose), va));
+        return Err(Exc::plain(purpose.address_error()).at(va));
     }
     let Some(mapping) = mapping_of(frames, space, va / PAGE_BYTES) else {
-        return Err(raised(miss(purpose), va));
+        return Err(Exc::plain(purpose.miss()).at(va));
     };
-    if is_store(purpose) && !mapping.writable {
-        return Err(raised(ExcCode::Mod, va));
+    if purpose.is_store() && !mapping.writable {
+        return Err(Exc::plain(ExcCode::Mod).at(va));
     }
     Ok(mapping)
 }

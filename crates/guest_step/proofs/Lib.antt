@@ -1,1 +1,1 @@
-pub mod OneMore
+mod OneMore

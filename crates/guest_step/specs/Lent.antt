@@ -12,7 +12,8 @@ answers_of frames space = answers_by (look frames (lookup space))
 
 -- physical memory once an environment stored these bytes at an address
 abbrev pub frames_with_store : List (List ℕ) → SpaceValue → ℕ → List ℕ → List (List ℕ)
-frames_with_store frames space address bytes = frames_after frames (lookup space) (Some (record { address = address; bytes = bytes }))
+frames_with_store frames space address bytes =
+    frames_after frames (lookup space) (Some (record { address = address; bytes = bytes }))
 
 -- it is the same memory that was lent, and nothing was stored
 pub record IsKept (old new : GuestBus) : Type 0 where

@@ -1,2 +1,2 @@
-pub mod Bad
-pub mod Words
+mod Bad
+mod Words

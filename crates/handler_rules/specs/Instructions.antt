@@ -4,8 +4,8 @@ use Rattle.std.specs.Option.{is_some}
 use Rattle.mips_isa.specs.declared.insn.Insn.{Insn}
 use Rattle.mips_isa.specs.declared.insn.Insn.TheVariants.{Sll, Srl, Sra, Sllv, Srlv, Srav, Addu, Subu, And, Or, Xor, Nor, Slt, Sltu, Addiu, Slti, Sltiu, Andi, Ori, Xori, Lui, Lb, Lbu, Lh, Lhu, Lw, Sb, Sh, Sw, Beq, Bne, Blez, Bgtz, Bltz, Bgez, Syscall, Break}
 
--- The instructions that are allowed: no jump, none that links, none that raises an exception on overflow, none of HI and
--- LO, no load or store of a part of a word at any address (LWL and its kin), and none of a coprocessor.
+-- The instructions that are allowed: no jump, none that links, none that raises an exception on overflow, none of HI
+-- and LO, no load or store of a part of a word at any address (LWL and its kin), and none of a coprocessor.
 unfoldable pub is_allowed : Insn → Bool
 is_allowed (Sll rd rt sh) = true
 is_allowed (Srl rd rt sh) = true
@@ -56,11 +56,11 @@ branch_offset (Bltz rs imm) = Some imm
 branch_offset (Bgez rs imm) = Some imm
 branch_offset _ = None
 
-abbrev pub is_branch : Insn → Bool
-is_branch insn = is_some (branch_offset insn)
+abbrev pub branches : Insn → Bool
+branches insn = is_some (branch_offset insn)
 
 -- a branch, a SYSCALL and a BREAK may not stand behind a branch, in its delay slot
 unfoldable pub is_barred_from_slots : Insn → Bool
 is_barred_from_slots (Syscall code) = true
 is_barred_from_slots (Break code) = true
-is_barred_from_slots insn = is_branch insn
+is_barred_from_slots insn = branches insn

@@ -42,4 +42,6 @@ pub record IsWithinLimits (page : List ℕ) (run : HandlerRun) : Type 0 where
 
 -- each run of a handler, verified or not, keeps within these limits
 abbrev pub RunsKeepLimits : Type 0
-RunsKeepLimits = (words packet page : List ℕ) (id : ℕ) → length page ≡ page_size → IsWithinLimits page (handler_run words packet id page)
+RunsKeepLimits =
+    (words packet page : List ℕ) (id : ℕ) → length page ≡ page_size
+    → IsWithinLimits page (handler_run words packet id page)

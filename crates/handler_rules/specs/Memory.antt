@@ -26,7 +26,8 @@ bytes_at start memory address size =
 
 -- the bytes that may be read: those of the packet, and those of the ring page
 abbrev pub readable_at : List ℕ → List ℕ → ℕ → ℕ → Option (List ℕ)
-readable_at packet page address size = option_or (bytes_at packet_start packet address size) (bytes_at page_start page address size)
+readable_at packet page address size =
+    option_or (bytes_at packet_start packet address size) (bytes_at page_start page address size)
 
 -- what is answered where there is something, and a bus error where there is nothing
 abbrev pub answer_or : {A B : Type 0} → ExcCode → (A → B) → Option A → Result B Exc

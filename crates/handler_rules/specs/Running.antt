@@ -67,7 +67,9 @@ replied state (Some reply) = goes_on (record state { cpu = advanced state.cpu; r
 
 -- a SYSCALL replies, if fewer than four replies were made
 abbrev pub after_call : HandlerState → Progress
-after_call state = if nat_lt (length state.replies) most_replies then replied state (reply_of state.cpu state.page) else ends Fault state
+after_call state =
+    if nat_lt (length state.replies) most_replies then replied state (reply_of state.cpu state.page)
+    else ends Fault state
 
 -- BREAK, and a fetch behind the last word, end it as done; every other exception is a fault
 abbrev pub end_by : ExcCode → HandlerEnd
@@ -83,7 +85,8 @@ after_step state (Trapped exc) = ends (end_by exc.code) state
 
 -- one instruction: the machine's step over the handler's memory
 abbrev pub handler_step : List ℕ → List ℕ → HandlerState → Progress
-handler_step words packet state = after_step state (step_of state.cpu (view_of (answers_of words packet state.page) state.cpu))
+handler_step words packet state =
+    after_step state (step_of state.cpu (view_of (answers_of words packet state.page) state.cpu))
 
 -- the run is over with this state
 abbrev pub run_of : HandlerState → HandlerEnd → HandlerRun

@@ -5,7 +5,7 @@ use Rattle.byte_numbers.specs.Numbers.{word_at}
 use Rattle.mips_isa.specs.declared.insn.Insn.{Insn}
 use Rattle.mips_isa.specs.Encoding.{insn_of}
 use Rattle.handler_rules.specs.declared.outcome.HandlerFault.{HandlerFault}
-use Rattle.handler_rules.specs.Instructions.{branch_offset, is_allowed, is_barred_from_slots, is_branch}
+use Rattle.handler_rules.specs.Instructions.{branch_offset, is_allowed, is_barred_from_slots, branches}
 
 -- how many words the longest handler has
 abbrev pub most_words : ℕ
@@ -18,20 +18,20 @@ insn_at words i = insn_of (slice_index words i)
 -- the word before word i is a branch
 abbrev pub follows_branch : List ℕ → ℕ → Bool
 follows_branch words zero = false
-follows_branch words (suc i) = is_branch (insn_at words i)
+follows_branch words (suc i) = branches (insn_at words i)
 
 -- the target of a branch that is word i: its offset, with its sign, from the word behind it on (0 where that lies
 -- before the first word)
-abbrev pub target_of : ℕ → ℕ → ℕ
-target_of i offset = if nat_lt offset (2 ^ 15) then i + 1 + offset else i + 1 - (2 ^ 16 - offset)
+abbrev pub target_word : ℕ → ℕ → ℕ
+target_word i offset = if nat_lt offset (2 ^ 15) then i + 1 + offset else i + 1 - (2 ^ 16 - offset)
 
 -- A branch is bad as the last word, with a target below i + 2, and with a target above the number of words.
 abbrev pub is_bad_branch : List ℕ → ℕ → Option ℕ → Bool
 is_bad_branch words i None = false
 is_bad_branch words i (Some offset) =
     i + 1 == length words
-    || nat_lt (target_of i offset) (i + 2)
-    || nat_lt (length words) (target_of i offset)
+    || nat_lt (target_word i offset) (i + 2)
+    || nat_lt (length words) (target_word i offset)
 
 -- Word i is bad if it isn't allowed, if it may not stand behind a branch and does, and as a bad branch.
 unfoldable pub is_bad_word : List ℕ → ℕ → Bool

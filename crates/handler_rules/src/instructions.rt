@@ -1,6 +1,6 @@
 //! The instructions that a handler may have.
 ghost use Rattle.std.specs.Prelude.{◌≡◌};
-ghost use Rattle.handler_rules.specs.Instructions.{branch_offset, is_allowed, is_barred_from_slots, is_branch};
+ghost use Rattle.handler_rules.specs.Instructions.{branch_offset, is_allowed, is_barred_from_slots, branches};
 
 use mips_isa::Insn;
 
@@ -49,7 +49,7 @@ pub(crate) fn branch_offset(insn: Insn) -> Option<u16>
 
 /// Whether it is a branch.
 pub(crate) fn is_branch(insn: Insn) -> bool
-    ensures { result ≡ is_branch insn }
+    ensures { result ≡ branches insn }
 {
     branch_offset(insn).is_some()
 }

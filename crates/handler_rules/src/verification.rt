@@ -1,6 +1,6 @@
 //! The bad words of a handler.
 ghost use Rattle.std.specs.Prelude.{◌≡◌, ◌<◌, ◌≤◌, length};
-ghost use Rattle.handler_rules.specs.Verification.{first_bad_below, follows_branch, insn_at, is_bad_branch, is_bad_word, most_words, target_of};
+ghost use Rattle.handler_rules.specs.Verification.{first_bad_below, follows_branch, insn_at, is_bad_branch, is_bad_word, most_words, target_word};
 
 use crate::instructions::{branch_offset, is_allowed, is_barred_from_slots, is_branch};
 use mips_codec::decode;
@@ -28,7 +28,7 @@ fn follows_branch(words: &[u32], at: usize) -> bool
 /// The target of a branch, counted in words; 0 where it lies before the first.
 fn target(at: usize, offset: u16) -> usize
     requires { at < most_words }
-    ensures { result ≡ target_of at offset }
+    ensures { result ≡ target_word at offset }
 {
     let behind = at + 1;
     if offset < FIRST_BACKWARD {

@@ -4,7 +4,7 @@ use Rattle.std.specs.Prelude.{◌==◌, not}
 use Rattle.std.specs.List.{list_all}
 use Rattle.std.proofs.lemmas.List.Folds.{list_all-append}
 use Rattle.line_text.specs.Text.{dec_text}
-use Rattle.asm_parse.specs.Expression.{number_of}
+use Rattle.asm_parse.specs.Expression.{literal_value}
 use Rattle.asm_parse.specs.Operand.{Based, operand_of}
 use Rattle.mips_list.specs.WordText.{signed_text}
 use Rattle.listing_law.proofs.OperandTexts.{number_value, expression_none, register_none, based_number, decimal_bytes}
@@ -14,7 +14,7 @@ use Rattle.listing_law.proofs.NumberTexts.{IsNumber, IsOperand, by_sign, is_plai
 abbrev bracketed : List ℕ → ℕ → List ℕ
 bracketed bs r = (bs ++ 40 ∷ []) ++ 36 ∷ (dec_text r ++ 41 ∷ [])
 
-signed_then : (half r : ℕ) → half < 2 ^ 16 → number_of (bracketed (signed_text half) r) ≡ None
+signed_then : (half r : ℕ) → half < 2 ^ 16 → literal_value (bracketed (signed_text half) r) ≡ None
 signed_then half r small = search (rules, append_assoc, by_sign, decimal_then, negative_then)
 
 signed_dollars : (half : ℕ) → half < 2 ^ 16 → list_all (λ b. not (b == 36)) (signed_text half ++ 40 ∷ []) ≡ true
@@ -25,7 +25,7 @@ plain_bracketed bs r plain small = search (rules, plain_alphanumeric, decimal_by
 
 -- a number that begins with none of the other forms, and a register in brackets behind it
 based_operand : (bs : List ℕ) (n r : ℕ) → IsNumber bs n → list_all (λ b. not (b == 36)) (bs ++ 40 ∷ []) ≡ true
-    → number_of (bracketed bs r) ≡ None → r < 32 → operand_of (bracketed bs r) ≡ Some (Based (number_value n) (Some r))
+    → literal_value (bracketed bs r) ≡ None → r < 32 → operand_of (bracketed bs r) ≡ Some (Based (number_value n) (Some r))
 unfolding operand_of
 based_operand [] n r number dollars none small = absurd cc
 based_operand (c ∷ cs) n r number dollars none small = search (rules, register_none, expression_none, based_number)

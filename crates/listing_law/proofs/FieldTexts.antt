@@ -25,5 +25,5 @@ field_text_read Branch word address = word_text_read (branch_target address (fie
 field_text_read Jump word address = word_text_read (jump_target address (field_of Jump word)) (omega arith)
 
 -- the assembler gets the field back
-pub field_back : (field : Field) (word address : ℕ) → address % 4 ≡ 0 → address + 4 < 2 ^ 32 → fields.field_of field address (field_value field word address) ≡ Ok (field_of field word)
+pub field_back : (field : Field) (word address : ℕ) → address % 4 ≡ 0 → address + 4 < 2 ^ 32 → fields.bits_of_field field address (field_value field word address) ≡ Ok (field_of field word)
 field_back field word address aligned below = search rules

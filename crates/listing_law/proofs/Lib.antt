@@ -1,11 +1,11 @@
-pub mod ArgTexts
-pub mod BasedTexts
-pub mod FieldTexts
-pub mod LineTexts
-pub mod Listings
-pub mod NumberTexts
-pub mod Numbers
-pub mod OperandTexts
-pub mod RowTexts
-pub mod Statements
-pub mod WordTexts
+mod ArgTexts
+mod BasedTexts
+mod FieldTexts
+mod LineTexts
+mod Listings
+mod NumberTexts
+mod Numbers
+mod OperandTexts
+mod RowTexts
+mod Statements
+mod WordTexts

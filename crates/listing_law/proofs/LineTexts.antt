@@ -14,7 +14,7 @@ use Rattle.line_text.specs.Characters.{is_blank, is_text_byte}
 use Rattle.asm_parse.specs.Bytes.{is_name_byte}
 use Rattle.asm_parse.specs.Operand.{OperandValue}
 use Rattle.asm_parse.specs.Words.{begins_name}
-use Rattle.asm_parse.specs.Form.{Piece, before_mark, behind, is_outside, body_named, body_of, label_of, line_of, operands_of, said, statement_of, trimmed}
+use Rattle.asm_parse.specs.Form.{Piece, before_mark, behind, is_outside, body_named, body_of, label_of, parsed_line, operands_of, said, statement_of, trimmed}
 use Rattle.asm_parse.specs.declared.syntax.AsmLine.{AsmLine}
 use Rattle.mips_list.specs.WordText.{after_name, marked}
 use Rattle.listing_law.proofs.Numbers.{differs, list_all_weaker}
@@ -157,14 +157,14 @@ add_zero : (n : ℕ) → n + 0 ≡ n
 add_zero n = omega arith
 
 line_from : (line : LineValue) (p : Piece) (statement : AsmLine) → list_all is_text_byte line.text ≡ true → said line ≡ p → (length p.bytes == 0) ≡ false
-    → statement_of line.number p ≡ Some statement → line_of line ≡ Some (Some statement)
-unfolding line_of
+    → statement_of line.number p ≡ Some statement → parsed_line line ≡ Some (Some statement)
+unfolding parsed_line
 line_from line p statement text is some reads = search rules
 
 -- a line that is an operation and its operands
 pub line_read : (number start : ℕ) (name : List ℕ) (ts : List (List ℕ)) (args : List ArgValue) → is_name name ≡ true → IsLine (name ++ after_name ts)
     → operands_of (record { start = start + length name; bytes = after_name ts }) ≡ Some args
-    → line_of (record { number = number; start = start; text = name ++ after_name ts })
+    → parsed_line (record { number = number; start = start; text = name ++ after_name ts })
     ≡ Some (Some (record { line = number; start = start; end = start + length (name ++ after_name ts); label = None; body = body_named name args }))
 line_read number start name ts args is line reads =
     let parts = and_parts (begins_name name) (list_all is_name_byte name) is in

@@ -23,6 +23,7 @@ use Rattle.listing_law.specs.Texts.{program_of_words, texts_from}
 use Rattle.listing_law.proofs.Numbers.{differs, differs_turned}
 use Rattle.listing_law.proofs.LineTexts.{IsLine, all_behind, is_said}
 use Rattle.listing_law.proofs.Statements.{text_is_line_of, text_is_one_line, word_statement}
+use Rattle.asm_layout.specs.Limits.{section_limit}
 
 -- Lines.
 
@@ -60,7 +61,7 @@ text_layout n placed = record { section = nothing_placed.section; text = n; data
 abbrev placed_at : ℕ → ℕ → Content → Placed
 placed_at n line content = record { line = line; section = nothing_placed.section; place = 0x00400000 + n; is_start = false; content = content }
 
-stated_at : (n : ℕ) (placed : List Placed) (line : LineValue) (bytes : List ℕ) (puts : Puts line (0x00400000 + n) bytes) → n % 4 ≡ 0 → n + 4 ≤ 1048576
+stated_at : (n : ℕ) (placed : List Placed) (line : LineValue) (bytes : List ℕ) (puts : Puts line (0x00400000 + n) bytes) → n % 4 ≡ 0 → n + 4 ≤ section_limit
     → stated puts.statement (text_layout n placed) ≡ Ok (text_layout (n + 4) (placed ++ placed_at n puts.statement.line puts.content ∷ []))
 unfolding stated acted
 stated_at n placed line bytes puts aligned room = search rules
@@ -68,7 +69,7 @@ stated_at n placed line bytes puts aligned room = search rules
 due_is : (line : LineValue) (address : ℕ) (bytes : List ℕ) (puts : Puts line address bytes) → due_of line ≡ Ok (Some puts.statement)
 due_is line address bytes puts = rw (puts.is) refl
 
-laid_first : (n : ℕ) (placed : List Placed) (line : LineValue) (lines : List LineValue) (bytes : List ℕ) (puts : Puts line (0x00400000 + n) bytes) → n % 4 ≡ 0 → n + 4 ≤ 1048576
+laid_first : (n : ℕ) (placed : List Placed) (line : LineValue) (lines : List LineValue) (bytes : List ℕ) (puts : Puts line (0x00400000 + n) bytes) → n % 4 ≡ 0 → n + 4 ≤ section_limit
     → laid_from (text_layout n placed) (line ∷ lines) ≡ laid_from (text_layout (n + 4) (placed ++ placed_at n puts.statement.line puts.content ∷ [])) lines
 laid_first n placed line lines bytes puts aligned room = rw (due_is line (0x00400000 + n) bytes puts, stated_at n placed line bytes puts aligned room) refl
 
@@ -99,7 +100,7 @@ laid_step n word words placed line puts all rest first behind =
           ∙ ap (λ bytes. Ok (text_alone bytes)) (append_assoc front (to_le_bytes w32 word) (flat_map (to_le_bytes w32) words));
     }
 
-laid_words : (words : List ℕ) (number start n : ℕ) (placed : List Placed) → AllByRecursion (λ word. word < 2 ^ 32) words → n % 4 ≡ 0 → n + 4 * length words ≤ 1048576
+laid_words : (words : List ℕ) (number start n : ℕ) (placed : List Placed) → AllByRecursion (λ word. word < 2 ^ 32) words → n % 4 ≡ 0 → n + 4 * length words ≤ section_limit
     → LaidOn n words placed (laid_from (text_layout n placed) (lines_from number start (pieces_of (texts_from (0x00400000 + n) words))))
 laid_words [] number start n placed small aligned room = search rules
 laid_words (word ∷ words) number start n placed small aligned room =
@@ -132,7 +133,7 @@ word_assembled word small =
     assembled_laid text (word ∷ []) (laid_step 0 word [] [] line puts _ _ first none) refl
 
 -- the texts of words assemble to the program of the words
-pub words_assembled : (words : List ℕ) → AllByRecursion (λ word. word < 2 ^ 32) words → 0 < length words → 4 * length words ≤ 1048576
+pub words_assembled : (words : List ℕ) → AllByRecursion (λ word. word < 2 ^ 32) words → 0 < length words → 4 * length words ≤ section_limit
     → assembled (texts_from 0x00400000 words) ≡ Ok (program_of_words words)
 unfolding laid
 words_assembled words small some room = search (rules, assembled_laid, laid_words, nat_tests)

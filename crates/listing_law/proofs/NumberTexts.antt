@@ -9,7 +9,7 @@ use Rattle.std.specs.Char.{is_ascii_alphanumeric}
 use Rattle.std.proofs.lemmas.List.Folds.{list_all-append}
 use Rattle.line_text.specs.Number.{numeral_of}
 use Rattle.line_text.specs.Text.{dec_text, hex_text}
-use Rattle.asm_parse.specs.Expression.{negated, number_of}
+use Rattle.asm_parse.specs.Expression.{negated, literal_value}
 use Rattle.asm_parse.specs.Operand.{OperandValue, Register, Value, operand_of}
 use Rattle.mips_list.specs.WordText.{hexadecimal, signed_text}
 use Rattle.listing_law.proofs.Numbers.{list_all_weaker, is_decimal, digit_range, decimal_digits, decimal_some, number_decimal, number_negative, number_hexadecimal, numeral_word, numeral_half, hex_bytes, number_digits}
@@ -29,7 +29,7 @@ pub record IsOperand (bs : List ℕ) (operand : OperandValue) : Type 0 where
 pub record IsNumber (bs : List ℕ) (n : ℕ) : Type 0 where
   pub begins : begins_number (get_or bs 0 0) ≡ true
   pub plain : list_all is_plain bs ≡ true
-  pub reads : number_of bs ≡ Some n
+  pub reads : literal_value bs ≡ Some n
 
 alphanumeric_plain : (b : ℕ) → is_ascii_alphanumeric b ≡ true → is_plain b ≡ true
 alphanumeric_plain b is = grind (arith, nat_tests)
@@ -91,9 +91,9 @@ no_dollars bs all = rw (list_all-append (λ b. not (b == 36)) bs (40 ∷ []), li
 numeral_none : (most : ℕ) (ds rest : List ℕ) → numeral_of 10 most (ds ++ 40 ∷ rest) ≡ None
 numeral_none most ds rest = rw (list_all-append is_decimal ds (40 ∷ rest), and-false (list_all is_decimal ds), and-false (nat_lt 0 (length (ds ++ 40 ∷ rest)))) refl
 
-pub decimal_then : (n : ℕ) (rest : List ℕ) → n < 2 ^ 64 → number_of (dec_text n ++ 40 ∷ rest) ≡ None
+pub decimal_then : (n : ℕ) (rest : List ℕ) → n < 2 ^ 64 → literal_value (dec_text n ++ 40 ∷ rest) ≡ None
 decimal_then n rest wide = number_digits n (40 ∷ rest) wide refl ∙ numeral_none (2 ^ 32 - 1) (dec_text n) rest
 
-pub negative_then : (n : ℕ) (rest : List ℕ) → number_of (45 ∷ (dec_text n ++ 40 ∷ rest)) ≡ None
-unfolding number_of
+pub negative_then : (n : ℕ) (rest : List ℕ) → literal_value (45 ∷ (dec_text n ++ 40 ∷ rest)) ≡ None
+unfolding literal_value
 negative_then n rest = rw (numeral_none (2 ^ 31) (dec_text n) rest) refl

@@ -17,7 +17,7 @@ use Rattle.std.proofs.lemmas.List.{length-append}
 use Rattle.line_text.specs.Number.{numeral_of}
 use Rattle.line_text.specs.Text.{dec_text, hex_text}
 use Rattle.line_text.proofs.HexLemmas.{hex_more}
-use Rattle.asm_parse.specs.Expression.{negated, number_of}
+use Rattle.asm_parse.specs.Expression.{negated, literal_value}
 
 -- a byte that passes a test is none that fails it
 pub differs : (test : ℕ → Bool) (b c : ℕ) → test b ≡ true → test c ≡ false → (b == c) ≡ false
@@ -122,19 +122,19 @@ not_signed [] rest all some = absurd (omega arith)
 not_signed (c ∷ cs) rest all some = rw (differs_turned is_decimal c 45 (and_parts (is_decimal c) (list_all is_decimal cs) all).0 refl) refl
 
 -- so they are read as a decimal numeral
-pub number_digits : (n : ℕ) (rest : List ℕ) → n < 2 ^ 64 → (120 == get_or rest 0 0) ≡ false → number_of (dec_text n ++ rest) ≡ numeral_of 10 (2 ^ 32 - 1) (dec_text n ++ rest)
-unfolding number_of
+pub number_digits : (n : ℕ) (rest : List ℕ) → n < 2 ^ 64 → (120 == get_or rest 0 0) ≡ false → literal_value (dec_text n ++ rest) ≡ numeral_of 10 (2 ^ 32 - 1) (dec_text n ++ rest)
+unfolding literal_value
 number_digits n rest small other = search (rules, decimal_digits, decimal_some, not_hexadecimal, not_signed)
 
-pub number_decimal : (n : ℕ) → n < 2 ^ 32 → number_of (dec_text n) ≡ Some n
+pub number_decimal : (n : ℕ) → n < 2 ^ 32 → literal_value (dec_text n) ≡ Some n
 number_decimal n small =
     let wide : n < 2 ^ 64 = omega arith in
     (rw append-nil at (number_digits n [] wide refl)) ∙ numeral_decimal (2 ^ 32 - 1) n wide (omega arith)
 
-pub number_negative : (n : ℕ) → n ≤ 2 ^ 31 → number_of (45 ∷ dec_text n) ≡ Some (negated n)
-unfolding number_of
+pub number_negative : (n : ℕ) → n ≤ 2 ^ 31 → literal_value (45 ∷ dec_text n) ≡ Some (negated n)
+unfolding literal_value
 number_negative n within = let wide : n < 2 ^ 64 = omega arith in rw (numeral_decimal (2 ^ 31) n wide within) refl
 
-pub number_hexadecimal : (hs : List ℕ) (n : ℕ) → numeral_of 16 (2 ^ 32 - 1) hs ≡ Some n → number_of (codes "0x" ++ hs) ≡ Some n
-unfolding number_of
+pub number_hexadecimal : (hs : List ℕ) (n : ℕ) → numeral_of 16 (2 ^ 32 - 1) hs ≡ Some n → literal_value (codes "0x" ++ hs) ≡ Some n
+unfolding literal_value
 number_hexadecimal hs n is = is

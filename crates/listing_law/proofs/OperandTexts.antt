@@ -11,7 +11,7 @@ use Rattle.std.specs.Char.{is_ascii_alphanumeric}
 use Rattle.std.proofs.lemmas.List.{take_at, drop_at, length-append}
 use Rattle.line_text.specs.Text.{dec_text}
 use Rattle.asm_parse.specs.Bytes.{is_name_start}
-use Rattle.asm_parse.specs.Expression.{ExpressionValue, Number, expression_of, halves_opened, inner_of, number_of, without_closings}
+use Rattle.asm_parse.specs.Expression.{ExpressionValue, Number, expression_of, halves_opened, inner_of, literal_value, without_closings}
 use Rattle.asm_parse.specs.Operand.{OperandValue, Register, Value, Based, based_of, operand_of, offset_of}
 use Rattle.asm_parse.specs.Register.{number_of_register, register_of}
 use Rattle.asm_parse.specs.Words.{is_register}
@@ -41,15 +41,15 @@ sub_zero n = omega arith
 closings_none : (bs : List ℕ) → without_closings 0 bs ≡ Some bs
 closings_none bs = search (rules, sub_zero, le-leb, drop-length, take-length)
 
-inner_number : (c : ℕ) (cs : List ℕ) → begins_number c ≡ true → inner_of (c ∷ cs) ≡ option_map (λ n. Number n) (number_of (c ∷ cs))
+inner_number : (c : ℕ) (cs : List ℕ) → begins_number c ≡ true → inner_of (c ∷ cs) ≡ option_map (λ n. Number n) (literal_value (c ∷ cs))
 unfolding inner_of
 inner_number c cs is = rw (no_name c is) refl
 
-pub expression_number : (c : ℕ) (cs : List ℕ) (n : ℕ) → begins_number c ≡ true → number_of (c ∷ cs) ≡ Some n → expression_of (c ∷ cs) ≡ Some (number_value n)
+pub expression_number : (c : ℕ) (cs : List ℕ) (n : ℕ) → begins_number c ≡ true → literal_value (c ∷ cs) ≡ Some n → expression_of (c ∷ cs) ≡ Some (number_value n)
 unfolding expression_of
 expression_number c cs n is reads = rw (opened_none c cs is, closings_none (c ∷ cs), inner_number c cs is, reads) refl
 
-pub expression_none : (c : ℕ) (cs : List ℕ) → begins_number c ≡ true → number_of (c ∷ cs) ≡ None → expression_of (c ∷ cs) ≡ None
+pub expression_none : (c : ℕ) (cs : List ℕ) → begins_number c ≡ true → literal_value (c ∷ cs) ≡ None → expression_of (c ∷ cs) ≡ None
 unfolding expression_of
 expression_none c cs is none = rw (opened_none c cs is, closings_none (c ∷ cs), inner_number c cs is, none) refl
 
@@ -57,7 +57,7 @@ pub register_none : (c : ℕ) (cs : List ℕ) → begins_number c ≡ true → i
 register_none c cs is = rw (differs begins_number c 36 is refl) refl
 
 -- a number is an operand
-pub operand_number : (c : ℕ) (cs : List ℕ) (n : ℕ) → begins_number c ≡ true → number_of (c ∷ cs) ≡ Some n → operand_of (c ∷ cs) ≡ Some (Value (number_value n))
+pub operand_number : (c : ℕ) (cs : List ℕ) (n : ℕ) → begins_number c ≡ true → literal_value (c ∷ cs) ≡ Some n → operand_of (c ∷ cs) ≡ Some (Value (number_value n))
 unfolding operand_of
 operand_number c cs n is reads = rw (register_none c cs is, expression_number c cs n is reads) refl
 
@@ -117,7 +117,7 @@ unfolding based_read
 based_ends offset register is = rw (ends_at offset 40 refl, ends_at register 41 refl, without_last register 41, without_last offset 40, is) refl
 
 -- what is read of a number with a register behind it in brackets
-pub based_number : (c : ℕ) (cs : List ℕ) (n r : ℕ) → begins_number c ≡ true → list_all (λ b. not (b == 36)) ((c ∷ cs) ++ 40 ∷ []) ≡ true → number_of (c ∷ cs) ≡ Some n → r < 32
+pub based_number : (c : ℕ) (cs : List ℕ) (n r : ℕ) → begins_number c ≡ true → list_all (λ b. not (b == 36)) ((c ∷ cs) ++ 40 ∷ []) ≡ true → literal_value (c ∷ cs) ≡ Some n → r < 32
     → based_of (((c ∷ cs) ++ 40 ∷ []) ++ 36 ∷ (dec_text r ++ 41 ∷ [])) ≡ Some (Based (number_value n) (Some r))
 based_number c cs n r is none reads small =
     based_cut ((c ∷ cs) ++ 40 ∷ []) (dec_text r ++ 41 ∷ []) none

@@ -6,7 +6,7 @@ use Rattle.std.specs.List.{find, list_all, starts_with}
 use Rattle.std.proofs.lemmas.Slice.Eq.{bytes_eq-Decides}
 use Rattle.std.specs.Map.{lookup}
 use Rattle.std.specs.Str.{bytes_eq}
-use Rattle.mips_text.specs.Texts.{TextValue, further_rows, text_of}
+use Rattle.mips_text.specs.Texts.{TextValue, further_rows, instruction_text}
 use Rattle.mips_text.specs.WordRows.{main_rows, operand_bits, row_of, spells}
 use Rattle.listing_law.proofs.LineTexts.{is_name}
 use Rattle.listing_law.proofs.WordTexts.{is_one_word}
@@ -54,11 +54,11 @@ pub record IsRowOf (word : ℕ) (row : List ℕ × TextValue) : Type 0 where
   pub name : is_name row.0 ≡ true
   pub no_directive : starts_with nat_eq row.0 (codes ".") ≡ false
   pub one_word : is_one_word row.1.operands ≡ true
-  pub text : text_of row.0 ≡ Some row.1
+  pub text : instruction_text row.0 ≡ Some row.1
   pub whole : word ≡ row.1.word + operand_bits row.1.operands word
 
 pub row_found : (word : ℕ) (row : List ℕ × TextValue) → row_of word ≡ Some row → IsRowOf word row
-unfolding row_of text_of
+unfolding row_of instruction_text
 row_found word row found =
     let test : List ℕ × TextValue → Bool = λ r. spells r.1 word in
     let holds = find_holds is_instruction test main_rows row refl found in

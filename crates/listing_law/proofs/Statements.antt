@@ -12,7 +12,7 @@ use Rattle.asm_parse.specs.declared.fault.AsmWhy.{AsmWhy}
 use Rattle.asm_parse.specs.declared.fault.AsmWhy.TheVariants.{UnknownName}
 use Rattle.asm_parse.specs.declared.syntax.AsmBody.TheVariants as bodies
 use Rattle.mips_isa.specs.Encoding.{insn_of}
-use Rattle.mips_text.specs.Texts.{TextValue, text_of}
+use Rattle.mips_text.specs.Texts.{TextValue, instruction_text}
 use Rattle.mips_text.specs.WordRows.{is_nameless, row_of}
 use Rattle.mips_text.proofs.NamedWords.{nameless_rows}
 use Rattle.mips_list.specs.WordText.{after_name, data_text, hexadecimal, operand_texts, row_text, text_by, word_text}
@@ -36,7 +36,7 @@ use Rattle.listing_law.proofs.WordTexts.{Makes, makes_word, operand_values, text
 named_op : (name : List ℕ) (args : List ArgValue) → starts_with nat_eq name (codes ".") ≡ false → body_named name args ≡ bodies.Op name args
 named_op name args is = rw is refl
 
-asks_instruction : (name : List ℕ) (args : List ArgValue) (text : TextValue) (os : List OperandValue) (word address : ℕ) → text_of name ≡ Some text → operands_in args ≡ os
+asks_instruction : (name : List ℕ) (args : List ArgValue) (text : TextValue) (os : List OperandValue) (word address : ℕ) → instruction_text name ≡ Some text → operands_in args ≡ os
     → (makes : Makes (draft_of text os) word address) → action_of nothing_placed.section (bodies.Op name args) ≡ Ok (Put (Instruction makes.made))
 unfolding action_of
 asks_instruction name args text os word address named reads makes = rw (named, reads, makes.is) refl

@@ -13,7 +13,7 @@ use Rattle.mips_text.specs.declared.shape.OperandForm.TheVariants as operands
 use Rattle.mips_text.specs.declared.shape.Slot.{Slot}
 use Rattle.mips_text.specs.declared.shape.Slot.TheVariants.{Rs}
 use Rattle.mips_list.specs.WordText.{based_text, field_text, is_written, operand_text, operand_texts}
-use Rattle.mips_asm.specs.Words.{filled_words, words_of}
+use Rattle.mips_asm.specs.Words.{filled_words, encoded_words}
 use Rattle.asm_layout.specs.Content.{draft_length}
 use Rattle.asm_layout.specs.Draft.{Draft, Reading, Whole, Filled, draft_of, read_operands}
 use Rattle.asm_layout.specs.Value.{Names, value_of}
@@ -69,14 +69,14 @@ pub record Makes (draft : Result Draft AsmWhy) (word address : ℕ) : Type 0 whe
   pub made : Draft
   pub is : draft ≡ Ok made
   pub size : draft_length made ≡ 4
-  pub words : (names : Names) → words_of names address made ≡ Ok (word ∷ [])
+  pub words : (names : Names) → encoded_words names address made ≡ Ok (word ∷ [])
 
 -- the same of what is read
 record Reads (reading : Result Reading AsmWhy) (word address : ℕ) : Type 0 where
   made : Draft
   is : reading ≡ Ok (record { word = Some made.word; filling = made.filling })
   size : draft_length made ≡ 4
-  words : (names : Names) → words_of names address made ≡ Ok (word ∷ [])
+  words : (names : Names) → encoded_words names address made ≡ Ok (word ∷ [])
 
 whole : (reading : Result Reading AsmWhy) (w word address : ℕ) → reading ≡ Ok (record { word = Some w; filling = Whole }) → w ≡ word → Reads reading word address
 unfolding filled_words

@@ -1,7 +1,7 @@
 -- A line that is one statement without a label.
 use Rattle.std.specs.Prelude.{◌≡◌, ℕ, List, Some, None, Ok}
 use Rattle.line_text.specs.Lines.{LineValue}
-use Rattle.asm_parse.specs.Form.{line_of}
+use Rattle.asm_parse.specs.Form.{parsed_line}
 use Rattle.asm_parse.specs.declared.syntax.AsmLine.{AsmLine}
 use Rattle.asm_layout.specs.Action.{Put, action_of}
 use Rattle.asm_layout.specs.Content.{Content, alignment, content_length}
@@ -14,7 +14,7 @@ use Rattle.mips_asm.specs.Emission.{bytes_of}
 pub record Puts (line : LineValue) (address : ℕ) (bytes : List ℕ) : Type 0 where
   pub statement : AsmLine
   pub content : Content
-  pub is : line_of line ≡ Some (Some statement)
+  pub is : parsed_line line ≡ Some (Some statement)
   pub unlabelled : statement.label ≡ None
   -- a source begins in the text
   pub asks : action_of nothing_placed.section statement.body ≡ Ok (Put content)

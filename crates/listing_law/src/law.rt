@@ -3,7 +3,8 @@ ghost use Rattle.std.specs.Prelude.{◌≡◌, ℕ, ◌+◌, ◌*◌, ◌<◌, �
 ghost use Rattle.std.specs.List.{AllByRecursion};
 ghost use Rattle.std.specs.Int.{to_le_bytes, w32};
 ghost use Rattle.asm_layout.specs.declared.section.Section.TheVariants.{Text};
-ghost use Rattle.asm_layout.specs.Layout.{base_of, section_limit};
+ghost use Rattle.asm_layout.specs.Layout.{base_of};
+ghost use Rattle.asm_layout.specs.Limits.{section_limit};
 ghost use Rattle.mips_asm.specs.Assembled.{assembled};
 ghost use Rattle.mips_list.specs.WordText.{word_text};
 ghost use Rattle.listing_law.specs.OneWord.{one_word};

@@ -1,1 +1,1 @@
-pub mod Sureness
+mod Sureness

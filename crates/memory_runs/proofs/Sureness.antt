@@ -12,13 +12,13 @@ use Rattle.memory_runs.specs.declared.sink.MemorySink.{MemorySink}
 use Rattle.commands.specs.declared.status.Status.{Status}
 use Rattle.commands.specs.declared.status.Status.TheVariants as status
 use Rattle.commands.specs.Command.{CommandValue, names_of}
-use Rattle.commands.specs.Due.{Due, status_of, text_of}
+use Rattle.commands.specs.Due.{Due, status_of, due_text}
 use Rattle.commands.specs.Edges.{ShelfEdge, SinkEdge}
 use Rattle.commands.specs.Files.{AreRead, AreTold, IsServed, names_so_far, next_name}
 use Rattle.commands.specs.Outcome.{IsOutcome, Outcome, Wrote}
-use Rattle.aegis_command.specs.Headline.{IsDenied, IsGiven, IsTaken, IsWanting, IsWritten}
+use Rattle.aegis_command.specs.Headline.{IsDenied, IsGiven, TakesAll, IsWanting, IsWritten}
 use Rattle.aegis_command.proofs.Completeness.{told_due}
-use Rattle.memory_runs.specs.InMemory.{IsRefused, IsSure, IsWithinLimit, IsWanting as IsWantingInMemory, IsWritten as IsWrittenInMemory}
+use Rattle.memory_runs.specs.InMemory.{IsRefusedInMemory, IsSureInMemory, IsWithinLimit, IsWantingInMemory as IsWantingInMemory, IsWrittenInMemory as IsWrittenInMemory}
 
 -- A shelf that has a command's files is sure to serve them.
 
@@ -68,15 +68,15 @@ served c shelf s contents is_told is_sure calm told short = λ read are.
 
 -- what was written whole is what is due
 written : (c : CommandValue) (s : ShelfEdge) (k : SinkEdge) (result : Status) (contents : List (List ℕ)) (due : Due) → AreTold s.told (names_of c contents) contents → c.due contents ≡ Some due → Wrote c s k result
-    → IsWritten (status_of due) (text_of due) k result ⊎ IsWanting k result
+    → IsWritten (status_of due) (due_text due) k result ⊎ IsWanting k result
 written c s k result contents due told is w =
     let decided = told_due c s w.0 contents told in
     let one : w.0.due ≡ due = cc in
-    inl (sym w.1 ∙ ap status_of one, subst (λ (d : Due). Appends k.written_before k.written_after (text_of d)) one w.2.appended)
+    inl (sym w.1 ∙ ap status_of one, subst (λ (d : Due). Appends k.written_before k.written_after (due_text d)) one w.2.appended)
 
 -- what is due was written, or memory was wanting, where neither fault can be
 pub ends_sure : (c : CommandValue) (s : ShelfEdge) (k : SinkEdge) (result : Status) (contents : List (List ℕ)) (due : Due) → Outcome c s k result → AreTold s.told (names_of c contents) contents → c.due contents ≡ Some due
-    → result ≢ status.ReadFault → result ≢ status.WriteFault → IsWritten (status_of due) (text_of due) k result ⊎ IsWanting k result
+    → result ≢ status.ReadFault → result ≢ status.WriteFault → IsWritten (status_of due) (due_text due) k result ⊎ IsWanting k result
 ends_sure c s k status.Done contents due w told is no_read no_write = written c s k status.Done contents due told is w
 ends_sure c s k status.Found contents due w told is no_read no_write = written c s k status.Found contents due told is w
 ends_sure c s k status.Usage contents due w told is no_read no_write = absurd w
@@ -101,14 +101,14 @@ in_memory k before after result intended text was is (inr w) =
 
 -- Where the files are there and there is room, what is due is written.
 pub sure : (words : Option CommandValue) (s : ShelfEdge) (k : SinkEdge) (shelf : MemoryShelf) (before after : MemorySink) (result : Status) → s.told ≡ Some (file_named shelf.files.items) → s.Serves ≡ IsSureOf shelf → k.Takes ≡ HasRoomFor before
-    → k.written_before ≡ Some before.bytes.items → k.written_after ≡ Some after.bytes.items → IsOutcome words s k result → IsGiven words s result → IsTaken words s k result → IsSure words shelf before after result
+    → k.written_before ≡ Some before.bytes.items → k.written_after ≡ Some after.bytes.items → IsOutcome words s k result → IsGiven words s result → TakesAll words s k result → IsSureInMemory words shelf before after result
 sure words s k shelf before after result is_told is_sure takes was is outcome given taken = λ c contents due named calm there is_due room.
     let told : AreTold s.told (names_of c contents) contents = subst (λ (t : Option (List ℕ → Option (List ℕ))). AreTold t (names_of c contents) contents) (sym is_told) there.told in
     let all = served c shelf s contents is_told is_sure calm there.told there.short in
     let no_read = of_words (λ d. IsServed (names_of d) s → result ≢ status.ReadFault) words c named given all in
-    let takes_all : k.Takes (length (text_of due)) = subst (λ (P : ℕ → Type 0). P (length (text_of due))) (sym takes) room in
-    let no_write = subst (λ (o : Option CommandValue). IsTaken o s k result) named taken contents due told is_due takes_all in
-    in_memory k before after result (status_of due) (text_of due) was is (ends_sure c s k result contents due (of_words (λ d. Outcome d s k result) words c named outcome) told is_due no_read no_write)
+    let takes_all : k.Takes (length (due_text due)) = subst (λ (P : ℕ → Type 0). P (length (due_text due))) (sym takes) room in
+    let no_write = subst (λ (o : Option CommandValue). TakesAll o s k result) named taken contents due told is_due takes_all in
+    in_memory k before after result (status_of due) (due_text due) was is (ends_sure c s k result contents due (of_words (λ d. Outcome d s k result) words c named outcome) told is_due no_read no_write)
 
 -- a call that ends by a fault of reading, or for want of memory, wrote nothing
 unwritten : (c : CommandValue) (s : ShelfEdge) (k : SinkEdge) (result : Status) → Outcome c s k result → (result ≡ status.ReadFault) ⊎ (result ≡ status.OutOfMemory) → k.written_after ≡ k.written_before
@@ -117,7 +117,7 @@ unwritten c s k result outcome (inr is) = let w : Outcome c s k status.OutOfMemo
 
 -- Where the first read is set to fail, nothing is written.
 pub refused : (words : Option CommandValue) (s : ShelfEdge) (k : SinkEdge) (shelf : MemoryShelf) (before after : MemorySink) (result : Status) → (is_set_to_fail shelf ≡ true → s.Refuses)
-    → k.written_before ≡ Some before.bytes.items → k.written_after ≡ Some after.bytes.items → IsOutcome words s k result → IsDenied words s result → IsRefused words shelf before after result
+    → k.written_before ≡ Some before.bytes.items → k.written_after ≡ Some after.bytes.items → IsOutcome words s k result → IsDenied words s result → IsRefusedInMemory words shelf before after result
 refused words s k shelf before after result refuses was is outcome denied = λ c named some set.
     let ended = of_words (λ d. s.Refuses → 1 ≤ length d.names → (result ≡ status.ReadFault) ⊎ (result ≡ status.OutOfMemory)) words c named denied (refuses set) some in
     let nothing = unwritten c s k result (of_words (λ d. Outcome d s k result) words c named outcome) ended in

@@ -9,7 +9,7 @@ use Rattle.memory_runs.specs.declared.sink.MemorySink.{MemorySink}
 use Rattle.commands.specs.declared.status.Status.{Status}
 use Rattle.commands.specs.declared.status.Status.TheVariants as status
 use Rattle.commands.specs.Command.{CommandValue, names_of}
-use Rattle.commands.specs.Due.{Due, status_of, text_of}
+use Rattle.commands.specs.Due.{Due, status_of, due_text}
 use Rattle.commands.specs.Files.{AreRead}
 use Rattle.memory_runs.specs.declared.running.Output.{Output}
 
@@ -23,25 +23,27 @@ pub record AreThere (shelf : MemoryShelf) (names contents : List (List ℕ)) : T
   pub short : AllByRecursion IsWithinLimit contents
 
 -- no memory was found, and nothing was written
-abbrev pub IsWanting : (before after : MemorySink) → Status → Type 0
-IsWanting before after result = (result ≡ status.OutOfMemory) × (after.bytes.items ≡ before.bytes.items)
+abbrev pub IsWantingInMemory : (before after : MemorySink) → Status → Type 0
+IsWantingInMemory before after result = (result ≡ status.OutOfMemory) × (after.bytes.items ≡ before.bytes.items)
 
 -- the text was written whole, with this status
-abbrev pub IsWritten : Status → List ℕ → (before after : MemorySink) → Status → Type 0
-IsWritten intended text before after result = (result ≡ intended) × (after.bytes.items ≡ before.bytes.items ++ text)
+abbrev pub IsWrittenInMemory : Status → List ℕ → (before after : MemorySink) → Status → Type 0
+IsWrittenInMemory intended text before after result =
+    (result ≡ intended) × (after.bytes.items ≡ before.bytes.items ++ text)
 
 -- Where no call is set to fail, the files of a command are there and short enough, and there is room for what is due,
 -- this is written whole with its status, or memory was wanting.
-abbrev pub IsSure : Option CommandValue → MemoryShelf → (before after : MemorySink) → Status → Type 0
-IsSure words shelf before after result =
+abbrev pub IsSureInMemory : Option CommandValue → MemoryShelf → (before after : MemorySink) → Status → Type 0
+IsSureInMemory words shelf before after result =
     (command : CommandValue) (contents : List (List ℕ)) (due : Due) → words ≡ Some command → shelf.fails.items ≡ [] →
-    AreThere shelf (names_of command contents) contents → command.due contents ≡ Some due → HasRoomFor before (length (text_of due)) →
-    IsWritten (status_of due) (text_of due) before after result ⊎ IsWanting before after result
+    AreThere shelf (names_of command contents) contents → command.due contents ≡ Some due
+    → HasRoomFor before (length (due_text due)) →
+    IsWrittenInMemory (status_of due) (due_text due) before after result ⊎ IsWantingInMemory before after result
 
 -- Where the first read is set to fail, the program ends with a fault of reading, or for want of memory, and nothing was
 -- written.
-abbrev pub IsRefused : Option CommandValue → MemoryShelf → (before after : MemorySink) → Status → Type 0
-IsRefused words shelf before after result =
+abbrev pub IsRefusedInMemory : Option CommandValue → MemoryShelf → (before after : MemorySink) → Status → Type 0
+IsRefusedInMemory words shelf before after result =
     (command : CommandValue) → words ≡ Some command → 1 ≤ length command.names → is_set_to_fail shelf ≡ true →
     ((result ≡ status.ReadFault) ⊎ (result ≡ status.OutOfMemory)) × (after.bytes.items ≡ before.bytes.items)
 
@@ -51,5 +53,6 @@ abbrev pub HasAnswer : Option CommandValue → List File → ℕ → Output → 
 HasAnswer words files room output =
     (command : CommandValue) (contents : List (List ℕ)) (due : Due) → words ≡ Some command →
     AreRead (Some (file_named files)) (names_of command contents) contents → AllByRecursion IsWithinLimit contents →
-    command.due contents ≡ Some due → length (text_of due) ≤ room →
-    ((output.status ≡ status_of due) × (output.bytes.items ≡ text_of due)) ⊎ ((output.status ≡ status.OutOfMemory) × (output.bytes.items ≡ []))
+    command.due contents ≡ Some due → length (due_text due) ≤ room →
+    ((output.status ≡ status_of due) × (output.bytes.items ≡ due_text due))
+    ⊎ ((output.status ≡ status.OutOfMemory) × (output.bytes.items ≡ []))

@@ -1,7 +1,7 @@
 //! One call of the program in memory.
 ghost use Rattle.std.specs.Prelude.{IfOk};
 ghost use Rattle.aegis_command.specs.Words.{asked_by};
-ghost use Rattle.memory_runs.specs.InMemory.{HasAnswer, IsRefused, IsSure};
+ghost use Rattle.memory_runs.specs.InMemory.{HasAnswer, IsRefusedInMemory, IsSureInMemory};
 
 use crate::shelf::MemoryShelf;
 use crate::sink::MemorySink;
@@ -26,9 +26,9 @@ pub fn run_in_memory(
     out: &mut MemorySink,
 ) -> Status
     // Where nothing is set to fail, the files are there and short enough, and there is room, what is due is written.
-    ensures sure { IsSure (asked_by words.now) shelf.old out.old out.new result }
+    ensures sure { IsSureInMemory (asked_by words.now) shelf.old out.old out.new result }
     // Where the first read is set to fail, nothing is written.
-    ensures refused { IsRefused (asked_by words.now) shelf.old out.old out.new result }
+    ensures refused { IsRefusedInMemory (asked_by words.now) shelf.old out.old out.new result }
 {
     aegis(alloc, words, shelf, out)
 }

@@ -1,3 +1,3 @@
-pub mod EmissionLemmas
-pub mod FilledLemmas
+mod EmissionLemmas
+mod FilledLemmas
 pub mod WritableLemmas

@@ -18,6 +18,7 @@ use Rattle.asm_layout.proofs.OutcomeLemmas.{if_other, if_then}
 use Rattle.mips_asm.specs.Assembled.{assembled}
 use Rattle.mips_asm.specs.Second.{filled, start_fault}
 use Rattle.mips_asm.proofs.FilledLemmas.{IsFilled, StartIsGood, filled_is, start_good}
+use Rattle.asm_layout.specs.Limits.{section_limit}
 
 text_part : List ℕ → PartValue
 text_part bs = record { vaddr = 0x00400000; bytes = bs; writable = false }
@@ -34,7 +35,7 @@ record IsEntry (size entry : ℕ) : Type 0 where
   from : 0x00400000 ≤ entry
   to : entry < 0x00400000 + size
 
-writable : (bare : Bool) (entry : ℕ) (text dat : List ℕ) → length text ≤ 1048576 → length dat ≤ 1048576 → IsEntry (length text) entry → IsWritable (program bare entry text dat)
+writable : (bare : Bool) (entry : ℕ) (text dat : List ℕ) → length text ≤ section_limit → length dat ≤ section_limit → IsEntry (length text) entry → IsWritable (program bare entry text dat)
 unfolding program text_part data_part
 writable true entry text dat text_fits data_fits at = record {
   fewest = lit≤ tt;

@@ -15,7 +15,11 @@ use Rattle.mips_asm.specs.Second.{Sections, filled}
 abbrev pub parts_of : Sections → List PartValue
 parts_of sections =
     (record { vaddr = base_of Text; bytes = sections.text; writable = false })
-    ∷ (if length sections.data_bytes == 0 then [] else (record { vaddr = base_of Data; bytes = sections.data_bytes; writable = true }) ∷ [])
+    ∷ (if length sections.data_bytes == 0 then [] else (record {
+      vaddr = base_of Data;
+      bytes = sections.data_bytes;
+      writable = true;
+    }) ∷ [])
 
 -- the program, which begins at the label `start`, or at the text's first byte where there is none
 abbrev pub program_of : Layout → Sections → ObjectValue

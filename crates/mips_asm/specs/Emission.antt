@@ -8,7 +8,7 @@ use Rattle.asm_layout.specs.Draft.{Draft}
 use Rattle.line_text.specs.Outcome.{◌>>=◌}
 use Rattle.asm_layout.specs.Value.{Names, defined}
 use Rattle.mips_asm.specs.Number.{numbers_bytes}
-use Rattle.mips_asm.specs.Words.{words_bytes, words_of}
+use Rattle.mips_asm.specs.Words.{words_bytes, encoded_words}
 
 -- the values of expressions, each of whose names has one
 abbrev pub values_of : Names → List ExpressionValue → Result (List ℕ) AsmWhy
@@ -21,7 +21,7 @@ values_of names (e ∷ es) = do
 -- the bytes of an instruction at a place
 abbrev pub draft_bytes : Names → ℕ → Draft → Result (List ℕ) AsmWhy
 draft_bytes names place draft = do
-  words ← words_of names place draft
+  words ← encoded_words names place draft
   Ok (words_bytes words)
 
 -- the bytes of expressions, each as a number

@@ -26,20 +26,21 @@ abbrev pub distance : ℕ → ℕ → ℕ
 distance place v = (v + 2 ^ 32 - (place + 4)) % 2 ^ 32
 
 -- the field of a value, in an instruction at a place
-abbrev pub field_of : Field → ℕ → ℕ → Result ℕ AsmWhy
-field_of Amount place v = ranged (lies 0 31 v) v
-field_of Signed place v = ranged (lies 32768 32767 v) (v % 2 ^ 16)
-field_of Unsigned place v = ranged (lies 0 65535 v) v
-field_of Code place v = ranged (lies 0 (2 ^ 20 - 1) v) v
+abbrev pub bits_of_field : Field → ℕ → ℕ → Result ℕ AsmWhy
+bits_of_field Amount place v = ranged (lies 0 31 v) v
+bits_of_field Signed place v = ranged (lies 32768 32767 v) (v % 2 ^ 16)
+bits_of_field Unsigned place v = ranged (lies 0 65535 v) v
+bits_of_field Code place v = ranged (lies 0 (2 ^ 20 - 1) v) v
 -- a branch reaches 2 ^ 15 words back and 2 ^ 15 - 1 words on from the word after it
-field_of Branch place v = aligned_target v (ranged (lies (2 ^ 17) (2 ^ 17 - 4) (distance place v)) (distance place v / 4 % 2 ^ 16))
+bits_of_field Branch place v =
+    aligned_target v (ranged (lies (2 ^ 17) (2 ^ 17 - 4) (distance place v)) (distance place v / 4 % 2 ^ 16))
 -- a jump reaches what has bits 31:28 of the word after it
-field_of Jump place v = aligned_target v (ranged (v / 2 ^ 28 == (place + 4) / 2 ^ 28) (v % 2 ^ 28 / 4))
+bits_of_field Jump place v = aligned_target v (ranged (v / 2 ^ 28 == (place + 4) / 2 ^ 28) (v % 2 ^ 28 / 4))
 
 -- the bits of the word that a value's field fills, in an instruction at a place
 abbrev pub bits_of : Field → ℕ → ℕ → Result ℕ AsmWhy
 bits_of field place v = do
-  n ← field_of field place v
+  n ← bits_of_field field place v
   Ok (field_word field n)
 
 -- the bits of the word that the field of an expression fills

@@ -27,8 +27,8 @@ filled_words names place w (Halves e) = do
   Ok (halves_words (slot_of Rt w) v)
 
 -- the words that a draft at a place makes
-abbrev pub words_of : Names → ℕ → Draft → Result (List ℕ) AsmWhy
-words_of names place draft = filled_words names place draft.word draft.filling
+abbrev pub encoded_words : Names → ℕ → Draft → Result (List ℕ) AsmWhy
+encoded_words names place draft = filled_words names place draft.word draft.filling
 
 -- words in memory
 abbrev pub words_bytes : List ℕ → List ℕ

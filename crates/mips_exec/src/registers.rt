@@ -1,6 +1,6 @@
 //! The registers of the processor.
 ghost use Rattle.std.specs.Prelude.{◌≡◌};
-ghost use Rattle.mips_exec.specs.Cpu.{blank_cpu, reg, rested, restart_of, with_reg};
+ghost use Rattle.mips_exec.specs.Cpu.{advanced, blank_cpu, reg, rested, restart_of, with_reg};
 
 /// The registers of the processor (`docs/MACHINE.md`, "Registers").
 #[derive(Clone, Copy)]
@@ -65,6 +65,15 @@ impl Cpu {
         if 0 < n && n < 32 {
             self.regs[usize::from(n)] = value;
         }
+    }
+
+    /// Goes on to the next instruction, out of a delay slot.
+    pub fn advance(&mut self)
+        ensures { self.new ≡ advanced self.old }
+    {
+        self.pc = self.next;
+        self.next = self.next.wrapping_add(4);
+        self.slot = false;
     }
 }
 

@@ -161,7 +161,8 @@ regimm_of w = find_row (rt_of w) (regimm_rows w) (Reserved w)
 
 -- opcode 16 and rs 16, by bits 20:0
 abbrev pub system_operation_rows : List EncodingRow
-system_operation_rows = entry 1 true Tlbr ∷ entry 2 true Tlbwi ∷ entry 6 true Tlbwr ∷ entry 8 true Tlbp ∷ entry 16 true Rfe ∷ []
+system_operation_rows =
+    entry 1 true Tlbr ∷ entry 2 true Tlbwi ∷ entry 6 true Tlbwr ∷ entry 8 true Tlbp ∷ entry 16 true Rfe ∷ []
 
 unfoldable pub system_operation_of : ℕ → Insn
 system_operation_of w = find_row (w % 2 ^ 21) system_operation_rows (Reserved w)

@@ -1,2 +1,2 @@
-pub mod WordTexts
-pub mod Lines
+mod WordTexts
+mod Lines

@@ -61,7 +61,8 @@ is_written _ word = true
 
 -- the operands of a word, in the order in which they are written
 abbrev pub operand_texts : List OperandForm → ℕ → ℕ → List (List ℕ)
-operand_texts forms word address = map (λ form. operand_text form word address) (filter (λ form. is_written form word) forms)
+operand_texts forms word address =
+    map (λ form. operand_text form word address) (filter (λ form. is_written form word) forms)
 
 -- texts with a mark before the first, and a comma before each further one
 abbrev pub marked : ℕ → List (List ℕ) → List ℕ

@@ -1,6 +1,6 @@
 //! The text of a word.
 ghost use Rattle.std.specs.Prelude.{◌≡◌, ◌++◌, OnErr, OnOk};
-ghost use Rattle.mips_text.specs.Seen.{row_seen};
+ghost use Rattle.mips_text.specs.Seen.{text_row_seen};
 ghost use Rattle.line_text.specs.Growth.{Keeps};
 ghost use Rattle.mips_list.specs.WordText.{data_text, row_text, word_text};
 
@@ -43,7 +43,7 @@ fn push_row(
     address: u32,
     out: &mut Vec<u8>,
 ) -> Result<(), OutOfMemory>
-    ensures ok { OnOk result (out.new.items ≡ out.old.items ++ row_text (row_seen row) word address) }
+    ensures ok { OnOk result (out.new.items ≡ out.old.items ++ row_text (text_row_seen row) word address) }
     ensures keeps { Keeps out.old.items out.new.items }
 {
     push_word(out, Word::Text(row.0))?;

@@ -1,3 +1,3 @@
-pub mod StepSound
-pub mod Ended
-pub mod System
+mod StepSound
+mod Ended
+mod System

@@ -2,18 +2,9 @@
 ghost use Rattle.std.specs.Prelude.{◌≡◌};
 ghost use Rattle.mips_exec.specs.Effect.{changed};
 ghost use Rattle.mips_exec.specs.Step.{report_of};
-ghost use Rattle.mips_exec.specs.declared.change.Change.TheVariants.{Jumps, Passes};
+ghost use Rattle.mips_exec.specs.declared.change.Change.TheVariants.{Jumps};
 
 use mips_exec::{Change, Cpu, Outcome};
-
-/// Goes on to the next instruction.
-fn advance(cpu: &mut Cpu)
-    ensures { cpu.new ≡ changed cpu.old Passes }
-{
-    cpu.pc = cpu.next;
-    cpu.next = cpu.next.wrapping_add(4);
-    cpu.slot = false;
-}
 
 /// Goes on to the delay slot, and from there to the target.
 fn jump(cpu: &mut Cpu, target: u32)
@@ -33,14 +24,14 @@ pub(crate) fn apply(cpu: &mut Cpu, change: Change) -> Outcome
     match change {
         Change::Puts(n, value) => {
             cpu.set_reg(n, value);
-            advance(cpu);
+            cpu.advance();
         }
         Change::PutsHiLo(high, low) => {
             cpu.hi = high;
             cpu.lo = low;
-            advance(cpu);
+            cpu.advance();
         }
-        Change::Passes => advance(cpu),
+        Change::Passes => cpu.advance(),
         Change::Jumps(target) => jump(cpu, target),
         Change::JumpsAndLinks(n, target) => {
             let back = cpu.pc.wrapping_add(8);

@@ -1,3 +1,3 @@
-pub mod TextLemmas
-pub mod WordLemmas
+mod TextLemmas
+mod WordLemmas
 pub mod NamedWords

@@ -12,12 +12,13 @@ use Rattle.line_text.specs.Table as tables
 use Rattle.line_text.specs.Table.{rows_seen}
 use Rattle.line_text.proofs.TableLemmas.{lookup_below}
 use Rattle.mips_isa.specs.Encoding.{form_of}
-use Rattle.mips_text.specs.Seen.{row_seen, text_seen}
+use Rattle.mips_text.specs.Seen.{text_row_seen, text_seen}
 use Rattle.mips_text.specs.Texts.{TextValue, rows}
 use Rattle.mips_text.specs.declared.text.Text.{Text}
+use Rattle.mips_text.specs.Limits.{text_word_limit, most_operands}
 
 -- what is found among texts is what is found among them as plain data
-pub lookup_seen : (test : List ℕ → Bool) (texts : List (TableRow Text)) → option_map text_seen (lookup test (rows_seen texts)) ≡ lookup test (map row_seen texts)
+pub lookup_seen : (test : List ℕ → Bool) (texts : List (TableRow Text)) → option_map text_seen (lookup test (rows_seen texts)) ≡ lookup test (map text_row_seen texts)
 lookup_seen test texts =
     sym (lookup-map_values text_seen test (rows_seen texts))
     ∙ ap (lookup test) (map-map (λ (row : List ℕ × Text). (row.0, text_seen row.1)) tables.row_seen texts)
@@ -29,10 +30,10 @@ found_below size n test None all is = tt
 found_below size n test (Some text) all is = rw (← is) at (lookup_below size n test rows all)
 
 -- no opcode above 47 has a row
-pub found_small : (test : List ℕ → Bool) (found : Option Text) → option_map text_seen found ≡ lookup test rows → IfSome found (λ text. text.0 < 0xc0000000)
+pub found_small : (test : List ℕ → Bool) (found : Option Text) → option_map text_seen found ≡ lookup test rows → IfSome found (λ text. text.0 < text_word_limit)
 unfolding form_of
-found_small test found is = found_below (λ (text : TextValue). text.word) 0xc0000000 test found refl is
+found_small test found is = found_below (λ (text : TextValue). text.word) text_word_limit test found refl is
 
 -- no instruction has more than three operands
-pub found_few : (test : List ℕ → Bool) (found : Option Text) → option_map text_seen found ≡ lookup test rows → IfSome found (λ text. length text.1.now ≤ 3)
+pub found_few : (test : List ℕ → Bool) (found : Option Text) → option_map text_seen found ≡ lookup test rows → IfSome found (λ text. length text.1.now ≤ most_operands)
 found_few test found is = IfSome_then found (found_below (λ (text : TextValue). length text.operands) 4 test found refl is) (λ text few. omega arith)

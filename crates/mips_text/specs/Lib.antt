@@ -1,3 +1,4 @@
+pub mod Limits
 pub mod Seen
 pub mod Texts
 pub mod WordRows

@@ -47,8 +47,8 @@ abbrev rd : OperandForm
 rd = Register Rd
 
 -- shifts, jumps to a register, traps, and what computes on registers: opcode 0, by function
-abbrev pub special_rows : List (List ℕ × TextValue)
-special_rows =
+abbrev pub special_texts : List (List ℕ × TextValue)
+special_texts =
     row (codes "sll") (Sll 0 0 0) (rd ∷ rt ∷ Value Amount ∷ [])
     ∷ row (codes "srl") (Srl 0 0 0) (rd ∷ rt ∷ Value Amount ∷ [])
     ∷ row (codes "sra") (Sra 0 0 0) (rd ∷ rt ∷ Value Amount ∷ [])
@@ -120,8 +120,8 @@ memory_rows =
     ∷ []
 
 -- coprocessor 0
-abbrev pub system_rows : List (List ℕ × TextValue)
-system_rows =
+abbrev pub system_texts : List (List ℕ × TextValue)
+system_texts =
     row (codes "mfc0") (Mfc0 0 0) (rt ∷ rd ∷ [])
     ∷ row (codes "mtc0") (Mtc0 0 0) (rt ∷ rd ∷ [])
     ∷ row (codes "tlbr") Tlbr []
@@ -143,8 +143,8 @@ further_rows =
 
 -- the instructions by name
 abbrev pub rows : List (List ℕ × TextValue)
-rows = special_rows ++ immediate_rows ++ memory_rows ++ system_rows ++ further_rows
+rows = special_texts ++ immediate_rows ++ memory_rows ++ system_texts ++ further_rows
 
 -- the text of a name
-unfoldable pub text_of : List ℕ → Option TextValue
-text_of name = lookup (bytes_eq name) rows
+unfoldable pub instruction_text : List ℕ → Option TextValue
+instruction_text name = lookup (bytes_eq name) rows

@@ -4,7 +4,7 @@ use Rattle.std.specs.List.{find}
 use Rattle.mips_isa.specs.Fields.{rs_of, rt_of, rd_of, sh_of, code_of, imm_of, target_of}
 use Rattle.mips_isa.specs.declared.insn.Insn.{Insn}
 use Rattle.mips_isa.specs.declared.insn.Insn.TheVariants.{Cop, Reserved}
-use Rattle.mips_text.specs.Texts.{TextValue, field_word, slot_word, special_rows, immediate_rows, memory_rows, system_rows}
+use Rattle.mips_text.specs.Texts.{TextValue, field_word, slot_word, special_texts, immediate_rows, memory_rows, system_texts}
 use Rattle.mips_text.specs.declared.shape.Field.{Field}
 use Rattle.mips_text.specs.declared.shape.Field.TheVariants.{Amount, Signed, Unsigned, Code, Branch, Jump}
 use Rattle.mips_text.specs.declared.shape.OperandForm.{OperandForm}
@@ -54,7 +54,7 @@ spells text word = word == text.word + operand_bits text.operands word
 
 -- the instructions by name, a row for each, without further forms
 abbrev pub main_rows : List (List ℕ × TextValue)
-main_rows = special_rows ++ immediate_rows ++ memory_rows ++ system_rows
+main_rows = special_texts ++ immediate_rows ++ memory_rows ++ system_texts
 
 -- the row of a word, where it has one
 unfoldable pub row_of : ℕ → Option (List ℕ × TextValue)

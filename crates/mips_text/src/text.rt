@@ -2,8 +2,9 @@
 ghost use Rattle.std.specs.Prelude.{◌≡◌, ◌<◌, ◌≤◌, IfSome, length, map};
 ghost use Rattle.std.specs.List.{find};
 ghost use Rattle.std.specs.Option.{option_copied, option_map};
-ghost use Rattle.mips_text.specs.Seen.{row_seen, text_seen};
-ghost use Rattle.mips_text.specs.Texts.{rows, text_of};
+ghost use Rattle.mips_text.specs.Limits.{most_operands, text_word_limit};
+ghost use Rattle.mips_text.specs.Seen.{text_row_seen, text_seen};
+ghost use Rattle.mips_text.specs.Texts.{rows, instruction_text};
 ghost use Rattle.mips_text.specs.WordRows.{row_of, spells};
 
 use crate::shape::{Field, OperandForm, Slot, with_bits};
@@ -131,18 +132,18 @@ static TEXTS: [TableRow<Text>; 70] = [
 /// The rows of all texts.
 #[tactic(auto, unfolding(mips_isa::specs::Encoding::form_of))]
 fn texts() -> &'static [TableRow<Text>]
-    ensures { map row_seen result.now ≡ rows }
+    ensures { map text_row_seen result.now ≡ rows }
 {
     &TEXTS
 }
 
 /// The text of a name, if an instruction has it.
-#[tactic(auto, unfolding(crate::specs::Texts::text_of))]
+#[tactic(auto, unfolding(crate::specs::Texts::instruction_text))]
 pub fn find_text(name: &[u8]) -> Option<Text>
-    ensures value { option_map text_seen result ≡ text_of name.now }
+    ensures value { option_map text_seen result ≡ instruction_text name.now }
     // Its word leaves room for the operands, which are few.
-    ensures small { IfSome result (λ text. text.0 < 0xc0000000) }
-    ensures few { IfSome result (λ text. length text.1.now ≤ 3) }
+    ensures small { IfSome result (λ text. text.0 < text_word_limit) }
+    ensures few { IfSome result (λ text. length text.1.now ≤ most_operands) }
 {
     find(texts(), name)
 }
@@ -158,7 +159,7 @@ fn find_spelled(rows: &[TableRow<Text>], word: u32) -> Option<&TableRow<Text>>
 /// coprocessor, or is a reserved word. Further forms, as `nop`, are of no word.
 #[tactic(auto, unfolding(crate::specs::WordRows::row_of))]
 pub fn find_word(word: u32) -> Option<TableRow<Text>>
-    ensures { option_map row_seen result ≡ row_of word }
+    ensures { option_map text_row_seen result ≡ row_of word }
 {
     let rows = texts();
     find_spelled(&rows[..rows.len() - FURTHER_ROWS], word).copied()

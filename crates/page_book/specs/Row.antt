@@ -51,12 +51,14 @@ change_refusal e (Some Free) = Some no.NotOwner
 change_refusal e (Some (Guaranteed owner)) = Some (if owner == e then no.Guaranteed else no.NotOwner)
 change_refusal e (Some (Owned owner words)) = if owner == e then None else Some no.NotOwner
 
--- why an environment that presents a word can't bind the page: its own guaranteed pages it has already, and a free page or another's guaranteed one has no words
+-- why an environment that presents a word can't bind the page: its own guaranteed pages it has already, and a free
+-- page or another's guaranteed one has no words
 abbrev pub bind_refusal : ℕ → Bool → ℕ → Option PageRow → Option PageNo
 bind_refusal e writable word None = Some no.NoPage
 bind_refusal e writable word (Some Free) = Some no.NoRight
 bind_refusal e writable word (Some (Guaranteed owner)) = Some (if owner == e then no.Guaranteed else no.NoRight)
-bind_refusal e writable word (Some (Owned owner words)) = if owner == e || gives_right words writable word then None else Some no.NoRight
+bind_refusal e writable word (Some (Owned owner words)) =
+    if owner == e || gives_right words writable word then None else Some no.NoRight
 
 -- the row once its owner is gone
 abbrev pub released : ℕ → PageRow → PageRow

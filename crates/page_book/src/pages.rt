@@ -14,7 +14,7 @@ use aegis_limits::OutOfMemory;
 use std::alloc::Global;
 use std::marker::Model;
 
-/// Whose each page of physical memory is: from 16 to 1,024 pages, numbered from 0.
+/// Whose each page of physical memory is: from `LEAST_PAGES` to `MOST_PAGES` pages, numbered from 0.
 #[derive(Drop)]
 pub struct Pages {
     rows: Vec<PageRow>,
@@ -33,7 +33,7 @@ impl Model for Pages {
 }
 
 impl Pages {
-    /// So many free pages, from 16 to 1,024. An `Err` says that there is no memory for the book.
+    /// So many free pages, from `LEAST_PAGES` to `MOST_PAGES`. An `Err` says that there is no memory for the book.
     pub fn new(alloc: Global, pages: u32) -> Result<Pages, OutOfMemory>
         requires enough { least_pages ≤ pages }
         requires within { pages ≤ most_pages }
@@ -43,7 +43,7 @@ impl Pages {
         Ok(Pages { rows })
     }
 
-    /// How many pages there are, from 16 to 1,024.
+    /// How many pages there are, from `LEAST_PAGES` to `MOST_PAGES`.
     pub fn pages(&self) -> u32
         ensures count { result ≡ length self.now }
         ensures least { least_pages ≤ result }

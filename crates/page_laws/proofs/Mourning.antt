@@ -8,7 +8,7 @@ use Rattle.page_book.specs.declared.row.PageRow.{PageRow}
 use Rattle.page_book.specs.declared.row.PageRow.TheVariants.{Free, Guaranteed, Owned}
 use Rattle.page_book.specs.Row.{is_owned_by, belongs_to, released}
 use Rattle.bind_book.specs.declared.binding.Binding.{Binding}
-use Rattle.bind_book.specs.Stripe.{breaks_page, goes_with, is_bound, without}
+use Rattle.bind_book.specs.Stripe.{leads_to_page, goes_with, is_bound, without}
 use Rattle.world_model.specs.declared.life.Life.TheVariants.{Live}
 use Rattle.world_model.specs.Solo.{Solo}
 use Rattle.world_model.specs.Item.{Item, absorb, absorb_all}
@@ -61,7 +61,7 @@ module _ (gone i : ℕ) (b : Book) (bytes : ℕ → List ℕ) (other : i ≢ gon
   left_below n row = without (goes_below n) (b.binds i row)
 
   -- with the next page go its own bindings, if it belongs to the one that is gone
-  with_next : (n : ℕ) → belongs_to gone (b.pages n) ≡ true → (x : Binding) → goes_below (suc n) x ≡ (goes_below n x || breaks_page n None i x)
+  with_next : (n : ℕ) → belongs_to gone (b.pages n) ≡ true → (x : Binding) → goes_below (suc n) x ≡ (goes_below n x || leads_to_page n None i x)
   with_next n belongs x = by_test (x.page == n) refl
     where
       by_test : (t : Bool) → (x.page == n) ≡ t → goes_below (suc n) x ≡ (goes_below n x || (t && true))
@@ -92,7 +92,7 @@ module _ (gone i : ℕ) (b : Book) (bytes : ℕ → List ℕ) (other : i ≢ gon
     sees =
         subst (λ (pages : ℕ → PageRow). Sees i pages (left_below (suc n)) bytes (absorb_all s (lost_if (is_bound n (b.binds i)) n))) (λ k p. set_same n b.pages p k)
         (sees_alike i (with_row b.pages n (b.pages n)) (broken_stripe n None i (left_below n)) (left_below (suc n)) bytes (absorb_all s (lost_if (is_bound n (b.binds i)) n))
-        (λ r. without_both (breaks_page n None i) (goes_below n) (goes_below (suc n)) (with_next n belongs) (b.binds i r))
+        (λ r. without_both (leads_to_page n None i) (goes_below n) (goes_below (suc n)) (with_next n belongs) (b.binds i r))
         (subst (λ (t : Bool). Sees i (with_row b.pages n (b.pages n)) (broken_stripe n None i (left_below n)) bytes (absorb_all s (lost_if t n))) (bound_yet n)
         (others_lose i n None (b.pages n) b.pages (left_below n) bytes s before.sees before.lives none_differs its its (without_ends (goes_below n) (b.binds i) ends))));
   }

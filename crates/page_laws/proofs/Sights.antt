@@ -9,11 +9,11 @@ use Rattle.page_book.specs.declared.row.PageRow.{PageRow}
 use Rattle.page_book.specs.declared.row.PageRow.TheVariants.{Owned}
 use Rattle.page_book.specs.Row.{is_owned_by}
 use Rattle.bind_book.specs.declared.binding.Binding.{Binding}
-use Rattle.bind_book.specs.Stripe.{binding_at, breaks_page, is_but, is_bound, is_of_page, row_of, without}
+use Rattle.bind_book.specs.Stripe.{binding_at, leads_to_page, is_but, is_bound, is_of_page, row_of, without}
 use Rattle.world_model.specs.declared.life.Life.TheVariants.{Live}
 use Rattle.world_model.specs.Table.{set_at}
 use Rattle.world_model.specs.Solo.{Solo, Seen, Store, Physical, is_dead, is_physical, with_store, stored_sight}
-use Rattle.world_model.specs.Holding.{bound, gained, is_owned, lost, owning, still_seen, unbound, with_binds}
+use Rattle.world_model.specs.Holding.{bound, gained, is_owned, lost, owning, still_seen, after_unbind, with_binds}
 use Rattle.world_model.specs.Item.{Lost, absorb_all}
 use Rattle.world_model.specs.Book.{sees}
 use Rattle.world_model.specs.PageCalls.{left_if, lost_if, without_number}
@@ -108,7 +108,7 @@ module _ (e page : ℕ) (row : PageRow) (broken : Binding → Bool) (pages : ℕ
   }
 
 pub freer_loses : FreerLoses
-freer_loses e page row pages stripe bytes s seen after = loses e page row (breaks_page page None e) pages stripe bytes s (λ b. and-true (b.page == page)) after seen
+freer_loses e page row pages stripe bytes s seen after = loses e page row (leads_to_page page None e) pages stripe bytes s (λ b. and-true (b.page == page)) after seen
 
 -- the bindings of one that isn't spared
 not_spared : (but : Option ℕ) (i : ℕ) → but ≢ Some i → is_but but i ≡ false
@@ -118,12 +118,12 @@ not_spared (Some but) i other = ne_eqb but i (λ same. other (ap Some same))
 pub others_lose : OthersLose
 others_lose i page but row pages stripe bytes s seen lives other before after ends = by_bound (is_bound page stripe) refl
   where
-    of_page : (b : Binding) → breaks_page page but i b ≡ (b.page == page)
+    of_page : (b : Binding) → leads_to_page page but i b ≡ (b.page == page)
     of_page b = ap (λ spared. b.page == page && not spared) (not_spared but i other) ∙ and-true (b.page == page)
 
     by_bound : (t : Bool) → is_bound page stripe ≡ t → Sees i (with_row pages page row) (broken_stripe page but i stripe) bytes (absorb_all s (lost_if t page))
-    by_bound true is = subst (λ (x : Solo). Sees i (with_row pages page row) (broken_stripe page but i stripe) bytes x) (sym (absorbs_lost s page lives)) (loses i page row (breaks_page page but i) pages stripe bytes s of_page after seen)
-    by_bound false is = had_nothing i page row (breaks_page page but i) pages stripe bytes s of_page after seen ends before is
+    by_bound true is = subst (λ (x : Solo). Sees i (with_row pages page row) (broken_stripe page but i stripe) bytes x) (sym (absorbs_lost s page lives)) (loses i page row (leads_to_page page but i) pages stripe bytes s of_page after seen)
+    by_bound false is = had_nothing i page row (leads_to_page page but i) pages stripe bytes s of_page after seen ends before is
 
 -- Who gives its page other words.
 pub recapper_keeps : RecapperKeeps
@@ -132,11 +132,11 @@ recapper_keeps e page words pages stripe bytes s seen owns = sees_alike e (with_
   seen = λ p. seen.seen p ∙ ap (λ owned. seen_if owned (is_bound p stripe) (bytes p)) (same p);
 })
   where
-    spares : (b : Binding) → breaks_page page (Some e) e b ≡ false
+    spares : (b : Binding) → leads_to_page page (Some e) e b ≡ false
     spares b = rw (eq-eqb e e refl) (and-false (b.page == page))
 
-    spared : (o : Option Binding) → without (breaks_page page (Some e) e) o ≡ o
-    spared o = kept_row (breaks_page page (Some e) e) o (λ b is. spares b)
+    spared : (o : Option Binding) → without (leads_to_page page (Some e) e) o ≡ o
+    spared o = kept_row (leads_to_page page (Some e) e) o (λ b is. spares b)
 
     same : (p : ℕ) → is_owned_by e (pages p) ≡ is_owned_by e (with_row pages page (Owned e words) p)
     same = by_number (λ p. is_owned_by e (pages p)) (λ p. is_owned_by e (with_row pages page (Owned e words) p)) page
@@ -197,7 +197,7 @@ binder_sees = binds
 
 pub unbinder_loses : UnbinderLoses
 unbinder_loses e vpn pages stripe bytes s seen =
-    subst (λ (binds : ℕ → Option Binding). Sees e pages (without_number vpn binds) bytes (unbound vpn s)) (λ k r. seen.binds r k)
+    subst (λ (binds : ℕ → Option Binding). Sees e pages (without_number vpn binds) bytes (after_unbind vpn s)) (λ k r. seen.binds r k)
     (by_test (is_some (binding_at s.binds vpn)))
   where
     own : Sees e pages s.binds bytes s

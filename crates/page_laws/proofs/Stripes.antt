@@ -3,7 +3,8 @@ use Rattle.std.proofs.Common.{◌≡◌, ◌≢◌, ℕ, zero, suc, ◌<◌, Boo
 use Rattle.std.specs.Prelude.{◌==◌, List, if◌then◌else◌, slice_index_or}
 use Rattle.std.proofs.lemmas.Bool.{ne_eqb, eq-eqb, eqb-true, eqb-false, le-ltb, both_ways, cases_lt, or_cases, or_left, or_right, false_from_ne_true}
 use Rattle.bind_book.specs.declared.binding.Binding.{Binding}
-use Rattle.bind_book.specs.Stripe.{stripe_rows, is_of_page, is_bound_below, is_bound, stripe_place, row_of, stripes, without}
+use Rattle.bind_book.specs.Stripe.{is_of_page, is_bound_below, is_bound, stripe_place, row_of, stripes, without}
+use Rattle.aegis_limits.specs.Limits.{stripe_rows}
 use Rattle.world_model.specs.Table.{set_at}
 use Rattle.page_laws.specs.Sight.{IsStripe}
 use Rattle.page_laws.proofs.Tables.{set_here}

@@ -3,7 +3,8 @@ use Rattle.std.specs.Prelude.{◌≡◌, ◌≤◌, ℕ, Bool, ◌||◌, if◌th
 use Rattle.page_book.specs.declared.row.PageRow.{PageRow}
 use Rattle.page_book.specs.Row.{is_owned_by}
 use Rattle.bind_book.specs.declared.binding.Binding.{Binding}
-use Rattle.bind_book.specs.Stripe.{is_bound, stripe_rows}
+use Rattle.bind_book.specs.Stripe.{is_bound}
+use Rattle.aegis_limits.specs.Limits.{stripe_rows}
 use Rattle.world_model.specs.Solo.{Solo, Seen}
 
 -- a page is seen if it is owned or bound
@@ -19,6 +20,7 @@ abbrev pub IsStripe : (ℕ → Option Binding) → Type 0
 IsStripe stripe = (row : ℕ) → stripe_rows ≤ row → stripe row ≡ None
 
 -- an environment has just the bindings of its stripe, and sees just the pages that it owns or has bound
-pub record Sees (e : ℕ) (pages : ℕ → PageRow) (stripe : ℕ → Option Binding) (bytes : ℕ → List ℕ) (s : Solo) : Type 0 where
+pub record Sees (e : ℕ) (pages : ℕ → PageRow) (stripe : ℕ → Option Binding) (bytes : ℕ → List ℕ)
+    (s : Solo) : Type 0 where
   pub binds : (row : ℕ) → s.binds row ≡ stripe row
   pub seen : (page : ℕ) → s.seen page ≡ seen_in e pages stripe bytes page

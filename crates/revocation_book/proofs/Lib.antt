@@ -1,4 +1,4 @@
 pub mod Earliest
-pub mod Few
+mod Few
 pub mod Takable
-pub mod Walk
+mod Walk

@@ -14,7 +14,8 @@ is_loaded backups page = list_any (λ b. b == page) backups
 
 -- why a page isn't loaded as one more
 abbrev pub load_refusal : List ℕ → ℕ → Option LoadNo
-load_refusal backups page = if is_loaded backups page then Some Loaded else (if nat_le most_backups (length backups) then Some Full else None)
+load_refusal backups page =
+    if is_loaded backups page then Some Loaded else (if nat_le most_backups (length backups) then Some Full else None)
 
 -- one more, which is the last
 abbrev pub loaded : ℕ → List ℕ → List ℕ

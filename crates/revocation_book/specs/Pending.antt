@@ -14,7 +14,8 @@ outstanding_in (Some p) = p.outstanding
 
 -- so many pages are outstanding until a deadline; where none is, nothing is pending
 abbrev pub pending_of : ℕ → ℕ → Option Pending
-pending_of outstanding deadline = if outstanding == 0 then None else Some (record { outstanding = outstanding; deadline = deadline })
+pending_of outstanding deadline =
+    if outstanding == 0 then None else Some (record { outstanding = outstanding; deadline = deadline })
 
 -- An environment is asked for so many pages more, and by a deadline for all of them.
 abbrev pub asked : ℕ → ℕ → Option Pending → Option Pending

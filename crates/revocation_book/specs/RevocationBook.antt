@@ -1,16 +1,13 @@
 -- The book of revocations, as it is seen.
 use Rattle.std.specs.Prelude.{ℕ, Bool, List, [], length, map, replicate, slice_index_or, slice_set, Option, None}
 use Rattle.std.specs.List.{list_any}
+use Rattle.aegis_limits.specs.Limits.{environment_numbers}
 use Rattle.page_book.specs.declared.row.PageRow.{PageRow}
 use Rattle.page_book.specs.Rows.{row_in}
 use Rattle.revocation_book.specs.declared.revocation.Pending.{Pending}
 use Rattle.revocation_book.specs.Pending.{asked, earliest_or_never, is_due, lowered, unless_due}
 use Rattle.revocation_book.specs.Backups.{unloaded}
 use Rattle.revocation_book.specs.Takings.{Books}
-
--- environments are numbered below this
-abbrev pub most_numbers : ℕ
-most_numbers = 32
 
 -- of each environment what is pending, and its backups
 pub record RevocationBook : Type 0 where
@@ -25,7 +22,7 @@ backups_at book e = slice_index_or book.backups e []
 
 -- nothing is pending, and nothing is loaded
 abbrev pub nothing_asked : RevocationBook
-nothing_asked = record { pending = replicate most_numbers None; backups = replicate most_numbers [] }
+nothing_asked = record { pending = replicate environment_numbers None; backups = replicate environment_numbers [] }
 
 -- with other backups of an environment
 abbrev pub with_backups : RevocationBook → ℕ → List ℕ → RevocationBook
@@ -40,7 +37,8 @@ once_asked book e count deadline = with_pending book e (asked count deadline (pe
 
 -- once it freed a page of its own, which is no backup any more
 abbrev pub once_freed : RevocationBook → ℕ → ℕ → RevocationBook
-once_freed book e page = with_backups (with_pending book e (lowered (pending_at book e))) e (unloaded page (backups_at book e))
+once_freed book e page =
+    with_backups (with_pending book e (lowered (pending_at book e))) e (unloaded page (backups_at book e))
 
 -- whether a deadline has come
 abbrev pub is_any_due : RevocationBook → ℕ → Bool
@@ -60,4 +58,9 @@ once_gone book e = with_backups (with_pending book e None) e []
 
 -- the book beside that of the pages
 abbrev pub books_of : List PageRow → RevocationBook → Books
-books_of pages book = record { pages = row_in pages; page_count = length pages; pending = pending_at book; backups = backups_at book }
+books_of pages book = record {
+  pages = row_in pages;
+  page_count = length pages;
+  pending = pending_at book;
+  backups = backups_at book;
+}

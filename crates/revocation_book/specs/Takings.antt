@@ -33,7 +33,11 @@ victims b e = take (outstanding_in (b.pending e)) (victims_below b e b.page_coun
 abbrev pub paired : ℕ → List ℕ → List ℕ → List Taking
 paired e [] backups = []
 paired e (page ∷ pages) [] = record { env = e; page = page; backup = None } ∷ paired e pages []
-paired e (page ∷ pages) (backup ∷ backups) = record { env = e; page = page; backup = Some backup } ∷ paired e pages backups
+paired e (page ∷ pages) (backup ∷ backups) = record {
+  env = e;
+  page = page;
+  backup = Some backup;
+} ∷ paired e pages backups
 
 -- what is taken from an environment at a time
 abbrev pub takings_of : Books → ℕ → ℕ → List Taking
@@ -51,7 +55,8 @@ taken x b = record b {
   backups = λ e. if e == x.env then drop 1 (b.backups x.env) else b.backups e;
 }
 
--- The page may be taken at a time: the deadline of its owner has come, it isn't a backup, and the backup is the one that was loaded first.
+-- The page may be taken at a time: the deadline of its owner has come, it isn't a backup, and the backup is the one
+-- that was loaded first.
 pub record IsTakable (b : Books) (time : ℕ) (x : Taking) : Type 0 where
   pub due : is_due time (b.pending x.env) ≡ true
   pub owned : is_owned_by x.env (b.pages x.page) ≡ true
@@ -69,4 +74,5 @@ TakingsAreTakable = (b : Books) (time envs : ℕ) → AreTakable b time (takings
 
 -- and it is no more than the pages that aren't free.
 abbrev pub TakingsAreFew : Type 0
-TakingsAreFew = (b : Books) (time envs : ℕ) → length (takings_below b time envs) + free_below b.pages b.page_count ≤ b.page_count
+TakingsAreFew =
+    (b : Books) (time envs : ℕ) → length (takings_below b time envs) + free_below b.pages b.page_count ≤ b.page_count

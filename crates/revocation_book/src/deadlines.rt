@@ -2,19 +2,17 @@
 ghost use Rattle.std.specs.Prelude.{◌≡◌, ◌<◌, map, replicate, slice_index_or, slice_set, None};
 ghost use Rattle.std.specs.List.{list_any};
 ghost use Rattle.revocation_book.specs.Pending.{earliest_in, earliest_or_never, is_due, unless_due};
-ghost use Rattle.revocation_book.specs.RevocationBook.{most_numbers};
+ghost use Rattle.aegis_limits.specs.Limits.{environment_numbers};
 
 use crate::pending::unless_due;
 use crate::revocation::Pending;
+use aegis_limits::ENVIRONMENT_NUMBERS;
 use std::marker::Model;
-
-/// Environments are numbered below this.
-pub(crate) const MOST_NUMBERS: usize = 32;
 
 /// What each environment is asked for and hasn't given back.
 #[derive(Drop)]
 pub(crate) struct Deadlines {
-    pending: [Option<Pending>; MOST_NUMBERS],
+    pending: [Option<Pending>; ENVIRONMENT_NUMBERS],
     /// The earliest deadline, if anything is pending.
     earliest: Option<u32>,
 }
@@ -34,17 +32,17 @@ impl Model for Deadlines {
 impl Deadlines {
     /// Nothing is asked.
     pub(crate) fn new() -> Deadlines
-        ensures { result ≡ replicate most_numbers None }
+        ensures { result ≡ replicate environment_numbers None }
     {
         Deadlines {
-            pending: [None; MOST_NUMBERS],
+            pending: [None; ENVIRONMENT_NUMBERS],
             earliest: None,
         }
     }
 
     /// What an environment is asked for.
     pub(crate) fn of(&self, env: u8) -> Option<Pending>
-        requires { env < most_numbers }
+        requires { env < environment_numbers }
         ensures { result ≡ slice_index_or self.now env None }
     {
         self.pending[env as usize]
@@ -52,7 +50,7 @@ impl Deadlines {
 
     /// An environment is asked for this.
     pub(crate) fn set(&mut self, env: u8, pending: Option<Pending>)
-        requires { env < most_numbers }
+        requires { env < environment_numbers }
         ensures { self.new ≡ slice_set self.old env pending }
     {
         self.pending[env as usize] = pending;

@@ -1,15 +1,16 @@
 //! The book of revocations.
 ghost use Rattle.std.specs.Prelude.{◌≡◌, ◌<◌, ◌≤◌, ◌+◌, ◌++◌, length, drop, slice_get, IsNone};
 ghost use Rattle.revocation_book.specs.Backups.{load_refusal, loaded};
-ghost use Rattle.revocation_book.specs.RevocationBook.{backups_at, books_of, is_any_due, most_numbers, next_deadline, nothing_asked, once_asked, once_freed, once_gone, once_served, pending_at, with_backups};
+ghost use Rattle.revocation_book.specs.RevocationBook.{backups_at, books_of, is_any_due, next_deadline, nothing_asked, once_asked, once_freed, once_gone, once_served, pending_at, with_backups};
+ghost use Rattle.aegis_limits.specs.Limits.{environment_numbers};
 ghost use Rattle.revocation_book.specs.Takings.{is_victim, takings_below, takings_of};
 
 use crate::backups::Backups;
-use crate::deadlines::{Deadlines, MOST_NUMBERS};
+use crate::deadlines::Deadlines;
 use crate::laws::law_few_takings;
 use crate::pending::{asked, lowered};
 use crate::revocation::{LoadNo, Pending, Taking};
-use aegis_limits::MOST_PAGES;
+use aegis_limits::{ENVIRONMENT_NUMBERS, MOST_PAGES};
 use arrayvec::ArrayVec;
 use page_book::{PageRow, Pages};
 use std::marker::Model;
@@ -17,11 +18,11 @@ use std::marker::Model;
 /// The most pages that are taken at a time: all that there may be.
 pub const MOST_TAKINGS: usize = MOST_PAGES as usize;
 
-/// What each environment, of at most 32, is asked for and hasn't given back, and which pages it loaded as backups.
+/// What each environment is asked for and hasn't given back, and which pages it loaded as backups.
 #[derive(Drop)]
 pub struct Revocations {
     deadlines: Deadlines,
-    backups: [Backups; MOST_NUMBERS],
+    backups: [Backups; ENVIRONMENT_NUMBERS],
 }
 
 impl Model for Revocations {
@@ -45,7 +46,7 @@ impl Revocations {
 
     /// Asks an environment for so many pages more, and by this deadline for all that are outstanding.
     pub fn ask(&mut self, env: u8, count: u32, deadline: u32)
-        requires { env < most_numbers }
+        requires { env < environment_numbers }
         ensures { self.new ≡ once_asked self.old env count deadline }
     {
         let pending = self.deadlines.of(env);
@@ -54,7 +55,7 @@ impl Revocations {
 
     /// What an environment is asked for, if anything is outstanding.
     pub fn pending(&self, env: u8) -> Option<Pending>
-        requires { env < most_numbers }
+        requires { env < environment_numbers }
         ensures { result ≡ pending_at self.now env }
     {
         self.deadlines.of(env)
@@ -62,7 +63,7 @@ impl Revocations {
 
     /// An environment freed a page of its own: one page fewer is outstanding, and the page is no backup any more.
     pub fn freed(&mut self, env: u8, page: u32)
-        requires { env < most_numbers }
+        requires { env < environment_numbers }
         ensures { self.new ≡ once_freed self.old env page }
     {
         let pending = self.deadlines.of(env);
@@ -74,7 +75,7 @@ impl Revocations {
 
     /// Why an environment's page isn't loaded as one more backup.
     pub fn load_refusal(&self, env: u8, page: u32) -> Option<LoadNo>
-        requires { env < most_numbers }
+        requires { env < environment_numbers }
         ensures { result ≡ load_refusal (backups_at self.now env) page }
     {
         self.backups_of(env).load_refusal(page)
@@ -82,7 +83,7 @@ impl Revocations {
 
     /// A page is the last of an environment's backups.
     pub fn load(&mut self, env: u8, page: u32)
-        requires env { env < most_numbers }
+        requires env { env < environment_numbers }
         requires room { IsNone (load_refusal (backups_at self.old env) page) }
         ensures { self.new ≡ with_backups self.old env (loaded page (backups_at self.old env)) }
     {
@@ -91,7 +92,7 @@ impl Revocations {
 
     /// Takes the backup that an environment loaded first, if it has one: it is an ordinary page again.
     pub fn backup(&mut self, env: u8) -> Option<u32>
-        requires { env < most_numbers }
+        requires { env < environment_numbers }
         ensures answer { result ≡ slice_get (backups_at self.old env) 0 }
         ensures after { self.new ≡ with_backups self.old env (drop 1 (backups_at self.old env)) }
     {
@@ -115,7 +116,7 @@ impl Revocations {
     /// What is taken at this time from the environments below a number: the lowest environment first, and of each as
     /// many pages as are outstanding, by rising number.
     pub fn takings(&self, pages: &Pages, envs: u8, time: u32) -> ArrayVec<Taking, MOST_TAKINGS>
-        requires { envs ≤ most_numbers }
+        requires { envs ≤ environment_numbers }
         ensures { result.items ≡ takings_below (books_of pages.now self.now) time envs }
     {
         law_few_takings();
@@ -135,7 +136,7 @@ impl Revocations {
 
     /// An environment is gone: nothing is asked of it, and it has no backups.
     pub fn forget(&mut self, env: u8)
-        requires { env < most_numbers }
+        requires { env < environment_numbers }
         ensures { self.new ≡ once_gone self.old env }
     {
         self.deadlines.set(env, None);
@@ -144,7 +145,7 @@ impl Revocations {
 
     /// The backups of an environment.
     fn backups_of(&self, env: u8) -> &Backups
-        requires { env < most_numbers }
+        requires { env < environment_numbers }
         ensures { result.now ≡ backups_at self.now env }
     {
         &self.backups[env as usize]
@@ -158,7 +159,7 @@ impl Revocations {
         time: u32,
         takings: &mut ArrayVec<Taking, MOST_TAKINGS>,
     )
-        requires env { env < most_numbers }
+        requires env { env < environment_numbers }
         requires room { length takings.old.items + length (takings_of (books_of pages.now self.now) time env) ≤ length pages.now }
         ensures { takings.new.items ≡ takings.old.items ++ takings_of (books_of pages.now self.now) time env }
     {
@@ -188,7 +189,7 @@ impl Revocations {
     /// Whether an environment owns a page that is neither guaranteed to it nor a backup.
     #[tactic(auto, using(crate::proofs::Walk::past_last))]
     fn is_victim(&self, pages: &Pages, env: u8, page: u32) -> bool
-        requires { env < most_numbers }
+        requires { env < environment_numbers }
         ensures { result ≡ is_victim (books_of pages.now self.now) env page }
     {
         match pages.row(page) {

@@ -12,11 +12,12 @@ use Rattle.world_model.specs.declared.slot.Phase.{Phase}
 use Rattle.world_model.specs.declared.slot.Phase.TheVariants as phase
 use Rattle.world_model.specs.declared.slot.Runner.{Runner}
 use Rattle.world_model.specs.declared.slot.Turn.{Turn}
-use Rattle.world_model.specs.Book.{Book, Told, excess_limit, first_turn, is_idle_book, lowered, owed, pays_first, told_at, told_turn, whole_turn}
+use Rattle.world_model.specs.Book.{Book, WholeTurn, first_turn, is_idle_book, excess_after_forfeit, owed, pays_first, turn_within, turn_from, whole_turn}
+use Rattle.aegis_limits.specs.Limits.{excess_limit}
 use Rattle.run_model.specs.Boot.{boot_book, boot_slot, boot_world, own_row, own_rows, record_items, with_all_kept, with_kept}
 use Rattle.run_model.specs.Excess.{pays, AreSlotsLive, BalanceHolds, BootsAccounted, IsAccounted, LedgersAreLawful, Lives, TicksKeepAccounts}
 use Rattle.world_model.specs.Item.{Asked, End, Killed, Line, Packet, Start, Taken, absorb_all}
-use Rattle.run_model.specs.Run.{happens_in, next_phases, next_world, run_on, takings_next}
+use Rattle.run_model.specs.Run.{happens_in, next_phases, next_world, world_after_ticks, takings_next}
 use Rattle.world_model.specs.Solo.{absent, dead, is_dead}
 use Rattle.world_model.specs.Table.{set_at}
 use Rattle.external_event.specs.declared.event.Occurrence.{Occurrence}
@@ -27,10 +28,12 @@ use Rattle.revocation_book.specs.declared.revocation.Pending.{Pending}
 use Rattle.revocation_book.specs.declared.revocation.Taking.{Taking}
 use Rattle.revocation_book.specs.Pending.{asked}
 use Rattle.world_model.specs.Deadlines.{copy_left, settles, takes}
-use Rattle.world_model.specs.PageCalls.{breaks}
+use Rattle.world_model.specs.PageCalls.{lost_bindings}
 use Rattle.world_model.specs.Event.{Schedule, arrives, asks, delivers, drops_packet, happen, revokes, ring_bytes, ring_left, signals}
 use Rattle.world_model.specs.Rings.{ring_of}
-use Rattle.world_model.specs.Tick.{act_now, clock, count_when, goes_on, grace_of, judged, kill, owes_more, pay_row, phases_after, run_out, slice_end, step, step_when, take_turn, tick_phases, timer, turn, turn_when}
+use Rattle.world_model.specs.Tick.{act_now, clock, count_when, with_runner, grace_of, kill, owes_more, pay_row, phases_after, slice_end, step, step_when, take_turn, tick_phases, timer, turn, turn_when, timer_reply, timer_now, grace_again, stop_at_end}
+use Rattle.world_model.specs.declared.timer.Timer.{Timer}
+use Rattle.world_model.specs.declared.timer.Timer.TheVariants as answer
 use Rattle.world_model.specs.SlotCalls.{stop_row}
 use Rattle.call_verdicts.specs.Granted.{GrantedMay}
 use Rattle.world_model.specs.World.{World, Reply, after, is_living, no_change, no_items, only, run_phases, tells}
@@ -96,8 +99,8 @@ happen_accounts (outside.Revoke env count grace) w good = revocation_accounts en
 pub taking_accounts : (x : Taking) → KeepsAccounts (takes x)
 taking_accounts x w good =
     still_accounts w (takes x w) good refl (search rules, tt)
-    (keep_set x.env (Taken x.page x.backup ∷ []) (λ e. copy_left w x x.backup e ++ breaks w.book x.page e) (keep_taken x.page x.backup)
-    (λ e. keep_both (copy_left w x x.backup e) (breaks w.book x.page e) (copy_left_keeps w x x.backup e) (breaks_keep w.book x.page e)))
+    (keep_set x.env (Taken x.page x.backup ∷ []) (λ e. copy_left w x x.backup e ++ lost_bindings w.book x.page e) (keep_taken x.page x.backup)
+    (λ e. keep_both (copy_left w x x.backup e) (lost_bindings w.book x.page e) (copy_left_keeps w x x.backup e) (breaks_keep w.book x.page e)))
 
 -- The end of deadlines changes nothing of lives and slots.
 pub settling_accounts : KeepsAccounts settles
@@ -107,24 +110,24 @@ settling_accounts w good = still_accounts w (settles w) good refl tt (λ i. keep
 abbrev Forfeits : World → (ℕ → ℕ) → List Turn → Option Turn → (ℕ → ℕ) → Type 0
 Forfeits w excess [] None left = Unit {0}
 Forfeits w excess [] (Some t) left = Lives w t.env × (excess t.env ≡ 0) × (left ≡ excess)
-Forfeits w excess (t ∷ pays) runs left = Lives w t.env × (0 < excess t.env) × Forfeits w (lowered t.env excess) pays runs left
+Forfeits w excess (t ∷ pays) runs left = Lives w t.env × (0 < excess t.env) × Forfeits w (excess_after_forfeit t.env excess) pays runs left
 
-abbrev TellsForfeits : World → (ℕ → ℕ) → Told → Type 0
+abbrev TellsForfeits : World → (ℕ → ℕ) → WholeTurn → Type 0
 TellsForfeits w excess told = Forfeits w excess told.pays told.runs told.excess
 
 holder_lives : (w : World) (e : ℕ) (hold : Option Hold) → ((h : Hold) → hold ≡ Some h → Lives w h.owner × Lives w h.holder) → holder_in hold ≡ Some e → Lives w e
 holder_lives w e None live is = cc
 holder_lives w e (Some hold) live is = let same : hold.holder ≡ e = cc in subst (λ (n : ℕ). Lives w n) same (live hold refl).1
 
-told_on : (w : World) (rest : ℕ → (ℕ → ℕ) → Told) → ((cursor : ℕ) (excess : ℕ → ℕ) → TellsForfeits w excess (rest cursor excess))
-    → (cursor : ℕ) (excess : ℕ → ℕ) (next : Option Turn) → ((t : Turn) → next ≡ Some t → Lives w t.env) → TellsForfeits w excess (told_at rest cursor excess next)
+told_on : (w : World) (rest : ℕ → (ℕ → ℕ) → WholeTurn) → ((cursor : ℕ) (excess : ℕ → ℕ) → TellsForfeits w excess (rest cursor excess))
+    → (cursor : ℕ) (excess : ℕ → ℕ) (next : Option Turn) → ((t : Turn) → next ≡ Some t → Lives w t.env) → TellsForfeits w excess (turn_within rest cursor excess next)
 told_on w rest tells cursor excess None lives = tt
 told_on w rest tells cursor excess (Some t) lives = by_test (excess t.env == 0) refl
   where
     by_test : (free : Bool) → (excess t.env == 0) ≡ free
-        → TellsForfeits w excess (if free then record { pays = []; runs = Some t; excess = excess; cursor = t.slot } else pays_first t (rest t.slot (lowered t.env excess)))
+        → TellsForfeits w excess (if free then record { pays = []; runs = Some t; excess = excess; cursor = t.slot } else pays_first t (rest t.slot (excess_after_forfeit t.env excess)))
     by_test true free = (lives t refl, eqb-true (excess t.env) 0 free, refl)
-    by_test false owes = (lives t refl, omega (arith, eqb-false (excess t.env) 0 owes), tells t.slot (lowered t.env excess))
+    by_test false owes = (lives t refl, omega (arith, eqb-false (excess t.env) 0 owes), tells t.slot (excess_after_forfeit t.env excess))
 
 next_lives : (w : World) (count cursor : ℕ) → AreSlotsLive w w.book.slots → (next : Option Turn) → Found w.book.slots count cursor count next → (t : Turn) → next ≡ Some t → Lives w t.env
 next_lives w count cursor live None found t is = cc
@@ -132,11 +135,11 @@ next_lives w count cursor live (Some next) found t is =
     let same : next ≡ t = cc in
     subst (λ (u : Turn). Lives w u.env) same (holder_lives w next.env (w.book.slots next.slot) (live next.slot) found.held)
 
-tells_forfeits : (w : World) → AreSlotsLive w w.book.slots → (count n cursor : ℕ) (excess : ℕ → ℕ) → TellsForfeits w excess (told_turn w.book.slots count n cursor excess)
+tells_forfeits : (w : World) → AreSlotsLive w w.book.slots → (count n cursor : ℕ) (excess : ℕ → ℕ) → TellsForfeits w excess (turn_from w.book.slots count n cursor excess)
 tells_forfeits w live count zero cursor excess = tt
 tells_forfeits w live count (suc n) cursor excess =
     let next = first_turn w.book.slots count cursor count in
-    told_on w (told_turn w.book.slots count n) (tells_forfeits w live count n) cursor excess next (next_lives w count cursor live next (search_finds w.book.slots count cursor count))
+    told_on w (turn_from w.book.slots count n) (tells_forfeits w live count n) cursor excess next (next_lives w count cursor live next (search_finds w.book.slots count cursor count))
 
 -- the rows of a turn
 turn_adds : (w : World) (before : List Row) (pays : List Turn) (t : Turn) (excess left : ℕ → ℕ) → Balances w before excess → Forfeits w excess pays (Some t) left
@@ -145,13 +148,13 @@ turn_adds w before [] t excess left balanced (lives, free, same) =
     subst (λ (f : ℕ → ℕ). Adds w before (row.Run w.book.time t.slot t.env ∷ []) f) (sym same) (adds_run w before w.book.time t.slot t.env excess lives free balanced)
 turn_adds w before (p ∷ pays) t excess left balanced (lives, owes, rest) =
     adds_pay w before (map (pay_row w.book.time) pays ++ row.Run w.book.time t.slot t.env ∷ []) w.book.time p.slot p.env excess left lives owes balanced
-    (λ paid. turn_adds w (before ++ row.Pay w.book.time p.slot p.env ∷ []) pays t (lowered p.env excess) left paid rest)
+    (λ paid. turn_adds w (before ++ row.Pay w.book.time p.slot p.env ∷ []) pays t (excess_after_forfeit p.env excess) left paid rest)
 
 runs_live : (w : World) (excess : ℕ → ℕ) (pays : List Turn) (t : Turn) (left : ℕ → ℕ) → Forfeits w excess pays (Some t) left → Lives w t.env
 runs_live w excess [] t left (lives, free, same) = lives
-runs_live w excess (p ∷ pays) t left (lives, owes, rest) = runs_live w (lowered p.env excess) pays t left rest
+runs_live w excess (p ∷ pays) t left (lives, owes, rest) = runs_live w (excess_after_forfeit p.env excess) pays t left rest
 
-take_turn_accounts : (w : World) (told : Told) (runs : Option Turn) → IsAccounted w → Forfeits w w.book.excess told.pays runs told.excess → IsAccounted (after w (take_turn w told runs))
+take_turn_accounts : (w : World) (told : WholeTurn) (runs : Option Turn) → IsAccounted w → Forfeits w w.book.excess told.pays runs told.excess → IsAccounted (after w (take_turn w told runs))
 take_turn_accounts w told None good forfeits = no_change_accounts w good
 take_turn_accounts w told (Some t) good forfeits =
     accounts w (take_turn w told (Some t)) told.excess good (turn_adds w w.rows told.pays t w.book.excess told.excess good.balanced forfeits) (record {
@@ -180,8 +183,8 @@ clock_accounts : KeepsAccounts clock
 clock_accounts w good = still_accounts w (clock w) good refl tt (λ i. keep_none)
 
 -- who lives runs on
-goes_on_accounts : (w : World) (r : Runner) → IsAccounted w → Lives w r.env → IsAccounted (after w (goes_on r w))
-goes_on_accounts w r good lives = mild_accounts w (goes_on r w) good (record {
+goes_on_accounts : (w : World) (r : Runner) → IsAccounted w → Lives w r.env → IsAccounted (after w (with_runner r w))
+goes_on_accounts w r good lives = mild_accounts w (with_runner r w) good (record {
   excess = refl;
   quiet = tt;
   keeps = λ i. keep_none;
@@ -190,30 +193,23 @@ goes_on_accounts w r good lives = mild_accounts w (goes_on r w) good (record {
 })
 
 -- at the end of its slice a runner is stopped or told
-slice_end_accounts : (w : World) (e handler : ℕ) → IsAccounted w → Lives w e → IsAccounted (after w (slice_end e handler w))
-slice_end_accounts w e handler good lives = by_test (handler == 0)
-  where
-    stops : Reply
-    stops = record { book = record w.book { runner = None }; items = no_items; rows = stop_row w.book e ∷ [] }
+stop_accounts : (w : World) (e : ℕ) → IsAccounted w → IsAccounted (after w (stop_at_end e w))
+stop_accounts w e good = mild_accounts w (stop_at_end e w) good (record {
+  excess = refl;
+  quiet = (search rules, tt);
+  keeps = λ i. keep_none;
+  slots = good.slots_live;
+  runner = λ x is. cc;
+})
 
-    ends : Reply
-    ends = record { book = record w.book { runner = Some (grace_of w e) }; items = only e (End ∷ []); rows = row.End w.book.time w.book.cursor e ∷ [] }
-
-    by_test : (t : Bool) → IsAccounted (after w (if t then stops else ends))
-    by_test true = mild_accounts w stops good (record {
-      excess = refl;
-      quiet = (search rules, tt);
-      keeps = λ i. keep_none;
-      slots = good.slots_live;
-      runner = λ x is. cc;
-    })
-    by_test false = mild_accounts w ends good (record {
-      excess = refl;
-      quiet = (search rules, tt);
-      keeps = keep_only e (End ∷ []) keep_end;
-      slots = good.slots_live;
-      runner = λ x is. let same : e ≡ x.env = cc in subst (λ (n : ℕ). Lives w n) same lives;
-    })
+slice_end_accounts : (w : World) (e : ℕ) → IsAccounted w → Lives w e → IsAccounted (after w (slice_end e w))
+slice_end_accounts w e good lives = mild_accounts w (slice_end e w) good (record {
+  excess = refl;
+  quiet = (search rules, tt);
+  keeps = keep_only e (End ∷ []) keep_end;
+  slots = good.slots_live;
+  runner = λ x is. let same : e ≡ x.env = cc in subst (λ (n : ℕ). Lives w n) same lives;
+})
 
 -- a quantum that it ran past its slice is its excess
 owes_accounts : (w : World) (e : ℕ) → IsAccounted w → Lives w e → IsAccounted (after w (owes_more e w))
@@ -227,22 +223,20 @@ kill_accounts w e good =
     let s = w.solos e in
     death_accounts w e Killed cause.Excess good (dies (is_dead s.life) s (dead cause.Excess s) refl (λ never. cc))
 
-judged_accounts : (w : World) (e : ℕ) → IsAccounted w → Lives w e → IsAccounted (after w (judged e w))
-judged_accounts w e good lives =
-    cond_both (nat_lt excess_limit (w.book.excess e)) (kill e w) (goes_on (grace_of w e) w) (λ (r : Reply). IsAccounted (after w r))
-    (λ over. kill_accounts w e good) (λ within. goes_on_accounts w (grace_of w e) good lives)
-
-run_out_accounts : (w : World) (e : ℕ) (p : Phase) → IsAccounted w → Lives w e → IsAccounted (after w (run_out e p w))
-run_out_accounts w e phase.Own good lives = slice_end_accounts w e (w.solos e).handlers.end good lives
-run_out_accounts w e phase.Grace good lives =
-    in_turn_accounts (owes_more e ∷ judged e ∷ []) w (judged_accounts (after w (owes_more e w)) e (owes_accounts w e good lives) lives)
+answer_accounts : (w : World) (r : Runner) (what : Timer) → IsAccounted w → Lives w r.env → IsAccounted (after w (timer_reply r what w))
+answer_accounts w r answer.Nothing good lives = goes_on_accounts w (record r { left = r.left - 1 }) good lives
+answer_accounts w r answer.End good lives = slice_end_accounts w r.env good lives
+answer_accounts w r answer.Stop good lives = stop_accounts w r.env good
+answer_accounts w r (answer.Over excess) good lives =
+    in_turn_accounts (owes_more r.env ∷ grace_again r.env ∷ []) w
+    (goes_on_accounts (after w (owes_more r.env w)) (grace_of w r.env) (owes_accounts w r.env good lives) lives)
+answer_accounts w r answer.Kill good lives =
+    in_turn_accounts (owes_more r.env ∷ kill r.env ∷ []) w
+    (kill_accounts (after w (owes_more r.env w)) r.env (owes_accounts w r.env good lives))
 
 count_accounts : (w : World) (runner : Option Runner) → w.book.runner ≡ runner → IsAccounted w → IsAccounted (after w (count_when runner w))
 count_accounts w None is good = no_change_accounts w good
-count_accounts w (Some r) is good =
-    let later : Runner = record r { left = r.left - 1 } in
-    cond_both (r.left - 1 == 0) (run_out r.env r.phase w) (goes_on later w) (λ (s : Reply). IsAccounted (after w s))
-    (λ out. run_out_accounts w r.env r.phase good (good.runner_lives r is)) (λ left. goes_on_accounts w later good (good.runner_lives r is))
+count_accounts w (Some r) is good = answer_accounts w r (timer_now w r) good (good.runner_lives r is)
 
 pub timer_accounts : KeepsAccounts timer
 timer_accounts w good =
@@ -272,7 +266,7 @@ next_accounts granted schedule w good =
 -- more ticks keep the accounts, and so the balance
 pub ticks_keep_accounts : GrantedMay → TicksKeepAccounts
 ticks_keep_accounts granted schedule w good zero = good
-ticks_keep_accounts granted schedule w good (suc t) = next_accounts granted schedule (run_on schedule w t) (ticks_keep_accounts granted schedule w good t)
+ticks_keep_accounts granted schedule w good (suc t) = next_accounts granted schedule (world_after_ticks schedule w t) (ticks_keep_accounts granted schedule w good t)
 
 -- At boot all live, nobody owes, and only slots have rows.
 none_owes : (e : ℕ) (programs : List ProgramValue) (b : Book) → (with_all_kept e programs b).excess ≡ b.excess

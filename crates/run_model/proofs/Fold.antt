@@ -9,14 +9,14 @@ use Rattle.run_model.specs.Run.{System, world_after, feed, IsFoldOfFeed}
 use Rattle.run_model.proofs.Phases.{absorb-append, in_turn_is_each}
 
 -- after phases each environment is what it makes of what it is given in them
-fold_of_phases : (phases : List (World → Reply)) (w : World) (e : ℕ) → (run_phases w phases).solos e ≡ absorb_all (w.solos e) ((in_turn phases w).items e)
+pub fold_of_phases : (phases : List (World → Reply)) (w : World) (e : ℕ) → (run_phases w phases).solos e ≡ absorb_all (w.solos e) ((in_turn phases w).items e)
 fold_of_phases phases w e = ap (λ (v : World). v.solos e) (sym (in_turn_is_each w phases))
 
 next_when : (phases : List (World → Reply)) (w : World) (e : ℕ) (idle : Bool)
     → (if idle then w else run_phases w phases).solos e ≡ absorb_all (w.solos e) (if idle then [] else (in_turn phases w).items e)
 next_when phases w e idle = search (rules, fold_of_phases)
 
-fold_of_feed : (system : System) (t e : ℕ) → (world_after system t).solos e ≡ absorb_all (absent e) (feed system e t)
+pub fold_of_feed : (system : System) (t e : ℕ) → (world_after system t).solos e ≡ absorb_all (absent e) (feed system e t)
 fold_of_feed system zero e = refl
 fold_of_feed system (suc t) e = grind (arith, common_steps, next_when, absorb-append, (fold_of_feed system t e))
 

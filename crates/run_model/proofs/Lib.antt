@@ -5,6 +5,7 @@ mod NextTurn
 mod Turns
 pub mod Lives
 mod Rows
-mod Replies
+pub mod Replies
 pub mod Balance
 mod Licensing
+mod Verified

@@ -1,6 +1,6 @@
 -- What each phase of a tick gives is licensed.
-use Rattle.std.proofs.Common.{◌≡◌, ◌≢◌, ◌+◌, ◌-◌, ℕ, zero, suc, List, [], ◌∷◌, ◌++◌, map, take, Bool, true, false, Option, Some, None, inl, inr, refl, sym, ap, subst, arith}
-use Rattle.std.specs.Prelude.{◌==◌, if◌then◌else◌, nat_lt, slice_get}
+use Rattle.std.proofs.Common.{◌≡◌, ◌≢◌, ◌+◌, ◌-◌, ℕ, zero, suc, List, [], ◌∷◌, ◌++◌, map, take, Bool, true, false, Option, Some, None, inl, inr, length, refl, sym, ◌∙◌, ap, subst, arith}
+use Rattle.std.specs.Prelude.{◌==◌, if◌then◌else◌, nat_lt, not, slice_get}
 use Rattle.std.specs.List.{All}
 use Rattle.std.proofs.lemmas.Bool.{cond_both, eq-eqb, eqb-true, eqb-false, ltb-true}
 use Rattle.boot_image.specs.ImageValue.{ImageValue, ProgramValue}
@@ -22,7 +22,8 @@ use Rattle.world_model.specs.declared.slot.Turn.{Turn}
 use Rattle.world_model.specs.declared.verdict.Verdict.{Verdict}
 use Rattle.world_model.specs.declared.verdict.Verdict.TheVariants.{Refuse, Grant}
 use Rattle.world_model.specs.Table.{set_at}
-use Rattle.world_model.specs.Book.{Book, excess_limit, first_turn, is_idle_book, lowered, owed, pays_first, running, sees, told_at, told_turn, whole_turn}
+use Rattle.world_model.specs.Book.{Book, first_turn, is_idle_book, excess_after_forfeit, owed, pays_first, running, sees, turn_within, turn_from, whole_turn}
+use Rattle.aegis_limits.specs.Limits.{excess_limit}
 use Rattle.world_model.specs.Death.{death_items, lost_with}
 use Rattle.external_event.specs.declared.event.Occurrence.{Occurrence}
 use Rattle.external_event.specs.declared.event.Occurrence.TheVariants as outside
@@ -37,21 +38,25 @@ use Rattle.world_model.specs.Event.{arrives, asks, happen, revokes, ring_bytes, 
 use Rattle.world_model.specs.Rings.{page_store, ring_of}
 use Rattle.world_model.specs.Item.{Item, Step, Start, End, Transfer, Killed, Answer, Gained, Lost, Packet, Line, Asked, Taken, deed_at}
 use Rattle.world_model.specs.May.{May}
-use Rattle.world_model.specs.PageCalls.{breaks, left_at, left_by, left_if, lost_if, page_bytes}
+use Rattle.world_model.specs.PageCalls.{lost_bindings, left_at, left_by, left_if, lost_if, page_bytes}
 use Rattle.world_model.specs.SlotCalls.{stop_row}
 use Rattle.world_model.specs.Solo.{Store, Key, Kept, Physical}
 use Rattle.world_model.specs.Step.{Act, Nothing, Stores, Calls, Raises, Dies}
-use Rattle.world_model.specs.Tick.{act_now, brings, count_when, goes_on, grace_of, judged, kill, owes_more, phases_after, run_out, step, step_when, take_turn, tick_phases, timer, turn, turn_when}
-use Rattle.world_model.specs.Verdict.{done, reply_of, reply_to, verdict}
+use Rattle.world_model.specs.Tick.{act_now, act_reply, count_when, kill, owes_more, phases_after, serve_phases, served, step, step_when, take_turn, tick_phases, timer, turn, turn_when, timer_reply, handles_end}
+use Rattle.world_model.specs.declared.timer.Timer.TheVariants as answer
+use Rattle.world_model.specs.Verdict.{done, reply_by_verdict, reply_to, verdict}
 use Rattle.world_model.specs.World.{World, Reply, after, in_turn, is_living, no_change, no_items, only, run_phases, tells}
 use Rattle.world_model.proofs.Slots.{holder_in}
 use Rattle.call_verdicts.specs.Granted.{GrantedMay}
 use Rattle.run_model.specs.Acting.{Acts, Does}
 use Rattle.run_model.specs.Boot.{boot_items, record_items}
-use Rattle.run_model.specs.Licensed.{AtArrival, AtBoot, AtEvent, AtRevocation, AtSignal, AtStep, AtTaking, AtTimer, AtTurn, Breaks, ByDeath, ByFree, ByRecap, FeedIsLicensed, GivenIsLicensed, IsOut, IsOverdue, Licensed, LicensedAt, LicensedBehind, LicensedIn, MayTaking}
-use Rattle.run_model.specs.Run.{System, feed, given_at, given_by, happens_in, items_in, next_phases, once_happened, takings_in, world_after}
+use Rattle.run_model.specs.Licensed.{AtArrival, AtBoot, AtEvent, AtRevocation, AtSignal, AtStep, AtTaking, AtTimer, AtTurn, Breaks, ByDeath, ByFree, ByRecap, FeedIsLicensed, GivenIsLicensed, IsOut, IsOverdue, IsGivenInPhase, Licensed, LicensedAt, LicensedBehind, LicensedIn, MayTaking}
+use Rattle.run_model.specs.Live.{HasLiveBinding, StoresAreLive}
+use Rattle.run_model.specs.Run.{System, after_phase, feed, given_at, given_below, given_by, happens_in, items_in, next_phases, once_happened, phases_in, takings_in, world_after}
+use Rattle.run_model.proofs.Phases.{moments_in_order, phases_give}
 use Rattle.run_model.proofs.NextTurn.{Found, search_finds}
 use Rattle.run_model.proofs.Telling.{call_does, call_named, call_stands, deed_may}
+use Rattle.world_model.specs.Timer.{timer_at_end}
 
 -- each of these items is so
 abbrev Each : (Item → Type 0) → List Item → Type 0
@@ -61,10 +66,6 @@ Each P (item ∷ items) = P item × Each P items
 each_both : (P : Item → Type 0) (xs ys : List Item) → Each P xs → Each P ys → Each P (xs ++ ys)
 each_both P [] ys first next = next
 each_both P (x ∷ xs) ys (its, rest) next = (its, each_both P xs ys rest next)
-
-each_then : (P Q : Item → Type 0) → ((item : Item) → P item → Q item) → (xs : List Item) → Each P xs → Each Q xs
-each_then P Q more [] each = tt
-each_then P Q more (x ∷ xs) (its, rest) = (more x its, each_then P Q more xs rest)
 
 each_all : (P : Item → Type 0) (xs : List Item) → Each P xs → All P xs
 each_all P [] each k d below = absurd (omega arith)
@@ -80,7 +81,7 @@ each_only : (P : ℕ → Item → Type 0) (n : ℕ) (xs : List Item) (i : ℕ) �
 each_only P n xs i its = each_at P n xs no_items i its (λ other. tt)
 
 -- the bindings of a page that are broken
-each_break : (P : Item → Type 0) (b : Book) (page i : ℕ) → (is_bound page (b.binds i) ≡ true → P (Lost page)) → Each P (breaks b page i)
+each_break : (P : Item → Type 0) (b : Book) (page i : ℕ) → (is_bound page (b.binds i) ≡ true → P (Lost page)) → Each P (lost_bindings b page i)
 each_break P b page i its = by_test (is_bound page (b.binds i)) refl
   where
     by_test : (t : Bool) → is_bound page (b.binds i) ≡ t → Each P (lost_if t page)
@@ -90,8 +91,8 @@ each_break P b page i its = by_test (is_bound page (b.binds i)) refl
 each_loss : (P : Item → Type 0) (b : Book) (gone i n : ℕ) → ((page : ℕ) → belongs_to gone (b.pages page) ≡ true → is_bound page (b.binds i) ≡ true → P (Lost page)) → Each P (lost_with b gone i n)
 each_loss P b gone i zero its = tt
 each_loss P b gone i (suc n) its =
-    each_both P (lost_with b gone i n) (if belongs_to gone (b.pages n) then breaks b n i else []) (each_loss P b gone i n its)
-    (cond_both (belongs_to gone (b.pages n)) (breaks b n i) [] (Each P) (λ owned. each_break P b n i (its n owned)) (λ other. tt))
+    each_both P (lost_with b gone i n) (if belongs_to gone (b.pages n) then lost_bindings b n i else []) (each_loss P b gone i n its)
+    (cond_both (belongs_to gone (b.pages n)) (lost_bindings b n i) [] (Each P) (λ owned. each_break P b n i (its n owned)) (λ other. tt))
 
 each_death : (P : Item → Type 0) (b : Book) (gone i : ℕ) → (i ≢ gone → (page : ℕ) → belongs_to gone (b.pages page) ≡ true → is_bound page (b.binds i) ≡ true → P (Lost page)) → Each P (death_items b gone i)
 each_death P b gone i its =
@@ -148,18 +149,18 @@ abbrev IsFree : (ℕ → Option Hold) → (ℕ → ℕ) → Turn → Type 0
 IsFree slots excess t = (holder_in (slots t.slot) ≡ Some t.env) × (excess t.env ≡ 0)
 
 module _ (slots : ℕ → Option Hold) (count : ℕ) where
-  found_free : (n cursor : ℕ) (excess : ℕ → ℕ) (t : Turn) → ((c : ℕ) (x : ℕ → ℕ) → (told_turn slots count n c x).runs ≡ Some t → IsFree slots (told_turn slots count n c x).excess t)
-      → (o : Option Turn) → Found slots count cursor count o → (told_at (told_turn slots count n) cursor excess o).runs ≡ Some t → IsFree slots (told_at (told_turn slots count n) cursor excess o).excess t
+  found_free : (n cursor : ℕ) (excess : ℕ → ℕ) (t : Turn) → ((c : ℕ) (x : ℕ → ℕ) → (turn_from slots count n c x).runs ≡ Some t → IsFree slots (turn_from slots count n c x).excess t)
+      → (o : Option Turn) → Found slots count cursor count o → (turn_within (turn_from slots count n) cursor excess o).runs ≡ Some t → IsFree slots (turn_within (turn_from slots count n) cursor excess o).excess t
   found_free n cursor excess t further None found is = cc
   found_free n cursor excess t further (Some x) found is = by_test (excess x.env == 0) refl is
     where
       by_test : (free : Bool) → (excess x.env == 0) ≡ free
-          → (if free then record { pays = []; runs = Some x; excess = excess; cursor = x.slot } else pays_first x (told_turn slots count n x.slot (lowered x.env excess))).runs ≡ Some t
-          → IsFree slots (if free then record { pays = []; runs = Some x; excess = excess; cursor = x.slot } else pays_first x (told_turn slots count n x.slot (lowered x.env excess))).excess t
+          → (if free then record { pays = []; runs = Some x; excess = excess; cursor = x.slot } else pays_first x (turn_from slots count n x.slot (excess_after_forfeit x.env excess))).runs ≡ Some t
+          → IsFree slots (if free then record { pays = []; runs = Some x; excess = excess; cursor = x.slot } else pays_first x (turn_from slots count n x.slot (excess_after_forfeit x.env excess))).excess t
       by_test true free is = let same : x ≡ t = cc in subst (λ (y : Turn). IsFree slots excess y) same (found.held, eqb-true (excess x.env) 0 free)
-      by_test false owes is = further x.slot (lowered x.env excess) is
+      by_test false owes is = further x.slot (excess_after_forfeit x.env excess) is
 
-  told_free : (n cursor : ℕ) (excess : ℕ → ℕ) (t : Turn) → (told_turn slots count n cursor excess).runs ≡ Some t → IsFree slots (told_turn slots count n cursor excess).excess t
+  told_free : (n cursor : ℕ) (excess : ℕ → ℕ) (t : Turn) → (turn_from slots count n cursor excess).runs ≡ Some t → IsFree slots (turn_from slots count n cursor excess).excess t
   told_free zero cursor excess t is = cc
   told_free (suc n) cursor excess t is =
       found_free n cursor excess t (λ c x runs. told_free n c x t runs) (first_turn slots count cursor count) (search_finds slots count cursor count) is
@@ -201,33 +202,37 @@ module _ (x : Taking) (w : World) (may : MayTaking w x) (i : ℕ) where
   taking_licensed : Each (AtTaking x w i) ((takes x w).items i)
   taking_licensed =
       let owned = owned_belongs x.env (w.book.pages x.page) may.owned in
-      each_at (AtTaking x w) x.env (Taken x.page x.backup ∷ []) (λ e. copy_left w x x.backup e ++ breaks w.book x.page e) i (record { may = may; its = refl }, tt)
-      (λ other. each_both (AtTaking x w i) (copy_left w x x.backup i) (breaks w.book x.page i) (copy_licensed other x.backup refl)
+      each_at (AtTaking x w) x.env (Taken x.page x.backup ∷ []) (λ e. copy_left w x x.backup e ++ lost_bindings w.book x.page e) i (record { may = may; its = refl }, tt)
+      (λ other. each_both (AtTaking x w i) (copy_left w x x.backup i) (lost_bindings w.book x.page i) (copy_licensed other x.backup refl)
       (each_break (AtTaking x w i) w.book x.page i (λ bound. record { may = may; its = refl; has = record { another = other; owned = owned; bound = bound } })))
 
--- The step of a runner.
-module _ (w : World) (e : ℕ) where
-  -- what others lose of a page of the runner's
-  broken : (page : ℕ) → belongs_to e (w.book.pages page) ≡ true → Breaks w e page → (i : ℕ) → i ≢ e → Each (AtStep w i) (breaks w.book page i)
-  broken page owned why i other = each_break (AtStep w i) w.book page i (λ bound. inr (record { owner = e; has = record { another = other; owned = owned; bound = bound }; breaks = why }))
+-- In this world a store to a page that isn't guaranteed goes through a live binding.
+abbrev StoresIn : System → ℕ → World → Type 0
+StoresIn system t w = (e : ℕ) (x : Store) (page : ℕ) → Acts w e (Stores x) → x.key ≡ Physical page → HasLiveBinding system t e page
 
-  deed_licensed : (d : Deed) → Does w e d → May w e d → (i : ℕ) → Each (AtStep w i) ((done w e d).items i)
+-- The step of a runner.
+module _ (system : System) (t : ℕ) (w : World) (e : ℕ) where
+  -- what others lose of a page of the runner's
+  broken : (page : ℕ) → belongs_to e (w.book.pages page) ≡ true → Breaks w e page → (i : ℕ) → i ≢ e → Each (AtStep system t w i) (lost_bindings w.book page i)
+  broken page owned why i other = each_break (AtStep system t w i) w.book page i (λ bound. inr (record { owner = e; has = record { another = other; owned = owned; bound = bound }; breaks = why }))
+
+  deed_licensed : (d : Deed) → Does w e d → May w e d → (i : ℕ) → Each (AtStep system t w i) ((done w e d).items i)
   deed_licensed Answers does may i = tt
   deed_licensed Stops does may i = tt
-  deed_licensed (Gives target) does may i = each_only (AtStep w) target (Start ∷ []) i (record { giver = e; does = does; may = may }, tt)
+  deed_licensed (Gives target) does may i = each_only (AtStep system t w) target (Start ∷ []) i (record { giver = e; does = does; may = may }, tt)
   deed_licensed (Own own) does may i = tt
   deed_licensed (Allocates page words) does may i =
-      each_only (AtStep w) e (Gained page true zero_page ∷ []) i (inl (record { words = words; does = does; may = may; mode = refl; zeros = refl }), tt)
+      each_only (AtStep system t w) e (Gained page true zero_page ∷ []) i (inl (record { words = words; does = does; may = may; mode = refl; zeros = refl }), tt)
   deed_licensed (Frees page) does may i =
-      each_at (AtStep w) e (Lost page ∷ []) (breaks w.book page) i (inl (record { does = does; may = may }), tt) (broken page (owned_belongs e (w.book.pages page) may.owned) (ByFree does) i)
+      each_at (AtStep system t w) e (Lost page ∷ []) (lost_bindings w.book page) i (inl (record { does = does; may = may }), tt) (broken page (owned_belongs e (w.book.pages page) may.owned) (ByFree does) i)
   deed_licensed (Recaps page words) does may i =
-      each_at (AtStep w) e [] (breaks w.book page) i tt (broken page (owned_belongs e (w.book.pages page) may.owned) (ByRecap words does) i)
+      each_at (AtStep system t w) e [] (lost_bindings w.book page) i tt (broken page (owned_belongs e (w.book.pages page) may.owned) (ByRecap words does) i)
   deed_licensed (Binds b word) does may i =
-      each_only (AtStep w) e (Gained b.page b.writable (page_bytes w b.page) ∷ []) i
+      each_only (AtStep system t w) e (Gained b.page b.writable (page_bytes w b.page) ∷ []) i
       (inr (record { binding = b; word = word; does = does; may = may; its = refl; mode = refl; same = refl }), tt)
   deed_licensed (Unbinds vpn) does may i = tt
   deed_licensed (Transfers target kind) does may i =
-      each_only (AtStep w) target (Transfer e kind (carried (w.solos e).cpu) ∷ []) i (record { does = does; may = may; its = refl }, tt)
+      each_only (AtStep system t w) target (Transfer e kind (carried (w.solos e).cpu) ∷ []) i (record { does = does; may = may; its = refl }, tt)
   deed_licensed (TakesSlot slot) does may i = tt
   deed_licensed (DropsSlot slot) does may i = tt
   deed_licensed (TakesLine line) does may i = tt
@@ -237,73 +242,61 @@ module _ (w : World) (e : ℕ) where
   deed_licensed (Downloads claim address words) does may i = tt
   deed_licensed (Loads page) does may i = tt
 
-  module _ (granted : GrantedMay) where
-    call_licensed : (c : Option Call) → Acts w e (Calls c) → (i : ℕ) → Each (AtStep w i) ((reply_to w e c).items i)
+  module _ (granted : GrantedMay) (live : StoresIn system t w) where
+    call_licensed : (c : Option Call) → Acts w e (Calls c) → (i : ℕ) → Each (AtStep system t w i) ((reply_to w e c).items i)
     call_licensed c acts i = by_verdict (verdict w e c) refl
       where
-        answered : (v : Verdict) → verdict w e c ≡ v → Each (AtStep w i) (only e (Answer v ∷ []) i)
-        answered v is = each_only (AtStep w) e (Answer v ∷ []) i (record { call = c; acts = acts; its = is }, tt)
+        answered : (v : Verdict) → verdict w e c ≡ v → Each (AtStep system t w i) (only e (Answer v ∷ []) i)
+        answered v is = each_only (AtStep system t w) e (Answer v ∷ []) i (record { call = c; acts = acts; its = is }, tt)
 
-        by_verdict : (v : Verdict) → verdict w e c ≡ v → Each (AtStep w i) ((reply_of w e v).items i)
+        by_verdict : (v : Verdict) → verdict w e c ≡ v → Each (AtStep system t w i) ((reply_by_verdict w e v).items i)
         by_verdict (Refuse code value) is = answered (Refuse code value) is
         by_verdict (Grant value) is =
             let d = deed_at (w.solos e) value in
-            each_both (AtStep w i) (only e (Answer (Grant value) ∷ []) i) ((done w e d).items i) (answered (Grant value) is)
+            each_both (AtStep system t w i) (only e (Answer (Grant value) ∷ []) i) ((done w e d).items i) (answered (Grant value) is)
             (deed_licensed d (call_does w e c acts value is) (deed_may granted w e c (call_named w e c acts.comes) value is) i)
 
-    store_licensed : (x : Store) → Acts w e (Stores x) → (i : ℕ) → Each (AtStep w i) (left_by w.book e x i)
+    store_licensed : (x : Store) → Acts w e (Stores x) → (i : ℕ) → Each (AtStep system t w i) (left_by w.book e x i)
     store_licensed x acts i = by_key x.key refl
       where
-        by_sight : (page : ℕ) → x.key ≡ Physical page → i ≢ e → (t : Bool) → sees w.book i page ≡ t → Each (AtStep w i) (left_if t page x)
-        by_sight page into other true seen = (record { writer = e; another = other; store = x; acts = acts; into = into; at = refl; its = refl; seen = seen }, tt)
+        by_sight : (page : ℕ) → x.key ≡ Physical page → i ≢ e → (sight : Bool) → sees w.book i page ≡ sight → Each (AtStep system t w i) (left_if sight page x)
+        by_sight page into other true seen = (record { writer = e; another = other; store = x; acts = acts; into = into; at = refl; its = refl; right = live e x page acts into; seen = seen }, tt)
         by_sight page into other false seen = tt
 
-        by_key : (key : Key) → x.key ≡ key → Each (AtStep w i) (left_at w.book e x key i)
+        by_key : (key : Key) → x.key ≡ key → Each (AtStep system t w i) (left_at w.book e x key i)
         by_key (Kept vpn) into = tt
         by_key (Physical page) into =
             let seen = sees w.book i page in
-            cond_both (i == e) [] (left_if seen page x) (Each (AtStep w i)) (λ own. tt) (λ other. by_sight page into (eqb-false i e other) seen refl)
+            cond_both (i == e) [] (left_if seen page x) (Each (AtStep system t w i)) (λ own. tt) (λ other. by_sight page into (eqb-false i e other) seen refl)
 
-    act_licensed : (act : Act) → Acts w e act → (i : ℕ) → Each (AtStep w i) ((brings e act (after w (tells e Step w))).items i)
+    act_licensed : (act : Act) → Acts w e act → (i : ℕ) → Each (AtStep system t w i) ((act_reply e act (after w (tells e Step w))).items i)
     act_licensed Nothing acts i = tt
     act_licensed (Stores x) acts i = store_licensed x acts i
-    act_licensed (Calls c) acts i = subst (λ (v : World). Each (AtStep w i) ((brings e (Calls c) v).items i)) (sym (call_stands w e c acts.comes)) (call_licensed c acts i)
+    act_licensed (Calls c) acts i = subst (λ (v : World). Each (AtStep system t w i) ((act_reply e (Calls c) v).items i)) (sym (call_stands w e c acts.comes)) (call_licensed c acts i)
     act_licensed (Raises exc) acts i = tt
     act_licensed (Dies cause) acts i =
-        each_death (AtStep w i) w.book e i (λ other page owned bound. inr (record { owner = e; has = record { another = other; owned = owned; bound = bound }; breaks = ByDeath cause acts }))
+        each_death (AtStep system t w i) w.book e i (λ other page owned bound. inr (record { owner = e; has = record { another = other; owned = owned; bound = bound }; breaks = ByDeath cause acts }))
 
-step_licensed : GrantedMay → (w : World) (i : ℕ) → Each (AtStep w i) ((step w).items i)
-step_licensed granted w i = by_runner w.book.runner refl
+step_licensed : GrantedMay → (system : System) (t : ℕ) (w : World) → StoresIn system t w → (i : ℕ) → Each (AtStep system t w i) ((step w).items i)
+step_licensed granted system t w live i = by_runner w.book.runner refl
   where
-    by_runner : (o : Option Runner) → w.book.runner ≡ o → Each (AtStep w i) ((step_when w o).items i)
+    by_runner : (o : Option Runner) → w.book.runner ≡ o → Each (AtStep system t w i) ((step_when w o).items i)
     by_runner None runs = tt
     by_runner (Some r) runs =
         let e = r.env in
         let act = act_now w e in
-        let items = (brings e act (after w (tells e Step w))).items i in
-        each_both (AtStep w i) (only e (Step ∷ []) i) (items ++ []) (each_only (AtStep w) e (Step ∷ []) i (ap running runs, tt))
-        (each_both (AtStep w i) items [] (act_licensed w e granted act (record { runs = ap running runs; comes = refl }) i) tt)
+        let items = (act_reply e act (after w (tells e Step w))).items i in
+        each_both (AtStep system t w i) (only e (Step ∷ []) i) (items ++ []) (each_only (AtStep system t w) e (Step ∷ []) i (ap running runs, tt))
+        (each_both (AtStep system t w i) items [] (act_licensed system t w e granted live act (record { runs = ap running runs; comes = refl }) i) tt)
 
 -- The timer.
-module _ (w : World) (r : Runner) (runs : w.book.runner ≡ Some r) (last : r.left - 1 ≡ 0) (i : ℕ) where
+module _ (w : World) (r : Runner) (runs : w.book.runner ≡ Some r) (i : ℕ) where
   abbrev e : ℕ
   e = r.env
-
-  out : (p : Phase) → r.phase ≡ p → IsOut w e p
-  out p is = record { runner = r; runs = runs; its = refl; so = is; last = last }
-
-  end_licensed : r.phase ≡ phase.Own → (none : Bool) → ((w.solos e).handlers.end == 0) ≡ none
-      → (let reply : Reply = (if none then record { book = record w.book { runner = None }; items = no_items; rows = stop_row w.book e ∷ [] }
-      else record { book = record w.book { runner = Some (grace_of w e) }; items = only e (End ∷ []); rows = row.End w.book.time w.book.cursor e ∷ [] }) in Each (AtTimer w i) (reply.items i))
-  end_licensed own true is = tt
-  end_licensed own false is = each_only (AtTimer w) e (End ∷ []) i (record { out = out phase.Own own; handles = eqb-false (w.solos e).handlers.end 0 is }, tt)
 
   -- the world once its excess has risen
   abbrev owing : World
   owing = after w (owes_more e w)
-
-  risen : owing.book.excess e ≡ w.book.excess e + 1
-  risen = ap (λ (own : Bool). if own then w.book.excess e + 1 else w.book.excess e) (eq-eqb e e refl)
 
   kill_licensed : IsOverdue w e → Each (AtTimer w i) ((kill e owing).items i)
   kill_licensed overdue =
@@ -312,70 +305,121 @@ module _ (w : World) (r : Runner) (runs : w.book.runner ≡ Some r) (last : r.le
       (each_both (AtTimer w i) lost []
       (each_death (AtTimer w i) (after owing (tells e Killed owing)).book e i (λ other page owned bound. record { owner = e; has = record { another = other; owned = owned; bound = bound }; overdue = overdue })) tt)
 
-  grace_licensed : r.phase ≡ phase.Grace → (over : Bool) → nat_lt excess_limit (owing.book.excess e) ≡ over
-      → (let reply : Reply = (if over then kill e owing else goes_on (grace_of owing e) owing) in Each (AtTimer w i) (reply.items i))
-  grace_licensed grace true is = kill_licensed (record { out = out phase.Grace grace; owes = omega (arith, risen, ltb-true excess_limit (owing.book.excess e) is) })
-  grace_licensed grace false is = tt
+  answer_licensed : (last : Bool) → (r.left == 1) ≡ last
+      → Each (AtTimer w i) ((timer_reply r (if last then timer_at_end r.phase (handles_end w e) (w.book.excess e) else answer.Nothing) w).items i)
+  answer_licensed false more = tt
+  answer_licensed true one = by_phase r.phase refl
+    where
+      out : (p : Phase) → r.phase ≡ p → IsOut w e p
+      out p is = record { runner = r; runs = runs; its = refl; so = is; last = ap (λ (left : ℕ). left - 1) (eqb-true r.left 1 one) }
 
-  out_licensed : (p : Phase) → r.phase ≡ p → Each (AtTimer w i) ((run_out e p w).items i)
-  out_licensed phase.Own own = end_licensed own ((w.solos e).handlers.end == 0) refl
-  out_licensed phase.Grace grace = each_both (AtTimer w i) ((judged e owing).items i) [] (grace_licensed grace (nat_lt excess_limit (owing.book.excess e)) refl) tt
+      by_handler : r.phase ≡ phase.Own → (none : Bool) → ((w.solos e).handlers.end == 0) ≡ none
+          → Each (AtTimer w i) ((timer_reply r (timer_at_end phase.Own (not none) (w.book.excess e)) w).items i)
+      by_handler own true is = tt
+      by_handler own false is = each_only (AtTimer w) e (End ∷ []) i (record { out = out phase.Own own; handles = eqb-false (w.solos e).handlers.end 0 is }, tt)
+
+      by_excess : r.phase ≡ phase.Grace → (over : Bool) → nat_lt excess_limit (w.book.excess e + 1) ≡ over
+          → Each (AtTimer w i) ((timer_reply r (if over then answer.Kill else answer.Over (w.book.excess e + 1)) w).items i)
+      by_excess grace true is = each_both (AtTimer w i) ((kill e owing).items i) [] (kill_licensed (record { out = out phase.Grace grace; owes = ltb-true excess_limit (w.book.excess e + 1) is })) tt
+      by_excess grace false is = tt
+
+      by_phase : (p : Phase) → r.phase ≡ p → Each (AtTimer w i) ((timer_reply r (timer_at_end p (handles_end w e) (w.book.excess e)) w).items i)
+      by_phase phase.Own own = by_handler own ((w.solos e).handlers.end == 0) refl
+      by_phase phase.Grace grace = by_excess grace (nat_lt excess_limit (w.book.excess e + 1)) refl
 
 timer_licensed : (w : World) (i : ℕ) → Each (AtTimer w i) ((timer w).items i)
 timer_licensed w i = each_both (AtTimer w i) ((count_when w.book.runner w).items i) [] (by_runner w.book.runner refl) tt
   where
-    by_left : (r : Runner) → w.book.runner ≡ Some r → (t : Bool) → (r.left - 1 == 0) ≡ t
-        → (let reply : Reply = (if t then run_out r.env r.phase w else goes_on (record r { left = r.left - 1 }) w) in Each (AtTimer w i) (reply.items i))
-    by_left r runs true is = out_licensed w r runs (eqb-true (r.left - 1) 0 is) i r.phase refl
-    by_left r runs false is = tt
-
     by_runner : (o : Option Runner) → w.book.runner ≡ o → Each (AtTimer w i) ((count_when o w).items i)
     by_runner None runs = tt
-    by_runner (Some r) runs = by_left r runs (r.left - 1 == 0) refl
+    by_runner (Some r) runs = answer_licensed w r runs i (r.left == 1) refl
 
--- Phase by phase, where what is taken may be
-module _ (granted : GrantedMay) where
-  behind_licensed : (xs : List Taking) (w : World) → AreTakable (revocations w.book) w.book.time xs
-      → (k e : ℕ) → (let m = run_phases w (take k (tick_phases xs)) in Each (LicensedBehind xs k m e) (given_by m (slice_get (tick_phases xs) k) e))
-  behind_licensed [] w may zero e = tt
-  behind_licensed [] w may (suc zero) e = turn_licensed (run_phases w (take 1 (tick_phases []))) e
-  behind_licensed [] w may (suc (suc zero)) e = step_licensed granted (run_phases w (take 2 (tick_phases []))) e
-  behind_licensed [] w may (suc (suc (suc zero))) e = timer_licensed (run_phases w (take 3 (tick_phases []))) e
-  behind_licensed [] w may (suc (suc (suc (suc k)))) e = tt
-  behind_licensed (x ∷ xs) w (may, rest) zero e = taking_licensed x w may e
-  behind_licensed (x ∷ xs) w (may, rest) (suc k) e = behind_licensed xs (after w (takes x w)) rest k e
+-- Phase by phase, where what is taken may be, and the step's store goes through a live binding.
+module _ (granted : GrantedMay) (system : System) (t : ℕ) where
+  -- the step's world, from the world in which this is taken on
+  abbrev stepping : List Taking → World → World
+  stepping xs w = after_phase turn (run_phases w (serve_phases xs))
 
-  phase_licensed : (happens : List Occurrence) (xs : List Taking) (w : World) → (let v = run_phases w (map happen happens) in AreTakable (revocations v.book) v.book.time xs)
-      → (k e : ℕ) → (let m = run_phases w (take k (phases_after happens xs)) in Each (LicensedIn happens xs k m e) (given_by m (slice_get (phases_after happens xs) k) e))
-  phase_licensed [] xs w may k e = behind_licensed xs w may k e
-  phase_licensed (what ∷ happens) xs w may zero e = event_licensed what w e
-  phase_licensed (what ∷ happens) xs w may (suc k) e = phase_licensed happens xs (after w (happen what w)) may k e
+  behind_licensed : (xs : List Taking) (w : World) → AreTakable (revocations w.book) w.book.time xs → StoresIn system t (stepping xs w)
+      → (k e : ℕ) → (let m = run_phases w (take k (tick_phases xs)) in Each (LicensedBehind system t xs k m e) (given_by m (slice_get (tick_phases xs) k) e))
+  behind_licensed [] w may live zero e = tt
+  behind_licensed [] w may live (suc zero) e = turn_licensed (run_phases w (take 1 (tick_phases []))) e
+  behind_licensed [] w may live (suc (suc zero)) e = step_licensed granted system t (run_phases w (take 2 (tick_phases []))) live e
+  behind_licensed [] w may live (suc (suc (suc zero))) e = timer_licensed (run_phases w (take 3 (tick_phases []))) e
+  behind_licensed [] w may live (suc (suc (suc (suc k)))) e = tt
+  behind_licensed (x ∷ xs) w (may, rest) live zero e = taking_licensed x w may e
+  behind_licensed (x ∷ xs) w (may, rest) live (suc k) e = behind_licensed xs (after w (takes x w)) rest live k e
 
-  given_licensed : TakingsAreTakable → (system : System) (t k e : ℕ) → Each (LicensedAt system t k e) (given_at system t k e)
-  given_licensed takable system t k e =
+  phase_licensed : (happens : List Occurrence) (xs : List Taking) (w : World)
+      → (let v = run_phases w (map happen happens) in AreTakable (revocations v.book) v.book.time xs) → StoresIn system t (stepping xs (run_phases w (map happen happens)))
+      → (k e : ℕ) → (let m = run_phases w (take k (phases_after happens xs)) in Each (LicensedIn system t happens xs k m e) (given_by m (slice_get (phases_after happens xs) k) e))
+  phase_licensed [] xs w may live k e = behind_licensed xs w may live k e
+  phase_licensed (what ∷ happens) xs w may live zero e = event_licensed what w e
+  phase_licensed (what ∷ happens) xs w may live (suc k) e = phase_licensed happens xs (after w (happen what w)) may live k e
+
+-- an item of a list stands in its first or its second part
+data Place (xs ys : List Item) (n : ℕ) (item : Item) : Type 0 where
+  Early : slice_get xs n ≡ Some item → Place xs ys n item
+  Late : (m : ℕ) → n ≡ length xs + m → slice_get ys m ≡ Some item → Place xs ys n item
+
+place_later : (x : Item) (xs ys : List Item) (n : ℕ) (item : Item) → Place xs ys n item → Place (x ∷ xs) ys (suc n) item
+place_later x xs ys n item (Early is) = Early is
+place_later x xs ys n item (Late m stands is) = Late m (omega (arith, stands)) is
+
+place_in : (xs ys : List Item) (n : ℕ) (item : Item) → slice_get (xs ++ ys) n ≡ Some item → Place xs ys n item
+place_in [] ys n item is = Late n (omega arith) is
+place_in (x ∷ xs) ys zero item is = Early is
+place_in (x ∷ xs) ys (suc n) item is = place_later x xs ys n item (place_in xs ys n item is)
+
+each_place : (P : Item → Type 0) (xs : List Item) → Each P xs → (n : ℕ) (item : Item) → slice_get xs n ≡ Some item → P item
+each_place P [] each n item is = cc
+each_place P (x ∷ xs) (its, rest) zero item is = let same : x ≡ item = cc in subst P same its
+each_place P (x ∷ xs) (its, rest) (suc n) item is = each_place P xs rest n item is
+
+module _ (granted : GrantedMay) (takable : TakingsAreTakable) (live : StoresAreLive) where
+  given_licensed : (system : System) (t k e : ℕ) → Each (LicensedAt system t k e) (given_at system t k e)
+  given_licensed system t k e =
       let w = world_after system t in
       let v = once_happened system.schedule w in
-      phase_licensed (happens_in system.schedule w) (takings_in system t) w (takable (revocations v.book) v.book.time v.count) k e
+      let order = moments_in_order system t in
+      let stepped = order.turned ∙ ap (after_phase turn) (order.served ∙ ap served order.happened) in
+      phase_licensed granted system t (happens_in system.schedule w) (takings_in system t) w (takable (revocations v.book) v.book.time v.count)
+      (subst (StoresIn system t) stepped (live system t)) k e
 
-  pub given_is_licensed : TakingsAreTakable → GivenIsLicensed
-  given_is_licensed takable system t k e = each_all (LicensedAt system t k e) (given_at system t k e) (given_licensed takable system t k e)
+  pub given_is_licensed : GivenIsLicensed
+  given_is_licensed system t k e = each_all (LicensedAt system t k e) (given_at system t k e) (given_licensed system t k e)
 
-  -- and so in a tick
-  in_turn_each : (P : Item → Type 0) (phases : List (World → Reply)) (w : World) (e : ℕ) → ((k : ℕ) → Each P (given_by (run_phases w (take k phases)) (slice_get phases k) e)) → Each P ((in_turn phases w).items e)
-  in_turn_each P [] w e each = tt
-  in_turn_each P (phase ∷ phases) w e each =
-      let v = after w (phase w) in
-      each_both P ((phase w).items e) ((in_turn phases v).items e) (each 0) (in_turn_each P phases v e (λ k. each (suc k)))
+  -- in a tick
+  module _ (system : System) (t e n : ℕ) (item : Item) where
+    abbrev Given : ℕ → Type 0
+    Given m = n ≡ length (feed system e t) + m → IsGivenInPhase system (suc t) e n item
 
-  tick_licensed : TakingsAreTakable → (system : System) (t e : ℕ) → Each (λ item. (k : ℕ) × LicensedAt system t k e item) (items_in system t e)
-  tick_licensed takable system t e =
-      let w = world_after system t in
-      let phases = next_phases system.schedule w in
-      cond_both (is_idle_book w.book) [] ((in_turn phases w).items e) (Each (λ item. (k : ℕ) × LicensedAt system t k e item)) (λ idle. tt)
-      (λ busy. in_turn_each (λ item. (k : ℕ) × LicensedAt system t k e item) phases w e
-      (λ k. each_then (LicensedAt system t k e) (λ item. (n : ℕ) × LicensedAt system t n e item) (λ item its. (k, its)) (given_at system t k e) (given_licensed takable system t k e)))
+    here : (k m : ℕ) → Place (given_below system t k e) (given_at system t k e) m item → (slice_get (given_below system t k e) m ≡ Some item → Given m) → Given m
+    here k m (Early is) before = before is
+    here k m (Late place at is) before = λ stands. record {
+      tick = t;
+      earlier = omega arith;
+      phase = k;
+      place = place;
+      there = is;
+      stands = omega (arith, stands, at);
+      licence = each_place (LicensedAt system t k e) (given_at system t k e) (given_licensed system t k e) place item is;
+    }
 
-  -- in a feed
+    phase_place : (k m : ℕ) → slice_get (given_below system t k e) m ≡ Some item → Given m
+    phase_place zero m is = cc
+    phase_place (suc k) m is = here k m (place_in (given_below system t k e) (given_at system t k e) m item is) (phase_place k m)
+
+    tick_place : (m : ℕ) → slice_get (items_in system t e) m ≡ Some item → Given m
+    tick_place m is = by_idle (is_idle_book (world_after system t).book) refl
+      where
+        by_idle : (idle : Bool) → is_idle_book (world_after system t).book ≡ idle → Given m
+        by_idle true idle =
+            let none : slice_get {X = Item} [] m ≡ Some item = ap (λ (i : Bool). slice_get (if i then [] else (in_turn (next_phases system.schedule (world_after system t)) (world_after system t)).items e) m) (sym idle) ∙ is in
+            cc
+        by_idle false busy = phase_place (phases_in system t) m (ap (λ items. slice_get items m) (sym (phases_give system t e busy)) ∙ is)
+
+  -- at boot
   boot_licensed : (image : ImageValue) (e : ℕ) → Each (AtBoot image e) (boot_items image e)
   boot_licensed image e = by_program (slice_get image.programs e) refl
     where
@@ -383,16 +427,17 @@ module _ (granted : GrantedMay) where
       by_program None there = tt
       by_program (Some p) there = (record { program = p; there = there; number_is = refl; name_is = refl; entry_is = refl; accept_is = refl; kept_is = refl }, tt)
 
-  feed_licensed : TakingsAreTakable → (system : System) (t e : ℕ) → Each (Licensed system t e) (feed system e t)
-  feed_licensed takable system zero e = each_then (AtBoot system.image e) (Licensed system zero e) (λ item its. inl its) (boot_items system.image e) (boot_licensed system.image e)
-  feed_licensed takable system (suc t) e =
-      each_both (Licensed system (suc t) e) (feed system e t) (items_in system t e)
-      (each_then (Licensed system t e) (Licensed system (suc t) e) (λ item its. later item its) (feed system e t) (feed_licensed takable system t e))
-      (each_then (λ item. (k : ℕ) × LicensedAt system t k e item) (Licensed system (suc t) e) (λ item its. inr (t, omega arith, its)) (items_in system t e) (tick_licensed takable system t e))
-    where
-      later : (item : Item) → Licensed system t e item → Licensed system (suc t) e item
-      later item (inl boot) = inl boot
-      later item (inr its) = inr (its.0, omega (arith, its.1), its.2)
+  -- and in a feed
+  later : (system : System) (t e n : ℕ) (item : Item) → Licensed system t e n item → Licensed system (suc t) e n item
+  later system t e n item (inl boot) = inl boot
+  later system t e n item (inr its) =
+      inr (record { tick = its.tick; earlier = omega (arith, its.earlier); phase = its.phase; place = its.place; there = its.there; stands = its.stands; licence = its.licence })
 
-  pub feed_is_licensed : TakingsAreTakable → FeedIsLicensed
-  feed_is_licensed takable system t e = each_all (Licensed system t e) (feed system e t) (feed_licensed takable system t e)
+  next_licensed : (system : System) (t e n : ℕ) (item : Item) → Place (feed system e t) (items_in system t e) n item
+      → (slice_get (feed system e t) n ≡ Some item → Licensed system t e n item) → Licensed system (suc t) e n item
+  next_licensed system t e n item (Early is) before = later system t e n item (before is)
+  next_licensed system t e n item (Late m stands is) before = inr (tick_place system t e n item m is stands)
+
+  pub feed_is_licensed : FeedIsLicensed
+  feed_is_licensed system zero e n item is = inl (record { there = is; licence = each_place (AtBoot system.image e) (boot_items system.image e) (boot_licensed system.image e) n item is })
+  feed_is_licensed system (suc t) e n item is = next_licensed system t e n item (place_in (feed system e t) (items_in system t e) n item is) (feed_is_licensed system t e n item)

@@ -18,9 +18,9 @@ use Rattle.world_model.specs.Post.{counted, post_word}
 use Rattle.world_model.specs.Repossession.{copied, recorded}
 use Rattle.world_model.specs.Event.{ring_left}
 use Rattle.world_model.specs.Upcalls.{start_by, with_context}
-use Rattle.world_model.specs.Item.{Item, Start, End, Transfer, Answer, Gained, Lost, Packet, Line, Asked, Taken, absorb, absorb_all, absorbed, answered, own_part}
-use Rattle.world_model.specs.PageCalls.{breaks, left_at, left_by, left_if, lost_if}
-use Rattle.world_model.specs.Rings.{Reception, received_as, received_in, ring_of}
+use Rattle.world_model.specs.Item.{Item, Start, End, Transfer, Answer, Gained, Lost, Packet, Line, Asked, Taken, absorb, absorb_all, absorbed, with_answer, own_part}
+use Rattle.world_model.specs.PageCalls.{lost_bindings, left_at, left_by, left_if, lost_if}
+use Rattle.world_model.specs.Rings.{Reception, after_reception, after_packet_in, ring_of}
 use Rattle.world_model.specs.Solo.{Solo, Store, Key, Ring, is_dead}
 use Rattle.world_model.specs.Table.{set_at}
 use Rattle.world_model.specs.World.{World, only}
@@ -57,7 +57,7 @@ if_bound b s t same = search rules
 own_part_same : (d : Deed) (s : Solo) → (own_part d s).life ≡ s.life
 own_part_same d s = search (rules, if_bound)
 
-answered_same : (verdict : Verdict) (s : Solo) → (answered verdict s).life ≡ s.life
+answered_same : (verdict : Verdict) (s : Solo) → (with_answer verdict s).life ≡ s.life
 answered_same verdict s = search (rules, own_part_same)
 
 start_same : (handler : ℕ) (s : Solo) → (start_by handler s).life ≡ s.life
@@ -96,10 +96,10 @@ recorded_same n page backup s = if_bound (nat_lt n most_records) s (with_context
 pub keep_taken : (page : ℕ) (backup : Option ℕ) → Keeps (Taken page backup ∷ [])
 keep_taken page backup = keep_one (Taken page backup) (λ s. let t = copied page backup s in recorded_same (post_word post.Takings t) page backup t ∙ copied_life page backup s)
 
-received_as_same : (r : Ring) (becomes : Reception) (s : Solo) → (received_as r becomes s).life ≡ s.life
+received_as_same : (r : Ring) (becomes : Reception) (s : Solo) → (after_reception r becomes s).life ≡ s.life
 received_as_same r becomes s = search rules
 
-received_same : (ring : Option Ring) (packet : List ℕ) (s : Solo) → (received_in ring packet s).life ≡ s.life
+received_same : (ring : Option Ring) (packet : List ℕ) (s : Solo) → (after_packet_in ring packet s).life ≡ s.life
 received_same ring packet s = search (rules, received_as_same)
 
 pub keep_packet : (claim : ℕ) (packet : List ℕ) → Keeps (Packet claim packet ∷ [])
@@ -109,7 +109,7 @@ keep_packet claim packet = keep_one (Packet claim packet) (λ s. received_same (
 lost_keeps : (bound : Bool) (page : ℕ) → Keeps (lost_if bound page)
 lost_keeps bound page = search (rules, keep_lost, keep_none)
 
-pub breaks_keep : (b : Book) (page e : ℕ) → Keeps (breaks b page e)
+pub breaks_keep : (b : Book) (page e : ℕ) → Keeps (lost_bindings b page e)
 breaks_keep b page e = lost_keeps (is_bound page (b.binds e)) page
 
 left_keeps : (seen : Bool) (page : ℕ) (x : Store) → Keeps (left_if seen page x)

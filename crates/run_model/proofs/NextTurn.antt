@@ -5,7 +5,7 @@ use Rattle.std.proofs.lemmas.Bool.{cases_eq, cases_lt}
 use Rattle.std.proofs.Math.Nat.{add-mod_right, mod-eq_of_lt}
 use Rattle.world_model.specs.declared.slot.Hold.{Hold}
 use Rattle.world_model.specs.declared.slot.Turn.{Turn}
-use Rattle.world_model.specs.Book.{Book, turn_or, first_turn, next_turn}
+use Rattle.world_model.specs.Book.{Book, turn_or, first_turn, next_held_turn}
 use Rattle.world_model.proofs.Slots.{holder_in, step_on}
 use Rattle.run_model.specs.NextTurn.{IsNextTurn}
 
@@ -70,5 +70,5 @@ all_around b None within found =
 all_around b (Some t) within found = grind (arith, common_steps)
 
 -- the search from the cursor, once around
-pub next_is_found : (b : Book) → b.cursor < b.slot_count → IsNextTurn b (next_turn b)
-next_is_found b within = all_around b (next_turn b) within (search_finds b.slots b.slot_count b.cursor b.slot_count)
+pub next_is_found : (b : Book) → b.cursor < b.slot_count → IsNextTurn b (next_held_turn b)
+next_is_found b within = all_around b (next_held_turn b) within (search_finds b.slots b.slot_count b.cursor b.slot_count)

@@ -13,7 +13,7 @@ use Rattle.world_model.specs.Event.{happen}
 use Rattle.revocation_book.specs.declared.revocation.Taking.{Taking}
 use Rattle.world_model.specs.Deadlines.{settles, takes, takings}
 use Rattle.world_model.specs.Tick.{phases_after, serve_phases, served, step, tick_phases, timer, turn, tick_step}
-use Rattle.run_model.specs.Run.{InTurnIsEach, MomentsAreInOrder, System, at_deadlines, at_step, at_timer, at_turn, happens_in, items_in, items_of_events, items_of_phases, items_of_takings, moment, next_phases, once_happened, phases_in, takings_in, world_after}
+use Rattle.run_model.specs.Run.{InTurnIsEach, MomentsAreInOrder, PhasesGive, System, at_deadlines, at_step, at_timer, at_turn, given_at, given_below, given_by, happens_in, moment, next_phases, once_happened, phases_in, takings_in, world_after}
 
 -- what is absorbed in two parts is absorbed in one
 pub absorb-append : (s : Solo) (xs ys : List Item) → absorb_all s (xs ++ ys) ≡ absorb_all (absorb_all s xs) ys
@@ -34,12 +34,6 @@ in_turn_is_each w (phase ∷ phases) = after_followed w (phase w) (in_turn phase
 pub run_append : (w : World) (xs ys : List (World → Reply)) → run_phases w (xs ++ ys) ≡ run_phases (run_phases w xs) ys
 run_append w [] ys = refl
 run_append w (x ∷ xs) ys = run_append (after w (x w)) xs ys
-
-pub items_append : (w : World) (xs ys : List (World → Reply)) (e : ℕ) → (in_turn (xs ++ ys) w).items e ≡ (in_turn xs w).items e ++ (in_turn ys (run_phases w xs)).items e
-items_append w [] ys e = refl
-items_append w (x ∷ xs) ys e =
-    let v = after w (x w) in
-    ap (λ items. (x w).items e ++ items) (items_append v xs ys e) ∙ sym (append_assoc ((x w).items e) ((in_turn xs v).items e) ((in_turn ys (run_phases v xs)).items e))
 
 -- A tick once its events and its takings are over.
 abbrev behind : List (World → Reply)
@@ -110,9 +104,6 @@ module _ (system : System) (t : ℕ) where
   pub step_after_turn : at_step system t ≡ after (at_turn system t) (turn (at_turn system t))
   step_after_turn = after_turn 1
 
-  abbrev made : World → World
-  made w = let v = after w (turn w) in after v (step v)
-
   pub timer_after_step : at_timer system t ≡ after (at_step system t) (step (at_step system t))
   timer_after_step = after_turn 2 ∙ ap (λ (w : World). after w (step w)) (sym step_after_turn)
 
@@ -127,35 +118,6 @@ module _ (system : System) (t : ℕ) where
       ∙ run_append (early events taken before) (serve_phases taken) behind
       ∙ ap timed (sym (all_over events taken before (length events + (length taken + 1) + 2) 2 (omega arith)))
 
-  -- what the turn, the step and the timer give
-  abbrev given_from : ℕ → World → World → World → List Item
-  given_from e w mid last = (turn w).items e ++ ((step mid).items e ++ (timer last).items e)
-
-  given_behind : (e : ℕ) (w : World) → (in_turn behind w).items e ≡ given_from e w (after w (turn w)) (made w)
-  given_behind e w = let v = after w (turn w) in ap (λ items. (turn w).items e ++ ((step v).items e ++ items)) (append-nil ((timer (made w)).items e))
-
-  given_at_turn : (e : ℕ) → (in_turn behind (at_turn system t)).items e ≡ items_of_phases system t e
-  given_at_turn e =
-      given_behind e (at_turn system t)
-      ∙ ap (λ (w : World). given_from e (at_turn system t) w (after w (step w))) (sym step_after_turn)
-      ∙ ap (λ (w : World). given_from e (at_turn system t) (at_step system t) w) (sym timer_after_step)
-
-  given_at_deadlines : (e : ℕ) → (in_turn (tick_phases taken) (at_deadlines system t)).items e ≡ items_of_takings system t e ++ items_of_phases system t e
-  given_at_deadlines e =
-      let w = at_deadlines system t in
-      let served_by = ap (λ (v : World). run_phases v (serve_phases taken)) deadlines_after_events ∙ sym (all_over events taken before (length events + (length taken + 1)) 0 (omega arith)) in
-      ap (λ phases. (in_turn phases w).items e) (tick_in_two taken)
-      ∙ items_append w (serve_phases taken) behind e
-      ∙ ap (λ (v : World). items_of_takings system t e ++ (in_turn behind v).items e) served_by
-      ∙ ap (λ items. items_of_takings system t e ++ items) (given_at_turn e)
-
-  pub items_in_order : (e : ℕ) → is_idle_book before.book ≡ false → items_in system t e ≡ items_of_events system t e ++ (items_of_takings system t e ++ items_of_phases system t e)
-  items_in_order e busy =
-      ap (λ (idle : Bool). if idle then [] else (in_turn (next_phases system.schedule before) before).items e) busy
-      ∙ items_append before (map happen events) (tick_phases taken) e
-      ∙ ap (λ (w : World). items_of_events system t e ++ (in_turn (tick_phases taken) w).items e) (sym deadlines_after_events)
-      ∙ ap (λ items. items_of_events system t e ++ items) (given_at_deadlines e)
-
 pub moments_in_order : MomentsAreInOrder
 moments_in_order system t = record {
   happened = deadlines_after_events system t;
@@ -163,7 +125,6 @@ moments_in_order system t = record {
   turned = step_after_turn system t;
   stepped = timer_after_step system t;
   timed = next_after_timer system t;
-  given = items_in_order system t;
 }
 
 -- The world after one phase more, if there is one.
@@ -179,6 +140,32 @@ more_phases (phase ∷ phases) w (suc k) = more_phases phases (after w (phase w)
 
 pub next_moment : (system : System) (t k : ℕ) → moment system t (suc k) ≡ once_more (moment system t k) (slice_get (next_phases system.schedule (world_after system t)) k)
 next_moment system t k = let w = world_after system t in more_phases (next_phases system.schedule w) w k
+
+-- What an environment is given in a tick is what its phases give.
+given_one_more : (phases : List (World → Reply)) (w : World) (k e : ℕ)
+    → (in_turn (take (suc k) phases) w).items e ≡ (in_turn (take k phases) w).items e ++ given_by (run_phases w (take k phases)) (slice_get phases k) e
+given_one_more [] w zero e = refl
+given_one_more [] w (suc k) e = refl
+given_one_more (phase ∷ phases) w zero e = append-nil ((phase w).items e)
+given_one_more (phase ∷ phases) w (suc k) e =
+    let v = after w (phase w) in
+    ap (λ items. (phase w).items e ++ items) (given_one_more phases v k e)
+    ∙ sym (append_assoc ((phase w).items e) ((in_turn (take k phases) v).items e) (given_by (run_phases v (take k phases)) (slice_get phases k) e))
+
+given_so_far : (system : System) (t k e : ℕ)
+    → (let w = world_after system t in (in_turn (take k (next_phases system.schedule w)) w).items e) ≡ given_below system t k e
+given_so_far system t zero e = refl
+given_so_far system t (suc k) e =
+    let w = world_after system t in
+    given_one_more (next_phases system.schedule w) w k e ∙ ap (λ items. items ++ given_at system t k e) (given_so_far system t k e)
+
+pub phases_give : PhasesGive
+phases_give system t e busy =
+    let w = world_after system t in
+    let phases = next_phases system.schedule w in
+    ap (λ (idle : Bool). if idle then [] else (in_turn phases w).items e) busy
+    ∙ ap (λ some. (in_turn some w).items e) (sym (take-length phases))
+    ∙ given_so_far system t (phases_in system t) e
 
 -- the world after a tick is that behind its last phase
 pub tick_moment : (system : System) (t : ℕ) → is_idle_book (world_after system t).book ≡ false → world_after system (suc t) ≡ moment system t (phases_in system t)

@@ -26,13 +26,13 @@ use Rattle.world_model.specs.Call.{called}
 use Rattle.world_model.specs.Death.{death, lost_with}
 use Rattle.world_model.specs.Item.{Item, Step, Start, Transfer, Answer, Gained, Lost, absorb, absorb_all, deed_at}
 use Rattle.world_model.specs.May.{May}
-use Rattle.world_model.specs.PageCalls.{breaks, page_bytes}
+use Rattle.world_model.specs.PageCalls.{lost_bindings, page_bytes}
 use Rattle.world_model.specs.SlotCalls.{dropped, handed, held_by, is_other, turn_slot, with_slot}
 use Rattle.world_model.specs.Solo.{Solo, is_dead}
 use Rattle.world_model.specs.Step.{Act, Nothing, Stores, Calls, Raises, Dies, act_of, acted, step_alone, stepped}
-use Rattle.world_model.specs.Tick.{act_now, brings}
+use Rattle.world_model.specs.Tick.{act_now, act_reply}
 use Rattle.world_model.specs.Transfers.{slots_handed, transfer_rows}
-use Rattle.world_model.specs.Verdict.{done, reply_of, reply_to, verdict}
+use Rattle.world_model.specs.Verdict.{done, reply_by_verdict, reply_to, verdict}
 use Rattle.world_model.specs.World.{World, Reply, after, followed, in_turn, no_change, only, run_phases, tells}
 use Rattle.call_verdicts.specs.Granted.{GrantedMay}
 use Rattle.run_model.specs.Excess.{pays, AreSlotsLive, IsAccounted, IsRunnerLive, Lives}
@@ -131,7 +131,7 @@ steps_on (Calls c) s lives = refl
 steps_on (Raises exc) s lives = refl
 steps_on (Dies cause) s lives = absurd (lives cause refl)
 
-step_leaves : (s : Solo) (act : Act) → act_of s (step_alone s) ≡ act → ((cause : Cause) → act ≡ Dies cause → ⊥) → (absorb s Step).life ≡ s.life
+pub step_leaves : (s : Solo) (act : Act) → act_of s (step_alone s) ≡ act → ((cause : Cause) → act ≡ Dies cause → ⊥) → (absorb s Step).life ≡ s.life
 step_leaves s act is lives = if_living (is_dead s.life) s (stepped s (step_alone s)) (rw is (steps_on act (record s { cpu = cpu_after s.cpu (step_alone s) }) lives))
 
 -- what the accounts say of a book: the excess, who has slots, and who runs
@@ -174,7 +174,7 @@ in_turn_accounts phases w good = subst IsAccounted (sym (in_turn_is_each w phase
 
 -- an environment is told something that is its death
 abbrev pub told_death : ℕ → Item → Cause → World → Reply
-told_death e item cause w = in_turn (tells e item ∷ brings e (Dies cause) ∷ []) w
+told_death e item cause w = in_turn (tells e item ∷ act_reply e (Dies cause) ∷ []) w
 
 pub death_accounts : (w : World) (e : ℕ) (item : Item) (cause : Cause) → IsAccounted w → ((absorb (w.solos e) item).life ≡ Live → ⊥) → IsAccounted (after w (told_death e item cause w))
 death_accounts w e item cause good ends =
@@ -297,8 +297,8 @@ module _ (w : World) (e : ℕ) (good : IsAccounted w) (lives : Lives w e) where
   deed_is_mild (Gives target) may = hands_on target Start false (row.Give w.book.time w.book.cursor e target ∷ []) (target_lives w e target may.other) keep_start (search rules, tt)
   deed_is_mild (Own own) may = no_change_is_mild w good
   deed_is_mild (Allocates page words) may = still (done w e (Allocates page words)) refl tt (keep_only e (Gained page true zero_page ∷ []) (keep_gained page true zero_page))
-  deed_is_mild (Frees page) may = still (done w e (Frees page)) refl tt (keep_set e (Lost page ∷ []) (breaks w.book page) (keep_lost page) (breaks_keep w.book page))
-  deed_is_mild (Recaps page words) may = still (done w e (Recaps page words)) refl tt (keep_set e [] (breaks w.book page) keep_none (breaks_keep w.book page))
+  deed_is_mild (Frees page) may = still (done w e (Frees page)) refl tt (keep_set e (Lost page ∷ []) (lost_bindings w.book page) (keep_lost page) (breaks_keep w.book page))
+  deed_is_mild (Recaps page words) may = still (done w e (Recaps page words)) refl tt (keep_set e [] (lost_bindings w.book page) keep_none (breaks_keep w.book page))
   deed_is_mild (Binds b word) may =
       let bytes = page_bytes w b.page in
       still (done w e (Binds b word)) refl tt (keep_only e (Gained b.page b.writable bytes ∷ []) (keep_gained b.page b.writable bytes))
@@ -325,31 +325,31 @@ module _ (w : World) (e : ℕ) (good : IsAccounted w) (lives : Lives w e) where
     runner = mild.runner;
   }
 
-  reply_is_mild : (v : Verdict) → ((value : ℕ) → v ≡ Grant value → May w e (deed_at (w.solos e) value)) → Mild w (reply_of w e v)
-  reply_is_mild (Refuse code value) may = still (reply_of w e (Refuse code value)) refl tt (keep_only e (Answer (Refuse code value) ∷ []) (keep_answer (Refuse code value)))
+  reply_is_mild : (v : Verdict) → ((value : ℕ) → v ≡ Grant value → May w e (deed_at (w.solos e) value)) → Mild w (reply_by_verdict w e v)
+  reply_is_mild (Refuse code value) may = still (reply_by_verdict w e (Refuse code value)) refl tt (keep_only e (Answer (Refuse code value) ∷ []) (keep_answer (Refuse code value)))
   reply_is_mild (Grant value) may = let d = deed_at (w.solos e) value in answer_is_mild (Grant value) (done w e d) (deed_is_mild d (may value refl))
 
-  call_is_mild : GrantedMay → (c : Option Call) → called (w.solos e).cpu ≡ c → Mild w (reply_to w e c)
+  pub call_is_mild : GrantedMay → (c : Option Call) → called (w.solos e).cpu ≡ c → Mild w (reply_to w e c)
   call_is_mild granted c named = reply_is_mild (verdict w e c) (deed_may granted w e c named)
 
 -- The runner's step, and then what its act brings.
 abbrev stepping : ℕ → Act → List (World → Reply)
-stepping e act = tells e Step ∷ brings e act ∷ []
+stepping e act = tells e Step ∷ act_reply e act ∷ []
 
 -- where it isn't its death, and the act brings what is mild
 goes_on : (w : World) (e : ℕ) (act : Act) → IsAccounted w → Lives w e → act_now w e ≡ act → ((cause : Cause) → act ≡ Dies cause → ⊥)
-    → (let v = after w (tells e Step w) in IsAccounted v → Lives v e → Mild v (brings e act v)) → IsAccounted (after w (in_turn (stepping e act) w))
+    → (let v = after w (tells e Step w) in IsAccounted v → Lives v e → Mild v (act_reply e act v)) → IsAccounted (after w (in_turn (stepping e act) w))
 goes_on w e act good lives is stays mild =
     let v = after w (tells e Step w) in
     let same = step_leaves (w.solos e) act is stays in
     let still = tells_accounts w e Step good same in
-    in_turn_accounts (stepping e act) w (mild_accounts v (brings e act v) still (mild still (ap (λ (s : Solo). s.life) (told_own w e Step) ∙ same ∙ lives)))
+    in_turn_accounts (stepping e act) w (mild_accounts v (act_reply e act v) still (mild still (ap (λ (s : Solo). s.life) (told_own w e Step) ∙ same ∙ lives)))
 
 pub act_accounts : GrantedMay → (w : World) (e : ℕ) → IsAccounted w → Lives w e → (act : Act) → act_now w e ≡ act → IsAccounted (after w (in_turn (stepping e act) w))
 act_accounts granted w e good lives Nothing is = goes_on w e Nothing good lives is (λ cause dies. cc) (λ good lives. no_change_is_mild (after w (tells e Step w)) good)
 act_accounts granted w e good lives (Stores x) is =
     let v = after w (tells e Step w) in
-    goes_on w e (Stores x) good lives is (λ cause dies. cc) (λ good lives. still_is_mild v (brings e (Stores x) v) good refl tt (left_by_keeps v.book e x))
+    goes_on w e (Stores x) good lives is (λ cause dies. cc) (λ good lives. still_is_mild v (act_reply e (Stores x) v) good refl tt (left_by_keeps v.book e x))
 act_accounts granted w e good lives (Calls c) is =
     let v = after w (tells e Step w) in
     goes_on w e (Calls c) good lives is (λ cause dies. cc) (λ good lives. call_is_mild v e good lives granted c (told_named w e c is))

@@ -8,7 +8,7 @@ use Rattle.std.proofs.lemmas.List.Sums.{sum_by_push}
 use Rattle.kernel_journal.specs.declared.row.Row.{Row}
 use Rattle.kernel_journal.specs.declared.row.Row.TheVariants as row
 use Rattle.world_model.specs.declared.slot.Hold.{Hold}
-use Rattle.world_model.specs.Book.{lowered}
+use Rattle.world_model.specs.Book.{excess_after_forfeit}
 use Rattle.run_model.specs.Excess.{AreLawfulAfter, IsLawful, Lives, is_over_of, is_pay_of, overs, pays}
 use Rattle.world_model.specs.Table.{set_at}
 use Rattle.world_model.specs.Death.{released_row, released_rows}
@@ -89,7 +89,7 @@ set_other n x f i other = rw (ne_eqb i n other)
 
 -- a forfeit of one who owes
 pub adds_pay : (w : World) (before rows : List Row) (t k e : ℕ) (excess left : ℕ → ℕ) → Lives w e → 0 < excess e → Balances w before excess
-    → (Balances w (before ++ row.Pay t k e ∷ []) (lowered e excess) → Adds w (before ++ row.Pay t k e ∷ []) rows left) → Adds w before (row.Pay t k e ∷ rows) left
+    → (Balances w (before ++ row.Pay t k e ∷ []) (excess_after_forfeit e excess) → Adds w (before ++ row.Pay t k e ∷ []) rows left) → Adds w before (row.Pay t k e ∷ rows) left
 adds_pay w before rows t k e excess left lives owes balanced rest = grind (arith, common_steps, adds_row, count_more, set_own, set_other)
 
 -- a quantum that was run past a slice

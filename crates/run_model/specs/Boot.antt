@@ -81,7 +81,8 @@ boot_book pages quantum owners = record {
 
 -- the world of a board on which no program stands yet
 abbrev pub bare_world : ℕ → ℕ → List (Option ℕ) → World
-bare_world pages quantum owners = record { book = boot_book pages quantum owners; count = 0; solos = absent; rows = own_rows owners (length owners) }
+bare_world pages quantum owners =
+    record { book = boot_book pages quantum owners; count = 0; solos = absent; rows = own_rows owners (length owners) }
 
 -- the pages once the lowest free one of those below count, if there is one, is guaranteed to an environment
 abbrev pub keep_lowest : ℕ → Option ℕ → (ℕ → PageRow) → ℕ → PageRow
@@ -91,7 +92,8 @@ keep_lowest e (Some page) pages = set_at page (Guaranteed e) pages
 -- so many of the lowest free pages, one after another
 abbrev pub keep_pages : ℕ → ℕ → ℕ → (ℕ → PageRow) → ℕ → PageRow
 keep_pages e count zero pages = pages
-keep_pages e count (suc n) pages = keep_lowest e (lowest_free (keep_pages e count n pages) count) (keep_pages e count n pages)
+keep_pages e count (suc n) pages = keep_lowest e (lowest_free (keep_pages e count n pages) count)
+    (keep_pages e count n pages)
 
 -- the mapping of a guaranteed page, which gets the lowest free page, if there is one
 abbrev pub mapped_to : KeptPage → Option ℕ → List Mapping
@@ -125,8 +127,8 @@ boot_world image = record (bare_world image.pages image.quantum image.slots) {
 }
 
 -- the world with the next environment on it, which is given its record
-abbrev pub added : World → ProgramValue → World
-added w p = record w {
+abbrev pub with_program : World → ProgramValue → World
+with_program w p = record w {
   book = with_kept w.count p w.book;
   count = w.count + 1;
   solos = λ e. absorb_all (w.solos e) (only w.count (record_items w.count (Some p)) e);

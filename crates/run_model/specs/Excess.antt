@@ -7,23 +7,25 @@ use Rattle.world_model.specs.declared.life.Life.TheVariants.{Live}
 use Rattle.world_model.specs.declared.slot.Hold.{Hold}
 use Rattle.world_model.specs.declared.slot.Runner.{Runner}
 use Rattle.world_model.specs.declared.slot.Turn.{Turn}
-use Rattle.world_model.specs.Book.{Book, lowered, whole_turn}
+use Rattle.world_model.specs.Book.{Book, excess_after_forfeit, whole_turn}
 use Rattle.run_model.specs.NextTurn.{IsNextTurn}
 use Rattle.world_model.specs.World.{World}
 use Rattle.run_model.specs.Boot.{boot_world}
 use Rattle.world_model.specs.Event.{Schedule}
-use Rattle.run_model.specs.Run.{System, run_on, world_after}
+use Rattle.run_model.specs.Run.{System, world_after_ticks, world_after}
 
 -- Who runs at last in a turn owes nothing.
 abbrev pub OwesNothing : (ℕ → ℕ) → Option Turn → Type 0
 OwesNothing excess None = Unit {0}
 OwesNothing excess (Some t) = excess t.env ≡ 0
 
--- A turn goes by the rule: each slot that is forfeited on the way was the next one that is held, and its holder owed, and owes one less; then the next held slot's holder runs, who owes nothing, or no slot is held.
+-- A turn goes by the rule: each slot that is forfeited on the way was the next one that is held, and its holder owed,
+-- and owes one less; then the next held slot's holder runs, who owes nothing, or no slot is held.
 abbrev pub GoesByRule : Book → List Turn → Option Turn → Type 0
 GoesByRule b [] runs = IsNextTurn b runs × OwesNothing b.excess runs
 GoesByRule b (t ∷ pays) runs =
-    IsNextTurn b (Some t) × (0 < b.excess t.env) × GoesByRule (record b { cursor = t.slot; excess = lowered t.env b.excess }) pays runs
+    IsNextTurn b (Some t) × (0 < b.excess t.env)
+    × GoesByRule (record b { cursor = t.slot; excess = excess_after_forfeit t.env b.excess }) pays runs
 
 abbrev pub TurnsGoByRule : Type 0
 TurnsGoByRule = (b : Book) → b.cursor < b.slot_count → GoesByRule b (whole_turn b).pays (whole_turn b).runs
@@ -60,7 +62,8 @@ IsBalanced w = (e : ℕ) → Lives w e → overs e w.rows ≡ pays e w.rows + w.
 abbrev pub BalanceHolds : Type 0
 BalanceHolds = (system : System) (t : ℕ) → IsBalanced (world_after system t)
 
--- A row after others is lawful: who owes runs in no slot that it holds; only who owes forfeits one; and an excess that is written is what was run past and not forfeited.
+-- A row after others is lawful: who owes runs in no slot that it holds; only who owes forfeits one; and an excess that
+-- is written is what was run past and not forfeited.
 abbrev pub IsLawful : List Row → Row → Type 0
 IsLawful before (row.Run t k e) = overs e before ≡ pays e before
 IsLawful before (row.Pay t k e) = pays e before < overs e before
@@ -95,4 +98,5 @@ abbrev pub BootsAccounted : Type 0
 BootsAccounted = (image : ImageValue) → IsAccounted (boot_world image)
 
 abbrev pub TicksKeepAccounts : Type 0
-TicksKeepAccounts = (schedule : Schedule) (w : World) → IsAccounted w → (t : ℕ) → IsAccounted (run_on schedule w t)
+TicksKeepAccounts =
+    (schedule : Schedule) (w : World) → IsAccounted w → (t : ℕ) → IsAccounted (world_after_ticks schedule w t)

@@ -1,5 +1,6 @@
--- By what licence an environment is given an item: at boot, and for each phase of a tick, item by item, of the world before the phase.
-use Rattle.std.specs.Prelude.{◌≡◌, ◌≢◌, ◌<◌, ◌+◌, ◌-◌, ℕ, zero, suc, Bool, true, false, List, [], ◌∷◌, Option, Some, None, ◌⊎◌, slice_get}
+-- By what licence an environment is given an item: at boot, and for each phase of a tick, item by item, of the world
+-- before the phase.
+use Rattle.std.specs.Prelude.{◌≡◌, ◌≢◌, ◌<◌, ◌+◌, ◌-◌, ℕ, zero, suc, length, Bool, true, false, List, [], ◌∷◌, Option, Some, None, ◌⊎◌, slice_get}
 use Rattle.std.specs.List.{All}
 use Rattle.std.specs.Option.{option_map}
 use Rattle.boot_image.specs.ImageValue.{ImageValue, ProgramValue}
@@ -19,7 +20,8 @@ use Rattle.world_model.specs.declared.slot.Phase.TheVariants as phase
 use Rattle.world_model.specs.declared.slot.Runner.{Runner}
 use Rattle.world_model.specs.declared.slot.Turn.{Turn}
 use Rattle.world_model.specs.declared.verdict.Verdict.{Verdict}
-use Rattle.world_model.specs.Book.{excess_limit, running, sees, whole_turn}
+use Rattle.world_model.specs.Book.{running, sees, whole_turn}
+use Rattle.aegis_limits.specs.Limits.{excess_limit}
 use Rattle.external_event.specs.declared.event.Occurrence.{Occurrence}
 use Rattle.external_event.specs.declared.event.Occurrence.TheVariants as outside
 use Rattle.world_model.specs.Item.{Item, Boot, Step, Start, End, Transfer, Killed, Answer, Gained, Lost, Left, Packet, Line, Asked, Taken}
@@ -39,11 +41,13 @@ use Rattle.revocation_book.specs.declared.revocation.Taking.{Taking}
 use Rattle.revocation_book.specs.Pending.{asked}
 use Rattle.revocation_book.specs.Takings.{IsTakable}
 use Rattle.run_model.specs.Acting.{Acts, Does}
-use Rattle.run_model.specs.Boot.{kept_of}
-use Rattle.run_model.specs.Run.{System, feed, given_at, happens_in, moment, takings_in, world_after}
+use Rattle.run_model.specs.Boot.{boot_items, kept_of}
+use Rattle.run_model.specs.Live.{HasLiveBinding}
+use Rattle.run_model.specs.Run.{System, feed, given_at, given_below, happens_in, moment, takings_in, world_after}
 
 -- At boot: it is the environment's record in the image.
-pub record IsRecord (image : ImageValue) (e number : ℕ) (name : List ℕ) (entry accept : ℕ) (kept : List KeptPage) : Type 0 where
+pub record IsRecord (image : ImageValue) (e number : ℕ) (name : List ℕ) (entry accept : ℕ)
+    (kept : List KeptPage) : Type 0 where
   pub program : ProgramValue
   pub there : slice_get image.programs e ≡ Some program
   pub number_is : number ≡ e
@@ -56,7 +60,8 @@ abbrev pub AtBoot : ImageValue → ℕ → Item → Type 0
 AtBoot image e (Boot number name entry accept kept) = IsRecord image e number name entry accept kept
 AtBoot image e item = ⊥
 
--- The turn is the environment's: nobody runs; once those who owe have forfeited theirs, the next held slot is one that it holds; and it owes nothing.
+-- The turn is the environment's: nobody runs; once those who owe have forfeited theirs, the next held slot is one that
+-- it holds; and it owes nothing.
 pub record HasTurn (w : World) (e : ℕ) : Type 0 where
   pub nobody : w.book.runner ≡ None
   pub turn : Turn
@@ -127,8 +132,9 @@ pub record IsBroken (w : World) (e page : ℕ) : Type 0 where
   pub has : HasBoundOf w e owner page
   pub breaks : Breaks w owner page
 
--- Another that runs stores these bytes there, in a page that the environment owns or has bound.
-pub record IsLeft (w : World) (e page offset : ℕ) (bytes : List ℕ) : Type 0 where
+-- Another that runs stores these bytes there, by a live binding of its own, in a page that the environment owns or has
+-- bound.
+pub record IsLeft (system : System) (t : ℕ) (w : World) (e page offset : ℕ) (bytes : List ℕ) : Type 0 where
   pub writer : ℕ
   pub another : e ≢ writer
   pub store : Store
@@ -136,17 +142,19 @@ pub record IsLeft (w : World) (e page offset : ℕ) (bytes : List ℕ) : Type 0 
   pub into : store.key ≡ Physical page
   pub at : store.offset ≡ offset
   pub its : store.bytes ≡ bytes
+  pub right : HasLiveBinding system t writer page
   pub seen : sees w.book e page ≡ true
 
-abbrev pub AtStep : World → ℕ → Item → Type 0
-AtStep w e Step = running w.book.runner ≡ Some e
-AtStep w e Start = IsDonated w e
-AtStep w e (Transfer from kind registers) = IsEntered w e from kind registers
-AtStep w e (Answer answer) = IsAnswered w e answer
-AtStep w e (Gained page writable bytes) = IsAllocating w e page writable bytes ⊎ IsBinding w e page writable bytes
-AtStep w e (Lost page) = IsFreeing w e page ⊎ IsBroken w e page
-AtStep w e (Left page offset bytes) = IsLeft w e page offset bytes
-AtStep w e item = ⊥
+abbrev pub AtStep : System → ℕ → World → ℕ → Item → Type 0
+AtStep system t w e Step = running w.book.runner ≡ Some e
+AtStep system t w e Start = IsDonated w e
+AtStep system t w e (Transfer from kind registers) = IsEntered w e from kind registers
+AtStep system t w e (Answer answer) = IsAnswered w e answer
+AtStep system t w e (Gained page writable bytes) = IsAllocating w e page writable bytes
+    ⊎ IsBinding w e page writable bytes
+AtStep system t w e (Lost page) = IsFreeing w e page ⊎ IsBroken w e page
+AtStep system t w e (Left page offset bytes) = IsLeft system t w e page offset bytes
+AtStep system t w e item = ⊥
 
 -- The environment runs in its last tick, in this phase of its slice.
 pub record IsOut (w : World) (e : ℕ) (p : Phase) : Type 0 where
@@ -195,7 +203,8 @@ pub record IsClaimed (w : World) (e : ℕ) (packet : List ℕ) (claim : ℕ) (gi
   pub number : lowest.id ≡ claim
   pub same : given ≡ packet
 
--- It comes for another's claim, whose ring is a page that the environment owns or has bound, and which has these bytes then.
+-- It comes for another's claim, whose ring is a page that the environment owns or has bound, and which has these bytes
+-- then.
 pub record IsRingLeft (w : World) (e : ℕ) (packet : List ℕ) (page offset : ℕ) (bytes : List ℕ) : Type 0 where
   pub lowest : ClaimValue
   pub goes : claim_of w.book packet ≡ Some lowest
@@ -210,7 +219,8 @@ AtArrival packet w e (Packet claim given) = IsClaimed w e packet claim given
 AtArrival packet w e (Left page offset bytes) = IsRingLeft w e packet page offset bytes
 AtArrival packet w e item = ⊥
 
--- A revocation names the environment, which lives, and asks it for so many pages until a deadline; then so many are outstanding.
+-- A revocation names the environment, which lives, and asks it for so many pages until a deadline; then so many are
+-- outstanding.
 pub record IsAsked (w : World) (e named count until outstanding deadline : ℕ) : Type 0 where
   pub its : named ≡ e
   pub lives : is_living w e ≡ true
@@ -225,7 +235,8 @@ AtEvent (outside.Packet packet) w e item = AtArrival packet w e item
 AtEvent (outside.Line line) w e item = AtSignal line w e item
 AtEvent (outside.Revoke env count grace) w e item = AtRevocation env count (w.book.time + grace) w e item
 
--- A page may be taken in this world: the deadline of its owner has come, and it is neither guaranteed nor a backup; the backup is the one that was loaded first.
+-- A page may be taken in this world: the deadline of its owner has come, and it is neither guaranteed nor a backup; the
+-- backup is the one that was loaded first.
 abbrev pub MayTaking : World → Taking → Type 0
 MayTaking w x = IsTakable (revocations w.book) w.book.time x
 
@@ -255,33 +266,53 @@ AtTaking x w e (Lost page) = IsBrokenByTaking w x e page
 AtTaking x w e (Left page offset bytes) = IsCopyLeft w x e page offset bytes
 AtTaking x w e item = ⊥
 
--- The licence for an item in the phase of this number behind the events of a tick in which this is taken. At the end of the deadlines nothing is given.
-abbrev pub LicensedBehind : List Taking → ℕ → World → ℕ → Item → Type 0
-LicensedBehind [] zero w e item = ⊥
-LicensedBehind [] (suc zero) w e item = AtTurn w e item
-LicensedBehind [] (suc (suc zero)) w e item = AtStep w e item
-LicensedBehind [] (suc (suc (suc zero))) w e item = AtTimer w e item
-LicensedBehind [] (suc (suc (suc (suc k)))) w e item = ⊥
-LicensedBehind (x ∷ xs) zero w e item = AtTaking x w e item
-LicensedBehind (x ∷ xs) (suc k) w e item = LicensedBehind xs k w e item
+-- The licence for an item in the phase of this number behind the events of tick t, in which this is taken. At the end
+-- of the deadlines nothing is given.
+abbrev pub LicensedBehind : System → ℕ → List Taking → ℕ → World → ℕ → Item → Type 0
+LicensedBehind system t [] zero w e item = ⊥
+LicensedBehind system t [] (suc zero) w e item = AtTurn w e item
+LicensedBehind system t [] (suc (suc zero)) w e item = AtStep system t w e item
+LicensedBehind system t [] (suc (suc (suc zero))) w e item = AtTimer w e item
+LicensedBehind system t [] (suc (suc (suc (suc k)))) w e item = ⊥
+LicensedBehind system t (x ∷ xs) zero w e item = AtTaking x w e item
+LicensedBehind system t (x ∷ xs) (suc k) w e item = LicensedBehind system t xs k w e item
 
--- The licence for an item in the phase of this number of a tick in which this happens, and this is taken.
-abbrev pub LicensedIn : List Occurrence → List Taking → ℕ → World → ℕ → Item → Type 0
-LicensedIn [] xs k w e item = LicensedBehind xs k w e item
-LicensedIn (what ∷ happens) xs zero w e item = AtEvent what w e item
-LicensedIn (what ∷ happens) xs (suc k) w e item = LicensedIn happens xs k w e item
+-- The licence for an item in the phase of this number of tick t, in which this happens, and this is taken.
+abbrev pub LicensedIn : System → ℕ → List Occurrence → List Taking → ℕ → World → ℕ → Item → Type 0
+LicensedIn system t [] xs k w e item = LicensedBehind system t xs k w e item
+LicensedIn system t (what ∷ happens) xs zero w e item = AtEvent what w e item
+LicensedIn system t (what ∷ happens) xs (suc k) w e item = LicensedIn system t happens xs k w e item
 
 abbrev pub LicensedAt : System → ℕ → ℕ → ℕ → Item → Type 0
-LicensedAt system t k e item = LicensedIn (happens_in system.schedule (world_after system t)) (takings_in system t) k (moment system t k) e item
+LicensedAt system t k e item =
+    LicensedIn system t (happens_in system.schedule (world_after system t)) (takings_in system t) k
+    (moment system t k) e item
 
--- Every item that an environment is given in a phase of a tick has its licence in the world of that phase.
+-- Every item that an environment is given in a phase of a tick has its licence there, in the world of that phase.
 abbrev pub GivenIsLicensed : Type 0
 GivenIsLicensed = (system : System) (t k e : ℕ) → All (LicensedAt system t k e) (given_at system t k e)
 
--- Licensed where it is given: at boot, or in a phase of a tick before this number of ticks
-abbrev pub Licensed : System → ℕ → ℕ → Item → Type 0
-Licensed system t e item = AtBoot system.image e item ⊎ ((s : ℕ) × (s < t) × ((k : ℕ) × LicensedAt system s k e item))
+-- The item at a place of a feed is the environment's record, which is given at boot.
+pub record IsGivenAtBoot (system : System) (e n : ℕ) (item : Item) : Type 0 where
+  pub there : slice_get (boot_items system.image e) n ≡ Some item
+  pub licence : AtBoot system.image e item
+
+-- It is given in a phase of a tick before this number of ticks, and has its licence there: before it stands in the feed
+-- what is given in earlier ticks, what is given in earlier phases, and what is given before it in the phase.
+pub record IsGivenInPhase (system : System) (t e n : ℕ) (item : Item) : Type 0 where
+  pub tick : ℕ
+  pub earlier : tick < t
+  pub phase : ℕ
+  pub place : ℕ
+  pub there : slice_get (given_at system tick phase e) place ≡ Some item
+  pub stands : n ≡ length (feed system e tick) + (length (given_below system tick phase e) + place)
+  pub licence : LicensedAt system tick phase e item
+
+-- Licensed where it is given
+abbrev pub Licensed : System → ℕ → ℕ → ℕ → Item → Type 0
+Licensed system t e n item = IsGivenAtBoot system e n item ⊎ IsGivenInPhase system t e n item
 
 -- Every item of every feed is.
 abbrev pub FeedIsLicensed : Type 0
-FeedIsLicensed = (system : System) (t e : ℕ) → All (Licensed system t e) (feed system e t)
+FeedIsLicensed = (system : System) (t e n : ℕ) (item : Item) → slice_get (feed system e t) n ≡ Some item
+    → Licensed system t e n item

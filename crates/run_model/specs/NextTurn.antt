@@ -9,7 +9,8 @@ use Rattle.world_model.specs.Book.{Book}
 abbrev pub slot_after : Book → ℕ → ℕ
 slot_after b steps = (b.cursor + steps) % b.slot_count
 
--- the environment holds the slot, which stands after the cursor, at the farthest once around, and every slot between them is empty
+-- the environment holds the slot, which stands after the cursor, at the farthest once around, and every slot between
+-- them is empty
 pub record IsNextHeld (b : Book) (slot e : ℕ) : Type 0 where
   pub held : option_map (λ (h : Hold). h.holder) (b.slots slot) ≡ Some e
   pub steps : ℕ

@@ -11,7 +11,7 @@ use Rattle.external_event.specs.declared.event.Occurrence.{Occurrence}
 use Rattle.world_model.specs.Event.{Schedule, happen}
 use Rattle.revocation_book.specs.declared.revocation.Taking.{Taking}
 use Rattle.world_model.specs.Deadlines.{takings}
-use Rattle.world_model.specs.Tick.{phases_after, serve_phases, served, step, timer, turn}
+use Rattle.world_model.specs.Tick.{phases_after, served, step, timer, turn}
 use Rattle.run_model.specs.Boot.{boot_world, boot_items}
 
 -- what a run goes by: an image, and what happens from outside
@@ -39,12 +39,12 @@ abbrev pub next_world : Schedule → World → World
 next_world schedule w = if is_idle_book w.book then w else run_phases w (next_phases schedule w)
 
 -- the world after so many ticks more
-abbrev pub run_on : Schedule → World → ℕ → World
-run_on schedule w zero = w
-run_on schedule w (suc t) = next_world schedule (run_on schedule w t)
+abbrev pub world_after_ticks : Schedule → World → ℕ → World
+world_after_ticks schedule w zero = w
+world_after_ticks schedule w (suc t) = next_world schedule (world_after_ticks schedule w t)
 
 abbrev pub world_after : System → ℕ → World
-world_after system t = run_on system.schedule (boot_world system.image) t
+world_after system t = world_after_ticks system.schedule (boot_world system.image) t
 
 -- The moments of a tick: the world before its phase of this number, once so many phases are over.
 abbrev pub moment : System → ℕ → ℕ → World
@@ -66,7 +66,8 @@ takings_in system t = takings_next system.schedule (world_after system t)
 abbrev pub before_turn : System → ℕ → ℕ
 before_turn system t = events_in system t + (length (takings_in system t) + 1)
 
--- once the events of a tick are over, its deadlines are served, then its turn is taken; then the step is made, and then the timer counts
+-- once the events of a tick are over, its deadlines are served, then its turn is taken; then the step is made, and then
+-- the timer counts
 abbrev pub at_deadlines : System → ℕ → World
 at_deadlines system t = moment system t (events_in system t)
 
@@ -97,26 +98,22 @@ given_by w None e = []
 given_by w (Some phase) e = (phase w).items e
 
 abbrev pub given_at : System → ℕ → ℕ → ℕ → List Item
-given_at system t k e = given_by (moment system t k) (slice_get (next_phases system.schedule (world_after system t)) k) e
+given_at system t k e = given_by (moment system t k)
+    (slice_get (next_phases system.schedule (world_after system t)) k) e
 
--- what it is given by the events of a tick, by what is taken in it, and by its phases behind them
-abbrev pub items_of_events : System → ℕ → ℕ → List Item
-items_of_events system t e = let w = world_after system t in (in_turn (map happen (happens_in system.schedule w)) w).items e
+-- what it is given in the phases of a tick that come before the one of this number
+abbrev pub given_below : System → ℕ → ℕ → ℕ → List Item
+given_below system t zero e = []
+given_below system t (suc k) e = given_below system t k e ++ given_at system t k e
 
-abbrev pub items_of_takings : System → ℕ → ℕ → List Item
-items_of_takings system t e = (in_turn (serve_phases (takings_in system t)) (at_deadlines system t)).items e
-
-abbrev pub items_of_phases : System → ℕ → ℕ → List Item
-items_of_phases system t e = (turn (at_turn system t)).items e ++ ((step (at_step system t)).items e ++ (timer (at_timer system t)).items e)
-
--- The moments of a tick come in their order, and an environment is given what its phases give, one after another.
+-- The moments of a tick come in their order.
 pub record IsInOrder (system : System) (t : ℕ) : Type 0 where
   pub happened : at_deadlines system t ≡ once_happened system.schedule (world_after system t)
   pub served : at_turn system t ≡ served (at_deadlines system t)
   pub turned : at_step system t ≡ after_phase turn (at_turn system t)
   pub stepped : at_timer system t ≡ after_phase step (at_step system t)
-  pub timed : is_idle_book (world_after system t).book ≡ false → world_after system (suc t) ≡ after_phase timer (at_timer system t)
-  pub given : (e : ℕ) → is_idle_book (world_after system t).book ≡ false → items_in system t e ≡ items_of_events system t e ++ (items_of_takings system t e ++ items_of_phases system t e)
+  pub timed : is_idle_book (world_after system t).book ≡ false
+      → world_after system (suc t) ≡ after_phase timer (at_timer system t)
 
 abbrev pub MomentsAreInOrder : Type 0
 MomentsAreInOrder = (system : System) (t : ℕ) → IsInOrder system t
@@ -125,6 +122,11 @@ MomentsAreInOrder = (system : System) (t : ℕ) → IsInOrder system t
 abbrev pub feed : System → ℕ → ℕ → List Item
 feed system e zero = boot_items system.image e
 feed system e (suc t) = feed system e t ++ items_in system t e
+
+-- In a tick that is made it is given what the phases give, one after another.
+abbrev pub PhasesGive : Type 0
+PhasesGive = (system : System) (t e : ℕ) → is_idle_book (world_after system t).book ≡ false
+    → items_in system t e ≡ given_below system t (phases_in system t) e
 
 -- each environment is what it makes of its feed alone
 abbrev pub IsFoldOfFeed : Type 0

@@ -1,10 +1,12 @@
 //! The laws of the model.
 ghost use Rattle.std.specs.Prelude.{◌<◌};
-ghost use Rattle.world_model.specs.Book.{Book, next_turn};
+ghost use Rattle.world_model.specs.Book.{Book, next_held_turn};
 ghost use Rattle.run_model.specs.NextTurn.{IsNextTurn};
 ghost use Rattle.run_model.specs.Excess.{BalanceHolds, BootsAccounted, LedgersAreLawful, TicksKeepAccounts, TurnsGoByRule};
 ghost use Rattle.run_model.specs.Licensed.{FeedIsLicensed, GivenIsLicensed};
-ghost use Rattle.run_model.specs.Run.{InTurnIsEach, IsFoldOfFeed, MomentsAreInOrder};
+ghost use Rattle.run_model.specs.Handlers.{HandlersAreVerified};
+ghost use Rattle.run_model.specs.Live.{StoresAreLive};
+ghost use Rattle.run_model.specs.Run.{InTurnIsEach, IsFoldOfFeed, MomentsAreInOrder, PhasesGive};
 
 use call_verdicts::law_granted;
 use revocation_book::law_takable;
@@ -24,14 +26,19 @@ pub fn law_moments()
 
 /// Each environment is what it makes alone of what it is given: for every image and schedule, number of ticks and
 /// environment, all that it has, as its registers, pages, console, claims and sent packets, is the fold of its feed.
-pub fn law_fold()
+pub fn law_alone()
     ensures { IsFoldOfFeed }
+{}
+
+/// Every handler that a claim of an environment has at some moment of a run is verified: it has no bad word.
+pub fn law_handlers()
+    ensures { HandlersAreVerified }
 {}
 
 /// The next turn is that of the first held slot after the cursor, all around, the cursor's own slot
 /// last. It is nobody's exactly where every slot is empty.
 pub fn law_next_turn()
-    ensures { (b : Book) → b.cursor < b.slot_count → IsNextTurn b (next_turn b) }
+    ensures { (b : Book) → b.cursor < b.slot_count → IsNextTurn b (next_held_turn b) }
 {}
 
 /// A turn goes by the rule of excess: who runs in it owes nothing, every slot that is passed over is empty or was
@@ -48,7 +55,7 @@ pub fn law_balance()
 }
 
 /// Every row of every ledger is lawful after those before it, by the rule of excess.
-pub fn law_ledger()
+pub fn law_rows_are_lawful()
     ensures { LedgersAreLawful }
 {
     law_granted();
@@ -66,17 +73,16 @@ pub fn law_accounts()
     law_granted();
 }
 
-/// Every item that an environment is given in a phase of a tick has its licence in the world of that phase.
-pub fn law_licence()
-    ensures { GivenIsLicensed }
-{
-    law_granted();
-    law_takable();
-}
+/// In a tick each environment is given what the phases of the tick give, one after another.
+pub fn law_feed()
+    ensures { PhasesGive }
+{}
 
-/// Every item of every feed has its licence where it is given, at boot or in a phase of a tick.
-pub fn law_feed_licence()
-    ensures { FeedIsLicensed }
+/// Every item of every feed has its licence where it is given, at boot or in its phase of its tick, if each store to a page
+/// that isn't guaranteed goes through a live binding. That each does is a law of `sharing_law`.
+pub fn law_licence_by_stores()
+    ensures phases { StoresAreLive → GivenIsLicensed }
+    ensures feed { StoresAreLive → FeedIsLicensed }
 {
     law_granted();
     law_takable();

@@ -1,2 +1,2 @@
-pub mod Rising
-pub mod Lines
+mod Rising
+mod Lines

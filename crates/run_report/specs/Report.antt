@@ -8,7 +8,7 @@ use Rattle.line_text.specs.Text.{dec_text, hex_text}
 use Rattle.line_text.specs.WrittenLine.{bytes_text, flag_text, line, or_dash, quotation, spaced}
 use Rattle.boot_image.specs.ImageValue.{name_text}
 use Rattle.bind_book.specs.declared.binding.Binding.{Binding}
-use Rattle.bind_book.specs.Stripe.{stripe_rows}
+use Rattle.aegis_limits.specs.Limits.{stripe_rows}
 use Rattle.kernel_journal.specs.declared.row.Row.{Row}
 use Rattle.kernel_journal.specs.declared.row.Row.TheVariants as row
 use Rattle.kernel_journal.specs.declared.row.RunEnd.{RunEnd}
@@ -68,7 +68,9 @@ unfoldable pub out_line : ℕ → Solo → List ℕ
 out_line e s = line (codes "out" ∷ dec_text e ∷ dec_text (length s.console) ∷ quotation s.console ∷ [])
 
 unfoldable pub cpu_line : ℕ → Cpu → List ℕ
-cpu_line e cpu = line (codes "cpu" ∷ dec_text e ∷ hex_text 8 cpu.pc ∷ hex_text 8 cpu.next ∷ flag_text cpu.slot ∷ hex_text 8 cpu.hi ∷ hex_text 8 cpu.lo ∷ [])
+cpu_line e cpu = line
+    (codes "cpu" ∷ dec_text e ∷ hex_text 8 cpu.pc ∷ hex_text 8 cpu.next ∷ flag_text cpu.slot
+    ∷ hex_text 8 cpu.hi ∷ hex_text 8 cpu.lo ∷ [])
 
 -- the register after register i
 abbrev pub register_text : Cpu → ℕ → List ℕ
@@ -124,7 +126,8 @@ shown_cpu w e = if is_runner e w.book.runner then (w.solos e).cpu else rested (w
 -- what is shown of an environment while it lives
 unfoldable pub living_lines : World → ℕ → List ℕ
 living_lines w e =
-    cpu_line e (shown_cpu w e) ++ regs_line e (shown_cpu w e) ++ excess_line e (w.book.excess e) ++ keep_lines e (w.solos e).kept
+    cpu_line e (shown_cpu w e) ++ regs_line e (shown_cpu w e) ++ excess_line e (w.book.excess e)
+    ++ keep_lines e (w.solos e).kept
     ++ page_lines e (w.solos e).seen w.book.page_count ++ bind_lines e (w.solos e).binds
 
 abbrev pub if_live : Life → List ℕ → List ℕ
@@ -140,7 +143,9 @@ sent_lines e sent = flat_map (sent_line e) sent
 
 -- what is shown of an environment
 unfoldable pub env_text : World → ℕ → List ℕ
-env_text w e = env_line e (w.solos e) ++ out_line e (w.solos e) ++ if_live (w.solos e).life (living_lines w e) ++ sent_lines e (w.solos e).sent
+env_text w e =
+    env_line e (w.solos e) ++ out_line e (w.solos e) ++ if_live (w.solos e).life (living_lines w e)
+    ++ sent_lines e (w.solos e).sent
 
 -- A row of the ledger: the time, and the row's numbers in their order.
 abbrev pub row_line : Row → List ℕ
@@ -154,12 +159,15 @@ row_line (row.End t slot e) = numbers_line (codes "end") (Some t ∷ Some slot �
 row_line (row.Over t slot e excess) = numbers_line (codes "over") (Some t ∷ Some slot ∷ Some e ∷ Some excess ∷ [])
 row_line (row.Stop t slot e) = numbers_line (codes "stop") (Some t ∷ Some slot ∷ Some e ∷ [])
 row_line (row.Dead t slot e) = numbers_line (codes "dead") (Some t ∷ Some slot ∷ Some e ∷ [])
-row_line (row.Asked t e outstanding deadline) = numbers_line (codes "asked") (Some t ∷ Some e ∷ Some outstanding ∷ Some deadline ∷ [])
+row_line (row.Asked t e outstanding deadline) =
+    numbers_line (codes "asked") (Some t ∷ Some e ∷ Some outstanding ∷ Some deadline ∷ [])
 row_line (row.Take t e page backup) = numbers_line (codes "take") (Some t ∷ Some e ∷ Some page ∷ backup ∷ [])
 row_line (row.Unclaimed t size) = numbers_line (codes "drop") (Some t ∷ Some size ∷ [])
 
 abbrev pub sum_line : List Row → ℕ → List ℕ
-sum_line rows e = numbers_line (codes "sum") (Some e ∷ Some (count_by (is_run_of e) rows) ∷ Some (count_by (is_pay_of e) rows) ∷ Some (count_by (is_over_of e) rows) ∷ [])
+sum_line rows e = numbers_line (codes "sum")
+    (Some e ∷ Some (count_by (is_run_of e) rows) ∷ Some (count_by (is_pay_of e) rows) ∷ Some
+    (count_by (is_over_of e) rows) ∷ [])
 
 abbrev pub end_text : RunEnd → List ℕ
 end_text end.Limit = codes "limit"
@@ -178,4 +186,5 @@ unfoldable pub report_line : World → RunEnd → List ℕ
 report_line w how = line (codes "report" ∷ fingerprint (report_text w how) ∷ [])
 
 unfoldable pub summary_text : World → RunEnd → List ℕ
-summary_text w how = end_line w how ++ for_each (sum_line w.rows) w.count ++ report_line w how ++ line (codes "done" ∷ [])
+summary_text w how =
+    end_line w how ++ for_each (sum_line w.rows) w.count ++ report_line w how ++ line (codes "done" ∷ [])

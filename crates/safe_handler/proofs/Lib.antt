@@ -1,7 +1,7 @@
-pub mod Lending
-pub mod Steps
-pub mod Runs
-pub mod Effects
-pub mod Positions
-pub mod Ending
-pub mod Limits
+mod Lending
+mod Steps
+mod Runs
+mod Effects
+mod Positions
+mod Ending
+mod Limits

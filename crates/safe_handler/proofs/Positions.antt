@@ -5,7 +5,7 @@ use Rattle.std.proofs.lemmas.Bool.{eqb-false, lt-ltb, ltb-true, or_parts}
 use Rattle.mips_isa.specs.Word.{sign16_of}
 use Rattle.mips_exec.specs.declared.registers.Cpu.{Cpu}
 use Rattle.mips_exec.specs.Cpu.{advanced, branch_target, jumped}
-use Rattle.handler_rules.specs.Instructions.{branch_offset, is_allowed, is_barred_from_slots, is_branch}
+use Rattle.handler_rules.specs.Instructions.{branch_offset, is_allowed, is_barred_from_slots, branches}
 use Rattle.handler_rules.specs.Laws.{AreGood, FirstBadIsFirst}
 use Rattle.handler_rules.specs.Verification.{first_bad, follows_branch, insn_at, is_bad_branch, is_bad_word, most_words}
 
@@ -70,7 +70,7 @@ forward_sign imm ahead = rw (lt-ltb imm (2 ^ 15) ahead) refl
 
 -- a branch goes to the word behind it, and from there to its target, or to the word behind that
 pub jumps : (words : List ℕ) (cpu : Cpu) (i imm : ℕ) (taken : Bool) → IsVerified words → IsAt words cpu i (i + 1) → i < length words
-    → IsForward words i imm → is_branch (insn_at words i) ≡ true → IsBeyond words (jumped cpu (branch_target cpu taken imm)) i
+    → IsForward words i imm → branches (insn_at words i) ≡ true → IsBeyond words (jumped cpu (branch_target cpu taken imm)) i
 jumps words cpu i imm true verified is inside forward branch =
     let few = verified.few in
     let pc = is.pc in

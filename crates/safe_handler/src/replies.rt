@@ -1,53 +1,19 @@
 //! The replies of a handler.
 ghost use Rattle.std.specs.Prelude.{◌≡◌, ◌<◌, ◌≤◌, [], ◌∷◌, ◌++◌, length, true, slice_index_or};
-ghost use Rattle.external_event.specs.Limits.{most_packet_size};
 ghost use Rattle.handler_rules.specs.Laws.{is_frame};
 ghost use Rattle.handler_rules.specs.Running.{most_replies};
 
 use arrayvec::ArrayVec;
-use external_event::MOST_PACKET_SIZE;
+use external_event::SentPacket;
 use std::marker::Model;
 
 /// The most replies of a run.
 pub const MOST_REPLIES: usize = 4;
 
-/// A packet that a handler replies with, of at most 1,514 bytes.
-#[derive(Drop, Default)]
-struct Reply {
-    bytes: ArrayVec<u8, MOST_PACKET_SIZE>,
-}
-
-impl Model for Reply {
-    ghost use Rattle.std.specs.Prelude.{ℕ, List};
-
-    ghost Value = { List ℕ };
-
-    ghost view = { λ reply. reply.bytes.items };
-}
-
-impl Reply {
-    /// A reply of these bytes, which are copied.
-    fn new(bytes: &[u8]) -> Reply
-        requires { length bytes.now ≤ most_packet_size }
-        ensures { result ≡ bytes.now }
-    {
-        let mut copy = ArrayVec::new();
-        copy.try_extend_from_slice(bytes).unwrap();
-        Reply { bytes: copy }
-    }
-
-    /// Its bytes.
-    fn bytes(&self) -> &[u8]
-        ensures { result.now ≡ self.now }
-    {
-        self.bytes.as_slice()
-    }
-}
-
 /// The replies of a run, at most four, in the order in which they were made. Each is a frame of 14 to 1,514 bytes.
 #[derive(Drop)]
 pub struct Replies {
-    packets: ArrayVec<Reply, MOST_REPLIES>,
+    packets: ArrayVec<SentPacket, MOST_REPLIES>,
 }
 
 impl Model for Replies {
@@ -102,6 +68,6 @@ impl Replies {
         requires frame { is_frame bytes.now ≡ true }
         ensures { self.new ≡ self.old ++ bytes.now ∷ [] }
     {
-        self.packets.push(Reply::new(bytes));
+        self.packets.push(SentPacket::new(bytes));
     }
 }

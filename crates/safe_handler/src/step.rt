@@ -1,7 +1,6 @@
 //! One instruction of a handler.
 ghost use Rattle.std.specs.Prelude.{◌≡◌, length};
 ghost use Rattle.std.specs.Option.{option_map};
-ghost use Rattle.mips_exec.specs.Cpu.{advanced};
 ghost use Rattle.handler_rules.specs.Running.{after_call, end_by, entry_cpu, handler_step, reply_of, progress_of, state_of};
 
 use crate::lent::step_machine;
@@ -53,15 +52,6 @@ fn reply_of<'a>(cpu: &Cpu, page: &'a [u8]) -> Option<&'a [u8]>
     }
 }
 
-/// Goes on behind a SYSCALL.
-fn advance(cpu: &mut Cpu)
-    ensures { cpu.new ≡ advanced cpu.old }
-{
-    cpu.pc = cpu.next;
-    cpu.next = cpu.next.wrapping_add(4);
-    cpu.slot = false;
-}
-
 /// Makes the reply of a SYSCALL; the answer is how the handler ended, if it did.
 fn take_call(cpu: &mut Cpu, page: &[u8], replies: &mut Replies) -> Option<HandlerEnd>
     ensures { progress_of cpu.new page.now replies.new result ≡ after_call (state_of cpu.old page.now replies.old) }
@@ -73,7 +63,7 @@ fn take_call(cpu: &mut Cpu, page: &[u8], replies: &mut Replies) -> Option<Handle
         return Some(HandlerEnd::Fault);
     };
     replies.push(bytes);
-    advance(cpu);
+    cpu.advance();
     None
 }
 

@@ -1,3 +1,3 @@
 mod PageBytes
 mod FirstPages
-pub mod Smallest
+mod Smallest

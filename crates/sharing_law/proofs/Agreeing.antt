@@ -36,7 +36,7 @@ use Rattle.run_model.specs.Licensed.{MayTaking}
 use Rattle.run_model.proofs.Balance.{KeepsAccounts, boots_accounted, happen_accounts, settling_accounts, step_keeps, taking_accounts, timer_accounts, turn_keeps}
 use Rattle.page_laws.proofs.Tables.{set_else}
 use Rattle.page_laws.proofs.Sights.{HasNone}
-use Rattle.sharing_law.specs.Agreement.{AreBoundAllocated, BooksAgree, BackupsAreOwned, BoundIsAllocated, ClaimsAgree, ClaimsAreApart, ClaimsAreSound}
+use Rattle.sharing_law.specs.Agreement.{AreBoundAllocated, BooksAgree, BackupsAreOwned, BoundIsAllocated, ClaimsAgree, ClaimsAreApart, ClaimsAreSound, PagesEnd}
 use Rattle.sharing_law.proofs.Sound.{Sound, sees_nothing}
 use Rattle.sharing_law.proofs.Backups.{AreBacked, arrival_backed, backed_owned, backups_owned, step_backed, taking_backed, timer_backed}
 use Rattle.sharing_law.proofs.Books.{step_allocated}
@@ -229,11 +229,14 @@ books_agree granted takable system t = (all_fine granted takable system t).sound
 pub bound_is_allocated : GrantedMay → TakingsAreTakable → BoundIsAllocated
 bound_is_allocated granted takable system t = (all_fine granted takable system t).allocated
 
+pub pages_end : GrantedMay → TakingsAreTakable → PagesEnd
+pages_end granted takable system t k page past = (moment_fine granted takable system t (all_fine granted takable system t) k).sound.behind page past
+
 pub claims_agree : GrantedMay → TakingsAreTakable → ClaimsAgree
 claims_agree granted takable system t = (all_fine granted takable system t).claimed.rings
 
 pub claims_are_sound : GrantedMay → TakingsAreTakable → ClaimsAreSound
-claims_are_sound granted takable system t k c listed = let good = (all_fine granted takable system t).claimed.good.each c (k, listed) in record { owned = good.owned; below = good.below; only = good.only }
+claims_are_sound granted takable system t k c listed = let good = (all_fine granted takable system t).claimed.good.each c (k, listed) in record { filter = good.rule; owned = good.owned; below = good.below; only = good.only }
 
 pub backups_are_owned : GrantedMay → TakingsAreTakable → BackupsAreOwned
 backups_are_owned granted takable system t = backups_owned (world_after system t).book (all_fine granted takable system t).backed

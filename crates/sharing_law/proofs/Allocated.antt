@@ -20,9 +20,9 @@ use Rattle.call_verdicts.specs.Granted.{GrantedMay}
 use Rattle.run_model.specs.Licensed.{MayTaking}
 use Rattle.run_model.specs.Run.{System, given_at, given_by, happens_in, moment, next_phases, takings_in, world_after}
 use Rattle.run_model.proofs.Phases.{next_moment, once_more}
-use Rattle.sharing_law.specs.Change.{AllocatedChange, AllocatedInTick, AllocatedZeros, IsAllocated, IsOwnedAt, IsStored, ZerosInTick}
+use Rattle.sharing_law.specs.Change.{AllocatedChange, AllocatedInTick, AllocatedZeros, IsAllocated, IsOwnedAt, IsStoredTo, ZerosInTick}
 use Rattle.sharing_law.specs.Delivery.{IsCopied, IsDelivered}
-use Rattle.sharing_law.specs.Right.{row_after}
+use Rattle.run_model.specs.Live.{row_after}
 use Rattle.sharing_law.proofs.Sound.{owner_bytes}
 use Rattle.sharing_law.proofs.Brings.{Fate, Stays, Written, Taken}
 use Rattle.sharing_law.proofs.Delivering.{IsInRing, arrived, delivered_in}
@@ -122,7 +122,7 @@ module _ (granted : GrantedMay) (takable : TakingsAreTakable) where
     abbrev Becomes : ℕ → ℕ → ℕ → Type 0
     Becomes k page owner =
         ((is_owned_by owner ((moment system t k).book.pages page) ≡ true) × (page_bytes (moment system t (suc k)) page ≡ page_bytes (moment system t k) page))
-        ⊎ (((is_owned_by owner ((moment system t k).book.pages page) ≡ true) × (IsStored system t k page ⊎ (IsDelivered system t k page owner ⊎ IsCopied system t k page owner))) ⊎ IsAllocated system t k page owner)
+        ⊎ (((is_owned_by owner ((moment system t k).book.pages page) ≡ true) × (IsStoredTo system t k page ⊎ (IsDelivered system t k page owner ⊎ IsCopied system t k page owner))) ⊎ IsAllocated system t k page owner)
 
     fine_at : (k : ℕ) → Fine (moment system t k)
     fine_at k = moment_fine granted takable system t (all_fine granted takable system t) k
@@ -162,7 +162,7 @@ module _ (granted : GrantedMay) (takable : TakingsAreTakable) where
     free_owned owner row free owns = let clash : false ≡ true = sym (ap (is_owned_by owner) free) ∙ owns in cc
 
     pub change : (k page owner : ℕ) → IsOwnedAt system t k page owner → IsOwnedAt system t (suc k) page owner
-        → (page_bytes (moment system t (suc k)) page ≡ page_bytes (moment system t k) page) ⊎ (IsStored system t k page ⊎ (IsDelivered system t k page owner ⊎ IsCopied system t k page owner))
+        → (page_bytes (moment system t (suc k)) page ≡ page_bytes (moment system t k) page) ⊎ (IsStoredTo system t k page ⊎ (IsDelivered system t k page owner ⊎ IsCopied system t k page owner))
     change k page owner had has = elim (becomes k page owner has) [
       | inl stays ↦ inl stays.1
       | inr other ↦ elim other [ inl stored ↦ inr stored.1 | inr taken ↦ absurd (free_owned owner ((moment system t k).book.pages page) taken.free had) ]
@@ -178,7 +178,7 @@ module _ (granted : GrantedMay) (takable : TakingsAreTakable) where
     abbrev Since : ℕ → ℕ → World → Type 0
     Since page owner v = is_owned_by owner (v.book.pages page) ≡ true
         → ((is_owned_by owner (row_after system t page) ≡ true) × (page_bytes v page ≡ page_bytes before page))
-        ⊎ (((k : ℕ) × IsStored system t k page) ⊎ (((k : ℕ) × (IsDelivered system t k page owner ⊎ IsCopied system t k page owner)) ⊎ ((k : ℕ) × IsAllocated system t k page owner)))
+        ⊎ (((k : ℕ) × IsStoredTo system t k page) ⊎ (((k : ℕ) × (IsDelivered system t k page owner ⊎ IsCopied system t k page owner)) ⊎ ((k : ℕ) × IsAllocated system t k page owner)))
 
     since : (n page owner : ℕ) → Since page owner (moment system t n)
     since zero page owner owns = inl (owns, refl)

@@ -23,7 +23,7 @@ use Rattle.world_model.specs.Event.{arrives}
 use Rattle.world_model.specs.Item.{Step}
 use Rattle.world_model.specs.May.{May}
 use Rattle.world_model.specs.Step.{Act, Calls, Dies}
-use Rattle.world_model.specs.Tick.{act_now, brings, step, step_when, timer}
+use Rattle.world_model.specs.Tick.{act_now, act_reply, step, step_when, timer}
 use Rattle.world_model.specs.Verdict.{done, reply_to}
 use Rattle.world_model.specs.World.{World, Reply, after, tells}
 use Rattle.call_verdicts.specs.Granted.{GrantedMay}
@@ -175,8 +175,8 @@ module _ (w : World) (e : ℕ) (backed : AreBacked w.book) where
     call_backed c named = grind (arith, deed_backed, deed_may)
 
     -- what an act brings once the step is made
-    act_backed : (act : Act) → act_now w e ≡ act → AreBacked (brings e act (after w (tells e Step w))).book
-    act_backed (Calls c) is = subst (λ (v : World). AreBacked (brings e (Calls c) v).book) (sym (call_stands w e c is)) (call_backed c (call_named w e c is))
+    act_backed : (act : Act) → act_now w e ≡ act → AreBacked (act_reply e act (after w (tells e Step w))).book
+    act_backed (Calls c) is = subst (λ (v : World). AreBacked (act_reply e (Calls c) v).book) (sym (call_stands w e c is)) (call_backed c (call_named w e c is))
     act_backed (Dies cause) is = death_backed w e backed
     act_backed act is = backed
 

@@ -12,7 +12,7 @@ use Rattle.page_book.specs.declared.row.PageRow.TheVariants.{Free, Owned}
 use Rattle.page_book.specs.Row.{is_owned_by}
 use Rattle.page_book.proofs.Owners.{anothers}
 use Rattle.bind_book.specs.declared.binding.Binding.{Binding}
-use Rattle.bind_book.specs.Stripe.{binding_at, breaks_page, is_bound, row_of, without}
+use Rattle.bind_book.specs.Stripe.{binding_at, leads_to_page, is_bound, row_of, without}
 use Rattle.world_model.specs.declared.call.Deed.{Deed}
 use Rattle.world_model.specs.declared.call.Deed.TheVariants.{Gives as Donates, Allocates, Frees, Recaps, Binds, Unbinds, Transfers}
 use Rattle.world_model.specs.declared.life.Life.TheVariants.{Live}
@@ -23,11 +23,11 @@ use Rattle.filter_tree.specs.Claims.{is_into}
 use Rattle.revocation_book.specs.declared.revocation.Pending.{Pending}
 use Rattle.revocation_book.specs.Pending.{lowered}
 use Rattle.revocation_book.specs.Backups.{unloaded}
-use Rattle.world_model.specs.Book.{Book, broken, withdrawn}
-use Rattle.world_model.specs.Holding.{bound, gained, lost, owning, unbound}
+use Rattle.world_model.specs.Book.{Book, without_bindings_of, withdrawn}
+use Rattle.world_model.specs.Holding.{bound, gained, lost, owning, after_unbind}
 use Rattle.world_model.specs.Item.{Item, Start, Transfer, Gained, Lost, absorb_all, own_part}
 use Rattle.world_model.specs.May.{May, MayAllocate, MayChange}
-use Rattle.world_model.specs.PageCalls.{breaks, page_bytes, without_number}
+use Rattle.world_model.specs.PageCalls.{lost_bindings, page_bytes, without_number}
 use Rattle.world_model.specs.Solo.{Solo}
 use Rattle.world_model.specs.SlotCalls.{handed}
 use Rattle.world_model.specs.Transfers.{slots_handed}
@@ -115,21 +115,21 @@ module _ (w : World) (e : ℕ) (sound : Sound w) (lives : (w.solos e).life ≡ L
   -- A page that its owner frees, or gives other words.
   module _ (page : ℕ) (row : PageRow) (but : Option ℕ) (claims : List ClaimValue) (pending : ℕ → Option Pending) (backups : ℕ → List ℕ) (may : MayChange w.book e page) (d : Deed) (its : List Item) (t : Solo) (after : absorb_all (caller d) its ≡ t) where
     abbrev changed : Book
-    changed = record (broken page but (record w.book { pages = set_at page row w.book.pages })) { claims = claims; pending = pending; backups = backups }
+    changed = record (without_bindings_of page but (record w.book { pages = set_at page row w.book.pages })) { claims = claims; pending = pending; backups = backups }
 
     behind_other : (p : ℕ) → w.book.page_count ≤ p → p ≡ page → ⊥
     behind_other p more same = omega (arith, may.there)
 
     change_brings : SeesNow e changed (page_bytes w) t → ((i : ℕ) → i ≢ e → is_owned_by i row ≡ false) → ((i : ℕ) → i ≢ e → but ≢ Some i)
-        → ((o : ℕ) → is_owned_by o row ≡ true → is_owned_by o (w.book.pages page) ≡ true) → Brings w e (caller d) changed (set_at e its (breaks w.book page))
+        → ((o : ℕ) → is_owned_by o row ≡ true → is_owned_by o (w.book.pages page) ≡ true) → Brings w e (caller d) changed (set_at e its (lost_bindings w.book page))
     change_brings sees no_other no_but before = record {
       bytes = page_bytes w;
-      own = receives changed (page_bytes w) (caller d) its (breaks w.book page) t after sees;
+      own = receives changed (page_bytes w) (caller d) its (lost_bindings w.book page) t after sees;
       others = λ i ne live.
-          beside i ne changed (page_bytes w) its (breaks w.book page)
+          beside i ne changed (page_bytes w) its (lost_bindings w.book page)
           (others_lose i page but row w.book.pages (w.book.binds i) (page_bytes w) (w.solos i) (sound.agreed i) live (no_but i ne) (anothers e i (w.book.pages page) ne may.owned) (no_other i ne) (sound.stripes i));
-      none = λ i ne none. record { binds = λ n. ap (without (breaks_page page but i)) (none.binds n); owns = set_owns i page row w.book.pages (no_other i ne) none.owns };
-      stripes = λ i. without_ends (breaks_page page but i) (w.book.binds i) (sound.stripes i);
+      none = λ i ne none. record { binds = λ n. ap (without (leads_to_page page but i)) (none.binds n); owns = set_owns i page row w.book.pages (no_other i ne) none.owns };
+      stripes = λ i. without_ends (leads_to_page page but i) (w.book.binds i) (sound.stripes i);
       behind = λ p more. set_else page p row w.book.pages (λ same. behind_other p more same) ∙ sound.behind p more;
       fate = λ o p owns. fate o p (p == page) refl owns;
       fortune = GoesOn (caller_lives d);
@@ -197,7 +197,7 @@ module _ (w : World) (e : ℕ) (sound : Sound w) (lives : (w.solos e).life ≡ L
   unbind_brings : (vpn : ℕ) → Brings w e (caller (Unbinds vpn)) (done w e (Unbinds vpn)).book no_items
   unbind_brings vpn =
       stripe_brings (without_number vpn (w.book.binds e)) (without_number_ends vpn) (Unbinds vpn) no_items (λ i ne. refl)
-      (as_before e w.book.pages (without_number vpn (w.book.binds e)) (page_bytes w) (unbound vpn (w.solos e)) (caller (Unbinds vpn)) refl refl
+      (as_before e w.book.pages (without_number vpn (w.book.binds e)) (page_bytes w) (after_unbind vpn (w.solos e)) (caller (Unbinds vpn)) refl refl
       (unbinder_loses e vpn w.book.pages (w.book.binds e) (page_bytes w) (w.solos e) (sound.agreed e)))
 
   -- The rest of a slice goes to another, which starts or is entered.

@@ -11,7 +11,7 @@ use Rattle.filter_tree.specs.ClaimBook.{ClaimValue, is_of_env}
 use Rattle.filter_tree.specs.Claims.{is_numbered}
 use Rattle.page_book.specs.Row.{is_owned_by}
 use Rattle.world_model.specs.Book.{Book}
-use Rattle.world_model.specs.ClaimCalls.{with_claim}
+use Rattle.world_model.specs.ClaimCalls.{book_with_claim}
 use Rattle.world_model.specs.Rings.{ring_with_handler_if, ring_after_packet_if}
 use Rattle.world_model.specs.Solo.{Ring}
 use Rattle.world_model.specs.World.{World}
@@ -83,13 +83,13 @@ module _ (b : Book) (c : ClaimValue) (owned : is_owned_by c.env (b.pages c.page)
   more_apart : (x y : ClaimValue) → Has b.claims x ⊎ (c ≡ x) → Has b.claims y ⊎ (c ≡ y) → AreApart x y
   more_apart x y its others = grind (arith, common_steps)
 
-  more_each : (x : ClaimValue) → Has b.claims x ⊎ (c ≡ x) → IsGood (with_claim b c) x
+  more_each : (x : ClaimValue) → Has b.claims x ⊎ (c ≡ x) → IsGood (book_with_claim b c) x
   more_each x (inl its) =
       let before = good.each x its in
       record { owned = before.owned; below = omega (arith, before.below); only = found_before (is_numbered x.id) b.claims c x before.only; rule = before.rule }
   more_each x (inr last) = grind (arith, common_steps, found_last, other_number, eq-eqb)
 
-  pub good_more : AreGood (with_claim b c)
+  pub good_more : AreGood (book_with_claim b c)
   good_more = record {
     each = λ x its. more_each x (had_or_last b.claims c x its);
     apart = λ x y its others. more_apart x y (had_or_last b.claims c x its) (had_or_last b.claims c y others);

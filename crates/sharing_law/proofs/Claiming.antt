@@ -33,7 +33,7 @@ use Rattle.world_model.specs.Holding.{with_binds}
 use Rattle.world_model.specs.Item.{Item, Start, Transfer, Gained, Lost, Left, absorb, absorb_all, absorbed, own_part}
 use Rattle.world_model.specs.May.{May, MayChange, MayClaim}
 use Rattle.world_model.specs.Page.{Mapped}
-use Rattle.world_model.specs.PageCalls.{breaks, left_at, left_by, left_if, lost_if, page_bytes}
+use Rattle.world_model.specs.PageCalls.{lost_bindings, left_at, left_by, left_if, lost_if, page_bytes}
 use Rattle.world_model.specs.Rings.{page_store}
 use Rattle.world_model.specs.Solo.{Solo, Store, Key, Kept, Physical, dead, sight}
 use Rattle.world_model.specs.Table.{set_at}
@@ -101,10 +101,10 @@ loses_with : (b : Book) → AreGood b → (gone i n : ℕ) → i ≢ gone → (s
 loses_with b good gone i zero other s are = are
 loses_with b good gone i (suc n) other s are =
     let before = loses_with b good gone i n other s are in
-    subst (λ (t : Solo). AreRings i b.claims t.rings) (sym (fold-append absorb s (lost_with b gone i n) (if belongs_to gone (b.pages n) then breaks b n i else [])))
+    subst (λ (t : Solo). AreRings i b.claims t.rings) (sym (fold-append absorb s (lost_with b gone i n) (if belongs_to gone (b.pages n) then lost_bindings b n i else [])))
     (by_test (absorb_all s (lost_with b gone i n)) before (belongs_to gone (b.pages n)) refl)
   where
-    by_test : (t : Solo) → AreRings i b.claims t.rings → (its : Bool) → belongs_to gone (b.pages n) ≡ its → AreRings i b.claims (absorb_all t (if its then breaks b n i else [])).rings
+    by_test : (t : Solo) → AreRings i b.claims t.rings → (its : Bool) → belongs_to gone (b.pages n) ≡ its → AreRings i b.claims (absorb_all t (if its then lost_bindings b n i else [])).rings
     by_test t are true is = loses_beside i n b.claims (beside b good i n (not_owned gone i (b.pages n) other is)) (is_bound n (b.binds i)) t are
     by_test t are false is = are
 
@@ -126,7 +126,7 @@ module _ (w : World) (e : ℕ) (claimed : Claimed w) where
   others_beside : (page : ℕ) → is_owned_by e (w.book.pages page) ≡ true → (i : ℕ) → i ≢ e → (c : ClaimValue) → Has w.book.claims c → is_of_env i c ≡ true → (c.page == page) ≡ false
   others_beside page own i ne = beside w.book claimed.good i page (anothers e i (w.book.pages page) ne own)
 
-  others_keep : (page : ℕ) → is_owned_by e (w.book.pages page) ≡ true → (its : List Item) (i : ℕ) → i ≢ e → AreRings i w.book.claims (absorb_all (w.solos i) (set_at e its (breaks w.book page) i)).rings
+  others_keep : (page : ℕ) → is_owned_by e (w.book.pages page) ≡ true → (its : List Item) (i : ℕ) → i ≢ e → AreRings i w.book.claims (absorb_all (w.solos i) (set_at e its (lost_bindings w.book page) i)).rings
   others_keep page own its i ne = grind (arith, common_steps, set_else, loses_beside, others_beside)
 
   -- Death: an environment's claims go with it.
@@ -158,10 +158,10 @@ module _ (w : World) (e : ℕ) (claimed : Claimed w) where
 
     free_claims : (page : ℕ) → MayChange w.book e page → Claiming w e (caller (Frees page)) (done w e (Frees page)).book (done w e (Frees page)).items
     free_claims page may = record {
-      own = subst (λ (s : Solo). AreRings e (filter (not_into page) w.book.claims) s.rings) (sym (ap (absorb_all (caller (Frees page))) (set_here e (Lost page ∷ []) (breaks w.book page)) ∙ absorbs (caller (Frees page)) (Lost page) [] lives))
+      own = subst (λ (s : Solo). AreRings e (filter (not_into page) w.book.claims) s.rings) (sym (ap (absorb_all (caller (Frees page))) (set_here e (Lost page ∷ []) (lost_bindings w.book page)) ∙ absorbs (caller (Frees page)) (Lost page) [] lives))
           (rings_less e w.book.claims (w.solos e).rings (λ (p : ClaimPage). not (p.page == page)) (not_into page) (λ c own. refl) (claimed.rings e));
       others = λ i ne.
-          rings_spared i w.book.claims (absorb_all (w.solos i) (set_at e (Lost page ∷ []) (breaks w.book page) i)).rings (not_into page) (λ c its own. ap not (others_beside page may.owned i ne c its own))
+          rings_spared i w.book.claims (absorb_all (w.solos i) (set_at e (Lost page ∷ []) (lost_bindings w.book page) i)).rings (not_into page) (λ c its own. ap not (others_beside page may.owned i ne c its own))
           (others_keep page may.owned (Lost page ∷ []) i ne);
       good = good_less w.book (done w e (Frees page)).book (not_into page) refl refl (λ c kept owned. ap (is_owned_by c.env) (set_else page c.page Free w.book.pages (eqb-false c.page page (not-true (is_into page c) kept))) ∙ owned) claimed.good;
     }

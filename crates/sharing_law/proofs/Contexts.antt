@@ -11,11 +11,11 @@ use Rattle.env_frames.specs.declared.post.PostWord.{PostWord}
 use Rattle.env_frames.specs.declared.post.PostWord.TheVariants as post
 use Rattle.world_model.specs.Page.{KeptPage}
 use Rattle.world_model.specs.Post.{asked_for, counted, post_word, with_post}
-use Rattle.world_model.specs.Repossession.{copied, recorded, taken}
+use Rattle.world_model.specs.Repossession.{copied, recorded, with_page_taken}
 use Rattle.world_model.specs.Solo.{Solo, Store, Kept, Physical, bytes_in, bytes_of, kept_at, stored_page}
 use Rattle.world_model.specs.Upcalls.{with_context}
 use Rattle.world_model.proofs.Stores.{kept_as_was}
-use Rattle.sharing_law.specs.Change.{HasAsked, HasRecord, IsRewritten, asked_page, bytes_at, counted_page, recorded_page}
+use Rattle.sharing_law.specs.Change.{HasAsked, HasRecord, IsRewritten, asked_page, kept_bytes, counted_page, recorded_page}
 use Rattle.sharing_law.proofs.Given.{kept_else, kept_here}
 
 -- The context page, if it is there, is rewritten so, and all other guaranteed pages are as they were.
@@ -23,18 +23,18 @@ pub record Rewrites (s t : Solo) (rewritten : List ℕ → List ℕ) : Type 0 wh
   pub beside : (vpn : ℕ) → vpn ≢ context_number → kept_at t.kept vpn ≡ kept_at s.kept vpn
   pub nowhere : kept_at s.kept context_number ≡ None → kept_at t.kept context_number ≡ None
   pub there : (p : KeptPage) → kept_at s.kept context_number ≡ Some p → (q : KeptPage) × (kept_at t.kept context_number ≡ Some q)
-  pub has : (p : KeptPage) → kept_at s.kept context_number ≡ Some p → bytes_at t context_number ≡ rewritten (bytes_at s context_number)
+  pub has : (p : KeptPage) → kept_at s.kept context_number ≡ Some p → kept_bytes t context_number ≡ rewritten (kept_bytes s context_number)
 
 -- So its bytes stay, or it is the context page.
-pub rewrites_or : (s t : Solo) (rewritten : List ℕ → List ℕ) → Rewrites s t rewritten → (vpn : ℕ) → (bytes_at t vpn ≡ bytes_at s vpn) ⊎ IsRewritten s t vpn rewritten
+pub rewrites_or : (s t : Solo) (rewritten : List ℕ → List ℕ) → Rewrites s t rewritten → (vpn : ℕ) → (kept_bytes t vpn ≡ kept_bytes s vpn) ⊎ IsRewritten s t vpn rewritten
 rewrites_or s t rewritten rewrites vpn = elim (cases_eq vpn context_number) [
   | inl here ↦ by_page (kept_at s.kept context_number) refl here
   | inr other ↦ inl (ap bytes_in (rewrites.beside vpn other))
 ]
   where
-    by_page : (o : Option KeptPage) → kept_at s.kept context_number ≡ o → vpn ≡ context_number → (bytes_at t vpn ≡ bytes_at s vpn) ⊎ IsRewritten s t vpn rewritten
-    by_page None is here = inl (ap (bytes_at t) here ∙ ap bytes_in (rewrites.nowhere is ∙ sym is) ∙ ap (bytes_at s) (sym here))
-    by_page (Some p) is here = inr (record { context = here; has = ap (bytes_at t) here ∙ rewrites.has p is ∙ ap (λ n. rewritten (bytes_at s n)) (sym here) })
+    by_page : (o : Option KeptPage) → kept_at s.kept context_number ≡ o → vpn ≡ context_number → (kept_bytes t vpn ≡ kept_bytes s vpn) ⊎ IsRewritten s t vpn rewritten
+    by_page None is here = inl (ap (kept_bytes t) here ∙ ap bytes_in (rewrites.nowhere is ∙ sym is) ∙ ap (kept_bytes s) (sym here))
+    by_page (Some p) is here = inr (record { context = here; has = ap (kept_bytes t) here ∙ rewrites.has p is ∙ ap (λ n. rewritten (kept_bytes s n)) (sym here) })
 
 -- Nothing is rewritten where the guaranteed pages are the same.
 pub rewrites_none : (s t : Solo) → t.kept ≡ s.kept → Rewrites s t (λ page. page)
@@ -84,7 +84,7 @@ module _ (outstanding deadline : ℕ) (s : Solo) where
       (context_rewrites (post_offset post.Outstanding) (word_bytes outstanding) s)
       (context_rewrites (post_offset post.Deadline) (word_bytes deadline) first)
 
-  pub ask_changes : (vpn : ℕ) → (bytes_at (asked_for outstanding deadline s) vpn ≡ bytes_at s vpn) ⊎ HasAsked s (asked_for outstanding deadline s) vpn outstanding deadline
+  pub ask_changes : (vpn : ℕ) → (kept_bytes (asked_for outstanding deadline s) vpn ≡ kept_bytes s vpn) ⊎ HasAsked s (asked_for outstanding deadline s) vpn outstanding deadline
   ask_changes = rewrites_or s (asked_for outstanding deadline s) (asked_page outstanding deadline) ask_rewrites
 
 -- A page that is taken is recorded and counted.
@@ -118,8 +118,8 @@ module _ (page : ℕ) (backup : Option ℕ) (s : Solo) where
   number_is : number ≡ post_word post.Takings s
   number_is = ap (λ ps. word_at (bytes_in (kept_at ps context_number)) (post_offset post.Takings)) (copied_kept page backup s)
 
-  pub take_changes : (vpn : ℕ) → (bytes_at (taken page backup s) vpn ≡ bytes_at s vpn) ⊎ HasRecord s (taken page backup s) vpn page backup
+  pub take_changes : (vpn : ℕ) → (kept_bytes (with_page_taken page backup s) vpn ≡ kept_bytes s vpn) ⊎ HasRecord s (with_page_taken page backup s) vpn page backup
   take_changes vpn = elim (rewrites_or s (counted post.Takings (recorded number page backup copy)) (rewritten number) take_rewrites vpn) [
     | inl same ↦ inl same
-    | inr now ↦ inr (record { context = now.context; has = now.has ∙ ap (λ n. rewritten n (bytes_at s vpn)) number_is })
+    | inr now ↦ inr (record { context = now.context; has = now.has ∙ ap (λ n. rewritten n (kept_bytes s vpn)) number_is })
   ]

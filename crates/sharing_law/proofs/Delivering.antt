@@ -19,7 +19,7 @@ use Rattle.world_model.specs.Event.{arrives, delivers, happen, ring_bytes, ring_
 use Rattle.world_model.specs.Item.{Item, Packet, absorb_all}
 use Rattle.world_model.specs.PageCalls.{left_if, page_bytes}
 use Rattle.world_model.specs.Post.{counted}
-use Rattle.world_model.specs.Rings.{Reception, page_left, page_store, received_as, received_by, received_in, reception, ring_of}
+use Rattle.world_model.specs.Rings.{Reception, page_left, page_store, after_reception, reception_by, after_packet_in, reception, ring_of}
 use Rattle.world_model.specs.Solo.{Solo, Ring, Physical, bytes_seen, with_store}
 use Rattle.world_model.specs.Table.{set_at}
 use Rattle.world_model.specs.World.{World, Reply, after}
@@ -42,7 +42,7 @@ use Rattle.sharing_law.proofs.Sound.{Sound, agreed, owner_bytes, still_nothing}
 use Rattle.sharing_law.proofs.Turning.{IsAlike, bytes_alike, same_lists, sound_alike}
 
 -- A page into which a packet goes, or of which a handler takes it, is left no smaller.
-left_size : (handler : Option (List ℕ)) (r : Ring) (packet page bytes : List ℕ) → page_left (received_by handler r packet page) ≡ Some bytes → length page ≤ length bytes
+left_size : (handler : Option (List ℕ)) (r : Ring) (packet page bytes : List ℕ) → page_left (reception_by handler r packet page) ≡ Some bytes → length page ≤ length bytes
 left_size handler r packet page bytes is = grind (arith, common_steps, filled_size, handled_holds)
 
 -- What its environment is once the packet is there: these bytes are stored in the ring page, and the claims have their pages.
@@ -52,11 +52,11 @@ record IsPut (s t : Solo) (page : ℕ) (bytes : List ℕ) : Type 0 where
   rings : map ring_page t.rings ≡ map ring_page s.rings
   life : t.life ≡ s.life
 
-puts : (r : Ring) (becomes : Reception) (s : Solo) (bytes : List ℕ) → page_left becomes ≡ Some bytes → IsPut s (received_as r becomes s) r.page bytes
+puts : (r : Ring) (becomes : Reception) (s : Solo) (bytes : List ℕ) → page_left becomes ≡ Some bytes → IsPut s (after_reception r becomes s) r.page bytes
 puts r becomes s bytes is = grind (arith, common_steps, rings_turned)
 
 -- or once it is lost
-lost_rests : (r : Ring) (becomes : Reception) (s : Solo) → page_left becomes ≡ None → IsRested s (received_as r becomes (counted post.Packets s))
+lost_rests : (r : Ring) (becomes : Reception) (s : Solo) → page_left becomes ≡ None → IsRested s (after_reception r becomes (counted post.Packets s))
 lost_rests r becomes s is = grind (arith, common_steps)
 
 -- the owner of a page sees its bytes
@@ -137,11 +137,11 @@ module _ (w : World) (c : ClaimValue) (packet : List ℕ) (sound : Sound w) (cla
   abbrev others_get : Option (List ℕ) → ℕ → List Item
   others_get bytes = ring_left w.book c.env c.page bytes
 
-  now_own : now.solos c.env ≡ received_as its.ring becomes_there once
+  now_own : now.solos c.env ≡ after_reception its.ring becomes_there once
   now_own =
       ap (absorb_all s) (set_here c.env (Packet c.id packet ∷ []) (others_get (ring_bytes s (ring_of s.rings c.id) packet)))
       ∙ absorbs s (Packet c.id packet) [] lives
-      ∙ ap (λ (o : Option Ring). received_in o packet once) its.stands
+      ∙ ap (λ (o : Option Ring). after_packet_in o packet once) its.stands
 
   now_other : (i : ℕ) → i ≢ c.env → now.solos i ≡ absorb_all (w.solos i) (others_get outcome i)
   now_other i ne =
@@ -160,7 +160,7 @@ module _ (w : World) (c : ClaimValue) (packet : List ℕ) (sound : Sound w) (cla
   -- Or it is there.
   module _ (bytes : List ℕ) (filled : outcome ≡ Some bytes) where
     abbrev holder : Solo
-    holder = received_as its.ring becomes_there once
+    holder = after_reception its.ring becomes_there once
 
     put : IsPut once holder its.ring.page bytes
     put = puts its.ring becomes_there once bytes filled

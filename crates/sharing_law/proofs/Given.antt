@@ -16,7 +16,7 @@ use Rattle.world_model.specs.Table.{set_at}
 use Rattle.world_model.specs.Book.{Book}
 use Rattle.world_model.specs.Solo.{Solo, Store, Kept, is_dead, kept_after, kept_at, stored_page}
 use Rattle.world_model.specs.Holding.{with_binds}
-use Rattle.world_model.specs.Item.{Item, Start, Transfer, Answer, Gained, Lost, Left, absorb, absorb_all, absorbed, answered, deed_at, own_part}
+use Rattle.world_model.specs.Item.{Item, Start, Transfer, Answer, Gained, Lost, Left, absorb, absorb_all, absorbed, with_answer, deed_at, own_part}
 use Rattle.world_model.specs.Death.{death_items, lost_with}
 use Rattle.world_model.specs.PageCalls.{left_if, lost_if}
 use Rattle.world_model.specs.World.{only}
@@ -75,7 +75,7 @@ pub own_leaves : (s : Solo) (d : Deed) → Leaves s (own_part d s)
 own_leaves s (Unbinds vpn) = either (Leaves s) (is_some (binding_at s.binds vpn)) (with_binds (set_at (row_of vpn) None s.binds) s) s (record { kept = refl; life = refl }) (record { kept = refl; life = refl })
 own_leaves s d = record { kept = refl; life = refl }
 
-answered_leaves : (s : Solo) (verdict : Verdict) → Leaves s (answered verdict s)
+answered_leaves : (s : Solo) (verdict : Verdict) → Leaves s (with_answer verdict s)
 answered_leaves s (Refuse code value) = record { kept = refl; life = refl }
 answered_leaves s (Grant value) = let own = own_leaves s (deed_at s value) in record { kept = own.kept; life = own.life }
 

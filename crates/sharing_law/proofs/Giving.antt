@@ -14,7 +14,8 @@ use Rattle.world_model.specs.declared.slot.Runner.{Runner}
 use Rattle.world_model.specs.declared.slot.Turn.{Turn}
 use Rattle.world_model.specs.declared.verdict.Verdict.{Verdict}
 use Rattle.world_model.specs.declared.verdict.Verdict.TheVariants.{Refuse, Grant}
-use Rattle.world_model.specs.Book.{Told, excess_limit, sees, whole_turn}
+use Rattle.world_model.specs.Book.{WholeTurn, sees, whole_turn}
+use Rattle.aegis_limits.specs.Limits.{excess_limit}
 use Rattle.world_model.specs.Call.{called}
 use Rattle.world_model.specs.Death.{death_items}
 use Rattle.external_event.specs.declared.event.Occurrence.{Occurrence}
@@ -29,12 +30,14 @@ use Rattle.world_model.specs.Event.{arrives, asks, happen, revokes, ring_bytes, 
 use Rattle.world_model.specs.Rings.{page_store, ring_of}
 use Rattle.world_model.specs.Item.{Item, Step, Start, End, Transfer, Killed, Answer, Gained, Lost, Packet, Line, Asked, Taken, deed_at}
 use Rattle.world_model.specs.May.{May}
-use Rattle.world_model.specs.PageCalls.{breaks, left_at, left_by, page_bytes}
+use Rattle.world_model.specs.PageCalls.{lost_bindings, left_at, left_by, page_bytes}
 use Rattle.world_model.specs.SlotCalls.{is_other, stop_row}
 use Rattle.world_model.specs.Solo.{Store, Key, Kept, Physical, is_dead}
 use Rattle.world_model.specs.Step.{Act, Stores, Calls, Dies}
-use Rattle.world_model.specs.Tick.{act_now, brings, count_when, goes_on, grace_of, judged, kill, owes_more, run_out, step, step_when, take_turn, timer, turn, turn_when}
-use Rattle.world_model.specs.Verdict.{done, reply_of, reply_to, verdict}
+use Rattle.world_model.specs.Tick.{act_now, act_reply, count_when, with_runner, grace_of, kill, owes_more, step, step_when, take_turn, timer, turn, turn_when, timer_reply, timer_now}
+use Rattle.world_model.specs.declared.timer.Timer.{Timer}
+use Rattle.world_model.specs.declared.timer.Timer.TheVariants as answer
+use Rattle.world_model.specs.Verdict.{done, reply_by_verdict, reply_to, verdict}
 use Rattle.world_model.specs.World.{World, Reply, after, is_living, no_change, no_items, only, tells}
 use Rattle.frame_store.specs.Pages.{zero_page}
 use Rattle.call_verdicts.specs.Granted.{GrantedMay}
@@ -62,8 +65,8 @@ hands e target item is_handed other i = by_test (i == target) refl
 pub deed_gives : (w : World) (e : ℕ) (d : Deed) → May w e d → (i : ℕ) → Gives e i ((done w e d).items i)
 deed_gives w e (Donates target) may i = hands e target Start tt (other_than w e target may.other) i
 deed_gives w e (Allocates page words) may i = Tells (told_only e i (Gained page true zero_page ∷ []) (tt, tt))
-deed_gives w e (Frees page) may i = Tells (told_at e i (Lost page ∷ []) (breaks w.book page) (tt, tt) (told_lost_if (is_bound page (w.book.binds i)) page))
-deed_gives w e (Recaps page words) may i = Tells (told_at e i [] (breaks w.book page) tt (told_lost_if (is_bound page (w.book.binds i)) page))
+deed_gives w e (Frees page) may i = Tells (told_at e i (Lost page ∷ []) (lost_bindings w.book page) (tt, tt) (told_lost_if (is_bound page (w.book.binds i)) page))
+deed_gives w e (Recaps page words) may i = Tells (told_at e i [] (lost_bindings w.book page) tt (told_lost_if (is_bound page (w.book.binds i)) page))
 deed_gives w e (Binds b word) may i = Tells (told_only e i (Gained b.page b.writable (page_bytes w b.page) ∷ []) (tt, tt))
 deed_gives w e (Transfers target kind) may i = hands e target (Transfer e kind (carried (w.solos e).cpu)) tt (other_than w e target may.reach.other) i
 deed_gives w e d may i = Tells tt
@@ -87,14 +90,14 @@ module _ (granted : GrantedMay) (w : World) (e : ℕ) where
   call_gives : (c : Option Call) → called (w.solos e).cpu ≡ c → (i : ℕ) → Gives e i ((reply_to w e c).items i)
   call_gives c named i = by_verdict (verdict w e c) refl
     where
-      by_verdict : (v : Verdict) → verdict w e c ≡ v → Gives e i ((reply_of w e v).items i)
+      by_verdict : (v : Verdict) → verdict w e c ≡ v → Gives e i ((reply_by_verdict w e v).items i)
       by_verdict (Refuse code value) is = Tells (told_only e i (Answer (Refuse code value) ∷ []) (tt, tt))
       by_verdict (Grant value) is = let d = deed_at (w.solos e) value in answers e i (Grant value) ((done w e d).items i) (deed_gives w e d (deed_may granted w e c named value is) i)
 
   -- what an act brings once the step is made
-  act_gives : (act : Act) → act_now w e ≡ act → (i : ℕ) → Gives e i ((brings e act (after w (tells e Step w))).items i)
+  act_gives : (act : Act) → act_now w e ≡ act → (i : ℕ) → Gives e i ((act_reply e act (after w (tells e Step w))).items i)
   act_gives (Stores x) is i = store_gives w e x i
-  act_gives (Calls c) is i = subst (λ (v : World). Gives e i ((brings e (Calls c) v).items i)) (sym (call_stands w e c is)) (call_gives c (call_named w e c is) i)
+  act_gives (Calls c) is i = subst (λ (v : World). Gives e i ((act_reply e (Calls c) v).items i)) (sym (call_stands w e c is)) (call_gives c (call_named w e c is) i)
   act_gives (Dies cause) is i = Tells (told_death w.book e i)
   act_gives act is i = Tells tt
 
@@ -132,13 +135,13 @@ pub copy_told : (w : World) (x : Taking) (backup : Option ℕ) (i : ℕ) → Are
 copy_told w x None i = tt
 copy_told w x (Some backup) i = told_left (sees w.book i backup) x.env i backup (page_store backup (page_bytes w x.page))
 
-pub taking_told : (w : World) (x : Taking) (i : ℕ) → AreTold (copy_left w x x.backup i ++ breaks w.book x.page i)
-taking_told w x i = told_both (copy_left w x x.backup i) (breaks w.book x.page i) (copy_told w x x.backup i) (told_lost_if (is_bound x.page (w.book.binds i)) x.page)
+pub taking_told : (w : World) (x : Taking) (i : ℕ) → AreTold (copy_left w x x.backup i ++ lost_bindings w.book x.page i)
+taking_told w x i = told_both (copy_left w x x.backup i) (lost_bindings w.book x.page i) (copy_told w x x.backup i) (told_lost_if (is_bound x.page (w.book.binds i)) x.page)
 
 pub taking_led : (x : Taking) (w : World) (i : ℕ) → Led ((takes x w).items i)
 taking_led x w i =
     let told = Taken x.page x.backup in
-    either Led (i == x.env) (told ∷ []) (copy_left w x x.backup i ++ breaks w.book x.page i) (Leads told [] tt refl) (Rests (taking_told w x i))
+    either Led (i == x.env) (told ∷ []) (copy_left w x x.backup i ++ lost_bindings w.book x.page i) (Leads told [] tt refl) (Rests (taking_told w x i))
 
 pub settling_led : (w : World) (i : ℕ) → Led ((settles w).items i)
 settling_led w i = Rests tt
@@ -146,7 +149,7 @@ settling_led w i = Rests tt
 pub turn_led : (w : World) (i : ℕ) → Led ((turn w).items i)
 turn_led w i = by_runner w.book.runner
   where
-    by_turn : (told : Told) (o : Option Turn) → Led ((take_turn w told o).items i)
+    by_turn : (told : WholeTurn) (o : Option Turn) → Led ((take_turn w told o).items i)
     by_turn told None = Rests tt
     by_turn told (Some t) = led_only t.env i Start
 
@@ -165,7 +168,7 @@ step_led granted w i = by_runner w.book.runner
     by_runner None = Rests tt
     by_runner (Some r) =
         let act = act_now w r.env in
-        by_test r.env ((brings r.env act (after w (tells r.env Step w))).items i) (act_gives granted w r.env act refl i) (i == r.env) refl
+        by_test r.env ((act_reply r.env act (after w (tells r.env Step w))).items i) (act_gives granted w r.env act refl i) (i == r.env) refl
 
 killed_led : (w : World) (e i : ℕ) → Led ((kill e w).items i)
 killed_led w e i =
@@ -173,22 +176,16 @@ killed_led w e i =
     let told = told_both (death_items w.book e i) [] (told_death w.book e i) tt in
     either (λ (first : List Item). Led (first ++ rest)) (i == e) (Killed ∷ []) [] (Leads Killed rest told refl) (Rests told)
 
-judged_led : (w : World) (e i : ℕ) → Led ((judged e w).items i)
-judged_led w e i = either (λ (r : Reply). Led (r.items i)) (nat_lt excess_limit (w.book.excess e)) (kill e w) (goes_on (grace_of w e) w) (killed_led w e i) (Rests tt)
-
-out_led : (w : World) (e i : ℕ) (p : Phase) → Led ((run_out e p w).items i)
-out_led w e i phase.Own = by_test ((w.solos e).handlers.end == 0)
-  where
-    by_test : (t : Bool)
-        → (let r : Reply = (if t then record { book = record w.book { runner = None }; items = no_items; rows = stop_row w.book e ∷ [] }
-        else record { book = record w.book { runner = Some (grace_of w e) }; items = only e (End ∷ []); rows = row.End w.book.time w.book.cursor e ∷ [] }) in Led (r.items i))
-    by_test true = Rests tt
-    by_test false = led_only e i End
-out_led w e i phase.Grace = let u = after w (owes_more e w) in led_more ((judged e u).items i) [] (judged_led u e i) tt
+answer_led : (w : World) (r : Runner) (what : Timer) (i : ℕ) → Led ((timer_reply r what w).items i)
+answer_led w r answer.Nothing i = Rests tt
+answer_led w r answer.End i = led_only r.env i End
+answer_led w r answer.Stop i = Rests tt
+answer_led w r (answer.Over excess) i = Rests tt
+answer_led w r answer.Kill i = let u = after w (owes_more r.env w) in led_more ((kill r.env u).items i) [] (killed_led u r.env i) tt
 
 pub timer_led : (w : World) (i : ℕ) → Led ((timer w).items i)
 timer_led w i = led_more ((count_when w.book.runner w).items i) [] (by_runner w.book.runner) tt
   where
     by_runner : (o : Option Runner) → Led ((count_when o w).items i)
     by_runner None = Rests tt
-    by_runner (Some r) = either (λ (reply : Reply). Led (reply.items i)) (r.left - 1 == 0) (run_out r.env r.phase w) (goes_on (record r { left = r.left - 1 }) w) (out_led w r.env i r.phase) (Rests tt)
+    by_runner (Some r) = answer_led w r (timer_now w r) i

@@ -27,7 +27,7 @@ use Rattle.world_model.proofs.Stores.{kept_as_was}
 use Rattle.call_verdicts.specs.Granted.{GrantedMay}
 use Rattle.run_model.specs.Run.{System, given_by, happens_in, moment, takings_in, world_after}
 use Rattle.run_model.proofs.Phases.{next_moment, of_each, once_more}
-use Rattle.sharing_law.specs.Change.{Changes, GuaranteedChange, GuaranteedInTick, HasStore, HasWords, IsChanged, ItemChange, StepChanges, bytes_at}
+use Rattle.sharing_law.specs.Change.{Changes, GuaranteedChange, GuaranteedInTick, HasStore, HasWordsInArea, IsChanged, ItemChange, StepChanges, kept_bytes}
 use Rattle.sharing_law.proofs.Contexts.{Rewrites, ask_changes, context_rewrites, rewrites_none, rewrites_or, rewrites_then, take_changes}
 use Rattle.sharing_law.proofs.Counting.{packet_counts}
 use Rattle.sharing_law.proofs.Given.{IsTold, Led, absorb_or, absorbed_leaves, kept_else, kept_here, told_leaves}
@@ -37,7 +37,7 @@ use Rattle.sharing_law.proofs.Writing.{stored_writable}
 
 -- words in the context page
 abbrev StaysOrHas : Solo → Solo → ℕ → ℕ → List ℕ → Type 0
-StaysOrHas s t vpn area words = (bytes_at t vpn ≡ bytes_at s vpn) ⊎ HasWords s t vpn area words
+StaysOrHas s t vpn area words = (kept_bytes t vpn ≡ kept_bytes s vpn) ⊎ HasWordsInArea s t vpn area words
 
 context_kept : (area : ℕ) (words : List ℕ) (s t : Solo) (vpn : ℕ) → t.kept ≡ (with_context area words s).kept → StaysOrHas s t vpn area words
 context_kept area words s t vpn same =
@@ -49,7 +49,7 @@ context_kept area words s t vpn same =
 -- What its own step does to a guaranteed page.
 module _ (s : Solo) (vpn : ℕ) where
   abbrev Stays : Solo → Type 0
-  Stays t = bytes_at t vpn ≡ bytes_at s vpn
+  Stays t = kept_bytes t vpn ≡ kept_bytes s vpn
 
   module _ (x : Store) (cpu : Cpu) (acts : act_of s (step_alone s) ≡ Stores x) where
     abbrev writer : Solo
@@ -121,7 +121,7 @@ module _ (s : Solo) (vpn : ℕ) where
   by_item item = inl (stays_told item tt)
 
 pub item_change : ItemChange
-item_change s item vpn = absorb_or (λ t. (bytes_at t vpn ≡ bytes_at s vpn) ⊎ Changes s t vpn item) s item (inl refl) (by_item s vpn item)
+item_change s item vpn = absorb_or (λ t. (kept_bytes t vpn ≡ kept_bytes s vpn) ⊎ Changes s t vpn item) s item (inl refl) (by_item s vpn item)
 
 -- What items of which at most the first changes such pages do to one.
 record FirstChanges (s : Solo) (items : List Item) (vpn : ℕ) : Type 0 where
@@ -129,9 +129,9 @@ record FirstChanges (s : Solo) (items : List Item) (vpn : ℕ) : Type 0 where
   rest : List Item
   given : items ≡ item ∷ rest
   changes : Changes s (absorb s item) vpn item
-  has : bytes_at (absorb_all s items) vpn ≡ bytes_at (absorb s item) vpn
+  has : kept_bytes (absorb_all s items) vpn ≡ kept_bytes (absorb s item) vpn
 
-led_change : (s : Solo) (items : List Item) (vpn : ℕ) → Led items → (bytes_at (absorb_all s items) vpn ≡ bytes_at s vpn) ⊎ FirstChanges s items vpn
+led_change : (s : Solo) (items : List Item) (vpn : ℕ) → Led items → (kept_bytes (absorb_all s items) vpn ≡ kept_bytes s vpn) ⊎ FirstChanges s items vpn
 led_change s items vpn led = grind (arith, common_steps, told_leaves, item_change)
 
 abbrev GivesLed : (World → Reply) → Type 0
@@ -149,14 +149,14 @@ module _ (granted : GrantedMay) (system : System) (t : ℕ) where
   phase_led k phase is = of_each GivesLed happen_led taking_led settling_led turn_led (step_led granted) timer_led happens taken k phase is
 
   abbrev Kept_in : ℕ → ℕ → ℕ → Type 0
-  Kept_in k e vpn = (bytes_at ((moment system t (suc k)).solos e) vpn ≡ bytes_at ((moment system t k).solos e) vpn) ⊎ IsChanged system t k e vpn
+  Kept_in k e vpn = (kept_bytes ((moment system t (suc k)).solos e) vpn ≡ kept_bytes ((moment system t k).solos e) vpn) ⊎ IsChanged system t k e vpn
 
   by_phase : (k e vpn : ℕ) (o : Option (World → Reply)) → slice_get (phases_after happens taken) k ≡ o → Kept_in k e vpn
-  by_phase k e vpn None is = inl (ap (λ (v : World). bytes_at (v.solos e) vpn) (next_moment system t k ∙ ap (once_more (moment system t k)) is))
+  by_phase k e vpn None is = inl (ap (λ (v : World). kept_bytes (v.solos e) vpn) (next_moment system t k ∙ ap (once_more (moment system t k)) is))
   by_phase k e vpn (Some phase) is =
       let m = moment system t k in
       let next : moment system t (suc k) ≡ after m (phase m) = next_moment system t k ∙ ap (once_more m) is in
-      let bytes = ap (λ (v : World). bytes_at (v.solos e) vpn) next in
+      let bytes = ap (λ (v : World). kept_bytes (v.solos e) vpn) next in
       elim (led_change (m.solos e) ((phase m).items e) vpn (phase_led k phase is m e)) [
         | inl same ↦ inl (bytes ∙ same)
         | inr first ↦ inr (record {
@@ -173,7 +173,7 @@ module _ (granted : GrantedMay) (system : System) (t : ℕ) where
 
   -- and so in the tick
   abbrev KeptSince : ℕ → ℕ → World → Type 0
-  KeptSince e vpn v = (bytes_at (v.solos e) vpn ≡ bytes_at ((world_after system t).solos e) vpn) ⊎ ((k : ℕ) × IsChanged system t k e vpn)
+  KeptSince e vpn v = (kept_bytes (v.solos e) vpn ≡ kept_bytes ((world_after system t).solos e) vpn) ⊎ ((k : ℕ) × IsChanged system t k e vpn)
 
   kept_since : (n e vpn : ℕ) → KeptSince e vpn (moment system t n)
   kept_since zero e vpn = inl refl

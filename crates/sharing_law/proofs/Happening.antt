@@ -16,12 +16,12 @@ use Rattle.sharing_law.proofs.Turning.{IsAlike, ListsSame, same_lists, unchanged
 
 -- a packet that is dropped
 pub dropped_alike : (packet : List ℕ) (w : World) → IsAlike w (after w (drops_packet packet w))
-dropped_alike packet w = record { solos = λ i. rests_same (w.solos i); lists = record { pages = refl; binds = refl; claims = refl; next = refl; backups = refl; count = refl } }
+dropped_alike packet w = record { solos = λ i. rests_same (w.solos i); lists = record { pages = refl; binds = refl; claims = refl; next = refl; backups = refl; kept = refl; lines = refl; count = refl } }
 
 -- a signal: who gets it rests, and all others stay as they are
 signalled_by : (line : ℕ) (owner : Option ℕ) (w : World) → IsAlike w (after w (signals line owner w))
 signalled_by line None w = unchanged w
-signalled_by line (Some owner) w = record { solos = λ i. given_rests (w.solos i) (Line line) (record { binds = refl; seen = refl; rings = refl; life = refl }) (i == owner); lists = record { pages = refl; binds = refl; claims = refl; next = refl; backups = refl; count = refl } }
+signalled_by line (Some owner) w = record { solos = λ i. given_rests (w.solos i) (Line line) (record { binds = refl; seen = refl; rings = refl; life = refl }) (i == owner); lists = record { pages = refl; binds = refl; claims = refl; next = refl; backups = refl; kept = refl; lines = refl; count = refl } }
 
 pub signalled_alike : (line : ℕ) (w : World) → IsAlike w (after w (happen (outside.Line line) w))
 signalled_alike line w = signalled_by line (w.book.lines line) w
@@ -29,7 +29,7 @@ signalled_alike line w = signalled_by line (w.book.lines line) w
 -- a revocation: who is asked for pages rests
 asked_by : (e : ℕ) (pending : Option Pending) (w : World) → IsAlike w (after w (asks e pending w))
 asked_by e None w = unchanged w
-asked_by e (Some p) w = record { solos = λ i. given_rests (w.solos i) (Asked p.outstanding p.deadline) (record { binds = refl; seen = refl; rings = refl; life = refl }) (i == e); lists = record { pages = refl; binds = refl; claims = refl; next = refl; backups = refl; count = refl } }
+asked_by e (Some p) w = record { solos = λ i. given_rests (w.solos i) (Asked p.outstanding p.deadline) (record { binds = refl; seen = refl; rings = refl; life = refl }) (i == e); lists = record { pages = refl; binds = refl; claims = refl; next = refl; backups = refl; kept = refl; lines = refl; count = refl } }
 
 pub revoked_alike : (e count grace : ℕ) (w : World) → IsAlike w (after w (happen (outside.Revoke e count grace) w))
 revoked_alike e count grace w =

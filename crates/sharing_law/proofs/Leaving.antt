@@ -1,5 +1,5 @@
 -- A store to a page that isn't guaranteed goes through a live binding.
-use Rattle.std.proofs.Common.{◌≡◌, ℕ, zero, suc, List, [], ◌∷◌, Option, Some, inl, inr, refl, sym, ◌∙◌, ap, subst, take}
+use Rattle.std.proofs.Common.{◌≡◌, ℕ, zero, suc, List, [], ◌∷◌, Option, Some, inl, inr, refl, sym, ◌∙◌, ap, subst, ◌+◌}
 use Rattle.std.specs.Prelude.{slice_get}
 use Rattle.external_event.specs.declared.event.Occurrence.{Occurrence}
 use Rattle.external_event.specs.declared.event.Occurrence.TheVariants as outside
@@ -11,20 +11,20 @@ use Rattle.world_model.specs.Solo.{Store, Physical}
 use Rattle.world_model.specs.Step.{Stores}
 use Rattle.revocation_book.specs.declared.revocation.Taking.{Taking}
 use Rattle.revocation_book.specs.Takings.{TakingsAreTakable}
-use Rattle.world_model.specs.Deadlines.{settles, takes}
-use Rattle.world_model.specs.Tick.{phases_after, tick_phases, turn}
-use Rattle.world_model.specs.World.{World, Reply, after, run_phases}
+use Rattle.world_model.specs.Deadlines.{takes}
+use Rattle.world_model.specs.Tick.{phases_after, tick_phases}
+use Rattle.world_model.specs.World.{World, Reply, after}
 use Rattle.call_verdicts.specs.Granted.{GrantedMay}
 use Rattle.run_model.specs.Acting.{Acts}
 use Rattle.run_model.specs.Licensed.{AtEvent, GivenIsLicensed, IsCopyLeft, IsLeft, IsRingLeft, LicensedAt, LicensedBehind, LicensedIn}
-use Rattle.run_model.specs.Run.{System, given_by, happens_in, moment, next_phases, takings_in, world_after}
+use Rattle.run_model.specs.Live.{HasLiveBinding, StoresAreLive}
+use Rattle.run_model.specs.Run.{System, at_step, before_turn, given_by, happens_in, moment, next_phases, takings_in, world_after}
 use Rattle.run_model.proofs.Phases.{next_moment, once_more}
-use Rattle.sharing_law.specs.Right.{EachLeftIsLive, HasLiveBinding, IsLeftByCopy, IsLeftByDelivery, LeftIsLive}
+use Rattle.sharing_law.specs.Right.{EachLeftIsLive, IsLeftByCopy, IsLeftByDelivery, LeftIsLive}
 use Rattle.sharing_law.proofs.Delivering.{delivered_in, delivered_whole}
-use Rattle.sharing_law.proofs.Happening.{happen_lists}
-use Rattle.sharing_law.proofs.Listing.{ListsLess, less_alike, less_same, less_then, settled_alike, taking_lists}
+use Rattle.sharing_law.proofs.Listing.{ListsLess}
+use Rattle.sharing_law.proofs.Moments.{turned_lists}
 use Rattle.sharing_law.proofs.Repossessing.{copied_in, copy_in}
-use Rattle.sharing_law.proofs.Turning.{same_lists, turn_alike}
 use Rattle.sharing_law.proofs.Agreeing.{Fine, all_fine, moment_fine}
 use Rattle.sharing_law.proofs.Live.{each_is_live}
 use Rattle.sharing_law.proofs.Writing.{stored_through}
@@ -36,39 +36,37 @@ store_lives granted takable system t m fine less e x page acts into =
     let left = less.each e it.row it.binding (sym ((fine.sound.agreed e).binds it.row) ∙ it.found) in
     record { binding = it.binding; live = each_is_live granted takable system t e it.row it.binding left.listed; its = it.its; writable = it.writable }
 
--- What is left is left in the step, up to which the book lists nothing but what it did before the tick; or where a packet comes, or a page is taken.
-data LeftSo (base m : World) (phase : Option (World → Reply)) (e page offset : ℕ) (bytes : List ℕ) : Type 0 where
-  ByStore : IsLeft m e page offset bytes → ListsLess base.book m.book → LeftSo base m phase e page offset bytes
-  ByPacket : (packet : List ℕ) → phase ≡ Some (happen (outside.Packet packet)) → IsRingLeft m e packet page offset bytes → LeftSo base m phase e page offset bytes
-  ByTaking : (x : Taking) → phase ≡ Some (takes x) → IsCopyLeft m x e page offset bytes → LeftSo base m phase e page offset bytes
+-- so it is in each step
+pub stores_are_live : GrantedMay → TakingsAreTakable → StoresAreLive
+stores_are_live granted takable system t e x page acts into =
+    store_lives granted takable system t (at_step system t) (moment_fine granted takable system t (all_fine granted takable system t) (before_turn system t + 1)) (turned_lists system t) e x page acts into
 
--- what happens from outside, kind by kind
-left_by_event : (what : Occurrence) (base w : World) (e page offset : ℕ) (bytes : List ℕ) → AtEvent what w e (Left page offset bytes) → LeftSo base w (Some (happen what)) e page offset bytes
-left_by_event (outside.Packet packet) base w e page offset bytes its = ByPacket packet refl its
-left_by_event (outside.Line line) base w e page offset bytes its = absurd its
-left_by_event (outside.Revoke env count grace) base w e page offset bytes its = absurd its
+-- What is left is left in the step; or where a packet comes, or a page is taken.
+data LeftSo (system : System) (t : ℕ) (m : World) (phase : Option (World → Reply)) (e page offset : ℕ) (bytes : List ℕ) : Type 0 where
+  ByStore : IsLeft system t m e page offset bytes → LeftSo system t m phase e page offset bytes
+  ByPacket : (packet : List ℕ) → phase ≡ Some (happen (outside.Packet packet)) → IsRingLeft m e packet page offset bytes → LeftSo system t m phase e page offset bytes
+  ByTaking : (x : Taking) → phase ≡ Some (takes x) → IsCopyLeft m x e page offset bytes → LeftSo system t m phase e page offset bytes
 
--- what comes behind the events
-left_behind : (xs : List Taking) (base w : World) (k : ℕ) → ListsLess base.book w.book
-    → (let m = run_phases w (take k (tick_phases xs)) in (e page offset : ℕ) (bytes : List ℕ) → LicensedBehind xs k m e (Left page offset bytes) → LeftSo base m (slice_get (tick_phases xs) k) e page offset bytes)
-left_behind [] base w (suc (suc zero)) less e page offset bytes its =
-    let v = after w (settles w) in
-    let m = after v (turn v) in
-    ByStore its (less_alike base v m (less_alike base w v less (settled_alike w)) (turn_alike v))
-left_behind [] base w (suc (suc (suc (suc k)))) less e page offset bytes its = absurd its
-left_behind [] base w k less e page offset bytes its = absurd its
-left_behind (x ∷ xs) base w zero less e page offset bytes its = ByTaking x refl its
-left_behind (x ∷ xs) base w (suc k) less e page offset bytes its =
-    let v = after w (takes x w) in
-    left_behind xs base v k (less_then base.book w.book v.book less (taking_lists x w)) e page offset bytes its
+module _ (system : System) (t : ℕ) where
+  -- what happens from outside, kind by kind
+  left_by_event : (what : Occurrence) (w : World) (e page offset : ℕ) (bytes : List ℕ) → AtEvent what w e (Left page offset bytes) → LeftSo system t w (Some (happen what)) e page offset bytes
+  left_by_event (outside.Packet packet) w e page offset bytes its = ByPacket packet refl its
+  left_by_event (outside.Line line) w e page offset bytes its = absurd its
+  left_by_event (outside.Revoke env count grace) w e page offset bytes its = absurd its
 
-left_in_phase : (happens : List Occurrence) (xs : List Taking) (base w : World) (k : ℕ) → ListsLess base.book w.book
-    → (let m = run_phases w (take k (phases_after happens xs)) in (e page offset : ℕ) (bytes : List ℕ) → LicensedIn happens xs k m e (Left page offset bytes) → LeftSo base m (slice_get (phases_after happens xs) k) e page offset bytes)
-left_in_phase [] xs base w k less e page offset bytes its = left_behind xs base w k less e page offset bytes its
-left_in_phase (what ∷ happens) xs base w zero less e page offset bytes its = left_by_event what base w e page offset bytes its
-left_in_phase (what ∷ happens) xs base w (suc k) less e page offset bytes its =
-    let v = after w (happen what w) in
-    left_in_phase happens xs base v k (less_then base.book w.book v.book less (less_same w.book v.book (happen_lists what w))) e page offset bytes its
+  -- what comes behind the events
+  left_behind : (xs : List Taking) (k : ℕ) (m : World) (e page offset : ℕ) (bytes : List ℕ) → LicensedBehind system t xs k m e (Left page offset bytes) → LeftSo system t m (slice_get (tick_phases xs) k) e page offset bytes
+  left_behind [] (suc (suc zero)) m e page offset bytes its = ByStore its
+  left_behind [] (suc (suc (suc (suc k)))) m e page offset bytes its = absurd its
+  left_behind [] k m e page offset bytes its = absurd its
+  left_behind (x ∷ xs) zero m e page offset bytes its = ByTaking x refl its
+  left_behind (x ∷ xs) (suc k) m e page offset bytes its = left_behind xs k m e page offset bytes its
+
+  left_in_phase : (happens : List Occurrence) (xs : List Taking) (k : ℕ) (m : World) (e page offset : ℕ) (bytes : List ℕ) → LicensedIn system t happens xs k m e (Left page offset bytes)
+      → LeftSo system t m (slice_get (phases_after happens xs) k) e page offset bytes
+  left_in_phase [] xs k m e page offset bytes its = left_behind xs k m e page offset bytes its
+  left_in_phase (what ∷ happens) xs zero m e page offset bytes its = left_by_event what m e page offset bytes its
+  left_in_phase (what ∷ happens) xs (suc k) m e page offset bytes its = left_in_phase happens xs k m e page offset bytes its
 
 module _ (granted : GrantedMay) (takable : TakingsAreTakable) (system : System) (t k e page offset : ℕ) (bytes : List ℕ) where
   abbrev m : World
@@ -107,15 +105,15 @@ module _ (granted : GrantedMay) (takable : TakingsAreTakable) (system : System) 
         its = left.its;
       }
 
-  left_so : LeftSo (world_after system t) m phase e page offset bytes → LeftIsLive system t k e (Left page offset bytes)
-  left_so (ByStore left less) = inl (record { left = left; right = store_lives granted takable system t m fine less left.writer left.store page left.acts left.into })
+  left_so : LeftSo system t m phase e page offset bytes → LeftIsLive system t k e (Left page offset bytes)
+  left_so (ByStore left) = inl left
   left_so (ByPacket packet is left) = inr (inl (left_by_packet packet is left))
   left_so (ByTaking x is left) = inr (inr (left_by_taking x is left))
 
 licensed_lives : GrantedMay → TakingsAreTakable → (system : System) (t k e : ℕ) (item : Item) → LicensedAt system t k e item → LeftIsLive system t k e item
 licensed_lives granted takable system t k e (Left page offset bytes) its =
     let w = world_after system t in
-    left_so granted takable system t k e page offset bytes (left_in_phase (happens_in system.schedule w) (takings_in system t) w w k (less_same w.book w.book (same_lists w.book)) e page offset bytes its)
+    left_so granted takable system t k e page offset bytes (left_in_phase system t (happens_in system.schedule w) (takings_in system t) k (moment system t k) e page offset bytes its)
 licensed_lives granted takable system t k e item its = tt
 
 pub each_left_is_live : GrantedMay → TakingsAreTakable → GivenIsLicensed → EachLeftIsLive

@@ -30,3 +30,9 @@ mod Guaranteed
 mod Allocated
 mod Sizes
 mod Sending
+mod Later
+mod KeptSizes
+mod LineOwners
+mod Places
+mod Mappings
+mod Rooms

@@ -11,17 +11,18 @@ use Rattle.bind_book.specs.Stripe.{row_of}
 use Rattle.run_model.specs.Run.{System, at_step, world_after}
 use Rattle.revocation_book.specs.Takings.{TakingsAreTakable}
 use Rattle.call_verdicts.specs.Granted.{GrantedMay}
-use Rattle.sharing_law.specs.Right.{row_after, Since, HasWord, IsLive, EachIsLive}
+use Rattle.run_model.specs.Live.{row_after, Since, HasWord, IsLive}
+use Rattle.sharing_law.specs.Right.{EachIsLive}
 use Rattle.sharing_law.proofs.Replies.{IsCarried, IsPut}
 use Rattle.sharing_law.proofs.Agreeing.{all_fine, none_bound}
 use Rattle.sharing_law.proofs.Books.{next_carries}
 
 -- what holds since then holds after one tick more, if it holds there
-since_more : (first last : ℕ) (P : ℕ → Type 0) → Since first last P → P (suc last) → Since first (suc last) P
+pub since_more : (first last : ℕ) (P : ℕ → Type 0) → Since first last P → P (suc last) → Since first (suc last) P
 since_more first last P before now s above below =
     elim (cases_eq s (suc last)) [ inl same ↦ subst P (sym same) now | inr other ↦ before s above (omega (arith, other)) ]
 
-since_first : (first : ℕ) (P : ℕ → Type 0) → P (suc first) → Since first (suc first) P
+pub since_first : (first : ℕ) (P : ℕ → Type 0) → P (suc first) → Since first (suc first) P
 since_first first P now s above below = let same : suc first ≡ s = omega arith in subst P same now
 
 still_owned : (owner e : ℕ) (old new : PageRow) → IsCarried e old new → is_owned_by owner old ≡ true → is_owned_by owner new ≡ true

@@ -8,7 +8,7 @@ use Rattle.page_book.specs.declared.row.PageRow.{PageRow}
 use Rattle.page_book.specs.declared.row.PageRow.TheVariants.{Free, Guaranteed, Owned}
 use Rattle.page_book.specs.Row.{belongs_to, is_owned_by}
 use Rattle.bind_book.specs.declared.binding.Binding.{Binding}
-use Rattle.bind_book.specs.Stripe.{binding_at, breaks_page, goes_with, row_of, without}
+use Rattle.bind_book.specs.Stripe.{binding_at, leads_to_page, goes_with, row_of, without}
 use Rattle.bind_book.proofs.Swept.{left_in_row}
 use Rattle.world_model.specs.declared.call.Call.{Call}
 use Rattle.world_model.specs.declared.call.Deed.{Deed}
@@ -22,8 +22,8 @@ use Rattle.world_model.specs.Item.{Step, deed_at}
 use Rattle.world_model.specs.May.{HasRight, May}
 use Rattle.world_model.specs.PageCalls.{freed, with_binding, without_number}
 use Rattle.world_model.specs.Step.{Act, Calls, Dies}
-use Rattle.world_model.specs.Tick.{brings}
-use Rattle.world_model.specs.Verdict.{done, reply_of, reply_to, verdict}
+use Rattle.world_model.specs.Tick.{act_reply}
+use Rattle.world_model.specs.Verdict.{done, reply_by_verdict, reply_to, verdict}
 use Rattle.world_model.specs.World.{World, Reply, after, tells}
 use Rattle.call_verdicts.specs.Granted.{GrantedMay}
 use Rattle.run_model.specs.Acting.{Acts, Does}
@@ -79,7 +79,7 @@ set_other n x f i other = rw other
 -- a page is freed: its bindings are gone, and all others remain
 pub freed_remains : (b : Book) (page i row : ℕ) (x : Binding) → (freed page b).binds i row ≡ Some x → Remains b (freed page b) i row x
 freed_remains b page i row x is =
-    let before = left_in_row (breaks_page page None i) (b.binds i row) x is in
+    let before = left_in_row (leads_to_page page None i) (b.binds i row) x is in
     record {
       listed = before.0;
       page = elim (and_cases (x.page == page) true before.1) [ inl other ↦ set_other page Free b.pages x.page other | inr never ↦ cc ];
@@ -90,10 +90,10 @@ frees w page = record { each = λ i row b is. let left = freed_remains w.book pa
 
 -- its owner gives a page other words: only its own bindings of the page are left
 recaps : (w : World) (e page : ℕ) (words : Capabilities) → is_owned_by e (w.book.pages page) ≡ true
-    → Carries w (set_at page (Owned e words) w.book.pages) (λ i row. without (breaks_page page (Some e) i) (w.book.binds i row))
+    → Carries w (set_at page (Owned e words) w.book.pages) (λ i row. without (leads_to_page page (Some e) i) (w.book.binds i row))
 recaps w e page words owned = record {
   each = λ i row b is.
-      let before = left_in_row (breaks_page page (Some e) i) (w.book.binds i row) b is in
+      let before = left_in_row (leads_to_page page (Some e) i) (w.book.binds i row) b is in
       inr (record { listed = before.0; carried = by_test i b (b.page == page) refl before.1 });
 }
   where
@@ -156,12 +156,12 @@ deed_carries w e allocated d does may = stays w
 call_carries : GrantedMay → (w : World) (e : ℕ) → AreBoundAllocated w → (c : Option Call) → Acts w e (Calls c) → CarriesInto w (reply_to w e c)
 call_carries granted w e allocated c acts = by_verdict (verdict w e c) refl
   where
-    by_verdict : (v : Verdict) → verdict w e c ≡ v → CarriesInto w (reply_of w e v)
+    by_verdict : (v : Verdict) → verdict w e c ≡ v → CarriesInto w (reply_by_verdict w e v)
     by_verdict (Refuse code value) is = stays w
     by_verdict (Grant value) is = deed_carries w e allocated (deed_at (w.solos e) value) (call_does w e c acts value is) (deed_may granted w e c (call_named w e c acts.comes) value is)
 
 -- what an act of the runner brings, once its step is made, which a call isn't changed by
-pub told_carries : GrantedMay → (w : World) (e : ℕ) → AreBoundAllocated w → (act : Act) → Acts w e act → CarriesInto w (brings e act (after w (tells e Step w)))
-told_carries granted w e allocated (Calls c) acts = subst (λ (v : World). CarriesInto w (brings e (Calls c) v)) (sym (call_stands w e c acts.comes)) (call_carries granted w e allocated c acts)
+pub told_carries : GrantedMay → (w : World) (e : ℕ) → AreBoundAllocated w → (act : Act) → Acts w e act → CarriesInto w (act_reply e act (after w (tells e Step w)))
+told_carries granted w e allocated (Calls c) acts = subst (λ (v : World). CarriesInto w (act_reply e (Calls c) v)) (sym (call_stands w e c acts.comes)) (call_carries granted w e allocated c acts)
 told_carries granted w e allocated (Dies cause) acts = mourns w e
 told_carries granted w e allocated act acts = stays w

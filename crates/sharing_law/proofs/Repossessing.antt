@@ -10,7 +10,7 @@ use Rattle.env_frames.specs.declared.post.PostWord.TheVariants as post
 use Rattle.page_book.specs.declared.row.PageRow.TheVariants.{Free}
 use Rattle.page_book.specs.Row.{is_owned_by}
 use Rattle.page_book.proofs.Owners.{anothers, same_owner}
-use Rattle.bind_book.specs.Stripe.{breaks_page, is_bound, without}
+use Rattle.bind_book.specs.Stripe.{leads_to_page, is_bound, without}
 use Rattle.filter_tree.specs.ClaimBook.{ClaimValue}
 use Rattle.filter_tree.specs.Claims.{is_into}
 use Rattle.revocation_book.specs.declared.revocation.Taking.{Taking}
@@ -19,9 +19,9 @@ use Rattle.world_model.specs.declared.life.Life.TheVariants.{Live, Dead}
 use Rattle.world_model.specs.Table.{set_at}
 use Rattle.world_model.specs.Deadlines.{copy_left, takes}
 use Rattle.world_model.specs.Item.{Item, Taken, absorb, absorb_all}
-use Rattle.world_model.specs.PageCalls.{breaks, page_bytes}
+use Rattle.world_model.specs.PageCalls.{lost_bindings, page_bytes}
 use Rattle.world_model.specs.Post.{post_word}
-use Rattle.world_model.specs.Repossession.{copied, counted_taking, recorded, taken}
+use Rattle.world_model.specs.Repossession.{copied, counted_taking, recorded, with_page_taken}
 use Rattle.world_model.specs.Solo.{Solo}
 use Rattle.world_model.specs.Upcalls.{with_context}
 use Rattle.world_model.specs.World.{World, Reply, after}
@@ -103,7 +103,7 @@ module _ (w : World) (x : Taking) (sound : Sound w) (claimed : Claimed w) (backe
   now = after w (takes x w)
 
   abbrev others_get : ℕ → List Item
-  others_get i = copy_left w x x.backup i ++ breaks w.book x.page i
+  others_get i = copy_left w x x.backup i ++ lost_bindings w.book x.page i
 
   -- the bytes of pages once the copy is there
   abbrev bytes_with : Option ℕ → ℕ → List ℕ
@@ -118,7 +118,7 @@ module _ (w : World) (x : Taking) (sound : Sound w) (claimed : Claimed w) (backe
   own_copied backup = grind (arith, common_steps, owner_sees, writer_sees)
 
   abbrev holder : Solo
-  holder = taken x.page x.backup s
+  holder = with_page_taken x.page x.backup s
 
   own_sees : Sees e now.book.pages (now.book.binds e) bytes_now holder
   own_sees =
@@ -135,11 +135,11 @@ module _ (w : World) (x : Taking) (sound : Sound w) (claimed : Claimed w) (backe
   other_copied i ne live backup = grind (arith, common_steps, ne_eqb, readers_see)
 
   -- and who has bound the page loses it
-  is_other : (i : ℕ) → i ≢ e → now.solos i ≡ absorb_all (absorb_all (w.solos i) (copy_left w x x.backup i)) (breaks w.book x.page i)
-  is_other i ne = ap (absorb_all (w.solos i)) (set_else e i (Taken x.page x.backup ∷ []) others_get ne) ∙ fold-append absorb (w.solos i) (copy_left w x x.backup i) (breaks w.book x.page i)
+  is_other : (i : ℕ) → i ≢ e → now.solos i ≡ absorb_all (absorb_all (w.solos i) (copy_left w x x.backup i)) (lost_bindings w.book x.page i)
+  is_other i ne = ap (absorb_all (w.solos i)) (set_else e i (Taken x.page x.backup ∷ []) others_get ne) ∙ fold-append absorb (w.solos i) (copy_left w x x.backup i) (lost_bindings w.book x.page i)
 
   still_none : (i : ℕ) → HasNone i w.book.pages (w.book.binds i) → HasNone i now.book.pages (now.book.binds i)
-  still_none i none = record { binds = λ row. ap (without (breaks_page x.page None i)) (none.binds row); owns = set_owns i x.page Free w.book.pages refl none.owns }
+  still_none i none = record { binds = λ row. ap (without (leads_to_page x.page None i)) (none.binds row); owns = set_owns i x.page Free w.book.pages refl none.owns }
 
   other_sees : (i : ℕ) → i ≢ e → (life : Life) → (w.solos i).life ≡ life → Sees i now.book.pages (now.book.binds i) bytes_now (now.solos i)
   other_sees i ne Live is =
@@ -169,7 +169,7 @@ module _ (w : World) (x : Taking) (sound : Sound w) (claimed : Claimed w) (backe
   taking_sound allocated = record {
     agreed = agreed now bytes_now all_see allocated;
     none = λ i cause died. still_none i (sound.none i cause (sym (all_live i) ∙ died));
-    stripes = λ i. without_ends (breaks_page x.page None i) (w.book.binds i) (sound.stripes i);
+    stripes = λ i. without_ends (leads_to_page x.page None i) (w.book.binds i) (sound.stripes i);
     behind = λ page more. free_behind page (sound.behind page more);
   }
 
@@ -188,7 +188,7 @@ module _ (w : World) (x : Taking) (sound : Sound w) (claimed : Claimed w) (backe
       let copy = absorb_all (w.solos i) (copy_left w x x.backup i) in
       let apart = beside w.book claimed.good i x.page (anothers e i (w.book.pages x.page) ne may.owned) in
       subst (λ (t : Solo). AreRings i (filter not_into w.book.claims) t.rings) (sym (is_other i ne))
-      (rings_spared i w.book.claims (absorb_all copy (breaks w.book x.page i)).rings not_into (λ c its own. ap not (apart c its own))
+      (rings_spared i w.book.claims (absorb_all copy (lost_bindings w.book x.page i)).rings not_into (λ c its own. ap not (apart c its own))
       (loses_beside i x.page w.book.claims apart (is_bound x.page (w.book.binds i)) copy (ap (map ring_page) (copy_spares w x x.backup i (w.solos i)) ∙ claimed.rings i)))
 
   pub taking_claimed : Claimed now

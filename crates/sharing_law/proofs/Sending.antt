@@ -32,16 +32,16 @@ use Rattle.world_model.specs.Call.{good_range}
 use Rattle.world_model.specs.Item.{Item, Boot, Step, Start, Transfer, Answer, Gained, Lost, Packet, Taken, absorb, absorb_all, absorbed, deed_at, own_part}
 use Rattle.world_model.specs.May.{May}
 use Rattle.world_model.specs.Page.{Mapped}
-use Rattle.world_model.specs.PageCalls.{breaks, lost_if, page_bytes}
+use Rattle.world_model.specs.PageCalls.{lost_bindings, lost_if, page_bytes}
 use Rattle.world_model.specs.Post.{counted, post_word}
 use Rattle.world_model.specs.Repossession.{copied}
-use Rattle.world_model.specs.Rings.{Loses, Queues, received_as, received_by, received_in, replied, ring_of}
+use Rattle.world_model.specs.Rings.{Loses, Queues, after_reception, reception_by, after_packet_in, sent_with_replies, ring_of}
 use Rattle.world_model.specs.Solo.{Solo, Ring, Physical, absent, bytes_of, sight}
 use Rattle.world_model.specs.Step.{Act, Nothing, Stores, Calls, Raises, Dies, act_of, acted, step_alone}
 use Rattle.world_model.specs.Table.{set_at}
-use Rattle.world_model.specs.Tick.{act_now, brings, phases_after, step, step_when, tick_phases}
+use Rattle.world_model.specs.Tick.{act_now, act_reply, phases_after, step, step_when, tick_phases}
 use Rattle.world_model.specs.Upcalls.{with_context}
-use Rattle.world_model.specs.Verdict.{done, reply_of, verdict}
+use Rattle.world_model.specs.Verdict.{done, reply_by_verdict, verdict}
 use Rattle.world_model.specs.World.{World, Reply, after, in_turn, only, tells}
 use Rattle.call_verdicts.specs.Granted.{GrantedMay}
 use Rattle.run_model.specs.Boot.{boot_items, record_items}
@@ -75,7 +75,7 @@ short_both (x ∷ xs) ys first next =
     rw (parts.0, short_both xs ys parts.1 next) refl
 
 -- with the replies of a handler
-replied_within : (sent replies : List (List ℕ)) → IsSentWithin sent → list_all is_short replies ≡ true → IsSentWithin (replied sent replies)
+replied_within : (sent replies : List (List ℕ)) → IsSentWithin sent → list_all is_short replies ≡ true → IsSentWithin (sent_with_replies sent replies)
 replied_within sent replies within short = record {
   count = few_taken most_sent (sent ++ replies);
   sizes = short_taken most_sent (sent ++ replies) (short_both sent replies within.sizes short);
@@ -117,13 +117,13 @@ start_within : (s : Solo) → Within s → Within (absorbed s Start)
 start_within s within =
     either Within (s.handlers.start == 0) (record s { cpu = rested s.cpu }) (record (with_context start_area (start_bytes s.cpu) s) { cpu = resumed_cpu s.handlers.start s.cpu }) within within
 
-received_within : (handler : Option (List ℕ)) (r : Ring) (packet page : List ℕ) (s : Solo) → Within s → Within (received_as r (received_by handler r packet page) s)
-received_within None r packet page s within = either (λ becomes. Within (received_as r becomes s)) (is_full page r.next) Loses (Queues (with_packet page r.next packet)) within within
+received_within : (handler : Option (List ℕ)) (r : Ring) (packet page : List ℕ) (s : Solo) → Within s → Within (after_reception r (reception_by handler r packet page) s)
+received_within None r packet page s within = either (λ becomes. Within (after_reception r becomes s)) (is_full page r.next) Loses (Queues (with_packet page r.next packet)) within within
 received_within (Some words) r packet page s within =
     let run = handler_run words packet r.claim page in
     replied_within s.sent run.replies within (handled_holds words packet r.claim page).short
 
-packet_within : (o : Option Ring) (packet : List ℕ) (s : Solo) → Within s → Within (received_in o packet s)
+packet_within : (o : Option Ring) (packet : List ℕ) (s : Solo) → Within s → Within (after_packet_in o packet s)
 packet_within None packet s within = within
 packet_within (Some r) packet s within = received_within r.handler r packet (bytes_of s (Physical r.page)) s within
 
@@ -169,8 +169,8 @@ plain_loss false page = tt
 deed_plain : (w : World) (e : ℕ) (d : Deed) (i : ℕ) → ArePlain ((done w e d).items i)
 deed_plain w e (Gives target) i = plain_at target i (Start ∷ []) (λ j. []) (tt, tt) tt
 deed_plain w e (Allocates page words) i = plain_at e i (Gained page true zero_page ∷ []) (λ j. []) (tt, tt) tt
-deed_plain w e (Frees page) i = plain_at e i (Lost page ∷ []) (breaks w.book page) (tt, tt) (plain_loss (is_bound page (w.book.binds i)) page)
-deed_plain w e (Recaps page words) i = plain_at e i [] (breaks w.book page) tt (plain_loss (is_bound page (w.book.binds i)) page)
+deed_plain w e (Frees page) i = plain_at e i (Lost page ∷ []) (lost_bindings w.book page) (tt, tt) (plain_loss (is_bound page (w.book.binds i)) page)
+deed_plain w e (Recaps page words) i = plain_at e i [] (lost_bindings w.book page) tt (plain_loss (is_bound page (w.book.binds i)) page)
 deed_plain w e (Binds b word) i = plain_at e i (Gained b.page b.writable (page_bytes w b.page) ∷ []) (λ j. []) (tt, tt) tt
 deed_plain w e (Transfers target kind) i = plain_at target i (Transfer e kind (carried (w.solos e).cpu) ∷ []) (λ j. []) (tt, tt) tt
 deed_plain w e d i = tt
@@ -192,7 +192,7 @@ module _ (granted : GrantedMay) (w : World) (e : ℕ) (c : Option Call) (comes :
       subst (λ (first : List Item). Within (absorb_all s (first ++ items))) (sym (set_here e (Answer verdict ∷ []) (λ j. [])))
       (plain_within items plain (absorb s (Answer verdict)) (absorb_or Within s (Answer verdict) within its))
 
-  by_verdict : (v : Verdict) → verdict w e c ≡ v → Within (absorb_all s ((reply_of w e v).items e))
+  by_verdict : (v : Verdict) → verdict w e c ≡ v → Within (absorb_all s ((reply_by_verdict w e v).items e))
   by_verdict (Refuse code value) is =
       let v = Refuse code value in
       subst (λ (items : List Item). Within (absorb_all s items)) (sym (set_here e (Answer v ∷ []) (λ j. [])))
@@ -201,15 +201,15 @@ module _ (granted : GrantedMay) (w : World) (e : ℕ) (c : Option Call) (comes :
       let d = deed_at s value in
       answer_within (Grant value) (deed_within w e d (deed_may granted w e c (call_named w e c comes) value is) within) ((done w e d).items e) (deed_plain w e d e)
 
-  call_within : Within (absorb_all s ((in_turn (tells e Step ∷ brings e (Calls c) ∷ []) w).items e))
+  call_within : Within (absorb_all s ((in_turn (tells e Step ∷ act_reply e (Calls c) ∷ []) w).items e))
   call_within =
-      let same = in_turn_is_each w (tells e Step ∷ brings e (Calls c) ∷ []) ∙ ap (λ (v : World). after v (brings e (Calls c) v)) (call_stands w e c comes) in
+      let same = in_turn_is_each w (tells e Step ∷ act_reply e (Calls c) ∷ []) ∙ ap (λ (v : World). after v (act_reply e (Calls c) v)) (call_stands w e c comes) in
       subst (λ (v : World). Within (v.solos e)) (sym same) (by_verdict (verdict w e c) refl)
 
 -- ---- phases
 
 -- The step.
-module _ (granted : GrantedMay) (w : World) (i : ℕ) (within : Within (w.solos i)) where
+module _ (granted : GrantedMay) (system : System) (t : ℕ) (w : World) (i : ℕ) (within : Within (w.solos i)) where
   module _ (r : Runner) (runs : w.book.runner ≡ Some r) where
     -- who is answered runs, and its step is a call
     answered_runs : (v : Verdict) → IsAnswered w i v → r.env ≡ i
@@ -218,61 +218,61 @@ module _ (granted : GrantedMay) (w : World) (i : ℕ) (within : Within (w.solos 
     answered_calls : (v : Verdict) (its : IsAnswered w i v) → act_now w r.env ≡ Calls its.call
     answered_calls v its = ap (act_now w) (answered_runs v its) ∙ its.acts.comes
 
-    none_plain : ((v : Verdict) → IsAnswered w i v → ⊥) → (item : Item) → AtStep w i item → IsPlain item
+    none_plain : ((v : Verdict) → IsAnswered w i v → ⊥) → (item : Item) → AtStep system t w i item → IsPlain item
     none_plain none (Answer v) its = none v its
     none_plain none item its = tt
 
     abbrev given : Act → List Item
-    given act = (in_turn (tells r.env Step ∷ brings r.env act ∷ []) w).items i
+    given act = (in_turn (tells r.env Step ∷ act_reply r.env act ∷ []) w).items i
 
-    none_within : ((v : Verdict) → IsAnswered w i v → ⊥) → (act : Act) → All (AtStep w i) (given act) → Within (absorb_all (w.solos i) (given act))
-    none_within none act all = plain_within (given act) (all_plain (AtStep w i) (none_plain none) (given act) all) (w.solos i) within
+    none_within : ((v : Verdict) → IsAnswered w i v → ⊥) → (act : Act) → All (AtStep system t w i) (given act) → Within (absorb_all (w.solos i) (given act))
+    none_within none act all = plain_within (given act) (all_plain (AtStep system t w i) (none_plain none) (given act) all) (w.solos i) within
 
-    other_act : (act : Act) → act_now w r.env ≡ act → ((c : Option Call) → act ≡ Calls c → ⊥) → All (AtStep w i) (given act) → Within (absorb_all (w.solos i) (given act))
+    other_act : (act : Act) → act_now w r.env ≡ act → ((c : Option Call) → act ≡ Calls c → ⊥) → All (AtStep system t w i) (given act) → Within (absorb_all (w.solos i) (given act))
     other_act act is other all = none_within (λ v its. other its.call (sym is ∙ answered_calls v its)) act all
 
-    by_env : (c : Option Call) → act_now w r.env ≡ Calls c → (own : Bool) → (i == r.env) ≡ own → All (AtStep w i) (given (Calls c)) → Within (absorb_all (w.solos i) (given (Calls c)))
+    by_env : (c : Option Call) → act_now w r.env ≡ Calls c → (own : Bool) → (i == r.env) ≡ own → All (AtStep system t w i) (given (Calls c)) → Within (absorb_all (w.solos i) (given (Calls c)))
     by_env c is true own all =
         let same = eqb-true i r.env own in
-        subst (λ (e : ℕ). Within (absorb_all (w.solos i) ((in_turn (tells e Step ∷ brings e (Calls c) ∷ []) w).items i))) same
+        subst (λ (e : ℕ). Within (absorb_all (w.solos i) ((in_turn (tells e Step ∷ act_reply e (Calls c) ∷ []) w).items i))) same
         (call_within granted w i c (ap (act_now w) same ∙ is) within)
     by_env c is false other all = none_within (λ v its. eqb-false i r.env other (sym (answered_runs v its))) (Calls c) all
 
-    by_act : (act : Act) → act_now w r.env ≡ act → All (AtStep w i) (given act) → Within (absorb_all (w.solos i) (given act))
+    by_act : (act : Act) → act_now w r.env ≡ act → All (AtStep system t w i) (given act) → Within (absorb_all (w.solos i) (given act))
     by_act (Calls c) is all = by_env c is (i == r.env) refl all
     by_act act is all = other_act act is (λ c its. cc) all
 
-  by_runner : (o : Option Runner) → w.book.runner ≡ o → All (AtStep w i) ((step_when w o).items i) → Within (absorb_all (w.solos i) ((step_when w o).items i))
+  by_runner : (o : Option Runner) → w.book.runner ≡ o → All (AtStep system t w i) ((step_when w o).items i) → Within (absorb_all (w.solos i) ((step_when w o).items i))
   by_runner None is all = within
   by_runner (Some r) is all = by_act r is (act_now w r.env) refl all
 
-  step_within : All (AtStep w i) ((step w).items i) → Within (absorb_all (w.solos i) ((step w).items i))
+  step_within : All (AtStep system t w i) ((step w).items i) → Within (absorb_all (w.solos i) ((step w).items i))
   step_within all = by_runner w.book.runner refl all
 
 -- A phase is the step, or it gives no answer.
 abbrev NoAnswer : (World → ℕ → Item → Type 0) → Type 0
 NoAnswer L = (w : World) (e : ℕ) (v : Verdict) → L w e (Answer v) → ⊥
 
-data Sort (phase : World → Reply) (L : World → ℕ → Item → Type 0) : Type 0 where
-  Steps : phase ≡ step → ((w : World) (e : ℕ) (item : Item) → L w e item → AtStep w e item) → Sort phase L
-  Others : NoAnswer L → Sort phase L
+data Sort (system : System) (t : ℕ) (phase : World → Reply) (L : World → ℕ → Item → Type 0) : Type 0 where
+  Steps : phase ≡ step → ((w : World) (e : ℕ) (item : Item) → L w e item → AtStep system t w e item) → Sort system t phase L
+  Others : NoAnswer L → Sort system t phase L
 
-sort_behind : (xs : List Taking) (k : ℕ) (phase : World → Reply) → slice_get (tick_phases xs) k ≡ Some phase → Sort phase (LicensedBehind xs k)
-sort_behind [] (suc (suc zero)) phase is = let same : step ≡ phase = cc in Steps (sym same) (λ w e item its. its)
-sort_behind [] (suc (suc (suc (suc k)))) phase is = Others (λ w e v its. its)
-sort_behind [] k phase is = Others (λ w e v its. its)
-sort_behind (x ∷ xs) zero phase is = Others (λ w e v its. its)
-sort_behind (x ∷ xs) (suc k) phase is = sort_behind xs k phase is
+sort_behind : (system : System) (t : ℕ) (xs : List Taking) (k : ℕ) (phase : World → Reply) → slice_get (tick_phases xs) k ≡ Some phase → Sort system t phase (LicensedBehind system t xs k)
+sort_behind system t [] (suc (suc zero)) phase is = let same : step ≡ phase = cc in Steps (sym same) (λ w e item its. its)
+sort_behind system t [] (suc (suc (suc (suc k)))) phase is = Others (λ w e v its. its)
+sort_behind system t [] k phase is = Others (λ w e v its. its)
+sort_behind system t (x ∷ xs) zero phase is = Others (λ w e v its. its)
+sort_behind system t (x ∷ xs) (suc k) phase is = sort_behind system t xs k phase is
 
 no_answer : (what : Occurrence) → NoAnswer (AtEvent what)
 no_answer (outside.Packet packet) w e v its = its
 no_answer (outside.Line line) w e v its = its
 no_answer (outside.Revoke env count grace) w e v its = its
 
-sort_of : (happens : List Occurrence) (xs : List Taking) (k : ℕ) (phase : World → Reply) → slice_get (phases_after happens xs) k ≡ Some phase → Sort phase (LicensedIn happens xs k)
-sort_of [] xs k phase is = sort_behind xs k phase is
-sort_of (what ∷ happens) xs zero phase is = Others (no_answer what)
-sort_of (what ∷ happens) xs (suc k) phase is = sort_of happens xs k phase is
+sort_of : (system : System) (t : ℕ) (happens : List Occurrence) (xs : List Taking) (k : ℕ) (phase : World → Reply) → slice_get (phases_after happens xs) k ≡ Some phase → Sort system t phase (LicensedIn system t happens xs k)
+sort_of system t [] xs k phase is = sort_behind system t xs k phase is
+sort_of system t (what ∷ happens) xs zero phase is = Others (no_answer what)
+sort_of system t (what ∷ happens) xs (suc k) phase is = sort_of system t happens xs k phase is
 
 unanswered : (L : World → ℕ → Item → Type 0) → NoAnswer L → (w : World) (e : ℕ) (item : Item) → L w e item → IsPlain item
 unanswered L none w e (Answer v) its = none w e v its
@@ -281,11 +281,11 @@ unanswered L none w e item its = tt
 abbrev AllWithin : World → Type 0
 AllWithin w = (e : ℕ) → Within (w.solos e)
 
-phase_within : GrantedMay → (w : World) → AllWithin w → (phase : World → Reply) (L : World → ℕ → Item → Type 0) → Sort phase L → ((e : ℕ) → All (L w e) ((phase w).items e)) → AllWithin (after w (phase w))
-phase_within granted w within phase L (Steps is at) all e =
+phase_within : GrantedMay → (system : System) (t : ℕ) (w : World) → AllWithin w → (phase : World → Reply) (L : World → ℕ → Item → Type 0) → Sort system t phase L → ((e : ℕ) → All (L w e) ((phase w).items e)) → AllWithin (after w (phase w))
+phase_within granted system t w within phase L (Steps is at) all e =
     subst (λ (p : World → Reply). All (L w e) ((p w).items e) → Within (absorb_all (w.solos e) ((p w).items e))) (sym is)
-    (λ its. step_within granted w e (within e) (λ k d below. at w e _ (its k d below))) (all e)
-phase_within granted w within phase L (Others none) all e =
+    (λ its. step_within granted system t w e (within e) (λ k d below. at w e _ (its k d below))) (all e)
+phase_within granted system t w within phase L (Others none) all e =
     plain_within ((phase w).items e) (all_plain (L w e) (unanswered L none w e) ((phase w).items e) (all e)) (w.solos e) (within e)
 
 -- ---- runs
@@ -312,7 +312,7 @@ module _ (granted : GrantedMay) (licensed : GivenIsLicensed) (system : System) w
     by_phase None is = subst AllWithin (sym (next_moment system t k ∙ ap (once_more m) is)) within
     by_phase (Some phase) is =
         subst AllWithin (sym (next_moment system t k ∙ ap (once_more m) is))
-        (phase_within granted m within phase (LicensedIn happens taken k) (sort_of happens taken k phase is)
+        (phase_within granted system t m within phase (LicensedIn system t happens taken k) (sort_of system t happens taken k phase is)
         (λ e. subst (All (LicensedAt system t k e)) (ap (λ (o : Option (World → Reply)). given_by m o e) is) (licensed system t k e)))
 
     next_within : AllWithin (moment system t (suc k))

@@ -23,9 +23,9 @@ use Rattle.world_model.specs.World.{World}
 use Rattle.call_verdicts.specs.Granted.{GrantedMay}
 use Rattle.run_model.specs.Licensed.{AtEvent, GivenIsLicensed, LicensedAt, LicensedBehind, LicensedIn}
 use Rattle.run_model.specs.Run.{System, given_at, happens_in, moment, takings_in, world_after}
-use Rattle.sharing_law.specs.Change.{IsStored}
+use Rattle.sharing_law.specs.Change.{IsStoredTo}
 use Rattle.sharing_law.specs.Delivery.{IsCopied, IsDelivered}
-use Rattle.sharing_law.specs.Whole.{CopiesAreWhole, IsWithinLimits, PagesAreWhole}
+use Rattle.sharing_law.specs.Whole.{CopiesAreWhole, AreEventsWithinLimits, PagesAreWhole}
 use Rattle.sharing_law.proofs.Agreeing.{none_owned}
 use Rattle.sharing_law.proofs.Allocated.{becomes}
 use Rattle.sharing_law.proofs.Delivering.{owner_sees}
@@ -34,10 +34,10 @@ use Rattle.sharing_law.proofs.Moments.{each_moment}
 use Rattle.sharing_law.proofs.Writing.{stored_within}
 
 -- bytes within a page leave its length
-with_length : (page : List ℕ) (offset : ℕ) (bytes : List ℕ) → offset + length bytes ≤ length page → length (with_bytes page offset bytes) ≡ length page
+pub with_length : (page : List ℕ) (offset : ℕ) (bytes : List ℕ) → offset + length bytes ≤ length page → length (with_bytes page offset bytes) ≡ length page
 with_length page offset bytes within = grind (arith, common_steps, length-append, length-take, length-drop)
 
-zero_length : length zero_page ≡ page_size
+pub zero_length : length zero_page ≡ page_size
 zero_length = length-replicate {A = ℕ} page_size 0
 
 -- a packet within its limits fits in each buffer
@@ -50,27 +50,27 @@ abbrev IsWhole : World → Type 0
 IsWhole w = (owner page : ℕ) → is_owned_by owner (w.book.pages page) ≡ true → length (page_bytes w page) ≡ page_size
 
 -- A packet that is given in a phase is one that happens in the tick.
-packet_behind : (xs : List Taking) (k : ℕ) (w : World) (e claim : ℕ) (packet : List ℕ) → LicensedBehind xs k w e (Packet claim packet) → ⊥
-packet_behind [] (suc (suc (suc (suc k)))) w e claim packet its = its
-packet_behind [] k w e claim packet its = its
-packet_behind (x ∷ xs) zero w e claim packet its = its
-packet_behind (x ∷ xs) (suc k) w e claim packet its = packet_behind xs k w e claim packet its
+packet_behind : (system : System) (t : ℕ) (xs : List Taking) (k : ℕ) (w : World) (e claim : ℕ) (packet : List ℕ) → LicensedBehind system t xs k w e (Packet claim packet) → ⊥
+packet_behind system t [] (suc (suc (suc (suc k)))) w e claim packet its = its
+packet_behind system t [] k w e claim packet its = its
+packet_behind system t (x ∷ xs) zero w e claim packet its = its
+packet_behind system t (x ∷ xs) (suc k) w e claim packet its = packet_behind system t xs k w e claim packet its
 
 packet_by : (what : Occurrence) (w : World) (e claim : ℕ) (packet : List ℕ) → AtEvent what w e (Packet claim packet) → what ≡ outside.Packet packet
 packet_by what w e claim packet its = grind (arith, common_steps)
 
-packet_in : (happens : List Occurrence) (xs : List Taking) (k : ℕ) (w : World) (e claim : ℕ) (packet : List ℕ) → LicensedIn happens xs k w e (Packet claim packet) → slice_get happens k ≡ Some (outside.Packet packet)
-packet_in [] xs k w e claim packet its = absurd (packet_behind xs k w e claim packet its)
-packet_in (what ∷ happens) xs zero w e claim packet its = ap Some (packet_by what w e claim packet its)
-packet_in (what ∷ happens) xs (suc k) w e claim packet its = packet_in happens xs k w e claim packet its
+packet_in : (system : System) (t : ℕ) (happens : List Occurrence) (xs : List Taking) (k : ℕ) (w : World) (e claim : ℕ) (packet : List ℕ) → LicensedIn system t happens xs k w e (Packet claim packet) → slice_get happens k ≡ Some (outside.Packet packet)
+packet_in system t [] xs k w e claim packet its = absurd (packet_behind system t xs k w e claim packet its)
+packet_in system t (what ∷ happens) xs zero w e claim packet its = ap Some (packet_by what w e claim packet its)
+packet_in system t (what ∷ happens) xs (suc k) w e claim packet its = packet_in system t happens xs k w e claim packet its
 
-module _ (granted : GrantedMay) (takable : TakingsAreTakable) (licensed : GivenIsLicensed) (runs : RunsKeepLimits) (system : System) (within : IsWithinLimits system.schedule) where
+module _ (granted : GrantedMay) (takable : TakingsAreTakable) (licensed : GivenIsLicensed) (runs : RunsKeepLimits) (system : System) (within : AreEventsWithinLimits system.schedule) where
   packet_short : (t k e claim : ℕ) (packet : List ℕ) → given_at system t k e ≡ Packet claim packet ∷ [] → length packet ≤ most_packet_size
   packet_short t k e claim packet given =
       let w = world_after system t in
       let each : All (LicensedAt system t k e) (Packet claim packet ∷ []) = subst (All (LicensedAt system t k e)) given (licensed system t k e) in
-      let its : LicensedIn (happens_in system.schedule w) (takings_in system t) k (moment system t k) e (Packet claim packet) = each 0 (Packet claim packet) (omega arith) in
-      let limits = within w.book.time k (outside.Packet packet) (packet_in (happens_in system.schedule w) (takings_in system t) k (moment system t k) e claim packet its) in
+      let its : LicensedIn system t (happens_in system.schedule w) (takings_in system t) k (moment system t k) e (Packet claim packet) = each 0 (Packet claim packet) (omega arith) in
+      let limits = within w.book.time k (outside.Packet packet) (packet_in system t (happens_in system.schedule w) (takings_in system t) k (moment system t k) e claim packet its) in
       leb-true (length packet) most_packet_size (and_parts (nat_le 1 (length packet)) (nat_le (length packet) most_packet_size) limits).1
 
   module _ (t k : ℕ) (whole : IsWhole (moment system t k)) where
@@ -83,7 +83,7 @@ module _ (granted : GrantedMay) (takable : TakingsAreTakable) (licensed : GivenI
     abbrev HasSize : ℕ → Type 0
     HasSize page = length (page_bytes next page) ≡ page_size
 
-    stored_whole : (page owner : ℕ) → is_owned_by owner (m.book.pages page) ≡ true → IsStored system t k page → HasSize page
+    stored_whole : (page owner : ℕ) → is_owned_by owner (m.book.pages page) ≡ true → IsStoredTo system t k page → HasSize page
     stored_whole page owner owns stored = grind (arith, common_steps, stored_within, with_length)
 
     delivered_whole : (page owner : ℕ) → is_owned_by owner (m.book.pages page) ≡ true → IsDelivered system t k page owner → HasSize page

@@ -8,13 +8,13 @@ use Rattle.world_model.specs.declared.life.Cause.{Cause}
 use Rattle.world_model.specs.declared.verdict.Verdict.{Verdict}
 use Rattle.world_model.specs.declared.verdict.Verdict.TheVariants.{Refuse, Grant}
 use Rattle.world_model.specs.Book.{running}
-use Rattle.world_model.specs.Item.{Item, Step, Answer, absorb_all, answered, answered_cpu, deed_at}
+use Rattle.world_model.specs.Item.{Item, Step, Answer, absorb_all, with_answer, answered_cpu, deed_at}
 use Rattle.world_model.specs.PageCalls.{page_bytes}
 use Rattle.world_model.specs.Solo.{Solo}
 use Rattle.world_model.specs.Step.{Act, Nothing, Stores, Calls, Raises, Dies, acted, step_alone}
 use Rattle.world_model.specs.Tick as tick
 use Rattle.world_model.specs.Tick.{act_now}
-use Rattle.world_model.specs.Verdict.{done, reply_of, reply_to, verdict}
+use Rattle.world_model.specs.Verdict.{done, reply_by_verdict, reply_to, verdict}
 use Rattle.world_model.specs.World.{World, Reply, after, in_turn, no_items, tells}
 use Rattle.call_verdicts.specs.Granted.{GrantedMay}
 use Rattle.run_model.specs.Acting.{Acts}
@@ -49,13 +49,13 @@ pub record Stepped (w : World) (e : ℕ) (now : World) : Type 0 where
 -- So does the world after the runner's step.
 module _ (granted : GrantedMay) (w : World) (e : ℕ) (sound : Sound w) (allocated : AreBoundAllocated w) (claimed : Claimed w) (lives : (w.solos e).life ≡ Live) (runs : running w.book.runner ≡ Some e) where
   -- a call, refused or granted
-  refused_follows : (v : Verdict) → (answered v (w.solos e)).life ≡ Live → (answered v (w.solos e)).binds ≡ (w.solos e).binds → (answered v (w.solos e)).seen ≡ (w.solos e).seen → (answered v (w.solos e)).rings ≡ (w.solos e).rings → Stepped w e (after w (tells e (Answer v) w))
+  refused_follows : (v : Verdict) → (with_answer v (w.solos e)).life ≡ Live → (with_answer v (w.solos e)).binds ≡ (w.solos e).binds → (with_answer v (w.solos e)).seen ≡ (w.solos e).seen → (with_answer v (w.solos e)).rings ≡ (w.solos e).rings → Stepped w e (after w (tells e (Answer v) w))
   refused_follows v alive binds sights rings = record {
-    came_to = answered v (w.solos e);
+    came_to = with_answer v (w.solos e);
     items = no_items;
     follows = record {
-      brings = silent w e sound lives (answered v (w.solos e)) alive binds sights;
-      claims = steady w e claimed (answered v (w.solos e)) w.book no_items rings (λ i s. refl);
+      brings = silent w e sound lives (with_answer v (w.solos e)) alive binds sights;
+      claims = steady w e claimed (with_answer v (w.solos e)) w.book no_items rings (λ i s. refl);
       own = ap (absorb_all (w.solos e)) (set_here e (Answer v ∷ []) no_items) ∙ absorbs (w.solos e) (Answer v) [] lives;
       others = λ i ne. ap (absorb_all (w.solos i)) (set_else e i (Answer v ∷ []) no_items ne);
       gives = λ i. Tells tt;
@@ -65,7 +65,7 @@ module _ (granted : GrantedMay) (w : World) (e : ℕ) (sound : Sound w) (allocat
   call_follows : (c : Option Call) → Acts w e (Calls c) → Stepped w e (after w (reply_to w e c))
   call_follows c acts = by_verdict (verdict w e c) refl
     where
-      by_verdict : (v : Verdict) → verdict w e c ≡ v → Stepped w e (after w (reply_of w e v))
+      by_verdict : (v : Verdict) → verdict w e c ≡ v → Stepped w e (after w (reply_by_verdict w e v))
       by_verdict (Refuse code value) is = refused_follows (Refuse code value) lives refl refl refl
       by_verdict (Grant value) is =
           let d = deed_at (w.solos e) value in
@@ -105,17 +105,17 @@ module _ (granted : GrantedMay) (w : World) (e : ℕ) (sound : Sound w) (allocat
     };
   }
 
-  act_follows : (act : Act) → act_now w e ≡ act → Stepped w e (after told (tick.brings e act told))
-  act_follows Nothing is = told_follows Nothing is (tick.brings e Nothing told) (silent w e sound lives (after_act Nothing) lives refl refl) (steady w e claimed (after_act Nothing) w.book no_items refl (λ i s. refl)) (λ i. Tells tt)
+  act_follows : (act : Act) → act_now w e ≡ act → Stepped w e (after told (tick.act_reply e act told))
+  act_follows Nothing is = told_follows Nothing is (tick.act_reply e Nothing told) (silent w e sound lives (after_act Nothing) lives refl refl) (steady w e claimed (after_act Nothing) w.book no_items refl (λ i s. refl)) (λ i. Tells tt)
   act_follows (Stores x) is =
-      told_follows (Stores x) is (tick.brings e (Stores x) told) (store_brings w e sound lives (cpu_after (w.solos e).cpu (step_alone (w.solos e))) x (record { runs = runs; comes = is })) (store_claims w e claimed (after_act (Stores x)) x refl) (store_gives w e x)
-  act_follows (Calls c) is = subst (λ (v : World). Stepped w e (after v (tick.brings e (Calls c) v))) (sym (call_stands w e c is)) (call_follows c (record { runs = runs; comes = is }))
-  act_follows (Raises exc) is = told_follows (Raises exc) is (tick.brings e (Raises exc) told) (silent w e sound lives (after_act (Raises exc)) lives refl refl) (steady w e claimed (after_act (Raises exc)) w.book no_items refl (λ i s. refl)) (λ i. Tells tt)
+      told_follows (Stores x) is (tick.act_reply e (Stores x) told) (store_brings w e sound lives (cpu_after (w.solos e).cpu (step_alone (w.solos e))) x (record { runs = runs; comes = is })) (store_claims w e claimed (after_act (Stores x)) x refl) (store_gives w e x)
+  act_follows (Calls c) is = subst (λ (v : World). Stepped w e (after v (tick.act_reply e (Calls c) v))) (sym (call_stands w e c is)) (call_follows c (record { runs = runs; comes = is }))
+  act_follows (Raises exc) is = told_follows (Raises exc) is (tick.act_reply e (Raises exc) told) (silent w e sound lives (after_act (Raises exc)) lives refl refl) (steady w e claimed (after_act (Raises exc)) w.book no_items refl (λ i s. refl)) (λ i. Tells tt)
   act_follows (Dies cause) is =
-      told_follows (Dies cause) is (tick.brings e (Dies cause) told) (death_brings w e sound lives (cpu_after (w.solos e).cpu (step_alone (w.solos e))) cause) (death_claims w e claimed (cpu_after (w.solos e).cpu (step_alone (w.solos e))) cause) (λ i. Tells (told_death w.book e i))
+      told_follows (Dies cause) is (tick.act_reply e (Dies cause) told) (death_brings w e sound lives (cpu_after (w.solos e).cpu (step_alone (w.solos e))) cause) (death_claims w e claimed (cpu_after (w.solos e).cpu (step_alone (w.solos e))) cause) (λ i. Tells (told_death w.book e i))
 
-  pub step_follows : Stepped w e (after w (in_turn (tells e Step ∷ tick.brings e (act_now w e) ∷ []) w))
-  step_follows = subst (Stepped w e) (sym (in_turn_is_each w (tells e Step ∷ tick.brings e (act_now w e) ∷ []))) (act_follows (act_now w e) refl)
+  pub step_follows : Stepped w e (after w (in_turn (tells e Step ∷ tick.act_reply e (act_now w e) ∷ []) w))
+  step_follows = subst (Stepped w e) (sym (in_turn_is_each w (tells e Step ∷ tick.act_reply e (act_now w e) ∷ []))) (act_follows (act_now w e) refl)
 
 module _ (w : World) (e : ℕ) (s : Solo) (now : World) (items : ℕ → List Item) (sound : Sound w) (follows : Follows w e s now items) where
   abbrev brings : Brings w e s now.book items

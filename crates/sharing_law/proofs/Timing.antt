@@ -15,14 +15,17 @@ use Rattle.world_model.specs.declared.slot.Phase.{Phase}
 use Rattle.world_model.specs.declared.slot.Phase.TheVariants as phase
 use Rattle.world_model.specs.declared.slot.Runner.{Runner}
 use Rattle.world_model.specs.Table.{set_at}
-use Rattle.world_model.specs.Book.{Book, excess_limit}
+use Rattle.world_model.specs.Book.{Book}
+use Rattle.aegis_limits.specs.Limits.{excess_limit}
 use Rattle.world_model.specs.Death.{death, death_items, lost_with}
 use Rattle.world_model.specs.Solo.{Solo, dead}
 use Rattle.world_model.specs.Item.{Item, End, Killed, absorb, absorb_all}
-use Rattle.world_model.specs.PageCalls.{breaks, page_bytes}
+use Rattle.world_model.specs.PageCalls.{lost_bindings, page_bytes}
 use Rattle.world_model.specs.SlotCalls.{stop_row}
 use Rattle.world_model.specs.Step.{Dies}
-use Rattle.world_model.specs.Tick.{brings, clock, count_when, goes_on, grace_of, kill, owes_more, run_out, timer}
+use Rattle.world_model.specs.Tick.{act_reply, clock, count_when, with_runner, grace_of, kill, owes_more, timer, timer_reply, timer_now}
+use Rattle.world_model.specs.declared.timer.Timer.{Timer}
+use Rattle.world_model.specs.declared.timer.Timer.TheVariants as answer
 use Rattle.world_model.specs.World.{World, Reply, after, in_turn, no_items, only, tells}
 use Rattle.run_model.specs.Excess.{IsRunnerLive}
 use Rattle.run_model.proofs.Phases.{in_turn_is_each}
@@ -54,7 +57,7 @@ pub data Comes (w : World) (r : Reply) : Type 0 where
 -- what the others lose with an environment is the same whatever is owed
 lost_owing : (b : Book) (excess : ℕ → ℕ) (gone i n : ℕ) → lost_with (record b { excess = excess }) gone i n ≡ lost_with b gone i n
 lost_owing b excess gone i zero = refl
-lost_owing b excess gone i (suc n) = ap (λ items. items ++ (if belongs_to gone (b.pages n) then breaks b n i else [])) (lost_owing b excess gone i n)
+lost_owing b excess gone i (suc n) = ap (λ items. items ++ (if belongs_to gone (b.pages n) then lost_bindings b n i else [])) (lost_owing b excess gone i n)
 
 death_owing : (b : Book) (excess : ℕ → ℕ) (gone i : ℕ) → death_items (record b { excess = excess }) gone i ≡ death_items b gone i
 death_owing b excess gone i = ap (λ items. if i == gone then [] else items) (lost_owing b excess gone i b.page_count)
@@ -62,18 +65,9 @@ death_owing b excess gone i = ap (λ items. if i == gone then [] else items) (lo
 module _ (w : World) where
   passes : (runner : Option Runner) (items : ℕ → List Item) (rows : List Row) → ((i : ℕ) → IsRested (w.solos i) (absorb_all (w.solos i) (items i)))
       → Comes w (record { book = record w.book { runner = runner }; items = items; rows = rows })
-  passes runner items rows rests = Passed (record { solos = rests; lists = record { pages = refl; binds = refl; claims = refl; next = refl; backups = refl; count = refl } })
+  passes runner items rows rests = Passed (record { solos = rests; lists = record { pages = refl; binds = refl; claims = refl; next = refl; backups = refl; kept = refl; lines = refl; count = refl } })
 
   module _ (r : Runner) (runs : w.book.runner ≡ Some r) where
-    abbrev stops : Reply
-    stops = record { book = record w.book { runner = None }; items = no_items; rows = stop_row w.book r.env ∷ [] }
-
-    abbrev ends : Reply
-    ends = record { book = record w.book { runner = Some (grace_of w r.env) }; items = only r.env (End ∷ []); rows = row.End w.book.time w.book.cursor r.env ∷ [] }
-
-    slice_ends : Comes w ends
-    slice_ends = passes (Some (grace_of w r.env)) (only r.env (End ∷ [])) (row.End w.book.time w.book.cursor r.env ∷ []) (λ i. given_rests (w.solos i) End (record { binds = refl; seen = refl; rings = refl; life = refl }) (i == r.env))
-
     -- the world once its excess has risen, and once it is told that it is killed
     abbrev owing : World
     owing = after w (owes_more r.env w)
@@ -81,17 +75,17 @@ module _ (w : World) where
     abbrev doomed : World
     doomed = after owing (tells r.env Killed owing)
 
-    abbrev judges : Bool → World → Reply
-    judges over v = if over then kill r.env v else goes_on (grace_of v r.env) v
+    killed : after w (timer_reply r answer.Kill w) ≡ after doomed (death doomed r.env)
+    killed = in_turn_is_each w (owes_more r.env ∷ kill r.env ∷ []) ∙ in_turn_is_each owing (tells r.env Killed ∷ act_reply r.env (Dies cause.Excess) ∷ [])
 
-    abbrev grace : Bool → Reply
-    grace over = in_turn (owes_more r.env ∷ judges over ∷ []) w
-
-    killed : after w (grace true) ≡ after doomed (death doomed r.env)
-    killed = in_turn_is_each w (owes_more r.env ∷ judges true ∷ []) ∙ in_turn_is_each owing (tells r.env Killed ∷ brings r.env (Dies cause.Excess) ∷ [])
-
-    grace_comes : (over : Bool) → Comes w (grace over)
-    grace_comes true = Died r runs (record {
+    answer_comes : (what : Timer) → Comes w (timer_reply r what w)
+    answer_comes answer.Nothing = passes (Some (record r { left = r.left - 1 })) no_items [] (λ i. rests_same (w.solos i))
+    answer_comes answer.End =
+        passes (Some (grace_of w r.env)) (only r.env (End ∷ [])) (row.End w.book.time w.book.cursor r.env ∷ [])
+        (λ i. given_rests (w.solos i) End (record { binds = refl; seen = refl; rings = refl; life = refl }) (i == r.env))
+    answer_comes answer.Stop = passes None no_items (stop_row w.book r.env ∷ []) (λ i. rests_same (w.solos i))
+    answer_comes (answer.Over excess) = Passed (record { solos = λ i. rests_same (w.solos i); lists = record { pages = refl; binds = refl; claims = refl; next = refl; backups = refl; kept = refl; lines = refl; count = refl } })
+    answer_comes answer.Kill = Died r runs (record {
       excess = set_at r.env 0 owing.book.excess;
       time = w.book.time;
       book = refl;
@@ -103,17 +97,10 @@ module _ (w : World) where
           ∙ ap (λ (s : Solo). absorb_all s (death_items doomed.book r.env i)) (told_other owing r.env Killed i ne)
           ∙ ap (absorb_all (w.solos i)) (death_owing w.book owing.book.excess r.env i);
     })
-    grace_comes false = Passed (record { solos = λ i. rests_same (w.solos i); lists = record { pages = refl; binds = refl; claims = refl; next = refl; backups = refl; count = refl } })
-
-    out_comes : (p : Phase) → Comes w (run_out r.env p w)
-    out_comes phase.Own = either (Comes w) ((w.solos r.env).handlers.end == 0) stops ends (passes None no_items (stop_row w.book r.env ∷ []) (λ i. rests_same (w.solos i))) slice_ends
-    out_comes phase.Grace = grace_comes (nat_lt excess_limit (owing.book.excess r.env))
 
   comes_by : (o : Option Runner) → w.book.runner ≡ o → Comes w (count_when o w)
   comes_by None is = passes w.book.runner no_items [] (λ i. rests_same (w.solos i))
-  comes_by (Some r) is =
-      let goes = record r { left = r.left - 1 } in
-      either (Comes w) (r.left - 1 == 0) (run_out r.env r.phase w) (goes_on goes w) (out_comes r is r.phase) (passes (Some goes) no_items [] (λ i. rests_same (w.solos i)))
+  comes_by (Some r) is = answer_comes r is (timer_now w r)
 
   -- and then time rises
   clocked : (count : World → Reply) → Comes w (count w) → Comes w (in_turn (count ∷ clock ∷ []) w)

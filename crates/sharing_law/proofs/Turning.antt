@@ -5,7 +5,7 @@ use Rattle.std.specs.Prelude.{◌==◌}
 use Rattle.page_book.specs.Row.{is_owned_by}
 use Rattle.world_model.specs.declared.slot.Runner.{Runner}
 use Rattle.world_model.specs.declared.slot.Turn.{Turn}
-use Rattle.world_model.specs.Book.{Book, Told, whole_turn}
+use Rattle.world_model.specs.Book.{Book, WholeTurn, whole_turn}
 use Rattle.world_model.specs.Item.{Start}
 use Rattle.world_model.specs.PageCalls.{page_bytes}
 use Rattle.world_model.specs.World.{World, after, no_change}
@@ -22,10 +22,12 @@ pub record ListsSame (old new : Book) : Type 0 where
   pub claims : new.claims ≡ old.claims
   pub next : new.next_claim ≡ old.next_claim
   pub backups : new.backups ≡ old.backups
+  pub kept : new.kept ≡ old.kept
+  pub lines : new.lines ≡ old.lines
   pub count : new.page_count ≡ old.page_count
 
 pub same_lists : (b : Book) → ListsSame b b
-same_lists b = record { pages = refl; binds = refl; claims = refl; next = refl; backups = refl; count = refl }
+same_lists b = record { pages = refl; binds = refl; claims = refl; next = refl; backups = refl; kept = refl; lines = refl; count = refl }
 
 pub allocated_same : (w v : World) → ListsSame w.book v.book → AreBoundAllocated w → AreBoundAllocated v
 allocated_same w v same allocated e row b at = grind (arith, common_steps)
@@ -55,9 +57,9 @@ pub unchanged : (w : World) → IsAlike w (after w (no_change w))
 unchanged w = record { solos = λ i. rests_same (w.solos i); lists = same_lists w.book }
 
 -- The turn: who starts rests, and all others stay as they are.
-turn_taken : (w : World) (told : Told) (x : Option Turn) → IsAlike w (after w (take_turn w told x))
+turn_taken : (w : World) (told : WholeTurn) (x : Option Turn) → IsAlike w (after w (take_turn w told x))
 turn_taken w told None = unchanged w
-turn_taken w told (Some t) = record { solos = λ i. given_rests (w.solos i) Start (started (w.solos i)) (i == t.env); lists = record { pages = refl; binds = refl; claims = refl; next = refl; backups = refl; count = refl } }
+turn_taken w told (Some t) = record { solos = λ i. given_rests (w.solos i) Start (started (w.solos i)) (i == t.env); lists = record { pages = refl; binds = refl; claims = refl; next = refl; backups = refl; kept = refl; lines = refl; count = refl } }
 
 turn_by : (w : World) (o : Option Runner) → IsAlike w (after w (turn_when w o))
 turn_by w None = turn_taken w (whole_turn w.book) (whole_turn w.book).runs

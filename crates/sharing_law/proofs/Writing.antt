@@ -25,7 +25,7 @@ use Rattle.bind_book.specs.declared.binding.Binding.{Binding}
 use Rattle.bind_book.specs.Stripe.{binding_at}
 use Rattle.bind_book.proofs.Rows.{found_in_row}
 use Rattle.world_model.specs.declared.life.Cause.TheVariants as cause
-use Rattle.world_model.specs.declared.page.Purpose.TheVariants as purpose
+use Rattle.world_model.specs.declared.access.Purpose.TheVariants as purpose
 use Rattle.world_model.specs.Call.{exit_number}
 use Rattle.mips_exec.specs.Cpu.{reg}
 use Rattle.world_model.specs.Page.{KeptPage, Mapped, answers_by, if_served, raised, reach, served}

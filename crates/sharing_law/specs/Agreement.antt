@@ -3,6 +3,7 @@ use Rattle.std.specs.Prelude.{◌≡◌, ◌≢◌, ◌<◌, ◌≤◌, ℕ, len
 use Rattle.revocation_book.specs.Backups.{is_loaded, most_backups}
 use Rattle.world_model.specs.Book.{Book}
 use Rattle.page_book.specs.Row.{is_owned_by}
+use Rattle.filter_core.specs.Filters.{is_filter}
 use Rattle.filter_core.specs.Matching.{Overlap}
 use Rattle.filter_tree.specs.ClaimBook.{ClaimValue, is_of_env}
 use Rattle.filter_tree.specs.Claims.{is_numbered}
@@ -12,10 +13,11 @@ use Rattle.page_book.specs.declared.row.PageRow.TheVariants.{Free, Guaranteed, O
 use Rattle.bind_book.specs.declared.binding.Binding.{Binding}
 use Rattle.world_model.specs.World.{World}
 use Rattle.world_model.specs.PageCalls.{page_bytes}
-use Rattle.run_model.specs.Run.{System, world_after}
+use Rattle.run_model.specs.Run.{System, moment, world_after}
 use Rattle.page_laws.specs.Sight.{Sees}
 
--- each environment has just the bindings that the book lists for it, and sees just the pages that by the book it owns or has bound, with the bytes that their owner sees
+-- each environment has just the bindings that the book lists for it, and sees just the pages that by the book it owns
+-- or has bound, with the bytes that their owner sees
 abbrev pub AreAgreed : World → Type 0
 AreAgreed w = (e : ℕ) → Sees e w.book.pages (w.book.binds e) (page_bytes w) (w.solos e)
 
@@ -35,6 +37,11 @@ BooksAgree = (system : System) (t : ℕ) → AreAgreed (world_after system t)
 abbrev pub BoundIsAllocated : Type 0
 BoundIsAllocated = (system : System) (t : ℕ) → AreBoundAllocated (world_after system t)
 
+-- At each moment the rows of pages from the page count on are free: no page is anyone's that isn't there.
+abbrev pub PagesEnd : Type 0
+PagesEnd = (system : System) (t k page : ℕ)
+    → (let b = (moment system t k).book in b.page_count ≤ page → b.pages page ≡ Free)
+
 -- a claim's number and the page into which its packets go
 pub record ClaimPage : Type 0 where
   pub claim : ℕ
@@ -50,8 +57,9 @@ claim_page c = record { claim = c.id; page = c.page }
 abbrev pub AreClaimed : World → Type 0
 AreClaimed w = (e : ℕ) → map ring_page (w.solos e).rings ≡ map claim_page (filter (is_of_env e) w.book.claims)
 
--- each claim goes into a page of its environment's own, and is the one of its number
+-- each claim has a filter, goes into a page of its environment's own, and is the one of its number
 pub record IsClaimSound (w : World) (c : ClaimValue) : Type 0 where
+  pub filter : is_filter c.filter ≡ true
   pub owned : is_owned_by c.env (w.book.pages c.page) ≡ true
   pub below : c.id < w.book.next_claim
   pub only : find (is_numbered c.id) w.book.claims ≡ Some c
@@ -78,7 +86,9 @@ BackupsAreOwned = (system : System) (t : ℕ) → AreBackupsOwned (world_after s
 
 -- No packet is matched by claims of two environments.
 abbrev pub AreClaimsApart : World → Type 0
-AreClaimsApart w = (j k : ℕ) (c d : ClaimValue) → slice_get w.book.claims j ≡ Some c → slice_get w.book.claims k ≡ Some d → c.env ≢ d.env → ¬ Overlap c.filter d.filter
+AreClaimsApart w = (j k : ℕ) (c d : ClaimValue) → slice_get w.book.claims j ≡ Some c
+    → slice_get w.book.claims k ≡ Some d
+    → c.env ≢ d.env → ¬ Overlap c.filter d.filter
 
 abbrev pub ClaimsAreApart : Type 0
 ClaimsAreApart = (system : System) (t : ℕ) → AreClaimsApart (world_after system t)

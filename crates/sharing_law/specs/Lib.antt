@@ -4,3 +4,5 @@ pub mod Right
 pub mod Change
 pub mod Whole
 pub mod Sent
+pub mod Lines
+pub mod Kept

@@ -1,5 +1,5 @@
 //! The book and the environments.
-ghost use Rattle.sharing_law.specs.Agreement.{BackupsAreOwned, BooksAgree, BoundIsAllocated, ClaimsAgree, ClaimsAreApart, ClaimsAreSound};
+ghost use Rattle.sharing_law.specs.Agreement.{BackupsAreOwned, BooksAgree, BoundIsAllocated, ClaimsAgree, ClaimsAreApart, ClaimsAreSound, PagesEnd};
 
 use call_verdicts::law_granted;
 use filter_core::law_agree;
@@ -24,6 +24,14 @@ pub fn law_bound()
     law_takable();
 }
 
+/// The rows of pages from the page count on are free, at each moment.
+pub fn law_pages_end()
+    ensures { PagesEnd }
+{
+    law_granted();
+    law_takable();
+}
+
 /// Each environment has just the claims that the book lists for it, into the pages that the book says.
 #[tactic(auto, using(crate::proofs::Agreeing::claims_agree))]
 pub fn law_claims()
@@ -33,7 +41,8 @@ pub fn law_claims()
     law_takable();
 }
 
-/// Each claim that the book lists goes into a page that its environment owns, and no other has its number.
+/// Each claim that the book lists has a filter that is one, goes into a page that its environment owns, and no other has
+/// its number.
 pub fn law_claim_pages()
     ensures { ClaimsAreSound }
 {

@@ -1,9 +1,9 @@
 //! Whole pages.
-ghost use Rattle.sharing_law.specs.Whole.{CopiesAreWhole, PagesAreWhole};
+ghost use Rattle.sharing_law.specs.Whole.{CopiesAreWhole, GuaranteedAreWhole, PagesAreWhole};
 
+use crate::right::law_licence;
 use call_verdicts::law_granted;
 use revocation_book::law_takable;
-use run_model::law_licence;
 use safe_handler::law_runs_keep_limits;
 
 /// Where what happens from outside is within its limits, each allocated page has its 4,096 bytes, at each moment.
@@ -25,4 +25,11 @@ pub fn law_whole_copies()
     law_takable();
     law_licence();
     law_runs_keep_limits();
+}
+
+/// Each guaranteed page has its 4,096 bytes, at each moment and whatever happens from outside.
+pub fn law_guaranteed_whole()
+    ensures { GuaranteedAreWhole }
+{
+    law_licence();
 }

@@ -1,17 +1,18 @@
--- The environments that slots name have numbers below most_numbers, and keep them.
+-- The environments that slots name have numbers below environment_numbers, and keep them.
 use Rattle.std.proofs.Common.{◌<◌, ℕ, List, Option, None, Some, IfSome, map, get_or, All, arith}
 use Rattle.std.specs.Option.{option_map}
 use Rattle.std.proofs.lemmas.Grind.{common_steps}
 use Rattle.std.proofs.lemmas.List.Elements.{All-map}
 use Rattle.world_model.specs.declared.slot.Hold.{Hold}
 use Rattle.world_model.specs.Book.{own_hold, hold_without}
-use Rattle.slot_vector.specs.Slices.{IsNumbered, most_numbers}
+use Rattle.slot_vector.specs.Slices.{IsNumbered}
+use Rattle.aegis_limits.specs.Limits.{environment_numbers}
 
-own_numbered : (owner : Option ℕ) → IfSome owner (λ e. e < most_numbers) → IsNumbered (option_map own_hold owner)
+own_numbered : (owner : Option ℕ) → IfSome owner (λ e. e < environment_numbers) → IsNumbered (option_map own_hold owner)
 own_numbered None below = tt
 own_numbered (Some e) below = (below, below)
 
-pub owners_numbered : (owners : List (Option ℕ)) → All (λ owner. IfSome owner (λ e. e < most_numbers)) owners → All IsNumbered (map (option_map own_hold) owners)
+pub owners_numbered : (owners : List (Option ℕ)) → All (λ owner. IfSome owner (λ e. e < environment_numbers)) owners → All IsNumbered (map (option_map own_hold) owners)
 owners_numbered owners below = All-map IsNumbered (option_map own_hold) owners (λ k d within. own_numbered (get_or owners k d) (below k d within))
 
 released_numbered : (e : ℕ) (slot : Option Hold) → IsNumbered slot → IsNumbered (hold_without e slot)

@@ -4,7 +4,7 @@ use Rattle.std.proofs.lemmas.Grind.{common_steps}
 use Rattle.world_model.specs.declared.slot.Hold.{Hold}
 use Rattle.world_model.specs.declared.slot.Turn.{Turn}
 use Rattle.world_model.specs.Table.{set_at}
-use Rattle.world_model.specs.Book.{first_turn, lowered, owed}
+use Rattle.world_model.specs.Book.{first_turn, excess_after_forfeit, owed}
 use Rattle.world_model.proofs.Slots.{holder_in, owed_less}
 use Rattle.slot_vector.specs.Slices.{excess_of}
 use Rattle.slot_vector.proofs.Around.{turn_held}
@@ -21,7 +21,7 @@ pub owes_within : (all : List ℕ) (e : ℕ) → excess_of all e ≢ 0 → e < l
 owes_within all e owes = grind (arith, common_steps)
 
 -- With the forfeit of a slot the holders owe less.
-pub forfeit_falls : (excess : ℕ → ℕ) (slots : ℕ → Option Hold) (count cursor : ℕ) (t : Turn) → first_turn slots count cursor count ≡ Some t → excess t.env ≢ 0 → owed (lowered t.env excess) slots count < owed excess slots count
+pub forfeit_falls : (excess : ℕ → ℕ) (slots : ℕ → Option Hold) (count cursor : ℕ) (t : Turn) → first_turn slots count cursor count ≡ Some t → excess t.env ≢ 0 → owed (excess_after_forfeit t.env excess) slots count < owed excess slots count
 forfeit_falls excess slots count cursor t found owes =
     let there = turn_held slots count cursor count t (omega arith) found in
     owed_less t.env excess slots count t.slot there.within (ap holder_in there.held ∙ ap Some there.holds) (omega (arith, owes))

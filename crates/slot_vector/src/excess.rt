@@ -1,26 +1,21 @@
 //! What environments owe.
 ghost use Rattle.std.specs.Prelude.{◌≡◌, ◌<◌, ◌≤◌, ◌+◌, replicate, slice_set};
-ghost use Rattle.world_model.specs.Book.{excess_limit};
-ghost use Rattle.slot_vector.specs.Slices.{excess_of, most_numbers};
+ghost use Rattle.aegis_limits.specs.Limits.{excess_limit, environment_numbers};
+ghost use Rattle.slot_vector.specs.Slices.{excess_of};
 
+use aegis_limits::ENVIRONMENT_NUMBERS;
 use std::marker::Model;
 
-/// Environments are numbered below this one.
-const MOST_NUMBERS: usize = 32;
-
-/// More than so much excess is death.
-pub(crate) const EXCESS_LIMIT: u32 = 8;
-
 /// The excess of each environment by its number: the quanta that it ran past its slices and hasn't
-/// forfeited yet, 0 to 8, and 9 for one that is to die. At first nobody has any.
+/// forfeited yet, at most `EXCESS_LIMIT`, and one more for one that is to die. At first nobody has any.
 #[derive(Drop)]
 pub(crate) struct Excess {
-    quanta: [u32; MOST_NUMBERS],
+    quanta: [u32; ENVIRONMENT_NUMBERS],
 }
 
 impl Model for Excess {
     ghost use Rattle.std.specs.Prelude.{◌≤◌, ◌+◌, All, List, ℕ};
-    ghost use Rattle.world_model.specs.Book.{excess_limit};
+    ghost use Rattle.aegis_limits.specs.Limits.{excess_limit};
 
     ghost Value = { List ℕ };
 
@@ -32,10 +27,10 @@ impl Model for Excess {
 impl Excess {
     /// Nobody owes anything.
     pub(crate) fn new() -> Excess
-        ensures { result ≡ replicate most_numbers 0 }
+        ensures { result ≡ replicate environment_numbers 0 }
     {
         Excess {
-            quanta: [0; MOST_NUMBERS],
+            quanta: [0; ENVIRONMENT_NUMBERS],
         }
     }
 
@@ -52,7 +47,7 @@ impl Excess {
 
     /// The environment's excess is this now.
     pub(crate) fn set(&mut self, env: u8, quanta: u32)
-        requires number { env < most_numbers }
+        requires number { env < environment_numbers }
         requires most { quanta ≤ excess_limit + 1 }
         ensures { self.new ≡ slice_set self.old env quanta }
     {

@@ -1,9 +1,10 @@
 //! Which slots an environment may take, drop or hand on, what becomes of one, and who runs after a gift or a death.
 ghost use Rattle.std.specs.Option.{option_map};
-ghost use Rattle.std.specs.Prelude.{◌≡◌, ◌<◌, All, IsNone, IsSome, None, if◌then◌else◌, length, slice_get, slice_set};
-ghost use Rattle.world_model.specs.SlotCalls.{drop_refusal, dropped, gift_refusal, handed, held_by, holds, take_refusal};
+ghost use Rattle.std.specs.Prelude.{◌≡◌, ◌<◌, All, IsSome, None, if◌then◌else◌, length, slice_get, slice_set};
+ghost use Rattle.world_model.specs.SlotCalls.{dropped, gift_refusal, handed, held_by, holds};
 ghost use Rattle.world_model.specs.Book.{is_runner};
-ghost use Rattle.slot_vector.specs.Slices.{IsNumbered, RunsByNumber, most_numbers};
+ghost use Rattle.slot_vector.specs.Slices.{IsNumbered, RunsByNumber};
+ghost use Rattle.aegis_limits.specs.Limits.{environment_numbers};
 
 use crate::search::{Row, own_hold};
 use world_model::{Code, Hold, Phase, Runner};
@@ -14,32 +15,6 @@ pub(crate) fn slot_at(slots: &[Option<Hold>], place: usize) -> Option<Option<Hol
     ensures there { IsSome result → place < length slots.now }
 {
     slots.get(place).copied()
-}
-
-/// Why the slot can't be taken: `NoSlice` where there is no such slot, and `SlotTaken` where it isn't
-/// empty.
-pub(crate) fn take_refusal(slot: Option<Option<Hold>>) -> Option<Code>
-    ensures why { result ≡ take_refusal slot }
-    ensures there { IsNone result → IsSome slot }
-{
-    match slot {
-        None => Some(Code::NoSlice),
-        Some(None) => None,
-        Some(Some(_)) => Some(Code::SlotTaken),
-    }
-}
-
-/// Why the environment can't drop the slot: `NoSlice` where there is no such slot, and `NotHolder` where
-/// it doesn't hold it.
-pub(crate) fn drop_refusal(slot: Option<Option<Hold>>, env: u8) -> Option<Code>
-    ensures why { result ≡ drop_refusal env slot }
-    ensures there { IsNone result → IsSome slot }
-{
-    match slot {
-        None => Some(Code::NoSlice),
-        Some(Some(hold)) if hold.holder == env => None,
-        Some(_) => Some(Code::NotHolder),
-    }
 }
 
 /// The slot once the environment, its holder, has dropped it.
@@ -80,7 +55,7 @@ pub(crate) fn gift_refusal(later: bool, runner: Option<Runner>, slot: Option<Hol
 /// The slot with another holder; its owner stays.
 pub(crate) fn held_by(slot: Option<Hold>, env: u8) -> Option<Hold>
     ensures hold { result ≡ option_map (held_by env) slot }
-    ensures numbered { IsNumbered slot → env < most_numbers → IsNumbered result }
+    ensures numbered { IsNumbered slot → env < environment_numbers → IsNumbered result }
 {
     let hold = slot?;
     Some(Hold {
@@ -101,7 +76,7 @@ pub(crate) fn put(slots: &mut Row, slot: usize, hold: Option<Hold>)
 /// The runner's turn, with which another environment goes on.
 pub(crate) fn handed(runner: Option<Runner>, to: u8) -> Option<Runner>
     ensures turn { result ≡ handed to runner }
-    ensures numbered { to < most_numbers → RunsByNumber result }
+    ensures numbered { to < environment_numbers → RunsByNumber result }
 {
     let runner = runner?;
     Some(Runner { env: to, ..runner })

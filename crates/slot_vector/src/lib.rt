@@ -11,10 +11,9 @@ mod held;
 mod laws;
 mod search;
 mod slots;
-mod timer;
 mod turn;
 
 pub use laws::{law_excess_set, law_idle, law_nobody, law_pay, law_pay_lowers, law_run};
 pub use slots::Slots;
-pub use timer::Timer;
 pub use turn::NextTurn;
+pub use world_model::Timer;

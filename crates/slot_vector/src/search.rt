@@ -1,9 +1,9 @@
 //! What is found in, and done to, the slots as a list.
 ghost use Rattle.std.specs.Prelude.{◌≡◌, ◌<◌, ◌≤◌, All, IfSome, length, map};
 ghost use Rattle.std.specs.Option.{option_map};
-ghost use Rattle.aegis_limits.specs.Limits.{most_slots};
+ghost use Rattle.aegis_limits.specs.Limits.{most_slots, environment_numbers};
 ghost use Rattle.world_model.specs.Book.{first_turn, has_part, own_hold, hold_without};
-ghost use Rattle.slot_vector.specs.Slices.{IsNumbered, bit, hold_at, mask_of, most_numbers};
+ghost use Rattle.slot_vector.specs.Slices.{IsNumbered, bit, hold_at, mask_of};
 
 use aegis_limits::MOST_SLOTS;
 use arrayvec::ArrayVec;
@@ -27,7 +27,7 @@ pub(crate) fn first_turn(slots: &[Option<Hold>], place: usize) -> Option<Turn>
     requires numbered { All IsNumbered slots.now }
     ensures turn { result ≡ first_turn (hold_at slots.now) (length slots.now) place (length slots.now) }
     ensures within { IfSome result (λ t. t.slot < length slots.now) }
-    ensures numbered { IfSome result (λ t. t.env < most_numbers) }
+    ensures numbered { IfSome result (λ t. t.env < environment_numbers) }
 {
     let mut slot = place;
     let mut tries = slots.len();
@@ -47,7 +47,7 @@ pub(crate) fn first_turn(slots: &[Option<Hold>], place: usize) -> Option<Turn>
 /// The slots at the start, each held by its owner.
 pub(crate) fn own_holds(owners: &[Option<u8>]) -> Row
     requires count { length owners.now ≤ most_slots }
-    requires owners { All (λ owner. IfSome owner (λ e. e < most_numbers)) owners.now }
+    requires owners { All (λ owner. IfSome owner (λ e. e < environment_numbers)) owners.now }
     ensures holds { result.items ≡ map (option_map own_hold) owners.now }
     ensures numbered { All IsNumbered result.items }
 {

@@ -1,22 +1,21 @@
 //! The vector of slots, by the calls of the kernel.
 ghost use Rattle.std.specs.Prelude.{◌≡◌, ◌<◌, ◌≤◌, ◌+◌, true, IsSome, IfSome, IsNone, Some, OnErr, OnOk, length, slice_get, All};
 ghost use Rattle.std.specs.Option.{option_map};
-ghost use Rattle.aegis_limits.specs.Limits.{least_quantum, most_quantum, most_slots};
+ghost use Rattle.aegis_limits.specs.Limits.{least_quantum, most_quantum, most_slots, excess_limit, environment_numbers};
 ghost use Rattle.world_model.specs.declared.slot.Hold.{Hold as Held};
 ghost use Rattle.world_model.specs.declared.slot.Phase.TheVariants as phase;
-ghost use Rattle.world_model.specs.Book.{excess_limit, own_hold, running};
+ghost use Rattle.world_model.specs.Book.{own_hold, running};
 ghost use Rattle.world_model.specs.SlotCalls.{dropped};
-ghost use Rattle.slot_vector.specs.Slices.{HasTicks, IsWithin, OwesWithin, after_ticks, after_timer, after_turn, excess_of, first_slices, given_to, hold_at, in_grace_again, is_idle, left_of, mask_of, most_numbers, next_turn, refusal_of_drop, refusal_of_gift, refusal_of_take, timer_answer, timer_at_end, turn_ended, unless, with_hold, without_env};
+ghost use Rattle.slot_vector.specs.Slices.{HasTicks, IsWithin, OwesWithin, after_ticks, after_timer, after_turn, excess_of, first_slices, given_to, hold_at, in_grace_again, is_idle, left_of, mask_of, next_turn, refusal_of_drop, refusal_of_donation, refusal_of_take, timer_answer, turn_ended, unless, with_hold, without_env};
+ghost use Rattle.world_model.specs.Timer.{timer_at_end};
 
-use crate::excess::{EXCESS_LIMIT, Excess};
-use crate::held::{
-    another, drop_refusal, dropped, gift_refusal, handed, held_by, put, slot_at, take_refusal,
-};
+use crate::excess::Excess;
+use crate::held::{another, dropped, gift_refusal, handed, held_by, put, slot_at};
 use crate::search::{Row, first_turn, hold_at, mask_of, own_hold, own_holds, release};
-use crate::timer::Timer;
 use crate::turn::NextTurn;
+use aegis_limits::EXCESS_LIMIT;
 use std::marker::Model;
-use world_model::{Code, Hold, Phase, Runner};
+use world_model::{Code, Hold, Phase, Runner, Timer, drop_refusal, take_refusal};
 
 /// The vector of slots, what each environment owes, and the runner with the ticks left of its quantum.
 #[derive(Drop)]
@@ -46,7 +45,7 @@ impl Slots {
     pub fn new(quantum: u32, owners: &[Option<u8>]) -> Slots
         requires quantum { least_quantum ≤ quantum × quantum ≤ most_quantum }
         requires count { 1 ≤ length owners.now × length owners.now ≤ most_slots }
-        requires owners { All (λ owner. IfSome owner (λ e. e < most_numbers)) owners.now }
+        requires owners { All (λ owner. IfSome owner (λ e. e < environment_numbers)) owners.now }
         ensures { result ≡ first_slices quantum owners.now }
     {
         Slots {
@@ -189,7 +188,7 @@ impl Slots {
     /// `NoSlice` says that it runs in time of grace, which isn't its own; and `NotHolder` that the slot, which is
     /// asked for too, isn't its own to give, since another holds it or nobody does.
     pub fn may_donate(&self, later: bool) -> Result<(), Code>
-        ensures { result ≡ unless (refusal_of_gift later self.now) }
+        ensures { result ≡ unless (refusal_of_donation later self.now) }
     {
         let slot = hold_at(self.slots.as_slice(), self.cursor);
         match gift_refusal(later, self.runner, slot) {
@@ -202,7 +201,7 @@ impl Slots {
     /// on, whose owner stays.
     pub fn donate(&mut self, to: u8, later: bool)
         requires runs { IsSome self.old.runner }
-        requires number { to < most_numbers }
+        requires number { to < environment_numbers }
         ensures { self.new ≡ given_to to later self.old }
     {
         self.runner = handed(self.runner, to);
@@ -215,7 +214,7 @@ impl Slots {
     /// The empty slot is the environment's own, which holds it itself. `NoSlice` comes where there is no
     /// such slot, and `SlotTaken` where it isn't empty; neither changes anything.
     pub fn take(&mut self, env: u8, slot: u32) -> Result<(), Code>
-        requires { env < most_numbers }
+        requires { env < environment_numbers }
         ensures answer { result ≡ unless (refusal_of_take self.old slot) }
         ensures taken { OnOk result (self.new ≡ with_hold self.old slot (Some (own_hold env))) }
         ensures left { OnErr result (self.new ≡ self.old) }
@@ -248,7 +247,7 @@ impl Slots {
     /// back to its owner, its turn ends, if it runs, and it owes nothing. The result has a bit for each
     /// slot that changed, the lowest for slot 0.
     pub fn release_env(&mut self, env: u8) -> u64
-        requires { env < most_numbers }
+        requires { env < environment_numbers }
         ensures mask { result ≡ mask_of env self.old.slots }
         ensures after { self.new ≡ without_env env self.old }
     {

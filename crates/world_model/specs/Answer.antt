@@ -15,9 +15,9 @@ verdict_value (Refuse code value) = value
 verdict_value (Grant value) = value
 
 -- a call is granted with a value, unless there is a reason to refuse it
-abbrev pub unless : Option Code → ℕ → Verdict
-unless None value = Grant value
-unless (Some why) value = Refuse why 0
+abbrev pub granted_unless : Option Code → ℕ → Verdict
+granted_unless None value = Grant value
+granted_unless (Some why) value = Refuse why 0
 
 abbrev pub verdict_of : Result ℕ Code → Verdict
 verdict_of (Ok value) = Grant value

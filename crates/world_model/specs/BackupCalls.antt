@@ -8,7 +8,7 @@ use Rattle.revocation_book.specs.Backups.{load_refusal, loaded}
 use Rattle.world_model.specs.declared.code.Code.{Code}
 use Rattle.world_model.specs.declared.code.Code.TheVariants as code
 use Rattle.world_model.specs.declared.verdict.Verdict.{Verdict}
-use Rattle.world_model.specs.Answer.{unless}
+use Rattle.world_model.specs.Answer.{granted_unless}
 use Rattle.world_model.specs.PageCalls.{refusal_of_change}
 use Rattle.world_model.specs.Table.{set_at}
 use Rattle.world_model.specs.World.{World, Reply, no_items}
@@ -18,12 +18,14 @@ abbrev pub code_of_load : LoadNo → Code
 code_of_load no.Loaded = code.Taken
 code_of_load no.Full = code.Full
 
--- Backup: the page is one of the caller's own that isn't guaranteed, and not a backup yet; and there is room for one more.
+-- Backup: the page is one of the caller's own that isn't guaranteed, and not a backup yet; and there is room for one
+-- more.
 abbrev pub refusal_of_load : World → ℕ → ℕ → Option Code
-refusal_of_load w e page = option_or (refusal_of_change w e page) (option_map code_of_load (load_refusal (w.book.backups e) page))
+refusal_of_load w e page =
+    option_or (refusal_of_change w e page) (option_map code_of_load (load_refusal (w.book.backups e) page))
 
 abbrev pub backup : World → ℕ → Verdict
-backup w e = unless (refusal_of_load w e (reg (w.solos e).cpu 4)) 0
+backup w e = granted_unless (refusal_of_load w e (reg (w.solos e).cpu 4)) 0
 
 -- the page is the last of the caller's backups
 abbrev pub loads : World → ℕ → ℕ → Reply

@@ -1,4 +1,5 @@
--- Kernel calls: their numbers, their arguments, what they name in the caller's memory, and what they do where they are granted.
+-- Kernel calls: their numbers, their arguments, what they name in the caller's memory, and what they do where they
+-- are granted.
 use Rattle.std.specs.Prelude.{ℕ, ◌+◌, ◌*◌, ◌/◌, ◌%◌, ◌^◌, Bool, true, false, List, take, drop, not, ◌==◌, ◌&&◌, nat_le, nat_lt, if◌then◌else◌, Option, Some, None}
 use Rattle.std.specs.Option.{option_map}
 use Rattle.aegis_limits.specs.Limits.{page_size}

@@ -27,7 +27,8 @@ filter_in (Some bytes) = ok_or (filter_of bytes) code.BadFilter
 -- Claim: the filter that is named, of 1 to 16 atoms that stand in the caller's memory.
 abbrev pub filter_at : (ℕ → Option Mapped) → ℕ → ℕ → Result (List Atom) Code
 filter_at look address atoms =
-    if nat_le 1 atoms && nat_le atoms most_atoms then filter_in (good_range look address (atoms * atom_size)) else Err code.BadFilter
+    if nat_le 1 atoms && nat_le atoms most_atoms then filter_in (good_range look address (atoms * atom_size))
+    else Err code.BadFilter
 
 -- what a filter is answered by the claims that stand; for one that is in the way the value is its number
 abbrev pub claim_verdict : Option ClaimNo → ℕ → Verdict
@@ -42,14 +43,15 @@ page_verdict (Some why) verdict = Refuse why 0
 -- The page is tested behind the filter, and has to be one of the caller's own that isn't guaranteed.
 abbrev pub claim_by : World → ℕ → ℕ → Result (List Atom) Code → Verdict
 claim_by w e page (Err why) = Refuse why 0
-claim_by w e page (Ok filter) = page_verdict (refusal_of_change w e page) (claim_verdict (claim_refusal w.book.claims e filter) w.book.next_claim)
+claim_by w e page (Ok filter) =
+    page_verdict (refusal_of_change w e page) (claim_verdict (claim_refusal w.book.claims e filter) w.book.next_claim)
 
 -- the value is the claim's number
 abbrev pub claim : World → ℕ → Verdict
 claim w e = let s = w.solos e in claim_by w e (reg s.cpu 6) (filter_at (sight s) (reg s.cpu 4) (reg s.cpu 5))
 
-abbrev pub with_claim : Book → ClaimValue → Book
-with_claim b c = record b { claims = b.claims ++ c ∷ []; next_claim = b.next_claim + 1 }
+abbrev pub book_with_claim : Book → ClaimValue → Book
+book_with_claim b c = record b { claims = b.claims ++ c ∷ []; next_claim = b.next_claim + 1 }
 
 -- a filter that may be missing; where a claim is granted it isn't
 abbrev pub atoms_or_none : Result (List Atom) Code → List Atom
@@ -59,7 +61,13 @@ atoms_or_none (Err why) = []
 -- the claim stands from now on
 abbrev pub claims_packets : World → ℕ → ℕ → ℕ → ℕ → ℕ → Reply
 claims_packets w e claim address atoms page = record {
-  book = with_claim w.book (record { id = claim; env = e; filter = atoms_or_none (filter_at (sight (w.solos e)) address atoms); page = page });
+  book =
+      book_with_claim w.book (record {
+        id = claim;
+        env = e;
+        filter = atoms_or_none (filter_at (sight (w.solos e)) address atoms);
+        page = page;
+      });
   items = no_items;
   rows = [];
 }

@@ -7,7 +7,7 @@ use Rattle.revocation_book.specs.Takings.{Books, takings_below}
 use Rattle.world_model.specs.Table.{set_at}
 use Rattle.world_model.specs.Book.{Book}
 use Rattle.world_model.specs.Item.{Item, Taken}
-use Rattle.world_model.specs.PageCalls.{breaks, freed, left_by, page_bytes}
+use Rattle.world_model.specs.PageCalls.{lost_bindings, freed, left_by, page_bytes}
 use Rattle.world_model.specs.Rings.{page_store}
 use Rattle.world_model.specs.World.{World, Reply, no_items}
 
@@ -15,8 +15,8 @@ use Rattle.world_model.specs.World.{World, Reply, no_items}
 abbrev pub revocations : Book → Books
 revocations b = record { pages = b.pages; page_count = b.page_count; pending = b.pending; backups = b.backups }
 
--- What is taken in this world: of each environment whose deadline has come, the lowest first, as many victims as pages are
--- outstanding, by rising number. They are all chosen before any is taken.
+-- What is taken in this world: of each environment whose deadline has come, the lowest first, as many victims as
+-- pages are outstanding, by rising number. They are all chosen before any is taken.
 abbrev pub takings : World → List Taking
 takings w = takings_below (revocations w.book) w.book.time w.count
 
@@ -29,10 +29,14 @@ copy_left w x (Some backup) e = left_by w.book x.env (page_store backup (page_by
 abbrev pub takes : Taking → World → Reply
 takes x w = record {
   book = record (freed x.page w.book) { backups = set_at x.env (drop 1 (w.book.backups x.env)) w.book.backups };
-  items = set_at x.env (Taken x.page x.backup ∷ []) (λ e. copy_left w x x.backup e ++ breaks w.book x.page e);
+  items = set_at x.env (Taken x.page x.backup ∷ []) (λ e. copy_left w x x.backup e ++ lost_bindings w.book x.page e);
   rows = row.Take w.book.time x.env x.page x.backup ∷ [];
 }
 
 -- The deadlines that have come are over.
 abbrev pub settles : World → Reply
-settles w = record { book = record w.book { pending = λ e. unless_due w.book.time (w.book.pending e) }; items = no_items; rows = [] }
+settles w = record {
+  book = record w.book { pending = λ e. unless_due w.book.time (w.book.pending e) };
+  items = no_items;
+  rows = [];
+}

@@ -11,19 +11,22 @@ use Rattle.world_model.specs.Book.{Book, hold_without, has_part, withdrawn}
 use Rattle.filter_tree.specs.ClaimBook.{is_of_env}
 use Rattle.world_model.specs.Item.{Item}
 use Rattle.world_model.specs.World.{World, Reply}
-use Rattle.world_model.specs.PageCalls.{breaks}
+use Rattle.world_model.specs.PageCalls.{lost_bindings}
 use Rattle.world_model.specs.SlotCalls.{slot_row}
 use Rattle.world_model.specs.LineCalls.{line_without}
 
--- A death frees all pages of the environment: whoever has bound one of those below this number loses it, by rising number.
+-- A death frees all pages of the environment: whoever has bound one of those below this number loses it, by rising
+-- number.
 abbrev pub lost_with : Book → ℕ → ℕ → ℕ → List Item
 lost_with b gone e zero = []
-lost_with b gone e (suc page) = lost_with b gone e page ++ (if belongs_to gone (b.pages page) then breaks b page e else [])
+lost_with b gone e (suc page) =
+    lost_with b gone e page ++ (if belongs_to gone (b.pages page) then lost_bindings b page e else [])
 
 abbrev pub death_items : Book → ℕ → ℕ → List Item
 death_items b gone e = if e == gone then [] else lost_with b gone e b.page_count
 
--- the book without an environment's pages and mappings, the bindings of these pages, and its own; without its claims, the rings of which are among its pages; and without its backups and what it is asked for
+-- the book without an environment's pages and mappings, the bindings of these pages, and its own; without its claims,
+-- the rings of which are among its pages; and without its backups and what it is asked for
 abbrev pub without_pages_of : ℕ → Book → Book
 without_pages_of gone b = record b {
   pages = λ page. freed_row gone (b.pages page);
@@ -43,10 +46,17 @@ abbrev pub released_rows : ℕ → ℕ → (ℕ → Option Hold) → ℕ → Lis
 released_rows t e slots zero = []
 released_rows t e slots (suc k) = released_rows t e slots k ++ released_row t e k (slots k)
 
--- the runner's death: its slots are empty, its pages free, its lines nobody's, it owes nothing, and the rest of its slice is dropped
+-- the runner's death: its slots are empty, its pages free, its lines nobody's, it owes nothing, and the rest of its
+-- slice is dropped
 abbrev pub death : World → ℕ → Reply
 death w e = record {
-  book = without_pages_of e (record w.book { slots = λ k. hold_without e (w.book.slots k); runner = None; excess = set_at e 0 w.book.excess; lines = λ line. line_without e (w.book.lines line) });
+  book =
+      without_pages_of e (record w.book {
+        slots = λ k. hold_without e (w.book.slots k);
+        runner = None;
+        excess = set_at e 0 w.book.excess;
+        lines = λ line. line_without e (w.book.lines line);
+      });
   items = death_items w.book e;
   rows = row.Dead w.book.time w.book.cursor e ∷ released_rows w.book.time e w.book.slots w.book.slot_count;
 }

@@ -10,7 +10,7 @@ use Rattle.world_model.specs.declared.verdict.Verdict.{Verdict}
 use Rattle.world_model.specs.declared.verdict.Verdict.TheVariants.{Refuse, Grant}
 use Rattle.world_model.specs.Call.{good_range}
 use Rattle.world_model.specs.Page.{Mapped}
-use Rattle.world_model.specs.Rings.{ring_of, with_handler}
+use Rattle.world_model.specs.Rings.{ring_of, with_ring_handler}
 use Rattle.world_model.specs.Solo.{Solo, sight}
 
 -- the words, unless one is bad
@@ -40,20 +40,22 @@ download_verdict (Err (no.BadWord at)) = Refuse code.BadHandler at
 
 -- It is for a claim of the caller's own.
 abbrev pub download : Solo → Verdict
-download s = if is_some (ring_of s.rings (reg s.cpu 4)) then download_verdict (handler_at (sight s) (reg s.cpu 5) (reg s.cpu 6)) else Refuse code.NoFilter 0
+download s =
+    if is_some (ring_of s.rings (reg s.cpu 4)) then download_verdict (handler_at (sight s) (reg s.cpu 5) (reg s.cpu 6))
+    else Refuse code.NoFilter 0
 
 -- no words are no handler, nor is one that is refused; where a download is granted it isn't
-abbrev pub handler_of : List ℕ → Option (List ℕ)
-handler_of [] = None
-handler_of (word ∷ words) = Some (word ∷ words)
+abbrev pub handler_of_words : List ℕ → Option (List ℕ)
+handler_of_words [] = None
+handler_of_words (word ∷ words) = Some (word ∷ words)
 
 abbrev pub handler_or_none : Result (List ℕ) HandlerNo → Option (List ℕ)
-handler_or_none (Ok words) = handler_of words
+handler_or_none (Ok words) = handler_of_words words
 handler_or_none (Err why) = None
 
 -- the caller's claim has the handler that is named from now on, in place of the one that it has
-abbrev pub downloaded : ℕ → ℕ → ℕ → Solo → Solo
-downloaded claim address words s = with_handler claim (handler_or_none (handler_at (sight s) address words)) s
+abbrev pub after_download : ℕ → ℕ → ℕ → Solo → Solo
+after_download claim address words s = with_ring_handler claim (handler_or_none (handler_at (sight s) address words)) s
 
 -- the claim is the caller's, and a handler is named, of no word or of words of which none is bad
 pub record MayDownload (s : Solo) (claim address words : ℕ) : Type 0 where

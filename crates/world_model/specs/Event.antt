@@ -26,15 +26,19 @@ schedule_of events tick = map (λ (x : EventValue). x.what) (filter (λ (x : Eve
 
 -- A packet that nobody claims is dropped, and the ledger tells its length.
 abbrev pub drops_packet : List ℕ → World → Reply
-drops_packet packet w = record { book = w.book; items = no_items; rows = row.Unclaimed w.book.time (length packet) ∷ [] }
+drops_packet packet w = record {
+  book = w.book;
+  items = no_items;
+  rows = row.Unclaimed w.book.time (length packet) ∷ [];
+}
 
 -- A signal on an interrupt line is its owner's, if the line has one.
 abbrev pub signals : ℕ → Option ℕ → World → Reply
 signals line None w = no_change w
 signals line (Some owner) w = tells owner (Line line) w
 
--- A packet that is claimed goes to the claim's environment, and whoever else owns or has bound the ring page is left all its
--- bytes, unless the packet is lost. A handler runs as a part of this.
+-- A packet that is claimed goes to the claim's environment, and whoever else owns or has bound the ring page is left
+-- all its bytes, unless the packet is lost. A handler runs as a part of this.
 abbrev pub ring_left : Book → ℕ → ℕ → Option (List ℕ) → ℕ → List Item
 ring_left b owner page None e = []
 ring_left b owner page (Some bytes) e = left_by b owner (page_store page bytes) e
@@ -46,7 +50,8 @@ ring_bytes s (Some r) packet = page_left (reception s r packet)
 abbrev pub delivers : ClaimValue → List ℕ → World → Reply
 delivers c packet w = let s = w.solos c.env in record {
   book = w.book;
-  items = set_at c.env (Packet c.id packet ∷ []) (ring_left w.book c.env c.page (ring_bytes s (ring_of s.rings c.id) packet));
+  items = set_at c.env (Packet c.id packet ∷ [])
+      (ring_left w.book c.env c.page (ring_bytes s (ring_of s.rings c.id) packet));
   rows = [];
 }
 

@@ -23,17 +23,25 @@ abbrev pub bound : Binding → Solo → Solo
 bound b s = with_binds (set_at (row_of b.vpn) (Some b) s.binds) s
 
 -- the binding of a VPN goes, if there is one
-abbrev pub unbound : ℕ → Solo → Solo
-unbound vpn s = if is_some (binding_at s.binds vpn) then with_binds (set_at (row_of vpn) None s.binds) s else s
+abbrev pub after_unbind : ℕ → Solo → Solo
+after_unbind vpn s = if is_some (binding_at s.binds vpn) then with_binds (set_at (row_of vpn) None s.binds) s else s
 
 -- the environment owns a page, of whose bytes it learns next
 abbrev pub owning : ℕ → Solo → Solo
-owning page s = record s { seen = set_at page (Some (record { owned = true; bytes = bytes_seen (s.seen page) })) s.seen }
+owning page s = record s {
+  seen = set_at page (Some (record { owned = true; bytes = bytes_seen (s.seen page) })) s.seen;
+}
 
 -- the environment sees these bytes of a page
 abbrev pub gained : ℕ → List ℕ → Solo → Solo
-gained page bytes s = record s { seen = set_at page (Some (record { owned = is_owned (s.seen page); bytes = bytes })) s.seen }
+gained page bytes s = record s {
+  seen = set_at page (Some (record { owned = is_owned (s.seen page); bytes = bytes })) s.seen;
+}
 
 -- the environment neither owns a page any more, nor has it bound, nor has a claim whose ring it is
 abbrev pub lost : ℕ → Solo → Solo
-lost page s = record s { binds = λ row. without (λ b. b.page == page) (s.binds row); seen = set_at page None s.seen; rings = filter (λ (r : Ring). not (r.page == page)) s.rings }
+lost page s = record s {
+  binds = λ row. without (λ b. b.page == page) (s.binds row);
+  seen = set_at page None s.seen;
+  rings = filter (λ (r : Ring). not (r.page == page)) s.rings;
+}

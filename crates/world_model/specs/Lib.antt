@@ -27,5 +27,6 @@ pub mod Transfers
 pub mod Death
 pub mod Verdict
 pub mod May
+pub mod Timer
 pub mod Tick
 pub mod View

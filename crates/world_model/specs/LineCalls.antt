@@ -5,7 +5,7 @@ use Rattle.mips_exec.specs.Cpu.{reg}
 use Rattle.world_model.specs.declared.code.Code.{Code}
 use Rattle.world_model.specs.declared.code.Code.TheVariants as code
 use Rattle.world_model.specs.declared.verdict.Verdict.{Verdict}
-use Rattle.world_model.specs.Answer.{unless}
+use Rattle.world_model.specs.Answer.{granted_unless}
 use Rattle.world_model.specs.Table.{set_at}
 use Rattle.world_model.specs.World.{World, Reply, no_items}
 
@@ -37,11 +37,16 @@ abbrev pub refusal_of_line : ℕ → ℕ → ℕ → Option ℕ → Option Code
 refusal_of_line e line act owner = if nat_lt line lines then refusal_of_line_act e act owner else Some code.BadCall
 
 abbrev pub line : World → ℕ → Verdict
-line w e = let cpu = (w.solos e).cpu in unless (refusal_of_line e (reg cpu 4) (reg cpu 5) (w.book.lines (reg cpu 4))) 0
+line w e =
+    let cpu = (w.solos e).cpu in granted_unless (refusal_of_line e (reg cpu 4) (reg cpu 5) (w.book.lines (reg cpu 4))) 0
 
 -- a line has another owner, or none
 abbrev pub with_line : World → ℕ → Option ℕ → Reply
-with_line w line owner = record { book = record w.book { lines = set_at line owner w.book.lines }; items = no_items; rows = [] }
+with_line w line owner = record {
+  book = record w.book { lines = set_at line owner w.book.lines };
+  items = no_items;
+  rows = [];
+}
 
 -- a line once an environment is gone
 abbrev pub line_without : ℕ → Option ℕ → Option ℕ

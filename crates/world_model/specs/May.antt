@@ -16,7 +16,7 @@ use Rattle.world_model.specs.declared.slot.Hold.{Hold}
 use Rattle.world_model.specs.Book.{Book}
 use Rattle.world_model.specs.Solo.{Solo, sight}
 use Rattle.world_model.specs.OwnCalls.{MayOwn}
-use Rattle.world_model.specs.PageCalls.{is_guaranteed}
+use Rattle.world_model.specs.PageCalls.{is_guaranteed_vpn}
 use Rattle.world_model.specs.LineCalls.{is_line_of, is_line_of_other}
 use Rattle.world_model.specs.ClaimCalls.{filter_at}
 use Rattle.world_model.specs.Downloads.{MayDownload}
@@ -26,7 +26,8 @@ use Rattle.world_model.specs.World.{World}
 use Rattle.world_model.specs.declared.call.Deed.{Deed}
 use Rattle.world_model.specs.declared.call.Deed.TheVariants.{Answers, Own, Stops, Gives, Allocates, Frees, Recaps, Binds, Unbinds, Transfers, TakesSlot, DropsSlot, TakesLine, DropsLine, Claims, Unclaims, Downloads, Loads}
 
--- the target is another environment, which lives and accepts the caller, and the slice may be handed on, or for a later the slot too
+-- the target is another environment, which lives and accepts the caller, and the slice may be handed on, or for a
+-- later the slot too
 pub record MayReach (w : World) (e target : ℕ) (later : Bool) : Type 0 where
   pub other : is_other w e target ≡ true
   pub gift : gift_refusal later w.book.runner (turn_slot w.book) ≡ None
@@ -50,7 +51,7 @@ pub record MayChange (b : Book) (e page : ℕ) : Type 0 where
 -- the VPN is a user's, and not guaranteed
 pub record MayMap (s : Solo) (vpn : ℕ) : Type 0 where
   pub within : vpn < vpn_end
-  pub other : is_guaranteed s vpn ≡ false
+  pub other : is_guaranteed_vpn s vpn ≡ false
 
 -- the page is the caller's, or the word gives the right
 pub record HasRight (e : ℕ) (writable : Bool) (word : ℕ) (row : PageRow) : Type 0 where
@@ -86,7 +87,8 @@ pub record MayDropLine (b : Book) (e line : ℕ) : Type 0 where
   pub there : line < lines
   pub owned : is_line_of e (b.lines line) ≡ true
 
--- the number is the next one, a filter is named, the page is the caller's, and the claims that stand don't refuse the filter
+-- the number is the next one, a filter is named, the page is the caller's, and the claims that stand don't refuse the
+-- filter
 pub record MayClaim (w : World) (e claim address atoms page : ℕ) : Type 0 where
   pub number : claim ≡ w.book.next_claim
   pub filter : List Atom

@@ -12,7 +12,7 @@ use Rattle.world_model.specs.declared.code.Code.{Code}
 use Rattle.world_model.specs.declared.code.Code.TheVariants as code
 use Rattle.world_model.specs.declared.verdict.Verdict.{Verdict}
 use Rattle.world_model.specs.declared.verdict.Verdict.TheVariants.{Grant}
-use Rattle.world_model.specs.Answer.{unless}
+use Rattle.world_model.specs.Answer.{granted_unless}
 use Rattle.world_model.specs.Call.{good_range}
 use Rattle.world_model.specs.Page.{Mapped, user_end}
 use Rattle.world_model.specs.Solo.{Solo, sight}
@@ -29,7 +29,7 @@ put_refusal cpu look held =
 
 -- the value is how many bytes they are
 abbrev pub put : Solo → Verdict
-put s = unless (put_refusal s.cpu (sight s) (length s.console)) (reg s.cpu 5)
+put s = granted_unless (put_refusal s.cpu (sight s) (length s.console)) (reg s.cpu 5)
 
 -- Send: a packet of 14 to 1,514 bytes.
 abbrev pub is_frame_size : ℕ → Bool
@@ -43,15 +43,16 @@ send_refusal cpu look count =
     if nat_le most_sent count then Some code.Full else None
 
 abbrev pub send : Solo → Verdict
-send s = unless (send_refusal s.cpu (sight s) (length s.sent)) 0
+send s = granted_unless (send_refusal s.cpu (sight s) (length s.sent)) 0
 
 -- Context: a handler's address is a word's, of user space; 0 is no handler.
 abbrev pub refusal_of_context : Cpu → Option Code
 refusal_of_context cpu =
-    if is_some (context_numbered (reg cpu 4)) && (reg cpu 5 % 4 == 0 && nat_lt (reg cpu 5) user_end) then None else Some code.BadCall
+    if is_some (context_numbered (reg cpu 4)) && (reg cpu 5 % 4 == 0 && nat_lt (reg cpu 5) user_end) then None
+    else Some code.BadCall
 
 abbrev pub context : Solo → Verdict
-context s = unless (refusal_of_context s.cpu) 0
+context s = granted_unless (refusal_of_context s.cpu) 0
 
 -- Accept: whom a caller accepts is its own to say.
 abbrev pub accept : Solo → Verdict
@@ -88,8 +89,12 @@ own_state s = record { console = s.console; sent = s.sent; handlers = s.handlers
 
 -- what each deed leaves there
 abbrev pub own_state_after : OwnDeed → Solo → OwnState
-own_state_after (Puts address size) s = record (own_state s) { console = s.console ++ unwrap_or (put_bytes (sight s) address size) [] }
-own_state_after (Sends address size) s = record (own_state s) { sent = s.sent ++ unwrap_or (good_range (sight s) address size) [] ∷ [] }
+own_state_after (Puts address size) s = record (own_state s) {
+  console = s.console ++ unwrap_or (put_bytes (sight s) address size) [];
+}
+own_state_after (Sends address size) s = record (own_state s) {
+  sent = s.sent ++ unwrap_or (good_range (sight s) address size) [] ∷ [];
+}
 own_state_after (Handles kind address) s = record (own_state s) { handlers = with_handler s.handlers kind address }
 own_state_after (Accepts mask) s = record (own_state s) { mask = mask }
 

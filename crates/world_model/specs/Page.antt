@@ -6,8 +6,8 @@ use Rattle.mips_exec.specs.declared.exception.Exc.{Exc}
 use Rattle.mips_exec.specs.declared.exception.ExcCode.{ExcCode}
 use Rattle.mips_exec.specs.declared.exception.ExcCode.TheVariants as code
 use Rattle.mips_exec.specs.Step.{Answers}
-use Rattle.world_model.specs.declared.page.Purpose.{Purpose}
-use Rattle.world_model.specs.declared.page.Purpose.TheVariants.{Fetch, Load, Store}
+use Rattle.world_model.specs.declared.access.Purpose.{Purpose}
+use Rattle.world_model.specs.declared.access.Purpose.TheVariants.{Fetch, Load, Store}
 
 -- a guaranteed page: its VPN, whether it may be stored to, and its bytes
 pub record KeptPage : Type 0 where
@@ -51,7 +51,9 @@ user_end = 0x80000000
 
 -- where an access goes: the VPN is the address over the size of a page
 abbrev pub reach : (ℕ → Option Mapped) → Purpose → ℕ → Result Mapped Exc
-reach look purpose address = if nat_le user_end address then Err (raised (address_error purpose) address) else served purpose address (look (address / page_size))
+reach look purpose address =
+    if nat_le user_end address then Err (raised (address_error purpose) address)
+    else served purpose address (look (address / page_size))
 
 -- the bytes of a page from an address on
 abbrev pub bytes_from : ℕ → Mapped → List ℕ
@@ -64,7 +66,8 @@ if_served f (Err exc) = Err exc
 
 -- what a load or a fetch is answered: the number in so many bytes, the lowest first
 abbrev pub read_answer : Purpose → (ℕ → Option Mapped) → ℕ → ℕ → Result ℕ Exc
-read_answer purpose look address width = if_served (λ m. little_number width (bytes_from address m)) (reach look purpose address)
+read_answer purpose look address width =
+    if_served (λ m. little_number width (bytes_from address m)) (reach look purpose address)
 
 -- what the machine is answered where VPNs lead so
 abbrev pub answers_by : (ℕ → Option Mapped) → Answers

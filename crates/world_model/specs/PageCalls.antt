@@ -19,13 +19,13 @@ use Rattle.world_model.specs.Code.{code_of}
 use Rattle.filter_tree.specs.Claims.{is_into}
 use Rattle.revocation_book.specs.Pending.{lowered}
 use Rattle.revocation_book.specs.Backups.{unloaded}
-use Rattle.world_model.specs.Book.{Book, withdrawn, broken, page_row, sees}
+use Rattle.world_model.specs.Book.{Book, withdrawn, without_bindings_of, page_row, sees}
 use Rattle.world_model.specs.Call.{any, binding_of, presented}
 use Rattle.world_model.specs.Solo.{Solo, Store, Key, Kept, Physical, bytes_seen, kept_at}
 use Rattle.world_model.specs.Item.{Item, Gained, Lost, Left}
 use Rattle.world_model.specs.World.{World, Reply, only, no_items}
 use Rattle.world_model.specs.declared.verdict.Verdict.{Verdict}
-use Rattle.world_model.specs.Answer.{unless, verdict_of}
+use Rattle.world_model.specs.Answer.{granted_unless, verdict_of}
 
 -- Breaks. An environment that has bound a page loses it
 abbrev pub lost_if : Bool → ℕ → List Item
@@ -33,8 +33,8 @@ lost_if true page = Lost page ∷ []
 lost_if false page = []
 
 -- what each environment but the owner is given where all bindings of a page are broken
-abbrev pub breaks : Book → ℕ → ℕ → List Item
-breaks b page e = lost_if (is_bound page (b.binds e)) page
+abbrev pub lost_bindings : Book → ℕ → ℕ → List Item
+lost_bindings b page e = lost_if (is_bound page (b.binds e)) page
 
 -- Allocation: the named page, if it is free, and for any the lowest free one; the value is its number.
 abbrev pub named_page : ℕ → Option Code → Result ℕ Code
@@ -62,11 +62,11 @@ abbrev pub refusal_of_change : World → ℕ → ℕ → Option Code
 refusal_of_change w e page = option_map code_of (change_refusal e (page_row w.book page))
 
 abbrev pub free : World → ℕ → Verdict
-free w e = unless (refusal_of_change w e (reg (w.solos e).cpu 4)) 0
+free w e = granted_unless (refusal_of_change w e (reg (w.solos e).cpu 4)) 0
 
 -- the book once a page is nobody's: the bindings of it are broken, and the claims whose ring it is are withdrawn
 abbrev pub freed : ℕ → Book → Book
-freed page b = withdrawn (is_into page) (broken page None (record b { pages = set_at page Free b.pages }))
+freed page b = withdrawn (is_into page) (without_bindings_of page None (record b { pages = set_at page Free b.pages }))
 
 -- the page is nobody's and no backup any more, whoever had it bound loses it, and one page fewer is outstanding
 abbrev pub frees : World → ℕ → ℕ → Reply
@@ -75,36 +75,41 @@ frees w e page = record {
     pending = set_at e (lowered (w.book.pending e)) w.book.pending;
     backups = set_at e (unloaded page (w.book.backups e)) w.book.backups;
   };
-  items = set_at e (Lost page ∷ []) (breaks w.book page);
+  items = set_at e (Lost page ∷ []) (lost_bindings w.book page);
   rows = [];
 }
 
 abbrev pub recap : World → ℕ → Verdict
-recap w e = unless (refusal_of_change w e (reg (w.solos e).cpu 4)) 0
+recap w e = granted_unless (refusal_of_change w e (reg (w.solos e).cpu 4)) 0
 
 -- the page has other words, and whoever but its owner had it bound loses it
 abbrev pub recaps : World → ℕ → ℕ → Capabilities → Reply
 recaps w e page words = record {
-  book = broken page (Some e) (record w.book { pages = set_at page (Owned e words) w.book.pages });
-  items = set_at e [] (breaks w.book page);
+  book = without_bindings_of page (Some e) (record w.book { pages = set_at page (Owned e words) w.book.pages });
+  items = set_at e [] (lost_bindings w.book page);
   rows = [];
 }
 
 -- why nothing is bound or unbound at a VPN: it is none of a user's, or guaranteed
 abbrev pub vpn_refusal : Bool → ℕ → Option Code
-vpn_refusal guaranteed vpn = if nat_le vpn_end vpn then Some code.BadVpn else (if guaranteed then Some code.Guaranteed else None)
+vpn_refusal guaranteed vpn =
+    if nat_le vpn_end vpn then Some code.BadVpn else (if guaranteed then Some code.Guaranteed else None)
 
 -- whether a page is guaranteed at a VPN
-abbrev pub is_guaranteed : Solo → ℕ → Bool
-is_guaranteed s vpn = is_some (kept_at s.kept vpn)
+abbrev pub is_guaranteed_vpn : Solo → ℕ → Bool
+is_guaranteed_vpn s vpn = is_some (kept_at s.kept vpn)
 
--- Bind: why it is refused, in the order of testing, to a caller to whom the VPN is guaranteed or not, where the page has this row
+-- Bind: why it is refused, in the order of testing, to a caller to whom the VPN is guaranteed or not, where the page
+-- has this row
 abbrev pub refusal_of_bind : ℕ → Cpu → Bool → Option PageRow → Option Code
 refusal_of_bind e cpu guaranteed row =
-    option_or (vpn_refusal guaranteed (reg cpu 4)) (option_map code_of (bind_refusal e (binding_of cpu).writable (presented cpu) row))
+    option_or (vpn_refusal guaranteed (reg cpu 4))
+    (option_map code_of (bind_refusal e (binding_of cpu).writable (presented cpu) row))
 
 abbrev pub bind : World → ℕ → Verdict
-bind w e = let s = w.solos e in unless (refusal_of_bind e s.cpu (is_guaranteed s (reg s.cpu 4)) (page_row w.book (reg s.cpu 5))) 0
+bind w e =
+    let s = w.solos e
+    in granted_unless (refusal_of_bind e s.cpu (is_guaranteed_vpn s (reg s.cpu 4)) (page_row w.book (reg s.cpu 5))) 0
 
 -- the bytes of a page, as its owner sees them
 abbrev pub bytes_owned : World → ℕ → PageRow → List ℕ
@@ -128,7 +133,8 @@ binds_to w e b = record {
 
 -- Unbind: the value is 1 if the VPN was bound.
 abbrev pub unbind : Solo → Verdict
-unbind s = unless (vpn_refusal (is_guaranteed s (reg s.cpu 4)) (reg s.cpu 4)) (if is_some (binding_at s.binds (reg s.cpu 4)) then 1 else 0)
+unbind s = granted_unless (vpn_refusal (is_guaranteed_vpn s (reg s.cpu 4)) (reg s.cpu 4))
+    (if is_some (binding_at s.binds (reg s.cpu 4)) then 1 else 0)
 
 -- a stripe without the binding of a VPN, if there is one
 abbrev pub without_number : ℕ → (ℕ → Option Binding) → ℕ → Option Binding

@@ -15,12 +15,13 @@ copied page (Some backup) s = with_store (page_store backup (bytes_of s (Physica
 
 -- the page and the backup are recorded in the context page, as the record of this number, if there is room for it
 abbrev pub recorded : ℕ → ℕ → Option ℕ → Solo → Solo
-recorded n page backup s = if nat_lt n most_records then with_context (record_offset n) (record_bytes page backup) s else s
+recorded n page backup s =
+    if nat_lt n most_records then with_context (record_offset n) (record_bytes page backup) s else s
 
 -- one record more
 abbrev pub counted_taking : ℕ → Option ℕ → Solo → Solo
 counted_taking page backup s = counted post.Takings (recorded (post_word post.Takings s) page backup s)
 
 -- A page that is taken is copied to the backup, if there is one, recorded, and then lost.
-abbrev pub taken : ℕ → Option ℕ → Solo → Solo
-taken page backup s = lost page (counted_taking page backup (copied page backup s))
+abbrev pub with_page_taken : ℕ → Option ℕ → Solo → Solo
+with_page_taken page backup s = lost page (counted_taking page backup (copied page backup s))

@@ -17,7 +17,9 @@ ring_of rings claim = find (is_ring claim) rings
 
 -- one claim more, whose first packet goes into the first buffer; it has no handler
 abbrev pub with_ring : ℕ → ℕ → Solo → Solo
-with_ring claim page s = record s { rings = s.rings ++ record { claim = claim; page = page; next = First; handler = None } ∷ [] }
+with_ring claim page s = record s {
+  rings = s.rings ++ record { claim = claim; page = page; next = First; handler = None } ∷ [];
+}
 
 -- without a claim
 abbrev pub without_ring : ℕ → Solo → Solo
@@ -37,29 +39,30 @@ ring_with_handler handler r = record r { handler = handler }
 abbrev pub ring_with_handler_if : ℕ → Option (List ℕ) → Ring → Ring
 ring_with_handler_if claim handler r = if is_ring claim r then ring_with_handler handler r else r
 
-abbrev pub with_handler : ℕ → Option (List ℕ) → Solo → Solo
-with_handler claim handler s = record s { rings = map (ring_with_handler_if claim handler) s.rings }
+abbrev pub with_ring_handler : ℕ → Option (List ℕ) → Solo → Solo
+with_ring_handler claim handler s = record s { rings = map (ring_with_handler_if claim handler) s.rings }
 
--- What becomes of a packet at the ring of its claim: it is lost; or it goes into the buffer whose turn it is, which leaves
--- this of the ring page; or the claim's handler takes it, which leaves this of the page and makes these replies.
+-- What becomes of a packet at the ring of its claim: it is lost; or it goes into the buffer whose turn it is, which
+-- leaves this of the ring page; or the claim's handler takes it, which leaves this of the page and makes these
+-- replies.
 pub data Reception : Type 0 where
   Loses : Reception
   Queues : (page : List ℕ) → Reception
   Handles : (page : List ℕ) (replies : List (List ℕ)) → Reception
 
 -- without a handler, the packet is lost where the buffer whose turn it is is full
-abbrev pub queued : Ring → List ℕ → List ℕ → Reception
-queued r packet page = if is_full page r.next then Loses else Queues (with_packet page r.next packet)
+abbrev pub reception_queued : Ring → List ℕ → List ℕ → Reception
+reception_queued r packet page = if is_full page r.next then Loses else Queues (with_packet page r.next packet)
 
-abbrev pub ran : HandlerRun → Reception
-ran run = Handles run.page run.replies
+abbrev pub reception_run : HandlerRun → Reception
+reception_run run = Handles run.page run.replies
 
-abbrev pub received_by : Option (List ℕ) → Ring → List ℕ → List ℕ → Reception
-received_by None r packet page = queued r packet page
-received_by (Some words) r packet page = ran (handler_run words packet r.claim page)
+abbrev pub reception_by : Option (List ℕ) → Ring → List ℕ → List ℕ → Reception
+reception_by None r packet page = reception_queued r packet page
+reception_by (Some words) r packet page = reception_run (handler_run words packet r.claim page)
 
 abbrev pub reception : Solo → Ring → List ℕ → Reception
-reception s r packet = received_by r.handler r packet (bytes_of s (Physical r.page))
+reception s r packet = reception_by r.handler r packet (bytes_of s (Physical r.page))
 
 -- all bytes of the ring page after it, unless the packet is lost
 abbrev pub page_left : Reception → Option (List ℕ)
@@ -72,20 +75,25 @@ abbrev pub page_store : ℕ → List ℕ → Store
 page_store page bytes = record { key = Physical page; offset = 0; bytes = bytes }
 
 -- the packets that an environment sent, with a handler's replies; those that find 256 are dropped
-abbrev pub replied : List (List ℕ) → List (List ℕ) → List (List ℕ)
-replied sent replies = take most_sent (sent ++ replies)
+abbrev pub sent_with_replies : List (List ℕ) → List (List ℕ) → List (List ℕ)
+sent_with_replies sent replies = take most_sent (sent ++ replies)
 
--- A packet that is lost is counted so. One that goes into the ring is a store of the ring page, and the other buffer is next.
--- One that a handler takes is a store of the ring page too; the buffer whose turn it is stays, and the replies are sent.
-abbrev pub received_as : Ring → Reception → Solo → Solo
-received_as r Loses s = counted post.Lost s
-received_as r (Queues page) s = record (with_store (page_store r.page page) s) { rings = map (ring_after_packet_if r.claim) s.rings }
-received_as r (Handles page replies) s = record (with_store (page_store r.page page) s) { sent = replied s.sent replies }
+-- A packet that is lost is counted so. One that goes into the ring is a store of the ring page, and the other buffer
+-- is next. One that a handler takes is a store of the ring page too; the buffer whose turn it is stays, and the
+-- replies are sent.
+abbrev pub after_reception : Ring → Reception → Solo → Solo
+after_reception r Loses s = counted post.Lost s
+after_reception r (Queues page) s = record (with_store (page_store r.page page) s) {
+  rings = map (ring_after_packet_if r.claim) s.rings;
+}
+after_reception r (Handles page replies) s = record (with_store (page_store r.page page) s) {
+  sent = sent_with_replies s.sent replies;
+}
 
-abbrev pub received_in : Option Ring → List ℕ → Solo → Solo
-received_in None packet s = s
-received_in (Some r) packet s = received_as r (reception s r packet) s
+abbrev pub after_packet_in : Option Ring → List ℕ → Solo → Solo
+after_packet_in None packet s = s
+after_packet_in (Some r) packet s = after_reception r (reception s r packet) s
 
 -- A packet that is claimed is counted, and then goes to the ring of its claim.
-abbrev pub received : ℕ → List ℕ → Solo → Solo
-received claim packet s = received_in (ring_of s.rings claim) packet (counted post.Packets s)
+abbrev pub after_packet : ℕ → List ℕ → Solo → Solo
+after_packet claim packet s = after_packet_in (ring_of s.rings claim) packet (counted post.Packets s)

@@ -17,7 +17,7 @@ use Rattle.world_model.specs.Item.{Start}
 use Rattle.world_model.specs.World.{World, Reply, only, no_items}
 use Rattle.world_model.specs.declared.verdict.Verdict.{Verdict}
 use Rattle.world_model.specs.declared.verdict.Verdict.TheVariants.{Grant}
-use Rattle.world_model.specs.Answer.{unless}
+use Rattle.world_model.specs.Answer.{granted_unless}
 
 -- the row of a runner that is stopped
 abbrev pub stop_row : Book → ℕ → Row
@@ -44,10 +44,12 @@ holds e (Some hold) = hold.holder == e
 abbrev pub may_hand_on : Bool → ℕ → Option Hold → Bool
 may_hand_on later e slot = not later || holds e slot
 
--- why a runner can't hand on the slice that it runs, or its slot with the later slices: it runs behind the end of its slice; or the slot isn't its own to hand on
+-- why a runner can't hand on the slice that it runs, or its slot with the later slices: it runs behind the end of its
+-- slice; or the slot isn't its own to hand on
 abbrev pub gift_refusal : Bool → Option Runner → Option Hold → Option Code
 gift_refusal later None slot = None
-gift_refusal later (Some r) slot = if in_grace r.phase then Some code.NoSlice else (if may_hand_on later r.env slot then None else Some code.NotHolder)
+gift_refusal later (Some r) slot =
+    if in_grace r.phase then Some code.NoSlice else (if may_hand_on later r.env slot then None else Some code.NotHolder)
 
 -- a slot with another holder
 abbrev pub held_by : ℕ → Hold → Hold
@@ -65,9 +67,11 @@ accepts mask e = mask / 2 ^ e % 2 == 1
 abbrev pub is_other : World → ℕ → ℕ → Bool
 is_other w e target = nat_lt target w.count && (not (is_dead (w.solos target).life) && not (target == e))
 
--- why a runner can't hand on anything to a target: there is no such other environment; it can't hand it on to anybody; or it isn't accepted
+-- why a runner can't hand on anything to a target: there is no such other environment; it can't hand it on to
+-- anybody; or it isn't accepted
 abbrev pub refusal_of_giving : Bool → Option Code → Bool → Option Code
-refusal_of_giving other gift accepted = if other then option_or gift (if accepted then None else Some code.NotAccepted) else Some code.NoEnv
+refusal_of_giving other gift accepted =
+    if other then option_or gift (if accepted then None else Some code.NotAccepted) else Some code.NoEnv
 
 -- Yield to a target: the rest of the slice is the target's, which is started.
 abbrev pub handed : ℕ → Option Runner → Option Runner
@@ -81,7 +85,8 @@ gives w e target = record {
 }
 
 abbrev pub refusal_of_gift : World → ℕ → ℕ → Option Code
-refusal_of_gift w e target = refusal_of_giving (is_other w e target) (gift_refusal false w.book.runner (turn_slot w.book)) (accepts (w.solos target).mask e)
+refusal_of_gift w e target = refusal_of_giving (is_other w e target)
+    (gift_refusal false w.book.runner (turn_slot w.book)) (accepts (w.solos target).mask e)
 
 -- to whoever is next: its caller alone decides it
 abbrev pub yield_alone : Bool → Option Verdict
@@ -90,7 +95,7 @@ yield_alone false = None
 
 -- to an environment
 abbrev pub yield_to : World → ℕ → ℕ → Verdict
-yield_to w e target = unless (refusal_of_gift w e target) 0
+yield_to w e target = granted_unless (refusal_of_gift w e target) 0
 
 abbrev pub yield_by : World → ℕ → ℕ → Bool → Verdict
 yield_by w e target is_any = unwrap_or (yield_alone is_any) (yield_to w e target)
@@ -113,7 +118,7 @@ take_refusal (Some None) = None
 take_refusal (Some (Some hold)) = Some code.SlotTaken
 
 abbrev pub slot_take : World → ℕ → Verdict
-slot_take w e = unless (take_refusal (slot_at w.book (reg (w.solos e).cpu 4))) 0
+slot_take w e = granted_unless (take_refusal (slot_at w.book (reg (w.solos e).cpu 4))) 0
 
 abbrev pub takes_slot : World → ℕ → ℕ → Reply
 takes_slot w e k = with_slot w k (Some (own_hold e))
@@ -129,7 +134,7 @@ drop_refusal e (Some None) = Some code.NotHolder
 drop_refusal e (Some (Some hold)) = if hold.holder == e then None else Some code.NotHolder
 
 abbrev pub slot_drop : World → ℕ → Verdict
-slot_drop w e = unless (drop_refusal e (slot_at w.book (reg (w.solos e).cpu 4))) 0
+slot_drop w e = granted_unless (drop_refusal e (slot_at w.book (reg (w.solos e).cpu 4))) 0
 
 abbrev pub drops_slot : World → ℕ → ℕ → Reply
 drops_slot w e k = with_slot w k (dropped e (w.book.slots k))

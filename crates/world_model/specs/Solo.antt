@@ -21,17 +21,17 @@ pub record Seen : Type 0 where
   pub owned : Bool
   pub bytes : List ℕ
 
--- a claim of the environment's: its number, its ring, which is the page into which its packets go, the buffer of the ring
--- whose turn is next, and the words of its handler, if it has one
+-- a claim of the environment's: its number, its ring, which is the page into which its packets go, the buffer of the
+-- ring whose turn is next, and the words of its handler, if it has one
 pub record Ring : Type 0 where
   pub claim : ℕ
   pub page : ℕ
   pub next : Buffer
   pub handler : Option (List ℕ)
 
--- Number, name, life, registers, handlers, the mask of those from whom it accepts yields and transfers, guaranteed pages by rising
--- VPN, the binding in each row of its stripe, each other page that it owns or has bound by its number in
--- physical memory, its claims, console, and the packets that it sent.
+-- Number, name, life, registers, handlers, the mask of those from whom it accepts yields and transfers, guaranteed
+-- pages by rising VPN, the binding in each row of its stripe, each other page that it owns or has bound by its number
+-- in physical memory, its claims, console, and the packets that it sent.
 pub record Solo : Type 0 where
   pub number : ℕ
   pub name : List ℕ
@@ -81,7 +81,8 @@ abbrev pub is_dead : Life → Bool
 is_dead Live = false
 is_dead (Dead cause) = true
 
--- the name of a page among those of an environment: a guaranteed one goes by its VPN, each other by its number in physical memory
+-- the name of a page among those of an environment: a guaranteed one goes by its VPN, each other by its number in
+-- physical memory
 pub data Key : Type 0 where
   Kept : (vpn : ℕ) → Key
   Physical : (page : ℕ) → Key
@@ -103,7 +104,8 @@ bound_place b = record { key = Physical b.page; writable = b.writable }
 
 -- where a VPN leads: to the guaranteed page there, else to the page that is bound there
 abbrev pub leads : Solo → ℕ → Option Place
-leads s vpn = option_or (option_map (place_at vpn) (kept_at s.kept vpn)) (option_map bound_place (binding_at s.binds vpn))
+leads s vpn =
+    option_or (option_map (place_at vpn) (kept_at s.kept vpn)) (option_map bound_place (binding_at s.binds vpn))
 
 abbrev pub bytes_in : Option KeptPage → List ℕ
 bytes_in None = []

@@ -1,5 +1,6 @@
--- The tick: what happens from outside, what is taken at deadlines, the turn, the runner's step with its call or death, and the timer.
-use Rattle.std.specs.Prelude.{◌≡◌, ℕ, ◌+◌, ◌-◌, List, [], ◌∷◌, ◌++◌, map, ◌==◌, nat_lt, if◌then◌else◌, Option, Some, None}
+-- The tick: what happens from outside, what is taken at deadlines, the turn, the runner's step with its call or
+-- death, and the timer.
+use Rattle.std.specs.Prelude.{◌≡◌, ℕ, ◌+◌, ◌-◌, List, [], ◌∷◌, ◌++◌, map, Bool, not, ◌==◌, Option, Some, None}
 use Rattle.kernel_journal.specs.declared.row.Row.{Row}
 use Rattle.kernel_journal.specs.declared.row.Row.TheVariants as row
 use Rattle.world_model.specs.declared.code.Code.{Code}
@@ -9,11 +10,14 @@ use Rattle.world_model.specs.declared.slot.Phase.{Phase}
 use Rattle.world_model.specs.declared.slot.Phase.TheVariants as phase
 use Rattle.world_model.specs.declared.slot.Runner.{Runner}
 use Rattle.world_model.specs.declared.slot.Turn.{Turn}
-use Rattle.world_model.specs.Book.{Told, excess_limit, running, whole_turn}
-use Rattle.world_model.specs.Item.{Step, Start, End, Killed, answered}
+use Rattle.world_model.specs.declared.timer.Timer.{Timer}
+use Rattle.world_model.specs.declared.timer.Timer.TheVariants as answer
+use Rattle.world_model.specs.Book.{WholeTurn, running, whole_turn}
+use Rattle.world_model.specs.Item.{Step, Start, End, Killed, with_answer}
 use Rattle.world_model.specs.Step.{Act, Nothing, Stores, Calls, Raises, Dies, step_alone, act_of, acted, call_act}
 use Rattle.world_model.specs.declared.verdict.Verdict.TheVariants.{Refuse}
 use Rattle.world_model.specs.SlotCalls.{stop_row}
+use Rattle.world_model.specs.Timer.{timer_of}
 use Rattle.world_model.specs.Death.{death}
 use Rattle.world_model.specs.Verdict.{reply_to, verdict_now}
 use Rattle.world_model.specs.Table.{set_at}
@@ -24,14 +28,19 @@ use Rattle.world_model.specs.Event.{happen}
 use Rattle.revocation_book.specs.declared.revocation.Taking.{Taking}
 use Rattle.world_model.specs.Deadlines.{settles, takes, takings}
 
--- The turn: where nobody runs, slots are forfeited whose holders owe, and the first holder that owes nothing starts with a full quantum.
+-- The turn: where nobody runs, slots are forfeited whose holders owe, and the first holder that owes nothing starts
+-- with a full quantum.
 abbrev pub pay_row : ℕ → Turn → Row
 pay_row time t = row.Pay time t.slot t.env
 
-abbrev pub take_turn : World → Told → Option Turn → Reply
+abbrev pub take_turn : World → WholeTurn → Option Turn → Reply
 take_turn w told None = no_change w
 take_turn w told (Some t) = record {
-  book = record w.book { cursor = told.cursor; excess = told.excess; runner = Some (record { env = t.env; left = w.book.quantum; phase = phase.Own }) };
+  book = record w.book {
+    cursor = told.cursor;
+    excess = told.excess;
+    runner = Some (record { env = t.env; left = w.book.quantum; phase = phase.Own });
+  };
   items = only t.env (Start ∷ []);
   rows = map (pay_row w.book.time) told.pays ++ row.Run w.book.time t.slot t.env ∷ [];
 }
@@ -44,12 +53,12 @@ abbrev pub turn : World → Reply
 turn w = turn_when w w.book.runner
 
 -- what an act of the runner brings
-abbrev pub brings : ℕ → Act → World → Reply
-brings e Nothing w = no_change w
-brings e (Stores x) w = record { book = w.book; items = left_by w.book e x; rows = [] }
-brings e (Calls call) w = reply_to w e call
-brings e (Raises exc) w = no_change w
-brings e (Dies cause) w = death w e
+abbrev pub act_reply : ℕ → Act → World → Reply
+act_reply e Nothing w = no_change w
+act_reply e (Stores x) w = record { book = w.book; items = left_by w.book e x; rows = [] }
+act_reply e (Calls call) w = reply_to w e call
+act_reply e (Raises exc) w = no_change w
+act_reply e (Dies cause) w = death w e
 
 -- The step: the runner absorbs it, and then comes what its act brings.
 abbrev pub act_now : World → ℕ → Act
@@ -57,7 +66,7 @@ act_now w e = let s = w.solos e in act_of s (step_alone s)
 
 abbrev pub step_when : World → Option Runner → Reply
 step_when w None = no_change w
-step_when w (Some r) = in_turn (tells r.env Step ∷ brings r.env (act_now w r.env) ∷ []) w
+step_when w (Some r) = in_turn (tells r.env Step ∷ act_reply r.env (act_now w r.env) ∷ []) w
 
 abbrev pub step : World → Reply
 step w = step_when w w.book.runner
@@ -67,18 +76,32 @@ abbrev pub clock : World → Reply
 clock w = record { book = record w.book { time = w.book.time + 1 }; items = no_items; rows = [] }
 
 -- a runner with so many ticks left, in a phase
-abbrev pub goes_on : Runner → World → Reply
-goes_on r w = record { book = record w.book { runner = Some r }; items = no_items; rows = [] }
+abbrev pub with_runner : Runner → World → Reply
+with_runner r w = record { book = record w.book { runner = Some r }; items = no_items; rows = [] }
 
 -- a full quantum of grace
 abbrev pub grace_of : World → ℕ → Runner
 grace_of w e = record { env = e; left = w.book.quantum; phase = phase.Grace }
 
--- At the end of its slice a runner is told, and has a quantum of grace, if it has a handler of ends; else it is stopped.
-abbrev pub slice_end : ℕ → ℕ → World → Reply
-slice_end e handler w =
-    if handler == 0 then record { book = record w.book { runner = None }; items = no_items; rows = stop_row w.book e ∷ [] }
-    else record { book = record w.book { runner = Some (grace_of w e) }; items = only e (End ∷ []); rows = row.End w.book.time w.book.cursor e ∷ [] }
+-- whether a living environment handles the ends of its slices
+abbrev pub handles_end : World → ℕ → Bool
+handles_end w e = not ((w.solos e).handlers.end == 0)
+
+-- what the timer answers for a runner
+abbrev pub timer_now : World → Runner → Timer
+timer_now w r = timer_of r (handles_end w r.env) (w.book.excess r.env)
+
+-- the end of a slice is told, and a quantum of grace begins
+abbrev pub slice_end : ℕ → World → Reply
+slice_end e w = record {
+  book = record w.book { runner = Some (grace_of w e) };
+  items = only e (End ∷ []);
+  rows = row.End w.book.time w.book.cursor e ∷ [];
+}
+
+-- a runner is stopped
+abbrev pub stop_at_end : ℕ → World → Reply
+stop_at_end e w = record { book = record w.book { runner = None }; items = no_items; rows = stop_row w.book e ∷ [] }
 
 -- the runner's excess rises by one
 abbrev pub owes_more : ℕ → World → Reply
@@ -88,24 +111,25 @@ owes_more e w = let excess = w.book.excess e + 1 in record {
   rows = row.Over w.book.time w.book.cursor e excess ∷ [];
 }
 
+-- another quantum of grace
+abbrev pub grace_again : ℕ → World → Reply
+grace_again e w = with_runner (grace_of w e) w
+
 -- the runner dies of its excess
 abbrev pub kill : ℕ → World → Reply
-kill e w = in_turn (tells e Killed ∷ brings e (Dies cause.Excess) ∷ []) w
+kill e w = in_turn (tells e Killed ∷ act_reply e (Dies cause.Excess) ∷ []) w
 
--- above the limit of excess a runner dies, else it has another quantum of grace
-abbrev pub judged : ℕ → World → Reply
-judged e w = if nat_lt excess_limit (w.book.excess e) then kill e w else goes_on (grace_of w e) w
-
-abbrev pub run_out : ℕ → Phase → World → Reply
-run_out e phase.Own w = slice_end e (w.solos e).handlers.end w
-run_out e phase.Grace w = in_turn (owes_more e ∷ judged e ∷ []) w
-
-abbrev pub count_down : Runner → ℕ → World → Reply
-count_down r left w = if left == 0 then run_out r.env r.phase w else goes_on (record r { left = left }) w
+-- what becomes of a runner by the timer's answer
+abbrev pub timer_reply : Runner → Timer → World → Reply
+timer_reply r answer.Nothing w = with_runner (record r { left = r.left - 1 }) w
+timer_reply r answer.End w = slice_end r.env w
+timer_reply r answer.Stop w = stop_at_end r.env w
+timer_reply r (answer.Over excess) w = in_turn (owes_more r.env ∷ grace_again r.env ∷ []) w
+timer_reply r answer.Kill w = in_turn (owes_more r.env ∷ kill r.env ∷ []) w
 
 abbrev pub count_when : Option Runner → World → Reply
 count_when None w = no_change w
-count_when (Some r) w = count_down r (r.left - 1) w
+count_when (Some r) w = timer_reply r (timer_now w r) w
 
 abbrev pub timer : World → Reply
 timer w = in_turn (count_when w.book.runner ∷ clock ∷ []) w
@@ -130,7 +154,7 @@ phases_after happens xs = map happen happens ++ tick_phases xs
 
 -- Apart from a tick. The world after an act of the runner: what it does to the runner itself, and then what it brings
 abbrev pub act_world : World → ℕ → Act → World
-act_world w e act = let v = record w { solos = set_at e (acted act (w.solos e)) w.solos } in after v (brings e act v)
+act_world w e act = let v = record w { solos = set_at e (acted act (w.solos e)) w.solos } in after v (act_reply e act v)
 
 -- the world after the runner's death of this cause
 abbrev pub died : World → ℕ → Cause → World
@@ -142,12 +166,15 @@ called_world w e = act_world w e (call_act (w.solos e).cpu)
 
 -- the world in which an environment's call was refused, and nothing else happened
 abbrev pub refused_world : World → ℕ → Code → ℕ → World
-refused_world w e code value = record w { solos = set_at e (answered (Refuse code value) (w.solos e)) w.solos }
+refused_world w e code value = record w { solos = set_at e (with_answer (Refuse code value) (w.solos e)) w.solos }
 
 -- The second world is the first after the kernel call at which its runner stands.
 abbrev pub IsCalled : World → World → Type 0
 IsCalled old new = (e : ℕ) → running old.book.runner ≡ Some e → new ≡ called_world old e
 
--- Where the verdict on that call is a refusal, the second world is the first with exactly that answer, and nothing else.
+-- Where the verdict on that call is a refusal, the second world is the first with exactly that answer, and nothing
+-- else.
 abbrev pub IsRefused : World → World → Type 0
-IsRefused old new = (e : ℕ) (code : Code) (value : ℕ) → running old.book.runner ≡ Some e → verdict_now old e ≡ Some (Refuse code value) → new ≡ refused_world old e code value
+IsRefused old new =
+    (e : ℕ) (code : Code) (value : ℕ) → running old.book.runner ≡ Some e → verdict_now old e ≡ Some (Refuse code value)
+    → new ≡ refused_world old e code value

@@ -22,7 +22,8 @@ use Rattle.world_model.specs.BackupCalls.{backup, loads}
 use Rattle.world_model.specs.Queries.{query}
 use Rattle.world_model.specs.Transfers.{transfer, transfers}
 
--- The calls that are decided by their caller alone: put, send, unbind, unclaim, context, accept, self, and a yield to whoever is next.
+-- The calls that are decided by their caller alone: put, send, unbind, unclaim, context, accept, self, and a yield to
+-- whoever is next.
 abbrev pub verdict_alone : Solo → Option Call → Option Verdict
 verdict_alone s (Some call.Yield) = yield_alone (reg s.cpu 4 == any)
 verdict_alone s (Some call.Put) = Some (put s)
@@ -77,13 +78,14 @@ done w e (Downloads claim address words) = no_change w
 done w e (Loads page) = loads w e page
 
 -- A refused call is answered, and nothing else happens. A granted one is answered, and then comes what it does.
-abbrev pub reply_of : World → ℕ → Verdict → Reply
-reply_of w e (Refuse code value) = tells e (Answer (Refuse code value)) w
-reply_of w e (Grant value) = followed (tells e (Answer (Grant value)) w) (done w e (deed_at (w.solos e) value))
+abbrev pub reply_by_verdict : World → ℕ → Verdict → Reply
+reply_by_verdict w e (Refuse code value) = tells e (Answer (Refuse code value)) w
+reply_by_verdict w e (Grant value) = followed (tells e (Answer (Grant value)) w) (done w e (deed_at (w.solos e) value))
 
 abbrev pub reply_to : World → ℕ → Option Call → Reply
-reply_to w e call = reply_of w e (verdict w e call)
+reply_to w e call = reply_by_verdict w e (verdict w e call)
 
 -- the verdict on the call at which an environment stands; exit has none
 abbrev pub verdict_now : World → ℕ → Option Verdict
-verdict_now w e = let cpu = (w.solos e).cpu in if reg cpu 2 == exit_number then None else Some (verdict w e (called cpu))
+verdict_now w e =
+    let cpu = (w.solos e).cpu in if reg cpu 2 == exit_number then None else Some (verdict w e (called cpu))

@@ -32,7 +32,12 @@ only e items = set_at e items no_items
 
 -- the world once each environment has absorbed its items
 abbrev pub after : World → Reply → World
-after w r = record { book = r.book; count = w.count; solos = λ i. absorb_all (w.solos i) (r.items i); rows = w.rows ++ r.rows }
+after w r = record {
+  book = r.book;
+  count = w.count;
+  solos = λ i. absorb_all (w.solos i) (r.items i);
+  rows = w.rows ++ r.rows;
+}
 
 -- the world after phases, one after another
 abbrev pub run_phases : World → List (World → Reply) → World

@@ -2,20 +2,22 @@
 //! items that join them. The definitions stand in `specs/`, a file for each idea (`docs/MODEL.md`).
 #![tactic(auto)]
 
+mod access;
 mod call;
 mod code;
 mod life;
-mod page;
 mod question;
 mod slot;
+mod timer;
 mod verdict;
 mod view;
 
+pub use access::Purpose;
 pub use call::{Call, Deed, EXIT, OwnDeed};
 pub use code::Code;
 pub use life::{Cause, Life};
-pub use page::Purpose;
 pub use question::Question;
-pub use slot::{Hold, Phase, Runner, Turn};
+pub use slot::{Hold, Phase, Runner, Turn, drop_refusal, take_refusal};
+pub use timer::Timer;
 pub use verdict::{HandlerNo, Verdict};
 pub use view::{PageView, WorldView};

@@ -1,4 +1,9 @@
 //! Slots, runners and turns.
+ghost use Rattle.std.specs.Prelude.{◌≡◌, IsNone, IsSome};
+ghost use Rattle.world_model.specs.SlotCalls.{drop_refusal, take_refusal};
+
+use crate::code::Code;
+
 /// Whose a slot is, and who runs in it.
 #[derive(Clone, Copy)]
 pub struct Hold {
@@ -28,4 +33,30 @@ pub struct Runner {
 pub struct Turn {
     pub slot: u32,
     pub env: u8,
+}
+
+/// Why the slot can't be taken: `NoSlice` where there is no such slot, and `SlotTaken` where it isn't
+/// empty.
+pub fn take_refusal(slot: Option<Option<Hold>>) -> Option<Code>
+    ensures why { result ≡ take_refusal slot }
+    ensures there { IsNone result → IsSome slot }
+{
+    match slot {
+        None => Some(Code::NoSlice),
+        Some(None) => None,
+        Some(Some(_)) => Some(Code::SlotTaken),
+    }
+}
+
+/// Why the environment can't drop the slot: `NoSlice` where there is no such slot, and `NotHolder` where
+/// it doesn't hold it.
+pub fn drop_refusal(slot: Option<Option<Hold>>, env: u8) -> Option<Code>
+    ensures why { result ≡ drop_refusal env slot }
+    ensures there { IsNone result → IsSome slot }
+{
+    match slot {
+        None => Some(Code::NoSlice),
+        Some(Some(hold)) if hold.holder == env => None,
+        Some(_) => Some(Code::NotHolder),
+    }
 }

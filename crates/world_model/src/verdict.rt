@@ -22,11 +22,11 @@ pub enum HandlerNo {
 }
 
 impl Verdict {
-    ghost use Rattle.world_model.specs.Answer.{unless, verdict_code, verdict_of, verdict_value};
+    ghost use Rattle.world_model.specs.Answer.{granted_unless, verdict_code, verdict_of, verdict_value};
 
     /// A call is granted with a value, unless there is a reason to refuse it.
     pub fn unless(refusal: Option<Code>, value: u32) -> Verdict
-        ensures { result ≡ unless refusal value }
+        ensures { result ≡ granted_unless refusal value }
     {
         match refusal {
             None => Verdict::Grant(value),

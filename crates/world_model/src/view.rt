@@ -1,8 +1,8 @@
 //! What can be read of a world.
 ghost use Rattle.std.specs.Prelude.{◌≡◌, ◌<◌, ◌≤◌, length, slice_get};
 ghost use Rattle.std.specs.Option.{option_map};
-ghost use Rattle.bind_book.specs.Stripe.{stripe_rows};
-ghost use Rattle.world_model.specs.Book.{excess_limit, running};
+ghost use Rattle.world_model.specs.Book.{running};
+ghost use Rattle.aegis_limits.specs.Limits.{excess_limit, stripe_rows};
 ghost use Rattle.world_model.specs.View.{owned_bytes, view_seen};
 ghost use Rattle.world_model.specs.World.{World};
 
@@ -84,7 +84,7 @@ pub trait WorldView {
         requires page { page < (world self.now).book.page_count }
         ensures { option_map (λ r. r.now) result ≡ owned_bytes (((world self.now).solos env).seen page) };
 
-    /// The binding that stands in this row, below 256, of an environment's, if one does.
+    /// The binding that stands in this row, below the rows of a stripe, of an environment's, if one does.
     fn binding(&self, env: u8, row: u32) -> Option<Binding>
         requires env { env < (world self.now).count }
         requires row { row < stripe_rows }

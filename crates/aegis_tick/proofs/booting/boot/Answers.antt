@@ -17,4 +17,8 @@ pub returns-clause-balance : goal.returns-clause-balance
 returns-clause-balance c = subst IsAccounted (sym (booted c)) (c.law_boot_accounts.ensures c.args.image.now)
 
 pub returns-clause-fresh : goal.returns-clause-fresh
-returns-clause-fresh c = ap (λ (w : World). w.book.time) (booted c) ∙ boot_time c.args.image.now
+returns-clause-fresh c = record {
+  whole = c.add_all.ensures.whole;
+  time = ap (λ (w : World). w.book.time) (booted c) ∙ boot_time c.args.image.now;
+  numbers = c.add_all.ensures.numbers ∙ c.in_ok-board.ensures.numbers;
+}

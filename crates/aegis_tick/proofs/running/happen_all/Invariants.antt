@@ -1,6 +1,7 @@
 -- The events so far have happened.
 use Rattle.std.proofs.Common.{◌≡◌, ◌≤◌, ◌+◌, ◌*◌, length, take}
 use Rattle.board_model.specs.Showing.{world_of}
+use Rattle.aegis_calls.specs.Rows.{tick_rows}
 use Rattle.aegis_tick.specs.Course.{occurrences, world_with}
 use Rattle.aegis_tick.proofs.running.happen_all.Given as goal
 
@@ -10,5 +11,5 @@ invariant-loop-one l = record {
   time : l.board.time ≡ l.fn.board.time;
   whole : l.board.roster.spare ≡ l.fn.board.roster.spare;
   numbers : l.board.claims.next ≡ l.fn.board.claims.next;
-  room : 2048 * length l.events ≤ l.fn.board.ledger.spare → l.fn.board.ledger.spare ≤ l.board.ledger.spare + 2048 * l.one-index;
+  room : tick_rows * length l.events ≤ l.fn.board.ledger.spare → l.fn.board.ledger.spare ≤ l.board.ledger.spare + tick_rows * l.one-index;
 }

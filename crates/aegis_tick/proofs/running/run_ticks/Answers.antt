@@ -7,7 +7,7 @@ use Rattle.world_model.specs.Book.{is_idle_book}
 use Rattle.world_model.specs.Event.{schedule_of}
 use Rattle.world_model.specs.Tick.{tick_step}
 use Rattle.world_model.specs.World.{World, run_phases}
-use Rattle.run_model.specs.Run.{next_phases, run_on}
+use Rattle.run_model.specs.Run.{next_phases, world_after_ticks}
 use Rattle.aegis_tick.specs.Course.{IsCutOff, next_time_of, occurrences, world_with}
 use Rattle.aegis_tick.proofs.Coming.{happens_next, next_coming, next_later, next_ordered, next_within, none_before, order_later}
 use Rattle.aegis_tick.proofs.Happening.{cut_accounted, cut_off, then_ticks}
@@ -21,7 +21,7 @@ returns-then-idle-clause-world c =
     let schedule = schedule_of c.args.events.now in
     let idle = ap (λ (v : World). is_idle_book v.book) (sym c.loop-done.invariant.world) ∙ sym c.idle.ensures ∙ c.if-idle.true in
     let whole : c.loop-done.done + (c.args.ticks - c.loop-done.done) ≡ c.args.ticks = omega arith in
-    c.loop-done.invariant.world ∙ sym (stays schedule w c.loop-done.done (c.args.ticks - c.loop-done.done) idle) ∙ ap (run_on schedule w) whole
+    c.loop-done.invariant.world ∙ sym (stays schedule w c.loop-done.done (c.args.ticks - c.loop-done.done) idle) ∙ ap (world_after_ticks schedule w) whole
 
 -- a tick that is refused cuts the run off
 cut_here : (c : goal.After-from_residual) → IsCutOff (schedule_of c.args.events.now) (world_of c.args.board.now) c.args.ticks (world_of c.tick_with.new.board)
@@ -79,17 +79,17 @@ loop-done-preserved c =
     ∙ sym (then_ticks schedule v)
     ∙ ap (λ (u : World). run_phases u (next_phases schedule u)) now.world
     ∙ sym (goes_on schedule w t busy) in
-    let time = c.in_ok-tick_with.ensures.time ∙ ap (λ (m : ℕ). m + 1) now.time in
+    let time = c.in_ok-tick_with.ensures.ticked.time ∙ ap (λ (m : ℕ). m + 1) now.time in
     let most = c.stretch-done.ensures.most in
     let limit = c.requires.limit in
     let later = next_later (t + 1) rest ordered (omega arith) in
-    let numbers = c.in_ok-tick_with.ensures.numbers in
+    let numbers = c.in_ok-tick_with.ensures.ticked.numbers in
     rw (c.take_due-now.ensures.next) (record {
       world = c.stretch-done.ensures.world schedule (record { nothing = λ u from until. coming u (omega arith) ∙ none_before (t + 1) u rest ordered (omega arith) })
-          ∙ ap (λ (u : World). run_on schedule u k) once
+          ∙ ap (λ (u : World). world_after_ticks schedule u k) once
           ∙ run_further schedule w (t + 1) k;
       within = omega arith;
-      whole = c.stretch-done.ensures.whole ∙ c.in_ok-tick_with.ensures.whole;
+      whole = c.stretch-done.ensures.whole ∙ c.in_ok-tick_with.ensures.ticked.whole;
       time = c.stretch-done.ensures.time ∙ ap (λ (m : ℕ). m + k) time;
       numbers = omega (arith, c.stretch-done.ensures.numbers, c.stretch-done.ensures.time, numbers);
       next = next_within es i t these are now.next;

@@ -7,7 +7,7 @@ use Rattle.run_model.proofs.Phases.{tick_in_parts}
 use Rattle.aegis_tick.proofs.running.tick.Goals as goal
 
 pub step-requires-clause-runs : goal.step-requires-clause-runs
-step-requires-clause-runs c = c.turn.ensures.runs (c.serve.ensures.idle ∙ c.requires.busy)
+step-requires-clause-runs c = c.turn.ensures.runs (c.serve.ensures.idle ∙ c.requires.may.busy)
 
 pub returns-clause-world : goal.returns-clause-world
 returns-clause-world c =

@@ -1,5 +1,5 @@
 -- What happens leaves the board busy, and a tick follows.
-use Rattle.std.proofs.Common.{sym, ◌∙◌, ap, List, length}
+use Rattle.std.proofs.Common.{sym, ◌∙◌, ap, arith, List, length}
 use Rattle.std.proofs.Math.Seq.{take-length}
 use Rattle.external_event.specs.declared.event.Occurrence.{Occurrence}
 use Rattle.board_model.specs.Shown.{Shown}
@@ -11,15 +11,20 @@ use Rattle.aegis_tick.proofs.Happening.{still_busy}
 use Rattle.aegis_tick.proofs.Refusals.{on_err}
 use Rattle.aegis_tick.proofs.running.tick_with.Goals as goal
 
-pub tick-requires-clause-busy : goal.tick-requires-clause-busy
-tick-requires-clause-busy c =
+pub tick-requires-clause-may : goal.tick-requires-clause-may
+tick-requires-clause-may c =
     let w = world_of c.args.board.now in
-    let happens = occurrences c.args.events.now in
-    ap (λ (v : World). is_idle_book v.book) (c.in_ok-make_room.ensures.world ∙ c.in_ok-happen_all.ensures.world)
-    ∙ still_busy happens w ∙ c.requires.busy
-
-pub tick-requires-clause-whole : goal.tick-requires-clause-whole
-tick-requires-clause-whole c = ap (λ (b : Shown). b.roster.spare) c.in_ok-make_room.ensures.same ∙ c.in_ok-happen_all.ensures.whole ∙ c.requires.whole
+    let room = c.in_ok-make_room.ensures.same in
+    let happened = c.in_ok-happen_all.ensures.same in
+    let time = ap (λ (b : Shown). b.time) room ∙ happened.time in
+    let numbers = ap (λ (b : Shown). b.claims.next) room ∙ happened.numbers in
+    record {
+      whole = ap (λ (b : Shown). b.roster.spare) room ∙ happened.whole ∙ c.requires.may.whole;
+      busy = ap (λ (v : World). is_idle_book v.book) (c.in_ok-make_room.ensures.world ∙ c.in_ok-happen_all.ensures.world)
+          ∙ still_busy (occurrences c.args.events.now) w ∙ c.requires.may.busy;
+      time = omega (arith, time, c.requires.may.time);
+      numbers = omega (arith, time, numbers, c.requires.may.numbers);
+    }
 
 pub returns-in_err-make_room-clause-part : goal.returns-in_err-make_room-clause-part
 returns-in_err-make_room-clause-part c =

@@ -2,7 +2,7 @@ use Rattle.std.proofs.Common.{◌≡◌}
 use Rattle.std.specs.List.{AllByRecursion}
 use Rattle.line_text.specs.Lines.{IsPlaced}
 use Rattle.asm_parse.specs.Span.{IsCut}
-use Rattle.asm_parse.specs.Form.{statements_of, parsed}
+use Rattle.asm_parse.specs.Form.{parsed_statements, parsed}
 use Rattle.asm_parse.proofs.StatementLemmas.{before_rest}
 use Rattle.asm_parse.proofs.lines.parse.Given as goal
 
@@ -13,5 +13,5 @@ invariant-loop-line l = record {
   finite : (goal.iterator-loop-line).is_finite l.line-iterator;
   placed : AllByRecursion (IsPlaced l.source) l.line-iterator;
   cut : AllByRecursion (IsCut l.source) l.statements.items;
-  told : before_rest l.statements.items (statements_of l.line-iterator) ≡ parsed l.source;
+  told : before_rest l.statements.items (parsed_statements l.line-iterator) ≡ parsed l.source;
 }

@@ -5,4 +5,4 @@ use Rattle.board_model.proofs.Lists.{length-changed}
 use Rattle.board_acts.proofs.transfer.enter.Goals as goal
 
 pub keep-requires : goal.keep-requires
-keep-requires c = rw c.enter-entered.ensures.roster (omega (arith, c.requires.caller, length-changed (with_mask 0) c.args.roster.now.list c.args.target))
+keep-requires c = rw c.enter-entered.ensures.roster (omega (arith, c.requires.caller, length-changed (with_mask 0) c.args.roster.now.list c.args.entry.target))

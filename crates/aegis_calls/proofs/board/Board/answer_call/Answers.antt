@@ -4,7 +4,6 @@ use Rattle.world_model.specs.Call.{deed_of}
 use Rattle.world_model.specs.May.{May}
 use Rattle.board_model.specs.Shown.{Shown}
 use Rattle.board_model.specs.Showing.{world_of}
-use Rattle.board_model.specs.Sound.{IsSound}
 use Rattle.board_model.proofs.Reading.{runner_registers}
 use Rattle.aegis_calls.proofs.board.Board.answer_call.Goals as goal
 
@@ -12,6 +11,6 @@ pub grant-requires-clause-may : goal.grant-requires-clause-may
 grant-requires-clause-may c =
     let now = c.args.self.now in
     let e = c.args.env in
-    let registers = ap (λ (s : Shown). s.cpu) c.self.view_is ∙ runner_registers now e (subst IsSound c.self.view_is c.self.invariant) c.requires.runs in
+    let registers = ap (λ (s : Shown). s.cpu) c.self.view_is ∙ runner_registers now e c.law_sound.ensures c.requires.runs in
     let deed = c.deed_of-deed.ensures ∙ ap (deed_of c.args.call c.in-Grant.value) registers in
     subst (May (world_of now) e) (sym deed) (c.law_granted.ensures (world_of now) e c.args.call c.in-Grant.value (sym c.decide.ensures ∙ c.in-Grant.is))

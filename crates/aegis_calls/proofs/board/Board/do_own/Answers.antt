@@ -8,7 +8,6 @@ use Rattle.world_model.specs.Page.{Mapped}
 use Rattle.board_model.specs.Doing.{look_of}
 use Rattle.board_model.specs.Shown.{Shown, console_of, sent_of}
 use Rattle.board_model.specs.Showing.{solo_of}
-use Rattle.board_model.specs.Sound.{IsSound}
 use Rattle.board_model.proofs.Reading.{console_same, runner_look, sent_same}
 use Rattle.board_model.proofs.Sound.{keeps_accepting, keeps_handling, keeps_putting, keeps_sending}
 use Rattle.board_model.proofs.Staying.{sound_env}
@@ -21,11 +20,10 @@ put-requires c =
     let e = c.args.env in
     let address = c.in-Puts.address in
     let size = c.in-Puts.size in
-    let sound = subst IsSound c.self.view_is c.self.invariant in
     let may : MayPut (solo_of now e) address size = subst (MayOwn (solo_of now e)) c.in-Puts.is c.requires.may in
     let looks =
     ap (λ (s : Shown). is_some (put_bytes (look_of s e) address size)) c.self.view_is
-    ∙ ap (λ (l : ℕ → Option Mapped). is_some (put_bytes l address size)) (runner_look now e sound c.requires.runs) in
+    ∙ ap (λ (l : ℕ → Option Mapped). is_some (put_bytes l address size)) (runner_look now e c.law_sound.ensures c.requires.runs) in
     record {
       there = (runner_live c.self.view_is c.self.invariant c.requires.runs).0;
       good = looks ∙ may.good;
@@ -38,11 +36,10 @@ send-requires c =
     let e = c.args.env in
     let address = c.in-Sends.address in
     let size = c.in-Sends.size in
-    let sound = subst IsSound c.self.view_is c.self.invariant in
     let may : MaySend (solo_of now e) address size = subst (MayOwn (solo_of now e)) c.in-Sends.is c.requires.may in
     let looks =
     ap (λ (s : Shown). is_some (good_range (look_of s e) address size)) c.self.view_is
-    ∙ ap (λ (l : ℕ → Option Mapped). is_some (good_range l address size)) (runner_look now e sound c.requires.runs) in
+    ∙ ap (λ (l : ℕ → Option Mapped). is_some (good_range l address size)) (runner_look now e c.law_sound.ensures c.requires.runs) in
     record {
       there = (runner_live c.self.view_is c.self.invariant c.requires.runs).0;
       most = may.most;

@@ -3,7 +3,7 @@ use Rattle.std.proofs.Common.{sym, subst}
 use Rattle.std.specs.Prelude.{false}
 use Rattle.board_model.specs.Doing.{with_registers}
 use Rattle.board_model.specs.Shown.{Shown}
-use Rattle.board_model.specs.Sound.{IsLive}
+use Rattle.board_model.specs.Sound.{IsLiving}
 use Rattle.board_model.proofs.Parted.{context_there}
 use Rattle.board_model.proofs.Sound.{given_manned, keeps_registers}
 use Rattle.board_model.proofs.Staying.{sound_env, sound_frames, sound_machine, sound_slots}
@@ -15,7 +15,7 @@ start-self-inside-requires c = rw c.frame.ensures.mappings (context_there _ _ _ 
 pub invariant_of-self : goal.invariant_of-self
 invariant_of-self c =
     let b = c.self.inside in
-    let live = subst (λ (s : Shown). IsLive s.roster.list c.args.target) (sym c.self.view_is) c.requires.lives in
+    let live = subst (λ (s : Shown). IsLiving s.roster.list c.args.target) (sym c.self.view_is) c.requires.lives in
     rw (c.keep.ensures, c.donate.ensures)
     (sound_machine
     (sound_frames _ c.start-self-inside.ensures.size

@@ -3,10 +3,11 @@ use Rattle.std.proofs.Common.{◌≡◌, ◌<◌, ℕ, length, Some, ap, sym, �
 use Rattle.std.proofs.lemmas.Option.{slice_get_within}
 use Rattle.world_model.specs.declared.life.Life.{Life}
 use Rattle.world_model.specs.Queries.{life_at}
-use Rattle.board_model.specs.Shown.{Shown, shown}
+use Rattle.board_model.specs.Shown.{Shown}
 use Rattle.board_model.specs.Showing.{world_of}
 use Rattle.board_model.proofs.Parted.{context_there}
 use Rattle.board_model.proofs.Reading.{life_same}
+use Rattle.aegis_calls.proofs.Runner.{seen}
 use Rattle.aegis_calls.proofs.board.Board.revoke.Goals as goal
 
 -- whose life is known is one of the environments
@@ -15,8 +16,7 @@ there b e life lives = search (rules, life_same, slice_get_within)
 
 pub ask-requires : goal.ask-requires
 ask-requires c =
-    let i = c.self.inside in
-    let b = shown i.frames i.pages i.bindings i.lines i.claims i.revocations i.slots i.cpu i.roster i.time i.journal in
+    let b = seen c.self.view_is in
     let lives : life_at (world_of b) c.args.env ≡ Some c.in-Some-Live.field-0 =
     ap (λ (s : Shown). life_at (world_of s) c.args.env) c.self.view_is
     ∙ ap (life_at (world_of c.args.self.now)) (sym c.from.ensures)

@@ -1,7 +1,7 @@
 -- Each forfeit comes first in the rest of the turn, and lowers what is owed.
 use Rattle.std.proofs.Common.{sym, ap, ◌∙◌, arith}
 use Rattle.slot_vector.specs.Laws.{owed_by_all}
-use Rattle.slot_vector.specs.Slices.{told_of}
+use Rattle.slot_vector.specs.Slices.{whole_turn_of}
 use Rattle.slot_vector.proofs.Whole.{pay_lowers}
 use Rattle.board_model.specs.Shown.{Shown}
 use Rattle.board_model.specs.Doing.{after_told}
@@ -19,7 +19,7 @@ loop-preserved c =
     let after = c.in-Pay.ensures.after in
     let so_far = c.loop.invariant in
     record {
-      turn = ap (λ (s : Shown). after_told s (told_of s.slots)) after ∙ pay_turned b t pays ∙ so_far.turn;
+      turn = ap (λ (s : Shown). after_told s (whole_turn_of s.slots)) after ∙ pay_turned b t pays ∙ so_far.turn;
       nobody = ap (λ (s : Shown). s.slots.runner) after ∙ so_far.nobody;
       time = ap (λ (s : Shown). s.time) after ∙ so_far.time;
       whole = ap (λ (s : Shown). s.roster.spare) after ∙ so_far.whole;

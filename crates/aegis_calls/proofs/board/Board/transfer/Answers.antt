@@ -7,17 +7,17 @@ use Rattle.slot_vector.specs.Slices.{given_to}
 use Rattle.world_model.specs.Item.{answered_cpu}
 use Rattle.world_model.specs.declared.verdict.Verdict.TheVariants.{Grant}
 use Rattle.board_model.specs.Doing.{with_mask, after_entry, after_hand_on, entry_roster, with_registers}
-use Rattle.board_model.specs.Shown.{Shown, handlers_of, shown, with_list}
-use Rattle.board_model.specs.Sound.{IsLive}
+use Rattle.board_model.specs.Shown.{Shown, handlers_of, with_list}
+use Rattle.board_model.specs.Sound.{IsLiving}
 use Rattle.board_model.proofs.Parted.{context_there}
 use Rattle.board_model.proofs.Sound.{given_manned, keeps_accepting, keeps_registers}
 use Rattle.board_model.proofs.Staying.{sound_env, sound_frames, sound_machine, sound_slots}
-use Rattle.aegis_calls.proofs.Runner.{runner_live}
+use Rattle.aegis_calls.proofs.Runner.{runner_live, seen}
 use Rattle.aegis_calls.proofs.board.Board.transfer.Goals as goal
 
 pub enter-requires : goal.enter-requires
 enter-requires c =
-    let live = subst (λ (s : Shown). IsLive s.roster.list c.args.target) (sym c.self.view_is) c.requires.lives in
+    let live = subst (λ (s : Shown). IsLiving s.roster.list c.args.target) (sym c.self.view_is) c.requires.lives in
     record {
       caller = (runner_live c.self.view_is c.self.invariant c.requires.runs).0;
       there = live.0;
@@ -27,28 +27,26 @@ enter-requires c =
 
 pub invariant_of-self : goal.invariant_of-self
 invariant_of-self c =
-    let i = c.self.inside in
     let e = c.args.env in
     let t = c.args.target in
-    let b = shown i.frames i.pages i.bindings i.lines i.claims i.revocations i.slots i.cpu i.roster i.time i.journal in
-    let handed = shown i.frames i.pages i.bindings i.lines i.claims i.revocations c.hand_on.new.slots i.cpu i.roster i.time c.hand_on.new.journal in
-    let live = subst (λ (s : Shown). IsLive s.roster.list t) (sym c.self.view_is) c.requires.lives in
-    let cpu : Cpu = answered_cpu (Grant c.args.value) i.cpu in
-    let slots : c.hand_on.new.slots ≡ given_to t (hands_slot c.args.kind) i.slots = ap (λ (s : Shown). s.slots) (c.hand_on.ensures b) in
-    let kept : c.enter.new.roster ≡ with_list i.roster (entry_roster b e c.args.value t) = ap (λ (s : Shown). s.roster) (c.enter.ensures.after handed) in
+    let b = seen c.self.view_is in
+    let handed : Shown = record b { slots = c.hand_on.new.slots; ledger = c.hand_on.new.journal } in
+    let live = subst (λ (s : Shown). IsLiving s.roster.list t) (sym c.self.view_is) c.requires.lives in
+    let cpu : Cpu = answered_cpu (Grant c.args.value) b.cpu in
+    let slots : c.hand_on.new.slots ≡ given_to t (hands_slot c.args.kind) b.slots = ap (λ (s : Shown). s.slots) (c.hand_on.ensures b) in
+    let kept : c.enter.new.roster ≡ with_list b.roster (entry_roster b e c.args.value t) = ap (λ (s : Shown). s.roster) (c.enter.ensures.after handed) in
     rw (kept, slots)
     (sound_machine
     (sound_frames _ c.enter.ensures.size
     (sound_env (with_registers cpu) (keeps_registers cpu) e
     (sound_env (with_mask 0) (keeps_accepting 0) t
-    (sound_slots _ (given_manned i.slots i.roster t (hands_slot c.args.kind) c.self.invariant.book live) c.self.invariant)))))
+    (sound_slots _ (given_manned b.slots b.roster t (hands_slot c.args.kind) c.self.invariant.book live) c.self.invariant)))))
 
 pub returns : goal.returns
 returns c =
-    let i = c.self.inside in
     let e = c.args.env in
     let t = c.args.target in
-    let b = shown i.frames i.pages i.bindings i.lines i.claims i.revocations i.slots i.cpu i.roster i.time i.journal in
-    let handed = shown i.frames i.pages i.bindings i.lines i.claims i.revocations c.hand_on.new.slots i.cpu i.roster i.time c.hand_on.new.journal in
+    let b = seen c.self.view_is in
+    let handed : Shown = record b { slots = c.hand_on.new.slots; ledger = c.hand_on.new.journal } in
     c.enter.ensures.after handed
     ∙ ap (λ (s : Shown). after_entry s e c.args.value t c.args.kind) (c.hand_on.ensures b ∙ ap (λ (s : Shown). after_hand_on s e t c.args.kind) c.self.view_is)

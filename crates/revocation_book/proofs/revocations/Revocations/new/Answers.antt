@@ -1,7 +1,7 @@
 -- No environment has a backup.
 use Rattle.std.proofs.Common.{◌≡◌, ℕ, ◌<◌, List, [], length, replicate, get_or, ◌∙◌, sym, arith}
 use Rattle.std.proofs.lemmas.List.{get_or-replicate, length-replicate, same_lists}
-use Rattle.revocation_book.specs.RevocationBook.{most_numbers}
+use Rattle.aegis_limits.specs.Limits.{environment_numbers}
 use Rattle.revocation_book.proofs.revocations.Revocations.new.Goals as goal
 
 all_empty : (all : List (List ℕ)) (count : ℕ) → length all ≡ count → ((i : ℕ) (d : List ℕ) → i < count → get_or all i d ≡ []) → all ≡ replicate count []
@@ -10,5 +10,5 @@ all_empty all count long each =
 
 pub returns : goal.returns
 returns c =
-    let empty = all_empty c.default.result most_numbers c.default.ensures.long (λ i d below. let is = c.default.ensures.at i d below in sym is.1 ∙ is.2) in
+    let empty = all_empty c.default.result environment_numbers c.default.ensures.long (λ i d below. let is = c.default.ensures.at i d below in sym is.1 ∙ is.2) in
     cc (c.new.ensures, empty)

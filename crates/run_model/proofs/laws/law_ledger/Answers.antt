@@ -1,5 +1,0 @@
-use Rattle.run_model.proofs.Balance.{ledgers_are_lawful}
-use Rattle.run_model.proofs.laws.law_ledger.Goals as goal
-
-pub returns : goal.returns
-returns c = ledgers_are_lawful c.law_granted.ensures

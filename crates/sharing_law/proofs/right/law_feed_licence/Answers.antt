@@ -1,0 +1,4 @@
+use Rattle.sharing_law.proofs.right.law_feed_licence.Goals as goal
+
+pub returns : goal.returns
+returns c = c.law_licence_by_stores.ensures.feed c.law_stores.ensures

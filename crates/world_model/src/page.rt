@@ -1,8 +1,0 @@
-//! Why a page is accessed.
-/// Why an access is made.
-#[derive(Clone, Copy)]
-pub enum Purpose {
-    Fetch,
-    Load,
-    Store,
-}
