@@ -1,0 +1,10 @@
+mod Told
+mod Mute
+mod Events
+mod Turning
+mod Releasing
+mod Stepping
+mod Timing
+mod Ticks
+mod Booting
+mod Ending

@@ -1,0 +1,24 @@
+//! The law of the ledger.
+ghost use Rattle.ledger_law.specs.LedgerLaw.{EndFits, RowsFit};
+
+use call_verdicts::law_granted;
+use run_model::{law_next_turn, law_turn};
+
+/// The rows of every run fit, each behind those before it, for every image within its limits, every schedule and every
+/// number of ticks.
+pub fn law_ledger()
+    ensures { RowsFit }
+{
+    law_granted();
+    law_next_turn();
+    law_turn();
+}
+
+/// How a run ended fits behind its rows, for every image within its limits, every schedule and every limit of ticks.
+pub fn law_ledger_end()
+    ensures { EndFits }
+{
+    law_granted();
+    law_next_turn();
+    law_turn();
+}

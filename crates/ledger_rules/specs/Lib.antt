@@ -1,0 +1,2 @@
+pub mod LedgerState
+pub mod RowRules
