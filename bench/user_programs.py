@@ -7,6 +7,9 @@ import random
 import struct
 from collections import namedtuple
 
+import measuring  # which has the cases' folder on the path
+from binary import addi, addiu, immediate, lui, ori, register
+
 PAGE = 4096
 # The pages of a program. Before and behind each of these nothing is mapped.
 CODE, CODE_END = 0x00400000, 0x00402000
@@ -40,30 +43,6 @@ NAMES = {
     **{(opcode, 0): name for table in (JUMPS, BRANCHES, IMMEDIATES, ACCESSES) for name, opcode in table.items()},
     (0, BREAK): "break", (8, 0): "addi", (15, 0): "lui",
 }
-
-
-def register(function, rs=0, rt=0, rd=0, shift=0):
-    return rs << 21 | rt << 16 | rd << 11 | shift << 6 | function
-
-
-def immediate(opcode, rs, rt, value):
-    return opcode << 26 | rs << 21 | rt << 16 | value & 0xFFFF
-
-
-def lui(rt, value):
-    return immediate(15, 0, rt, value)
-
-
-def ori(rt, rs, value):
-    return immediate(13, rs, rt, value)
-
-
-def addiu(rt, rs, value):
-    return immediate(9, rs, rt, value)
-
-
-def addi(rt, rs, value):
-    return immediate(8, rs, rt, value)
 
 
 def half(rd, rt):
@@ -159,7 +138,7 @@ class Maker:
         if kind < 0.66:
             return register(self.number_of(PRODUCTS), self.source(), self.source())
         if kind < 0.69:
-            return register(self.number_of(MOVES_FROM), rd=self.target())
+            return register(self.number_of(MOVES_FROM), to=self.target())
         if kind < 0.70:
             return register(self.number_of(MOVES_TO), self.source())
         return self.access()

@@ -19,6 +19,8 @@ import struct
 import subprocess
 import sys
 
+import binary
+
 
 class Refused(Exception):
     """A manifest or a source that makes no image."""
@@ -73,8 +75,8 @@ def packed(aegis, manifest):
                     words.insert(3, "0")  # the file itself says where it stands
                 name, kind, base, stack, accept, file = words[1:]
                 code = body(aegis, os.path.join(folder, file))
-                numbers = [int(base, 0), int(stack, 0), int(accept, 0), ("flat", "elf").index(kind), len(code)]
-                programs.append(struct.pack("<8s5I", name.encode(), *numbers) + code)
+                numbers = (int(base, 0), int(stack, 0), int(accept, 0), bool(("flat", "elf").index(kind)))
+                programs.append(binary.Program(name, code, *numbers))
             elif wanted == "slots":
                 fields[wanted] = bytes(255 if word == "-" else int(word, 0) for word in words[1:])
             else:
@@ -83,9 +85,7 @@ def packed(aegis, manifest):
             raise Refused(f"{manifest}: line {number} isn't of the form of a manifest's '{wanted}' line") from None
     if not programs:
         raise Refused(f"{manifest}: it ends too early")
-    slots = fields["slots"]
-    head = struct.pack("<4sIIHH", b"AEG1", fields["pages"], fields["quantum"], len(programs), len(slots))
-    return head + slots + b"".join(programs)
+    return binary.image(fields["pages"], fields["quantum"], fields["slots"], programs)
 
 
 def main():

@@ -1,12 +1,16 @@
 """What the checkers of the exercises have in common: a student's source is run as the exercise's manifests say, and what
 is read of the runs are their reports (tools/report.py).
 
-A checker raises `Missing` with one sentence, which is printed, and the status is 1. Where nothing is missing the status
-is 0. Words that are no source, and a source that can't be read, are status 2.
+A checker has a list of demands, the numbered ones of the exercise's README, and makes its checks on a `Sheet`. A check
+raises `Missing` with a sentence. Raised on the sheet, it is what is missing of a demand; raised elsewhere, nothing more
+can be looked at. What is printed are the warnings of tools/lint, a line for each demand, and how many are met. The
+status is 0 where all are, and 1 otherwise. Words that are no source, and a source that can't be read, are status 2.
 """
 
 from __future__ import annotations
 
+import importlib.machinery
+import importlib.util
 import io
 import os
 import re
@@ -14,23 +18,60 @@ import shutil
 import subprocess
 import sys
 import tempfile
-from dataclasses import dataclass
-from typing import Callable, Dict, Iterator, List, Optional
+from dataclasses import dataclass, field
+from typing import Callable, Dict, Iterator, List, Optional, Sequence, Set
 
 LABS = os.path.dirname(os.path.realpath(__file__))
 TOOLS = f"{os.path.dirname(LABS)}/tools"
 sys.path.insert(0, TOOLS)
+from built import program
 from report import CAUSES, Cpu, Environment, Lines, Mark, Report, read, read_head
+from shown import decoded, open_output, shown
+from source import read_source
 
-AEGIS = os.path.abspath(os.environ.get("AEGIS") or f"{os.path.dirname(LABS)}/aegis")
 ANSWERS = {0: "granted", 4: "NotOwner", 5: "NoRight", 6: "BadVpn", 7: "Guaranteed", 8: "NoEnv", 9: "NotAccepted",
            10: "NoSlice", 12: "NotHolder", 20: "BadCall"}
+CALLS = ("yield put exit alloc free recap bind unbind context accept transfer take drop query claim unclaim handler line "
+         "backup send self clock").split()
+LAST_TICKS = 300  # of an environment that doesn't end, in which its calls are looked at
+FIRST_TICKS = 2_000  # in which the first of them is sought
 
 Values = Dict[str, Dict[str, int]]  # for files, the numbers of their `.equ` lines
 
 
 class Missing(Exception):
-    """What is missing, in one sentence."""
+    """What is missing, in one sentence; and lines that show where."""
+
+    def __init__(self, sentence: str, *lines: str):
+        super().__init__(sentence)
+        self.lines = lines
+
+
+@dataclass
+class Sheet:
+    """The demands of an exercise, and the first thing that is missing of each."""
+
+    demands: Sequence[str]
+    missing: Dict[int, Missing] = field(default_factory=dict)
+    looked_at: Set[int] = field(default_factory=set)
+
+    def look(self, number: int, check: Callable[..., None], *arguments: object) -> None:
+        """Makes a check of a demand, unless something of it is missing already."""
+        self.looked_at.add(number)
+        if number in self.missing:
+            return
+        try:
+            check(*arguments)
+        except Missing as why:
+            self.missing[number] = why
+
+    def lines(self) -> Iterator[str]:
+        """A line for each demand."""
+        for number, demand_of in enumerate(self.demands, 1):
+            why = self.missing.get(number)
+            ok = "ok" if number in self.looked_at else "not looked at"
+            yield f"{number} missing: {why}" if why else f"{number} {ok}: {demand_of}"
+            yield from why.lines if why else ()
 
 
 @dataclass
@@ -46,10 +87,13 @@ class Call:
     def answer(self) -> str:
         return f"{self.code} ({ANSWERS[self.code]})" if self.code in ANSWERS else str(self.code)
 
+    def name(self) -> str:
+        return f"call {self.number}" + (f" ({CALLS[self.number]})" if self.number < len(CALLS) else "")
+
 
 def aegis(*words: str, cwd: str) -> bytes:
     """What the program writes."""
-    ran = subprocess.run([AEGIS, *words], stdout=subprocess.PIPE, cwd=cwd)
+    ran = subprocess.run([program(), *words], stdout=subprocess.PIPE, cwd=cwd)
     if ran.returncode:
         raise Missing(f"`aegis {' '.join(words)}` ended with {ran.returncode}: {ran.stdout.decode(errors='replace').strip()}")
     return ran.stdout
@@ -58,9 +102,11 @@ def aegis(*words: str, cwd: str) -> bytes:
 class Machine:
     """An image, which runs as long as one likes, and the folder with its files."""
 
-    def __init__(self, room: str, image: str):
-        self.room, self.image = room, image
+    def __init__(self, lab: Lab, room: str, image: str, files: List[str]):
+        self.lab, self.room, self.image = lab, room, image
+        self.files = files  # the ELF file of each environment
         self.reports: Dict[int, Report] = {}
+        self.cpus: Dict[int, List[Environment]] = {}
 
     def run(self, ticks: int) -> Report:
         """The report of a run with this limit."""
@@ -73,47 +119,96 @@ class Machine:
         said = aegis("run", self.image, "/dev/null", str(ticks), cwd=self.room)
         return io.StringIO(said.decode("latin-1"), newline="\n")
 
+    def environment(self, env: int, ticks: int) -> Environment:
+        """What there is of an environment after so many ticks."""
+        if ticks not in self.cpus:
+            self.cpus[ticks] = read_head(Lines(self.written(ticks))).environments
+        return self.cpus[ticks][env]
+
     def registers(self, env: int, ticks: int) -> Optional[Cpu]:
         """The registers of an environment after so many ticks, where it lives."""
-        return read_head(Lines(self.written(ticks))).environments[env].cpu
+        return self.environment(env, ticks).cpu
 
-    def calls(self, env: int, elf: str, ticks: int) -> Iterator[Call]:
+    def own_ticks(self, env: int, since: int, ticks: int) -> Iterator[int]:
+        """The ticks from `since` on in which an environment runs, in a run with this limit."""
+        for piece in self.run(ticks).slices:
+            if piece.env == env:
+                yield from range(max(piece.start, since), piece.end)
+
+    def calls(self, env: int, ticks: int, since: int = 0, until: Optional[int] = None) -> Iterator[Call]:
         """The calls of an environment that goes on behind each of them, in a run with this limit: its registers are
         looked at before and after each tick in which it runs."""
-        listing = aegis("list", elf, cwd=self.room).decode().splitlines()
+        listing = aegis("list", self.files[env], cwd=self.room).decode().splitlines()
         places = {int(line[:8], 16) for line in listing if re.match("syscall", line[18:])}
-        for piece in self.run(ticks).slices:
-            if piece.env != env:
+        for time in self.own_ticks(env, since, ticks):
+            if until is not None and time >= until:
+                return
+            before = self.registers(env, time)
+            if not before or before.pc not in places or before.slot:
                 continue
-            states = [self.registers(env, time) for time in range(piece.start, piece.end + 1)]
-            for time, (before, after) in enumerate(zip(states, states[1:]), piece.start):
-                if before and after and before.pc in places and not before.slot:
-                    yield Call(time, before.registers[2], before.registers[4:9], *after.registers[2:4])
+            after = self.registers(env, time + 1)
+            if after:
+                yield Call(time, before.registers[2], before.registers[4:9], *after.registers[2:4])
+
+    def place(self, env: int, time: int) -> List[str]:
+        """The line of the source at which an environment stands after so many ticks."""
+        cpu = self.registers(env, time)
+        if not cpu:
+            return []
+        name = f"{os.path.splitext(self.files[env])[0]}.s"
+        with open(f"{self.room}/{name}", encoding="latin-1", newline="\n") as file:
+            statement = read_source(file.read()).at(cpu.pc)
+        if not statement:
+            return [f"   at 0x{cpu.pc:08x}, where no instruction of the program's text is"]
+        path = self.lab.shown if name == f"{self.lab.name}.s" else os.path.relpath(f"{self.lab.folder}/{name}")
+        return [f"   {path}:{statement.line}: {decoded(statement.text).strip()}"]
+
+    def refused_again(self, env: int, ticks: int) -> str:
+        """Which call of an environment is refused again and again at the end of a run, as the end of a sentence."""
+        own = list(self.own_ticks(env, 0, ticks))[-LAST_TICKS:]
+        refused = [it for it in self.calls(env, ticks, own[0]) if it.code] if own else []
+        last = next((it for it in refused[::-1] if sum(it.number == one.number for one in refused) > 1), None)
+        if not last:
+            return ""
+        said = f": its {last.name()} is refused again and again, with {last.answer()}"
+        first = next((it for it in self.calls(env, ticks, 0, FIRST_TICKS) if it.number == last.number), last)
+        spoilt = [f"${at} is 0x{new:x} and was 0x{old:x} at the first try" for at, (old, new) in
+                  enumerate(zip(first.arguments, last.arguments), 4) if old != new]
+        return said + (f"; {', '.join(spoilt)}: what another call takes stands in it" if spoilt else "")
 
 
 class Lab:
     """An exercise with a student's source, in a folder of its own."""
 
     def __init__(self, source: str, folder: str, room: str):
-        self.source, self.folder, self.room = source, folder, room
+        self.source, self.folder, self.room = os.path.abspath(source), folder, room
+        self.shown = shown(source)
         self.name = os.path.basename(folder)
         self.machines = 0
 
-    def machine(self, manifest: str, values: Optional[Values] = None) -> Machine:
-        """The machine of a manifest, in which these values stand in place of the sources' own."""
+    def machine(self, manifest: str, values: Optional[Values] = None, quantum: Optional[int] = None) -> Machine:
+        """The machine of a manifest, in which these values stand in place of the sources' own, and slices are as long
+        as its own or as this quantum."""
         self.machines += 1
         room = f"{self.room}/{self.machines}"
         os.mkdir(room)
         for name in os.listdir(self.folder):
             if name.endswith((".s", ".txt")):
-                shutil.copy(f"{self.folder}/{name}", room)
-        shutil.copy(self.source, f"{room}/{self.name}.s")
+                # the contents alone: an installation may be read-only
+                shutil.copyfile(f"{self.folder}/{name}", f"{room}/{name}")
+        shutil.copyfile(self.source, f"{room}/{self.name}.s")
         for name in sorted(os.listdir(room)):
             if name.endswith(".s"):
                 self.assemble(room, name, (values or {}).get(name, {}))
+        with open(f"{room}/{manifest}", encoding="ascii") as file:
+            text = file.read()
+        if quantum is not None:
+            text = re.sub(r"(?m)^quantum \d+", f"quantum {quantum}", text)
+            with open(f"{room}/{manifest}", "w", encoding="ascii") as file:
+                file.write(text)
         with open(f"{room}/image", "wb") as image:
             image.write(aegis("image", manifest, cwd=room))
-        return Machine(room, "image")
+        return Machine(self, room, "image", re.findall(r"(?m)^env .* (\S+)$", text))
 
     def assemble(self, room: str, name: str, values: Dict[str, int]) -> None:
         """Makes the ELF file of a source in which these values stand."""
@@ -125,13 +220,26 @@ class Lab:
                 raise Missing(f"The source has {found} lines `.equ {word}, ..`, and it needs one, in which the checker puts other numbers.")
         with open(f"{room}/{name}", "w", encoding="latin-1", newline="\n") as file:
             file.write(text)
-        ran = subprocess.run([AEGIS, "asm", name], stdout=subprocess.PIPE, cwd=room)
+        ran = subprocess.run([program(), "asm", name], stdout=subprocess.PIPE, cwd=room)
         if ran.returncode:
-            if name == f"{self.name}.s":
-                subprocess.run([sys.executable, f"{TOOLS}/try", self.source], env={**os.environ, "AEGIS": AEGIS})
-            raise Missing(f"The assembler refuses the source: {ran.stdout.decode(errors='replace').strip()}.")
+            why = f"The assembler refuses the source: {ran.stdout.decode(errors='replace').strip()}."
+            raise Missing(why, *(self.refused() if name == f"{self.name}.s" else ()))
         with open(f"{room}/{os.path.splitext(name)[0]}.elf", "wb") as file:
             file.write(ran.stdout)
+
+    def refused(self) -> List[str]:
+        """What tools/try says of a source that is refused."""
+        words = [sys.executable, f"{TOOLS}/try", self.source]
+        ran = subprocess.run(words, env={**os.environ, "AEGIS": program()}, stdout=subprocess.PIPE)
+        return [f"   {line}" for line in ran.stdout.decode(errors="replace").replace(self.source, self.shown).splitlines()]
+
+    def warnings(self) -> List[str]:
+        """What tools/lint warns of in the source."""
+        loader = importlib.machinery.SourceFileLoader("lint", f"{TOOLS}/lint")
+        lint = importlib.util.module_from_spec(importlib.util.spec_from_loader("lint", loader))
+        loader.exec_module(lint)
+        with open(self.source, encoding="latin-1", newline="\n") as file:
+            return lint.shown_warnings(self.shown, read_source(file.read()))
 
 
 def demand(holds: bool, sentence: str) -> None:
@@ -158,28 +266,54 @@ def fate(report: Report, env: Environment) -> str:
     return f"died of {env.why} {when}, {CAUSES[env.why]}" if env.life == "dead" else f"exited with {env.why} {when}"
 
 
-def demand_alive(report: Report, who: str, env: int = 0) -> None:
-    """It neither died nor exited."""
+def where(machine: Machine, report: Report, env: int) -> List[str]:
+    """The line of the source at which an environment died, or stands."""
+    time = ended(report, env)
+    return machine.place(env, report.head.time if time is None else time)
+
+
+def demand_alive(machine: Machine, ticks: int, who: str, env: int = 0, why: str = "") -> None:
+    """It neither died nor exited in a run with this limit. `why` is what usually is the reason of a death."""
+    report = machine.run(ticks)
     it = report.head.environments[env]
-    demand(it.life == "live", f"{who} is to live on, and it {fate(report, it)}.")
+    if it.life != "live":
+        reason = f": {why}" if why and it.life == "dead" else ""
+        raise Missing(f"{who} is to live on, and it {fate(report, it)}{reason}.", *where(machine, report, env))
 
 
-def demand_exit(report: Report, who: str, env: int) -> None:
-    """It exited with 0."""
+def demand_exit(machine: Machine, ticks: int, who: str, env: int) -> None:
+    """It exited with 0 in a run with this limit."""
+    report = machine.run(ticks)
     it = report.head.environments[env]
-    demand((it.life, it.why) == ("exit", "0"), f"{who} is to exit with 0, and it {fate(report, it)}.")
+    if (it.life, it.why) != ("exit", "0"):
+        again = machine.refused_again(env, ticks) if it.life == "live" else ""
+        raise Missing(f"{who} is to exit with 0, and it {fate(report, it)}{again}.", *where(machine, report, env))
 
 
-def main(check: Callable[[Lab], str], script: str) -> int:
-    """Runs a checker on the source that the words name, and prints its sentence."""
+def result(lab: Lab, sheet: Sheet, check: Callable[[Lab, Sheet], str]) -> int:
+    """Makes the checks and prints what they say; the status."""
+    lines = lab.warnings()
+    try:
+        done = check(lab, sheet)
+    except Missing as why:
+        lines += [str(why), *why.lines]
+        lines += [f"{number} not looked at: {text}" for number, text in enumerate(sheet.demands, 1)]
+        met = 0
+    else:
+        lines += sheet.lines()
+        met = len(sheet.looked_at - set(sheet.missing))
+    of_all = f"{met} of {len(sheet.demands)} demands are met."
+    lines.append(f"{lab.name}: done. {done}" if met == len(sheet.demands) else f"{lab.name}: {of_all}")
+    print("\n".join(map(shown, lines)))
+    return 0 if met == len(sheet.demands) else 1
+
+
+def main(check: Callable[[Lab, Sheet], str], demands: Sequence[str], script: str) -> int:
+    """Runs a checker on the source that the words name, and prints what is met."""
     folder = os.path.dirname(os.path.realpath(script))
-    if len(sys.argv) != 2 or not os.path.isfile(sys.argv[1]):
+    if len(sys.argv) != 2 or not os.path.isfile(sys.argv[1]) or not os.access(sys.argv[1], os.R_OK):
         print(f"{script} SOURCE: a source in assembly", file=sys.stderr)
         return 2
+    open_output()
     with tempfile.TemporaryDirectory(prefix="aegis-lab-") as room:
-        try:
-            print(f"{os.path.basename(folder)}: done. {check(Lab(os.path.abspath(sys.argv[1]), folder, room))}")
-            return 0
-        except Missing as why:
-            print(why)
-            return 1
+        return result(Lab(sys.argv[1], folder, room), Sheet(demands), check)

@@ -43,10 +43,14 @@ KINDS = {
     "take": Kind('<path d="M-4-4H4V4H-4Z"/><path class="line" d="M-2 0H2"/>', False, "a page is taken"),
     "drop": Kind('<path class="line" d="M0-4.4V2.4M-3.2-.6 0 2.6 3.2-.6M-3.6 4.4H3.6"/>', False,
                  "a packet that nobody claims"),
+    "packet": Kind('<path class="open" d="M-4.6-3.2H4.6V3.2H-4.6Z"/><path class="line" d="M-4.6-3.2 0 .8 4.6-3.2"/>', False,
+                   "a packet arrives, as the schedule says"),
+    "line": Kind('<path class="line" d="M-4.4 2.6H-1.4V-3.4H1.6V2.6H4.4"/>', False, "a signal on an interrupt line"),
+    "revoke": Kind('<path class="line" d="M4.4 0H-3.6M-.6-3.4-4.2 0-.6 3.4"/>', False, "an environment is to give pages back"),
 }
 TRANSFERS = frozenset(("give", "async", "sync"))
-Lane = Tuple[str, int]  # a slot or an environment with its slices, an environment's pages, or the packets
-SLOT, ENV, PAGES, PACKETS = "slot", "env", "pages", "packets"
+Lane = Tuple[str, int]  # a slot or an environment with its slices, an environment's pages, the packets, or what the schedule says
+SLOT, ENV, PAGES, PACKETS, OUTSIDE = "slot", "env", "pages", "packets", "outside"
 SHOWN_ROWS = 6  # that hovering lists where several are folded
 
 
@@ -176,19 +180,32 @@ class Picture(Listener):
                 return
             at, start, edge, begun = at + 1, edge, edge + self.column_ticks, 0
 
+    def add_event(self, kind: str, time: int, row: str) -> None:
+        """Takes in an event of the schedule, a mark of a lane of its own."""
+        self.keep((OUTSIDE, 0), kind, time, None, row)
+
     def add_mark(self, kind: str, time: int, env: Optional[int], slot: Optional[int], row: str, until: int) -> None:
         """Takes a mark in, if its tick lies in the range. Deaths are few and stand for themselves."""
         if kind in ("asked", "dead", "exit"):
             self.end_deadline(env, time + KINDS[kind].after)
         lane = (self.what, self.lane(slot, env)) if slot is not None else (PACKETS, 0) if env is None else (PAGES, env)
+        if kind in ("dead", "exit"):
+            self.spots.setdefault(lane, {})
+            if self.first <= time < self.end:
+                self.deaths.append((kind, lane[1], env, time, row))
+            return
+        spot = self.keep(lane, kind, time, env, row)
+        if kind == "asked" and spot is not None:
+            spot.until, spot.is_over = until, False
+            self.asked[env] = spot
+
+    def keep(self, lane: Lane, kind: str, time: int, env: Optional[int], row: str) -> Optional[Spot]:
+        """The spot of a mark in a lane, where its tick lies in the range."""
         spots = self.spots.get(lane)
         if spots is None:
             spots = self.spots[lane] = {}
         if not self.first <= time < self.end:
-            return
-        if kind in ("dead", "exit"):
-            self.deaths.append((kind, lane[1], env, time, row))
-            return
+            return None
         x = (time + KINDS[kind].after - self.first) * self.scale
         spot = spots.get(int(x))
         if spot is None:
@@ -198,9 +215,7 @@ class Picture(Listener):
             spot.envs.add(env)
             if len(spot.rows) < SHOWN_ROWS:
                 spot.rows.append(row)
-        if kind == "asked":
-            spot.until, spot.is_over = until, False
-            self.asked[env] = spot
+        return spot
 
     def end_deadline(self, env: int, time: int) -> None:
         """What an environment was asked for by its last revocation has another deadline from now on, or none."""

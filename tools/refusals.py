@@ -6,7 +6,10 @@ import difflib
 import re
 from typing import Dict, Optional
 
-from source import JUMPS, LOADS, NAME, OPERANDS, Source, Statement, read_statement, register
+from limits import (LEAST_PAGES, LEAST_QUANTUM, MOST_ASKED, MOST_ENVIRONMENTS, MOST_EVENTS, MOST_LINE, MOST_MAPPINGS, MOST_PACKET_SIZE, MOST_PAGES,
+                    MOST_QUANTUM, MOST_SLOTS, MOST_STACK_PAGES, MOST_TARGET, MOST_TICKS)
+from shown import decoded
+from source import JUMPS, LOADS, NAME, OPERANDS, Source, Statement, number, read_statement, register
 
 SOURCE = {
     "Syntax": "the line has a form that the assembler doesn't know",
@@ -20,23 +23,23 @@ SOURCE = {
 MANIFEST = {
     "Syntax": "the line isn't of the form that is due here",
     "Range": "a word isn't a number, or a number or a name is outside its limits",
-    "Many": "there are more than sixteen environments",
+    "Many": f"there are more than {MOST_ENVIRONMENTS} environments",
 }
 IMAGE = {
     "Short": "the file ends too early",
     "Magic": "the file doesn't begin with `AEG1`, so it isn't an image",
-    "Pages": "a machine has 16 to 1,024 pages",
-    "Quantum": "a slice has 16 to 65,536 ticks",
-    "Envs": "an image has 1 to 16 environments",
-    "Slots": "an image has 1 to 64 slots",
+    "Pages": f"a machine has {LEAST_PAGES} to {MOST_PAGES:,} pages",
+    "Quantum": f"a slice has {LEAST_QUANTUM} to {MOST_QUANTUM:,} ticks",
+    "Envs": f"an image has 1 to {MOST_ENVIRONMENTS} environments",
+    "Slots": f"an image has 1 to {MOST_SLOTS} slots",
     "SlotOwner": "a slot is owned by an environment that there isn't",
     "Name": "a name is one to eight of `a` to `z`, `0` to `9` and `_`",
     "Kind": "a program is flat or ELF",
-    "Stack": "a program has at most 16 pages of stack",
+    "Stack": f"a program has at most {MOST_STACK_PAGES} pages of stack",
     "Base": "a flat program begins at the address of a page, from 0x2000 on, and ends below 0x7FF00000; an ELF program has base 0",
     "Empty": "a flat program has no byte",
     "Trailing": "something follows the last program",
-    "TooMany": "a program needs more than 256 pages",
+    "TooMany": f"a program needs more than {MOST_MAPPINGS} pages",
     "TooBig": "the environments need more pages than the machine has",
 }
 ELF = {
@@ -58,7 +61,7 @@ SCHEDULE = {
     "Range": "a word isn't a number, or is outside its limits",
     "Hex": "a packet isn't two hexadecimal digits for each byte",
     "Order": "the time is below that of the event before",
-    "Many": "there are more than 65,536 events",
+    "Many": f"there are more than {MOST_EVENTS:,} events",
 }
 KINDS: Dict[str, Dict[str, str]] = {"source": SOURCE, "manifest": MANIFEST, "image": IMAGE, "ELF file": ELF, "schedule": SCHEDULE}
 
@@ -72,12 +75,31 @@ INSTEAD = {
     "mul": "mult {1},{2}` and `mflo {0}", "mulo": "mult {1},{2}` and `mflo {0}", "rem": "div {1},{2}` and `mfhi {0}",
     "neg": "subu {0},$0,{1}", "negu": "subu {0},$0,{1}", "not": "nor {0},{1},$0",
     "subi": "addi` with the number's negative: `addi {0},{1},-{2}", "subiu": "addiu` with the number's negative: `addiu {0},{1},-{2}",
+    "push": "addiu $29,$29,-4` and `sw {0},0($29)", "pop": "lw {0},0($29)` and `addiu $29,$29,4",
+    "abs": "sra $1,{1},31` and `xor {0},{1},$1` and `subu {0},{0},$1",
     "seq": "xor {0},{1},{2}` and `sltiu {0},{0},1", "sne": "xor {0},{1},{2}` and `sltu {0},$0,{0}",
     "sgt": "slt {0},{2},{1}", "sgtu": "sltu {0},{2},{1}", "sge": "slt {0},{1},{2}` and `xori {0},{0},1",
     "sle": "slt {0},{2},{1}` and `xori {0},{0},1", "clear": "move {0},$0", "ret": "jr $31", "call": "jal {0}",
     ".string": ".asciiz", ".long": ".word", ".int": ".word", ".short": ".half", ".zero": ".space", ".skip": ".space",
     ".rodata": ".text` or `.data", ".bss": ".data` and `.space", ".set": ".equ NAME,VALUE", ".equiv": ".equ NAME,VALUE",
+    ".eqv": ".equ {0}",
 }
+OF_REGISTERS = frozenset("mul mulo rem seq sne sgt sgtu sge sle".split())  # and never of a number
+# Branches that compare with a number: the test, what is added to the number, and the branch.
+WITH_NUMBER = {"blt": ("slti", 0, "bne"), "bge": ("slti", 0, "beq"), "ble": ("slti", 1, "bne"), "bgt": ("slti", 1, "beq"),
+               "bltu": ("sltiu", 0, "bne"), "bgeu": ("sltiu", 0, "beq"), "bleu": ("sltiu", 1, "bne"), "bgtu": ("sltiu", 1, "beq")}
+# Directives of others that nothing here stands for, and why.
+NOTHING_FOR = {
+    ".macro": "There are no macros: write a function, or the lines themselves.",
+    ".endm": "There are no macros: write a function, or the lines themselves.",
+    ".end_macro": "There are no macros: write a function, or the lines themselves.",
+    ".include": "A program is one source: copy the lines of the other file into it.",
+    ".float": "The machine has no floating point unit.",
+    ".double": "The machine has no floating point unit: two `.word` have the 64 bits of a double.",
+    ".kdata": "The kernel isn't in the machine's memory: handlers stand in `.text`, and their variables in `.data`.",
+    ".ktext": "The kernel isn't in the machine's memory: handlers stand in `.text`, and their variables in `.data`.",
+}
+CHARACTERS = {"\\n": 10, "\\t": 9, "\\0": 0, "\\r": 13}
 LEFT_OUT = frozenset(".globl .global .extern .ent .end .type .size .file .option .frame .mask .section .p2align".split())
 FORMS = {"r": "a register", "n": "a number or a name", "b": "an address such as `0($8)`", "q": "a text in quotation marks", ".": "a name"}
 
@@ -106,7 +128,7 @@ def event_advice(why: str, line: str) -> str:
     """What is wrong with a line of a schedule that is refused for `why`, as far as it can be told."""
     odd = re.search(r"[^\t\r -~]", line)
     if odd:
-        return f"The line has the character {odd[0]!r}: a schedule is plain ASCII, in comments too."
+        return f"The line has the character {wide(odd[0], line)!r}: a schedule is plain ASCII, in comments too."
     words = line.split("#")[0].split()
     if why == "Syntax":
         if len(words) > 3 and words[1] == "packet":
@@ -119,11 +141,17 @@ def event_advice(why: str, line: str) -> str:
             return "A digit is one of `0` to `9`, `a` to `f` and `A` to `F`."
         return "Each byte has two digits, and their number is odd."
     if why == "Range":
-        limit = {"packet": "a packet has 1 to 1,514 bytes", "line": "the lines are 0 to 7"}.get(words[1], "so is a grace, an environment at most 31, and a count of pages at most 4,096")
-        return f"A time is at most 4,194,304, and {limit}. Numbers are decimal or begin with `0x`."
+        limit = {"packet": f"a packet has 1 to {MOST_PACKET_SIZE:,} bytes", "line": f"the lines are 0 to {MOST_LINE}"}.get(
+            words[1], f"so is a grace, an environment at most {MOST_TARGET}, and a count of pages at most {MOST_ASKED:,}")
+        return f"A time is at most {MOST_TICKS:,}, and {limit}. Numbers are decimal or begin with `0x`."
     if why == "Order":
         return "Events stand in the order of their times."
     return ""
+
+
+def wide(character: str, line: str) -> str:
+    """The first character beyond ASCII of a line that was read as Latin-1, as UTF-8 has it where the line is that."""
+    return next((it for it in decoded(line) if ord(it) > 127), character) if character > "\x7f" else character
 
 
 def bad_registers(said: Statement):
@@ -138,12 +166,20 @@ def unknown(_source: Source, said: Statement) -> Optional[str]:
     if name not in OPERANDS:
         if name.lower() in OPERANDS:
             return f"Operations are lower case: `{name.lower()}`."
+        if name in WITH_NUMBER and len(said.operands) == 3 and is_number(said.operands[1]):
+            return compared(said)
+        if name == ".eqv" and len(said.operands) == 1:
+            return f"`.eqv` isn't built in: write `.equ {', '.join(said.operands[0].split(None, 1))}`."
+        if name in NOTHING_FOR:
+            return NOTHING_FOR[name]
         if name in INSTEAD:
-            operands = said.operands + ["..."] * 3
-            return f"`{name}` isn't built in: write `{INSTEAD[name].format(*operands)}`."
+            operands, first = said.operands + ["..."] * 3, ""
+            if name in OF_REGISTERS and is_number(operands[2]):
+                first, operands[2] = f"`li $1,{operands[2]}` and ", "$1"
+            return f"`{name}` isn't built in: write {first}`{INSTEAD[name].format(*operands)}`."
         if name in LEFT_OUT:
             return f"`{name}` isn't needed here: leave the line out."
-        if re.fullmatch(r"(\w+\.[sd]|[ls]wc1|mt?fc1|mtc1|c\..*|bc1.)", name) or name in (".float", ".double"):
+        if re.fullmatch(r"(\w+\.[sd]|[ls]wc1|mt?fc1|mtc1|c\..*|bc1.)", name):
             return "The machine has no floating point unit."
         near = difflib.get_close_matches(name, OPERANDS, 1)
         what = "directive" if name.startswith(".") else "instruction"
@@ -159,9 +195,21 @@ def unknown(_source: Source, said: Statement) -> Optional[str]:
     return None
 
 
+def is_number(operand: str) -> bool:
+    return re.fullmatch(r"-?[0-9]+|0x[0-9a-fA-F]+", operand) is not None
+
+
+def compared(said: Statement) -> str:
+    """What to write for a branch that compares a register with a number."""
+    test, added, branch = WITH_NUMBER[said.operation]
+    left, limit, target = said.operands
+    return f"`{said.operation}` isn't built in: write `{test} $1,{left},{number(limit) + added}` and `{branch} $1,$0,{target}`."
+
+
 def syntax(source: Source, said: Statement) -> Optional[str]:
     """A line of another form."""
-    return of_the_line(said) or of_the_operands(source, said)
+    known = of_the_line(said) or of_the_operands(source, said)
+    return known or (unknown(source, said) if said.operation not in OPERANDS else None)
 
 
 def of_the_line(said: Statement) -> Optional[str]:
@@ -169,7 +217,7 @@ def of_the_line(said: Statement) -> Optional[str]:
     line = said.text.split("#")[0]
     odd = re.search(r"[^\t\r -~]", said.text)
     if odd:
-        return f"The line has the character {odd[0]!r}: a source is plain ASCII, in comments too."
+        return f"The line has the character {wide(odd[0], said.text)!r}: a source is plain ASCII, in comments too."
     if line.count('"') % 2 and not line.count('\\"') % 2:
         return "The quoted text doesn't end in this line."
     bare = re.sub(r'"(?:[^"\\]|\\.)*"', '""', line)
@@ -177,8 +225,15 @@ def of_the_line(said: Statement) -> Optional[str]:
         return "`;` has no meaning here: a comment begins with `#`, and each statement has a line of its own."
     if "//" in bare or "/*" in bare:
         return "A comment begins with `#`."
-    if re.search(r"'(.|\\.)'", bare):
-        return f"A character is written as its number: `{ord(re.search(chr(39) + '(.)', bare)[1])}`."
+    character = re.search(r"'(\\?.)'", bare)
+    if character:
+        return f"A character is written as its number: `{CHARACTERS.get(character[1], ord(character[1][-1]))}`."
+    repeated = re.search(r"(\.word|\.half|\.byte)\s+(-?\w+)\s*:\s*(\d+)\s*$", bare)
+    if repeated:
+        size = {".word": 4, ".half": 2, ".byte": 1}[repeated[1]]
+        if repeated[2] == "0":
+            return f"A value isn't repeated by `:`: for {repeated[3]} zeros write `.space {size * int(repeated[3])}`."
+        return f"A value isn't repeated by `:`: write `{repeated[1]}` with {repeated[3]} values, with commas between them."
     if re.match(rf"\s*{NAME}[ \t]+:", bare):
         return "The colon stands directly behind the label."
     if re.match(r"\s*[0-9]\w*:", bare):
@@ -232,7 +287,7 @@ def of_an_operand(name: str, kind: str, operand: str, operands) -> Optional[str]
         if name == "move":
             return f"`move` copies a register: for a number or an address write `li {operands[0]}, {operand}`."
         if name in OPERANDS and name + "i" in OPERANDS or name in ("addu", "sltu"):
-            with_number = {"addu": "addiu", "sltu": "sltiu"}.get(name, name + "i")
+            with_number = {"add": "addiu", "addu": "addiu", "sltu": "sltiu"}.get(name, name + "i")
             return f"`{name}` {'adds' if name.startswith('add') else 'has'} registers alone: with a number it is `{with_number}`."
         if name in ("sub", "subu"):
             return f"With a number it is `addi` or `addiu`, and the number's negative."

@@ -11,8 +11,13 @@ have no slot, and take one that is empty.
 Most have entries for transfers, of one kind or of both, and call each other. Who is called does some of what a program does,
 mostly accepts again, and goes on where it stood; at times it calls its caller back, so that slots go there and back.
 """
+import os
 import random
-import struct
+import sys
+
+sys.path.insert(0, os.path.dirname(os.path.dirname(os.path.realpath(__file__))))
+import binary
+from binary import BREAK, NOP, SYSCALL, addiu, immediate, ori, register
 
 BASE, PAGE, AREA = 0x2000, 4096, 0x1000
 YIELD, PUT, EXIT, ALLOC, FREE, RECAP, BIND, UNBIND, CONTEXT, ACCEPT, TRANSFER = range(11)
@@ -26,25 +31,6 @@ NUMBERS = (0x500, 0x600, 0x700, 0x101, 0x102, 0x000, 0x501, 0x7FF00)
 READ_WORDS, WRITE_WORDS = ((5, 0),) * 6 + ((5, 1), (0, 0)), ((9, 0),) * 6 + ((0, 1), (0, 0))
 OPCODES = {"lb": 32, "lh": 33, "lwl": 34, "lw": 35, "lbu": 36, "lhu": 37, "lwr": 38, "sb": 40, "sh": 41, "swl": 42, "sw": 43, "swr": 46}
 WIDTHS = {"lh": 2, "lhu": 2, "sh": 2, "lw": 4, "sw": 4}
-
-
-def immediate(opcode, rs, rt, value):
-    return opcode << 26 | rs << 21 | rt << 16 | value & 0xFFFF
-
-
-def register(function, rs, rt, rd, shift=0):
-    return rs << 21 | rt << 16 | rd << 11 | shift << 6 | function
-
-
-def ori(rt, rs, value):
-    return immediate(13, rs, rt, value)
-
-
-def addiu(rt, rs, value):
-    return immediate(9, rs, rt, value)
-
-
-NOP, SYSCALL, BREAK = 0, 12, 13
 
 
 class Program:
@@ -344,7 +330,7 @@ class Program:
                 self.words[place] = ori(A1, ZERO, BASE + 4 * len(self.words))
             if self.wanted[kind]:
                 handler()
-        return struct.pack(f"<{len(self.words)}I", *self.words)
+        return binary.code(self.words)
 
 
 class System:
@@ -363,10 +349,11 @@ class System:
         self.slots += [chance.choice((*range(count), 255)) for _ in range(chance.randrange(4))]
         chance.shuffle(self.slots)
         self.quantum, self.ticks = chance.randrange(16, 80), chance.randrange(200, 1200)
-        self.image = b"AEG1" + struct.pack("<IIHH", self.pages, self.quantum, count, len(self.slots)) + bytes(self.slots)
+        programs = []
         for environment, stack in enumerate(stacks):
             mask, body = chance.choice((0xFFFF, 0xFFFF, chance.randrange(1 << 16), 0)), Program(chance, self, environment).made()
-            self.image += f"e{environment}".encode().ljust(8, b"\0") + struct.pack("<5I", BASE, stack, mask, 0, len(body)) + body
+            programs.append(binary.Program(f"e{environment}", body, BASE, stack, mask))
+        self.image = binary.image(self.pages, self.quantum, self.slots, programs)
 
     def pages_of(self, environment):
         """The pages that are guaranteed to an environment."""

@@ -1,10 +1,14 @@
 """What is read: boot images, the ELF files in them, and schedules, each with its faults: docs/FORMATS.md."""
+import os
 import struct
+import sys
 from dataclasses import dataclass
 
-PAGE = 4096
+sys.path.append(os.path.join(os.path.dirname(os.path.realpath(__file__)), "..", "..", "tools"))
+from limits import (LEAST_PAGES, LEAST_QUANTUM, MOST_ASKED, MOST_ENVIRONMENTS, MOST_EVENTS, MOST_LINE, MOST_MAPPINGS, MOST_PACKET_SIZE as MOST_PACKET,
+                    MOST_PAGES, MOST_QUANTUM, MOST_SLOTS, MOST_STACK_PAGES as MOST_STACK, MOST_TARGET, MOST_TICKS, PAGE_SIZE as PAGE)
+
 LEAST_ADDRESS, END_OF_ADDRESSES, END_OF_STACK = 0x2000, 0x7FF00000, 0x7FFF0000
-MOST_MAPPINGS, MOST_STACK, MOST_TICKS, MOST_PACKET, MOST_EVENTS = 256, 16, 4194304, 1514, 65536
 CONTEXT_VPN = 1
 EMPTY = 255
 
@@ -77,7 +81,8 @@ def read_image(file):
         raise Fault("Short", len(file))
     if file[:4] != b"AEG1":
         raise Fault("Magic", 0)
-    limits = (("Pages", 4, 4, 16, 1024), ("Quantum", 8, 4, 16, 65536), ("Envs", 12, 2, 1, 16), ("Slots", 14, 2, 1, 64))
+    limits = (("Pages", 4, 4, LEAST_PAGES, MOST_PAGES), ("Quantum", 8, 4, LEAST_QUANTUM, MOST_QUANTUM), ("Envs", 12, 2, 1, MOST_ENVIRONMENTS),
+              ("Slots", 14, 2, 1, MOST_SLOTS))
     for why, place, size, least, most in limits:
         if not least <= number_at(file, place, size) <= most:
             raise Fault(why, place)
@@ -228,9 +233,9 @@ def read_event(line, words):
         raise Fault("Syntax", line)
     tick = ranged(words[0], MOST_TICKS)
     if words[1] == b"line":
-        return Event(tick, line=ranged(words[2], 7))
+        return Event(tick, line=ranged(words[2], MOST_LINE))
     if words[1] == b"revoke":
-        return Event(tick, revoke=tuple(ranged(word, most) for word, most in zip(words[2:], (31, 4096, MOST_TICKS))))
+        return Event(tick, revoke=tuple(ranged(word, most) for word, most in zip(words[2:], (MOST_TARGET, MOST_ASKED, MOST_TICKS))))
     if len(words[2]) % 2 or any(digit not in b"0123456789abcdefABCDEF" for digit in words[2]):
         raise Fault("Hex", line)
     packet = bytes.fromhex(words[2].decode())

@@ -20,7 +20,9 @@ import random
 import struct
 import sys
 
-sys.path.append(os.path.join(os.path.dirname(os.path.abspath(__file__)), "..", "random_systems"))
+CASES = os.path.dirname(os.path.dirname(os.path.abspath(__file__)))
+sys.path += [CASES, f"{CASES}/random_systems"]
+import binary
 from systems import (A0, A1, ALLOC, ANY, AREA, BASE, BIND, CONTEXTS, COUNTER, EXCEPTIONS, EXIT, FREE, NOP, OPCODES, PAGE, PAGES, POINTER, PUT, ROUNDS,
                      SCRATCH, SYSCALL, V0, V1, ZERO, Program, addiu, immediate, ori, register)
 
@@ -427,11 +429,8 @@ class Guest(Program):
 
 def elf_file(chance, code, data, is_read_only):
     """The same as an ELF file, the data behind the code, and in memory perhaps more than in the file."""
-    header = struct.pack("<16sHHIIIIIHHHHHH", b"\x7fELF\x01\x01\x01", 2, 8, 1, BASE, 52, 0, 0, 52, 32, 2, 0, 0, 0)
-    offset, end = 52 + 64, 52 + 64 + len(code)
-    code_header = struct.pack("<8I", 1, offset, BASE, BASE, len(code), len(code), 5 if is_read_only else 7, 1)
     in_file = chance.choice((PAGE, 0xA00))
-    return header + code_header + struct.pack("<8I", 1, end, DATA, DATA, in_file, PAGE, 6, 1) + code + data[:in_file]
+    return binary.elf(BASE, (binary.Segment(BASE, code, 5 if is_read_only else 7), binary.Segment(DATA, data[:in_file], 6, PAGE)))
 
 
 class System:
@@ -450,9 +449,8 @@ class System:
         chance.shuffle(self.slots)
         self.quantum, self.ticks = chance.randrange(16, 100), chance.randrange(*chance.choice(((40,), *[(300, 1000)] * 3, *[(1000, 3000)] * 5)))
         self.traffic, self.revokes, self.deadlines = Traffic(chance), chance.choice((0, 0, 0.1, 0.3, 0.5)), []
-        self.image = b"AEG1" + struct.pack("<IIHH", self.pages, self.quantum, count, len(self.slots)) + bytes(self.slots)
-        for environment, stack in enumerate(stacks):
-            self.image += self.program(environment, stack)
+        programs = [self.program(environment, stack) for environment, stack in enumerate(stacks)]
+        self.image = binary.image(self.pages, self.quantum, self.slots, programs)
         self.schedule = self.text_of(self.events())
         if chance.random() < 0.02:
             place = chance.randrange(len(self.image))
@@ -467,7 +465,7 @@ class System:
         else:
             body = code.ljust(PAGE, b"\0") + data
         mask = chance.choice((0xFFFF, 0xFFFF, chance.randrange(1 << 16), 0))
-        return f"e{environment}".encode().ljust(8, b"\0") + struct.pack("<5I", 0 if is_elf else BASE, stack, mask, is_elf, len(body)) + body
+        return binary.Program(f"e{environment}", body, 0 if is_elf else BASE, stack, mask, is_elf)
 
     def events(self):
         """By rising tick, what a line says behind it."""

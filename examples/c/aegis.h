@@ -295,6 +295,27 @@ struct aegis_answer aegis_ask(unsigned server, unsigned argument);
 /* The other side: answers the calls of these clients, a bit for each, for ever. It wants one slot of its own. */
 __attribute__((noreturn)) void aegis_serve(unsigned clients, unsigned (*answer)(unsigned client, unsigned argument));
 
+/* Numbers of packets, whose highest byte stands first, and those of the machine, each made of the other. */
+static inline unsigned short htons(unsigned short number)
+{
+    return (unsigned short)(number << 8 | number >> 8);
+}
+
+static inline unsigned htonl(unsigned number)
+{
+    return number << 24 | (number & 0xff00) << 8 | (number >> 8 & 0xff00) | number >> 24;
+}
+
+static inline unsigned short ntohs(unsigned short number)
+{
+    return htons(number);
+}
+
+static inline unsigned ntohl(unsigned number)
+{
+    return htonl(number);
+}
+
 /* How many ticks were made before this one. */
 static inline unsigned aegis_clock(void)
 {

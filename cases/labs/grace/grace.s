@@ -59,10 +59,11 @@ rest:   li   $2, 0              # yield, for ever, so that the page stays
 # The address to go on at is in $26, and what was in $26 stands at 0x1050.
 ended:  addiu $29, $29, -20
         sw   $2, 0($29)
-        sw   $4, 4($29)
-        sw   $26, 8($29)        # where the program goes on
+        sw   $3, 4($29)         # a yield answers in $2 and $3
+        sw   $4, 8($29)
+        sw   $26, 12($29)       # where the program goes on
         lw   $26, 0x1050($0)    # $26 as it was
-        sw   $26, 12($29)
+        sw   $26, 16($29)
         lw   $2, inside($0)
         bne  $2, $0, note
         nop
@@ -73,8 +74,9 @@ ended:  addiu $29, $29, -20
         nop
 note:   sw   $2, over($0)       # in grace it goes on, up to the unit's end
 back:   lw   $2, 0($29)
-        lw   $4, 4($29)
-        lw   $26, 8($29)
+        lw   $3, 4($29)
+        lw   $4, 8($29)
+        lw   $26, 12($29)
         addiu $29, $29, 20
         jr   $26
-        lw   $26, -8($29)       # runs before the jump is over
+        lw   $26, -4($29)       # runs before the jump is over

@@ -1,4 +1,4 @@
-# says: Of the first 3 slices environment 1 has 3, and its share of 20 in 100 is 0.6: the others wait too long.
+# says: 1 missing: Of the first 3 slices environment 1 has 3, and its share of 20 in 100 is 0.6: the others wait too long.
 # Gives environment 1 all of its slices in a row, and then 2, and then 3. Who is dead is passed over.
 .equ    share1, 3
 .equ    share2, 2

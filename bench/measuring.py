@@ -1,0 +1,78 @@
+"""What the benches have in common: the program, files of a run, and times, memory and host instructions of a command."""
+
+from __future__ import annotations
+
+import os
+import re
+import resource
+import shutil
+import subprocess
+import sys
+import time
+from typing import List, Sequence, Tuple
+
+ROOT = os.path.dirname(os.path.dirname(os.path.realpath(__file__)))
+sys.path[:0] = [f"{ROOT}/cases", f"{ROOT}/tools"]
+sys.dont_write_bytecode = True
+
+Command = Sequence[str]
+
+
+def written(folder: str, name: str, content: bytes, mode: int = 0o600) -> str:
+    """The path of a file with this content."""
+    path = os.path.join(folder, name)
+    with open(path, "wb") as out:
+        out.write(content)
+    os.chmod(path, mode)
+    return path
+
+
+def run(command: Command) -> subprocess.CompletedProcess:
+    """Runs a command, whose output goes nowhere; it has to end well."""
+    return subprocess.run(command, stdout=subprocess.DEVNULL, stderr=subprocess.PIPE, text=True, check=True)
+
+
+def seconds(command: Command) -> float:
+    """From its start to its end."""
+    begin = time.perf_counter()
+    run(command)
+    return time.perf_counter() - begin
+
+
+def processor_seconds(command: Command) -> float:
+    """Of a processor, with the system's: what other work on the machine changes less."""
+    usage = resource.getrusage(resource.RUSAGE_CHILDREN)
+    before = usage.ru_utime + usage.ru_stime
+    run(command)
+    usage = resource.getrusage(resource.RUSAGE_CHILDREN)
+    return usage.ru_utime + usage.ru_stime - before
+
+
+def best(commands: Sequence[Command], rounds: int, measure=seconds) -> List[float]:
+    """The best of so many times of each command, which take turns, so that other work meets them alike."""
+    return [min(times) for times in zip(*([measure(it) for it in commands] for _ in range(rounds)))]
+
+
+def peak(command: Command) -> str:
+    """The most memory, in KiB: by GNU time, since a child of Python counts Python's own."""
+    return run(("/usr/bin/time", "-f", "%M", *command)).stderr.strip()
+
+
+def instructions(command: Command) -> int:
+    """The host's instructions, by valgrind, which no load changes."""
+    ran = run(("valgrind", "--tool=callgrind", "--callgrind-out-file=/dev/null", *command))
+    return int(re.search(r"Collected : (\d+)", ran.stderr)[1])
+
+
+def has(tool: str, package: str, what: str) -> bool:
+    """Whether there is a tool; where it is missing, says so."""
+    if shutil.which(tool):
+        return True
+    print(f"no {what}: there is no {tool}: on Debian apt-get install {package}")
+    return False
+
+
+def difference(command_of, lengths: Tuple[int, int], rounds: int, measure=seconds) -> float:
+    """Seconds that the longer of two runs of these lengths takes more than the shorter one, so that no start is counted."""
+    short, long = best([command_of(it) for it in lengths], rounds, measure)
+    return long - short

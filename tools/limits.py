@@ -1,0 +1,19 @@
+"""The limits of the machine, of the kernel and of files (docs/FORMATS.md, "Limits"), for the tools, cases and benches.
+cases/numbers compares them with the constants of the crates.
+"""
+
+PAGE_SIZE = 4_096  # bytes
+LEAST_PAGES, MOST_PAGES = 16, 1_024  # of physical memory
+LEAST_QUANTUM, MOST_QUANTUM = 16, 65_536  # ticks
+MOST_ENVIRONMENTS = 16
+MOST_SLOTS = 64
+MOST_MAPPINGS = 256  # guaranteed pages of an environment, its context page among them
+MOST_STACK_PAGES = 16
+CONSOLE_SIZE = 65_536  # bytes
+MOST_TICKS = 4_194_304
+LEAST_FRAME_SIZE, MOST_PACKET_SIZE = 14, 1_514  # bytes that are sent, and of any packet
+MOST_SENT = 256  # packets of an environment
+MOST_EVENTS = 65_536  # of a schedule
+MOST_ASKED = 4_096  # pages of a revocation
+MOST_TARGET, MOST_LINE = 31, 7  # an environment that a revocation names, and an interrupt line
+FILE_LIMIT = 67_108_864  # bytes
