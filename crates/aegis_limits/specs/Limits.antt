@@ -1,4 +1,4 @@
--- The limits of the machine and of the kernel.
+-- The limits of the machine and of the kernel. Where versions of images differ, these are the widest.
 use Rattle.std.specs.Prelude.{ℕ}
 
 -- the bytes of a page
@@ -18,11 +18,7 @@ abbrev pub least_pages : ℕ
 least_pages = 16
 
 abbrev pub most_pages : ℕ
-most_pages = 1024
-
--- the pages of which physical memory can be made
-abbrev pub most_frames : ℕ
-most_frames = 4096
+most_pages = 4096
 
 -- the ticks of a quantum
 abbrev pub least_quantum : ℕ
@@ -33,7 +29,7 @@ most_quantum = 65536
 
 -- environments are numbered from 0, at most so many
 abbrev pub most_environments : ℕ
-most_environments = 16
+most_environments = 32
 
 -- Numbers of environments lie below this one, also where an event names one that isn't there: a set of them is a word.
 abbrev pub environment_numbers : ℕ
@@ -44,8 +40,8 @@ abbrev pub excess_limit : ℕ
 excess_limit = 8
 
 -- the rows in which an environment's bindings stand
-abbrev pub stripe_rows : ℕ
-stripe_rows = 256
+abbrev pub most_stripe_rows : ℕ
+most_stripe_rows = 256
 
 abbrev pub most_slots : ℕ
 most_slots = 64

@@ -1,15 +1,18 @@
 //! The limits of the machine and of the kernel (`docs/FORMATS.md`, "Limits"). Each stands once as its number, in
 //! `specs/Limits.antt`, by which the contracts speak; the constants here are for code, and `constants_are_the_limits`
-//! says that they are those numbers. Beside them stands `OutOfMemory`, by which a call says that the host's memory is
+//! says that they are those numbers. Some limits depend on an image's `Version`; the constants are then the widest.
+//! Beside them stands `OutOfMemory`, by which a call says that the host's memory is
 //! at its limit.
 #![tactic(auto)]
 
 mod memory;
+mod version;
 
 ghost use Rattle.std.specs.Prelude.{◌≡◌};
-ghost use Rattle.aegis_limits.specs.Limits.{page_size, vpn_end, stack_end, least_pages, most_pages, most_frames, least_quantum, most_quantum, most_environments, environment_numbers, excess_limit, stripe_rows, most_slots, most_mappings, most_stack_pages, console_size, most_ticks};
+ghost use Rattle.aegis_limits.specs.Limits.{page_size, vpn_end, stack_end, least_pages, most_pages, least_quantum, most_quantum, most_environments, environment_numbers, excess_limit, most_stripe_rows, most_slots, most_mappings, most_stack_pages, console_size, most_ticks};
 
 pub use memory::OutOfMemory;
+pub use version::{Version, law_versions_are_within};
 
 /// The bytes of a page.
 pub const PAGE_SIZE: usize = 4096;
@@ -23,11 +26,8 @@ pub const STACK_END: u32 = 0x7FFF0;
 /// The fewest pages of physical memory that a board has.
 pub const LEAST_PAGES: u32 = 16;
 
-/// The most pages of physical memory that a board has.
-pub const MOST_PAGES: u32 = 1024;
-
-/// The most pages of which physical memory can be made.
-pub const MOST_FRAMES: u32 = 4096;
+/// The most pages of physical memory that a board has, in any version.
+pub const MOST_PAGES: u32 = 4096;
 
 /// The shortest quantum, in ticks.
 pub const LEAST_QUANTUM: u32 = 16;
@@ -35,8 +35,8 @@ pub const LEAST_QUANTUM: u32 = 16;
 /// The longest quantum, in ticks.
 pub const MOST_QUANTUM: u32 = 65_536;
 
-/// The most environments on a board.
-pub const MOST_ENVIRONMENTS: usize = 16;
+/// The most environments on a board, in any version.
+pub const MOST_ENVIRONMENTS: usize = 32;
 
 /// The numbers of environments lie below this one, also of one that an event names and that isn't there: a set of
 /// environments is a word with a bit for each.
@@ -45,8 +45,8 @@ pub const ENVIRONMENT_NUMBERS: usize = 32;
 /// The quanta that an environment may owe; one more is its death.
 pub const EXCESS_LIMIT: u32 = 8;
 
-/// The rows of an environment's stripe, in which its bindings stand.
-pub const STRIPE_ROWS: u32 = 256;
+/// The most rows of an environment's stripe, in any version: in them stand its bindings.
+pub const MOST_STRIPE_ROWS: u32 = 256;
 
 /// The most slots of a vector of slots.
 pub const MOST_SLOTS: usize = 64;
@@ -70,13 +70,12 @@ pub fn constants_are_the_limits()
     ensures stack_highest { STACK_END ≡ stack_end }
     ensures pages_least { LEAST_PAGES ≡ least_pages }
     ensures pages_most { MOST_PAGES ≡ most_pages }
-    ensures frames_most { MOST_FRAMES ≡ most_frames }
     ensures quantum_least { LEAST_QUANTUM ≡ least_quantum }
     ensures quantum_most { MOST_QUANTUM ≡ most_quantum }
     ensures environments { MOST_ENVIRONMENTS ≡ most_environments }
     ensures numbers { ENVIRONMENT_NUMBERS ≡ environment_numbers }
     ensures excess { EXCESS_LIMIT ≡ excess_limit }
-    ensures stripe { STRIPE_ROWS ≡ stripe_rows }
+    ensures stripe { MOST_STRIPE_ROWS ≡ most_stripe_rows }
     ensures slots { MOST_SLOTS ≡ most_slots }
     ensures mappings { MOST_MAPPINGS ≡ most_mappings }
     ensures stack { MOST_STACK_PAGES ≡ most_stack_pages }

@@ -4,7 +4,7 @@ use Rattle.std.proofs.lemmas.Bool.{cases_eq, cases_Bool, or_parts, or_from}
 use Rattle.bind_book.specs.declared.binding.Binding.{Binding}
 use Rattle.bind_book.specs.Laws.{StaysUnbound}
 use Rattle.bind_book.specs.Stripe.{is_of_page, is_bound_below, is_bound, without}
-use Rattle.aegis_limits.specs.Limits.{stripe_rows}
+use Rattle.aegis_limits.specs.Limits.{most_stripe_rows}
 
 unbound_below : (page : ℕ) (stripe : ℕ → Option Binding) (rows : ℕ) → is_bound_below page stripe rows ≡ false → (r : ℕ) → r < rows → is_of_page page (stripe r) ≡ false
 unbound_below page stripe zero none r below = absurd (omega arith)
@@ -21,14 +21,14 @@ none_below page stripe (suc rows) none =
     or_from (is_bound_below page stripe rows) (is_of_page page (stripe rows)) (none_below page stripe rows (λ r below. none r (omega arith))) (none rows (omega arith))
 
 -- a page that isn't bound in a stripe stands in none of its rows
-pub unbound_rows : (page : ℕ) (stripe : ℕ → Option Binding) → is_bound page stripe ≡ false → (r : ℕ) → r < stripe_rows → is_of_page page (stripe r) ≡ false
+pub unbound_rows : (page : ℕ) (stripe : ℕ → Option Binding) → is_bound page stripe ≡ false → (r : ℕ) → r < most_stripe_rows → is_of_page page (stripe r) ≡ false
 unfolding is_bound
-unbound_rows page stripe = unbound_below page stripe stripe_rows
+unbound_rows page stripe = unbound_below page stripe most_stripe_rows
 
 -- a page that stands in none of the rows isn't bound in the stripe
-pub rows_unbound : (page : ℕ) (stripe : ℕ → Option Binding) → ((r : ℕ) → r < stripe_rows → is_of_page page (stripe r) ≡ false) → is_bound page stripe ≡ false
+pub rows_unbound : (page : ℕ) (stripe : ℕ → Option Binding) → ((r : ℕ) → r < most_stripe_rows → is_of_page page (stripe r) ≡ false) → is_bound page stripe ≡ false
 unfolding is_bound
-rows_unbound page stripe = none_below page stripe stripe_rows
+rows_unbound page stripe = none_below page stripe most_stripe_rows
 
 -- a row that isn't of the page isn't either without its binding
 without_other : (page : ℕ) (broken : Binding → Bool) (row : Option Binding) → is_of_page page row ≡ false → is_of_page page (without broken row) ≡ false

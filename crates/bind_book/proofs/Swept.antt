@@ -7,9 +7,9 @@ use Rattle.page_book.specs.declared.row.PageRow.{PageRow}
 use Rattle.bind_book.specs.declared.binding.Binding.{Binding}
 use Rattle.bind_book.specs.Laws.{SweptByRow}
 use Rattle.bind_book.specs.Stripe.{stripe_place, without, swept_from, swept, goes_with}
-use Rattle.aegis_limits.specs.Limits.{stripe_rows}
+use Rattle.aegis_limits.specs.Limits.{most_stripe_rows}
 
-swept_place : (place : ℕ) (broken : ℕ → Binding → Bool) (binds : List (Option Binding)) (i : ℕ) → get_or (swept_from place broken binds) i None ≡ without (broken ((place + i) / stripe_rows)) (get_or binds i None)
+swept_place : (place : ℕ) (broken : ℕ → Binding → Bool) (binds : List (Option Binding)) (i : ℕ) → get_or (swept_from place broken binds) i None ≡ without (broken ((place + i) / most_stripe_rows)) (get_or binds i None)
 swept_place place broken [] i = refl
 swept_place place broken (row ∷ rows) zero = let here : place + zero ≡ place = omega arith in rw here refl
 swept_place place broken (row ∷ rows) (suc i) =
@@ -20,11 +20,11 @@ swept_place place broken (row ∷ rows) (suc i) =
 pub swept_row : SweptByRow
 unfolding swept
 swept_row broken binds e row =
-    elim (cases_lt row stripe_rows) [
+    elim (cases_lt row most_stripe_rows) [
       | inl below ↦
-          let env : (0 + stripe_place e row) / stripe_rows ≡ e = ap (λ (n : ℕ). n / stripe_rows) (omega arith) ∙ div-mul-add e stripe_rows row below in
-          rw (lt-ltb row stripe_rows below) (swept_place 0 broken binds (stripe_place e row) ∙ ap (λ (n : ℕ). without (broken n) (get_or binds (stripe_place e row) None)) env)
-      | inr past ↦ rw (le-ltb row stripe_rows past) refl
+          let env : (0 + stripe_place e row) / most_stripe_rows ≡ e = ap (λ (n : ℕ). n / most_stripe_rows) (omega arith) ∙ div-mul-add e most_stripe_rows row below in
+          rw (lt-ltb row most_stripe_rows below) (swept_place 0 broken binds (stripe_place e row) ∙ ap (λ (n : ℕ). without (broken n) (get_or binds (stripe_place e row) None)) env)
+      | inr past ↦ rw (le-ltb row most_stripe_rows past) refl
     ]
 
 length_from : (place : ℕ) (broken : ℕ → Binding → Bool) (binds : List (Option Binding)) → length (swept_from place broken binds) ≡ length binds

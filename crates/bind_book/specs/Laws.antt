@@ -2,7 +2,7 @@
 use Rattle.std.specs.Prelude.{◌≡◌, ◌<◌, ◌==◌, ◌&&◌, ◌↔◌, if◌then◌else◌, ℕ, Bool, false, List, Option, slice_set}
 use Rattle.bind_book.specs.declared.binding.Binding.{Binding}
 use Rattle.bind_book.specs.Stripe.{HasStripe, is_bound, is_of_page, stripe_place, stripes, swept, without}
-use Rattle.aegis_limits.specs.Limits.{stripe_rows}
+use Rattle.aegis_limits.specs.Limits.{most_stripe_rows}
 
 -- a sweep leaves in each row what was there, if it isn't broken for the environment
 abbrev pub SweptByRow : Type 0
@@ -12,7 +12,7 @@ SweptByRow =
 
 -- what is put into a row stands in that row alone
 abbrev pub SetInOneRow : Type 0
-SetInOneRow = (binds : List (Option Binding)) (e row : ℕ) (x : Option Binding) → HasStripe binds e → row < stripe_rows
+SetInOneRow = (binds : List (Option Binding)) (e row : ℕ) (x : Option Binding) → HasStripe binds e → row < most_stripe_rows
     → (i r : ℕ)
     → stripes (slice_set binds (stripe_place e row) x) i r ≡ (if i == e && r == row then x else stripes binds i r)
 
@@ -20,7 +20,7 @@ SetInOneRow = (binds : List (Option Binding)) (e row : ℕ) (x : Option Binding)
 abbrev pub UnboundInEachRow : Type 0
 UnboundInEachRow =
     (page : ℕ) (stripe : ℕ → Option Binding)
-    → (is_bound page stripe ≡ false) ↔ ((r : ℕ) → r < stripe_rows → is_of_page page (stripe r) ≡ false)
+    → (is_bound page stripe ≡ false) ↔ ((r : ℕ) → r < most_stripe_rows → is_of_page page (stripe r) ≡ false)
 
 -- a page that isn't bound isn't once bindings are broken
 abbrev pub StaysUnbound : Type 0

@@ -1,29 +1,29 @@
 -- Bindings, and the stripe of rows that each environment has for them.
 use Rattle.std.specs.Prelude.{ℕ, zero, suc, ◌+◌, ◌*◌, ◌/◌, ◌%◌, ◌≤◌, Bool, false, not, ◌==◌, ◌&&◌, ◌||◌, nat_lt, if◌then◌else◌, List, [], ◌∷◌, length, Option, Some, None, is_some, slice_index_or, slice_set}
-use Rattle.aegis_limits.specs.Limits.{most_environments, stripe_rows}
+use Rattle.aegis_limits.specs.Limits.{most_environments, most_stripe_rows}
 use Rattle.page_book.specs.declared.row.PageRow.{PageRow}
 use Rattle.page_book.specs.Row.{belongs_to}
 use Rattle.bind_book.specs.declared.binding.Binding.{Binding}
 
 -- the rows of the stripes of all environments
 abbrev pub most_places : ℕ
-most_places = most_environments * stripe_rows
+most_places = most_environments * most_stripe_rows
 
 -- the row of a VPN in its environment's stripe
 abbrev pub row_of : ℕ → ℕ
-row_of vpn = vpn % stripe_rows
+row_of vpn = vpn % most_stripe_rows
 
 -- the place of an environment's row among all
 abbrev pub stripe_place : ℕ → ℕ → ℕ
-stripe_place e row = e * stripe_rows + row
+stripe_place e row = e * most_stripe_rows + row
 
 -- the environment has its stripe
 abbrev pub HasStripe : List (Option Binding) → ℕ → Type 0
-HasStripe binds e = e * stripe_rows + stripe_rows ≤ length binds
+HasStripe binds e = e * most_stripe_rows + most_stripe_rows ≤ length binds
 
 -- the rows of all environments: by environment, the binding that stands in each row of its stripe
 abbrev pub stripes : List (Option Binding) → ℕ → ℕ → Option Binding
-stripes binds e row = if nat_lt row stripe_rows then slice_index_or binds (stripe_place e row) None else None
+stripes binds e row = if nat_lt row most_stripe_rows then slice_index_or binds (stripe_place e row) None else None
 
 -- the binding in a row, if it is that of this VPN
 abbrev pub of_number : ℕ → Option Binding → Option Binding
@@ -55,7 +55,7 @@ is_bound_below page stripe (suc row) = is_bound_below page stripe row || is_of_p
 
 -- whether a page is bound in a stripe
 unfoldable pub is_bound : ℕ → (ℕ → Option Binding) → Bool
-is_bound page stripe = is_bound_below page stripe stripe_rows
+is_bound page stripe = is_bound_below page stripe most_stripe_rows
 
 -- a row without its binding, where that is one that is broken
 abbrev pub without : (Binding → Bool) → Option Binding → Option Binding
@@ -77,7 +77,7 @@ goes_with pages gone e b = e == gone || belongs_to gone (pages b.page)
 -- the rows from a place on without the bindings that are broken; each environment has so many rows
 abbrev pub swept_from : ℕ → (ℕ → Binding → Bool) → List (Option Binding) → List (Option Binding)
 swept_from place broken [] = []
-swept_from place broken (row ∷ rows) = without (broken (place / stripe_rows)) row ∷ swept_from (place + 1) broken rows
+swept_from place broken (row ∷ rows) = without (broken (place / most_stripe_rows)) row ∷ swept_from (place + 1) broken rows
 
 -- all rows without the bindings that are broken, by their environment
 unfoldable pub swept : (ℕ → Binding → Bool) → List (Option Binding) → List (Option Binding)

@@ -1,17 +1,17 @@
 //! The book of bindings.
 ghost use Rattle.std.specs.Prelude.{◌≡◌, ◌<◌, ◌≤◌, ◌*◌, length, replicate, is_some, IfOk};
-ghost use Rattle.aegis_limits.specs.Limits.{most_environments, most_frames, vpn_end, stripe_rows};
+ghost use Rattle.aegis_limits.specs.Limits.{most_environments, most_pages, vpn_end, most_stripe_rows};
 ghost use Rattle.page_book.specs.Rows.{row_in};
 ghost use Rattle.bind_book.specs.Stripe.{row_of, stripe_place, HasStripe, stripes, binding_at, unbound, rows_with_binding, leads_to_page, goes_with, swept};
 
 use crate::binding::Binding;
 use crate::sweep::{break_page, clear_env};
-use aegis_limits::{OutOfMemory, STRIPE_ROWS};
+use aegis_limits::{OutOfMemory, MOST_STRIPE_ROWS};
 use page_book::Pages;
 use std::alloc::Global;
 use std::marker::Model;
 
-/// The bindings of all environments: a stripe of `STRIPE_ROWS` rows for each.
+/// The bindings of all environments: a stripe of `MOST_STRIPE_ROWS` rows for each.
 #[derive(Drop)]
 pub struct Bindings {
     rows: Vec<Option<Binding>>,
@@ -33,23 +33,23 @@ impl Bindings {
     /// Empty stripes for so many environments, at most `MOST_ENVIRONMENTS`. An `Err` says that there is no memory for them.
     pub fn new(alloc: Global, envs: u8) -> Result<Bindings, OutOfMemory>
         requires { envs ≤ most_environments }
-        ensures { IfOk result (λ b. b ≡ replicate (envs * stripe_rows) None) }
+        ensures { IfOk result (λ b. b ≡ replicate (envs * most_stripe_rows) None) }
     {
         let rows = vec![in alloc; None; place(envs, 0)]?;
         Ok(Bindings { rows })
     }
 
-    /// Binds a page, below `MOST_FRAMES`, to the environment's VPN, below `VPN_END`. What stood in the row of that
+    /// Binds a page, below `MOST_PAGES`, to the environment's VPN, below `VPN_END`. What stood in the row of that
     /// number gives way, and is the answer. All other rows stay.
     pub fn bind(&mut self, env: u8, vpn: u32, page: u32, writable: bool) -> Option<Binding>
         requires stripe { HasStripe self.old env }
         requires number { vpn < vpn_end }
-        requires page { page < most_frames }
+        requires page { page < most_pages }
         ensures replaced { result ≡ stripes self.old env (row_of vpn) }
         ensures after { self.new ≡ rows_with_binding self.old env (record { vpn = vpn; page = page; writable = writable }) }
         ensures count { length self.new ≡ length self.old }
     {
-        let row = vpn % STRIPE_ROWS;
+        let row = vpn % MOST_STRIPE_ROWS;
         let replaced = self.in_row(env, row);
         self.rows[place(env, row)] = Some(Binding {
             vpn,
@@ -68,7 +68,7 @@ impl Bindings {
     {
         let bound = self.find(env, vpn).is_some();
         if bound {
-            self.rows[place(env, vpn % STRIPE_ROWS)] = None;
+            self.rows[place(env, vpn % MOST_STRIPE_ROWS)] = None;
         }
         bound
     }
@@ -77,7 +77,7 @@ impl Bindings {
     pub fn find(&self, env: u8, vpn: u32) -> Option<Binding>
         ensures { result ≡ binding_at (stripes self.now env) vpn }
     {
-        let binding = self.in_row(env, vpn % STRIPE_ROWS)?;
+        let binding = self.in_row(env, vpn % MOST_STRIPE_ROWS)?;
         if binding.vpn == vpn {
             Some(binding)
         } else {
@@ -85,9 +85,9 @@ impl Bindings {
         }
     }
 
-    /// The binding that stands in this row, below `STRIPE_ROWS`, of the environment's stripe, if one does.
+    /// The binding that stands in this row, below `MOST_STRIPE_ROWS`, of the environment's stripe, if one does.
     pub fn in_row(&self, env: u8, row: u32) -> Option<Binding>
-        requires { row < stripe_rows }
+        requires { row < most_stripe_rows }
         ensures { result ≡ stripes self.now env row }
     {
         *self.rows.get(place(env, row))?
@@ -113,8 +113,8 @@ impl Bindings {
 
 /// The place of an environment's row among all rows.
 fn place(env: u8, row: u32) -> usize
-    requires { row < stripe_rows }
+    requires { row < most_stripe_rows }
     ensures { result ≡ stripe_place env row }
 {
-    env as usize * STRIPE_ROWS as usize + row as usize
+    env as usize * MOST_STRIPE_ROWS as usize + row as usize
 }

@@ -3,10 +3,10 @@ ghost use Rattle.std.specs.Prelude.{◌≡◌, ◌≤◌, ◌<◌, ◌/◌, None
 ghost use Rattle.page_book.specs.Row.{belongs_to};
 ghost use Rattle.page_book.specs.Rows.{row_in};
 ghost use Rattle.bind_book.specs.Stripe.{most_places, leads_to_page, goes_with, without, swept};
-ghost use Rattle.aegis_limits.specs.Limits.{stripe_rows};
+ghost use Rattle.aegis_limits.specs.Limits.{most_stripe_rows};
 
 use crate::binding::Binding;
-use aegis_limits::STRIPE_ROWS;
+use aegis_limits::MOST_STRIPE_ROWS;
 use page_book::Pages;
 
 /// Breaks the bindings of a page, of all environments but this one, if one is spared.
@@ -34,9 +34,9 @@ pub(crate) fn clear_env(rows: &mut [Option<Binding>], gone: u8, pages: &Pages)
 /// The environment in whose stripe a place is.
 fn env_of(place: usize) -> u8
     requires { place < most_places }
-    ensures { result ≡ place / stripe_rows }
+    ensures { result ≡ place / most_stripe_rows }
 {
-    (place / STRIPE_ROWS as usize) as u8
+    (place / MOST_STRIPE_ROWS as usize) as u8
 }
 
 /// Whether the environment's binding in a row, if there is one, is broken with the page.

@@ -1,7 +1,7 @@
 //! The parts of a board before it runs.
 ghost use Rattle.std.specs.Prelude.{◌≡◌, ◌≤◌, ◌<◌, ◌+◌, ◌*◌, None, IfOk, length, replicate};
 ghost use Rattle.std.specs.Option.{option_map};
-ghost use Rattle.aegis_limits.specs.Limits.{least_pages, most_pages, most_slots, most_environments, stripe_rows};
+ghost use Rattle.aegis_limits.specs.Limits.{least_pages, most_pages, most_slots, most_environments, most_stripe_rows};
 ghost use Rattle.frame_store.specs.Pages.{zeroed};
 ghost use Rattle.page_book.specs.declared.row.PageRow.TheVariants.{Free};
 ghost use Rattle.world_model.specs.Book.{own_hold};
@@ -61,7 +61,7 @@ pub fn bare_memory(
 ) -> Result<(Frames, Pages, Bindings), OutOfMemory>
     requires pages { least_pages ≤ pages × pages ≤ most_pages }
     requires envs { envs ≤ most_environments }
-    ensures { IfOk result (λ m. (m.0 ≡ zeroed pages) × (m.1 ≡ replicate pages Free) × (m.2 ≡ replicate (envs * stripe_rows) None)) }
+    ensures { IfOk result (λ m. (m.0 ≡ zeroed pages) × (m.1 ≡ replicate pages Free) × (m.2 ≡ replicate (envs * most_stripe_rows) None)) }
 {
     let frames = Frames::new(alloc, pages)?;
     let rows = Pages::new(alloc, pages)?;

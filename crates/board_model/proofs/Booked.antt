@@ -9,7 +9,7 @@ use Rattle.page_book.specs.Row.{belongs_to, owner_of, released}
 use Rattle.page_book.specs.Rows.{row_in}
 use Rattle.bind_book.specs.declared.binding.Binding.{Binding}
 use Rattle.bind_book.specs.Stripe.{leads_to_page, goes_with, stripes, swept}
-use Rattle.aegis_limits.specs.Limits.{stripe_rows}
+use Rattle.aegis_limits.specs.Limits.{most_stripe_rows}
 use Rattle.bind_book.proofs.Swept.{length-swept, swept_row, left_in_row}
 use Rattle.world_model.specs.declared.life.Cause.{Cause}
 use Rattle.board_model.specs.declared.roster.Environment.{Environment}
@@ -24,7 +24,7 @@ use Rattle.board_model.proofs.Tables.{row_released}
 -- a change of an environment that leaves its life
 pub keep_booked : (f : Environment → Environment) → Keeps f → (pages : List PageRow) (binds : List (Option Binding)) (r : Environments) (e : ℕ) → BooksAgree pages binds r → BooksAgree pages binds (with_list r (with_record f r.list e))
 keep_booked f keeps pages binds r e are = record {
-  striped = are.striped ∙ ap (λ n. (n + r.spare) * stripe_rows) (sym (length-changed f r.list e));
+  striped = are.striped ∙ ap (λ n. (n + r.spare) * most_stripe_rows) (sym (length-changed f r.list e));
   owners = λ page i is. kept_live f keeps r.list e i (are.owners page i is);
   binders = λ i row x is. kept_live f keeps r.list e i (are.binders i row x is);
   bound = are.bound;
@@ -79,7 +79,7 @@ module _ (cause : Cause) (pages : List PageRow) (binds : List (Option Binding)) 
 
   pub death_booked : BooksAgree (map (released e) pages) (swept (goes_with (row_in pages) e) binds) (with_list r (with_record (dead_frame cause) r.list e))
   death_booked = record {
-    striped = length-swept (goes_with (row_in pages) e) binds ∙ are.striped ∙ ap (λ n. (n + r.spare) * stripe_rows) (sym (length-changed (dead_frame cause) r.list e));
+    striped = length-swept (goes_with (row_in pages) e) binds ∙ are.striped ∙ ap (λ n. (n + r.spare) * most_stripe_rows) (sym (length-changed (dead_frame cause) r.list e));
     owners = λ p i is.
         let left = owner_left (row_in pages p) i (ap owner_of (sym (row_released e pages p)) ∙ is) in
         others_live r.list cause e i left.1 (are.owners p i left.0);

@@ -22,7 +22,7 @@ use Rattle.bind_book.proofs.Rows.{empty_row}
 use Rattle.env_frames.specs.declared.mapping.Mapping.{Mapping}
 use Rattle.env_frames.specs.Context.{no_handlers}
 use Rattle.slot_vector.specs.Slices as vector
-use Rattle.aegis_limits.specs.Limits.{least_quantum, most_slots, most_environments, most_pages, environment_numbers, stripe_rows}
+use Rattle.aegis_limits.specs.Limits.{least_quantum, most_slots, most_environments, most_pages, environment_numbers, most_stripe_rows}
 use Rattle.boot_image.specs.ImageValue.{ProgramValue, guaranteed_mappings}
 use Rattle.world_model.specs.declared.life.Life.TheVariants.{Live}
 use Rattle.world_model.specs.Book.{is_runner, own_hold}
@@ -82,7 +82,7 @@ free_among rows (suc count) free = rw (free count, free_among rows count free) r
 pub built_free : (pages : ℕ) → free_pages (replicate pages Free) ≡ pages
 built_free pages = free_among (row_in (replicate pages Free)) (length (replicate pages Free)) (all_alike Free pages) ∙ length-replicate pages Free
 
-pub built_booked : (pages envs : ℕ) → BooksAgree (replicate pages Free) (replicate (envs * stripe_rows) None) (record { list = []; spare = envs })
+pub built_booked : (pages envs : ℕ) → BooksAgree (replicate pages Free) (replicate (envs * most_stripe_rows) None) (record { list = []; spare = envs })
 built_booked pages envs = search (rules, length-replicate, all_alike, empty_row)
 
 own_slots : (owners : List (Option ℕ)) (k : ℕ) → vector.hold_at (map (option_map own_hold) owners) k ≡ boot_slot owners k
@@ -103,7 +103,7 @@ abbrev pub built : ℕ → ℕ → ℕ → List (Option ℕ) → Cpu → Ledger 
 built pages quantum envs owners cpu ledger = record {
   frames = zeroed pages;
   pages = replicate pages Free;
-  binds = replicate (envs * stripe_rows) None;
+  binds = replicate (envs * most_stripe_rows) None;
   lines = free_lines;
   claims = record { rows = []; next = 0; envs = envs };
   revocations = nothing_asked;
@@ -126,7 +126,7 @@ built_world pages quantum envs owners cpu ledger rows =
       excess = λ e. all_alike 0 environment_numbers e i;
       page_count = length-replicate pages Free i;
       pages = λ page. all_alike Free pages page i;
-      binds = λ e row. empty_row (envs * stripe_rows) e row i;
+      binds = λ e row. empty_row (envs * most_stripe_rows) e row i;
       lines = λ line. all_alike None most_lines line i;
       pending = λ e. all_alike no_pending environment_numbers e i;
       backups = λ e. all_alike no_backups environment_numbers e i;
@@ -200,7 +200,7 @@ module _ (r : Environments) (x : Environment) (count : ℕ) (pages given : List 
   added_booked booked lives room =
       let count_is : length r.list + r.spare ≡ length (r.list ++ x ∷ []) + (r.spare - 1) = omega (arith, one_longer r x lives room, room) in
       record {
-        striped = booked.striped ∙ ap (λ n. n * stripe_rows) count_is;
+        striped = booked.striped ∙ ap (λ n. n * most_stripe_rows) count_is;
         owners = λ page e is. by_row page e is (becomes page);
         binders = λ e row y is. still_live r x lives room e (booked.binders e row y is);
         bound = λ e row y is.

@@ -10,7 +10,7 @@ use Rattle.page_book.specs.Row.{released}
 use Rattle.page_book.specs.Rows.{row_in}
 use Rattle.bind_book.specs.declared.binding.Binding.{Binding}
 use Rattle.bind_book.specs.Stripe.{HasStripe, binding_at, stripe_place, row_of, stripes}
-use Rattle.aegis_limits.specs.Limits.{stripe_rows}
+use Rattle.aegis_limits.specs.Limits.{most_stripe_rows}
 use Rattle.bind_book.proofs.Rows.{row_set}
 use Rattle.world_model.specs.Table.{set_at}
 use Rattle.world_model.specs.PageCalls.{without_number}
@@ -40,10 +40,10 @@ pub row_released : (e : ℕ) (pages : List PageRow) (page : ℕ) → row_in (map
 row_released e pages page = grind (arith, common_steps)
 
 -- the stripes once a row of one of them is set
-pub stripe_set : (binds : List (Option Binding)) (e row : ℕ) (x : Option Binding) → HasStripe binds e → row < stripe_rows → (i r : ℕ) → stripes (slice_set binds (stripe_place e row) x) i r ≡ set_at e (set_at row x (stripes binds e)) (stripes binds) i r
+pub stripe_set : (binds : List (Option Binding)) (e row : ℕ) (x : Option Binding) → HasStripe binds e → row < most_stripe_rows → (i r : ℕ) → stripes (slice_set binds (stripe_place e row) x) i r ≡ set_at e (set_at row x (stripes binds e)) (stripes binds) i r
 stripe_set binds e row x has below i r = search (rules, row_set, by_env, eq-eqb, set_here, ne_eqb, set_else)
 
 -- the stripes once a binding of one of them went, if there was one
-pub stripe_without : (binds : List (Option Binding)) (e vpn : ℕ) → HasStripe binds e → row_of vpn < stripe_rows → (i r : ℕ) →
+pub stripe_without : (binds : List (Option Binding)) (e vpn : ℕ) → HasStripe binds e → row_of vpn < most_stripe_rows → (i r : ℕ) →
     stripes (if is_some (binding_at (stripes binds e) vpn) then slice_set binds (stripe_place e (row_of vpn)) None else binds) i r ≡ set_at e (without_number vpn (stripes binds e)) (stripes binds) i r
 stripe_without binds e vpn has below i r = grind (arith, stripe_set, set_same)

@@ -1,7 +1,7 @@
 -- What holds of every board.
 use Rattle.std.specs.Prelude.{◌≡◌, ◌≤◌, ◌<◌, ◌+◌, ◌*◌, ℕ, false, List, length, Option, Some, None, Bool, IfSome, slice_get, true}
 use Rattle.std.specs.List.{list_all}
-use Rattle.aegis_limits.specs.Limits.{most_environments, most_pages, most_slots, excess_limit, environment_numbers, stripe_rows}
+use Rattle.aegis_limits.specs.Limits.{most_environments, most_pages, most_slots, excess_limit, environment_numbers, most_stripe_rows}
 use Rattle.external_event.specs.Limits.{lines as most_lines}
 use Rattle.page_book.specs.declared.row.PageRow.{PageRow}
 use Rattle.page_book.specs.declared.row.PageRow.TheVariants.{Free, Guaranteed, Owned}
@@ -54,7 +54,7 @@ IsOwned (Owned owner words) = Unit {0}
 -- The books: there is a stripe for each environment; pages and bindings are those of environments that live; and no
 -- page is bound that is free or guaranteed.
 pub record BooksAgree (pages : List PageRow) (binds : List (Option Binding)) (r : Environments) : Type 0 where
-  pub striped : length binds ≡ (length r.list + r.spare) * stripe_rows
+  pub striped : length binds ≡ (length r.list + r.spare) * most_stripe_rows
   pub owners : (page e : ℕ) → owner_of (row_in pages page) ≡ Some e → IsLiving r.list e
   pub binders : (e row : ℕ) (x : Binding) → stripes binds e row ≡ Some x → IsLiving r.list e
   pub bound : (e row : ℕ) (x : Binding) → stripes binds e row ≡ Some x → IsOwned (row_in pages x.page)

@@ -1,7 +1,7 @@
 -- Physical memory as one list of bytes, which pages are cut from.
 use Rattle.std.specs.Prelude.{ℕ, ◌≡◌, ◌≤◌, ◌*◌, List, [], ◌∷◌, length, take, drop, zero, suc}
 use Rattle.std.specs.List.{concat}
-use Rattle.aegis_limits.specs.Limits.{least_pages, most_frames, page_size}
+use Rattle.aegis_limits.specs.Limits.{least_pages, most_pages, page_size}
 use Rattle.frame_store.specs.Pages.{with_bytes, with_page}
 
 -- bytes, cut into so many pages of one size
@@ -12,7 +12,7 @@ pages_of size (suc count) bytes = take size bytes ∷ pages_of size count (drop 
 -- the bytes of so many pages, and no more
 pub record IsMemory (pages : ℕ) (bytes : List ℕ) : Type 0 where
   pub least : least_pages ≤ pages
-  pub most : pages ≤ most_frames
+  pub most : pages ≤ most_pages
   pub whole : length bytes ≡ pages * page_size
 
 -- the pages after bytes were put into memory from the beginning of one of them on

@@ -1,6 +1,6 @@
 //! The pages of physical memory, lent of one vector of all bytes.
 ghost use Rattle.std.specs.Prelude.{◌≡◌, ◌<◌, ◌≤◌, ◌+◌, ◌*◌, ◌%◌, length, IfOk};
-ghost use Rattle.aegis_limits.specs.Limits.{least_pages, most_frames, page_size};
+ghost use Rattle.aegis_limits.specs.Limits.{least_pages, most_pages, page_size};
 ghost use Rattle.std.specs.Borrow.{sem};
 ghost use Rattle.frame_store.specs.Pages.{zero_page, zeroed, page_at, with_page, after_put, word_at, word_bytes};
 
@@ -9,7 +9,7 @@ use byteorder::{ByteOrder, LittleEndian};
 use std::alloc::Global;
 use std::marker::Model;
 
-/// The pages of physical memory, from `LEAST_PAGES` to `MOST_FRAMES` of them, numbered from 0. Their bytes stand one behind another.
+/// The pages of physical memory, from `LEAST_PAGES` to `MOST_PAGES` of them, numbered from 0. Their bytes stand one behind another.
 #[derive(Drop)]
 pub struct Frames {
     pages: u32,
@@ -39,21 +39,21 @@ impl Frames {
     ghost use Rattle.frame_store.specs.Lending.{LendsPage};
     ghost use Rattle.frame_store.specs.Memory.{IsOnePage};
 
-    /// So many pages of zeros, from `LEAST_PAGES` to `MOST_FRAMES`. An `Err` says that there is no memory for them.
+    /// So many pages of zeros, from `LEAST_PAGES` to `MOST_PAGES`. An `Err` says that there is no memory for them.
     pub fn new(alloc: Global, pages: u32) -> Result<Frames, OutOfMemory>
         requires enough { least_pages ≤ pages }
-        requires within { pages ≤ most_frames }
+        requires within { pages ≤ most_pages }
         ensures { IfOk result (λ f. f ≡ zeroed pages) }
     {
         let bytes = vec![in alloc; 0; pages as usize * PAGE_SIZE]?;
         Ok(Frames { pages, bytes })
     }
 
-    /// How many pages there are, from `LEAST_PAGES` to `MOST_FRAMES`.
+    /// How many pages there are, from `LEAST_PAGES` to `MOST_PAGES`.
     pub fn pages(&self) -> u32
         ensures count { result ≡ length self.now }
         ensures least { least_pages ≤ result }
-        ensures most { result ≤ most_frames }
+        ensures most { result ≤ most_pages }
     {
         self.pages
     }

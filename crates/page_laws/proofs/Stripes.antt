@@ -4,16 +4,16 @@ use Rattle.std.specs.Prelude.{◌==◌, List, if◌then◌else◌, slice_index_o
 use Rattle.std.proofs.lemmas.Bool.{ne_eqb, eq-eqb, eqb-true, eqb-false, le-ltb, both_ways, cases_lt, or_cases, or_left, or_right, false_from_ne_true}
 use Rattle.bind_book.specs.declared.binding.Binding.{Binding}
 use Rattle.bind_book.specs.Stripe.{is_of_page, is_bound_below, is_bound, stripe_place, row_of, stripes, without}
-use Rattle.aegis_limits.specs.Limits.{stripe_rows}
+use Rattle.aegis_limits.specs.Limits.{most_stripe_rows}
 use Rattle.world_model.specs.Table.{set_at}
 use Rattle.page_laws.specs.Sight.{IsStripe}
 use Rattle.page_laws.proofs.Tables.{set_here}
 
 -- the rows of a stripe, as a number that doesn't compute
 rows : ℕ
-rows = stripe_rows
+rows = most_stripe_rows
 
-rows_are : rows ≡ stripe_rows
+rows_are : rows ≡ most_stripe_rows
 unfolding rows
 rows_are = refl
 
@@ -46,7 +46,7 @@ below_somewhere page f (suc n) row within is = by_test (row == n) refl (λ less.
     by_test true last fewer = or_right (is_bound_below page f n) (is_of_page page (f n)) (ap (λ r. is_of_page page (f r)) (sym (eqb-true row n last)) ∙ is)
     by_test false before fewer = let other : row ≢ n = eqb-false row n before in or_left (is_bound_below page f n) (is_of_page page (f n)) (fewer (omega arith))
 
-pub bound_somewhere : (page : ℕ) (f : ℕ → Option Binding) (row : ℕ) → row < stripe_rows → is_of_page page (f row) ≡ true → is_bound page f ≡ true
+pub bound_somewhere : (page : ℕ) (f : ℕ → Option Binding) (row : ℕ) → row < most_stripe_rows → is_of_page page (f row) ≡ true → is_bound page f ≡ true
 bound_somewhere page f row within is = bound_in_rows page f ∙ below_somewhere page f rows row (rw rows_are within) is
 
 -- a page that is bound is bound in a row
@@ -119,14 +119,14 @@ pub nothing_goes : (page : ℕ) (broken : Binding → Bool) (f : ℕ → Option 
 nothing_goes page broken f ends unbound of_page row = kept_row broken (f row) (λ b is. false_from_ne_true (broken b) (stays b is))
   where
     stays : (b : Binding) → f row ≡ Some b → broken b ≡ true → ⊥
-    stays b is goes = elim (cases_lt row stripe_rows) [
+    stays b is goes = elim (cases_lt row most_stripe_rows) [
       | inl within ↦ both_ways (is_bound page f) unbound (bound_somewhere page f row within (ap (is_of_page page) is ∙ eq-eqb b.page page (of_page b goes)))
       | inr behind ↦ let clash : None ≡ Some b = sym (ends row behind) ∙ is in cc
     ]
 
 -- each environment's rows are a stripe
 pub stripes_end : (binds : List (Option Binding)) (e : ℕ) → IsStripe (stripes binds e)
-stripes_end binds e row behind = ap (λ t. if t then slice_index_or binds (stripe_place e row) None else None) (le-ltb row stripe_rows behind)
+stripes_end binds e row behind = ap (λ t. if t then slice_index_or binds (stripe_place e row) None else None) (le-ltb row most_stripe_rows behind)
 
 -- so is a stripe without some of its bindings
 pub without_ends : (broken : Binding → Bool) (f : ℕ → Option Binding) → IsStripe f → IsStripe (λ row. without broken (f row))

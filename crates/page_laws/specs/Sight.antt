@@ -4,7 +4,7 @@ use Rattle.page_book.specs.declared.row.PageRow.{PageRow}
 use Rattle.page_book.specs.Row.{is_owned_by}
 use Rattle.bind_book.specs.declared.binding.Binding.{Binding}
 use Rattle.bind_book.specs.Stripe.{is_bound}
-use Rattle.aegis_limits.specs.Limits.{stripe_rows}
+use Rattle.aegis_limits.specs.Limits.{most_stripe_rows}
 use Rattle.world_model.specs.Solo.{Solo, Seen}
 
 -- a page is seen if it is owned or bound
@@ -17,7 +17,7 @@ seen_in e pages stripe bytes page = seen_if (is_owned_by e (pages page)) (is_bou
 
 -- a stripe has nothing behind its last row
 abbrev pub IsStripe : (ℕ → Option Binding) → Type 0
-IsStripe stripe = (row : ℕ) → stripe_rows ≤ row → stripe row ≡ None
+IsStripe stripe = (row : ℕ) → most_stripe_rows ≤ row → stripe row ≡ None
 
 -- an environment has just the bindings of its stripe, and sees just the pages that it owns or has bound
 pub record Sees (e : ℕ) (pages : ℕ → PageRow) (stripe : ℕ → Option Binding) (bytes : ℕ → List ℕ)

@@ -8,7 +8,7 @@ use Rattle.line_text.specs.Text.{dec_text, hex_text}
 use Rattle.line_text.specs.WrittenLine.{bytes_text, flag_text, line, or_dash, quotation, spaced}
 use Rattle.boot_image.specs.ImageValue.{name_text}
 use Rattle.bind_book.specs.declared.binding.Binding.{Binding}
-use Rattle.aegis_limits.specs.Limits.{stripe_rows}
+use Rattle.aegis_limits.specs.Limits.{most_stripe_rows}
 use Rattle.kernel_journal.specs.declared.row.Row.{Row}
 use Rattle.kernel_journal.specs.declared.row.Row.TheVariants as row
 use Rattle.kernel_journal.specs.declared.row.RunEnd.{RunEnd}
@@ -110,7 +110,7 @@ bind_line e b = line (codes "bind" ∷ dec_text e ∷ hex_text 5 b.vpn ∷ dec_t
 
 -- the bindings in a stripe, by rising row
 abbrev pub bindings_of : (ℕ → Option Binding) → List Binding
-bindings_of stripe = for_each (λ row. option_to_list (stripe row)) stripe_rows
+bindings_of stripe = for_each (λ row. option_to_list (stripe row)) most_stripe_rows
 
 -- the same by rising VPN: those of each VPN in turn, which is a word at most
 unfoldable pub rising_bindings : (ℕ → Option Binding) → List Binding

@@ -2,7 +2,7 @@
 //! most bytes that it may have, so the room is enough; nothing depends on it but how often memory is asked for.
 ghost use Rattle.std.specs.Prelude.{◌<◌};
 
-use aegis_limits::STRIPE_ROWS;
+use aegis_limits::MOST_STRIPE_ROWS;
 use world_model::WorldView;
 
 /// The most bytes of a row's line: a name of five letters, a time of seven digits, and up to three more numbers.
@@ -18,7 +18,7 @@ const PAGE: usize = 96;
 const BINDING: usize = 32;
 
 /// The most bytes of the lines of an environment's bindings: those of its stripe.
-const BINDINGS: usize = STRIPE_ROWS as usize * BINDING;
+const BINDINGS: usize = MOST_STRIPE_ROWS as usize * BINDING;
 
 /// The most bytes of a byte of a console, as it is quoted.
 const QUOTED: usize = 4;

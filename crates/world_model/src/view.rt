@@ -2,7 +2,7 @@
 ghost use Rattle.std.specs.Prelude.{◌≡◌, ◌<◌, ◌≤◌, length, slice_get};
 ghost use Rattle.std.specs.Option.{option_map};
 ghost use Rattle.world_model.specs.Book.{running};
-ghost use Rattle.aegis_limits.specs.Limits.{excess_limit, stripe_rows};
+ghost use Rattle.aegis_limits.specs.Limits.{excess_limit, most_stripe_rows};
 ghost use Rattle.world_model.specs.View.{owned_bytes, view_seen};
 ghost use Rattle.world_model.specs.World.{World};
 
@@ -87,7 +87,7 @@ pub trait WorldView {
     /// The binding that stands in this row, below the rows of a stripe, of an environment's, if one does.
     fn binding(&self, env: u8, row: u32) -> Option<Binding>
         requires env { env < (world self.now).count }
-        requires row { row < stripe_rows }
+        requires row { row < most_stripe_rows }
         ensures { result ≡ ((world self.now).solos env).binds row };
 
     /// Who runs, if anybody does.
