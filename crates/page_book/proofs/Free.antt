@@ -1,11 +1,14 @@
 -- The lowest free page, and how many pages are free.
-use Rattle.std.proofs.Common.{arith, refl, ap, sym, ◌∙◌, inl, inr, ◌≡◌, ◌≢◌, ◌<◌, ◌+◌, ℕ, zero, suc, Bool, true, false, cond, List, length, Option, None, Some, is_some, slice_set, get_or-set_same, get_or-set_other}
+use Rattle.std.proofs.Common.{arith, nat_lt, ◌≤◌, ◌&&◌, refl, ap, sym, ◌∙◌, inl, inr, ◌≡◌, ◌≢◌, ◌<◌, ◌+◌, ℕ, zero, suc, Bool, true, false, cond, List, length, Option, None, Some, is_some, slice_set, get_or-set_same, get_or-set_other}
 use Rattle.std.specs.Option.{option_or}
 use Rattle.std.proofs.Math.ListN.{length-set}
-use Rattle.std.proofs.lemmas.Bool.{cases_eq, cases_Bool}
+use Rattle.std.proofs.lemmas.Bool.{cases_eq, lt-ltb, ltb-true}
+use Rattle.aegis_limits.specs.Limits.{most_pages}
+use Rattle.page_book.specs.PageSet.{IsLeast, mark, one_if}
 use Rattle.page_book.specs.declared.row.PageRow.{PageRow}
 use Rattle.page_book.specs.declared.row.PageRow.TheVariants.{Free, Guaranteed, Owned}
 use Rattle.page_book.specs.Row.{is_free}
+use Rattle.page_book.proofs.Counts.{at_least, free_how_many, one_changed}
 use Rattle.page_book.specs.Rows.{row_in, lowest_free, free_below, first_free, free_pages, IsLowest, IsLowestFree}
 
 pub free_is : (row : PageRow) → is_free row ≡ true → row ≡ Free
@@ -35,44 +38,17 @@ is_lowest_free rows (suc count) = lowest_more rows count (lowest_free rows count
 pub is_lowest : (rows : ℕ → PageRow) (count page : ℕ) → lowest_free rows count ≡ Some page → IsLowest rows count page
 is_lowest rows count page found = rw found at (is_lowest_free rows count)
 
--- as many pages are free in two books whose pages are free alike
-pub counted_alike : (rows other : ℕ → PageRow) (count : ℕ) → ((k : ℕ) → k < count → is_free (other k) ≡ is_free (rows k)) → free_below other count ≡ free_below rows count
-counted_alike rows other zero alike = refl
-counted_alike rows other (suc count) alike =
-    let before = counted_alike rows other count (λ k below. alike k (omega arith)) in
-    rw (alike count (omega arith), before) refl
-
-counted_both : (free : Bool) (before after : ℕ) → before ≡ after + 1 → cond free (suc before) before ≡ cond free (suc after) after + 1
-counted_both true before after less = omega (arith, less)
-counted_both false before after less = less
-
 -- one page fewer is free once a free one isn't any more
 pub counted_less : (rows other : ℕ → PageRow) (page count : ℕ) → page < count → is_free (rows page) ≡ true → is_free (other page) ≡ false → ((k : ℕ) → k ≢ page → other k ≡ rows k) → free_below rows count ≡ free_below other count + 1
-counted_less rows other page zero below free kept same = absurd (omega arith)
-counted_less rows other page (suc count) below free kept same =
-    elim (cases_eq page count) [
-      | inl last ↦
-          let before = counted_alike rows other count (λ k less. let apart : k ≢ page = omega (arith, last) in ap is_free (same k apart)) in
-          rw (← last, free, kept) (omega (arith, rw (← last) at before))
-      | inr more ↦
-          let before = counted_less rows other page count (omega (arith, more)) free kept same in
-          let apart : count ≢ page = λ e. more (sym e) in
-          rw (same count apart) (counted_both (is_free (rows count)) (free_below rows count) (free_below other count) before)
-    ]
+counted_less rows other page count below free kept same =
+    omega (arith, rw (free, kept) at (one_changed is_free rows other page count below same), free_how_many rows count, free_how_many other count)
 
 none_below : (rows : ℕ → PageRow) (count : ℕ) → ((k : ℕ) → k < count → is_free (rows k) ≡ false) → free_below rows count ≡ 0
 none_below rows zero none = refl
 none_below rows (suc count) none = rw (none count (omega arith)) (none_below rows count (λ k below. none k (omega arith)))
 
 counted : (rows : ℕ → PageRow) (page count : ℕ) → page < count → is_free (rows page) ≡ true → 0 < free_below rows count
-counted rows page zero below free = absurd (omega arith)
-counted rows page (suc count) below free =
-    elim (cases_Bool (is_free (rows count))) [
-      | inl last ↦ rw last (omega arith)
-      | inr kept ↦
-          let apart : page ≢ count = λ e. cc (ap (λ (k : ℕ). is_free (rows k)) e) in
-          rw kept (counted rows page count (omega (arith, apart)) free)
-    ]
+counted rows page count below free = omega (arith, rw free at (at_least is_free rows page count below), free_how_many rows count)
 
 none_counts : (rows : ℕ → PageRow) (count : ℕ) (found : Option ℕ) → IsLowestFree rows count found → is_some found ≡ false → free_below rows count ≡ 0
 none_counts rows count None none is = none_below rows count none
@@ -101,3 +77,33 @@ one_less rows page row found kept =
     rw (length-set rows page row) (counted_less (row_in rows) (row_in (slice_set rows page row)) page (length rows) lowest.below (ap is_free lowest.free)
     (ap is_free (get_or-set_same rows page row Free lowest.below) ∙ kept)
     (λ k apart. get_or-set_other rows page k row Free apart))
+
+none_found : (rows : ℕ → PageRow) (count : ℕ) → ((k : ℕ) → k < count → is_free (rows k) ≡ false) → lowest_free rows count ≡ None
+none_found rows zero none = refl
+none_found rows (suc page) none = rw (none_found rows page (λ k below. none k (omega arith)), none page (omega arith)) refl
+
+not_marked : (below free : Bool) → one_if (below && free) ≡ 0 → below ≡ true → free ≡ false
+not_marked true true is there = cc
+not_marked true false is there = refl
+not_marked false free is there = cc
+
+both_marked : (below free : Bool) → 1 ≡ one_if (below && free) → (below ≡ true) × (free ≡ true)
+both_marked true true is = (refl, refl)
+both_marked true false is = cc
+both_marked false free is = cc
+
+-- the lowest page that is marked as free is the lowest free one
+pub marked_first : (rows : List PageRow) (words : List ℕ) (found : Option ℕ) → length rows ≤ most_pages → ((page : ℕ) → page < most_pages → mark words page ≡ one_if (nat_lt page (length rows) && is_free (row_in rows page)))
+    → IsLeast words found → found ≡ first_free rows
+marked_first rows words None most marks least =
+    sym (none_found (row_in rows) (length rows) (λ k below.
+    let within : k < most_pages = omega arith in
+    not_marked (nat_lt k (length rows)) (is_free (row_in rows k)) (sym (marks k within) ∙ least k within) (lt-ltb k (length rows) below)))
+marked_first rows words (Some page) most marks least =
+    let parts = both_marked (nat_lt page (length rows)) (is_free (row_in rows page)) (sym least.marked ∙ marks page least.below) in
+    let there : page < length rows = ltb-true page (length rows) parts.0 in
+    sym (found_first (row_in rows) page (length rows)
+    (none_found (row_in rows) page (λ k below.
+    let within : k < most_pages = omega (arith, most, there) in
+    not_marked (nat_lt k (length rows)) (is_free (row_in rows k)) (sym (marks k within) ∙ least.least k below) (lt-ltb k (length rows) (omega arith))))
+    parts.1 there)

@@ -1,2 +1,5 @@
+mod Counts
 pub mod Free
+mod Marks
 pub mod Owners
+mod Tallies

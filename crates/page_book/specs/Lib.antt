@@ -1,2 +1,4 @@
+pub mod PageSet
 pub mod Row
 pub mod Rows
+pub mod Tallies

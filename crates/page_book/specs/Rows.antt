@@ -4,7 +4,7 @@ use Rattle.std.specs.Option.{option_or}
 use Rattle.page_book.specs.declared.row.PageRow.{PageRow}
 use Rattle.page_book.specs.declared.row.PageRow.TheVariants.{Free}
 use Rattle.page_book.specs.declared.refusal.PageNo.{PageNo}
-use Rattle.page_book.specs.Row.{is_free}
+use Rattle.page_book.specs.Row.{is_free, is_owned_by}
 
 -- the row of a page number; behind the last one it is a free page's
 abbrev pub row_in : List PageRow → ℕ → PageRow
@@ -23,12 +23,20 @@ abbrev pub free_below : (ℕ → PageRow) → ℕ → ℕ
 free_below rows zero = zero
 free_below rows (suc page) = if is_free (rows page) then suc (free_below rows page) else free_below rows page
 
+-- how many of the pages below count an environment owns, without its guaranteed ones
+abbrev pub owned_below : ℕ → (ℕ → PageRow) → ℕ → ℕ
+owned_below e rows zero = zero
+owned_below e rows (suc page) = if is_owned_by e (rows page) then suc (owned_below e rows page) else owned_below e rows page
+
 -- the lowest free page of all
 abbrev pub first_free : List PageRow → Option ℕ
 first_free rows = lowest_free (row_in rows) (length rows)
 
 abbrev pub free_pages : List PageRow → ℕ
 free_pages rows = free_below (row_in rows) (length rows)
+
+abbrev pub owned_pages : List PageRow → ℕ → ℕ
+owned_pages rows e = owned_below e (row_in rows) (length rows)
 
 -- the pages once one of them, if there is one, has this row
 abbrev pub given : List PageRow → Option ℕ → PageRow → List PageRow

@@ -1,15 +1,17 @@
 //! The book of pages.
 ghost use Rattle.std.specs.Prelude.{◌≡◌, ◌<◌, ◌≤◌, ◌+◌, false, length, replicate, map, slice_get, slice_set, IsNone, IsSome, IsOk, OnOk, IfOk};
 ghost use Rattle.std.specs.Option.{ok_or};
-ghost use Rattle.aegis_limits.specs.Limits.{least_pages, most_pages};
+ghost use Rattle.aegis_limits.specs.Limits.{environment_numbers, least_pages, most_pages};
 ghost use Rattle.page_book.specs.declared.row.PageRow.TheVariants.{Free, Guaranteed, Owned};
 ghost use Rattle.page_book.specs.declared.refusal.PageNo.TheVariants.{NoneFree};
+ghost use Rattle.page_book.specs.PageSet.{one_if};
 ghost use Rattle.page_book.specs.Row.{is_free, is_guaranteed, owner_of, alloc_refusal, change_refusal, bind_refusal, released, unless};
-ghost use Rattle.page_book.specs.Rows.{row_in, first_free, free_pages, given, changed_unless};
+ghost use Rattle.page_book.specs.Rows.{row_in, first_free, free_pages, owned_pages, given, changed_unless};
 
+use crate::holdings::Holdings;
+use crate::page_set::PageSet;
 use crate::refusal::PageNo;
 use crate::row::{Capabilities, PageRow};
-use crate::search::{count_free, first_free, release};
 use aegis_limits::OutOfMemory;
 use std::alloc::Global;
 use std::marker::Model;
@@ -18,18 +20,24 @@ use std::marker::Model;
 #[derive(Drop)]
 pub struct Pages {
     rows: Vec<PageRow>,
+    /// The free pages.
+    free: PageSet,
+    /// How many pages are free.
+    free_count: u32,
+    /// How many pages each environment owns, without its guaranteed ones.
+    owned: Holdings,
 }
 
 impl Model for Pages {
-    ghost use Rattle.std.specs.Prelude.{◌≤◌, List, length};
-    ghost use Rattle.aegis_limits.specs.Limits.{least_pages, most_pages};
+    ghost use Rattle.std.specs.Prelude.{List};
     ghost use Rattle.page_book.specs.declared.row.PageRow.{PageRow as Row};
+    ghost use Rattle.page_book.specs.Tallies.{IsTallied};
 
     ghost Value = { List Row };
 
     ghost view = { λ p. p.rows.items };
 
-    ghost invariant = { λ p. (least_pages ≤ length p.rows.items) × (length p.rows.items ≤ most_pages) };
+    ghost invariant = { λ p. IsTallied p.rows.items p.free p.free_count p.owned };
 }
 
 impl Pages {
@@ -40,7 +48,12 @@ impl Pages {
         ensures { IfOk result (λ p. p ≡ replicate pages Free) }
     {
         let rows = vec![in alloc; PageRow::Free; pages as usize]?;
-        Ok(Pages { rows })
+        Ok(Pages {
+            rows,
+            free: PageSet::first_pages(pages),
+            free_count: pages,
+            owned: Holdings::new(),
+        })
     }
 
     /// How many pages there are, from `LEAST_PAGES` to `MOST_PAGES`.
@@ -86,14 +99,22 @@ impl Pages {
     pub fn free_count(&self) -> u32
         ensures { result ≡ free_pages self.now }
     {
-        count_free(&self.rows)
+        self.free_count
+    }
+
+    /// How many pages the environment owns, without those that are guaranteed to it.
+    pub fn owned_count(&self, env: u8) -> u32
+        requires { env < environment_numbers }
+        ensures { result ≡ owned_pages self.now env }
+    {
+        self.owned.count(env)
     }
 
     /// The lowest free page, if one is free.
     pub fn lowest_free(&self) -> Option<u32>
         ensures { result ≡ first_free self.now }
     {
-        first_free(&self.rows)
+        self.free.first()
     }
 
     /// The lowest free page becomes a guaranteed page of the environment, and its number is the answer. `NoneFree`
@@ -166,7 +187,12 @@ impl Pages {
     pub fn release_env(&mut self, env: u8)
         ensures { self.new ≡ map (released env) self.old }
     {
-        release(&mut self.rows, env);
+        for page in 0..self.pages() {
+            let row = self.row_there(page);
+            if row.belongs_to(env) {
+                self.set(page, PageRow::Free);
+            }
+        }
     }
 
     /// Takes a page by force, whoever's it is, a guaranteed one too: it is free from now on.
@@ -174,7 +200,7 @@ impl Pages {
         requires { IsSome (owner_of (row_in self.old page)) }
         ensures { self.new ≡ slice_set self.old page Free }
     {
-        self.rows[page as usize] = PageRow::Free;
+        self.set(page, PageRow::Free);
     }
 
     /// Gives the lowest free page this row.
@@ -186,11 +212,24 @@ impl Pages {
         ensures left { OnOk result (free_pages self.old ≡ free_pages self.new + 1) }
         ensures sure { 0 < free_pages self.old → IsOk result }
     {
-        let Some(page) = first_free(&self.rows) else {
+        let Some(page) = self.lowest_free() else {
             return Err(PageNo::NoneFree);
         };
-        self.rows[page as usize] = row;
+        self.set(page, row);
         Ok(page)
+    }
+
+    /// Gives a page this row, and keeps what is kept beside the rows.
+    fn set(&mut self, page: u32, row: PageRow)
+        requires { page < length self.old }
+        ensures { self.new ≡ slice_set self.old page row }
+    {
+        let old = self.row_there(page);
+        self.rows[page as usize] = row;
+        self.free.put(page, row.is_free());
+        self.free_count = self.free_count + one_if(row.is_free()) - one_if(old.is_free());
+        self.owned.lose(old);
+        self.owned.gain(row);
     }
 
     /// Why the page can't be allocated.
@@ -222,10 +261,17 @@ impl Pages {
         ensures after { self.new ≡ changed_unless why self.old page row }
     {
         if why.is_none() {
-            self.rows[page as usize] = row;
+            self.set(page, row);
         }
         answer_unless(why)
     }
+}
+
+/// 1 if it is so, and else 0.
+fn one_if(is: bool) -> u32
+    ensures { result ≡ one_if is }
+{
+    u32::from(is)
 }
 
 /// The answer of a call that is refused for this cause, if there is one.
