@@ -1,4 +1,6 @@
+mod Distinct
 pub mod Earliest
 mod Few
 pub mod Takable
+mod Richest
 mod Walk

@@ -1,5 +1,5 @@
 -- The backups of an environment, in the order in which they were loaded.
-use Rattle.std.specs.Prelude.{ℕ, ◌==◌, nat_le, Bool, not, List, [], ◌∷◌, ◌++◌, filter, length, if◌then◌else◌, Option, Some, None}
+use Rattle.std.specs.Prelude.{◌≡◌, ℕ, ◌==◌, nat_le, Bool, false, not, List, [], ◌∷◌, ◌++◌, filter, length, if◌then◌else◌, Option, Some, None}
 use Rattle.std.specs.List.{list_any}
 use Rattle.revocation_book.specs.declared.revocation.LoadNo.{LoadNo}
 use Rattle.revocation_book.specs.declared.revocation.LoadNo.TheVariants.{Loaded, Full}
@@ -11,6 +11,11 @@ most_backups = 64
 -- whether a page is one of them
 abbrev pub is_loaded : List ℕ → ℕ → Bool
 is_loaded backups page = list_any (λ b. b == page) backups
+
+-- none of them stands twice
+abbrev pub AreDistinct : List ℕ → Type 0
+AreDistinct [] = Unit {0}
+AreDistinct (page ∷ pages) = (is_loaded pages page ≡ false) × AreDistinct pages
 
 -- why a page isn't loaded as one more
 abbrev pub load_refusal : List ℕ → ℕ → Option LoadNo

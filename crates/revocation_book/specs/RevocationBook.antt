@@ -1,12 +1,13 @@
 -- The book of revocations, as it is seen.
-use Rattle.std.specs.Prelude.{ℕ, Bool, List, [], length, map, replicate, slice_index_or, slice_set, Option, None}
+use Rattle.std.specs.Prelude.{◌≡◌, ℕ, Bool, true, List, [], length, map, replicate, slice_index_or, slice_set, Option, None}
 use Rattle.std.specs.List.{list_any}
 use Rattle.aegis_limits.specs.Limits.{environment_numbers}
 use Rattle.page_book.specs.declared.row.PageRow.{PageRow}
+use Rattle.page_book.specs.Row.{is_owned_by}
 use Rattle.page_book.specs.Rows.{row_in}
 use Rattle.revocation_book.specs.declared.revocation.Pending.{Pending}
 use Rattle.revocation_book.specs.Pending.{asked, earliest_or_never, is_due, lowered, unless_due}
-use Rattle.revocation_book.specs.Backups.{unloaded}
+use Rattle.revocation_book.specs.Backups.{is_loaded, unloaded}
 use Rattle.revocation_book.specs.Takings.{Books}
 
 -- of each environment what is pending, and its backups
@@ -64,3 +65,8 @@ books_of pages book = record {
   pending = pending_at book;
   backups = backups_at book;
 }
+
+-- each backup is a page that its environment owns
+abbrev pub BackupsAreOwned : List PageRow → RevocationBook → Type 0
+BackupsAreOwned pages book =
+    (e page : ℕ) → is_loaded (backups_at book e) page ≡ true → is_owned_by e (row_in pages page) ≡ true

@@ -1,6 +1,6 @@
 //! The backups of an environment.
-ghost use Rattle.std.specs.Prelude.{◌≡◌, drop, slice_get, IsNone};
-ghost use Rattle.revocation_book.specs.Backups.{is_loaded, load_refusal, loaded, unloaded};
+ghost use Rattle.std.specs.Prelude.{◌≡◌, drop, length, slice_get, IsNone};
+ghost use Rattle.revocation_book.specs.Backups.{AreDistinct, is_loaded, load_refusal, loaded, unloaded};
 
 use crate::revocation::LoadNo;
 use arrayvec::ArrayVec;
@@ -17,10 +17,13 @@ pub(crate) struct Backups {
 
 impl Model for Backups {
     ghost use Rattle.std.specs.Prelude.{ℕ, List};
+    ghost use Rattle.revocation_book.specs.Backups.{AreDistinct};
 
     ghost Value = { List ℕ };
 
     ghost view = { λ b. b.pages.items };
+
+    ghost invariant = { λ b. AreDistinct b.pages.items };
 }
 
 impl Backups {
@@ -29,6 +32,14 @@ impl Backups {
         ensures { result.now ≡ self.now }
     {
         &self.pages
+    }
+
+    /// How many they are. None of them stands twice.
+    pub(crate) fn count(&self) -> u32
+        ensures count { result ≡ length self.now }
+        ensures distinct { AreDistinct self.now }
+    {
+        self.pages.len() as u32
     }
 
     /// Whether a page is one of them.

@@ -1,4 +1,5 @@
 //! What holds of what is taken at a time.
+ghost use Rattle.revocation_book.specs.Richest.{RichestHasMost};
 ghost use Rattle.revocation_book.specs.Takings.{TakingsAreFew, TakingsAreTakable};
 
 /// Each page that is taken at a time may be taken in its turn, once those before it are: the deadline of its owner has
@@ -10,4 +11,10 @@ pub fn law_takable()
 /// No more pages are taken than there are pages that aren't free.
 pub fn law_few_takings()
     ensures { TakingsAreFew }
+{}
+
+/// The richest environment but for one has the most pages that may be taken, of all but that one, and at least one; those
+/// below it have fewer. There is none exactly where no other environment has such a page.
+pub fn law_richest()
+    ensures { RichestHasMost }
 {}

@@ -11,8 +11,10 @@ mod laws;
 mod pending;
 mod revocation;
 mod revocations;
+mod takings;
 
 pub use backups::MOST_BACKUPS;
-pub use laws::{law_few_takings, law_takable};
+pub use laws::{law_few_takings, law_richest, law_takable};
 pub use revocation::{LoadNo, Pending, Taking};
-pub use revocations::{MOST_TAKINGS, Revocations};
+pub use revocations::Revocations;
+pub use takings::Takings;

@@ -1,8 +1,9 @@
 //! The book of revocations.
 ghost use Rattle.std.specs.Prelude.{◌≡◌, ◌<◌, ◌≤◌, ◌+◌, ◌++◌, length, drop, slice_get, IsNone};
 ghost use Rattle.revocation_book.specs.Backups.{load_refusal, loaded};
-ghost use Rattle.revocation_book.specs.RevocationBook.{backups_at, books_of, is_any_due, next_deadline, nothing_asked, once_asked, once_freed, once_gone, once_served, pending_at, with_backups};
+ghost use Rattle.revocation_book.specs.RevocationBook.{BackupsAreOwned, backups_at, books_of, is_any_due, next_deadline, nothing_asked, once_asked, once_freed, once_gone, once_served, pending_at, with_backups};
 ghost use Rattle.aegis_limits.specs.Limits.{environment_numbers};
+ghost use Rattle.revocation_book.specs.Richest.{revocable_pages, richest};
 ghost use Rattle.revocation_book.specs.Takings.{is_victim, takings_below, takings_of};
 
 use crate::backups::Backups;
@@ -10,13 +11,10 @@ use crate::deadlines::Deadlines;
 use crate::laws::law_few_takings;
 use crate::pending::{asked, lowered};
 use crate::revocation::{LoadNo, Pending, Taking};
-use aegis_limits::{ENVIRONMENT_NUMBERS, MOST_PAGES};
-use arrayvec::ArrayVec;
+use crate::takings::Takings;
+use aegis_limits::ENVIRONMENT_NUMBERS;
 use page_book::{PageRow, Pages};
 use std::marker::Model;
-
-/// The most pages that are taken at a time: all that there may be.
-pub const MOST_TAKINGS: usize = MOST_PAGES as usize;
 
 /// What each environment is asked for and hasn't given back, and which pages it loaded as backups.
 #[derive(Drop)]
@@ -115,16 +113,43 @@ impl Revocations {
 
     /// What is taken at this time from the environments below a number: the lowest environment first, and of each as
     /// many pages as are outstanding, by rising number.
-    pub fn takings(&self, pages: &Pages, envs: u8, time: u32) -> ArrayVec<Taking, MOST_TAKINGS>
+    pub fn takings(&self, pages: &Pages, envs: u8, time: u32) -> Takings
         requires { envs ≤ environment_numbers }
-        ensures { result.items ≡ takings_below (books_of pages.now self.now) time envs }
+        ensures { result ≡ takings_below (books_of pages.now self.now) time envs }
     {
         law_few_takings();
-        let mut takings = ArrayVec::new();
+        let mut takings = Takings::new();
         for env in 0..envs {
             self.push_takings(pages, env, time, &mut takings);
         }
         takings
+    }
+
+    /// How many pages may be taken from an environment: those that it owns, without its backups.
+    pub fn revocable_count(&self, pages: &Pages, env: u8) -> u32
+        requires env { env < environment_numbers }
+        requires owned { BackupsAreOwned pages.now self.now }
+        ensures { result ≡ revocable_pages (books_of pages.now self.now) env }
+    {
+        pages.owned_count(env) - self.backups_of(env).count()
+    }
+
+    /// The environment other than this one with the most pages that may be taken, the lowest of equals; none where no
+    /// other has such a page.
+    pub fn richest(&self, pages: &Pages, but: u8) -> Option<u8>
+        requires { BackupsAreOwned pages.now self.now }
+        ensures { result ≡ richest (books_of pages.now self.now) but }
+    {
+        let mut richest = None;
+        let mut most = 0;
+        for env in 0..ENVIRONMENT_NUMBERS as u8 {
+            let count = self.revocable_count(pages, env);
+            if env != but && most < count {
+                richest = Some(env);
+                most = count;
+            }
+        }
+        richest
     }
 
     /// The deadlines that have come at this time are over.
@@ -152,16 +177,10 @@ impl Revocations {
     }
 
     /// Appends what is taken at this time from an environment.
-    fn push_takings(
-        &self,
-        pages: &Pages,
-        env: u8,
-        time: u32,
-        takings: &mut ArrayVec<Taking, MOST_TAKINGS>,
-    )
+    fn push_takings(&self, pages: &Pages, env: u8, time: u32, takings: &mut Takings)
         requires env { env < environment_numbers }
-        requires room { length takings.old.items + length (takings_of (books_of pages.now self.now) time env) ≤ length pages.now }
-        ensures { takings.new.items ≡ takings.old.items ++ takings_of (books_of pages.now self.now) time env }
+        requires room { length takings.old + length (takings_of (books_of pages.now self.now) time env) ≤ length pages.now }
+        ensures { takings.new ≡ takings.old ++ takings_of (books_of pages.now self.now) time env }
     {
         let Some(pending) = self.pending(env) else {
             return;

@@ -1,5 +1,5 @@
 -- The walk takes what is due, and finds room for it.
-use Rattle.std.proofs.Common.{◌≡◌, ◌<◌, length, length-append, sym, ap, ◌∙◌, arith, rules, lit<}
+use Rattle.std.proofs.Common.{◌≡◌, ◌<◌, length, length-append, sym, ◌∙◌, arith, rules}
 use Rattle.std.specs.Prelude.{slice_get}
 use Rattle.std.proofs.lemmas.Option.{gets}
 use Rattle.revocation_book.specs.RevocationBook.{backups_at, books_of}
@@ -11,9 +11,9 @@ use Rattle.revocation_book.proofs.revocations.Revocations.push_takings.Goals.{th
 pub push-requires : goal.push-requires
 push-requires c =
     let b : Books = books_of c.args.pages.now c.args.self.now in
-    let fits : length c.loop-page.takings.items < length c.args.pages.now = has_room b c.args.time c.args.env c.loop-page.page c.in-Some.pending c.args.takings.now.items c.loop-page.takings.items (length c.args.pages.now)
+    let fits : length c.loop-page.takings < length c.args.pages.now = has_room b c.args.time c.args.env c.loop-page.page c.in-Some.pending c.args.takings.now c.loop-page.takings (length c.args.pages.now)
     (cc c.in-Some.ensures) c.if-time-pending.false (omega arith) (cc) (omega arith) c.loop-page.invariant.told c.requires.room in
-    (lit< tt, omega (arith, fits, c.pages-page-end.ensures.most, c.pages-page-end.ensures.count))
+    record { room = omega (arith, fits, c.pages-page-end.ensures.most, c.pages-page-end.ensures.count); page = omega (arith, c.pages-page-end.ensures.most) }
 
 pub loop-page-preserved : goal.loop-page-preserved
 loop-page-preserved c =
@@ -25,8 +25,8 @@ loop-page-preserved c =
           record {
             counted = rw (more, w.taken-is, length-append) (omega (arith, c.loop-page.invariant.counted));
             few = omega (arith, w.taken-is, c.loop-page.invariant.few);
-            told = rw more (one_taken c.args.env c.loop-page.page (victims_below b c.args.env c.loop-page.page) (backups_at c.args.self.now c.args.env) w.copied.result c.args.takings.now.items c.loop-page.takings.items c.if-is_victim.takings.items
-                c.loop-page.invariant.told (backup ∙ cc) (ap (λ t. t.items) w.takings-is ∙ w.push.ensures.items));
+            told = rw more (one_taken c.args.env c.loop-page.page (victims_below b c.args.env c.loop-page.page) (backups_at c.args.self.now c.args.env) w.copied.result c.args.takings.now c.loop-page.takings c.if-is_victim.takings
+                c.loop-page.invariant.told (backup ∙ cc) (w.takings-is ∙ w.push.ensures));
           }
       | else-is_victim w ↦
           let more = no_victim_more b c.args.env c.loop-page.page (sym c.is_victim.ensures ∙ w.if-is_victim.false) in
@@ -34,5 +34,5 @@ loop-page-preserved c =
     ]
 
 pub returns-then-taken-pending : goal.returns-then-taken-pending
-returns-then-taken-pending c = all_taken (books_of c.args.pages.now c.args.self.now) c.args.time c.args.env c.loop-page.page c.in-Some.pending c.args.takings.now.items c.loop-page.takings.items
+returns-then-taken-pending c = all_taken (books_of c.args.pages.now c.args.self.now) c.args.time c.args.env c.loop-page.page c.in-Some.pending c.args.takings.now c.loop-page.takings
     (cc c.in-Some.ensures) c.if-time-pending.false (omega arith) (cc) c.loop-page.invariant.told

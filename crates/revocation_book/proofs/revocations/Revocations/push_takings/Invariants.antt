@@ -8,5 +8,5 @@ abbrev pub invariant-loop-page : goal.invariant-loop-page
 invariant-loop-page l = record {
   counted : l.taken ≡ length (victims_below (books_of l.pages l.self) l.env l.page);
   few : l.taken ≤ l.pending.outstanding;
-  told : l.takings.items ≡ l.fn.takings.items ++ paired l.env (victims_below (books_of l.pages l.self) l.env l.page) (backups_at l.self l.env);
+  told : l.takings ≡ l.fn.takings ++ paired l.env (victims_below (books_of l.pages l.self) l.env l.page) (backups_at l.self l.env);
 }

@@ -5,4 +5,4 @@ use Rattle.revocation_book.specs.Takings.{takings_below}
 use Rattle.revocation_book.proofs.revocations.Revocations.takings.Given as goal
 
 abbrev pub invariant-loop-env : goal.invariant-loop-env
-invariant-loop-env l = l.takings.items ≡ takings_below (books_of l.pages l.self) l.time l.env
+invariant-loop-env l = l.takings ≡ takings_below (books_of l.pages l.self) l.time l.env
