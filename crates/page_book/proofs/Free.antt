@@ -5,6 +5,7 @@ use Rattle.std.proofs.Math.ListN.{length-set}
 use Rattle.std.proofs.lemmas.Bool.{cases_eq, lt-ltb, ltb-true}
 use Rattle.aegis_limits.specs.Limits.{most_pages}
 use Rattle.page_book.specs.PageSet.{IsLeast, mark, one_if}
+use Rattle.page_book.specs.Tallies.{is_free_page}
 use Rattle.page_book.specs.declared.row.PageRow.{PageRow}
 use Rattle.page_book.specs.declared.row.PageRow.TheVariants.{Free, Guaranteed, Owned}
 use Rattle.page_book.specs.Row.{is_free}
@@ -93,7 +94,7 @@ both_marked true false is = cc
 both_marked false free is = cc
 
 -- the lowest page that is marked as free is the lowest free one
-pub marked_first : (rows : List PageRow) (words : List ℕ) (found : Option ℕ) → length rows ≤ most_pages → ((page : ℕ) → page < most_pages → mark words page ≡ one_if (nat_lt page (length rows) && is_free (row_in rows page)))
+pub marked_first : (rows : List PageRow) (words : List ℕ) (found : Option ℕ) → length rows ≤ most_pages → ((page : ℕ) → page < most_pages → mark words page ≡ one_if (is_free_page rows page))
     → IsLeast words found → found ≡ first_free rows
 marked_first rows words None most marks least =
     sym (none_found (row_in rows) (length rows) (λ k below.

@@ -9,7 +9,7 @@ use Rattle.page_book.specs.declared.row.PageRow.TheVariants.{Free}
 use Rattle.page_book.specs.PageSet.{mark, one_if}
 use Rattle.page_book.specs.Row.{is_free, is_owned_by}
 use Rattle.page_book.specs.Rows.{row_in, free_below, owned_below}
-use Rattle.page_book.specs.Tallies.{IsTallied}
+use Rattle.page_book.specs.Tallies.{Gains, IsTallied}
 use Rattle.page_book.proofs.Counts.{at_least, at_most, free_how_many, owned_how_many, row_changed}
 
 module _ (rows : List PageRow) (free : List ℕ) (count : ℕ) (owned : List ℕ) (tallied : IsTallied rows free count owned) (page : ℕ) (there : page < length rows) where
@@ -37,8 +37,8 @@ module _ (rows : List PageRow) (free : List ℕ) (count : ℕ) (owned : List ℕ
 
   pub retallied : (row : PageRow) (marked : List ℕ) (counted : ℕ) (lost gained : List ℕ) → ((k : ℕ) → mark marked k ≡ cond (k == page) (one_if (is_free row)) (mark free k))
       → counted + one_if (is_free (row_in rows page)) ≡ count + one_if (is_free row)
-      → ((e : ℕ) → e < environment_numbers → slice_index_or owned e 0 ≡ slice_index_or lost e 0 + one_if (is_owned_by e (row_in rows page)))
-      → ((e : ℕ) → e < environment_numbers → slice_index_or gained e 0 ≡ slice_index_or lost e 0 + one_if (is_owned_by e row))
+      → Gains (row_in rows page) lost owned
+      → Gains row lost gained
       → IsTallied (slice_set rows page row) marked counted gained
   retallied row marked counted lost gained marks counts loses gains = record {
     least = rw length-set tallied.least;

@@ -26,7 +26,8 @@ free_below rows (suc page) = if is_free (rows page) then suc (free_below rows pa
 -- how many of the pages below count an environment owns, without its guaranteed ones
 abbrev pub owned_below : ℕ → (ℕ → PageRow) → ℕ → ℕ
 owned_below e rows zero = zero
-owned_below e rows (suc page) = if is_owned_by e (rows page) then suc (owned_below e rows page) else owned_below e rows page
+owned_below e rows (suc page) =
+    if is_owned_by e (rows page) then suc (owned_below e rows page) else owned_below e rows page
 
 -- the lowest free page of all
 abbrev pub first_free : List PageRow → Option ℕ

@@ -1,8 +1,9 @@
 //! How many pages each environment owns.
-ghost use Rattle.std.specs.Prelude.{◌≡◌, ◌<◌, ◌≤◌, ◌+◌, ℕ, replicate, slice_index_or};
+ghost use Rattle.std.specs.Prelude.{◌≡◌, ◌<◌, ◌≤◌, ℕ, replicate, slice_index_or};
 ghost use Rattle.aegis_limits.specs.Limits.{environment_numbers, most_pages};
 ghost use Rattle.page_book.specs.PageSet.{one_if};
 ghost use Rattle.page_book.specs.Row.{is_owned_by};
+ghost use Rattle.page_book.specs.Tallies.{Gains};
 
 use crate::row::PageRow;
 use aegis_limits::ENVIRONMENT_NUMBERS;
@@ -43,7 +44,7 @@ impl Holdings {
     /// A page has this row, and with it maybe an owner.
     pub(crate) fn gain(&mut self, row: PageRow)
         requires { (e : ℕ) → e < environment_numbers → slice_index_or self.old e 0 ≤ most_pages }
-        ensures { (e : ℕ) → e < environment_numbers → slice_index_or self.new e 0 ≡ slice_index_or self.old e 0 + one_if (is_owned_by e row) }
+        ensures { Gains row self.old self.new }
     {
         if let PageRow::Owned { owner, .. } = row {
             let owner = owner as usize;
@@ -56,7 +57,7 @@ impl Holdings {
     /// A page hasn't this row any more.
     pub(crate) fn lose(&mut self, row: PageRow)
         requires { (e : ℕ) → e < environment_numbers → one_if (is_owned_by e row) ≤ slice_index_or self.old e 0 }
-        ensures { (e : ℕ) → e < environment_numbers → slice_index_or self.old e 0 ≡ slice_index_or self.new e 0 + one_if (is_owned_by e row) }
+        ensures { Gains row self.new self.old }
     {
         if let PageRow::Owned { owner, .. } = row {
             let owner = owner as usize;

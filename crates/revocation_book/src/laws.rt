@@ -13,8 +13,8 @@ pub fn law_few_takings()
     ensures { TakingsAreFew }
 {}
 
-/// The richest environment but for one has the most pages that may be taken, of all but that one, and at least one; those
-/// below it have fewer. There is none exactly where no other environment has such a page.
+/// The richest environment but for one has the most pages that may be taken, of all but that one, and at least one;
+/// those below it have fewer. There is none exactly where no other environment has such a page.
 pub fn law_richest()
     ensures { RichestHasMost }
 {}
