@@ -2,7 +2,8 @@
 use Rattle.std.proofs.Common.{◌≡◌, ◌≤◌, ◌<◌, ℕ, zero, suc, ◌+◌, ◌%◌, true, List, [], ◌∷◌, Option, None, Some, map, length, inl, inr, refl, ap, sym, ◌∙◌, arith, subst}
 use Rattle.std.specs.Prelude.{sum_by, ◌==◌}
 use Rattle.std.specs.List.{AllByRecursion}
-use Rattle.aegis_limits.specs.Limits.{most_stack_pages, least_pages, most_pages, least_quantum, most_environments}
+use Rattle.aegis_limits.specs.Limits.{most_stack_pages, least_pages, least_quantum}
+use Rattle.aegis_limits.specs.VersionLimits.{most_pages_of, most_environments_of}
 use Rattle.boot_image.proofs.Bytes.{word_small}
 use Rattle.elf_static.specs.declared.fault.ElfFault.{ElfFault}
 use Rattle.elf_static.specs.ElfFaults.{elf_fault}
@@ -11,18 +12,18 @@ use Rattle.elf_static.specs.ElfValue.{elf_of}
 use Rattle.elf_static.proofs.Acceptance.{accepted as elf_accepted}
 use Rattle.std.proofs.lemmas.Bool.{cases_eq, cond_both, eqb-true}
 use Rattle.std.proofs.lemmas.List.{length-take, length-drop, length-map}
-use Rattle.boot_image.specs.ImageValue.{IsBytes, ImageValue, pages_in, quantum_in, environments_in, slots_in, slot_bytes, owner_of, first_header, name_in, base_in, stack_in, kind_in, length_in, bytes_in, body_end, body_of, flat_body, headers_from, headers, program_at, image_of, guaranteed_mappings, header_size}
+use Rattle.boot_image.specs.ImageValue.{IsBytes, ImageValue, version_in, pages_in, quantum_in, environments_in, slots_in, slot_bytes, owner_of, first_header, name_in, base_in, stack_in, kind_in, length_in, bytes_in, body_end, body_of, flat_body, headers_from, headers, program_at, image_of, guaranteed_mappings, header_size}
 use Rattle.boot_image.specs.ImageFaults.{is_name, is_base, is_flat_base, header_fault, slot_fault, owners_fault, slots_fault, program_header_fault, body_fault, elf_fault_at, program_fault, first_fault, mappings_fault, pages_fault, image_fault}
 use Rattle.boot_image.specs.Accepted.{IsFitting, IsOwnerBelow, IsAccepted}
 use Rattle.boot_image.proofs.Programs.{length-headers_from}
 
 record Header (file : List ℕ) : Type 0 where
   pub pages_least : least_pages ≤ pages_in file
-  pub pages_most : pages_in file ≤ most_pages
+  pub pages_most : pages_in file ≤ most_pages_of (version_in file)
   pub quantum_least : least_quantum ≤ quantum_in file
   pub quantum_most : quantum_in file ≤ 65536
   pub environments_least : 1 ≤ environments_in file
-  pub environments_most : environments_in file ≤ most_environments
+  pub environments_most : environments_in file ≤ most_environments_of (version_in file)
   pub slots_least : 1 ≤ slots_in file
   pub slots_most : slots_in file ≤ 64
 

@@ -1,8 +1,8 @@
 -- What is spelled from a plan and bodies within the limits has no fault, and is read as what they mean.
 use Rattle.std.proofs.Common.{◌≡◌, ◌≤◌, ◌<◌, ◌^◌, ℕ, ◌+◌, true, false, List, [], ◌∷◌, ◌++◌, Option, None, Some, map, length, take, drop, refl, ap, sym, ◌∙◌, append_assoc, arith}
-use Rattle.std.specs.Prelude.{nat_lt, suc, ◌==◌, ◌&&◌, if◌then◌else◌}
+use Rattle.std.specs.Prelude.{nat_lt, suc, ◌==◌, ◌&&◌, is_some, unwrap_or, if◌then◌else◌}
 use Rattle.std.specs.List.{AllByRecursion}
-use Rattle.std.specs.Int.{w32, to_le_bytes}
+use Rattle.std.specs.Int.{w16, w32, to_le_bytes}
 use Rattle.std.proofs.lemmas.List.{length-drop, length-append, length-map, take_at}
 use Rattle.elf_static.specs.ElfFaults.{elf_fault}
 use Rattle.elf_static.specs.AcceptedElf.{IsAcceptedElf}
@@ -10,12 +10,16 @@ use Rattle.boot_image.specs.declared.entry.Entry.{Entry}
 use Rattle.boot_image.specs.declared.entry.Kind.{Kind}
 use Rattle.boot_image.specs.declared.entry.Kind.TheVariants.{Flat, Elf}
 use Rattle.boot_image.specs.declared.fault.ImageWhy.TheVariants.{TooMany}
-use Rattle.boot_image.specs.ImageValue.{ProgramValue, ImageValue, pages_in, quantum_in, environments_in, slots_in, slot_bytes, owner_of, first_header, name_in, base_in, stack_in, accept_in, kind_in, length_in, bytes_in, body_of, body_end, bodies_end, headers_from, headers, program_at, image_of, guaranteed_mappings, header_size}
+use Rattle.boot_image.specs.ImageValue.{ProgramValue, ImageValue, magic_of, magic_version, version_in, pages_in, quantum_in, environments_in, slots_in, slot_bytes, owner_of, first_header, name_in, base_in, stack_in, accept_in, kind_in, length_in, bytes_in, body_of, body_end, bodies_end, headers_from, headers, program_at, image_of, guaranteed_mappings, header_size}
 use Rattle.boot_image.specs.ImageFaults.{fault, is_within, has_magic, is_name, is_base, header_fault, slot_fault, slots_fault, owners_fault, program_header_fault, body_fault, elf_fault_at, program_fault, first_fault, trailing_fault, mappings_fault, pages_fault, image_fault}
 use Rattle.boot_image.specs.Accepted.{IsFitting, IsOwnerBelow, IsAccepted}
 use Rattle.boot_image.specs.Spelling.{PlanValue, kind_number, base_number, slot_byte, program_text, programs_text, image_text, program_with, programs_with, image_with, IsBody, AreBodies}
 use Rattle.boot_image.proofs.Bytes.{behind, half_read, word_read}
-use Rattle.aegis_limits.specs.Limits.{least_pages, most_pages, least_quantum, most_quantum, most_environments}
+use Rattle.aegis_limits.specs.Limits.{least_pages, least_quantum, most_quantum, most_environments}
+use Rattle.aegis_limits.specs.VersionLimits.{most_pages_of, most_environments_of}
+use Rattle.aegis_limits.specs.declared.version.Version.{Version}
+use Rattle.aegis_limits.specs.declared.version.Version.TheVariants.{One, Two}
+use Rattle.boot_image.proofs.Within.{few_pages, few_programs}
 
 -- a program as it was spelled
 record Reads (file : List ℕ) (header : ℕ) (entry : Entry) (bytes rest : List ℕ) : Type 0 where
@@ -154,8 +158,18 @@ owners_pass count place [] below = refl
 owners_pass count place (owner ∷ owners) below =
     rw (owner_passes count place owner below.0) (owners_pass count (place + 1) owners below.1)
 
+magic_size : (version : Version) → length (magic_of version) ≡ 4
+magic_size One = refl
+magic_size Two = refl
+
+-- what begins with the magic of a version is of that version
+magic_read : (version : Version) (rest : List ℕ) → magic_version (magic_of version ++ rest) ≡ Some version
+unfolding magic_version
+magic_read One rest = refl
+magic_read Two rest = refl
+
 record Header (file : List ℕ) (plan : PlanValue) (bodies : List (List ℕ)) : Type 0 where
-  pub magic : has_magic file ≡ true
+  pub version : magic_version file ≡ Some plan.version
   pub pages : pages_in file ≡ plan.pages
   pub quantum : quantum_in file ≡ plan.quantum
   pub environments : environments_in file ≡ length plan.entries
@@ -167,33 +181,41 @@ record Header (file : List ℕ) (plan : PlanValue) (bodies : List (List ℕ)) : 
 header_read : (file : List ℕ) (plan : PlanValue) (bodies : List (List ℕ)) → AreBodies plan.entries bodies → IsAccepted (image_with plan bodies) → file ≡ image_text plan bodies → Header file plan bodies
 header_read file plan bodies are accepted is =
     let entries_count = programs_count plan.entries bodies are in
-    let text = image_text plan bodies in
+    let numbers = to_le_bytes w32 plan.pages ++ to_le_bytes w32 plan.quantum ++ to_le_bytes w16 (length plan.entries) ++ to_le_bytes w16 (length plan.slots) in
     let owners = map slot_byte plan.slots in
     let programs = programs_text plan.entries bodies in
     let count : length owners ≡ length plan.slots = length-map plan.slots slot_byte in
-    let behind_header : drop header_size file ≡ owners ++ programs = ap (drop header_size) is in
-    let size : length file ≡ header_size + (length owners + length programs) = ap length is ∙ simp length-append (omega arith) in
-    let slots : slots_in file ≡ length plan.slots = half_read file 0 text 14 (length plan.slots) (drop 16 text) 14 is refl (omega (arith, accepted.slots_most)) refl in
+    let text = numbers ++ (owners ++ programs) in
+    let begins : file ≡ magic_of plan.version ++ text = is ∙ simp append_assoc in
+    let at4 : drop 4 file ≡ text = behind file 0 (magic_of plan.version) text 4 begins (omega (arith, magic_size plan.version)) in
+    let behind_header : drop header_size file ≡ owners ++ programs = behind file 4 numbers (owners ++ programs) header_size at4 (omega arith) in
+    let size : length file ≡ header_size + (length owners + length programs) = ap length begins ∙ simp length-append (omega (arith, magic_size plan.version)) in
+    let slots : slots_in file ≡ length plan.slots = half_read file 4 text 10 (length plan.slots) (drop 12 text) 14 at4 refl (omega (arith, accepted.slots_most)) refl in
     record {
-      magic = ap has_magic is;
-      pages = word_read file 0 text 4 plan.pages (drop 8 text) 4 is refl (omega (arith, accepted.pages_most)) refl;
-      quantum = word_read file 0 text 8 plan.quantum (drop 12 text) 8 is refl (omega (arith, accepted.quantum_most)) refl;
-      environments = half_read file 0 text 12 (length plan.entries) (drop 14 text) 12 is refl (omega (arith, accepted.programs_most, entries_count)) refl;
+      version = ap magic_version begins ∙ magic_read plan.version text;
+      pages = word_read file 4 text 0 plan.pages (drop 4 text) 4 at4 refl (omega (arith, few_pages (image_with plan bodies) accepted)) refl;
+      quantum = word_read file 4 text 4 plan.quantum (drop 8 text) 8 at4 refl (omega (arith, accepted.quantum_most)) refl;
+      environments = half_read file 4 text 8 (length plan.entries) (drop 10 text) 12 at4 refl (omega (arith, few_programs (image_with plan bodies) accepted, entries_count)) refl;
       slots = slots;
       whole = omega (arith, size, count, slots);
       bytes = ap (take (slots_in file)) behind_header ∙ take_at owners programs (slots_in file) (count ∙ sym slots);
       programs = behind file header_size owners programs (first_header file) behind_header (omega (arith, count, slots));
     }
 
+version_is : (file : List ℕ) (plan : PlanValue) (bodies : List (List ℕ)) → Header file plan bodies → version_in file ≡ plan.version
+version_is file plan bodies header = ap (λ (found : Option Version). unwrap_or found One) header.version
+
 file_header_passes : (file : List ℕ) (plan : PlanValue) (bodies : List (List ℕ)) → length (programs_with plan.entries bodies) ≡ length plan.entries → IsAccepted (image_with plan bodies) → Header file plan bodies → header_fault file ≡ None
 unfolding header_fault
 file_header_passes file plan bodies same accepted header =
     let whole : nat_lt (length file) header_size ≡ false = grind (arith, header.whole) in
-    let pages : is_within least_pages most_pages (pages_in file) ≡ true = grind (arith, header.pages, accepted.pages_least, accepted.pages_most) in
+    let magic : has_magic file ≡ true = ap is_some header.version in
+    let version : version_in file ≡ plan.version = version_is file plan bodies header in
+    let pages : is_within least_pages (most_pages_of plan.version) (pages_in file) ≡ true = grind (arith, header.pages, accepted.pages_least, accepted.pages_most) in
     let quantum : is_within least_quantum most_quantum (quantum_in file) ≡ true = grind (arith, header.quantum, accepted.quantum_least, accepted.quantum_most) in
-    let environments : is_within 1 most_environments (environments_in file) ≡ true = grind (arith, header.environments, same, accepted.programs_least, accepted.programs_most) in
+    let environments : is_within 1 (most_environments_of plan.version) (environments_in file) ≡ true = grind (arith, header.environments, same, accepted.programs_least, accepted.programs_most) in
     let slots : is_within 1 64 (slots_in file) ≡ true = grind (arith, header.slots, accepted.slots_least, accepted.slots_most) in
-    rw (whole, header.magic, pages, quantum, environments, slots) refl
+    rw (whole, magic, version, pages, quantum, environments, slots) refl
 
 slots_pass : (file : List ℕ) (plan : PlanValue) (bodies : List (List ℕ)) → length (programs_with plan.entries bodies) ≡ length plan.entries → IsAccepted (image_with plan bodies) → Header file plan bodies → slots_fault file ≡ None
 unfolding slots_fault
@@ -228,8 +250,9 @@ read_again plan bodies are accepted = by_file (image_text plan bodies) refl
         let values : map (program_at file) (headers file) ≡ programs_with plan.entries bodies = rw header.environments programs.values in
         let after : drop (bodies_end (environments_in file) file (first_header file)) file ≡ [] = rw header.environments programs.after in
         let slots : map owner_of (slot_bytes file) ≡ plan.slots
-        = ap (map owner_of) header.bytes ∙ owners_again (length (programs_with plan.entries bodies)) plan.slots accepted.programs_most accepted.owners in
-        let value : image_of file ≡ image_with plan bodies = λ i. record { pages = header.pages i; quantum = header.quantum i; slots = slots i; programs = values i } in
+        = ap (map owner_of) header.bytes ∙ owners_again (length (programs_with plan.entries bodies)) plan.slots (few_programs (image_with plan bodies) accepted) accepted.owners in
+        let version = version_is file plan bodies header in
+        let value : image_of file ≡ image_with plan bodies = λ i. record { version = version i; pages = header.pages i; quantum = header.quantum i; slots = slots i; programs = values i } in
         let pages : pages_fault (image_of file) ≡ None = ap pages_fault value ∙ pages_fit (image_with plan bodies) accepted in
         let header_none = file_header_passes file plan bodies same accepted header in
         (rw (header_none, slots_pass file plan bodies same accepted header, faults, nothing_trails file after, room, pages) refl, value)

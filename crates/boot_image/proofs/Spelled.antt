@@ -1,12 +1,16 @@
 -- A file without a fault is spelled from its plan and its bodies.
-use Rattle.std.proofs.Common.{◌≡◌, ◌≤◌, ℕ, zero, suc, ◌+◌, List, [], ◌∷◌, ◌++◌, None, map, length, take, drop, true, refl, ap, sym, ◌∙◌, append_assoc, arith}
-use Rattle.std.specs.Prelude.{codes}
+use Rattle.std.proofs.Common.{◌≡◌, ◌≤◌, ℕ, zero, suc, ◌+◌, List, [], ◌∷◌, ◌++◌, None, map, length, take, drop, true, inl, inr, refl, ap, sym, ◌∙◌, append_assoc, arith}
+use Rattle.std.specs.Prelude.{codes, nat_eq}
+use Rattle.std.specs.List.{starts_with}
+use Rattle.std.proofs.lemmas.Bool.{cases_Bool, true≢false}
+use Rattle.aegis_limits.specs.declared.version.Version.{Version}
+use Rattle.aegis_limits.specs.declared.version.Version.TheVariants.{One, Two}
 use Rattle.std.specs.Int.{w16, w32, to_le_bytes}
 use Rattle.std.proofs.lemmas.List.{length-drop, length-map, take-append-drop, drop-drop, append-nil, nil_from_length}
 use lib.Pointwise.{bytes_decides}
 use Rattle.byte_numbers.specs.Numbers.{half_at, word_at}
 use Rattle.boot_image.proofs.Bytes.{half_bytes, word_bytes}
-use Rattle.boot_image.specs.ImageValue.{IsBytes, pages_in, quantum_in, slots_in, slot_bytes, owner_of, environments_in, first_header, name_in, base_in, stack_in, accept_in, kind_in, length_in, bytes_in, body_of, body_end, bodies_end, headers_from, headers, program_at, image_of, header_size}
+use Rattle.boot_image.specs.ImageValue.{IsBytes, magic_of, magic_version, version_in, pages_in, quantum_in, slots_in, slot_bytes, owner_of, environments_in, first_header, name_in, base_in, stack_in, accept_in, kind_in, length_in, bytes_in, body_of, body_end, bodies_end, headers_from, headers, program_at, image_of, header_size}
 use Rattle.boot_image.specs.ImageFaults.{has_magic, header_fault, slots_fault, program_fault, first_fault, trailing_fault, image_fault}
 use Rattle.boot_image.specs.Spelling.{slot_byte, kind_number, base_number, kind_at, entry_at, plan_of, bodies_of, program_text, programs_text, image_text, program_with, programs_with, image_with}
 use Rattle.boot_image.proofs.Acceptance.{Program, program_passes, body_size, count_of_slots}
@@ -94,6 +98,22 @@ stands_whole file text end past stands =
     let nothing : drop end file ≡ [] = nil_from_length (drop end file) (omega (arith, length-drop end file)) in
     stands.is ∙ ap (λ (t : List ℕ). text ++ t) nothing ∙ append-nil text
 
+-- a file that begins with a magic begins with its version's
+magic_again : (file : List ℕ) → has_magic file ≡ true → magic_of (version_in file) ≡ take 4 file
+unfolding magic_version
+magic_again file has =
+    elim (cases_Bool (starts_with nat_eq file (magic_of One))) [
+      | inl one ↦ rw one (begins One one)
+      | inr other ↦ elim (cases_Bool (starts_with nat_eq file (magic_of Two))) [
+        | inl two ↦ rw (other, two) (begins Two two)
+        | inr none ↦ absurd (true≢false (sym (rw (other, none) at has)))
+      ]
+    ]
+  where
+    begins : (version : Version) → starts_with nat_eq file (magic_of version) ≡ true → magic_of version ≡ take 4 file
+    begins One is = (bytes_decides (codes "AEG1") (take 4 file)).0 is
+    begins Two is = (bytes_decides (codes "AEG2") (take 4 file)).0 is
+
 header_passes : (file : List ℕ) → header_fault file ≡ None → (has_magic file ≡ true) × (header_size ≤ length file)
 unfolding header_fault
 header_passes file none = (grind arith, grind arith)
@@ -111,7 +131,7 @@ spelled file fits none =
     let trailing_none : trailing_fault file ≡ None = grind arith in
     let header = header_passes file header_none in
     let entries_count : length (map (entry_at file) (headers file)) ≡ environments_in file = length-map (headers file) (entry_at file) ∙ length-headers_from (environments_in file) file (first_header file) in
-    let magic = bytes_stand file 0 4 4 (codes "AEG1") ((bytes_decides (codes "AEG1") (take 4 file)).0 header.0) refl in
+    let magic = bytes_stand file 0 4 4 (magic_of (version_in file)) (magic_again file header.0) refl in
     let pages = word_stands file 4 8 (pages_in file) fits refl refl (omega (arith, header.1)) in
     let quantum = word_stands file 8 12 (quantum_in file) fits refl refl (omega (arith, header.1)) in
     let environments = half_stands file 12 14 _ fits entries_count refl (omega (arith, header.1)) in
@@ -119,5 +139,5 @@ spelled file fits none =
     let owners = bytes_stand file header_size (slots_in file) (first_header file) _ (owners_again (slot_bytes file)) refl in
     let programs = programs_spelled (environments_in file) file (first_header file) fits programs_none in (
       stands_whole file _ _ (nothing_trails file trailing_none) (magic then pages then quantum then environments then slots then owners then programs.stand),
-      λ i. record { pages = pages_in file; quantum = quantum_in file; slots = map owner_of (slot_bytes file); programs = sym programs.mean i },
+      λ i. record { version = version_in file; pages = pages_in file; quantum = quantum_in file; slots = map owner_of (slot_bytes file); programs = sym programs.mean i },
     )

@@ -1,14 +1,15 @@
 -- The faults of an image: the first sentence that holds, in this order, with its place.
-use Rattle.std.specs.Prelude.{ℕ, ◌+◌, ◌%◌, ◌==◌, nat_eq, nat_lt, nat_le, Bool, not, ◌&&◌, ◌||◌, List, [], ◌∷◌, length, drop, Option, None, Some, if◌then◌else◌, sum_by, codes}
-use Rattle.std.specs.List.{list_all, starts_with}
-use Rattle.aegis_limits.specs.Limits.{page_size, least_pages, most_pages, least_quantum, most_quantum, most_slots, most_environments, most_stack_pages, most_mappings}
+use Rattle.std.specs.Prelude.{ℕ, ◌+◌, ◌%◌, ◌==◌, nat_lt, nat_le, Bool, not, ◌&&◌, ◌||◌, List, [], ◌∷◌, length, drop, Option, None, Some, is_some, if◌then◌else◌, sum_by}
+use Rattle.std.specs.List.{list_all}
+use Rattle.aegis_limits.specs.Limits.{page_size, least_pages, least_quantum, most_quantum, most_slots, most_stack_pages, most_mappings}
+use Rattle.aegis_limits.specs.VersionLimits.{most_pages_of, most_environments_of}
 use Rattle.boot_image.specs.declared.fault.ImageFault.{ImageFault}
 use Rattle.boot_image.specs.declared.fault.ImageWhy.{ImageWhy}
 use Rattle.boot_image.specs.declared.fault.ImageWhy.TheVariants.{Short, Magic, Pages, Quantum, Envs, Slots, SlotOwner, Name, Kind, Stack, Base, Empty, Elf, Trailing, TooMany, TooBig}
 use Rattle.elf_static.specs.Faulting.{◌or_else◌}
 use Rattle.elf_static.specs.declared.fault.ElfFault.{ElfFault}
 use Rattle.elf_static.specs.ElfFaults.{elf_fault}
-use Rattle.boot_image.specs.ImageValue.{ImageValue, name_text, guaranteed_mappings, pages_in, quantum_in, environments_in, slots_in, slot_bytes, first_header, header_size, name_in, base_in, stack_in, kind_in, length_in, bytes_in, body_end, bodies_end, headers, program_at, image_of}
+use Rattle.boot_image.specs.ImageValue.{ImageValue, name_text, guaranteed_mappings, magic_version, version_in, pages_in, quantum_in, environments_in, slots_in, slot_bytes, first_header, header_size, name_in, base_in, stack_in, kind_in, length_in, bytes_in, body_end, bodies_end, headers, program_at, image_of}
 
 abbrev pub fault : ImageWhy → ℕ → Option ImageFault
 fault why place = Some (record { place = place; why = why })
@@ -22,18 +23,18 @@ first_fault fault_of (x ∷ xs) = fault_of x or_else first_fault fault_of xs
 abbrev pub is_within : ℕ → ℕ → ℕ → Bool
 is_within least most number = nat_le least number && nat_le number most
 
--- whether the file begins with AEG1
+-- whether the file begins with the magic of a version
 abbrev pub has_magic : List ℕ → Bool
-has_magic file = starts_with nat_eq file (codes "AEG1")
+has_magic file = is_some (magic_version file)
 
--- The header: the magic, and four numbers within their limits.
+-- The header: the magic, and four numbers within the limits of its version.
 unfoldable pub header_fault : List ℕ → Option ImageFault
 header_fault file =
     if nat_lt (length file) header_size then fault Short (length file) else
     if not (has_magic file) then fault Magic 0 else
-    if not (is_within least_pages most_pages (pages_in file)) then fault Pages 4 else
+    if not (is_within least_pages (most_pages_of (version_in file)) (pages_in file)) then fault Pages 4 else
     if not (is_within least_quantum most_quantum (quantum_in file)) then fault Quantum 8 else
-    if not (is_within 1 most_environments (environments_in file)) then fault Envs 12 else
+    if not (is_within 1 (most_environments_of (version_in file)) (environments_in file)) then fault Envs 12 else
     if not (is_within 1 most_slots (slots_in file)) then fault Slots 14 else
     None
 

@@ -1,6 +1,8 @@
 -- What an image's bytes mean.
-use Rattle.std.specs.Prelude.{ℕ, zero, suc, ◌+◌, ◌<◌, ◌==◌, true, List, [], ◌∷◌, length, take, drop, map, Option, None, Some, slice_index, if◌then◌else◌}
-use Rattle.std.specs.List.{before_first}
+use Rattle.std.specs.Prelude.{ℕ, zero, suc, ◌+◌, ◌<◌, ◌==◌, nat_eq, true, List, [], ◌∷◌, length, take, drop, map, Option, None, Some, unwrap_or, slice_index, codes, if◌then◌else◌}
+use Rattle.std.specs.List.{before_first, starts_with}
+use Rattle.aegis_limits.specs.declared.version.Version.{Version}
+use Rattle.aegis_limits.specs.declared.version.Version.TheVariants.{One, Two}
 use Rattle.byte_numbers.specs.Numbers.{half_at, word_at}
 use Rattle.elf_static.specs.ElfValue.{ElfValue, elf_of}
 use Rattle.segment_pages.specs.Pages.{vpns}
@@ -18,9 +20,10 @@ pub record ProgramValue : Type 0 where
   pub accept : ℕ
   pub body : ElfValue
 
--- an image: counts of pages and of a slice's ticks, the owner of each slot, and a program for each
+-- an image: its version, counts of pages and of a slice's ticks, the owner of each slot, and a program for each
 -- environment
 pub record ImageValue : Type 0 where
+  pub version : Version
   pub pages : ℕ
   pub quantum : ℕ
   pub slots : List (Option ℕ)
@@ -41,7 +44,21 @@ name_text name = before_first (λ byte. byte == 0) name
 abbrev pub guaranteed_mappings : ProgramValue → ℕ
 guaranteed_mappings program = 1 + length (vpns program.body) + program.stack
 
--- The file's header: the magic of four bytes, and four numbers.
+-- The file's header: the magic of four bytes, by which the version is known, and four numbers.
+abbrev pub magic_of : Version → List ℕ
+magic_of One = codes "AEG1"
+magic_of Two = codes "AEG2"
+
+-- the version whose magic the file begins with
+unfoldable pub magic_version : List ℕ → Option Version
+magic_version file =
+    if starts_with nat_eq file (magic_of One) then Some One else
+    if starts_with nat_eq file (magic_of Two) then Some Two else
+    None
+
+abbrev pub version_in : List ℕ → Version
+version_in file = unwrap_or (magic_version file) One
+
 abbrev pub pages_in : List ℕ → ℕ
 pages_in file = word_at file 4
 
@@ -54,9 +71,10 @@ environments_in file = half_at file 12
 abbrev pub slots_in : List ℕ → ℕ
 slots_in file = half_at file 14
 
--- the numbers of the header
+-- the version and the numbers of the header
 abbrev pub header_of : List ℕ → Header
 header_of file = record {
+  version = version_in file;
   pages = pages_in file;
   quantum = quantum_in file;
   environments = environments_in file;
@@ -134,6 +152,7 @@ program_at file header = record {
 -- The image of the file's bytes. It is meant where image_fault finds nothing.
 unfoldable pub image_of : List ℕ → ImageValue
 image_of file = record {
+  version = version_in file;
   pages = pages_in file;
   quantum = quantum_in file;
   slots = map owner_of (slot_bytes file);

@@ -1,13 +1,14 @@
 -- How an image is spelled: what stands in its file, and what that means.
-use Rattle.std.specs.Prelude.{ℕ, ◌≡◌, ◌<◌, ◌%◌, ◌^◌, ◌==◌, List, [], ◌∷◌, ◌++◌, length, map, Option, None, unwrap_or, codes, if◌then◌else◌}
+use Rattle.std.specs.Prelude.{ℕ, ◌≡◌, ◌<◌, ◌%◌, ◌^◌, ◌==◌, List, [], ◌∷◌, ◌++◌, length, map, Option, None, unwrap_or, if◌then◌else◌}
 use Rattle.std.specs.Int.{w16, w32, to_le_bytes}
 use Rattle.aegis_limits.specs.Limits.{page_size}
+use Rattle.aegis_limits.specs.declared.version.Version.{Version}
 use Rattle.elf_static.specs.ElfFaults.{elf_fault}
 use Rattle.boot_image.specs.declared.entry.Entry.{Entry}
 use Rattle.boot_image.specs.declared.entry.Kind.{Kind}
 use Rattle.boot_image.specs.declared.entry.Kind.TheVariants.{Flat, Elf}
 use Rattle.boot_image.specs.declared.header.Header.{Header}
-use Rattle.boot_image.specs.ImageValue.{ProgramValue, ImageValue, body_of, pages_in, quantum_in, slot_bytes, owner_of, headers, name_in, base_in, stack_in, accept_in, kind_in, bytes_in}
+use Rattle.boot_image.specs.ImageValue.{ProgramValue, ImageValue, magic_of, body_of, version_in, pages_in, quantum_in, slot_bytes, owner_of, headers, name_in, base_in, stack_in, accept_in, kind_in, bytes_in}
 
 abbrev pub kind_number : Kind → ℕ
 kind_number (Flat base) = 0
@@ -19,6 +20,7 @@ base_number Elf = 0
 
 -- an image without the bytes of the bodies: an entry for each
 pub record PlanValue : Type 0 where
+  pub version : Version
   pub pages : ℕ
   pub quantum : ℕ
   pub slots : List (Option ℕ)
@@ -41,9 +43,10 @@ programs_text [] bodies = []
 programs_text (entry ∷ entries) [] = []
 programs_text (entry ∷ entries) (bytes ∷ bodies) = program_text entry bytes ++ programs_text entries bodies
 
--- the numbers of the header
+-- the version and the numbers of the header
 abbrev pub header_in : PlanValue → Header
 header_in plan = record {
+  version = plan.version;
   pages = plan.pages;
   quantum = plan.quantum;
   environments = length plan.entries;
@@ -53,7 +56,7 @@ header_in plan = record {
 -- a header: magic, pages, quantum, environments, slots
 abbrev pub header_text : Header → List ℕ
 header_text header =
-    codes "AEG1" ++ to_le_bytes w32 header.pages ++ to_le_bytes w32 header.quantum
+    magic_of header.version ++ to_le_bytes w32 header.pages ++ to_le_bytes w32 header.quantum
     ++ to_le_bytes w16 header.environments ++ to_le_bytes w16 header.slots
 
 -- an image: the header, the slot bytes, and the programs
@@ -77,6 +80,7 @@ programs_with (entry ∷ entries) (bytes ∷ bodies) = program_with entry bytes 
 -- the image that a plan and bodies spell
 abbrev pub image_with : PlanValue → List (List ℕ) → ImageValue
 image_with plan bodies = record {
+  version = plan.version;
   pages = plan.pages;
   quantum = plan.quantum;
   slots = plan.slots;
@@ -110,6 +114,7 @@ entry_at file header = record {
 
 abbrev pub plan_of : List ℕ → PlanValue
 plan_of file = record {
+  version = version_in file;
   pages = pages_in file;
   quantum = quantum_in file;
   slots = map owner_of (slot_bytes file);

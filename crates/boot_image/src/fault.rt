@@ -1,8 +1,10 @@
 //! Why a file is refused, and where.
 ghost use Rattle.std.specs.Prelude.{◌≡◌, ◌<◌, ◌^◌};
 ghost use Rattle.boot_image.specs.Names.{image_why_text};
+ghost use Rattle.line_text.specs.declared.failure.Failure.TheVariants.{Fault as IsFault};
 
 use elf_static::ElfWhy;
+use line_text::Failure;
 
 /// Which rule of an image is broken. `docs/FORMATS.md`, "Image", has the rules in the order in which
 /// they are tested.
@@ -10,13 +12,13 @@ use elf_static::ElfWhy;
 pub enum ImageWhy {
     /// The header, the slot bytes, a program's header or its body pass the file's end.
     Short,
-    /// The file doesn't begin with `AEG1`.
+    /// The file begins neither with `AEG1` nor with `AEG2`.
     Magic,
-    /// The number of pages isn't from `LEAST_PAGES` to `MOST_PAGES`.
+    /// The number of pages isn't from `LEAST_PAGES` to the most of the version.
     Pages,
     /// The quantum isn't from `LEAST_QUANTUM` to `MOST_QUANTUM` ticks.
     Quantum,
-    /// The number of environments isn't from 1 to 16.
+    /// The number of environments isn't from 1 to the most of the version.
     Envs,
     /// The number of slots isn't from 1 to 64.
     Slots,
@@ -50,6 +52,17 @@ pub struct ImageFault {
     pub place: u32,
     /// The rule.
     pub why: ImageWhy,
+}
+
+/// Why there is no image: the file has a fault, or memory ran out.
+pub type ImageFailure = Failure<ImageFault>;
+
+impl From<ImageFault> for Failure<ImageFault> {
+    ghost from_gives = { λ fault e. e ≡ IsFault fault };
+
+    fn from(fault: ImageFault) -> Failure<ImageFault> {
+        Failure::Fault(fault)
+    }
 }
 
 impl ImageFault {

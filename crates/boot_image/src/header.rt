@@ -1,22 +1,22 @@
 //! The header of an image and its slot bytes.
 ghost use Rattle.std.specs.Prelude.{◌≡◌, ◌+◌, ◌<◌, ◌≤◌, ◌^◌, IfOk, OnOk, length, map};
-ghost use Rattle.aegis_limits.specs.Limits.{most_environments, most_slots};
-ghost use Rattle.boot_image.specs.ImageValue.{environments_in, header_of, header_size, slots_in, owner_of, slot_bytes};
+ghost use Rattle.aegis_limits.specs.Limits.{most_slots};
+ghost use Rattle.boot_image.specs.ImageValue.{environments_in, header_of, header_size, slots_in, owner_of, slot_bytes, magic_version};
 ghost use Rattle.boot_image.specs.ImageFaults.{is_within, header_fault, slots_fault, slot_fault, owners_fault};
 ghost use Rattle.elf_static.specs.Faulting.{Answers};
 
 use crate::fault::{ImageFault, ImageWhy};
 use crate::image::Owners;
-use crate::layout::{ENVIRONMENTS_AT, HEADER_SIZE, MAGIC, NOBODY, PAGES_AT, QUANTUM_AT, SLOTS_AT};
-use aegis_limits::{
-    LEAST_PAGES, LEAST_QUANTUM, MOST_ENVIRONMENTS, MOST_PAGES, MOST_QUANTUM, MOST_SLOTS,
-};
+use crate::layout::{ENVIRONMENTS_AT, HEADER_SIZE, NOBODY, PAGES_AT, QUANTUM_AT, SLOTS_AT, magic};
+use aegis_limits::{LEAST_PAGES, LEAST_QUANTUM, MOST_QUANTUM, MOST_SLOTS, Version};
 use arrayvec::ArrayVec;
 use byte_numbers::{half_at, word_at};
 
-/// The numbers of an image's header.
+/// The version and the numbers of an image's header.
 #[derive(Clone, Copy)]
 pub struct Header {
+    /// The version.
+    pub version: Version,
     /// How many pages the machine has.
     pub pages: u32,
     /// How many ticks a slice has.
@@ -33,22 +33,36 @@ fn is_within(least: u32, most: u32, number: u32) -> bool
     least <= number && number <= most
 }
 
-/// The header of the file, whose numbers are within their limits.
+/// The version whose magic the file begins with.
+#[tactic(auto, unfolding(crate::specs::ImageValue::magic_version))]
+fn magic_version(file: &[u8]) -> Option<Version>
+    ensures { result ≡ magic_version file.now }
+{
+    if file.starts_with(magic(Version::One)) {
+        return Some(Version::One);
+    }
+    if file.starts_with(magic(Version::Two)) {
+        return Some(Version::Two);
+    }
+    None
+}
+
+/// The header of the file, whose numbers are within the limits of its version.
 #[tactic(auto, unfolding(crate::specs::ImageFaults::header_fault))]
 pub(crate) fn read_header(file: &[u8]) -> Result<Header, ImageFault>
     requires { length file.now < 2 ^ 27 }
     ensures answer { Answers (λ header. header) result (header_fault file.now) (header_of file.now) }
     ensures whole { OnOk result (header_size ≤ length file.now) }
-    ensures limits { IfOk result (λ header. (header.environments ≤ most_environments) × (header.slots ≤ most_slots)) }
+    ensures room { IfOk result (λ header. header.slots ≤ most_slots) }
 {
     if file.len() < HEADER_SIZE {
         return Err(ImageFault::at(ImageWhy::Short, file.len()));
     }
-    if !file.starts_with(MAGIC) {
+    let Some(version) = magic_version(file) else {
         return Err(ImageFault::at(ImageWhy::Magic, 0));
-    }
+    };
     let pages = word_at(file, PAGES_AT);
-    if !is_within(LEAST_PAGES, MOST_PAGES, pages) {
+    if !is_within(LEAST_PAGES, version.most_pages(), pages) {
         return Err(ImageFault::at(ImageWhy::Pages, PAGES_AT));
     }
     let quantum = word_at(file, QUANTUM_AT);
@@ -56,7 +70,7 @@ pub(crate) fn read_header(file: &[u8]) -> Result<Header, ImageFault>
         return Err(ImageFault::at(ImageWhy::Quantum, QUANTUM_AT));
     }
     let environments = half_at(file, ENVIRONMENTS_AT);
-    if !is_within(1, MOST_ENVIRONMENTS as u32, environments.into()) {
+    if !is_within(1, version.most_environments() as u32, environments.into()) {
         return Err(ImageFault::at(ImageWhy::Envs, ENVIRONMENTS_AT));
     }
     let slots = half_at(file, SLOTS_AT);
@@ -64,6 +78,7 @@ pub(crate) fn read_header(file: &[u8]) -> Result<Header, ImageFault>
         return Err(ImageFault::at(ImageWhy::Slots, SLOTS_AT));
     }
     Ok(Header {
+        version,
         pages,
         quantum,
         environments,

@@ -6,7 +6,7 @@ ghost use Rattle.boot_image.specs.ImageFaults.{is_name};
 ghost use Rattle.boot_image.specs.Parts.{if_fitting};
 
 use crate::layout::NAME_SIZE;
-use aegis_limits::{MOST_ENVIRONMENTS, MOST_MAPPINGS, MOST_SLOTS};
+use aegis_limits::{MOST_MAPPINGS, MOST_SLOTS, Version};
 use arrayvec::ArrayVec;
 use elf_static::Elf;
 use segment_pages::{count_pages, law_smallest};
@@ -18,14 +18,17 @@ pub type Owners = ArrayVec<Option<u8>, MOST_SLOTS>;
 /// An image of a boot. `docs/FORMATS.md`, "Image", has its limits, which hold of every value of this type.
 #[derive(Drop)]
 pub struct Image<'a> {
-    /// How many pages the machine has, `LEAST_PAGES` to `MOST_PAGES`, and at least as many as its programs need together.
+    /// Its version, which limits pages and environments.
+    pub version: Version,
+    /// How many pages the machine has, from `LEAST_PAGES` to the version's most, and at least as many as its programs need
+    /// together.
     pub pages: u32,
     /// How many ticks a slice has, `LEAST_QUANTUM` to `MOST_QUANTUM`.
     pub quantum: u32,
     /// The environment that owns each of the 1 to 64 slots, where one does.
     pub slots: Owners,
-    /// One program for each of the 1 to 16 environments, by its number.
-    pub programs: ArrayVec<Program<'a>, MOST_ENVIRONMENTS>,
+    /// One program for each environment, by its number: from one to the version's most.
+    pub programs: Vec<Program<'a>>,
 }
 
 impl<'a> Model for Image<'a> {
@@ -34,9 +37,9 @@ impl<'a> Model for Image<'a> {
 
     ghost Value = { ImageValue };
 
-    ghost view = { λ image. record { pages = image.pages; quantum = image.quantum; slots = image.slots.items; programs = image.programs.items } };
+    ghost view = { λ image. record { version = image.version; pages = image.pages; quantum = image.quantum; slots = image.slots.items; programs = image.programs.items } };
 
-    ghost invariant = { λ image. IsAccepted (record { pages = image.pages; quantum = image.quantum; slots = image.slots.items; programs = image.programs.items }) };
+    ghost invariant = { λ image. IsAccepted (record { version = image.version; pages = image.pages; quantum = image.quantum; slots = image.slots.items; programs = image.programs.items }) };
 }
 
 /// A program of an image. Its limits hold of every value of this type: among them that it needs at most 256

@@ -1,7 +1,8 @@
 //! The laws of the definitions: that an image without a fault is within the limits, and how what a file
 //! means is tied to how it is spelled.
-ghost use Rattle.std.specs.Prelude.{◌≡◌, ℕ, List, None};
-ghost use Rattle.boot_image.specs.ImageValue.{IsBytes, image_of};
+ghost use Rattle.std.specs.Prelude.{◌≡◌, ◌≤◌, ℕ, List, None, length};
+ghost use Rattle.aegis_limits.specs.Limits.{most_environments, most_pages};
+ghost use Rattle.boot_image.specs.ImageValue.{ImageValue, IsBytes, image_of};
 ghost use Rattle.boot_image.specs.ImageFaults.{image_fault};
 ghost use Rattle.boot_image.specs.Accepted.{IsAccepted};
 ghost use Rattle.boot_image.specs.Spelling.{AreBodies, PlanValue, bodies_of, image_text, image_with, plan_of};
@@ -9,6 +10,12 @@ ghost use Rattle.boot_image.specs.Spelling.{AreBodies, PlanValue, bodies_of, ima
 /// An image of bytes that has no fault is within the limits. `docs/FORMATS.md`, "Image", has them.
 pub fn law_accepted()
     ensures { (file : List ℕ) → IsBytes file → image_fault file ≡ None → IsAccepted (image_of file) }
+{}
+
+/// An image within the limits of its version is within those of all versions.
+pub fn law_accepted_is_within()
+    ensures pages { (image : ImageValue) → IsAccepted image → image.pages ≤ most_pages }
+    ensures programs { (image : ImageValue) → IsAccepted image → length image.programs ≤ most_environments }
 {}
 
 /// A file without a fault is spelled from its plan and its bodies, and means what they do.

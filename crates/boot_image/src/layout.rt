@@ -1,7 +1,19 @@
 //! The layout of images, by which they are read and written. `docs/FORMATS.md`, "Image", has it.
+ghost use Rattle.std.specs.Prelude.{◌≡◌};
+ghost use Rattle.boot_image.specs.ImageValue.{magic_of};
 
-/// What an image begins with.
-pub(crate) const MAGIC: &[u8; 4] = b"AEG1";
+use aegis_limits::Version;
+
+/// What an image of this version begins with.
+pub(crate) fn magic(version: Version) -> &'static [u8; 4]
+    ensures { result.now ≡ magic_of version }
+{
+    match version {
+        Version::One => b"AEG1",
+        Version::Two => b"AEG2",
+    }
+}
+
 /// How many bytes an image's header has. The slot bytes stand behind it.
 pub const HEADER_SIZE: usize = 16;
 /// At which byte of an image the number of its pages stands.

@@ -18,10 +18,10 @@ mod reading;
 mod writing;
 
 pub use entry::{Entry, Kind};
-pub use fault::{ImageFault, ImageWhy};
+pub use fault::{ImageFailure, ImageFault, ImageWhy};
 pub use header::Header;
 pub use image::{Image, Program};
-pub use law::{law_accepted, law_reads_what_is_spelled, law_spelled};
+pub use law::{law_accepted, law_accepted_is_within, law_reads_what_is_spelled, law_spelled};
 pub use layout::{HEADER_SIZE, NAME_SIZE, PAGES_AT, PROGRAM_HEADER_SIZE};
 pub use program::{is_name, name_text};
 pub use reading::read_image;

@@ -2,23 +2,24 @@
 ghost use Rattle.std.specs.Prelude.{◌≡◌, ◌+◌, ◌<◌, ◌≤◌, ◌^◌, IfOk, IfErr, OnOk, length, sum_by, true};
 ghost use Rattle.std.specs.Prelude.{drop, take, ◌==◌, position};
 ghost use Rattle.std.specs.List.{list_all};
-ghost use Rattle.aegis_limits.specs.Limits.{most_environments};
 ghost use Rattle.boot_image.specs.ImageValue.{body_end, body_of, bytes_in, flat_body, base_in, kind_in, headers_from, name_text, guaranteed_mappings};
 ghost use Rattle.boot_image.specs.ImageFaults.{is_name, is_name_byte, is_base, is_flat_base, program_fault, program_header_fault, body_fault, first_fault};
 ghost use Rattle.boot_image.specs.Parts.{ArePrograms, IsSoundHeader, placed_at};
 ghost use Rattle.elf_static.specs.Faulting.{Answers};
+ghost use Rattle.line_text.specs.Failing.{IsFound};
 
-use crate::fault::{ImageFault, ImageWhy};
+use crate::fault::{ImageFailure, ImageFault, ImageWhy};
 use crate::image::Program;
 use crate::layout::{
     ACCEPT_AT, BASE_AT, ELF, FLAT, KIND_AT, LENGTH_AT, NAME_SIZE, NO_BASE, PROGRAM_HEADER_SIZE,
     STACK_AT,
 };
 use crate::limits::{BODY_LIMIT, LEAST_BASE};
-use aegis_limits::{MOST_ENVIRONMENTS, MOST_STACK_PAGES, PAGE_SIZE};
+use aegis_limits::{MOST_STACK_PAGES, PAGE_SIZE};
 use arrayvec::ArrayVec;
 use byte_numbers::word_at;
 use elf_static::{Elf, Segment, read};
+use std::alloc::Global;
 
 /// A program, if it needs no more mappings than an environment may have, and where its body ends.
 #[derive(Drop)]
@@ -204,27 +205,28 @@ fn is_name_byte(byte: u8) -> bool
 /// than an environment may have. If there is one the list lacks such programs.
 #[derive(Drop)]
 pub(crate) struct Programs<'a> {
-    pub(crate) list: ArrayVec<Program<'a>, MOST_ENVIRONMENTS>,
+    pub(crate) list: Vec<Program<'a>>,
     pub(crate) end: usize,
     pub(crate) crowded: Option<ImageFault>,
 }
 
-/// The `count` programs of the file, of which the first one's header stands at `first`.
+/// The `count` programs of the file, of which the first one's header stands at `first`. Their list gets its room at
+/// once, so that no program is moved again.
 pub(crate) fn read_programs(
+    alloc: Global,
     file: &[u8],
     count: u16,
     first: usize,
-) -> Result<Programs<'_>, ImageFault>
+) -> Result<Programs<'_>, ImageFailure>
     requires small { length file.now < 2 ^ 27 }
     requires start { first ≤ length file.now }
-    requires count { count ≤ most_environments }
-    ensures fault { IfErr result (λ fault. first_fault (program_fault file.now) (headers_from count file.now first) ≡ Some fault) }
+    ensures fault { IfErr result (IsFound (first_fault (program_fault file.now) (headers_from count file.now first))) }
     ensures none { OnOk result (first_fault (program_fault file.now) (headers_from count file.now first) ≡ None) }
     ensures programs { IfOk result (ArePrograms file.now count first) }
     ensures whole { IfOk result (λ programs. programs.end ≤ length file.now) }
-    ensures most { IfOk result (λ programs. length programs.list.items ≤ most_environments) }
+    ensures most { IfOk result (λ programs. length programs.list.items ≤ count) }
 {
-    let mut list = ArrayVec::new();
+    let mut list = Vec::with_capacity(alloc, count as usize)?;
     let mut end = first;
     let mut crowded = None;
     for _ in 0..count {
@@ -232,7 +234,7 @@ pub(crate) fn read_programs(
         let placed = read_program(file, header)?;
         end = placed.end;
         match placed.program {
-            Some(program) => list.push(program),
+            Some(program) => list.push(program)?,
             None => {
                 let fault = ImageFault::at(ImageWhy::TooMany, header);
                 crowded = crowded.or(Some(fault));
@@ -244,7 +246,7 @@ pub(crate) fn read_programs(
 
 /// How many pages the programs need together.
 pub(crate) fn needed_pages(programs: &[Program<'_>]) -> u32
-    requires { length programs.now ≤ most_environments }
+    requires { length programs.now < 2 ^ 16 }
     ensures { result ≡ sum_by guaranteed_mappings programs.now }
 {
     let mut needed = 0;

@@ -4,17 +4,18 @@ ghost use Rattle.boot_image.specs.Spelling.{header_text, program_text, slot_byte
 
 use crate::entry::Entry;
 use crate::header::Header;
-use crate::layout::{MAGIC, NOBODY};
+use crate::layout::{NOBODY, magic};
 use aegis_limits::OutOfMemory;
 use byte_numbers::{push_half, push_word};
 
-/// Appends the header of an image: magic, pages, quantum, environments and slots. `docs/FORMATS.md`, "Image", has the
-/// layout. The error is that memory ran out, and then part of the header may stand behind what the file had.
+/// Appends the header of an image: the magic of its version, pages, quantum, environments and slots.
+/// `docs/FORMATS.md`, "Image", has the layout. The error is that memory ran out, and then part of the header may stand
+/// behind what the file had.
 pub fn push_header(file: &mut Vec<u8>, header: &Header) -> Result<(), OutOfMemory>
     ensures ok { OnOk result (file.new.items ≡ file.old.items ++ header_text header.now) }
     ensures err { OnErr result (take (length file.old.items) file.new.items ≡ file.old.items) }
 {
-    file.extend_from_slice(MAGIC)?;
+    file.extend_from_slice(magic(header.version))?;
     push_word(file, header.pages)?;
     push_word(file, header.quantum)?;
     push_half(file, header.environments)?;

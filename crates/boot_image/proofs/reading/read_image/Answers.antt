@@ -16,5 +16,5 @@ invariant_of-result c =
     let list : c.in_ok-programs.programs.list.items ≡ map (program_at file) (headers file) = (rw header.1 at programs.list) c.in_default.is in
     let room : first_fault (mappings_fault file) (headers file) ≡ None = sym (rw header.1 at programs.crowded) ∙ c.in_default.is in
     let pages : sum_by guaranteed_mappings (map (program_at file) (headers file)) ≤ pages_in file
-    = omega (arith, c.needed_pages.ensures, ap (sum_by guaranteed_mappings) (c.deref.ensures.0 ∙ list), rw header.1 at c.if-needed_pages-header.false) in
+    = omega (arith, c.needed_pages.ensures, ap (sum_by guaranteed_mappings) (c.deref.ensures.value ∙ list), rw header.1 at c.if-needed_pages-header.false) in
     rw (header.1, slots.1, list) (parts_accepted file (λ i. omega (arith, c.type_inv.file i)) header.0 slots.0 (rw header.1 at c.in_ok-programs.ensures.none) room pages)
