@@ -158,7 +158,8 @@ owners_pass count place [] below = refl
 owners_pass count place (owner ∷ owners) below =
     rw (owner_passes count place owner below.0) (owners_pass count (place + 1) owners below.1)
 
-magic_size : (version : Version) → length (magic_of version) ≡ 4
+-- a magic has four bytes
+pub magic_size : (version : Version) → length (magic_of version) ≡ 4
 magic_size One = refl
 magic_size Two = refl
 

@@ -9,6 +9,7 @@ use Rattle.boot_manifest.specs.ManifestValue.{ManifestEntryValue, ManifestValue,
 use Rattle.boot_manifest.specs.Limited.{IsEntry}
 use Rattle.boot_manifest.proofs.Bodies.{program_size}
 use Rattle.boot_image.specs.ImageValue.{header_size}
+use Rattle.boot_image.proofs.Read.{magic_size}
 
 programs_are : (entries : List ManifestEntryValue) (bodies : List (List ℕ)) → AllByRecursion IsEntry entries → length bodies ≡ length entries
     → length (programs_text (entries_in entries) bodies) ≡ sum_by program_size bodies
@@ -20,4 +21,4 @@ programs_are (e ∷ entries) (bytes ∷ bodies) are same =
 
 pub image_is : (manifest : ManifestValue) (bodies : List (List ℕ)) → AllByRecursion IsEntry manifest.entries → length bodies ≡ length manifest.entries
     → length (image_text (plan_in manifest) bodies) ≡ header_size + length manifest.slots + sum_by program_size bodies
-image_is manifest bodies are same = simp (length-append, length-map) (omega (arith, programs_are manifest.entries bodies are same))
+image_is manifest bodies are same = simp (length-append, length-map) (omega (arith, magic_size manifest.version, programs_are manifest.entries bodies are same))

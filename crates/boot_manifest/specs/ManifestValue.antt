@@ -1,5 +1,6 @@
 -- What a manifest says: an image without the bytes of its bodies, and the names of the files that have them.
 use Rattle.std.specs.Prelude.{ℕ, List, map, Option}
+use Rattle.aegis_limits.specs.declared.version.Version.{Version}
 use Rattle.boot_image.specs.declared.entry.Entry.{Entry}
 use Rattle.boot_image.specs.Spelling.{PlanValue}
 
@@ -8,8 +9,10 @@ pub record ManifestEntryValue : Type 0 where
   pub entry : Entry
   pub file : List ℕ
 
--- a manifest: counts of pages and of a slice's ticks, the owner of each slot, and an entry for each environment
+-- a manifest: its version, counts of pages and of a slice's ticks, the owner of each slot, and an entry for each
+-- environment
 pub record ManifestValue : Type 0 where
+  pub version : Version
   pub pages : ℕ
   pub quantum : ℕ
   pub slots : List (Option ℕ)
@@ -22,6 +25,7 @@ entries_in entries = map (λ (e : ManifestEntryValue). e.entry) entries
 -- what it says of the image
 abbrev pub plan_in : ManifestValue → PlanValue
 plan_in manifest = record {
+  version = manifest.version;
   pages = manifest.pages;
   quantum = manifest.quantum;
   slots = manifest.slots;

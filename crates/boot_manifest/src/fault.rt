@@ -7,9 +7,9 @@ ghost use Rattle.std.specs.Prelude.{◌≡◌};
 pub enum ManifestWhy {
     /// The line has another form or order, or the text ends too early.
     Syntax,
-    /// A number, a slot's owner or a name is none, or passes its limits.
+    /// A version, a number, a slot's owner or a name is none, or passes the limits of the version.
     Range,
-    /// It is the line of a seventeenth environment.
+    /// It is the line of one environment more than the version allows.
     Many,
 }
 

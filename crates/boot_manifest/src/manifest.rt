@@ -1,4 +1,5 @@
 //! What a manifest says.
+use aegis_limits::Version;
 use boot_image::Entry;
 use std::marker::Model;
 
@@ -28,13 +29,16 @@ impl Model for ManifestEntry {
 /// hold of every value of this type. An owner that is no environment is left to the reader of the image.
 #[derive(Drop)]
 pub struct Manifest {
-    /// How many pages the machine has, `LEAST_PAGES` to `MOST_PAGES`.
+    /// The version of its image, which limits pages and environments.
+    pub version: Version,
+    /// How many pages the machine has, from `LEAST_PAGES` to the version's most.
     pub pages: u32,
     /// How many ticks a slice has, `LEAST_QUANTUM` to `MOST_QUANTUM`.
     pub quantum: u32,
-    /// The environment that owns each of the slots, 1 to `MOST_SLOTS`, where one does; below `MOST_ENVIRONMENTS`.
+    /// The environment that owns each of the slots, 1 to `MOST_SLOTS`, where one does: a number below the version's most
+    /// environments.
     pub slots: Vec<Option<u8>>,
-    /// An entry for each of the 1 to 16 environments, by its number.
+    /// An entry for each environment, by its number: from one to the version's most.
     pub entries: Vec<ManifestEntry>,
 }
 
@@ -44,7 +48,7 @@ impl Model for Manifest {
 
     ghost Value = { ManifestValue };
 
-    ghost view = { λ m. record { pages = m.pages; quantum = m.quantum; slots = m.slots.items; entries = m.entries.items } };
+    ghost view = { λ m. record { version = m.version; pages = m.pages; quantum = m.quantum; slots = m.slots.items; entries = m.entries.items } };
 
-    ghost invariant = { λ m. IsLimited (record { pages = m.pages; quantum = m.quantum; slots = m.slots.items; entries = m.entries.items }) };
+    ghost invariant = { λ m. IsLimited (record { version = m.version; pages = m.pages; quantum = m.quantum; slots = m.slots.items; entries = m.entries.items }) };
 }

@@ -2,35 +2,47 @@
 ghost use Rattle.std.specs.Prelude.{◌≡◌, ◌≤◌, ◌<◌, Option, length, true, IfOk, IfSome, IsTrue};
 ghost use Rattle.std.specs.List.{AllByRecursion, list_all};
 ghost use Rattle.std.specs.Option.{option_copied, option_map};
-ghost use Rattle.aegis_limits.specs.Limits.{most_environments, most_stack_pages};
+ghost use Rattle.aegis_limits.specs.Limits.{most_stack_pages};
+ghost use Rattle.aegis_limits.specs.VersionLimits.{most_environments_of};
 ghost use Rattle.boot_image.specs.Accepted.{IsOwnerBelow};
 ghost use Rattle.boot_image.specs.ImageFaults.{is_name};
 ghost use Rattle.line_text.specs.Characters.{is_text_byte};
 ghost use Rattle.line_text.specs.WordView.{words_seen};
-ghost use Rattle.boot_manifest.specs.Ranges.{entry_in, manifest_kind, manifest_name, owner_in, owners_in, program_in};
+ghost use Rattle.boot_manifest.specs.Ranges.{entry_in, manifest_kind, manifest_name, manifest_version, owner_in, owners_in, program_in};
 ghost use Rattle.boot_manifest.specs.Answers.{parts_seen};
 
 use crate::manifest::ManifestEntry;
 use crate::statement::EnvParts;
-use aegis_limits::{MOST_ENVIRONMENTS, MOST_STACK_PAGES};
+use aegis_limits::{MOST_STACK_PAGES, Version};
 use boot_image::{Entry, Kind, NAME_SIZE, is_name};
 use line_text::{number, number_within};
 use std::alloc::{AllocError, Global};
 
-/// The greatest number of an environment.
-const LAST_ENVIRONMENT: u32 = MOST_ENVIRONMENTS as u32 - 1;
 /// The owner of an empty slot.
 const NOBODY: &[u8] = b"-";
 
-/// The owner of a slot: the number of an environment, or `-` for an empty slot.
-fn owner_of(word: &[u8]) -> Option<Option<u8>>
-    ensures value { result ≡ owner_in word.now }
-    ensures below { IfSome result (IsOwnerBelow most_environments) }
+/// The version of a number.
+pub(crate) fn version_of(word: &[u8]) -> Option<Version>
+    ensures { result ≡ manifest_version word.now }
+{
+    match number(word)? {
+        1 => Some(Version::One),
+        2 => Some(Version::Two),
+        _ => None,
+    }
+}
+
+/// The owner of a slot: the number of an environment that the version allows, or `-` for an empty slot.
+#[tactic(auto, using(std::proofs::lemmas::Grind::common_steps, crate::proofs::OwnerLemmas::some_environments))]
+fn owner_of(version: Version, word: &[u8]) -> Option<Option<u8>>
+    ensures value { result ≡ owner_in version word.now }
+    ensures below { IfSome result (IsOwnerBelow (most_environments_of version)) }
 {
     if word == NOBODY {
         return Some(None);
     }
-    let owner = number_within(word, 0, LAST_ENVIRONMENT)?;
+    let last = version.most_environments() as u32 - 1;
+    let owner = number_within(word, 0, last)?;
     Some(Some(owner as u8))
 }
 
@@ -38,15 +50,16 @@ fn owner_of(word: &[u8]) -> Option<Option<u8>>
 #[tactic(auto, using(std::proofs::lemmas::Grind::common_steps, crate::proofs::OwnerLemmas::owner_more, crate::proofs::OwnerLemmas::owner_none))]
 pub(crate) fn owners_of(
     alloc: Global,
+    version: Version,
     words: &[&[u8]],
 ) -> Result<Option<Vec<Option<u8>>>, AllocError>
-    ensures value { IfOk result (λ found. option_map (λ owners. owners.items) found ≡ owners_in (words_seen words.now)) }
-    ensures below { IfOk result (λ found. IfSome found (λ owners. AllByRecursion (IsOwnerBelow most_environments) owners.items)) }
+    ensures value { IfOk result (λ found. option_map (λ owners. owners.items) found ≡ owners_in version (words_seen words.now)) }
+    ensures below { IfOk result (λ found. IfSome found (λ owners. AllByRecursion (IsOwnerBelow (most_environments_of version)) owners.items)) }
     ensures count { IfOk result (λ found. IfSome found (λ owners. length owners.items ≡ length words.now)) }
 {
     let mut owners = Vec::new(alloc);
     for word in words {
-        match owner_of(word) {
+        match owner_of(version, word) {
             Some(owner) => owners.push(owner)?,
             None => return Ok(None),
         }

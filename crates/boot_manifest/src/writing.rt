@@ -25,6 +25,7 @@ pub fn write_image(
     let length = image_length(manifest, bodies) as usize;
     let mut file = Vec::with_capacity(alloc, length)?;
     let header = Header {
+        version: manifest.version,
         pages: manifest.pages,
         quantum: manifest.quantum,
         environments: manifest.entries.len() as u16,
