@@ -33,8 +33,12 @@ fn due_made(alloc: Global, name: &str, image: Vec<u8>) -> Result<Answer, OutOfMe
     requires { length image.items < 2 ^ 27 }
     ensures { IfOk result (Settles (sized_due name.now image.items)) }
 {
-    if let Err(fault) = read_image(&image) {
-        return Answer::refusal(alloc, name, fault.why.name(), fault.place);
+    match read_image(alloc, &image) {
+        Ok(_) => {}
+        Err(Failure::Fault(fault)) => {
+            return Answer::refusal(alloc, name, fault.why.name(), fault.place);
+        }
+        Err(Failure::OutOfMemory) => return Err(OutOfMemory),
     }
     Ok(Answer {
         text: image,

@@ -2,6 +2,7 @@
 use Rattle.std.proofs.Common.{◌≡◌, ◌∙◌, ℕ, List, [], ◌++◌, length, map, ap, refl, sym}
 use Rattle.std.specs.List.{flat_map}
 use Rattle.std.specs.Fmt.{digits}
+use Rattle.aegis_limits.specs.declared.version.Version.TheVariants.{One}
 use Rattle.line_text.specs.Text.{dec_text}
 use Rattle.boot_image.specs.declared.entry.Entry.{Entry}
 use Rattle.boot_image.specs.declared.header.Header.{Header}
@@ -31,7 +32,7 @@ programs_are written are =
 
 -- the header, with a quantum
 abbrev header : ℕ → ℕ → Header
-header quantum environments = record { pages = 256; quantum = quantum; environments = environments; slots = 64 }
+header quantum environments = record { version = One; pages = 256; quantum = quantum; environments = environments; slots = 64 }
 
 text_is : (seed : ℕ) (programs : List ℕ) → programs ≡ programs_text load_entries load_bodies
     → header_text (header (load_quantum seed) 16) ++ map slot_byte load_slots ++ programs ≡ load_image_text seed

@@ -1,6 +1,7 @@
 -- The image of the load: sixteen environments with one program, which own 64 slots in turn.
 use Rattle.std.specs.Prelude.{ℕ, ◌+◌, ◌/◌, ◌%◌, ◌^◌, List, ◌++◌, map, replicate, take, Option, Some, codes}
 use Rattle.std.specs.List.{range_with_len}
+use Rattle.aegis_limits.specs.declared.version.Version.TheVariants.{One}
 use Rattle.line_text.specs.Text.{dec_text}
 use Rattle.boot_image.specs.ImageValue.{ImageValue}
 use Rattle.boot_image.specs.declared.entry.Entry.{Entry}
@@ -29,7 +30,13 @@ unfoldable pub load_entries : List Entry
 load_entries = map load_entry (map load_name (range_with_len 0 16))
 
 abbrev pub load_plan : ℕ → PlanValue
-load_plan seed = record { pages = 256; quantum = load_quantum seed; slots = load_slots; entries = load_entries }
+load_plan seed = record {
+  version = One;
+  pages = 256;
+  quantum = load_quantum seed;
+  slots = load_slots;
+  entries = load_entries;
+}
 
 abbrev pub load_bodies : List (List ℕ)
 load_bodies = replicate 16 load_elf

@@ -8,7 +8,7 @@ ghost use Rattle.exos_text.specs.LoadImage.{load_image_text, load_image_value, l
 
 use crate::draws::Draws;
 use crate::program::load_elf;
-use aegis_limits::OutOfMemory;
+use aegis_limits::{OutOfMemory, Version};
 use boot_image::{
     Entry, HEADER_SIZE, Header, Kind, NAME_SIZE, PROGRAM_HEADER_SIZE, push_header, push_program,
     push_slot,
@@ -101,6 +101,7 @@ fn write_image(alloc: Global, seed: u32) -> Result<Vec<u8>, OutOfMemory>
 {
     let mut file = Vec::with_capacity(alloc, IMAGE_SIZE)?;
     let header = Header {
+        version: Version::One,
         pages: PAGES,
         quantum: quantum(seed),
         environments: ENVIRONMENTS,

@@ -178,7 +178,9 @@ fn ample_memory_is_enough_for_calls_of_no_command(rt: HostRuntime) -> Result<(),
 
     let (_, image) = program_and_image(alloc)?;
     assert!(rt; image.len() < ROOM);
-    let image = read_image(&image).ok().ok_or("the image has a fault")?;
+    let image = read_image(alloc, &image)
+        .ok()
+        .ok_or("the image has a fault")?;
     let board = boot(alloc, &image).ok().ok_or("boot wants memory")?;
     assert_eq!(rt; board.envs(), 2);
     let lines = env_lines(alloc, &board, 1)
