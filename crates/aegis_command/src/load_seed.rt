@@ -14,7 +14,7 @@ use boot_image::{Image, read_image};
 use commands::{Answer, Command, Status};
 use exos_text::{load_image, load_schedule};
 use external_event::Event;
-use line_text::{Word, decimal, push_line};
+use line_text::{Failure, Word, decimal, push_line};
 use run_report::push_summary;
 use std::alloc::Global;
 
@@ -50,14 +50,15 @@ fn load_ticks() -> Ticks
 }
 
 /// The image of a file that has no fault.
-fn sound_image(file: &[u8]) -> Image<'_>
+fn sound_image(alloc: Global, file: &[u8]) -> Result<Image<'_>, OutOfMemory>
     requires short { length file.now < 2 ^ 27 }
     requires sound { image_fault file.now ≡ None }
-    ensures { result ≡ image_of file.now }
+    ensures { IfOk result (λ image. image ≡ image_of file.now) }
 {
-    match read_image(file) {
-        Ok(image) => image,
-        Err(_) => unreachable!(),
+    match read_image(alloc, file) {
+        Ok(image) => Ok(image),
+        Err(Failure::Fault(_)) => unreachable!(),
+        Err(Failure::OutOfMemory) => Err(OutOfMemory),
     }
 }
 
@@ -94,7 +95,7 @@ fn summary(alloc: Global, seed: u32) -> Result<Vec<u8>, OutOfMemory>
     ensures { IfOk result (λ text. text.items ≡ load_summary seed) }
 {
     let file = load_image(alloc, seed)?;
-    let image = sound_image(&file);
+    let image = sound_image(alloc, &file)?;
     let events = load_schedule(alloc, seed)?;
     let mut text = seed_line(alloc, seed)?;
     push_run(alloc, &mut text, &image, &events, load_ticks())?;

@@ -72,11 +72,12 @@ fn due(
     ensures { IfOk result (Settles (run_due call.entry.image.now call.entry.schedule.now call.entry.ticks.number image.now schedule.now)) }
 {
     law_in_order();
-    let image = match read_image(image) {
+    let image = match read_image(alloc, image) {
         Ok(image) => image,
-        Err(fault) => {
+        Err(Failure::Fault(fault)) => {
             return Answer::refusal(alloc, call.image, fault.why.name(), fault.place);
         }
+        Err(Failure::OutOfMemory) => return Err(OutOfMemory),
     };
     let events = match read_schedule(alloc, schedule) {
         Ok(events) => events,
