@@ -1,20 +1,20 @@
 -- What holds of every stripe.
-use Rattle.std.specs.Prelude.{◌≡◌, ◌<◌, ◌==◌, ◌&&◌, ◌↔◌, if◌then◌else◌, ℕ, Bool, false, List, Option, slice_set}
+use Rattle.std.specs.Prelude.{◌≡◌, ◌<◌, ◌==◌, ◌&&◌, ◌↔◌, if◌then◌else◌, ℕ, Bool, false, Option}
 use Rattle.bind_book.specs.declared.binding.Binding.{Binding}
-use Rattle.bind_book.specs.Stripe.{HasStripe, is_bound, is_of_page, stripe_place, stripes, swept, without}
+use Rattle.bind_book.specs.Stripe.{HasStripe, Stripes, is_bound, is_of_page, stripes, swept, with_stripe_row, without}
 use Rattle.aegis_limits.specs.Limits.{most_stripe_rows}
+use Rattle.aegis_limits.specs.VersionLimits.{stripe_rows}
 
 -- a sweep leaves in each row what was there, if it isn't broken for the environment
 abbrev pub SweptByRow : Type 0
 SweptByRow =
-    (broken : ℕ → Binding → Bool) (binds : List (Option Binding)) (e row : ℕ)
+    (broken : ℕ → Binding → Bool) (binds : Stripes) (e row : ℕ)
     → stripes (swept broken binds) e row ≡ without (broken e) (stripes binds e row)
 
 -- what is put into a row stands in that row alone
 abbrev pub SetInOneRow : Type 0
-SetInOneRow = (binds : List (Option Binding)) (e row : ℕ) (x : Option Binding) → HasStripe binds e → row < most_stripe_rows
-    → (i r : ℕ)
-    → stripes (slice_set binds (stripe_place e row) x) i r ≡ (if i == e && r == row then x else stripes binds i r)
+SetInOneRow = (binds : Stripes) (e row : ℕ) (x : Option Binding) → HasStripe binds e → row < stripe_rows binds.version
+    → (i r : ℕ) → stripes (with_stripe_row binds e row x) i r ≡ (if i == e && r == row then x else stripes binds i r)
 
 -- a page isn't bound exactly if no row has a binding of it
 abbrev pub UnboundInEachRow : Type 0

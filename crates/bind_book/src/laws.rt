@@ -1,7 +1,8 @@
 //! The laws of stripes.
-ghost use Rattle.std.specs.Prelude.{◌≡◌, ℕ, replicate};
+ghost use Rattle.std.specs.Prelude.{◌≡◌, ℕ};
+ghost use Rattle.aegis_limits.specs.declared.version.Version.{Version};
 ghost use Rattle.bind_book.specs.Laws.{SetInOneRow, StaysUnbound, SweptByRow, UnboundInEachRow};
-ghost use Rattle.bind_book.specs.Stripe.{stripes};
+ghost use Rattle.bind_book.specs.Stripe.{empty_stripes, stripes};
 
 /// A sweep leaves in each row of each environment what was there, if it isn't broken for that environment.
 pub fn law_swept()
@@ -25,5 +26,5 @@ pub fn law_stays_unbound()
 
 /// Rows that are all empty make empty stripes.
 pub fn law_empty_rows()
-    ensures { (places e row : ℕ) → stripes (replicate places None) e row ≡ None }
+    ensures { (v : Version) (envs e row : ℕ) → stripes (empty_stripes v envs) e row ≡ None }
 {}

@@ -1,7 +1,7 @@
 //! The book of bindings: at which of their VPNs environments see pages that they bound.
 //!
-//! Each environment has a stripe of `MOST_STRIPE_ROWS` rows, and the binding of a VPN stands in the row of that number modulo
-//! `MOST_STRIPE_ROWS`. The book is seen as the list of all rows, those of environment 0 first.
+//! Each environment has a stripe of as many rows as the version gives, and the binding of a VPN stands in the row of
+//! that number modulo these. The book is seen as the version and the list of all rows, those of environment 0 first.
 #![tactic(auto)]
 
 mod binding;

@@ -2,41 +2,43 @@
 ghost use Rattle.std.specs.Prelude.{◌≡◌, ◌≤◌, ◌<◌, ◌/◌, None, if◌then◌else◌, length};
 ghost use Rattle.page_book.specs.Row.{belongs_to};
 ghost use Rattle.page_book.specs.Rows.{row_in};
-ghost use Rattle.bind_book.specs.Stripe.{most_places, leads_to_page, goes_with, without, swept};
-ghost use Rattle.aegis_limits.specs.Limits.{most_stripe_rows};
+ghost use Rattle.bind_book.specs.Stripe.{most_places, leads_to_page, goes_with, without, swept_rows};
+ghost use Rattle.aegis_limits.specs.VersionLimits.{stripe_rows};
 
 use crate::binding::Binding;
-use aegis_limits::MOST_STRIPE_ROWS;
+use aegis_limits::{Version, law_versions_are_within};
 use page_book::Pages;
 
 /// Breaks the bindings of a page, of all environments but this one, if one is spared.
-pub(crate) fn break_page(rows: &mut [Option<Binding>], page: u32, but: Option<u8>)
+pub(crate) fn break_page(rows: &mut [Option<Binding>], version: Version, page: u32, but: Option<u8>)
     requires { length rows.old ≤ most_places }
-    ensures { rows.new ≡ swept (leads_to_page page but) rows.old }
+    ensures { rows.new ≡ swept_rows version (leads_to_page page but) rows.old }
 {
     for (place, row) in rows.iter_mut().enumerate() {
-        if is_broken(*row, env_of(place), page, but) {
+        if is_broken(*row, env_of(version, place), page, but) {
             *row = None;
         }
     }
 }
 
 /// Takes away the bindings of an environment that is gone, and those of its pages.
-pub(crate) fn clear_env(rows: &mut [Option<Binding>], gone: u8, pages: &Pages)
+pub(crate) fn clear_env(rows: &mut [Option<Binding>], version: Version, gone: u8, pages: &Pages)
     requires { length rows.old ≤ most_places }
-    ensures { rows.new ≡ swept (goes_with (row_in pages.now) gone) rows.old }
+    ensures { rows.new ≡ swept_rows version (goes_with (row_in pages.now) gone) rows.old }
 {
     for (place, row) in rows.iter_mut().enumerate() {
-        *row = without_env(*row, env_of(place), gone, pages);
+        *row = without_env(*row, env_of(version, place), gone, pages);
     }
 }
 
 /// The environment in whose stripe a place is.
-fn env_of(place: usize) -> u8
+#[tactic(auto, unfolding(aegis_limits::specs::VersionLimits::stripe_rows))]
+fn env_of(version: Version, place: usize) -> u8
     requires { place < most_places }
-    ensures { result ≡ place / most_stripe_rows }
+    ensures { result ≡ place / stripe_rows version }
 {
-    (place / MOST_STRIPE_ROWS as usize) as u8
+    law_versions_are_within();
+    (place / version.stripe_rows() as usize) as u8
 }
 
 /// Whether the environment's binding in a row, if there is one, is broken with the page.

@@ -4,4 +4,4 @@ use Rattle.bind_book.proofs.Swept.{swept_none}
 use Rattle.bind_book.proofs.sweep.clear_env.Goals as goal
 
 pub loop-place-init : goal.loop-place-init
-loop-place-init c = swept_none (goes_with (row_in c.args.pages.now) c.args.gone) c.args.rows.now
+loop-place-init c = swept_none c.args.version (goes_with (row_in c.args.pages.now) c.args.gone) c.args.rows.now
