@@ -1,8 +1,10 @@
 -- What a granted call's deed presupposes, the world has.
 use Rattle.std.proofs.Common.{◌≡◌, ◌<◌, ◌≤◌, ◌+◌, ℕ, List, Bool, true, false, Option, Some, None, is_none, is_some, Result, Ok, Err, arith, refl, ap, subst, ◌∙◌, inl, inr, ◌⊎◌, length}
-use Rattle.std.specs.Prelude.{not, ◌==◌, ◌&&◌, ◌||◌, nat_le, nat_lt, if◌then◌else◌, ok_or}
+use Rattle.std.specs.Prelude.{not, ◌==◌, ◌&&◌, ◌||◌, nat_le, nat_lt, if◌then◌else◌}
 use Rattle.std.specs.Option.{option_map, option_or}
 use Rattle.std.proofs.lemmas.Bool.{and_parts, eqb-true, leb-false, leb-true, ltb-false, ltb-true, not-false}
+use Rattle.aegis_limits.specs.declared.version.Version.{Version}
+use Rattle.aegis_limits.specs.declared.version.Version.TheVariants.{One, Two}
 use Rattle.aegis_limits.specs.Limits.{console_size, vpn_end}
 use Rattle.external_event.specs.Limits.{least_frame_size, lines, most_packet_size, most_sent}
 use Rattle.mips_exec.specs.Cpu.{reg}
@@ -29,18 +31,19 @@ use Rattle.world_model.specs.declared.verdict.HandlerNo.{HandlerNo}
 use Rattle.world_model.specs.declared.verdict.HandlerNo.TheVariants as handler_no
 use Rattle.world_model.specs.Downloads.{MayDownload, download_verdict, handler_at}
 use Rattle.world_model.specs.Rings.{ring_of}
-use Rattle.world_model.specs.Answer.{granted_unless, verdict_of}
+use Rattle.world_model.specs.Answer.{granted_unless}
 use Rattle.world_model.specs.Book.{Book, page_row}
 use Rattle.world_model.specs.Call.{any, binding_of, presented}
 use Rattle.world_model.specs.Code.{code_of}
 use Rattle.world_model.specs.Call.{context_deed, good_range, line_deed, transfer_deed, yield_deed}
 use Rattle.world_model.specs.ClaimCalls.{claim_by, claim_verdict, filter_at, page_verdict}
 use Rattle.revocation_book.specs.Backups.{load_refusal}
+use Rattle.revocation_book.specs.Richest.{richest}
 use Rattle.world_model.specs.BackupCalls.{code_of_load, refusal_of_load}
 use Rattle.world_model.specs.LineCalls.{is_line_of, is_line_of_other, refusal_of_line, refusal_of_line_drop, refusal_of_line_take}
 use Rattle.world_model.specs.OwnCalls.{MayPut, MaySend, is_frame_size, put_bytes}
 use Rattle.world_model.specs.May.{HasRight, May, MayAllocate, MayClaim, MayBind, MayChange, MayDrop, MayEnter, MayLoad, MayMap, MayReach, MayTake}
-use Rattle.world_model.specs.PageCalls.{chosen_page, is_guaranteed_vpn, named_page, vpn_refusal, refusal_of_change}
+use Rattle.world_model.specs.PageCalls.{alloc, any_page, is_guaranteed_vpn, pressed, revocations, vpn_refusal, refusal_of_change}
 use Rattle.world_model.specs.SlotCalls.{accepts, drop_refusal, gift_refusal, is_other, refusal_of_gift, refusal_of_giving, slot_at, take_refusal, turn_slot, yield_by}
 use Rattle.world_model.specs.Solo.{Solo, sight}
 use Rattle.world_model.specs.Transfers.{is_open, refusal_of_transfer, transfer_by}
@@ -52,10 +55,6 @@ use Rattle.call_verdicts.specs.Refusals.{refusal_of_bind_call, refusal_of_put_ca
 not_refused : (why : Option Code) (v value : ℕ) → granted_unless why v ≡ Grant value → why ≡ None
 not_refused None v value is = refl
 not_refused (Some why) v value is = cc
-
-answered : (answer : Result ℕ Code) (value : ℕ) → verdict_of answer ≡ Grant value → answer ≡ Ok value
-answered (Ok v) value is = let same : v ≡ value = cc in ap Ok same
-answered (Err why) value is = cc
 
 unmapped : {A B : Type 0} (f : A → B) (o : Option A) → option_map f o ≡ None → o ≡ None
 unmapped f None none = refl
@@ -95,16 +94,27 @@ may_send s none =
         record { least = sizes.0; most = sizes.1; good = ap is_some is; room = omega (arith, leb-false most_sent (length s.sent) room) }
 
 -- pages
-may_allocate : (b : Book) (page value : ℕ) → IsLowestFree b.pages b.page_count (lowest_free b.pages b.page_count) → chosen_page b page ≡ Ok value → MayAllocate b value
-may_allocate b page value lowest is = by_any (page == any) is
+never_pressed : (v : Version) (who : Option ℕ) (value : ℕ) → pressed v who ≡ Grant value → ⊥
+never_pressed One who value is = cc
+never_pressed Two None value is = cc
+never_pressed Two (Some e) value is = cc
+
+may_allocate : (w : World) (e value : ℕ) → IsLowestFree w.book.pages w.book.page_count (lowest_free w.book.pages w.book.page_count) → alloc w e ≡ Grant value → MayAllocate w.book value
+may_allocate w e value lowest is = by_any (page == any) is
   where
-    by_lowest : (o : Option ℕ) → IsLowestFree b.pages b.page_count o → ok_or o code.NoneFree ≡ Ok value → MayAllocate b value
-    by_lowest None found is = cc
-    by_lowest (Some p) found is =
+    b : Book
+    b = w.book
+
+    page : ℕ
+    page = reg (w.solos e).cpu 4
+
+    by_lowest : (o who : Option ℕ) → IsLowestFree b.pages b.page_count o → any_page b.version o who ≡ Grant value → MayAllocate b value
+    by_lowest None who found is = absurd (never_pressed b.version who value is)
+    by_lowest (Some p) who found is =
         let same : p ≡ value = cc in
         record { there = subst (λ (n : ℕ). n < b.page_count) same found.below; free = subst (λ (n : ℕ). b.pages n ≡ Free) same found.free }
 
-    by_row : (t : Bool) (row : PageRow) → nat_lt page b.page_count ≡ t → b.pages page ≡ row → named_page page (option_map code_of (alloc_refusal (if t then Some row else None))) ≡ Ok value
+    by_row : (t : Bool) (row : PageRow) → nat_lt page b.page_count ≡ t → b.pages page ≡ row → granted_unless (option_map code_of (alloc_refusal (if t then Some row else None))) page ≡ Grant value
         → MayAllocate b value
     by_row true Free there stands is =
         let same : page ≡ value = cc in
@@ -113,8 +123,10 @@ may_allocate b page value lowest is = by_any (page == any) is
     by_row true (Owned owner words) there stands is = cc
     by_row false row there stands is = cc
 
-    by_any : (t : Bool) → (if t then ok_or (lowest_free b.pages b.page_count) code.NoneFree else named_page page (option_map code_of (alloc_refusal (page_row b page)))) ≡ Ok value → MayAllocate b value
-    by_any true is = by_lowest (lowest_free b.pages b.page_count) lowest is
+    by_any : (t : Bool)
+        → (if t then any_page b.version (lowest_free b.pages b.page_count) (richest (revocations b) e) else granted_unless (option_map code_of (alloc_refusal (page_row b page))) page) ≡ Grant value
+        → MayAllocate b value
+    by_any true is = by_lowest (lowest_free b.pages b.page_count) (richest (revocations b) e) lowest is
     by_any false is = by_row (nat_lt page b.page_count) (b.pages page) refl refl is
 
 may_change : (w : World) (e page : ℕ) → refusal_of_change w e page ≡ None → MayChange w.book e page
@@ -285,16 +297,14 @@ pub granted_may : ((pages : ℕ → PageRow) (count : ℕ) → IsLowestFree page
 granted_may lowest w e None value is = tt
 granted_may lowest w e (Some call.Yield) value is = let target = reg (w.solos e).cpu 4 in yields w e target value (target == any) is
 granted_may lowest w e (Some call.Put) value is = let s = w.solos e in may_put s (not_refused (refusal_of_put_call s) (reg s.cpu 5) value is)
-granted_may lowest w e (Some call.Alloc) value is =
-    let page = reg (w.solos e).cpu 4 in
-    may_allocate w.book page value (lowest w.book.pages w.book.page_count) (answered (chosen_page w.book page) value is)
+granted_may lowest w e (Some call.Alloc) value is = may_allocate w e value (lowest w.book.pages w.book.page_count) is
 granted_may lowest w e (Some call.Free) value is = let page = reg (w.solos e).cpu 4 in may_change w e page (not_refused (refusal_of_change w e page) 0 value is)
 granted_may lowest w e (Some call.Recap) value is = let page = reg (w.solos e).cpu 4 in may_change w e page (not_refused (refusal_of_change w e page) 0 value is)
 granted_may lowest w e (Some call.Bind) value is = may_bind w e (not_refused (refusal_of_bind_call w e) 0 value is)
 granted_may lowest w e (Some call.Unbind) value is =
     let s = w.solos e in
     let vpn = reg s.cpu 4 in
-    may_map s vpn (not_refused (vpn_refusal (is_guaranteed_vpn s vpn) vpn) (if is_some (binding_at s.binds vpn) then 1 else 0) value is)
+    may_map s vpn (not_refused (vpn_refusal (is_guaranteed_vpn s vpn) vpn) (if is_some (binding_at s.version s.binds vpn) then 1 else 0) value is)
 granted_may lowest w e (Some call.Context) value is = let cpu = (w.solos e).cpu in handles w e (reg cpu 5) (context_numbered (reg cpu 4))
 granted_may lowest w e (Some call.Accept) value is = tt
 granted_may lowest w e (Some call.Transfer) value is =

@@ -13,7 +13,7 @@ use crate::claim_calls::decide_claim;
 use crate::handler_calls::decide_download;
 use crate::line_calls::{TAKE, refuse_line};
 use crate::own_calls::{refuse_context, refuse_put, refuse_send};
-use crate::page_calls::{choose_page, refuse_bind, refuse_change, refuse_unbind};
+use crate::page_calls::{decide_alloc, refuse_bind, refuse_change, refuse_unbind};
 use crate::queries::ask;
 use crate::slot_calls::{decide_transfer, decide_yield};
 use crate::view::CallView;
@@ -40,7 +40,7 @@ pub fn decide<V: CallView>(view: &V, env: u8, call: Option<Call>) -> Verdict
     match call {
         Call::Yield => decide_yield(view, env, first),
         Call::Put => Verdict::unless(refuse_put(view, env), second),
-        Call::Alloc => Verdict::of(choose_page(view, first)),
+        Call::Alloc => decide_alloc(view, env, first),
         Call::Free | Call::Recap => Verdict::unless(refuse_change(view, env, first), 0),
         Call::Bind => Verdict::unless(refuse_bind(view, env), 0),
         Call::Unbind => {

@@ -4,14 +4,16 @@ ghost use Rattle.std.specs.Option.{option_map};
 ghost use Rattle.page_book.specs.Row.{alloc_refusal, bind_refusal, change_refusal};
 ghost use Rattle.world_model.specs.Code.{code_of};
 ghost use Rattle.world_model.specs.Book.{page_row, running};
-ghost use Rattle.world_model.specs.PageCalls.{chosen_page, is_guaranteed_vpn, vpn_refusal, refusal_of_change};
+ghost use Rattle.world_model.specs.PageCalls.{alloc, pressed, revocations, is_guaranteed_vpn, vpn_refusal, refusal_of_change};
+ghost use Rattle.mips_exec.specs.Cpu.{reg};
+ghost use Rattle.revocation_book.specs.Richest.{richest};
 ghost use Rattle.call_verdicts.specs.Refusals.{refusal_of_bind_call};
 
 use crate::arguments::{ANY, binding, presented};
 use crate::view::CallView;
-use aegis_limits::VPN_END;
+use aegis_limits::{VPN_END, Version};
 use page_book::{PageNo, PageRow};
-use world_model::Code;
+use world_model::{Code, Verdict};
 
 /// What a caller is told of a refusal by the book of pages, if it is one.
 fn refuse(why: Option<PageNo>) -> Option<Code>
@@ -30,16 +32,33 @@ fn refuse_alloc(row: Option<PageRow>) -> Option<Code>
     }
 }
 
-/// The page that an allocation names, if it is free, and for any the lowest free one; or why there is none.
-pub(crate) fn choose_page<V: CallView>(view: &V, page: u32) -> Result<u32, Code>
-    ensures { result ≡ chosen_page (V.world view.now).book page }
+/// The verdict on an allocation of any page where none is free: version 2 asks the other environment with the most
+/// revocable pages, if another has any.
+fn press<V: CallView>(view: &V, env: u8) -> Verdict
+    requires { running (V.world view.now).book.runner ≡ Some env }
+    ensures { result ≡ pressed (V.world view.now).book.version (richest (revocations (V.world view.now).book) env) }
 {
-    if page == ANY {
-        return view.lowest_free().ok_or(Code::NoneFree);
+    match view.version() {
+        Version::One => Verdict::Refuse(Code::NoneFree, 0),
+        Version::Two => match view.richest(env) {
+            None => Verdict::Refuse(Code::NoneFree, 0),
+            Some(who) => Verdict::Again(who),
+        },
     }
-    match refuse_alloc(view.page_row(page)) {
-        None => Ok(page),
-        Some(why) => Err(why),
+}
+
+/// The verdict on the runner's allocation of a page, or of any.
+pub(crate) fn decide_alloc<V: CallView>(view: &V, env: u8, page: u32) -> Verdict
+    requires runs { running (V.world view.now).book.runner ≡ Some env }
+    requires named { reg ((V.world view.now).solos env).cpu 4 ≡ page }
+    ensures { result ≡ alloc (V.world view.now) env }
+{
+    if page != ANY {
+        return Verdict::unless(refuse_alloc(view.page_row(page)), page);
+    }
+    match view.lowest_free() {
+        Some(page) => Verdict::Grant(page),
+        None => press(view, env),
     }
 }
 

@@ -8,15 +8,17 @@ ghost use Rattle.page_book.specs.Rows.{free_below, lowest_free};
 ghost use Rattle.bind_book.specs.Stripe.{binding_at};
 ghost use Rattle.filter_tree.specs.Claims.{claim_refusal};
 ghost use Rattle.revocation_book.specs.Backups.{load_refusal};
+ghost use Rattle.revocation_book.specs.Richest.{richest};
 ghost use Rattle.world_model.specs.Book.{page_row, running};
 ghost use Rattle.world_model.specs.Rings.{ring_of};
 ghost use Rattle.world_model.specs.Call.{good_range};
-ghost use Rattle.world_model.specs.PageCalls.{is_guaranteed_vpn};
+ghost use Rattle.world_model.specs.PageCalls.{is_guaranteed_vpn, revocations};
 ghost use Rattle.world_model.specs.Queries.{life_at};
 ghost use Rattle.world_model.specs.SlotCalls.{gift_refusal, slot_at, turn_slot};
 ghost use Rattle.world_model.specs.Solo.{sight};
 ghost use Rattle.world_model.specs.World.{World};
 
+use aegis_limits::Version;
 use env_frames::Context;
 use filter_core::Filter;
 use filter_tree::ClaimNo;
@@ -61,11 +63,20 @@ pub trait CallView {
     /// Whether the runner has bound a page at a VPN.
     fn is_bound(&self, env: u8, vpn: u32) -> bool
         requires { running (world self.now).book.runner ≡ Some env }
-        ensures { result ≡ is_some (binding_at ((world self.now).solos env).binds vpn) };
+        ensures { result ≡ is_some (binding_at ((world self.now).solos env).version ((world self.now).solos env).binds vpn) };
 
     /// Whose a page is, if there is one of this number.
     fn page_row(&self, page: u32) -> Option<PageRow>
         ensures { result ≡ page_row (world self.now).book page };
+
+    /// The version of the image.
+    fn version(&self) -> Version
+        ensures { result ≡ (world self.now).book.version };
+
+    /// The environment other than the runner that has the most revocable pages, if another has any.
+    fn richest(&self, env: u8) -> Option<u8>
+        requires { running (world self.now).book.runner ≡ Some env }
+        ensures { result ≡ richest (revocations (world self.now).book) env };
 
     /// The lowest free page, if one is free.
     fn lowest_free(&self) -> Option<u32>

@@ -5,6 +5,7 @@ use Rattle.mips_exec.specs.declared.registers.Cpu.{Cpu}
 use Rattle.mips_exec.specs.Access.{Write}
 use Rattle.mips_exec.specs.Step.{Step, step_of, view_of}
 use Rattle.aegis_limits.specs.Limits.{page_size}
+use Rattle.aegis_limits.specs.declared.version.Version.{Version}
 use Rattle.frame_store.specs.Pages.{after_put}
 use Rattle.env_frames.specs.declared.mapping.Mapping.{Mapping}
 use Rattle.env_frames.specs.Frame.{mapping_at}
@@ -17,8 +18,9 @@ abbrev pub bound_mapping : Binding → Mapping
 bound_mapping b = record { vpn = b.vpn; page = b.page; writable = b.writable }
 
 -- the mapping of a VPN: the guaranteed one, else that of the binding
-abbrev pub mapping_in : List Mapping → (ℕ → Option Binding) → ℕ → Option Mapping
-mapping_in mappings stripe vpn = option_or (mapping_at mappings vpn) (option_map bound_mapping (binding_at stripe vpn))
+abbrev pub mapping_in : Version → List Mapping → (ℕ → Option Binding) → ℕ → Option Mapping
+mapping_in v mappings stripe vpn =
+    option_or (mapping_at mappings vpn) (option_map bound_mapping (binding_at v stripe vpn))
 
 -- a mapping leads to its page, where physical memory has it
 abbrev pub look_through : List (List ℕ) → Option Mapping → Option Mapped

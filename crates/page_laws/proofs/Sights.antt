@@ -168,28 +168,28 @@ after_row e p row x pages stripe bytes s seen other =
 -- Who binds.
 module _ (e : ℕ) (b : Binding) (pages : ℕ → PageRow) (stripe : ℕ → Option Binding) (bytes : ℕ → List ℕ) (s : Solo) (seen : Sees e pages stripe bytes s) where
   abbrev rebound : ℕ → Option Binding
-  rebound = set_at (row_of b.vpn) (Some b) stripe
+  rebound = set_at (row_of s.version b.vpn) (Some b) stripe
 
   abbrev gain : Option Seen
   gain = Some (record { owned = is_owned ((bound b s).seen b.page); bytes = bytes b.page })
 
   owns : is_owned ((bound b s).seen b.page) ≡ is_owned_by e (pages b.page)
   owns =
-      (λ k. is_owned (still_seen (binds_here b s.binds k) (seen.seen b.page k)))
+      (λ k. is_owned (still_seen (binds_here s.version b s.binds k) (seen.seen b.page k)))
       ∙ owned_still (is_owned_by e (pages b.page)) (is_bound b.page stripe) (bytes b.page)
 
   here : gain ≡ seen_in e pages rebound bytes b.page
   here =
       ap (λ (owned : Bool). Some (record { owned = owned; bytes = bytes b.page })) owns
       ∙ any_if_bound (is_owned_by e (pages b.page)) (bytes b.page)
-      ∙ ap (λ is. seen_if (is_owned_by e (pages b.page)) is (bytes b.page)) (sym (binds_here b stripe))
+      ∙ ap (λ is. seen_if (is_owned_by e (pages b.page)) is (bytes b.page)) (sym (binds_here s.version b stripe))
 
   binds : Sees e pages rebound bytes (gained b.page (bytes b.page) (bound b s))
   binds = record {
-    binds = λ r. λ k. set_at (row_of b.vpn) (Some b) (λ q. seen.binds q k) r;
+    binds = λ r. λ k. set_at (row_of s.version b.vpn) (Some b) (λ q. seen.binds q k) r;
     seen = by_number (gained b.page (bytes b.page) (bound b s)).seen (seen_in e pages rebound bytes) b.page
         (set_here b.page gain (bound b s).seen ∙ here)
-        (λ p ne. set_else b.page p gain (bound b s).seen ne ∙ after_row e p (row_of b.vpn) (Some b) pages stripe bytes s seen (ne_eqb b.page p (λ same. ne (sym same))));
+        (λ p ne. set_else b.page p gain (bound b s).seen ne ∙ after_row e p (row_of s.version b.vpn) (Some b) pages stripe bytes s seen (ne_eqb b.page p (λ same. ne (sym same))));
   }
 
 pub binder_sees : BinderSees
@@ -197,14 +197,14 @@ binder_sees = binds
 
 pub unbinder_loses : UnbinderLoses
 unbinder_loses e vpn pages stripe bytes s seen =
-    subst (λ (binds : ℕ → Option Binding). Sees e pages (without_number vpn binds) bytes (after_unbind vpn s)) (λ k r. seen.binds r k)
-    (by_test (is_some (binding_at s.binds vpn)))
+    subst (λ (binds : ℕ → Option Binding). Sees e pages (without_number s.version vpn binds) bytes (after_unbind vpn s)) (λ k r. seen.binds r k)
+    (by_test (is_some (binding_at s.version s.binds vpn)))
   where
     own : Sees e pages s.binds bytes s
     own = sees_alike e pages stripe s.binds bytes s (λ r. sym (seen.binds r)) seen
 
-    by_test : (t : Bool) → Sees e pages (if t then set_at (row_of vpn) None s.binds else s.binds) bytes (if t then with_binds (set_at (row_of vpn) None s.binds) s else s)
-    by_test true = record { binds = λ r. refl; seen = λ p. after_row e p (row_of vpn) None pages s.binds bytes s own refl }
+    by_test : (t : Bool) → Sees e pages (if t then set_at (row_of s.version vpn) None s.binds else s.binds) bytes (if t then with_binds (set_at (row_of s.version vpn) None s.binds) s else s)
+    by_test true = record { binds = λ r. refl; seen = λ p. after_row e p (row_of s.version vpn) None pages s.binds bytes s own refl }
     by_test false = own
 
 -- Who stores into a page.

@@ -1,10 +1,13 @@
 -- What is bound in a stripe, and what becomes of it where a row is set or bindings are broken.
-use Rattle.std.proofs.Common.{◌≡◌, ◌≢◌, ℕ, zero, suc, ◌<◌, Bool, true, false, ◌||◌, Option, Some, None, inl, inr, refl, sym, ◌∙◌, ap, arith, mod-lt}
-use Rattle.std.specs.Prelude.{◌==◌, List, if◌then◌else◌, slice_index_or}
+use Rattle.std.proofs.Common.{◌≡◌, ◌≢◌, ℕ, zero, suc, ◌<◌, Bool, true, false, ◌||◌, Option, Some, None, inl, inr, refl, sym, ◌∙◌, ap, arith}
+use Rattle.std.specs.Prelude.{◌==◌, if◌then◌else◌, slice_index_or}
 use Rattle.std.proofs.lemmas.Bool.{ne_eqb, eq-eqb, eqb-true, eqb-false, le-ltb, both_ways, cases_lt, or_cases, or_left, or_right, false_from_ne_true}
 use Rattle.bind_book.specs.declared.binding.Binding.{Binding}
-use Rattle.bind_book.specs.Stripe.{is_of_page, is_bound_below, is_bound, stripe_place, row_of, stripes, without}
+use Rattle.bind_book.specs.Stripe.{is_of_page, is_bound_below, is_bound, Stripes, stripe_place, row_of, stripes, without}
+use Rattle.aegis_limits.specs.declared.version.Version.{Version}
 use Rattle.aegis_limits.specs.Limits.{most_stripe_rows}
+use Rattle.aegis_limits.specs.VersionLimits.{stripe_rows}
+use Rattle.bind_book.proofs.Rows.{row_most, rows_end}
 use Rattle.world_model.specs.Table.{set_at}
 use Rattle.page_laws.specs.Sight.{IsStripe}
 use Rattle.page_laws.proofs.Tables.{set_here}
@@ -72,10 +75,10 @@ pub bound_less : (page : ℕ) (f g : ℕ → Option Binding) → ((row : ℕ) �
 bound_less page f g less is = bound_in_rows page g ∙ below_less page f g rows less (sym (bound_in_rows page f) ∙ is)
 
 -- a binding in its row binds its page
-pub binds_here : (b : Binding) (f : ℕ → Option Binding) → is_bound b.page (set_at (row_of b.vpn) (Some b) f) ≡ true
-binds_here b f =
-    bound_somewhere b.page (set_at (row_of b.vpn) (Some b) f) (row_of b.vpn) (mod-lt b.vpn (omega arith))
-    (ap (is_of_page b.page) (set_here (row_of b.vpn) (Some b) f) ∙ eq-eqb b.page b.page refl)
+pub binds_here : (v : Version) (b : Binding) (f : ℕ → Option Binding) → is_bound b.page (set_at (row_of v b.vpn) (Some b) f) ≡ true
+binds_here v b f =
+    bound_somewhere b.page (set_at (row_of v b.vpn) (Some b) f) (row_of v b.vpn) (row_most v b.vpn)
+    (ap (is_of_page b.page) (set_here (row_of v b.vpn) (Some b) f) ∙ eq-eqb b.page b.page refl)
 
 -- a page other than the one that a row is set to is bound after only if it was before
 pub bound_before : (page row : ℕ) (x : Option Binding) (f : ℕ → Option Binding) → is_of_page page x ≡ false → is_bound page (set_at row x f) ≡ true → is_bound page f ≡ true
@@ -125,8 +128,9 @@ nothing_goes page broken f ends unbound of_page row = kept_row broken (f row) (�
     ]
 
 -- each environment's rows are a stripe
-pub stripes_end : (binds : List (Option Binding)) (e : ℕ) → IsStripe (stripes binds e)
-stripes_end binds e row behind = ap (λ t. if t then slice_index_or binds (stripe_place e row) None else None) (le-ltb row most_stripe_rows behind)
+pub stripes_end : (binds : Stripes) (e : ℕ) → IsStripe (stripes binds e)
+stripes_end binds e row behind =
+    ap (λ t. if t then slice_index_or binds.rows (stripe_place binds.version e row) None else None) (le-ltb row (stripe_rows binds.version) (rows_end binds.version row behind))
 
 -- so is a stripe without some of its bindings
 pub without_ends : (broken : Binding → Bool) (f : ℕ → Option Binding) → IsStripe f → IsStripe (λ row. without broken (f row))

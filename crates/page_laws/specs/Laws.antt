@@ -68,13 +68,13 @@ OthersLose = (i page : ℕ) (but : Option ℕ) (row : PageRow) (pages : ℕ → 
 abbrev pub BinderSees : Type 0
 BinderSees = (e : ℕ) (b : Binding) (pages : ℕ → PageRow) (stripe : ℕ → Option Binding) (bytes : ℕ → List ℕ) (s : Solo) →
     Sees e pages stripe bytes s →
-    Sees e pages (set_at (row_of b.vpn) (Some b) stripe) bytes (gained b.page (bytes b.page) (bound b s))
+    Sees e pages (set_at (row_of s.version b.vpn) (Some b) stripe) bytes (gained b.page (bytes b.page) (bound b s))
 
 -- Who unbinds a VPN sees no page any more that it neither owns nor has bound.
 abbrev pub UnbinderLoses : Type 0
 UnbinderLoses = (e vpn : ℕ) (pages : ℕ → PageRow) (stripe : ℕ → Option Binding) (bytes : ℕ → List ℕ) (s : Solo) →
     Sees e pages stripe bytes s →
-    Sees e pages (without_number vpn stripe) bytes (after_unbind vpn s)
+    Sees e pages (without_number s.version vpn stripe) bytes (after_unbind vpn s)
 
 -- What the others had bound of the pages of one that dies they lose.
 abbrev pub MournersLose : Type 0

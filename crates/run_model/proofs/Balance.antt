@@ -1,22 +1,20 @@
 -- The balance of excess, and lawful ledgers.
 use Rattle.std.proofs.Common.{arith, rules, refl, sym, ◌∙◌, ap, subst, ◌≡◌, ◌<◌, ◌+◌, ◌-◌, ℕ, zero, suc, List, [], ◌∷◌, ◌++◌, map, length, Bool, true, false, Option, None, Some}
-use Rattle.std.specs.Prelude.{◌==◌, nat_lt, if◌then◌else◌, slice_get}
+use Rattle.std.specs.Prelude.{◌==◌, if◌then◌else◌, slice_get}
 use Rattle.std.proofs.lemmas.Bool.{cond_both, eqb-true, eqb-false}
+use Rattle.aegis_limits.specs.declared.version.Version.{Version}
 use Rattle.boot_image.specs.ImageValue.{ProgramValue}
 use Rattle.kernel_journal.specs.declared.row.Row.{Row}
 use Rattle.kernel_journal.specs.declared.row.Row.TheVariants as row
 use Rattle.world_model.specs.declared.life.Life.TheVariants.{Live}
 use Rattle.world_model.specs.declared.life.Cause.TheVariants as cause
 use Rattle.world_model.specs.declared.slot.Hold.{Hold}
-use Rattle.world_model.specs.declared.slot.Phase.{Phase}
-use Rattle.world_model.specs.declared.slot.Phase.TheVariants as phase
 use Rattle.world_model.specs.declared.slot.Runner.{Runner}
 use Rattle.world_model.specs.declared.slot.Turn.{Turn}
 use Rattle.world_model.specs.Book.{Book, WholeTurn, first_turn, is_idle_book, excess_after_forfeit, owed, pays_first, turn_within, turn_from, whole_turn}
-use Rattle.aegis_limits.specs.Limits.{excess_limit}
-use Rattle.run_model.specs.Boot.{boot_book, boot_slot, boot_world, own_row, own_rows, record_items, with_all_kept, with_kept}
+use Rattle.run_model.specs.Boot.{book_of_image, boot_slot, boot_world, own_row, own_rows, record_items, with_all_kept, with_kept}
 use Rattle.run_model.specs.Excess.{pays, AreSlotsLive, BalanceHolds, BootsAccounted, IsAccounted, LedgersAreLawful, Lives, TicksKeepAccounts}
-use Rattle.world_model.specs.Item.{Asked, End, Killed, Line, Packet, Start, Taken, absorb_all}
+use Rattle.world_model.specs.Item.{End, Killed, Line, Packet, Start, Taken, absorb_all}
 use Rattle.run_model.specs.Run.{happens_in, next_phases, next_world, world_after_ticks, takings_next}
 use Rattle.world_model.specs.Solo.{absent, dead, is_dead}
 use Rattle.world_model.specs.Table.{set_at}
@@ -24,23 +22,20 @@ use Rattle.external_event.specs.declared.event.Occurrence.{Occurrence}
 use Rattle.external_event.specs.declared.event.Occurrence.TheVariants as outside
 use Rattle.filter_tree.specs.ClaimBook.{ClaimValue}
 use Rattle.world_model.specs.ClaimCalls.{claim_of}
-use Rattle.revocation_book.specs.declared.revocation.Pending.{Pending}
 use Rattle.revocation_book.specs.declared.revocation.Taking.{Taking}
-use Rattle.revocation_book.specs.Pending.{asked}
 use Rattle.world_model.specs.Deadlines.{copy_left, settles, takes}
 use Rattle.world_model.specs.PageCalls.{lost_bindings}
-use Rattle.world_model.specs.Event.{Schedule, arrives, asks, delivers, drops_packet, happen, revokes, ring_bytes, ring_left, signals}
+use Rattle.world_model.specs.Event.{Schedule, arrives, delivers, drops_packet, happen, revokes, ring_bytes, ring_left, signals}
 use Rattle.world_model.specs.Rings.{ring_of}
 use Rattle.world_model.specs.Tick.{act_now, clock, count_when, with_runner, grace_of, kill, owes_more, pay_row, phases_after, slice_end, step, step_when, take_turn, tick_phases, timer, turn, turn_when, timer_reply, timer_now, grace_again, stop_at_end}
 use Rattle.world_model.specs.declared.timer.Timer.{Timer}
 use Rattle.world_model.specs.declared.timer.Timer.TheVariants as answer
-use Rattle.world_model.specs.SlotCalls.{stop_row}
 use Rattle.call_verdicts.specs.Granted.{GrantedMay}
-use Rattle.world_model.specs.World.{World, Reply, after, is_living, no_change, no_items, only, run_phases, tells}
+use Rattle.world_model.specs.World.{World, Reply, after, no_change, only, run_phases, tells}
 use Rattle.world_model.proofs.Slots.{holder_in}
-use Rattle.run_model.proofs.Lives.{breaks_keep, copy_left_keeps, keep_asked, keep_both, keep_end, keep_line, keep_none, keep_only, keep_packet, keep_set, keep_start, keep_taken, ring_left_keeps}
+use Rattle.run_model.proofs.Lives.{breaks_keep, copy_left_keeps, keep_both, keep_end, keep_line, keep_none, keep_only, keep_packet, keep_set, keep_start, keep_taken, ring_left_keeps}
 use Rattle.run_model.proofs.NextTurn.{Found, search_finds}
-use Rattle.run_model.proofs.Replies.{accounts, act_accounts, death_accounts, dies, in_turn_accounts, mild_accounts, no_change_is_mild, still_accounts}
+use Rattle.run_model.proofs.Replies.{accounts, act_accounts, death_accounts, dies, in_turn_accounts, mild_accounts, no_change_is_mild, revocation_is_mild, still_accounts}
 use Rattle.run_model.proofs.Rows.{Adds, AreQuiet, Balances, adds_over, adds_pay, adds_quiet, adds_run, quiet_both, quiet_slot}
 
 -- A phase that keeps the accounts, and phases that do.
@@ -79,21 +74,12 @@ signal_accounts : (line : ℕ) (owner : Option ℕ) → KeepsAccounts (signals l
 signal_accounts line None w good = no_change_accounts w good
 signal_accounts line (Some owner) w good = still_accounts w (tells owner (Line line) w) good refl tt (keep_only owner (Line line ∷ []) (keep_line line))
 
--- A revocation leaves the life of whom it asks.
-ask_accounts : (e : ℕ) (pending : Option Pending) → KeepsAccounts (asks e pending)
-ask_accounts e None w good = no_change_accounts w good
-ask_accounts e (Some p) w good = still_accounts w (asks e (Some p) w) good refl (search rules, tt) (keep_only e (Asked p.outstanding p.deadline ∷ []) (keep_asked p.outstanding p.deadline))
-
-revocation_accounts : (e count deadline : ℕ) → KeepsAccounts (revokes e count deadline)
-revocation_accounts e count deadline w good =
-    let pending = asked count deadline (w.book.pending e) in
-    cond_both (is_living w e) (asks e pending w) (no_change w) (λ (r : Reply). IsAccounted (after w r)) (λ lives. ask_accounts e pending w good) (λ gone. no_change_accounts w good)
-
 -- What happens from outside, kind by kind.
 pub happen_accounts : (what : Occurrence) → KeepsAccounts (happen what)
 happen_accounts (outside.Packet packet) w good = arrival_accounts packet (claim_of w.book packet) w good
 happen_accounts (outside.Line line) w good = signal_accounts line (w.book.lines line) w good
-happen_accounts (outside.Revoke env count grace) w good = revocation_accounts env count (w.book.time + grace) w good
+happen_accounts (outside.Revoke env count grace) w good =
+    let until = w.book.time + grace in mild_accounts w (revokes env count until w) good (revocation_is_mild env count until w good)
 
 -- A page that is taken leaves the life of its owner, and of those who have bound it or the backup.
 pub taking_accounts : (x : Taking) → KeepsAccounts (takes x)
@@ -273,9 +259,9 @@ none_owes : (e : ℕ) (programs : List ProgramValue) (b : Book) → (with_all_ke
 none_owes e [] b = refl
 none_owes e (p ∷ programs) b = none_owes (e + 1) programs (with_kept e p b)
 
-recorded_lives : (e : ℕ) (program : Option ProgramValue) → (absorb_all (absent e) (record_items e program)).life ≡ Live
-recorded_lives e None = refl
-recorded_lives e (Some p) = refl
+recorded_lives : (v : Version) (e : ℕ) (program : Option ProgramValue) → (absorb_all (absent e) (record_items v e program)).life ≡ Live
+recorded_lives v e None = refl
+recorded_lives v e (Some p) = refl
 
 quiet_own_row : (k : ℕ) (hold : Option Hold) → AreQuiet (own_row k hold)
 quiet_own_row k None = tt
@@ -294,10 +280,10 @@ boots_accounted image = record {
 }
   where
     free : (boot_world image).book.excess ≡ (λ e. 0)
-    free = none_owes 0 image.programs (boot_book image.pages image.quantum image.slots)
+    free = none_owes 0 image.programs (book_of_image image)
 
     all_live : (e : ℕ) → Lives (boot_world image) e
-    all_live e = recorded_lives e (slice_get image.programs e)
+    all_live e = recorded_lives image.version e (slice_get image.programs e)
 
     adds : Adds (boot_world image) [] (boot_world image).rows (λ e. 0)
     adds = adds_quiet (boot_world image) [] (boot_world image).rows (λ e. 0) (quiet_own_rows image.slots (length image.slots)) (λ e lives. refl)

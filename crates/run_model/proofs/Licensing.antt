@@ -1,12 +1,11 @@
 -- What each phase of a tick gives is licensed.
-use Rattle.std.proofs.Common.{◌≡◌, ◌≢◌, ◌+◌, ◌-◌, ℕ, zero, suc, List, [], ◌∷◌, ◌++◌, map, take, Bool, true, false, Option, Some, None, inl, inr, length, refl, sym, ◌∙◌, ap, subst, arith}
+use Rattle.std.proofs.Common.{◌≡◌, ◌≢◌, ◌+◌, ◌-◌, ◌*◌, ℕ, zero, suc, List, [], ◌∷◌, ◌++◌, map, take, Bool, true, false, Option, Some, None, is_none, inl, inr, length, refl, sym, ◌∙◌, ap, subst, arith}
 use Rattle.std.specs.Prelude.{◌==◌, if◌then◌else◌, nat_lt, not, slice_get}
 use Rattle.std.specs.List.{All}
-use Rattle.std.proofs.lemmas.Bool.{cond_both, eq-eqb, eqb-true, eqb-false, ltb-true}
+use Rattle.std.proofs.lemmas.Bool.{cond_both, eqb-true, eqb-false, ltb-true}
 use Rattle.boot_image.specs.ImageValue.{ImageValue, ProgramValue}
 use Rattle.frame_store.specs.Pages.{zero_page}
 use Rattle.env_frames.specs.Transfer.{carried}
-use Rattle.kernel_journal.specs.declared.row.Row.TheVariants as row
 use Rattle.page_book.specs.declared.row.PageRow.{PageRow}
 use Rattle.page_book.specs.declared.row.PageRow.TheVariants.{Free, Guaranteed, Owned}
 use Rattle.page_book.specs.Row.{belongs_to, is_owned_by}
@@ -20,7 +19,7 @@ use Rattle.world_model.specs.declared.slot.Phase.TheVariants as phase
 use Rattle.world_model.specs.declared.slot.Runner.{Runner}
 use Rattle.world_model.specs.declared.slot.Turn.{Turn}
 use Rattle.world_model.specs.declared.verdict.Verdict.{Verdict}
-use Rattle.world_model.specs.declared.verdict.Verdict.TheVariants.{Refuse, Grant}
+use Rattle.world_model.specs.declared.verdict.Verdict.TheVariants.{Refuse, Again, Grant}
 use Rattle.world_model.specs.Table.{set_at}
 use Rattle.world_model.specs.Book.{Book, first_turn, is_idle_book, excess_after_forfeit, owed, pays_first, running, sees, turn_within, turn_from, whole_turn}
 use Rattle.aegis_limits.specs.Limits.{excess_limit}
@@ -33,21 +32,20 @@ use Rattle.revocation_book.specs.declared.revocation.Pending.{Pending}
 use Rattle.revocation_book.specs.declared.revocation.Taking.{Taking}
 use Rattle.revocation_book.specs.Pending.{asked}
 use Rattle.revocation_book.specs.Takings.{AreTakable, TakingsAreTakable}
-use Rattle.world_model.specs.Deadlines.{copy_left, revocations, takes}
+use Rattle.world_model.specs.Deadlines.{copy_left, takes}
 use Rattle.world_model.specs.Event.{arrives, asks, happen, revokes, ring_bytes, ring_left, signals}
 use Rattle.world_model.specs.Rings.{page_store, ring_of}
 use Rattle.world_model.specs.Item.{Item, Step, Start, End, Transfer, Killed, Answer, Gained, Lost, Packet, Line, Asked, Taken, deed_at}
-use Rattle.world_model.specs.May.{May}
-use Rattle.world_model.specs.PageCalls.{lost_bindings, left_at, left_by, left_if, lost_if, page_bytes}
-use Rattle.world_model.specs.SlotCalls.{stop_row}
+use Rattle.world_model.specs.May.{May, MayAsk}
+use Rattle.world_model.specs.PageCalls.{lost_bindings, left_at, left_by, left_if, lost_if, page_bytes, revocations}
 use Rattle.world_model.specs.Solo.{Store, Key, Kept, Physical}
 use Rattle.world_model.specs.Step.{Act, Nothing, Stores, Calls, Raises, Dies}
 use Rattle.world_model.specs.Tick.{act_now, act_reply, count_when, kill, owes_more, phases_after, serve_phases, served, step, step_when, take_turn, tick_phases, timer, turn, turn_when, timer_reply, handles_end}
 use Rattle.world_model.specs.declared.timer.Timer.TheVariants as answer
-use Rattle.world_model.specs.Verdict.{done, reply_by_verdict, reply_to, verdict}
+use Rattle.world_model.specs.Verdict.{asks_one, done, reply_by_verdict, reply_to, verdict}
 use Rattle.world_model.specs.World.{World, Reply, after, in_turn, is_living, no_change, no_items, only, run_phases, tells}
 use Rattle.world_model.proofs.Slots.{holder_in}
-use Rattle.call_verdicts.specs.Granted.{GrantedMay}
+use Rattle.call_verdicts.specs.Granted.{AgainAsks, GrantedMay}
 use Rattle.run_model.specs.Acting.{Acts, Does}
 use Rattle.run_model.specs.Boot.{boot_items, record_items}
 use Rattle.run_model.specs.Licensed.{AtArrival, AtBoot, AtEvent, AtRevocation, AtSignal, AtStep, AtTaking, AtTimer, AtTurn, Breaks, ByDeath, ByFree, ByRecap, FeedIsLicensed, GivenIsLicensed, IsOut, IsOverdue, IsGivenInPhase, Licensed, LicensedAt, LicensedBehind, LicensedIn, MayTaking}
@@ -71,6 +69,10 @@ each_all : (P : Item → Type 0) (xs : List Item) → Each P xs → All P xs
 each_all P [] each k d below = absurd (omega arith)
 each_all P (x ∷ xs) (its, rest) zero d below = its
 each_all P (x ∷ xs) (its, rest) (suc k) d below = each_all P xs rest k d (omega arith)
+
+each_if : (P Q : Item → Type 0) (xs : List Item) → ((item : Item) → P item → Q item) → Each P xs → Each Q xs
+each_if P Q [] also each = tt
+each_if P Q (x ∷ xs) also (its, rest) = (also x its, each_if P Q xs also rest)
 
 -- what one is given, and what the others are
 each_at : (P : ℕ → Item → Type 0) (n : ℕ) (xs : List Item) (f : ℕ → List Item) (i : ℕ) → Each (P n) xs → (i ≢ n → Each (P i) (f i)) → Each (P i) (set_at n xs f i)
@@ -242,15 +244,37 @@ module _ (system : System) (t : ℕ) (w : World) (e : ℕ) where
   deed_licensed (Downloads claim address words) does may i = tt
   deed_licensed (Loads page) does may i = tt
 
-  module _ (granted : GrantedMay) (live : StoresIn system t w) where
+  -- an environment that is asked for a page
+  pressed_licensed : (c : Option Call) (who : ℕ) → Acts w e (Calls c) → verdict w e c ≡ Again who → MayAsk w e who → is_none (w.book.pending who) ≡ true → (i : ℕ) (item : Item)
+      → AtRevocation who 1 (w.book.time + 2 * w.book.quantum) w i item → AtStep system t w i item
+  pressed_licensed c who acts is may nothing i (Asked outstanding deadline) its =
+      let same : who ≡ i = its.its in
+      record {
+        caller = e;
+        answered = record { call = c; acts = acts; its = is ∙ ap Again same };
+        may = subst (λ (n : ℕ). MayAsk w e n) same may;
+        nothing = subst (λ (n : ℕ). is_none (w.book.pending n) ≡ true) same nothing;
+        asks = record { its = refl; lives = its.lives; pending = its.pending };
+      }
+  pressed_licensed c who acts is may nothing i item its = absurd its
+
+  module _ (granted : GrantedMay) (again : AgainAsks) (live : StoresIn system t w) where
     call_licensed : (c : Option Call) → Acts w e (Calls c) → (i : ℕ) → Each (AtStep system t w i) ((reply_to w e c).items i)
     call_licensed c acts i = by_verdict (verdict w e c) refl
       where
         answered : (v : Verdict) → verdict w e c ≡ v → Each (AtStep system t w i) (only e (Answer v ∷ []) i)
         answered v is = each_only (AtStep system t w) e (Answer v ∷ []) i (record { call = c; acts = acts; its = is }, tt)
 
+        asked_licensed : (who : ℕ) → verdict w e c ≡ Again who → Each (AtStep system t w i) ((asks_one who w).items i)
+        asked_licensed who is =
+            let until = w.book.time + 2 * w.book.quantum in
+            cond_both (is_none (w.book.pending who)) (revokes who 1 until w) (no_change w) (λ (r : Reply). Each (AtStep system t w i) (r.items i))
+            (λ nothing. each_if (AtRevocation who 1 until w i) (AtStep system t w i) ((revokes who 1 until w).items i) (pressed_licensed c who acts is (again w e c who is) nothing i) (revocation_licensed who 1 until w i))
+            (λ pending. tt)
+
         by_verdict : (v : Verdict) → verdict w e c ≡ v → Each (AtStep system t w i) ((reply_by_verdict w e v).items i)
         by_verdict (Refuse code value) is = answered (Refuse code value) is
+        by_verdict (Again who) is = each_both (AtStep system t w i) (only e (Answer (Again who) ∷ []) i) ((asks_one who w).items i) (answered (Again who) is) (asked_licensed who is)
         by_verdict (Grant value) is =
             let d = deed_at (w.solos e) value in
             each_both (AtStep system t w i) (only e (Answer (Grant value) ∷ []) i) ((done w e d).items i) (answered (Grant value) is)
@@ -277,8 +301,8 @@ module _ (system : System) (t : ℕ) (w : World) (e : ℕ) where
     act_licensed (Dies cause) acts i =
         each_death (AtStep system t w i) w.book e i (λ other page owned bound. inr (record { owner = e; has = record { another = other; owned = owned; bound = bound }; breaks = ByDeath cause acts }))
 
-step_licensed : GrantedMay → (system : System) (t : ℕ) (w : World) → StoresIn system t w → (i : ℕ) → Each (AtStep system t w i) ((step w).items i)
-step_licensed granted system t w live i = by_runner w.book.runner refl
+step_licensed : GrantedMay → AgainAsks → (system : System) (t : ℕ) (w : World) → StoresIn system t w → (i : ℕ) → Each (AtStep system t w i) ((step w).items i)
+step_licensed granted again system t w live i = by_runner w.book.runner refl
   where
     by_runner : (o : Option Runner) → w.book.runner ≡ o → Each (AtStep system t w i) ((step_when w o).items i)
     by_runner None runs = tt
@@ -287,7 +311,7 @@ step_licensed granted system t w live i = by_runner w.book.runner refl
         let act = act_now w e in
         let items = (act_reply e act (after w (tells e Step w))).items i in
         each_both (AtStep system t w i) (only e (Step ∷ []) i) (items ++ []) (each_only (AtStep system t w) e (Step ∷ []) i (ap running runs, tt))
-        (each_both (AtStep system t w i) items [] (act_licensed system t w e granted live act (record { runs = ap running runs; comes = refl }) i) tt)
+        (each_both (AtStep system t w i) items [] (act_licensed system t w e granted again live act (record { runs = ap running runs; comes = refl }) i) tt)
 
 -- The timer.
 module _ (w : World) (r : Runner) (runs : w.book.runner ≡ Some r) (i : ℕ) where
@@ -335,7 +359,7 @@ timer_licensed w i = each_both (AtTimer w i) ((count_when w.book.runner w).items
     by_runner (Some r) runs = answer_licensed w r runs i (r.left == 1) refl
 
 -- Phase by phase, where what is taken may be, and the step's store goes through a live binding.
-module _ (granted : GrantedMay) (system : System) (t : ℕ) where
+module _ (granted : GrantedMay) (again : AgainAsks) (system : System) (t : ℕ) where
   -- the step's world, from the world in which this is taken on
   abbrev stepping : List Taking → World → World
   stepping xs w = after_phase turn (run_phases w (serve_phases xs))
@@ -344,7 +368,7 @@ module _ (granted : GrantedMay) (system : System) (t : ℕ) where
       → (k e : ℕ) → (let m = run_phases w (take k (tick_phases xs)) in Each (LicensedBehind system t xs k m e) (given_by m (slice_get (tick_phases xs) k) e))
   behind_licensed [] w may live zero e = tt
   behind_licensed [] w may live (suc zero) e = turn_licensed (run_phases w (take 1 (tick_phases []))) e
-  behind_licensed [] w may live (suc (suc zero)) e = step_licensed granted system t (run_phases w (take 2 (tick_phases []))) live e
+  behind_licensed [] w may live (suc (suc zero)) e = step_licensed granted again system t (run_phases w (take 2 (tick_phases []))) live e
   behind_licensed [] w may live (suc (suc (suc zero))) e = timer_licensed (run_phases w (take 3 (tick_phases []))) e
   behind_licensed [] w may live (suc (suc (suc (suc k)))) e = tt
   behind_licensed (x ∷ xs) w (may, rest) live zero e = taking_licensed x w may e
@@ -376,14 +400,14 @@ each_place P [] each n item is = cc
 each_place P (x ∷ xs) (its, rest) zero item is = let same : x ≡ item = cc in subst P same its
 each_place P (x ∷ xs) (its, rest) (suc n) item is = each_place P xs rest n item is
 
-module _ (granted : GrantedMay) (takable : TakingsAreTakable) (live : StoresAreLive) where
+module _ (granted : GrantedMay) (again : AgainAsks) (takable : TakingsAreTakable) (live : StoresAreLive) where
   given_licensed : (system : System) (t k e : ℕ) → Each (LicensedAt system t k e) (given_at system t k e)
   given_licensed system t k e =
       let w = world_after system t in
       let v = once_happened system.schedule w in
       let order = moments_in_order system t in
       let stepped = order.turned ∙ ap (after_phase turn) (order.served ∙ ap served order.happened) in
-      phase_licensed granted system t (happens_in system.schedule w) (takings_in system t) w (takable (revocations v.book) v.book.time v.count)
+      phase_licensed granted again system t (happens_in system.schedule w) (takings_in system t) w (takable (revocations v.book) v.book.time v.count)
       (subst (StoresIn system t) stepped (live system t)) k e
 
   pub given_is_licensed : GivenIsLicensed
@@ -423,9 +447,9 @@ module _ (granted : GrantedMay) (takable : TakingsAreTakable) (live : StoresAreL
   boot_licensed : (image : ImageValue) (e : ℕ) → Each (AtBoot image e) (boot_items image e)
   boot_licensed image e = by_program (slice_get image.programs e) refl
     where
-      by_program : (o : Option ProgramValue) → slice_get image.programs e ≡ o → Each (AtBoot image e) (record_items e o)
+      by_program : (o : Option ProgramValue) → slice_get image.programs e ≡ o → Each (AtBoot image e) (record_items image.version e o)
       by_program None there = tt
-      by_program (Some p) there = (record { program = p; there = there; number_is = refl; name_is = refl; entry_is = refl; accept_is = refl; kept_is = refl }, tt)
+      by_program (Some p) there = (record { program = p; there = there; version_is = refl; number_is = refl; name_is = refl; entry_is = refl; accept_is = refl; kept_is = refl }, tt)
 
   -- and in a feed
   later : (system : System) (t e n : ℕ) (item : Item) → Licensed system t e n item → Licensed system (suc t) e n item

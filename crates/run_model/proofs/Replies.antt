@@ -1,8 +1,8 @@
 -- What the reply to the runner's step leaves of lives and slots.
 use Rattle.std.proofs.Common.{rules, ◌≡◌, ◌+◌, ℕ, List, [], ◌∷◌, ◌++◌, Bool, true, false, ◌&&◌, refl, sym, ◌∙◌, ap, subst, Option, Some, None}
-use Rattle.std.specs.Prelude.{◌==◌, not, nat_lt, if◌then◌else◌}
+use Rattle.std.specs.Prelude.{◌==◌, ◌*◌, not, nat_lt, if◌then◌else◌, is_none}
 use Rattle.std.specs.Option.{option_map}
-use Rattle.std.proofs.lemmas.Bool.{and_parts, eqb-true, eqb-false, eq-eqb, not-true}
+use Rattle.std.proofs.lemmas.Bool.{and_parts, cond_both, eqb-true, eqb-false, eq-eqb, not-true}
 use Rattle.frame_store.specs.Pages.{zero_page}
 use Rattle.kernel_journal.specs.declared.row.Row.{Row}
 use Rattle.kernel_journal.specs.declared.row.Row.TheVariants as row
@@ -19,12 +19,15 @@ use Rattle.world_model.specs.declared.slot.Runner.{Runner}
 use Rattle.world_model.specs.declared.call.Deed.{Deed}
 use Rattle.world_model.specs.declared.call.Deed.TheVariants.{Answers, Own, Stops, Gives, Allocates, Frees, Recaps, Binds, Unbinds, Transfers, TakesSlot, DropsSlot, TakesLine, DropsLine, Claims, Unclaims, Downloads, Loads}
 use Rattle.world_model.specs.declared.verdict.Verdict.{Verdict}
-use Rattle.world_model.specs.declared.verdict.Verdict.TheVariants.{Refuse, Grant}
+use Rattle.world_model.specs.declared.verdict.Verdict.TheVariants.{Refuse, Again, Grant}
 use Rattle.world_model.specs.Table.{set_at}
 use Rattle.world_model.specs.Book.{Book, own_hold, hold_without}
 use Rattle.world_model.specs.Call.{called}
 use Rattle.world_model.specs.Death.{death, lost_with}
-use Rattle.world_model.specs.Item.{Item, Step, Start, Transfer, Answer, Gained, Lost, absorb, absorb_all, deed_at}
+use Rattle.world_model.specs.Event.{asks, revokes}
+use Rattle.revocation_book.specs.declared.revocation.Pending.{Pending}
+use Rattle.revocation_book.specs.Pending.{asked}
+use Rattle.world_model.specs.Item.{Item, Asked, Step, Start, Transfer, Answer, Gained, Lost, absorb, absorb_all, deed_at}
 use Rattle.world_model.specs.May.{May}
 use Rattle.world_model.specs.PageCalls.{lost_bindings, page_bytes}
 use Rattle.world_model.specs.SlotCalls.{dropped, handed, held_by, is_other, turn_slot, with_slot}
@@ -32,13 +35,13 @@ use Rattle.world_model.specs.Solo.{Solo, is_dead}
 use Rattle.world_model.specs.Step.{Act, Nothing, Stores, Calls, Raises, Dies, act_of, acted, step_alone, stepped}
 use Rattle.world_model.specs.Tick.{act_now, act_reply}
 use Rattle.world_model.specs.Transfers.{slots_handed, transfer_rows}
-use Rattle.world_model.specs.Verdict.{done, reply_by_verdict, reply_to, verdict}
-use Rattle.world_model.specs.World.{World, Reply, after, followed, in_turn, no_change, only, run_phases, tells}
+use Rattle.world_model.specs.Verdict.{asks_one, done, reply_by_verdict, reply_to, verdict}
+use Rattle.world_model.specs.World.{World, Reply, after, followed, in_turn, is_living, no_change, only, run_phases, tells}
 use Rattle.call_verdicts.specs.Granted.{GrantedMay}
 use Rattle.run_model.specs.Excess.{pays, AreSlotsLive, IsAccounted, IsRunnerLive, Lives}
 use Rattle.run_model.proofs.Phases.{in_turn_is_each}
 use Rattle.run_model.proofs.Telling.{deed_may, told_named, told_own}
-use Rattle.run_model.proofs.Lives.{Keeps, if_living, keep_answer, keep_both, keep_none, keep_set, keep_only, keep_start, keep_transfer, keep_gained, keep_lost, breaks_keep, left_by_keeps, lost_with_keeps}
+use Rattle.run_model.proofs.Lives.{Keeps, if_living, keep_answer, keep_asked, keep_both, keep_none, keep_set, keep_only, keep_start, keep_transfer, keep_gained, keep_lost, breaks_keep, left_by_keeps, lost_with_keeps}
 use Rattle.run_model.proofs.Rows.{AreQuiet, Adds, adds_quiet, lawful_both, set_other, quiet_both, quiet_releases, quiet_slot}
 
 -- After a reply who lives lived before, with this excess, and who has slots or runs lives.
@@ -264,6 +267,17 @@ transfer_is_quiet w e target kind.Asynchronous = (search rules, tt)
 transfer_is_quiet w e target kind.Synchronous =
     (search rules, (quiet_slot w.book.time w.book.cursor (option_map (held_by target) (turn_slot w.book)), tt))
 
+-- A revocation leaves the life of whom it asks.
+ask_is_mild : (e : ℕ) (pending : Option Pending) (w : World) → IsAccounted w → Mild w (asks e pending w)
+ask_is_mild e None w good = no_change_is_mild w good
+ask_is_mild e (Some p) w good =
+    still_is_mild w (asks e (Some p) w) good refl (search rules, tt) (keep_only e (Asked p.outstanding p.deadline ∷ []) (keep_asked p.outstanding p.deadline))
+
+pub revocation_is_mild : (e count deadline : ℕ) (w : World) → IsAccounted w → Mild w (revokes e count deadline w)
+revocation_is_mild e count deadline w good =
+    let pending = asked count deadline (w.book.pending e) in
+    cond_both (is_living w e) (asks e pending w) (no_change w) (Mild w) (λ lives. ask_is_mild e pending w good) (λ gone. no_change_is_mild w good)
+
 -- The deeds of a caller that lives.
 module _ (w : World) (e : ℕ) (good : IsAccounted w) (lives : Lives w e) where
   -- items alone, or with another owner of a page, of a binding, of a claim or of an interrupt line
@@ -327,6 +341,10 @@ module _ (w : World) (e : ℕ) (good : IsAccounted w) (lives : Lives w e) where
 
   reply_is_mild : (v : Verdict) → ((value : ℕ) → v ≡ Grant value → May w e (deed_at (w.solos e) value)) → Mild w (reply_by_verdict w e v)
   reply_is_mild (Refuse code value) may = still (reply_by_verdict w e (Refuse code value)) refl tt (keep_only e (Answer (Refuse code value) ∷ []) (keep_answer (Refuse code value)))
+  reply_is_mild (Again who) may =
+      let until = w.book.time + 2 * w.book.quantum in
+      answer_is_mild (Again who) (asks_one who w)
+      (cond_both (is_none (w.book.pending who)) (revokes who 1 until w) (no_change w) (Mild w) (λ nothing. revocation_is_mild who 1 until w good) (λ pending. no_change_is_mild w good))
   reply_is_mild (Grant value) may = let d = deed_at (w.solos e) value in answer_is_mild (Grant value) (done w e d) (deed_is_mild d (may value refl))
 
   pub call_is_mild : GrantedMay → (c : Option Call) → called (w.solos e).cpu ≡ c → Mild w (reply_to w e c)

@@ -9,7 +9,7 @@ use Rattle.env_frames.specs.declared.post.PostWord.TheVariants as post
 use Rattle.mips_exec.specs.Step.{cpu_after}
 use Rattle.world_model.specs.declared.call.Deed.{Deed}
 use Rattle.world_model.specs.declared.call.Deed.TheVariants.{Unbinds, Claims, Unclaims, Downloads}
-use Rattle.world_model.specs.declared.verdict.Verdict.TheVariants.{Refuse, Grant}
+use Rattle.world_model.specs.declared.verdict.Verdict.TheVariants.{Refuse, Again, Grant}
 use Rattle.world_model.specs.Downloads.{handler_at, handler_in, handler_or_none, words_or_no}
 use Rattle.world_model.specs.Item.{Item, Boot, Step, Start, Killed, Answer, Lost, Packet, Taken, absorb, absorb_all, absorbed, deed_at, own_part}
 use Rattle.world_model.specs.Page.{Mapped}
@@ -87,11 +87,12 @@ recorded_same : (n page : ℕ) (backup : Option ℕ) (s : Solo) → (recorded n 
 recorded_same n page backup s = cond_both (nat_lt n most_records) (with_context (record_offset n) (record_bytes page backup) s) s (λ t. t.rings ≡ s.rings) (λ is. refl) (λ is. refl)
 
 item_verified : (s : Solo) (item : Item) → Verified s → Verified (absorbed s item)
-item_verified s (Boot number name entry accept kept) are = refl
+item_verified s (Boot version number name entry accept kept) are = refl
 item_verified s Step are = act_verified (act_of s (step_alone s)) (record s { cpu = cpu_after s.cpu (step_alone s) }) are
 item_verified s Start are = grind (arith, common_steps)
 item_verified s Killed are = refl
 item_verified s (Answer (Refuse code value)) are = are
+item_verified s (Answer (Again who)) are = are
 item_verified s (Answer (Grant value)) are = own_verified (deed_at s value) s are
 item_verified s (Lost page) are = fewer _ s.rings are
 item_verified s (Packet claim packet) are = packet_verified (ring_of s.rings claim) packet (counted post.Packets s) are

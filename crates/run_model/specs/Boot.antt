@@ -2,6 +2,7 @@
 use Rattle.std.specs.Prelude.{ℕ, zero, suc, ◌+◌, ◌-◌, List, [], ◌∷◌, ◌++◌, length, map, true, Option, Some, None, slice_get}
 use Rattle.std.specs.Option.{option_flatten, option_map}
 use Rattle.aegis_limits.specs.Limits.{stack_end}
+use Rattle.aegis_limits.specs.declared.version.Version.{Version}
 use Rattle.frame_store.specs.Pages.{zero_page}
 use Rattle.elf_static.specs.ElfValue.{ElfValue}
 use Rattle.segment_pages.specs.Pages.{is_writable, page_bytes, vpns}
@@ -38,12 +39,12 @@ abbrev pub kept_of : ProgramValue → List KeptPage
 kept_of p = open_page context_number zero_page ∷ map (body_page p.body) (vpns p.body) ++ listed (stack_page p) p.stack
 
 -- what is given to an environment at boot: its record, where the image has one
-abbrev pub record_items : ℕ → Option ProgramValue → List Item
-record_items e None = []
-record_items e (Some p) = Boot e p.name p.body.entry p.accept (kept_of p) ∷ []
+abbrev pub record_items : Version → ℕ → Option ProgramValue → List Item
+record_items v e None = []
+record_items v e (Some p) = Boot v e p.name p.body.entry p.accept (kept_of p) ∷ []
 
 abbrev pub boot_items : ImageValue → ℕ → List Item
-boot_items image e = record_items e (slice_get image.programs e)
+boot_items image e = record_items image.version e (slice_get image.programs e)
 
 -- at boot an owner holds its slot
 abbrev pub boot_slot : List (Option ℕ) → ℕ → Option Hold
@@ -59,8 +60,9 @@ abbrev pub own_rows : List (Option ℕ) → ℕ → List Row
 own_rows owners zero = []
 own_rows owners (suc k) = own_rows owners k ++ own_row k (boot_slot owners k)
 
-abbrev pub boot_book : ℕ → ℕ → List (Option ℕ) → Book
-boot_book pages quantum owners = record {
+abbrev pub boot_book : Version → ℕ → ℕ → List (Option ℕ) → Book
+boot_book v pages quantum owners = record {
+  version = v;
   slot_count = length owners;
   slots = boot_slot owners;
   quantum = quantum;
@@ -80,9 +82,17 @@ boot_book pages quantum owners = record {
 }
 
 -- the world of a board on which no program stands yet
-abbrev pub bare_world : ℕ → ℕ → List (Option ℕ) → World
-bare_world pages quantum owners =
-    record { book = boot_book pages quantum owners; count = 0; solos = absent; rows = own_rows owners (length owners) }
+abbrev pub bare_world : Version → ℕ → ℕ → List (Option ℕ) → World
+bare_world v pages quantum owners = record {
+  book = boot_book v pages quantum owners;
+  count = 0;
+  solos = absent;
+  rows = own_rows owners (length owners);
+}
+
+-- the book of an image before any page is guaranteed
+abbrev pub book_of_image : ImageValue → Book
+book_of_image image = boot_book image.version image.pages image.quantum image.slots
 
 -- the pages once the lowest free one of those below count, if there is one, is guaranteed to an environment
 abbrev pub keep_lowest : ℕ → Option ℕ → (ℕ → PageRow) → ℕ → PageRow
@@ -120,8 +130,8 @@ with_all_kept e [] b = b
 with_all_kept e (p ∷ programs) b = with_all_kept (e + 1) programs (with_kept e p b)
 
 abbrev pub boot_world : ImageValue → World
-boot_world image = record (bare_world image.pages image.quantum image.slots) {
-  book = with_all_kept 0 image.programs (boot_book image.pages image.quantum image.slots);
+boot_world image = record (bare_world image.version image.pages image.quantum image.slots) {
+  book = with_all_kept 0 image.programs (book_of_image image);
   count = length image.programs;
   solos = λ e. absorb_all (absent e) (boot_items image e);
 }
@@ -131,5 +141,5 @@ abbrev pub with_program : World → ProgramValue → World
 with_program w p = record w {
   book = with_kept w.count p w.book;
   count = w.count + 1;
-  solos = λ e. absorb_all (w.solos e) (only w.count (record_items w.count (Some p)) e);
+  solos = λ e. absorb_all (w.solos e) (only w.count (record_items w.book.version w.count (Some p)) e);
 }

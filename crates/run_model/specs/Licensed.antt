@@ -1,8 +1,9 @@
 -- By what licence an environment is given an item: at boot, and for each phase of a tick, item by item, of the world
 -- before the phase.
-use Rattle.std.specs.Prelude.{◌≡◌, ◌≢◌, ◌<◌, ◌+◌, ◌-◌, ℕ, zero, suc, length, Bool, true, false, List, [], ◌∷◌, Option, Some, None, ◌⊎◌, slice_get}
+use Rattle.std.specs.Prelude.{◌≡◌, ◌≢◌, ◌<◌, ◌+◌, ◌-◌, ◌*◌, ℕ, zero, suc, length, Bool, true, false, List, [], ◌∷◌, Option, Some, None, is_none, ◌⊎◌, slice_get}
 use Rattle.std.specs.List.{All}
 use Rattle.std.specs.Option.{option_map}
+use Rattle.aegis_limits.specs.declared.version.Version.{Version}
 use Rattle.boot_image.specs.ImageValue.{ImageValue, ProgramValue}
 use Rattle.env_frames.specs.declared.transfer.TransferKind.{TransferKind}
 use Rattle.env_frames.specs.Transfer.{Registers, carried}
@@ -20,6 +21,7 @@ use Rattle.world_model.specs.declared.slot.Phase.TheVariants as phase
 use Rattle.world_model.specs.declared.slot.Runner.{Runner}
 use Rattle.world_model.specs.declared.slot.Turn.{Turn}
 use Rattle.world_model.specs.declared.verdict.Verdict.{Verdict}
+use Rattle.world_model.specs.declared.verdict.Verdict.TheVariants.{Again}
 use Rattle.world_model.specs.Book.{running, sees, whole_turn}
 use Rattle.aegis_limits.specs.Limits.{excess_limit}
 use Rattle.external_event.specs.declared.event.Occurrence.{Occurrence}
@@ -29,14 +31,13 @@ use Rattle.filter_tree.specs.ClaimBook.{ClaimValue}
 use Rattle.world_model.specs.ClaimCalls.{claim_of}
 use Rattle.world_model.specs.Event.{ring_bytes}
 use Rattle.world_model.specs.Rings.{ring_of}
-use Rattle.world_model.specs.May.{MayAllocate, MayBind, MayChange, MayEnter, MayReach}
+use Rattle.world_model.specs.May.{MayAllocate, MayAsk, MayBind, MayChange, MayEnter, MayReach}
 use Rattle.world_model.specs.Page.{KeptPage}
-use Rattle.world_model.specs.PageCalls.{page_bytes}
+use Rattle.world_model.specs.PageCalls.{page_bytes, revocations}
 use Rattle.world_model.specs.Solo.{Store, Physical}
 use Rattle.world_model.specs.Step.{Stores, Calls, Dies}
 use Rattle.world_model.specs.Verdict.{verdict}
 use Rattle.world_model.specs.World.{World, is_living}
-use Rattle.world_model.specs.Deadlines.{revocations}
 use Rattle.revocation_book.specs.declared.revocation.Taking.{Taking}
 use Rattle.revocation_book.specs.Pending.{asked}
 use Rattle.revocation_book.specs.Takings.{IsTakable}
@@ -46,10 +47,11 @@ use Rattle.run_model.specs.Live.{HasLiveBinding}
 use Rattle.run_model.specs.Run.{System, feed, given_at, given_below, happens_in, moment, takings_in, world_after}
 
 -- At boot: it is the environment's record in the image.
-pub record IsRecord (image : ImageValue) (e number : ℕ) (name : List ℕ) (entry accept : ℕ)
+pub record IsRecord (image : ImageValue) (e : ℕ) (version : Version) (number : ℕ) (name : List ℕ) (entry accept : ℕ)
     (kept : List KeptPage) : Type 0 where
   pub program : ProgramValue
   pub there : slice_get image.programs e ≡ Some program
+  pub version_is : version ≡ image.version
   pub number_is : number ≡ e
   pub name_is : name ≡ program.name
   pub entry_is : entry ≡ program.body.entry
@@ -57,7 +59,8 @@ pub record IsRecord (image : ImageValue) (e number : ℕ) (name : List ℕ) (ent
   pub kept_is : kept ≡ kept_of program
 
 abbrev pub AtBoot : ImageValue → ℕ → Item → Type 0
-AtBoot image e (Boot number name entry accept kept) = IsRecord image e number name entry accept kept
+AtBoot image e (Boot version number name entry accept kept) =
+    IsRecord image e version number name entry accept kept
 AtBoot image e item = ⊥
 
 -- The turn is the environment's: nobody runs; once those who owe have forfeited theirs, the next held slot is one that
@@ -145,6 +148,21 @@ pub record IsLeft (system : System) (t : ℕ) (w : World) (e page offset : ℕ) 
   pub right : HasLiveBinding system t writer page
   pub seen : sees w.book e page ≡ true
 
+-- The environment, which lives, is asked for so many pages until a deadline; then so many are outstanding.
+pub record IsAsked (w : World) (e named count until outstanding deadline : ℕ) : Type 0 where
+  pub its : named ≡ e
+  pub lives : is_living w e ≡ true
+  pub pending : asked count until (w.book.pending e) ≡ Some (record { outstanding = outstanding; deadline = deadline })
+
+-- Another allocates any page, none is free, and the environment has the most to give: nothing is pending for it, and it
+-- is asked for one page within two quanta.
+pub record IsPressed (w : World) (e outstanding deadline : ℕ) : Type 0 where
+  pub caller : ℕ
+  pub answered : IsAnswered w caller (Again e)
+  pub may : MayAsk w caller e
+  pub nothing : is_none (w.book.pending e) ≡ true
+  pub asks : IsAsked w e e 1 (w.book.time + 2 * w.book.quantum) outstanding deadline
+
 abbrev pub AtStep : System → ℕ → World → ℕ → Item → Type 0
 AtStep system t w e Step = running w.book.runner ≡ Some e
 AtStep system t w e Start = IsDonated w e
@@ -154,6 +172,7 @@ AtStep system t w e (Gained page writable bytes) = IsAllocating w e page writabl
     ⊎ IsBinding w e page writable bytes
 AtStep system t w e (Lost page) = IsFreeing w e page ⊎ IsBroken w e page
 AtStep system t w e (Left page offset bytes) = IsLeft system t w e page offset bytes
+AtStep system t w e (Asked outstanding deadline) = IsPressed w e outstanding deadline
 AtStep system t w e item = ⊥
 
 -- The environment runs in its last tick, in this phase of its slice.
@@ -219,13 +238,7 @@ AtArrival packet w e (Packet claim given) = IsClaimed w e packet claim given
 AtArrival packet w e (Left page offset bytes) = IsRingLeft w e packet page offset bytes
 AtArrival packet w e item = ⊥
 
--- A revocation names the environment, which lives, and asks it for so many pages until a deadline; then so many are
--- outstanding.
-pub record IsAsked (w : World) (e named count until outstanding deadline : ℕ) : Type 0 where
-  pub its : named ≡ e
-  pub lives : is_living w e ≡ true
-  pub pending : asked count until (w.book.pending e) ≡ Some (record { outstanding = outstanding; deadline = deadline })
-
+-- A revocation names the environment.
 abbrev pub AtRevocation : ℕ → ℕ → ℕ → World → ℕ → Item → Type 0
 AtRevocation named count until w e (Asked outstanding deadline) = IsAsked w e named count until outstanding deadline
 AtRevocation named count until w e item = ⊥

@@ -5,7 +5,6 @@ use Rattle.page_book.specs.declared.row.PageRow.{PageRow}
 use Rattle.page_book.specs.declared.row.PageRow.TheVariants.{Owned}
 use Rattle.page_book.specs.Row.{gives_right, is_owned_by}
 use Rattle.bind_book.specs.declared.binding.Binding.{Binding}
-use Rattle.bind_book.specs.Stripe.{row_of}
 use Rattle.world_model.specs.declared.call.Deed.TheVariants.{Binds}
 use Rattle.world_model.specs.Solo.{Store, Physical}
 use Rattle.world_model.specs.Step.{Stores}
@@ -27,14 +26,15 @@ pub record HasWord (system : System) (since t owner : ℕ) (b : Binding) (word :
   pub kept : Since since t (λ s. row_after system s b.page ≡ Owned owner words)
 
 -- A binding is live after t ticks: in an earlier tick the environment bound it, and presented a word; it has been
--- listed ever since; the page has had one owner ever since; and that owner is the environment itself, or the word still
+-- listed in a row ever since; the page has had one owner ever since; and that owner is the environment itself, or the word still
 -- gives the right.
 pub record IsLive (system : System) (t e : ℕ) (b : Binding) : Type 0 where
   pub since : ℕ
   pub earlier : since < t
   pub word : ℕ
   pub bound : Does (at_step system since) e (Binds b word)
-  pub listed : Since since t (λ s. (world_after system s).book.binds e (row_of b.vpn) ≡ Some b)
+  pub row : ℕ
+  pub listed : Since since t (λ s. (world_after system s).book.binds e row ≡ Some b)
   pub owner : ℕ
   pub owned : Since since t (λ s. is_owned_by owner (row_after system s b.page) ≡ true)
   pub right : (owner ≡ e) ⊎ HasWord system since t owner b word

@@ -8,7 +8,7 @@ ghost use Rattle.run_model.specs.Handlers.{HandlersAreVerified};
 ghost use Rattle.run_model.specs.Live.{StoresAreLive};
 ghost use Rattle.run_model.specs.Run.{InTurnIsEach, IsFoldOfFeed, MomentsAreInOrder, PhasesGive};
 
-use call_verdicts::law_granted;
+use call_verdicts::{law_again, law_granted};
 use revocation_book::law_takable;
 
 /// Phases in turn are the phases one after another, each in the world that the one before it leaves.
@@ -85,5 +85,6 @@ pub fn law_licence_by_stores()
     ensures feed { StoresAreLive → FeedIsLicensed }
 {
     law_granted();
+    law_again();
     law_takable();
 }

@@ -2,6 +2,7 @@
 use Rattle.std.specs.Prelude.{ℕ, zero, suc, ◌+◌, ◌-◌, ◌%◌, List, [], ◌∷◌, Bool, false, not, filter, ◌==◌, ◌&&◌, ◌||◌, nat_lt, if◌then◌else◌, Option, Some, None, is_none}
 use Rattle.std.specs.Option.{option_map}
 use Rattle.env_frames.specs.declared.mapping.Mapping.{Mapping}
+use Rattle.aegis_limits.specs.declared.version.Version.{Version}
 use Rattle.page_book.specs.declared.row.PageRow.{PageRow}
 use Rattle.page_book.specs.Row.{is_owned_by}
 use Rattle.bind_book.specs.declared.binding.Binding.{Binding}
@@ -13,13 +14,14 @@ use Rattle.world_model.specs.declared.slot.Hold.{Hold}
 use Rattle.world_model.specs.declared.slot.Runner.{Runner}
 use Rattle.world_model.specs.declared.slot.Turn.{Turn}
 
--- A runner, if one runs, runs in the cursor's slot. Each environment has its excess: the quanta that it ran past its
+-- The version of the image. A runner, if one runs, runs in the cursor's slot. Each environment has its excess: the quanta that it ran past its
 -- slices and hasn't forfeited yet. Pages are numbered below page_count; from there on each is as if free. Each
 -- environment has its guaranteed mappings, by rising VPN, and its bindings, in the rows of its stripe. Each interrupt
 -- line has its owner, if anybody has taken it. The claims that stand are there by rising number, and the number of
 -- the next one. Each environment has what it is asked for and hasn't given back, if anything, and the pages that it
 -- loaded as backups, in their order.
 pub record Book : Type 0 where
+  pub version : Version
   pub slot_count : ℕ
   pub slots : ℕ → Option Hold
   pub quantum : ℕ

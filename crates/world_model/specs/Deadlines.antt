@@ -3,17 +3,12 @@ use Rattle.std.specs.Prelude.{ℕ, List, [], ◌∷◌, ◌++◌, drop, Option, 
 use Rattle.kernel_journal.specs.declared.row.Row.TheVariants as row
 use Rattle.revocation_book.specs.declared.revocation.Taking.{Taking}
 use Rattle.revocation_book.specs.Pending.{unless_due}
-use Rattle.revocation_book.specs.Takings.{Books, takings_below}
+use Rattle.revocation_book.specs.Takings.{takings_below}
 use Rattle.world_model.specs.Table.{set_at}
-use Rattle.world_model.specs.Book.{Book}
 use Rattle.world_model.specs.Item.{Item, Taken}
-use Rattle.world_model.specs.PageCalls.{lost_bindings, freed, left_by, page_bytes}
+use Rattle.world_model.specs.PageCalls.{lost_bindings, freed, left_by, page_bytes, revocations}
 use Rattle.world_model.specs.Rings.{page_store}
 use Rattle.world_model.specs.World.{World, Reply, no_items}
-
--- what the book says of pages, of what is pending, and of backups
-abbrev pub revocations : Book → Books
-revocations b = record { pages = b.pages; page_count = b.page_count; pending = b.pending; backups = b.backups }
 
 -- What is taken in this world: of each environment whose deadline has come, the lowest first, as many victims as
 -- pages are outstanding, by rising number. They are all chosen before any is taken.

@@ -20,11 +20,12 @@ with_binds binds s = record s { binds = binds; seen = λ page. still_seen (is_bo
 
 -- a binding takes the place of the one in its row
 abbrev pub bound : Binding → Solo → Solo
-bound b s = with_binds (set_at (row_of b.vpn) (Some b) s.binds) s
+bound b s = with_binds (set_at (row_of s.version b.vpn) (Some b) s.binds) s
 
 -- the binding of a VPN goes, if there is one
 abbrev pub after_unbind : ℕ → Solo → Solo
-after_unbind vpn s = if is_some (binding_at s.binds vpn) then with_binds (set_at (row_of vpn) None s.binds) s else s
+after_unbind vpn s =
+    if is_some (binding_at s.version s.binds vpn) then with_binds (set_at (row_of s.version vpn) None s.binds) s else s
 
 -- the environment owns a page, of whose bytes it learns next
 abbrev pub owning : ℕ → Solo → Solo

@@ -1,5 +1,6 @@
 -- What an environment is given from outside, and what it makes of it.
 use Rattle.std.specs.Prelude.{ℕ, ◌+◌, List, [], if◌then◌else◌, fold, Bool, Option}
+use Rattle.aegis_limits.specs.declared.version.Version.{Version}
 use Rattle.mips_exec.specs.declared.registers.Cpu.{Cpu}
 use Rattle.mips_exec.specs.Cpu.{blank_cpu, with_reg}
 use Rattle.mips_exec.specs.Word.{low_word}
@@ -8,7 +9,7 @@ use Rattle.env_frames.specs.Transfer.{Registers}
 use Rattle.world_model.specs.declared.life.Life.TheVariants.{Live}
 use Rattle.world_model.specs.declared.life.Cause.TheVariants as cause
 use Rattle.world_model.specs.declared.verdict.Verdict.{Verdict}
-use Rattle.world_model.specs.declared.verdict.Verdict.TheVariants.{Refuse, Grant}
+use Rattle.world_model.specs.declared.verdict.Verdict.TheVariants.{Refuse, Again, Grant}
 use Rattle.world_model.specs.Answer.{verdict_code, verdict_value}
 use Rattle.world_model.specs.Page.{KeptPage}
 use Rattle.world_model.specs.Solo.{Solo, Physical, bare_solo, dead, is_dead, with_store}
@@ -25,9 +26,9 @@ use Rattle.world_model.specs.Downloads.{after_download}
 use Rattle.world_model.specs.Step.{step_alone, stepped}
 
 pub data Item : Type 0 where
-  -- its record in the image: number, name, entry, the mask of those from whom it accepts yields and transfers, and
-  -- guaranteed pages
-  Boot : (number : ℕ) (name : List ℕ) (entry : ℕ) (accept : ℕ) (kept : List KeptPage) → Item
+  -- its record in the image: the image's version, number, name, entry, the mask of those from whom it accepts yields
+  -- and transfers, and guaranteed pages
+  Boot : (version : Version) (number : ℕ) (name : List ℕ) (entry : ℕ) (accept : ℕ) (kept : List KeptPage) → Item
   -- a step of its machine
   Step : Item
   -- the start of a slice
@@ -59,8 +60,8 @@ pub data Item : Type 0 where
 abbrev pub boot_cpu : ℕ → Cpu
 boot_cpu entry = record (with_reg blank_cpu 29 0x7FFEFFF0) { pc = entry; next = low_word (entry + 4) }
 
-abbrev pub booted : ℕ → List ℕ → ℕ → ℕ → List KeptPage → Solo
-booted number name entry accept kept = record (bare_solo number name Live [] []) {
+abbrev pub booted : Version → ℕ → List ℕ → ℕ → ℕ → List KeptPage → Solo
+booted version number name entry accept kept = record (bare_solo version number name Live [] []) {
   cpu = boot_cpu entry;
   mask = accept;
   kept = kept;
@@ -98,13 +99,14 @@ answered_cpu verdict cpu = record (with_reg (with_reg cpu 2 (verdict_code verdic
 abbrev pub deed_at : Solo → ℕ → Deed
 deed_at s value = deed_of (called s.cpu) value s.cpu
 
--- a refused call changes its caller's registers 2 and 3 and where it stands, and nothing else
+-- A call that isn't granted changes its caller's registers 2 and 3 and where it stands, and nothing else.
 abbrev pub with_answer : Verdict → Solo → Solo
 with_answer (Refuse code value) s = record s { cpu = answered_cpu (Refuse code value) s.cpu }
+with_answer (Again who) s = record s { cpu = answered_cpu (Again who) s.cpu }
 with_answer (Grant value) s = record (own_part (deed_at s value) s) { cpu = answered_cpu (Grant value) s.cpu }
 
 abbrev pub absorbed : Solo → Item → Solo
-absorbed s (Boot number name entry accept kept) = booted number name entry accept kept
+absorbed s (Boot version number name entry accept kept) = booted version number name entry accept kept
 absorbed s Step = stepped s (step_alone s)
 absorbed s Start = start s
 absorbed s End = end_slice s

@@ -1,22 +1,25 @@
 -- What a deed presupposes of the world.
-use Rattle.std.specs.Prelude.{◌≡◌, ◌<◌, ℕ, Bool, true, false, List, Some, None, Ok, ◌⊎◌}
+use Rattle.std.specs.Prelude.{◌≡◌, ◌≢◌, ◌<◌, ℕ, Bool, true, false, List, Some, None, Ok, ◌⊎◌}
+use Rattle.aegis_limits.specs.declared.version.Version.TheVariants.{Two}
 use Rattle.aegis_limits.specs.Limits.{vpn_end}
 use Rattle.external_event.specs.Limits.{lines}
 use Rattle.page_book.specs.declared.row.Capabilities.{Capabilities}
 use Rattle.page_book.specs.declared.row.PageRow.{PageRow}
 use Rattle.page_book.specs.declared.row.PageRow.TheVariants.{Free, Owned}
 use Rattle.page_book.specs.Row.{gives_right, is_owned_by}
+use Rattle.page_book.specs.Rows.{lowest_free}
 use Rattle.bind_book.specs.declared.binding.Binding.{Binding}
 use Rattle.env_frames.specs.declared.transfer.TransferKind.{TransferKind}
 use Rattle.env_frames.specs.Transfer.{hands_slot}
 use Rattle.filter_core.specs.declared.atom.Atom.{Atom}
 use Rattle.filter_tree.specs.Claims.{claim_refusal}
 use Rattle.revocation_book.specs.Backups.{load_refusal}
+use Rattle.revocation_book.specs.Richest.{richest}
 use Rattle.world_model.specs.declared.slot.Hold.{Hold}
 use Rattle.world_model.specs.Book.{Book}
 use Rattle.world_model.specs.Solo.{Solo, sight}
 use Rattle.world_model.specs.OwnCalls.{MayOwn}
-use Rattle.world_model.specs.PageCalls.{is_guaranteed_vpn}
+use Rattle.world_model.specs.PageCalls.{is_guaranteed_vpn, revocations}
 use Rattle.world_model.specs.LineCalls.{is_line_of, is_line_of_other}
 use Rattle.world_model.specs.ClaimCalls.{filter_at}
 use Rattle.world_model.specs.Downloads.{MayDownload}
@@ -42,6 +45,13 @@ pub record MayEnter (w : World) (e target : ℕ) (kind : TransferKind) : Type 0 
 pub record MayAllocate (b : Book) (page : ℕ) : Type 0 where
   pub there : page < b.page_count
   pub free : b.pages page ≡ Free
+
+-- no page is free, and the one that is asked is another, which has the most revocable pages
+pub record MayAsk (w : World) (e who : ℕ) : Type 0 where
+  pub larger : w.book.version ≡ Two
+  pub none : lowest_free w.book.pages w.book.page_count ≡ None
+  pub richest : richest (revocations w.book) e ≡ Some who
+  pub another : who ≢ e
 
 -- there is such a page, and it is the caller's
 pub record MayChange (b : Book) (e page : ℕ) : Type 0 where

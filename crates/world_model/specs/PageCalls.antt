@@ -1,7 +1,9 @@
 -- The calls on pages: who may allocate, free and bind them, and what the others are given of it.
-use Rattle.std.specs.Prelude.{ℕ, List, [], ◌∷◌, Bool, true, false, ◌==◌, nat_le, if◌then◌else◌, Option, Some, None, is_some, Result, Ok, Err, ok_or}
+use Rattle.std.specs.Prelude.{ℕ, List, [], ◌∷◌, Bool, true, false, ◌==◌, nat_le, if◌then◌else◌, Option, Some, None, is_some}
 use Rattle.std.specs.Option.{option_map, option_or}
 use Rattle.aegis_limits.specs.Limits.{vpn_end}
+use Rattle.aegis_limits.specs.declared.version.Version.{Version}
+use Rattle.aegis_limits.specs.declared.version.Version.TheVariants.{One, Two}
 use Rattle.frame_store.specs.Pages.{zero_page}
 use Rattle.mips_exec.specs.declared.registers.Cpu.{Cpu}
 use Rattle.mips_exec.specs.Cpu.{reg}
@@ -19,13 +21,16 @@ use Rattle.world_model.specs.Code.{code_of}
 use Rattle.filter_tree.specs.Claims.{is_into}
 use Rattle.revocation_book.specs.Pending.{lowered}
 use Rattle.revocation_book.specs.Backups.{unloaded}
+use Rattle.revocation_book.specs.Richest.{richest}
+use Rattle.revocation_book.specs.Takings.{Books}
 use Rattle.world_model.specs.Book.{Book, withdrawn, without_bindings_of, page_row, sees}
 use Rattle.world_model.specs.Call.{any, binding_of, presented}
 use Rattle.world_model.specs.Solo.{Solo, Store, Key, Kept, Physical, bytes_seen, kept_at}
 use Rattle.world_model.specs.Item.{Item, Gained, Lost, Left}
 use Rattle.world_model.specs.World.{World, Reply, only, no_items}
 use Rattle.world_model.specs.declared.verdict.Verdict.{Verdict}
-use Rattle.world_model.specs.Answer.{granted_unless, verdict_of}
+use Rattle.world_model.specs.declared.verdict.Verdict.TheVariants.{Refuse, Again, Grant}
+use Rattle.world_model.specs.Answer.{granted_unless}
 
 -- Breaks. An environment that has bound a page loses it
 abbrev pub lost_if : Bool → ℕ → List Item
@@ -36,18 +41,27 @@ lost_if false page = []
 abbrev pub lost_bindings : Book → ℕ → ℕ → List Item
 lost_bindings b page e = lost_if (is_bound page (b.binds e)) page
 
--- Allocation: the named page, if it is free, and for any the lowest free one; the value is its number.
-abbrev pub named_page : ℕ → Option Code → Result ℕ Code
-named_page page None = Ok page
-named_page page (Some why) = Err why
+-- what the book says of pages, of what is pending, and of backups
+abbrev pub revocations : Book → Books
+revocations b = record { pages = b.pages; page_count = b.page_count; pending = b.pending; backups = b.backups }
 
-abbrev pub chosen_page : Book → ℕ → Result ℕ Code
-chosen_page b page =
-    if page == any then ok_or (lowest_free b.pages b.page_count) code.NoneFree
-    else named_page page (option_map code_of (alloc_refusal (page_row b page)))
+-- Allocation of any page: the lowest free one. Where none is free, version 2 asks the other environment with the most
+-- revocable pages for one, if another has any.
+abbrev pub pressed : Version → Option ℕ → Verdict
+pressed One richest = Refuse code.NoneFree 0
+pressed Two None = Refuse code.NoneFree 0
+pressed Two (Some who) = Again who
 
+abbrev pub any_page : Version → Option ℕ → Option ℕ → Verdict
+any_page v None richest = pressed v richest
+any_page v (Some page) richest = Grant page
+
+-- Allocation: the named page, if it is free, or any; the value is its number.
 abbrev pub alloc : World → ℕ → Verdict
-alloc w e = verdict_of (chosen_page w.book (reg (w.solos e).cpu 4))
+alloc w e =
+    let b = w.book in let page = reg (w.solos e).cpu 4 in
+    if page == any then any_page b.version (lowest_free b.pages b.page_count) (richest (revocations b) e)
+    else granted_unless (option_map code_of (alloc_refusal (page_row b page))) page
 
 -- the caller owns the page, which holds zeros
 abbrev pub allocates : World → ℕ → ℕ → Capabilities → Reply
@@ -121,12 +135,12 @@ abbrev pub page_bytes : World → ℕ → List ℕ
 page_bytes w page = bytes_owned w page (w.book.pages page)
 
 -- the binding takes the place of the one in its row
-abbrev pub with_binding : ℕ → Binding → (ℕ → ℕ → Option Binding) → ℕ → ℕ → Option Binding
-with_binding e b binds = set_at e (set_at (row_of b.vpn) (Some b) (binds e)) binds
+abbrev pub with_binding : Version → ℕ → Binding → (ℕ → ℕ → Option Binding) → ℕ → ℕ → Option Binding
+with_binding v e b binds = set_at e (set_at (row_of v b.vpn) (Some b) (binds e)) binds
 
 abbrev pub binds_to : World → ℕ → Binding → Reply
 binds_to w e b = record {
-  book = record w.book { binds = with_binding e b w.book.binds };
+  book = record w.book { binds = with_binding (w.solos e).version e b w.book.binds };
   items = only e (Gained b.page b.writable (page_bytes w b.page) ∷ []);
   rows = [];
 }
@@ -134,15 +148,15 @@ binds_to w e b = record {
 -- Unbind: the value is 1 if the VPN was bound.
 abbrev pub unbind : Solo → Verdict
 unbind s = granted_unless (vpn_refusal (is_guaranteed_vpn s (reg s.cpu 4)) (reg s.cpu 4))
-    (if is_some (binding_at s.binds (reg s.cpu 4)) then 1 else 0)
+    (if is_some (binding_at s.version s.binds (reg s.cpu 4)) then 1 else 0)
 
 -- a stripe without the binding of a VPN, if there is one
-abbrev pub without_number : ℕ → (ℕ → Option Binding) → ℕ → Option Binding
-without_number vpn stripe = if is_some (binding_at stripe vpn) then set_at (row_of vpn) None stripe else stripe
+abbrev pub without_number : Version → ℕ → (ℕ → Option Binding) → ℕ → Option Binding
+without_number v vpn stripe = if is_some (binding_at v stripe vpn) then set_at (row_of v vpn) None stripe else stripe
 
 abbrev pub unbinds : World → ℕ → ℕ → Reply
 unbinds w e vpn = record {
-  book = record w.book { binds = set_at e (without_number vpn (w.book.binds e)) w.book.binds };
+  book = record w.book { binds = set_at e (without_number (w.solos e).version vpn (w.book.binds e)) w.book.binds };
   items = no_items;
   rows = [];
 }

@@ -2,6 +2,8 @@
 use Rattle.std.specs.Prelude.{ℕ, ◌/◌, ◌%◌, List, [], find, map, Bool, true, false, ◌==◌, if◌then◌else◌, Option, Some, None}
 use Rattle.std.specs.Option.{option_map, option_or}
 use Rattle.aegis_limits.specs.Limits.{page_size}
+use Rattle.aegis_limits.specs.declared.version.Version.{Version}
+use Rattle.aegis_limits.specs.declared.version.Version.TheVariants as version
 use Rattle.mips_exec.specs.declared.registers.Cpu.{Cpu}
 use Rattle.mips_exec.specs.Cpu.{blank_cpu}
 use Rattle.mips_exec.specs.Access.{Write}
@@ -29,10 +31,11 @@ pub record Ring : Type 0 where
   pub next : Buffer
   pub handler : Option (List ℕ)
 
--- Number, name, life, registers, handlers, the mask of those from whom it accepts yields and transfers, guaranteed
+-- The version of its image, number, name, life, registers, handlers, the mask of those from whom it accepts yields and transfers, guaranteed
 -- pages by rising VPN, the binding in each row of its stripe, each other page that it owns or has bound by its number
 -- in physical memory, its claims, console, and the packets that it sent.
 pub record Solo : Type 0 where
+  pub version : Version
   pub number : ℕ
   pub name : List ℕ
   pub life : Life
@@ -52,9 +55,10 @@ nothing_bound row = None
 abbrev pub nothing_seen : ℕ → Option Seen
 nothing_seen page = None
 
--- an environment with this number, name, life, console and sent packets that has nothing else
-abbrev pub bare_solo : ℕ → List ℕ → Life → List ℕ → List (List ℕ) → Solo
-bare_solo number name life console sent = record {
+-- an environment with this version, number, name, life, console and sent packets that has nothing else
+abbrev pub bare_solo : Version → ℕ → List ℕ → Life → List ℕ → List (List ℕ) → Solo
+bare_solo version number name life console sent = record {
+  version = version;
   number = number;
   name = name;
   life = life;
@@ -69,13 +73,13 @@ bare_solo number name life console sent = record {
   sent = sent;
 }
 
--- the number of an environment that the image lacks
+-- an environment that the image lacks, whose version tells nothing
 abbrev pub absent : ℕ → Solo
-absent e = bare_solo e [] Live [] []
+absent e = bare_solo version.One e [] Live [] []
 
--- a dead environment keeps its number, name, console and sent packets, and has nothing else
+-- a dead environment keeps its version, number, name, console and sent packets, and has nothing else
 abbrev pub dead : Cause → Solo → Solo
-dead cause s = bare_solo s.number s.name (Dead cause) s.console s.sent
+dead cause s = bare_solo s.version s.number s.name (Dead cause) s.console s.sent
 
 abbrev pub is_dead : Life → Bool
 is_dead Live = false
@@ -105,7 +109,8 @@ bound_place b = record { key = Physical b.page; writable = b.writable }
 -- where a VPN leads: to the guaranteed page there, else to the page that is bound there
 abbrev pub leads : Solo → ℕ → Option Place
 leads s vpn =
-    option_or (option_map (place_at vpn) (kept_at s.kept vpn)) (option_map bound_place (binding_at s.binds vpn))
+    option_or (option_map (place_at vpn) (kept_at s.kept vpn))
+    (option_map bound_place (binding_at s.version s.binds vpn))
 
 abbrev pub bytes_in : Option KeptPage → List ℕ
 bytes_in None = []

@@ -6,7 +6,6 @@ use Rattle.kernel_journal.specs.declared.row.Row.TheVariants as row
 use Rattle.world_model.specs.declared.code.Code.{Code}
 use Rattle.world_model.specs.declared.life.Cause.{Cause}
 use Rattle.world_model.specs.declared.life.Cause.TheVariants as cause
-use Rattle.world_model.specs.declared.slot.Phase.{Phase}
 use Rattle.world_model.specs.declared.slot.Phase.TheVariants as phase
 use Rattle.world_model.specs.declared.slot.Runner.{Runner}
 use Rattle.world_model.specs.declared.slot.Turn.{Turn}
@@ -15,11 +14,12 @@ use Rattle.world_model.specs.declared.timer.Timer.TheVariants as answer
 use Rattle.world_model.specs.Book.{WholeTurn, running, whole_turn}
 use Rattle.world_model.specs.Item.{Step, Start, End, Killed, with_answer}
 use Rattle.world_model.specs.Step.{Act, Nothing, Stores, Calls, Raises, Dies, step_alone, act_of, acted, call_act}
-use Rattle.world_model.specs.declared.verdict.Verdict.TheVariants.{Refuse}
+use Rattle.world_model.specs.declared.verdict.Verdict.{Verdict}
+use Rattle.world_model.specs.declared.verdict.Verdict.TheVariants.{Again, Refuse}
 use Rattle.world_model.specs.SlotCalls.{stop_row}
 use Rattle.world_model.specs.Timer.{timer_of}
 use Rattle.world_model.specs.Death.{death}
-use Rattle.world_model.specs.Verdict.{reply_to, verdict_now}
+use Rattle.world_model.specs.Verdict.{asks_one, reply_to, verdict_now}
 use Rattle.world_model.specs.Table.{set_at}
 use Rattle.world_model.specs.PageCalls.{left_by}
 use Rattle.world_model.specs.World.{World, Reply, only, no_items, after, run_phases, no_change, tells, in_turn}
@@ -164,9 +164,17 @@ died w e cause = act_world w e (Dies cause)
 abbrev pub called_world : World → ℕ → World
 called_world w e = act_world w e (call_act (w.solos e).cpu)
 
--- the world in which an environment's call was refused, and nothing else happened
+-- the world in which an environment's call was answered so, and nothing else happened
+abbrev pub answered_world : World → ℕ → Verdict → World
+answered_world w e verdict = record w { solos = set_at e (with_answer verdict (w.solos e)) w.solos }
+
+-- it was refused
 abbrev pub refused_world : World → ℕ → Code → ℕ → World
-refused_world w e code value = record w { solos = set_at e (with_answer (Refuse code value) (w.solos e)) w.solos }
+refused_world w e code value = answered_world w e (Refuse code value)
+
+-- it is to be made again, and another environment was asked, if nothing was pending for it
+abbrev pub again_world : World → ℕ → ℕ → World
+again_world w e who = after (answered_world w e (Again who)) (asks_one who w)
 
 -- The second world is the first after the kernel call at which its runner stands.
 abbrev pub IsCalled : World → World → Type 0
@@ -178,3 +186,10 @@ abbrev pub IsRefused : World → World → Type 0
 IsRefused old new =
     (e : ℕ) (code : Code) (value : ℕ) → running old.book.runner ≡ Some e → verdict_now old e ≡ Some (Refuse code value)
     → new ≡ refused_world old e code value
+
+-- Where the verdict is that the call is to be made again, it is the first with that answer, and with what asking the
+-- other environment changes: its pending revocation, its post words and a row, if nothing was pending for it.
+abbrev pub IsAgain : World → World → Type 0
+IsAgain old new =
+    (e : ℕ) (who : ℕ) → running old.book.runner ≡ Some e → verdict_now old e ≡ Some (Again who)
+    → new ≡ again_world old e who

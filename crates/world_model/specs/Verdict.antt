@@ -1,17 +1,18 @@
 -- The kernel calls: the verdict on each, and what is done where it is granted.
-use Rattle.std.specs.Prelude.{ℕ, ◌==◌, if◌then◌else◌, Option, Some, None, unwrap_or}
+use Rattle.std.specs.Prelude.{ℕ, ◌+◌, ◌*◌, ◌==◌, if◌then◌else◌, Option, Some, None, is_none, unwrap_or}
 use Rattle.mips_exec.specs.Cpu.{reg}
 use Rattle.world_model.specs.declared.call.Call.{Call}
 use Rattle.world_model.specs.declared.call.Call.TheVariants as call
 use Rattle.world_model.specs.declared.code.Code.TheVariants as code
 use Rattle.world_model.specs.Call.{any, called, exit_number}
 use Rattle.world_model.specs.declared.verdict.Verdict.{Verdict}
-use Rattle.world_model.specs.declared.verdict.Verdict.TheVariants.{Refuse, Grant}
+use Rattle.world_model.specs.declared.verdict.Verdict.TheVariants.{Refuse, Again, Grant}
 use Rattle.world_model.specs.declared.call.Deed.{Deed}
 use Rattle.world_model.specs.declared.call.Deed.TheVariants.{Answers, Own, Stops, Gives, Allocates, Frees, Recaps, Binds, Unbinds, Transfers, TakesSlot, DropsSlot, TakesLine, DropsLine, Claims, Unclaims, Downloads, Loads}
 use Rattle.world_model.specs.Solo.{Solo}
 use Rattle.world_model.specs.Item.{Answer, deed_at}
 use Rattle.world_model.specs.World.{World, Reply, followed, no_change, tells}
+use Rattle.world_model.specs.Event.{revokes}
 use Rattle.world_model.specs.PageCalls.{alloc, allocates, bind, binds_to, free, frees, recap, recaps, unbind, unbinds}
 use Rattle.world_model.specs.OwnCalls.{accept, context, put, send}
 use Rattle.world_model.specs.Downloads.{download}
@@ -77,9 +78,16 @@ done w e (Unclaims claim) = unclaims w e claim
 done w e (Downloads claim address words) = no_change w
 done w e (Loads page) = loads w e page
 
--- A refused call is answered, and nothing else happens. A granted one is answered, and then comes what it does.
+-- An environment of which a caller wants a page is asked for one within two quanta, if nothing is pending for it.
+abbrev pub asks_one : ℕ → World → Reply
+asks_one who w =
+    if is_none (w.book.pending who) then revokes who 1 (w.book.time + 2 * w.book.quantum) w else no_change w
+
+-- A refused call is answered, and nothing else happens. One that is to be made again is answered, and another
+-- environment is asked. A granted one is answered, and then comes what it does.
 abbrev pub reply_by_verdict : World → ℕ → Verdict → Reply
 reply_by_verdict w e (Refuse code value) = tells e (Answer (Refuse code value)) w
+reply_by_verdict w e (Again who) = followed (tells e (Answer (Again who)) w) (asks_one who w)
 reply_by_verdict w e (Grant value) = followed (tells e (Answer (Grant value)) w) (done w e (deed_at (w.solos e) value))
 
 abbrev pub reply_to : World → ℕ → Option Call → Reply

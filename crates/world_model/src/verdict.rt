@@ -3,11 +3,16 @@ ghost use Rattle.std.specs.Prelude.{◌≡◌};
 
 use crate::code::Code;
 
+/// The code of a call that is to be made again, since another environment is asked for a page (`docs/KERNEL.md`).
+pub const AGAIN: u32 = 22;
+
 /// The kernel's verdict on a call (`docs/KERNEL.md`).
 #[derive(Clone, Copy)]
 pub enum Verdict {
     /// The call is refused, with a code and a value, 0 where no value is named.
     Refuse(Code, u32),
+    /// No page is free: the environment of this number is asked for one, and the call is to be made again.
+    Again(u8),
     /// The call is granted, with a value.
     Grant(u32),
 }
@@ -50,6 +55,7 @@ impl Verdict {
     {
         match self {
             Verdict::Refuse(code, _) => code.number(),
+            Verdict::Again(_) => AGAIN,
             Verdict::Grant(_) => 0,
         }
     }
@@ -60,6 +66,7 @@ impl Verdict {
     {
         match self {
             Verdict::Refuse(_, value) | Verdict::Grant(value) => value,
+            Verdict::Again(who) => u32::from(who),
         }
     }
 }
