@@ -29,14 +29,14 @@ pub struct Slots {
 
 impl Model for Slots {
     ghost use Rattle.std.specs.Prelude.{◌<◌, ◌≤◌, All, length};
-    ghost use Rattle.aegis_limits.specs.Limits.{most_slots};
+    ghost use Rattle.aegis_limits.specs.Limits.{most_quantum, most_slots};
     ghost use Rattle.slot_vector.specs.Slices.{Slices, IsNumbered, RunsByNumber};
 
     ghost Value = { Slices };
 
     ghost view = { λ s. record { slots = s.slots.items; quantum = s.quantum; cursor = s.cursor; runner = s.runner; excess = s.excess } };
 
-    ghost invariant = { λ s. (s.cursor < length s.slots.items) × (length s.slots.items ≤ most_slots) × (0 < s.quantum) × RunsByNumber s.runner × All IsNumbered s.slots.items };
+    ghost invariant = { λ s. (s.cursor < length s.slots.items) × (length s.slots.items ≤ most_slots) × (0 < s.quantum) × RunsByNumber s.runner × All IsNumbered s.slots.items × (s.quantum ≤ most_quantum) };
 }
 
 impl Slots {
@@ -267,9 +267,10 @@ impl Slots {
         self.excess.of(env)
     }
 
-    /// The ticks of a quantum.
+    /// The ticks of a quantum, at most `MOST_QUANTUM`.
     pub fn quantum(&self) -> u32
-        ensures { result ≡ self.now.quantum }
+        ensures quantum { result ≡ self.now.quantum }
+        ensures most { result ≤ most_quantum }
     {
         self.quantum
     }

@@ -32,6 +32,7 @@ invariant_of-self c = (
   c.self.invariant.2,
   c.in-Some.ensures.numbered,
   c.self.invariant.4,
+  c.self.invariant.5,
 )
 
 pub returns-then-owed-eq0-clause-turn : goal.returns-then-owed-eq0-clause-turn
@@ -49,6 +50,7 @@ invariant_of-self-2 c = (
   c.self.invariant.2,
   c.self.invariant.3,
   c.self.invariant.4,
+  c.self.invariant.5,
 )
 
 pub returns-clause-turn : goal.returns-clause-turn
