@@ -2,7 +2,7 @@
 use Rattle.std.specs.Prelude.{ℕ, List, [], Option, unwrap_or}
 use Rattle.kernel_journal.specs.Ledger.{Ledger}
 use Rattle.mips_exec.specs.declared.registers.Cpu.{Cpu}
-use Rattle.bind_book.specs.declared.binding.Binding.{Binding}
+use Rattle.bind_book.specs.Stripe.{Stripes}
 use Rattle.filter_tree.specs.ClaimBook.{ClaimBook}
 use Rattle.guest_memory.specs.Look.{look}
 use Rattle.guest_memory.specs.Space.{SpaceValue, lookup}
@@ -27,11 +27,11 @@ abbrev pub with_entry : Shown → List (List ℕ) → Cpu → Environments → S
 with_entry b frames cpu roster = record b { frames = frames; cpu = cpu; roster = roster }
 
 -- what an environment sees: its guaranteed mappings, and its bindings
-abbrev pub space_in : List (Option Binding) → List Environment → ℕ → SpaceValue
+abbrev pub space_in : Stripes → List Environment → ℕ → SpaceValue
 space_in binds list e = record { mappings = mappings_of list e; binds = binds; number = e }
 
 -- where the VPNs of an environment lead, over physical memory
-abbrev pub look_in : List (List ℕ) → List (Option Binding) → List Environment → ℕ → ℕ → Option Mapped
+abbrev pub look_in : List (List ℕ) → Stripes → List Environment → ℕ → ℕ → Option Mapped
 look_in frames binds list e = look frames (lookup (space_in binds list e))
 
 -- the environments once one of them puts bytes of its memory on its console, by where its VPNs lead

@@ -1,14 +1,16 @@
 //! The parts of a board before it runs.
-ghost use Rattle.std.specs.Prelude.{◌≡◌, ◌≤◌, ◌<◌, ◌+◌, ◌*◌, None, IfOk, length, replicate};
+ghost use Rattle.std.specs.Prelude.{◌≡◌, ◌≤◌, ◌<◌, ◌+◌, IfOk, length, replicate};
 ghost use Rattle.std.specs.Option.{option_map};
-ghost use Rattle.aegis_limits.specs.Limits.{least_pages, most_pages, most_slots, most_environments, most_stripe_rows};
+ghost use Rattle.aegis_limits.specs.Limits.{least_pages, most_pages, most_slots};
+ghost use Rattle.aegis_limits.specs.VersionLimits.{most_environments_of};
+ghost use Rattle.bind_book.specs.Stripe.{empty_stripes};
 ghost use Rattle.frame_store.specs.Pages.{zeroed};
 ghost use Rattle.page_book.specs.declared.row.PageRow.TheVariants.{Free};
 ghost use Rattle.world_model.specs.Book.{own_hold};
 ghost use Rattle.run_model.specs.Boot.{own_row, own_rows};
 ghost use Rattle.board_model.specs.Doing.{with_rows};
 
-use aegis_limits::OutOfMemory;
+use aegis_limits::{OutOfMemory, Version};
 use bind_book::Bindings;
 use frame_store::Frames;
 use kernel_journal::{Journal, Row};
@@ -56,15 +58,16 @@ pub fn boot_journal(alloc: Global, slots: &[Option<u8>]) -> Result<Journal, OutO
 /// So many pages of zeros, of which nobody owns one and none of so many environments has bound one.
 pub fn bare_memory(
     alloc: Global,
+    version: Version,
     pages: u32,
     envs: u8,
 ) -> Result<(Frames, Pages, Bindings), OutOfMemory>
     requires pages { least_pages ≤ pages × pages ≤ most_pages }
-    requires envs { envs ≤ most_environments }
-    ensures { IfOk result (λ m. (m.0 ≡ zeroed pages) × (m.1 ≡ replicate pages Free) × (m.2 ≡ replicate (envs * most_stripe_rows) None)) }
+    requires envs { envs ≤ most_environments_of version }
+    ensures { IfOk result (λ m. (m.0 ≡ zeroed pages) × (m.1 ≡ replicate pages Free) × (m.2 ≡ empty_stripes version envs)) }
 {
     let frames = Frames::new(alloc, pages)?;
     let rows = Pages::new(alloc, pages)?;
-    let bindings = Bindings::new(alloc, envs)?;
+    let bindings = Bindings::new(alloc, envs, version)?;
     Ok((frames, rows, bindings))
 }

@@ -1,5 +1,5 @@
 -- What the runner does to its bindings, on the world that is shown.
-use Rattle.std.proofs.Common.{◌≡◌, ◌≢◌, ℕ, List, [], ◌∷◌, Option, Some, refl, sym, ◌∙◌, ap, arith, subst, rules}
+use Rattle.std.proofs.Common.{◌≡◌, ◌≢◌, ℕ, ◌+◌, List, [], ◌∷◌, length, Option, Some, refl, sym, ◌∙◌, ap, arith, subst, rules}
 use Rattle.std.specs.Prelude.{slice_set}
 use Rattle.std.proofs.lemmas.Bool.{eq-eqb}
 use Rattle.std.proofs.lemmas.Option.{slice_get_within}
@@ -12,7 +12,7 @@ use Rattle.page_book.specs.Rows.{row_in}
 use Rattle.bind_book.specs.declared.binding.Binding.{Binding}
 use Rattle.bind_book.specs.Stripe.{HasStripe, is_bound, stripe_place, row_of, stripes}
 use Rattle.bind_book.proofs.Rows.{row_within}
-use Rattle.page_laws.specs.Sight.{Sees, seen_if}
+use Rattle.page_laws.specs.Sight.{Sees, seen_if, seen_in}
 use Rattle.page_laws.proofs.Sights.{binder_sees, unbinder_loses}
 use Rattle.world_model.specs.declared.call.Deed.TheVariants.{Binds, Unbinds}
 use Rattle.world_model.specs.declared.verdict.Verdict.TheVariants.{Grant}
@@ -28,6 +28,7 @@ use Rattle.board_model.specs.Shown.{Shown}
 use Rattle.board_model.specs.Showing.{world_of, book_of, solo_of, solo_or_absent}
 use Rattle.board_model.specs.Sound.{IsSoundBoard, IsOwned}
 use Rattle.board_model.specs.Doing as doing
+use Rattle.board_model.proofs.Booked.{has_stripe}
 use Rattle.board_model.proofs.Losing.{resighted}
 use Rattle.board_model.proofs.PageServing.{own_sees}
 use Rattle.board_model.proofs.Parts.{one_given, set_here, set_else}
@@ -55,12 +56,17 @@ bytes_owned b page sound owned = by_row (row_in b.pages page) refl owned
 
 module _ (b : Shown) (e : ℕ) (x : Environment) (r : Runs b e x) (sound : IsSoundBoard b) where
   striped : HasStripe b.binds e
-  striped = omega (arith, sound.books.striped, slice_get_within b.roster.list e x r.at)
+  striped =
+      let there = slice_get_within b.roster.list e x r.at in
+      has_stripe b.binds (length b.roster.list + b.roster.spare) e sound.books.striped (omega (arith, there))
+
+  its_version : (solo_of b e).version ≡ b.binds.version
+  its_version = ap (λ (o : Option Environment). (solo_or_absent b e o).version) r.at
 
   -- Where the runner has other bindings, and is answered.
-  module _ (binds : List (Option Binding)) (mine : ℕ → Option Binding) (v : ℕ) (is : (i n : ℕ) → stripes binds i n ≡ set_at e mine (stripes b.binds) i n) where
+  module _ (rows : List (Option Binding)) (mine : ℕ → Option Binding) (v : ℕ) (is : (i n : ℕ) → stripes (record b.binds { rows = rows }) i n ≡ set_at e mine (stripes b.binds) i n) where
     abbrev rebound : Shown
-    rebound = doing.after_answer (record b { binds = binds }) (Grant v)
+    rebound = doing.after_answer (record b { binds = record b.binds { rows = rows } }) (Grant v)
 
     own_stripe : (n : ℕ) → stripe_of rebound e n ≡ mine n
     own_stripe n = is e n ∙ (λ k. set_here e mine (stripes b.binds) k n)
@@ -72,7 +78,8 @@ module _ (b : Shown) (e : ℕ) (x : Environment) (r : Runs b e x) (sound : IsSou
     rebound_book = λ k. record (book_of b) { binds = λ i n. is i n k }
 
     rebound_others : (i : ℕ) → i ≢ e → solo_of rebound i ≡ solo_of b i
-    rebound_others i ne = search (rules, same_solo, binds, other_stripe)
+    rebound_others i ne =
+        same_solo i rebound b (record { version = refl; record_is = refl; rings = refl; idles = r.runs.others i ne; idled = r.runs.others i ne; pages = refl; binds = λ k n. other_stripe i n ne k; sights = λ k p. seen_in i (row_in b.pages) (λ n. other_stripe i n ne k) (page_at b.frames) p })
 
     rebound_seen : (s : Solo) → Sees e (row_in b.pages) mine (page_at b.frames) s → solo_of rebound e ≡ record (resighted (runner_solo b e x) s) { cpu = answered_cpu (Grant v) b.cpu }
     rebound_seen s seen =
@@ -87,14 +94,15 @@ module _ (b : Shown) (e : ℕ) (x : Environment) (r : Runs b e x) (sound : IsSou
   -- Bind.
   pub binds : (y : Binding) (word v : ℕ) → MayBind (world_of b) e y word → Serves b e (deeded (Binds y word) v (solo_of b e)) (done (world_of b) e (Binds y word)) (doing.after_grant b e v (Binds y word))
   binds y word v may =
-      let mine = set_at (row_of y.vpn) (Some y) (stripes b.binds e) in
-      let rows = slice_set b.binds (stripe_place e (row_of y.vpn)) (Some y) in
-      let set = stripe_set b.binds e (row_of y.vpn) (Some y) striped (row_within y.vpn) in
+      let row = row_of b.binds.version y.vpn in
+      let mine = set_at row (Some y) (stripes b.binds e) in
+      let rows = slice_set b.binds.rows (stripe_place b.binds.version e row) (Some y) in
+      let set = stripe_set b.binds e row (Some y) striped (row_within b.binds.version y.vpn) in
       let sees = binder_sees e y (row_in b.pages) (stripe_of b e) (page_at b.frames) (runner_solo b e x) (own_sees b e x) in
       let owned : IsOwned (row_in b.pages y.page) = subst IsOwned (sym may.right.owned) tt in
       let theirs = calls.page_bytes (world_of b) y.page in
       record {
-        book = rebound_book rows mine v set;
+        book = rebound_book rows mine v set ∙ (λ k. record (book_of b) { binds = calls.with_binding (sym its_version k) e y (stripes b.binds) });
         count = refl;
         solos = one_given (solo_of b) (solo_of (doing.after_grant b e v (Binds y word))) e (deeded (Binds y word) v (solo_of b e)) (Gained y.page y.writable theirs ∷ [])
             (rebound_seen rows mine v set (gained y.page (page_at b.frames y.page) (bound y (runner_solo b e x))) sees
@@ -110,11 +118,11 @@ module _ (b : Shown) (e : ℕ) (x : Environment) (r : Runs b e x) (sound : IsSou
   -- Unbind.
   pub unbinds : (vpn v : ℕ) → Serves b e (deeded (Unbinds vpn) v (solo_of b e)) (done (world_of b) e (Unbinds vpn)) (doing.after_grant b e v (Unbinds vpn))
   unbinds vpn v =
-      let mine = calls.without_number vpn (stripes b.binds e) in
-      let rows = (doing.with_unbound b e vpn).binds in
-      let set = stripe_without b.binds e vpn striped (row_within vpn) in
+      let mine = calls.without_number b.binds.version vpn (stripes b.binds e) in
+      let rows = (doing.with_unbound b e vpn).binds.rows in
+      let set = stripe_without b.binds e vpn striped (row_within b.binds.version vpn) in
       let sees = unbinder_loses e vpn (row_in b.pages) (stripe_of b e) (page_at b.frames) (runner_solo b e x) (own_sees b e x) in
-      changes_one refl (rebound_book rows mine v set) refl
+      changes_one refl (rebound_book rows mine v set ∙ (λ k. record (book_of b) { binds = set_at e (calls.without_number (sym its_version k) vpn (stripes b.binds e)) (stripes b.binds) })) refl
       (rebound_seen rows mine v set (after_unbind vpn (runner_solo b e x)) sees
       ∙ (λ k. record (sym (unbound_keeps vpn (runner_solo b e x)) k) { cpu = answered_cpu (Grant v) b.cpu })
       ∙ deeded_seen b e x r (Unbinds vpn) v)

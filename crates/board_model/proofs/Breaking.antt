@@ -48,6 +48,7 @@ module _ (b : Shown) (page : ℕ) (row : PageRow) (but : Option ℕ) (within : p
   -- whoever had bound the page loses it, but for its owner
   pub broken_else : IsSoundBoard b → (e : ℕ) → is_owned_by e (row_in b.pages page) ≡ true → (i : ℕ) → i ≢ e → but ≢ Some i → is_owned_by i row ≡ false → solo_of now i ≡ absorb_all (solo_of b i) (calls.lost_bindings (book_of b) page i)
   broken_else sound e owns i ne other after = dropped i b now (calls.lost_bindings (book_of b) page i) (record {
+    version = refl;
     record_is = refl;
     rings = refl;
     cpu = λ kept. refl;

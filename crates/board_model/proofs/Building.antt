@@ -1,5 +1,5 @@
 -- A board without programs, and one with one more.
-use Rattle.std.proofs.Common.{subst, ◌≡◌, ◌≢◌, ◌≤◌, ◌<◌, ℕ, zero, suc, ◌+◌, ◌-◌, ◌*◌, List, [], ◌∷◌, ◌++◌, length, map, replicate, Bool, true, false, Option, Some, None, IfSome, inl, inr, refl, sym, ◌∙◌, ap, arith, rules}
+use Rattle.std.proofs.Common.{subst, ◌≡◌, ◌≢◌, ◌≤◌, ◌<◌, ℕ, zero, suc, ◌+◌, ◌-◌, List, [], ◌∷◌, ◌++◌, length, map, replicate, Bool, true, false, Option, Some, None, IfSome, inl, inr, refl, sym, ◌∙◌, ap, arith, rules}
 use Rattle.std.specs.Prelude.{◌==◌, ◌&&◌, filter, slice_get, All}
 use Rattle.std.specs.List.{list_all}
 use Rattle.filter_tree.specs.ClaimBook.{RowValue, is_of_env}
@@ -16,13 +16,13 @@ use Rattle.page_book.specs.declared.row.PageRow.TheVariants.{Free, Guaranteed, O
 use Rattle.page_book.specs.Row.{is_owned_by, owner_of}
 use Rattle.page_book.specs.Rows.{free_below, free_pages, row_in}
 use Rattle.page_book.proofs.Owners.{owner_is}
-use Rattle.bind_book.specs.declared.binding.Binding.{Binding}
-use Rattle.bind_book.specs.Stripe.{is_bound, stripes}
+use Rattle.bind_book.specs.Stripe.{Stripes, empty_stripes, is_bound, stripes}
 use Rattle.bind_book.proofs.Rows.{empty_row}
 use Rattle.env_frames.specs.declared.mapping.Mapping.{Mapping}
 use Rattle.env_frames.specs.Context.{no_handlers}
 use Rattle.slot_vector.specs.Slices as vector
-use Rattle.aegis_limits.specs.Limits.{least_quantum, most_slots, most_environments, most_pages, environment_numbers, most_stripe_rows}
+use Rattle.aegis_limits.specs.declared.version.Version.{Version}
+use Rattle.aegis_limits.specs.Limits.{least_quantum, most_slots, most_environments, most_pages, environment_numbers}
 use Rattle.boot_image.specs.ImageValue.{ProgramValue, guaranteed_mappings}
 use Rattle.world_model.specs.declared.life.Life.TheVariants.{Live}
 use Rattle.world_model.specs.Book.{is_runner, own_hold}
@@ -36,7 +36,7 @@ use Rattle.board_model.specs.Lines.{free_lines}
 use Rattle.board_model.specs.Rings.{ring_in, rings_of}
 use Rattle.board_model.specs.Shown.{Shown, Environments, mappings_of, no_output}
 use Rattle.board_model.specs.Showing.{book_of, world_of, solo_of, pages_seen, page_seen}
-use Rattle.board_model.specs.Sound.{BooksAgree, AreGuaranteed, LinesAgree, IsSoundBoard, SlotsAgree, PagesAgree, IsLiving, IsUndead, has_own_page}
+use Rattle.board_model.specs.Sound.{AreStripesOf, BooksAgree, AreGuaranteed, LinesAgree, IsSoundBoard, SlotsAgree, PagesAgree, IsLiving, IsUndead, has_own_page}
 use Rattle.board_model.specs.Loading.{AreGiven, AreLeft}
 use Rattle.revocation_book.specs.declared.revocation.Pending.{Pending}
 use Rattle.revocation_book.specs.Backups.{is_loaded}
@@ -82,8 +82,9 @@ free_among rows (suc count) free = rw (free count, free_among rows count free) r
 pub built_free : (pages : ℕ) → free_pages (replicate pages Free) ≡ pages
 built_free pages = free_among (row_in (replicate pages Free)) (length (replicate pages Free)) (all_alike Free pages) ∙ length-replicate pages Free
 
-pub built_booked : (pages envs : ℕ) → BooksAgree (replicate pages Free) (replicate (envs * most_stripe_rows) None) (record { list = []; spare = envs })
-built_booked pages envs = search (rules, length-replicate, all_alike, empty_row)
+pub built_booked : (v : Version) (pages envs : ℕ) → BooksAgree (replicate pages Free) (empty_stripes v envs) (record { list = []; spare = envs })
+unfolding AreStripesOf
+built_booked v pages envs = search (rules, length-replicate, all_alike, empty_row)
 
 own_slots : (owners : List (Option ℕ)) (k : ℕ) → vector.hold_at (map (option_map own_hold) owners) k ≡ boot_slot owners k
 own_slots [] k = refl
@@ -99,11 +100,11 @@ abbrev no_backups : List ℕ
 no_backups = []
 
 -- A board without programs.
-abbrev pub built : ℕ → ℕ → ℕ → List (Option ℕ) → Cpu → Ledger → Shown
-built pages quantum envs owners cpu ledger = record {
+abbrev pub built : Version → ℕ → ℕ → ℕ → List (Option ℕ) → Cpu → Ledger → Shown
+built v pages quantum envs owners cpu ledger = record {
   frames = zeroed pages;
   pages = replicate pages Free;
-  binds = replicate (envs * most_stripe_rows) None;
+  binds = empty_stripes v envs;
   lines = free_lines;
   claims = record { rows = []; next = 0; envs = envs };
   revocations = nothing_asked;
@@ -115,18 +116,18 @@ built pages quantum envs owners cpu ledger = record {
 }
 
 -- what it shows
-pub built_world : (pages quantum envs : ℕ) (owners : List (Option ℕ)) (cpu : Cpu) (ledger : Ledger)
-    → ledger.rows ≡ own_rows owners (length owners) → world_of (built pages quantum envs owners cpu ledger) ≡ bare_world pages quantum owners
-built_world pages quantum envs owners cpu ledger rows =
-    let b = built pages quantum envs owners cpu ledger in
-    worlds (world_of b) (bare_world pages quantum owners)
+pub built_world : (v : Version) (pages quantum envs : ℕ) (owners : List (Option ℕ)) (cpu : Cpu) (ledger : Ledger)
+    → ledger.rows ≡ own_rows owners (length owners) → world_of (built v pages quantum envs owners cpu ledger) ≡ bare_world v pages quantum owners
+built_world v pages quantum envs owners cpu ledger rows =
+    let b = built v pages quantum envs owners cpu ledger in
+    worlds (world_of b) (bare_world v pages quantum owners)
     (λ i. record (book_of b) {
       slot_count = length-map owners (option_map own_hold) i;
       slots = λ k. own_slots owners k i;
       excess = λ e. all_alike 0 environment_numbers e i;
       page_count = length-replicate pages Free i;
       pages = λ page. all_alike Free pages page i;
-      binds = λ e row. empty_row (envs * most_stripe_rows) e row i;
+      binds = λ e row. empty_row v envs e row i;
       lines = λ line. all_alike None most_lines line i;
       pending = λ e. all_alike no_pending environment_numbers e i;
       backups = λ e. all_alike no_backups environment_numbers e i;
@@ -153,13 +154,13 @@ module _ (r : Environments) (x : Environment) (lives : x.life ≡ Live) (room : 
   added_wired lines wired = search (rules, if_both, still_live)
 
 -- A board without programs is sound.
-pub built_sound : (pages quantum envs : ℕ) (owners : List (Option ℕ)) (cpu : Cpu) (ledger : Ledger) → pages ≤ most_pages → least_quantum ≤ quantum
-    → length owners ≤ most_slots → envs ≤ most_environments → All (λ owner. IfSome owner (λ e. e < envs)) owners → IsSoundBoard (built pages quantum envs owners cpu ledger)
-built_sound pages quantum envs owners cpu ledger few long slots most all = record {
+pub built_sound : (v : Version) (pages quantum envs : ℕ) (owners : List (Option ℕ)) (cpu : Cpu) (ledger : Ledger) → pages ≤ most_pages → least_quantum ≤ quantum
+    → length owners ≤ most_slots → envs ≤ most_environments → All (λ owner. IfSome owner (λ e. e < envs)) owners → IsSoundBoard (built v pages quantum envs owners cpu ledger)
+built_sound v pages quantum envs owners cpu ledger few long slots most all = record {
   few = omega arith;
   book = built_manned quantum envs owners long slots all;
   memory = built_parted pages few;
-  books = built_booked pages envs;
+  books = built_booked v pages envs;
   lines = built_wired;
   claims = record { owned = refl; count = omega arith };
   revocations = record {
@@ -171,7 +172,7 @@ built_sound pages quantum envs owners cpu ledger few long slots most all = recor
 }
 
 -- Pages are given to the environment that is added.
-module _ (r : Environments) (x : Environment) (count : ℕ) (pages given : List PageRow) (frames new : List (List ℕ)) (binds : List (Option Binding)) (gives : AreGiven (length r.list) count pages given frames new) where
+module _ (r : Environments) (x : Environment) (count : ℕ) (pages given : List PageRow) (frames new : List (List ℕ)) (binds : Stripes) (gives : AreGiven (length r.list) count pages given frames new) where
   abbrev its_row : ℕ → Type 0
   its_row p = IsGivenRow (length r.list) (row_in pages p) (row_in given p)
 
@@ -200,7 +201,7 @@ module _ (r : Environments) (x : Environment) (count : ℕ) (pages given : List 
   added_booked booked lives room =
       let count_is : length r.list + r.spare ≡ length (r.list ++ x ∷ []) + (r.spare - 1) = omega (arith, one_longer r x lives room, room) in
       record {
-        striped = booked.striped ∙ ap (λ n. n * most_stripe_rows) count_is;
+        striped = subst (AreStripesOf binds) count_is booked.striped;
         owners = λ page e is. by_row page e is (becomes page);
         binders = λ e row y is. still_live r x lives room e (booked.binders e row y is);
         bound = λ e row y is.
@@ -293,13 +294,13 @@ module _ (b : Shown) (x : Environment) (frames : List (List ℕ)) (pages : List 
   seen_alike : (i page : ℕ) → sights_of (with_one b x frames pages) i page ≡ sights_of b i page
   seen_alike i page = grind (arith, owned_alike, nothing_of, nowhere_bound)
 
-  added_here : solo_of (with_one b x frames pages) (length b.roster.list) ≡ absorb_all (solo_of b (length b.roster.list)) (only (length b.roster.list) (record_items (length b.roster.list) (Some p)) (length b.roster.list))
+  added_here : solo_of (with_one b x frames pages) (length b.roster.list) ≡ absorb_all (solo_of b (length b.roster.list)) (only (length b.roster.list) (record_items b.binds.version (length b.roster.list) (Some p)) (length b.roster.list))
   added_here = search (rules, last_get, only_here, past_get, unrun, unbound, unseen, ringless)
 
-  added_others : (i : ℕ) → i ≢ length b.roster.list → solo_of (with_one b x frames pages) i ≡ absorb_all (solo_of b i) (only (length b.roster.list) (record_items (length b.roster.list) (Some p)) i)
+  added_others : (i : ℕ) → i ≢ length b.roster.list → solo_of (with_one b x frames pages) i ≡ absorb_all (solo_of b i) (only (length b.roster.list) (record_items b.binds.version (length b.roster.list) (Some p)) i)
   added_others i ne =
       like_solo i (with_one b x frames pages) b (search (rules, (other_get b.roster.list x i ne), (left_pages b.pages b.frames frames i (mappings_of b.roster.list i) gives.left (sound.memory.mapped i).its), (seen_alike i)))
-      ∙ ap (absorb_all (solo_of b i)) (sym (only_else (length b.roster.list) i (record_items (length b.roster.list) (Some p)) ne))
+      ∙ ap (absorb_all (solo_of b i)) (sym (only_else (length b.roster.list) i (record_items b.binds.version (length b.roster.list) (Some p)) ne))
 
   pub added_world : world_of (with_one b x frames pages) ≡ with_program (world_of b) p
   added_world = search (rules, more_mappings, length-append, by_env, added_here, added_others)

@@ -99,6 +99,7 @@ module _ (b : Shown) (sound : IsSoundBoard b) (e page : ℕ) (own : is_owned_by 
       by_sight false blind =
           let apart = or_parts (is_owned_by i (row_in b.pages page)) (is_bound page (stripe_of b i)) blind in
           like_solo i now b (record {
+            version = refl;
             record_is = refl;
             rings = refl;
             cpu = λ kept. refl;

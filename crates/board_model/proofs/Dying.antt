@@ -96,6 +96,7 @@ module _ (b : Shown) (e : ℕ) (x : Environment) (r : Runs b e x) (may : MayDie 
 
   dead_others : (i : ℕ) → i ≢ e → solo_of after_death i ≡ absorb_all (solo_of b i) (lost_with (book_of b) e i (length b.pages))
   dead_others i ne = dropped i b after_death (lost_with (book_of b) e i (length b.pages)) (record {
+    version = refl;
     record_is = changed_else (doing.dead_frame cause) b.roster.list e i ne;
     rings = rings_gone_else b.claims e i ne;
     cpu = λ kept. let idles : is_runner i after_death.slots.runner ≡ false = rw r.runs.its refl in rw (idles, r.runs.others i ne) refl;
@@ -118,6 +119,7 @@ module _ (b : Shown) (e : ℕ) (x : Environment) (r : Runs b e x) (may : MayDie 
         let ended : (without_env e b.slots).runner ≡ None = rw r.runs.its refl in
         let forgiven : excess_of (without_env e b.slots).excess ≡ set_at e 0 (excess_of b.slots.excess) = excess_set b.slots.excess e 0 may.numbered in
         λ k. record {
+          version = b.binds.version;
           slot_count = length-map b.slots.slots (hold_without e) k;
           slots = λ n. hold_at-released e b.slots.slots n k;
           quantum = b.slots.quantum;

@@ -49,3 +49,5 @@ mod TransferServing
 pub mod Turning
 pub mod Turns
 pub mod Wired
+mod Pressing
+mod Revoking

@@ -3,6 +3,7 @@ use Rattle.std.proofs.Common.{◌≡◌, ℕ, ◌<◌, List, length, true, Optio
 use Rattle.std.specs.Option.{option_map, option_or}
 use Rattle.frame_store.specs.Pages.{page_at}
 use Rattle.page_book.specs.declared.row.PageRow.{PageRow}
+use Rattle.aegis_limits.specs.declared.version.Version.{Version}
 use Rattle.bind_book.specs.declared.binding.Binding.{Binding}
 use Rattle.bind_book.specs.Stripe.{binding_at, is_bound}
 use Rattle.env_frames.specs.declared.mapping.Mapping.{Mapping}
@@ -13,26 +14,26 @@ use Rattle.page_laws.specs.Sight.{seen_in}
 use Rattle.board_model.specs.Showing.{page_seen, pages_seen}
 use Rattle.board_model.proofs.Pages.{AreInside, page_there, seen_kept, placed}
 
-module _ (frames : List (List ℕ)) (e : ℕ) (pages : ℕ → PageRow) (stripe : ℕ → Option Binding) (ms : List Mapping) (s : Solo)
-    (kept : s.kept ≡ pages_seen frames ms) (binds : s.binds ≡ stripe) (seen : s.seen ≡ seen_in e pages stripe (page_at frames)) where
-  kept_is : (v : ℕ) → kept_at s.kept v ≡ option_map (page_seen frames) (mapping_at ms v)
-  kept_is v = ap (λ ps. kept_at ps v) kept ∙ seen_kept frames ms v
+module _ (v : Version) (frames : List (List ℕ)) (e : ℕ) (pages : ℕ → PageRow) (stripe : ℕ → Option Binding) (ms : List Mapping) (s : Solo)
+    (kept : s.kept ≡ pages_seen frames ms) (binds : s.binds ≡ stripe) (seen : s.seen ≡ seen_in e pages stripe (page_at frames)) (version : s.version ≡ v) where
+  kept_is : (vpn : ℕ) → kept_at s.kept vpn ≡ option_map (page_seen frames) (mapping_at ms vpn)
+  kept_is vpn = ap (λ ps. kept_at ps vpn) kept ∙ seen_kept frames ms vpn
 
-  pub leads_by : (v : ℕ) → leads s v ≡ option_or (option_map (place_at v) (option_map (page_seen frames) (mapping_at ms v))) (option_map bound_place (binding_at stripe v))
-  leads_by v = search (rules, kept_is)
+  pub leads_by : (vpn : ℕ) → leads s vpn ≡ option_or (option_map (place_at vpn) (option_map (page_seen frames) (mapping_at ms vpn))) (option_map bound_place (binding_at v stripe vpn))
+  leads_by vpn = search (rules, kept_is)
 
-  by_binding : (v : ℕ) (y : Option Binding) → ((x : Binding) → y ≡ Some x → (x.page < length frames) × (is_bound x.page stripe ≡ true)) →
+  by_binding : (vpn : ℕ) (y : Option Binding) → ((x : Binding) → y ≡ Some x → (x.page < length frames) × (is_bound x.page stripe ≡ true)) →
       look_through frames (option_map bound_mapping y) ≡ option_map (mapped s) (option_map bound_place y)
-  by_binding v y there = search (rules, page_there)
+  by_binding vpn y there = search (rules, page_there)
 
-  by_mapping : (v : ℕ) (m : Option Mapping) → mapping_at ms v ≡ m → AreInside frames ms → ((x : Binding) → binding_at stripe v ≡ Some x → (x.page < length frames) × (is_bound x.page stripe ≡ true)) →
-      look_through frames (option_or m (option_map bound_mapping (binding_at stripe v))) ≡ option_map (mapped s) (option_or (option_map (place_at v) (option_map (page_seen frames) m)) (option_map bound_place (binding_at stripe v)))
-  by_mapping v None is inside there = by_binding v (binding_at stripe v) there
-  by_mapping v (Some m) is inside there =
-      let at = placed ms v m is in
+  by_mapping : (vpn : ℕ) (m : Option Mapping) → mapping_at ms vpn ≡ m → AreInside frames ms → ((x : Binding) → binding_at v stripe vpn ≡ Some x → (x.page < length frames) × (is_bound x.page stripe ≡ true)) →
+      look_through frames (option_or m (option_map bound_mapping (binding_at v stripe vpn))) ≡ option_map (mapped s) (option_or (option_map (place_at vpn) (option_map (page_seen frames) m)) (option_map bound_place (binding_at v stripe vpn)))
+  by_mapping vpn None is inside there = by_binding vpn (binding_at v stripe vpn) there
+  by_mapping vpn (Some m) is inside there =
+      let at = placed ms vpn m is in
       ap (option_map (λ bytes. record { writable = m.writable; bytes = bytes })) (page_there frames m.page (inside at.0 m at.1.place))
-      ∙ ap (λ (bs : List ℕ). Some (record { writable = m.writable; bytes = bs })) (sym (ap bytes_in (kept_is v ∙ ap (option_map (page_seen frames)) is)))
+      ∙ ap (λ (bs : List ℕ). Some (record { writable = m.writable; bytes = bs })) (sym (ap bytes_in (kept_is vpn ∙ ap (option_map (page_seen frames)) is)))
 
-  pub seen_look : (v : ℕ) → AreInside frames ms → ((x : Binding) → binding_at stripe v ≡ Some x → (x.page < length frames) × (is_bound x.page stripe ≡ true)) →
-      look frames (mapping_in ms stripe) v ≡ sight s v
-  seen_look v inside there = by_mapping v (mapping_at ms v) refl inside there ∙ ap (option_map (mapped s)) (sym (leads_by v))
+  pub seen_look : (vpn : ℕ) → AreInside frames ms → ((x : Binding) → binding_at v stripe vpn ≡ Some x → (x.page < length frames) × (is_bound x.page stripe ≡ true)) →
+      look frames (mapping_in v ms stripe) vpn ≡ sight s vpn
+  seen_look vpn inside there = by_mapping vpn (mapping_at ms vpn) refl inside there ∙ ap (option_map (mapped s)) (sym (leads_by vpn))

@@ -22,8 +22,8 @@ use Rattle.world_model.specs.PageCalls.{lost_if}
 use Rattle.world_model.specs.Solo.{Solo, Ring}
 use Rattle.board_model.specs.declared.roster.Environment.{Environment}
 use Rattle.board_model.specs.Rings.{rings_of}
-use Rattle.board_model.specs.Shown.{Shown, mappings_of}
-use Rattle.board_model.specs.Showing.{solo_of, cpu_seen, pages_seen}
+use Rattle.board_model.specs.Shown.{Shown, mappings_in, mappings_of}
+use Rattle.board_model.specs.Showing.{solo_of, solo_seen, cpu_seen, pages_seen}
 use Rattle.board_model.specs.Sound.{BooksAgree, IsAlive, IsLiving}
 use Rattle.board_model.proofs.Seen.{like_solo, stripe_of, live_shown}
 
@@ -100,6 +100,7 @@ has_none b i books dead = record { binds = λ row. by_binding row (stripe_of b i
 
 -- What one is given of a change of the books, if it lives; one that doesn't sees nothing before and after.
 pub record Drops (i : ℕ) (old new : Shown) (its : List Item) : Type 0 where
+  pub version : new.binds.version ≡ old.binds.version
   pub record_is : slice_get new.roster.list i ≡ slice_get old.roster.list i
   pub rings : rings_of new.claims i ≡ rings_of old.claims i
   pub cpu : (kept : Cpu) → cpu_seen new i kept ≡ cpu_seen old i kept
@@ -111,12 +112,27 @@ pub record Drops (i : ℕ) (old new : Shown) (its : List Item) : Type 0 where
 
 module _ (i : ℕ) (old new : Shown) (its : List Item) (drops : Drops i old new its) where
   live_drops : (x : Environment) → slice_get old.roster.list i ≡ Some x → x.life ≡ Live → solo_of new i ≡ absorb_all (solo_of old i) its
-  live_drops x at lives = search (rules, live_shown)
+  live_drops x at lives =
+      let s : Solo = record (solo_seen old i x) { life = Live } in
+      let sees = drops.sees s refl (record { binds = λ row. refl; seen = λ page. refl }) in
+      let pages = subst (λ ms. pages_seen new.frames ms ≡ pages_seen old.frames ms) (ap mappings_in at) drops.pages in
+      live_shown new i x (drops.record_is ∙ at) lives
+      ∙ (λ k. record s {
+        version = drops.version k;
+        cpu = drops.cpu x.env.cpu k;
+        kept = pages k;
+        binds = λ row. sym (sees.binds row) k;
+        seen = λ page. sym (sees.seen page) k;
+        rings = drops.rings k;
+      })
+      ∙ sym (drops.keeps s refl)
+      ∙ ap (λ (t : Solo). absorb_all t its) (sym (live_shown old i x at lives))
 
   dead_drops : HasNone i (row_in old.pages) (stripe_of old i) → solo_of new i ≡ absorb_all (solo_of old i) its
   dead_drops none =
       let still = drops.none none in
       like_solo i new old (record {
+        version = drops.version;
         record_is = drops.record_is;
         rings = drops.rings;
         cpu = drops.cpu;

@@ -89,6 +89,7 @@ module _ (b : Shown) (e : ℕ) (x : Environment) (r : Runs b e x) (sound : IsSou
 
     taken_others : (i : ℕ) → i ≢ e → solo_of taken i ≡ solo_of b i
     taken_others i ne = dropped i b taken [] (record {
+      version = refl;
       record_is = refl;
       rings = refl;
       cpu = λ kept. rw (r.runs.others i ne) refl;

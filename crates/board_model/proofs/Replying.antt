@@ -6,8 +6,8 @@ use Rattle.world_model.specs.declared.code.Code.{Code}
 use Rattle.world_model.specs.declared.call.Deed.{Deed}
 use Rattle.world_model.specs.declared.call.Deed.TheVariants.{Answers}
 use Rattle.world_model.specs.declared.verdict.Verdict.{Verdict}
-use Rattle.world_model.specs.declared.verdict.Verdict.TheVariants.{Refuse, Grant}
-use Rattle.world_model.specs.Item.{Item, absorb, absorb_all, answered_cpu, deed_at, own_part}
+use Rattle.world_model.specs.declared.verdict.Verdict.TheVariants.{Refuse, Again, Grant}
+use Rattle.world_model.specs.Item.{Item, Answer, absorb, absorb_all, answered_cpu, deed_at, own_part}
 use Rattle.world_model.specs.Solo.{Solo}
 use Rattle.world_model.specs.Step.{Act, acted}
 use Rattle.world_model.specs.Table.{set_at}
@@ -73,7 +73,7 @@ deeded d v s = record (own_part d s) { cpu = answered_cpu (Grant v) s.cpu }
 
 module _ (b : Shown) (e : ℕ) (x : Environment) (r : Runs b e x) where
   pub answered_others : (verdict : Verdict) (i : ℕ) → i ≢ e → solo_of (doing.after_answer b verdict) i ≡ solo_of b i
-  answered_others verdict i ne = same_solo i (doing.after_answer b verdict) b (record { record_is = refl; rings = refl; idles = r.runs.others i ne; idled = r.runs.others i ne; pages = refl; binds = refl; sights = refl })
+  answered_others verdict i ne = same_solo i (doing.after_answer b verdict) b (record { version = refl; record_is = refl; rings = refl; idles = r.runs.others i ne; idled = r.runs.others i ne; pages = refl; binds = refl; sights = refl })
 
   pub answered_seen : (verdict : Verdict) → solo_of (doing.after_answer b verdict) e ≡ record (runner_solo b e x) { cpu = answered_cpu verdict b.cpu }
   answered_seen verdict = runner_seen (doing.after_answer b verdict) e x (record { at = r.at; lives = r.lives; runs = r.runs })
@@ -85,6 +85,10 @@ module _ (b : Shown) (e : ℕ) (x : Environment) (r : Runs b e x) where
   -- a call is refused
   pub refuses : (why : Code) (v : ℕ) → Serves b e (solo_of b e) (reply_by_verdict (world_of b) e (Refuse why v)) (doing.after_answer b (Refuse why v))
   refuses why v = search (rules, one_given, runner_seen, append-nil, answered_seen, answered_others)
+
+  -- a call is to be made again: its answer alone
+  pub again_answered : (who : ℕ) → Serves b e (solo_of b e) (tells e (Answer (Again who)) (world_of b)) (doing.after_answer b (Again who))
+  again_answered who = search (rules, one_given, runner_seen, append-nil, answered_seen, answered_others)
 
   -- a call is answered, and that is all
   pub answers : (v : ℕ) → Serves b e (deeded Answers v (solo_of b e)) (no_change (world_of b)) (doing.after_answer b (Grant v))

@@ -12,7 +12,7 @@ use Rattle.page_book.specs.declared.row.PageRow.TheVariants.{Free, Guaranteed}
 use Rattle.page_book.specs.Rows.{row_in}
 use Rattle.bind_book.specs.declared.binding.Binding.{Binding}
 use Rattle.bind_book.specs.Stripe.{binding_at, is_bound, is_of_page, row_of, stripes}
-use Rattle.bind_book.proofs.Rows.{found_in_row, row_within}
+use Rattle.bind_book.proofs.Rows.{found_in_row, row_most}
 use Rattle.page_laws.specs.Sight.{seen_in}
 use Rattle.page_laws.proofs.Stripes.{bound_somewhere}
 use Rattle.guest_memory.specs.Look.{look, mapping_in}
@@ -42,6 +42,7 @@ sights_of b e = seen_in e (row_in b.pages) (stripes b.binds e) (page_at b.frames
 
 -- an environment whose record, claims, registers, pages and bindings are as they were
 pub record IsLike (i : ℕ) (new old : Shown) : Type 0 where
+  pub version : new.binds.version ≡ old.binds.version
   pub record_is : slice_get new.roster.list i ≡ slice_get old.roster.list i
   pub rings : rings_of new.claims i ≡ rings_of old.claims i
   pub cpu : (kept : Cpu) → cpu_seen new i kept ≡ cpu_seen old i kept
@@ -54,6 +55,7 @@ like_solo i new old like = search rules
 
 -- an environment that neither runs before nor after, and whose record, claims, pages and bindings are as they were
 pub record IsSame (i : ℕ) (new old : Shown) : Type 0 where
+  pub version : new.binds.version ≡ old.binds.version
   pub record_is : slice_get new.roster.list i ≡ slice_get old.roster.list i
   pub rings : rings_of new.claims i ≡ rings_of old.claims i
   pub idles : is_runner i new.slots.runner ≡ false
@@ -63,7 +65,7 @@ pub record IsSame (i : ℕ) (new old : Shown) : Type 0 where
   pub sights : sights_of new i ≡ sights_of old i
 
 pub same_solo : (i : ℕ) (new old : Shown) → IsSame i new old → solo_of new i ≡ solo_of old i
-same_solo i new old same = like_solo i new old (record { record_is = same.record_is; rings = same.rings; cpu = λ kept. rw (same.idles, same.idled) refl; pages = same.pages; binds = same.binds; sights = same.sights })
+same_solo i new old same = like_solo i new old (record { version = same.version; record_is = same.record_is; rings = same.rings; cpu = λ kept. rw (same.idles, same.idled) refl; pages = same.pages; binds = same.binds; sights = same.sights })
 
 -- a runner with a number
 pub record IsNamed (e : ℕ) (runner : Option Runner) : Type 0 where
@@ -78,7 +80,7 @@ abbrev pub runner_solo : Shown → ℕ → Environment → Solo
 runner_solo b e x = record (solo_seen b e x) { life = Live; cpu = b.cpu }
 
 -- a look-up by the parts of what an environment sees
-opened_look : (b : Shown) (e v : ℕ) → look_of b e v ≡ look b.frames (mapping_in (mappings_of b.roster.list e) (stripe_of b e)) v
+opened_look : (b : Shown) (e v : ℕ) → look_of b e v ≡ look b.frames (mapping_in b.binds.version (mappings_of b.roster.list e) (stripe_of b e)) v
 unfolding lookup
 opened_look b e v = refl
 
@@ -97,11 +99,11 @@ pub owned_taken : (row : PageRow) → IsOwned row → row ≢ Free
 owned_taken row owned is = search rules
 
 -- a page that is bound is there, and is bound
-pub bound_there : (b : Shown) (e v : ℕ) (y : Binding) → IsSoundBoard b → binding_at (stripe_of b e) v ≡ Some y → (y.page < length b.frames) × (is_bound y.page (stripe_of b e) ≡ true)
+pub bound_there : (b : Shown) (e v : ℕ) (y : Binding) → IsSoundBoard b → binding_at b.binds.version (stripe_of b e) v ≡ Some y → (y.page < length b.frames) × (is_bound y.page (stripe_of b e) ≡ true)
 bound_there b e v y sound found =
-    let at = found_in_row v (stripe_of b e (row_of v)) y found in
-    let there = row_there b.pages y.page (owned_taken (row_in b.pages y.page) (sound.books.bound e (row_of v) y at)) in
-    (omega (arith, sound.memory.same, there), bound_somewhere y.page (stripe_of b e) (row_of v) (row_within v) (ap (is_of_page y.page) at ∙ eq-eqb y.page y.page refl))
+    let at = found_in_row v (stripe_of b e (row_of b.binds.version v)) y found in
+    let there = row_there b.pages y.page (owned_taken (row_in b.pages y.page) (sound.books.bound e (row_of b.binds.version v) y at)) in
+    (omega (arith, sound.memory.same, there), bound_somewhere y.page (stripe_of b e) (row_of b.binds.version v) (row_most b.binds.version v) (ap (is_of_page y.page) at ∙ eq-eqb y.page y.page refl))
 
 -- What is known where it runs.
 pub record Runs (b : Shown) (e : ℕ) (x : Environment) : Type 0 where
@@ -140,8 +142,8 @@ module _ (b : Shown) (e : ℕ) (x : Environment) (r : Runs b e x) where
   pub its_look : IsSoundBoard b → (v : ℕ) → look_of b e v ≡ sight (runner_solo b e x) v
   its_look sound v =
       opened_look b e v
-      ∙ ap (λ ms. look b.frames (mapping_in ms (stripe_of b e)) v) its_mappings
-      ∙ seen_look b.frames e (row_in b.pages) (stripe_of b e) x.env.mappings (runner_solo b e x) refl refl refl v
+      ∙ ap (λ ms. look b.frames (mapping_in b.binds.version ms (stripe_of b e)) v) its_mappings
+      ∙ seen_look b.binds.version b.frames e (row_in b.pages) (stripe_of b e) x.env.mappings (runner_solo b e x) refl refl refl refl v
       (λ a m at. guaranteed_there b.frames b.pages b.roster.list sound.memory e a m (ap (λ ms. slice_get ms a) its_mappings ∙ at))
       (λ y at. bound_there b e v y sound at)
 

@@ -3,7 +3,7 @@ use Rattle.std.proofs.Common.{◌≡◌, ◌<◌, ℕ, List, length, Option, ari
 use Rattle.kernel_journal.specs.Ledger.{Ledger}
 use Rattle.mips_exec.specs.declared.registers.Cpu.{Cpu}
 use Rattle.page_book.specs.declared.row.PageRow.{PageRow}
-use Rattle.bind_book.specs.declared.binding.Binding.{Binding}
+use Rattle.bind_book.specs.Stripe.{Stripes}
 use Rattle.filter_tree.specs.ClaimBook.{ClaimBook}
 use Rattle.revocation_book.specs.RevocationBook.{RevocationBook}
 use Rattle.slot_vector.specs.Slices.{Slices}
@@ -38,10 +38,14 @@ pub sound_frames : {b : Shown} (new : List (List ℕ)) → length new ≡ length
 sound_frames new same sound = search rules
 
 -- physical memory and its books
-pub sound_memory : {b : Shown} (bytes : List (List ℕ)) (rows : List PageRow) (bound : List (Option Binding)) (claimed : ClaimBook) (loaded : RevocationBook) →
+pub sound_memory : {b : Shown} (bytes : List (List ℕ)) (rows : List PageRow) (bound : Stripes) (claimed : ClaimBook) (loaded : RevocationBook) →
     PagesAgree bytes rows b.roster.list → BooksAgree rows bound b.roster → AreClaimed claimed rows b.roster → RevocationsAgree loaded rows → IsSoundBoard b →
     IsSoundBoard (record b { frames = bytes; pages = rows; binds = bound; claims = claimed; revocations = loaded })
 sound_memory bytes rows bound claimed loaded parted booked are asked sound = search rules
+
+-- the bindings
+pub sound_binds : {b : Shown} (bound : Stripes) → BooksAgree b.pages bound b.roster → IsSoundBoard b → IsSoundBoard (record b { binds = bound })
+sound_binds bound booked sound = search rules
 
 -- the interrupt lines
 pub sound_lines : {b : Shown} (owners : List (Option ℕ)) → LinesAgree owners b.roster.list → IsSoundBoard b → IsSoundBoard (record b { lines = owners })

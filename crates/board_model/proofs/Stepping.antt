@@ -31,7 +31,7 @@ use Rattle.world_model.specs.Table.{set_at}
 use Rattle.world_model.specs.Book.{running, sees}
 use Rattle.world_model.specs.Call.{exit_number}
 use Rattle.world_model.specs.Upcalls.{raise}
-use Rattle.call_verdicts.specs.Granted.{GrantedMay}
+use Rattle.call_verdicts.specs.Granted.{AgainAsks, GrantedMay}
 use Rattle.filter_tree.specs.Laws.{FirstIsNumbered}
 use Rattle.world_model.specs.Item.{Step as AStep, absorb, absorb_all}
 use Rattle.world_model.specs.PageCalls.{left_at, left_if}
@@ -59,7 +59,7 @@ use Rattle.board_model.proofs.Serving.{Leaves, Serves, told, call_serves, called
 use Rattle.board_model.proofs.Stores.{own_kept, other_kept, guaranteed_sights, sights_stay, put_table, bound_kept}
 
 -- the mapping that a VPN has, by the parts of what an environment sees
-opened_lookup : (b : Shown) (e v : ℕ) → lookup_of b e v ≡ mapping_in (mappings_of b.roster.list e) (stripe_of b e) v
+opened_lookup : (b : Shown) (e v : ℕ) → lookup_of b e v ≡ mapping_in b.binds.version (mappings_of b.roster.list e) (stripe_of b e) v
 unfolding lookup
 opened_lookup b e v = refl
 
@@ -109,7 +109,7 @@ module _ (b : Shown) (e : ℕ) (x : Environment) (r : Runs b e x) (sound : IsSou
   -- an environment that goes on as it is
   as_was : (i : ℕ) (frames : List (List ℕ)) → i ≢ e → pages_seen frames (mappings_of b.roster.list i) ≡ pages_seen b.frames (mappings_of b.roster.list i)
       → ((p : ℕ) → seen_in i (row_in b.pages) (stripe_of b i) (page_at frames) p ≡ sights_of b i p) → solo_of (struck b cpu frames) i ≡ solo_of b i
-  as_was i frames ne pages sights = same_solo i (struck b cpu frames) b (record { record_is = refl; rings = refl; idles = r.runs.others i ne; idled = r.runs.others i ne; pages = pages; binds = refl; sights = λ k p. sights p k })
+  as_was i frames ne pages sights = same_solo i (struck b cpu frames) b (record { version = refl; record_is = refl; rings = refl; idles = r.runs.others i ne; idled = r.runs.others i ne; pages = pages; binds = refl; sights = λ k p. sights p k })
 
   -- through a guaranteed mapping
   kept_strikes : (m : Mapping) → mapping_at (mappings_of b.roster.list e) (w.address / page_size) ≡ Some m → Strikes b e x cpu (written_through b.frames w (Some m)) (Some (its_store w))
@@ -125,12 +125,12 @@ module _ (b : Shown) (e : ℕ) (x : Environment) (r : Runs b e x) (sound : IsSou
   }
 
   -- through a binding
-  module _ (y : Binding) (found : binding_at (stripe_of b e) (w.address / page_size) ≡ Some y) where
+  module _ (y : Binding) (found : binding_at b.binds.version (stripe_of b e) (w.address / page_size) ≡ Some y) where
     there : y.page < length b.frames
     there = (bound_there b e (w.address / page_size) y sound found).0
 
     lent : IsOwned (row_in b.pages y.page)
-    lent = sound.books.bound e (row_of (w.address / page_size)) y (found_in_row (w.address / page_size) (stripe_of b e (row_of (w.address / page_size))) y found)
+    lent = sound.books.bound e (row_of b.binds.version (w.address / page_size)) y (found_in_row (w.address / page_size) (stripe_of b e (row_of b.binds.version (w.address / page_size))) y found)
 
     table : (p : ℕ) → page_at (memory_after b w y.page) p ≡ set_at y.page (with_bytes (page_at b.frames y.page) (w.address % page_size) w.bytes) (page_at b.frames) p
     table = put_table b.frames y.page (w.address % page_size) w.bytes there
@@ -191,7 +191,7 @@ module _ (b : Shown) (e : ℕ) (x : Environment) (r : Runs b e x) (sound : IsSou
   none_strikes = record { own_pages = refl; own_sights = refl; others = λ i ne. as_was i b.frames ne refl (λ p. refl) }
 
   -- by the mapping and the binding of the VPN
-  strikes_by : (m : Option Mapping) (y : Option Binding) → mapping_at (mappings_of b.roster.list e) (w.address / page_size) ≡ m → binding_at (stripe_of b e) (w.address / page_size) ≡ y →
+  strikes_by : (m : Option Mapping) (y : Option Binding) → mapping_at (mappings_of b.roster.list e) (w.address / page_size) ≡ m → binding_at b.binds.version (stripe_of b e) (w.address / page_size) ≡ y →
       Strikes b e x cpu (written_through b.frames w (option_or m (option_map bound_mapping y))) (option_map (store_through w) (option_or (option_map (place_at (w.address / page_size)) (option_map (page_seen b.frames) m)) (option_map bound_place y)))
   strikes_by (Some m) y is found = kept_strikes m is
   strikes_by None (Some y) is found = bound_strikes y found
@@ -201,14 +201,14 @@ module _ (b : Shown) (e : ℕ) (x : Environment) (r : Runs b e x) (sound : IsSou
   strikes =
       let v = w.address / page_size in
       let ms = mappings_of b.roster.list e in
-      let leads = leads_by b.frames e (row_in b.pages) (stripe_of b e) ms (runner_solo b e x) (ap (pages_seen b.frames) (sym ms_are)) refl refl v in
+      let leads = leads_by b.binds.version b.frames e (row_in b.pages) (stripe_of b e) ms (runner_solo b e x) (ap (pages_seen b.frames) (sym ms_are)) refl refl refl v in
       subst (λ o. Strikes b e x cpu (written_through b.frames w o) (store_of (runner_solo b e x) (Some w))) (sym (opened_lookup b e v))
-      (subst (λ o. Strikes b e x cpu (written_through b.frames w (option_or (mapping_at ms v) (option_map bound_mapping (binding_at (stripe_of b e) v)))) (option_map (store_through w) o)) (sym leads)
-      (strikes_by (mapping_at ms v) (binding_at (stripe_of b e) v) refl refl))
+      (subst (λ o. Strikes b e x cpu (written_through b.frames w (option_or (mapping_at ms v) (option_map bound_mapping (binding_at b.binds.version (stripe_of b e) v)))) (option_map (store_through w) o)) (sym leads)
+      (strikes_by (mapping_at ms v) (binding_at b.binds.version (stripe_of b e) v) refl refl))
 
 -- whatever the step writes
 wrote_strikes : (b : Shown) (e : ℕ) (x : Environment) → Runs b e x → IsSoundBoard b → (cpu : Cpu) (w : Option Write) → Strikes b e x cpu (frames_after b.frames (lookup_of b e) w) (store_of (runner_solo b e x) w)
-wrote_strikes b e x r sound cpu None = record { own_pages = refl; own_sights = refl; others = λ i ne. same_solo i (struck b cpu b.frames) b (record { record_is = refl; rings = refl; idles = r.runs.others i ne; idled = r.runs.others i ne; pages = refl; binds = refl; sights = refl }) }
+wrote_strikes b e x r sound cpu None = record { own_pages = refl; own_sights = refl; others = λ i ne. same_solo i (struck b cpu b.frames) b (record { version = refl; record_is = refl; rings = refl; idles = r.runs.others i ne; idled = r.runs.others i ne; pages = refl; binds = refl; sights = refl }) }
 wrote_strikes b e x r sound cpu (Some w) = strikes b e x r sound cpu w
 
 module _ (b : Shown) (e : ℕ) (x : Environment) (r : Runs b e x) (sound : IsSoundBoard b) where
@@ -302,29 +302,29 @@ module _ (b : Shown) (e : ℕ) (x : Environment) (r : Runs b e x) (sound : IsSou
       by_test false some = rw some (raised_serves exc)
 
   -- whatever the step comes to
-  came : GrantedMay → FirstIsNumbered → HasClaimNumbers b → (st : Step) → step_alone (runner_solo b e x) ≡ st → world_of (after_runner_step b e st) ≡ stepping (act_of (runner_solo b e x) st)
-  came law unique numbered (Retired cpu w) at = retired cpu w at
-  came law unique numbered Called at =
+  came : GrantedMay → AgainAsks → FirstIsNumbered → HasClaimNumbers b → (st : Step) → step_alone (runner_solo b e x) ≡ st → world_of (after_runner_step b e st) ≡ stepping (act_of (runner_solo b e x) st)
+  came law again unique numbered (Retired cpu w) at = retired cpu w at
+  came law again unique numbered Called at =
       let act = call_act b.cpu in
-      told b e AStep act (after_runner_call b e) (call_serves b e x r sound unique numbered law (reg b.cpu 2 == exit_number)) (acts Called at refl)
-  came law unique numbered (Trapped exc) at =
+      told b e AStep act (after_runner_call b e) (call_serves b e x r sound unique numbered law again (reg b.cpu 2 == exit_number)) (acts Called at refl)
+  came law again unique numbered (Trapped exc) at =
       let act = trap_act x.env.handlers.exception exc in
       told b e AStep act (after_trap b e exc) (trapped_serves exc) (acts (Trapped exc) at refl)
 
-  stepped_alone : GrantedMay → FirstIsNumbered → HasClaimNumbers b → (o : Option Runner) → running o ≡ Some e → world_of (after_runner_step b e (step_seen b e)) ≡ after (world_of b) (tick.step_when (world_of b) o)
-  stepped_alone law unique numbered None is = cc
-  stepped_alone law unique numbered (Some runner) is =
+  stepped_alone : GrantedMay → AgainAsks → FirstIsNumbered → HasClaimNumbers b → (o : Option Runner) → running o ≡ Some e → world_of (after_runner_step b e (step_seen b e)) ≡ after (world_of b) (tick.step_when (world_of b) o)
+  stepped_alone law again unique numbered None is = cc
+  stepped_alone law again unique numbered (Some runner) is =
       let same : e ≡ runner.env = cc in
-      came law unique numbered (step_seen b e) (sym (its_step b e x r sound))
+      came law again unique numbered (step_seen b e) (sym (its_step b e x r sound))
       ∙ ap (λ st. stepping (act_of (runner_solo b e x) st)) (its_step b e x r sound)
       ∙ ap (λ (s : Solo). stepping (act_of s (step_alone s))) (sym (runner_seen b e x r))
       ∙ ap (λ n. after (world_of b) (in_turn (tells n AStep ∷ tick.act_reply n (tick.act_now (world_of b) n) ∷ []) (world_of b))) same
 
 -- The same of any board.
-pub stepped_world : GrantedMay → FirstIsNumbered → StepShowsModel
-stepped_world law unique b e has numbers =
+pub stepped_world : GrantedMay → AgainAsks → FirstIsNumbered → StepShowsModel
+stepped_world law again unique b e has numbers =
     let x = runner_runs b e has.sound has.runs in
-    stepped_alone b e x.0 x.1 has.sound law unique numbers b.slots.runner has.runs
+    stepped_alone b e x.0 x.1 has.sound law again unique numbers b.slots.runner has.runs
 
 pub came_leaves : (b : Shown) (e : ℕ) (st : Step) → HasRunner b e → Leaves b (after_runner_step b e st)
 came_leaves b e (Retired cpu w) has = record { room = omega arith; spare = refl; time = refl; numbers = omega arith }

@@ -11,7 +11,7 @@ use Rattle.page_book.specs.declared.row.PageRow.TheVariants.{Guaranteed}
 use Rattle.page_book.specs.Row.{is_owned_by}
 use Rattle.page_book.specs.Rows.{row_in}
 use Rattle.bind_book.specs.declared.binding.Binding.{Binding}
-use Rattle.bind_book.specs.Stripe.{is_bound, stripes}
+use Rattle.bind_book.specs.Stripe.{Stripes, is_bound, stripes}
 use Rattle.env_frames.specs.declared.mapping.Mapping.{Mapping}
 use Rattle.env_frames.specs.Frame.{mapping_at}
 use Rattle.guest_memory.specs.Look.{written_through}
@@ -70,7 +70,7 @@ module _ (frames : List (List ℕ)) (pages : List PageRow) (list : List Environm
       let one : i ≡ e = cc in ne one)
 
 -- a page that is guaranteed isn't bound
-pub guaranteed_unbound : (pages : List PageRow) (binds : List (Option Binding)) (r : Environments) → BooksAgree pages binds r → (i e page : ℕ) → row_in pages page ≡ Guaranteed e → is_bound page (stripes binds i) ≡ false
+pub guaranteed_unbound : (pages : List PageRow) (binds : Stripes) (r : Environments) → BooksAgree pages binds r → (i e page : ℕ) → row_in pages page ≡ Guaranteed e → is_bound page (stripes binds i) ≡ false
 guaranteed_unbound pages binds r booked i e page is = search (rules, bound_nowhere, eqb-true)
 
 -- what is neither owned nor bound isn't seen
@@ -82,7 +82,7 @@ pub sights_stay : (i : ℕ) (pages : ℕ → PageRow) (stripe : ℕ → Option B
 sights_stay i pages stripe old new n mine its others = search (rules, by_number, unseen)
 
 -- a store through a guaranteed mapping leaves what is seen of the other pages
-module _ (frames : List (List ℕ)) (pages : List PageRow) (binds : List (Option Binding)) (r : Environments) (parted : PagesAgree frames pages r.list) (booked : BooksAgree pages binds r) (e : ℕ) (w : Write) where
+module _ (frames : List (List ℕ)) (pages : List PageRow) (binds : Stripes) (r : Environments) (parted : PagesAgree frames pages r.list) (booked : BooksAgree pages binds r) (e : ℕ) (w : Write) where
   pub guaranteed_sights : (i : ℕ) (y : Option Mapping) → mapping_at (mappings_of r.list e) (w.address / page_size) ≡ y → (p : ℕ) → seen_in i (row_in pages) (stripes binds i) (page_at (written_through frames w y)) p ≡ seen_in i (row_in pages) (stripes binds i) (page_at frames) p
   guaranteed_sights i None is p = refl
   guaranteed_sights i (Some m) is p =

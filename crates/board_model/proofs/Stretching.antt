@@ -84,7 +84,10 @@ retires : (st : Step) → outcome_of st ≡ outcome.Retired → (cpu : Cpu) × (
 retires st is = search rules
 
 stepped : (b : Shown) (e : ℕ) → IsSoundBoard b → running b.slots.runner ≡ Some e → outcome_of (step_seen b e) ≡ outcome.Retired → world_of (after_machine_step b e (step_seen b e)) ≡ after (world_of b) (step (world_of b))
-stepped b e sound runs retired = search (rules, runner_runs, retires, retired_step)
+stepped b e sound runs retired =
+    let x = runner_runs b e sound runs in
+    let it = retires (step_seen b e) retired in
+    retired_step b e x.0 x.1 sound b.slots.runner runs it.0 it.1 it.2
 
 -- the timer of a runner that has ticks left behind this one
 counts_on : (b now : Shown) (o : Option Runner) → now.slots.runner ≡ o → 1 < left_of o → with_next_time (after_count_down now o) ≡ record now { slots = after_ticks 1 now.slots; time = now.time + 1 }

@@ -1,5 +1,5 @@
 -- The books as lists and as tables.
-use Rattle.std.proofs.Common.{◌≡◌, ◌≤◌, ◌<◌, ℕ, zero, suc, List, length, map, Option, Some, None, is_some, refl, arith, get_or-set_same, get_or-set_other, rules}
+use Rattle.std.proofs.Common.{◌≡◌, ◌≤◌, ◌<◌, Bool, true, false, ℕ, zero, suc, List, length, map, Option, Some, None, is_some, refl, arith, get_or-set_same, get_or-set_other, rules}
 use Rattle.std.specs.Prelude.{nat_lt, if◌then◌else◌, slice_get, slice_set, slice_index_or, replicate}
 use Rattle.std.proofs.lemmas.Bool.{ne_eqb, eq-eqb, lt-ltb, le-ltb, cases_lt}
 use Rattle.std.proofs.lemmas.Option.{slice_get-get_or, slice_get_past}
@@ -9,8 +9,8 @@ use Rattle.page_book.specs.declared.row.PageRow.TheVariants.{Free}
 use Rattle.page_book.specs.Row.{released}
 use Rattle.page_book.specs.Rows.{row_in}
 use Rattle.bind_book.specs.declared.binding.Binding.{Binding}
-use Rattle.bind_book.specs.Stripe.{HasStripe, binding_at, stripe_place, row_of, stripes}
-use Rattle.aegis_limits.specs.Limits.{most_stripe_rows}
+use Rattle.bind_book.specs.Stripe.{HasStripe, Stripes, binding_at, stripe_place, row_of, stripes, unbound, with_stripe_row}
+use Rattle.aegis_limits.specs.VersionLimits.{stripe_rows}
 use Rattle.bind_book.proofs.Rows.{row_set}
 use Rattle.world_model.specs.Table.{set_at}
 use Rattle.world_model.specs.PageCalls.{without_number}
@@ -40,10 +40,18 @@ pub row_released : (e : ℕ) (pages : List PageRow) (page : ℕ) → row_in (map
 row_released e pages page = grind (arith, common_steps)
 
 -- the stripes once a row of one of them is set
-pub stripe_set : (binds : List (Option Binding)) (e row : ℕ) (x : Option Binding) → HasStripe binds e → row < most_stripe_rows → (i r : ℕ) → stripes (slice_set binds (stripe_place e row) x) i r ≡ set_at e (set_at row x (stripes binds e)) (stripes binds) i r
+pub stripe_set : (binds : Stripes) (e row : ℕ) (x : Option Binding) → HasStripe binds e → row < stripe_rows binds.version → (i r : ℕ) → stripes (with_stripe_row binds e row x) i r ≡ set_at e (set_at row x (stripes binds e)) (stripes binds) i r
 stripe_set binds e row x has below i r = search (rules, row_set, by_env, eq-eqb, set_here, ne_eqb, set_else)
 
 -- the stripes once a binding of one of them went, if there was one
-pub stripe_without : (binds : List (Option Binding)) (e vpn : ℕ) → HasStripe binds e → row_of vpn < most_stripe_rows → (i r : ℕ) →
-    stripes (if is_some (binding_at (stripes binds e) vpn) then slice_set binds (stripe_place e (row_of vpn)) None else binds) i r ≡ set_at e (without_number vpn (stripes binds e)) (stripes binds) i r
-stripe_without binds e vpn has below i r = grind (arith, stripe_set, set_same)
+pub stripe_without : (binds : Stripes) (e vpn : ℕ) → HasStripe binds e → row_of binds.version vpn < stripe_rows binds.version → (i r : ℕ) →
+    stripes (unbound binds e vpn) i r ≡ set_at e (without_number binds.version vpn (stripes binds e)) (stripes binds) i r
+stripe_without binds e vpn has below i r = by_test (is_some (binding_at binds.version (stripes binds e) vpn))
+  where
+    row : ℕ
+    row = row_of binds.version vpn
+
+    by_test : (t : Bool) →
+        stripes (record binds { rows = if t then slice_set binds.rows (stripe_place binds.version e row) None else binds.rows }) i r ≡ set_at e (if t then set_at row None (stripes binds e) else stripes binds e) (stripes binds) i r
+    by_test true = stripe_set binds e row None has below i r
+    by_test false = grind (arith, set_same)

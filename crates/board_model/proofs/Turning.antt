@@ -1,17 +1,16 @@
 -- The turn and the timer, on the world that is shown.
-use Rattle.std.proofs.Common.{◌≡◌, ◌≢◌, ℕ, zero, suc, ◌+◌, ◌-◌, ◌<◌, ◌≤◌, [], ◌∷◌, length, length-set, get_or-set_same, Bool, true, false, not, Option, Some, None, IsSome, refl, sym, ◌∙◌, ap, subst, arith, append_assoc, rules}
+use Rattle.std.proofs.Common.{◌≡◌, ◌≢◌, ℕ, zero, suc, ◌+◌, ◌<◌, [], ◌∷◌, length, length-set, get_or-set_same, Bool, true, false, not, Option, Some, None, IsSome, refl, sym, ◌∙◌, ap, arith, append_assoc, rules}
 use Rattle.std.specs.Prelude.{◌==◌, nat_lt, if◌then◌else◌, slice_get, slice_set}
 use Rattle.std.specs.Option.{option_map}
-use Rattle.std.proofs.lemmas.Bool.{ne_eqb, eq-eqb, eqb-true, eqb-false}
+use Rattle.std.proofs.lemmas.Bool.{ne_eqb, eq-eqb}
 use Rattle.std.proofs.lemmas.List.{append-nil}
 use Rattle.aegis_limits.specs.Limits.{page_size, excess_limit}
 use Rattle.mips_exec.specs.Access.{Write}
 use Rattle.env_frames.specs.Context.{end_area, end_bytes, resumed_cpu}
-use Rattle.kernel_journal.specs.declared.row.Row.TheVariants as row
 use Rattle.slot_vector.specs.declared.turn.NextTurn.{NextTurn}
 use Rattle.slot_vector.specs.declared.turn.NextTurn.TheVariants as next
 use Rattle.slot_vector.specs.Laws.{owed_by_all}
-use Rattle.slot_vector.specs.Slices.{HasTicks, after_turn, excess_of, in_grace_again, next_held, next_turn, spent, timer_by, whole_turn_of}
+use Rattle.slot_vector.specs.Slices.{after_turn, excess_of, in_grace_again, next_held, next_turn, spent, timer_by, whole_turn_of}
 use Rattle.world_model.specs.Timer.{timer_at_end, timer_of}
 use Rattle.world_model.specs.declared.timer.Timer.TheVariants as timer
 use Rattle.slot_vector.proofs.Owed.{excess_set}
@@ -27,15 +26,15 @@ use Rattle.world_model.specs.Book.{WholeTurn, is_idle_book, is_runner, pays_firs
 use Rattle.world_model.specs.Item.{End, Killed, Start, absorb_all}
 use Rattle.world_model.specs.Solo.{Solo, dead, is_dead, kept_after}
 use Rattle.world_model.specs.Step.{Dies}
-use Rattle.world_model.specs.World.{World, Reply, after, in_turn, only}
+use Rattle.world_model.specs.World.{World, after, in_turn}
 use Rattle.world_model.specs.Tick as tick
 use Rattle.run_model.proofs.Phases.{in_turn_is_each}
 use Rattle.board_model.specs.declared.roster.Environment.{Environment}
-use Rattle.board_model.specs.Shown.{Shown, handlers_in, handlers_of, mappings_of}
+use Rattle.board_model.specs.Shown.{Shown, handlers_in, mappings_of}
 use Rattle.board_model.specs.Showing.{world_of, book_of, solo_of, solo_or_absent, solo_seen, cpu_seen, pages_seen}
 use Rattle.board_model.specs.Sound.{IsSoundBoard}
 use Rattle.board_model.specs.Laws.{TimerShowsModel, TurnShowsModel}
-use Rattle.board_model.specs.Doing.{after_timer_by, after_timer_phase, after_count_down, after_death, after_end, has_end, over_row, with_overrun, after_forfeit, start_registers, after_start, after_stop, with_next_time, after_turn_phase, after_told, with_registers}
+use Rattle.board_model.specs.Doing.{after_timer_by, after_count_down, after_death, after_end, has_end, over_row, with_overrun, after_forfeit, start_registers, after_start, after_stop, with_next_time, after_turn_phase, after_told, with_registers}
 use Rattle.board_model.proofs.Contexts.{left_by, left_others, left_own, left_sights, left_store, start_others, start_seen, start_sights, waiting}
 use Rattle.board_model.proofs.Dying.{MayDie, dies as dying, may_die, numbered_within}
 use Rattle.board_model.proofs.Lists.{changed_here, changed_else, length-changed}
@@ -77,7 +76,7 @@ module _ (b : Shown) (sound : IsSoundBoard b) (t : Turn) (x : Environment) (at :
 
 -- a forfeit changes no environment
 paid_solo : (b : Shown) (t : Turn) (i : ℕ) → solo_of (after_forfeit b t) i ≡ solo_of b i
-paid_solo b t i = like_solo i (after_forfeit b t) b (record { record_is = refl; rings = refl; cpu = λ kept. refl; pages = refl; binds = refl; sights = refl })
+paid_solo b t i = like_solo i (after_forfeit b t) b (record { version = refl; record_is = refl; rings = refl; cpu = λ kept. refl; pages = refl; binds = refl; sights = refl })
 
 -- the turn as the model tells it
 abbrev told_world : Shown → WholeTurn → World
@@ -139,7 +138,7 @@ module _ (b : Shown) (e : ℕ) (x : Environment) (r : Runs b e x) where
 
 -- The timer. A board at the next time is the same to everybody.
 ticked_solo : (b : Shown) (i : ℕ) → solo_of (with_next_time b) i ≡ solo_of b i
-ticked_solo b i = like_solo i (with_next_time b) b (record { record_is = refl; rings = refl; cpu = λ kept. refl; pages = refl; binds = refl; sights = refl })
+ticked_solo b i = like_solo i (with_next_time b) b (record { version = refl; record_is = refl; rings = refl; cpu = λ kept. refl; pages = refl; binds = refl; sights = refl })
 
 ticked_world : (b : Shown) → world_of (with_next_time b) ≡ after (world_of b) (tick.clock (world_of b))
 ticked_world b = worlds (world_of (with_next_time b)) (after (world_of b) (tick.clock (world_of b))) refl refl (ticked_solo b) (sym (append-nil b.ledger.rows))

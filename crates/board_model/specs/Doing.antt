@@ -1,5 +1,5 @@
 -- The model retold over lists, part by part of a tick. Nobody has to believe it: the laws say that it shows the model.
-use Rattle.std.specs.Prelude.{ℕ, zero, suc, ◌+◌, ◌-◌, ◌/◌, ◌%◌, Bool, true, false, not, drop, fold, List, [], ◌∷◌, ◌++◌, length, map, ◌==◌, if◌then◌else◌, Option, Some, None, unwrap_or, slice_set}
+use Rattle.std.specs.Prelude.{ℕ, zero, suc, ◌+◌, ◌-◌, ◌*◌, ◌/◌, ◌%◌, Bool, true, false, not, drop, fold, List, [], ◌∷◌, ◌++◌, length, map, ◌==◌, if◌then◌else◌, Option, Some, None, is_none, unwrap_or, slice_set}
 use Rattle.external_event.specs.declared.event.Occurrence.{Occurrence}
 use Rattle.external_event.specs.declared.event.Occurrence.TheVariants as outside
 use Rattle.kernel_journal.specs.Ledger.{Ledger, with_row}
@@ -40,7 +40,7 @@ use Rattle.page_book.specs.declared.row.Capabilities.{Capabilities}
 use Rattle.page_book.specs.Row.{released}
 use Rattle.page_book.specs.Rows.{row_in}
 use Rattle.bind_book.specs.declared.binding.Binding.{Binding}
-use Rattle.bind_book.specs.Stripe.{leads_to_page, goes_with, stripe_place, row_of, swept, unbound}
+use Rattle.bind_book.specs.Stripe.{goes_with, leads_to_page, swept, unbound, with_binding_in}
 use Rattle.guest_memory.specs.Look.{look, frames_after, guest_step}
 use Rattle.guest_memory.specs.Space.{lookup}
 use Rattle.slot_vector.specs.declared.turn.NextTurn.{NextTurn}
@@ -59,7 +59,7 @@ use Rattle.world_model.specs.Page.{Mapped}
 use Rattle.world_model.specs.declared.call.Deed.{Deed}
 use Rattle.world_model.specs.declared.call.Deed.TheVariants.{Answers, Own, Stops, Gives, Allocates, Frees, Recaps, Binds, Unbinds, Transfers, TakesSlot, DropsSlot, TakesLine, DropsLine, Claims, Unclaims, Downloads, Loads}
 use Rattle.world_model.specs.declared.verdict.Verdict.{Verdict}
-use Rattle.world_model.specs.declared.verdict.Verdict.TheVariants.{Refuse, Grant}
+use Rattle.world_model.specs.declared.verdict.Verdict.TheVariants.{Refuse, Again, Grant}
 use Rattle.world_model.specs.declared.call.OwnDeed.{OwnDeed}
 use Rattle.world_model.specs.declared.call.OwnDeed.TheVariants.{Puts, Sends, Handles, Accepts}
 use Rattle.world_model.specs.Item.{answered_cpu}
@@ -447,7 +447,7 @@ with_downloaded b e claim address words =
 
 -- Bind: the binding stands in its row.
 abbrev pub with_bound : Shown → ℕ → Binding → Shown
-with_bound b e x = record b { binds = slice_set b.binds (stripe_place e (row_of x.vpn)) (Some x) }
+with_bound b e x = record b { binds = with_binding_in b.binds e x }
 
 -- Unbind: the row of the VPN is empty, if its binding stood there.
 abbrev pub with_unbound : Shown → ℕ → ℕ → Shown
@@ -477,9 +477,15 @@ after_grant b e value (Downloads claim address words) =
     after_answer (with_downloaded b e claim address words) (Grant value)
 after_grant b e value (Loads page) = after_answer (with_loaded b e page) (Grant value)
 
+-- an environment is asked for a page within two quanta, if nothing is pending for it
+abbrev pub with_one_asked : Shown → ℕ → Shown
+with_one_asked b who =
+    if is_none (pending_at b.revocations who) then after_revocation b who 1 (b.time + 2 * b.slots.quantum) else b
+
 -- a call of the runner on which this is the verdict
 abbrev pub after_verdict : Shown → ℕ → Option Call → Verdict → Shown
 after_verdict b e call (Refuse why value) = after_answer b (Refuse why value)
+after_verdict b e call (Again who) = after_answer (with_one_asked b who) (Again who)
 after_verdict b e call (Grant value) = after_grant b e value (deed_of call value b.cpu)
 
 abbrev pub after_decision : Shown → ℕ → Option Call → Shown

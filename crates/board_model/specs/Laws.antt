@@ -5,7 +5,7 @@ use Rattle.slot_vector.specs.Slices.{is_idle}
 use Rattle.world_model.specs.declared.code.Code.{Code}
 use Rattle.world_model.specs.declared.life.Cause.{Cause}
 use Rattle.world_model.specs.Book.{is_idle_book}
-use Rattle.world_model.specs.declared.verdict.Verdict.TheVariants.{Refuse}
+use Rattle.world_model.specs.declared.verdict.Verdict.TheVariants.{Again, Refuse}
 use Rattle.world_model.specs.Verdict.{verdict_now}
 use Rattle.world_model.specs.World.{after}
 use Rattle.world_model.specs.Event.{happen}
@@ -52,6 +52,12 @@ RefusalShowsModel =
     (b : Shown) (e : ℕ) (why : Code) (v : ℕ) → HasRunner b e → HasClaimNumbers b
     → verdict_now (world_of b) e ≡ Some (Refuse why v)
     → world_of (after_runner_call b e) ≡ tick.refused_world (world_of b) e why v
+
+-- a call that is to be made again is answered so, and another environment is asked
+abbrev pub AgainShowsModel : Type 0
+AgainShowsModel =
+    (b : Shown) (e who : ℕ) → HasRunner b e → HasClaimNumbers b → verdict_now (world_of b) e ≡ Some (Again who)
+    → world_of (after_runner_call b e) ≡ tick.again_world (world_of b) e who
 
 abbrev pub DeathShowsModel : Type 0
 DeathShowsModel =

@@ -31,6 +31,7 @@ cpu_seen b e kept = if is_runner e b.slots.runner then b.cpu else kept
 
 abbrev pub solo_seen : Shown → ℕ → Environment → Solo
 solo_seen b e x = record {
+  version = b.binds.version;
   number = e;
   name = x.name;
   life = x.life;
@@ -55,6 +56,7 @@ solo_of b e = solo_or_absent b e (slice_get b.roster.list e)
 
 abbrev pub book_of : Shown → Book
 book_of b = record {
+  version = b.binds.version;
   slot_count = length b.slots.slots;
   slots = hold_at b.slots.slots;
   quantum = b.slots.quantum;

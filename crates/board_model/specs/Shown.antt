@@ -4,7 +4,7 @@ use Rattle.kernel_journal.specs.Ledger.{Ledger}
 use Rattle.mips_exec.specs.declared.registers.Cpu.{Cpu}
 use Rattle.mips_exec.specs.Cpu.{blank_cpu}
 use Rattle.page_book.specs.declared.row.PageRow.{PageRow}
-use Rattle.bind_book.specs.declared.binding.Binding.{Binding}
+use Rattle.bind_book.specs.Stripe.{Stripes}
 use Rattle.slot_vector.specs.Slices.{Slices}
 use Rattle.env_frames.specs.declared.context.Handlers.{Handlers}
 use Rattle.env_frames.specs.declared.mapping.Mapping.{Mapping}
@@ -21,13 +21,13 @@ pub record Environments : Type 0 where
   pub list : List Environment
   pub spare : ℕ
 
--- The pages of physical memory; whose each of them is; the rows of all stripes of bindings; whose the interrupt lines
+-- The pages of physical memory; whose each of them is; the stripes of bindings; whose the interrupt lines
 -- are; the claims that stand; what is asked of environments, and their backups; the vector of slots; the registers of
 -- the machine; the environments; the time; and the ledger.
 pub record Shown : Type 0 where
   pub frames : List (List ℕ)
   pub pages : List PageRow
-  pub binds : List (Option Binding)
+  pub binds : Stripes
   pub lines : List (Option ℕ)
   pub claims : ClaimBook
   pub revocations : RevocationBook

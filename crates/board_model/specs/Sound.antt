@@ -1,7 +1,8 @@
 -- What holds of every board.
 use Rattle.std.specs.Prelude.{◌≡◌, ◌≤◌, ◌<◌, ◌+◌, ◌*◌, ℕ, false, List, length, Option, Some, None, Bool, IfSome, slice_get, true}
 use Rattle.std.specs.List.{list_all}
-use Rattle.aegis_limits.specs.Limits.{most_environments, most_pages, most_slots, excess_limit, environment_numbers, most_stripe_rows}
+use Rattle.aegis_limits.specs.Limits.{most_environments, most_pages, most_slots, excess_limit, environment_numbers}
+use Rattle.aegis_limits.specs.VersionLimits.{stripe_rows}
 use Rattle.external_event.specs.Limits.{lines as most_lines}
 use Rattle.page_book.specs.declared.row.PageRow.{PageRow}
 use Rattle.page_book.specs.declared.row.PageRow.TheVariants.{Free, Guaranteed, Owned}
@@ -11,7 +12,7 @@ use Rattle.page_book.specs.Rows.{row_in}
 use Rattle.revocation_book.specs.Backups.{is_loaded}
 use Rattle.revocation_book.specs.RevocationBook.{RevocationBook, backups_at, pending_at}
 use Rattle.bind_book.specs.declared.binding.Binding.{Binding}
-use Rattle.bind_book.specs.Stripe.{stripes}
+use Rattle.bind_book.specs.Stripe.{Stripes, stripes}
 use Rattle.env_frames.specs.declared.mapping.Mapping.{Mapping}
 use Rattle.env_frames.specs.Frame.{IsRising, numbers}
 use Rattle.slot_vector.specs.Slices.{Slices, HasTicks, excess_of, hold_at}
@@ -51,10 +52,14 @@ IsOwned Free = ⊥
 IsOwned (Guaranteed owner) = ⊥
 IsOwned (Owned owner words) = Unit {0}
 
+-- the stripes of so many environments
+unfoldable pub AreStripesOf : Stripes → ℕ → Type 0
+AreStripesOf binds envs = length binds.rows ≡ envs * stripe_rows binds.version
+
 -- The books: there is a stripe for each environment; pages and bindings are those of environments that live; and no
 -- page is bound that is free or guaranteed.
-pub record BooksAgree (pages : List PageRow) (binds : List (Option Binding)) (r : Environments) : Type 0 where
-  pub striped : length binds ≡ (length r.list + r.spare) * most_stripe_rows
+pub record BooksAgree (pages : List PageRow) (binds : Stripes) (r : Environments) : Type 0 where
+  pub striped : AreStripesOf binds (length r.list + r.spare)
   pub owners : (page e : ℕ) → owner_of (row_in pages page) ≡ Some e → IsLiving r.list e
   pub binders : (e row : ℕ) (x : Binding) → stripes binds e row ≡ Some x → IsLiving r.list e
   pub bound : (e row : ℕ) (x : Binding) → stripes binds e row ≡ Some x → IsOwned (row_in pages x.page)

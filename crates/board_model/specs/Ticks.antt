@@ -1,5 +1,5 @@
 -- A board between its ticks: what a tick asks of it, and what it leaves.
-use Rattle.std.specs.Prelude.{ℕ, ◌≡◌, ◌≤◌, ◌<◌, ◌+◌, false}
+use Rattle.std.specs.Prelude.{◌≡◌, ◌≤◌, ◌<◌, ◌+◌, false}
 use Rattle.aegis_limits.specs.Limits.{most_ticks}
 use Rattle.world_model.specs.Book.{is_idle_book}
 use Rattle.board_model.specs.Shown.{Shown}

@@ -1,8 +1,8 @@
 //! The laws of what a board shows: each part of a tick is that part of the model's.
-ghost use Rattle.board_model.specs.Laws.{CallShowsModel, DeathShowsModel, EventShowsModel, IdleShowsModel, RefusalShowsModel, ServingShowsModel, StepShowsModel, TimerShowsModel, TurnShowsModel};
+ghost use Rattle.board_model.specs.Laws.{AgainShowsModel, CallShowsModel, DeathShowsModel, EventShowsModel, IdleShowsModel, RefusalShowsModel, ServingShowsModel, StepShowsModel, TimerShowsModel, TurnShowsModel};
 ghost use Rattle.board_model.specs.Stretch.{StretchShowsModel};
 
-use call_verdicts::law_granted;
+use call_verdicts::{law_again, law_granted};
 use filter_tree::law_numbered;
 use revocation_book::law_takable;
 
@@ -35,6 +35,7 @@ pub fn law_step()
     ensures { StepShowsModel }
 {
     law_granted();
+    law_again();
     law_numbered();
 }
 
@@ -56,6 +57,7 @@ pub fn law_call()
     ensures { CallShowsModel }
 {
     law_granted();
+    law_again();
     law_numbered();
 }
 
@@ -64,6 +66,17 @@ pub fn law_refusal()
     ensures { RefusalShowsModel }
 {
     law_granted();
+    law_again();
+    law_numbered();
+}
+
+/// A call that is to be made again changes its caller's registers 2 and 3 and where it stands; and the one that is asked
+/// has a pending revocation, its post words and a row, if nothing was pending for it.
+pub fn law_again_answered()
+    ensures { AgainShowsModel }
+{
+    law_granted();
+    law_again();
     law_numbered();
 }
 

@@ -3,6 +3,7 @@
 //! which that is what the model says.
 #![tactic(auto)]
 
+mod clock;
 mod console;
 mod laws;
 mod lines;
@@ -10,10 +11,11 @@ mod output;
 mod roster;
 mod sent;
 
+pub use clock::Clock;
 pub use console::Console;
 pub use laws::{
-    law_call, law_death, law_happen, law_idle, law_refusal, law_serving, law_step, law_stretch,
-    law_timer, law_turn,
+    law_again_answered, law_call, law_death, law_happen, law_idle, law_refusal, law_serving,
+    law_step, law_stretch, law_timer, law_turn,
 };
 pub use lines::Lines;
 pub use output::Output;
