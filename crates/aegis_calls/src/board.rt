@@ -1,7 +1,7 @@
 //! The board and what it shows.
 
 use bind_book::Bindings;
-use board_model::{Lines, Roster};
+use board_model::{Clock, Lines, Roster};
 use filter_tree::Claims;
 use frame_store::Frames;
 use kernel_journal::Journal;
@@ -23,7 +23,7 @@ pub struct Board {
     pub(crate) slots: Slots,
     pub(crate) cpu: Cpu,
     pub(crate) roster: Roster,
-    pub(crate) time: u32,
+    pub(crate) time: Clock,
     pub(crate) journal: Journal,
 }
 

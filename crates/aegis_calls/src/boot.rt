@@ -1,15 +1,16 @@
 //! The board before it runs: without programs, and with one more.
 ghost use Rattle.std.specs.Prelude.{◌≡◌, ◌≤◌, ◌<◌, ◌+◌, ◌-◌, IfOk, IfSome, All, length};
 ghost use Rattle.boot_image.specs.ImageValue.{guaranteed_mappings};
-ghost use Rattle.aegis_limits.specs.Limits.{least_pages, most_pages, least_quantum, most_quantum, most_slots, most_environments};
+ghost use Rattle.aegis_limits.specs.Limits.{least_pages, most_pages, least_quantum, most_quantum, most_slots};
+ghost use Rattle.aegis_limits.specs.VersionLimits.{most_environments_of};
 ghost use Rattle.page_book.specs.Rows.{free_pages};
 ghost use Rattle.run_model.specs.Boot.{bare_world, with_program};
 ghost use Rattle.board_model.specs.Showing.{world_of};
 
 use crate::board::Board;
-use aegis_limits::OutOfMemory;
+use aegis_limits::{OutOfMemory, Version, law_versions_are_within};
 use board_boot::{bare_memory, boot_journal, load};
-use board_model::{Lines, Roster};
+use board_model::{Clock, Lines, Roster};
 use boot_image::Program;
 use filter_tree::Claims;
 use mips_exec::Cpu;
@@ -20,11 +21,12 @@ use std::alloc::Global;
 impl Board {
     ghost use Rattle.board_model.specs.Loading.{IsBare};
 
-    /// A board without programs, with so many pages of memory, a quantum in ticks, the owner of each slot,
+    /// A board without programs, for an image of this version, with so many pages of memory, a quantum in ticks, the owner of each slot,
     /// and room for so many environments (`docs/KERNEL.md`, "Boot"). It takes the memory for all that the
     /// environments may need, so that neither `add` nor the parts of a tick take any.
     pub fn build(
         alloc: Global,
+        version: Version,
         pages: u32,
         quantum: u32,
         slots: &[Option<u8>],
@@ -33,13 +35,14 @@ impl Board {
         requires pages { least_pages ≤ pages × pages ≤ most_pages }
         requires quantum { least_quantum ≤ quantum × quantum ≤ most_quantum }
         requires slots { 1 ≤ length slots.now × length slots.now ≤ most_slots }
-        requires envs { envs ≤ most_environments }
+        requires envs { envs ≤ most_environments_of version }
         requires owners { All (λ owner. IfSome owner (λ e. e < envs)) slots.now }
-        ensures world { IfOk result (λ b. world_of b ≡ bare_world pages quantum slots.now) }
+        ensures world { IfOk result (λ b. world_of b ≡ bare_world version pages quantum slots.now) }
         ensures bare { IfOk result (IsBare pages envs) }
         ensures numbers { IfOk result (λ b. b.claims.next ≡ 0) }
     {
-        let (frames, pages, bindings) = bare_memory(alloc, pages, envs)?;
+        law_versions_are_within();
+        let (frames, pages, bindings) = bare_memory(alloc, version, pages, envs)?;
         let claims = Claims::new(alloc, envs)?;
         let roster = Roster::new(alloc, envs)?;
         let journal = boot_journal(alloc, slots)?;
@@ -53,7 +56,7 @@ impl Board {
             slots: Slots::new(quantum, slots),
             cpu: Cpu::blank(),
             roster,
-            time: 0,
+            time: Clock::new(),
             journal,
         })
     }

@@ -1,11 +1,13 @@
 //! Kernel calls: a call is decided, answered, and what it does is done.
 ghost use Rattle.std.specs.Prelude.{◌≡◌, ◌<◌, ◌^◌, Some};
+ghost use Rattle.aegis_limits.specs.Limits.{environment_numbers};
 ghost use Rattle.world_model.specs.Book.{running};
 ghost use Rattle.world_model.specs.May.{May};
 
 use crate::board::Board;
 use board_acts::answer;
-use call_verdicts::{decide, deed_of, law_granted};
+use call_verdicts::{decide, deed_of, law_again, law_granted};
+use revocation_book::law_richest;
 use world_model::{Call, Cause, Deed, EXIT, Verdict};
 
 /// The register of a call's number.
@@ -15,7 +17,7 @@ const CALL_NUMBER: u8 = 2;
 const EXIT_CODE: u8 = 4;
 
 impl Board {
-    ghost use Rattle.board_model.specs.Doing.{after_answer, after_runner_call, after_grant, after_decision};
+    ghost use Rattle.board_model.specs.Doing.{after_answer, after_runner_call, after_grant, after_decision, with_one_asked};
     ghost use Rattle.board_model.specs.Showing.{world_of};
 
     /// The runner's call is answered.
@@ -75,6 +77,18 @@ impl Board {
         self.answer(granted);
     }
 
+    /// An environment is asked for a page within two quanta, if nothing is pending for it.
+    fn press(&mut self, env: u8)
+        requires number { env < environment_numbers }
+        requires room { 0 < self.old.ledger.spare }
+        ensures { self.new ≡ with_one_asked self.old env }
+    {
+        if self.revocations.pending(env).is_none() {
+            let deadline = self.time.ticks() + 2 * self.slots.quantum();
+            self.revoke(env, 1, deadline);
+        }
+    }
+
     /// A kernel call of the runner, which isn't an exit.
     fn answer_call(&mut self, env: u8, call: Option<Call>)
         requires runs { running self.old.slots.runner ≡ Some env }
@@ -88,6 +102,12 @@ impl Board {
                 law_granted();
                 let deed = deed_of(call, value, &self.cpu);
                 self.grant(env, value, deed);
+            }
+            Verdict::Again(who) => {
+                law_again();
+                law_richest();
+                self.press(who);
+                self.answer(Verdict::Again(who));
             }
             refusal => self.answer(refusal),
         }

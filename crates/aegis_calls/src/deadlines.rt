@@ -6,7 +6,7 @@ ghost use Rattle.revocation_book.specs.Takings.{AreTakable, IsTakable};
 use crate::board::Board;
 use board_acts::copy_to_backup;
 use kernel_journal::Row;
-use revocation_book::{Taking, law_few_takings, law_takable};
+use revocation_book::{Taking, Takings, law_few_takings, law_takable};
 
 impl Board {
     ghost use Rattle.board_model.specs.Doing.{after_deadlines, after_taking};
@@ -27,7 +27,7 @@ impl Board {
         self.bindings.break_page(page, None);
         self.claims.drop_page(page);
         self.journal.push(Row::Take {
-            time: self.time,
+            time: self.time.ticks(),
             env,
             page,
             backup,
@@ -35,14 +35,14 @@ impl Board {
     }
 
     /// These pages are taken, one after another.
-    fn take_all(&mut self, takings: &[Taking])
+    fn take_all(&mut self, takings: &Takings)
         requires may { AreTakable (books_of self.old.pages self.old.revocations) self.old.time takings.now }
         requires room { length takings.now ≤ self.old.ledger.spare }
         ensures { self.new ≡ fold after_taking self.old takings.now }
     {
-        for taking in takings {
+        for place in 0..takings.len() {
             self.law_sound();
-            self.take(*taking);
+            self.take(takings.get(place));
         }
     }
 
@@ -57,9 +57,11 @@ impl Board {
         law_takable();
         law_few_takings();
         let envs = self.roster.len() as u8;
-        let takings = self.revocations.takings(&self.pages, envs, self.time);
+        let takings = self
+            .revocations
+            .takings(&self.pages, envs, self.time.ticks());
         self.take_all(&takings);
-        self.revocations.served(self.time);
+        self.revocations.served(self.time.ticks());
     }
 
     /// The same, in a tick of which few have a deadline: where none has come, nothing is done.
@@ -67,7 +69,7 @@ impl Board {
         requires { length self.old.pages ≤ self.old.ledger.spare }
         ensures { self.new ≡ after_deadlines self.old }
     {
-        if self.revocations.is_due(self.time) {
+        if self.revocations.is_due(self.time.ticks()) {
             self.take_due();
         }
     }

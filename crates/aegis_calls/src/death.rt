@@ -32,7 +32,7 @@ impl Board {
         requires room { 64 < self.old.ledger.spare }
         ensures { self.new ≡ after_death self.old env cause }
     {
-        release_slots(&mut self.slots, &mut self.journal, self.time, env);
+        release_slots(&mut self.slots, &mut self.journal, self.time.ticks(), env);
         self.bury(env, cause);
     }
 }

@@ -31,7 +31,7 @@ impl Board {
                 &packet,
             ),
             None => self.journal.push(Row::Unclaimed {
-                time: self.time,
+                time: self.time.ticks(),
                 length: packet.bytes().len() as u32,
             }),
         }
@@ -69,7 +69,7 @@ impl Board {
         let frame = self.roster.frame(env);
         frame.ask(&mut self.frames, outstanding, deadline);
         self.journal.push(Row::Asked {
-            time: self.time,
+            time: self.time.ticks(),
             env,
             outstanding,
             deadline,

@@ -5,11 +5,11 @@ ghost use Rattle.external_event.specs.EventValue.{is_occurrence};
 ghost use Rattle.world_model.specs.Book.{is_idle_book, running};
 ghost use Rattle.world_model.specs.Event.{happen as event_phase};
 ghost use Rattle.world_model.specs.World.{after};
-ghost use Rattle.world_model.specs.Tick.{served, turn as turn_phase, step as step_phase, timer as timer_phase, died, IsCalled, IsRefused};
+ghost use Rattle.world_model.specs.Tick.{served, turn as turn_phase, step as step_phase, timer as timer_phase, died, IsAgain, IsCalled, IsRefused};
 
 use crate::board::Board;
 use aegis_limits::{ENVIRONMENT_NUMBERS, EXCESS_LIMIT, MOST_PAGES, MOST_SLOTS};
-use board_model::{law_call, law_happen, law_refusal, law_serving, law_step};
+use board_model::{law_again_answered, law_call, law_happen, law_refusal, law_serving, law_step};
 use external_event::Occurrence;
 use revocation_book::law_few_takings;
 use world_model::{Cause, WorldView};
@@ -56,7 +56,8 @@ impl Board {
             Occurrence::Packet(packet) => self.arrive(packet),
             Occurrence::Line(line) => self.signal(*line),
             Occurrence::Revoke { env, count, grace } => {
-                self.revoke(*env, *count, self.time + *grace);
+                let time = self.time.ticks();
+                self.revoke(*env, *count, time + *grace);
             }
         }
     }
@@ -107,7 +108,7 @@ impl Board {
     {
         self.law_sound();
         // Reads the time, and with it that it is a number of 32 bits, as that of the next claim.
-        let _ = &self.time;
+        let _time = self.time.ticks();
         law_step();
         self.law_claim_numbers();
         if let Some(env) = self.runner() {
@@ -130,7 +131,8 @@ impl Board {
     }
 
     /// One kernel call of the runner: it stands at a SYSCALL outside a delay slot. A call that is
-    /// refused changes the caller's `$2`, `$3` and where it stands, and nothing else. All environments
+    /// refused changes the caller's `$2`, `$3` and where it stands, and nothing else. One that is to be made
+    /// again asks another environment besides. All environments
     /// stay added, so that a turn may follow. No more claims were made so far than there were ticks.
     pub fn call(&mut self)
         requires runs { IsSome (world_of self.old).book.runner }
@@ -138,6 +140,7 @@ impl Board {
         requires numbers { self.old.claims.next ≤ self.old.time }
         ensures world { IsCalled (world_of self.old) (world_of self.new) }
         ensures refused { IsRefused (world_of self.old) (world_of self.new) }
+        ensures again { IsAgain (world_of self.old) (world_of self.new) }
         ensures time { self.new.time ≡ self.old.time }
         ensures numbers { self.new.claims.next ≤ self.old.claims.next + 1 }
         ensures whole { self.new.roster.spare ≡ self.old.roster.spare }
@@ -145,9 +148,10 @@ impl Board {
     {
         self.law_sound();
         // Reads the time, and with it that it is a number of 32 bits, as that of the next claim.
-        let _ = &self.time;
+        let _time = self.time.ticks();
         law_call();
         law_refusal();
+        law_again_answered();
         self.law_claim_numbers();
         if let Some(env) = self.runner() {
             self.take_call(env);

@@ -77,7 +77,7 @@ impl WorldView for Board {
     }
 
     fn time(&self) -> u32 {
-        self.time
+        self.time.ticks()
     }
 
     fn name(&self, env: u8) -> [u8; 8] {

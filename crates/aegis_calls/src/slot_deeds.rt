@@ -30,7 +30,7 @@ impl Board {
         self.cpu = self.roster.frame(target).start(&mut self.frames);
         self.roster.keep(env, &kept);
         self.journal.push(Row::Give {
-            time: self.time,
+            time: self.time.ticks(),
             slot: self.slots.slot(),
             from: env,
             to: target,
@@ -49,7 +49,7 @@ impl Board {
         hand_on(
             &mut self.slots,
             &mut self.journal,
-            self.time,
+            self.time.ticks(),
             env,
             target,
             kind,
@@ -75,7 +75,7 @@ impl Board {
         ensures { self.new ≡ board_with_slot self.old slot (Some (own_hold env)) }
     {
         self.slots.take(env, slot).unwrap();
-        push_slot(&mut self.journal, &self.slots, self.time, slot);
+        push_slot(&mut self.journal, &self.slots, self.time.ticks(), slot);
     }
 
     /// A slot that the runner holds is empty, or its owner's again, and the ledger says so.
@@ -85,6 +85,6 @@ impl Board {
         ensures { self.new ≡ board_with_slot self.old slot (dropped env (hold_at self.old.slots.slots slot)) }
     {
         self.slots.drop_slot(env, slot).unwrap();
-        push_slot(&mut self.journal, &self.slots, self.time, slot);
+        push_slot(&mut self.journal, &self.slots, self.time.ticks(), slot);
     }
 }

@@ -22,11 +22,11 @@ impl Board {
         ensures plain { ArePlain self.old env result }
         ensures most { result ≤ most }
     {
-        let most = plain_most(&self.slots, &self.revocations, self.time, most);
+        let most = plain_most(&self.slots, &self.revocations, self.time.ticks(), most);
         let space = space_in(&self.roster, &self.bindings, env);
         let ticks = run_guest(&mut self.cpu, &mut self.frames, &space, most);
         self.slots.pass(ticks);
-        self.time += ticks;
+        self.time.pass(ticks);
         ticks
     }
 

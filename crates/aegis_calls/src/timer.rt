@@ -1,5 +1,6 @@
 //! The timer, and the stop of a runner: what they do to the board's parts.
-ghost use Rattle.std.specs.Prelude.{◌≡◌, ◌<◌, ◌^◌, ◌-◌, length, true, Some};
+ghost use Rattle.std.specs.Prelude.{◌≡◌, ◌<◌, length, true, Some};
+ghost use Rattle.aegis_limits.specs.Limits.{most_ticks};
 ghost use Rattle.slot_vector.specs.Slices.{timer_answer};
 ghost use Rattle.world_model.specs.Book.{running};
 
@@ -21,7 +22,7 @@ impl Board {
     {
         self.roster.keep(env, &self.cpu);
         self.journal.push(Row::Stop {
-            time: self.time,
+            time: self.time.ticks(),
             slot: self.slots.slot(),
             env,
         });
@@ -47,7 +48,7 @@ impl Board {
         let frame = self.roster.frame(env);
         frame.end(&mut self.frames, &mut self.cpu);
         self.journal.push(Row::End {
-            time: self.time,
+            time: self.time.ticks(),
             slot: self.slots.slot(),
             env,
         });
@@ -62,7 +63,13 @@ impl Board {
     {
         let end = self.roster.frame(env).handler(Context::End);
         let timer = self.slots.timer(end != 0);
-        settle(&mut self.slots, &mut self.journal, self.time, env, timer);
+        settle(
+            &mut self.slots,
+            &mut self.journal,
+            self.time.ticks(),
+            env,
+            timer,
+        );
         timer
     }
 
@@ -86,12 +93,12 @@ impl Board {
     /// The timer counts for a runner, and time rises by one.
     pub(crate) fn count(&mut self)
         requires room { 65 < self.old.ledger.spare }
-        requires time { self.old.time < 2 ^ 32 - 1 }
+        requires time { self.old.time < most_ticks }
         ensures { self.new ≡ after_timer_phase self.old }
     {
         if let Some(env) = self.runner() {
             self.count_down(env);
         }
-        self.time += 1;
+        self.time.pass(1);
     }
 }

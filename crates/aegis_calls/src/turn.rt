@@ -30,13 +30,13 @@ impl Board {
         let next = self.slots.next_turn();
         match next {
             NextTurn::Pay(turn) => self.journal.push(Row::Pay {
-                time: self.time,
+                time: self.time.ticks(),
                 slot: turn.slot,
                 env: turn.env,
             }),
             NextTurn::Run(turn) => {
                 self.journal.push(Row::Run {
-                    time: self.time,
+                    time: self.time.ticks(),
                     slot: turn.slot,
                     env: turn.env,
                 });

@@ -2,6 +2,7 @@
 ghost use Rattle.std.specs.Prelude.{◌≡◌, Some};
 
 use crate::board::Board;
+use aegis_limits::Version;
 use board_acts::space_in;
 use call_verdicts::CallView;
 use env_frames::Context;
@@ -63,6 +64,14 @@ impl CallView for Board {
         self.pages.row(page)
     }
 
+    fn version(&self) -> Version {
+        self.bindings.version()
+    }
+
+    fn richest(&self, env: u8) -> Option<u8> {
+        self.revocations.richest(&self.pages, env)
+    }
+
     fn lowest_free(&self) -> Option<u32> {
         self.pages.lowest_free()
     }
@@ -119,6 +128,6 @@ impl CallView for Board {
     }
 
     fn time(&self) -> u32 {
-        self.time
+        self.time.ticks()
     }
 }

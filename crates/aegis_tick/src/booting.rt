@@ -8,8 +8,8 @@ ghost use Rattle.run_model.specs.Boot.{with_program, boot_world};
 ghost use Rattle.run_model.specs.Excess.{IsAccounted};
 
 use aegis_calls::Board;
-use aegis_limits::OutOfMemory;
-use boot_image::{Image, Program};
+use aegis_limits::{OutOfMemory, law_versions_are_within};
+use boot_image::{Image, Program, law_accepted_is_within};
 use run_model::law_boot_accounts;
 use std::alloc::Global;
 
@@ -35,10 +35,19 @@ pub fn boot(alloc: Global, image: &Image<'_>) -> Result<Board, OutOfMemory>
     ensures fresh { IfOk result IsFresh }
     ensures pages { IfOk result (λ b. length b.frames ≡ image.now.pages) }
 {
+    law_accepted_is_within();
+    law_versions_are_within();
     let slots = image.slots.as_slice();
     let programs = image.programs.as_slice();
     let envs = programs.len() as u8;
-    let mut board = Board::build(alloc, image.pages, image.quantum, slots, envs)?;
+    let mut board = Board::build(
+        alloc,
+        image.version,
+        image.pages,
+        image.quantum,
+        slots,
+        envs,
+    )?;
     add_all(&mut board, programs);
     law_boot_accounts();
     Ok(board)

@@ -31,6 +31,11 @@ returns-in-Some c =
           ap world_of after
           ∙ c.law_refusal.ensures b e code value has numbers (ap (verdict_now w) same ∙ refused)
           ∙ ap (λ n. tick.refused_world w n code value) same;
+      again = λ i who is asks.
+          let same = one e i (sym runs ∙ is) in
+          ap world_of after
+          ∙ c.law_again_answered.ensures b e who has numbers (ap (verdict_now w) same ∙ asks)
+          ∙ ap (λ n. tick.again_world w n who) same;
       time = ap (λ (s : Shown). s.time) after ∙ leaves.time;
       numbers = omega (arith, leaves.numbers, ap (λ (s : Shown). s.claims.next) after);
       whole = ap (λ (s : Shown). s.roster.spare) after ∙ leaves.spare;

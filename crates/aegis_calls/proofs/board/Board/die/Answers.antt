@@ -19,7 +19,10 @@ invariant_of-self c =
     rw c.release_slots.ensures.slots (sound_machine (sound_slots _ (release_manned b.slots b.roster c.args.env runs.its c.self.invariant.book) c.self.invariant))
 
 pub bury-requires : goal.bury-requires
-bury-requires c = search (rules, runner_live, none_left)
+bury-requires c = record {
+  there = (runner_live c.self.view_is c.self.invariant c.requires.runs).0;
+  released = rw c.release_slots.ensures.slots (none_left c.self.inside.slots c.self.inside.roster c.args.env);
+}
 
 pub returns : goal.returns
-returns c = rw (c.bury.ensures, c.release_slots.ensures.slots, c.release_slots.ensures.journal) (ap (λ (s : Shown). after_death s c.args.env c.args.cause) c.self.view_is)
+returns c = rw (c.bury.ensures, c.release_slots.ensures.slots, c.release_slots.ensures.journal, c.ticks.ensures.ticks) (ap (λ (s : Shown). after_death s c.args.env c.args.cause) c.self.view_is)

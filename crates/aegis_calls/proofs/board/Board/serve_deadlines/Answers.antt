@@ -7,4 +7,4 @@ use Rattle.aegis_calls.proofs.board.Board.serve_deadlines.Goals as goal
 
 pub returns-else-is_due : goal.returns-else-is_due
 returns-else-is_due c =
-    nothing_due c.args.self.now (ap (λ (s : Shown). is_any_due s.revocations s.time) (sym c.self.view_is) ∙ sym c.is_due.ensures ∙ c.if-is_due.false)
+    nothing_due c.args.self.now (ap (λ (s : Shown). is_any_due s.revocations s.time) (sym c.self.view_is) ∙ ap (is_any_due c.self.inside.revocations) (sym c.ticks.ensures.ticks) ∙ sym c.is_due.ensures ∙ c.if-is_due.false)

@@ -11,4 +11,4 @@ take_all-requires c = search (rules, takings_few)
 pub invariant_of-self : goal.invariant_of-self
 invariant_of-self c =
     let b = c.self-2.inside in
-    rw c.served.ensures (sound_asked _ (served_asked b.revocations b.pages b.time c.self-2.invariant.revocations) c.self-2.invariant)
+    rw (c.served.ensures, c.ticks-2.ensures.ticks) (sound_asked _ (served_asked b.revocations b.pages b.time c.self-2.invariant.revocations) c.self-2.invariant)

@@ -1,5 +1,5 @@
 -- The target lives and has its context page; the slots, whom it accepts and which registers are kept change nobody's life or pages.
-use Rattle.std.proofs.Common.{ap, sym, subst, ◌≡◌, ◌≢◌, ◌∙◌}
+use Rattle.std.proofs.Common.{ℕ, ap, sym, subst, ◌≡◌, ◌≢◌, ◌∙◌}
 use Rattle.env_frames.specs.Context.{handler_of}
 use Rattle.env_frames.specs.Transfer.{entry_context, hands_slot}
 use Rattle.mips_exec.specs.declared.registers.Cpu.{Cpu}
@@ -9,6 +9,7 @@ use Rattle.world_model.specs.declared.verdict.Verdict.TheVariants.{Grant}
 use Rattle.board_model.specs.Doing.{with_mask, after_entry, after_hand_on, entry_roster, with_registers}
 use Rattle.board_model.specs.Shown.{Shown, handlers_of, with_list}
 use Rattle.board_model.specs.Sound.{IsLiving}
+use Rattle.board_acts.specs.Parts.{with_turns}
 use Rattle.board_model.proofs.Parted.{context_there}
 use Rattle.board_model.proofs.Sound.{given_manned, keeps_accepting, keeps_registers}
 use Rattle.board_model.proofs.Staying.{sound_env, sound_frames, sound_machine, sound_slots}
@@ -48,5 +49,7 @@ returns c =
     let t = c.args.target in
     let b = seen c.self.view_is in
     let handed : Shown = record b { slots = c.hand_on.new.slots; ledger = c.hand_on.new.journal } in
+    let hands : handed ≡ after_hand_on b e t c.args.kind =
+    subst (λ (time : ℕ). with_turns b c.hand_on.new.slots time c.hand_on.new.journal ≡ after_hand_on (with_turns b b.slots time b.ledger) e t c.args.kind) c.ticks.ensures.ticks (c.hand_on.ensures b) in
     c.enter.ensures.after handed
-    ∙ ap (λ (s : Shown). after_entry s e c.args.value t c.args.kind) (c.hand_on.ensures b ∙ ap (λ (s : Shown). after_hand_on s e t c.args.kind) c.self.view_is)
+    ∙ ap (λ (s : Shown). after_entry s e c.args.value t c.args.kind) (hands ∙ ap (λ (s : Shown). after_hand_on s e t c.args.kind) c.self.view_is)
