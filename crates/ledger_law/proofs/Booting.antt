@@ -9,7 +9,7 @@ use Rattle.boot_image.specs.Accepted.{IsAccepted}
 use Rattle.kernel_journal.specs.declared.row.Row.{Row}
 use Rattle.kernel_journal.specs.declared.row.Row.TheVariants as row
 use Rattle.world_model.specs.Book.{Book, own_hold}
-use Rattle.run_model.specs.Boot.{boot_book, boot_slot, boot_world, own_row, own_rows, with_all_kept, with_kept}
+use Rattle.run_model.specs.Boot.{book_of_image, boot_slot, boot_world, own_row, own_rows, with_all_kept, with_kept}
 use Rattle.ledger_rules.specs.LedgerState.{LedgerState, first_state, state_after, state_from}
 use Rattle.ledger_rules.specs.RowRules.{are_fit, is_behind, is_fit, is_fit_by_kind, is_in_time}
 use Rattle.ledger_law.proofs.Told.{Core, IsBound, IsTold, Says, and_true, core, fit_append, state_append}
@@ -147,8 +147,8 @@ boot_told image accepted = record {
     s : LedgerState
     s = state_after (own_rows owners (length owners))
 
-    same : core (boot_world image).book ≡ core (boot_book image.pages image.quantum image.slots)
-    same = core_kept 0 image.programs (boot_book image.pages image.quantum image.slots)
+    same : core (boot_world image).book ≡ core (book_of_image image)
+    same = core_kept 0 image.programs (book_of_image image)
 
     booted : Booted owners (length owners) s
     booted = booted_rows owners (length owners)

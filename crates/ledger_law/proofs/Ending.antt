@@ -1,29 +1,25 @@
 -- The end of a ledger.
-use Rattle.std.proofs.Common.{arith, refl, sym, ◌∙◌, ap, subst, ◌≡◌, ◌<◌, ◌≤◌, ◌+◌, ◌-◌, ◌⊎◌, inl, inr, ℕ, zero, suc, List, [], ◌∷◌, ◌++◌, map, Bool, true, false, Option, None, Some}
-use Rattle.std.specs.Prelude.{◌==◌, nat_lt, if◌then◌else◌, is_none}
+use Rattle.std.proofs.Common.{arith, refl, sym, ◌∙◌, ap, subst, ◌≡◌, ◌<◌, ◌≤◌, ◌+◌, ◌⊎◌, inl, inr, ℕ, zero, suc, List, [], ◌∷◌, ◌++◌, map, Bool, true, false, Option, None, Some}
+use Rattle.std.specs.Prelude.{◌==◌, if◌then◌else◌, is_none}
 use Rattle.std.proofs.lemmas.Bool.{and_parts, cases_lt, cond_both, eq-eqb, le-leb}
-use Rattle.aegis_limits.specs.Limits.{most_slots, excess_limit}
+use Rattle.aegis_limits.specs.Limits.{most_slots}
 use Rattle.external_event.specs.declared.event.Occurrence.{Occurrence}
 use Rattle.revocation_book.specs.declared.revocation.Taking.{Taking}
-use Rattle.kernel_journal.specs.declared.row.Row.TheVariants as row
 use Rattle.world_model.specs.declared.call.Deed.{Deed}
 use Rattle.world_model.specs.declared.call.Deed.TheVariants.{Answers, Own, Stops, Gives, Allocates, Frees, Recaps, Binds, Unbinds, Transfers, TakesSlot, DropsSlot, TakesLine, DropsLine, Claims, Unclaims, Downloads, Loads}
-use Rattle.world_model.specs.declared.slot.Phase.{Phase}
-use Rattle.world_model.specs.declared.slot.Phase.TheVariants as phase
 use Rattle.world_model.specs.declared.slot.Runner.{Runner}
 use Rattle.world_model.specs.declared.slot.Turn.{Turn}
 use Rattle.world_model.specs.declared.verdict.Verdict.{Verdict}
-use Rattle.world_model.specs.declared.verdict.Verdict.TheVariants.{Refuse, Grant}
+use Rattle.world_model.specs.declared.verdict.Verdict.TheVariants.{Refuse, Again, Grant}
 use Rattle.world_model.specs.Book.{Book, is_idle_book, next_held_turn, whole_turn}
 use Rattle.world_model.specs.Event.{happen}
-use Rattle.world_model.specs.Item.{End, deed_at}
-use Rattle.world_model.specs.SlotCalls.{stop_row}
+use Rattle.world_model.specs.Item.{deed_at}
 use Rattle.world_model.specs.Step.{Act, Nothing, Stores, Calls, Raises, Dies}
 use Rattle.world_model.specs.Tick.{act_now, act_reply, count_when, phases_after, serve_phases, step, step_when, timer_now, timer_reply, turn, turn_when, take_turn}
 use Rattle.world_model.specs.declared.timer.Timer.{Timer}
 use Rattle.world_model.specs.declared.timer.Timer.TheVariants as answer
 use Rattle.world_model.specs.Verdict.{done, reply_by_verdict, verdict}
-use Rattle.world_model.specs.World.{World, Reply, after, no_items, only, run_phases}
+use Rattle.world_model.specs.World.{World, after, run_phases}
 use Rattle.call_verdicts.specs.Granted.{GrantedMay}
 use Rattle.run_model.specs.Boot.{boot_world}
 use Rattle.run_model.specs.Excess.{TurnsGoByRule}
@@ -35,7 +31,7 @@ use Rattle.ledger_rules.specs.LedgerState.{LedgerState, limit_in, state_after}
 use Rattle.ledger_rules.specs.RowRules.{are_empty, is_empty_slot, is_end}
 use Rattle.ledger_law.specs.LedgerLaw.{EndFits, says_idle}
 use Rattle.ledger_law.proofs.Told.{Core, IsTold, SaysRunner, and_true, core}
-use Rattle.ledger_law.proofs.Events.{happen_early}
+use Rattle.ledger_law.proofs.Events.{asking_early, happen_early}
 use Rattle.ledger_law.proofs.Turning.{all_true}
 use Rattle.ledger_law.proofs.Stepping.{get_runs}
 use Rattle.ledger_law.proofs.Ticks.{NextIs, behind, phases_in_two, run_told}
@@ -80,6 +76,7 @@ done_time w e (Loads page) = refl
 
 reply_time : (w : World) (e : ℕ) (v : Verdict) → (reply_by_verdict w e v).book.time ≡ w.book.time
 reply_time w e (Refuse code value) = refl
+reply_time w e (Again who) = ap (λ (c : Core). c.time) (asking_early who w).same
 reply_time w e (Grant value) = done_time w e (deed_at (w.solos e) value)
 
 act_time : (w : World) (e : ℕ) (act : Act) → (act_reply e act w).book.time ≡ w.book.time

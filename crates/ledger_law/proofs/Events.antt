@@ -1,6 +1,6 @@
 -- What comes before the turn: events, and pages that are taken.
 use Rattle.std.proofs.Common.{arith, refl, ◌∙◌, ap, ◌≡◌, ◌+◌, ℕ, List, [], ◌∷◌, ◌++◌, map, Bool, false, Option, None, Some}
-use Rattle.std.specs.Prelude.{◌&&◌, is_none}
+use Rattle.std.specs.Prelude.{◌*◌, ◌&&◌, is_none}
 use Rattle.std.proofs.lemmas.Bool.{cond_both}
 use Rattle.external_event.specs.declared.event.Occurrence.{Occurrence}
 use Rattle.external_event.specs.declared.event.Occurrence.TheVariants as outside
@@ -13,6 +13,7 @@ use Rattle.world_model.specs.Deadlines.{settles, takes}
 use Rattle.world_model.specs.Book.{first_turn, is_idle_book}
 use Rattle.world_model.specs.Event.{arrives, asks, happen, revokes, signals}
 use Rattle.world_model.specs.Tick.{serve_phases}
+use Rattle.world_model.specs.Verdict.{asks_one}
 use Rattle.world_model.specs.World.{World, Reply, after, is_living, no_change, run_phases}
 use Rattle.run_model.specs.Excess.{IsAccounted}
 use Rattle.run_model.proofs.Balance.{happen_accounts, settling_accounts, taking_accounts}
@@ -40,6 +41,12 @@ revoke_early : (e count deadline : ℕ) (w : World) → Early w (revokes e count
 revoke_early e count deadline w =
     let pending = asked count deadline (w.book.pending e) in
     cond_both (is_living w e) (asks e pending w) (no_change w) (λ (r : Reply). Early w r) (λ lives. ask_early e pending w) (λ gone. record { same = refl; mute = tt })
+
+-- so it is where a caller asks another environment for a page
+pub asking_early : (who : ℕ) (w : World) → Early w (asks_one who w)
+asking_early who w =
+    let until = w.book.time + 2 * w.book.quantum in
+    cond_both (is_none (w.book.pending who)) (revokes who 1 until w) (no_change w) (λ (r : Reply). Early w r) (λ nothing. revoke_early who 1 until w) (λ pending. record { same = refl; mute = tt })
 
 pub happen_early : (what : Occurrence) (w : World) → Early w (happen what w)
 happen_early (outside.Packet packet) w = packet_early packet (claim_of w.book packet) w

@@ -17,7 +17,7 @@ use Rattle.world_model.specs.declared.slot.Hold.{Hold}
 use Rattle.world_model.specs.declared.slot.Phase.{Phase}
 use Rattle.world_model.specs.declared.slot.Runner.{Runner}
 use Rattle.world_model.specs.declared.verdict.Verdict.{Verdict}
-use Rattle.world_model.specs.declared.verdict.Verdict.TheVariants.{Refuse, Grant}
+use Rattle.world_model.specs.declared.verdict.Verdict.TheVariants.{Refuse, Again, Grant}
 use Rattle.world_model.specs.Table.{set_at}
 use Rattle.world_model.specs.Book.{Book, hold_without, own_hold}
 use Rattle.world_model.specs.Death.{death, released_rows}
@@ -27,7 +27,7 @@ use Rattle.world_model.specs.SlotCalls.{dropped, gift_refusal, handed, held_by, 
 use Rattle.world_model.specs.Solo.{Solo, is_dead}
 use Rattle.world_model.specs.Step.{Act, Nothing, Stores, Calls, Raises, Dies, act_of, acted, step_alone, stepped}
 use Rattle.world_model.specs.Tick.{act_now, act_reply, step, step_when}
-use Rattle.world_model.specs.Verdict.{done, reply_by_verdict, verdict}
+use Rattle.world_model.specs.Verdict.{asks_one, done, reply_by_verdict, verdict}
 use Rattle.world_model.specs.World.{World, Reply, after, tells}
 use Rattle.call_verdicts.specs.Granted.{GrantedMay}
 use Rattle.run_model.specs.Excess.{Lives}
@@ -36,6 +36,7 @@ use Rattle.run_model.proofs.Telling.{deed_may, told_named, told_own}
 use Rattle.ledger_rules.specs.LedgerState.{LedgerState, after_row, due_after, limit_in, slot_by, state_after, state_from, time_of}
 use Rattle.ledger_rules.specs.RowRules.{are_fit, changed_row, is_by_limit, is_change, is_first, is_fit, is_fit_by_kind, is_gift, is_in_time, is_number, is_own_row, is_row, is_runners, may_change, stand_first}
 use Rattle.ledger_law.proofs.Told.{Core, From, IsBound, IsMute, IsRunning, IsTold, Says, SaysRunner, and_true, by_limit, core, in_time, lives_before, told_after}
+use Rattle.ledger_law.proofs.Events.{asking_early}
 use Rattle.ledger_law.proofs.Mute.{mute_fits, mute_from, mute_says, mute_spares, mute_told}
 use Rattle.ledger_law.proofs.Releasing.{Leaves, all_released, at_time_slot, due_fits, released_all, releases_at, slot_row_self, slot_said, slots_leave, stand_self}
 
@@ -317,6 +318,9 @@ module _ (q : ℕ) (w : World) (r : Runner) (is : w.book.runner ≡ Some r) (tol
   reply_told : (v : Verdict) → ((value : ℕ) → v ≡ Grant value → May w r.env (deed_at (w.solos r.env) value)) → IsTold q 1 0 1 (after w (reply_by_verdict w r.env v))
   reply_told (Refuse code value) may =
       deeds_told q w (reply_by_verdict w r.env (Refuse code value)) told (mute_deeds q w r is told w.book [] refl tt)
+  reply_told (Again who) may =
+      let early = asking_early who w in
+      deeds_told q w (reply_by_verdict w r.env (Again who)) told (mute_deeds q w r is told (asks_one who w).book (asks_one who w).rows early.same early.mute)
   reply_told (Grant value) may =
       let d = deed_at (w.solos r.env) value in
       deeds_told q w (reply_by_verdict w r.env (Grant value)) told (deed_fits d (may value refl))

@@ -15,7 +15,7 @@ use Rattle.world_model.specs.Table.{set_at}
 use Rattle.aegis_limits.specs.Limits.{excess_limit}
 use Rattle.world_model.specs.Death.{death, released_rows}
 use Rattle.world_model.specs.Item.{End, Killed, absorb}
-use Rattle.world_model.specs.SlotCalls.{in_grace, stop_row}
+use Rattle.world_model.specs.SlotCalls.{in_grace}
 use Rattle.world_model.specs.Solo.{Solo, dead, is_dead}
 use Rattle.world_model.specs.Step.{Dies}
 use Rattle.world_model.specs.Tick.{act_reply, clock, count_when, grace_again, grace_of, handles_end, kill, owes_more, timer, timer_reply, with_runner}

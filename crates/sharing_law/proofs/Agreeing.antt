@@ -4,6 +4,7 @@ use Rattle.std.proofs.Common.{◌≡◌, ◌≤◌, ℕ, zero, suc, ◌+◌, Lis
 use Rattle.std.proofs.lemmas.Bool.{both_ways}
 use Rattle.std.proofs.Math.Seq.{take-nil}
 use Rattle.std.specs.Prelude.{◌↔◌}
+use Rattle.aegis_limits.specs.declared.version.Version.{Version}
 use Rattle.boot_image.specs.ImageValue.{ImageValue, ProgramValue, guaranteed_mappings}
 use Rattle.page_book.specs.declared.row.PageRow.{PageRow}
 use Rattle.page_book.specs.declared.row.PageRow.TheVariants.{Free}
@@ -26,10 +27,11 @@ use Rattle.world_model.specs.World.{World, Reply, after, run_phases}
 use Rattle.revocation_book.specs.declared.revocation.Taking.{Taking}
 use Rattle.revocation_book.specs.Takings.{AreTakable, TakingsAreTakable}
 use Rattle.world_model.specs.ClaimCalls.{claim_of}
-use Rattle.world_model.specs.Deadlines.{revocations, settles, takes}
+use Rattle.world_model.specs.Deadlines.{settles, takes}
+use Rattle.world_model.specs.PageCalls.{revocations}
 use Rattle.world_model.specs.Tick.{phases_after, step, step_when, tick_phases, timer, turn}
-use Rattle.call_verdicts.specs.Granted.{GrantedMay}
-use Rattle.run_model.specs.Boot.{boot_book, boot_world, keep_lowest, keep_pages, record_items, with_all_kept, with_kept}
+use Rattle.call_verdicts.specs.Granted.{AgainAsks, GrantedMay}
+use Rattle.run_model.specs.Boot.{book_of_image, boot_world, keep_lowest, keep_pages, record_items, with_all_kept, with_kept}
 use Rattle.run_model.specs.Run.{System, happens_in, moment, takings_in, world_after}
 use Rattle.run_model.specs.Excess.{IsAccounted}
 use Rattle.run_model.specs.Licensed.{MayTaking}
@@ -85,13 +87,13 @@ record IsBlank (s : Solo) : Type 0 where
   seen : (page : ℕ) → s.seen page ≡ None
   rings : s.rings ≡ []
 
-blank : (e : ℕ) (o : Option ProgramValue) → IsBlank (absorb_all (absent e) (record_items e o))
-blank e None = record { binds = λ row. refl; seen = λ page. refl; rings = refl }
-blank e (Some p) = record { binds = λ row. refl; seen = λ page. refl; rings = refl }
+blank : (v : Version) (e : ℕ) (o : Option ProgramValue) → IsBlank (absorb_all (absent e) (record_items v e o))
+blank v e None = record { binds = λ row. refl; seen = λ page. refl; rings = refl }
+blank v e (Some p) = record { binds = λ row. refl; seen = λ page. refl; rings = refl }
 
 module _ (image : ImageValue) where
   book_fresh : IsFresh (boot_world image).book
-  book_fresh = fresh_kept 0 image.programs (boot_book image.pages image.quantum image.slots) (record {
+  book_fresh = fresh_kept 0 image.programs (book_of_image image) (record {
     pages = record { owns = λ i page. refl; behind = λ page more. refl };
     binds = λ e row. refl;
     claims = refl;
@@ -170,13 +172,13 @@ fine_timer w fine =
     let lives = fine.accounted.runner_lives in
     record { sound = sound_timed w fine.sound fine.claimed lives fine.allocated; allocated = allocated_timed w fine.allocated; accounted = timer_accounts w fine.accounted; claimed = claimed_timed w fine.sound fine.claimed lives; backed = timer_backed w fine.backed }
 
-module _ (granted : GrantedMay) where
+module _ (granted : GrantedMay) (again : AgainAsks) where
   -- the step, whoever runs
   sound_step : (w : World) (o : Option Runner) → w.book.runner ≡ o → Fine w → (let v = after w (step_when w o) in AreBoundAllocated v → Sound v × Claimed v)
   sound_step w None is fine next = let v = after w (step_when w None) in (sound_alike w v (unchanged w) fine.sound, claimed_alike w v (unchanged w) fine.claimed)
   sound_step w (Some r) is fine next =
       let v = after w (step_when w (Some r)) in
-      let stepped = step_follows granted w r.env fine.sound fine.allocated fine.claimed (fine.accounted.runner_lives r is) (ap running is) in
+      let stepped = step_follows granted again w r.env fine.sound fine.allocated fine.claimed (fine.accounted.runner_lives r is) (ap running is) in
       (sound_following w r.env stepped.came_to v stepped.items fine.sound stepped.follows next, claimed_following w r.env stepped.came_to v stepped.items fine.sound stepped.follows)
 
   fine_step : KeepsFine step
@@ -223,23 +225,23 @@ module _ (granted : GrantedMay) where
     }
     all_fine system (suc t) = after_tick system t Fine (moment_fine system t (all_fine system t))
 
-pub books_agree : GrantedMay → TakingsAreTakable → BooksAgree
-books_agree granted takable system t = (all_fine granted takable system t).sound.agreed
+pub books_agree : GrantedMay → AgainAsks → TakingsAreTakable → BooksAgree
+books_agree granted again takable system t = (all_fine granted again takable system t).sound.agreed
 
-pub bound_is_allocated : GrantedMay → TakingsAreTakable → BoundIsAllocated
-bound_is_allocated granted takable system t = (all_fine granted takable system t).allocated
+pub bound_is_allocated : GrantedMay → AgainAsks → TakingsAreTakable → BoundIsAllocated
+bound_is_allocated granted again takable system t = (all_fine granted again takable system t).allocated
 
-pub pages_end : GrantedMay → TakingsAreTakable → PagesEnd
-pages_end granted takable system t k page past = (moment_fine granted takable system t (all_fine granted takable system t) k).sound.behind page past
+pub pages_end : GrantedMay → AgainAsks → TakingsAreTakable → PagesEnd
+pages_end granted again takable system t k page past = (moment_fine granted again takable system t (all_fine granted again takable system t) k).sound.behind page past
 
-pub claims_agree : GrantedMay → TakingsAreTakable → ClaimsAgree
-claims_agree granted takable system t = (all_fine granted takable system t).claimed.rings
+pub claims_agree : GrantedMay → AgainAsks → TakingsAreTakable → ClaimsAgree
+claims_agree granted again takable system t = (all_fine granted again takable system t).claimed.rings
 
-pub claims_are_sound : GrantedMay → TakingsAreTakable → ClaimsAreSound
-claims_are_sound granted takable system t k c listed = let good = (all_fine granted takable system t).claimed.good.each c (k, listed) in record { filter = good.rule; owned = good.owned; below = good.below; only = good.only }
+pub claims_are_sound : GrantedMay → AgainAsks → TakingsAreTakable → ClaimsAreSound
+claims_are_sound granted again takable system t k c listed = let good = (all_fine granted again takable system t).claimed.good.each c (k, listed) in record { filter = good.rule; owned = good.owned; below = good.below; only = good.only }
 
-pub backups_are_owned : GrantedMay → TakingsAreTakable → BackupsAreOwned
-backups_are_owned granted takable system t = backups_owned (world_after system t).book (all_fine granted takable system t).backed
+pub backups_are_owned : GrantedMay → AgainAsks → TakingsAreTakable → BackupsAreOwned
+backups_are_owned granted again takable system t = backups_owned (world_after system t).book (all_fine granted again takable system t).backed
 
 -- a packet that two filters match
 swap : (f g : List Atom) → Overlap f g → Overlap g f
@@ -249,9 +251,9 @@ swap f g (packet, common) = (packet, record { is = common.is; left = common.righ
 abbrev pub AgreeIsOverlap : Type 0
 AgreeIsOverlap = (f g : List Atom) → is_filter f ≡ true → is_filter g ≡ true → (agree f g ≡ true) ↔ Overlap f g
 
-pub claims_are_apart : GrantedMay → TakingsAreTakable → AgreeIsOverlap → ClaimsAreApart
-claims_are_apart granted takable overlap system t j k c d its others other common =
-    let good = (all_fine granted takable system t).claimed.good in
+pub claims_are_apart : GrantedMay → AgainAsks → TakingsAreTakable → AgreeIsOverlap → ClaimsAreApart
+claims_are_apart granted again takable overlap system t j k c d its others other common =
+    let good = (all_fine granted again takable system t).claimed.good in
     let of_c = good.each c (j, its) in
     let of_d = good.each d (k, others) in
     elim (good.apart c d (j, its) (k, others) other) [

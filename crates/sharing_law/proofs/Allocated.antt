@@ -10,13 +10,13 @@ use Rattle.world_model.specs.Book.{running}
 use Rattle.external_event.specs.declared.event.Occurrence.{Occurrence}
 use Rattle.external_event.specs.declared.event.Occurrence.TheVariants as outside
 use Rattle.world_model.specs.Event.{happen}
-use Rattle.world_model.specs.PageCalls.{page_bytes}
+use Rattle.world_model.specs.PageCalls.{page_bytes, revocations}
 use Rattle.revocation_book.specs.declared.revocation.Taking.{Taking}
 use Rattle.revocation_book.specs.Takings.{AreTakable, TakingsAreTakable}
-use Rattle.world_model.specs.Deadlines.{revocations, settles, takes}
+use Rattle.world_model.specs.Deadlines.{settles, takes}
 use Rattle.world_model.specs.Tick.{phases_after, step, step_when, tick_phases, timer, turn}
 use Rattle.world_model.specs.World.{World, Reply, after, run_phases}
-use Rattle.call_verdicts.specs.Granted.{GrantedMay}
+use Rattle.call_verdicts.specs.Granted.{AgainAsks, GrantedMay}
 use Rattle.run_model.specs.Licensed.{MayTaking}
 use Rattle.run_model.specs.Run.{System, given_at, given_by, happens_in, moment, next_phases, takings_in, world_after}
 use Rattle.run_model.proofs.Phases.{next_moment, once_more}
@@ -61,10 +61,10 @@ event_fates (outside.Revoke env count grace) w fine o page owns = alike_stay w (
 taking_fates : (x : Taking) (w : World) → MayTaking w x → Fine w → StayOrCome w (takes x w)
 taking_fates x w may fine o page owns = grind (arith, common_steps, taking_owned)
 
-step_fates : GrantedMay → (w : World) (o : Option Runner) → w.book.runner ≡ o → Fine w → Fates w (after w (step_when w o))
-step_fates granted w None is fine o page owns = alike_fates w (after w (step_when w None)) (unchanged w) o page owns
-step_fates granted w (Some r) is fine o page owns =
-    let stepped = step_follows granted w r.env fine.sound fine.allocated fine.claimed (fine.accounted.runner_lives r is) (ap running is) in
+step_fates : GrantedMay → AgainAsks → (w : World) (o : Option Runner) → w.book.runner ≡ o → Fine w → Fates w (after w (step_when w o))
+step_fates granted again w None is fine o page owns = alike_fates w (after w (step_when w None)) (unchanged w) o page owns
+step_fates granted again w (Some r) is fine o page owns =
+    let stepped = step_follows granted again w r.env fine.sound fine.allocated fine.claimed (fine.accounted.runner_lives r is) (ap running is) in
     let now = after w (step_when w (Some r)) in
     let brings = stepped.follows.brings in
     let bytes = owner_bytes now brings.bytes (all_see w r.env stepped.came_to now stepped.items fine.sound stepped.follows) o page owns in
@@ -80,7 +80,7 @@ module _ (base w : World) where
   its_fates : (p q : World → Reply) → PhaseFates base w (p w) → Some p ≡ Some q → PhaseFates base w (q w)
   its_fates p q fates same = let is : p ≡ q = cc in subst (λ (r : World → Reply). PhaseFates base w (r w)) is fates
 
-module _ (granted : GrantedMay) (takable : TakingsAreTakable) where
+module _ (granted : GrantedMay) (again : AgainAsks) (takable : TakingsAreTakable) where
   fates_behind : (xs : List Taking) (base w : World) → AreTakable (revocations w.book) w.book.time xs → (k : ℕ) (phase : World → Reply) → slice_get (tick_phases xs) k ≡ Some phase → ListsLess base.book w.book
       → (let m = run_phases w (take k (tick_phases xs)) in Fine m → PhaseFates base m (phase m))
   fates_behind [] base w may zero phase is less fine = its_fates base w settles phase (Otherwise (alike_stay w (settles w) (settled_alike w))) is
@@ -91,7 +91,7 @@ module _ (granted : GrantedMay) (takable : TakingsAreTakable) where
       let v = after w (settles w) in
       let m = after v (turn v) in
       let left = less_alike base v m (less_alike base w v less (settled_alike w)) (turn_alike v) in
-      its_fates base m step phase (Stepwise left (step_fates granted m m.book.runner refl fine)) is
+      its_fates base m step phase (Stepwise left (step_fates granted again m m.book.runner refl fine)) is
   fates_behind [] base w may (suc (suc (suc zero))) phase is less fine =
       let v = after w (settles w) in
       let u = after v (turn v) in
@@ -125,12 +125,12 @@ module _ (granted : GrantedMay) (takable : TakingsAreTakable) where
         ⊎ (((is_owned_by owner ((moment system t k).book.pages page) ≡ true) × (IsStoredTo system t k page ⊎ (IsDelivered system t k page owner ⊎ IsCopied system t k page owner))) ⊎ IsAllocated system t k page owner)
 
     fine_at : (k : ℕ) → Fine (moment system t k)
-    fine_at k = moment_fine granted takable system t (all_fine granted takable system t) k
+    fine_at k = moment_fine granted again takable system t (all_fine granted again takable system t) k
 
     by_fate : (k page owner : ℕ) → ListsLess before.book (moment system t k).book → Fate (moment system t k) owner page (page_bytes (moment system t (suc k)) page) → Becomes k page owner
     by_fate k page owner lists (Stays owns same) = inl (owns, same)
     by_fate k page owner lists (Written owns e x acts into has) =
-        let through = store_lives granted takable system t (moment system t k) (fine_at k) lists e x page acts into in
+        let through = store_lives granted again takable system t (moment system t k) (fine_at k) lists e x page acts into in
         inr (inl (owns, inl (record { writer = e; store = x; acts = acts; into = into; through = through; has = has })))
     by_fate k page owner lists (Taken words does free zeros) = inr (inr (record { words = words; does = does; free = free; zeros = zeros }))
 
@@ -197,14 +197,14 @@ module _ (granted : GrantedMay) (takable : TakingsAreTakable) where
     zeros_since zero page owner owns = inl owns
     zeros_since (suc n) page owner owns = elim (zeros n page owner owns) [ inl had ↦ zeros_since n page owner had | inr taken ↦ inr (n, taken) ]
 
-pub allocated_change : GrantedMay → TakingsAreTakable → AllocatedChange
-allocated_change granted takable system t k page owner = change granted takable system t k page owner
+pub allocated_change : GrantedMay → AgainAsks → TakingsAreTakable → AllocatedChange
+allocated_change granted again takable system t k page owner = change granted again takable system t k page owner
 
-pub allocated_zeros : GrantedMay → TakingsAreTakable → AllocatedZeros
-allocated_zeros granted takable system t k page owner = zeros granted takable system t k page owner
+pub allocated_zeros : GrantedMay → AgainAsks → TakingsAreTakable → AllocatedZeros
+allocated_zeros granted again takable system t k page owner = zeros granted again takable system t k page owner
 
-pub allocated_in_tick : GrantedMay → TakingsAreTakable → AllocatedInTick
-allocated_in_tick granted takable system t page owner = after_tick system t (Since granted takable system t page owner) (λ n. since granted takable system t n page owner)
+pub allocated_in_tick : GrantedMay → AgainAsks → TakingsAreTakable → AllocatedInTick
+allocated_in_tick granted again takable system t page owner = after_tick system t (Since granted again takable system t page owner) (λ n. since granted again takable system t n page owner)
 
-pub zeros_in_tick : GrantedMay → TakingsAreTakable → ZerosInTick
-zeros_in_tick granted takable system t page owner = after_tick system t (ZerosSince granted takable system t page owner) (λ n. zeros_since granted takable system t n page owner)
+pub zeros_in_tick : GrantedMay → AgainAsks → TakingsAreTakable → ZerosInTick
+zeros_in_tick granted again takable system t page owner = after_tick system t (ZerosSince granted again takable system t page owner) (λ n. zeros_since granted again takable system t n page owner)

@@ -5,50 +5,51 @@ use Rattle.std.specs.Prelude.{◌==◌, if◌then◌else◌}
 use Rattle.std.proofs.lemmas.Bool.{eqb-true, ne_eqb}
 use Rattle.frame_store.specs.Pages.{zero_page}
 use Rattle.mips_exec.specs.declared.registers.Cpu.{Cpu}
-use Rattle.env_frames.specs.Transfer.{carried, hands_slot}
+use Rattle.env_frames.specs.Transfer.{carried}
 use Rattle.page_book.specs.declared.row.Capabilities.{Capabilities}
 use Rattle.page_book.specs.declared.row.PageRow.{PageRow}
 use Rattle.page_book.specs.declared.row.PageRow.TheVariants.{Free, Owned}
 use Rattle.page_book.specs.Row.{is_owned_by}
 use Rattle.page_book.proofs.Owners.{anothers}
 use Rattle.bind_book.specs.declared.binding.Binding.{Binding}
+use Rattle.aegis_limits.specs.declared.version.Version.{Version}
+use Rattle.bind_book.proofs.Rows.{row_most}
 use Rattle.bind_book.specs.Stripe.{binding_at, leads_to_page, is_bound, row_of, without}
 use Rattle.world_model.specs.declared.call.Deed.{Deed}
 use Rattle.world_model.specs.declared.call.Deed.TheVariants.{Gives as Donates, Allocates, Frees, Recaps, Binds, Unbinds, Transfers}
 use Rattle.world_model.specs.declared.life.Life.TheVariants.{Live}
-use Rattle.world_model.specs.declared.slot.Hold.{Hold}
 use Rattle.world_model.specs.Table.{set_at}
 use Rattle.filter_tree.specs.ClaimBook.{ClaimValue}
 use Rattle.filter_tree.specs.Claims.{is_into}
 use Rattle.revocation_book.specs.declared.revocation.Pending.{Pending}
 use Rattle.revocation_book.specs.Pending.{lowered}
 use Rattle.revocation_book.specs.Backups.{unloaded}
+use Rattle.world_model.specs.Event.{asks}
 use Rattle.world_model.specs.Book.{Book, without_bindings_of, withdrawn}
 use Rattle.world_model.specs.Holding.{bound, gained, lost, owning, after_unbind}
-use Rattle.world_model.specs.Item.{Item, Start, Transfer, Gained, Lost, absorb_all, own_part}
+use Rattle.world_model.specs.Item.{Item, Start, Transfer, Asked, Gained, Lost, absorb_all, own_part}
 use Rattle.world_model.specs.May.{May, MayAllocate, MayChange}
 use Rattle.world_model.specs.PageCalls.{lost_bindings, page_bytes, without_number}
 use Rattle.world_model.specs.Solo.{Solo}
-use Rattle.world_model.specs.SlotCalls.{handed}
-use Rattle.world_model.specs.Transfers.{slots_handed}
-use Rattle.world_model.specs.Verdict.{done}
-use Rattle.world_model.specs.World.{World, no_items, only}
+use Rattle.world_model.specs.Verdict.{asks_one, done}
+use Rattle.world_model.specs.World.{World, Reply, no_items, only}
 use Rattle.run_model.specs.Acting.{Does}
 use Rattle.page_laws.specs.Sight.{IsStripe, Sees}
 use Rattle.page_laws.proofs.Sights.{allocator_sees, binder_sees, freer_loses, others_dont, others_lose, recapper_keeps, unbinder_loses, HasNone}
 use Rattle.page_laws.proofs.Stripes.{bound_nowhere, without_ends}
 use Rattle.page_laws.proofs.Tables.{set_here, set_else, set_owns}
 use Rattle.sharing_law.specs.Agreement.{AreBoundAllocated}
+use Rattle.sharing_law.proofs.Asking.{asking_or}
 use Rattle.sharing_law.proofs.Choices.{either}
 use Rattle.sharing_law.proofs.Given.{IsHanded, absorbs, handed_rests, own_leaves}
 use Rattle.sharing_law.proofs.Giving.{other_than}
 use Rattle.sharing_law.proofs.Owning.{one_owner}
 use Rattle.sharing_law.proofs.Sound.{Sound}
-use Rattle.sharing_law.proofs.Brings.{Brings, Fate, Stays, Taken, GoesOn, as_before, silent_but}
+use Rattle.sharing_law.proofs.Brings.{Brings, Fate, Stays, Taken, GoesOn, as_before, silent, silent_but}
 
 -- a row of a stripe is none behind its last one
-set_ends : (vpn : ℕ) (x : Option Binding) (stripe : ℕ → Option Binding) → IsStripe stripe → IsStripe (set_at (row_of vpn) x stripe)
-set_ends vpn x stripe ends row behind = grind (arith, common_steps, set_else)
+set_ends : (v : Version) (vpn : ℕ) (x : Option Binding) (stripe : ℕ → Option Binding) → IsStripe stripe → IsStripe (set_at (row_of v vpn) x stripe)
+set_ends v vpn x stripe ends row behind = set_else (row_of v vpn) row x stripe (λ same. omega (arith, same, behind, row_most v vpn)) ∙ ends row behind
 
 module _ (w : World) (e : ℕ) (sound : Sound w) (lives : (w.solos e).life ≡ Live) (allocated : AreBoundAllocated w) (cpu : Cpu) where
   -- the caller once it is answered, and lives
@@ -180,34 +181,36 @@ module _ (w : World) (e : ℕ) (sound : Sound w) (lives : (w.solos e).life ≡ L
 
   bind_brings : (b : Binding) (word : ℕ) → Brings w e (caller (Binds b word)) (done w e (Binds b word)).book (done w e (Binds b word)).items
   bind_brings b word =
-      let stripe = set_at (row_of b.vpn) (Some b) (w.book.binds e) in
+      let v = (w.solos e).version in
+      let stripe = set_at (row_of v b.vpn) (Some b) (w.book.binds e) in
       let now = caller (Binds b word) in
       let bytes = page_bytes w b.page in
       let its : List Item = Gained b.page b.writable bytes ∷ [] in
-      stripe_brings stripe (set_ends b.vpn (Some b) (w.book.binds e) (sound.stripes e)) (Binds b word) (only e its) (λ i ne. set_else e i its no_items ne)
+      stripe_brings stripe (set_ends v b.vpn (Some b) (w.book.binds e) (sound.stripes e)) (Binds b word) (only e its) (λ i ne. set_else e i its no_items ne)
       (subst (λ (s : Solo). Sees e w.book.pages stripe (page_bytes w) s) (sym (ap (absorb_all now) (set_here e its no_items) ∙ absorbs now (Gained b.page b.writable bytes) [] lives))
       (as_before e w.book.pages stripe (page_bytes w) (gained b.page bytes (bound b (w.solos e))) (gained b.page bytes now) refl refl
       (binder_sees e b w.book.pages (w.book.binds e) (page_bytes w) (w.solos e) (sound.agreed e))))
 
-  without_number_ends : (vpn : ℕ) → IsStripe (without_number vpn (w.book.binds e))
-  without_number_ends vpn =
+  without_number_ends : (v : Version) (vpn : ℕ) → IsStripe (without_number v vpn (w.book.binds e))
+  without_number_ends v vpn =
       let stripe = w.book.binds e in
-      either IsStripe (is_some (binding_at stripe vpn)) (set_at (row_of vpn) None stripe) stripe (set_ends vpn None stripe (sound.stripes e)) (sound.stripes e)
+      either IsStripe (is_some (binding_at v stripe vpn)) (set_at (row_of v vpn) None stripe) stripe (set_ends v vpn None stripe (sound.stripes e)) (sound.stripes e)
 
   unbind_brings : (vpn : ℕ) → Brings w e (caller (Unbinds vpn)) (done w e (Unbinds vpn)).book no_items
   unbind_brings vpn =
-      stripe_brings (without_number vpn (w.book.binds e)) (without_number_ends vpn) (Unbinds vpn) no_items (λ i ne. refl)
-      (as_before e w.book.pages (without_number vpn (w.book.binds e)) (page_bytes w) (after_unbind vpn (w.solos e)) (caller (Unbinds vpn)) refl refl
+      let v = (w.solos e).version in
+      stripe_brings (without_number v vpn (w.book.binds e)) (without_number_ends v vpn) (Unbinds vpn) no_items (λ i ne. refl)
+      (as_before e w.book.pages (without_number v vpn (w.book.binds e)) (page_bytes w) (after_unbind vpn (w.solos e)) (caller (Unbinds vpn)) refl refl
       (unbinder_loses e vpn w.book.pages (w.book.binds e) (page_bytes w) (w.solos e) (sound.agreed e)))
 
-  -- The rest of a slice goes to another, which starts or is entered.
+  -- The rest of a slice goes to another, which starts or is entered, or another is asked for a page.
   module _ (target : ℕ) (item : Item) (is_handed : IsHanded item) (other : e ≢ target) where
     other_sees : (i : ℕ) → SeesNow i w.book (page_bytes w) (absorb_all (w.solos i) (only target (item ∷ []) i))
     other_sees i = grind (arith, common_steps, handed_rests, as_before)
 
-    hands_brings : (s : Solo) → s.life ≡ Live → s.binds ≡ (w.solos e).binds → s.seen ≡ (w.solos e).seen → (slots : ℕ → Option Hold)
-        → Brings w e s (record w.book { slots = slots; runner = handed target w.book.runner }) (only target (item ∷ []))
-    hands_brings s alive binds sights slots = record {
+    hands_brings : (s : Solo) → s.life ≡ Live → s.binds ≡ (w.solos e).binds → s.seen ≡ (w.solos e).seen → (b : Book)
+        → Brings w e s (record b { page_count = w.book.page_count; pages = w.book.pages; binds = w.book.binds }) (only target (item ∷ []))
+    hands_brings s alive binds sights b = record {
       bytes = page_bytes w;
       own = subst (λ (its : List Item). SeesNow e w.book (page_bytes w) (absorb_all s its)) (sym (set_else target e (item ∷ []) no_items other))
           (as_before e w.book.pages (w.book.binds e) (page_bytes w) (w.solos e) s binds sights (sound.agreed e));
@@ -219,14 +222,20 @@ module _ (w : World) (e : ℕ) (sound : Sound w) (lives : (w.solos e).life ≡ L
       fortune = GoesOn alive;
     }
 
+  -- Another is asked for a page.
+  pub ask_brings : (s : Solo) → s.life ≡ Live → s.binds ≡ (w.solos e).binds → s.seen ≡ (w.solos e).seen → (who : ℕ) → e ≢ who → Brings w e s (asks_one who w).book (asks_one who w).items
+  ask_brings s alive binds sights who other =
+      asking_or (λ (r : Reply). Brings w e s r.book r.items) w who (silent w e sound lives s alive binds sights)
+      (λ p. hands_brings who (Asked p.outstanding p.deadline) tt other s alive binds sights (asks who (Some p) w).book)
+
   -- deed by deed
   pub deed_brings : (d : Deed) → Does w e d → May w e d → Brings w e (caller d) (done w e d).book (done w e d).items
-  deed_brings (Donates target) does may = hands_brings target Start tt (other_than w e target may.other) (caller (Donates target)) lives refl refl w.book.slots
+  deed_brings (Donates target) does may = hands_brings target Start tt (other_than w e target may.other) (caller (Donates target)) lives refl refl (done w e (Donates target)).book
   deed_brings (Allocates page words) does may = alloc_brings page words zero_page refl may does
   deed_brings (Frees page) does may = free_brings page may
   deed_brings (Recaps page words) does may = recap_brings page words may
   deed_brings (Binds b word) does may = bind_brings b word
   deed_brings (Unbinds vpn) does may = unbind_brings vpn
   deed_brings (Transfers target kind) does may =
-      hands_brings target (Transfer e kind (carried (w.solos e).cpu)) tt (other_than w e target may.reach.other) (caller (Transfers target kind)) lives refl refl (slots_handed (hands_slot kind) target w.book)
+      hands_brings target (Transfer e kind (carried (w.solos e).cpu)) tt (other_than w e target may.reach.other) (caller (Transfers target kind)) lives refl refl (done w e (Transfers target kind)).book
   deed_brings d does may = silent_but w e sound lives (caller d) (done w e d).book lives refl refl

@@ -28,20 +28,21 @@ use Rattle.world_model.specs.ClaimCalls.{atoms_or_none, filter_at}
 use Rattle.world_model.specs.Death.{death, death_items, lost_with}
 use Rattle.revocation_book.specs.declared.revocation.Taking.{Taking}
 use Rattle.world_model.specs.Deadlines.{copy_left}
-use Rattle.world_model.specs.Event.{ring_left}
+use Rattle.world_model.specs.Event.{asks, ring_left}
 use Rattle.world_model.specs.Holding.{with_binds}
-use Rattle.world_model.specs.Item.{Item, Start, Transfer, Gained, Lost, Left, absorb, absorb_all, absorbed, own_part}
+use Rattle.world_model.specs.Item.{Item, Start, Transfer, Asked, Gained, Lost, Left, absorb, absorb_all, absorbed, own_part}
 use Rattle.world_model.specs.May.{May, MayChange, MayClaim}
 use Rattle.world_model.specs.Page.{Mapped}
 use Rattle.world_model.specs.PageCalls.{lost_bindings, left_at, left_by, left_if, lost_if, page_bytes}
 use Rattle.world_model.specs.Rings.{page_store}
 use Rattle.world_model.specs.Solo.{Solo, Store, Key, Kept, Physical, dead, sight}
 use Rattle.world_model.specs.Table.{set_at}
-use Rattle.world_model.specs.Verdict.{done}
-use Rattle.world_model.specs.World.{World, no_items, only}
+use Rattle.world_model.specs.Verdict.{asks_one, done}
+use Rattle.world_model.specs.World.{World, Reply, no_items, only}
 use Rattle.page_laws.proofs.Mourning.{not_owned, owned_still}
 use Rattle.page_laws.proofs.Tables.{set_here, set_else}
 use Rattle.sharing_law.specs.Agreement.{ClaimPage, claim_page}
+use Rattle.sharing_law.proofs.Asking.{asking_or}
 use Rattle.sharing_law.proofs.Choices.{either}
 use Rattle.sharing_law.proofs.Lists.{Has, filter_none, not_there}
 use Rattle.sharing_law.proofs.Claimed.{AreGood, AreRings, Claimed, good_less, good_more, good_same, rings_beside, rings_handled, rings_less, rings_more, rings_other, rings_spared}
@@ -122,6 +123,12 @@ module _ (w : World) (e : ℕ) (claimed : Claimed w) where
   pub store_claims : (s : Solo) (x : Store) → s.rings ≡ (w.solos e).rings → Claiming w e s w.book (left_by w.book e x)
   store_claims s x rings = steady s w.book (left_by w.book e x) rings (left_at_spares w.book e x x.key)
 
+  -- another is asked for a page
+  pub ask_claims : (s : Solo) → s.rings ≡ (w.solos e).rings → (who : ℕ) → Claiming w e s (asks_one who w).book (asks_one who w).items
+  ask_claims s rings who =
+      asking_or (λ (r : Reply). Claiming w e s r.book r.items) w who (steady s w.book no_items rings (λ i. spare_none))
+      (λ p. let item = Asked p.outstanding p.deadline in steady s (asks who (Some p) w).book (only who (item ∷ [])) rings (λ i. spare_only who (item ∷ []) (λ t. (handed_rests item tt t).rings) i))
+
   -- what others lose of a page of the runner's is no claim's
   others_beside : (page : ℕ) → is_owned_by e (w.book.pages page) ≡ true → (i : ℕ) → i ≢ e → (c : ClaimValue) → Has w.book.claims c → is_of_env i c ≡ true → (c.page == page) ≡ false
   others_beside page own i ne = beside w.book claimed.good i page (anothers e i (w.book.pages page) ne own)
@@ -170,7 +177,7 @@ module _ (w : World) (e : ℕ) (claimed : Claimed w) where
     recap_claims page words may = grind (arith, common_steps, set_here, others_keep, good_same, own_else)
 
     unbound_rings : (vpn : ℕ) → (own_part (Unbinds vpn) (w.solos e)).rings ≡ (w.solos e).rings
-    unbound_rings vpn = let s = w.solos e in either (λ t. t.rings ≡ s.rings) (is_some (binding_at s.binds vpn)) (with_binds (set_at (row_of vpn) None s.binds) s) s refl refl
+    unbound_rings vpn = let s = w.solos e in either (λ t. t.rings ≡ s.rings) (is_some (binding_at s.version s.binds vpn)) (with_binds (set_at (row_of s.version vpn) None s.binds) s) s refl refl
 
     hands_claims : (target : ℕ) (item : Item) → IsHanded item → (i : ℕ) → Spares (only target (item ∷ []) i)
     hands_claims target item is_handed i = spare_only target (item ∷ []) (λ s. (handed_rests item is_handed s).rings) i

@@ -10,13 +10,13 @@ use Rattle.world_model.specs.declared.call.Deed.TheVariants.{Unbinds}
 use Rattle.world_model.specs.declared.life.Life.TheVariants.{Live, Dead}
 use Rattle.world_model.specs.declared.life.Cause.{Cause}
 use Rattle.world_model.specs.declared.verdict.Verdict.{Verdict}
-use Rattle.world_model.specs.declared.verdict.Verdict.TheVariants.{Refuse, Grant}
+use Rattle.world_model.specs.declared.verdict.Verdict.TheVariants.{Refuse, Again, Grant}
 use Rattle.world_model.specs.Page.{KeptPage}
 use Rattle.world_model.specs.Table.{set_at}
 use Rattle.world_model.specs.Book.{Book}
 use Rattle.world_model.specs.Solo.{Solo, Store, Kept, is_dead, kept_after, kept_at, stored_page}
 use Rattle.world_model.specs.Holding.{with_binds}
-use Rattle.world_model.specs.Item.{Item, Start, Transfer, Answer, Gained, Lost, Left, absorb, absorb_all, absorbed, with_answer, deed_at, own_part}
+use Rattle.world_model.specs.Item.{Item, Start, Transfer, Answer, Asked, Gained, Lost, Left, absorb, absorb_all, absorbed, with_answer, deed_at, own_part}
 use Rattle.world_model.specs.Death.{death_items, lost_with}
 use Rattle.world_model.specs.PageCalls.{left_if, lost_if}
 use Rattle.world_model.specs.World.{only}
@@ -72,11 +72,12 @@ pub record Leaves (s t : Solo) : Type 0 where
   pub life : t.life ≡ s.life
 
 pub own_leaves : (s : Solo) (d : Deed) → Leaves s (own_part d s)
-own_leaves s (Unbinds vpn) = either (Leaves s) (is_some (binding_at s.binds vpn)) (with_binds (set_at (row_of vpn) None s.binds) s) s (record { kept = refl; life = refl }) (record { kept = refl; life = refl })
+own_leaves s (Unbinds vpn) = either (Leaves s) (is_some (binding_at s.version s.binds vpn)) (with_binds (set_at (row_of s.version vpn) None s.binds) s) s (record { kept = refl; life = refl }) (record { kept = refl; life = refl })
 own_leaves s d = record { kept = refl; life = refl }
 
 answered_leaves : (s : Solo) (verdict : Verdict) → Leaves s (with_answer verdict s)
 answered_leaves s (Refuse code value) = record { kept = refl; life = refl }
+answered_leaves s (Again who) = record { kept = refl; life = refl }
 answered_leaves s (Grant value) = let own = own_leaves s (deed_at s value) in record { kept = own.kept; life = own.life }
 
 pub absorbed_leaves : (s : Solo) (item : Item) → IsTold item → Leaves s (absorbed s item)
@@ -130,10 +131,11 @@ led_more xs ys (Leads item rest told is) more = Leads item (rest ++ ys) (told_bo
 pub led_only : (e i : ℕ) (item : Item) → Led (only e (item ∷ []) i)
 led_only e i item = either Led (i == e) (item ∷ []) [] (Leads item [] tt refl) (Rests tt)
 
--- What the act of a runner gives to an environment: items that leave guaranteed pages and life, or to another the start of a slice, or a transfer.
+-- What the act of a runner gives to an environment: items that leave guaranteed pages and life, or to another the start of a slice, a transfer, or that it is asked for a page.
 abbrev pub IsHanded : Item → Type 0
 IsHanded Start = Unit {0}
 IsHanded (Transfer from kind registers) = Unit {0}
+IsHanded (Asked outstanding deadline) = Unit {0}
 IsHanded item = ⊥
 
 pub data Gives (e i : ℕ) (items : List Item) : Type 0 where
@@ -148,7 +150,7 @@ pub gives_own : (e i : ℕ) (items : List Item) → Gives e i items → e ≡ i 
 gives_own e i items (Tells told) own = told
 gives_own e i items (Hands another item handed is) own = absurd (another own)
 
--- an environment that is started or entered
+-- an environment that is started, entered or asked
 pub handed_rests : (item : Item) → IsHanded item → (s : Solo) → IsRested s (absorb_all s (item ∷ []))
 handed_rests item handed s = grind (arith, common_steps, given_rests, started)
 

@@ -1,47 +1,42 @@
 -- What each phase of a tick gives to an environment: at most its first item changes guaranteed pages, or life.
 use Rattle.std.proofs.Common.{ap, ◌+◌, ◌≡◌, ◌≢◌, ℕ, List, [], ◌∷◌, ◌++◌, Bool, true, false, Option, Some, None, refl, sym, ◌∙◌, subst}
-use Rattle.std.specs.Prelude.{◌==◌, ◌&&◌, ◌-◌, nat_lt, not, if◌then◌else◌}
+use Rattle.std.specs.Prelude.{◌==◌, ◌&&◌, nat_lt, not, if◌then◌else◌}
 use Rattle.std.proofs.lemmas.Bool.{and_parts, eq-eqb, eqb-true}
 use Rattle.env_frames.specs.Transfer.{carried}
 use Rattle.bind_book.specs.Stripe.{is_bound}
-use Rattle.kernel_journal.specs.declared.row.Row.TheVariants as row
 use Rattle.world_model.specs.declared.call.Call.{Call}
 use Rattle.world_model.specs.declared.call.Deed.{Deed}
 use Rattle.world_model.specs.declared.call.Deed.TheVariants.{Gives as Donates, Allocates, Frees, Recaps, Binds, Transfers}
-use Rattle.world_model.specs.declared.slot.Phase.{Phase}
-use Rattle.world_model.specs.declared.slot.Phase.TheVariants as phase
 use Rattle.world_model.specs.declared.slot.Runner.{Runner}
 use Rattle.world_model.specs.declared.slot.Turn.{Turn}
 use Rattle.world_model.specs.declared.verdict.Verdict.{Verdict}
-use Rattle.world_model.specs.declared.verdict.Verdict.TheVariants.{Refuse, Grant}
+use Rattle.world_model.specs.declared.verdict.Verdict.TheVariants.{Refuse, Again, Grant}
 use Rattle.world_model.specs.Book.{WholeTurn, sees, whole_turn}
-use Rattle.aegis_limits.specs.Limits.{excess_limit}
 use Rattle.world_model.specs.Call.{called}
 use Rattle.world_model.specs.Death.{death_items}
 use Rattle.external_event.specs.declared.event.Occurrence.{Occurrence}
 use Rattle.external_event.specs.declared.event.Occurrence.TheVariants as outside
 use Rattle.filter_tree.specs.ClaimBook.{ClaimValue}
 use Rattle.world_model.specs.ClaimCalls.{claim_of}
-use Rattle.revocation_book.specs.declared.revocation.Pending.{Pending}
 use Rattle.revocation_book.specs.declared.revocation.Taking.{Taking}
-use Rattle.revocation_book.specs.Pending.{asked}
 use Rattle.world_model.specs.Deadlines.{copy_left, settles, takes}
-use Rattle.world_model.specs.Event.{arrives, asks, happen, revokes, ring_bytes, ring_left, signals}
+use Rattle.world_model.specs.Event.{arrives, happen, revokes, ring_bytes, ring_left, signals}
 use Rattle.world_model.specs.Rings.{page_store, ring_of}
 use Rattle.world_model.specs.Item.{Item, Step, Start, End, Transfer, Killed, Answer, Gained, Lost, Packet, Line, Asked, Taken, deed_at}
 use Rattle.world_model.specs.May.{May}
 use Rattle.world_model.specs.PageCalls.{lost_bindings, left_at, left_by, page_bytes}
-use Rattle.world_model.specs.SlotCalls.{is_other, stop_row}
+use Rattle.world_model.specs.SlotCalls.{is_other}
 use Rattle.world_model.specs.Solo.{Store, Key, Kept, Physical, is_dead}
 use Rattle.world_model.specs.Step.{Act, Stores, Calls, Dies}
-use Rattle.world_model.specs.Tick.{act_now, act_reply, count_when, with_runner, grace_of, kill, owes_more, step, step_when, take_turn, timer, turn, turn_when, timer_reply, timer_now}
+use Rattle.world_model.specs.Tick.{act_now, act_reply, count_when, kill, owes_more, step, step_when, take_turn, timer, turn, turn_when, timer_reply, timer_now}
 use Rattle.world_model.specs.declared.timer.Timer.{Timer}
 use Rattle.world_model.specs.declared.timer.Timer.TheVariants as answer
-use Rattle.world_model.specs.Verdict.{done, reply_by_verdict, reply_to, verdict}
-use Rattle.world_model.specs.World.{World, Reply, after, is_living, no_change, no_items, only, tells}
+use Rattle.world_model.specs.Verdict.{asks_one, done, reply_by_verdict, reply_to, verdict}
+use Rattle.world_model.specs.World.{World, Reply, after, only, tells}
 use Rattle.frame_store.specs.Pages.{zero_page}
-use Rattle.call_verdicts.specs.Granted.{GrantedMay}
+use Rattle.call_verdicts.specs.Granted.{AgainAsks, GrantedMay}
 use Rattle.run_model.proofs.Telling.{call_stands, deed_may, call_named}
+use Rattle.sharing_law.proofs.Asking.{asking_or, revocation_or}
 use Rattle.sharing_law.proofs.Choices.{either}
 use Rattle.sharing_law.proofs.Given.{AreTold, Gives, Hands, IsHanded, Led, Leads, Rests, Tells, gives_led, gives_own, led_more, led_only, told_at, told_both, told_death, told_left, told_lost_if, told_only}
 
@@ -71,6 +66,11 @@ deed_gives w e (Binds b word) may i = Tells (told_only e i (Gained b.page b.writ
 deed_gives w e (Transfers target kind) may i = hands e target (Transfer e kind (carried (w.solos e).cpu)) tt (other_than w e target may.reach.other) i
 deed_gives w e d may i = Tells tt
 
+-- another is asked for a page
+pub ask_gives : (w : World) (e who : ℕ) → e ≢ who → (i : ℕ) → Gives e i ((asks_one who w).items i)
+ask_gives w e who other i =
+    asking_or (λ (r : Reply). Gives e i (r.items i)) w who (Tells tt) (λ p. hands e who (Asked p.outstanding p.deadline) tt other i)
+
 -- an answer comes first
 answers : (e i : ℕ) (v : Verdict) (items : List Item) → Gives e i items → Gives e i (only e (Answer v ∷ []) i ++ items)
 answers e i v items gives = by_test (i == e) refl
@@ -86,12 +86,13 @@ store_gives w e x i = by_key x.key
     by_key (Kept vpn) = Tells tt
     by_key (Physical page) = Tells (told_left (sees w.book i page) e i page x)
 
-module _ (granted : GrantedMay) (w : World) (e : ℕ) where
+module _ (granted : GrantedMay) (again : AgainAsks) (w : World) (e : ℕ) where
   call_gives : (c : Option Call) → called (w.solos e).cpu ≡ c → (i : ℕ) → Gives e i ((reply_to w e c).items i)
   call_gives c named i = by_verdict (verdict w e c) refl
     where
       by_verdict : (v : Verdict) → verdict w e c ≡ v → Gives e i ((reply_by_verdict w e v).items i)
       by_verdict (Refuse code value) is = Tells (told_only e i (Answer (Refuse code value) ∷ []) (tt, tt))
+      by_verdict (Again who) is = answers e i (Again who) ((asks_one who w).items i) (ask_gives w e who (λ same. (again w e c who is).another (sym same)) i)
       by_verdict (Grant value) is = let d = deed_at (w.solos e) value in answers e i (Grant value) ((done w e d).items i) (deed_gives w e d (deed_may granted w e c named value is) i)
 
   -- what an act brings once the step is made
@@ -116,14 +117,9 @@ arrival_led packet (Some c) w i =
     let bytes = let s = w.solos c.env in ring_bytes s (ring_of s.rings c.id) packet in
     either Led (i == c.env) (Packet c.id packet ∷ []) (ring_left w.book c.env c.page bytes i) (Leads (Packet c.id packet) [] tt refl) (Rests (ring_told w c.env c.page bytes i))
 
-ask_led : (e : ℕ) (pending : Option Pending) (w : World) (i : ℕ) → Led ((asks e pending w).items i)
-ask_led e None w i = Rests tt
-ask_led e (Some p) w i = led_only e i (Asked p.outstanding p.deadline)
-
 revocation_led : (e count deadline : ℕ) (w : World) (i : ℕ) → Led ((revokes e count deadline w).items i)
 revocation_led e count deadline w i =
-    let pending = asked count deadline (w.book.pending e) in
-    either (λ (r : Reply). Led (r.items i)) (is_living w e) (asks e pending w) (no_change w) (ask_led e pending w i) (Rests tt)
+    revocation_or (λ (r : Reply). Led (r.items i)) w e count deadline (Rests tt) (λ p. led_only e i (Asked p.outstanding p.deadline))
 
 pub happen_led : (what : Occurrence) (w : World) (i : ℕ) → Led ((happen what w).items i)
 happen_led (outside.Packet packet) w i = arrival_led packet (claim_of w.book packet) w i
@@ -157,8 +153,8 @@ turn_led w i = by_runner w.book.runner
     by_runner None = by_turn (whole_turn w.book) (whole_turn w.book).runs
     by_runner (Some r) = Rests tt
 
-pub step_led : GrantedMay → (w : World) (i : ℕ) → Led ((step w).items i)
-step_led granted w i = by_runner w.book.runner
+pub step_led : GrantedMay → AgainAsks → (w : World) (i : ℕ) → Led ((step w).items i)
+step_led granted again w i = by_runner w.book.runner
   where
     by_test : (e : ℕ) (items : List Item) → Gives e i items → (t : Bool) → (i == e) ≡ t → Led ((if t then Step ∷ [] else []) ++ (items ++ []))
     by_test e items gives true same = Leads Step (items ++ []) (told_both items [] (gives_own e i items gives (sym (eqb-true i e same))) tt) refl
@@ -168,7 +164,7 @@ step_led granted w i = by_runner w.book.runner
     by_runner None = Rests tt
     by_runner (Some r) =
         let act = act_now w r.env in
-        by_test r.env ((act_reply r.env act (after w (tells r.env Step w))).items i) (act_gives granted w r.env act refl i) (i == r.env) refl
+        by_test r.env ((act_reply r.env act (after w (tells r.env Step w))).items i) (act_gives granted again w r.env act refl i) (i == r.env) refl
 
 killed_led : (w : World) (e i : ℕ) → Led ((kill e w).items i)
 killed_led w e i =

@@ -24,7 +24,7 @@ use Rattle.world_model.specs.Tick.{phases_after}
 use Rattle.world_model.specs.Upcalls.{enter, end_slice, raise, with_context}
 use Rattle.world_model.specs.World.{World, Reply, after}
 use Rattle.world_model.proofs.Stores.{kept_as_was}
-use Rattle.call_verdicts.specs.Granted.{GrantedMay}
+use Rattle.call_verdicts.specs.Granted.{AgainAsks, GrantedMay}
 use Rattle.run_model.specs.Run.{System, given_by, happens_in, moment, takings_in, world_after}
 use Rattle.run_model.proofs.Phases.{next_moment, of_each, once_more}
 use Rattle.sharing_law.specs.Change.{Changes, GuaranteedChange, GuaranteedInTick, HasStore, HasWordsInArea, IsChanged, ItemChange, StepChanges, kept_bytes}
@@ -108,7 +108,7 @@ module _ (s : Solo) (vpn : ℕ) where
   stays_told item told = ap (λ ps. bytes_in (kept_at ps vpn)) (absorbed_leaves s item told).kept
 
   by_item : (item : Item) → Stays (absorbed s item) ⊎ Changes s (absorbed s item) vpn item
-  by_item (Boot number name entry accept kept) = inr refl
+  by_item (Boot version number name entry accept kept) = inr refl
   by_item Step = by_act (act_of s (step_alone s)) refl (cpu_after s.cpu (step_alone s)) refl
   by_item Start = by_start (s.handlers.start == 0) refl
   by_item End = context_kept end_area (end_bytes s.cpu) s (end_slice s) vpn refl
@@ -138,7 +138,7 @@ abbrev GivesLed : (World → Reply) → Type 0
 GivesLed phase = (w : World) (e : ℕ) → Led ((phase w).items e)
 
 -- In a phase of a tick
-module _ (granted : GrantedMay) (system : System) (t : ℕ) where
+module _ (granted : GrantedMay) (again : AgainAsks) (system : System) (t : ℕ) where
   abbrev happens : List Occurrence
   happens = happens_in system.schedule (world_after system t)
 
@@ -146,7 +146,7 @@ module _ (granted : GrantedMay) (system : System) (t : ℕ) where
   taken = takings_in system t
 
   phase_led : (k : ℕ) (phase : World → Reply) → slice_get (phases_after happens taken) k ≡ Some phase → GivesLed phase
-  phase_led k phase is = of_each GivesLed happen_led taking_led settling_led turn_led (step_led granted) timer_led happens taken k phase is
+  phase_led k phase is = of_each GivesLed happen_led taking_led settling_led turn_led (step_led granted again) timer_led happens taken k phase is
 
   abbrev Kept_in : ℕ → ℕ → ℕ → Type 0
   Kept_in k e vpn = (kept_bytes ((moment system t (suc k)).solos e) vpn ≡ kept_bytes ((moment system t k).solos e) vpn) ⊎ IsChanged system t k e vpn
@@ -179,8 +179,8 @@ module _ (granted : GrantedMay) (system : System) (t : ℕ) where
   kept_since zero e vpn = inl refl
   kept_since (suc n) e vpn = grind (arith, common_steps, phase_change, (kept_since n e vpn))
 
-pub guaranteed_change : GrantedMay → GuaranteedChange
-guaranteed_change granted system t k e vpn = phase_change granted system t k e vpn
+pub guaranteed_change : GrantedMay → AgainAsks → GuaranteedChange
+guaranteed_change granted again system t k e vpn = phase_change granted again system t k e vpn
 
-pub guaranteed_in_tick : GrantedMay → GuaranteedInTick
-guaranteed_in_tick granted system t e vpn = after_tick system t (KeptSince granted system t e vpn) (λ n. kept_since granted system t n e vpn)
+pub guaranteed_in_tick : GrantedMay → AgainAsks → GuaranteedInTick
+guaranteed_in_tick granted again system t e vpn = after_tick system t (KeptSince granted again system t e vpn) (λ n. kept_since granted again system t n e vpn)

@@ -153,7 +153,7 @@ item_full s (Taken page backup) later full =
     let v = copied page backup s in
     let n = post_word post.Takings v in
     counted_full post.Takings (recorded n page backup v) (recorded_full n page backup v (copied_full page backup s full))
-item_full s (Boot number name entry accept kept) later full = absurd later
+item_full s (Boot version number name entry accept kept) later full = absurd later
 item_full s item later full = subst AreFull (sym (absorbed_leaves s item tt).kept) full
 
 -- at boot
@@ -184,7 +184,7 @@ stack_full p (suc count) = full_both (listed (stack_page p) count) (stack_page p
 boot_full : (image : ImageValue) (e : ℕ) → IsFull (absorb_all (absent e) (boot_items image e))
 boot_full image e = by_program (slice_get image.programs e)
   where
-    by_program : (o : Option ProgramValue) → IsFull (absorb_all (absent e) (record_items e o))
+    by_program : (o : Option ProgramValue) → IsFull (absorb_all (absent e) (record_items image.version e o))
     by_program None = tt
     by_program (Some p) = (zero_length, body_full p.body (vpns p.body) (listed (stack_page p) p.stack) (stack_full p p.stack))
 

@@ -2,6 +2,7 @@
 use Rattle.std.proofs.Common.{◌≡◌, ℕ, zero, suc, List, [], ◌∷◌, Option, Some, None, refl, sym, ◌∙◌, ap, subst, arith}
 use Rattle.std.specs.Prelude.{slice_get}
 use Rattle.std.specs.List.{All}
+use Rattle.aegis_limits.specs.declared.version.Version.{Version}
 use Rattle.boot_image.specs.ImageValue.{ImageValue}
 use Rattle.external_event.specs.declared.event.Occurrence.{Occurrence}
 use Rattle.external_event.specs.declared.event.Occurrence.TheVariants as outside
@@ -19,7 +20,7 @@ use Rattle.sharing_law.proofs.Moments.{each_moment}
 
 -- an item that isn't a record
 abbrev pub IsLater : Item → Type 0
-IsLater (Boot number name entry accept kept) = ⊥
+IsLater (Boot version number name entry accept kept) = ⊥
 IsLater item = Unit {0}
 
 abbrev pub AreLater : List Item → Type 0
@@ -27,9 +28,9 @@ AreLater [] = Unit {0}
 AreLater (item ∷ items) = IsLater item × AreLater items
 
 -- a record has no licence in a tick
-module _ (number : ℕ) (name : List ℕ) (entry accept : ℕ) (kept : List KeptPage) where
+module _ (version : Version) (number : ℕ) (name : List ℕ) (entry accept : ℕ) (kept : List KeptPage) where
   abbrev its : Item
-  its = Boot number name entry accept kept
+  its = Boot version number name entry accept kept
 
   no_record_behind : (system : System) (t : ℕ) (xs : List Taking) (k : ℕ) (w : World) (e : ℕ) → LicensedBehind system t xs k w e its → ⊥
   no_record_behind system t [] (suc (suc (suc (suc k)))) w e is = is
@@ -47,9 +48,9 @@ module _ (number : ℕ) (name : List ℕ) (entry accept : ℕ) (kept : List Kept
   no_record system t (what ∷ happens) xs zero w e is = no_record_from what w e is
   no_record system t (what ∷ happens) xs (suc k) w e is = no_record system t happens xs k w e is
 
-licensed_later : (system : System) (t k e : ℕ) (item : Item) → LicensedAt system t k e item → IsLater item
-licensed_later system t k e (Boot number name entry accept kept) is =
-    no_record number name entry accept kept system t (happens_in system.schedule (world_after system t)) (takings_in system t) k (moment system t k) e is
+pub licensed_later : (system : System) (t k e : ℕ) (item : Item) → LicensedAt system t k e item → IsLater item
+licensed_later system t k e (Boot version number name entry accept kept) is =
+    no_record version number name entry accept kept system t (happens_in system.schedule (world_after system t)) (takings_in system t) k (moment system t k) e is
 licensed_later system t k e item is = tt
 
 all_later : (P : Item → Type 0) → ((item : Item) → P item → IsLater item) → (items : List Item) → All P items → AreLater items

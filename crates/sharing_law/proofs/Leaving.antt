@@ -14,7 +14,7 @@ use Rattle.revocation_book.specs.Takings.{TakingsAreTakable}
 use Rattle.world_model.specs.Deadlines.{takes}
 use Rattle.world_model.specs.Tick.{phases_after, tick_phases}
 use Rattle.world_model.specs.World.{World, Reply, after}
-use Rattle.call_verdicts.specs.Granted.{GrantedMay}
+use Rattle.call_verdicts.specs.Granted.{AgainAsks, GrantedMay}
 use Rattle.run_model.specs.Acting.{Acts}
 use Rattle.run_model.specs.Licensed.{AtEvent, GivenIsLicensed, IsCopyLeft, IsLeft, IsRingLeft, LicensedAt, LicensedBehind, LicensedIn}
 use Rattle.run_model.specs.Live.{HasLiveBinding, StoresAreLive}
@@ -30,16 +30,16 @@ use Rattle.sharing_law.proofs.Live.{each_is_live}
 use Rattle.sharing_law.proofs.Writing.{stored_through}
 
 -- a store in a world whose book lists nothing but what it did before the tick
-pub store_lives : GrantedMay → TakingsAreTakable → (system : System) (t : ℕ) (m : World) → Fine m → ListsLess (world_after system t).book m.book → (e : ℕ) (x : Store) (page : ℕ) → Acts m e (Stores x) → x.key ≡ Physical page → HasLiveBinding system t e page
-store_lives granted takable system t m fine less e x page acts into =
+pub store_lives : GrantedMay → AgainAsks → TakingsAreTakable → (system : System) (t : ℕ) (m : World) → Fine m → ListsLess (world_after system t).book m.book → (e : ℕ) (x : Store) (page : ℕ) → Acts m e (Stores x) → x.key ≡ Physical page → HasLiveBinding system t e page
+store_lives granted again takable system t m fine less e x page acts into =
     let it = stored_through (m.solos e) x page into acts.comes in
     let left = less.each e it.row it.binding (sym ((fine.sound.agreed e).binds it.row) ∙ it.found) in
-    record { binding = it.binding; live = each_is_live granted takable system t e it.row it.binding left.listed; its = it.its; writable = it.writable }
+    record { binding = it.binding; live = each_is_live granted again takable system t e it.row it.binding left.listed; its = it.its; writable = it.writable }
 
 -- so it is in each step
-pub stores_are_live : GrantedMay → TakingsAreTakable → StoresAreLive
-stores_are_live granted takable system t e x page acts into =
-    store_lives granted takable system t (at_step system t) (moment_fine granted takable system t (all_fine granted takable system t) (before_turn system t + 1)) (turned_lists system t) e x page acts into
+pub stores_are_live : GrantedMay → AgainAsks → TakingsAreTakable → StoresAreLive
+stores_are_live granted again takable system t e x page acts into =
+    store_lives granted again takable system t (at_step system t) (moment_fine granted again takable system t (all_fine granted again takable system t) (before_turn system t + 1)) (turned_lists system t) e x page acts into
 
 -- What is left is left in the step; or where a packet comes, or a page is taken.
 data LeftSo (system : System) (t : ℕ) (m : World) (phase : Option (World → Reply)) (e page offset : ℕ) (bytes : List ℕ) : Type 0 where
@@ -68,7 +68,7 @@ module _ (system : System) (t : ℕ) where
   left_in_phase (what ∷ happens) xs zero m e page offset bytes its = left_by_event what m e page offset bytes its
   left_in_phase (what ∷ happens) xs (suc k) m e page offset bytes its = left_in_phase happens xs k m e page offset bytes its
 
-module _ (granted : GrantedMay) (takable : TakingsAreTakable) (system : System) (t k e page offset : ℕ) (bytes : List ℕ) where
+module _ (granted : GrantedMay) (again : AgainAsks) (takable : TakingsAreTakable) (system : System) (t k e page offset : ℕ) (bytes : List ℕ) where
   abbrev m : World
   m = moment system t k
 
@@ -76,7 +76,7 @@ module _ (granted : GrantedMay) (takable : TakingsAreTakable) (system : System) 
   phase = slice_get (next_phases system.schedule (world_after system t)) k
 
   fine : Fine m
-  fine = moment_fine granted takable system t (all_fine granted takable system t) k
+  fine = moment_fine granted again takable system t (all_fine granted again takable system t) k
 
   left_by_packet : (packet : List ℕ) → phase ≡ Some (happen (outside.Packet packet)) → IsRingLeft m e packet page offset bytes → IsLeftByDelivery system t k e page offset bytes
   left_by_packet packet is left =
@@ -110,11 +110,11 @@ module _ (granted : GrantedMay) (takable : TakingsAreTakable) (system : System) 
   left_so (ByPacket packet is left) = inr (inl (left_by_packet packet is left))
   left_so (ByTaking x is left) = inr (inr (left_by_taking x is left))
 
-licensed_lives : GrantedMay → TakingsAreTakable → (system : System) (t k e : ℕ) (item : Item) → LicensedAt system t k e item → LeftIsLive system t k e item
-licensed_lives granted takable system t k e (Left page offset bytes) its =
+licensed_lives : GrantedMay → AgainAsks → TakingsAreTakable → (system : System) (t k e : ℕ) (item : Item) → LicensedAt system t k e item → LeftIsLive system t k e item
+licensed_lives granted again takable system t k e (Left page offset bytes) its =
     let w = world_after system t in
-    left_so granted takable system t k e page offset bytes (left_in_phase system t (happens_in system.schedule w) (takings_in system t) k (moment system t k) e page offset bytes its)
-licensed_lives granted takable system t k e item its = tt
+    left_so granted again takable system t k e page offset bytes (left_in_phase system t (happens_in system.schedule w) (takings_in system t) k (moment system t k) e page offset bytes its)
+licensed_lives granted again takable system t k e item its = tt
 
-pub each_left_is_live : GrantedMay → TakingsAreTakable → GivenIsLicensed → EachLeftIsLive
-each_left_is_live granted takable licensed system t k e n d below = licensed_lives granted takable system t k e _ (licensed system t k e n d below)
+pub each_left_is_live : GrantedMay → AgainAsks → TakingsAreTakable → GivenIsLicensed → EachLeftIsLive
+each_left_is_live granted again takable licensed system t k e n d below = licensed_lives granted again takable system t k e _ (licensed system t k e n d below)

@@ -1,4 +1,5 @@
 mod Choices
+mod Asking
 mod Given
 mod Giving
 mod Replies
@@ -23,6 +24,9 @@ mod Timing
 mod Backups
 mod Repossessing
 mod Agreeing
+mod Later
+mod Absent
+mod SameVersion
 mod Live
 mod Writing
 mod Leaving
@@ -30,7 +34,6 @@ mod Guaranteed
 mod Allocated
 mod Sizes
 mod Sending
-mod Later
 mod KeptSizes
 mod LineOwners
 mod Places

@@ -10,7 +10,7 @@ use Rattle.world_model.specs.declared.call.Deed.{Deed}
 use Rattle.world_model.specs.declared.call.Deed.TheVariants.{TakesLine, DropsLine}
 use Rattle.world_model.specs.declared.slot.Runner.{Runner}
 use Rattle.world_model.specs.declared.verdict.Verdict.{Verdict}
-use Rattle.world_model.specs.declared.verdict.Verdict.TheVariants.{Refuse, Grant}
+use Rattle.world_model.specs.declared.verdict.Verdict.TheVariants.{Refuse, Again, Grant}
 use Rattle.world_model.specs.Book.{Book, is_idle_book, running}
 use Rattle.world_model.specs.Deadlines.{settles, takes, takings}
 use Rattle.world_model.specs.Event.{happen}
@@ -21,11 +21,12 @@ use Rattle.world_model.specs.Tick.{act_now, act_reply, serve_phases, step, step_
 use Rattle.world_model.specs.Verdict.{done, reply_by_verdict, reply_to, verdict}
 use Rattle.world_model.specs.World.{World, Reply, after, run_phases, tells}
 use Rattle.run_model.specs.Acting.{Acts, Does}
-use Rattle.run_model.specs.Boot.{boot_book, boot_world, with_all_kept, with_kept}
+use Rattle.run_model.specs.Boot.{book_of_image, boot_world, with_all_kept, with_kept}
 use Rattle.run_model.specs.Run.{System, at_deadlines, at_step, at_turn, happens_in, world_after}
 use Rattle.run_model.proofs.Phases.{moments_in_order}
 use Rattle.run_model.proofs.Telling.{call_does, call_stands}
 use Rattle.sharing_law.specs.Lines.{LinesAreTaken}
+use Rattle.sharing_law.proofs.Asking.{asking_or}
 use Rattle.sharing_law.proofs.Happening.{happen_lists}
 use Rattle.sharing_law.proofs.Live.{since_first, since_more}
 use Rattle.sharing_law.proofs.Moments.{stays_idle}
@@ -85,6 +86,7 @@ module _ (w : World) (e line : ℕ) where
 
   call_lines : (x : ℕ) (c : Option Call) → Acts w x (Calls c) → (v : Verdict) → verdict w x c ≡ v → (reply_by_verdict w x v).book.lines line ≡ Some e → Was
   call_lines x c acts (Refuse code value) granted is = inl is
+  call_lines x c acts (Again who) granted is = asking_or (λ (r : Reply). r.book.lines line ≡ Some e → Was) w who (λ was. inl was) (λ p was. inl was) is
   call_lines x c acts (Grant value) granted is = deed_lines x (deed_at (w.solos x) value) (call_does w x c acts value granted) is
 
   act_lines : (x : ℕ) (act : Act) → Acts w x act → (act_reply x act (after w (tells x Step w))).book.lines line ≡ Some e → Was
@@ -146,7 +148,7 @@ lines_booted e (p ∷ programs) b = lines_booted (e + 1) programs (with_kept e p
 
 none_owned : (image : ImageValue) (e line : ℕ) → (boot_world image).book.lines line ≡ Some e → ⊥
 none_owned image e line is =
-    let none = lines_booted 0 image.programs (boot_book image.pages image.quantum image.slots) in
+    let none = lines_booted 0 image.programs (book_of_image image) in
     let never : None ≡ Some e = (λ k. sym none k line) ∙ is in
     cc
 

@@ -48,7 +48,7 @@ taking_lists x w = record { each = λ i row b is. let left = freed_remains w.boo
 
 -- the end of deadlines
 pub settled_alike : (w : World) → IsAlike w (after w (settles w))
-settled_alike w = record { solos = λ i. rests_same (w.solos i); lists = record { pages = refl; binds = refl; claims = refl; next = refl; backups = refl; kept = refl; lines = refl; count = refl } }
+settled_alike w = record { solos = λ i. rests_same (w.solos i); lists = record { version = refl; pages = refl; binds = refl; claims = refl; next = refl; backups = refl; kept = refl; lines = refl; count = refl } }
 
 -- and so once they are served
 pub served_list : (xs : List Taking) (w : World) → ListsLess w.book (run_phases w (serve_phases xs)).book

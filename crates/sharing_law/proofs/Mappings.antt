@@ -18,16 +18,16 @@ use Rattle.world_model.specs.declared.life.Cause.{Cause}
 use Rattle.world_model.specs.declared.life.Life.TheVariants.{Live, Dead}
 use Rattle.world_model.specs.declared.slot.Runner.{Runner}
 use Rattle.world_model.specs.declared.verdict.Verdict.{Verdict}
-use Rattle.world_model.specs.declared.verdict.Verdict.TheVariants.{Refuse, Grant}
+use Rattle.world_model.specs.declared.verdict.Verdict.TheVariants.{Refuse, Again, Grant}
 use Rattle.world_model.specs.Book.{Book}
 use Rattle.world_model.specs.ClaimCalls.{claim_of}
-use Rattle.world_model.specs.Deadlines.{copy_left, revocations, settles, takes}
+use Rattle.world_model.specs.Deadlines.{copy_left, settles, takes}
 use Rattle.world_model.specs.Death.{death, death_items, lost_with}
 use Rattle.world_model.specs.Event.{arrives, happen, ring_bytes, ring_left}
 use Rattle.world_model.specs.Item.{Item, Step, Killed, Packet, Taken, absorb_all, deed_at}
 use Rattle.world_model.specs.May.{May}
 use Rattle.mips_exec.specs.Step.{cpu_after}
-use Rattle.world_model.specs.PageCalls.{lost_bindings, left_by}
+use Rattle.world_model.specs.PageCalls.{lost_bindings, left_by, revocations}
 use Rattle.world_model.specs.Rings.{ring_of}
 use Rattle.world_model.specs.Solo.{Solo}
 use Rattle.world_model.specs.Step.{Act, Nothing, Stores, Calls, Raises, Dies, acted, step_alone}
@@ -35,7 +35,7 @@ use Rattle.world_model.specs.Table.{set_at}
 use Rattle.world_model.specs.Tick.{act_now, act_reply, phases_after, step, step_when, tick_phases, timer, turn}
 use Rattle.world_model.specs.Verdict.{done, reply_by_verdict, reply_to, verdict}
 use Rattle.world_model.specs.World.{World, Reply, after, no_items, run_phases, tells}
-use Rattle.call_verdicts.specs.Granted.{GrantedMay}
+use Rattle.call_verdicts.specs.Granted.{AgainAsks, GrantedMay}
 use Rattle.run_model.specs.Excess.{IsAccounted}
 use Rattle.run_model.specs.Licensed.{GivenIsLicensed, MayTaking}
 use Rattle.run_model.specs.Run.{System, given_by, happens_in, moment, next_phases, takings_in, world_after}
@@ -46,6 +46,7 @@ use Rattle.run_model.proofs.Telling.{call_named, call_stands, deed_may, told_oth
 use Rattle.page_laws.proofs.Tables.{set_here, set_else}
 use Rattle.sharing_law.specs.Kept.{mapping_place, page_place}
 use Rattle.sharing_law.proofs.Agreeing.{all_fine, moment_fine}
+use Rattle.sharing_law.proofs.Asking.{asking_or}
 use Rattle.sharing_law.proofs.Given.{absorbs}
 use Rattle.sharing_law.proofs.Happening.{happen_lists, revoked_alike, signalled_alike}
 use Rattle.sharing_law.proofs.Later.{AreLater, given_later}
@@ -157,10 +158,12 @@ deed_rows w x d may e page is = grind (arith, common_steps, other_page, free_pag
 module _ (granted : GrantedMay) (w : World) (x : ℕ) (accounted : IsAccounted w) (lives : (w.solos x).life ≡ Live) where
   reply_kept : (v : Verdict) → (reply_by_verdict w x v).book.kept ≡ w.book.kept
   reply_kept (Refuse code value) = refl
+  reply_kept (Again who) = asking_or (λ (r : Reply). r.book.kept ≡ w.book.kept) w who refl (λ p. refl)
   reply_kept (Grant value) = deed_kept w x (deed_at (w.solos x) value)
 
   reply_rows : (c : Option Call) → act_now w x ≡ Calls c → (v : Verdict) → verdict w x c ≡ v → (e page : ℕ) → w.book.pages page ≡ Guaranteed e → (reply_by_verdict w x v).book.pages page ≡ Guaranteed e
   reply_rows c is (Refuse code value) says e page row = row
+  reply_rows c is (Again who) says e page row = asking_or (λ (r : Reply). r.book.pages page ≡ Guaranteed e) w who row (λ p. row)
   reply_rows c is (Grant value) says e page row = deed_rows w x (deed_at (w.solos x) value) (deed_may granted w x c (call_named w x c is) value says) e page row
 
   call_becomes : (c : Option Call) → act_now w x ≡ Calls c → (e : ℕ) → Becomes w (after w (reply_to w x c)) e
@@ -241,7 +244,7 @@ BecomesSo phase w = (e : ℕ) → Becomes w (after w (phase w)) e
 its_so : (w : World) (p phase : World → Reply) → BecomesSo p w → Some p ≡ Some phase → BecomesSo phase w
 its_so w p phase its same = let is : p ≡ phase = cc in subst (λ (q : World → Reply). BecomesSo q w) is its
 
-module _ (granted : GrantedMay) where
+module _ (granted : GrantedMay) (again : AgainAsks) where
   behind_becomes : (xs : List Taking) (w : World) → AreTakable (revocations w.book) w.book.time xs → (k : ℕ) (phase : World → Reply) → slice_get (tick_phases xs) k ≡ Some phase
       → (let m = run_phases w (take k (tick_phases xs)) in IsAccounted m → BecomesSo phase m)
   behind_becomes [] w may zero phase is accounted = its_so w settles phase (alike_goes_on w (after w (settles w)) (settled_alike w)) is
@@ -275,7 +278,7 @@ module _ (granted : GrantedMay) where
         by_phase (Some phase) is =
             let w = world_after system t in
             let m = moment system t k in
-            let fine = moment_fine granted takable system t (all_fine granted takable system t) k in
+            let fine = moment_fine granted again takable system t (all_fine granted again takable system t) k in
             let later : (e : ℕ) → AreLater ((phase m).items e) = λ e. subst AreLater (ap (λ (o : Option (World → Reply)). given_by m o e) is) (given_later licensed system t k e) in
             subst Mapped (sym (next_moment system t k ∙ ap (once_more m) is))
             (mapped_by m (after m (phase m)) mapped (λ e. all_turns ((phase m).items e) (later e) (m.solos e))

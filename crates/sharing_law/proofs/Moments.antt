@@ -3,7 +3,8 @@ use Rattle.std.proofs.Common.{◌≡◌, ℕ, zero, suc, Bool, true, false, refl
 use Rattle.std.specs.Prelude.{if◌then◌else◌}
 use Rattle.world_model.specs.Book.{is_idle_book}
 use Rattle.revocation_book.specs.Takings.{AreTakable, TakingsAreTakable}
-use Rattle.world_model.specs.Deadlines.{revocations, takings}
+use Rattle.world_model.specs.Deadlines.{takings}
+use Rattle.world_model.specs.PageCalls.{revocations}
 use Rattle.world_model.specs.World.{World, after, run_phases}
 use Rattle.world_model.specs.Tick.{turn}
 use Rattle.run_model.specs.Run.{System, at_deadlines, at_step, at_turn, happens_in, moment, next_phases, once_happened, phases_in, takings_in, world_after}

@@ -116,7 +116,7 @@ received_same claim packet s =
     same_then s v (absorbed s (Packet claim packet)) (counted_same post.Packets s) (packet_same (ring_of s.rings claim) packet v)
 
 item_turns : (s : Solo) (item : Item) → IsLater item → Turns s (absorbed s item)
-item_turns s (Boot number name entry accept kept) later = absurd later
+item_turns s (Boot version number name entry accept kept) later = absurd later
 item_turns s Step later = act_turns (act_of s (step_alone s)) s (cpu_after s.cpu (step_alone s))
 item_turns s Start later = Stays (started_same s)
 item_turns s End later = Stays (record { places = (context_same end_area (end_bytes s.cpu) s).places; life = refl })

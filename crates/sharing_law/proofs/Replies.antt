@@ -7,6 +7,7 @@ use Rattle.page_book.specs.declared.row.Capabilities.{Capabilities}
 use Rattle.page_book.specs.declared.row.PageRow.{PageRow}
 use Rattle.page_book.specs.declared.row.PageRow.TheVariants.{Free, Guaranteed, Owned}
 use Rattle.page_book.specs.Row.{belongs_to, is_owned_by}
+use Rattle.aegis_limits.specs.declared.version.Version.{Version}
 use Rattle.bind_book.specs.declared.binding.Binding.{Binding}
 use Rattle.bind_book.specs.Stripe.{binding_at, leads_to_page, goes_with, row_of, without}
 use Rattle.bind_book.proofs.Swept.{left_in_row}
@@ -14,7 +15,7 @@ use Rattle.world_model.specs.declared.call.Call.{Call}
 use Rattle.world_model.specs.declared.call.Deed.{Deed}
 use Rattle.world_model.specs.declared.call.Deed.TheVariants.{Allocates, Frees, Recaps, Binds, Unbinds}
 use Rattle.world_model.specs.declared.verdict.Verdict.{Verdict}
-use Rattle.world_model.specs.declared.verdict.Verdict.TheVariants.{Refuse, Grant}
+use Rattle.world_model.specs.declared.verdict.Verdict.TheVariants.{Refuse, Again, Grant}
 use Rattle.world_model.specs.Table.{set_at}
 use Rattle.world_model.specs.Book.{Book}
 use Rattle.world_model.specs.Death.{death}
@@ -29,6 +30,7 @@ use Rattle.call_verdicts.specs.Granted.{GrantedMay}
 use Rattle.run_model.specs.Acting.{Acts, Does}
 use Rattle.run_model.proofs.Telling.{call_does, call_named, call_stands, deed_may}
 use Rattle.sharing_law.specs.Agreement.{IsAllocated, AreBoundAllocated}
+use Rattle.sharing_law.proofs.Asking.{asking_or}
 
 -- the row of a page is as it was, or the environment owned the page before and after
 abbrev pub IsCarried : ℕ → PageRow → PageRow → Type 0
@@ -38,7 +40,7 @@ IsCarried e old new = (new ≡ old) ⊎ ((is_owned_by e old ≡ true) × (is_own
 pub record IsPut (w : World) (pages : ℕ → PageRow) (i row : ℕ) (b : Binding) : Type 0 where
   pub word : ℕ
   pub bound : Does w i (Binds b word)
-  pub stands : row ≡ row_of b.vpn
+  pub stands : row ≡ row_of (w.solos i).version b.vpn
   pub right : HasRight i b.writable word (pages b.page)
 
 -- a page that is owned is allocated, and one that is carried over stays so
@@ -127,21 +129,21 @@ mourns : (w : World) (e : ℕ) → Carries w (death w e).book.pages (death w e).
 mourns w e = record { each = λ i row b is. let before = mourned w e i row b is in inr (record { listed = before.listed; carried = inl before.page }) }
 
 -- a binding is put over that in its row
-binds_over : (w : World) (e : ℕ) (b : Binding) (word : ℕ) → Does w e (Binds b word) → HasRight e b.writable word (w.book.pages b.page) → Carries w w.book.pages (with_binding e b w.book.binds)
+binds_over : (w : World) (e : ℕ) (b : Binding) (word : ℕ) → Does w e (Binds b word) → HasRight e b.writable word (w.book.pages b.page) → Carries w w.book.pages (with_binding (w.solos e).version e b w.book.binds)
 binds_over w e b word does right = grind (arith, common_steps, eqb-true)
 
 -- what stands in a row once the binding of a VPN is gone stood there before
-left_of_number : (vpn : ℕ) (stripe : ℕ → Option Binding) (row : ℕ) (b : Binding) (there : Bool) → (if there then set_at (row_of vpn) None stripe else stripe) row ≡ Some b → stripe row ≡ Some b
-left_of_number vpn stripe row b true is = grind arith
-left_of_number vpn stripe row b false is = is
+left_of_number : (v : Version) (vpn : ℕ) (stripe : ℕ → Option Binding) (row : ℕ) (b : Binding) (there : Bool) → (if there then set_at (row_of v vpn) None stripe else stripe) row ≡ Some b → stripe row ≡ Some b
+left_of_number v vpn stripe row b true is = grind arith
+left_of_number v vpn stripe row b false is = is
 
 -- a VPN is unbound
-unbinds : (w : World) (e vpn : ℕ) → Carries w w.book.pages (set_at e (without_number vpn (w.book.binds e)) w.book.binds)
+unbinds : (w : World) (e vpn : ℕ) → Carries w w.book.pages (set_at e (without_number (w.solos e).version vpn (w.book.binds e)) w.book.binds)
 unbinds w e vpn = record { each = λ i row b is. inr (record { listed = by_env i row b (i == e) refl is; carried = inl refl }) }
   where
-    by_env : (i row : ℕ) (b : Binding) (t : Bool) → (i == e) ≡ t → (if t then without_number vpn (w.book.binds e) else w.book.binds i) row ≡ Some b → w.book.binds i row ≡ Some b
+    by_env : (i row : ℕ) (b : Binding) (t : Bool) → (i == e) ≡ t → (if t then without_number (w.solos e).version vpn (w.book.binds e) else w.book.binds i) row ≡ Some b → w.book.binds i row ≡ Some b
     by_env i row b true own is =
-        ap (λ (n : ℕ). w.book.binds n row) (eqb-true i e own) ∙ left_of_number vpn (w.book.binds e) row b (is_some (binding_at (w.book.binds e) vpn)) is
+        ap (λ (n : ℕ). w.book.binds n row) (eqb-true i e own) ∙ let v = (w.solos e).version in left_of_number v vpn (w.book.binds e) row b (is_some (binding_at v (w.book.binds e) vpn)) is
     by_env i row b false own is = is
 
 -- deed by deed
@@ -158,6 +160,7 @@ call_carries granted w e allocated c acts = by_verdict (verdict w e c) refl
   where
     by_verdict : (v : Verdict) → verdict w e c ≡ v → CarriesInto w (reply_by_verdict w e v)
     by_verdict (Refuse code value) is = stays w
+    by_verdict (Again who) is = asking_or (CarriesInto w) w who (stays w) (λ p. stays w)
     by_verdict (Grant value) is = deed_carries w e allocated (deed_at (w.solos e) value) (call_does w e c acts value is) (deed_may granted w e c (call_named w e c acts.comes) value is)
 
 -- what an act of the runner brings, once its step is made, which a call isn't changed by

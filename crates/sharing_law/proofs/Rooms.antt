@@ -3,7 +3,7 @@ use Rattle.std.proofs.Common.{◌≡◌, ◌≢◌, ◌≤◌, ◌<◌, ◌+◌,
 use Rattle.std.proofs.lemmas.Grind.{common_steps}
 use Rattle.std.specs.Prelude.{is_some, slice_get, sum_by}
 use Rattle.std.specs.Option.{option_map, option_or}
-use Rattle.std.proofs.lemmas.Bool.{cases_eq}
+use Rattle.std.proofs.lemmas.Bool.{cases_eq, cases_lt}
 use Rattle.std.proofs.lemmas.List.{length-map}
 use Rattle.std.proofs.lemmas.List.Sums.{sum_by-cons}
 use Rattle.boot_image.specs.ImageValue.{ImageValue, ProgramValue, guaranteed_mappings}
@@ -11,7 +11,7 @@ use Rattle.env_frames.specs.declared.mapping.Mapping.{Mapping}
 use Rattle.env_frames.specs.Frame.{mapping_at}
 use Rattle.segment_pages.specs.Pages.{vpns}
 use Rattle.bind_book.specs.declared.binding.Binding.{Binding}
-use Rattle.bind_book.specs.Stripe.{binding_at}
+use Rattle.bind_book.specs.Stripe.{binding_at, of_number, row_of}
 use Rattle.page_book.specs.declared.row.PageRow.{PageRow}
 use Rattle.page_book.specs.declared.row.PageRow.TheVariants.{Free, Guaranteed}
 use Rattle.page_book.specs.Row.{is_free}
@@ -26,14 +26,16 @@ use Rattle.world_model.specs.Page.{KeptPage}
 use Rattle.world_model.specs.Solo.{Place, absent, bound_place, kept_at, place_at}
 use Rattle.world_model.specs.Table.{listed, set_at}
 use Rattle.world_model.specs.World.{World}
-use Rattle.call_verdicts.specs.Granted.{GrantedMay}
-use Rattle.run_model.specs.Boot.{body_page, boot_book, boot_world, keep_lowest, keep_pages, kept_of, mapped_to, mappings_over, record_items, stack_page, with_all_kept, with_kept}
+use Rattle.call_verdicts.specs.Granted.{AgainAsks, GrantedMay}
+use Rattle.run_model.specs.Boot.{body_page, book_of_image, boot_world, keep_lowest, keep_pages, kept_of, mapped_to, mappings_over, record_items, stack_page, with_all_kept, with_kept}
 use Rattle.run_model.specs.Licensed.{GivenIsLicensed}
-use Rattle.run_model.specs.Run.{moment}
+use Rattle.run_model.specs.Run.{System, moment}
 use Rattle.page_laws.proofs.Tables.{set_here, set_else}
 use Rattle.sharing_law.specs.Kept.{BookPlace, HasGuaranteedPages, KeptAgree, LeadsAgree, by_binding, by_mapping, mapping_place, page_place}
+use Rattle.sharing_law.proofs.Absent.{absent_bare}
 use Rattle.sharing_law.proofs.Agreeing.{all_fine, moment_fine}
 use Rattle.sharing_law.proofs.Mappings.{Mapped, all_mapped}
+use Rattle.sharing_law.proofs.SameVersion.{versions_agree}
 
 -- the lowest free page, where one is free, and how many are free without it
 found : (pages : ℕ → PageRow) (count : ℕ) (o : Option ℕ) → lowest_free pages count ≡ o → 0 < free_below pages count → is_some o ≡ true
@@ -238,17 +240,17 @@ all_free zero = refl
 all_free (suc n) = ap suc (all_free n)
 
 module _ (image : ImageValue) (room : HasGuaranteedPages image) where
-  booted_all : ReadyAll 0 image.programs (boot_book image.pages image.quantum image.slots) (boot_world image).book
+  booted_all : ReadyAll 0 image.programs (book_of_image image) (boot_world image).book
   booted_all =
-      ready_all image.programs 0 (boot_book image.pages image.quantum image.slots)
+      ready_all image.programs 0 (book_of_image image)
       (record { rows = λ i j m is. cc; once = λ i j k m n is there same. cc; none = λ i above. refl })
       (omega (arith, all_free image.pages, room))
 
-  solo_pages : (e : ℕ) (o : Option ProgramValue) → (absorb_all (absent e) (record_items e o)).kept ≡ pages_of o
+  solo_pages : (e : ℕ) (o : Option ProgramValue) → (absorb_all (absent e) (record_items image.version e o)).kept ≡ pages_of o
   solo_pages e None = refl
   solo_pages e (Some p) = refl
 
-  solo_lives : (e : ℕ) (o : Option ProgramValue) (cause : Cause) → (absorb_all (absent e) (record_items e o)).life ≡ Dead cause → ⊥
+  solo_lives : (e : ℕ) (o : Option ProgramValue) (cause : Cause) → (absorb_all (absent e) (record_items image.version e o)).life ≡ Dead cause → ⊥
   solo_lives e None cause died = cc
   solo_lives e (Some p) cause died = cc
 
@@ -264,8 +266,8 @@ no_mappings : (ms : List Mapping) → map mapping_place ms ≡ [] → ms ≡ []
 no_mappings [] is = refl
 no_mappings (m ∷ ms) is = cc
 
-pub kept_agree : GrantedMay → TakingsAreTakable → GivenIsLicensed → KeptAgree
-kept_agree granted takable licensed system t k room = record {
+pub kept_agree : GrantedMay → AgainAsks → TakingsAreTakable → GivenIsLicensed → KeptAgree
+kept_agree granted again takable licensed system t k room = record {
   places = mapped.places;
   rows = mapped.rows;
   apart = apart;
@@ -276,7 +278,7 @@ kept_agree granted takable licensed system t k room = record {
     w = moment system t k
 
     mapped : Mapped (moment system t k)
-    mapped = all_mapped granted takable licensed system (mapped_boot system.image room) t k
+    mapped = all_mapped granted again takable licensed system (mapped_boot system.image room) t k
 
     apart : (e f i j : ℕ) (m n : Mapping) → slice_get ((moment system t k).book.kept e) i ≡ Some m → slice_get ((moment system t k).book.kept f) j ≡ Some n → m.page ≡ n.page → (e ≡ f) × (i ≡ j)
     apart e f i j m n at there alike =
@@ -306,12 +308,29 @@ bound_alike : (o : Option Binding) → option_map its_place (option_map by_bindi
 bound_alike None = refl
 bound_alike (Some b) = refl
 
-pub leads_agree : GrantedMay → TakingsAreTakable → GivenIsLicensed → LeadsAgree
-leads_agree granted takable licensed system t k e vpn room =
+-- the book has the environment's version, or nothing is bound
+same_binding : GivenIsLicensed → (system : System) (t k e vpn : ℕ)
+    → (let w = moment system t k in let s = w.solos e in ((row : ℕ) → s.binds row ≡ w.book.binds e row) → binding_at w.book.version (w.book.binds e) vpn ≡ binding_at s.version s.binds vpn)
+same_binding licensed system t k e vpn same =
     let w = moment system t k in
     let s = w.solos e in
-    let mapped = all_mapped granted takable licensed system (mapped_boot system.image room) t k in
-    let agreed = (moment_fine granted takable system t (all_fine granted takable system t) k).sound.agreed e in
-    or_alike (option_map (by_mapping vpn) (mapping_at (w.book.kept e) vpn)) (option_map by_binding (binding_at (w.book.binds e) vpn))
-    ∙ (λ j. option_or (found_alike vpn (w.book.kept e) s.kept (mapped.places e) j) (bound_alike (binding_at (w.book.binds e) vpn) j))
-    ∙ (λ j. option_or (option_map (place_at vpn) (kept_at s.kept vpn)) (option_map bound_place (binding_at (λ row. sym (agreed.binds row) j) vpn)))
+    let versions = versions_agree licensed system t k in
+    elim (cases_lt e (length system.image.programs)) [
+      | inl has ↦ λ j. binding_at ((versions.book ∙ sym (versions.solos e has)) j) (λ row. sym (same row) j) vpn
+      | inr lacks ↦
+          let none = (absent_bare licensed system e lacks t k).1 in
+          let old = row_of w.book.version vpn in
+          let own = row_of s.version vpn in
+          ap (of_number vpn) (sym (same old) ∙ none old ∙ sym (none own))
+    ]
+
+pub leads_agree : GrantedMay → AgainAsks → TakingsAreTakable → GivenIsLicensed → LeadsAgree
+leads_agree granted again takable licensed system t k e vpn room =
+    let w = moment system t k in
+    let s = w.solos e in
+    let mapped = all_mapped granted again takable licensed system (mapped_boot system.image room) t k in
+    let agreed = (moment_fine granted again takable system t (all_fine granted again takable system t) k).sound.agreed e in
+    let bound = binding_at w.book.version (w.book.binds e) vpn in
+    or_alike (option_map (by_mapping vpn) (mapping_at (w.book.kept e) vpn)) (option_map by_binding bound)
+    ∙ (λ j. option_or (found_alike vpn (w.book.kept e) s.kept (mapped.places e) j) (bound_alike bound j))
+    ∙ (λ j. option_or (option_map (place_at vpn) (kept_at s.kept vpn)) (option_map bound_place (same_binding licensed system t k e vpn agreed.binds j)))

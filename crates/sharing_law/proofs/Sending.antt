@@ -26,10 +26,10 @@ use Rattle.world_model.specs.declared.call.Deed.TheVariants.{Own, Gives, Allocat
 use Rattle.world_model.specs.declared.call.OwnDeed.TheVariants.{Sends}
 use Rattle.world_model.specs.declared.slot.Runner.{Runner}
 use Rattle.world_model.specs.declared.verdict.Verdict.{Verdict}
-use Rattle.world_model.specs.declared.verdict.Verdict.TheVariants.{Refuse, Grant}
+use Rattle.world_model.specs.declared.verdict.Verdict.TheVariants.{Refuse, Again, Grant}
 use Rattle.world_model.specs.Book.{running}
 use Rattle.world_model.specs.Call.{good_range}
-use Rattle.world_model.specs.Item.{Item, Boot, Step, Start, Transfer, Answer, Gained, Lost, Packet, Taken, absorb, absorb_all, absorbed, deed_at, own_part}
+use Rattle.world_model.specs.Item.{Item, Boot, Step, Start, Transfer, Answer, Asked, Gained, Lost, Packet, Taken, absorb, absorb_all, absorbed, deed_at, own_part}
 use Rattle.world_model.specs.May.{May}
 use Rattle.world_model.specs.Page.{Mapped}
 use Rattle.world_model.specs.PageCalls.{lost_bindings, lost_if, page_bytes}
@@ -41,7 +41,7 @@ use Rattle.world_model.specs.Step.{Act, Nothing, Stores, Calls, Raises, Dies, ac
 use Rattle.world_model.specs.Table.{set_at}
 use Rattle.world_model.specs.Tick.{act_now, act_reply, phases_after, step, step_when, tick_phases}
 use Rattle.world_model.specs.Upcalls.{with_context}
-use Rattle.world_model.specs.Verdict.{done, reply_by_verdict, verdict}
+use Rattle.world_model.specs.Verdict.{asks_one, done, reply_by_verdict, verdict}
 use Rattle.world_model.specs.World.{World, Reply, after, in_turn, only, tells}
 use Rattle.call_verdicts.specs.Granted.{GrantedMay}
 use Rattle.run_model.specs.Boot.{boot_items, record_items}
@@ -51,6 +51,7 @@ use Rattle.run_model.proofs.Phases.{in_turn_is_each, next_moment, once_more}
 use Rattle.run_model.proofs.Telling.{call_named, call_stands, deed_may}
 use Rattle.page_laws.proofs.Tables.{set_here}
 use Rattle.sharing_law.specs.Sent.{IsSentWithin, SentIsWithin, is_short}
+use Rattle.sharing_law.proofs.Asking.{asking_or}
 use Rattle.sharing_law.proofs.Choices.{either}
 use Rattle.sharing_law.proofs.Given.{absorb_or}
 use Rattle.sharing_law.proofs.Handling.{handled_holds, short_more, taken_short}
@@ -138,7 +139,7 @@ taken_within page backup s within =
     by_backup (Some into) = within
 
 absorbed_within : (s : Solo) (item : Item) → IsPlain item → Within s → Within (absorbed s item)
-absorbed_within s (Boot number name entry accept kept) plain within = record { count = omega arith; sizes = refl }
+absorbed_within s (Boot version number name entry accept kept) plain within = record { count = omega arith; sizes = refl }
 absorbed_within s Step plain within = acted_within (act_of s (step_alone s)) (record s { cpu = cpu_after s.cpu (step_alone s) }) within
 absorbed_within s Start plain within = start_within s within
 absorbed_within s (Answer verdict) plain within = absurd plain
@@ -197,6 +198,9 @@ module _ (granted : GrantedMay) (w : World) (e : ℕ) (c : Option Call) (comes :
       let v = Refuse code value in
       subst (λ (items : List Item). Within (absorb_all s items)) (sym (set_here e (Answer v ∷ []) (λ j. [])))
       (absorb_or Within s (Answer v) within within)
+  by_verdict (Again who) is =
+      answer_within (Again who) within ((asks_one who w).items e)
+      (asking_or (λ (r : Reply). ArePlain (r.items e)) w who tt (λ p. plain_at who e (Asked p.outstanding p.deadline ∷ []) (λ j. []) (tt, tt) tt))
   by_verdict (Grant value) is =
       let d = deed_at s value in
       answer_within (Grant value) (deed_within w e d (deed_may granted w e c (call_named w e c comes) value is) within) ((done w e d).items e) (deed_plain w e d e)
@@ -293,7 +297,7 @@ phase_within granted system t w within phase L (Others none) all e =
 booted_within : (image : ImageValue) (e : ℕ) → Within (absorb_all (absent e) (boot_items image e))
 booted_within image e = by_program (slice_get image.programs e)
   where
-    by_program : (o : Option ProgramValue) → Within (absorb_all (absent e) (record_items e o))
+    by_program : (o : Option ProgramValue) → Within (absorb_all (absent e) (record_items image.version e o))
     by_program None = record { count = omega arith; sizes = refl }
     by_program (Some p) = record { count = omega arith; sizes = refl }
 

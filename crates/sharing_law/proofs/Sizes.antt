@@ -20,7 +20,7 @@ use Rattle.revocation_book.specs.Takings.{TakingsAreTakable}
 use Rattle.world_model.specs.Item.{Packet}
 use Rattle.world_model.specs.PageCalls.{page_bytes}
 use Rattle.world_model.specs.World.{World}
-use Rattle.call_verdicts.specs.Granted.{GrantedMay}
+use Rattle.call_verdicts.specs.Granted.{AgainAsks, GrantedMay}
 use Rattle.run_model.specs.Licensed.{AtEvent, GivenIsLicensed, LicensedAt, LicensedBehind, LicensedIn}
 use Rattle.run_model.specs.Run.{System, given_at, happens_in, moment, takings_in, world_after}
 use Rattle.sharing_law.specs.Change.{IsStoredTo}
@@ -64,7 +64,7 @@ packet_in system t [] xs k w e claim packet its = absurd (packet_behind system t
 packet_in system t (what ∷ happens) xs zero w e claim packet its = ap Some (packet_by what w e claim packet its)
 packet_in system t (what ∷ happens) xs (suc k) w e claim packet its = packet_in system t happens xs k w e claim packet its
 
-module _ (granted : GrantedMay) (takable : TakingsAreTakable) (licensed : GivenIsLicensed) (runs : RunsKeepLimits) (system : System) (within : AreEventsWithinLimits system.schedule) where
+module _ (granted : GrantedMay) (again : AgainAsks) (takable : TakingsAreTakable) (licensed : GivenIsLicensed) (runs : RunsKeepLimits) (system : System) (within : AreEventsWithinLimits system.schedule) where
   packet_short : (t k e claim : ℕ) (packet : List ℕ) → given_at system t k e ≡ Packet claim packet ∷ [] → length packet ≤ most_packet_size
   packet_short t k e claim packet given =
       let w = world_after system t in
@@ -93,7 +93,7 @@ module _ (granted : GrantedMay) (takable : TakingsAreTakable) (licensed : GivenI
     copy_is page owner copied = grind (arith, common_steps, filled_whole)
 
     next_whole : IsWhole next
-    next_whole owner page owns = elim (becomes granted takable system t k page owner owns) [
+    next_whole owner page owns = elim (becomes granted again takable system t k page owner owns) [
       | inl stays ↦ ap length stays.1 ∙ whole owner page stays.0
       | inr other ↦ elim other [
         | inl changed ↦ elim changed.1 [
@@ -107,9 +107,9 @@ module _ (granted : GrantedMay) (takable : TakingsAreTakable) (licensed : GivenI
   all_whole : (t k : ℕ) → IsWhole (moment system t k)
   all_whole = each_moment IsWhole system next_whole (λ owner page owns. let never : false ≡ true = sym (none_owned system.image owner page) ∙ owns in cc)
 
-pub pages_are_whole : GrantedMay → TakingsAreTakable → GivenIsLicensed → RunsKeepLimits → PagesAreWhole
-pages_are_whole granted takable licensed runs system t k page owner within owns = all_whole granted takable licensed runs system within t k owner page owns
+pub pages_are_whole : GrantedMay → AgainAsks → TakingsAreTakable → GivenIsLicensed → RunsKeepLimits → PagesAreWhole
+pages_are_whole granted again takable licensed runs system t k page owner within owns = all_whole granted again takable licensed runs system within t k owner page owns
 
-pub copies_are_whole : GrantedMay → TakingsAreTakable → GivenIsLicensed → RunsKeepLimits → CopiesAreWhole
-copies_are_whole granted takable licensed runs system t k page owner within copied =
-    copy_is granted takable licensed runs system within t k (all_whole granted takable licensed runs system within t k) page owner copied
+pub copies_are_whole : GrantedMay → AgainAsks → TakingsAreTakable → GivenIsLicensed → RunsKeepLimits → CopiesAreWhole
+copies_are_whole granted again takable licensed runs system t k page owner within copied =
+    copy_is granted again takable licensed runs system within t k (all_whole granted again takable licensed runs system within t k) page owner copied

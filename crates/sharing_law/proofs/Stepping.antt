@@ -6,7 +6,7 @@ use Rattle.world_model.specs.declared.life.Life.{Life}
 use Rattle.world_model.specs.declared.life.Life.TheVariants.{Live, Dead}
 use Rattle.world_model.specs.declared.life.Cause.{Cause}
 use Rattle.world_model.specs.declared.verdict.Verdict.{Verdict}
-use Rattle.world_model.specs.declared.verdict.Verdict.TheVariants.{Refuse, Grant}
+use Rattle.world_model.specs.declared.verdict.Verdict.TheVariants.{Refuse, Again, Grant}
 use Rattle.world_model.specs.Book.{running}
 use Rattle.world_model.specs.Item.{Item, Step, Answer, absorb_all, with_answer, answered_cpu, deed_at}
 use Rattle.world_model.specs.PageCalls.{page_bytes}
@@ -14,9 +14,9 @@ use Rattle.world_model.specs.Solo.{Solo}
 use Rattle.world_model.specs.Step.{Act, Nothing, Stores, Calls, Raises, Dies, acted, step_alone}
 use Rattle.world_model.specs.Tick as tick
 use Rattle.world_model.specs.Tick.{act_now}
-use Rattle.world_model.specs.Verdict.{done, reply_by_verdict, reply_to, verdict}
-use Rattle.world_model.specs.World.{World, Reply, after, in_turn, no_items, tells}
-use Rattle.call_verdicts.specs.Granted.{GrantedMay}
+use Rattle.world_model.specs.Verdict.{asks_one, done, reply_by_verdict, reply_to, verdict}
+use Rattle.world_model.specs.World.{World, Reply, after, followed, in_turn, no_items, tells}
+use Rattle.call_verdicts.specs.Granted.{AgainAsks, GrantedMay}
 use Rattle.run_model.specs.Acting.{Acts}
 use Rattle.run_model.proofs.Phases.{in_turn_is_each}
 use Rattle.run_model.proofs.Telling.{call_does, call_named, call_stands, deed_may, told_other, told_own}
@@ -26,12 +26,12 @@ use Rattle.page_laws.proofs.Sights.{HasNone}
 use Rattle.sharing_law.specs.Agreement.{AreBoundAllocated}
 use Rattle.sharing_law.proofs.Choices.{for_each}
 use Rattle.sharing_law.proofs.Given.{Gives, Tells, absorbs, dead_absorbs, gives_life, told_death}
-use Rattle.sharing_law.proofs.Giving.{deed_gives, store_gives}
+use Rattle.sharing_law.proofs.Giving.{ask_gives, deed_gives, store_gives}
 use Rattle.sharing_law.proofs.Sound.{Sound, agreed, still_nothing}
 use Rattle.sharing_law.proofs.Brings.{Brings, Fortune, GoesOn, Ends, death_brings, silent, store_brings}
-use Rattle.sharing_law.proofs.Calling.{caller, deed_brings}
+use Rattle.sharing_law.proofs.Calling.{ask_brings, deed_brings}
 use Rattle.sharing_law.proofs.Claimed.{AreRings, Claimed}
-use Rattle.sharing_law.proofs.Claiming.{Claiming, deed_claims, death_claims, store_claims, steady}
+use Rattle.sharing_law.proofs.Claiming.{Claiming, ask_claims, deed_claims, death_claims, store_claims, steady}
 
 -- A world follows on another, in which the runner came to this, whatever it was given in between.
 pub record Follows (w : World) (e : ℕ) (s : Solo) (now : World) (items : ℕ → List Item) : Type 0 where
@@ -47,8 +47,8 @@ pub record Stepped (w : World) (e : ℕ) (now : World) : Type 0 where
   pub follows : Follows w e came_to now items
 
 -- So does the world after the runner's step.
-module _ (granted : GrantedMay) (w : World) (e : ℕ) (sound : Sound w) (allocated : AreBoundAllocated w) (claimed : Claimed w) (lives : (w.solos e).life ≡ Live) (runs : running w.book.runner ≡ Some e) where
-  -- a call, refused or granted
+module _ (granted : GrantedMay) (again : AgainAsks) (w : World) (e : ℕ) (sound : Sound w) (allocated : AreBoundAllocated w) (claimed : Claimed w) (lives : (w.solos e).life ≡ Live) (runs : running w.book.runner ≡ Some e) where
+  -- a call that is refused
   refused_follows : (v : Verdict) → (with_answer v (w.solos e)).life ≡ Live → (with_answer v (w.solos e)).binds ≡ (w.solos e).binds → (with_answer v (w.solos e)).seen ≡ (w.solos e).seen → (with_answer v (w.solos e)).rings ≡ (w.solos e).rings → Stepped w e (after w (tells e (Answer v) w))
   refused_follows v alive binds sights rings = record {
     came_to = with_answer v (w.solos e);
@@ -62,28 +62,35 @@ module _ (granted : GrantedMay) (w : World) (e : ℕ) (sound : Sound w) (allocat
     };
   }
 
+  -- what follows on an answer
+  answered_follows : (v : Verdict) (r : Reply) → Brings w e (with_answer v (w.solos e)) r.book r.items → Claiming w e (with_answer v (w.solos e)) r.book r.items → ((i : ℕ) → Gives e i (r.items i))
+      → Stepped w e (after w (followed (tells e (Answer v) w) r))
+  answered_follows v r brings claims gives = record {
+    came_to = with_answer v (w.solos e);
+    items = r.items;
+    follows = record {
+      brings = brings;
+      claims = claims;
+      own = ap (λ (its : List Item). absorb_all (w.solos e) (its ++ r.items e)) (set_here e (Answer v ∷ []) no_items) ∙ absorbs (w.solos e) (Answer v) (r.items e) lives;
+      others = λ i ne. ap (λ (its : List Item). absorb_all (w.solos i) (its ++ r.items i)) (set_else e i (Answer v ∷ []) no_items ne);
+      gives = gives;
+    };
+  }
+
   call_follows : (c : Option Call) → Acts w e (Calls c) → Stepped w e (after w (reply_to w e c))
   call_follows c acts = by_verdict (verdict w e c) refl
     where
       by_verdict : (v : Verdict) → verdict w e c ≡ v → Stepped w e (after w (reply_by_verdict w e v))
       by_verdict (Refuse code value) is = refused_follows (Refuse code value) lives refl refl refl
+      by_verdict (Again who) is =
+          let s = with_answer (Again who) (w.solos e) in
+          let other = λ (same : e ≡ who). (again w e c who is).another (sym same) in
+          answered_follows (Again who) (asks_one who w) (ask_brings w e sound lives allocated s.cpu s lives refl refl who other) (ask_claims w e claimed s refl who) (ask_gives w e who other)
       by_verdict (Grant value) is =
           let d = deed_at (w.solos e) value in
           let may = deed_may granted w e c (call_named w e c acts.comes) value is in
           let cpu = answered_cpu (Grant value) (w.solos e).cpu in
-          let answer = Answer (Grant value) in
-          let items = (done w e d).items in
-          record {
-            came_to = caller w e sound lives allocated cpu d;
-            items = items;
-            follows = record {
-              brings = deed_brings w e sound lives allocated cpu d (call_does w e c acts value is) may;
-              claims = deed_claims w e claimed lives cpu d may;
-              own = ap (λ (its : List Item). absorb_all (w.solos e) (its ++ items e)) (set_here e (answer ∷ []) no_items) ∙ absorbs (w.solos e) answer (items e) lives;
-              others = λ i ne. ap (λ (its : List Item). absorb_all (w.solos i) (its ++ items i)) (set_else e i (answer ∷ []) no_items ne);
-              gives = deed_gives w e d may;
-            };
-          }
+          answered_follows (Grant value) (done w e d) (deed_brings w e sound lives allocated cpu d (call_does w e c acts value is) may) (deed_claims w e claimed lives cpu d may) (deed_gives w e d may)
 
   -- the world once the step is made
   abbrev told : World

@@ -1,9 +1,9 @@
 -- The timer: a runner is told of its end, has grace, or dies of its excess.
 use Rattle.std.proofs.lemmas.Grind.{common_steps}
-use Rattle.std.proofs.Common.{◌≡◌, ◌≢◌, ℕ, zero, suc, ◌+◌, List, [], ◌∷◌, ◌++◌, Bool, true, false, Option, Some, None, refl, sym, ◌∙◌, ap, subst, arith}
+use Rattle.std.proofs.Common.{◌≡◌, ◌≢◌, ℕ, zero, suc, ◌+◌, List, [], ◌∷◌, ◌++◌, Bool, true, Option, Some, None, refl, sym, ◌∙◌, ap, subst, arith}
 use Rattle.std.proofs.lemmas.Bool.{eq-eqb}
 use Rattle.std.proofs.lemmas.List.{append-nil}
-use Rattle.std.specs.Prelude.{◌==◌, ◌-◌, nat_lt, if◌then◌else◌}
+use Rattle.std.specs.Prelude.{◌==◌, ◌-◌, if◌then◌else◌}
 use Rattle.kernel_journal.specs.declared.row.Row.{Row}
 use Rattle.kernel_journal.specs.declared.row.Row.TheVariants as row
 use Rattle.page_book.specs.Row.{belongs_to, is_owned_by}
@@ -11,19 +11,16 @@ use Rattle.page_book.proofs.Owners.{released_owned}
 use Rattle.bind_book.specs.declared.binding.Binding.{Binding}
 use Rattle.world_model.specs.declared.life.Life.TheVariants.{Live}
 use Rattle.world_model.specs.declared.life.Cause.TheVariants as cause
-use Rattle.world_model.specs.declared.slot.Phase.{Phase}
-use Rattle.world_model.specs.declared.slot.Phase.TheVariants as phase
 use Rattle.world_model.specs.declared.slot.Runner.{Runner}
 use Rattle.world_model.specs.Table.{set_at}
 use Rattle.world_model.specs.Book.{Book}
-use Rattle.aegis_limits.specs.Limits.{excess_limit}
 use Rattle.world_model.specs.Death.{death, death_items, lost_with}
 use Rattle.world_model.specs.Solo.{Solo, dead}
 use Rattle.world_model.specs.Item.{Item, End, Killed, absorb, absorb_all}
 use Rattle.world_model.specs.PageCalls.{lost_bindings, page_bytes}
 use Rattle.world_model.specs.SlotCalls.{stop_row}
 use Rattle.world_model.specs.Step.{Dies}
-use Rattle.world_model.specs.Tick.{act_reply, clock, count_when, with_runner, grace_of, kill, owes_more, timer, timer_reply, timer_now}
+use Rattle.world_model.specs.Tick.{act_reply, clock, count_when, grace_of, kill, owes_more, timer, timer_reply, timer_now}
 use Rattle.world_model.specs.declared.timer.Timer.{Timer}
 use Rattle.world_model.specs.declared.timer.Timer.TheVariants as answer
 use Rattle.world_model.specs.World.{World, Reply, after, in_turn, no_items, only, tells}
@@ -31,7 +28,6 @@ use Rattle.run_model.specs.Excess.{IsRunnerLive}
 use Rattle.run_model.proofs.Phases.{in_turn_is_each}
 use Rattle.run_model.proofs.Telling.{told_other, told_own}
 use Rattle.sharing_law.specs.Agreement.{AreBoundAllocated, IsAllocated}
-use Rattle.sharing_law.proofs.Choices.{either}
 use Rattle.sharing_law.proofs.Given.{IsRested, Tells, absorbs, dead_absorbs, given_rests, rests_same, told_death}
 use Rattle.sharing_law.proofs.Sound.{Sound, owner_bytes}
 use Rattle.sharing_law.proofs.Brings.{Brings, death_keeps}
@@ -65,7 +61,7 @@ death_owing b excess gone i = ap (λ items. if i == gone then [] else items) (lo
 module _ (w : World) where
   passes : (runner : Option Runner) (items : ℕ → List Item) (rows : List Row) → ((i : ℕ) → IsRested (w.solos i) (absorb_all (w.solos i) (items i)))
       → Comes w (record { book = record w.book { runner = runner }; items = items; rows = rows })
-  passes runner items rows rests = Passed (record { solos = rests; lists = record { pages = refl; binds = refl; claims = refl; next = refl; backups = refl; kept = refl; lines = refl; count = refl } })
+  passes runner items rows rests = Passed (record { solos = rests; lists = record { version = refl; pages = refl; binds = refl; claims = refl; next = refl; backups = refl; kept = refl; lines = refl; count = refl } })
 
   module _ (r : Runner) (runs : w.book.runner ≡ Some r) where
     -- the world once its excess has risen, and once it is told that it is killed
@@ -84,7 +80,7 @@ module _ (w : World) where
         passes (Some (grace_of w r.env)) (only r.env (End ∷ [])) (row.End w.book.time w.book.cursor r.env ∷ [])
         (λ i. given_rests (w.solos i) End (record { binds = refl; seen = refl; rings = refl; life = refl }) (i == r.env))
     answer_comes answer.Stop = passes None no_items (stop_row w.book r.env ∷ []) (λ i. rests_same (w.solos i))
-    answer_comes (answer.Over excess) = Passed (record { solos = λ i. rests_same (w.solos i); lists = record { pages = refl; binds = refl; claims = refl; next = refl; backups = refl; kept = refl; lines = refl; count = refl } })
+    answer_comes (answer.Over excess) = Passed (record { solos = λ i. rests_same (w.solos i); lists = record { version = refl; pages = refl; binds = refl; claims = refl; next = refl; backups = refl; kept = refl; lines = refl; count = refl } })
     answer_comes answer.Kill = Died r runs (record {
       excess = set_at r.env 0 owing.book.excess;
       time = w.book.time;

@@ -17,6 +17,7 @@ use Rattle.sharing_law.proofs.Sound.{Sound}
 
 -- a book that lists what another lists
 pub record ListsSame (old new : Book) : Type 0 where
+  pub version : new.version ≡ old.version
   pub pages : new.pages ≡ old.pages
   pub binds : new.binds ≡ old.binds
   pub claims : new.claims ≡ old.claims
@@ -27,7 +28,7 @@ pub record ListsSame (old new : Book) : Type 0 where
   pub count : new.page_count ≡ old.page_count
 
 pub same_lists : (b : Book) → ListsSame b b
-same_lists b = record { pages = refl; binds = refl; claims = refl; next = refl; backups = refl; kept = refl; lines = refl; count = refl }
+same_lists b = record { version = refl; pages = refl; binds = refl; claims = refl; next = refl; backups = refl; kept = refl; lines = refl; count = refl }
 
 pub allocated_same : (w v : World) → ListsSame w.book v.book → AreBoundAllocated w → AreBoundAllocated v
 allocated_same w v same allocated e row b at = grind (arith, common_steps)
@@ -59,7 +60,7 @@ unchanged w = record { solos = λ i. rests_same (w.solos i); lists = same_lists 
 -- The turn: who starts rests, and all others stay as they are.
 turn_taken : (w : World) (told : WholeTurn) (x : Option Turn) → IsAlike w (after w (take_turn w told x))
 turn_taken w told None = unchanged w
-turn_taken w told (Some t) = record { solos = λ i. given_rests (w.solos i) Start (started (w.solos i)) (i == t.env); lists = record { pages = refl; binds = refl; claims = refl; next = refl; backups = refl; kept = refl; lines = refl; count = refl } }
+turn_taken w told (Some t) = record { solos = λ i. given_rests (w.solos i) Start (started (w.solos i)) (i == t.env); lists = record { version = refl; pages = refl; binds = refl; claims = refl; next = refl; backups = refl; kept = refl; lines = refl; count = refl } }
 
 turn_by : (w : World) (o : Option Runner) → IsAlike w (after w (turn_when w o))
 turn_by w None = turn_taken w (whole_turn w.book) (whole_turn w.book).runs

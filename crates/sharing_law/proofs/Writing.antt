@@ -156,12 +156,12 @@ stored_within s x acts = (led_store s x acts).within
 
 module _ (s : Solo) (x : Store) (page : ℕ) (into : x.key ≡ Physical page) where
   -- the VPN leads to the binding
-  by_binding : (vpn : ℕ) (p : Option KeptPage) (b : Option Binding) (place : Place) → binding_at s.binds vpn ≡ b → option_or (option_map (place_at vpn) p) (option_map bound_place b) ≡ Some place
+  by_binding : (vpn : ℕ) (p : Option KeptPage) (b : Option Binding) (place : Place) → binding_at s.version s.binds vpn ≡ b → option_or (option_map (place_at vpn) p) (option_map bound_place b) ≡ Some place
       → place.key ≡ Physical page → place.writable ≡ true → IsThrough s page
   by_binding vpn p b place found led key writable = grind (arith, common_steps, found_in_row)
 
   pub stored_through : act_of s (step_alone s) ≡ Stores x → IsThrough s page
-  stored_through acts = let it = led_store s x acts in by_binding it.vpn (kept_at s.kept it.vpn) (binding_at s.binds it.vpn) it.place refl it.led (it.key ∙ into) it.writable
+  stored_through acts = let it = led_store s x acts in by_binding it.vpn (kept_at s.kept it.vpn) (binding_at s.version s.binds it.vpn) it.place refl it.led (it.key ∙ into) it.writable
 
 -- the guaranteed page at this number is there, and may be stored to
 pub record IsWritable (s : Solo) (vpn : ℕ) : Type 0 where
@@ -176,4 +176,4 @@ module _ (s : Solo) (x : Store) (vpn : ℕ) (into : x.key ≡ Kept vpn) where
   by_page n p b place found led key writable = grind (arith, common_steps)
 
   pub stored_writable : act_of s (step_alone s) ≡ Stores x → IsWritable s vpn
-  stored_writable acts = let it = led_store s x acts in by_page it.vpn (kept_at s.kept it.vpn) (binding_at s.binds it.vpn) it.place refl it.led (it.key ∙ into) it.writable
+  stored_writable acts = let it = led_store s x acts in by_page it.vpn (kept_at s.kept it.vpn) (binding_at s.version s.binds it.vpn) it.place refl it.led (it.key ∙ into) it.writable

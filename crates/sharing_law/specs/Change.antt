@@ -98,7 +98,7 @@ StepChanges s t vpn (Dies cause) = t.life ≡ Dead cause
 -- How an item does that makes s to t: of what comes from outside it is the kernel's words on its slice, on who enters
 -- it, on its packets and interrupt lines, and on what it is asked for and what is taken from it, and death, alone.
 abbrev pub Changes : Solo → Solo → ℕ → Item → Type 0
-Changes s t vpn (Boot number name entry accept kept) = t.kept ≡ kept
+Changes s t vpn (Boot version number name entry accept kept) = t.kept ≡ kept
 Changes s t vpn Step = StepChanges s t vpn (act_of s (step_alone s))
 Changes s t vpn Start = (s.handlers.start ≢ 0) × HasWordsInArea s t vpn start_area (start_bytes s.cpu)
 Changes s t vpn End = HasWordsInArea s t vpn end_area (end_bytes s.cpu)

@@ -60,7 +60,7 @@ by_binding b = record { page = b.page; place = bound_place b }
 abbrev pub leads_by_book : Book → ℕ → ℕ → Option BookPlace
 leads_by_book b e vpn =
     option_or (option_map (by_mapping vpn) (mapping_at (b.kept e) vpn))
-    (option_map by_binding (binding_at (b.binds e) vpn))
+    (option_map by_binding (binding_at b.version (b.binds e) vpn))
 
 -- That is where it leads by the environment alone.
 abbrev pub LeadsAgree : Type 0

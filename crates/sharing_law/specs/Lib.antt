@@ -1,6 +1,7 @@
 pub mod Agreement
 pub mod Delivery
 pub mod Right
+pub mod Versions
 pub mod Change
 pub mod Whole
 pub mod Sent

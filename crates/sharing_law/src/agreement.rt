@@ -1,7 +1,7 @@
 //! The book and the environments.
 ghost use Rattle.sharing_law.specs.Agreement.{BackupsAreOwned, BooksAgree, BoundIsAllocated, ClaimsAgree, ClaimsAreApart, ClaimsAreSound, PagesEnd};
 
-use call_verdicts::law_granted;
+use call_verdicts::{law_again, law_granted};
 use filter_core::law_agree;
 use revocation_book::law_takable;
 
@@ -12,6 +12,7 @@ pub fn law_agreement()
     ensures { BooksAgree }
 {
     law_granted();
+    law_again();
     law_takable();
 }
 
@@ -21,6 +22,7 @@ pub fn law_bound()
     ensures { BoundIsAllocated }
 {
     law_granted();
+    law_again();
     law_takable();
 }
 
@@ -29,6 +31,7 @@ pub fn law_pages_end()
     ensures { PagesEnd }
 {
     law_granted();
+    law_again();
     law_takable();
 }
 
@@ -38,6 +41,7 @@ pub fn law_claims()
     ensures { ClaimsAgree }
 {
     law_granted();
+    law_again();
     law_takable();
 }
 
@@ -47,6 +51,7 @@ pub fn law_claim_pages()
     ensures { ClaimsAreSound }
 {
     law_granted();
+    law_again();
     law_takable();
 }
 
@@ -56,6 +61,7 @@ pub fn law_backups()
     ensures { BackupsAreOwned }
 {
     law_granted();
+    law_again();
     law_takable();
 }
 
@@ -65,6 +71,7 @@ pub fn law_claims_apart()
     ensures { ClaimsAreApart }
 {
     law_granted();
+    law_again();
     law_takable();
     law_agree();
 }

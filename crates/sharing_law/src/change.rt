@@ -1,7 +1,7 @@
 //! The causes of change.
 ghost use Rattle.sharing_law.specs.Change.{AllocatedChange, AllocatedInTick, AllocatedZeros, GuaranteedChange, GuaranteedInTick, ItemChange, ZerosInTick};
 
-use call_verdicts::law_granted;
+use call_verdicts::{law_again, law_granted};
 use revocation_book::law_takable;
 
 /// An item that an environment absorbs leaves the bytes of its guaranteed pages, but for its own store to one, which may
@@ -20,6 +20,7 @@ pub fn law_guaranteed_change()
     ensures { GuaranteedChange }
 {
     law_granted();
+    law_again();
 }
 
 /// So in a tick they stay, or they change by such items in its phases.
@@ -28,6 +29,7 @@ pub fn law_guaranteed_in_tick()
     ensures { GuaranteedInTick }
 {
     law_granted();
+    law_again();
 }
 
 /// In a phase of a tick the bytes of a page that stays allocated to an environment change only by a store through a live
@@ -39,6 +41,7 @@ pub fn law_allocated_change()
     ensures { AllocatedChange }
 {
     law_granted();
+    law_again();
     law_takable();
 }
 
@@ -49,6 +52,7 @@ pub fn law_zeros()
     ensures { AllocatedZeros }
 {
     law_granted();
+    law_again();
     law_takable();
 }
 
@@ -59,6 +63,7 @@ pub fn law_allocated_in_tick()
     ensures { AllocatedInTick }
 {
     law_granted();
+    law_again();
     law_takable();
 }
 
@@ -68,5 +73,6 @@ pub fn law_zeros_in_tick()
     ensures { ZerosInTick }
 {
     law_granted();
+    law_again();
     law_takable();
 }

@@ -2,7 +2,7 @@
 ghost use Rattle.sharing_law.specs.Kept.{KeptAgree, LeadsAgree};
 
 use crate::right::law_licence;
-use call_verdicts::law_granted;
+use call_verdicts::{law_again, law_granted};
 use revocation_book::law_takable;
 
 /// The book's guaranteed mappings of each environment are its guaranteed pages, one by one, at the same VPNs and in the
@@ -11,6 +11,7 @@ pub fn law_kept()
     ensures { KeptAgree }
 {
     law_granted();
+    law_again();
     law_takable();
     law_licence();
 }
@@ -21,6 +22,7 @@ pub fn law_leads()
     ensures { LeadsAgree }
 {
     law_granted();
+    law_again();
     law_takable();
     law_licence();
 }

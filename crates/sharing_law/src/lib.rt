@@ -1,11 +1,14 @@
 //! The laws of shared pages, for every image, schedule and number of ticks. They stand here in the order in which
 //! `docs/MODEL.md` tells of them: by what right bindings stand and items are given, that the kernel's book and the
-//! environments agree, why the bytes of a page change, and how much environments send.
+//! environments have one version and agree, why the bytes of a page change, and how much environments send.
 #![tactic(auto)]
 
 // `law_live`, `law_stores`, `law_left`: by what right bindings stand, and bytes are stored and left.
 // `law_licence`, `law_feed_licence`: every item is licensed where it is given.
 mod right;
+// `law_versions`, `law_rows`: the image's version is that of the book and the environments, and says in which rows
+// bindings stand.
+mod versions;
 // `law_agreement`, `law_bound`, `law_pages_end`, `law_claims`, `law_claim_pages`, `law_claims_apart`, `law_backups`: the
 // book and the environments agree on pages, bindings, claims and backups.
 mod agreement;
@@ -33,4 +36,5 @@ pub use kept::{law_kept, law_leads};
 pub use lines::law_lines;
 pub use right::{law_feed_licence, law_left, law_licence, law_live, law_stores};
 pub use sent::law_sent;
+pub use versions::{law_rows, law_versions};
 pub use whole::{law_guaranteed_whole, law_whole, law_whole_copies};

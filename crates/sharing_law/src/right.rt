@@ -3,7 +3,7 @@ ghost use Rattle.run_model.specs.Licensed.{FeedIsLicensed, GivenIsLicensed};
 ghost use Rattle.run_model.specs.Live.{StoresAreLive};
 ghost use Rattle.sharing_law.specs.Right.{EachIsLive, EachLeftIsLive};
 
-use call_verdicts::law_granted;
+use call_verdicts::{law_again, law_granted};
 use revocation_book::law_takable;
 use run_model::law_licence_by_stores;
 
@@ -14,6 +14,7 @@ pub fn law_live()
     ensures { EachIsLive }
 {
     law_granted();
+    law_again();
     law_takable();
 }
 
@@ -22,6 +23,7 @@ pub fn law_stores()
     ensures { StoresAreLive }
 {
     law_granted();
+    law_again();
     law_takable();
 }
 
@@ -48,6 +50,7 @@ pub fn law_left()
     ensures { EachLeftIsLive }
 {
     law_granted();
+    law_again();
     law_takable();
     law_licence();
 }

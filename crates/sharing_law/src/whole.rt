@@ -2,7 +2,7 @@
 ghost use Rattle.sharing_law.specs.Whole.{CopiesAreWhole, GuaranteedAreWhole, PagesAreWhole};
 
 use crate::right::law_licence;
-use call_verdicts::law_granted;
+use call_verdicts::{law_again, law_granted};
 use revocation_book::law_takable;
 use safe_handler::law_runs_keep_limits;
 
@@ -12,6 +12,7 @@ pub fn law_whole()
     ensures { PagesAreWhole }
 {
     law_granted();
+    law_again();
     law_takable();
     law_licence();
     law_runs_keep_limits();
@@ -22,6 +23,7 @@ pub fn law_whole_copies()
     ensures { CopiesAreWhole }
 {
     law_granted();
+    law_again();
     law_takable();
     law_licence();
     law_runs_keep_limits();
