@@ -5,3 +5,4 @@ pub mod LineKinds
 pub mod RowText
 pub mod LedgerText
 pub mod PlanText
+pub mod Within

@@ -1,0 +1,4 @@
+mod Below
+mod Releasing
+mod Everywhere
+mod Scanning

@@ -1,0 +1,4 @@
+pub mod StrideRule
+pub mod Answer
+pub mod Auditor
+pub mod Gifts
