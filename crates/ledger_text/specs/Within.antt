@@ -1,11 +1,11 @@
 -- Ledgers and plans whose numbers are within their limits.
-use Rattle.std.specs.Prelude.{ℕ, ◌≤◌, List, All, IfSome, slice_index}
+use Rattle.std.specs.Prelude.{◌≡◌, ℕ, ◌≤◌, List, All, IfSome, Ok, slice_index}
 use Rattle.aegis_limits.specs.Limits.{most_ticks}
 use Rattle.kernel_journal.specs.declared.row.Row.{Row}
 use Rattle.kernel_journal.specs.declared.row.Row.TheVariants as row
-use Rattle.ledger_text.specs.LedgerText.{LedgerValue}
+use Rattle.ledger_text.specs.LedgerText.{LedgerValue, ledger_read}
 use Rattle.ledger_text.specs.Limits.{last_environment, last_slot, most_share}
-use Rattle.ledger_text.specs.PlanText.{PlanValue}
+use Rattle.ledger_text.specs.PlanText.{PlanValue, plan_read}
 
 abbrev pub IsTime : ℕ → Type 0
 IsTime t = t ≤ most_ticks
@@ -50,3 +50,10 @@ pub record IsClientWithin (client : ℕ × ℕ) : Type 0 where
 pub record IsPlanWithin (plan : PlanValue) : Type 0 where
   pub from : IsEnv plan.from
   pub clients : All IsClientWithin plan.clients
+
+-- what the readers give is within its limits
+abbrev pub LedgersAreWithin : Type 0
+LedgersAreWithin = (text : List ℕ) (ledger : LedgerValue) → ledger_read text ≡ Ok ledger → IsLedgerWithin ledger
+
+abbrev pub PlansAreWithin : Type 0
+PlansAreWithin = (text : List ℕ) (plan : PlanValue) → plan_read text ≡ Ok plan → IsPlanWithin plan

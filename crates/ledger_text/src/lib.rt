@@ -5,6 +5,7 @@
 mod entry;
 mod fault;
 mod kind;
+mod laws;
 mod ledger;
 mod plan;
 mod row_names;
@@ -12,5 +13,6 @@ mod rows;
 mod words;
 
 pub use fault::LedgerWhy;
+pub use laws::law_within;
 pub use ledger::{Ledger, read_ledger};
 pub use plan::{Plan, read_plan};
