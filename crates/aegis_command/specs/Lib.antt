@@ -1,4 +1,5 @@
 pub mod RunImage
 pub mod LoadSeed
+pub mod AuditLedger
 pub mod Words
 pub mod Headline

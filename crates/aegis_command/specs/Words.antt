@@ -1,13 +1,15 @@
 -- The words of the command line.
 use Rattle.std.specs.Prelude.{ℕ, List, [], ◌∷◌, Option, None, String, if◌then◌else◌, codes, map, string_bytes}
 use Rattle.std.specs.Global.{Global}
+use Rattle.std.specs.Option.{option_copied}
 use Rattle.std.specs.Str.{bytes_eq}
 use Rattle.commands.specs.Asm.{asm}
 use Rattle.commands.specs.Command.{CommandValue, of_one_name}
 use Rattle.commands.specs.ListElf.{list_elf}
 use Rattle.commands.specs.MakeImage.{make_image}
 use Rattle.aegis_command.specs.declared.words.Words.{Words}
-use Rattle.aegis_command.specs.declared.words.Words.TheVariants.{RunImage, Asm, ListElf, MakeImage, LoadSeed}
+use Rattle.aegis_command.specs.declared.words.Words.TheVariants.{RunImage, Asm, ListElf, MakeImage, LoadSeed, AuditLedger}
+use Rattle.aegis_command.specs.AuditLedger.{audit_ledger, audit_words}
 use Rattle.aegis_command.specs.LoadSeed.{load_seed, load_words}
 use Rattle.aegis_command.specs.RunImage.{run_image, run_words}
 
@@ -19,7 +21,8 @@ command_of (word ∷ words) =
     if bytes_eq word (codes "asm") then of_one_name asm words else
     if bytes_eq word (codes "list") then of_one_name list_elf words else
     if bytes_eq word (codes "image") then of_one_name make_image words else
-    if bytes_eq word (codes "load") then load_words words else None
+    if bytes_eq word (codes "load") then load_words words else
+    if bytes_eq word (codes "audit") then audit_words words else None
 
 -- the command of the words after the program's name, if they are one's
 abbrev pub asked_by : List (String Global) → Option CommandValue
@@ -32,3 +35,4 @@ command_seen (Asm c) = asm c.source.now
 command_seen (ListElf c) = list_elf c.elf.now
 command_seen (MakeImage c) = make_image c.manifest.now
 command_seen (LoadSeed c) = load_seed c.seed
+command_seen (AuditLedger c) = audit_ledger c.report.now c.quantum.ticks (option_copied c.plan)

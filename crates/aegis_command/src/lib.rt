@@ -5,7 +5,9 @@
 //! is, and how a call ends, is defined in `commands`, on which this stands; `Words` here has the table of commands.
 #![tactic(auto)]
 
+mod audit_ledger;
 mod load_seed;
+mod quantum;
 mod run_image;
 mod ticks;
 mod top;

@@ -7,6 +7,7 @@ ghost use Rattle.commands.specs.Files.{IsServed};
 ghost use Rattle.commands.specs.Work.{Performed, Stopped, StopsByWantAlone};
 ghost use Rattle.aegis_command.specs.Words.{asked_by, command_seen};
 
+use crate::audit_ledger::AuditLedger;
 use crate::load_seed::LoadSeed;
 use crate::run_image::RunImage;
 use commands::{Answer, Asm, ListElf, MakeImage, Stop, perform};
@@ -26,6 +27,8 @@ pub enum Words<'a> {
     MakeImage(MakeImage<'a>),
     /// `load SEED`.
     LoadSeed(LoadSeed),
+    /// `audit REPORT QUANTUM`, and a plan or none.
+    AuditLedger(AuditLedger<'a>),
 }
 
 /// The one word that there is.
@@ -64,6 +67,9 @@ pub fn parse(words: &[String]) -> Option<Words<'_>>
     if word == "load" {
         return Some(Words::LoadSeed(LoadSeed::parse(rest)?));
     }
+    if word == "audit" {
+        return Some(Words::AuditLedger(AuditLedger::parse(rest)?));
+    }
     None
 }
 
@@ -84,5 +90,6 @@ pub fn perform_words<S: Shelf>(
         Words::ListElf(command) => perform(alloc, &command, shelf),
         Words::MakeImage(command) => perform(alloc, &command, shelf),
         Words::LoadSeed(command) => perform(alloc, &command, shelf),
+        Words::AuditLedger(command) => perform(alloc, &command, shelf),
     }
 }

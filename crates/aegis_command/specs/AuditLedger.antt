@@ -1,0 +1,75 @@
+-- `audit REPORT QUANTUM` and `audit REPORT QUANTUM PLAN`: whether a report keeps the rules of the ledger.
+use Rattle.std.specs.Prelude.{ℕ, List, [], ◌∷◌, Option, Some, None, Result, Ok, Err, option_map, length, nat_le, ◌&&◌, if◌then◌else◌, codes}
+use Rattle.aegis_limits.specs.Limits.{least_quantum, most_quantum}
+use Rattle.line_text.specs.Number.{digits_number}
+use Rattle.line_text.specs.Text.{dec_text}
+use Rattle.line_text.specs.WrittenLine.{line}
+use Rattle.line_text.specs.declared.failure.LineFault.{LineFault}
+use Rattle.ledger_text.specs.declared.fault.LedgerWhy.{LedgerWhy}
+use Rattle.ledger_text.specs.LedgerText.{LedgerValue, ledger_read}
+use Rattle.ledger_text.specs.Names.{ledger_why_text}
+use Rattle.ledger_text.specs.PlanText.{PlanValue, plan_read}
+use Rattle.ledger_audit.specs.declared.answer.AuditAnswer.{AuditAnswer}
+use Rattle.ledger_audit.specs.declared.answer.AuditAnswer.TheVariants.{Clean, Broken}
+use Rattle.ledger_audit.specs.Answer.{audit_of}
+use Rattle.commands.specs.Command.{CommandValue, content, no_further}
+use Rattle.commands.specs.Due.{Due, Found, Whole, refused}
+
+-- a number that is a quantum
+abbrev pub as_quantum : Option ℕ → Option ℕ
+as_quantum None = None
+as_quantum (Some n) = if nat_le least_quantum n && nat_le n most_quantum then Some n else None
+
+-- QUANTUM: one to ten decimal digits, within the limits of an image's quantum
+abbrev pub quantum_of : List ℕ → Option ℕ
+quantum_of word = as_quantum (digits_number 10 10 word)
+
+-- how many rows keep the rules, or the line that breaks them first
+unfoldable pub ok_text : ℕ → List ℕ
+ok_text rows = line (codes "audit" ∷ codes "ok" ∷ dec_text rows ∷ [])
+
+unfoldable pub broken_text : ℕ → List ℕ
+broken_text place = line (codes "audit" ∷ codes "line" ∷ dec_text place ∷ [])
+
+abbrev pub answer_due : ℕ → AuditAnswer → Due
+answer_due rows Clean = Whole (ok_text rows)
+answer_due rows (Broken place) = Found (broken_text place)
+
+abbrev pub audited : ℕ → Option PlanValue → LedgerValue → Due
+audited quantum plan ledger = answer_due (length ledger.rows) (audit_of quantum plan ledger)
+
+-- a file of this name is refused for this
+abbrev pub file_refused : List ℕ → LineFault LedgerWhy → Due
+file_refused name fault = refused name (ledger_why_text fault.why) fault.line
+
+-- a plan with a fault is refused
+abbrev pub plan_due : List ℕ → ℕ → LedgerValue → Result PlanValue (LineFault LedgerWhy) → Due
+plan_due name quantum ledger (Ok plan) = audited quantum (Some plan) ledger
+plan_due name quantum ledger (Err fault) = file_refused name fault
+
+-- what is due for a ledger, and for the text of a plan if one is named
+abbrev pub ledger_due : ℕ → Option (List ℕ) → List ℕ → LedgerValue → Due
+ledger_due quantum None text ledger = audited quantum None ledger
+ledger_due quantum (Some name) text ledger = plan_due name quantum ledger (plan_read text)
+
+-- a report with a fault is refused, and before its plan
+abbrev pub report_due : List ℕ → ℕ → Option (List ℕ) → List ℕ → Result LedgerValue (LineFault LedgerWhy) → Due
+report_due name quantum plan text (Ok ledger) = ledger_due quantum plan text ledger
+report_due name quantum plan text (Err fault) = file_refused name fault
+
+abbrev pub plan_names : Option (List ℕ) → List (List ℕ)
+plan_names None = []
+plan_names (Some name) = name ∷ []
+
+abbrev pub audit_ledger : List ℕ → ℕ → Option (List ℕ) → CommandValue
+audit_ledger report quantum plan = record {
+  names = report ∷ plan_names plan;
+  further = no_further;
+  due = λ contents. Some (report_due report quantum plan (content contents 1) (ledger_read (content contents 0)));
+}
+
+-- the words behind `audit`
+abbrev pub audit_words : List (List ℕ) → Option CommandValue
+audit_words (report ∷ quantum ∷ []) = option_map (λ q. audit_ledger report q None) (quantum_of quantum)
+audit_words (report ∷ quantum ∷ plan ∷ []) = option_map (λ q. audit_ledger report q (Some plan)) (quantum_of quantum)
+audit_words words = None
