@@ -63,7 +63,12 @@ SCHEDULE = {
     "Order": "the time is below that of the event before",
     "Many": f"there are more than {MOST_EVENTS:,} events",
 }
-KINDS: Dict[str, Dict[str, str]] = {"source": SOURCE, "manifest": MANIFEST, "image": IMAGE, "ELF file": ELF, "schedule": SCHEDULE}
+LEDGER = {
+    "Syntax": "the line isn't of the form that is due here, or the text ends too early",
+    "Range": "a number is outside its limits",
+}
+KINDS: Dict[str, Dict[str, str]] = {"source": SOURCE, "manifest": MANIFEST, "image": IMAGE, "ELF file": ELF, "schedule": SCHEDULE,
+                                    "report or plan": LEDGER}
 
 # What is written elsewhere, and what to write here. A, B are the operands as they stand.
 INSTEAD = {

@@ -35,8 +35,8 @@ abbrev pub answer_due : ℕ → AuditAnswer → Due
 answer_due rows Clean = Whole (ok_text rows)
 answer_due rows (Broken place) = Found (broken_text place)
 
-abbrev pub audited : ℕ → Option PlanValue → LedgerValue → Due
-audited quantum plan ledger = answer_due (length ledger.rows) (audit_of quantum plan ledger)
+abbrev pub audit_due : ℕ → Option PlanValue → LedgerValue → Due
+audit_due quantum plan ledger = answer_due (length ledger.rows) (audit_of quantum plan ledger)
 
 -- a file of this name is refused for this
 abbrev pub file_refused : List ℕ → LineFault LedgerWhy → Due
@@ -44,12 +44,12 @@ file_refused name fault = refused name (ledger_why_text fault.why) fault.line
 
 -- a plan with a fault is refused
 abbrev pub plan_due : List ℕ → ℕ → LedgerValue → Result PlanValue (LineFault LedgerWhy) → Due
-plan_due name quantum ledger (Ok plan) = audited quantum (Some plan) ledger
+plan_due name quantum ledger (Ok plan) = audit_due quantum (Some plan) ledger
 plan_due name quantum ledger (Err fault) = file_refused name fault
 
 -- what is due for a ledger, and for the text of a plan if one is named
 abbrev pub ledger_due : ℕ → Option (List ℕ) → List ℕ → LedgerValue → Due
-ledger_due quantum None text ledger = audited quantum None ledger
+ledger_due quantum None text ledger = audit_due quantum None ledger
 ledger_due quantum (Some name) text ledger = plan_due name quantum ledger (plan_read text)
 
 -- a report with a fault is refused, and before its plan

@@ -5,7 +5,7 @@ ghost use Rattle.commands.specs.Work.{Settles};
 ghost use Rattle.ledger_text.specs.LedgerText.{ledger_seen};
 ghost use Rattle.ledger_text.specs.PlanText.{plan_read, plan_seen};
 ghost use Rattle.ledger_text.specs.Within.{IsLedgerWithin, IsPlanWithin};
-ghost use Rattle.aegis_command.specs.AuditLedger.{audit_ledger, audit_words, audited, broken_text, file_refused, ok_text, plan_due};
+ghost use Rattle.aegis_command.specs.AuditLedger.{audit_ledger, audit_words, audit_due, broken_text, file_refused, ok_text, plan_due};
 
 use crate::quantum::Quantum;
 use aegis_limits::OutOfMemory;
@@ -79,7 +79,7 @@ fn broken_text(alloc: Global, place: u32) -> Result<Vec<u8>, OutOfMemory>
 }
 
 /// What is due for a ledger and a plan.
-fn audited(
+fn audit_due(
     alloc: Global,
     ledger: &Ledger,
     quantum: Quantum,
@@ -87,7 +87,7 @@ fn audited(
 ) -> Result<Answer, OutOfMemory>
     requires ledger { IsLedgerWithin (ledger_seen ledger.now) }
     requires plan { IfSome plan (λ p. IsPlanWithin (plan_seen p.now)) }
-    ensures { IfOk result (Settles (audited quantum.ticks (option_map plan_seen (option_copied plan.entry)) (ledger_seen ledger.now))) }
+    ensures { IfOk result (Settles (audit_due quantum.ticks (option_map plan_seen (option_copied plan.entry)) (ledger_seen ledger.now))) }
 {
     match audit(ledger, quantum.ticks, plan) {
         AuditAnswer::Clean => Ok(Answer {
@@ -122,7 +122,7 @@ fn plan_due(
 {
     law_within();
     match read_plan(alloc, text) {
-        Ok(plan) => audited(alloc, ledger, quantum, Some(&plan)),
+        Ok(plan) => audit_due(alloc, ledger, quantum, Some(&plan)),
         Err(Failure::Fault(fault)) => refusal(alloc, name, fault),
         Err(Failure::OutOfMemory) => Err(OutOfMemory),
     }
@@ -154,7 +154,7 @@ impl Command for AuditLedger<'_> {
             Err(Failure::OutOfMemory) => return Err(OutOfMemory),
         };
         match self.plan {
-            None => audited(alloc, &ledger, self.quantum, None),
+            None => audit_due(alloc, &ledger, self.quantum, None),
             Some(name) => plan_due(alloc, name, &ledger, self.quantum, content(contents, 1)),
         }
     }

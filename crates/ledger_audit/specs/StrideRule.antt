@@ -28,7 +28,8 @@ abbrev pub is_client_next : (ℕ → ℕ) → List (ℕ × ℕ) → ℕ → Bool
 is_client_next gifts clients to =
     list_any (λ (client : ℕ × ℕ). (client.0 == to) && is_least gifts clients client) clients
 
--- a row keeps to the plan, if it has gifts of the scheduler so far; rows of others all do
+-- whether a row keeps to the plan behind so many gifts: it is no gift of the scheduler's, or goes to the client whose
+-- turn it is
 abbrev pub keeps_plan : Option PlanValue → (ℕ → ℕ) → Row → Bool
 keeps_plan (Some plan) gifts (row.Give t slot from to) =
     not (from == plan.from) || is_client_next gifts plan.clients to
