@@ -2,3 +2,4 @@ mod Below
 mod Releasing
 mod Everywhere
 mod Scanning
+mod Judging

@@ -1,4 +1,5 @@
 pub mod StrideRule
 pub mod Answer
 pub mod Auditor
+pub mod Laws
 pub mod Gifts

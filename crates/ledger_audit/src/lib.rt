@@ -5,10 +5,12 @@
 mod answer;
 mod fitting;
 mod gifts;
+mod laws;
 mod pass;
 mod slots;
 mod state;
 mod turns;
 
 pub use answer::AuditAnswer;
+pub use laws::law_audit;
 pub use pass::audit;

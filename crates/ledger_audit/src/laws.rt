@@ -1,0 +1,9 @@
+//! What the auditor's yes is worth.
+ghost use Rattle.ledger_audit.specs.Laws.{CleanKeepsRules, KeptIsClean};
+
+/// A ledger is clean exactly where each row fits by the rules over the whole list of rows and keeps to the plan, each sum
+/// counts right, and the end fits.
+pub fn law_audit()
+    ensures clean { CleanKeepsRules }
+    ensures kept { KeptIsClean }
+{}
