@@ -8,3 +8,4 @@ mod Timing
 mod Ticks
 mod Booting
 mod Ending
+mod Cleanness

@@ -1,7 +1,8 @@
 //! The law of the ledger.
-ghost use Rattle.ledger_law.specs.LedgerLaw.{EndFits, RowsFit};
+ghost use Rattle.ledger_law.specs.LedgerLaw.{EndFits, RowsFit, RunsAreClean};
 
 use call_verdicts::law_granted;
+use ledger_audit::law_audit;
 use run_model::{law_next_turn, law_turn};
 
 /// The rows of every run fit, each behind those before it, for every image within its limits, every schedule and every
@@ -21,4 +22,14 @@ pub fn law_ledger_end()
     law_granted();
     law_next_turn();
     law_turn();
+}
+
+/// A ledger that has the rows and the end of a run, and sums that count right, is one that the auditor finds clean with
+/// the image's quantum, for every image within its limits, every schedule and every limit of ticks.
+pub fn law_runs_are_clean()
+    ensures { RunsAreClean }
+{
+    law_ledger();
+    law_ledger_end();
+    law_audit();
 }

@@ -4,4 +4,4 @@
 
 mod laws;
 
-pub use laws::{law_ledger, law_ledger_end};
+pub use laws::{law_ledger, law_ledger_end, law_runs_are_clean};
