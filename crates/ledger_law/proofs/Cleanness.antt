@@ -4,7 +4,7 @@ use Rattle.kernel_journal.specs.declared.row.Row.{Row}
 use Rattle.ledger_audit.specs.Answer.{rows_of}
 use Rattle.ledger_audit.specs.Laws.{KeptIsClean, keep_plan}
 use Rattle.ledger_audit.specs.StrideRule.{gifts_with, no_gifts}
-use Rattle.ledger_law.specs.LedgerLaw.{EndFits, IsOfRun, RowsFit, RunsAreClean}
+use Rattle.ledger_law.specs.LedgerLaw.{EndFits, RowsFit, RunsAreClean}
 
 -- without a plan each row keeps to it
 no_plan : (gifts : ℕ → ℕ) (rows : List Row) → keep_plan None gifts rows ≡ true

@@ -1,5 +1,5 @@
 -- What a reader gives is within its limits.
-use Rattle.std.proofs.Common.{arith, refl, subst, ◌≡◌, ◌≤◌, ◌<◌, ◌+◌, ℕ, zero, suc, List, [], ◌∷◌, ◌++◌, Bool, true, false, ◌&&◌, Option, None, Some, Result, Ok, Err, All, IfOk, IfSome, length}
+use Rattle.std.proofs.Common.{arith, refl, subst, ◌≡◌, ◌≤◌, ◌+◌, ℕ, zero, suc, List, [], ◌∷◌, ◌++◌, Bool, true, false, ◌&&◌, Option, None, Some, Result, Ok, Err, All, IfOk, IfSome, length}
 use Rattle.std.specs.Prelude.{if◌then◌else◌, nat_lt, nat_le, codes}
 use Rattle.std.specs.Char.{is_digit}
 use Rattle.std.specs.List.{list_all}
@@ -29,7 +29,7 @@ use Rattle.ledger_text.specs.declared.rows.Gift.{Gift}
 use Rattle.ledger_text.specs.LedgerText.{LedgerValue, end_form, end_said, kind_of, ledger_read, line_said, no_ledger, only_text, read_from, said_by, sum_form, sum_of, with_entry}
 use Rattle.ledger_text.specs.Limits.{last_environment, last_slot, least_clients, most_clients, most_excess, most_number, most_share}
 use Rattle.ledger_text.specs.LineKinds.{first_word, is_kind_done, kind_after, may_follow}
-use Rattle.ledger_text.specs.PlanText.{PlanValue, client_form, client_said, clients_from, from_form, may_join, next_client, plan_from, plan_read, share_in}
+use Rattle.ledger_text.specs.PlanText.{client_form, client_said, clients_from, from_form, may_join, next_client, plan_from, plan_read, share_in}
 use Rattle.ledger_text.specs.RowText.{asked_said, drop_said, env_in, gift_said, is_long_form, long_names, long_said, or_none, other_in, over_said, own_said, row_said, short_names, short_row, short_said, slot_in, take_said, time_in}
 use Rattle.ledger_text.specs.Within.{IsClientWithin, IsEnv, IsLedgerWithin, IsPlanWithin, IsRowWithin, IsSlot, IsSumWithin, IsTime, LedgersAreWithin, PlansAreWithin}
 use Rattle.ledger_text.specs.Words.{is_dash, is_numeral, number_in, spaced_words}
