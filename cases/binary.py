@@ -10,7 +10,7 @@ from typing import Iterable, Sequence
 
 # --- Images ---------------------------------------------------------------------------------------------------
 
-MAGIC = {1: b"AEG1"}  # by the version of the format; another version has its bytes here and its fields in `image`
+MAGIC = {1: b"AEG1", 2: b"AEG2"}  # by the version of the format
 EMPTY = 255  # a slot without an owner
 
 
@@ -31,7 +31,7 @@ class Program:
 
 
 def image(pages: int, quantum: int, slots: Iterable[int], programs: Sequence[Program], version: int = 1) -> bytes:
-    """An image of a machine with so many pages, slices of `quantum` ticks, and these owners of its slots."""
+    """An image of this version: a machine with so many pages, slices of `quantum` ticks, and these owners of its slots."""
     owners = bytes(slots)
     head = MAGIC[version] + struct.pack("<IIHH", pages, quantum, len(programs), len(owners))
     return head + owners + b"".join(it.packed() for it in programs)

@@ -3,6 +3,7 @@
 
 A manifest is a text of these lines, in this order; `#` begins a comment:
 
+    version N                               1 or 2; it may be left out, and is 1 then
     pages N
     quantum N
     slots X ..                              an environment's number for each slot, or - for an empty one
@@ -64,9 +65,9 @@ def body(aegis, path):
 
 def packed(aegis, manifest):
     """The bytes of the manifest's image."""
-    folder, fields, programs = os.path.dirname(manifest), {}, []
+    folder, fields, programs = os.path.dirname(manifest), {"version": 1}, []
     for number, words in lines_of(manifest):
-        wanted = ("pages", "quantum", "slots", "env")[min(len(fields), 3)]
+        wanted = "version" if len(fields) == 1 and words[0] == "version" else ("pages", "quantum", "slots", "env")[min(len(fields), 4) - 1]
         try:
             if words[0] != wanted:
                 raise ValueError
@@ -85,7 +86,7 @@ def packed(aegis, manifest):
             raise Refused(f"{manifest}: line {number} isn't of the form of a manifest's '{wanted}' line") from None
     if not programs:
         raise Refused(f"{manifest}: it ends too early")
-    return binary.image(fields["pages"], fields["quantum"], fields["slots"], programs)
+    return binary.image(fields["pages"], fields["quantum"], fields["slots"], programs, fields["version"])
 
 
 def main():

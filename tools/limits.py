@@ -2,10 +2,12 @@
 cases/numbers compares them with the constants of the crates.
 """
 
+from typing import NamedTuple
+
 PAGE_SIZE = 4_096  # bytes
-LEAST_PAGES, MOST_PAGES = 16, 1_024  # of physical memory
+LEAST_PAGES, MOST_PAGES = 16, 4_096  # of physical memory, in any version
 LEAST_QUANTUM, MOST_QUANTUM = 16, 65_536  # ticks
-MOST_ENVIRONMENTS = 16
+MOST_ENVIRONMENTS = 32  # in any version
 MOST_SLOTS = 64
 MOST_MAPPINGS = 256  # guaranteed pages of an environment, its context page among them
 MOST_STACK_PAGES = 16
@@ -17,3 +19,14 @@ MOST_EVENTS = 65_536  # of a schedule
 MOST_ASKED = 4_096  # pages of a revocation
 MOST_TARGET, MOST_LINE = 31, 7  # an environment that a revocation names, and an interrupt line
 FILE_LIMIT = 67_108_864  # bytes
+
+
+class Version(NamedTuple):
+    """What a version of images allows."""
+
+    most_pages: int
+    most_environments: int
+    stripe_rows: int  # in which an environment's bindings stand
+
+
+VERSIONS = {1: Version(1_024, 16, 256), 2: Version(4_096, 32, 128)}

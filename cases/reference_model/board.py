@@ -6,11 +6,11 @@ case, and nothing is decided by it.
 import struct
 from collections import Counter
 
-from files import PAGE
+from files import PAGE, VERSIONS
 from handlers import FAULT, Run
 from machine import ADEL, ADES, MOD, TLBL, TLBS, WORD, Cpu, Trap
 
-ROWS, LINES = 256, 8
+LINES = 8
 EXCEPTIONS, STARTS, ENDS, ASYNCHRONOUS, SYNCHRONOUS = range(5)
 AT, K0, K1 = 1, 26, 27
 
@@ -42,10 +42,11 @@ class Claim:
 
 
 class Env:
-    """An environment. Bindings are by row, each (VPN, page, whether it may be stored to); backups by their numbers, in order."""
+    """An environment. Bindings are by row of its stripe, each (VPN, page, whether it may be stored to); backups by their numbers,
+    in order."""
 
-    def __init__(self, number, program):
-        self.number, self.name, self.life = number, program.name, "live"
+    def __init__(self, number, program, stripe_rows):
+        self.number, self.name, self.life, self.stripe_rows = number, program.name, "live", stripe_rows
         self.cpu, self.handlers, self.mask = Cpu(program.entry), [0] * 5, program.accept
         self.guaranteed, self.bindings, self.excess = {}, {}, 0
         self.console, self.sent = bytearray(), []
@@ -55,11 +56,15 @@ class Env:
     def is_alive(self):
         return self.life == "live"
 
+    def row_of(self, vpn):
+        """The row in which the binding of a VPN stands."""
+        return vpn % self.stripe_rows
+
     def sees(self, vpn):
         """The page at a VPN, and whether it may be stored to; or None."""
         if vpn in self.guaranteed:
             return self.guaranteed[vpn]
-        binding = self.bindings.get(vpn % ROWS)
+        binding = self.bindings.get(self.row_of(vpn))
         return binding[1:] if binding and binding[0] == vpn else None
 
     def accepts(self, other):
@@ -103,7 +108,7 @@ class Board:
     """The kernel. A slot is None or (owner, holder); `slot` is the cursor, and the slot of who runs."""
 
     def __init__(self, image):
-        self.quantum, self.time, self.rows, self.seen = image.quantum, 0, [], Counter()
+        self.version, self.quantum, self.time, self.rows, self.seen = image.version, image.quantum, 0, [], Counter()
         self.pages = [Page() for _ in range(image.pages)]
         self.slots = [None if owner is None else (owner, owner) for owner in image.slots]
         self.slot, self.runner, self.left, self.in_grace = len(self.slots) - 1, None, 0, False
@@ -118,7 +123,7 @@ class Board:
 
     def add(self, program):
         """Boots the next environment: each guaranteed page is the lowest free one."""
-        env = Env(len(self.envs), program)
+        env = Env(len(self.envs), program, VERSIONS[self.version].stripe_rows)
         self.envs.append(env)
         for vpn, is_writable in program.mappings().items():
             number = self.lowest_free()
@@ -295,6 +300,38 @@ class Board:
         self.row("asked", number, outstanding, env.deadline)
         self.seen["revocations due in their tick"] += grace == 0
 
+    def revocable(self, env):
+        """The pages that may be taken from an environment: those that it has allocated, but its backups."""
+        return [number for number, page in enumerate(self.pages) if page.owner is env and not page.is_guaranteed and number not in env.backups]
+
+    def press(self, env):
+        """No page is free for an environment: of the others the one of which most may be taken is asked for one, the lowest
+        number among equals, if nothing is outstanding of it. None where nothing may be taken from any."""
+        most, asked, equals = 0, None, 0
+        for other in self.envs:
+            count = 0 if other is env else len(self.revocable(other))
+            equals += 0 < count == most
+            if count > most:
+                most, asked, equals = count, other, 0
+        self.count_press(env, asked, equals)
+        if asked is None:
+            return None
+        if asked.outstanding == 0:
+            self.revoke(asked.number, 1, 2 * self.quantum)
+        return asked
+
+    def count_press(self, env, asked, equals):
+        """Counts what kind of a call comes that finds no page."""
+        if asked is None:
+            self.seen["calls under pressure with nobody to ask"] += 1
+            return
+        self.seen["calls under pressure"] += 1
+        self.seen["calls under pressure with equals"] += equals > 0
+        self.seen["calls under pressure while pages are outstanding"] += asked.outstanding > 0
+        self.seen["calls under pressure of who has most"] += len(self.revocable(env)) >= len(self.revocable(asked))
+        self.seen["calls under pressure that pass over backups"] += any(
+            other is not env and len(self.revocable(other) + other.backups) > len(self.revocable(asked) + asked.backups) for other in self.envs)
+
     def serve(self):
         """What is outstanding of those whose deadline has come is taken."""
         self.taken = {}
@@ -302,7 +339,7 @@ class Board:
         self.seen["ticks with several deadlines"] += len(due) > 1
         for env in due:
             owned = [number for number, page in enumerate(self.pages) if page.owner is env and not page.is_guaranteed]
-            victims = [number for number in owned if number not in env.backups][: env.outstanding]
+            victims = self.revocable(env)[: env.outstanding]
             self.seen["deadlines with too few pages"] += len(victims) < env.outstanding
             self.seen["deadlines that spare a backup"] += any(number in env.backups for number in owned[: env.outstanding])
             for number in victims:

@@ -4,7 +4,7 @@ It raises Refused for the first cause that holds, or does what is asked and answ
 """
 import struct
 
-from board import ASYNCHRONOUS, LINES, MOST_SENT, ROWS, SYNCHRONOUS
+from board import ASYNCHRONOUS, LINES, MOST_SENT, SYNCHRONOUS
 from files import MOST_PACKET, PAGE
 from filters import BYTES_OF_ATOM, read_filter
 from handlers import MOST_WORDS, first_bad
@@ -13,7 +13,7 @@ ANY, USER_VPNS = 0xFFFFFFFF, 0x80000
 MOST_CONSOLE, MOST_ATOMS, MOST_CLAIMS, MOST_BACKUPS, LEAST_SENT = 65536, 16, 8, 64, 14
 
 (NO_PAGE, TAKEN, NONE_FREE, NOT_OWNER, NO_RIGHT, BAD_VPN, GUARANTEED, NO_ENV, NOT_ACCEPTED, NO_SLICE, SLOT_TAKEN, NOT_HOLDER, BAD_FILTER, OVERLAP,
- NO_FILTER, BAD_HANDLER, LINE_TAKEN, CONSOLE_FULL, FULL, BAD_CALL, BAD_POINTER) = range(1, 22)
+ NO_FILTER, BAD_HANDLER, LINE_TAKEN, CONSOLE_FULL, FULL, BAD_CALL, BAD_POINTER, AGAIN) = range(1, 23)
 
 
 class Refused(Exception):
@@ -89,7 +89,9 @@ def put(board, env, address, length, *_):
 def alloc(board, env, number, *words):
     if number == ANY:
         number = board.lowest_free()
-        refuse_if(number is None, NONE_FREE)
+        if number is None:
+            asked = board.press(env) if board.version == 2 else None
+            raise Refused(NONE_FREE) if asked is None else Refused(AGAIN, asked.number)
     else:
         refuse_if(number >= len(board.pages), NO_PAGE)
         refuse_if(board.pages[number].owner, TAKEN)
@@ -117,7 +119,7 @@ def bind(board, env, vpn, number, is_writable, *words):
     if page.owner is not env:
         gives_right = word and (word == page.write or word == page.read and not is_writable)
         refuse_if(page.owner is None or page.is_guaranteed or not gives_right, NO_RIGHT)
-    env.bindings[vpn % ROWS] = vpn, number, bool(is_writable)
+    env.bindings[env.row_of(vpn)] = vpn, number, bool(is_writable)
     return 0
 
 
@@ -125,7 +127,7 @@ def unbind(board, env, vpn, *_):
     check_bindable(env, vpn)
     is_bound = env.sees(vpn) is not None
     if is_bound:
-        del env.bindings[vpn % ROWS]
+        del env.bindings[env.row_of(vpn)]
     return int(is_bound)
 
 
@@ -266,7 +268,7 @@ CALLS = {
 
 
 def make_call(board, env):
-    """What the runner's SYSCALL does. A refused call changes nothing but what its caller finds."""
+    """What the runner's SYSCALL does. A refused call changes nothing but what its caller finds, and what AGAIN asks of another."""
     number, arguments = env.cpu.regs[2], env.cpu.regs[4:9]
     if number == EXIT:
         board.die(env, f"exit {arguments[0]}")

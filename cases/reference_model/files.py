@@ -1,16 +1,19 @@
-"""What is read: boot images, the ELF files in them, and schedules, each with its faults: docs/FORMATS.md."""
+"""What is read: boot images, the ELF files in them, manifests and schedules, each with its faults: docs/FORMATS.md."""
 import os
 import struct
 import sys
 from dataclasses import dataclass
 
-sys.path.append(os.path.join(os.path.dirname(os.path.realpath(__file__)), "..", "..", "tools"))
-from limits import (LEAST_PAGES, LEAST_QUANTUM, MOST_ASKED, MOST_ENVIRONMENTS, MOST_EVENTS, MOST_LINE, MOST_MAPPINGS, MOST_PACKET_SIZE as MOST_PACKET,
-                    MOST_PAGES, MOST_QUANTUM, MOST_SLOTS, MOST_STACK_PAGES as MOST_STACK, MOST_TARGET, MOST_TICKS, PAGE_SIZE as PAGE)
+ROOT = os.path.join(os.path.dirname(os.path.realpath(__file__)), "..", "..")
+sys.path += [f"{ROOT}/tools", f"{ROOT}/cases"]
+import binary
+from binary import EMPTY, MAGIC
+from limits import (LEAST_PAGES, LEAST_QUANTUM, MOST_ASKED, MOST_EVENTS, MOST_LINE, MOST_MAPPINGS, MOST_PACKET_SIZE as MOST_PACKET, MOST_QUANTUM,
+                    MOST_SLOTS, MOST_STACK_PAGES as MOST_STACK, MOST_TARGET, MOST_TICKS, PAGE_SIZE as PAGE, VERSIONS)
 
 LEAST_ADDRESS, END_OF_ADDRESSES, END_OF_STACK = 0x2000, 0x7FF00000, 0x7FFF0000
-CONTEXT_VPN = 1
-EMPTY = 255
+CONTEXT_VPN, WORD = 1, 0xFFFFFFFF
+NAME = b"abcdefghijklmnopqrstuvwxyz0123456789_"
 
 
 class Fault(Exception):
@@ -54,8 +57,9 @@ class Program:
 
 @dataclass
 class Image:
-    """A boot image: the numbers of the machine, the owner of each slot or None, and the programs."""
+    """A boot image: its version, the numbers of the machine, the owner of each slot or None, and the programs."""
 
+    version: int
     pages: int
     quantum: int
     slots: list
@@ -79,10 +83,12 @@ def number_at(file, place, size):
 def read_image(file):
     if len(file) < 16:
         raise Fault("Short", len(file))
-    if file[:4] != b"AEG1":
+    version = next((number for number, magic in MAGIC.items() if file[:4] == magic), None)
+    if version is None:
         raise Fault("Magic", 0)
-    limits = (("Pages", 4, 4, LEAST_PAGES, MOST_PAGES), ("Quantum", 8, 4, LEAST_QUANTUM, MOST_QUANTUM), ("Envs", 12, 2, 1, MOST_ENVIRONMENTS),
-              ("Slots", 14, 2, 1, MOST_SLOTS))
+    most = VERSIONS[version]
+    limits = (("Pages", 4, 4, LEAST_PAGES, most.most_pages), ("Quantum", 8, 4, LEAST_QUANTUM, MOST_QUANTUM),
+              ("Envs", 12, 2, 1, most.most_environments), ("Slots", 14, 2, 1, MOST_SLOTS))
     for why, place, size, least, most in limits:
         if not least <= number_at(file, place, size) <= most:
             raise Fault(why, place)
@@ -106,7 +112,7 @@ def read_image(file):
             raise Fault("TooMany", header)
     if sum(needs) > pages:
         raise Fault("TooBig", 4)
-    return Image(pages, quantum, [None if owner == EMPTY else owner for owner in file[first : first + slots]], programs)
+    return Image(version, pages, quantum, [None if owner == EMPTY else owner for owner in file[first : first + slots]], programs)
 
 
 def read_program(file, header):
@@ -116,7 +122,7 @@ def read_program(file, header):
         raise Fault("Short", len(file))
     name = file[header : header + 8].rstrip(b"\0")
     base, stack, accept, kind, length = struct.unpack_from("<5I", file, header + 8)
-    if not name or any(letter not in b"abcdefghijklmnopqrstuvwxyz0123456789_" for letter in name):
+    if not name or any(letter not in NAME for letter in name):
         raise Fault("Name", header)
     if kind > 1:
         raise Fault("Kind", header)
@@ -194,23 +200,27 @@ def lines_of(text):
     return enumerate(lines, 1)
 
 
+def words_of(line, content):
+    """The words of a line, apart from its comment."""
+    if not CHARACTERS.issuperset(content):
+        raise Fault("Syntax", line)
+    return [word for word in content.partition(b"#")[0].replace(b"\t", b" ").split(b" ") if word]
+
+
 def number_of(word):
     """The number that a word is, or None."""
     digits, base, most, alphabet = (word[2:], 16, 8, b"0123456789abcdefABCDEF") if word.startswith(b"0x") else (word, 10, 10, b"0123456789")
     if not 1 <= len(digits) <= most or any(digit not in alphabet for digit in digits):
         return None
     value = int(digits, base)
-    return value if value < 1 << 32 else None
+    return value if value <= WORD else None
 
 
 def read_schedule(text):
     """The events of a schedule, in order."""
     events = []
     for line, content in lines_of(text):
-        if not CHARACTERS.issuperset(content):
-            raise Fault("Syntax", line)
-        words = content.partition(b"#")[0].replace(b"\t", b" ").split(b" ")
-        if words := [word for word in words if word]:
+        if words := words_of(line, content):
             event = read_event(line, words)
             if events and event.tick < events[-1].tick:
                 raise Fault("Order", line)
@@ -218,6 +228,79 @@ def read_schedule(text):
                 raise Fault("Many", line)
             events.append(event)
     return events
+
+
+AWAITED = (b"version", b"pages", b"quantum", b"slots", b"env")  # the first words of a manifest's lines, in order
+
+
+@dataclass
+class Manifest:
+    """What a manifest says: its version, the numbers of the machine, the owner of each slot or None, and by environment the
+    name, the base or None for an ELF file, the stack pages, the mask and the file."""
+
+    version: int
+    pages: int
+    quantum: int
+    slots: list
+    entries: list
+
+
+def read_manifest(text):
+    """What a manifest says, and its first line with a fault."""
+    said, awaited, last = Manifest(1, None, None, None, []), 0, 0
+    for line, content in lines_of(text):
+        last = line
+        words = words_of(line, content)
+        if not words:
+            continue
+        if awaited == 0 and words[0] != AWAITED[0]:
+            awaited = 1
+        if words[0] != AWAITED[awaited]:
+            raise Fault("Syntax", line)
+        read_manifest_line(said, line, words)
+        awaited = min(awaited + 1, len(AWAITED) - 1)
+    if not said.entries:
+        raise Fault("Syntax", last + 1)
+    return said
+
+
+def read_manifest_line(said, line, words):
+    """Adds what a line says that has the kind which is awaited."""
+    kind, *rest = words
+    most = VERSIONS[said.version]
+    forms = {b"slots": 1 <= len(rest) <= MOST_SLOTS, b"env": (len(rest), *rest[1:2]) in ((6, b"flat"), (5, b"elf"))}
+    if not forms.get(kind, len(rest) == 1):
+        raise Fault("Syntax", line)
+
+    def ranged(word, greatest, least=0):
+        value = number_of(word)
+        if value is None or not least <= value <= greatest:
+            raise Fault("Range", line)
+        return value
+
+    if kind == b"version":
+        said.version = ranged(rest[0], max(VERSIONS), min(VERSIONS))
+    elif kind == b"pages":
+        said.pages = ranged(rest[0], most.most_pages, LEAST_PAGES)
+    elif kind == b"quantum":
+        said.quantum = ranged(rest[0], MOST_QUANTUM, LEAST_QUANTUM)
+    elif kind == b"slots":
+        said.slots = [None if word == b"-" else ranged(word, most.most_environments - 1) for word in rest]
+    else:
+        name, form, *numbers, file = rest
+        if len(name) > 8 or any(letter not in NAME for letter in name):
+            raise Fault("Range", line)
+        base = ranged(numbers.pop(0), WORD) if form == b"flat" else None
+        entry = name.decode(), base, ranged(numbers[0], MOST_STACK), ranged(numbers[1], WORD), file
+        if len(said.entries) == most.most_environments:
+            raise Fault("Many", line)
+        said.entries.append(entry)
+
+
+def image_of(said, files):
+    """The bytes of the image that a manifest means, whose files have these contents."""
+    programs = [binary.Program(name, files[file], base or 0, stack, accept, base is None) for name, base, stack, accept, file in said.entries]
+    return binary.image(said.pages, said.quantum, [EMPTY if owner is None else owner for owner in said.slots], programs, said.version)
 
 
 def read_event(line, words):

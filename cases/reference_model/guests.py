@@ -434,38 +434,52 @@ def elf_file(chance, code, data, is_read_only):
 
 
 class System:
-    """An image of random programs, and a schedule."""
+    """An image of random programs, whose version is 1 for an even seed, and a schedule."""
+
+    GUEST = Guest
 
     def __init__(self, seed):
+        self.version = 1 + seed % 2
         chance = self.chance = random.Random(seed)
-        count = chance.randrange(1, 7)
+        count = self.environments()
         stacks = [chance.choice((0, 0, 1)) for _ in range(count)]
         # by environment, the VPNs at which pages are guaranteed
         self.guaranteed = [[1, BASE // PAGE, DATA // PAGE] + [0x7FFEF] * stack for stack in stacks]
         self.total = sum(map(len, self.guaranteed))
-        self.pages = max(16, self.total + chance.randrange(4, 24)) + chance.choice((0,) * 7 + (140,))
+        self.pages = self.machine_pages()
         self.slots = [0] + [chance.choice((environment,) * 6 + (255,)) for environment in range(1, count)]
         self.slots += [chance.choice((*range(count), 255)) for _ in range(chance.randrange(4))]
         chance.shuffle(self.slots)
         self.quantum, self.ticks = chance.randrange(16, 100), chance.randrange(*chance.choice(((40,), *[(300, 1000)] * 3, *[(1000, 3000)] * 5)))
         self.traffic, self.revokes, self.deadlines = Traffic(chance), chance.choice((0, 0, 0.1, 0.3, 0.5)), []
         programs = [self.program(environment, stack) for environment, stack in enumerate(stacks)]
-        self.image = binary.image(self.pages, self.quantum, self.slots, programs)
+        self.image = binary.image(self.pages, self.quantum, self.slots, programs, self.version)
         self.schedule = self.text_of(self.events())
         if chance.random() < 0.02:
             place = chance.randrange(len(self.image))
             self.image = self.image[:place] + chance.randbytes(1) + self.image[place + 1 :]
 
+    def environments(self):
+        """How many there are."""
+        return self.chance.randrange(1, 7)
+
+    def machine_pages(self):
+        """How many pages the machine has."""
+        return max(16, self.total + self.chance.randrange(4, 24)) + self.chance.choice((0,) * 7 + (140,))
+
+    def mask(self):
+        """Whose yields and transfers an environment accepts."""
+        return self.chance.choice((0xFFFF, 0xFFFF, self.chance.randrange(1 << 16), 0))
+
     def program(self, environment, stack):
-        chance, guest = self.chance, Guest(self.chance, self, environment)
+        chance, guest = self.chance, self.GUEST(self.chance, self, environment)
         code, data = guest.made()
         is_elf = chance.random() < 0.25
         if is_elf:
             body = elf_file(chance, code, data, guest.has_handler and chance.random() < 0.5)
         else:
             body = code.ljust(PAGE, b"\0") + data
-        mask = chance.choice((0xFFFF, 0xFFFF, chance.randrange(1 << 16), 0))
-        return binary.Program(f"e{environment}", body, 0 if is_elf else BASE, stack, mask, is_elf)
+        return binary.Program(f"e{environment}", body, 0 if is_elf else BASE, stack, self.mask(), is_elf)
 
     def events(self):
         """By rising tick, what a line says behind it."""
