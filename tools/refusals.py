@@ -4,12 +4,22 @@ from __future__ import annotations
 
 import difflib
 import re
-from typing import Dict, Optional
+from typing import Callable, Dict, Optional
 
-from limits import (LEAST_PAGES, LEAST_QUANTUM, MOST_ASKED, MOST_ENVIRONMENTS, MOST_EVENTS, MOST_LINE, MOST_MAPPINGS, MOST_PACKET_SIZE, MOST_PAGES,
-                    MOST_QUANTUM, MOST_SLOTS, MOST_STACK_PAGES, MOST_TARGET, MOST_TICKS)
+from limits import (LEAST_PAGES, LEAST_QUANTUM, MOST_ASKED, MOST_EVENTS, MOST_LINE, MOST_MAPPINGS, MOST_PACKET_SIZE, MOST_QUANTUM, MOST_SLOTS,
+                    MOST_STACK_PAGES, MOST_TARGET, MOST_TICKS, VERSIONS, Version)
 from shown import decoded
 from source import JUMPS, LOADS, NAME, OPERANDS, Source, Statement, number, read_statement, register
+
+
+
+def by_version(of: Callable[[Version], int]) -> str:
+    """A limit with its number in each version."""
+    return ", and ".join(f"{of(most):,} in version {number}" for number, most in VERSIONS.items())
+
+
+MOST_ENVIRONMENTS = by_version(lambda most: most.most_environments)
+MOST_PAGES = by_version(lambda most: most.most_pages)
 
 SOURCE = {
     "Syntax": "the line has a form that the assembler doesn't know",
@@ -23,14 +33,14 @@ SOURCE = {
 MANIFEST = {
     "Syntax": "the line isn't of the form that is due here",
     "Range": "a word isn't a number, or a number or a name is outside its limits",
-    "Many": f"there are more than {MOST_ENVIRONMENTS} environments",
+    "Many": f"there are too many environments: the most are {MOST_ENVIRONMENTS}",
 }
 IMAGE = {
     "Short": "the file ends too early",
-    "Magic": "the file doesn't begin with `AEG1`, so it isn't an image",
-    "Pages": f"a machine has {LEAST_PAGES} to {MOST_PAGES:,} pages",
+    "Magic": "the file begins with neither `AEG1` nor `AEG2`, so it isn't an image",
+    "Pages": f"a machine has at least {LEAST_PAGES} pages, and at most {MOST_PAGES}",
     "Quantum": f"a slice has {LEAST_QUANTUM} to {MOST_QUANTUM:,} ticks",
-    "Envs": f"an image has 1 to {MOST_ENVIRONMENTS} environments",
+    "Envs": f"an image has at least 1 environment, and at most {MOST_ENVIRONMENTS}",
     "Slots": f"an image has 1 to {MOST_SLOTS} slots",
     "SlotOwner": "a slot is owned by an environment that there isn't",
     "Name": "a name is one to eight of `a` to `z`, `0` to `9` and `_`",

@@ -18,9 +18,8 @@ import re
 from dataclasses import dataclass, field
 from typing import Dict, Iterable, List, Optional, TextIO, Tuple
 
-MOST_ENVIRONMENTS = 32
-MOST_SLOTS = 64
-MOST_TICKS = 4_194_304
+from limits import MOST_ENVIRONMENTS, MOST_SLOTS, MOST_TICKS
+
 LONGEST_LINE = 4 * 65_536 + 64  # a full console, each byte as `\x` and two digits
 
 

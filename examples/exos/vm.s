@@ -28,9 +28,10 @@
 #
 #   no page yet       a miss (TLBL or TLBS). The handler allocates a page and binds it read-only.
 #   a first store     Mod, since the binding is read-only. The handler sets the dirty bit and binds the page writable.
-#   a lost binding    a miss at a page that is mapped. The kernel has room for a binding in each of 256 rows, and a bind at a
-#                     VPN 256 further on takes the row. The handler binds the page again as the table says. So the kernel's
-#                     bindings are a cache of the table, as a TLB is.
+#   a lost binding    a miss at a page that is mapped. The kernel has room for a binding in each of 256 rows, in version 2 of
+#                     128, and a bind at a VPN so many further on takes the row. The handler binds the page again as the table
+#                     says. So the kernel's bindings are a cache of the table, as a TLB is.
+#   no page is free   where the kernel has asked another environment for one (22), the handler yields and calls again.
 #
 # A first store at an address without a page is two exceptions: the handler only ever binds a new page read-only. That is
 # how dirty bits are kept on a machine that has none.
@@ -43,15 +44,19 @@
 # What it leaves out
 #
 #   Pages that the kernel takes back. A program that may be asked for pages clears their entries, or loads backups. Else the
-#   table goes on having a page that is gone, and the page may even be allocated again, for another entry.
+#   table goes on having a page that is gone, and the page may even be allocated again, for another entry. pressure.s gives
+#   pages back when it is asked.
 
 # Calls of the kernel: the number is in $2, arguments are in $4 to $8; the answer's code is in $2, its value in $3
+.equ call_yield,        0       # $4 an environment, or any
 .equ call_put,          1       # $4 address, $5 length
 .equ call_exit,         2       # $4 code
 .equ call_alloc,        3       # $4 a page or any; $5, $6 the word to read it and $7, $8 the word to write it
 .equ call_bind,         6       # $4 VPN, $5 a page, $6 not 0 to store to it too; $7, $8 the word
 .equ call_context,      8       # $4 kind, $5 the handler's address
 .equ any_page,          -1
+.equ any_environment,   -1
+.equ again,             22      # the answer where another environment was asked for a page
 .equ kind_exceptions,   0
 
 # The context page: what the kernel keeps of the program at an exception, and a place for what the handler uses
@@ -183,10 +188,19 @@ miss:   andi $8, $10, mapped
         move $7, $0
         move $8, $0
         syscall
-        bne  $2, $0, give_up    # none is free
+        bne  $2, $0, wait
         sll  $10, $3, 12
         b    install
         ori  $10, $10, mapped
+
+wait:   li   $8, again
+        bne  $2, $8, give_up    # none is free, and there is nobody to ask
+        move $10, $0
+        li   $2, call_yield
+        li   $4, any_environment
+        syscall
+        b    miss
+        nop
 
 first_store: ori $10, $10, dirty
 
