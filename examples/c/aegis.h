@@ -50,7 +50,8 @@ enum aegis_code {
     AEGIS_CONSOLE_FULL = 18,
     AEGIS_FULL = 19,
     AEGIS_BAD_CALL = 20,
-    AEGIS_BAD_POINTER = 21
+    AEGIS_BAD_POINTER = 21,
+    AEGIS_AGAIN = 22 /* of alloc: another environment was asked for a page, so call again later */
 };
 
 /* What an environment may name a handler of its own for. */
