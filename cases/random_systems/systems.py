@@ -334,9 +334,10 @@ class Program:
 
 
 class System:
-    """An image of random programs, and what it says of the pages that are guaranteed."""
+    """An image of random programs, of version 1 for an even seed, and what it says of the pages that are guaranteed."""
 
     def __init__(self, seed):
+        self.version = 1 + seed % 2
         chance = random.Random(seed)
         count = chance.randrange(1, 7)
         stacks = [chance.choice((0, 0, 1)) for _ in range(count)]
@@ -353,7 +354,7 @@ class System:
         for environment, stack in enumerate(stacks):
             mask, body = chance.choice((0xFFFF, 0xFFFF, chance.randrange(1 << 16), 0)), Program(chance, self, environment).made()
             programs.append(binary.Program(f"e{environment}", body, BASE, stack, mask))
-        self.image = binary.image(self.pages, self.quantum, self.slots, programs)
+        self.image = binary.image(self.pages, self.quantum, self.slots, programs, self.version)
 
     def pages_of(self, environment):
         """The pages that are guaranteed to an environment."""
