@@ -12,7 +12,7 @@ import math
 from dataclasses import dataclass, field
 from typing import Dict, Iterable, Iterator, List, Optional, Tuple
 
-from report import MOST_SLOTS, Environment, Listener, Slice
+from report import MOST_SLOTS, Environment, Listener, Mark, Slice
 
 # --- What is drawn, and what is folded ------------------------------------------------------------------------
 
@@ -123,9 +123,11 @@ class Picture(Listener):
 
     COLUMN = 3  # units across of a column; a bar that is narrower is put into columns
 
-    def __init__(self, first: int, end: int, width: int, environments: int, by_env: bool = False):
-        self.first, self.end, self.width, self.by_env = first, end, width, by_env
-        self.what = ENV if by_env else SLOT  # what its lanes show
+    MOST_LANES = 16  # slots with an owner at boot: where there are more, and nothing is chosen, lanes are environments
+
+    def __init__(self, first: int, end: int, width: int, environments: int, by_env: Optional[bool] = None):
+        self.first, self.end, self.width = first, end, width
+        self.chosen, self.by_env = by_env, bool(by_env)
         self.scale = width / max(end - first, 1)
         self.column_ticks = max(1, math.ceil(self.COLUMN / self.scale))
         self.ticks = [0] * environments
@@ -135,6 +137,17 @@ class Picture(Listener):
         self.deaths: List[Tuple[str, int, int, int, str]] = []  # exits too: kind, lane, environment, tick, row
         self.holdings: Dict[int, List[Holding]] = {}
         self.asked: Dict[int, Spot] = {}  # by environment, the mark of its last revocation
+        self.revocations: List[Mark] = []  # all rows `asked` and `take`, also out of the range
+
+    @property
+    def what(self) -> str:
+        """What its lanes show."""
+        return ENV if self.by_env else SLOT
+
+    def end_boot(self) -> None:
+        """Now it is known how many slots there are."""
+        if self.chosen is None:
+            self.by_env = len(self.holdings) > self.MOST_LANES
 
     def x(self, tick: float) -> float:
         """Where a tick begins."""
@@ -186,6 +199,8 @@ class Picture(Listener):
 
     def add_mark(self, kind: str, time: int, env: Optional[int], slot: Optional[int], row: str, until: int) -> None:
         """Takes a mark in, if its tick lies in the range. Deaths are few and stand for themselves."""
+        if kind in ("asked", "take"):
+            self.revocations.append(Mark(kind, time, env, slot, row, until))
         if kind in ("asked", "dead", "exit"):
             self.end_deadline(env, time + KINDS[kind].after)
         lane = (self.what, self.lane(slot, env)) if slot is not None else (PACKETS, 0) if env is None else (PAGES, env)

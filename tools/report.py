@@ -282,6 +282,9 @@ class Slice:
 class Listener:
     """Who takes what the rows say, in their order."""
 
+    def end_boot(self) -> None:
+        """The owners of slots at boot were told, and no other row yet."""
+
     def add_slice(self, piece: Slice) -> None:
         """A slice that is over."""
 
@@ -346,6 +349,7 @@ class Ledger:
         except Misfit as misfit:
             raise Refused(lines.number, f"{misfit}: {lines.text}") from None
         self.rows = lines.number - first
+        self.end_boot()
         if lines.word() != "sum":
             raise lines.misplaced()
         self.finish()
@@ -373,7 +377,7 @@ class Ledger:
         fits = self.runner is None and self.time <= start == self.turn <= stop < self.ended
         if not fits or slot >= MOST_SLOTS or env >= self.count:
             return False
-        self.booted = True
+        self.end_boot()
         self.time = stop
         self.turn = stop + 1
         self.runs[env] += 1
@@ -424,6 +428,12 @@ class Ledger:
 
     # What rows have in common
 
+    def end_boot(self) -> None:
+        """The rows of boot are over."""
+        if not self.booted:
+            self.booted = True
+            self.listener.end_boot()
+
     def at(self, time: int, env: int = 0) -> None:
         """A row's tick and environment."""
         if not self.time <= time < self.ended:
@@ -431,7 +441,7 @@ class Ledger:
         if env >= self.count:
             raise Misfit("no such environment")
         self.time = time
-        self.booted = True
+        self.end_boot()
 
     def at_turn(self, time: int, slot: int, env: int) -> None:
         """A row of a turn: nobody runs, and no tick was left out."""
