@@ -296,6 +296,14 @@ struct aegis_answer aegis_ask(unsigned server, unsigned argument);
 /* The other side: answers the calls of these clients, a bit for each, for ever. It wants one slot of its own. */
 __attribute__((noreturn)) void aegis_serve(unsigned clients, unsigned (*answer)(unsigned client, unsigned argument));
 
+/* words.c: the same with eight words each way, in registers. The words of the call are replaced by those of the answer. The code
+   is that of aegis_ask. A client may ask by both functions, one after the other. */
+#define AEGIS_WORDS 8
+unsigned aegis_ask_words(unsigned server, unsigned words[AEGIS_WORDS]);
+
+/* The other side: the words are the call's, and what stands there when `answer` returns is the answer. */
+__attribute__((noreturn)) void aegis_serve_words(unsigned clients, void (*answer)(unsigned client, unsigned words[AEGIS_WORDS]));
+
 /* Numbers of packets, whose highest byte stands first, and those of the machine, each made of the other. */
 static inline unsigned short htons(unsigned short number)
 {

@@ -2,7 +2,7 @@
    it works in the client's time. The answer is an asynchronous one, of the rest of the slice alone. For if the server was
    stopped on the way, it goes on in whichever of its slots comes next, and a synchronous answer would hand on that slot,
    which may be its own. calls.s has where both enter. */
-#include "aegis.h"
+#include "serving.h"
 
 void aegis_answered(void);
 void aegis_called(void);
@@ -37,27 +37,7 @@ struct aegis_answer aegis_ask(unsigned server, unsigned argument)
     }
 }
 
-static unsigned served, home;
 static unsigned (*answer_of)(unsigned client, unsigned argument);
-
-/* The first slot that the environment holds, but one. */
-static unsigned held_slot(unsigned but)
-{
-    unsigned self = aegis_self(), slots = aegis_query(AEGIS_SLOTS, 0).value, slot = 0;
-    while (slot < slots && (slot == but || aegis_query(AEGIS_HOLDER, slot).value != self))
-        slot++;
-    return slot;
-}
-
-/* Waits for a call: of some clients, and from the next turn on of all. */
-__attribute__((noreturn)) static void wait_for(unsigned clients)
-{
-    aegis_accept(clients);
-    for (;;) {
-        aegis_yield();
-        aegis_accept(served);
-    }
-}
 
 /* A client's call, which has entered. It is answered first. At its next turn the server gives the client's slot back, and
    accepts other calls: if it did that before the answer, and were stopped between the two, another client's registers would
