@@ -9,7 +9,7 @@ import shutil
 import subprocess
 import sys
 import time
-from typing import List, Sequence, Tuple
+from typing import Callable, List, Sequence, Tuple
 
 ROOT = os.path.dirname(os.path.dirname(os.path.realpath(__file__)))
 sys.path[:0] = [f"{ROOT}/cases", f"{ROOT}/tools"]
@@ -48,7 +48,7 @@ def processor_seconds(command: Command) -> float:
     return usage.ru_utime + usage.ru_stime - before
 
 
-def best(commands: Sequence[Command], rounds: int, measure=seconds) -> List[float]:
+def best(commands: Sequence[Command], rounds: int, measure: Callable[[Command], float] = seconds) -> List[float]:
     """The best of so many times of each command, which take turns, so that other work meets them alike."""
     return [min(times) for times in zip(*([measure(it) for it in commands] for _ in range(rounds)))]
 
@@ -72,7 +72,8 @@ def has(tool: str, package: str, what: str) -> bool:
     return False
 
 
-def difference(command_of, lengths: Tuple[int, int], rounds: int, measure=seconds) -> float:
+def difference(command_of: Callable[[int], Command], lengths: Tuple[int, int], rounds: int,
+               measure: Callable[[Command], float] = seconds) -> float:
     """Seconds that the longer of two runs of these lengths takes more than the shorter one, so that no start is counted."""
     short, long = best([command_of(it) for it in lengths], rounds, measure)
     return long - short

@@ -15,10 +15,13 @@ a source .s by `aegis asm` (all of an .elf file, and for a .bin file the bytes o
 of hexadecimal digits in .hex. Whether the image has no fault is left to `aegis run`. The image's layout is in
 docs/FORMATS.md. What `aegis image` makes is compared with what this makes.
 """
+from __future__ import annotations
+
 import os
 import struct
 import subprocess
 import sys
+from typing import Iterator, List, Tuple
 
 import binary
 
@@ -27,7 +30,7 @@ class Refused(Exception):
     """A manifest or a source that makes no image."""
 
 
-def lines_of(path):
+def lines_of(path: str) -> Iterator[Tuple[int, List[str]]]:
     """The words of each line that isn't empty, with the line's number."""
     with open(path, encoding="ascii") as file:
         for number, line in enumerate(file, 1):
@@ -35,14 +38,14 @@ def lines_of(path):
                 yield number, words
 
 
-def bytes_of_elf(elf):
+def bytes_of_elf(elf: bytes) -> bytes:
     """What the program headers of an ELF file load, in order, without what lies between in memory."""
     place, count = struct.unpack_from("<I", elf, 28)[0], struct.unpack_from("<H", elf, 44)[0]
     parts = (struct.unpack_from("<IIIII", elf, place + 32 * number) for number in range(count))
     return b"".join(elf[offset : offset + size] for kind, offset, _, _, size in parts if kind == 1)
 
 
-def assembled(aegis, source):
+def assembled(aegis: str, source: str) -> bytes:
     """The ELF file of a source."""
     ran = subprocess.run([aegis, "asm", source], stdout=subprocess.PIPE)
     if ran.returncode:
@@ -50,7 +53,7 @@ def assembled(aegis, source):
     return ran.stdout
 
 
-def body(aegis, path):
+def body(aegis: str, path: str) -> bytes:
     """The bytes of a program's file."""
     stem, ending = os.path.splitext(path)
     if ending in (".bin", ".elf") and not os.path.exists(path):
@@ -63,7 +66,7 @@ def body(aegis, path):
         return file.read()
 
 
-def packed(aegis, manifest):
+def packed(aegis: str, manifest: str) -> bytes:
     """The bytes of the manifest's image."""
     folder, fields, programs = os.path.dirname(manifest), {"version": 1}, []
     for number, words in lines_of(manifest):
@@ -89,7 +92,7 @@ def packed(aegis, manifest):
     return binary.image(fields["pages"], fields["quantum"], fields["slots"], programs, fields["version"])
 
 
-def main():
+def main() -> None:
     if len(sys.argv) != 3:
         sys.exit("usage: cases/pack.py MANIFEST IMAGE")
     aegis = os.environ.get("AEGIS") or os.path.join(os.path.dirname(os.path.abspath(__file__)), "..", "aegis")
