@@ -3,13 +3,17 @@
 A program begins by reading HI, LO and $1 to $31 from the start of the page at FIXED, and ends with an exception: one that
 it was made to raise, or the BREAK at `end`. bench/against_qemu, which runs them, says what is in them.
 """
+from __future__ import annotations
+
 import random
 import struct
 from collections import namedtuple
+from typing import Callable, Collection, Dict, List, Optional, Sequence, Tuple, Union
 
 import measuring  # which has the cases' folder on the path
 from binary import addi, addiu, immediate, lui, ori, register
 
+Word = Union[int, Callable[[], int]]  # or what answers it once all places are known
 PAGE = 4096
 # The pages of a program. Before and behind each of these nothing is mapped.
 CODE, CODE_END = 0x00400000, 0x00402000
@@ -45,21 +49,21 @@ NAMES = {
 }
 
 
-def half(rd, rt):
+def half(rd: int, rt: int) -> int:
     """SRA by 1: a number whose sum with another such number fits."""
     return register(SHIFTS["sra"], 0, rt, rd, 1)
 
 
-def number(rt, value):
+def number(rt: int, value: int) -> List[int]:
     """Two words that put a number into a register."""
     return [lui(rt, value >> 16), ori(rt, rt, value)]
 
 
-def break_of(code):
+def break_of(code: int) -> int:
     return code << 6 | BREAK
 
 
-def name_of(word):
+def name_of(word: int) -> Optional[str]:
     """The instruction's name, if a user may run it."""
     opcode = word >> 26
     return NAMES.get((opcode, word & 63 if opcode == 0 else word >> 16 & 31 if opcode == 1 else 0))
@@ -87,10 +91,13 @@ class Maker:
     Five registers are kept: two point to data, one to FIXED, and two count rounds of loops. All others are free, and an
     instruction may write any of them at any time; what needs certain numbers puts them there just before."""
 
-    def __init__(self, seed):
+    def __init__(self, seed: int):
         self.chance = random.Random(seed)
-        self.words, self.labels, self.functions, self.offset = [], {}, [], 0
-        self.singles = []  # places of instructions that may be stored over
+        self.words: List[Word] = []
+        self.labels: Dict[object, int] = {}
+        self.functions: List[object] = []
+        self.offset = 0
+        self.singles: List[int] = []  # places of instructions that may be stored over
         kept = self.chance.sample(range(1, 31), 5)
         self.pointers, self.fixed, self.counters = kept[:2], kept[2], kept[3:]
         self.free = [name for name in range(1, 32) if name not in kept]
@@ -99,29 +106,29 @@ class Maker:
         self.is_leaf = False  # in a function, where $31 is the address to go back to
         self.raised = self.chance.choice([*self.RAISED]) if self.chance.random() < 0.5 else None
 
-    def number_of(self, table):
+    def number_of(self, table: Dict[str, int]) -> int:
         return self.chance.choice([*table.values()])
 
-    def target(self):
+    def target(self) -> int:
         """A register to write, seldom $0."""
         name = 0 if self.chance.random() < 0.04 else self.chance.choice(self.free)
         return 0 if self.is_leaf and name == 31 else name
 
-    def source(self, but=None):
+    def source(self, but: Optional[int] = None) -> int:
         while (name := self.chance.choice((0, *self.free * 3, *self.pointers, self.fixed, *self.counters))) == but:
             pass
         return name
 
-    def two(self):
+    def two(self) -> List[int]:
         """Two free registers, neither of which is $31."""
         return self.chance.sample([name for name in self.free if name != 31], 2)
 
-    def small(self):
+    def small(self) -> int:
         return self.chance.choice((0, 1, 2, -1, -2, 0x7FFF, -0x8000, self.chance.randrange(-0x8000, 0x8000)))
 
     # Single instructions, none of which branches or raises an exception.
 
-    def single(self):
+    def single(self) -> int:
         kind = self.chance.random()
         if kind < 0.13:
             return register(self.number_of(SHIFTS), 0, self.source(), self.target(), self.chance.choice((0, 1, 31, self.chance.randrange(32))))
@@ -143,7 +150,7 @@ class Maker:
             return register(self.number_of(MOVES_TO), self.source())
         return self.access()
 
-    def access(self):
+    def access(self) -> int:
         """A load where memory is, or a store where it may be stored to."""
         name = self.chance.choice([*ACCESSES])
         if name in LOADS and self.chance.random() < 0.2:
@@ -156,14 +163,14 @@ class Maker:
 
     # Elements of a block.
 
-    def put(self, *words):
+    def put(self, *words: Word) -> None:
         self.words.extend(words)
 
-    def put_single(self):
+    def put_single(self) -> None:
         self.singles.append(len(self.words))
         self.put(self.single())
 
-    def block(self, count, depth):
+    def block(self, count: int, depth: int) -> None:
         """So many elements; a branch goes to the begin of one that follows, or to the end."""
         labels = [object() for _ in range(count + 1)]
         for place, label in enumerate(labels[:-1]):
@@ -171,7 +178,7 @@ class Maker:
             self.element(labels[place + 1 : place + 9], depth)
         self.labels[labels[-1]] = len(self.words)
 
-    def element(self, following, depth):
+    def element(self, following: Sequence[object], depth: int) -> None:
         kind = self.chance.random()
         if kind < 0.55:
             self.put_single()
@@ -192,14 +199,14 @@ class Maker:
         else:
             self.load_base()
 
-    def address(self, label):
+    def address(self, label: object) -> int:
         return CODE + 4 * (self.offset + self.labels[label])
 
-    def put_branch(self, word, label):
+    def put_branch(self, word: int, label: object) -> None:
         place = len(self.words)
         self.put(lambda: word | (self.labels[label] - place - 1) & 0xFFFF)
 
-    def branch(self, label):
+    def branch(self, label: object) -> None:
         if self.chance.random() < 0.6:
             name, rs = self.chance.choice([*BRANCHES]), self.source()
             rt = self.chance.choice((rs, self.source(), self.source())) if name in ("beq", "bne") else 0
@@ -209,7 +216,7 @@ class Maker:
             self.put_branch(immediate(1, self.source(but=31), SIGN_BRANCHES[name], 0), label)  # of $31 BLTZAL isn't defined
         self.put_single()
 
-    def jump(self, label):
+    def jump(self, label: object) -> None:
         if self.chance.random() < 0.5:
             opcode = JUMPS["j"] if self.is_leaf else self.number_of(JUMPS)
             self.put(lambda: opcode << 26 | self.address(label) >> 2)
@@ -220,7 +227,7 @@ class Maker:
             self.put(self.chance.choice((register(JUMPS_BY["jr"], rs), register(JUMPS_BY["jalr"], rs, 0, rd))))
         self.put_single()
 
-    def loop(self, depth):
+    def loop(self, depth: int) -> None:
         counter, label = self.counters[depth], object()
         self.put(addiu(counter, 0, self.chance.randrange(1, 7)))
         self.labels[label] = len(self.words)
@@ -229,7 +236,7 @@ class Maker:
         self.put_branch(self.chance.choice((immediate(5, counter, 0, 0), immediate(5, 0, counter, 0), immediate(7, counter, 0, 0))), label)
         self.put_single()
 
-    def call(self):
+    def call(self) -> None:
         label = object()
         self.functions.append(label)
         self.put(lambda: JUMPS["jal"] << 26 | self.address(label) >> 2)
@@ -237,7 +244,7 @@ class Maker:
         self.put_single()
         self.is_leaf = False
 
-    def function(self, label):
+    def function(self, label: object) -> None:
         """A function, which is a block without loops, calls and writes of $31."""
         self.is_leaf = True
         self.labels[label] = len(self.words)
@@ -246,7 +253,7 @@ class Maker:
         self.put_single()
         self.is_leaf = False
 
-    def quotient(self):
+    def quotient(self) -> None:
         """A division that is defined: by a number that is neither 0 nor -1, or of one that isn't -2^31 by an odd number."""
         rs, rt = self.two()
         if self.chance.random() < 0.5:
@@ -255,7 +262,7 @@ class Maker:
         else:
             self.put(half(rs, self.source()), ori(rt, self.source(but=rs), 1), register(self.number_of(QUOTIENTS), rs, rt))
 
-    def sum(self):
+    def sum(self) -> None:
         """An ADD, SUB or ADDI that fits, and seldom one that may not."""
         first, second = self.two()
         if self.chance.random() < 0.03:
@@ -266,14 +273,14 @@ class Maker:
         else:
             self.put(half(first, self.source()), addi(self.target(), first, self.small()))
 
-    def load_base(self):
+    def load_base(self) -> None:
         """A load into its own base register."""
         base, _ = self.two()
         name = self.chance.choice([*LOADS])
         self.put(*number(base, DATA + self.chance.randrange(0x2000) // 4 * 4 + (0 if name in WIDTHS else self.chance.randrange(4))))
         self.put(immediate(LOADS[name], base, base, 0))
 
-    def patch(self):
+    def patch(self) -> None:
         """A store over an instruction that runs later, or has run: over all of it at odd places, and over its number of 16 bits or
         a byte of that at even ones, so that a number is never put into an instruction that has other fields there."""
         value, pointer = self.two()
@@ -284,7 +291,7 @@ class Maker:
         stores = self.chance.choice(((("sw", 0),), (("sw", 0),), (("swr", 0), ("swl", 3)), (("sh", 0),), (("swl", 1),), (("sb", 0),), (("sb", 1),)))
         is_whole = stores[0][0] in ("sw", "swr")
 
-        def address():
+        def address() -> int:
             """The place to store over: the one behind the store, or one that isn't far; or in the data, if there is none."""
             places = [place for place in self.singles if here - 40 < place < here + 60 and is_whole == place % 2]
             places = [place for place in places if is_whole or self.words[place] >> 26 in range(9, 16)]
@@ -297,7 +304,7 @@ class Maker:
 
     # Exceptions on purpose.
 
-    def put_raised(self):
+    def put_raised(self) -> None:
         """The words of an exception, the last of which raises it, by itself or in a delay slot."""
         words = self.RAISED[self.raised](self)
         if words[-1] >> 26 == 0 and words[-1] & 63 in JUMPS_BY.values():
@@ -313,7 +320,7 @@ class Maker:
         else:
             self.put(*words)
 
-    def overflow(self):
+    def overflow(self) -> List[int]:
         first, second = self.two()
         big, add, sub = self.chance.randrange(1 << 30), *FAULTING_SUMS.values()
         return self.chance.choice((
@@ -326,27 +333,27 @@ class Maker:
             [*number(first, 0x80000000), addi(self.target(), first, -1 - self.chance.randrange(0x7FFF))],
         ))
 
-    def access_at(self, names, place):
+    def access_at(self, names: Collection[str], place: int) -> List[int]:
         """A load or store at a place."""
         (base, _), name, offset = self.two(), self.chance.choice([*names]), self.small()
         rt = self.target() if name in LOADS else self.source()
         return [*number(base, (place - offset) & 0xFFFFFFFF), immediate(ACCESSES[name], base, rt, offset)]
 
-    def misaligned(self):
+    def misaligned(self) -> List[int]:
         place = self.chance.choice((DATA + 4 * self.chance.randrange(0x7F0), FIXED + 8, *NOWHERE, *KERNEL))
         if self.chance.random() < 0.3:
             return self.access_at(("lw", "sw"), place + 2)
         return self.access_at(WIDTHS, place + self.chance.choice((1, 3)))
 
-    def access_of(self, places):
+    def access_of(self, places: Sequence[int]) -> List[int]:
         """A load or store of any kind at one of these places, which are aligned."""
         name, place = self.chance.choice([*ACCESSES]), self.chance.choice(places)
         return self.access_at((name,), place if name in WIDTHS else place + self.chance.randrange(4))
 
-    def read_only(self):
+    def read_only(self) -> List[int]:
         return self.access_at(STORES, FIXED + 4 * self.chance.randrange(1024))
 
-    def jump_at(self, place):
+    def jump_at(self, place: int) -> List[int]:
         base, other = self.two()
         return [*number(base, place), self.chance.choice((register(JUMPS_BY["jr"], base), register(JUMPS_BY["jalr"], base, 0, other)))]
 
@@ -368,7 +375,7 @@ class Maker:
 
     # The whole program.
 
-    def put_all(self):
+    def put_all(self) -> Tuple[int, int]:
         """Puts its instructions, and answers the places of the first behind the loads of all registers, and of the last BREAK."""
         self.put(lui(31, FIXED >> 16))
         for place, move in enumerate(MOVES_TO.values()):
@@ -386,7 +393,7 @@ class Maker:
             self.function(label)
         return begin, end
 
-    def program(self):
+    def program(self) -> Program:
         begin, end = self.put_all()
         # the border of the two pages of code lies in the random part
         self.offset = max(0, min(1024 - self.chance.randrange(begin, end + 1), 2046 - len(self.words)))
@@ -403,6 +410,6 @@ class Maker:
         return Program(bytes(code), self.chance.randbytes(DATA_END - DATA), fixed, *places, self.raised, {name_of(word) for word in words} - {None})
 
 
-def made(seed):
+def made(seed: int) -> Program:
     """The program of a seed."""
     return Maker(seed).program()
