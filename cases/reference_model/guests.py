@@ -502,7 +502,7 @@ class System:
     def revocation_text(self, time):
         """A revocation, at times of nobody, and at times with the deadline of another."""
         chance, count = self.chance, len(self.guaranteed)
-        env = chance.randrange(count) if chance.random() < 0.94 else chance.randrange(count, 32)
+        env = chance.randrange(count) if chance.random() < 0.94 else chance.randrange(min(count, 31), 32)
         pages = chance.choice((0, 1, 1, 1, 1, 1, 1, 2, 2, 3, 3, 5, 4096))
         grace = chance.choice((0, 1, chance.randrange(20), *(chance.randrange(most) for most in (100, 200, 200, 400, 400, 1000)), 4194304))
         later = [deadline for deadline in self.deadlines if deadline >= time]
