@@ -7,7 +7,7 @@ use Rattle.page_book.specs.Row.{is_owned_by}
 use Rattle.page_book.specs.Rows.{row_in, owned_below, owned_pages}
 use Rattle.aegis_limits.specs.Limits.{environment_numbers}
 use Rattle.revocation_book.specs.Backups.{AreDistinct, is_loaded}
-use Rattle.revocation_book.specs.RevocationBook.{BackupsAreOwned, RevocationBook, backups_at, books_of}
+use Rattle.revocation_book.specs.RevocationBook.{EachOwnsItsBackups, RevocationBook, backups_at, books_of}
 use Rattle.revocation_book.specs.Richest.{AreRichest, revocable_of, revocable_pages, richest, richest_below}
 use Rattle.revocation_book.specs.Takings.{Books, victims_below}
 
@@ -60,7 +60,7 @@ owned_there e [] page owned = cc
 owned_there e (row ∷ rows) zero owned = omega arith
 owned_there e (row ∷ rows) (suc page) owned = let there = owned_there e rows page owned in omega arith
 
-pub owned_split : (pages : List PageRow) (book : RevocationBook) (e : ℕ) → BackupsAreOwned pages book → AreDistinct (backups_at book e) → owned_pages pages e ≡ revocable_pages (books_of pages book) e + length (backups_at book e)
+pub owned_split : (pages : List PageRow) (book : RevocationBook) (e : ℕ) → EachOwnsItsBackups pages book → AreDistinct (backups_at book e) → owned_pages pages e ≡ revocable_pages (books_of pages book) e + length (backups_at book e)
 owned_split pages book e owned distinct =
     let backups = all_counted (backups_at book e) (length pages) distinct (λ page is. owned_there e pages page (owned e page is)) in
     omega (arith, backups, kinds (books_of pages book) e (length pages) (owned e))

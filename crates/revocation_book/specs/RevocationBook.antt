@@ -67,6 +67,6 @@ books_of pages book = record {
 }
 
 -- each backup is a page that its environment owns
-abbrev pub BackupsAreOwned : List PageRow → RevocationBook → Type 0
-BackupsAreOwned pages book =
+abbrev pub EachOwnsItsBackups : List PageRow → RevocationBook → Type 0
+EachOwnsItsBackups pages book =
     (e page : ℕ) → is_loaded (backups_at book e) page ≡ true → is_owned_by e (row_in pages page) ≡ true

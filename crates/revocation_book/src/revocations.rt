@@ -1,7 +1,7 @@
 //! The book of revocations.
 ghost use Rattle.std.specs.Prelude.{◌≡◌, ◌<◌, ◌≤◌, ◌+◌, ◌++◌, length, drop, slice_get, IsNone};
 ghost use Rattle.revocation_book.specs.Backups.{load_refusal, loaded};
-ghost use Rattle.revocation_book.specs.RevocationBook.{BackupsAreOwned, backups_at, books_of, is_any_due, next_deadline, nothing_asked, once_asked, once_freed, once_gone, once_served, pending_at, with_backups};
+ghost use Rattle.revocation_book.specs.RevocationBook.{EachOwnsItsBackups, backups_at, books_of, is_any_due, next_deadline, nothing_asked, once_asked, once_freed, once_gone, once_served, pending_at, with_backups};
 ghost use Rattle.aegis_limits.specs.Limits.{environment_numbers};
 ghost use Rattle.revocation_book.specs.Richest.{revocable_pages, richest};
 ghost use Rattle.revocation_book.specs.Takings.{is_victim, takings_below, takings_of};
@@ -128,7 +128,7 @@ impl Revocations {
     /// How many pages may be taken from an environment: those that it owns, without its backups.
     pub fn revocable_count(&self, pages: &Pages, env: u8) -> u32
         requires env { env < environment_numbers }
-        requires owned { BackupsAreOwned pages.now self.now }
+        requires owned { EachOwnsItsBackups pages.now self.now }
         ensures { result ≡ revocable_pages (books_of pages.now self.now) env }
     {
         pages.owned_count(env) - self.backups_of(env).count()
@@ -137,7 +137,7 @@ impl Revocations {
     /// The environment other than this one with the most pages that may be taken, the lowest of equals; none where no
     /// other has such a page.
     pub fn richest(&self, pages: &Pages, but: u8) -> Option<u8>
-        requires { BackupsAreOwned pages.now self.now }
+        requires { EachOwnsItsBackups pages.now self.now }
         ensures { result ≡ richest (books_of pages.now self.now) but }
     {
         let mut richest = None;
