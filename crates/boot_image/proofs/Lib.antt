@@ -4,4 +4,4 @@ mod Programs
 mod Acceptance
 mod Spelled
 pub mod Read
-pub mod Within
+mod Within

@@ -157,26 +157,13 @@ rest_within xs rows x is all k d less =
     let P : List (ℕ × Row) → Type 0 = λ ys. All (λ (y : ℕ × Row). IsRowWithin y.1) ys in
     (subst P is all) (suc k) d (omega (arith, less))
 
--- A row that fits and keeps to the plan, and one that doesn't.
+-- A row that fits and keeps to the plan.
 pub scan_next : (q : ℕ) (ledger : LedgerValue) (plan : Option PlanValue) (left left-after : ℕ) (s s-after : LedgerState) (gifts gifts-after : ℕ → ℕ)
     (xs rows : List (ℕ × Row)) (x : ℕ × Row) → xs ≡ x ∷ rows → fits left q ledger.time s x.1 (rows_of rows) ≡ true → keeps_plan plan gifts x.1 ≡ true
     → left-after ≡ due_left x.1 left s → s-after ≡ undue (after_row x.1 s) → gifts-after ≡ gifts_with plan x.1 gifts
     → scan q ledger plan left-after s-after gifts-after rows ≡ scan q ledger plan left s gifts xs
 scan_next q ledger plan left left-after s s-after gifts gifts-after xs rows x is fit keep due state given =
     rw (is, fit, keep, due, state, given) refl
-
-pub scan_unfit : (q : ℕ) (ledger : LedgerValue) (plan : Option PlanValue) (left : ℕ) (s : LedgerState) (gifts : ℕ → ℕ) (xs rows : List (ℕ × Row)) (x : ℕ × Row)
-    → xs ≡ x ∷ rows → fits left q ledger.time s x.1 (rows_of rows) ≡ false → Some x.0 ≡ scan q ledger plan left s gifts xs
-scan_unfit q ledger plan left s gifts xs rows x is fit = rw (is, fit) refl
-
-pub scan_unplanned : (q : ℕ) (ledger : LedgerValue) (plan : Option PlanValue) (left : ℕ) (s : LedgerState) (gifts : ℕ → ℕ) (xs rows : List (ℕ × Row)) (x : ℕ × Row)
-    → xs ≡ x ∷ rows → keeps_plan plan gifts x.1 ≡ false → Some x.0 ≡ scan q ledger plan left s gifts xs
-scan_unplanned q ledger plan left s gifts xs rows x is keep = rw (is, keep, and_right (fits left q ledger.time s x.1 (rows_of rows)) false refl) refl
-
-pub scan_done : (q : ℕ) (ledger : LedgerValue) (plan : Option PlanValue) (left : ℕ) (s : LedgerState) (gifts : ℕ → ℕ) (xs : List (ℕ × Row)) → length xs ≡ 0
-    → behind_rows q ledger s ≡ scan q ledger plan left s gifts xs
-scan_done q ledger plan left s gifts [] none = refl
-scan_done q ledger plan left s gifts (x ∷ xs) none = absurd (omega (arith, none))
 
 -- No count rises by more than one.
 count_next : (b : Bool) (n m : ℕ) → n ≤ m → more_if b n ≤ m + 1
