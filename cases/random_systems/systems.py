@@ -11,9 +11,12 @@ have no slot, and take one that is empty.
 Most have entries for transfers, of one kind or of both, and call each other. Who is called does some of what a program does,
 mostly accepts again, and goes on where it stood; at times it calls its caller back, so that slots go there and back.
 """
+from __future__ import annotations
+
 import os
 import random
 import sys
+from typing import List, Tuple, Union
 
 sys.path.insert(0, os.path.dirname(os.path.dirname(os.path.realpath(__file__))))
 import binary
@@ -36,7 +39,7 @@ WIDTHS = {"lh": 2, "lhu": 2, "sh": 2, "lw": 4, "sw": 4}
 class Program:
     """The words of one environment's program, as they are made."""
 
-    def __init__(self, chance, system, number):
+    def __init__(self, chance: random.Random, system: System, number: int):
         self.chance, self.guaranteed, self.pages = chance, system.total, system.pages
         self.own, self.count, self.slots = number, len(system.guaranteed), len(system.slots)
         self.words = []
@@ -46,10 +49,10 @@ class Program:
         shares = ((STARTS, 0.35), (ENDS, 0.5), (ASYNCHRONOUS, 0.8), (SYNCHRONOUS, 0.8))
         self.hears = [kind for kind, share in shares if chance.random() < share]
 
-    def add(self, *words):
+    def add(self, *words: int) -> None:
         self.words += words
 
-    def load_number(self, rt, value):
+    def load_number(self, rt: int, value: int) -> None:
         """Puts a number of 32 bits into a register."""
         if value >> 16:
             self.add(immediate(15, 0, rt, value >> 16))
@@ -58,7 +61,7 @@ class Program:
         else:
             self.add(ori(rt, ZERO, value))
 
-    def call(self, number, *arguments):
+    def call(self, number: int, *arguments: Union[List[int], int]) -> None:
         """A kernel call; an argument is a number, or a register in a list."""
         for place, argument in enumerate(arguments, A0):
             if isinstance(argument, list):
@@ -67,36 +70,36 @@ class Program:
                 self.load_number(place, argument)
         self.add(ori(V0, ZERO, number), SYSCALL)
 
-    def handle(self, kind):
+    def handle(self, kind: int) -> None:
         """Has exceptions, starts or ends handled, or transfers enter, where a handler is made last."""
         self.add(ori(A0, ZERO, kind), ori(V0, ZERO, CONTEXT))
         self.wanted[kind].append(len(self.words))
         self.add(NOP, SYSCALL)
 
-    def branch_back(self, opcode, rs, rt, place, slot=NOP):
+    def branch_back(self, opcode: int, rs: int, rt: int, place: int, slot: int = NOP) -> None:
         self.add(immediate(opcode, rs, rt, place - len(self.words) - 1), slot)
 
-    def words_given(self):
+    def words_given(self) -> Tuple[int, ...]:
         return (*self.chance.choice(READ_WORDS), *self.chance.choice(WRITE_WORDS))
 
-    def held(self):
+    def held(self) -> List[int]:
         """A register that has the number of a page, if its program has allocated one."""
         return [self.chance.choice(PAGES)]
 
-    def page_number(self):
+    def page_number(self) -> int:
         """The number of a page that somebody may own, and at times one that nobody can."""
         if self.chance.random() < 0.1:
             return self.chance.choice((0, self.pages - 1, self.pages, 9999, 0xFFFFFFFF))
         return self.guaranteed + self.chance.randrange(6)
 
-    def number(self):
+    def number(self) -> int:
         if self.chance.random() < 0.08:
             return self.chance.choice((1, 2, 0x7FFFF, 0x80000, 0xFFFFFFFF))
         return self.chance.choice(NUMBERS if self.chance.random() < 0.3 else NUMBERS[:4])
 
     # The blocks, and how often each is taken.
 
-    def allocate(self):
+    def allocate(self) -> None:
         """The number of the page is kept where the call was granted, mostly in place of one that was freed before."""
         page = self.chance.choice(PAGES)
         if self.chance.random() < 0.7:
@@ -104,20 +107,20 @@ class Program:
         self.call(ALLOC, ANY if self.chance.random() < 0.8 else self.page_number(), *self.words_given())
         self.add(immediate(5, V0, ZERO, 2), NOP, register(37, V1, ZERO, page))
 
-    def free(self):
+    def free(self) -> None:
         self.call(FREE, self.held() if self.chance.random() < 0.9 else self.page_number())
 
-    def recap(self):
+    def recap(self) -> None:
         self.call(RECAP, self.held() if self.chance.random() < 0.9 else self.page_number(), *self.words_given())
 
-    def bind_own(self):
+    def bind_own(self) -> None:
         self.bind(self.held(), 0, 0)
 
-    def bind_shared(self):
+    def bind_shared(self) -> None:
         writable = self.chance.randrange(2)
         self.bind(self.page_number(), *self.chance.choice(WRITE_WORDS if writable else READ_WORDS), writable)
 
-    def bind(self, page, low, high, writable=1):
+    def bind(self, page: Union[List[int], int], low: int, high: int, writable: int = 1) -> None:
         """A bind, and mostly accesses through it; where it was refused they are misses."""
         number = self.number()
         self.call(BIND, number, page, writable, low, high)
@@ -125,49 +128,49 @@ class Program:
             self.load_number(POINTER, number * PAGE + self.chance.choice((0, 0x10, 0x800)))
             self.add(*(self.access() for _ in range(self.chance.randrange(1, 4))))
 
-    def unbind(self):
+    def unbind(self) -> None:
         self.call(UNBIND, self.number())
 
-    def give_up(self):
+    def give_up(self) -> None:
         self.call(YIELD, ANY)
 
-    def other(self):
+    def other(self) -> int:
         """The number of another environment, and at times of none that may be given a slice."""
         if self.count == 1 or self.chance.random() < 0.1:
             return self.chance.choice((self.own, self.count, 31, 0xFFFFFFFE))
         return self.chance.choice([number for number in range(self.count) if number != self.own])
 
-    def give(self):
+    def give(self) -> None:
         self.call(YIELD, self.other())
 
-    def accept(self):
+    def accept(self) -> None:
         self.call(ACCEPT, self.chance.choice((0xFFFF, 0xFFFF, self.chance.randrange(1 << 16), ANY, 0)))
 
-    def kind(self):
+    def kind(self) -> int:
         """A kind of transfers, and at times none."""
         return self.chance.randrange(2) if self.chance.random() < 0.95 else self.chance.choice((2, ANY))
 
-    def transfer(self):
+    def transfer(self) -> None:
         self.call(TRANSFER, self.other(), self.kind())
 
-    def slot(self):
+    def slot(self) -> int:
         """The number of a slot, and at times of none."""
         return self.chance.randrange(self.slots) if self.chance.random() < 0.95 else self.chance.choice((self.slots, 64, ANY))
 
-    def take(self):
+    def take(self) -> None:
         self.call(TAKE, self.slot())
 
-    def drop(self):
+    def drop(self) -> None:
         self.call(DROP, self.slot())
 
-    def query(self):
+    def query(self) -> None:
         """A question, whose answer is kept among the registers of arithmetic."""
         what = self.chance.choice((0, 1, 2, 3, 4, 5, 5, 6, 6, 7, 7, 8, 8, 9, ANY))
         which = {5: self.page_number(), 6: self.slot(), 8: self.chance.randrange(self.count + 1)}.get(what, self.chance.choice((0, ANY)))
         self.call(QUERY, what, which)
         self.add(register(37, V1, ZERO, self.chance.choice(SCRATCH)))
 
-    def hear(self):
+    def hear(self) -> None:
         """Has starts or ends handled, or transfers enter, or not any more."""
         kind = self.chance.choice((STARTS, ENDS, ASYNCHRONOUS, SYNCHRONOUS))
         if self.chance.random() < 0.7:
@@ -175,14 +178,14 @@ class Program:
         else:
             self.call(CONTEXT, kind, 0)
 
-    def put(self):
+    def put(self) -> None:
         address = self.chance.choice((AREA, BASE, BASE + 0xFF8, *(number * PAGE + 0x10 for number in NUMBERS[:4])))
         self.call(PUT, address + self.chance.randrange(8), self.chance.choice((0, 1, 3, 8, 8)))
 
-    def ask(self):
+    def ask(self) -> None:
         self.call(self.chance.choice((OWN_NUMBER, CLOCK, CLOCK, 14, 19, 0x12345678)))
 
-    def other_calls(self):
+    def other_calls(self) -> None:
         """Contexts, mostly refused ones, and at times the last call."""
         kind = self.chance.random()
         if kind < 0.8:
@@ -193,7 +196,7 @@ class Program:
         else:
             self.call(EXIT, self.chance.randrange(100))
 
-    def access(self):
+    def access(self) -> int:
         """A load or store, at the place to which the pointer points, mostly aligned."""
         name = self.chance.choice(tuple(OPCODES))
         offset = self.chance.randrange(64)
@@ -201,7 +204,7 @@ class Program:
             offset -= offset % WIDTHS.get(name, 1)
         return immediate(OPCODES[name], POINTER, self.chance.choice(SCRATCH), offset)
 
-    def point(self):
+    def point(self) -> None:
         """Has the pointer point into a page: one that may be bound, a guaranteed one, or anywhere."""
         kind = self.chance.random()
         if kind < (0.6 if self.has_handler else 0.1):
@@ -212,11 +215,11 @@ class Program:
             address = self.chance.randrange(1 << 32)
         self.load_number(POINTER, address)
 
-    def accesses(self):
+    def accesses(self) -> None:
         self.point()
         self.add(*(self.access() for _ in range(self.chance.randrange(1, 5))))
 
-    def fill(self):
+    def fill(self) -> None:
         """A loop that stores through the pointer."""
         self.point()
         self.add(ori(COUNTER, ZERO, self.chance.randrange(1, 8)))
@@ -224,14 +227,14 @@ class Program:
         self.add(immediate(OPCODES["sw"], POINTER, self.chance.choice(SCRATCH), 0), addiu(COUNTER, COUNTER, -1))
         self.branch_back(5, COUNTER, ZERO, place, addiu(POINTER, POINTER, 4))
 
-    def delay_slot(self):
+    def delay_slot(self) -> None:
         """A branch, taken or not, with an access or a call in its slot."""
         self.point()
         opcode, rs = self.chance.choice(((4, 0), (5, 0), (6, 9), (7, 9)))
         in_slot = SYSCALL if self.has_handler and self.chance.random() < 0.2 else self.access()
         self.add(immediate(opcode, rs, ZERO, 1), in_slot)
 
-    def arithmetic(self):
+    def arithmetic(self) -> None:
         for _ in range(self.chance.randrange(1, 6)):
             rs, rt, rd = (self.chance.choice(SCRATCH) for _ in range(3))
             kind = self.chance.randrange(6)
@@ -244,7 +247,7 @@ class Program:
             else:
                 self.add(immediate(self.chance.choice((9, 10, 11, 12, 13, 14)), rs, rt, self.chance.randrange(1 << 16)))
 
-    def fault(self):
+    def fault(self) -> None:
         """What raises an exception, if there is a handler."""
         if self.has_handler:
             overflow = (immediate(15, 0, 9, 0x8000), register(32, 9, 9, 9))
@@ -254,7 +257,7 @@ class Program:
               (give, 4), (transfer, 9), (accept, 3), (take, 2), (drop, 2), (query, 3), (hear, 1),
               (other_calls, 1), (accesses, 4), (fill, 2), (delay_slot, 2), (arithmetic, 3), (fault, 1))
 
-    def handler_of_starts(self):
+    def handler_of_starts(self) -> None:
         """Goes on with the program; at times it gives the slice away, or is long."""
         kind = self.chance.random()
         if kind < 0.3:
@@ -266,7 +269,7 @@ class Program:
             self.wait()
         self.add(register(8, K0, 0, 0), immediate(OPCODES["lw"], ZERO, K0, AREA + 0x40))
 
-    def handler_of_ends(self):
+    def handler_of_ends(self) -> None:
         """Yields, at once or later, and goes on with the program at the next start; or goes on in grace."""
         self.add(register(37, K0, ZERO, RESUME), immediate(OPCODES["lw"], ZERO, OLD, AREA + 0x50))
         kind = self.chance.random()
@@ -278,7 +281,7 @@ class Program:
             self.call(YIELD, ANY)
         self.add(register(8, RESUME, 0, 0), register(37, OLD, ZERO, K0))
 
-    def entry(self):
+    def entry(self) -> None:
         """Goes on where the transfer came between; before that it may accept again, call its caller back, or do something."""
         if self.chance.random() < 0.5:
             self.chance.choice((self.wait, self.arithmetic, self.put, self.query, self.allocate, self.bind_shared, self.drop))()
@@ -294,14 +297,14 @@ class Program:
         self.add(immediate(OPCODES["lw"], ZERO, RESUME, AREA + 0x104), register(8, RESUME, 0, 0))
         self.add(immediate(OPCODES["lw"], ZERO, RESUME, AREA + 0x80 + 4 * (RESUME - 1)))
 
-    def wait(self):
+    def wait(self) -> None:
         """Counts down from a number."""
         self.add(ori(COUNTER, ZERO, self.chance.randrange(1, 80)))
         place = len(self.words)
         self.add(addiu(COUNTER, COUNTER, -1))
         self.branch_back(5, COUNTER, ZERO, place)
 
-    def handler_of_exceptions(self):
+    def handler_of_exceptions(self) -> None:
         """Binds a page where it was missed, at every other miss if it does at all; else it passes over the instruction."""
         self.add(addiu(MISSES, MISSES, 1))
         if self.chance.random() < 0.6:
@@ -310,7 +313,7 @@ class Program:
             self.add(ori(V0, ZERO, BIND), SYSCALL, immediate(4, V0, ZERO, 2), immediate(OPCODES["lw"], ZERO, K0, AREA + 12))
         self.add(addiu(K0, K0, 4), register(8, K0, 0, 0), NOP)
 
-    def made(self):
+    def made(self) -> bytes:
         """All bytes of the program, of at most a page."""
         if self.has_handler:
             self.handle(EXCEPTIONS)
@@ -336,7 +339,7 @@ class Program:
 class System:
     """An image of random programs, of version 1 for an even seed, and what it says of the pages that are guaranteed."""
 
-    def __init__(self, seed):
+    def __init__(self, seed: int):
         self.version = 1 + seed % 2
         chance = random.Random(seed)
         count = chance.randrange(1, 7)
@@ -356,7 +359,7 @@ class System:
             programs.append(binary.Program(f"e{environment}", body, BASE, stack, mask))
         self.image = binary.image(self.pages, self.quantum, self.slots, programs, self.version)
 
-    def pages_of(self, environment):
+    def pages_of(self, environment: int) -> range:
         """The pages that are guaranteed to an environment."""
         first = sum(map(len, self.guaranteed[:environment]))
         return range(first, first + len(self.guaranteed[environment]))

@@ -3,10 +3,14 @@
 What calls refuse is in calls.py, and when things are done is in ticks.py. `seen` counts what happened for the test of this
 case, and nothing is decided by it.
 """
+from __future__ import annotations
+
 import struct
 from collections import Counter
+from typing import List, Optional, Tuple, Union
 
-from files import PAGE, VERSIONS
+from files import PAGE, VERSIONS, Image, Program
+from filters import Filter
 from handlers import FAULT, Run
 from machine import ADEL, ADES, MOD, TLBL, TLBS, WORD, Cpu, Trap
 
@@ -30,14 +34,14 @@ class Page:
         self.release()
         self.data = bytearray(PAGE)
 
-    def release(self):
+    def release(self) -> None:
         self.owner, self.is_guaranteed, self.read, self.write = None, False, 0, 0
 
 
 class Claim:
     """A filter, whose it is, the ring page, how many packets came into the ring, and the words of a handler if it has one."""
 
-    def __init__(self, number, env, filter_, page):
+    def __init__(self, number: int, env: Env, filter_: Filter, page: int):
         self.number, self.env, self.filter, self.page, self.deliveries, self.handler = number, env, filter_, page, 0, ()
 
 
@@ -45,7 +49,7 @@ class Env:
     """An environment. Bindings are by row of its stripe, each (VPN, page, whether it may be stored to); backups by their numbers,
     in order."""
 
-    def __init__(self, number, program, stripe_rows):
+    def __init__(self, number: int, program: Program, stripe_rows: int):
         self.number, self.name, self.life, self.stripe_rows = number, program.name, "live", stripe_rows
         self.cpu, self.handlers, self.mask = Cpu(program.entry), [0] * 5, program.accept
         self.guaranteed, self.bindings, self.excess = {}, {}, 0
@@ -53,31 +57,31 @@ class Env:
         self.outstanding, self.deadline, self.backups = 0, None, []
 
     @property
-    def is_alive(self):
+    def is_alive(self) -> bool:
         return self.life == "live"
 
-    def row_of(self, vpn):
+    def row_of(self, vpn: int) -> int:
         """The row in which the binding of a VPN stands."""
         return vpn % self.stripe_rows
 
-    def sees(self, vpn):
+    def sees(self, vpn: int) -> Optional[Tuple[int, bool]]:
         """The page at a VPN, and whether it may be stored to; or None."""
         if vpn in self.guaranteed:
             return self.guaranteed[vpn]
         binding = self.bindings.get(self.row_of(vpn))
         return binding[1:] if binding and binding[0] == vpn else None
 
-    def accepts(self, other):
+    def accepts(self, other: Env) -> bool:
         return bool(self.mask >> other.number & 1)
 
 
 class Memory:
     """Memory as an environment sees it."""
 
-    def __init__(self, board, env):
+    def __init__(self, board: Board, env: Env):
         self.board, self.env = board, env
 
-    def reach(self, va, is_store):
+    def reach(self, va: int, is_store: bool) -> int:
         if va >> 31:
             raise Trap(ADES if is_store else ADEL, va)
         seen = self.env.sees(va // PAGE)
@@ -87,27 +91,27 @@ class Memory:
             raise Trap(MOD, va)
         return seen[0]
 
-    def fetch(self, va):
+    def fetch(self, va: int) -> int:
         return word_of(self.board.pages[self.reach(va, False)].data, va % PAGE & ~3)
 
-    def load(self, va, width):
+    def load(self, va: int, width: int) -> int:
         return self.fetch(va)
 
-    def store(self, va, place, data):
+    def store(self, va: int, place: int, data: bytes) -> None:
         page = self.reach(va, True)
         self.board.pages[page].data[place % PAGE : place % PAGE + len(data)] = data
         if any(claim.env is not self.env for claim in self.board.claims_on(page)):
             self.board.seen["stores into another's ring"] += 1
 
 
-def word_of(data, place):
+def word_of(data: Union[bytes, bytearray], place: int) -> int:
     return int.from_bytes(data[place : place + 4], "little")
 
 
 class Board:
     """The kernel. A slot is None or (owner, holder); `slot` is the cursor, and the slot of who runs."""
 
-    def __init__(self, image):
+    def __init__(self, image: Image):
         self.version, self.quantum, self.time, self.rows, self.seen = image.version, image.quantum, 0, [], Counter()
         self.pages = [Page() for _ in range(image.pages)]
         self.slots = [None if owner is None else (owner, owner) for owner in image.slots]
@@ -121,7 +125,7 @@ class Board:
             if hold:
                 self.change_slot(slot, hold)
 
-    def add(self, program):
+    def add(self, program: Program) -> None:
         """Boots the next environment: each guaranteed page is the lowest free one."""
         env = Env(len(self.envs), program, VERSIONS[self.version].stripe_rows)
         self.envs.append(env)
@@ -136,49 +140,49 @@ class Board:
                 if first < end:
                     page.data[first % PAGE : first % PAGE + end - first] = it.data[first - it.address : end - it.address]
 
-    def row(self, name, *words):
+    def row(self, name: str, *words: Union[int, str]) -> None:
         self.rows.append(" ".join(map(str, (name, self.time, *words))))
 
-    def is_idle(self):
+    def is_idle(self) -> bool:
         return self.runner is None and not any(self.slots)
 
     # Slots and slices
 
-    def change_slot(self, slot, hold):
+    def change_slot(self, slot: int, hold: Optional[Tuple[int, int]]) -> None:
         self.slots[slot] = hold
         self.row("own", slot, *(hold or ("-", "-")))
 
-    def leave_slot(self, slot, env):
+    def leave_slot(self, slot: int, env: Env) -> None:
         """Its holder lets a slot go: it is empty, or its owner's again."""
         owner, _ = self.slots[slot]
         self.change_slot(slot, None if owner == env.number else (owner, owner))
 
-    def stop(self):
+    def stop(self) -> None:
         """Nobody runs any more. Who ran keeps its registers as they stand."""
         self.row("stop", self.slot, self.runner.number)
         self.runner = None
 
-    def start(self, env):
+    def start(self, env: Env) -> None:
         """A slice of the environment starts."""
         self.runner = env
         env.cpu.rest()
         if env.handlers[STARTS]:
             self.upcall(env, STARTS, START_AREA)
 
-    def tell_end(self, env):
+    def tell_end(self, env: Env) -> None:
         """Its slice is over."""
         cause = env.cpu.cause()
         env.cpu.rest()
         self.upcall(env, ENDS, END_AREA, cause)
 
-    def upcall(self, env, kind, area, *more):
+    def upcall(self, env: Env, kind: int, area: int, *more: int) -> None:
         """Continues at a handler of starts or ends, with the resume address in a register."""
         resume = env.cpu.pc
         self.set_context(env, area, env.cpu.regs[K0], resume, *more)
         env.cpu.set(K0, resume)
         env.cpu.continue_at(env.handlers[kind])
 
-    def enter(self, env, caller, kind):
+    def enter(self, env: Env, caller: Env, kind: int) -> None:
         """A transfer enters an environment with the caller's registers."""
         env.cpu.rest()
         self.set_context(env, ENTRY_AREA, *env.cpu.regs[1:], env.cpu.hi, env.cpu.lo, env.cpu.pc, caller.number, kind)
@@ -189,20 +193,20 @@ class Board:
 
     # The context page
 
-    def context(self, env):
+    def context(self, env: Env) -> bytearray:
         return self.pages[env.guaranteed[CONTEXT_VPN][0]].data
 
-    def set_context(self, env, place, *words):
+    def set_context(self, env: Env, place: int, *words: int) -> None:
         struct.pack_into(f"<{len(words)}I", self.context(env), place, *words)
 
-    def count_up(self, env, place):
+    def count_up(self, env: Env, place: int) -> None:
         word = word_of(self.context(env), place) + 1 & WORD
         self.set_context(env, place, word)
         self.seen["post words that wrap"] += word == 0
 
     # Exceptions and deaths
 
-    def raise_exception(self, env, trap):
+    def raise_exception(self, env: Env, trap: Trap) -> None:
         """The handler gets an exception; without one it is the environment's death."""
         if not env.handlers[EXCEPTIONS]:
             self.die(env, f"dead {NAMES[trap.code]}")
@@ -213,7 +217,7 @@ class Board:
             cpu.set(register, value)
         cpu.continue_at(env.handlers[EXCEPTIONS])
 
-    def die(self, env, life):
+    def die(self, env: Env, life: str) -> None:
         """The runner dies."""
         self.row("dead", self.slot, env.number)
         env.life, env.excess, self.runner = life, 0, None
@@ -233,18 +237,18 @@ class Board:
 
     # Pages and bindings
 
-    def lowest_free(self):
+    def lowest_free(self) -> Optional[int]:
         """The lowest page without an owner, or None."""
         return next((number for number, page in enumerate(self.pages) if page.owner is None), None)
 
-    def allocate(self, env, number, read, write):
+    def allocate(self, env: Env, number: int, read: int, write: int) -> None:
         page = self.pages[number]
         page.owner, page.read, page.write = env, read, write
         page.data[:] = bytes(PAGE)
         if number in self.taken:
             self.seen["pages allocated in the tick of their taking" + (" again" if self.taken[number] is env else "")] += 1
 
-    def give_back(self, env, number):
+    def give_back(self, env: Env, number: int) -> None:
         """An environment frees a page of its own: it is one fewer that is outstanding."""
         self.seen["backups that are freed"] += number in env.backups
         self.free(number)
@@ -252,7 +256,7 @@ class Board:
             env.outstanding -= 1
             self.seen["revocations that are met in time" if env.outstanding == 0 else "pages given back of several"] += 1
 
-    def free(self, number, cause="a free"):
+    def free(self, number: int, cause: str = "a free") -> None:
         """A page is free: its bindings go, and the claims whose ring it is; and it is no backup."""
         owner = self.pages[number].owner
         if number in owner.backups:
@@ -263,18 +267,18 @@ class Board:
         for claim in self.claims_on(number):
             self.withdraw(claim, cause)
 
-    def recap(self, number, read, write):
+    def recap(self, number: int, read: int, write: int) -> None:
         """A page has other words: the bindings of all but its owner go, and no claim does."""
         page = self.pages[number]
         page.read, page.write = read, write
         self.break_bindings(number, but=page.owner)
         self.seen["rings that have other words"] += bool(self.claims_on(number))
 
-    def claims_on(self, number):
+    def claims_on(self, number: int) -> List[Claim]:
         """The claims whose ring a page is."""
         return [claim for claim in self.claims.values() if claim.page == number]
 
-    def break_bindings(self, number, but=None):
+    def break_bindings(self, number: int, but: Optional[Env] = None) -> None:
         """All bindings of a page go, but those of one environment."""
         for env in self.envs:
             if env is not but:
@@ -282,7 +286,7 @@ class Board:
 
     # Revocation
 
-    def revoke(self, number, count, grace):
+    def revoke(self, number: int, count: int, grace: int) -> None:
         """An environment is asked for pages."""
         if number >= len(self.envs) or not self.envs[number].is_alive:
             self.seen["revocations of " + ("the dead" if number < len(self.envs) else "nobody")] += 1
@@ -300,11 +304,11 @@ class Board:
         self.row("asked", number, outstanding, env.deadline)
         self.seen["revocations due in their tick"] += grace == 0
 
-    def revocable(self, env):
+    def revocable(self, env: Env) -> List[int]:
         """The pages that may be taken from an environment: those that it has allocated, but its backups."""
         return [number for number, page in enumerate(self.pages) if page.owner is env and not page.is_guaranteed and number not in env.backups]
 
-    def press(self, env):
+    def press(self, env: Env) -> Optional[Env]:
         """No page is free for an environment: of the others the one of which most may be taken is asked for one, the lowest
         number among equals, if nothing is outstanding of it. None where nothing may be taken from any."""
         most, asked, equals = 0, None, 0
@@ -320,7 +324,7 @@ class Board:
             self.revoke(asked.number, 1, 2 * self.quantum)
         return asked
 
-    def count_press(self, env, asked, equals):
+    def count_press(self, env: Env, asked: Optional[Env], equals: int) -> None:
         """Counts what kind of a call comes that finds no page."""
         if asked is None:
             self.seen["calls under pressure with nobody to ask"] += 1
@@ -332,7 +336,7 @@ class Board:
         self.seen["calls under pressure that pass over backups"] += any(
             other is not env and len(self.revocable(other) + other.backups) > len(self.revocable(asked) + asked.backups) for other in self.envs)
 
-    def serve(self):
+    def serve(self) -> None:
         """What is outstanding of those whose deadline has come is taken."""
         self.taken = {}
         due = [env for env in self.envs if env.outstanding and env.deadline <= self.time]
@@ -346,7 +350,7 @@ class Board:
                 self.take(env, number)
             env.outstanding = 0
 
-    def take(self, env, number):
+    def take(self, env: Env, number: int) -> None:
         """A page is taken: its bytes go to the first backup, it is recorded, and then it is free."""
         self.count_taking(env, number)
         backup = env.backups.pop(0) if env.backups else None
@@ -360,9 +364,9 @@ class Board:
         self.row("take", env.number, number, "-" if backup is None else backup)
         self.taken[number] = env
 
-    def count_taking(self, env, number):
+    def count_taking(self, env: Env, number: int) -> None:
         """Counts what kind of a taking comes."""
-        def sharers(page):
+        def sharers(page: int) -> List[Env]:
             return [other for other in self.envs if any(it[1] == page for it in other.bindings.values())]
 
         self.seen["pages taken " + ("with a copy" if env.backups else "without a copy")] += 1
@@ -379,25 +383,25 @@ class Board:
 
     # Packets and lines
 
-    def claim(self, env, filter_, page):
+    def claim(self, env: Env, filter_: Filter, page: int) -> int:
         number = self.next_claim
         self.claims[number] = Claim(number, env, filter_, page)
         self.next_claim += 1
         return number
 
-    def withdraw(self, claim, cause):
+    def withdraw(self, claim: Claim, cause: str) -> None:
         """A claim stands no more, nor does its handler."""
         del self.claims[claim.number]
         self.seen[f"claims that end with {cause}"] += 1
         self.seen["handlers that end with their claims"] += bool(claim.handler)
 
-    def hear(self, claim, words):
+    def hear(self, claim: Claim, words: Tuple[int, ...]) -> None:
         """A claim has this handler and no other, or none of no words."""
         kind = "that are replaced" if words else "that are removed"
         self.seen[f"handlers {kind}"] += bool(claim.handler)
         claim.handler = words
 
-    def receive(self, packet):
+    def receive(self, packet: bytes) -> None:
         """A packet comes: it is the lowest claim's that matches it, and nobody's if none does."""
         claim = next((claim for _, claim in sorted(self.claims.items()) if claim.filter.matches(packet)), None)
         if claim is None:
@@ -410,11 +414,11 @@ class Board:
         else:
             self.deliver(claim, packet)
 
-    def is_shared(self, claim):
+    def is_shared(self, claim: Claim) -> bool:
         """Whether others see the page of a claim."""
         return any(it[1] == claim.page for env in self.envs if env is not claim.env for it in env.bindings.values())
 
-    def deliver(self, claim, packet):
+    def deliver(self, claim: Claim, packet: bytes) -> None:
         """A packet goes into the buffer whose turn it is, or is lost if that is full."""
         page, buffer = self.pages[claim.page].data, claim.deliveries % 2 * BUFFER_SIZE
         if word_of(page, buffer):
@@ -428,7 +432,7 @@ class Board:
         self.seen["delivered", len(packet)] += 1
         self.seen["packets that others see"] += self.is_shared(claim)
 
-    def hand_over(self, claim, packet):
+    def hand_over(self, claim: Claim, packet: bytes) -> None:
         """The handler runs over a packet and the ring page, and its replies are sent as far as there is room."""
         run = Run(claim.handler, packet, claim.number, self.pages[claim.page].data)
         room = MOST_SENT - len(claim.env.sent)
@@ -443,7 +447,7 @@ class Board:
             self.seen["runs of handlers that end with a fault behind a store"] += run.memory.stores > 0
             self.seen["runs of handlers that end with a fault behind a reply"] += bool(run.replies)
 
-    def signal(self, line):
+    def signal(self, line: int) -> None:
         """A line is raised: its owner, if it has one, finds the line's bit set."""
         env = self.lines[line]
         self.seen["lines to nobody" if env is None else "lines delivered"] += 1

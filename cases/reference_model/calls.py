@@ -2,9 +2,11 @@
 
 It raises Refused for the first cause that holds, or does what is asked and answers the value.
 """
+from __future__ import annotations
+
 import struct
 
-from board import ASYNCHRONOUS, LINES, MOST_SENT, SYNCHRONOUS
+from board import ASYNCHRONOUS, LINES, MOST_SENT, SYNCHRONOUS, Board, Claim, Env
 from files import MOST_PACKET, PAGE
 from filters import BYTES_OF_ATOM, read_filter
 from handlers import MOST_WORDS, first_bad
@@ -19,23 +21,23 @@ MOST_CONSOLE, MOST_ATOMS, MOST_CLAIMS, MOST_BACKUPS, LEAST_SENT = 65536, 16, 8, 
 class Refused(Exception):
     """Why a call is refused, and the value that is answered."""
 
-    def __init__(self, code, value=0):
+    def __init__(self, code: int, value: int = 0):
         self.code, self.value = code, value
 
 
-def refuse_if(holds, code):
+def refuse_if(holds: object, code: int) -> None:
     if holds:
         raise Refused(code)
 
 
-def long_word(low, high):
+def long_word(low: int, high: int) -> int:
     return high << 32 | low
 
 
 # What several calls check, or read
 
 
-def read_range(board, env, address, length):
+def read_range(board: Board, env: Env, address: int, length: int) -> bytes:
     """The bytes of a range that lies in one page which the caller sees."""
     refuse_if(address >> 31 or address // PAGE != (address + length - 1) // PAGE, BAD_POINTER)
     seen = env.sees(address // PAGE)
@@ -43,20 +45,20 @@ def read_range(board, env, address, length):
     return bytes(board.pages[seen[0]].data[address % PAGE : address % PAGE + length])
 
 
-def check_owned(board, env, number):
+def check_owned(board: Board, env: Env, number: int) -> None:
     """Refuses a page that isn't one that the caller has allocated."""
     refuse_if(number >= len(board.pages), NO_PAGE)
     refuse_if(board.pages[number].owner is not env, NOT_OWNER)
     refuse_if(board.pages[number].is_guaranteed, GUARANTEED)
 
 
-def other_env(board, env, number):
+def other_env(board: Board, env: Env, number: int) -> Env:
     """A living environment that isn't the caller."""
     refuse_if(number >= len(board.envs) or number == env.number or not board.envs[number].is_alive, NO_ENV)
     return board.envs[number]
 
 
-def check_bindable(env, vpn):
+def check_bindable(env: Env, vpn: int) -> None:
     refuse_if(vpn >= USER_VPNS, BAD_VPN)
     refuse_if(vpn in env.guaranteed, GUARANTEED)
 
@@ -64,7 +66,7 @@ def check_bindable(env, vpn):
 # The calls, by rising number
 
 
-def give_up(board, env, number, *_):
+def give_up(board: Board, env: Env, number: int, *_: int) -> int:
     """Yield, to whoever is next or to a target."""
     if number == ANY:
         board.stop()
@@ -77,7 +79,7 @@ def give_up(board, env, number, *_):
     return 0
 
 
-def put(board, env, address, length, *_):
+def put(board: Board, env: Env, address: int, length: int, *_: int) -> int:
     if length:
         refuse_if(length > PAGE, BAD_POINTER)
         data = read_range(board, env, address, length)
@@ -86,7 +88,7 @@ def put(board, env, address, length, *_):
     return length
 
 
-def alloc(board, env, number, *words):
+def alloc(board: Board, env: Env, number: int, *words: int) -> int:
     if number == ANY:
         number = board.lowest_free()
         if number is None:
@@ -99,19 +101,19 @@ def alloc(board, env, number, *words):
     return number
 
 
-def free(board, env, number, *_):
+def free(board: Board, env: Env, number: int, *_: int) -> int:
     check_owned(board, env, number)
     board.give_back(env, number)
     return 0
 
 
-def recap(board, env, number, *words):
+def recap(board: Board, env: Env, number: int, *words: int) -> int:
     check_owned(board, env, number)
     board.recap(number, long_word(*words[:2]), long_word(*words[2:]))
     return 0
 
 
-def bind(board, env, vpn, number, is_writable, *words):
+def bind(board: Board, env: Env, vpn: int, number: int, is_writable: int, *words: int) -> int:
     check_bindable(env, vpn)
     refuse_if(number >= len(board.pages), NO_PAGE)
     page, word = board.pages[number], long_word(*words)
@@ -123,7 +125,7 @@ def bind(board, env, vpn, number, is_writable, *words):
     return 0
 
 
-def unbind(board, env, vpn, *_):
+def unbind(board: Board, env: Env, vpn: int, *_: int) -> int:
     check_bindable(env, vpn)
     is_bound = env.sees(vpn) is not None
     if is_bound:
@@ -131,18 +133,18 @@ def unbind(board, env, vpn, *_):
     return int(is_bound)
 
 
-def context(board, env, kind, address, *_):
+def context(board: Board, env: Env, kind: int, address: int, *_: int) -> int:
     refuse_if(kind >= len(env.handlers) or address % 4 or address >> 31, BAD_CALL)
     env.handlers[kind] = address
     return 0
 
 
-def accept(board, env, mask, *_):
+def accept(board: Board, env: Env, mask: int, *_: int) -> int:
     env.mask = mask
     return 0
 
 
-def transfer(board, env, number, kind, *_):
+def transfer(board: Board, env: Env, number: int, kind: int, *_: int) -> int:
     refuse_if(kind > 1, BAD_CALL)
     target = other_env(board, env, number)
     refuse_if(board.in_grace, NO_SLICE)
@@ -156,21 +158,21 @@ def transfer(board, env, number, kind, *_):
     return 0
 
 
-def take_slot(board, env, slot, *_):
+def take_slot(board: Board, env: Env, slot: int, *_: int) -> int:
     refuse_if(slot >= len(board.slots), NO_SLICE)
     refuse_if(board.slots[slot], SLOT_TAKEN)
     board.change_slot(slot, (env.number, env.number))
     return 0
 
 
-def drop_slot(board, env, slot, *_):
+def drop_slot(board: Board, env: Env, slot: int, *_: int) -> int:
     refuse_if(slot >= len(board.slots), NO_SLICE)
     refuse_if(not board.slots[slot] or board.slots[slot][1] != env.number, NOT_HOLDER)
     board.leave_slot(slot, env)
     return 0
 
 
-def query(board, env, what, index, *_):
+def query(board: Board, env: Env, what: int, index: int, *_: int) -> int:
     refuse_if(what > 8, BAD_CALL)
     if what == 5:
         refuse_if(index >= len(board.pages), NO_PAGE)
@@ -188,7 +190,7 @@ def query(board, env, what, index, *_):
     return (free_pages, len(board.pages), len(board.envs), len(board.slots), board.quantum)[what]
 
 
-def claim(board, env, address, atoms, number, *_):
+def claim(board: Board, env: Env, address: int, atoms: int, number: int, *_: int) -> int:
     refuse_if(not 1 <= atoms <= MOST_ATOMS, BAD_FILTER)
     filter_ = read_filter(read_range(board, env, address, BYTES_OF_ATOM * atoms))
     refuse_if(filter_ is None, BAD_FILTER)
@@ -199,19 +201,19 @@ def claim(board, env, address, atoms, number, *_):
     return board.claim(env, filter_, number)
 
 
-def own_claim(board, env, number):
+def own_claim(board: Board, env: Env, number: int) -> Claim:
     """A claim of the caller's that stands."""
     held = board.claims.get(number)
     refuse_if(not held or held.env is not env, NO_FILTER)
     return held
 
 
-def unclaim(board, env, number, *_):
+def unclaim(board: Board, env: Env, number: int, *_: int) -> int:
     board.withdraw(own_claim(board, env, number), "an unclaim")
     return 0
 
 
-def handler(board, env, number, address, length, *_):
+def handler(board: Board, env: Env, number: int, address: int, length: int, *_: int) -> int:
     held, words = own_claim(board, env, number), ()
     if length > MOST_WORDS:
         raise Refused(BAD_HANDLER, MOST_WORDS)
@@ -224,7 +226,7 @@ def handler(board, env, number, address, length, *_):
     return 0
 
 
-def line(board, env, number, is_taken, *_):
+def line(board: Board, env: Env, number: int, is_taken: int, *_: int) -> int:
     refuse_if(number >= LINES or is_taken > 1, BAD_CALL)
     owner = board.lines[number]
     if is_taken:
@@ -236,7 +238,7 @@ def line(board, env, number, is_taken, *_):
     return 0
 
 
-def backup(board, env, number, *_):
+def backup(board: Board, env: Env, number: int, *_: int) -> int:
     check_owned(board, env, number)
     refuse_if(number in env.backups, TAKEN)
     refuse_if(len(env.backups) == MOST_BACKUPS, FULL)
@@ -244,7 +246,7 @@ def backup(board, env, number, *_):
     return 0
 
 
-def send(board, env, address, length, *_):
+def send(board: Board, env: Env, address: int, length: int, *_: int) -> int:
     refuse_if(not LEAST_SENT <= length <= MOST_PACKET, BAD_CALL)
     data = read_range(board, env, address, length)
     refuse_if(len(env.sent) == MOST_SENT, FULL)
@@ -252,11 +254,11 @@ def send(board, env, address, length, *_):
     return 0
 
 
-def own_number(board, env, *_):
+def own_number(board: Board, env: Env, *_: int) -> int:
     return env.number
 
 
-def clock(board, env, *_):
+def clock(board: Board, env: Env, *_: int) -> int:
     return board.time
 
 
@@ -267,7 +269,7 @@ CALLS = {
 }
 
 
-def make_call(board, env):
+def make_call(board: Board, env: Env) -> None:
     """What the runner's SYSCALL does. A refused call changes nothing but what its caller finds, and what AGAIN asks of another."""
     number, arguments = env.cpu.regs[2], env.cpu.regs[4:9]
     if number == EXIT:

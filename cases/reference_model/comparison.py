@@ -7,21 +7,36 @@ are kept in FOLDER. How often each thing happened in all runs together is printe
 be a test; of fewer than half the seeds of the gate that isn't asked.
 Prints a line for each failure, and last 'NAME: N passed, M failed', a seed being one, and each thing that happened another.
 """
+from __future__ import annotations
+
 import argparse
 import os
 import subprocess
 import sys
 import tempfile
 from collections import Counter
+from typing import Callable, Dict, List, Optional, Protocol, Tuple, Union
 
+from board import Board
 from calls import CALLS
-from files import read_schedule
+from files import Event, read_schedule
 from report import answer
 
 AEGIS = os.environ["AEGIS"]
 
+# What happened: by its name, a packet of a length, or a call's answer.
+Thing = Union[str, Tuple[Union[int, str], int]]
 
-def name_of(thing):
+
+class RandomSystem(Protocol):
+    """An image and a schedule, and how long they run."""
+
+    image: bytes
+    schedule: bytes
+    ticks: int
+
+
+def name_of(thing: Thing) -> str:
     if isinstance(thing, str):
         return thing
     if thing[0] == "delivered":
@@ -29,7 +44,7 @@ def name_of(thing):
     return f"calls {CALLS[thing[0]].__name__} answered {thing[1]}"
 
 
-def count_events(seen, events, board, ticks):
+def count_events(seen: Counter[Thing], events: List[Event], board: Board, ticks: int) -> None:
     """Counts how the events lie in the time of a run."""
     times = [event.tick for event in events]
     seen["events in the tick of another"] += len(times) - len(set(times))
@@ -41,7 +56,7 @@ def count_events(seen, events, board, ticks):
     seen["several environments run"] += len({row.split()[3] for row in board.rows if row.startswith("run")}) > 1
 
 
-def difference(wanted, found):
+def difference(wanted: str, found: str) -> str:
     """The first line at which two texts differ."""
     for number, (left, right) in enumerate(zip(wanted.splitlines(), found.splitlines()), 1):
         if left != right:
@@ -49,7 +64,7 @@ def difference(wanted, found):
     return f"{found.count(chr(10))} lines and not {wanted.count(chr(10))}"
 
 
-def failure(folder, system_of, seed, seen):
+def failure(folder: str, system_of: Callable[[int], RandomSystem], seed: int, seen: Counter[Thing]) -> Optional[str]:
     """Why the program differs at this seed, or nothing."""
     system, files = system_of(seed), []
     for name, content in ((f"{folder}/{seed}.img", system.image), (f"{folder}/{seed}.sch", system.schedule)):
@@ -75,7 +90,7 @@ def failure(folder, system_of, seed, seen):
     return f"seed {seed}, {system.ticks} ticks, status {ran.returncode}: {difference(text, found)}"
 
 
-def main(name, system_of, least, seeds):
+def main(name: str, system_of: Callable[[int], RandomSystem], least: Dict[Thing, int], seeds: int) -> None:
     """Runs so many seeds of the systems that `system_of` makes of a number. `least` has how often each thing is to happen in
     as many seeds as these."""
     reader = argparse.ArgumentParser()

@@ -1,8 +1,11 @@
 """What is read: boot images, the ELF files in them, manifests and schedules, each with its faults: docs/FORMATS.md."""
+from __future__ import annotations
+
 import os
 import struct
 import sys
 from dataclasses import dataclass
+from typing import Dict, Iterator, List, Optional, Tuple
 
 ROOT = os.path.join(os.path.dirname(os.path.realpath(__file__)), "..", "..")
 sys.path += [f"{ROOT}/tools", f"{ROOT}/cases"]
@@ -19,7 +22,7 @@ NAME = b"abcdefghijklmnopqrstuvwxyz0123456789_"
 class Fault(Exception):
     """Why a file is refused, and the place or line."""
 
-    def __init__(self, why, place):
+    def __init__(self, why: str, place: int):
         super().__init__(f"{why} {place}")
         self.why, self.place = why, place
 
@@ -44,7 +47,7 @@ class Program:
     entry: int
     segments: list
 
-    def mappings(self):
+    def mappings(self) -> Dict[int, bool]:
         """The VPNs of its guaranteed pages, rising, and whether each may be stored to."""
         found = {CONTEXT_VPN: True}
         for segment in self.segments:
@@ -76,11 +79,11 @@ class Event:
     revoke: tuple = None
 
 
-def number_at(file, place, size):
+def number_at(file: bytes, place: int, size: int) -> int:
     return int.from_bytes(file[place : place + size], "little")
 
 
-def read_image(file):
+def read_image(file: bytes) -> Image:
     if len(file) < 16:
         raise Fault("Short", len(file))
     version = next((number for number, magic in MAGIC.items() if file[:4] == magic), None)
@@ -115,7 +118,7 @@ def read_image(file):
     return Image(version, pages, quantum, [None if owner == EMPTY else owner for owner in file[first : first + slots]], programs)
 
 
-def read_program(file, header):
+def read_program(file: bytes, header: int) -> Tuple[Program, int]:
     """The program whose header is at this place, and the end of its body."""
     body = header + 28
     if len(file) < body:
@@ -149,7 +152,7 @@ def read_program(file, header):
     return Program(name.decode(), stack, accept, entry, segments), body + length
 
 
-def read_elf(file):
+def read_elf(file: bytes) -> Tuple[int, List[Segment]]:
     """The entry and the segments that are kept."""
     if len(file) < 52:
         raise Fault("Short", len(file))
@@ -192,7 +195,7 @@ CHARACTERS = frozenset((9, 10, 13, *range(32, 127)))
 WORDS_OF = {b"packet": 3, b"line": 3, b"revoke": 5}  # by kind of event, the words of its line
 
 
-def lines_of(text):
+def lines_of(text: bytes) -> Iterator[Tuple[int, bytes]]:
     """The lines of a text, numbered from 1."""
     lines = text.split(b"\n")
     last = lines.pop()
@@ -200,14 +203,14 @@ def lines_of(text):
     return enumerate(lines, 1)
 
 
-def words_of(line, content):
+def words_of(line: int, content: bytes) -> List[bytes]:
     """The words of a line, apart from its comment."""
     if not CHARACTERS.issuperset(content):
         raise Fault("Syntax", line)
     return [word for word in content.partition(b"#")[0].replace(b"\t", b" ").split(b" ") if word]
 
 
-def number_of(word):
+def number_of(word: bytes) -> Optional[int]:
     """The number that a word is, or None."""
     digits, base, most, alphabet = (word[2:], 16, 8, b"0123456789abcdefABCDEF") if word.startswith(b"0x") else (word, 10, 10, b"0123456789")
     if not 1 <= len(digits) <= most or any(digit not in alphabet for digit in digits):
@@ -216,7 +219,7 @@ def number_of(word):
     return value if value <= WORD else None
 
 
-def read_schedule(text):
+def read_schedule(text: bytes) -> List[Event]:
     """The events of a schedule, in order."""
     events = []
     for line, content in lines_of(text):
@@ -245,7 +248,7 @@ class Manifest:
     entries: list
 
 
-def read_manifest(text):
+def read_manifest(text: bytes) -> Manifest:
     """What a manifest says, and its first line with a fault."""
     said, awaited, last = Manifest(1, None, None, None, []), 0, 0
     for line, content in lines_of(text):
@@ -264,7 +267,7 @@ def read_manifest(text):
     return said
 
 
-def read_manifest_line(said, line, words):
+def read_manifest_line(said: Manifest, line: int, words: List[bytes]) -> None:
     """Adds what a line says that has the kind which is awaited."""
     kind, *rest = words
     most = VERSIONS[said.version]
@@ -272,7 +275,7 @@ def read_manifest_line(said, line, words):
     if not forms.get(kind, len(rest) == 1):
         raise Fault("Syntax", line)
 
-    def ranged(word, greatest, least=0):
+    def ranged(word: bytes, greatest: int, least: int = 0) -> int:
         value = number_of(word)
         if value is None or not least <= value <= greatest:
             raise Fault("Range", line)
@@ -297,16 +300,16 @@ def read_manifest_line(said, line, words):
         said.entries.append(entry)
 
 
-def image_of(said, files):
+def image_of(said: Manifest, files: Dict[bytes, bytes]) -> bytes:
     """The bytes of the image that a manifest means, whose files have these contents."""
     programs = [binary.Program(name, files[file], base or 0, stack, accept, base is None) for name, base, stack, accept, file in said.entries]
     return binary.image(said.pages, said.quantum, [EMPTY if owner is None else owner for owner in said.slots], programs, said.version)
 
 
-def read_event(line, words):
+def read_event(line: int, words: List[bytes]) -> Event:
     """The event of a line's words, apart from what the lines before have to do with it."""
 
-    def ranged(word, most):
+    def ranged(word: bytes, most: int) -> int:
         value = number_of(word)
         if value is None or value > most:
             raise Fault("Range", line)

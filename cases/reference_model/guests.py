@@ -15,10 +15,13 @@ The filters of an environment mostly begin with a byte of its own, so most claim
 are mostly made of a filter, and some of them miss by a bit or a byte. Revocations are of one page to all, and their deadlines
 often come in one tick.
 """
+from __future__ import annotations
+
 import os
 import random
 import struct
 import sys
+from typing import Iterable, List, Sequence, Tuple, Union
 
 CASES = os.path.dirname(os.path.dirname(os.path.abspath(__file__)))
 sys.path += [CASES, f"{CASES}/random_systems"]
@@ -38,17 +41,17 @@ OUTSTANDING, DEADLINE, TAKINGS, RECORDS = AREA + 0x14C, AREA + 0x150, AREA + 0x1
 UDP = ((12, 2, 0xFFFF, 0x0800), (23, 1, 0xFF, 0x11))
 
 
-def atoms_in_memory(atoms):
+def atoms_in_memory(atoms: Iterable[Sequence[int]]) -> bytes:
     return b"".join(struct.pack("<HHII", *atom) for atom in atoms)
 
 
 class Traffic:
     """The filters for which the environments of a system may ask, and packets."""
 
-    def __init__(self, chance):
+    def __init__(self, chance: random.Random):
         self.chance, self.filters = chance, []
 
-    def filter_of(self, number):
+    def filter_of(self, number: int) -> List[Tuple[int, ...]]:
         """A filter of an environment, as a list of atoms (offset, width, mask, value)."""
         kind = self.chance.random()
         if kind < 0.7:
@@ -62,7 +65,7 @@ class Traffic:
         self.filters.append(atoms)
         return atoms
 
-    def more(self):
+    def more(self) -> Tuple[Tuple[int, ...], ...]:
         """Atoms behind the first byte."""
         port, number = self.chance.randrange(4), self.chance.randrange(1 << 32)
         return self.chance.choice((
@@ -77,7 +80,7 @@ class Traffic:
             tuple((1 + bit // 8, 1, 1 << bit % 8, number & 1 << bit % 8) for bit in range(15)),
         ))
 
-    def bad_filter_of(self, number):
+    def bad_filter_of(self, number: int) -> List[Tuple[int, ...]]:
         """Atoms that are no filter."""
         atoms = [(0, 1, 0xFF, number), *self.more()][:15]
         offset, width, mask, value = atoms[-1]
@@ -93,10 +96,10 @@ class Traffic:
         ))
         return atoms
 
-    def length(self):
+    def length(self) -> int:
         return self.chance.choice((1, 1, 2, 14, 37, 60, 60, 64, LONGEST, LONGEST, self.chance.randrange(1, LONGEST + 1)))
 
-    def packet(self):
+    def packet(self) -> bytes:
         """A packet: any, or one that a filter matches, or that is a byte too short or has a wrong bit."""
         kind = self.chance.random()
         if kind < 0.15 or not self.filters:
@@ -119,7 +122,7 @@ class Traffic:
 class Guest(Program):
     """A program with a page of code and a page of data, in which its filters stand."""
 
-    def __init__(self, chance, system, number):
+    def __init__(self, chance: random.Random, system: System, number: int):
         super().__init__(chance, system, number)
         self.traffic, self.rings, self.ring_pages = system.traffic, [], []
         self.data = bytearray(chance.randbytes(PAGE))
@@ -140,15 +143,15 @@ class Guest(Program):
             self.handlers.append((place, len(words)))
             place += 4 * len(words)
 
-    def call(self, number, *arguments):
+    def call(self, number: int, *arguments: Union[List[int], int]) -> None:
         """A kernel call, whose answer is added to the sums, so that it shows in the report."""
         super().call(number, *arguments)
         self.add(register(33, CODES, V0, CODES), register(33, VALUES, V1, VALUES), register(33, VALUES, CODES, VALUES))
 
-    def keep(self, address, data):
+    def keep(self, address: int, data: bytes) -> None:
         self.data[address - DATA : address - DATA + len(data)] = data
 
-    def filter(self):
+    def filter(self) -> Tuple[int, int]:
         """The address of a filter and its number of atoms, which at times is another, and at times is in another page."""
         address, atoms = self.chance.choice(self.filters)
         kind = self.chance.random()
@@ -158,28 +161,28 @@ class Guest(Program):
             return self.chance.choice((DATA + PAGE - 8, 0x10000000, 0x80000000, ANY)), self.chance.choice((1, 2))
         return address, max(1, atoms - 1) if kind < 0.1 else atoms
 
-    def claim(self):
+    def claim(self) -> None:
         """A claim, whose number is kept where it was granted; the page is mostly bound too."""
         page = self.ring_page() if self.chance.random() < 0.9 else self.page_number()
         self.claim_with(page)
         if isinstance(page, list) and self.chance.random() < 0.5:
             self.bind_ring(page)
 
-    def ring_page(self):
+    def ring_page(self) -> List[int]:
         """A register that mostly has the number of a page that was allocated."""
         return [self.chance.choice(self.ring_pages or PAGES)] if self.chance.random() < 0.9 else self.held()
 
-    def claim_with(self, page):
+    def claim_with(self, page: Union[List[int], int]) -> None:
         self.call(CLAIM, *self.filter(), page)
         self.add(immediate(5, V0, ZERO, 2), NOP, register(37, V1, ZERO, CLAIMED))
 
-    def empty(self):
+    def empty(self) -> None:
         """Empties both buffers of a ring, whatever they have."""
         if self.rings:
             self.load_number(POINTER, self.chance.choice(self.rings) * PAGE)
             self.add(*(immediate(OPCODES["sw"], POINTER, ZERO, place) for place in (0, 0x800)))
 
-    def handle_packets(self):
+    def handle_packets(self) -> None:
         """Gives a claim a handler, mostly one that the program has, and mostly the claim of which it knows; or removes one."""
         address, length = self.chance.choice(self.handlers)
         kind = self.chance.random()
@@ -193,7 +196,7 @@ class Guest(Program):
             length = max(1, length - 1)
         self.call(HANDLER, [CLAIMED] if self.chance.random() < 0.9 else self.chance.choice((*range(10), ANY)), address, length)
 
-    def fill_up(self):
+    def fill_up(self) -> None:
         """Sends as many packets as are held but a few, and has a handler reply more."""
         self.settle()
         self.add(ori(COUNTER, ZERO, self.chance.choice((248, 253, 256))))
@@ -204,7 +207,7 @@ class Guest(Program):
         self.branch_back(5, COUNTER, ZERO, start, addiu(COUNTER, COUNTER, -1))
         self.call(HANDLER, [CLAIMED], *self.handlers[0])
 
-    def claim_bound(self):
+    def claim_bound(self) -> None:
         """Claims a filter that stands in a page which is bound, and not in one of its own."""
         if not self.has_handler and not self.rings:
             return
@@ -215,12 +218,12 @@ class Guest(Program):
             self.add(immediate(OPCODES["sw"], POINTER, V1, 4 * place))
         self.call(CLAIM, [POINTER], 1, self.ring_page())
 
-    def bind_ring(self, page):
+    def bind_ring(self, page: List[int]) -> None:
         vpn = self.chance.choice(RINGS)
         self.call(BIND, vpn, page, 1, 0, 0)
         self.rings.append(vpn)
 
-    def settle(self):
+    def settle(self) -> None:
         """Allocates a page, binds it, and has packets come into it."""
         register_ = self.chance.choice(PAGES)
         self.call(ALLOC, ANY, *self.words_given())
@@ -231,7 +234,7 @@ class Guest(Program):
         if self.chance.random() < 0.25:
             self.handle_packets()
 
-    def nine(self):
+    def nine(self) -> None:
         """Nine claims that don't overlap each other."""
         page = self.ring_page()
         self.load_number(POINTER, LOOP_FILTER)
@@ -242,14 +245,14 @@ class Guest(Program):
         self.add(addiu(COUNTER, COUNTER, -1))
         self.branch_back(5, COUNTER, ZERO, start)
 
-    def unclaim(self):
+    def unclaim(self) -> None:
         self.call(UNCLAIM, [CLAIMED] if self.chance.random() < 0.7 else self.chance.choice((*range(10), ANY)))
 
-    def ring(self):
+    def ring(self) -> int:
         """The address of a buffer of a ring, or of some page."""
         return self.chance.choice(self.rings or RINGS) * PAGE + self.chance.choice((0, 0x800))
 
-    def drain(self):
+    def drain(self) -> None:
         """Reads a buffer if it has a packet, prints some of it, and mostly frees the buffer."""
         if not self.has_handler and not self.rings:
             return
@@ -264,7 +267,7 @@ class Guest(Program):
             self.add(immediate(OPCODES["sw"], POINTER, ZERO, 0))
         self.words[branch] = immediate(4, length, ZERO, len(self.words) - branch - 1)
 
-    def meddle(self):
+    def meddle(self) -> None:
         """Binds a page that may be another's ring, and mostly stores there: an empty buffer, a full one, or bytes."""
         vpn = self.chance.choice(OTHERS)
         self.call(BIND, vpn, self.page_number(), 1, 9, 0)
@@ -274,7 +277,7 @@ class Guest(Program):
             name, rt, place = self.chance.choice(accesses)
             self.add(immediate(OPCODES[name], POINTER, rt, place))
 
-    def look(self):
+    def look(self) -> None:
         """Reads the post words, and at times puts 0, or the number before 0, there."""
         place = self.chance.choice(POSTS)
         self.add(immediate(OPCODES["lw"], ZERO, self.chance.choice(SCRATCH), place))
@@ -284,11 +287,11 @@ class Guest(Program):
         elif kind < 0.6:
             self.add(addiu(V1, ZERO, -1), immediate(OPCODES["sw"], ZERO, V1, place))
 
-    def line(self):
+    def line(self) -> None:
         number = self.chance.choice((*range(3), *range(3), *range(8)) if self.chance.random() < 0.95 else (8, 32, ANY))
         self.call(LINE, number, self.chance.choice((1, 1, 1, 1, 0, 0)) if self.chance.random() < 0.95 else self.chance.choice((2, ANY)))
 
-    def send(self):
+    def send(self) -> None:
         kind = self.chance.random()
         length = self.chance.choice((14, 14, 15, 60, 64, LONGEST)) if kind < 0.9 else self.chance.choice((0, 13, LONGEST + 1, ANY))
         address = self.chance.choice((PACKETS + self.chance.randrange(64), PACKETS, AREA + 0x13C, self.ring() + 4))
@@ -296,7 +299,7 @@ class Guest(Program):
             address = self.chance.choice((DATA + PAGE - 13, 0x10000000, 0x7FFFFFF8, 0xFFFFFFF8))
         self.call(SEND, address, length)
 
-    def flood(self):
+    def flood(self) -> None:
         """Sends many packets, at times more than are held."""
         self.add(ori(COUNTER, ZERO, self.chance.choice((20, 300))))
         self.load_number(A0, PACKETS)
@@ -305,7 +308,7 @@ class Guest(Program):
         self.add(ori(V0, ZERO, SEND), SYSCALL, register(33, CODES, V0, CODES))
         self.branch_back(5, COUNTER, ZERO, start, addiu(COUNTER, COUNTER, -1))
 
-    def hoard(self):
+    def hoard(self) -> None:
         """Allocates several pages; some are bound, and some are stored to."""
         page = self.chance.choice(PAGES)
         for _ in range(self.chance.randrange(2, 5)):
@@ -320,7 +323,7 @@ class Guest(Program):
         if self.chance.random() < 0.4:
             self.call(BACKUP, [page])
 
-    def provide(self):
+    def provide(self) -> None:
         """Allocates some pages, of which the first are backups, and the others stay in registers."""
         self.load_many()
         for page in self.chance.sample(PAGES, self.chance.randrange(4)):
@@ -330,11 +333,11 @@ class Guest(Program):
             if self.chance.random() < 0.5:
                 self.bind_ring([page])
 
-    def load(self):
+    def load(self) -> None:
         """Loads a page as a backup, mostly one that was allocated."""
         self.call(BACKUP, self.held() if self.chance.random() < 0.85 else self.page_number())
 
-    def load_many(self):
+    def load_many(self) -> None:
         """Loads pages that are allocated for it, at times more than there may be."""
         many = self.pages > 100 and self.chance.random() < 0.7
         self.add(ori(COUNTER, ZERO, 66 if many else self.chance.randrange(1, 4)))
@@ -344,7 +347,7 @@ class Guest(Program):
         self.add(addiu(A0, ZERO, -1), ori(V0, ZERO, ALLOC), SYSCALL, register(37, V1, ZERO, A0), ori(V0, ZERO, BACKUP), SYSCALL)
         self.branch_back(5, COUNTER, ZERO, start, addiu(COUNTER, COUNTER, -1))
 
-    def give_back(self):
+    def give_back(self) -> None:
         """Frees pages where some are outstanding by the context page, and mostly takes note of that there."""
         self.add(immediate(OPCODES["lw"], ZERO, self.chance.choice(SCRATCH), self.chance.choice((OUTSTANDING, DEADLINE))))
         asked = self.words[-1] >> 16 & 31
@@ -356,7 +359,7 @@ class Guest(Program):
             self.add(*(immediate(OPCODES["sw"], ZERO, ZERO, place) for place in self.chance.sample((OUTSTANDING, DEADLINE), 2)))
         self.words[branch] = immediate(4, asked, ZERO, len(self.words) - branch - 1)
 
-    def recover(self):
+    def recover(self) -> None:
         """Reads the last record, where there is one: allocates the page that was taken again, or binds its backup."""
         record = self.chance.choice(SCRATCH)
         self.add(immediate(OPCODES["lw"], ZERO, COUNTER, TAKINGS), NOP)
@@ -371,12 +374,12 @@ class Guest(Program):
             self.call(BIND, self.chance.choice(RINGS), [record], 1, 0, 0)
         self.words[branch] = immediate(4, COUNTER, ZERO, len(self.words) - branch - 1)
 
-    def count_anew(self):
+    def count_anew(self) -> None:
         """Puts another number where takings are counted, or where the kernel says what is outstanding."""
         place = self.chance.choice((TAKINGS, TAKINGS, TAKINGS, OUTSTANDING, DEADLINE))
         self.add(addiu(V1, ZERO, self.chance.choice((0, 0, 1, 61, 62, 63, 64, -1, -1))), immediate(OPCODES["sw"], ZERO, V1, place))
 
-    def grab(self):
+    def grab(self) -> None:
         """Wants one page again and again, which may be taken from its owner meanwhile."""
         page, most = (self.page_number(), 40) if self.chance.random() < 0.7 else (ANY, 9)
         self.add(ori(COUNTER, ZERO, self.chance.randrange(2, most)))
@@ -385,7 +388,7 @@ class Guest(Program):
         self.add(ori(V0, ZERO, ALLOC), SYSCALL, addiu(COUNTER, COUNTER, -1))
         self.branch_back(5, COUNTER, ZERO, start)
 
-    def unknown(self):
+    def unknown(self) -> None:
         """Calls that there aren't, with arguments that would make sense."""
         self.call(self.chance.choice((22, 23, 0x10010)), [CLAIMED] if self.chance.random() < 0.5 else self.held(), PACKETS, 4)
 
@@ -393,7 +396,7 @@ class Guest(Program):
               (line, 9), (send, 5), (flood, 0.5), (hoard, 6), (load, 6), (load_many, 2), (give_back, 7), (recover, 6), (count_anew, 2), (grab, 4),
               (unknown, 1), (Program.wait, 3))
 
-    def made(self):
+    def made(self) -> Tuple[bytes, bytes]:
         """The bytes of the code, and those of the data."""
         if self.has_handler:
             self.handle(EXCEPTIONS)
@@ -427,7 +430,7 @@ class Guest(Program):
         return struct.pack(f"<{len(self.words)}I", *self.words), bytes(self.data)
 
 
-def elf_file(chance, code, data, is_read_only):
+def elf_file(chance: random.Random, code: bytes, data: bytes, is_read_only: bool) -> bytes:
     """The same as an ELF file, the data behind the code, and in memory perhaps more than in the file."""
     in_file = chance.choice((PAGE, 0xA00))
     return binary.elf(BASE, (binary.Segment(BASE, code, 5 if is_read_only else 7), binary.Segment(DATA, data[:in_file], 6, PAGE)))
@@ -438,7 +441,7 @@ class System:
 
     GUEST = Guest
 
-    def __init__(self, seed):
+    def __init__(self, seed: int):
         self.version = 1 + seed % 2
         chance = self.chance = random.Random(seed)
         count = self.environments()
@@ -459,19 +462,19 @@ class System:
             place = chance.randrange(len(self.image))
             self.image = self.image[:place] + chance.randbytes(1) + self.image[place + 1 :]
 
-    def environments(self):
+    def environments(self) -> int:
         """How many there are."""
         return self.chance.randrange(1, 7)
 
-    def machine_pages(self):
+    def machine_pages(self) -> int:
         """How many pages the machine has."""
         return max(16, self.total + self.chance.randrange(4, 24)) + self.chance.choice((0,) * 7 + (140,))
 
-    def mask(self):
+    def mask(self) -> int:
         """Whose yields and transfers an environment accepts."""
         return self.chance.choice((0xFFFF, 0xFFFF, self.chance.randrange(1 << 16), 0))
 
-    def program(self, environment, stack):
+    def program(self, environment: int, stack: int) -> binary.Program:
         chance, guest = self.chance, self.GUEST(self.chance, self, environment)
         code, data = guest.made()
         is_elf = chance.random() < 0.25
@@ -481,7 +484,7 @@ class System:
             body = code.ljust(PAGE, b"\0") + data
         return binary.Program(f"e{environment}", body, 0 if is_elf else BASE, stack, self.mask(), is_elf)
 
-    def events(self):
+    def events(self) -> List[Tuple[int, str]]:
         """By rising tick, what a line says behind it."""
         chance, times = self.chance, []
         for _ in range(chance.choice((0, 4, 20, 40, 80))):
@@ -494,12 +497,12 @@ class System:
                 times.append(int(self.ticks * chance.random() ** 0.5))
         return [(time, self.event_text(time)) for time in sorted(times)]
 
-    def event_text(self, time):
+    def event_text(self, time: int) -> str:
         if self.chance.random() < self.revokes:
             return self.revocation_text(time)
         return f"line {self.chance.randrange(8)}" if self.chance.random() < 0.3 else self.packet_text()
 
-    def revocation_text(self, time):
+    def revocation_text(self, time: int) -> str:
         """A revocation, at times of nobody, and at times with the deadline of another."""
         chance, count = self.chance, len(self.guaranteed)
         env = chance.randrange(count) if chance.random() < 0.94 else chance.randrange(min(count, 31), 32)
@@ -511,11 +514,11 @@ class System:
         self.deadlines.append(time + grace)
         return f"revoke {env} {pages} {grace}"
 
-    def packet_text(self):
+    def packet_text(self) -> str:
         digits = self.traffic.packet().hex()
         return f"packet {digits.upper() if self.chance.random() < 0.1 else digits}"
 
-    def text_of(self, events):
+    def text_of(self, events: List[Tuple[int, str]]) -> bytes:
         """The schedule, at times with blanks and comments, and at times with a fault."""
         chance = self.chance
         lines = [f"{time} {what}" for time, what in events]

@@ -1,4 +1,9 @@
 """Random words of handlers: good ones, whose runs mostly reply or store, and bad ones."""
+from __future__ import annotations
+
+from random import Random
+from typing import List
+
 from handlers import MOST_WORDS, PAGE_AT
 from systems import A0, A1, BREAK, NOP, OPCODES, SYSCALL, V0, V1, ZERO, addiu, immediate, ori, register
 
@@ -19,10 +24,10 @@ FORBIDDEN = (
 class Handlers:
     """Makes handlers."""
 
-    def __init__(self, chance):
+    def __init__(self, chance: Random):
         self.chance = chance
 
-    def words(self):
+    def words(self) -> List[int]:
         """A handler, which is mostly good."""
         kind = self.chance.random()
         if kind < 0.12:
@@ -33,7 +38,7 @@ class Handlers:
             return self.loud()
         return self.good()
 
-    def good(self):
+    def good(self) -> List[int]:
         words, branches = [*ENTRY], []
         for _ in range(self.chance.randrange(1, 8)):
             piece = self.piece()
@@ -49,7 +54,7 @@ class Handlers:
             words[place] = self.branch(place, len(words))
         return words
 
-    def bad(self):
+    def bad(self) -> List[int]:
         """A good one, in which a word is bad."""
         words = self.good()
         place, kind = self.chance.randrange(len(words)), self.chance.random()
@@ -68,22 +73,22 @@ class Handlers:
             words[place] = immediate(7, V1, ZERO, len(words) - place)
         return words
 
-    def loud(self):
+    def loud(self) -> List[int]:
         """Replies with the packet's length, or with another, up to five times: the last one is a fault."""
         length = self.chance.choice((0, 14, 60))
         replies = ori(A0, ZERO, PAGE_AT + self.chance.randrange(64)), ori(A1, ZERO, length) if length else register(37, LENGTH, ZERO, A1)
         return [*ENTRY, *replies, *[SYSCALL] * self.chance.choice((3, 4, 4, 5)), *self.count(), BREAK]
 
-    def branch(self, place, end):
+    def branch(self, place: int, end: int) -> int:
         """A branch over two words or more, at times to the end."""
         opcode, rt = self.chance.choice(((4, ZERO), (4, LENGTH), (5, ZERO), (5, COUNT), (6, 0), (7, 0), (1, 0), (1, 1)))
         target = self.chance.choice((end, end, *range(place + 2, end + 1)))
         return immediate(opcode, self.chance.choice((ZERO, LENGTH, COUNT, *WORK)), rt, target - place - 1)
 
-    def piece(self):
+    def piece(self) -> List[int]:
         return self.chance.choice((self.count, self.copy, self.copy, self.reply, self.reply, self.reply, self.arithmetic, self.strange))()
 
-    def work(self):
+    def work(self) -> int:
         rs, rt, rd = (self.chance.choice((LENGTH, NUMBER, *WORK)) for _ in range(3))
         function = self.chance.choice((33, 35, 36, 37, 38, 39, 42, 43, 4, 6, 7))
         return self.chance.choice((
@@ -93,15 +98,15 @@ class Handlers:
             immediate(15, 0, rt, self.chance.randrange(1 << 16)),
         ))
 
-    def arithmetic(self):
+    def arithmetic(self) -> List[int]:
         return [self.work() for _ in range(self.chance.randrange(1, 5))]
 
-    def count(self):
+    def count(self) -> List[int]:
         """Counts in a word of the page."""
         place = PAGE_AT + 4 * self.chance.choice((0, 0x200, 0x3FF))
         return [immediate(OPCODES["lw"], ZERO, COUNT, place), addiu(COUNT, COUNT, 1), immediate(OPCODES["sw"], ZERO, COUNT, place)]
 
-    def copy(self):
+    def copy(self) -> List[int]:
         """Loads from the packet, mostly from its first bytes, and stores into the page."""
         words = []
         for _ in range(self.chance.randrange(1, 4)):
@@ -111,7 +116,7 @@ class Handlers:
             words += [immediate(OPCODES[store], ZERO, value, PAGE_AT + 4 * self.chance.randrange(0x400))]
         return words
 
-    def reply(self):
+    def reply(self) -> List[int]:
         """Replies: so many bytes, as many as the packet has, or a length or a place for which there is none."""
         kind = self.chance.random()
         length = self.chance.choice((14, 14, 60, LONGEST)) if kind < 0.9 else self.chance.choice((0, 13, LONGEST + 1))
@@ -119,7 +124,7 @@ class Handlers:
         last = register(37, LENGTH, ZERO, A1) if kind < 0.3 else ori(A1, ZERO, length)
         return [ori(A0, ZERO, address), last, SYSCALL]
 
-    def strange(self):
+    def strange(self) -> List[int]:
         """An access that may be a fault: to no place, to the packet, behind it, or misaligned."""
         return [self.chance.choice((
             immediate(OPCODES["sw"], ZERO, V0, 0),

@@ -1,4 +1,8 @@
 """Handlers of packets: docs/KERNEL.md, "Handlers of packets". The machine's own steps over a memory of a handler's own."""
+from __future__ import annotations
+
+from typing import Optional, Sequence
+
 from files import MOST_PACKET, PAGE
 from machine import ADEL, ADES, BP, Cpu, KernelCall, Trap, decode, reserved, step
 
@@ -14,14 +18,14 @@ OPCODES = frozenset((4, 5, 6, 7, 9, 10, 11, 12, 13, 14, 15, 32, 33, 35, 36, 37, 
 ENDS = frozenset((12, 13))  # the functions that may not stand behind a branch
 
 
-def is_allowed(word):
+def is_allowed(word: int) -> bool:
     it = decode(word)
     if it.effect is reserved:
         return False
     return it.function in FUNCTIONS if it.opcode == 0 else it.rt in BRANCHES_OF_ONE if it.opcode == 1 else it.opcode in OPCODES
 
 
-def is_bad(words, place):
+def is_bad(words: Sequence[int], place: int) -> bool:
     """Whether a word is bad, of which none before it is."""
     it = decode(words[place])
     if not is_allowed(words[place]):
@@ -32,7 +36,7 @@ def is_bad(words, place):
     return it.jumps and (place == len(words) - 1 or not place + 2 <= place + 1 + it.sign <= len(words))
 
 
-def first_bad(words):
+def first_bad(words: Sequence[int]) -> Optional[int]:
     """The place of the first bad word, 64 of too many words, or None."""
     if len(words) > MOST_WORDS:
         return MOST_WORDS
@@ -46,16 +50,16 @@ class End(Exception):
 class HandlerMemory:
     """What a handler reaches: its words, which it fetches alone, the packet from 0 on, and the ring page, to store to it too."""
 
-    def __init__(self, words, packet, page):
+    def __init__(self, words: Sequence[int], packet: bytes, page: bytearray):
         self.words, self.packet, self.page = words, packet, page
         self.stores = 0
 
-    def fetch(self, va):
+    def fetch(self, va: int) -> int:
         if va // 4 >= len(self.words):
             raise End
         return self.words[va // 4]
 
-    def load(self, va, width):
+    def load(self, va: int, width: int) -> int:
         if va + width <= len(self.packet):
             data = self.packet[va : va + width]
         elif PAGE_AT <= va and va + width <= PAGE_AT + PAGE:
@@ -64,7 +68,7 @@ class HandlerMemory:
             raise Trap(ADEL, va)
         return int.from_bytes(data, "little") << 8 * (va % 4)
 
-    def store(self, va, place, data):
+    def store(self, va: int, place: int, data: bytes) -> None:
         if not (PAGE_AT <= va and va + len(data) <= PAGE_AT + PAGE):
             raise Trap(ADES, va)
         self.page[va - PAGE_AT : va - PAGE_AT + len(data)] = data
@@ -74,7 +78,7 @@ class HandlerMemory:
 class Run:
     """A run of a handler over a packet and the ring page: how it ended, and its replies. What it stored is in the page."""
 
-    def __init__(self, words, packet, claim, page):
+    def __init__(self, words: Sequence[int], packet: bytes, claim: int, page: bytearray):
         self.memory, self.replies, self.cpu = HandlerMemory(words, packet, page), [], Cpu(0)
         self.cpu.regs = [0] * 32
         self.cpu.regs[LENGTH], self.cpu.regs[CLAIM] = len(packet), claim
@@ -83,7 +87,7 @@ class Run:
             pass
         self.end = FAULT if self.why else DONE
 
-    def step(self):
+    def step(self) -> bool:
         """An instruction. It is the last one if nothing is answered."""
         try:
             step(self.cpu, self.memory)
@@ -97,7 +101,7 @@ class Run:
             return False
         return True
 
-    def reply(self):
+    def reply(self) -> None:
         address, length = self.cpu.regs[LENGTH], self.cpu.regs[CLAIM]
         is_good = LEAST_REPLY <= length <= MOST_PACKET and PAGE_AT <= address and address + length <= PAGE_AT + PAGE
         if not is_good or len(self.replies) == MOST_REPLIES:

@@ -1,10 +1,8 @@
-"""The R3000 of a user's program, one step at a time: docs/MACHINE.md.
+"""The R3000 of a user's program, one step at a time: docs/MACHINE.md."""
+from __future__ import annotations
 
-Memory is given by an object with three methods, which raise a Trap where there is none: fetch(va) answers the word at the
-address; load(va, width) the aligned word that has the address, of which so many bytes from there on are read; and
-store(va, place, data) puts bytes at a place within that word.
-"""
 from functools import lru_cache
+from typing import Callable, Optional, Protocol, Tuple
 
 WORD, SIGN = 0xFFFFFFFF, 0x80000000
 MOD, TLBL, TLBS, ADEL, ADES, SYS, BP, RI, CPU, OV = 1, 2, 3, 4, 5, 8, 9, 10, 11, 12
@@ -15,7 +13,7 @@ RETURN = 31
 class Trap(Exception):
     """An exception of the machine."""
 
-    def __init__(self, code, bad=0, unit=0):
+    def __init__(self, code: int, bad: int = 0, unit: int = 0):
         self.code, self.bad, self.unit = code, bad, unit
 
 
@@ -23,41 +21,58 @@ class KernelCall(Exception):
     """A SYSCALL outside a delay slot."""
 
 
+class Bus(Protocol):
+    """Memory as a step sees it. Where there is none its methods raise a Trap."""
+
+    def fetch(self, va: int) -> int:
+        """The word at the address."""
+
+    def load(self, va: int, width: int) -> int:
+        """The aligned word that has the address, of which so many bytes from there on are read."""
+
+    def store(self, va: int, place: int, data: bytes) -> None:
+        """Puts bytes at a place within that word."""
+
+
 class Cpu:
     """Registers, HI, LO and the triple (pc, next, slot)."""
 
-    def __init__(self, entry):
+    def __init__(self, entry: int):
         self.regs, self.hi, self.lo = [0] * 32, 0, 0
         self.regs[STACK_POINTER] = FIRST_STACK
         self.continue_at(entry)
 
-    def set(self, register, value):
+    def set(self, register: int, value: int) -> None:
         if register:
             self.regs[register] = value & WORD
 
-    def continue_at(self, address):
+    def continue_at(self, address: int) -> None:
         self.pc, self.next, self.slot = address, address + 4 & WORD, False
 
-    def restart(self):
+    def restart(self) -> int:
         """Where a program goes on: at the branch, if its delay slot is due."""
         return self.pc - 4 & WORD if self.slot else self.pc
 
-    def rest(self):
+    def rest(self) -> None:
         self.continue_at(self.restart())
 
-    def take_registers(self, other):
+    def take_registers(self, other: Cpu) -> None:
         """Has the registers, HI and LO of another."""
         self.regs, self.hi, self.lo = list(other.regs), other.hi, other.lo
 
-    def cause(self, code=0, unit=0):
+    def cause(self, code: int = 0, unit: int = 0) -> int:
         """The Cause word of an exception here."""
         return self.slot << 31 | (unit % 4 << 28 if code == CPU else 0) | code << 2
+
+
+# What an instruction does, which answers where it jumps, if it does.
+Effect = Callable[["Cpu", "Instruction", Bus], Optional[int]]
 
 
 class Instruction:
     """An instruction's effect, and the fields of its word."""
 
-    def __init__(self, word, effect, jumps=False):
+    def __init__(self, word: int, effect: Effect, jumps: bool = False):
         self.effect, self.jumps = effect, jumps
         self.opcode, self.rs, self.rt, self.rd = word >> 26, word >> 21 & 31, word >> 16 & 31, word >> 11 & 31
         self.shift, self.function, self.target = word >> 6 & 31, word & 63, word & 0x3FFFFFF
@@ -65,7 +80,7 @@ class Instruction:
         self.sign = self.zeros - 0x10000 if self.zeros & 0x8000 else self.zeros
 
 
-def step(cpu, memory):
+def step(cpu: Cpu, memory: Bus) -> None:
     """One step: it retires, or raises a Trap or KernelCall and changes nothing."""
     if cpu.pc % 4:
         raise Trap(ADEL, cpu.pc)
@@ -75,18 +90,18 @@ def step(cpu, memory):
     cpu.pc, cpu.next, cpu.slot = after, (after + 4 if target is None else target) & WORD, it.jumps
 
 
-def signed(word):
+def signed(word: int) -> int:
     return word - (1 << 32) if word & SIGN else word
 
 
-def summed(value):
+def summed(value: int) -> int:
     """A signed sum or difference, if it fits."""
     if not -SIGN <= value < SIGN:
         raise Trap(OV)
     return value
 
 
-def divided(a, b):
+def divided(a: int, b: int) -> Tuple[int, int]:
     """Quotient toward 0 and remainder with the dividend's sign."""
     if b == 0:
         return WORD, a
@@ -136,7 +151,7 @@ PRODUCTS = {
 }
 
 
-def halves(product):
+def halves(product: int) -> Tuple[int, int]:
     return product >> 32, product
 
 
@@ -153,87 +168,87 @@ IS_TAKEN_OF_ONE = {
 }
 
 
-def of_two(cpu, it, memory):
+def of_two(cpu: Cpu, it: Instruction, memory: Bus) -> None:
     cpu.set(it.rd, OF_TWO[it.function](cpu.regs[it.rs], cpu.regs[it.rt]))
 
 
-def of_half(cpu, it, memory):
+def of_half(cpu: Cpu, it: Instruction, memory: Bus) -> None:
     cpu.set(it.rt, OF_HALF[it.opcode](cpu.regs[it.rs], it.sign, it.zeros))
 
 
-def shift(cpu, it, memory):
+def shift(cpu: Cpu, it: Instruction, memory: Bus) -> None:
     cpu.set(it.rd, SHIFTS[it.function](cpu.regs[it.rt], it.shift))
 
 
-def shift_by_register(cpu, it, memory):
+def shift_by_register(cpu: Cpu, it: Instruction, memory: Bus) -> None:
     cpu.set(it.rd, SHIFTS[it.function & 3](cpu.regs[it.rt], cpu.regs[it.rs] % 32))
 
 
-def product(cpu, it, memory):
+def product(cpu: Cpu, it: Instruction, memory: Bus) -> None:
     hi, lo = PRODUCTS[it.function](cpu.regs[it.rs], cpu.regs[it.rt])
     cpu.hi, cpu.lo = hi & WORD, lo & WORD
 
 
-def mfhi(cpu, it, memory):
+def mfhi(cpu: Cpu, it: Instruction, memory: Bus) -> None:
     cpu.set(it.rd, cpu.hi)
 
 
-def mflo(cpu, it, memory):
+def mflo(cpu: Cpu, it: Instruction, memory: Bus) -> None:
     cpu.set(it.rd, cpu.lo)
 
 
-def mthi(cpu, it, memory):
+def mthi(cpu: Cpu, it: Instruction, memory: Bus) -> None:
     cpu.hi = cpu.regs[it.rs]
 
 
-def mtlo(cpu, it, memory):
+def mtlo(cpu: Cpu, it: Instruction, memory: Bus) -> None:
     cpu.lo = cpu.regs[it.rs]
 
 
-def jr(cpu, it, memory):
+def jr(cpu: Cpu, it: Instruction, memory: Bus) -> int:
     return cpu.regs[it.rs]
 
 
-def jalr(cpu, it, memory):
+def jalr(cpu: Cpu, it: Instruction, memory: Bus) -> int:
     target = cpu.regs[it.rs]
     cpu.set(it.rd, cpu.pc + 8)
     return target
 
 
-def jump(cpu, it, memory):
+def jump(cpu: Cpu, it: Instruction, memory: Bus) -> int:
     if it.opcode == 3:  # JAL
         cpu.set(RETURN, cpu.pc + 8)
     return cpu.pc + 4 & 0xF0000000 | it.target << 2
 
 
-def branch(cpu, it, memory):
+def branch(cpu: Cpu, it: Instruction, memory: Bus) -> Optional[int]:
     return cpu.pc + 4 + 4 * it.sign if IS_TAKEN[it.opcode](cpu.regs[it.rs], cpu.regs[it.rt]) else None
 
 
-def branch_of_one(cpu, it, memory):
+def branch_of_one(cpu: Cpu, it: Instruction, memory: Bus) -> Optional[int]:
     taken = IS_TAKEN_OF_ONE[it.rt & 1](cpu.regs[it.rs])
     if it.rt >= 16:  # BLTZAL, BGEZAL
         cpu.set(RETURN, cpu.pc + 8)
     return cpu.pc + 4 + 4 * it.sign if taken else None
 
 
-def syscall(cpu, it, memory):
+def syscall(cpu: Cpu, it: Instruction, memory: Bus) -> None:
     raise Trap(SYS) if cpu.slot else KernelCall
 
 
-def breakpoint_(cpu, it, memory):
+def breakpoint_(cpu: Cpu, it: Instruction, memory: Bus) -> None:
     raise Trap(BP)
 
 
-def reserved(cpu, it, memory):
+def reserved(cpu: Cpu, it: Instruction, memory: Bus) -> None:
     raise Trap(RI)
 
 
-def coprocessor(cpu, it, memory):
+def coprocessor(cpu: Cpu, it: Instruction, memory: Bus) -> None:
     raise Trap(CPU, unit=it.opcode % 4)
 
 
-def address(cpu, it, width, fault):
+def address(cpu: Cpu, it: Instruction, width: int, fault: int) -> int:
     """The address of a load or store of so many bytes."""
     va = cpu.regs[it.rs] + it.sign & WORD
     if va % width:
@@ -244,7 +259,7 @@ def address(cpu, it, width, fault):
 WIDTHS = {32: 1, 33: 2, 35: 4, 36: 1, 37: 2, 40: 1, 41: 2, 43: 4}  # LB, LH, LW, LBU, LHU, SB, SH, SW
 
 
-def load(cpu, it, memory):
+def load(cpu: Cpu, it: Instruction, memory: Bus) -> None:
     width = WIDTHS[it.opcode]
     va = address(cpu, it, width, ADEL)
     bits = 8 * width
@@ -254,30 +269,30 @@ def load(cpu, it, memory):
     cpu.set(it.rt, value)
 
 
-def lwl(cpu, it, memory):
+def lwl(cpu: Cpu, it: Instruction, memory: Bus) -> None:
     va = address(cpu, it, 1, ADEL)
     by = 24 - 8 * (va % 4)
     cpu.set(it.rt, memory.load(va, 1) << by | cpu.regs[it.rt] & (1 << by) - 1)
 
 
-def lwr(cpu, it, memory):
+def lwr(cpu: Cpu, it: Instruction, memory: Bus) -> None:
     va = address(cpu, it, 1, ADEL)
     by = 8 * (va % 4)
     cpu.set(it.rt, memory.load(va, 1) >> by | cpu.regs[it.rt] & ~(WORD >> by))
 
 
-def store(cpu, it, memory):
+def store(cpu: Cpu, it: Instruction, memory: Bus) -> None:
     width = WIDTHS[it.opcode]
     va = address(cpu, it, width, ADES)
     memory.store(va, va, cpu.regs[it.rt].to_bytes(4, "little")[:width])
 
 
-def swl(cpu, it, memory):
+def swl(cpu: Cpu, it: Instruction, memory: Bus) -> None:
     va = address(cpu, it, 1, ADES)
     memory.store(va, va - va % 4, cpu.regs[it.rt].to_bytes(4, "little")[3 - va % 4 :])
 
 
-def swr(cpu, it, memory):
+def swr(cpu: Cpu, it: Instruction, memory: Bus) -> None:
     va = address(cpu, it, 1, ADES)
     memory.store(va, va, cpu.regs[it.rt].to_bytes(4, "little")[: 4 - va % 4])
 
@@ -317,7 +332,7 @@ OPCODES = {
 
 
 @lru_cache(maxsize=1 << 16)
-def decode(word):
+def decode(word: int) -> Instruction:
     """The instruction that a word spells. Words of opcode 16 and of coprocessors that aren't there are one, CpU."""
     opcode = word >> 26
     if opcode == 1 and word >> 16 & 31 in (0, 1, 16, 17):

@@ -1,7 +1,11 @@
 """What a run writes: docs/REPORT.md. `python3 report.py IMAGE SCHEDULE TICKS` writes it, and ends with the status."""
+from __future__ import annotations
+
 import sys
 from hashlib import sha256
+from typing import Iterator, Optional, Sequence, Tuple, Union
 
+from board import Board, Env
 from files import Fault, read_image, read_schedule
 from ticks import run
 
@@ -9,11 +13,11 @@ DONE, REFUSED = 0, 3
 SHOWN = {byte: chr(byte) for byte in range(32, 127)} | {0x22: '\\"', 0x5C: "\\\\", 0x0A: "\\n"}
 
 
-def text_of(data):
+def text_of(data: Union[bytes, bytearray]) -> str:
     return "".join(SHOWN.get(byte) or f"\\x{byte:02x}" for byte in data)
 
 
-def env_lines(board, env):
+def env_lines(board: Board, env: Env) -> Iterator[str]:
     yield f"env {env.number} {env.name} {env.life}"
     yield f'out {env.number} {len(env.console)} "{text_of(env.console)}"'
     if env.is_alive:
@@ -22,7 +26,7 @@ def env_lines(board, env):
         yield f"sent {env.number} {len(packet)} {packet.hex()}"
 
 
-def living_lines(board, env):
+def living_lines(board: Board, env: Env) -> Iterator[str]:
     cpu = env.cpu
     if env is not board.runner:
         cpu.rest()
@@ -38,7 +42,7 @@ def living_lines(board, env):
         yield f"bind {env.number} {vpn:05x} {page} {'w' if is_writable else 'r'}"
 
 
-def report_lines(board, ticks):
+def report_lines(board: Board, ticks: int) -> Iterator[str]:
     yield "aegis run"
     yield f"end {'limit' if board.time == ticks else 'idle'} {board.time}"
     for env in board.envs:
@@ -50,7 +54,7 @@ def report_lines(board, ticks):
     yield "done"
 
 
-def answer(files, ticks):
+def answer(files: Sequence[Tuple[str, bytes]], ticks: int) -> Tuple[int, str, Optional[Board]]:
     """The status and the text of `run IMAGE SCHEDULE TICKS`, and the board if there is one; files are (name, bytes), image first."""
     read = []
     for (name, content), reader in zip(files, (read_image, read_schedule)):
@@ -62,7 +66,7 @@ def answer(files, ticks):
     return DONE, "".join(f"{line}\n" for line in report_lines(board, ticks)), board
 
 
-def main():
+def main() -> None:
     *names, ticks = sys.argv[1:]
     files = []
     for name in names:

@@ -1,12 +1,17 @@
 """Ticks and whole runs: docs/KERNEL.md, "A tick"."""
-from board import ENDS, Board, Memory
+from __future__ import annotations
+
+from typing import List
+
+from board import ENDS, Board, Env, Memory
 from calls import make_call
+from files import Event, Image
 from machine import KernelCall, Trap, step
 
 MOST_EXCESS = 8
 
 
-def run(image, events, ticks):
+def run(image: Image, events: List[Event], ticks: int) -> Board:
     """The board after so many ticks, or once it is idle."""
     board, place = Board(image), 0
     while board.time < ticks and not board.is_idle():
@@ -17,7 +22,7 @@ def run(image, events, ticks):
     return board
 
 
-def happen(board, event):
+def happen(board: Board, event: Event) -> None:
     if event.packet is not None:
         board.receive(event.packet)
     elif event.revoke is not None:
@@ -26,7 +31,7 @@ def happen(board, event):
         board.signal(event.line)
 
 
-def tick(board):
+def tick(board: Board) -> None:
     board.serve()
     if board.runner is None:
         take_turn(board)
@@ -36,7 +41,7 @@ def tick(board):
     board.time += 1
 
 
-def take_turn(board):
+def take_turn(board: Board) -> None:
     """The next held slot whose holder owes nothing has its turn, and each before it is forfeited."""
     while True:
         board.slot = (board.slot + 1) % len(board.slots)
@@ -52,7 +57,7 @@ def take_turn(board):
     board.start(env)
 
 
-def make_step(board, env):
+def make_step(board: Board, env: Env) -> None:
     try:
         step(env.cpu, Memory(board, env))
     except KernelCall:
@@ -61,7 +66,7 @@ def make_step(board, env):
         board.raise_exception(env, trap)
 
 
-def count(board):
+def count(board: Board) -> None:
     """The timer: at the end of a slice who runs is told, or stopped; a quantum of grace that is used up is owed."""
     board.left -= 1
     if board.left:
