@@ -1,4 +1,12 @@
 """The ledger of a run, told again by the rules of turns, slices and slots, without what the environments do."""
+from __future__ import annotations
+
+from typing import List, Optional, Tuple, Union
+
+from systems import System
+
+# A word of a row: its name, a number, or none where a dash is.
+Word = Union[int, str, None]
 
 MOST_EXCESS = 8
 GIFTS = ("give", "async", "sync")
@@ -8,7 +16,7 @@ class Wrong(Exception):
     """What a report must not be."""
 
 
-def must(holds, why):
+def must(holds: object, why: str) -> None:
     if not holds:
         raise Wrong(why)
 
@@ -16,14 +24,14 @@ def must(holds, why):
 class Slice:
     """Who runs, in which slot, whether behind the end of a slice, and the last tick of this quantum."""
 
-    def __init__(self, slot, env, last):
+    def __init__(self, slot: int, env: int, last: int):
         self.slot, self.env, self.last, self.grace = slot, env, last, False
 
 
 class Turns:
     """Who owns and who holds which slot, whose turn it is, and who owes how much."""
 
-    def __init__(self, system):
+    def __init__(self, system: System):
         self.quantum, self.count = system.quantum, len(system.guaranteed)
         # by slot, its owner and its holder, if it has one
         self.slots = [None if owner == 255 else (owner, owner) for owner in system.slots]
@@ -32,7 +40,7 @@ class Turns:
         # how many slices were given, and in which way
         self.gifts = dict.fromkeys(GIFTS, 0)
 
-    def tell(self, rows, time, idle):
+    def tell(self, rows: List[str], time: int, idle: bool) -> None:
         """Reads all rows of a run that ended at this time, idle or at its limit."""
         self.rows, self.place = [self.words_of(row) for row in rows], 0
         for slot, hold in enumerate(self.slots):
@@ -51,33 +59,33 @@ class Turns:
         must(not idle or not self.slice and not self.is_held(), "it is idle while somebody runs or a slot is held")
 
     @staticmethod
-    def words_of(row):
+    def words_of(row: str) -> List[Word]:
         name, *numbers = row.split()
         return [name, *(None if word == "-" else int(word) for word in numbers)]
 
-    def take(self, *due):
+    def take(self, *due: Word) -> None:
         """Reads the row that is due."""
         found = self.rows[self.place] if self.place < len(self.rows) else None
         must(found == list(due), f"{found} is where {list(due)} is due")
         self.place += 1
 
-    def next_tick(self):
+    def next_tick(self) -> Optional[int]:
         """The tick of the row that comes next, if there is one."""
         return self.rows[self.place][1] if self.place < len(self.rows) else None
 
-    def is_held(self):
+    def is_held(self) -> bool:
         return any(self.slots)
 
-    def change(self, tick, slot, hold):
+    def change(self, tick: int, slot: int, hold: Optional[Tuple[int, int]]) -> None:
         self.slots[slot] = hold
         self.take("own", tick, slot, *(hold or (None, None)))
 
     @staticmethod
-    def without(hold, env):
+    def without(hold: Tuple[int, int], env: int) -> Optional[Tuple[int, int]]:
         """A slot that its holder gives away: its owner's again, and empty if that is the holder."""
         return None if hold[0] == env else (hold[0], hold[0])
 
-    def turn(self, tick):
+    def turn(self, tick: int) -> None:
         """The next held slots are forfeited up to that of a holder who owes nothing, all in the tick behind the last slice."""
         must(tick == self.next_turn and self.is_held(), f"a turn is due in tick {self.next_turn} if a slot is held, and one is in tick {tick}")
         while True:
@@ -92,7 +100,7 @@ class Turns:
         self.take("run", tick, self.cursor, env)
         self.slice = Slice(self.cursor, env, tick + self.quantum - 1)
 
-    def row(self, name, tick, slot, env):
+    def row(self, name: str, tick: int, slot: int, env: Optional[int]) -> None:
         """A row of the slice that runs."""
         runs = self.slice
         must(tick <= runs.last, f"nothing is said of the end of the quantum in tick {runs.last}")
@@ -105,13 +113,13 @@ class Turns:
         must(name in rules, f"{name} {tick} comes while {env} runs")
         rules[name](tick, slot, env)
 
-    def take_or_drop(self, tick, slot):
+    def take_or_drop(self, tick: int, slot: int) -> None:
         """The runner takes an empty slot, or drops one that it holds."""
         env, hold = self.slice.env, self.slots[slot]
         must(hold is None or hold[1] == env, f"{env} changes slot {slot}, whose owner and holder are {hold}")
         self.change(tick, slot, (env, env) if hold is None else self.without(hold, env))
 
-    def give(self, name, tick, slot, env):
+    def give(self, name: str, tick: int, slot: int, env: int) -> None:
         """The rest of the slice is another's, by a yield or a transfer; with a synchronous one the slot is, if the runner holds it."""
         target, hold = self.rows[self.place][4], self.slots[slot]
         must(not self.slice.grace, f"{env} gives a slice in tick {tick}, in grace")
@@ -125,12 +133,12 @@ class Turns:
         # the tick counts: what is given in the last one is over in it
         must((self.next_tick() == tick) == (tick == self.slice.last), f"what is given in tick {tick} is over too early or too late")
 
-    def end(self, tick, slot, env):
+    def end(self, tick: int, slot: int, env: int) -> None:
         must(not self.slice.grace and tick == self.slice.last, f"{env} is told of an end in tick {tick}")
         self.take("end", tick, slot, env)
         self.slice.grace, self.slice.last = True, tick + self.quantum
 
-    def over(self, tick, slot, env):
+    def over(self, tick: int, slot: int, env: int) -> None:
         must(self.slice.grace and tick == self.slice.last, f"{env} has used up a quantum of grace in tick {tick}")
         self.excess[env] += 1
         self.take("over", tick, slot, env, self.excess[env])
@@ -141,11 +149,11 @@ class Turns:
         else:
             must(self.next_tick() != tick, f"more happens in tick {tick}, in which {env} has used up a quantum of grace")
 
-    def stop(self, tick, slot, env):
+    def stop(self, tick: int, slot: int, env: int) -> None:
         self.take("stop", tick, slot, env)
         self.slice, self.next_turn = None, tick + 1
 
-    def dead(self, tick, slot, env):
+    def dead(self, tick: int, slot: int, env: int) -> None:
         self.take("dead", tick, slot, env)
         for place, hold in enumerate(self.slots):
             if hold and env in hold:
